@@ -1,0 +1,12 @@
+pub mod Direction
+pub mod Extent
+pub mod Grid
+pub mod GridRules
+pub mod Open
+pub mod Patch
+pub mod PatchRules
+pub mod Rule
+pub mod Size
+pub mod Slope
+pub mod Tile
+pub mod Values
