@@ -1,3 +1,4 @@
+pub mod Counts
 pub mod Direction
 pub mod Extent
 pub mod Grid

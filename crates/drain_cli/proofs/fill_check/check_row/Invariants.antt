@@ -1,0 +1,13 @@
+use Rattle.std.proofs.Common.{◌≤◌}
+use Rattle.drain_cli.specs.FillRows.{HoldAlong, CountsAlong}
+use Rattle.drain_cli.specs.Parts.{grid_of, products_of}
+use Rattle.drain_cli.proofs.fill_check.check_row.Given as goal
+
+-- the cells that were passed keep the rules and are counted
+abbrev pub invariant-loop-col : goal.invariant-loop-col
+invariant-loop-col l = record {
+  holds : HoldAlong (grid_of l.input) (products_of l.input) l.row l.col;
+  counted : CountsAlong (grid_of l.input) (products_of l.input) l.row l.col l.tally;
+  data_bound : l.tally.data_cells ≤ l.col;
+  raised_bound : l.tally.raised ≤ l.tally.data_cells;
+}

@@ -1,0 +1,5 @@
+pub mod Fill
+pub mod FillLines
+pub mod FillRows
+pub mod FillVerdicts
+pub mod Parts

@@ -1,0 +1,146 @@
+//! The four parts of a fill input, read in place: the tile, its conditioned elevations, spill parents
+//! and ranks. Nothing is copied but the nine cells of one patch.
+
+ghost use Rattle.std.specs.Prelude.{◌≡◌, ◌*◌, length};
+ghost use Rattle.drain_grid.specs.Tile.{IsSide};
+
+use byteorder::{BigEndian, ByteOrder};
+use drain_grid::tile::height_from;
+use drain_grid::{Cell, CellValues, Direction, Patch, Shape, VOID};
+
+/// How many bytes an input takes: nine for each cell.
+pub fn fill_length(side: u32) -> usize
+    requires { IsSide side }
+    ensures { result ≡ 9 * (side * side) }
+{
+    9 * (side as usize * side as usize)
+}
+
+/// The bytes of an input of the right length, and the shape of its tile.
+#[derive(Clone, Copy)]
+pub struct FillInput<'a> {
+    shape: Shape,
+    cells: usize,
+    bytes: &'a [u8],
+    ghost square: { shape.cols ≡ shape.rows },
+    ghost side: { IsSide shape.rows },
+    ghost counted: { cells ≡ shape.rows * shape.rows },
+    ghost whole: { length bytes.now ≡ 9 * (shape.rows * shape.rows) },
+}
+
+impl<'a> FillInput<'a> {
+    ghost use Rattle.std.specs.Prelude.{option_map, ◌≢◌};
+    ghost use Rattle.drain_grid.specs.Extent.{IsCellOf, step};
+    ghost use Rattle.drain_grid.specs.Grid.{patch_at, values_at};
+    ghost use Rattle.drain_cli.specs.Fill.{square, IsFillLength};
+    ghost use Rattle.drain_cli.specs.Parts.{grid_of, products_of};
+    ghost use Rattle.drain_grid.specs.Values.{IsPixel};
+
+    /// The parts of an input of the right length.
+    pub fn new(side: u32, bytes: &'a [u8]) -> FillInput<'a>
+        requires side { IsSide side }
+        requires whole { IsFillLength side bytes.now }
+        ensures side { result.shape.rows ≡ side }
+        ensures bytes { result.bytes.now ≡ bytes.entry.now }
+    {
+        FillInput {
+            shape: Shape::new(side, side).unwrap(),
+            cells: side as usize * side as usize,
+            bytes,
+        }
+    }
+
+    /// How many cells there are along an edge.
+    pub fn side(&self) -> u32
+        ensures { result ≡ self.now.shape.rows }
+    {
+        self.shape.rows()
+    }
+
+    /// The cell's values and those of its neighbours.
+    pub fn patch(&self, cell: Cell) -> Patch
+        requires { IsCellOf (square self.now.shape.rows) cell }
+        ensures { result ≡ patch_at (grid_of self.now) (products_of self.now) cell }
+    {
+        Patch {
+            here: self.values(cell),
+            around: [
+                self.beside(cell, Direction::East),
+                self.beside(cell, Direction::SouthEast),
+                self.beside(cell, Direction::South),
+                self.beside(cell, Direction::SouthWest),
+                self.beside(cell, Direction::West),
+                self.beside(cell, Direction::NorthWest),
+                self.beside(cell, Direction::North),
+                self.beside(cell, Direction::NorthEast),
+            ],
+        }
+    }
+
+    /// The values in this direction, none outside the grid.
+    fn beside(&self, cell: Cell, direction: Direction) -> Option<CellValues>
+        requires { IsCellOf (square self.now.shape.rows) cell }
+        ensures { result ≡ option_map (values_at (grid_of self.now) (products_of self.now)) (step (square self.now.shape.rows) cell direction) }
+    {
+        match self.shape.step(cell, direction) {
+            Some(neighbor) => Some(self.values(neighbor)),
+            None => None,
+        }
+    }
+
+    /// What the parts say at a cell.
+    fn values(&self, cell: Cell) -> CellValues
+        requires { IsCellOf (square self.now.shape.rows) cell }
+        ensures { result ≡ values_at (grid_of self.now) (products_of self.now) cell }
+    {
+        CellValues {
+            z: self.ground(cell),
+            con: self.conditioned(cell),
+            dir: 0,
+            acc: 0,
+            bas: 0,
+            spl: self.spill_parent(cell),
+            rnk: self.rank(cell),
+        }
+    }
+
+    fn ground(&self, cell: Cell) -> Option<i16>
+        requires { IsCellOf (square self.now.shape.rows) cell }
+        ensures height { result ≡ (grid_of self.now).elevation cell }
+        ensures no_void { result ≢ Some VOID }
+    {
+        let index = self.shape.index(cell);
+        height_from(BigEndian::read_i16(&self.bytes[2 * index..]))
+    }
+
+    fn conditioned(&self, cell: Cell) -> i64
+        requires { IsCellOf (square self.now.shape.rows) cell }
+        ensures number { result ≡ (products_of self.now).con cell }
+        ensures pixel { IsPixel result }
+    {
+        let index = self.shape.index(cell);
+        i64::from(BigEndian::read_i16(
+            &self.bytes[2 * self.cells + 2 * index..],
+        ))
+    }
+
+    fn spill_parent(&self, cell: Cell) -> i64
+        requires { IsCellOf (square self.now.shape.rows) cell }
+        ensures number { result ≡ (products_of self.now).spl cell }
+        ensures pixel { IsPixel result }
+    {
+        let index = self.shape.index(cell);
+        i64::from(self.bytes[4 * self.cells + index])
+    }
+
+    fn rank(&self, cell: Cell) -> i64
+        requires { IsCellOf (square self.now.shape.rows) cell }
+        ensures number { result ≡ (products_of self.now).rnk cell }
+        ensures pixel { IsPixel result }
+    {
+        let index = self.shape.index(cell);
+        i64::from(BigEndian::read_u32(
+            &self.bytes[5 * self.cells + 4 * index..],
+        ))
+    }
+}
