@@ -1,0 +1,93 @@
+//! A scripted sink into a vector.
+
+ghost use Rattle.std.specs.Prelude.{◌≡◌, ◌<◌, Some};
+ghost use Rattle.drain_device.specs.Counts.{no_faults};
+
+use super::script::{Scripted, SinkAnswer, answer_at};
+use crate::counts::FaultCounts;
+use crate::fault::DeviceFault;
+use crate::sink::ByteSink;
+
+/// A sink that takes few bytes at a call, and faults or takes none by its script. A call that finds no memory answers
+/// `Failed`.
+#[derive(Drop)]
+pub struct ScriptSink<'a> {
+    bytes: Vec<u8>,
+    most: usize,
+    script: &'a [Scripted<SinkAnswer>],
+    calls: u64,
+    counts: FaultCounts,
+    stalls: u64,
+    ghost takes_some: { 0 < most },
+}
+
+impl<'a> ScriptSink<'a> {
+    /// A sink behind these bytes, of which a call takes at most so many.
+    pub fn new(bytes: Vec<u8>, most: usize, script: &'a [Scripted<SinkAnswer>]) -> ScriptSink<'a>
+        requires { 0 < most }
+        ensures bytes { ⟦<ScriptSink<'a> as ByteSink>⟧.bytes_taken result ≡ Some bytes.items }
+        ensures counts { ⟦<ScriptSink<'a> as ByteSink>⟧.counts result ≡ no_faults }
+        ensures stalls { ⟦<ScriptSink<'a> as ByteSink>⟧.stalls result ≡ 0 }
+    {
+        ScriptSink {
+            bytes,
+            most,
+            script,
+            calls: 0,
+            counts: FaultCounts::NONE,
+            stalls: 0,
+        }
+    }
+
+    /// The bytes that it has taken, behind those that the vector held before.
+    pub fn as_slice(&self) -> &[u8]
+        ensures { ⟦<ScriptSink<'a> as ByteSink>⟧.bytes_taken self.now ≡ Some result.now }
+    {
+        self.bytes.as_slice()
+    }
+
+    /// How many calls took no byte of a slice that has some, without a fault.
+    pub fn stalls(&self) -> u64
+        ensures { result ≡ ⟦<ScriptSink<'a> as ByteSink>⟧.stalls self.now }
+    {
+        self.stalls
+    }
+}
+
+impl ByteSink for ScriptSink<'_> {
+    ghost bytes_taken = { λ s. Some s.bytes.items };
+
+    ghost counts = { λ s. s.counts };
+
+    ghost stalls = { λ s. s.stalls };
+
+    fn write_some(&mut self, bytes: &[u8]) -> Result<usize, DeviceFault> {
+        self.calls = self.calls.saturating_add(1);
+        match answer_at(self.script, self.calls) {
+            Some(SinkAnswer::Interrupted) => {
+                return Err(self.counts.count(DeviceFault::Interrupted));
+            }
+            Some(SinkAnswer::Failed) => return Err(self.counts.count(DeviceFault::Failed)),
+            Some(SinkAnswer::TookNone) => {
+                if !bytes.is_empty() {
+                    self.stalls = self.stalls.saturating_add(1);
+                }
+                return Ok(0);
+            }
+            None => {}
+        }
+        let n = bytes.len().min(self.most);
+        if self.bytes.extend_from_slice(&bytes[..n]).is_err() {
+            return Err(self.counts.count(DeviceFault::Failed));
+        }
+        Ok(n)
+    }
+
+    fn failures(&self) -> u64 {
+        self.counts.failures
+    }
+
+    fn interruptions(&self) -> u64 {
+        self.counts.interruptions
+    }
+}

@@ -1,0 +1,47 @@
+//! How often an interrupted call is tried again. The rule stands here alone, for every reader and writer: 999
+//! interruptions of one device are borne, and the 1,000th is a failure.
+
+ghost use Rattle.std.specs.Prelude.{◌≡◌, ◌+◌, ◌-◌, ◌↔◌, IsErr};
+
+use std::marker::Model;
+
+/// The interruption of a device that is one too many.
+pub const TOO_MANY_INTERRUPTIONS: u32 = 1000;
+
+/// The device failed, was interrupted for the 1,000th time, or took no byte of some.
+#[derive(Clone, Copy, PartialEq, Eq, Debug)]
+pub struct GaveUp;
+
+/// What one reader or writer still bears of one device. Contracts see it as the number of interruptions left to bear.
+#[derive(Drop)]
+pub struct Patience {
+    left: u32,
+}
+
+impl Model for Patience {
+    ghost use Rattle.std.specs.Prelude.{ℕ};
+
+    ghost Value = { ℕ };
+
+    ghost view = { λ p. p.left };
+}
+
+impl Patience {
+    /// All but the one too many are left to bear.
+    pub fn new() -> Patience
+        ensures { result + 1 ≡ TOO_MANY_INTERRUPTIONS }
+    {
+        Patience {
+            left: TOO_MANY_INTERRUPTIONS - 1,
+        }
+    }
+
+    /// Counts one interruption more, and says whether it is one too many.
+    pub fn bear(&mut self) -> Result<(), GaveUp>
+        ensures too_many { IsErr result ↔ (self.old ≡ 0) }
+        ensures left { self.new ≡ self.old - 1 }
+    {
+        self.left = self.left.checked_sub(1).ok_or(GaveUp)?;
+        Ok(())
+    }
+}
