@@ -1,0 +1,3 @@
+pub mod LeastFaults
+pub mod LowerWays
+pub mod SpillParents

@@ -1,0 +1,126 @@
+//! The rules of the conditioned elevation at a cell: BelowGround to NotLeast.
+//!
+//! Products keep these rules at every cell only where `con` is the least surface from which water gets out
+//! (`drain_grid`'s DESIGN.md, `least_from_rules`). They are a crate of their own because nothing else of a cell
+//! counts for them: no direction, sum or label. One call looks at one cell and takes no memory.
+//!
+//! Source: the rules are the local form of the surface that Priority-Flood makes (Barnes, Lehman and Mulla 2014).
+//! The spill parent is the cell from which that algorithm reaches a cell, and the rank falls along spill parents,
+//! as the order of the visits does. That a certificate shows both, and the rules' wording, are this project's own.
+#![tactic(auto)]
+
+ghost use Rattle.std.specs.Prelude.{◌≡◌, ◌↔◌, ◌<ℤ◌, IsTrue, MatchOption, Some};
+ghost use Rattle.std.specs.Int.{int_max};
+ghost use Rattle.drain_grid.specs.Direction.{Names, NamesSome};
+ghost use Rattle.drain_grid.specs.Patch.{IsOpen, height};
+ghost use Rattle.drain_grid.specs.PatchRules.{profile1, BelowGroundHolds, OpenRaisedHolds, NotLeastHolds};
+ghost use Rattle.drain_grid.specs.Rule.{IsBetween, IsLeastFault};
+ghost use Rattle.drain_grid.specs.Values.{NoDataNumbers};
+
+use drain_grid::{CellValues, Code, Direction, Patch, Rule};
+
+/// The first of the six rules that fails at the cell, none where they all hold. A void keeps them all.
+pub fn fault(patch: &Patch) -> Option<Rule>
+    ensures least { (nodata : NoDataNumbers) → IsLeastFault (IsBetween 4 9) (profile1 nodata patch.now) result }
+{
+    let Some(ground) = patch.here.z else {
+        return None;
+    };
+    if let Some(rule) = level_fault(patch, ground) {
+        return Some(rule);
+    }
+    if is_least(patch, ground) {
+        None
+    } else {
+        Some(Rule::NotLeast)
+    }
+}
+
+/// The first of the rules but NotLeast that fails at a data cell, none where they hold.
+fn level_fault(patch: &Patch, ground: i16) -> Option<Rule>
+    requires { patch.now.here.z ≡ Some ground }
+    ensures least { (nodata : NoDataNumbers) → IsLeastFault (IsBetween 4 8) (profile1 nodata patch.now) result }
+{
+    if !is_above_ground(patch, ground) {
+        return Some(Rule::BelowGround);
+    }
+    if !patch.is_open() {
+        return spill_fault(patch, ground);
+    }
+    if is_unraised(patch, ground) {
+        None
+    } else {
+        Some(Rule::OpenRaised)
+    }
+}
+
+/// Whether the cell is not below its ground.
+fn is_above_ground(patch: &Patch, ground: i16) -> bool
+    requires { patch.now.here.z ≡ Some ground }
+    ensures { IsTrue result ↔ BelowGroundHolds patch.now }
+{
+    ground as i64 <= patch.here.con
+}
+
+/// Whether an open cell is neither raised nor has a spill parent.
+fn is_unraised(patch: &Patch, ground: i16) -> bool
+    requires elevation { patch.now.here.z ≡ Some ground }
+    requires opened { IsOpen patch.now }
+    ensures { IsTrue result ↔ OpenRaisedHolds patch.now }
+{
+    patch.here.con == ground as i64 && patch.here.spl == 0
+}
+
+/// The first of the rules on spill parents that fails at a cell that is not open, none where they all hold.
+fn spill_fault(patch: &Patch, ground: i16) -> Option<Rule>
+    requires elevation { patch.now.here.z ≡ Some ground }
+    requires closed { ¬ IsOpen patch.now }
+    ensures least { (nodata : NoDataNumbers) → IsLeastFault (IsBetween 6 8) (profile1 nodata patch.now) result }
+{
+    let Some(direction) = spill_direction(patch) else {
+        return Some(Rule::NoSpill);
+    };
+    let Some(parent) = patch.neighbor(direction) else {
+        return None;
+    };
+    if !is_raised_to(patch, ground, &parent) {
+        Some(Rule::SpillHeight)
+    } else if !is_after(patch, &parent) {
+        Some(Rule::SpillRank)
+    } else {
+        None
+    }
+}
+
+/// The direction that the spill code names, if it names one.
+fn spill_direction(patch: &Patch) -> Option<Direction>
+    ensures { MatchOption result (¬ NamesSome patch.now.here.spl) (Names patch.now.here.spl) }
+{
+    match Code::from_number(patch.here.spl) {
+        Some(Code::To(direction)) => Some(direction),
+        Some(Code::Outlet) | None => None,
+    }
+}
+
+/// Whether the cell is raised to its spill parent, and no further.
+fn is_raised_to(patch: &Patch, ground: i16, parent: &CellValues) -> bool
+    requires { patch.now.here.z ≡ Some ground }
+    ensures { IsTrue result ↔ (patch.now.here.con ≡ int_max (height patch.now) parent.now.con) }
+{
+    patch.here.con == (ground as i64).max(parent.con)
+}
+
+/// Whether the spill parent has a smaller rank.
+fn is_after(patch: &Patch, parent: &CellValues) -> bool
+    ensures { IsTrue result ↔ (parent.now.rnk <ℤ patch.now.here.rnk) }
+{
+    parent.rnk < patch.here.rnk
+}
+
+/// Whether no neighbour shows a lower way out: only a cell above its ground can have one.
+fn is_least(patch: &Patch, ground: i16) -> bool
+    requires { patch.now.here.z ≡ Some ground }
+    ensures { IsTrue result ↔ NotLeastHolds patch.now }
+{
+    patch.here.con <= ground as i64 || !patch.has_lower()
+}
