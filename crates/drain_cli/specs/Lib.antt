@@ -3,3 +3,5 @@ pub mod FillLines
 pub mod FillRows
 pub mod FillVerdicts
 pub mod Parts
+pub mod Printing
+pub mod Statuses

@@ -6,8 +6,9 @@ ghost use Rattle.drain_cli.specs.FillRows.{IsRowTally, IsRowFault};
 ghost use Rattle.drain_cli.specs.Parts.{grid_of, products_of};
 
 use crate::fill_input::{FillInput, fill_length};
+use drain_fill::fault;
 use drain_grid::tile::is_side;
-use drain_grid::{Cell, CellValues, Patch, Rule};
+use drain_grid::{Cell, CellValues, Rule};
 
 /// The size of the tile, and how many cells have data and are raised.
 #[derive(Clone, Copy, PartialEq, Eq, Debug)]
@@ -141,14 +142,4 @@ pub fn check_fill(side: u32, bytes: &[u8]) -> Result<FillVerdict, FillRefusal>
         return Err(FillRefusal::BadLength);
     }
     Ok(verdict_of(&FillInput::new(side, bytes)))
-}
-
-ghost use Rattle.drain_grid.specs.Values.{NoDataNumbers};
-ghost use Rattle.drain_grid.specs.Rule.{IsBetween, IsLeastFault};
-ghost use Rattle.drain_grid.specs.PatchRules.{profile1};
-
-fn fault(patch: &Patch) -> Option<Rule>
-    ensures least { (nodata : NoDataNumbers) → IsLeastFault (IsBetween 4 9) (profile1 nodata patch.now) result }
-{
-    None
 }

@@ -5,5 +5,7 @@ pub mod fill_check;
 pub mod fill_input;
 pub mod fill_report;
 pub mod line;
+pub mod print;
+pub mod status;
 
 fn main() {}

@@ -1,4 +1,0 @@
-use Rattle.drain_cli.proofs.fill_check.fault.Goals as goal
-
-pub returns : goal.returns
-returns c = ?

@@ -1,0 +1,26 @@
+//! Printing the one line of a run.
+
+ghost use Rattle.std.specs.Prelude.{◌≡◌};
+ghost use Rattle.drain_cli.specs.Printing.{Prints};
+
+use crate::line::{LINE_LENGTH, Line};
+use crate::status::Status;
+use arrayvec::ArrayString;
+use drain_device::{ByteSink, Patience, write_all};
+
+/// Prints the line and its line end, and answers the exit status: that of the run, or that of a failure
+/// where the sink gives up before the last byte.
+pub fn print_line<W: ByteSink>(out: &mut W, line: &Line, status: Status) -> u8
+    ensures { Prints (W.bytes_taken out.old) (W.bytes_taken out.new) (W.counts out.old) (W.counts out.new) (W.stalls out.old) (W.stalls out.new) line.now.bytes status result }
+{
+    let mut text = ArrayString::<{ PRINTED_LENGTH }>::new();
+    text.push_str(line.as_str());
+    text.push('\n');
+    match write_all(out, text.as_str().as_bytes(), &mut Patience::new()) {
+        Ok(()) => status.code(),
+        Err(_) => Status::Failed.code(),
+    }
+}
+
+/// A line and its line end.
+const PRINTED_LENGTH: usize = LINE_LENGTH + 1;

@@ -1,0 +1,26 @@
+//! The exit statuses of the program.
+
+ghost use Rattle.std.specs.Prelude.{◌≡◌};
+ghost use Rattle.drain_cli.specs.Statuses.{code_of};
+
+/// How a run of the program ended.
+#[derive(Clone, Copy, PartialEq, Eq, Debug)]
+pub enum Status {
+    /// Accepted, or printed.
+    Done,
+    /// Rejected: the input can be read, and breaks a rule.
+    Rejected,
+    /// Refused: the input has no verdict, or the words of the command line have a fault.
+    Refused,
+    /// Failed for want of memory, or by a device.
+    Failed,
+}
+
+impl Status {
+    /// The number that the program ends with.
+    pub fn code(self) -> u8
+        ensures { result ≡ code_of self }
+    {
+        self as u8
+    }
+}
