@@ -1,2 +1,3 @@
 pub mod GridLemmas
+pub mod PrintLemmas
 pub mod RowLemmas

@@ -6,6 +6,7 @@ pub mod fill_input;
 pub mod fill_report;
 pub mod line;
 pub mod print;
+pub mod run_fill;
 pub mod status;
 
 fn main() {}

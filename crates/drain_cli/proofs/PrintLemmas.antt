@@ -1,0 +1,32 @@
+-- From what a write of many calls left to what was printed.
+use Rattle.std.proofs.Common.{◌≡◌, ℕ, ◌-◌, ◌++◌, List, [], ◌∷◌, ◌↔◌, Option, Result, IsErr, subst}
+use Rattle.drain_device.specs.declared.counts.FaultCounts.{FaultCounts}
+use Rattle.drain_device.specs.declared.patience.GaveUp.{GaveUp}
+use Rattle.drain_device.specs.Counts.{Answered, counted}
+use Rattle.drain_device.specs.Patience.{full_patience, GivesUpWriting}
+use Rattle.drain_device.specs.Writes.{HandsOver}
+use Rattle.drain_cli.specs.declared.status.Status.{Status}
+use Rattle.drain_cli.specs.Statuses.{code_of}
+use Rattle.drain_cli.specs.Printing.{line_feed, status_after, Prints}
+
+pub Prints-write_all : (taken_old taken_new : Option (List ℕ)) (counts_old counts_new : FaultCounts) (stalls_old stalls_new : ℕ)
+    (line text : List ℕ) (status : Status) (code : ℕ) (patience left : ℕ) (done : Result (Unit {0}) GaveUp) →
+    text ≡ line ++ line_feed ∷ [] → patience ≡ full_patience → HandsOver taken_old taken_new done text →
+    code ≡ code_of (status_after done status) →
+    (failures : ℕ) × (interruptions : ℕ) × (stalls : ℕ) × Answered counts_old counts_new failures interruptions
+    × (stalls_new ≡ counted stalls_old stalls) × (left ≡ patience - interruptions)
+    × (IsErr done ↔ GivesUpWriting patience failures interruptions stalls) →
+    Prints taken_old taken_new counts_old counts_new stalls_old stalls_new line status code
+Prints-write_all taken_old taken_new counts_old counts_new stalls_old stalls_new line text status code patience left done is_text full over is_code faults = record {
+  done = done;
+  written = subst (HandsOver taken_old taken_new done) is_text over;
+  code_is = is_code;
+  faults = record {
+    failures = faults.0;
+    interruptions = faults.1;
+    stalls = faults.2;
+    answered = faults.3;
+    stalled = faults.4;
+    exactly = subst (λ p. IsErr done ↔ GivesUpWriting p faults.0 faults.1 faults.2) full faults.6;
+  };
+}

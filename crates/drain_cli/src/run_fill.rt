@@ -1,0 +1,79 @@
+//! A run of `drain fill`: a fill input is read, checked, and its answer printed.
+
+ghost use Rattle.std.specs.Prelude.{◌≡◌, ◌+◌, ◌*◌};
+ghost use Rattle.drain_device.specs.Reads.{TakesAtMost};
+ghost use Rattle.drain_grid.specs.Tile.{IsSide};
+ghost use Rattle.drain_cli.specs.FillRuns.{FillOutcome, IsFillOutcome, outcome_line, outcome_status};
+ghost use Rattle.drain_cli.specs.Printing.{Prints};
+
+use crate::fill_check::{FillRefusal, FillVerdict, check_fill};
+use crate::fill_input::fill_length;
+use crate::fill_report::fill_report;
+use crate::line::{Line, words};
+use crate::print::print_line;
+use crate::status::Status;
+use drain_device::{BodyFault, ByteSink, ByteSource, read_body};
+use drain_grid::tile::is_side;
+use std::alloc::Global;
+
+/// An answer, or why there is none.
+type FillOutcome = Result<Result<FillVerdict, FillRefusal>, BodyFault>;
+
+/// Reads a fill input, prints the line of its answer and answers the exit status.
+///
+/// `side` is the number of samples along an edge of the tile. At most one byte more than an input of this
+/// side has is read, and none where no tile has this side. The statuses: 0 accepted, 1 rejected, 2 refused,
+/// 3 where memory was refused (`failed OutOfMemory`), the source gave up (`failed ReadFailed`), or the line
+/// couldn't be written.
+pub fn run_fill<R: ByteSource, W: ByteSink>(
+    alloc: Global,
+    side: u32,
+    input: &mut R,
+    out: &mut W,
+) -> u8
+    ensures run { (outcome : FillOutcome)
+        × IsFillOutcome side (R.bytes_left input.old) (R.counts input.old) (R.counts input.new) outcome
+        × Prints (W.bytes_taken out.old) (W.bytes_taken out.new) (W.counts out.old) (W.counts out.new)
+            (W.stalls out.old) (W.stalls out.new) (outcome_line outcome) (outcome_status outcome) result }
+    ensures within { TakesAtMost (9 * (side * side) + 1) (R.bytes_left input.old) (R.bytes_left input.new) }
+{
+    let outcome = read_and_check(alloc, side, input);
+    print_line(out, &line_of(&outcome), status_of(&outcome))
+}
+
+/// The answer to what the source has left.
+fn read_and_check<R: ByteSource>(alloc: Global, side: u32, input: &mut R) -> FillOutcome
+    ensures outcome { IsFillOutcome side (R.bytes_left input.old) (R.counts input.old) (R.counts input.new) result }
+    ensures within { TakesAtMost (9 * (side * side) + 1) (R.bytes_left input.old) (R.bytes_left input.new) }
+{
+    let limit = if is_side(side) {
+        fill_length(side) + 1
+    } else {
+        0
+    };
+    let body = read_body(alloc, input, limit)?;
+    Ok(check_fill(side, body.as_slice()))
+}
+
+/// The line of an outcome, without a line end.
+fn line_of(outcome: &FillOutcome) -> Line
+    ensures { result.bytes ≡ outcome_line outcome.now }
+{
+    match outcome {
+        Ok(answer) => fill_report(answer),
+        Err(BodyFault::ReadFailed) => words("failed ReadFailed"),
+        Err(BodyFault::OutOfMemory) => words("failed OutOfMemory"),
+    }
+}
+
+/// The exit status of an outcome.
+fn status_of(outcome: &FillOutcome) -> Status
+    ensures { result ≡ outcome_status outcome.now }
+{
+    match outcome {
+        Ok(Ok(FillVerdict::Accepted(_))) => Status::Done,
+        Ok(Ok(FillVerdict::Rejected { .. })) => Status::Rejected,
+        Ok(Err(_)) => Status::Refused,
+        Err(_) => Status::Failed,
+    }
+}
