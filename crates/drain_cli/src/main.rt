@@ -1,6 +1,10 @@
-//! The program `drain`.
+//! The program `drain`: an acceptance checker for drainage rasters.
+//!
+//! `main` reads the words, opens the standard streams as devices and hands them to a run; what a run does
+//! is in the modules, each with its contract.
 #![tactic(auto)]
 
+pub mod command_line;
 pub mod fill_check;
 pub mod fill_input;
 pub mod fill_report;
@@ -9,4 +13,55 @@ pub mod print;
 pub mod run_fill;
 pub mod status;
 
-fn main() {}
+use clap::Error;
+use clap::error::ErrorKind;
+use command_line::Request;
+use drain_device::{ByteSink, Reader, Writer};
+use line::words;
+use run_fill::run_fill;
+use status::Status;
+use std::io;
+use std::process::ExitCode;
+
+fn main(rt: HostRuntime) -> ExitCode {
+    let mut out = Writer::new(rt.stdout());
+    let status = match asked_words(&rt) {
+        Ok(asked) => run(&rt, asked.as_slice(), &mut out),
+        Err(error) if error.kind() == io::ErrorKind::OutOfMemory => print_no_memory(&mut out),
+        Err(error) => {
+            let _ = eprintln!(rt; "error: the command line can't be read: {error}");
+            Status::Refused.code()
+        }
+    };
+    ExitCode::from(status)
+}
+
+/// The words of the command line.
+fn asked_words(rt: &HostRuntime) -> io::Result<Vec<String>> {
+    Ok(std::env::args(rt)?.collect(rt.alloc())?)
+}
+
+/// Does what the words ask for, and answers the exit status.
+fn run(rt: &HostRuntime, asked: &[String], out: &mut impl ByteSink) -> u8 {
+    match command_line::parse(rt.alloc(), asked) {
+        Ok(Request::Fill { side }) => run_fill(rt.alloc(), side, &mut Reader::new(rt.stdin()), out),
+        Err(error) if error.kind() == ErrorKind::OutOfMemory => print_no_memory(out),
+        Err(error) => tell(rt, &error),
+    }
+}
+
+/// Shows help, the version or a fault of the words, and answers the exit status.
+fn tell(rt: &HostRuntime, error: &Error) -> u8 {
+    let shown = error.print(rt);
+    if error.use_stderr() {
+        Status::Refused.code()
+    } else if shown.is_ok() {
+        Status::Done.code()
+    } else {
+        Status::Failed.code()
+    }
+}
+
+fn print_no_memory(out: &mut impl ByteSink) -> u8 {
+    print::print_line(out, &words("failed OutOfMemory"), Status::Failed)
+}

@@ -1,0 +1,63 @@
+//! The words of the command line: which command is asked for, and the texts of help.
+
+use clap::{Arg, Command, Error};
+use std::alloc::Global;
+
+/// What the words ask for.
+#[derive(Clone, Copy, PartialEq, Eq, Debug)]
+pub enum Request {
+    /// `drain fill`: check a conditioned surface from standard input.
+    Fill { side: u32 },
+}
+
+const ABOUT: &str = "Checks drainage rasters computed from SRTM elevation tiles. An acceptance is proved \
+    to mean what it says, whoever made the rasters.";
+
+const FILL_ABOUT: &str = "Check a conditioned elevation raster, its spill parents and its ranks against their tile";
+
+const FILL_LONG_ABOUT: &str = "Reads 9 bytes for each cell of one square tile from standard input, each part row after row from
+the north, most significant byte first:
+
+  tile   2 bytes, signed    elevations in metres, -32768 for a void (an SRTM .hgt file)
+  con    2 bytes, signed    conditioned elevations
+  spl    1 byte             spill parents, as direction codes (0 for none)
+  rnk    4 bytes            ranks
+
+Tests rules 4 to 9 at each cell, and prints one line.";
+
+const FILL_AFTER: &str = "Lines and exit statuses:
+  0  accepted rows=R cols=C data=D raised=U
+  1  rejected rule=N NAME row=R col=C        the first rule that fails, at the first cell
+  2  refused BadSide, refused BadLength
+  3  failed ReadFailed, failed OutOfMemory, or standard output couldn't be written";
+
+const SIDE_HELP: &str = "Samples along an edge of the tile, 2 to 3601";
+
+/// What the words ask for. The first word is the program's own name.
+///
+/// Help and the version come as an error of their kind, as in `clap`, and so does a fault of the words.
+pub fn parse(alloc: Global, words: &[String]) -> Result<Request, Error> {
+    let side = Arg::new(alloc, "side")
+        .long("side")
+        .value_name("N")
+        .value_parser(clap::value_parser!(u32))
+        .default_value("1201")
+        .help(SIDE_HELP);
+    let fill = Command::new(alloc, "fill")
+        .about(FILL_ABOUT)
+        .long_about(FILL_LONG_ABOUT)
+        .after_long_help(FILL_AFTER)
+        .arg(side)?;
+    let command = Command::new(alloc, "drain")
+        .version("0.1.0")
+        .about(ABOUT)
+        .subcommand_required(true)
+        .arg_required_else_help(true)
+        .subcommand(fill)?;
+    let matches = command.try_get_matches_from(words)?;
+    let side = match matches.subcommand_matches("fill") {
+        Some(fill) => fill.get_one::<u32>("side").unwrap_or(1201),
+        None => 1201,
+    };
+    Ok(Request::Fill { side })
+}
