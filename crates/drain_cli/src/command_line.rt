@@ -50,6 +50,7 @@ pub fn parse(alloc: Global, words: &[String]) -> Result<Request, Error> {
         .arg(side)?;
     let command = Command::new(alloc, "drain")
         .version("0.1.0")
+        .bin_name("drain")?
         .about(ABOUT)
         .subcommand_required(true)
         .arg_required_else_help(true)
