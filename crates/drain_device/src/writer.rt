@@ -41,6 +41,13 @@ impl<W: Write> Writer<W> {
         inner
     }
 
+    /// How many calls took no byte of a slice that has some, without a fault.
+    pub fn stalls(&self) -> u64
+        ensures { result ≡ ⟦<Writer<W> as ByteSink>⟧.stalls self.now }
+    {
+        self.stalls
+    }
+
     /// Hands on what the inner writer holds back. The bytes taken stay the same.
     pub fn flush(&mut self) -> Result<(), DeviceFault>
         ensures bytes { Keeps (⟦<Writer<W> as ByteSink>⟧.bytes_taken self.old) (⟦<Writer<W> as ByteSink>⟧.bytes_taken self.new) }
