@@ -75,8 +75,7 @@ IsFirstFault-row g ps row fault inside above here = record {
 pub tally_fits : (g : Grid) (ps : Products) (row cols : ℕ) (tally : Tally) → CountsAlong g ps row cols tally →
     (tally.data_cells ≤ cols) × (tally.raised ≤ cols)
 tally_fits g ps row cols tally counted =
-    let wide : length (row_cells cols row) ≡ cols = length-map-range_with_len _ 0 cols in
-    (
+    let wide : length (row_cells cols row) ≡ cols = length-map-range_with_len _ 0 cols in (
       omega (arith, counted.data_cells, count_by-le-length (is_data g) (row_cells cols row), wide),
       omega (arith, counted.raised, count_by-le-length (is_raised g ps) (row_cells cols row), wide),
     )

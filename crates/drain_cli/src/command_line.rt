@@ -10,12 +10,15 @@ pub enum Request {
     Fill { side: u32 },
 }
 
-const ABOUT: &str = "Checks drainage rasters computed from SRTM elevation tiles. An acceptance is proved \
+const ABOUT: &str =
+    "Checks drainage rasters computed from SRTM elevation tiles. An acceptance is proved \
     to mean what it says, whoever made the rasters.";
 
-const FILL_ABOUT: &str = "Check a conditioned elevation raster, its spill parents and its ranks against their tile";
+const FILL_ABOUT: &str =
+    "Check a conditioned elevation raster, its spill parents and its ranks against their tile";
 
-const FILL_LONG_ABOUT: &str = "Reads 9 bytes for each cell of one square tile from standard input, each part row after row from
+const FILL_LONG_ABOUT: &str =
+    "Reads 9 bytes for each cell of one square tile from standard input, each part row after row from
 the north, most significant byte first:
 
   tile   2 bytes, signed    elevations in metres, -32768 for a void (an SRTM .hgt file)

@@ -119,9 +119,7 @@ impl<'a> FillInput<'a> {
         ensures pixel { IsPixel result }
     {
         let index = self.shape.index(cell);
-        i64::from(BigEndian::read_i16(
-            &self.bytes[2 * self.cells + 2 * index..],
-        ))
+        i64::from(BigEndian::read_i16(&self.bytes[2 * self.cells + 2 * index..]))
     }
 
     fn spill_parent(&self, cell: Cell) -> i64
@@ -139,8 +137,6 @@ impl<'a> FillInput<'a> {
         ensures pixel { IsPixel result }
     {
         let index = self.shape.index(cell);
-        i64::from(BigEndian::read_u32(
-            &self.bytes[5 * self.cells + 4 * index..],
-        ))
+        i64::from(BigEndian::read_u32(&self.bytes[5 * self.cells + 4 * index..]))
     }
 }

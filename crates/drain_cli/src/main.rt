@@ -12,6 +12,8 @@ pub mod line;
 pub mod print;
 pub mod run_fill;
 pub mod status;
+#[cfg(test)]
+mod tests;
 
 use clap::Error;
 use clap::error::ErrorKind;

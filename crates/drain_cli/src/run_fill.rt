@@ -34,7 +34,7 @@ pub fn run_fill<R: ByteSource, W: ByteSink>(
     ensures run { (outcome : FillOutcome)
         × IsFillOutcome side (R.bytes_left input.old) (R.counts input.old) (R.counts input.new) outcome
         × Prints (W.bytes_taken out.old) (W.bytes_taken out.new) (W.counts out.old) (W.counts out.new)
-            (W.stalls out.old) (W.stalls out.new) (outcome_line outcome) (outcome_status outcome) result }
+        (W.stalls out.old) (W.stalls out.new) (outcome_line outcome) (outcome_status outcome) result }
     ensures within { TakesAtMost (9 * (side * side) + 1) (R.bytes_left input.old) (R.bytes_left input.new) }
 {
     let outcome = read_and_check(alloc, side, input);

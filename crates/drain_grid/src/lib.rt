@@ -9,6 +9,8 @@ pub mod cell;
 pub mod direction;
 pub mod patch;
 pub mod rule;
+#[cfg(test)]
+mod tests;
 pub mod tile;
 pub mod values;
 
