@@ -8,6 +8,7 @@ use Rattle.drain_grid.specs.Values.{Values}
 use Rattle.drain_grid.specs.Open.{IsGap}
 use Rattle.drain_grid.specs.Patch.{neighbor, IsDataNeighbor, IsClosed}
 use Rattle.drain_grid.specs.PatchRules.{OfSpillParent}
+use Rattle.drain_grid.proofs.Options.{same_some}
 
 named_by_code : (d : Direction) → named_direction (pos (code_of d)) ≡ Some d
 named_by_code East = refl
@@ -26,16 +27,13 @@ same_direction number d e here there =
     let by_e : named_direction number ≡ Some e = ap named_direction there ∙ named_by_code e in
     cc
 
-same_values : (x : Option Values) (n m : Values) → x ≡ Some n → x ≡ Some m → n ≡ m
-same_values x n m h k = cc
-
 -- what the named neighbour has is the fact of the spill parent
 pub of_named_neighbor : (p : Patch) (d : Direction) (n : Values) (P : Values → Type 0) → Names p.here.spl d →
     neighbor p d ≡ Some n → P n → OfSpillParent p P
 of_named_neighbor p d n P named is has e m named_e beside =
     let same : d ≡ e = same_direction p.here.spl d e named named_e in
     let there : neighbor p d ≡ Some m = ap (neighbor p) same ∙ beside.is in
-    subst P (same_values (neighbor p d) n m is there) has
+    subst P (same_some n m (sym is ∙ there)) has
 
 no_gap_has_data : (z : Option ℤ) → ¬ IsGap (Some z) → IsSome z
 no_gap_has_data None no_gap = absurd (no_gap tt)

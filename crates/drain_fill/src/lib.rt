@@ -80,8 +80,9 @@ fn spill_fault(patch: &Patch, ground: i16) -> Option<Rule>
     let Some(direction) = spill_direction(patch) else {
         return Some(Rule::NoSpill);
     };
+    // A data cell with no neighbour in some direction would be open.
     let Some(parent) = patch.neighbor(direction) else {
-        return None;
+        unreachable!()
     };
     if !is_raised_to(patch, ground, &parent) {
         Some(Rule::SpillHeight)
@@ -124,3 +125,6 @@ fn is_least(patch: &Patch, ground: i16) -> bool
 {
     patch.here.con <= ground as i64 || !patch.has_lower()
 }
+
+#[cfg(test)]
+mod tests;
