@@ -1,7 +1,11 @@
 //! A scripted sink into a vector.
 
-ghost use Rattle.std.specs.Prelude.{◌≡◌, ◌<◌, Some};
-ghost use Rattle.drain_device.specs.Counts.{no_faults};
+ghost use Rattle.std.specs.Prelude.{◌≡◌, ◌<◌, ◌≤◌, min, length, IfOk, IsOkUnless, Some, None};
+ghost use Rattle.std.specs.Io.KnownBytes.{WriteAppends};
+ghost use Rattle.drain_device.specs.Counts.{counted, counts_after, stalls_after, no_faults};
+ghost use Rattle.drain_device.specs.Script.{answer_of, answer_given};
+ghost use Rattle.drain_device.specs.declared.faults.script.SinkAnswer.{SinkAnswer};
+ghost use Rattle.drain_device.specs.declared.fault.DeviceFault.TheVariants.{Failed};
 
 use super::script::{Scripted, SinkAnswer, answer_at};
 use crate::counts::FaultCounts;
@@ -28,6 +32,9 @@ impl<'a> ScriptSink<'a> {
         ensures bytes { ⟦<ScriptSink<'a> as ByteSink>⟧.bytes_taken result ≡ Some bytes.items }
         ensures counts { ⟦<ScriptSink<'a> as ByteSink>⟧.counts result ≡ no_faults }
         ensures stalls { ⟦<ScriptSink<'a> as ByteSink>⟧.stalls result ≡ 0 }
+        ensures most { result.most ≡ most }
+        ensures script { result.script.now ≡ script.now }
+        ensures calls { result.calls ≡ 0 }
     {
         ScriptSink {
             bytes,
@@ -61,7 +68,21 @@ impl ByteSink for ScriptSink<'_> {
 
     ghost stalls = { λ s. s.stalls };
 
-    fn write_some(&mut self, bytes: &[u8]) -> Result<usize, DeviceFault> {
+    fn write_some(&mut self, bytes: &[u8]) -> Result<usize, DeviceFault>
+        ensures bound { IfOk result (λ n. n ≤ length bytes.now) }
+        ensures taken { WriteAppends (Some self.old.bytes.items) (Some self.new.bytes.items) result bytes.now }
+        ensures counted { self.new.counts ≡ counts_after self.old.counts result }
+        ensures stalled { self.new.stalls ≡ stalls_after self.old.stalls result bytes.now }
+
+        // It answers what the script has for the call; where that has nothing it takes some, or wants memory.
+        ensures scripted { (answer : SinkAnswer) → answer_of self.old.script.now self.new.calls ≡ Some answer
+            → result ≡ answer_given answer }
+        ensures unscripted { answer_of self.old.script.now self.new.calls ≡ None
+            → IsOkUnless result Failed × IfOk result (λ n. n ≡ min (length bytes.now) self.old.most) }
+        ensures calls { self.new.calls ≡ counted self.old.calls 1 }
+        ensures script { self.new.script.now ≡ self.old.script.now }
+        ensures most { self.new.most ≡ self.old.most }
+    {
         self.calls = self.calls.saturating_add(1);
         match answer_at(self.script, self.calls) {
             Some(SinkAnswer::Interrupted) => {

@@ -1,7 +1,10 @@
 //! A scripted source over the bytes of a slice.
 
-ghost use Rattle.std.specs.Prelude.{◌≡◌, ◌<◌, Some};
-ghost use Rattle.drain_device.specs.Counts.{no_faults};
+ghost use Rattle.std.specs.Prelude.{◌≡◌, ◌<◌, ◌≤◌, ◌↔◌, min, length, IfOk, IsErrOf, Some};
+ghost use Rattle.std.specs.Io.KnownBytes.{ReadConsumes};
+ghost use Rattle.drain_device.specs.Counts.{counted, counts_after, no_faults};
+ghost use Rattle.drain_device.specs.Script.{answer_of};
+ghost use Rattle.drain_device.specs.declared.fault.DeviceFault.{DeviceFault};
 
 use super::script::{Scripted, answer_at};
 use crate::counts::FaultCounts;
@@ -29,6 +32,9 @@ impl<'a> ScriptSource<'a> {
         requires { 0 < most }
         ensures bytes { ⟦<ScriptSource<'a> as ByteSource>⟧.bytes_left result ≡ Some bytes.now }
         ensures counts { ⟦<ScriptSource<'a> as ByteSource>⟧.counts result ≡ no_faults }
+        ensures most { result.most ≡ most }
+        ensures script { result.script.now ≡ script.now }
+        ensures calls { result.calls ≡ 0 }
     {
         ScriptSource {
             rest: bytes,
@@ -45,7 +51,19 @@ impl ByteSource for ScriptSource<'_> {
 
     ghost counts = { λ s. s.counts };
 
-    fn read_some(&mut self, out: &mut [u8]) -> Result<usize, DeviceFault> {
+    fn read_some(&mut self, out: &mut [u8]) -> Result<usize, DeviceFault>
+        ensures bound { IfOk result (λ n. n ≤ length out.old) }
+        ensures some { IfOk result (λ n. n ≡ min (min (length self.old.rest.now) (length out.old)) self.old.most) }
+        ensures bytes { ReadConsumes (Some self.old.rest.now) (Some self.new.rest.now) result out.new }
+        ensures counted { self.new.counts ≡ counts_after self.old.counts result }
+
+        // It answers a fault exactly where the script has that for the call.
+        ensures scripted { (fault : DeviceFault) → IsErrOf result fault
+            ↔ (answer_of self.old.script.now self.new.calls ≡ Some fault) }
+        ensures calls { self.new.calls ≡ counted self.old.calls 1 }
+        ensures script { self.new.script.now ≡ self.old.script.now }
+        ensures most { self.new.most ≡ self.old.most }
+    {
         self.calls = self.calls.saturating_add(1);
         if let Some(fault) = answer_at(self.script, self.calls) {
             return Err(self.counts.count(fault));
