@@ -9,6 +9,7 @@ use crate::fill_input::{FillInput, fill_length};
 use drain_fill::fault;
 use drain_grid::tile::is_side;
 use drain_grid::{Cell, CellValues, Rule};
+use thiserror::Error;
 
 /// The size of the tile, and how many cells have data and are raised.
 #[derive(Clone, Copy, PartialEq, Eq, Debug)]
@@ -27,11 +28,13 @@ pub enum FillVerdict {
 }
 
 /// Why there is no verdict.
-#[derive(Clone, Copy, PartialEq, Eq, Debug)]
+#[derive(Clone, Copy, PartialEq, Eq, Debug, Error)]
 pub enum FillRefusal {
     /// A tile has no such number of samples along an edge.
+    #[error("the side is not from 2 to 3601")]
     BadSide,
     /// There are not nine bytes for each cell.
+    #[error("the input is not nine bytes for each cell")]
     BadLength,
 }
 

@@ -4,12 +4,14 @@
 ghost use Rattle.std.specs.Prelude.{◌≡◌, ◌+◌, ◌-◌, ◌↔◌, IsErr};
 
 use std::marker::Model;
+use thiserror::Error;
 
 /// The interruption of a device that is one too many.
 pub const TOO_MANY_INTERRUPTIONS: u32 = 1000;
 
 /// The device failed, was interrupted for the 1,000th time, or took no byte of some.
-#[derive(Clone, Copy, PartialEq, Eq, Debug)]
+#[derive(Clone, Copy, PartialEq, Eq, Debug, Error)]
+#[error("the device gave up")]
 pub struct GaveUp;
 
 /// What one reader or writer still bears of one device. Contracts see it as the number of interruptions left to bear.
