@@ -105,7 +105,12 @@ fn places_below_the_ground(rt: HostRuntime) -> Result<(), Fail> {
         ("one of three", &[5, 4, 3], &[5, 4, 4], Some(2)),
         ("two of three", &[5, 3, 3], &[5, 4, 4], Some(1)),
         ("no places", &[], &[], None),
-        ("the last of 17", con.as_slice(), [0; 17].as_slice(), Some(16)),
+        (
+            "the last of 17",
+            con.as_slice(),
+            [0; 17].as_slice(),
+            Some(16),
+        ),
     ];
     for (name, con, z, wanted) in cases {
         assert!(rt; con.len() == z.len(), "{name}");
