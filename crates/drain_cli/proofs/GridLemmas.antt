@@ -7,11 +7,11 @@ use Rattle.std.proofs.lemmas.List.FromFn.{length-map-range_with_len}
 use Rattle.std.proofs.Math.Nat.{mul-le-mul_right}
 use Rattle.drain_grid.specs.declared.cell.Cell.{Cell}
 use Rattle.drain_grid.specs.declared.rule.Rule.{Rule}
-use Rattle.drain_grid.specs.Rule.{number_of, IsBetween}
-use Rattle.drain_grid.specs.Extent.{row_cells, IsEarlier}
+use Rattle.drain_grid.specs.Rule.{IsBetween}
+use Rattle.drain_grid.specs.Extent.{row_cells}
 use Rattle.drain_grid.specs.Grid.{Grid, Products, IsInside}
 use Rattle.drain_grid.specs.Counts.{is_data, is_raised}
-use Rattle.drain_grid.specs.GridRules.{HoldsAt, RulesHold, IsEarlierPair, IsFirstFault}
+use Rattle.drain_grid.specs.GridRules.{HoldsAt, IsEarlierPair, IsFirstFault}
 use Rattle.drain_cli.specs.declared.fill_check.RowFault.{RowFault}
 use Rattle.drain_cli.specs.declared.fill_check.Tally.{Tally}
 use Rattle.drain_cli.specs.declared.fill_check.FillVerdict.TheVariants.{Accepted}

@@ -1,10 +1,10 @@
 -- One cell more of a row: what holds along it, and how many of its cells pass a test.
-use Rattle.std.proofs.Common.{◌≡◌, ℕ, ◌+◌, ◌<◌, Bool, cond, ◌&&◌, int_lt, is_some, unwrap_or, pos, None, Some, refl, inl, inr, arith, subst, sym, below_more}
+use Rattle.std.proofs.Common.{◌≡◌, ℕ, ◌+◌, ◌<◌, Bool, cond, ◌&&◌, int_lt, is_some, unwrap_or, pos, None, Some, arith, below_more}
 use Rattle.std.specs.List.{count_by}
 use Rattle.std.proofs.lemmas.List.FromFn.{sum_by-map-range_with_len_more}
 use Rattle.drain_grid.specs.declared.cell.Cell.{Cell}
 use Rattle.drain_grid.specs.declared.rule.Rule.{Rule}
-use Rattle.drain_grid.specs.declared.rule.Rule.TheVariants.{VoidCell, Missing, BadCode, BelowGround, OpenRaised, NoSpill, SpillHeight, SpillRank, NotLeast, Slope, OutletCode, FlatStep, Accumulation, Label, SharedLabel}
+use Rattle.drain_grid.specs.declared.rule.Rule.TheVariants.{SharedLabel}
 use Rattle.drain_grid.specs.Rule.{number_of, IsBetween, IsLeastFault}
 use Rattle.drain_grid.specs.Extent.{row_cells}
 use Rattle.drain_grid.specs.Values.{Values}

@@ -3,7 +3,6 @@
 use Rattle.std.specs.Prelude.{◌≡◌, ℕ, ◌+◌, ◌*◌, ℤ, pos, List, length, drop}
 use Rattle.std.specs.Int.{cast_signed, w16}
 use Rattle.byteorder.specs.Endian.{big_number}
-use Rattle.drain_grid.specs.declared.cell.Cell.{Cell}
 use Rattle.drain_grid.specs.Extent.{index_of}
 use Rattle.drain_grid.specs.Size.{Extent}
 use Rattle.drain_grid.specs.Tile.{height_from}

@@ -1,5 +1,5 @@
 -- The line that tells the answer to a fill input. Its words are this project's own.
-use Rattle.std.specs.Prelude.{ℕ, List, ◌∷◌, ◌++◌, Result, Ok, Err, codes, decimal}
+use Rattle.std.specs.Prelude.{ℕ, List, ◌++◌, Result, Ok, Err, codes, decimal}
 use Rattle.drain_grid.specs.declared.rule.Rule.{Rule}
 use Rattle.drain_grid.specs.Rule.{number_of, name_of}
 use Rattle.drain_cli.specs.declared.fill_check.FillCounts.{FillCounts}

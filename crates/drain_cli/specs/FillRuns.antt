@@ -1,5 +1,5 @@
 -- How a run of `drain fill` ends: with the answer to its bytes, or without one for want of memory or by the source.
-use Rattle.std.specs.Prelude.{◌≡◌, ℕ, ◌+◌, ◌*◌, List, ◌↔◌, Option, Some, None, Result, Ok, Err, IsErrOf, codes}
+use Rattle.std.specs.Prelude.{ℕ, List, ◌↔◌, Option, Some, None, Result, Ok, Err, IsErrOf, codes}
 use Rattle.drain_device.specs.declared.counts.FaultCounts.{FaultCounts}
 use Rattle.drain_device.specs.declared.read.BodyFault.{BodyFault}
 use Rattle.drain_device.specs.declared.read.BodyFault.TheVariants.{ReadFailed, OutOfMemory}

@@ -3,6 +3,7 @@ pub mod FillLines
 pub mod FillRows
 pub mod FillRuns
 pub mod FillVerdicts
+pub mod Filled
 pub mod Parts
 pub mod Printing
 pub mod Statuses

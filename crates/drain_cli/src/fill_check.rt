@@ -1,12 +1,16 @@
 //! The check of a fill input: rules 4 to 9 at each cell in row order, one patch at a time.
 
 ghost use Rattle.std.specs.Prelude.{◌≡◌, ◌+◌, ◌^◌, ◌<◌, ◌≤◌, ◌&&◌, if◌then◌else◌, IfOk, IfErr, int_lt, is_some, unwrap_or, pos};
+ghost use Rattle.drain_grid.specs.Path.{IsLeastSurface, ShowsSpillLevels};
+ghost use Rattle.drain_cli.specs.Fill.{fill_grid, fill_products};
 ghost use Rattle.drain_cli.specs.FillVerdicts.{IsFillAnswer, IsFillVerdict};
+ghost use Rattle.drain_cli.specs.Filled.{OnAccepted};
 ghost use Rattle.drain_cli.specs.FillRows.{IsRowTally, IsRowFault};
 ghost use Rattle.drain_cli.specs.Parts.{grid_of, products_of};
 
 use crate::fill_input::{FillInput, fill_length};
 use drain_fill::fault;
+use drain_grid::laws::least_from_rules;
 use drain_grid::tile::is_side;
 use drain_grid::{Cell, CellValues, Rule};
 use thiserror::Error;
@@ -137,6 +141,10 @@ fn verdict_of(input: &FillInput<'_>) -> FillVerdict
 /// It takes no memory.
 pub fn check_fill(side: u32, bytes: &[u8]) -> Result<FillVerdict, FillRefusal>
     ensures answer { IsFillAnswer side bytes.now result }
+
+    // An accepted `con` is the filled surface.
+    ensures spill_level { OnAccepted result (ShowsSpillLevels (fill_grid side bytes.now) (fill_products side bytes.now).con) }
+    ensures least { OnAccepted result (IsLeastSurface (fill_grid side bytes.now) (fill_products side bytes.now).con) }
 {
     if !is_side(side) {
         return Err(FillRefusal::BadSide);
@@ -144,5 +152,7 @@ pub fn check_fill(side: u32, bytes: &[u8]) -> Result<FillVerdict, FillRefusal>
     if bytes.len() != fill_length(side) {
         return Err(FillRefusal::BadLength);
     }
+    // The law that turns rules kept at every cell into the filled surface.
+    least_from_rules();
     Ok(verdict_of(&FillInput::new(side, bytes)))
 }

@@ -3,6 +3,7 @@
 ghost use Rattle.std.specs.Prelude.{◌≡◌, ◌+◌, ◌*◌};
 ghost use Rattle.drain_device.specs.Reads.{TakesAtMost};
 ghost use Rattle.drain_grid.specs.Tile.{IsSide};
+ghost use Rattle.drain_cli.specs.Filled.{IsFilledIfTold};
 ghost use Rattle.drain_cli.specs.FillRuns.{FillOutcome, IsFillOutcome, outcome_line, outcome_status};
 ghost use Rattle.drain_cli.specs.Printing.{Prints};
 
@@ -13,6 +14,7 @@ use crate::line::{Line, words};
 use crate::print::print_line;
 use crate::status::Status;
 use drain_device::{BodyFault, ByteSink, ByteSource, read_body};
+use drain_grid::laws::least_from_rules;
 use drain_grid::tile::is_side;
 use std::alloc::Global;
 
@@ -36,7 +38,12 @@ pub fn run_fill<R: ByteSource, W: ByteSink>(
         × Prints (W.bytes_taken out.old) (W.bytes_taken out.new) (W.counts out.old) (W.counts out.new)
         (W.stalls out.old) (W.stalls out.new) (outcome_line outcome) (outcome_status outcome) result }
     ensures within { TakesAtMost (9 * (side * side) + 1) (R.bytes_left input.old) (R.bytes_left input.new) }
+
+    // A run ends with 0 only where `con` is the filled surface.
+    ensures filled { result ≡ 0 → IsFilledIfTold side (R.bytes_left input.old) }
 {
+    // The law that turns an acceptance into the filled surface.
+    least_from_rules();
     let outcome = read_and_check(alloc, side, input);
     print_line(out, &line_of(&outcome), status_of(&outcome))
 }

@@ -9,6 +9,8 @@
 //! as the order of the visits does. That a certificate shows both, and the rules' wording, are this project's own.
 #![tactic(auto)]
 
+pub mod first_below;
+
 ghost use Rattle.std.specs.Prelude.{◌≡◌, ◌↔◌, ◌<ℤ◌, IsTrue, MatchOption, Some};
 ghost use Rattle.std.specs.Int.{int_max};
 ghost use Rattle.drain_grid.specs.Direction.{Names, NamesSome};

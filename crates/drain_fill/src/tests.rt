@@ -1,6 +1,8 @@
-//! Patches of which only what these rules read is given, each with the first rule that fails.
+//! Patches of which only what these rules read is given, each with the first rule that fails; and slices with
+//! their first place below the ground.
 
 use super::*;
+use crate::first_below::first_below;
 use std::test::Fail;
 
 /// What stands beside the cell.
@@ -91,6 +93,28 @@ fn voids_and_bounds(rt: HostRuntime) -> Result<(), Fail> {
         let here = cell(z, con, spl, rnk).ok_or("a number that no pixel spells")?;
         let found = fault(&patch(here, beside, beside));
         assert_eq!(rt; found, wanted, "{con}");
+    }
+    Ok(())
+}
+
+#[test]
+fn places_below_the_ground(rt: HostRuntime) -> Result<(), Fail> {
+    let mut con = [0; 17];
+    con[16] = -1;
+    let cases: [(&str, &[i16], &[i16], Option<usize>); 4] = [
+        ("one of three", &[5, 4, 3], &[5, 4, 4], Some(2)),
+        ("two of three", &[5, 3, 3], &[5, 4, 4], Some(1)),
+        ("no places", &[], &[], None),
+        (
+            "the last of 17",
+            con.as_slice(),
+            [0; 17].as_slice(),
+            Some(16),
+        ),
+    ];
+    for (name, con, z, wanted) in cases {
+        assert!(rt; con.len() == z.len(), "{name}");
+        assert_eq!(rt; first_below(con, z), wanted, "{name}");
     }
     Ok(())
 }

@@ -1,7 +1,9 @@
-mod RuleRows
 mod Rows
+mod RuleRows
+pub mod Bounds
 pub mod Decisions
 pub mod Directions
+pub mod Least
 pub mod Neighbors
 pub mod OpenAmong
 pub mod OpenCells
@@ -11,3 +13,4 @@ pub mod Patches
 pub mod RowGrids
 pub mod RuleDecisions
 pub mod RuleNumbers
+pub mod SpillPaths

@@ -3,9 +3,11 @@ pub mod Direction
 pub mod Extent
 pub mod Grid
 pub mod GridRules
+pub mod Laws
 pub mod Open
 pub mod Patch
 pub mod PatchRules
+pub mod Path
 pub mod Rule
 pub mod Size
 pub mod Slope

@@ -7,6 +7,7 @@
 
 pub mod cell;
 pub mod direction;
+pub mod laws;
 pub mod patch;
 pub mod rule;
 #[cfg(test)]

@@ -1,8 +1,6 @@
-use Rattle.std.proofs.Common.{◌≡◌, ◌<◌, ◌≤◌, None, Some, arith, ap, subst, refl}
+use Rattle.std.proofs.Common.{arith, ap}
 use Rattle.drain_grid.specs.declared.patch.Patch.{Patch}
-use Rattle.drain_grid.specs.Rule.{IsBetween, IsLeastFault}
-use Rattle.drain_grid.specs.Grid.{Grid, Products, patch_at}
-use Rattle.drain_cli.specs.FillVerdicts.{unused_numbers, fill_rules}
+use Rattle.drain_cli.specs.FillVerdicts.{unused_numbers}
 use Rattle.drain_cli.specs.Parts.{grid_of, products_of}
 use Rattle.drain_cli.proofs.RowLemmas.{HoldAlong-more, IsRowFault-patch, CountsAlong-more}
 use Rattle.drain_cli.proofs.fill_check.check_row.Goals as goal

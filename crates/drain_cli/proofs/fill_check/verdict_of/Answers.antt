@@ -1,10 +1,6 @@
-use Rattle.std.proofs.Common.{◌≡◌, ◌+◌, ◌*◌, ◌<◌, ◌≤◌, Ok, arith, refl, ap, below_more, length}
-use Rattle.std.specs.List.{count_by}
-use Rattle.std.proofs.Math.Nat.{mul-le-mul_left}
-use Rattle.std.proofs.lemmas.List.Sums.{count_by-le-length}
-use Rattle.drain_grid.specs.declared.rule.Rule.{Rule}
+use Rattle.std.proofs.Common.{◌≡◌, ◌+◌, ◌*◌, arith, below_more}
 use Rattle.drain_cli.specs.Parts.{grid_of, products_of}
-use Rattle.drain_cli.specs.FillRows.{HoldAlong, IsRowTally}
+use Rattle.drain_cli.specs.FillRows.{HoldAlong}
 use Rattle.drain_cli.proofs.GridLemmas.{CountsAbove-more, IsFirstFault-row, IsFillCounts-above, row_fits, tally_fits}
 use Rattle.drain_cli.proofs.fill_check.verdict_of.Goals as goal
 

@@ -1,4 +1,4 @@
-use Rattle.std.proofs.Common.{◌≡◌, ℕ, ◌*◌, ◌<◌, ◌≤◌}
+use Rattle.std.proofs.Common.{ℕ, ◌*◌, ◌<◌, ◌≤◌}
 use Rattle.drain_cli.specs.FillRows.{HoldAlong}
 use Rattle.drain_cli.specs.Parts.{grid_of, products_of}
 use Rattle.drain_cli.proofs.GridLemmas.{CountsAbove}

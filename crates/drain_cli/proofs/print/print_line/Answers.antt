@@ -1,5 +1,4 @@
-use Rattle.std.proofs.Common.{◌≡◌, ◌+◌, ◌++◌, [], ◌∷◌, arith, rules, refl}
-use Rattle.drain_device.specs.Patience.{full_patience}
+use Rattle.std.proofs.Common.{◌≡◌, ◌++◌, [], ◌∷◌, arith, rules}
 use Rattle.drain_cli.specs.Printing.{line_feed}
 use Rattle.drain_cli.proofs.PrintLemmas.{Prints-write_all}
 use Rattle.drain_cli.proofs.print.print_line.Goals as goal

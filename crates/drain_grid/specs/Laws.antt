@@ -1,0 +1,12 @@
+-- What the local rules say of the whole grid.
+use Rattle.drain_grid.specs.Values.{NoDataNumbers}
+use Rattle.drain_grid.specs.Grid.{Grid, Products}
+use Rattle.drain_grid.specs.Path.{IsFilled}
+use Rattle.drain_grid.specs.PatchRules.{profile1}
+use Rattle.drain_grid.specs.GridRules.{RulesHold}
+
+-- where rules 4 to 9 hold at every cell, con is the filled surface: the spill level of each data cell, and the least
+-- surface that covers the ground and drains
+abbrev pub LeastFromRules : Type 0
+LeastFromRules =
+    (g : Grid) (ps : Products) (nodata : NoDataNumbers) → RulesHold (profile1 nodata) 4 9 g ps → IsFilled g ps.con
