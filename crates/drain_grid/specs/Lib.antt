@@ -1,6 +1,7 @@
 pub mod Counts
 pub mod Direction
 pub mod Extent
+pub mod First
 pub mod Grid
 pub mod GridRules
 pub mod Laws
@@ -11,5 +12,6 @@ pub mod Path
 pub mod Rule
 pub mod Size
 pub mod Slope
+pub mod Text
 pub mod Tile
 pub mod Values
