@@ -6,3 +6,4 @@ pub mod Faults
 pub mod Text
 pub mod Laws
 pub mod FaultText
+pub mod Parts

@@ -4,6 +4,8 @@
 pub mod fault;
 pub mod header;
 pub mod key;
+mod whole_number;
+mod words;
 
 pub use fault::HeaderFault;
 pub use header::{ByteOrdering, Header, Place};
