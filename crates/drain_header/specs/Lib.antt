@@ -7,3 +7,5 @@ pub mod Text
 pub mod Laws
 pub mod FaultText
 pub mod Parts
+pub mod Numerals
+pub mod Values

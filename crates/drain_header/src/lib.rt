@@ -1,9 +1,13 @@
 //! Header texts of rasters.
 #![tactic(auto)]
 
+mod decimal;
 pub mod fault;
 pub mod header;
 pub mod key;
+mod line;
+mod numeral;
+mod value;
 mod whole_number;
 mod words;
 

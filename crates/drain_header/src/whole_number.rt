@@ -16,7 +16,9 @@ pub fn whole_number(word: &[u8]) -> Option<u32>
             return None;
         }
         // A number past 64 bits stays there: it is refused all the same.
-        value = value.saturating_mul(10).saturating_add((*byte - b'0') as u64);
+        value = value
+            .saturating_mul(10)
+            .saturating_add((*byte - b'0') as u64);
     }
     if value > u32::MAX as u64 {
         return None;

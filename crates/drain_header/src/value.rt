@@ -1,0 +1,92 @@
+//! The values that keywords take.
+
+ghost use Rattle.std.specs.Prelude.{◌≡◌};
+ghost use Rattle.drain_header.specs.Lines.{size_of as size_that, ordering_of as ordering_that, is_layout as layout_that, signedness_of as signedness_that};
+ghost use Rattle.drain_header.specs.Values.{value_read};
+
+use crate::decimal::{coordinate, nodata};
+use crate::header::ByteOrdering;
+use crate::key::Key;
+use crate::line::reads;
+use crate::whole_number::whole_number;
+
+/// The most rows, and the most columns.
+const MAX_SIZE: u32 = 28801;
+
+/// What the value of a keyword says.
+#[derive(Clone, Copy)]
+pub enum Value {
+    Number(u32),
+    Ordering(ByteOrdering),
+    Layout,
+    /// Whether pixels are signed, none where the word is another than the two that are known.
+    Signed(Option<bool>),
+    Coordinate(i128),
+    Nodata(i64),
+}
+
+/// What a word says as the value of a keyword, none where the keyword does not take it.
+pub fn read_value(key: Key, word: &[u8]) -> Option<Value>
+    ensures { result ≡ value_read key word.now }
+{
+    match key {
+        Key::Nrows | Key::Ncols => Some(Value::Number(size(word)?)),
+        Key::Nbands | Key::Nbits | Key::SkipBytes | Key::BandRowBytes | Key::TotalRowBytes => {
+            Some(Value::Number(whole_number(word)?))
+        }
+        Key::ByteOrder => Some(Value::Ordering(ordering(word)?)),
+        Key::Layout => {
+            if is_layout(word) {
+                Some(Value::Layout)
+            } else {
+                None
+            }
+        }
+        Key::PixelType => Some(Value::Signed(signedness(word))),
+        Key::Ulxmap | Key::Ulymap | Key::Xdim | Key::Ydim => Some(Value::Coordinate(coordinate(
+            word,
+        )?)),
+        Key::Nodata => Some(Value::Nodata(nodata(word)?)),
+    }
+}
+
+fn size(word: &[u8]) -> Option<u32>
+    ensures { result ≡ size_that word.now }
+{
+    let number = whole_number(word)?;
+    if 1 <= number && number <= MAX_SIZE {
+        Some(number)
+    } else {
+        None
+    }
+}
+
+fn ordering(word: &[u8]) -> Option<ByteOrdering>
+    ensures { result ≡ ordering_that word.now }
+{
+    if reads("I", word) {
+        Some(ByteOrdering::Least)
+    } else if reads("M", word) {
+        Some(ByteOrdering::Most)
+    } else {
+        None
+    }
+}
+
+fn is_layout(word: &[u8]) -> bool
+    ensures { result ≡ layout_that word.now }
+{
+    reads("BIL", word) || reads("BIP", word) || reads("BSQ", word)
+}
+
+fn signedness(word: &[u8]) -> Option<bool>
+    ensures { result ≡ signedness_that word.now }
+{
+    if reads("SIGNEDINT", word) {
+        Some(true)
+    } else if reads("UNSIGNEDINT", word) {
+        Some(false)
+    } else {
+        None
+    }
+}
