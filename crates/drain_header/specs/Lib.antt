@@ -9,3 +9,4 @@ pub mod FaultText
 pub mod Parts
 pub mod Numerals
 pub mod Values
+pub mod Reading

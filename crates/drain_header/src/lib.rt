@@ -6,6 +6,7 @@ pub mod fault;
 pub mod header;
 pub mod key;
 mod line;
+mod lines;
 mod numeral;
 mod value;
 mod whole_number;
@@ -14,3 +15,6 @@ mod words;
 pub use fault::HeaderFault;
 pub use header::{ByteOrdering, Header, Place};
 pub use key::Key;
+
+#[cfg(test)]
+mod tests;

@@ -1,0 +1,10 @@
+use Rattle.std.proofs.Common.{◌≡◌, ◌+◌, ◌≤◌, length}
+use Rattle.drain_grid.specs.Text.{lines_of}
+use Rattle.drain_header.specs.Reading.{nothing, with_lines}
+use Rattle.drain_header.proofs.lines.read_lines.Given as goal
+
+abbrev pub invariant-loop-seen : goal.invariant-loop-seen
+invariant-loop-seen l = (with_lines l.seen l.number (lines_of l.rest) ≡ with_lines nothing 1 (lines_of l.text)) × (l.number + length l.rest ≤ 65537)
+
+abbrev pub decreases-loop-seen : goal.decreases-loop-seen
+decreases-loop-seen l = length l.rest

@@ -1,0 +1,41 @@
+-- Reading a header's lines one after another: the values of the keywords so far, or the first fault of a line.
+use Rattle.std.specs.Prelude.{ℕ, ◌+◌, List, [], ◌∷◌, Option, Some, None, is_some, option_and_then, Result, Ok, Err, if◌then◌else◌, slice_index_or, slice_set, replicate}
+use Rattle.drain_header.specs.declared.key.Key.{Key}
+use Rattle.drain_header.specs.declared.value.Value.{Value}
+use Rattle.drain_header.specs.declared.fault.HeaderFault.{HeaderFault}
+use Rattle.drain_header.specs.declared.fault.HeaderFault.TheVariants.{RepeatedKey, BadValue}
+use Rattle.drain_header.specs.Lines.{place_of_key, key_of, value_of}
+use Rattle.drain_header.specs.Values.{value_read}
+
+-- the value of each keyword so far, at the keyword's place in the table
+abbrev pub Seen : Type 0
+Seen = List (Option Value)
+
+-- no line so far has a keyword
+abbrev pub nothing : Seen
+nothing = replicate 15 None
+
+-- a keyword's value after line n, which has the keyword
+abbrev pub with_value : Seen → ℕ → Key → Option Value → Result Seen HeaderFault
+with_value seen n key None = Err (BadValue n)
+with_value seen n key (Some value) = Ok (slice_set seen (place_of_key key) (Some value))
+
+-- line n has this keyword, if any, and this second word, if any
+abbrev pub with_key : Seen → ℕ → Option Key → Option (List ℕ) → Result Seen HeaderFault
+with_key seen n None word = Ok seen
+with_key seen n (Some key) word =
+    if is_some (slice_index_or seen (place_of_key key) None) then Err (RepeatedKey n)
+    else with_value seen n key (option_and_then (value_read key) word)
+
+-- what line n adds
+abbrev pub with_line : Seen → ℕ → List ℕ → Result Seen HeaderFault
+with_line seen n line = with_key seen n (key_of line) (value_of line)
+
+abbrev pub follow : Result Seen HeaderFault → (Seen → Result Seen HeaderFault) → Result Seen HeaderFault
+follow (Ok seen) next = next seen
+follow (Err fault) next = Err fault
+
+-- what lines add, of which the first is line n
+abbrev pub with_lines : Seen → ℕ → List (List ℕ) → Result Seen HeaderFault
+with_lines seen n [] = Ok seen
+with_lines seen n (line ∷ lines) = follow (with_line seen n line) (λ next. with_lines next (n + 1) lines)

@@ -1,0 +1,55 @@
+//! The lines of a header, one after another: each keyword's value, or the first fault of a line.
+
+ghost use Rattle.std.specs.Prelude.{◌≡◌, ◌≤◌, length};
+ghost use Rattle.drain_grid.specs.Text.{lines_of};
+ghost use Rattle.drain_header.specs.Reading.{nothing, with_line as line_added, with_lines as lines_added};
+
+use crate::fault::HeaderFault;
+use crate::line::key_and_value;
+use crate::value::{Value, read_value};
+use crate::words::first_line;
+
+/// A keyword's value stands at its place in the table, none where no line so far has the keyword.
+pub type Seen = [Option<Value>; 15];
+
+/// The values that the lines of a text say, or the fault of the first line that has one.
+pub fn read_lines(text: &[u8]) -> Result<Seen, HeaderFault>
+    requires { length text.now ≤ 65536 }
+    ensures { result ≡ lines_added nothing 1 (lines_of text.now) }
+{
+    let mut seen: Seen = [None; 15];
+    let mut number = 1u32;
+    let mut rest = text;
+    loop {
+        let (line, after) = first_line(rest);
+        seen = with_line(seen, number, line)?;
+        let Some(next) = after else {
+            return Ok(seen);
+        };
+        number += 1;
+        rest = next;
+    }
+}
+
+/// The values with that of one more line.
+fn with_line(seen: Seen, number: u32, line: &[u8]) -> Result<Seen, HeaderFault>
+    ensures { result ≡ line_added seen number line.now }
+{
+    let (keyword, word) = key_and_value(line);
+    let Some(key) = keyword else {
+        return Ok(seen);
+    };
+    let place = key as usize;
+    if seen[place].is_some() {
+        return Err(HeaderFault::RepeatedKey(number));
+    }
+    let Some(word) = word else {
+        return Err(HeaderFault::BadValue(number));
+    };
+    let Some(value) = read_value(key, word) else {
+        return Err(HeaderFault::BadValue(number));
+    };
+    let mut next = seen;
+    next[place] = Some(value);
+    Ok(next)
+}
