@@ -1,8 +1,8 @@
 -- The parts of a scanned decimal are of digits.
-use Rattle.std.proofs.Common.{◌≡◌, ℕ, zero, suc, ◌+◌, ◌-◌, ◌≤◌, Bool, true, false, List, [], ◌∷◌, length, take, drop, arith, refl, sym, ap, ◌∙◌, subst}
+use Rattle.std.proofs.Common.{◌≡◌, ℕ, ◌+◌, ◌≤◌, Bool, true, false, List, [], length, drop, arith, sym, ap}
 use Rattle.std.specs.Prelude.{cond, slice_range, slice_index, ◌==◌, if◌then◌else◌}
 use Rattle.std.specs.Str.Parse.{AllDigits}
-use Rattle.std.specs.Float.Numeral.{Parts, scan_numeral, digits_end, digits_len, exponent_start, has_exponent, dot}
+use Rattle.std.specs.Float.Numeral.{Parts, scan_numeral, digits_end, exponent_start, has_exponent, dot}
 use Rattle.drain_header.specs.declared.numeral.Numeral.{Numeral}
 use Rattle.drain_header.specs.Numerals.{parts_of, IsOfDigits}
 use Rattle.drain_header.proofs.Digits.{counted_digits, append_digits}

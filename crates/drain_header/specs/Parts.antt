@@ -1,6 +1,6 @@
 -- Steps along a text: its first line and its first word.
-use Rattle.std.specs.Prelude.{◌≡◌, ℕ, List, [], ◌∷◌, ◌||◌, ◌==◌, not, Bool, Option, Some, None, MatchOption}
-use Rattle.drain_grid.specs.Text.{lines_of, words_of}
+use Rattle.std.specs.Prelude.{◌≡◌, ℕ, List, [], ◌∷◌, ◌||◌, ◌==◌, not, Bool, Option, Some, None}
+use Rattle.drain_grid.specs.Text.{lines_of}
 
 -- a line is the text's first, and the rest is the text after its line feed, where it has one
 abbrev pub IsFirstLine : List ℕ → List ℕ → Option (List ℕ) → Type 0

@@ -1,4 +1,4 @@
-use Rattle.std.proofs.Common.{arith, sym, ap}
+use Rattle.std.proofs.Common.{arith}
 use Rattle.drain_header.proofs.Scanned.{scanned_digits}
 use Rattle.drain_header.proofs.decimal.decimal.Goals as goal
 

@@ -1,4 +1,4 @@
-use Rattle.std.proofs.Common.{◌≡◌, ℕ, List, ◌+◌, ◌-◌, length, take, drop, arith, sym, ap, ◌∙◌, refl}
+use Rattle.std.proofs.Common.{ℕ, List, ◌+◌, ◌-◌, length, drop, arith, sym, ap, ◌∙◌, refl}
 use Rattle.std.proofs.lemmas.List.{take_rest}
 use Rattle.std.specs.Str.Parse.{digits_value}
 use Rattle.std.specs.Prelude.{◌==◌, ◌&&◌, cond}

@@ -1,4 +1,4 @@
-use Rattle.std.proofs.Common.{◌≡◌, ℕ, List, ◌+◌, drop, get_or, sym, ap, ◌∙◌}
+use Rattle.std.proofs.Common.{ℕ, List, ◌+◌, drop, get_or, sym, ap, ◌∙◌}
 use Rattle.std.specs.Prelude.{find, cond, Some}
 use Rattle.std.proofs.lemmas.List.{at_drop_more}
 use Rattle.drain_header.specs.declared.key.Key.TheVariants.{Nrows}

@@ -1,4 +1,4 @@
-use Rattle.std.proofs.Common.{◌≡◌, ℕ, List, length, get_or, arith, sym, ap, ◌∙◌}
+use Rattle.std.proofs.Common.{ℕ, List, length, get_or, arith, sym, ap, ◌∙◌}
 use Rattle.std.specs.Char.{to_ascii_uppercase}
 use Rattle.std.proofs.lemmas.List.{get_or-map, length-map}
 use Rattle.drain_header.proofs.Capitals.{reads_same, reads_other}

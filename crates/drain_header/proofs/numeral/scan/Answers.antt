@@ -1,4 +1,4 @@
-use Rattle.std.proofs.Common.{◌≡◌, ◌+◌, arith, sym, ◌∙◌, eq-eqb}
+use Rattle.std.proofs.Common.{arith, sym, ◌∙◌, eq-eqb}
 use Rattle.std.proofs.lemmas.Bool.{ne_eqb}
 use Rattle.std.proofs.Math.Nat.{sub-zero}
 use Rattle.std.specs.Float.Numeral.{scan_numeral}

@@ -1,4 +1,4 @@
-use Rattle.std.proofs.Common.{◌≡◌, arith, sym, ◌∙◌, get_or}
+use Rattle.std.proofs.Common.{arith, sym, ◌∙◌, get_or}
 use Rattle.std.proofs.lemmas.Int.Digits.{digits_value_more}
 use Rattle.drain_header.proofs.Digits.{digit_worth, all_digits_more}
 use Rattle.drain_header.proofs.whole_number.whole_number.Goals as goal

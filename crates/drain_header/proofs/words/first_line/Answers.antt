@@ -1,4 +1,4 @@
-use Rattle.std.proofs.Common.{◌≡◌, ◌∷◌, ◌-◌, ◌+◌, length, take, drop, arith, sym, ap, ◌∙◌, not}
+use Rattle.std.proofs.Common.{◌∷◌, ◌+◌, length, arith, sym, ap, ◌∙◌, not}
 use Rattle.std.specs.Prelude.{◌==◌}
 use Rattle.std.proofs.lemmas.List.{take_rest}
 use Rattle.std.proofs.lemmas.List.Sums.{prefix_len_is}

@@ -1,0 +1,220 @@
+-- The lines read one after another give the first fault of a line, or the value of each keyword.
+--
+-- By induction over the lines that are left: `IsSeen` says what is kept of those before. It speaks of a keyword in three
+-- ways, since the plain answer does: whether an earlier line has it, the first line that has it, and that line's value.
+use Rattle.std.proofs.Common.{◌≡◌, ℕ, zero, suc, ◌+◌, ◌<◌, Bool, true, false, List, [], ◌∷◌, ◌++◌, length, get_or, arith, refl, sym, ap, ◌∙◌}
+use Rattle.std.specs.Prelude.{◌||◌, not, cond, find, Option, Some, None, is_some, option_and_then, option_map, slice_get, slice_set, Result, Ok, Err, nat_eq}
+use Rattle.std.specs.Option.{option_or}
+use Rattle.std.proofs.lemmas.Bool.{eqb-true, eqb-false}
+use Rattle.std.proofs.lemmas.List.{append_assoc, append-nil, get_or-replicate, get_or-set_same, get_or-set_other, length-set, length-append}
+use Rattle.drain_header.specs.declared.key.Key.{Key}
+use Rattle.drain_header.specs.declared.key.Key.TheVariants.{Nrows, Ncols, Nbands, Nbits, ByteOrder, Layout, PixelType, SkipBytes, BandRowBytes, TotalRowBytes, Ulxmap, Ulymap, Xdim, Ydim, Nodata}
+use Rattle.drain_header.specs.declared.value.Value.{Value}
+use Rattle.drain_header.specs.declared.fault.HeaderFault.{HeaderFault}
+use Rattle.drain_header.specs.declared.fault.HeaderFault.TheVariants.{RepeatedKey, BadValue}
+use Rattle.drain_header.specs.Lines.{place_of_key, key_of, value_of, is_some_key, takes, takes_some}
+use Rattle.drain_header.specs.Faults.{line_at}
+use Rattle.drain_header.specs.Values.{value_read}
+use Rattle.drain_header.specs.Reading.{Seen, nothing, with_value, with_key, with_lines, follow}
+use Rattle.drain_header.proofs.Search.{any_below, first_below}
+use Rattle.drain_header.proofs.Plain.{key_on, is_repeated, is_bad, line_fault}
+use Rattle.drain_header.proofs.PlainLemmas.{place_below, is_some_key-true}
+
+abbrev pub has : Key → List ℕ → Bool
+has key line = is_some_key key (key_of line)
+
+abbrev pub at : Key → Seen → Option Value
+at key seen = get_or seen (place_of_key key) None
+
+some_mapped : {A B : Type 0} (f : A → B) (o : Option A) → is_some (option_map f o) ≡ is_some o
+some_mapped f None = refl
+some_mapped f (Some a) = refl
+
+some_if : (b : Bool) (x : Value) → is_some (cond b (Some x) None) ≡ b
+some_if true x = refl
+some_if false x = refl
+
+-- a keyword takes the words that say something as its value
+taken : (key : Key) (word : List ℕ) → takes key word ≡ is_some (value_read key word)
+taken Nrows word = sym (some_mapped _ _)
+taken Ncols word = sym (some_mapped _ _)
+taken Nbands word = sym (some_mapped _ _)
+taken Nbits word = sym (some_mapped _ _)
+taken ByteOrder word = sym (some_mapped _ _)
+taken Layout word = sym (some_if _ _)
+taken PixelType word = refl
+taken SkipBytes word = sym (some_mapped _ _)
+taken BandRowBytes word = sym (some_mapped _ _)
+taken TotalRowBytes word = sym (some_mapped _ _)
+taken Ulxmap word = sym (some_mapped _ _)
+taken Ulymap word = sym (some_mapped _ _)
+taken Xdim word = sym (some_mapped _ _)
+taken Ydim word = sym (some_mapped _ _)
+taken Nodata word = sym (some_mapped _ _)
+
+taken_some : (key : Key) (word : Option (List ℕ)) → takes_some key word ≡ is_some (option_and_then (value_read key) word)
+taken_some key None = refl
+taken_some key (Some word) = taken key word
+
+-- the line behind the front
+line_behind : (front : List (List ℕ)) (line : List ℕ) (rest : List (List ℕ)) → slice_get (front ++ line ∷ rest) (length front) ≡ Some line
+line_behind [] line rest = refl
+line_behind (x ∷ xs) line rest = line_behind xs line rest
+
+-- the first that passes, with one element more
+find_more : (p : List ℕ → Bool) (xs : List (List ℕ)) (y : List ℕ) → find p (xs ++ y ∷ []) ≡ option_or (find p xs) (cond (p y) (Some y) None)
+find_more p [] y = refl
+find_more p (x ∷ xs) y = elim (p x) as (λ b. cond b (Some x) (find p (xs ++ y ∷ [])) ≡ option_or (cond b (Some x) (find p xs)) (cond (p y) (Some y) None)) [
+  | true ↦ refl
+  | false ↦ find_more p xs y
+]
+
+or_none : (o : Option (List ℕ)) → option_or o None ≡ o
+or_none None = refl
+or_none (Some x) = refl
+
+none_or : (o p : Option (List ℕ)) → is_some o ≡ false → option_or o p ≡ p
+none_or None p e = refl
+none_or (Some x) p e = cc
+
+-- found once, found in a longer range
+first_found : {A : Type 0} (f : ℕ → Option A) (n k : ℕ) (a : A) → first_below f n ≡ None → f n ≡ Some a → n < k → first_below f k ≡ Some a
+first_found f n zero a none here h = absurd (omega arith)
+first_found f n (suc k) a none here h = elim (nat_eq n k) as (λ b. nat_eq n k ≡ b → option_or (first_below f k) (f k) ≡ Some a) [
+  | true ↦ λ e. (let same = eqb-true n k e in ap (λ (m : ℕ). option_or (first_below f m) (f m)) (sym same) ∙ ap (λ o. option_or o (f n)) none ∙ here)
+  | false ↦ λ e. (let other = eqb-false n k e in ap (λ o. option_or o (f k)) (first_found f n k a none here (omega (arith, other))))
+] refl
+
+-- what is kept of the lines in front of line n
+pub record IsSeen (lines front : List (List ℕ)) (n : ℕ) (seen : Seen) : Type 0 where
+  pub long : length seen ≡ 15
+  pub there : (key : Key) → any_below (λ m. is_some_key key (key_on lines m)) n ≡ is_some (at key seen)
+  pub found : (key : Key) → is_some (find (has key) front) ≡ is_some (at key seen)
+  pub value : (key : Key) → at key seen ≡ option_and_then (value_read key) (option_and_then value_of (find (has key) front))
+
+pub start : (lines : List (List ℕ)) → IsSeen lines [] 1 nothing
+start lines =
+    let none : (key : Key) → at key nothing ≡ None = λ key. get_or-replicate 15 (place_of_key key) None None (place_below key) in
+    record {
+      long = refl;
+      there = λ key. sym (ap is_some (none key));
+      found = λ key. sym (ap is_some (none key));
+      value = λ key. none key;
+    }
+
+-- line n, and what it does
+module _ (lines front rest : List (List ℕ)) (line : List ℕ) (n : ℕ) (seen : Seen) (is : lines ≡ front ++ line ∷ rest) (count : n ≡ suc (length front)) (s : IsSeen lines front n seen) where
+  here : line_at lines n ≡ Some line
+  here = ap (λ (m : ℕ). line_at lines m) count ∙ ap (λ ls. slice_get ls (length front)) is ∙ line_behind front line rest
+
+  key_here : key_on lines n ≡ key_of line
+  key_here = ap (option_and_then key_of) here
+
+  keyless : key_of line ≡ None → IsSeen lines (front ++ line ∷ []) (suc n) seen
+  keyless none = record {
+    long = s.long;
+    there = λ key. ap (λ o. is_some_key key o || any_below (λ m. is_some_key key (key_on lines m)) n) (key_here ∙ none) ∙ s.there key;
+    found = λ key. ap is_some (same key) ∙ s.found key;
+    value = λ key. s.value key ∙ ap (λ o. option_and_then (value_read key) (option_and_then value_of o)) (sym (same key));
+  }
+    where
+      same : (key : Key) → find (has key) (front ++ line ∷ []) ≡ find (has key) front
+      same key = find_more (has key) front line ∙ ap (λ o. option_or (find (has key) front) (cond (is_some_key key o) (Some line) None)) none ∙ or_none _
+
+  keyed : (k : Key) (x : Value) → key_of line ≡ Some k → is_some (at k seen) ≡ false → option_and_then (value_read k) (value_of line) ≡ Some x → IsSeen lines (front ++ line ∷ []) (suc n) (slice_set seen (place_of_key k) (Some x))
+  keyed k x key_is new read = record {
+    long = length-set seen (place_of_key k) (Some x) ∙ s.long;
+    there = λ key. (each key).0;
+    found = λ key. (each key).1;
+    value = λ key. (each key).2;
+  }
+    where
+      next : Seen
+      next = slice_set seen (place_of_key k) (Some x)
+
+      more : (key : Key) → find (has key) (front ++ line ∷ []) ≡ option_or (find (has key) front) (cond (nat_eq (place_of_key key) (place_of_key k)) (Some line) None)
+      more key = find_more (has key) front line ∙ ap (λ o. option_or (find (has key) front) (cond (is_some_key key o) (Some line) None)) key_is
+
+      each : (key : Key) → (any_below (λ m. is_some_key key (key_on lines m)) (suc n) ≡ is_some (get_or (slice_set seen (place_of_key k) (Some x)) (place_of_key key) None))
+          × (is_some (find (has key) (front ++ line ∷ [])) ≡ is_some (get_or (slice_set seen (place_of_key k) (Some x)) (place_of_key key) None))
+          × (get_or (slice_set seen (place_of_key k) (Some x)) (place_of_key key) None ≡ option_and_then (value_read key) (option_and_then value_of (find (has key) (front ++ line ∷ []))))
+      each key = elim (nat_eq (place_of_key key) (place_of_key k)) as (λ b. nat_eq (place_of_key key) (place_of_key k) ≡ b → (any_below (λ m. is_some_key key (key_on lines m)) (suc n) ≡ is_some (get_or (slice_set seen (place_of_key k) (Some x)) (place_of_key key) None))
+          × (is_some (find (has key) (front ++ line ∷ [])) ≡ is_some (get_or (slice_set seen (place_of_key k) (Some x)) (place_of_key key) None))
+          × (get_or (slice_set seen (place_of_key k) (Some x)) (place_of_key key) None ≡ option_and_then (value_read key) (option_and_then value_of (find (has key) (front ++ line ∷ []))))) [
+            | true ↦ λ e. (
+                let place = eqb-true (place_of_key key) (place_of_key k) e in
+                let keys = is_some_key-true key (Some k) e in
+                let same : k ≡ key = cc in
+                let inside : place_of_key k < length seen = omega (arith, place_below k, s.long) in
+                let here_key = ap (λ (i : ℕ). get_or (slice_set seen (place_of_key k) (Some x)) i None) place ∙ get_or-set_same seen (place_of_key k) (Some x) None inside in
+                let before = s.found key ∙ ap (λ (i : ℕ). is_some (get_or seen i None)) place ∙ new in
+                let found_here = more key ∙ ap (λ b. option_or (find (has key) front) (cond b (Some line) None)) e ∙ none_or (find (has key) front) (Some line) before in (
+                  ap (λ o. is_some_key key o || any_below (λ m. is_some_key key (key_on lines m)) n) (key_here ∙ key_is) ∙ ap (λ b. b || any_below (λ m. is_some_key key (key_on lines m)) n) e ∙ sym (ap is_some here_key),
+                  ap is_some found_here ∙ sym (ap is_some here_key),
+                  here_key ∙ sym read ∙ ap (λ (kk : Key). option_and_then (value_read kk) (value_of line)) same ∙ ap (λ o. option_and_then (value_read key) (option_and_then value_of o)) (sym found_here),
+                ))
+            | false ↦ λ e. (
+                let other = eqb-false (place_of_key key) (place_of_key k) e in
+                let same_at = get_or-set_other seen (place_of_key k) (place_of_key key) (Some x) None other in
+                let found_same = more key ∙ ap (λ b. option_or (find (has key) front) (cond b (Some line) None)) e ∙ or_none (find (has key) front) in (
+                  ap (λ o. is_some_key key o || any_below (λ m. is_some_key key (key_on lines m)) n) (key_here ∙ key_is) ∙ ap (λ b. b || any_below (λ m. is_some_key key (key_on lines m)) n) e ∙ s.there key ∙ ap is_some (sym same_at),
+                  ap is_some found_same ∙ s.found key ∙ ap is_some (sym same_at),
+                  same_at ∙ s.value key ∙ ap (λ o. option_and_then (value_read key) (option_and_then value_of o)) (sym found_same),
+                ))
+          ] refl
+
+  -- what line n's keyword and value decide
+  abbrev judge : Option Key → Option (List ℕ) → Option HeaderFault
+  judge o word = cond (is_repeated lines n o) (Some (RepeatedKey n)) (cond (is_bad o word) (Some (BadValue n)) None)
+
+  judged : (o : Option Key) → key_of line ≡ o → line_fault lines n ≡ judge o (value_of line)
+  judged o e = ap (λ k. judge k (option_and_then value_of (line_at lines n))) (key_here ∙ e) ∙ ap (λ w. judge o (option_and_then value_of w)) here
+
+  repeated : (k : Key) → key_of line ≡ Some k → is_some (at k seen) ≡ true → line_fault lines n ≡ Some (RepeatedKey n)
+  repeated k key_is old = judged (Some k) key_is ∙ ap (λ b. cond b (Some (RepeatedKey n)) (cond (is_bad (Some k) (value_of line)) (Some (BadValue n)) None)) (s.there k ∙ old)
+
+  bad : (k : Key) → key_of line ≡ Some k → is_some (at k seen) ≡ false → option_and_then (value_read k) (value_of line) ≡ None → line_fault lines n ≡ Some (BadValue n)
+  bad k key_is new none =
+      judged (Some k) key_is
+      ∙ ap (λ b. cond b (Some (RepeatedKey n)) (cond (is_bad (Some k) (value_of line)) (Some (BadValue n)) None)) (s.there k ∙ new)
+      ∙ ap (λ b. cond (not b) (Some (BadValue n)) None) (taken_some k (value_of line) ∙ ap is_some none)
+
+  sound_keyless : key_of line ≡ None → line_fault lines n ≡ None
+  sound_keyless none = judged None none
+
+  sound_keyed : (k : Key) (x : Value) → key_of line ≡ Some k → is_some (at k seen) ≡ false → option_and_then (value_read k) (value_of line) ≡ Some x → line_fault lines n ≡ None
+  sound_keyed k x key_is new read =
+      judged (Some k) key_is
+      ∙ ap (λ b. cond b (Some (RepeatedKey n)) (cond (is_bad (Some k) (value_of line)) (Some (BadValue n)) None)) (s.there k ∙ new)
+      ∙ ap (λ b. cond (not b) (Some (BadValue n)) None) (taken_some k (value_of line) ∙ ap is_some read)
+
+-- what the lines give when none is left
+abbrev pub Outcome : List (List ℕ) → Result Seen HeaderFault → Type 0
+Outcome lines (Ok seen) = IsSeen lines lines (suc (length lines)) seen × (first_below (line_fault lines) (suc (length lines)) ≡ None)
+Outcome lines (Err fault) = first_below (line_fault lines) (suc (length lines)) ≡ Some fault
+
+pub fold : (lines front rest : List (List ℕ)) (n : ℕ) (seen : Seen) → lines ≡ front ++ rest → n ≡ suc (length front) → IsSeen lines front n seen → first_below (line_fault lines) n ≡ None → Outcome lines (with_lines seen n rest)
+fold lines front [] n seen is count s none =
+    let all : front ≡ lines = sym (is ∙ append-nil front) in
+    let last : n ≡ suc (length lines) = count ∙ ap (λ (ls : List (List ℕ)). suc (length ls)) all in
+    (rw (all, last) at s, rw last at none)
+fold lines front (line ∷ rest) n seen is count s none =
+    let inside : n < suc (length lines) = omega (arith, ap (λ (ls : List (List ℕ)). length ls) is, length-append front (line ∷ rest), count) in
+    let plus : suc n ≡ n + 1 = omega arith in
+    let go = λ (next : Seen) (s' : IsSeen lines (front ++ line ∷ []) (suc n) next) (fine : line_fault lines n ≡ None). (
+    let none' : first_below (line_fault lines) (suc n) ≡ None = ap (λ o. option_or o (line_fault lines n)) none ∙ fine in
+    fold lines (front ++ line ∷ []) rest (n + 1) next (is ∙ sym (append_assoc front (line ∷ []) rest)) (omega (arith, length-append front (line ∷ []))) (rw plus at s') (ap (first_below (line_fault lines)) (sym plus) ∙ none')) in
+    elim (key_of line) as (λ o. key_of line ≡ o → Outcome lines (follow (with_key seen n o (value_of line)) (λ next. with_lines next (n + 1) rest))) [
+      | None ↦ λ e. go seen (keyless lines front rest line n seen is count s e) (sound_keyless lines front rest line n seen is count s e)
+      | Some k ↦ λ e. elim (is_some (at k seen)) as (λ b. is_some (at k seen) ≡ b → Outcome lines (follow (cond b (Err (RepeatedKey n)) (with_value seen n k (option_and_then (value_read k) (value_of line)))) (λ next. with_lines next (n + 1) rest))) [
+        | true ↦ λ old. first_found (line_fault lines) n (suc (length lines)) (RepeatedKey n) none (repeated lines front rest line n seen is count s k e old) inside
+        | false ↦ λ new. elim (option_and_then (value_read k) (value_of line)) as (λ o. option_and_then (value_read k) (value_of line) ≡ o → Outcome lines (follow (with_value seen n k o) (λ next. with_lines next (n + 1) rest))) [
+          | None ↦ λ no. first_found (line_fault lines) n (suc (length lines)) (BadValue n) none (bad lines front rest line n seen is count s k e new no) inside
+          | Some x ↦ λ read. go (slice_set seen (place_of_key k) (Some x)) (keyed lines front rest line n seen is count s k x e new read) (sound_keyed lines front rest line n seen is count s k x e new read)
+        ] refl
+      ] refl
+    ] refl
+
+-- so a text's lines give the first fault of a line, or the values that its keywords have
+pub lines_read : (lines : List (List ℕ)) → Outcome lines (with_lines nothing 1 lines)
+lines_read lines = fold lines [] lines 1 nothing refl refl (start lines) refl
