@@ -10,3 +10,4 @@ pub mod Parts
 pub mod Numerals
 pub mod Values
 pub mod Reading
+pub mod Lacking

@@ -2,9 +2,11 @@
 
 ghost use Rattle.std.specs.Prelude.{◌≡◌, ◌≤◌, length};
 ghost use Rattle.drain_grid.specs.Text.{lines_of};
+ghost use Rattle.drain_header.specs.Lacking.{lacking};
 ghost use Rattle.drain_header.specs.Reading.{nothing, with_line as line_added, with_lines as lines_added};
 
 use crate::fault::HeaderFault;
+use crate::key::Key;
 use crate::line::key_and_value;
 use crate::value::{Value, read_value};
 use crate::words::first_line;
@@ -52,4 +54,29 @@ fn with_line(seen: Seen, number: u32, line: &[u8]) -> Result<Seen, HeaderFault>
     let mut next = seen;
     next[place] = Some(value);
     Ok(next)
+}
+
+/// The first keyword that a header must have and that no line has.
+fn missing_key(seen: &Seen) -> Option<Key>
+    ensures { result ≡ lacking seen.now }
+{
+    if seen[Key::Nrows as usize].is_none() {
+        return Some(Key::Nrows);
+    }
+    if seen[Key::Ncols as usize].is_none() {
+        return Some(Key::Ncols);
+    }
+    if seen[Key::Ulxmap as usize].is_none() {
+        return Some(Key::Ulxmap);
+    }
+    if seen[Key::Ulymap as usize].is_none() {
+        return Some(Key::Ulymap);
+    }
+    if seen[Key::Xdim as usize].is_none() {
+        return Some(Key::Xdim);
+    }
+    if seen[Key::Ydim as usize].is_none() {
+        return Some(Key::Ydim);
+    }
+    None
 }
