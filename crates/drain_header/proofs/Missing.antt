@@ -1,5 +1,5 @@
 -- The first keyword that the lines lack is the first that their values lack.
-use Rattle.std.proofs.Common.{◌≡◌, suc, Bool, true, false, List, ℕ, length, refl, sym, ap, ◌∙◌}
+use Rattle.std.proofs.Common.{◌≡◌, suc, Bool, true, false, List, ℕ, length, refl, ap, ◌∙◌}
 use Rattle.std.specs.Prelude.{not, cond, Option, Some, None, is_some, is_none}
 use Rattle.std.specs.Option.{option_or}
 use Rattle.drain_header.specs.declared.key.Key.{Key}

@@ -8,6 +8,7 @@ pub mod key;
 mod line;
 mod lines;
 mod numeral;
+mod said;
 mod value;
 mod whole_number;
 mod words;

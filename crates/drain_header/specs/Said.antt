@@ -1,0 +1,33 @@
+-- What the values of the keywords say, by their kinds.
+use Rattle.std.specs.Prelude.{ℕ, ℤ, Bool, Option, Some, None, option_and_then, slice_index_or}
+use Rattle.drain_header.specs.declared.header.ByteOrdering.{ByteOrdering}
+use Rattle.drain_header.specs.declared.key.Key.{Key}
+use Rattle.drain_header.specs.declared.value.Value.{Value}
+use Rattle.drain_header.specs.declared.value.Value.TheVariants.{Number, Ordering, Signed, Coordinate, Nodata}
+use Rattle.drain_header.specs.Lines.{place_of_key}
+use Rattle.drain_header.specs.Reading.{Seen}
+
+abbrev pub number_of : Value → Option ℕ
+number_of (Number n) = Some n
+number_of value = None
+
+abbrev pub ordering_in : Value → Option ByteOrdering
+ordering_in (Ordering order) = Some order
+ordering_in value = None
+
+-- whether pixels are signed, where the pixel type is one of the two words that are known
+abbrev pub sign_in : Value → Option Bool
+sign_in (Signed signed) = signed
+sign_in value = None
+
+abbrev pub coordinate_in : Value → Option ℤ
+coordinate_in (Coordinate z) = Some z
+coordinate_in value = None
+
+abbrev pub nodata_in : Value → Option ℤ
+nodata_in (Nodata z) = Some z
+nodata_in value = None
+
+-- what a keyword's value says, if a line has the keyword
+abbrev pub said_by : {A : Type 0} → (Value → Option A) → Key → Seen → Option A
+said_by kind key seen = option_and_then kind (slice_index_or seen (place_of_key key) None)
