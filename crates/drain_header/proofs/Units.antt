@@ -1,8 +1,8 @@
 -- A magnitude in units decides whether a decimal is small, and is its value.
 use Rattle.std.proofs.Common.{◌≡◌, ℕ, suc, ◌+◌, ◌-◌, ◌*◌, ◌/◌, ◌%◌, ◌^◌, ◌<◌, ◌≤◌, Bool, true, false, List, arith, refl, sym, ap, ◌∙◌, inl, inr}
 use Rattle.std.specs.Prelude.{◌&&◌, ◌==◌, ◌⊎◌, nat_lt, ℤ, cond, Option, Some, None, option_and_then, if◌then◌else◌}
-use Rattle.std.proofs.lemmas.Nat.{div-mul-add, mod-mul-add}
-use Rattle.std.proofs.lemmas.Bool.{le-leb, lt-leb, eqb-true, eqb-false, ltb-true, ltb-false}
+use Rattle.std.proofs.lemmas.Nat.{div_below, div-mul-add, mod-mul-add}
+use Rattle.std.proofs.lemmas.Bool.{le-leb, leb-true, lt-leb, eqb-true, eqb-false, ltb-true, ltb-false}
 use Rattle.std.specs.Float.Numeral.{Parts, numeral_digits, tens_up, tens_down}
 use Rattle.drain_header.specs.Decimals.{Decimal, decimal_from, decimal_of, is_small, is_whole, in_units, with_sign, coordinate_of, nodata_of}
 use Rattle.drain_header.specs.Numerals.{IsScaled}
@@ -86,3 +86,12 @@ no_nodata word d is other = ap (λ b. cond b (Some (in_units 0 d)) None) (sym ot
 pub and_false : (b : Bool) → (b && false) ≡ false
 and_false true = refl
 and_false false = refl
+
+-- a small decimal has at most 10^10 in units
+pub small_magnitude : (d : Decimal) (places : ℕ) → is_small d ≡ true → d.digits * 10 ^ d.up * 10 ^ places / 10 ^ d.down ≤ 10000000000 * 10 ^ places
+small_magnitude d places small =
+    let low : d.digits * 10 ^ d.up ≤ 10000000000 * 10 ^ d.down = leb-true _ _ small in
+    let raised : d.digits * 10 ^ d.up * 10 ^ places ≤ 10000000000 * 10 ^ d.down * 10 ^ places = mul-le-mul_right (10 ^ places) low in
+    let some = one-le-pow d.down 10 (omega arith) in
+    let below = div_below (d.digits * 10 ^ d.up * 10 ^ places) (10 ^ d.down) (suc (10000000000 * 10 ^ places)) (omega arith) (omega arith) in
+    omega (arith, below)
