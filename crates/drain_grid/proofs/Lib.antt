@@ -2,6 +2,8 @@ mod RuleRows
 mod Rows
 pub mod Decisions
 pub mod Directions
+pub mod LeastFaults
+pub mod NamedNeighbors
 pub mod Neighbors
 pub mod OpenAmong
 pub mod OpenCells
