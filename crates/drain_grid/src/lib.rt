@@ -8,6 +8,7 @@
 pub mod cell;
 pub mod direction;
 pub mod laws;
+pub mod memory;
 pub mod patch;
 pub mod rule;
 #[cfg(test)]
@@ -17,6 +18,7 @@ pub mod values;
 
 pub use cell::{Cell, Shape};
 pub use direction::{Code, Direction};
+pub use memory::OutOfMemory;
 pub use patch::Patch;
 pub use rule::Rule;
 pub use tile::{MAX_SIDE, MIN_SIDE, VOID};

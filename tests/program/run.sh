@@ -1,0 +1,52 @@
+#!/usr/bin/env bash
+# Runs the built program on the command lines of table.txt, and on standard streams that stay open, are closed, are full
+# or fail, and compares what it prints and its exit status.
+# Usage: tests/program/run.sh PROGRAM
+set -u
+drain=$(realpath "$1")
+here=$(cd "$(dirname "$0")" && pwd)
+cd "$here/../.."
+scratch=$(mktemp -d)
+trap 'rm -rf "$scratch"' EXIT
+passed=0
+failed=0
+
+# Compares one run: its name, the status and standard output that are wanted, the status that came, and whether standard
+# error is to have text (words) or none (silent). The run has left its streams in $scratch/out and $scratch/err.
+judge() {
+    local name=$1 status=$2 wanted=$3 came=$4 errors=${5:-silent} what=
+    [ "$came" = "$status" ] || what+=" status $came for $status;"
+    cmp -s "$wanted" "$scratch/out" || what+=" standard output: $(head -c 200 "$scratch/out");"
+    case $errors in
+        silent) [ -s "$scratch/err" ] && what+=" standard error: $(head -c 200 "$scratch/err");" ;;
+        words) [ -s "$scratch/err" ] || what+=" nothing on standard error;" ;;
+    esac
+    if [ -z "$what" ]; then
+        passed=$((passed + 1))
+    else
+        failed=$((failed + 1))
+        echo "FAILED $name:$what"
+    fi
+}
+
+# What is wanted on standard output: a file of expected/ for @NAME, nothing for -, else the one line.
+want() {
+    case $1 in
+        @*) cp "$here/expected/${1#@}" "$scratch/want" ;;
+        -) : >"$scratch/want" ;;
+        *) printf '%s\n' "$1" >"$scratch/want" ;;
+    esac
+}
+
+while IFS='|' read -r name input words status line errors; do
+    case $name in '' | \#*) continue ;; esac
+    read -r -a asked <<<"$words"
+    want "$line"
+    timeout 20 "$drain" "${asked[@]}" <"$input" >"$scratch/out" 2>"$scratch/err"
+    judge "$name" "$status" "$scratch/want" $? "$errors"
+done < <(sed -E 's/ *\| */|/g; s/^ +| +$//g' "$here/table.txt")
+
+. "$here/streams.sh"
+
+echo "$passed passed, $failed failed"
+[ "$failed" -eq 0 ]
