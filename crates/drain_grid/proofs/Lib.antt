@@ -3,12 +3,9 @@ mod RuleRows
 pub mod Bounds
 pub mod Decisions
 pub mod Directions
-<<<<<<< HEAD
 pub mod Least
-=======
 pub mod LeastFaults
 pub mod NamedNeighbors
->>>>>>> basin
 pub mod Neighbors
 pub mod OpenAmong
 pub mod OpenCells
