@@ -12,6 +12,7 @@ pub mod OpenCells
 pub mod Options
 pub mod PatchDecisions
 pub mod Patches
+pub mod PresenceFaults
 pub mod RowGrids
 pub mod RuleDecisions
 pub mod RuleNumbers

@@ -8,8 +8,12 @@ pub mod Open
 pub mod Patch
 pub mod PatchRules
 pub mod Path
+pub mod Product
+pub mod Rasters
 pub mod Rule
 pub mod Size
 pub mod Slope
 pub mod Tile
 pub mod Values
+pub mod Whole
+pub mod WholeGrid
