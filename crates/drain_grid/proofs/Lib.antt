@@ -1,6 +1,9 @@
 mod Rows
 mod RuleRows
 pub mod Bounds
+pub mod CellSums
+pub mod Chains
+pub mod Codes
 pub mod Decisions
 pub mod Directions
 pub mod Least
@@ -16,4 +19,8 @@ pub mod PresenceFaults
 pub mod RowGrids
 pub mod RuleDecisions
 pub mod RuleNumbers
+pub mod Runs
+pub mod Slopes
 pub mod SpillPaths
+pub mod Steps
+pub mod Tallies

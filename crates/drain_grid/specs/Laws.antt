@@ -4,9 +4,15 @@ use Rattle.drain_grid.specs.Grid.{Grid, Products}
 use Rattle.drain_grid.specs.Path.{IsFilled}
 use Rattle.drain_grid.specs.PatchRules.{profile1}
 use Rattle.drain_grid.specs.GridRules.{RulesHold}
+use Rattle.drain_grid.specs.Correct.{RunsAreSound}
 
 -- where rules 4 to 9 hold at every cell, con is the filled surface: the spill level of each data cell, and the least
 -- surface that covers the ground and drains
 abbrev pub LeastFromRules : Type 0
 LeastFromRules =
     (g : Grid) (ps : Products) (nodata : NoDataNumbers) → RulesHold (profile1 nodata) 4 9 g ps → IsFilled g ps.con
+
+-- where rules 10 to 12 hold at every cell, every run is sound: it never climbs, visits no cell twice, and ends at an outlet
+abbrev pub RunsEnd : Type 0
+RunsEnd =
+    (g : Grid) (ps : Products) (nodata : NoDataNumbers) → RulesHold (profile1 nodata) 10 12 g ps → RunsAreSound g ps

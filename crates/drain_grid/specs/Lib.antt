@@ -1,3 +1,4 @@
+pub mod Correct
 pub mod Counts
 pub mod Direction
 pub mod Extent
@@ -11,6 +12,7 @@ pub mod Path
 pub mod Product
 pub mod Rasters
 pub mod Rule
+pub mod Run
 pub mod Size
 pub mod Slope
 pub mod Tile

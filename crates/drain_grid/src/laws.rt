@@ -2,9 +2,15 @@
 //!
 //! Each law is a function with nothing to do: its contract is the law, and a caller that calls it has the law at hand.
 
-ghost use Rattle.drain_grid.specs.Laws.{LeastFromRules};
+ghost use Rattle.drain_grid.specs.Laws.{LeastFromRules, RunsEnd};
 
 /// Rules 4 to 9 make `con` the spill level of each data cell, and the least surface that drains.
 pub fn least_from_rules()
     ensures { LeastFromRules }
+{}
+
+/// Where rules 10 to 12 hold at every cell, no code climbs, each run visits a cell at most once and
+/// ends at an outlet, and the code is 0 exactly at the outlets.
+pub fn runs_end()
+    ensures { RunsEnd }
 {}
