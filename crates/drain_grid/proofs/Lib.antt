@@ -6,6 +6,7 @@ pub mod Chains
 pub mod Codes
 pub mod Decisions
 pub mod Directions
+pub mod Inflows
 pub mod Least
 pub mod LeastFaults
 pub mod NamedNeighbors
@@ -24,3 +25,4 @@ pub mod Slopes
 pub mod SpillPaths
 pub mod Steps
 pub mod Tallies
+pub mod Upstream

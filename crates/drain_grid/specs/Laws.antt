@@ -1,7 +1,10 @@
 -- What the local rules say of the whole grid.
+use Rattle.std.specs.Prelude.{◌≡◌, pos}
+use Rattle.drain_grid.specs.declared.cell.Cell.{Cell}
 use Rattle.drain_grid.specs.Values.{NoDataNumbers}
-use Rattle.drain_grid.specs.Grid.{Grid, Products}
+use Rattle.drain_grid.specs.Grid.{Grid, Products, HasData}
 use Rattle.drain_grid.specs.Path.{IsFilled}
+use Rattle.drain_grid.specs.Run.{upstream_count}
 use Rattle.drain_grid.specs.PatchRules.{profile1}
 use Rattle.drain_grid.specs.GridRules.{RulesHold}
 use Rattle.drain_grid.specs.Correct.{RunsAreSound}
@@ -16,3 +19,9 @@ LeastFromRules =
 abbrev pub RunsEnd : Type 0
 RunsEnd =
     (g : Grid) (ps : Products) (nodata : NoDataNumbers) → RulesHold (profile1 nodata) 10 12 g ps → RunsAreSound g ps
+
+-- where rules 10 to 13 hold at every cell, acc is the number of cells that drain through the cell
+abbrev pub CountsUpstream : Type 0
+CountsUpstream =
+    (g : Grid) (ps : Products) (nodata : NoDataNumbers) → RulesHold (profile1 nodata) 10 13 g ps →
+    (c : Cell) → HasData g c → ps.acc c ≡ pos (upstream_count g ps c)

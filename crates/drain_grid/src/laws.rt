@@ -2,7 +2,7 @@
 //!
 //! Each law is a function with nothing to do: its contract is the law, and a caller that calls it has the law at hand.
 
-ghost use Rattle.drain_grid.specs.Laws.{LeastFromRules, RunsEnd};
+ghost use Rattle.drain_grid.specs.Laws.{CountsUpstream, LeastFromRules, RunsEnd};
 
 /// Rules 4 to 9 make `con` the spill level of each data cell, and the least surface that drains.
 pub fn least_from_rules()
@@ -13,4 +13,9 @@ pub fn least_from_rules()
 /// ends at an outlet, and the code is 0 exactly at the outlets.
 pub fn runs_end()
     ensures { RunsEnd }
+{}
+
+/// Rules 10 to 13 make `acc` the number of cells that drain through the cell.
+pub fn counts_upstream()
+    ensures { CountsUpstream }
 {}
