@@ -1,10 +1,10 @@
 -- What the local rules say of the whole grid.
-use Rattle.std.specs.Prelude.{◌≡◌, pos}
+use Rattle.std.specs.Prelude.{◌≡◌, pos, ◌↔◌}
 use Rattle.drain_grid.specs.declared.cell.Cell.{Cell}
 use Rattle.drain_grid.specs.Values.{NoDataNumbers}
 use Rattle.drain_grid.specs.Grid.{Grid, Products, HasData}
 use Rattle.drain_grid.specs.Path.{IsFilled}
-use Rattle.drain_grid.specs.Run.{upstream_count}
+use Rattle.drain_grid.specs.Run.{upstream_count, ShareBasin}
 use Rattle.drain_grid.specs.PatchRules.{profile1}
 use Rattle.drain_grid.specs.GridRules.{RulesHold}
 use Rattle.drain_grid.specs.Correct.{RunsAreSound}
@@ -25,3 +25,10 @@ abbrev pub CountsUpstream : Type 0
 CountsUpstream =
     (g : Grid) (ps : Products) (nodata : NoDataNumbers) → RulesHold (profile1 nodata) 10 13 g ps →
     (c : Cell) → HasData g c → ps.acc c ≡ pos (upstream_count g ps c)
+
+-- where rules 10 to 12, 14 and 15 hold at every cell, labels are equal exactly where basins are shared
+abbrev pub LabelsAreBasins : Type 0
+LabelsAreBasins =
+    (g : Grid) (ps : Products) (nodata : NoDataNumbers) →
+    RulesHold (profile1 nodata) 10 12 g ps → RulesHold (profile1 nodata) 14 15 g ps →
+    (a b : Cell) → HasData g a → HasData g b → (ps.bas a ≡ ps.bas b) ↔ ShareBasin g ps a b

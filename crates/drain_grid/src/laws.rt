@@ -2,7 +2,7 @@
 //!
 //! Each law is a function with nothing to do: its contract is the law, and a caller that calls it has the law at hand.
 
-ghost use Rattle.drain_grid.specs.Laws.{CountsUpstream, LeastFromRules, RunsEnd};
+ghost use Rattle.drain_grid.specs.Laws.{CountsUpstream, LabelsAreBasins, LeastFromRules, RunsEnd};
 
 /// Rules 4 to 9 make `con` the spill level of each data cell, and the least surface that drains.
 pub fn least_from_rules()
@@ -18,4 +18,10 @@ pub fn runs_end()
 /// Rules 10 to 13 make `acc` the number of cells that drain through the cell.
 pub fn counts_upstream()
     ensures { CountsUpstream }
+{}
+
+/// Where rules 10 to 12, 14 and 15 hold at every cell, two data cells have equal labels exactly where
+/// their runs end in the same cell.
+pub fn labels_are_basins()
+    ensures { LabelsAreBasins }
 {}
