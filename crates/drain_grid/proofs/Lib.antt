@@ -1,5 +1,6 @@
 mod Rows
 mod RuleRows
+pub mod AllRules
 pub mod Basins
 pub mod Bounds
 pub mod CellSums

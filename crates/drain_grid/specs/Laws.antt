@@ -7,7 +7,7 @@ use Rattle.drain_grid.specs.Path.{IsFilled}
 use Rattle.drain_grid.specs.Run.{upstream_count, ShareBasin}
 use Rattle.drain_grid.specs.PatchRules.{profile1}
 use Rattle.drain_grid.specs.GridRules.{RulesHold}
-use Rattle.drain_grid.specs.Correct.{RunsAreSound}
+use Rattle.drain_grid.specs.Correct.{RunsAreSound, IsCorrect}
 
 -- where rules 4 to 9 hold at every cell, con is the filled surface: the spill level of each data cell, and the least
 -- surface that covers the ground and drains
@@ -32,3 +32,9 @@ LabelsAreBasins =
     (g : Grid) (ps : Products) (nodata : NoDataNumbers) →
     RulesHold (profile1 nodata) 10 12 g ps → RulesHold (profile1 nodata) 14 15 g ps →
     (a b : Cell) → HasData g a → HasData g b → (ps.bas a ≡ ps.bas b) ↔ ShareBasin g ps a b
+
+-- where all fifteen rules hold at every cell, the products are correct, and every run is sound
+abbrev pub CorrectFromRules : Type 0
+CorrectFromRules =
+    (g : Grid) (ps : Products) (nodata : NoDataNumbers) → RulesHold (profile1 nodata) 1 15 g ps →
+    IsCorrect g ps nodata × RunsAreSound g ps

@@ -2,7 +2,7 @@
 //!
 //! Each law is a function with nothing to do: its contract is the law, and a caller that calls it has the law at hand.
 
-ghost use Rattle.drain_grid.specs.Laws.{CountsUpstream, LabelsAreBasins, LeastFromRules, RunsEnd};
+ghost use Rattle.drain_grid.specs.Laws.{CorrectFromRules, CountsUpstream, LabelsAreBasins, LeastFromRules, RunsEnd};
 
 /// Rules 4 to 9 make `con` the spill level of each data cell, and the least surface that drains.
 pub fn least_from_rules()
@@ -24,4 +24,10 @@ pub fn counts_upstream()
 /// their runs end in the same cell.
 pub fn labels_are_basins()
     ensures { LabelsAreBasins }
+{}
+
+/// Where all rules hold at every cell, the products are correct, and besides no run visits a cell twice
+/// and each ends at an outlet.
+pub fn correct_from_rules()
+    ensures { CorrectFromRules }
 {}
