@@ -1,0 +1,2 @@
+pub mod KnownLabels
+pub mod NextLabels
