@@ -1,0 +1,5 @@
+pub mod Places
+pub mod GreatestKeys
+pub mod Keys
+pub mod LeastFaults
+pub mod NamedSlopes
