@@ -1,15 +1,16 @@
--- Keys and steepest ways down: a direction is steepest exactly where its key is the greatest, if that is not 0.
-use Rattle.std.proofs.Common.{◌≡◌, ◌≢◌, ◌↔◌, ℕ, zero, suc, ◌<◌, ℤ, pos, negsuc, ◌-ℤ◌, ◌≤ℤ◌, ◌<ℤ◌, Bool, true, false, ◌&&◌, int_lt, Option, Some, None, IsSome, is_some, if◌then◌else◌, refl, sym, ◌∙◌, ap, subst, arith}
+-- Keys and steepest ways down: at a cell with a lower neighbour a direction is steepest exactly where its key is the
+-- greatest.
+use Rattle.std.proofs.Common.{◌≡◌, ℕ, zero, suc, ◌<◌, ℤ, pos, negsuc, ◌-ℤ◌, ◌≤ℤ◌, ◌<ℤ◌, Bool, true, false, ◌&&◌, int_lt, Option, Some, None, is_some, if◌then◌else◌, refl, sym, ◌∙◌, ap, subst, arith}
 use Rattle.std.proofs.lemmas.Int.{ints}
 use Rattle.std.proofs.lemmas.Bool.{false≢true}
 use Rattle.drain_grid.specs.declared.direction.Direction.{Direction}
 use Rattle.drain_grid.specs.declared.patch.Patch.{Patch}
-use Rattle.drain_grid.specs.Direction.{place_of, is_straight}
+use Rattle.drain_grid.specs.Direction.{is_straight}
 use Rattle.drain_grid.specs.Values.{Values}
-use Rattle.drain_grid.specs.Patch.{neighbor, IsDataCell, IsLower, IsLowerAt, HasLower}
+use Rattle.drain_grid.specs.Patch.{neighbor, IsLower, IsLowerAt}
 use Rattle.drain_grid.specs.Slope.{slope_key, key_to, IsSteepest, IsFirstSteepest}
 use Rattle.drain_grid.proofs.Decisions.{less_complete, less_sound}
-use Rattle.drain_slope.specs.Key.{key_of, key_at, IsGreatestKey, IsFirstWithKey}
+use Rattle.drain_slope.specs.Key.{key_of, key_at, IsSteepestKey, IsFirstWithKey}
 
 -- a way down has a key above 0
 key_above_0 : (straight : Bool) (drop : ℤ) → pos 0 <ℤ drop → pos 0 <ℤ slope_key straight drop
@@ -53,54 +54,50 @@ lower_from_key p d above = by_neighbor (neighbor p d) refl above
     by_neighbor None is h = absurd (omega (arith, ints))
     by_neighbor (Some n) is h = by_tests n (is_some n.z) (int_lt n.con p.here.con) refl refl is h
 
--- where the greatest key is 0 no neighbour is lower
-pub none_lower : (p : Patch) → IsGreatestKey p 0 → ¬ HasLower p
-none_lower p greatest lower =
-    let at = lower.1 in
+steepest_above_0 : (p : Patch) (key : ℕ) → IsSteepestKey p key → pos 0 <ℤ pos key
+steepest_above_0 p key steepest =
+    let at = steepest.has_lower.1 in
     let above : pos 0 <ℤ key_at p at.0 = lower_above_0 p at.0 at.1.0 at.1.1 in
-    let most : key_at p at.0 ≤ℤ pos 0 = greatest.bound at.0 in
+    let most : key_at p at.0 ≤ℤ pos key = steepest.greatest.bound at.0 in
     omega (arith, ints)
 
--- where it is not, one is
-pub some_lower : (p : Patch) (key : ℕ) → IsGreatestKey p key → 0 < key → IsDataCell p → HasLower p
-some_lower p key greatest above has_data =
-    let at = greatest.reached above in
-    let over : pos 0 <ℤ pos key = omega (arith, ints) in
-    (has_data, (at.0, lower_from_key p at.0 (subst (λ k. pos 0 <ℤ k) (sym at.1) over)))
-
--- the greatest key is that of a steepest
-pub steepest_from_key : (p : Patch) (d : Direction) (key : ℕ) → IsGreatestKey p key → 0 < key → key_at p d ≡ pos key → IsSteepest p d
-steepest_from_key p d key greatest above is =
-    let over : pos 0 <ℤ pos key = omega (arith, ints) in
-    let way = lower_from_key p d (subst (λ k. pos 0 <ℤ k) (sym is) over) in
-    let own : pos key ≡ key_to p d way.0 = sym is ∙ key_of_lower p d way.0 way.1 in (
+-- what has that key is a steepest
+pub steepest_from_key : (p : Patch) (d : Direction) (key : ℕ) → IsSteepestKey p key → key_at p d ≡ pos key → IsSteepest p d
+steepest_from_key p d key steepest is =
+    let way = lower_from_key p d (subst (λ k. pos 0 <ℤ k) (sym is) (steepest_above_0 p key steepest)) in
+    let own : pos key ≡ key_to p d way.0 = sym is ∙ key_of_lower p d way.0 way.1 in
+    let most = steepest.greatest.bound in (
       way.0,
       record {
         lower = way.1;
-        greatest = λ e m lower. subst (λ k. key_to p e m ≤ℤ k) own (subst (λ k. k ≤ℤ pos key) (key_of_lower p e m lower) (greatest.bound e));
+        greatest = λ e m lower. subst (λ k. key_to p e m ≤ℤ k) own (subst (λ k. k ≤ℤ pos key) (key_of_lower p e m lower) (most e));
       },
     )
 
--- and a steepest has the greatest key
-pub key_from_steepest : (p : Patch) (d : Direction) (key : ℕ) → IsGreatestKey p key → 0 < key → IsSteepest p d → key_at p d ≡ pos key
-key_from_steepest p d key greatest above steepest =
-    let at = greatest.reached above in
-    let over : pos 0 <ℤ pos key = omega (arith, ints) in
-    let way = lower_from_key p at.0 (subst (λ k. pos 0 <ℤ k) (sym at.1) over) in
-    let own : key_at p d ≡ key_to p d steepest.0 = key_of_lower p d steepest.0 steepest.1.lower in
-    let that : pos key ≡ key_to p at.0 way.0 = sym at.1 ∙ key_of_lower p at.0 way.0 way.1 in
-    let at_least : key_to p at.0 way.0 ≤ℤ key_to p d steepest.0 = steepest.1.greatest at.0 way.0 way.1 in
-    same_key (key_at p d) (pos key) (key_to p d steepest.0) (key_to p at.0 way.0) own that at_least (greatest.bound d)
-  where
-    same_key : (a b x y : ℤ) → a ≡ x → b ≡ y → y ≤ℤ x → a ≤ℤ b → a ≡ b
-    same_key a b x y is_x is_y most least = omega (arith, ints)
+same_key : (a b x y : ℤ) → a ≡ x → b ≡ y → y ≤ℤ x → a ≤ℤ b → a ≡ b
+same_key a b x y is_x is_y most least = omega (arith, ints)
 
--- the first direction with the greatest key is the first steepest
-pub first_steepest : (p : Patch) (key : ℕ) (o : Option Direction) → IsDataCell p → IsGreatestKey p key → 0 < key →
-    IsFirstWithKey p key o → IsFirstSteepest p o
-first_steepest p key None has_data greatest above none = let at = greatest.reached above in absurd (none at.0 at.1)
-first_steepest p key (Some d) has_data greatest above first = (
-  some_lower p key greatest above has_data,
-  steepest_from_key p d key greatest above first.0,
-  λ e before steepest. first.1 e before (key_from_steepest p e key greatest above steepest),
+-- and a steepest has that key
+pub key_from_steepest : (p : Patch) (d : Direction) (key : ℕ) → IsSteepestKey p key → IsSteepest p d → key_at p d ≡ pos key
+key_from_steepest p d key steepest h =
+    let over = steepest_above_0 p key steepest in
+    let above : 0 < key = omega (arith, ints) in
+    let at = steepest.greatest.reached above in
+    let way = lower_from_key p at.0 (subst (λ k. pos 0 <ℤ k) (sym at.1) over) in
+    let own : key_at p d ≡ key_to p d h.0 = key_of_lower p d h.0 h.1.lower in
+    let that : pos key ≡ key_to p at.0 way.0 = sym at.1 ∙ key_of_lower p at.0 way.0 way.1 in
+    same_key (key_at p d) (pos key) (key_to p d h.0) (key_to p at.0 way.0) own that (h.1.greatest at.0 way.0 way.1)
+    (steepest.greatest.bound d)
+
+-- the first direction with that key is the first steepest
+pub first_steepest : (p : Patch) (key : ℕ) (o : Option Direction) → IsSteepestKey p key → IsFirstWithKey p key o → IsFirstSteepest p o
+first_steepest p key None steepest none =
+    let over = steepest_above_0 p key steepest in
+    let above : 0 < key = omega (arith, ints) in
+    let at = steepest.greatest.reached above in
+    absurd (none at.0 at.1)
+first_steepest p key (Some d) steepest first = (
+  steepest.has_lower,
+  steepest_from_key p d key steepest first.0,
+  λ e before h. first.1 e before (key_from_steepest p e key steepest h),
 )

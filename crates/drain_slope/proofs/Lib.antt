@@ -1,5 +1,4 @@
 pub mod Places
 pub mod GreatestKeys
 pub mod Keys
-pub mod LeastFaults
 pub mod NamedSlopes

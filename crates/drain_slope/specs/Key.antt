@@ -3,7 +3,7 @@ use Rattle.std.specs.Prelude.{◌≡◌, ◌≢◌, ℕ, ◌<◌, ℤ, pos, ◌�
 use Rattle.drain_grid.specs.declared.direction.Direction.{Direction}
 use Rattle.drain_grid.specs.declared.patch.Patch.{Patch}
 use Rattle.drain_grid.specs.Values.{Values}
-use Rattle.drain_grid.specs.Patch.{neighbor}
+use Rattle.drain_grid.specs.Patch.{neighbor, HasLower}
 use Rattle.drain_grid.specs.Direction.{place_of}
 use Rattle.drain_grid.specs.Slope.{key_to}
 
@@ -20,6 +20,11 @@ key_at p d = key_of p d (neighbor p d)
 pub record IsGreatestKey (p : Patch) (key : ℕ) : Type 0 where
   pub bound : (d : Direction) → key_at p d ≤ℤ pos key
   pub reached : 0 < key → (d : Direction) × (key_at p d ≡ pos key)
+
+-- the key of the steepest ways down, at a cell that has some
+pub record IsSteepestKey (p : Patch) (key : ℕ) : Type 0 where
+  pub has_lower : HasLower p
+  pub greatest : IsGreatestKey p key
 
 -- the first direction with this key, and none where no direction has it
 abbrev pub IsFirstWithKey : Patch → ℕ → Option Direction → Type 0

@@ -11,12 +11,12 @@
 
 ghost use Rattle.std.specs.Prelude.{◌≡◌, ◌↔◌, ◌<◌, ◌^◌, pos, IsTrue, MatchOption, Some};
 ghost use Rattle.drain_grid.specs.Direction.{Names, NamesSome, is_straight};
-ghost use Rattle.drain_grid.specs.Patch.{IsOpen};
+ghost use Rattle.drain_grid.specs.Patch.{IsOpen, HasLower};
 ghost use Rattle.drain_grid.specs.PatchRules.{profile1};
 ghost use Rattle.drain_grid.specs.Rule.{IsBetween, IsLeastFault};
 ghost use Rattle.drain_grid.specs.Slope.{slope_key, IsSteepest, IsFirstSteepest};
 ghost use Rattle.drain_grid.specs.Values.{NoDataNumbers};
-ghost use Rattle.drain_slope.specs.Key.{key_of, key_at, IsGreatestKey, IsFirstWithKey};
+ghost use Rattle.drain_slope.specs.Key.{key_of, key_at, IsGreatestKey, IsSteepestKey, IsFirstWithKey};
 
 use drain_grid::{CellValues, Code, Direction, Patch, Rule};
 
@@ -24,34 +24,29 @@ use drain_grid::{CellValues, Code, Direction, Patch, Rule};
 pub fn steepest(patch: &Patch) -> Option<Direction>
     ensures { IsFirstSteepest patch.now result }
 {
-    if patch.here.z.is_none() {
-        return None;
-    }
-    let greatest = greatest_key(patch);
-    if greatest == 0 {
-        return None;
-    }
-    first_with_key(patch, greatest)
+    let steepest = steepest_key(patch)?;
+    first_with_key(patch, steepest)
 }
 
 /// The first of the two rules that fails at the cell, none where they both hold. A void keeps them both.
 pub fn fault(patch: &Patch) -> Option<Rule>
     ensures least { (nodata : NoDataNumbers) → IsLeastFault (IsBetween 10 11) (profile1 nodata patch.now) result }
 {
-    if patch.here.z.is_none() {
-        return None;
-    }
-    let greatest = greatest_key(patch);
-    if greatest == 0 {
-        if keeps_outlet_code(patch) {
-            None
-        } else {
-            Some(Rule::OutletCode)
+    match steepest_key(patch) {
+        Some(steepest) => {
+            if leads_steepest(patch, steepest) {
+                None
+            } else {
+                Some(Rule::Slope)
+            }
         }
-    } else if leads_steepest(patch, greatest) {
-        None
-    } else {
-        Some(Rule::Slope)
+        None => {
+            if keeps_outlet_code(patch) {
+                None
+            } else {
+                Some(Rule::OutletCode)
+            }
+        }
     }
 }
 
@@ -63,13 +58,12 @@ fn keeps_outlet_code(patch: &Patch) -> bool
 }
 
 /// Whether the code names a steepest direction.
-fn leads_steepest(patch: &Patch, greatest: u128) -> bool
-    requires greatest { IsGreatestKey patch.now greatest }
-    requires some_lower { 0 < greatest }
+fn leads_steepest(patch: &Patch, steepest: u128) -> bool
+    requires { IsSteepestKey patch.now steepest }
     ensures { IsTrue result ↔ ((d : Direction) × Names patch.now.here.dir d × IsSteepest patch.now d) }
 {
     match named_direction(patch) {
-        Some(direction) => key(patch, direction) == greatest,
+        Some(direction) => key(patch, direction) == steepest,
         None => false,
     }
 }
@@ -94,6 +88,19 @@ fn first_with_key(patch: &Patch, wanted: u128) -> Option<Direction>
         }
     }
     None
+}
+
+/// The key of the steepest ways down; none where no neighbour is lower, and at a void.
+fn steepest_key(patch: &Patch) -> Option<u128>
+    ensures { MatchOption result (¬ HasLower patch.now) (IsSteepestKey patch.now) }
+{
+    if patch.here.z.is_none() {
+        return None;
+    }
+    match greatest_key(patch) {
+        0 => None,
+        greatest => Some(greatest),
+    }
 }
 
 /// The greatest of the keys in the eight directions.

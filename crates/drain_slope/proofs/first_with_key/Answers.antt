@@ -1,8 +1,7 @@
-use Rattle.std.proofs.Common.{◌≡◌, ◌≢◌, ℕ, ◌<◌, pos, get_or, sym, ◌∙◌, ap, arith, subst}
-use Rattle.drain_grid.specs.declared.direction.Direction.TheVariants.{East}
-use Rattle.drain_grid.specs.Direction.{directions, place_of}
+use Rattle.std.proofs.Common.{◌≡◌, ◌≢◌, ℕ, ◌<◌, pos, sym, ◌∙◌, ap, arith, subst}
+use Rattle.drain_grid.specs.Direction.{place_of}
 use Rattle.drain_slope.specs.Key.{key_at}
-use Rattle.drain_slope.proofs.Places.{place_at, of_earlier, of_each}
+use Rattle.drain_slope.proofs.Places.{place_at, of_earlier}
 use Rattle.drain_slope.proofs.first_with_key.Goals as goal
 
 pub returns-then-key-wanted : goal.returns-then-key-wanted

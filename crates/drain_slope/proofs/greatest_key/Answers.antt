@@ -1,4 +1,4 @@
-use Rattle.std.proofs.Common.{◌≡◌, ◌<◌, max, arith, rules, subst}
+use Rattle.std.proofs.Common.{◌≡◌, max, arith, rules, subst}
 use Rattle.drain_slope.proofs.GreatestKeys.{greatest_before_next, greatest_of_all, IsGreatestBefore}
 use Rattle.drain_slope.proofs.greatest_key.Goals as goal
 
