@@ -1,0 +1,47 @@
+-- The one neighbour that the direction names decides whether there is a flat step.
+use Rattle.std.proofs.Common.{◌≡◌, ◌↔◌, ◌<ℤ◌, ℤ, pos, Bool, IsTrue, IsSome, Some, refl, sym, ◌∙◌, ap, subst}
+use Rattle.drain_grid.specs.declared.direction.Direction.{Direction}
+use Rattle.drain_grid.specs.declared.direction.Direction.TheVariants.{East, SouthEast, South, SouthWest, West, NorthWest, North, NorthEast}
+use Rattle.drain_grid.specs.declared.patch.Patch.{Patch}
+use Rattle.drain_grid.specs.Direction.{code_of, Names, named_direction}
+use Rattle.drain_grid.specs.Values.{Values}
+use Rattle.drain_grid.specs.Patch.{neighbor}
+use Rattle.drain_grid.specs.PatchRules.{IsFlatStep}
+use Rattle.drain_grid.proofs.Options.{same_some}
+
+named_by_code : (d : Direction) → named_direction (pos (code_of d)) ≡ Some d
+named_by_code East = refl
+named_by_code SouthEast = refl
+named_by_code South = refl
+named_by_code SouthWest = refl
+named_by_code West = refl
+named_by_code NorthWest = refl
+named_by_code North = refl
+named_by_code NorthEast = refl
+
+-- a number names one direction at most
+same_direction : (number : ℤ) (d e : Direction) → Names number d → Names number e → d ≡ e
+same_direction number d e here there =
+    let by_d : named_direction number ≡ Some d = ap named_direction here ∙ named_by_code d in
+    let by_e : named_direction number ≡ Some e = ap named_direction there ∙ named_by_code e in
+    cc
+
+-- a data cell of this height and a smaller rank
+abbrev pub IsNearer : Patch → Values → Type 0
+IsNearer p n = IsSome n.z × (n.con ≡ p.here.con) × (n.rnk <ℤ p.here.rnk)
+
+-- a flat step leads to the named neighbour
+to_named : (p : Patch) (d e : Direction) (n m : Values) → Names p.here.dir d → neighbor p d ≡ Some n → IsFlatStep p e m → IsNearer p n
+to_named p d e n m named is step =
+    let same : d ≡ e = same_direction p.here.dir d e named step.named in
+    let there : neighbor p d ≡ Some m = ap (neighbor p) same ∙ step.beside.is in
+    subst (IsNearer p) (same_some m n (sym there ∙ is)) (step.beside.has_data, step.level, step.nearer)
+
+-- so a test of that neighbour decides
+pub flat_step_by_test : (p : Patch) (d : Direction) (n : Values) (nearer : Bool) → Names p.here.dir d → neighbor p d ≡ Some n →
+    IsTrue nearer ↔ IsNearer p n → IsTrue nearer ↔ ((e : Direction) × (m : Values) × IsFlatStep p e m)
+flat_step_by_test p d n nearer named is by_test = (
+  (λ h. let parts = by_test.0 h in
+      (d, n, record { named = named; beside = record { is = is; has_data = parts.0 }; level = parts.1; nearer = parts.2 })),
+  (λ w. by_test.1 (to_named p d w.0 n w.1 named is w.2)),
+)
