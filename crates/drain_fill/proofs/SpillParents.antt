@@ -1,31 +1,14 @@
 -- The neighbour that a spill code names: there is one at most, and beside a closed cell it has data.
 use Rattle.std.proofs.Common.{◌≡◌, ℤ, pos, Some, None, Option, IsSome, option_map, refl, sym, ◌∙◌, ap, subst}
 use Rattle.drain_grid.specs.declared.direction.Direction.{Direction}
-use Rattle.drain_grid.specs.declared.direction.Direction.TheVariants.{East, SouthEast, South, SouthWest, West, NorthWest, North, NorthEast}
 use Rattle.drain_grid.specs.declared.patch.Patch.{Patch}
-use Rattle.drain_grid.specs.Direction.{code_of, Names, named_direction}
+use Rattle.drain_grid.specs.Direction.{Names}
 use Rattle.drain_grid.specs.Values.{Values}
 use Rattle.drain_grid.specs.Open.{IsGap}
 use Rattle.drain_grid.specs.Patch.{neighbor, IsDataNeighbor, IsClosed}
 use Rattle.drain_grid.specs.PatchRules.{OfSpillParent}
+use Rattle.drain_grid.proofs.NamedNeighbors.{same_direction}
 use Rattle.drain_grid.proofs.Options.{same_some}
-
-named_by_code : (d : Direction) → named_direction (pos (code_of d)) ≡ Some d
-named_by_code East = refl
-named_by_code SouthEast = refl
-named_by_code South = refl
-named_by_code SouthWest = refl
-named_by_code West = refl
-named_by_code NorthWest = refl
-named_by_code North = refl
-named_by_code NorthEast = refl
-
--- a number names one direction at most
-same_direction : (number : ℤ) (d e : Direction) → Names number d → Names number e → d ≡ e
-same_direction number d e here there =
-    let by_d : named_direction number ≡ Some d = ap named_direction here ∙ named_by_code d in
-    let by_e : named_direction number ≡ Some e = ap named_direction there ∙ named_by_code e in
-    cc
 
 -- what the named neighbour has is the fact of the spill parent
 pub of_named_neighbor : (p : Patch) (d : Direction) (n : Values) (P : Values → Type 0) → Names p.here.spl d →
