@@ -5,6 +5,8 @@
 //! standard input, so that its memory can be looked up.
 #![tactic(auto)]
 
+ghost use Rattle.std.specs.Prelude.{◌≤◌, IfSome};
+
 use drain_basin::OutletLabels;
 use std::io::Read;
 
@@ -21,7 +23,7 @@ fn main(rt: HostRuntime) -> std::io::Result<()> {
         count: number(&words, 1).unwrap_or(1000),
         step: number(&words, 2).unwrap_or(1),
     };
-    match admit_all(&mut OutletLabels::new(rt.alloc()), &asked) {
+    match admit_all(&mut OutletLabels::new(rt.alloc()), asked) {
         Some(admitted) => println!(rt; "admitted {admitted}")?,
         None => println!(rt; "failed OutOfMemory")?,
     }
@@ -34,12 +36,14 @@ fn number(words: &[String], place: usize) -> Option<u32> {
 }
 
 /// How many of the labels are new, none where memory was refused.
-fn admit_all(labels: &mut OutletLabels, asked: &Asked) -> Option<u64> {
-    let mut admitted = 0u64;
+fn admit_all(labels: &mut OutletLabels, asked: Asked) -> Option<u32>
+    ensures { IfSome result (λ admitted. admitted ≤ asked.count) }
+{
+    let mut admitted = 0;
     let mut label = 0u32;
-    for _ in 0..asked.count {
+    for _turn in 0..asked.count {
         if labels.admit(i64::from(label)).ok()? {
-            admitted = admitted.saturating_add(1);
+            admitted += 1;
         }
         label = label.wrapping_add(asked.step);
     }
