@@ -19,8 +19,8 @@ demo: build/drain
 
 test:
 	rt ci
-	@$(MAKE) --no-print-directory build/drain
-	tests/program/run.sh build/drain
+	@$(MAKE) --no-print-directory build/drain build/label_bench
+	tests/program/run.sh build/drain build/label_bench
 
 bench: build/drain build/label_bench
 	bench/run.sh build/drain
