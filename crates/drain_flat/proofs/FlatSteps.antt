@@ -1,5 +1,5 @@
 -- The one neighbour that the direction names decides whether there is a flat step.
-use Rattle.std.proofs.Common.{◌≡◌, ◌↔◌, ◌<ℤ◌, ℤ, pos, Bool, IsTrue, IsSome, Some, refl, sym, ◌∙◌, ap, subst}
+use Rattle.std.proofs.Common.{◌≡◌, ◌↔◌, ◌<ℤ◌, Bool, IsTrue, IsSome, Some, sym, ◌∙◌, ap, subst}
 use Rattle.drain_grid.specs.declared.direction.Direction.{Direction}
 use Rattle.drain_grid.specs.declared.patch.Patch.{Patch}
 use Rattle.drain_grid.specs.Direction.{Names}
