@@ -1,2 +1,2 @@
-pub mod KnownLabels
+pub mod BlockLabels
 pub mod NextLabels

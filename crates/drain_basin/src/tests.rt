@@ -43,6 +43,25 @@ fn admits_each_label_once(rt: HostRuntime) -> Result<(), Fail> {
         (4294967295, true),
         (8, false),
         (-2147483648, false),
+        // The ends of a word's half, of a word and of what a label can be, and labels that lie whole words apart.
+        (31, true),
+        (39, true),
+        (63, true),
+        (64, true),
+        (71, true),
+        (0, true),
+        (-1, true),
+        (-64, true),
+        (-65, true),
+        (i64::MIN, true),
+        (i64::MAX, true),
+        (63, false),
+        (64, false),
+        (0, false),
+        (-1, false),
+        (i64::MIN, false),
+        (i64::MAX, false),
+        (7, false),
     ] {
         assert_eq!(rt; labels.admit(label), Ok(is_new), "label {label}");
     }
