@@ -7,8 +7,10 @@
 SOURCES := crates.txt HANDLES $(shell find crates -type f \( -name '*.rt' -o -name '*.antt' \) -not -path '*/out/*' -not -path '*/must-fail/*')
 
 build/drain: $(SOURCES)
-	@mkdir -p build
-	@tools/build_program.sh build/drain
+	@tools/build_program.sh drain_cli $@ --version
+
+build/label_bench: $(SOURCES)
+	@tools/build_program.sh label_bench $@
 
 .PHONY: demo test bench clean
 
@@ -17,11 +19,12 @@ demo: build/drain
 
 test:
 	rt ci
-	@$(MAKE) --no-print-directory build/drain
-	tests/program/run.sh build/drain
+	@$(MAKE) --no-print-directory build/drain build/label_bench
+	tests/program/run.sh build/drain build/label_bench
 
-bench: build/drain
+bench: build/drain build/label_bench
 	bench/run.sh build/drain
+	bench/labels.sh build/label_bench
 
 clean:
 	rm -rf build crates/*/out

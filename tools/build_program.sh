@@ -1,30 +1,40 @@
 #!/usr/bin/env bash
-# Proves the crates that the program needs, without their tests and must-fail edits, and builds it.
-# Usage: tools/build_program.sh TARGET
+# Proves the crates that a program needs, without their tests and must-fail edits, and builds it.
+# Usage: tools/build_program.sh CRATE TARGET [WORD...]    (the words are those of a run that tries the program)
 set -euo pipefail
-target=$(realpath -m "$1")
-cd "$(dirname "$0")/../crates/drain_cli"
+crate=$1
+target=$(realpath -m "$2")
+shift 2
+cd "$(dirname "$0")/../crates/$crate"
 
 command -v rt >/dev/null || {
-    echo "drain is built by the Rattle toolchain: put its command rt on the PATH" >&2
+    echo "$crate is built by the Rattle toolchain: put its command rt on the PATH" >&2
     exit 1
 }
 
 log=$(mktemp)
 trap 'rm -f "$log"' EXIT
-echo "Proving drain, which takes a few minutes the first time and seconds after that ..."
+echo "Proving $crate and what it stands on: two to five minutes the first time, seconds after that ..."
 started=$SECONDS
-rt run -- --version >"$log" 2>&1 &
+rt run -- "$@" >"$log" 2>&1 </dev/null &
 prover=$!
+told=0
 while kill -0 "$prover" 2>/dev/null; do
     sleep 1
+    took=$((SECONDS - started))
     latest=$(grep -o '^checked [a-z_:A-Z+]*, [0-9]* of [0-9]*' "$log" | tail -n 1 || true)
-    [ -t 1 ] && printf '\r\033[K%3d s  %s' $((SECONDS - started)) "${latest:-reading the library}"
+    if [ -t 1 ]; then
+        printf '\r\033[K%3d s  %s' "$took" "${latest:-reading the library}"
+    elif [ $((took - told)) -ge 15 ]; then
+        told=$took
+        echo "$took s  ${latest:-reading the library}"
+    fi
 done
 [ -t 1 ] && printf '\r\033[K'
 if ! wait "$prover"; then
     grep -E 'error|no proof|did not prove' "$log" | head -n 20 >&2 || tail -n 20 "$log" >&2
     exit 1
 fi
-cp out/drain_cli "$target"
-echo "Proved and built in $((SECONDS - started)) seconds: ${target#"$PWD/../../"}"
+mkdir -p "$(dirname "$target")"
+cp "out/$crate" "$target"
+echo "Proved and built in $((SECONDS - started)) seconds: ${target#"$(realpath ../..)/"}"

@@ -1,9 +1,10 @@
 #!/usr/bin/env bash
 # Runs the built program on the command lines of table.txt, and on standard streams that stay open, are closed, are full
 # or fail, and compares what it prints and its exit status.
-# Usage: tests/program/run.sh PROGRAM
+# Usage: tests/program/run.sh DRAIN LABEL_BENCH
 set -u
 drain=$(realpath "$1")
+label_bench=$(realpath "$2")
 here=$(cd "$(dirname "$0")" && pwd)
 cd "$here/../.."
 scratch=$(mktemp -d)

@@ -26,7 +26,8 @@ the north, most significant byte first:
   spl    1 byte             spill parents, as direction codes (0 for none)
   rnk    4 bytes            ranks
 
-Tests rules 4 to 9 at each cell, and prints one line.";
+Accepts a conditioned surface that is filled, and no higher than it has to be: each cell at the least
+height over which water gets from there to an edge or a void. Prints one line.";
 
 const FILL_AFTER: &str = "Lines and exit statuses:
   0  accepted rows=R cols=C data=D raised=U

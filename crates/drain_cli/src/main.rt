@@ -15,6 +15,9 @@ pub mod status;
 #[cfg(test)]
 mod tests;
 
+ghost use Rattle.std.specs.Prelude.{codes};
+ghost use Rattle.drain_cli.specs.Printing.{Prints};
+
 use clap::Error;
 use clap::error::ErrorKind;
 use command_line::Request;
@@ -64,6 +67,10 @@ fn tell(rt: &HostRuntime, error: &Error) -> u8 {
     }
 }
 
-fn print_no_memory(out: &mut impl ByteSink) -> u8 {
+/// Tells that there was no memory for the words, and answers the exit status.
+fn print_no_memory<W: ByteSink>(out: &mut W) -> u8
+    ensures { Prints (W.bytes_taken out.old) (W.bytes_taken out.new) (W.counts out.old) (W.counts out.new)
+        (W.stalls out.old) (W.stalls out.new) (codes "failed OutOfMemory") Status.Failed result }
+{
     print::print_line(out, &words("failed OutOfMemory"), Status::Failed)
 }

@@ -1,3 +1,2 @@
-pub mod LeastFaults
 pub mod LowerWays
 pub mod SpillParents

@@ -9,7 +9,7 @@
 //! as the order of the visits does. That a certificate shows both, and the rules' wording, are this project's own.
 #![tactic(auto)]
 
-pub mod first_below;
+pub mod below;
 
 ghost use Rattle.std.specs.Prelude.{◌≡◌, ◌↔◌, ◌<ℤ◌, IsTrue, MatchOption, Some};
 ghost use Rattle.std.specs.Int.{int_max};
@@ -19,6 +19,7 @@ ghost use Rattle.drain_grid.specs.PatchRules.{profile1, BelowGroundHolds, OpenRa
 ghost use Rattle.drain_grid.specs.Rule.{IsBetween, IsLeastFault};
 ghost use Rattle.drain_grid.specs.Values.{NoDataNumbers};
 
+pub use below::first_below;
 use drain_grid::{CellValues, Code, Direction, Patch, Rule};
 
 /// The first of the six rules that fails at the cell, none where they all hold. A void keeps them all.

@@ -2,7 +2,7 @@
 //! their first place below the ground.
 
 use super::*;
-use crate::first_below::first_below;
+use crate::first_below;
 use std::test::Fail;
 
 /// What stands beside the cell.

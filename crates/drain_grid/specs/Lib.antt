@@ -1,3 +1,4 @@
+pub mod Correct
 pub mod Counts
 pub mod Direction
 pub mod Extent
@@ -9,9 +10,14 @@ pub mod Open
 pub mod Patch
 pub mod PatchRules
 pub mod Path
+pub mod Product
+pub mod Rasters
 pub mod Rule
+pub mod Run
 pub mod Size
 pub mod Slope
 pub mod Text
 pub mod Tile
 pub mod Values
+pub mod Whole
+pub mod WholeGrid

@@ -2,7 +2,7 @@ use Rattle.std.proofs.Common.{refl, Some, None, arith}
 use Rattle.drain_grid.specs.declared.rule.Rule.TheVariants.{NotLeast}
 use Rattle.drain_grid.specs.PatchRules.{profile1}
 use Rattle.std.proofs.lemmas.Bool.{false≢true}
-use Rattle.drain_fill.proofs.LeastFaults.{holds_alone, fails_alone, found_first, found_next}
+use Rattle.drain_grid.proofs.LeastFaults.{holds_alone, fails_alone, found_first, found_next}
 use Rattle.drain_fill.proofs.fault.Goals as goal
 
 pub returns-in-Some-level_fault : goal.returns-in-Some-level_fault

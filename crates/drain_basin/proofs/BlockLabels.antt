@@ -1,0 +1,96 @@
+-- What is admitted after one more bit is set in the word of a block.
+use Rattle.std.proofs.Common.{◌≡◌, ◌≢◌, ◌<◌, ◌*◌, ◌/◌, ◌%◌, ◌^◌, ℕ, ℤ, cond, List, Some, nat_eq, unwrap_or, FitsSigned, ◌↔◌, ◌⊎◌, inl, inr, sym, ◌∙◌, ap, subst, refl, arith, w64}
+use Rattle.std.specs.Int.{bit_at, cast_unsigned, cast_signed}
+use Rattle.std.specs.Int.RustNames.{bit_or}
+use Rattle.std.specs.Map.{lookup}
+use Rattle.std.proofs.lemmas.Bool.{cases_Bool, cases_eq, eqb-true, eq-eqb, cond-true}
+use Rattle.std.proofs.lemmas.Int.{to_z-of_z}
+use Rattle.std.proofs.lemmas.Nat.Bits.{bit_at_set_same, bit_at_set_other}
+use Rattle.drain_basin.specs.Admitted.{word, IsAdmitted}
+
+-- new has the blocks of old, and at one block this word
+abbrev pub PutsWord : List (ℕ × ℕ) → List (ℕ × ℕ) → ℕ → ℕ → Type 0
+PutsWord old new block value = (q : ℕ) → lookup (nat_eq q) new ≡ cond (nat_eq block q) (Some value) (lookup (nat_eq q) old)
+
+-- the word with one more bit
+abbrev pub with_bit : ℕ → ℕ → ℕ
+with_bit n bit = bit_or n (1 * 2 ^ bit % 2 ^ 64)
+
+-- the block has the word that was put
+word_here : (old new : List (ℕ × ℕ)) (block value : ℕ) → PutsWord old new block value → word new block ≡ value
+word_here old new block value put =
+    ap (λ o. unwrap_or o 0) (put block ∙ cond-true (nat_eq block block) (Some value) (lookup (nat_eq block) old) (eq-eqb block block refl))
+
+-- each other block has the word that it had
+word_apart : (old new : List (ℕ × ℕ)) (block value q : ℕ) → PutsWord old new block value → block ≢ q → word new q ≡ word old q
+word_apart old new block value q put apart =
+    elim (cases_Bool (nat_eq block q)) [
+      | inl same ↦ absurd (apart (eqb-true block q same))
+      | inr other ↦ ap (λ o. unwrap_or o 0) (subst (λ b. lookup (nat_eq q) new ≡ cond b (Some value) (lookup (nat_eq q) old)) other (put q))
+    ]
+
+-- the bit that was set is 1
+bit_here : (old new : List (ℕ × ℕ)) (block bit : ℕ) → bit < 64 → PutsWord old new block (with_bit (word old block) bit) → bit_at (word new block) bit ≡ 1
+bit_here old new block bit within put =
+    ap (λ n. bit_at n bit) (word_here old new block _ put) ∙ bit_at_set_same w64 (word old block) bit within
+
+-- each other bit of each block stays
+bit_apart : (old new : List (ℕ × ℕ)) (block bit q r : ℕ) → bit < 64 → PutsWord old new block (with_bit (word old block) bit) →
+    (block ≡ q → bit ≡ r → ⊥) → bit_at (word new q) r ≡ bit_at (word old q) r
+bit_apart old new block bit q r within put apart =
+    elim (cases_eq block q) [
+      | inl same ↦
+          subst (λ p. bit_at (word new p) r ≡ bit_at (word old p) r) same
+          (ap (λ n. bit_at n r) (word_here old new block _ put) ∙ bit_at_set_other w64 (word old block) bit within r (λ e. apart same (sym e)))
+      | inr other ↦ ap (λ n. bit_at n r) (word_apart old new block _ q put other)
+    ]
+
+-- block and bit tell a place
+same_place : (m n : ℕ) → m / 64 ≡ n / 64 → m % 64 ≡ n % 64 → m ≡ n
+same_place m n blocks bits = omega arith
+
+-- two labels with one place are one
+same_label : (a b : ℤ) → FitsSigned w64 a → FitsSigned w64 b → cast_unsigned w64 a ≡ cast_unsigned w64 b → a ≡ b
+same_label a b fits_a fits_b same = sym (to_z-of_z w64 a fits_a) ∙ ap (cast_signed w64) same ∙ to_z-of_z w64 b fits_b
+
+-- after a label's bit is set, that label and those before it are admitted
+after_its_bit : (old new : List (ℕ × ℕ)) (label : ℤ) → FitsSigned w64 label →
+    let place = cast_unsigned w64 label in
+    PutsWord old new (place / 64) (with_bit (word old (place / 64)) (place % 64)) →
+    (other : ℤ) → IsAdmitted new other ↔ ((other ≡ label) ⊎ IsAdmitted old other)
+after_its_bit old new label fits put other =
+    let place : ℕ = cast_unsigned w64 label in
+    let asked : ℕ = cast_unsigned w64 other in
+    let within : place % 64 < 64 = omega arith in
+    let here : IsAdmitted new label =
+    record { fits = fits; is_set = bit_here old new (place / 64) (place % 64) within put } in
+    elim (cases_eq place asked) [
+      | inl same ↦ (
+        (λ now. inl (same_label other label now.fits fits (sym same))),
+        (λ told. elim told [
+          | inl is ↦ subst (IsAdmitted new) (sym is) here
+          | inr before ↦ subst (IsAdmitted new) (same_label label other fits before.fits same) here
+        ]),
+      )
+      | inr apart ↦
+          let stays : bit_at (word new (asked / 64)) (asked % 64) ≡ bit_at (word old (asked / 64)) (asked % 64) =
+          bit_apart old new (place / 64) (place % 64) (asked / 64) (asked % 64) within put (λ b r. apart (same_place place asked b r)) in (
+            (λ now. inr (record { fits = now.fits; is_set = sym stays ∙ now.is_set })),
+            (λ told. elim told [
+              | inl is ↦ absurd (apart (sym (ap (cast_unsigned w64) is)))
+              | inr before ↦ record { fits = before.fits; is_set = stays ∙ before.is_set }
+            ]),
+          )
+    ]
+
+-- the same, by what the code computes: the place, the blocks that it reads, and the word that it finds there
+pub admitted_after : (old read new : List (ℕ × ℕ)) (label : ℤ) (place found : ℕ) → FitsSigned w64 label →
+    place ≡ cast_unsigned w64 label → read ≡ old → found ≡ word read (place / 64) →
+    PutsWord read new (place / 64) (with_bit found (place % 64)) →
+    (other : ℤ) → IsAdmitted new other ↔ ((other ≡ label) ⊎ IsAdmitted old other)
+admitted_after old read new label place found fits is_place is_old is_word put =
+    let put_word : PutsWord read new (place / 64) (with_bit (word read (place / 64)) (place % 64)) =
+    subst (λ n. PutsWord read new (place / 64) (with_bit n (place % 64))) is_word put in
+    let put_old : PutsWord old new (place / 64) (with_bit (word old (place / 64)) (place % 64)) =
+    subst (λ es. PutsWord es new (place / 64) (with_bit (word es (place / 64)) (place % 64))) is_old put_word in
+    after_its_bit old new label fits (subst (λ p. PutsWord old new (p / 64) (with_bit (word old (p / 64)) (p % 64))) is_place put_old)

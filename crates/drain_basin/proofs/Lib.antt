@@ -1,0 +1,2 @@
+pub mod BlockLabels
+pub mod NextLabels

@@ -1,0 +1,13 @@
+-- The labels that were admitted, as blocks of 64 labels.
+use Rattle.std.specs.Prelude.{◌≡◌, ℕ, ℤ, ◌/◌, ◌%◌, List, nat_eq, unwrap_or, FitsSigned}
+use Rattle.std.specs.Int.{bit_at, cast_unsigned, w64}
+use Rattle.std.specs.Map.{lookup}
+
+-- the word of a block, which has a bit for each of its labels; 0 where none of them was admitted
+abbrev pub word : List (ℕ × ℕ) → ℕ → ℕ
+word blocks block = unwrap_or (lookup (nat_eq block) blocks) 0
+
+-- the label was admitted, which only an i64 can be
+pub record IsAdmitted (blocks : List (ℕ × ℕ)) (label : ℤ) : Type 0 where
+  pub fits : FitsSigned w64 label
+  pub is_set : bit_at (word blocks (cast_unsigned w64 label / 64)) (cast_unsigned w64 label % 64) ≡ 1

@@ -1,0 +1,62 @@
+//! The labels that outlets have had.
+
+ghost use Rattle.drain_basin.specs.Admitted.{IsAdmitted};
+ghost use Rattle.std.specs.Prelude.{◌≡◌, ◌↔◌, ◌⊎◌, ℤ, IsOk, IsTrue, IfOk, OnErr, OnOk};
+
+use drain_grid::OutOfMemory;
+use std::alloc::Global;
+use std::collections::HashMap;
+use std::marker::Model;
+
+/// A set of labels. Contracts ask by `IsAdmitted` whether a label was admitted.
+///
+/// Labels that lie side by side share a word, since makers number outlets one after the other, or by their cells.
+#[derive(Drop)]
+pub struct OutletLabels {
+    /// For each block of 64 labels, a word with a bit for each of them: 1 where it was admitted. A block of which none was
+    /// admitted has no word.
+    blocks: HashMap<u64, u64>,
+}
+
+impl Model for OutletLabels {
+    ghost use Rattle.std.specs.Prelude.{ℕ, List};
+
+    ghost Value = { List (ℕ × ℕ) };
+
+    ghost view = { λ s. s.blocks.entries };
+}
+
+impl OutletLabels {
+    /// No label. This takes no memory.
+    pub fn new(alloc: Global) -> OutletLabels
+        ensures { (label : ℤ) → ¬ IsAdmitted result label }
+    {
+        OutletLabels {
+            blocks: HashMap::new(alloc),
+        }
+    }
+
+    /// Admits a label: true where it is new, and false where it was admitted before, which never wants memory.
+    pub fn admit(&mut self, label: i64) -> Result<bool, OutOfMemory>
+        ensures new { IfOk result (λ is_new. IsTrue is_new ↔ ¬ IsAdmitted self.old label) }
+        ensures known { IfOk result (λ is_new. ¬ IsTrue is_new → IsAdmitted self.old label) }
+        ensures kept { OnOk result ((other : ℤ) →
+            IsAdmitted self.new other ↔ ((other ≡ label) ⊎ IsAdmitted self.old other)) }
+
+        // Only a new label can want memory, and then nothing is changed.
+        ensures known_wants_none { IsAdmitted self.old label → IsOk result }
+        ensures err { OnErr result (self.new ≡ self.old) }
+    {
+        let place = label.cast_unsigned();
+        let block = place / 64;
+        let bit = place % 64;
+        let word = self.blocks.get(&block).copied().unwrap_or(0);
+        if (word >> bit) & 1 == 1 {
+            return Ok(false);
+        }
+        let Ok(_) = self.blocks.insert(block, word | 1 << bit) else {
+            return Err(OutOfMemory);
+        };
+        Ok(true)
+    }
+}

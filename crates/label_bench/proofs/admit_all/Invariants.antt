@@ -1,0 +1,6 @@
+use Rattle.std.proofs.Common.{◌≤◌}
+use Rattle.label_bench.proofs.admit_all.Given as goal
+
+-- at most one label more in each turn
+abbrev pub invariant-loop-turn : goal.invariant-loop-turn
+invariant-loop-turn l = l.admitted ≤ l._turn
