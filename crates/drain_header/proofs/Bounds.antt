@@ -2,7 +2,8 @@
 use Rattle.std.proofs.Common.{◌≡◌, ℕ, ◌≤◌, Bool, true, false, List, arith, refl}
 use Rattle.std.specs.Prelude.{ℤ, pos, neg_ℤ, ◌≤ℤ◌, ◌&&◌, cond, Option, Some, None, option_and_then}
 use Rattle.std.proofs.lemmas.Int.{ints}
-use Rattle.drain_header.specs.Fields.{IsCoordinate, IsNoDataNumber}
+use Rattle.drain_grid.specs.Values.{IsNoData}
+use Rattle.drain_header.specs.Fields.{IsCoordinate}
 use Rattle.drain_header.specs.Decimals.{decimal_of, is_small, is_whole, in_units, with_sign, coordinate_of, nodata_of}
 use Rattle.drain_header.proofs.Units.{small_magnitude}
 
@@ -31,8 +32,8 @@ both true true x z e = (refl, e)
 both true false x z e = cc
 both false b x z e = cc
 
-pub nodata_within : (word : List ℕ) (z : ℤ) → nodata_of word ≡ Some z → IsNoDataNumber z
-nodata_within word z e = elim (decimal_of word) as (λ o. option_and_then (λ d. cond (is_small d && is_whole d) (Some (in_units 0 d)) None) o ≡ Some z → IsNoDataNumber z) [
+pub nodata_within : (word : List ℕ) (z : ℤ) → nodata_of word ≡ Some z → IsNoData z
+nodata_within word z e = elim (decimal_of word) as (λ o. option_and_then (λ d. cond (is_small d && is_whole d) (Some (in_units 0 d)) None) o ≡ Some z → IsNoData z) [
   | None ↦ λ is. cc
   | Some d ↦ λ is. (
       let found = both (is_small d) (is_whole d) (Some (in_units 0 d)) z is in

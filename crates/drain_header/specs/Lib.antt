@@ -4,7 +4,6 @@ pub mod Lines
 pub mod Header
 pub mod Faults
 pub mod Text
-pub mod Laws
 pub mod FaultText
 pub mod Parts
 pub mod Numerals
