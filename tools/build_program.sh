@@ -24,10 +24,10 @@ while kill -0 "$prover" 2>/dev/null; do
     took=$((SECONDS - started))
     latest=$(grep -o '^checked [a-z_:A-Z+]*, [0-9]* of [0-9]*' "$log" | tail -n 1 || true)
     if [ -t 1 ]; then
-        printf '\r\033[K%3d s  %s' "$took" "${latest:-reading the library}"
+        printf '\r\033[K%3d s  %s' "$took" "${latest:-proving}"
     elif [ $((took - told)) -ge 15 ]; then
         told=$took
-        echo "$took s  ${latest:-reading the library}"
+        echo "$took s  ${latest:-proving}"
     fi
 done
 [ -t 1 ] && printf '\r\033[K'
