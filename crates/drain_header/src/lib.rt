@@ -3,11 +3,13 @@
 
 mod decimal;
 pub mod fault;
+mod finish;
 pub mod header;
 pub mod key;
 mod line;
 mod lines;
 mod numeral;
+pub mod parse;
 mod said;
 mod value;
 mod whole_number;
@@ -16,6 +18,7 @@ mod words;
 pub use fault::HeaderFault;
 pub use header::{ByteOrdering, Header, Place};
 pub use key::Key;
+pub use parse::{MAX_HEADER_BYTES, parse_header};
 
 #[cfg(test)]
 mod tests;

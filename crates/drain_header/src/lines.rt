@@ -57,7 +57,7 @@ fn with_line(seen: Seen, number: u32, line: &[u8]) -> Result<Seen, HeaderFault>
 }
 
 /// The first keyword that a header must have and that no line has.
-fn missing_key(seen: &Seen) -> Option<Key>
+pub fn missing_key(seen: &Seen) -> Option<Key>
     ensures { result ≡ lacking seen.now }
 {
     if seen[Key::Nrows as usize].is_none() {

@@ -8,7 +8,7 @@ use crate::key::Key;
 use crate::lines::Seen;
 use crate::value::Value;
 
-fn number(seen: &Seen, key: Key) -> Option<u32>
+pub fn number(seen: &Seen, key: Key) -> Option<u32>
     ensures { result ≡ said_by number_of key seen.now }
 {
     let value = seen[key as usize];
@@ -18,7 +18,7 @@ fn number(seen: &Seen, key: Key) -> Option<u32>
     }
 }
 
-fn ordering(seen: &Seen, key: Key) -> Option<ByteOrdering>
+pub fn ordering(seen: &Seen, key: Key) -> Option<ByteOrdering>
     ensures { result ≡ said_by ordering_in key seen.now }
 {
     let value = seen[key as usize];
@@ -28,7 +28,7 @@ fn ordering(seen: &Seen, key: Key) -> Option<ByteOrdering>
     }
 }
 
-fn sign(seen: &Seen, key: Key) -> Option<bool>
+pub fn sign(seen: &Seen, key: Key) -> Option<bool>
     ensures { result ≡ said_by sign_in key seen.now }
 {
     let value = seen[key as usize];
@@ -38,7 +38,7 @@ fn sign(seen: &Seen, key: Key) -> Option<bool>
     }
 }
 
-fn coordinate(seen: &Seen, key: Key) -> Option<i128>
+pub fn coordinate(seen: &Seen, key: Key) -> Option<i128>
     ensures { result ≡ said_by coordinate_in key seen.now }
 {
     let value = seen[key as usize];
@@ -48,7 +48,7 @@ fn coordinate(seen: &Seen, key: Key) -> Option<i128>
     }
 }
 
-fn nodata(seen: &Seen, key: Key) -> Option<i64>
+pub fn nodata(seen: &Seen, key: Key) -> Option<i64>
     ensures { result ≡ said_by nodata_in key seen.now }
 {
     let value = seen[key as usize];

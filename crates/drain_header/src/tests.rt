@@ -1,5 +1,7 @@
 //! Decimals, whole numbers and lines of the format's tables, each with the value that the table gives; texts of faults.
 
+mod headers;
+
 use crate::decimal::{coordinate, nodata};
 use crate::fault::HeaderFault;
 use crate::key::Key;

@@ -1,0 +1,167 @@
+-- The header of the values, or the last fault, is that of the lines; and the values are within the bounds of a header.
+use Rattle.std.proofs.Common.{◌≡◌, ℕ, Bool, true, false, List, suc, length, ◌*◌, ◌/◌, arith, refl, sym, ap, subst, ◌∙◌}
+use Rattle.std.specs.Prelude.{ℤ, pos, not, ◌&&◌, ◌==◌, cond, nat_le, nat_lt, Option, Some, None, is_none, IfSome, option_and_then, option_map, unwrap_or, Result, Ok, Err}
+use Rattle.std.proofs.lemmas.Bool.{leb-true}
+use Rattle.drain_grid.specs.Text.{whole_number}
+use Rattle.drain_grid.specs.Values.{IsNoData}
+use Rattle.drain_header.specs.declared.header.ByteOrdering.{ByteOrdering}
+use Rattle.drain_header.specs.declared.header.ByteOrdering.TheVariants.{Least}
+use Rattle.drain_header.specs.declared.key.Key.TheVariants.{Nrows, Ncols, Nbits, PixelType, Ulxmap, Ulymap, Xdim, Ydim}
+use Rattle.drain_header.specs.declared.key.Key.TheVariants as keys
+use Rattle.drain_header.specs.declared.value.Value.TheVariants.{Number, Signed}
+use Rattle.drain_header.specs.declared.fault.HeaderFault.{HeaderFault}
+use Rattle.drain_header.specs.declared.fault.HeaderFault.TheVariants.{NotOneBand, BadBits, BadPixelType, RowTooShort}
+use Rattle.drain_header.specs.Fields.{Fields, IsCoordinate}
+use Rattle.drain_header.specs.Decimals.{coordinate_of, nodata_of}
+use Rattle.drain_header.specs.Lines.{value_at, size_of, signedness_of}
+use Rattle.drain_header.specs.Header.{said, packed_row, row_bytes_of, header_of}
+use Rattle.drain_header.specs.Reading.{Seen}
+use Rattle.drain_header.specs.Lacking.{lacking, is_unseen}
+use Rattle.drain_header.specs.Said.{said_by, sign_in}
+use Rattle.drain_header.specs.Finished.{number_or, packed_row_in, row_bytes_in, is_other_type_in, is_pixel_size, header_in, finished, IsSize, AreTaken}
+use Rattle.drain_header.proofs.Plain.{is_bad_type, last_answer}
+use Rattle.drain_header.proofs.Bounds.{coordinate_within, nodata_within}
+use Rattle.drain_header.proofs.Folding.{IsSeen, at}
+use Rattle.drain_header.proofs.Saying
+
+-- none of the six is lacking
+six_there : (a b c d e f : Bool) → cond a (Some Nrows) (cond b (Some Ncols) (cond c (Some Ulxmap) (cond d (Some Ulymap) (cond e (Some Xdim) (cond f (Some Ydim) None))))) ≡ None → (a ≡ false) × (b ≡ false)
+six_there true b c d e f none = cc
+six_there false true c d e f none = cc
+six_there false false c d e f none = (refl, refl)
+
+-- a size that a word spells
+pub record IsSized (word : Option (List ℕ)) : Type 0 where
+  pub n : ℕ
+  pub size : option_and_then size_of word ≡ Some n
+  pub number : option_and_then whole_number word ≡ Some n
+  pub within : IsSize n
+
+abbrev in_range : ℕ → Option ℕ
+in_range n = cond (nat_le 1 n && nat_le n 28801) (Some n) None
+
+range : (m : ℕ) (a b : Bool) → nat_le 1 m ≡ a → nat_le m 28801 ≡ b → is_none (option_map (λ n. Number n) (cond (a && b) (Some m) None)) ≡ false → (cond (a && b) (Some m) None ≡ Some m) × IsSize m
+range m true true p q e = (refl, record { low = leb-true 1 m p; high = leb-true m 28801 q })
+range m true false p q e = cc
+range m false b p q e = cc
+
+sized : (word : Option (List ℕ)) → is_none (option_and_then (λ w. option_map (λ n. Number n) (size_of w)) word) ≡ false → IsSized word
+sized None e = cc
+sized (Some w) e = (let r = inner (whole_number w) e in record { n = r.0; size = r.1; number = r.2; within = r.3 })
+  where
+    inner : (o : Option ℕ) → is_none (option_map (λ n. Number n) (option_and_then in_range o)) ≡ false → (n : ℕ) × (option_and_then in_range o ≡ Some n) × (o ≡ Some n) × IsSize n
+    inner None none = cc
+    inner (Some m) some = (let r = range m (nat_le 1 m) (nat_le m 28801) refl refl some in (m, r.0, refl, r.1))
+
+-- a coordinate that a word spells, or zero, is within its bounds
+zero_within : IsCoordinate (pos 0)
+zero_within = record { low = omega arith; high = omega arith }
+
+within : (word : Option (List ℕ)) → IsCoordinate (unwrap_or (option_and_then coordinate_of word) (pos 0))
+within None = zero_within
+within (Some w) = elim (coordinate_of w) as (λ o. coordinate_of w ≡ o → IsCoordinate (unwrap_or o (pos 0))) [
+  | None ↦ λ is. zero_within
+  | Some z ↦ λ is. coordinate_within w z is
+] refl
+
+nodata_ok : (word : Option (List ℕ)) → IfSome (option_and_then nodata_of word) IsNoData
+nodata_ok None = _
+nodata_ok (Some w) = elim (nodata_of w) as (λ o. nodata_of w ≡ o → IfSome o IsNoData) [
+  | None ↦ λ is. _
+  | Some z ↦ λ is. nodata_within w z is
+] refl
+
+other_type : (word : Option (List ℕ)) → is_other_type_in (option_and_then (λ w. Some (Signed (signedness_of w))) word) ≡ is_bad_type word
+other_type None = refl
+other_type (Some w) = refl
+
+-- the last faults and the fields, as one function of what they rest on
+abbrev answer_from : ℕ → ℕ → Bool → ℕ → ℕ → Fields → Result Fields HeaderFault
+answer_from bands bits other row packed h =
+    cond (not (bands == 1)) (Err NotOneBand) (cond (not (is_pixel_size bits)) (Err BadBits) (cond other (Err BadPixelType) (cond (nat_lt row packed) (Err RowTooShort) (Ok h))))
+
+same_answer : (bands bands' bits bits' : ℕ) (other other' : Bool) (row row' packed packed' : ℕ) (h h' : Fields) →
+    bands ≡ bands' → bits ≡ bits' → other ≡ other' → row ≡ row' → packed ≡ packed' → h ≡ h' → answer_from bands bits other row packed h ≡ answer_from bands' bits' other' row' packed' h'
+same_answer bands bands' bits bits' other other' row row' packed packed' h h' a b c d e f = rw (a, b, c, d, e, f) refl
+
+abbrev fields_from : ℕ → ℕ → ℕ → ByteOrdering → Bool → ℕ → ℕ → ℤ → ℤ → ℤ → ℤ → Option ℤ → Fields
+fields_from rows cols bits order signed skip row_bytes ulx uly xdim ydim nodata = record {
+  rows = rows;
+  cols = cols;
+  bits = bits;
+  order = order;
+  signed = signed;
+  skip = skip;
+  row_bytes = row_bytes;
+  place = record { ulx = ulx; uly = uly; xdim = xdim; ydim = ydim };
+  nodata = nodata;
+}
+
+same_fields : {rows rows' cols cols' bits bits' : ℕ} {order order' : ByteOrdering} {signed signed' : Bool} {skip skip' row_bytes row_bytes' : ℕ} {ulx ulx' uly uly' xdim xdim' ydim ydim' : ℤ} {nodata nodata' : Option ℤ} →
+    rows ≡ rows' → cols ≡ cols' → bits ≡ bits' → order ≡ order' → signed ≡ signed' → skip ≡ skip' → row_bytes ≡ row_bytes' → ulx ≡ ulx' → uly ≡ uly' → xdim ≡ xdim' → ydim ≡ ydim' → nodata ≡ nodata' →
+    fields_from rows cols bits order signed skip row_bytes ulx uly xdim ydim nodata ≡ fields_from rows' cols' bits' order' signed' skip' row_bytes' ulx' uly' xdim' ydim' nodata'
+same_fields a b c d e f g h i j k l = rw (a, b, c, d, e, f, g, h, i, j, k, l) refl
+
+module _ (lines : List (List ℕ)) (seen : Seen) (s : IsSeen lines lines (suc (length lines)) seen) (whole : lacking seen ≡ None) where
+  there : (is_unseen seen Nrows ≡ false) × (is_unseen seen Ncols ≡ false)
+  there = six_there (is_unseen seen Nrows) (is_unseen seen Ncols) (is_unseen seen Ulxmap) (is_unseen seen Ulymap) (is_unseen seen Xdim) (is_unseen seen Ydim) whole
+
+  rows : IsSized (value_at Nrows lines)
+  rows = sized (value_at Nrows lines) (sym (ap is_none (s.value Nrows)) ∙ there.0)
+
+  cols : IsSized (value_at Ncols lines)
+  cols = sized (value_at Ncols lines) (sym (ap is_none (s.value Ncols)) ∙ there.1)
+
+  rows_is : number_or Nrows 0 seen ≡ rows.n
+  rows_is = ap (λ o. unwrap_or o 0) (Saying.rows_said lines seen s ∙ rows.size)
+
+  cols_is : number_or Ncols 0 seen ≡ cols.n
+  cols_is = ap (λ o. unwrap_or o 0) (Saying.cols_said lines seen s ∙ cols.size)
+
+  same_rows : number_or Nrows 0 seen ≡ said whole_number Nrows 0 lines
+  same_rows = rows_is ∙ sym (ap (λ o. unwrap_or o 0) rows.number)
+
+  same_cols : number_or Ncols 0 seen ≡ said whole_number Ncols 0 lines
+  same_cols = cols_is ∙ sym (ap (λ o. unwrap_or o 0) cols.number)
+
+  same_bits : number_or Nbits 8 seen ≡ said whole_number Nbits 8 lines
+  same_bits = ap (λ o. unwrap_or o 8) (Saying.bits_said lines seen s)
+
+  same_packed : packed_row_in seen ≡ packed_row lines
+  same_packed = ap (λ (c : ℕ). c * number_or Nbits 8 seen / 8) same_cols ∙ ap (λ (b : ℕ). said whole_number Ncols 0 lines * b / 8) same_bits
+
+  same_row_bytes : row_bytes_in seen ≡ row_bytes_of lines
+  same_row_bytes =
+      ap (λ o. unwrap_or o (number_or keys.BandRowBytes (packed_row_in seen) seen)) (Saying.total_row_said lines seen s)
+      ∙ ap (λ o. unwrap_or (option_and_then whole_number (value_at keys.TotalRowBytes lines)) (unwrap_or o (packed_row_in seen))) (Saying.band_row_said lines seen s)
+      ∙ ap (λ (p : ℕ). said whole_number keys.TotalRowBytes (said whole_number keys.BandRowBytes p lines) lines) same_packed
+
+  same_signed : unwrap_or (said_by sign_in PixelType seen) (number_or Nbits 8 seen == 16) ≡ said signedness_of PixelType (said whole_number Nbits 8 lines == 16) lines
+  same_signed =
+      ap (λ o. unwrap_or o (number_or Nbits 8 seen == 16)) (Saying.sign_said lines seen s)
+      ∙ ap (λ (b : ℕ). said signedness_of PixelType (b == 16) lines) same_bits
+
+  same_header : header_in seen ≡ header_of lines
+  same_header = same_fields same_rows same_cols same_bits
+      (ap (λ o. unwrap_or o Least) (Saying.order_said lines seen s)) same_signed
+      (ap (λ o. unwrap_or o 0) (Saying.skip_said lines seen s)) same_row_bytes
+      (ap (λ o. unwrap_or o (pos 0)) (Saying.ulx_said lines seen s)) (ap (λ o. unwrap_or o (pos 0)) (Saying.uly_said lines seen s))
+      (ap (λ o. unwrap_or o (pos 0)) (Saying.xdim_said lines seen s)) (ap (λ o. unwrap_or o (pos 0)) (Saying.ydim_said lines seen s))
+      (Saying.nodata_said lines seen s)
+
+  pub finished_is : finished seen ≡ last_answer lines
+  finished_is = same_answer (number_or keys.Nbands 1 seen) (said whole_number keys.Nbands 1 lines) (number_or Nbits 8 seen) (said whole_number Nbits 8 lines)
+      (is_other_type_in (at PixelType seen)) (is_bad_type (value_at PixelType lines)) (row_bytes_in seen) (row_bytes_of lines) (packed_row_in seen) (packed_row lines) (header_in seen) (header_of lines)
+      (ap (λ o. unwrap_or o 1) (Saying.bands_said lines seen s)) same_bits
+      (ap is_other_type_in (s.value PixelType) ∙ other_type (value_at PixelType lines)) same_row_bytes same_packed same_header
+
+  pub taken : AreTaken seen
+  taken = record {
+    rows = subst (λ n. IsSize n) (sym rows_is) rows.within;
+    cols = subst (λ n. IsSize n) (sym cols_is) cols.within;
+    ulx = rw (Saying.ulx_said lines seen s) (within (value_at Ulxmap lines));
+    uly = rw (Saying.uly_said lines seen s) (within (value_at Ulymap lines));
+    xdim = rw (Saying.xdim_said lines seen s) (within (value_at Xdim lines));
+    ydim = rw (Saying.ydim_said lines seen s) (within (value_at Ydim lines));
+    nodata = rw (Saying.nodata_said lines seen s) (nodata_ok (value_at keys.Nodata lines));
+  }

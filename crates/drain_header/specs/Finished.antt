@@ -1,0 +1,86 @@
+-- A header from the values of its keywords, or the first fault of the text as a whole.
+use Rattle.std.specs.Prelude.{ℕ, ◌*◌, ◌/◌, ◌≤◌, ℤ, pos, Bool, false, not, ◌||◌, ◌==◌, nat_lt, Option, Some, None, is_none, IfSome, unwrap_or, Result, Ok, Err, slice_index_or, if◌then◌else◌}
+use Rattle.drain_grid.specs.Values.{IsNoData}
+use Rattle.drain_header.specs.declared.header.ByteOrdering.TheVariants.{Least}
+use Rattle.drain_header.specs.declared.key.Key.{Key}
+use Rattle.drain_header.specs.declared.key.Key.TheVariants.{Nrows, Ncols, Nbands, Nbits, ByteOrder, PixelType, SkipBytes, BandRowBytes, TotalRowBytes, Ulxmap, Ulymap, Xdim, Ydim}
+use Rattle.drain_header.specs.declared.key.Key.TheVariants as keys
+use Rattle.drain_header.specs.declared.value.Value.{Value}
+use Rattle.drain_header.specs.declared.value.Value.TheVariants.{Signed}
+use Rattle.drain_header.specs.declared.fault.HeaderFault.{HeaderFault}
+use Rattle.drain_header.specs.declared.fault.HeaderFault.TheVariants.{NotOneBand, BadBits, BadPixelType, RowTooShort}
+use Rattle.drain_header.specs.Fields.{Fields, IsCoordinate}
+use Rattle.drain_header.specs.Lines.{place_of_key}
+use Rattle.drain_header.specs.Reading.{Seen}
+use Rattle.drain_header.specs.Said.{said_by, number_of, ordering_in, sign_in, coordinate_in, nodata_in}
+
+-- the whole number of a keyword, or else a default
+abbrev pub number_or : Key → ℕ → Seen → ℕ
+number_or key default seen = unwrap_or (said_by number_of key seen) default
+
+-- the coordinate of a keyword
+abbrev pub coordinate_or_zero : Key → Seen → ℤ
+coordinate_or_zero key seen = unwrap_or (said_by coordinate_in key seen) (pos 0)
+
+-- how many bytes the pixels of a row take
+abbrev pub packed_row_in : Seen → ℕ
+packed_row_in seen = number_or Ncols 0 seen * number_or Nbits 8 seen / 8
+
+-- how many bytes from one row to the next
+abbrev pub row_bytes_in : Seen → ℕ
+row_bytes_in seen = number_or TotalRowBytes (number_or BandRowBytes (packed_row_in seen) seen) seen
+
+-- the pixel type is another word than the two that are known
+abbrev pub is_other_type : Value → Bool
+is_other_type (Signed signed) = is_none signed
+is_other_type value = false
+
+abbrev pub is_other_type_in : Option Value → Bool
+is_other_type_in None = false
+is_other_type_in (Some value) = is_other_type value
+
+-- 8, 16 or 32
+abbrev pub is_pixel_size : ℕ → Bool
+is_pixel_size bits = (bits == 8) || ((bits == 16) || (bits == 32))
+
+-- the header that the values describe
+abbrev pub header_in : Seen → Fields
+header_in seen = record {
+  rows = number_or Nrows 0 seen;
+  cols = number_or Ncols 0 seen;
+  bits = number_or Nbits 8 seen;
+  order = unwrap_or (said_by ordering_in ByteOrder seen) Least;
+  signed = unwrap_or (said_by sign_in PixelType seen) (number_or Nbits 8 seen == 16);
+  skip = number_or SkipBytes 0 seen;
+  row_bytes = row_bytes_in seen;
+  place = record {
+    ulx = coordinate_or_zero Ulxmap seen;
+    uly = coordinate_or_zero Ulymap seen;
+    xdim = coordinate_or_zero Xdim seen;
+    ydim = coordinate_or_zero Ydim seen;
+  };
+  nodata = said_by nodata_in keys.Nodata seen;
+}
+
+-- that header, or the first of the faults that are of no line
+abbrev pub finished : Seen → Result Fields HeaderFault
+finished seen =
+    if not (number_or Nbands 1 seen == 1) then Err NotOneBand
+    else (if not (is_pixel_size (number_or Nbits 8 seen)) then Err BadBits
+    else (if is_other_type_in (slice_index_or seen (place_of_key PixelType) None) then Err BadPixelType
+    else (if nat_lt (row_bytes_in seen) (packed_row_in seen) then Err RowTooShort else Ok (header_in seen))))
+
+-- a number of rows or of columns that a header can have
+pub record IsSize (n : ℕ) : Type 0 where
+  pub low : 1 ≤ n
+  pub high : n ≤ 28801
+
+-- the values are within the bounds of a header
+pub record AreTaken (seen : Seen) : Type 0 where
+  pub rows : IsSize (number_or Nrows 0 seen)
+  pub cols : IsSize (number_or Ncols 0 seen)
+  pub ulx : IsCoordinate (coordinate_or_zero Ulxmap seen)
+  pub uly : IsCoordinate (coordinate_or_zero Ulymap seen)
+  pub xdim : IsCoordinate (coordinate_or_zero Xdim seen)
+  pub ydim : IsCoordinate (coordinate_or_zero Ydim seen)
+  pub nodata : IfSome (said_by nodata_in keys.Nodata seen) IsNoData
