@@ -1,5 +1,5 @@
 -- From what a write of many calls left to what was printed.
-use Rattle.std.proofs.Common.{◌≡◌, ℕ, ◌-◌, ◌++◌, List, [], ◌∷◌, ◌↔◌, Option, Result, IsErr, subst}
+use Rattle.std.proofs.Common.{◌≡◌, ℕ, ◌-◌, List, ◌↔◌, Option, Result, IsErr, subst}
 use Rattle.drain_device.specs.declared.counts.FaultCounts.{FaultCounts}
 use Rattle.drain_device.specs.declared.patience.GaveUp.{GaveUp}
 use Rattle.drain_device.specs.Counts.{Answered, counted}
@@ -7,19 +7,19 @@ use Rattle.drain_device.specs.Patience.{full_patience, GivesUpWriting}
 use Rattle.drain_device.specs.Writes.{HandsOver}
 use Rattle.drain_cli.specs.declared.status.Status.{Status}
 use Rattle.drain_cli.specs.Statuses.{code_of}
-use Rattle.drain_cli.specs.Printing.{line_feed, status_after, Prints}
+use Rattle.drain_cli.specs.Printing.{status_after, PrintsText}
 
-pub Prints-write_all : (taken_old taken_new : Option (List ℕ)) (counts_old counts_new : FaultCounts) (stalls_old stalls_new : ℕ)
-    (line text : List ℕ) (status : Status) (code : ℕ) (patience left : ℕ) (done : Result (Unit {0}) GaveUp) →
-    text ≡ line ++ line_feed ∷ [] → patience ≡ full_patience → HandsOver taken_old taken_new done text →
+pub PrintsText-write_all : (taken_old taken_new : Option (List ℕ)) (counts_old counts_new : FaultCounts) (stalls_old stalls_new : ℕ)
+    (text : List ℕ) (status : Status) (code : ℕ) (patience left : ℕ) (done : Result (Unit {0}) GaveUp) →
+    patience ≡ full_patience → HandsOver taken_old taken_new done text →
     code ≡ code_of (status_after done status) →
     (failures : ℕ) × (interruptions : ℕ) × (stalls : ℕ) × Answered counts_old counts_new failures interruptions
     × (stalls_new ≡ counted stalls_old stalls) × (left ≡ patience - interruptions)
     × (IsErr done ↔ GivesUpWriting patience failures interruptions stalls) →
-    Prints taken_old taken_new counts_old counts_new stalls_old stalls_new line status code
-Prints-write_all taken_old taken_new counts_old counts_new stalls_old stalls_new line text status code patience left done is_text full over is_code faults = record {
+    PrintsText taken_old taken_new counts_old counts_new stalls_old stalls_new text status code
+PrintsText-write_all taken_old taken_new counts_old counts_new stalls_old stalls_new text status code patience left done full over is_code faults = record {
   done = done;
-  written = subst (HandsOver taken_old taken_new done) is_text over;
+  written = over;
   code_is = is_code;
   faults = record {
     failures = faults.0;

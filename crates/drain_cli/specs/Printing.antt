@@ -26,10 +26,15 @@ pub record WriteFails (counts_old counts_new : FaultCounts) (stalls_old stalls_n
   pub stalled : stalls_new ≡ counted stalls_old stalls
   pub exactly : Fails ↔ GivesUpWriting full_patience failures interruptions stalls
 
--- the line and a line end were written and the status stands, or a proper part of them was written and the status is that of a failure
-pub record Prints (taken_old taken_new : Option (List ℕ)) (counts_old counts_new : FaultCounts) (stalls_old stalls_new : ℕ)
-    (line : List ℕ) (status : Status) (code : ℕ) : Type 0 where
+-- the text was written and the status stands, or a proper part of it was written and the status is that of a failure
+pub record PrintsText (taken_old taken_new : Option (List ℕ)) (counts_old counts_new : FaultCounts) (stalls_old stalls_new : ℕ)
+    (text : List ℕ) (status : Status) (code : ℕ) : Type 0 where
   pub done : Result (Unit {0}) GaveUp
-  pub written : HandsOver taken_old taken_new done (line ++ line_feed ∷ [])
+  pub written : HandsOver taken_old taken_new done text
   pub code_is : code ≡ code_of (status_after done status)
   pub faults : WriteFails counts_old counts_new stalls_old stalls_new (IsErr done)
+
+-- the same of a line and its line end
+abbrev pub Prints : Option (List ℕ) → Option (List ℕ) → FaultCounts → FaultCounts → ℕ → ℕ → List ℕ → Status → ℕ → Type 0
+Prints taken_old taken_new counts_old counts_new stalls_old stalls_new line status code =
+    PrintsText taken_old taken_new counts_old counts_new stalls_old stalls_new (line ++ line_feed ∷ []) status code

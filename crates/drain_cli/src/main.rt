@@ -22,7 +22,6 @@ use clap::Error;
 use clap::error::ErrorKind;
 use command_line::Request;
 use drain_device::{ByteSink, Reader, Writer};
-use line::words;
 use run_fill::run_fill;
 use status::Status;
 use std::io;
@@ -72,5 +71,5 @@ fn print_no_memory<W: ByteSink>(out: &mut W) -> u8
     ensures { Prints (W.bytes_taken out.old) (W.bytes_taken out.new) (W.counts out.old) (W.counts out.new)
         (W.stalls out.old) (W.stalls out.new) (codes "failed OutOfMemory") Status.Failed result }
 {
-    print::print_line(out, &words("failed OutOfMemory"), Status::Failed)
+    print::print_text(out, b"failed OutOfMemory\n", Status::Failed)
 }

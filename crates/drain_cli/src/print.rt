@@ -1,7 +1,7 @@
-//! Printing the one line of a run.
+//! Printing what a run tells: one line, or the text of a header.
 
 ghost use Rattle.std.specs.Prelude.{◌≡◌};
-ghost use Rattle.drain_cli.specs.Printing.{Prints};
+ghost use Rattle.drain_cli.specs.Printing.{Prints, PrintsText};
 
 use crate::line::{LINE_LENGTH, Line};
 use crate::status::Status;
@@ -16,7 +16,14 @@ pub fn print_line<W: ByteSink>(out: &mut W, line: &Line, status: Status) -> u8
     let mut text = ArrayString::<{ PRINTED_LENGTH }>::new();
     text.push_str(line.as_str());
     text.push('\n');
-    match write_all(out, text.as_str().as_bytes(), &mut Patience::new()) {
+    print_text(out, text.as_str().as_bytes(), status)
+}
+
+/// Prints the text as it is, and answers the exit status as `print_line` does.
+pub fn print_text<W: ByteSink>(out: &mut W, text: &[u8], status: Status) -> u8
+    ensures { PrintsText (W.bytes_taken out.old) (W.bytes_taken out.new) (W.counts out.old) (W.counts out.new) (W.stalls out.old) (W.stalls out.new) text.now status result }
+{
+    match write_all(out, text, &mut Patience::new()) {
         Ok(()) => status.code(),
         Err(_) => Status::Failed.code(),
     }
