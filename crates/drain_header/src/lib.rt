@@ -9,6 +9,7 @@ mod line;
 mod lines;
 mod numeral;
 mod said;
+mod text;
 mod value;
 mod whole_number;
 mod words;
@@ -16,6 +17,7 @@ mod words;
 pub use fault::HeaderFault;
 pub use header::{ByteOrdering, Header, Place};
 pub use key::Key;
+pub use text::header_text;
 
 #[cfg(test)]
 mod tests;
