@@ -11,6 +11,7 @@ mod lines;
 mod numeral;
 pub mod parse;
 mod said;
+mod text;
 mod value;
 mod whole_number;
 mod words;
@@ -19,6 +20,7 @@ pub use fault::HeaderFault;
 pub use header::{ByteOrdering, Header, Place};
 pub use key::Key;
 pub use parse::{MAX_HEADER_BYTES, parse_header};
+pub use text::header_text;
 
 #[cfg(test)]
 mod tests;

@@ -4,8 +4,10 @@ mod headers;
 
 use crate::decimal::{coordinate, nodata};
 use crate::fault::HeaderFault;
+use crate::header::{ByteOrdering, Header, Place};
 use crate::key::Key;
 use crate::lines::read_lines;
+use crate::text::header_text;
 use crate::whole_number::whole_number;
 use std::test::Fail;
 
@@ -116,6 +118,63 @@ fn texts_of_faults(rt: HostRuntime) -> Result<(), Fail> {
         (HeaderFault::RowTooShort, "RowTooShort"),
     ] {
         assert_eq!(rt; fault.text().as_str(), wanted);
+    }
+    Ok(())
+}
+
+/// The header of a conditioned raster of 3 by 3 pixels, and one without a no-data number that lies west of Greenwich.
+#[test]
+fn headers_as_text(rt: HostRuntime) -> Result<(), Fail> {
+    let conditioned = Header {
+        rows: 3,
+        cols: 3,
+        bits: 16,
+        order: ByteOrdering::Least,
+        signed: true,
+        skip: 0,
+        row_bytes: 6,
+        place: Place {
+            ulx: 0,
+            uly: 1_000_000_000_000_000,
+            xdim: 500_000_000_000_000,
+            ydim: 500_000_000_000_000,
+        },
+        nodata: Some(-32768),
+    };
+    let western = Header {
+        rows: 1,
+        cols: 28801,
+        bits: 8,
+        order: ByteOrdering::Most,
+        signed: false,
+        skip: 4294967295,
+        row_bytes: 28801,
+        place: Place {
+            ulx: -500_000_000_000_000,
+            uly: -105_000_000_000_000_001,
+            xdim: 833_333_333_333,
+            ydim: 10_000_000_000_000_000_000_000_000,
+        },
+        nodata: None,
+    };
+    for (header, wanted) in [
+        (
+            conditioned,
+            "BYTEORDER I\nLAYOUT BIL\nNROWS 3\nNCOLS 3\nNBANDS 1\nNBITS 16\nBANDROWBYTES 6\n\
+             TOTALROWBYTES 6\nSKIPBYTES 0\nPIXELTYPE SIGNEDINT\nULXMAP 0.000000000000000\n\
+             ULYMAP 1.000000000000000\nXDIM 0.500000000000000\nYDIM 0.500000000000000\n\
+             NODATA -32768\n",
+        ),
+        (
+            western,
+            "BYTEORDER M\nLAYOUT BIL\nNROWS 1\nNCOLS 28801\nNBANDS 1\nNBITS 8\nBANDROWBYTES 28801\n\
+             TOTALROWBYTES 28801\nSKIPBYTES 4294967295\nPIXELTYPE UNSIGNEDINT\n\
+             ULXMAP -0.500000000000000\nULYMAP -105.000000000000001\nXDIM 0.000833333333333\n\
+             YDIM 10000000000.000000000000000\n",
+        ),
+    ] {
+        let text = header_text(rt.alloc(), &header)?;
+        assert_eq!(rt; str::from_utf8(&text), Ok(wanted));
     }
     Ok(())
 }

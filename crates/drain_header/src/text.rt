@@ -1,0 +1,150 @@
+//! The text of a header: one line for each keyword, always in the same order.
+
+ghost use Rattle.std.specs.Prelude.{◌≡◌, ◌++◌, IfOk, OnOk, decimal};
+ghost use Rattle.std.specs.Int.{is_negative};
+ghost use Rattle.std.specs.Fmt.{sign_text};
+ghost use Rattle.drain_header.specs.Text.{text_of, shape_lines, pixel_lines, place_lines, line, nodata_line, fraction_text, places_text, ordering_text, signedness_text};
+
+use crate::header::{ByteOrdering, Header, Place};
+use crate::key::Key;
+use drain_grid::OutOfMemory;
+use itoa::Buffer;
+use std::alloc::Global;
+
+/// How many units of a coordinate make one degree.
+const UNITS_PER_DEGREE: u128 = 1_000_000_000_000_000;
+
+/// The text of a header, in ASCII: a line for each keyword, the keyword, a space and its value, each with its line feed.
+/// The lines of NROWS to TOTALROWBYTES and SKIPBYTES have whole numbers, those of ULXMAP, ULYMAP, XDIM and YDIM
+/// degrees with 15 digits behind the point. LAYOUT is BIL and NBANDS 1. NODATA stands where there is a no-data number.
+/// Only the returned text takes memory; where it can't grow the answer is `OutOfMemory`.
+pub fn header_text(alloc: Global, header: &Header) -> Result<Vec<u8>, OutOfMemory>
+    ensures { IfOk result (λ text. text.items ≡ text_of header.now) }
+{
+    let mut text = Vec::new(alloc);
+    push_shape(&mut text, header)?;
+    push_pixels(&mut text, header)?;
+    push_place(&mut text, &header.place)?;
+    push_nodata(&mut text, header.nodata)?;
+    Ok(text)
+}
+
+/// Appends the lines of the order of bytes, of rows and of columns.
+fn push_shape(text: &mut Vec<u8>, header: &Header) -> Result<(), OutOfMemory>
+    ensures { OnOk result (text.new.items ≡ text.old.items ++ shape_lines header.now) }
+{
+    push_line(text, Key::ByteOrder, ordering_word(header.order))?;
+    push_line(text, Key::Layout, "BIL")?;
+    push_number(text, Key::Nrows, header.rows)?;
+    push_number(text, Key::Ncols, header.cols)?;
+    push_number(text, Key::Nbands, 1)
+}
+
+/// Appends the lines of the pixels and of the bytes that rows of them take.
+fn push_pixels(text: &mut Vec<u8>, header: &Header) -> Result<(), OutOfMemory>
+    ensures { OnOk result (text.new.items ≡ text.old.items ++ pixel_lines header.now) }
+{
+    push_number(text, Key::Nbits, header.bits as u32)?;
+    push_number(text, Key::BandRowBytes, header.row_bytes)?;
+    push_number(text, Key::TotalRowBytes, header.row_bytes)?;
+    push_number(text, Key::SkipBytes, header.skip)?;
+    push_line(text, Key::PixelType, signedness_word(header.signed))
+}
+
+/// Appends the lines of the place.
+fn push_place(text: &mut Vec<u8>, place: &Place) -> Result<(), OutOfMemory>
+    ensures { OnOk result (text.new.items ≡ text.old.items ++ place_lines place.now) }
+{
+    push_degrees(text, Key::Ulxmap, place.ulx)?;
+    push_degrees(text, Key::Ulymap, place.uly)?;
+    push_degrees(text, Key::Xdim, place.xdim)?;
+    push_degrees(text, Key::Ydim, place.ydim)
+}
+
+fn ordering_word(order: ByteOrdering) -> &'static str
+    ensures { result.now ≡ ordering_text order }
+{
+    match order {
+        ByteOrdering::Least => "I",
+        ByteOrdering::Most => "M",
+    }
+}
+
+fn signedness_word(signed: bool) -> &'static str
+    ensures { result.now ≡ signedness_text signed }
+{
+    if signed { "SIGNEDINT" } else { "UNSIGNEDINT" }
+}
+
+/// Appends the line of a keyword and its value.
+#[tactic(auto, unfolding(crate::specs::Text::line))]
+fn push_line(text: &mut Vec<u8>, key: Key, value: &str) -> Result<(), OutOfMemory>
+    ensures { OnOk result (text.new.items ≡ text.old.items ++ line key value.now) }
+{
+    push(text, key.name().as_bytes())?;
+    push(text, b" ")?;
+    push(text, value.as_bytes())?;
+    push(text, b"\n")
+}
+
+/// Appends the line of a keyword whose value is a whole number.
+fn push_number(text: &mut Vec<u8>, key: Key, number: u32) -> Result<(), OutOfMemory>
+    ensures { OnOk result (text.new.items ≡ text.old.items ++ line key (decimal number)) }
+{
+    let mut digits = Buffer::new();
+    push_line(text, key, digits.format(number))
+}
+
+/// Appends the line of the no-data number, where there is one.
+fn push_nodata(text: &mut Vec<u8>, nodata: Option<i64>) -> Result<(), OutOfMemory>
+    ensures { OnOk result (text.new.items ≡ text.old.items ++ nodata_line nodata) }
+{
+    let Some(number) = nodata else {
+        return Ok(());
+    };
+    let mut digits = Buffer::new();
+    push_line(text, Key::Nodata, digits.format(number))
+}
+
+/// Appends the line of a keyword whose value is in units of 10^-15 degree.
+#[tactic(auto, unfolding(crate::specs::Text::line, crate::specs::Text::places_text))]
+fn push_degrees(text: &mut Vec<u8>, key: Key, units: i128) -> Result<(), OutOfMemory>
+    ensures { OnOk result (text.new.items ≡ text.old.items ++ line key (places_text units)) }
+{
+    let magnitude = units.unsigned_abs();
+    let mut digits = Buffer::new();
+    push(text, key.name().as_bytes())?;
+    push(text, b" ")?;
+    push(text, sign(units).as_bytes())?;
+    push(text, digits.format(magnitude / UNITS_PER_DEGREE).as_bytes())?;
+    push(text, b".")?;
+    push_fraction(text, magnitude)?;
+    push(text, b"\n")
+}
+
+/// Appends the 15 digits behind the point of a magnitude in units of 10^-15 degree.
+fn push_fraction(text: &mut Vec<u8>, magnitude: u128) -> Result<(), OutOfMemory>
+    ensures { OnOk result (text.new.items ≡ text.old.items ++ fraction_text magnitude) }
+{
+    let fraction = (magnitude % UNITS_PER_DEGREE) as u64;
+    let mut digits = Buffer::new();
+    // A one in front keeps the noughts behind it, and is left out.
+    let led = digits.format(UNITS_PER_DEGREE as u64 + fraction);
+    push(text, &led.as_bytes()[1..])
+}
+
+fn sign(number: i128) -> &'static str
+    ensures { result.now ≡ sign_text (is_negative number) }
+{
+    if number < 0 { "-" } else { "" }
+}
+
+/// Appends these bytes.
+fn push(text: &mut Vec<u8>, bytes: &[u8]) -> Result<(), OutOfMemory>
+    ensures { OnOk result (text.new.items ≡ text.old.items ++ bytes.now) }
+{
+    match text.extend_from_slice(bytes) {
+        Ok(()) => Ok(()),
+        Err(_) => Err(OutOfMemory),
+    }
+}
