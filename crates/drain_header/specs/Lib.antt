@@ -11,3 +11,4 @@ pub mod Values
 pub mod Reading
 pub mod Lacking
 pub mod Said
+pub mod Laws

@@ -5,6 +5,7 @@ mod decimal;
 pub mod fault;
 pub mod header;
 pub mod key;
+pub mod laws;
 mod line;
 mod lines;
 mod numeral;
