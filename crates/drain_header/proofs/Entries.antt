@@ -249,7 +249,7 @@ line_short : (key : Key) (value : List ℕ) → length value ≤ 60 → length (
 unfolding line
 line_short key value short =
     let name = (name_some key).1 in
-    omega (arith, length-append (name_of key ++ 32 ∷ value) (10 ∷ []), length-append (name_of key) (32 ∷ value))
+    omega (arith, length-append (name_of key ++ (32 ∷ []) ++ value) (10 ∷ []), length-append (name_of key ++ (32 ∷ [])) value, length-append (name_of key) (32 ∷ []))
 
 pub entries_short : (n : ℕ) (es : List (Key × List ℕ)) → AllGood n es → length (entries_text es) ≤ 75 * length es
 entries_short n [] good = omega arith

@@ -160,9 +160,13 @@ fraction_is n = record {
   value = value_of_places 15 n;
 }
 
+-- the text of a coordinate is a sign, digits, a point and digits
+places_parts : (z : ℤ) → places_text z ≡ sign_text (is_negative z) ++ (decimal (unsigned_abs z / 1000000000000000) ++ 46 ∷ fraction_text (unsigned_abs z))
+unfolding places_text
+places_parts z = simp append_assoc
+
 -- a coordinate reads back
 pub coordinate_read : (z : ℤ) → IsCoordinate z → coordinate_of (places_text z) ≡ Some z
-unfolding places_text
 coordinate_read z is =
     let n = unsigned_abs z in
     let small = coordinate_small z is in
@@ -175,8 +179,7 @@ coordinate_read z is =
     let low : is_small d ≡ true = le-leb _ _ (omega (arith, value, down)) in
     let quotient : digits_value 10 (decimal (n / 1000000000000000) ++ fraction_text n) * 10 ^ 0 * 10 ^ 15 / 10 ^ (length (fraction_text n) + 0) ≡ n = rw down (omega (arith, value)) in
     let units : in_units 15 d ≡ z = ap (with_sign (is_negative z)) quotient ∙ signed_again z in
-    let grouped : places_text z ≡ sign_text (is_negative z) ++ (decimal (n / 1000000000000000) ++ 46 ∷ fraction_text n) = simp append_assoc in
-    ap coordinate_of grouped
+    ap coordinate_of (places_parts z)
     ∙ sym (coordinate_is (sign_text (is_negative z) ++ (decimal (n / 1000000000000000) ++ 46 ∷ fraction_text n)) d z (sym (pointed_decimal (is_negative z) (decimal (n / 1000000000000000)) (fraction_text n) numeral.0 fraction.digits)) low units)
 
 -- the words of these numbers
@@ -203,24 +206,22 @@ nodata_short z small =
     rw (signed_text z) (omega (arith, length-append (sign_text (is_negative z)) (decimal (unsigned_abs z))))
 
 pub places_word : (z : ℤ) → IsCoordinate z → IsWord (places_text z)
-unfolding places_text
 places_word z is =
     let n = unsigned_abs z in
     let small = coordinate_small z is in
     let whole = decimal_word (n / 1000000000000000) (omega arith) in
     let some = whole.some in
     let fraction = fraction_is n in
-    record {
-      some = omega (arith, length-append (sign_text (is_negative z) ++ decimal (n / 1000000000000000)) (46 ∷ fraction_text n), length-append (sign_text (is_negative z)) (decimal (n / 1000000000000000)));
-      ink = ink-append (sign_text (is_negative z) ++ decimal (n / 1000000000000000)) (46 ∷ fraction_text n) (ink-append (sign_text (is_negative z)) (decimal (n / 1000000000000000)) (sign_ink (is_negative z)) whole.ink) (omega arith, digits_ink (fraction_text n) fraction.digits);
-    }
+    rw (places_parts z) (record {
+      some = omega (arith, length-append (sign_text (is_negative z)) (decimal (n / 1000000000000000) ++ 46 ∷ fraction_text n), length-append (decimal (n / 1000000000000000)) (46 ∷ fraction_text n));
+      ink = ink-append (sign_text (is_negative z)) (decimal (n / 1000000000000000) ++ 46 ∷ fraction_text n) (sign_ink (is_negative z)) (ink-append (decimal (n / 1000000000000000)) (46 ∷ fraction_text n) whole.ink (omega arith, digits_ink (fraction_text n) fraction.digits));
+    })
 
 pub places_short : (z : ℤ) → IsCoordinate z → length (places_text z) ≤ 60
-unfolding places_text
 places_short z is =
     let n = unsigned_abs z in
     let small = coordinate_small z is in
     let short = decimal_short (n / 1000000000000000) (omega arith) in
     let sign = sign_short (is_negative z) in
     let count = (fraction_is n).count in
-    omega (arith, length-append (sign_text (is_negative z) ++ decimal (n / 1000000000000000)) (46 ∷ fraction_text n), length-append (sign_text (is_negative z)) (decimal (n / 1000000000000000)))
+    rw (places_parts z) (omega (arith, length-append (sign_text (is_negative z)) (decimal (n / 1000000000000000) ++ 46 ∷ fraction_text n), length-append (decimal (n / 1000000000000000)) (46 ∷ fraction_text n)))
