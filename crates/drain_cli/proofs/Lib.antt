@@ -1,3 +1,4 @@
 pub mod GridLemmas
 pub mod PrintLemmas
+pub mod HeaderLemmas
 pub mod RowLemmas

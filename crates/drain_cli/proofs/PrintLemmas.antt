@@ -7,7 +7,7 @@ use Rattle.drain_device.specs.Patience.{full_patience, GivesUpWriting}
 use Rattle.drain_device.specs.Writes.{HandsOver}
 use Rattle.drain_cli.specs.declared.status.Status.{Status}
 use Rattle.drain_cli.specs.Statuses.{code_of}
-use Rattle.drain_cli.specs.Printing.{status_after, PrintsText}
+use Rattle.drain_cli.specs.Printing.{status_after, PrintsText, Prints}
 
 pub PrintsText-write_all : (taken_old taken_new : Option (List ℕ)) (counts_old counts_new : FaultCounts) (stalls_old stalls_new : ℕ)
     (text : List ℕ) (status : Status) (code : ℕ) (patience left : ℕ) (done : Result (Unit {0}) GaveUp) →
@@ -30,3 +30,12 @@ PrintsText-write_all taken_old taken_new counts_old counts_new stalls_old stalls
     exactly = subst (λ p. IsErr done ↔ GivesUpWriting p faults.0 faults.1 faults.2) full faults.6;
   };
 }
+
+-- equal texts are printed alike
+pub PrintsText-same : {a b : Option (List ℕ)} {c d : FaultCounts} {e f : ℕ} {text other : List ℕ} {status : Status} {code : ℕ} →
+    text ≡ other → PrintsText a b c d e f text status code → PrintsText a b c d e f other status code
+PrintsText-same {a} {b} {c} {d} {e} {f} {text} {other} {status} {code} same prints = subst (λ t. PrintsText a b c d e f t status code) same prints
+
+pub Prints-same : {a b : Option (List ℕ)} {c d : FaultCounts} {e f : ℕ} {line other : List ℕ} {status : Status} {code : ℕ} →
+    line ≡ other → Prints a b c d e f line status code → Prints a b c d e f other status code
+Prints-same {a} {b} {c} {d} {e} {f} {line} {other} {status} {code} same prints = subst (λ l. Prints a b c d e f l status code) same prints

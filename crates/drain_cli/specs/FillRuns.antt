@@ -1,10 +1,8 @@
 -- How a run of `drain fill` ends: with the answer to its bytes, or without one for want of memory or by the source.
-use Rattle.std.specs.Prelude.{ℕ, List, ◌↔◌, Option, Some, None, Result, Ok, Err, IsErrOf, codes}
+use Rattle.std.specs.Prelude.{ℕ, List, Option, Some, None, Result, Ok, Err, IsErrOf, codes}
 use Rattle.drain_device.specs.declared.counts.FaultCounts.{FaultCounts}
 use Rattle.drain_device.specs.declared.read.BodyFault.{BodyFault}
 use Rattle.drain_device.specs.declared.read.BodyFault.TheVariants.{ReadFailed, OutOfMemory}
-use Rattle.drain_device.specs.Counts.{Answered}
-use Rattle.drain_device.specs.Patience.{full_patience, GivesUp}
 use Rattle.drain_cli.specs.declared.status.Status.{Status}
 use Rattle.drain_cli.specs.declared.status.Status.TheVariants as status
 use Rattle.drain_cli.specs.declared.fill_check.FillVerdict.{FillVerdict}
@@ -12,6 +10,7 @@ use Rattle.drain_cli.specs.declared.fill_check.FillVerdict.TheVariants.{Accepted
 use Rattle.drain_cli.specs.declared.fill_check.FillRefusal.{FillRefusal}
 use Rattle.drain_cli.specs.FillVerdicts.{IsFillAnswer}
 use Rattle.drain_cli.specs.FillLines.{fill_line}
+use Rattle.drain_cli.specs.GivenUp.{ReadFails}
 
 -- an answer, or why there is none
 abbrev pub FillOutcome : Type 0
@@ -35,13 +34,6 @@ abbrev pub AnswersTold : ℕ → Option (List ℕ) → FillOutcome → Type 0
 AnswersTold side None outcome = Unit {0}
 AnswersTold side (Some bytes) (Ok answer) = IsFillAnswer side bytes answer
 AnswersTold side (Some bytes) (Err fault) = Unit {0}
-
--- between these counts the read failed exactly where the source failed, or was interrupted for the 1,000th time
-pub record ReadFails (old new : FaultCounts) (Fails : Type 0) : Type 0 where
-  pub failures : ℕ
-  pub interruptions : ℕ
-  pub answered : Answered old new failures interruptions
-  pub exactly : Fails ↔ GivesUp full_patience failures interruptions
 
 -- the outcome of a run whose source had these bytes left, and these counts before and after
 pub record IsFillOutcome (side : ℕ) (left : Option (List ℕ)) (old new : FaultCounts) (outcome : FillOutcome) : Type 0 where

@@ -7,3 +7,5 @@ pub mod Filled
 pub mod Parts
 pub mod Printing
 pub mod Statuses
+pub mod GivenUp
+pub mod HeaderRuns

@@ -11,6 +11,7 @@ pub mod fill_report;
 pub mod line;
 pub mod print;
 pub mod run_fill;
+pub mod run_header;
 pub mod status;
 #[cfg(test)]
 mod tests;

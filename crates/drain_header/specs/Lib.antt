@@ -12,3 +12,4 @@ pub mod Reading
 pub mod Lacking
 pub mod Said
 pub mod Finished
+pub mod Laws

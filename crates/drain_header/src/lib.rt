@@ -6,6 +6,7 @@ pub mod fault;
 mod finish;
 pub mod header;
 pub mod key;
+pub mod laws;
 mod line;
 mod lines;
 mod numeral;

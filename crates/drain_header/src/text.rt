@@ -107,7 +107,6 @@ fn push_nodata(text: &mut Vec<u8>, nodata: Option<i64>) -> Result<(), OutOfMemor
 }
 
 /// Appends the line of a keyword whose value is in units of 10^-15 degree.
-#[tactic(auto, unfolding(crate::specs::Text::line, crate::specs::Text::places_text))]
 fn push_degrees(text: &mut Vec<u8>, key: Key, units: i128) -> Result<(), OutOfMemory>
     ensures { OnOk result (text.new.items ≡ text.old.items ++ line key (places_text units)) }
 {

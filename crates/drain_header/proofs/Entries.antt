@@ -1,0 +1,259 @@
+-- A text made of lines that each have a keyword and its value, and what is read back from it.
+--
+-- An entry is a keyword and its value. Everything goes by recursion along a list of entries: the lines of the text are those
+-- of the entries, and the value at a keyword is that of the first entry with the keyword.
+use Rattle.std.proofs.Common.{◌≡◌, ℕ, zero, suc, ◌+◌, ◌-◌, ◌*◌, ◌<◌, ◌≤◌, Bool, true, false, List, [], ◌∷◌, ◌++◌, length, take, arith, refl, sym, ap, ◌∙◌, length-append, append_assoc}
+use Rattle.std.specs.Prelude.{cond, find, nat_eq, nat_lt, ◌&&◌, ◌==◌, ◌||◌, filter, map, slice_get, slice_index, Option, Some, None, option_and_then}
+use Rattle.std.specs.List.{slice_split, onto_first, list_all}
+use Rattle.std.specs.Str.Lines.{strip_carriage_return}
+use Rattle.std.proofs.lemmas.Bool.{ltb-true, lt-ltb, ne_eqb}
+use Rattle.drain_grid.specs.Text.{lines_of, words_of}
+use Rattle.drain_header.specs.declared.key.Key.{Key}
+use Rattle.drain_header.specs.declared.key.Key.TheVariants.{Nrows, Ncols, Nbands, Nbits, ByteOrder, Layout, PixelType, SkipBytes, BandRowBytes, TotalRowBytes, Ulxmap, Ulymap, Xdim, Ydim, Nodata}
+use Rattle.drain_header.specs.Lines.{name_of, place_of_key, named_key, key_of, value_of, value_at, is_some_key, takes, takes_some}
+use Rattle.drain_header.specs.Parts.{is_blank}
+use Rattle.drain_header.specs.Text.{line}
+
+-- each byte stands above the space
+abbrev pub AllInk : List ℕ → Type 0
+AllInk [] = Unit {0}
+AllInk (x ∷ xs) = (32 < x) × AllInk xs
+
+-- a word: some bytes, each above the space
+pub record IsWord (word : List ℕ) : Type 0 where
+  pub some : 0 < length word
+  pub ink : AllInk word
+
+pub ink-append : (xs ys : List ℕ) → AllInk xs → AllInk ys → AllInk (xs ++ ys)
+ink-append [] ys p q = q
+ink-append (x ∷ xs) ys p q = (p.0, ink-append xs ys p.1 q)
+
+both : (a b : Bool) → (a && b) ≡ true → (a ≡ true) × (b ≡ true)
+both true b e = (refl, e)
+both false b e = cc
+
+-- by a test that computes
+pub ink_told : (xs : List ℕ) → list_all (λ x. nat_lt 32 x) xs ≡ true → AllInk xs
+ink_told [] e = tt
+ink_told (x ∷ xs) e = let r = both _ _ e in (ltb-true _ _ r.0, ink_told xs r.1)
+
+-- no element passes
+abbrev pub NonePasses : (ℕ → Bool) → List ℕ → Type 0
+NonePasses p [] = Unit {0}
+NonePasses p (x ∷ xs) = (p x ≡ false) × NonePasses p xs
+
+none-append : (p : ℕ → Bool) (xs ys : List ℕ) → NonePasses p xs → NonePasses p ys → NonePasses p (xs ++ ys)
+none-append p [] ys a b = b
+none-append p (x ∷ xs) ys a b = (a.0, none-append p xs ys a.1 b)
+
+-- a text up to the first that passes
+split_at : (p : ℕ → Bool) (xs : List ℕ) (b : ℕ) (rest : List ℕ) → NonePasses p xs → p b ≡ true → slice_split p (xs ++ b ∷ rest) ≡ xs ∷ slice_split p rest
+split_at p [] b rest none is = ap (λ t. cond t ([] ∷ slice_split p rest) (onto_first b (slice_split p rest))) is
+split_at p (x ∷ xs) b rest none is =
+    ap (λ t. cond t ([] ∷ slice_split p (xs ++ b ∷ rest)) (onto_first x (slice_split p (xs ++ b ∷ rest)))) none.0
+    ∙ ap (onto_first x) (split_at p xs b rest none.1 is)
+
+split_none : (p : ℕ → Bool) (xs : List ℕ) → NonePasses p xs → slice_split p xs ≡ xs ∷ []
+split_none p [] none = refl
+split_none p (x ∷ xs) none =
+    ap (λ t. cond t ([] ∷ slice_split p xs) (onto_first x (slice_split p xs))) none.0
+    ∙ ap (onto_first x) (split_none p xs none.1)
+
+-- bytes above the space are neither line feeds, nor carriage returns, nor blanks
+no_feed : (xs : List ℕ) → AllInk xs → NonePasses (λ b. b == 10) xs
+no_feed [] h = tt
+no_feed (x ∷ xs) h = let low = h.0 in (ne_eqb x 10 (λ e. omega (arith, e)), no_feed xs h.1)
+
+no_return : (xs : List ℕ) → AllInk xs → NonePasses (λ b. b == 13) xs
+no_return [] h = tt
+no_return (x ∷ xs) h = let low = h.0 in (ne_eqb x 13 (λ e. omega (arith, e)), no_return xs h.1)
+
+neither : (a b : Bool) → a ≡ false → b ≡ false → (a || b) ≡ false
+neither a b p q = rw (p, q) refl
+
+no_blank : (xs : List ℕ) → AllInk xs → NonePasses is_blank xs
+no_blank [] h = tt
+no_blank (x ∷ xs) h = let low = h.0 in (neither (x == 32) (x == 9) (ne_eqb x 32 (λ e. omega (arith, e))) (ne_eqb x 9 (λ e. omega (arith, e))), no_blank xs h.1)
+
+no_return_at : (xs : List ℕ) (i : ℕ) → NonePasses (λ b. b == 13) xs → (slice_index xs i == 13) ≡ false
+no_return_at [] zero h = refl
+no_return_at [] (suc i) h = refl
+no_return_at (x ∷ xs) zero h = h.0
+no_return_at (x ∷ xs) (suc i) h = no_return_at xs i h.1
+
+-- a keyword, a space and its value
+abbrev pub bare : Key → List ℕ → List ℕ
+bare key value = name_of key ++ 32 ∷ value
+
+abbrev pub entries_text : List (Key × List ℕ) → List ℕ
+entries_text [] = []
+entries_text (e ∷ es) = line e.0 e.1 ++ entries_text es
+
+-- the lines, of which the last is empty
+abbrev pub entries_lines : List (Key × List ℕ) → List (List ℕ)
+entries_lines [] = [] ∷ []
+entries_lines (e ∷ es) = bare e.0 e.1 ∷ entries_lines es
+
+-- where a keyword's line stands in the text of a header
+abbrev pub line_number : Key → ℕ
+line_number ByteOrder = 0
+line_number Layout = 1
+line_number Nrows = 2
+line_number Ncols = 3
+line_number Nbands = 4
+line_number Nbits = 5
+line_number BandRowBytes = 6
+line_number TotalRowBytes = 7
+line_number SkipBytes = 8
+line_number PixelType = 9
+line_number Ulxmap = 10
+line_number Ulymap = 11
+line_number Xdim = 12
+line_number Ydim = 13
+line_number Nodata = 14
+
+name_ink : (key : Key) → list_all (λ x. nat_lt 32 x) (name_of key) ≡ true
+name_ink Nrows = refl
+name_ink Ncols = refl
+name_ink Nbands = refl
+name_ink Nbits = refl
+name_ink ByteOrder = refl
+name_ink Layout = refl
+name_ink PixelType = refl
+name_ink SkipBytes = refl
+name_ink BandRowBytes = refl
+name_ink TotalRowBytes = refl
+name_ink Ulxmap = refl
+name_ink Ulymap = refl
+name_ink Xdim = refl
+name_ink Ydim = refl
+name_ink Nodata = refl
+
+name_some : (key : Key) → (0 < length (name_of key)) × (length (name_of key) ≤ 13)
+name_some Nrows = (omega arith, omega arith)
+name_some Ncols = (omega arith, omega arith)
+name_some Nbands = (omega arith, omega arith)
+name_some Nbits = (omega arith, omega arith)
+name_some ByteOrder = (omega arith, omega arith)
+name_some Layout = (omega arith, omega arith)
+name_some PixelType = (omega arith, omega arith)
+name_some SkipBytes = (omega arith, omega arith)
+name_some BandRowBytes = (omega arith, omega arith)
+name_some TotalRowBytes = (omega arith, omega arith)
+name_some Ulxmap = (omega arith, omega arith)
+name_some Ulymap = (omega arith, omega arith)
+name_some Xdim = (omega arith, omega arith)
+name_some Ydim = (omega arith, omega arith)
+name_some Nodata = (omega arith, omega arith)
+
+-- each name names its keyword
+named : (key : Key) → named_key (name_of key) ≡ Some key
+named Nrows = refl
+named Ncols = refl
+named Nbands = refl
+named Nbits = refl
+named ByteOrder = refl
+named Layout = refl
+named PixelType = refl
+named SkipBytes = refl
+named BandRowBytes = refl
+named TotalRowBytes = refl
+named Ulxmap = refl
+named Ulymap = refl
+named Xdim = refl
+named Ydim = refl
+named Nodata = refl
+
+-- an entry that its keyword takes, where the header's text has it
+pub record IsGood (n : ℕ) (e : Key × List ℕ) : Type 0 where
+  pub word : IsWord e.1
+  pub short : length e.1 ≤ 60
+  pub taken : takes e.0 e.1 ≡ true
+  pub number : line_number e.0 ≡ n
+
+abbrev pub AllGood : ℕ → List (Key × List ℕ) → Type 0
+AllGood n [] = Unit {0}
+AllGood n (e ∷ es) = IsGood n e × AllGood (suc n) es
+
+-- a line of the text
+line_first : (key : Key) (value rest : List ℕ) → AllInk value → lines_of (bare key value ++ 10 ∷ rest) ≡ bare key value ∷ lines_of rest
+line_first key value rest ink =
+    let name = ink_told (name_of key) (name_ink key) in
+    let feeds : NonePasses (λ b. b == 10) (bare key value) = none-append (λ b. b == 10) (name_of key) (32 ∷ value) (no_feed _ name) (refl, no_feed _ ink) in
+    let returns : NonePasses (λ b. b == 13) (bare key value) = none-append (λ b. b == 13) (name_of key) (32 ∷ value) (no_return _ name) (refl, no_return _ ink) in
+    ap (map strip_carriage_return) (split_at (λ b. b == 10) (bare key value) 10 rest feeds refl)
+    ∙ ap (λ t. cond t (take (length (bare key value) - 1) (bare key value)) (bare key value) ∷ lines_of rest) (no_return_at (bare key value) (length (bare key value) - 1) returns)
+
+pub lines_entries : (n : ℕ) (es : List (Key × List ℕ)) → AllGood n es → lines_of (entries_text es) ≡ entries_lines es
+unfolding line
+lines_entries n [] good = refl
+lines_entries n (e ∷ es) good =
+    let regrouped : line e.0 e.1 ++ entries_text es ≡ bare e.0 e.1 ++ 10 ∷ entries_text es = simp append_assoc in
+    ap lines_of regrouped
+    ∙ line_first e.0 e.1 (entries_text es) good.0.word.ink
+    ∙ ap (λ ls. bare e.0 e.1 ∷ ls) (lines_entries (suc n) es good.1)
+
+-- the words of a line
+words_bare : (key : Key) (value : List ℕ) → IsWord value → words_of (bare key value) ≡ name_of key ∷ value ∷ []
+words_bare key value word =
+    let name = no_blank (name_of key) (ink_told (name_of key) (name_ink key)) in
+    ap (filter (λ w. nat_lt 0 (length w))) (split_at is_blank (name_of key) 32 value name refl ∙ ap (λ ws. name_of key ∷ ws) (split_none is_blank value (no_blank value word.ink)))
+    ∙ ap (λ t. cond t (name_of key ∷ cond (nat_lt 0 (length value)) (value ∷ []) []) (cond (nat_lt 0 (length value)) (value ∷ []) [])) (lt-ltb _ _ (name_some key).0)
+    ∙ ap (λ t. name_of key ∷ cond t (value ∷ []) []) (lt-ltb _ _ word.some)
+
+pub key_bare : (key : Key) (value : List ℕ) → IsWord value → key_of (bare key value) ≡ Some key
+key_bare key value word = ap (λ ws. option_and_then named_key (slice_get ws 0)) (words_bare key value word) ∙ named key
+
+pub value_bare : (key : Key) (value : List ℕ) → IsWord value → value_of (bare key value) ≡ Some value
+value_bare key value word = ap (λ ws. slice_get ws 1) (words_bare key value word)
+
+-- the value of the first entry with the keyword
+abbrev pub value_in : Key → List (Key × List ℕ) → Option (List ℕ)
+value_in key [] = None
+value_in key (e ∷ es) = cond (nat_eq (place_of_key key) (place_of_key e.0)) (Some e.1) (value_in key es)
+
+picked : (b : Bool) (line : List ℕ) (rest : Option (List ℕ)) (value : List ℕ) (known : Option (List ℕ)) → value_of line ≡ Some value → option_and_then value_of rest ≡ known
+    → option_and_then value_of (cond b (Some line) rest) ≡ cond b (Some value) known
+picked true line rest value known p q = p
+picked false line rest value known p q = q
+
+pub value_entries : (key : Key) (n : ℕ) (es : List (Key × List ℕ)) → AllGood n es → value_at key (entries_lines es) ≡ value_in key es
+value_entries key n [] good = refl
+value_entries key n (e ∷ es) good =
+    let rest = find (λ line. is_some_key key (key_of line)) (entries_lines es) in
+    ap (λ o. option_and_then value_of (cond (is_some_key key o) (Some (bare e.0 e.1)) rest)) (key_bare e.0 e.1 good.0.word)
+    ∙ picked (nat_eq (place_of_key key) (place_of_key e.0)) (bare e.0 e.1) rest e.1 (value_in key es) (value_bare e.0 e.1 good.0.word) (value_entries key (suc n) es good.1)
+
+-- what a line with a keyword says of it
+pub record IsToldAt (number : ℕ) (key : Key) (value : Option (List ℕ)) : Type 0 where
+  pub place : line_number key ≡ number
+  pub taken : takes_some key value ≡ true
+
+pub told_at : (n : ℕ) (es : List (Key × List ℕ)) → AllGood n es → (i : ℕ) (key : Key) → option_and_then key_of (slice_get (entries_lines es) i) ≡ Some key
+    → IsToldAt (n + i) key (option_and_then value_of (slice_get (entries_lines es) i))
+told_at n [] good zero key is = cc
+told_at n [] good (suc i) key is = cc
+told_at n (e ∷ es) good zero key is =
+    let first = key_bare e.0 e.1 good.0.word in
+    let same : e.0 ≡ key = cc in
+    record {
+      place = ap line_number (sym same) ∙ good.0.number ∙ omega arith;
+      taken = ap (takes_some key) (value_bare e.0 e.1 good.0.word) ∙ ap (λ k. takes k e.1) (sym same) ∙ good.0.taken;
+    }
+told_at n (e ∷ es) good (suc i) key is =
+    let rest = told_at (suc n) es good.1 i key is in
+    record { place = rest.place ∙ omega arith; taken = rest.taken }
+
+-- the text is not long
+line_short : (key : Key) (value : List ℕ) → length value ≤ 60 → length (line key value) ≤ 75
+unfolding line
+line_short key value short =
+    let name = (name_some key).1 in
+    omega (arith, length-append (name_of key ++ (32 ∷ []) ++ value) (10 ∷ []), length-append (name_of key ++ (32 ∷ [])) value, length-append (name_of key) (32 ∷ []))
+
+pub entries_short : (n : ℕ) (es : List (Key × List ℕ)) → AllGood n es → length (entries_text es) ≤ 75 * length es
+entries_short n [] good = omega arith
+entries_short n (e ∷ es) good =
+    let first = line_short e.0 e.1 good.0.short in
+    let rest = entries_short (suc n) es good.1 in
+    omega (arith, length-append (line e.0 e.1) (entries_text es))

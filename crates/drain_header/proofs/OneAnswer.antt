@@ -1,0 +1,51 @@
+-- A text has one answer: what it describes is computed from its lines, and no two faults have the same place.
+use Rattle.std.proofs.Common.{◌≡◌, ℕ, ◌+◌, ◌*◌, ◌/◌, ◌%◌, ◌<◌, List, [], ◌∷◌, arith, refl, sym, ap, ◌∙◌, inl, inr}
+use Rattle.std.specs.Prelude.{cond, ◌==◌, slice_get, Option, Some, None, option_and_then, option_map, Result, Ok, Err}
+use Rattle.std.proofs.lemmas.Bool.{eq-eqb, ne_eqb}
+use Rattle.drain_grid.specs.First.{IsFirst}
+use Rattle.drain_header.specs.declared.fault.HeaderFault.{HeaderFault}
+use Rattle.drain_header.specs.declared.fault.HeaderFault.TheVariants.{TooLong, RepeatedKey, BadValue, MissingKey, NotOneBand, BadBits, BadPixelType, RowTooShort}
+use Rattle.drain_header.specs.Fields.{Fields}
+use Rattle.drain_header.specs.Lines.{keys}
+use Rattle.drain_header.specs.Faults.{place_of, HasFault, Answers}
+use Rattle.drain_header.proofs.PlainLemmas.{key_place}
+
+-- the fault of a line that has this second number
+abbrev line_fault_at : ℕ → HeaderFault
+line_fault_at m = cond (m % 2 == 0) (RepeatedKey (m / 2)) (BadValue (m / 2))
+
+-- the fault at a place
+abbrev fault_at : ℕ → ℕ → Option HeaderFault
+fault_at k m =
+    option_and_then (λ fault. fault)
+    (slice_get (None ∷ Some TooLong ∷ Some (line_fault_at m) ∷ option_map (λ key. MissingKey key) (slice_get keys m) ∷ Some NotOneBand ∷ Some BadBits ∷ Some BadPixelType ∷ Some RowTooShort ∷ []) k)
+
+fault_there : (f : HeaderFault) → fault_at (place_of f).0 (place_of f).1 ≡ Some f
+fault_there TooLong = refl
+fault_there (RepeatedKey n) =
+    ap (λ b. Some (cond b (RepeatedKey (2 * n / 2)) (BadValue (2 * n / 2)))) (eq-eqb (2 * n % 2) 0 (omega arith))
+    ∙ ap (λ (m : ℕ). Some (RepeatedKey m)) (omega arith)
+fault_there (BadValue n) =
+    ap (λ b. Some (cond b (RepeatedKey ((2 * n + 1) / 2)) (BadValue ((2 * n + 1) / 2)))) (ne_eqb ((2 * n + 1) % 2) 0 (λ e. omega (arith, e)))
+    ∙ ap (λ (m : ℕ). Some (BadValue m)) (omega arith)
+fault_there (MissingKey key) = ap (option_map (λ k. MissingKey k)) (key_place key)
+fault_there NotOneBand = refl
+fault_there BadBits = refl
+fault_there BadPixelType = refl
+fault_there RowTooShort = refl
+
+same_number : (a b : ℕ) → (a < b → ⊥) → (b < a → ⊥) → a ≡ b
+same_number a b above below = omega arith
+
+one_fault : (text : List ℕ) (f g : HeaderFault) → IsFirst place_of (HasFault text) f → IsFirst place_of (HasFault text) g → f ≡ g
+one_fault text f g p q =
+    let kind = same_number (place_of f).0 (place_of g).0 (λ h. q.first f (inl h) p.holds) (λ h. p.first g (inl h) q.holds) in
+    let within = same_number (place_of f).1 (place_of g).1 (λ h. q.first f (inr (kind, h)) p.holds) (λ h. p.first g (inr (sym kind, h)) q.holds) in
+    let there = sym (fault_there f) ∙ ap (λ (k : ℕ). fault_at k (place_of f).1) kind ∙ ap (fault_at (place_of g).0) within ∙ fault_there g in
+    cc
+
+pub one_answer : (text : List ℕ) (a b : Result Fields HeaderFault) → Answers text a → Answers text b → a ≡ b
+one_answer text (Ok g) (Ok h) p q = ap (λ x. Ok x) (p.fields ∙ sym q.fields)
+one_answer text (Ok g) (Err f) p q = absurd (p.sound f q.holds)
+one_answer text (Err f) (Ok h) p q = absurd (q.sound f p.holds)
+one_answer text (Err f) (Err g) p q = ap (λ x. Err x) (one_fault text f g p q)
