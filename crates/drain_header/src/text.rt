@@ -14,10 +14,14 @@ use std::alloc::Global;
 /// How many units of a coordinate make one degree.
 const UNITS_PER_DEGREE: u128 = 1_000_000_000_000_000;
 
-/// The text of a header, in ASCII: a line for each keyword, the keyword, a space and its value, each with its line feed.
-/// The lines of NROWS to TOTALROWBYTES and SKIPBYTES have whole numbers, those of ULXMAP, ULYMAP, XDIM and YDIM
-/// degrees with 15 digits behind the point. LAYOUT is BIL and NBANDS 1. NODATA stands where there is a no-data number.
+/// The text of a header, in ASCII: one line for each keyword, which is the keyword, a space, its value and a line feed.
+///
+/// LAYOUT is BIL and NBANDS 1; BANDROWBYTES and TOTALROWBYTES both tell the bytes from one row to the next. ULXMAP, ULYMAP,
+/// XDIM and YDIM are degrees with 15 digits behind the point. The line of NODATA stands where there is a no-data number.
+///
 /// Only the returned text takes memory; where it can't grow the answer is `OutOfMemory`.
+///
+/// Source: the Esri BIL header description; the order of the lines and the 15 digits are this project's own.
 pub fn header_text(alloc: Global, header: &Header) -> Result<Vec<u8>, OutOfMemory>
     ensures { IfOk result (λ text. text.items ≡ text_of header.now) }
 {
