@@ -9,3 +9,5 @@ pub mod Printing
 pub mod Statuses
 pub mod GivenUp
 pub mod HeaderRuns
+pub mod Failures
+pub mod OpenFailures

@@ -1,13 +1,15 @@
 //! The words of the command line: which command is asked for, and the texts of help.
 
 use clap::{Arg, Command, Error};
-use std::alloc::Global;
+use std::alloc::{AllocError, Global};
 
 /// What the words ask for.
 #[derive(Clone, Copy, PartialEq, Eq, Debug)]
-pub enum Request {
+pub enum Request<'a> {
     /// `drain fill`: check a conditioned surface from standard input.
     Fill { side: u32 },
+    /// `drain header`: print what the header file at this path says.
+    Header { path: &'a str },
 }
 
 const ABOUT: &str =
@@ -35,34 +37,70 @@ const FILL_AFTER: &str = "Lines and exit statuses:
   2  refused BadSide, refused BadLength
   3  failed ReadFailed, failed OutOfMemory, or standard output couldn't be written";
 
+const HEADER_ABOUT: &str = "Print what the header of a BIL raster says, or why it is refused";
+
+const HEADER_LONG_ABOUT: &str =
+    "Reads the header file of a BIL raster (.hdr) and prints it as this program writes headers: each
+keyword with its value or the value that holds where the keyword is absent, coordinates of the centre
+of the upper left pixel and pixel sizes in degrees with 15 places. At most 65537 bytes are read.";
+
+const HEADER_AFTER: &str = "Lines and exit statuses:
+  0  the header, fifteen lines (fourteen without a NODATA line)
+  2  refused TooLong, refused RepeatedKey LINE, refused BadValue LINE, refused MissingKey KEYWORD,
+     refused NotOneBand, refused BadBits, refused BadPixelType, refused RowTooShort
+  3  failed Open PATH, failed ReadFailed, failed OutOfMemory, or standard output couldn't be written";
+
+const FILE_HELP: &str = "The header file";
+
 const SIDE_HELP: &str = "Samples along an edge of the tile, 2 to 3601";
 
 /// What the words ask for. The first word is the program's own name.
 ///
 /// Help and the version come as an error of their kind, as in `clap`, and so does a fault of the words.
-pub fn parse(alloc: Global, words: &[String]) -> Result<Request, Error> {
-    let side = Arg::new(alloc, "side")
-        .long("side")
-        .value_name("N")
-        .value_parser(clap::value_parser!(u32))
-        .default_value("1201")
-        .help(SIDE_HELP);
-    let fill = Command::new(alloc, "fill")
-        .about(FILL_ABOUT)
-        .long_about(FILL_LONG_ABOUT)
-        .after_long_help(FILL_AFTER)
-        .arg(side)?;
+pub fn parse<'a>(alloc: Global, words: &'a [String]) -> Result<Request<'a>, Error> {
     let command = Command::new(alloc, "drain")
         .version("0.1.0")
         .bin_name("drain")?
         .about(ABOUT)
         .subcommand_required(true)
         .arg_required_else_help(true)
-        .subcommand(fill)?;
+        .subcommand(fill(alloc)?)?
+        .subcommand(header(alloc)?)?;
     let matches = command.try_get_matches_from(words)?;
+    if let Some(header) = matches.subcommand_matches("header") {
+        return Ok(Request::Header {
+            path: header.get_str("file").unwrap_or(""),
+        });
+    }
     let side = match matches.subcommand_matches("fill") {
         Some(fill) => fill.get_one::<u32>("side").unwrap_or(1201),
         None => 1201,
     };
     Ok(Request::Fill { side })
+}
+
+fn fill<'a>(alloc: Global) -> Result<Command<'a>, AllocError> {
+    let side = Arg::new(alloc, "side")
+        .long("side")
+        .value_name("N")
+        .value_parser(clap::value_parser!(u32))
+        .default_value("1201")
+        .help(SIDE_HELP);
+    Command::new(alloc, "fill")
+        .about(FILL_ABOUT)
+        .long_about(FILL_LONG_ABOUT)
+        .after_long_help(FILL_AFTER)
+        .arg(side)
+}
+
+fn header<'a>(alloc: Global) -> Result<Command<'a>, AllocError> {
+    let file = Arg::new(alloc, "file")
+        .value_name("FILE")
+        .required(true)
+        .help(FILE_HELP);
+    Command::new(alloc, "header")
+        .about(HEADER_ABOUT)
+        .long_about(HEADER_LONG_ABOUT)
+        .after_long_help(HEADER_AFTER)
+        .arg(file)
 }

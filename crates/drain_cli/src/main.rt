@@ -9,6 +9,7 @@ pub mod fill_check;
 pub mod fill_input;
 pub mod fill_report;
 pub mod line;
+pub mod open_failure;
 pub mod print;
 pub mod run_fill;
 pub mod run_header;
@@ -16,15 +17,16 @@ pub mod status;
 #[cfg(test)]
 mod tests;
 
-ghost use Rattle.std.specs.Prelude.{codes};
-ghost use Rattle.drain_cli.specs.Printing.{Prints};
-
 use clap::Error;
 use clap::error::ErrorKind;
 use command_line::Request;
-use drain_device::{ByteSink, Reader, Writer};
+use drain_device::{BodyFault, ByteSink, Reader, Writer};
+use open_failure::print_open_failure;
+use print::print_failure;
 use run_fill::run_fill;
+use run_header::run_header;
 use status::Status;
+use std::fs::File;
 use std::io;
 use std::process::ExitCode;
 
@@ -32,7 +34,10 @@ fn main(rt: HostRuntime) -> ExitCode {
     let mut out = Writer::new(rt.stdout());
     let status = match asked_words(&rt) {
         Ok(asked) => run(&rt, asked.as_slice(), &mut out),
-        Err(error) if error.kind() == io::ErrorKind::OutOfMemory => print_no_memory(&mut out),
+        Err(error) if error.kind() == io::ErrorKind::OutOfMemory => print_failure(
+            &mut out,
+            BodyFault::OutOfMemory,
+        ),
         Err(error) => {
             let _ = eprintln!(rt; "error: the command line can't be read: {error}");
             Status::Refused.code()
@@ -50,8 +55,20 @@ fn asked_words(rt: &HostRuntime) -> io::Result<Vec<String>> {
 fn run(rt: &HostRuntime, asked: &[String], out: &mut impl ByteSink) -> u8 {
     match command_line::parse(rt.alloc(), asked) {
         Ok(Request::Fill { side }) => run_fill(rt.alloc(), side, &mut Reader::new(rt.stdin()), out),
-        Err(error) if error.kind() == ErrorKind::OutOfMemory => print_no_memory(out),
+        Ok(Request::Header { path }) => header_of_file(rt, path, out),
+        Err(error) if error.kind() == ErrorKind::OutOfMemory => print_failure(
+            out,
+            BodyFault::OutOfMemory,
+        ),
         Err(error) => tell(rt, &error),
+    }
+}
+
+/// Opens the file and prints its header, and answers the exit status.
+fn header_of_file(rt: &HostRuntime, path: &str, out: &mut impl ByteSink) -> u8 {
+    match File::open(rt, path) {
+        Ok(file) => run_header(rt.alloc(), &mut Reader::new(file), out),
+        Err(_) => print_open_failure(rt.alloc(), out, path),
     }
 }
 
@@ -65,12 +82,4 @@ fn tell(rt: &HostRuntime, error: &Error) -> u8 {
     } else {
         Status::Failed.code()
     }
-}
-
-/// Tells that there was no memory for the words, and answers the exit status.
-fn print_no_memory<W: ByteSink>(out: &mut W) -> u8
-    ensures { Prints (W.bytes_taken out.old) (W.bytes_taken out.new) (W.counts out.old) (W.counts out.new)
-        (W.stalls out.old) (W.stalls out.new) (codes "failed OutOfMemory") Status.Failed result }
-{
-    print::print_text(out, b"failed OutOfMemory\n", Status::Failed)
 }

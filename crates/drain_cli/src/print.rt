@@ -1,12 +1,13 @@
 //! Printing what a run tells: one line, or the text of a header.
 
 ghost use Rattle.std.specs.Prelude.{◌≡◌};
+ghost use Rattle.drain_cli.specs.Failures.{failure_text};
 ghost use Rattle.drain_cli.specs.Printing.{Prints, PrintsText};
 
 use crate::line::{LINE_LENGTH, Line};
 use crate::status::Status;
 use arrayvec::ArrayString;
-use drain_device::{ByteSink, Patience, write_all};
+use drain_device::{BodyFault, ByteSink, Patience, write_all};
 
 /// Prints the line and its line end, and answers the exit status: that of the run, or that of a failure
 /// where the sink gives up before the last byte.
@@ -26,6 +27,17 @@ pub fn print_text<W: ByteSink>(out: &mut W, text: &[u8], status: Status) -> u8
     match write_all(out, text, &mut Patience::new()) {
         Ok(()) => status.code(),
         Err(_) => Status::Failed.code(),
+    }
+}
+
+/// Prints why there is no answer.
+pub fn print_failure<W: ByteSink>(out: &mut W, fault: BodyFault) -> u8
+    ensures { PrintsText (W.bytes_taken out.old) (W.bytes_taken out.new) (W.counts out.old) (W.counts out.new)
+        (W.stalls out.old) (W.stalls out.new) (failure_text fault) Status.Failed result }
+{
+    match fault {
+        BodyFault::ReadFailed => print_text(out, b"failed ReadFailed\n", Status::Failed),
+        BodyFault::OutOfMemory => print_text(out, b"failed OutOfMemory\n", Status::Failed),
     }
 }
 

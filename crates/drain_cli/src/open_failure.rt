@@ -1,0 +1,32 @@
+//! What is printed of a file that can't be opened.
+
+ghost use Rattle.std.specs.Prelude.{◌≡◌, IfOk, List, ℕ};
+ghost use Rattle.drain_cli.specs.OpenFailures.{open_failure_line, IsOpenFailure};
+ghost use Rattle.drain_cli.specs.Printing.{PrintsText};
+
+use crate::print::{print_failure, print_text};
+use crate::status::Status;
+use drain_device::{BodyFault, ByteSink};
+use std::alloc::{AllocError, Global};
+
+/// Prints `failed Open` and the path, and answers the status of a failure. Where there is no memory for the text, it prints that.
+pub fn print_open_failure<W: ByteSink>(alloc: Global, out: &mut W, path: &str) -> u8
+    ensures { (text : List ℕ) × IsOpenFailure path.now text
+        × PrintsText (W.bytes_taken out.old) (W.bytes_taken out.new) (W.counts out.old) (W.counts out.new)
+        (W.stalls out.old) (W.stalls out.new) text Status.Failed result }
+{
+    match line_of(alloc, path) {
+        Ok(line) => print_text(out, line.as_slice(), Status::Failed),
+        Err(_) => print_failure(out, BodyFault::OutOfMemory),
+    }
+}
+
+fn line_of(alloc: Global, path: &str) -> Result<Vec<u8>, AllocError>
+    ensures { IfOk result (λ line. line.items ≡ open_failure_line path.now) }
+{
+    let mut line = Vec::new(alloc);
+    line.extend_from_slice(b"failed Open ")?;
+    line.extend_from_slice(path.as_bytes())?;
+    line.extend_from_slice(b"\n")?;
+    Ok(line)
+}
