@@ -3,6 +3,8 @@
 //! the proof that an accepted `con` shows spill levels stands a slow plain twin, which finds the spill level
 //! of a closed cell by itself.
 
+mod header_runs;
+
 use crate::fill_check::{FillVerdict, check_fill};
 use crate::run_fill::run_fill;
 use drain_device::faults::{ScriptSink, ScriptSource, Scripted, SinkAnswer};
