@@ -4,6 +4,7 @@ use crate::fault::HeaderFault;
 use crate::header::{ByteOrdering, Header, Place};
 use crate::key::Key;
 use crate::parse::parse_header;
+use crate::text::header_text;
 use std::alloc::{AllocError, Global};
 use std::test::Fail;
 
@@ -218,5 +219,16 @@ fn the_longest_text(rt: HostRuntime) -> Result<(), Fail> {
     );
     let longer = [b'\n'; 65537];
     assert_eq!(rt; parse_header(&longer), Err(HeaderFault::TooLong));
+    Ok(())
+}
+
+/// What is written of a header is what was read, and is read as the same header.
+#[test]
+fn writes_what_it_reads(rt: HostRuntime) -> Result<(), Fail> {
+    let bytes = text(rt.alloc(), "\n", &[])?;
+    assert_eq!(rt; bytes.len(), 230);
+    let written = header_text(rt.alloc(), &SMALL).map_err(|_| "no memory")?;
+    assert_eq!(rt; written.as_slice(), bytes.as_slice());
+    assert_eq!(rt; parse_header(written.as_slice()), Ok(SMALL));
     Ok(())
 }
