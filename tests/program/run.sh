@@ -48,6 +48,7 @@ while IFS='|' read -r name input words status line errors; do
 done < <(sed -E 's/ *\| */|/g; s/^ +| +$//g' "$here/table.txt")
 
 . "$here/streams.sh"
+. "$here/headers.sh"
 
 echo "$passed passed, $failed failed"
 [ "$failed" -eq 0 ]
