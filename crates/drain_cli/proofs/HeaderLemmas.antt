@@ -1,9 +1,8 @@
 -- The first 65,537 bytes of a text have its answer, and what a read of them leaves.
-use Rattle.std.proofs.Common.{◌≡◌, ℕ, ◌<◌, ◌≤◌, ◌++◌, List, [], length, Bool, true, false, arith, refl, sym, ap, ◌∙◌, take, drop, inl, inr}
+use Rattle.std.proofs.Common.{◌≡◌, ℕ, ◌<◌, ◌++◌, List, [], length, true, false, arith, refl, sym, ap, ◌∙◌, take, inl, inr}
 use Rattle.std.specs.Prelude.{◌↔◌, nat_le, Option, Some, None, Result, Ok, Err, IsErrOf}
 use Rattle.std.proofs.lemmas.Bool.{leb-true, leb-false}
 use Rattle.std.proofs.lemmas.List.{take_all, take-append-drop, length-take-le, length-take}
-use Rattle.drain_device.specs.declared.counts.FaultCounts.{FaultCounts}
 use Rattle.drain_device.specs.Reads.{ReadsUpTo, TakesAtMost}
 use Rattle.drain_device.specs.declared.read.BodyFault.{BodyFault}
 use Rattle.drain_device.specs.declared.read.BodyFault.TheVariants.{ReadFailed, OutOfMemory}
@@ -12,7 +11,7 @@ use Rattle.drain_header.specs.declared.fault.HeaderFault.{HeaderFault}
 use Rattle.drain_header.specs.declared.fault.HeaderFault.TheVariants.{TooLong, RepeatedKey, BadValue, MissingKey, NotOneBand, BadBits, BadPixelType, RowTooShort}
 use Rattle.drain_header.specs.Fields.{Fields}
 use Rattle.drain_header.specs.Faults.{place_of, HasFault, Answers}
-use Rattle.drain_cli.specs.HeaderRuns.{HeaderOutcome, IsAnswerToldAs, IsToldAs, IsHeaderOutcome, AnswersHeaderTold}
+use Rattle.drain_cli.specs.HeaderRuns.{HeaderOutcome, IsAnswerToldAs, IsToldAs, AnswersHeaderTold}
 
 -- nothing comes before a text that is too long
 none_earlier : (b : HeaderFault) → IsBefore (place_of b) (1, 0) → ⊥
@@ -55,10 +54,6 @@ answer_told None new items body answer same reads is = _
 answer_told (Some xs) None items body answer same reads is = absurd reads
 answer_told (Some xs) (Some ys) items body answer same reads is = first_bytes_answer xs answer (rw (same ∙ reads.0) at is)
 
-no_answer : (left : Option (List ℕ)) (fault : BodyFault) → AnswersHeaderTold left (Err fault)
-no_answer None fault = _
-no_answer (Some bytes) fault = _
-
 -- what was read is no failure to read
 pub read_told : {T U : Type 0} (read : Result T BodyFault) (body : T) (answer : U) (Fails : Type 0) → read ≡ Ok body → (IsErrOf read ReadFailed ↔ Fails) → IsErrOf {T = U} (Ok answer) ReadFailed ↔ Fails
 read_told read body answer Fails is exactly = (λ e. cc, λ f. (let p = exactly.1 f in cc))
@@ -78,21 +73,6 @@ told_answer outcome told answer is as_told = rw is as_told
 
 pub told_failure : (outcome : HeaderOutcome) (fault : BodyFault) → outcome ≡ Err fault → IsToldAs outcome (Err fault)
 told_failure outcome fault is = rw is refl
-
--- where the text of a header found no memory, the outcome is still that of its bytes
-pub still_of_bytes : (left : Option (List ℕ)) (old new : FaultCounts) (outcome told : HeaderOutcome) → IsToldAs outcome told → IsHeaderOutcome left old new outcome → IsHeaderOutcome left old new told
-still_of_bytes left old new (Ok (Ok h)) told (inl same) is = rw same is
-still_of_bytes left old new (Ok (Ok h)) told (inr none) is = rw none (record {
-  answer = no_answer left OutOfMemory;
-  faults = record {
-    failures = is.faults.failures;
-    interruptions = is.faults.interruptions;
-    answered = is.faults.answered;
-    exactly = (λ e. cc, λ f. (let p = is.faults.exactly.1 f in cc));
-  };
-})
-still_of_bytes left old new (Ok (Err fault)) told same is = rw same is
-still_of_bytes left old new (Err fault) told same is = rw same is
 
 pub taken : (n : ℕ) (old new : Option (List ℕ)) (body : List ℕ) → ReadsUpTo n old new body → TakesAtMost n old new
 taken n None new body reads = ([], _, omega arith)

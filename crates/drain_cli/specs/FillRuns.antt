@@ -3,6 +3,7 @@ use Rattle.std.specs.Prelude.{ℕ, List, Option, Some, None, Result, Ok, Err, Is
 use Rattle.drain_device.specs.declared.counts.FaultCounts.{FaultCounts}
 use Rattle.drain_device.specs.declared.read.BodyFault.{BodyFault}
 use Rattle.drain_device.specs.declared.read.BodyFault.TheVariants.{ReadFailed, OutOfMemory}
+use Rattle.drain_device.specs.Failing.{ReadFails}
 use Rattle.drain_cli.specs.declared.status.Status.{Status}
 use Rattle.drain_cli.specs.declared.status.Status.TheVariants as status
 use Rattle.drain_cli.specs.declared.fill_check.FillVerdict.{FillVerdict}
@@ -10,7 +11,6 @@ use Rattle.drain_cli.specs.declared.fill_check.FillVerdict.TheVariants.{Accepted
 use Rattle.drain_cli.specs.declared.fill_check.FillRefusal.{FillRefusal}
 use Rattle.drain_cli.specs.FillVerdicts.{IsFillAnswer}
 use Rattle.drain_cli.specs.FillLines.{fill_line}
-use Rattle.drain_cli.specs.GivenUp.{ReadFails}
 
 -- an answer, or why there is none
 abbrev pub FillOutcome : Type 0

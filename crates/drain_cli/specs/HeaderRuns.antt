@@ -3,6 +3,7 @@ use Rattle.std.specs.Prelude.{◌≡◌, ◌⊎◌, ℕ, ◌++◌, List, [], ◌
 use Rattle.drain_device.specs.declared.counts.FaultCounts.{FaultCounts}
 use Rattle.drain_device.specs.declared.read.BodyFault.{BodyFault}
 use Rattle.drain_device.specs.declared.read.BodyFault.TheVariants.{ReadFailed, OutOfMemory}
+use Rattle.drain_device.specs.Failing.{ReadFails}
 use Rattle.drain_header.specs.declared.fault.HeaderFault.{HeaderFault}
 use Rattle.drain_header.specs.Fields.{Fields}
 use Rattle.drain_header.specs.Faults.{Answers}
@@ -11,7 +12,6 @@ use Rattle.drain_header.specs.Text.{text_of}
 use Rattle.drain_cli.specs.declared.status.Status.{Status}
 use Rattle.drain_cli.specs.declared.status.Status.TheVariants as status
 use Rattle.drain_cli.specs.Failures.{failure_text}
-use Rattle.drain_cli.specs.GivenUp.{ReadFails}
 use Rattle.drain_cli.specs.Printing.{line_feed}
 
 -- an answer, or why there is none

@@ -7,7 +7,6 @@ pub mod Filled
 pub mod Parts
 pub mod Printing
 pub mod Statuses
-pub mod GivenUp
 pub mod HeaderRuns
 pub mod Failures
 pub mod OpenFailures

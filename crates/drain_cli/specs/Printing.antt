@@ -1,9 +1,8 @@
 -- What is printed, and the status that it leaves.
-use Rattle.std.specs.Prelude.{◌≡◌, ℕ, ◌++◌, List, [], ◌∷◌, Option, Result, Ok, Err, ◌↔◌, IsErr}
+use Rattle.std.specs.Prelude.{◌≡◌, ℕ, ◌++◌, List, [], ◌∷◌, Option, Result, Ok, Err, IsErr}
 use Rattle.drain_device.specs.declared.counts.FaultCounts.{FaultCounts}
 use Rattle.drain_device.specs.declared.patience.GaveUp.{GaveUp}
-use Rattle.drain_device.specs.Counts.{Answered, counted}
-use Rattle.drain_device.specs.Patience.{full_patience, GivesUpWriting}
+use Rattle.drain_device.specs.Failing.{WriteFails}
 use Rattle.drain_device.specs.Writes.{HandsOver}
 use Rattle.drain_cli.specs.declared.status.Status.{Status}
 use Rattle.drain_cli.specs.declared.status.Status.TheVariants.{Failed}
@@ -16,15 +15,6 @@ line_feed = 10
 abbrev pub status_after : {T E : Type 0} → Result T E → Status → Status
 status_after (Ok done) status = status
 status_after (Err fault) status = Failed
-
--- between these counts the write failed exactly where the sink failed, was interrupted for the 1,000th time, or took no byte
-pub record WriteFails (counts_old counts_new : FaultCounts) (stalls_old stalls_new : ℕ) (Fails : Type 0) : Type 0 where
-  pub failures : ℕ
-  pub interruptions : ℕ
-  pub stalls : ℕ
-  pub answered : Answered counts_old counts_new failures interruptions
-  pub stalled : stalls_new ≡ counted stalls_old stalls
-  pub exactly : Fails ↔ GivesUpWriting full_patience failures interruptions stalls
 
 -- the text was written and the status stands, or a proper part of it was written and the status is that of a failure
 pub record PrintsText (taken_old taken_new : Option (List ℕ)) (counts_old counts_new : FaultCounts) (stalls_old stalls_new : ℕ)

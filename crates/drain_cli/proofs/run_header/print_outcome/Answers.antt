@@ -1,4 +1,4 @@
-use Rattle.std.specs.Prelude.{Ok, Err}
+use Rattle.std.specs.Prelude.{Err}
 use Rattle.drain_cli.proofs.HeaderLemmas.{told_answer, told_failure}
 use Rattle.drain_cli.proofs.run_header.print_outcome.Goals as goal
 
