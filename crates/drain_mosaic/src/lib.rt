@@ -1,0 +1,9 @@
+//! Mosaics: which tiles make one, and the elevation that they give together.
+#![tactic(auto)]
+
+pub mod layout;
+
+pub use layout::{Layout, LayoutFault};
+
+#[cfg(test)]
+mod tests;
