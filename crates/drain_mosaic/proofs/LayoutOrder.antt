@@ -1,5 +1,5 @@
 -- Which fault of a list of tiles comes first, and that a list without them makes a mosaic.
-use Rattle.std.proofs.Common.{◌≡◌, ◌≢◌, ℕ, ◌<◌, ◌≤◌, ◌*◌, ◌-◌, ◌+◌, ℤ, Bool, false, List, [], length, arith, inl, inr, Some, sym, ap, ◌∙◌}
+use Rattle.std.proofs.Common.{◌≡◌, ◌≢◌, ℕ, ◌<◌, ◌≤◌, ◌*◌, ◌-◌, ◌+◌, ℤ, Bool, false, List, [], length, arith, inl, inr, Some, sym, ap, ◌∙◌, nat_abs, subst}
 use Rattle.std.specs.Prelude.{◌⊎◌, ◌==◌}
 use Rattle.std.proofs.lemmas.Bool.{false≢true}
 use Rattle.drain_grid.specs.First.{IsFirst, IsBefore}
@@ -46,5 +46,7 @@ layout_is t down across west north w n shape side named bounds few small p q is 
     north_is = q ∙ bounds.north_is;
     shape_is = is ∙ ap (λ d. record { rows = d * (t.side - 1) + 1; cols = across * (t.side - 1) + 1 }) bounds.down_is
         ∙ ap (λ a. record { rows = tiles_down t * (t.side - 1) + 1; cols = a * (t.side - 1) + 1 }) bounds.across_is;
+    west_near = subst (λ x. nat_abs x ≤ 180) (sym p) bounds.west_near;
+    north_near = subst (λ x. nat_abs x ≤ 90) (sym q) bounds.north_near;
   },
 )

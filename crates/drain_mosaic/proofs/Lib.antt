@@ -1,3 +1,5 @@
 pub mod Bounds
 pub mod Repeated
 pub mod LayoutOrder
+pub mod Agreement
+pub mod Places

@@ -1,7 +1,8 @@
 -- What can be wrong with a list of tiles.
-use Rattle.std.specs.Prelude.{◌≡◌, ℕ, ℤ, ◌<◌, ◌⊎◌, List, [], slice_get, Some}
+use Rattle.std.specs.Prelude.{◌≡◌, ℕ, ℤ, nat_abs, ◌<◌, ◌≤◌, ◌⊎◌, List, [], slice_get, Some}
 use Rattle.drain_grid.specs.Size.{Extent}
 use Rattle.drain_grid.specs.Tile.{IsSide}
+use Rattle.drain_hgt.specs.declared.name.TheConstants.{POLE, HALF_TURN}
 use Rattle.drain_hgt.specs.Corner.{Corner}
 use Rattle.drain_mosaic.specs.declared.layout.TheConstants.{MAX_BOX}
 use Rattle.drain_mosaic.specs.declared.layout.LayoutFault.{LayoutFault}
@@ -40,11 +41,13 @@ pub record IsLayout (t : Tiling) : Type 0 where
   pub side : IsSide t.side
   pub sound : (fault : LayoutFault) → ¬ HasLayoutFault t fault
 
--- the numbers of the bounding box
+-- the edges of the bounding box, and its shape
 pub record AreNumbersOf (t : Tiling) (west : ℤ) (north : ℤ) (shape : Extent) : Type 0 where
   pub west_is : west ≡ west_of t
   pub north_is : north ≡ north_of t
   pub shape_is : shape ≡ extent_of t
+  pub west_near : nat_abs west ≤ HALF_TURN
+  pub north_near : nat_abs north ≤ POLE
 
 -- the edges of the bounding box, and how many tiles it has each way
 pub record AreBoundsOf (t : Tiling) (west : ℤ) (north : ℤ) (down : ℕ) (across : ℕ) : Type 0 where
@@ -52,3 +55,5 @@ pub record AreBoundsOf (t : Tiling) (west : ℤ) (north : ℤ) (down : ℕ) (acr
   pub north_is : north ≡ north_of t
   pub down_is : down ≡ tiles_down t
   pub across_is : across ≡ tiles_across t
+  pub west_near : nat_abs west ≤ HALF_TURN
+  pub north_near : nat_abs north ≤ POLE

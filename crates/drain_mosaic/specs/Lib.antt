@@ -1,2 +1,5 @@
 pub mod Tiling
 pub mod LayoutFaults
+pub mod Mosaic
+pub mod Joined
+pub mod Laws

@@ -4,7 +4,7 @@
 //! north to south has `a * (side - 1) + 1` rows. Source: the SRTM HGT documentation; that a box is at most 8 by 8 tiles is this
 //! project's choice.
 
-ghost use Rattle.std.specs.Prelude.{◌≡◌, ◌≢◌, ◌+◌, ◌-◌, ◌*◌, ◌≤◌, ◌<◌, ℕ, map, MatchOption, IfOk, IfErr, Some, slice_get, length};
+ghost use Rattle.std.specs.Prelude.{◌≡◌, ◌≢◌, ◌+◌, ◌-◌, ◌*◌, ◌≤◌, ◌<◌, ℕ, map, MatchOption, IfOk, IfErr, Some, slice_get, length, option_map, nat_abs, ◌-ℤ◌};
 ghost use Rattle.drain_grid.specs.First.{IsFirst};
 ghost use Rattle.drain_grid.specs.Tile.{IsSide};
 ghost use Rattle.drain_hgt.specs.Corner.{Corner, IsWithin};
@@ -13,6 +13,7 @@ ghost use Rattle.drain_mosaic.specs.Tiling.{Tiling, least, greatest, west_of, no
 
 use drain_grid::{Cell, Shape};
 use drain_hgt::TileName;
+use drain_hgt::name::{HALF_TURN, POLE};
 use std::alloc::Global;
 use std::marker::Model;
 use thiserror::Error;
@@ -112,14 +113,16 @@ impl Layout {
 
     /// The least longitude of the box, in degrees to the east.
     pub fn west(&self) -> i16
-        ensures { result ≡ west_of self.now }
+        ensures degrees { result ≡ west_of self.now }
+        ensures in_range { nat_abs result ≤ HALF_TURN }
     {
         self.west
     }
 
     /// The greatest latitude of the box, in degrees to the north: one more than that of its northernmost tile.
     pub fn north(&self) -> i16
-        ensures { result ≡ north_of self.now }
+        ensures degrees { result ≡ north_of self.now }
+        ensures in_range { nat_abs result ≤ POLE }
     {
         self.north
     }
@@ -137,6 +140,20 @@ impl Layout {
         ensures { Some result ≡ slice_get self.now.corners i }
     {
         self.names[i]
+    }
+
+    /// The north-west cell of a tile, counted as by `name`. The tile lies within the mosaic.
+    pub fn place(&self, i: usize) -> Cell
+        requires { i < length self.now.corners }
+        ensures place { Some result ≡ option_map (place_of self.now) (slice_get self.now.corners i) }
+        ensures rows_inside { result.row + self.now.side ≤ (extent_of self.now).rows }
+        ensures cols_inside { result.col + self.now.side ≤ (extent_of self.now).cols }
+    {
+        let name = self.names[i];
+        Cell {
+            row: samples_between(self.side, i16::from(name.lat()), self.north - 1),
+            col: samples_between(self.side, self.west, name.lon()),
+        }
     }
 }
 
@@ -183,6 +200,16 @@ fn shape_of(side: u32, down: u32, across: u32) -> Shape
     ensures { result ≡ record { rows = down * (side - 1) + 1; cols = across * (side - 1) + 1 } }
 {
     Shape::new(down * (side - 1) + 1, across * (side - 1) + 1).unwrap()
+}
+
+/// How many rows or columns lie between two tiles' edges: those of each degree but one, which the next degree shares.
+fn samples_between(side: u32, from: i16, to: i16) -> u32
+    requires side { IsSide side }
+    requires from { nat_abs from ≤ HALF_TURN }
+    requires to { nat_abs to ≤ HALF_TURN }
+    ensures { result ≡ nat_abs (to -ℤ from) * (side - 1) }
+{
+    u32::from((to - from).unsigned_abs()) * (side - 1)
 }
 
 /// The least and the greatest latitude of the tiles.

@@ -13,16 +13,14 @@ fn boxes_of_tiles(rt: HostRuntime) -> Result<(), Fail> {
         (1201, ["N89E179.hgt", "N82E179.hgt"], 9601, 1201, 179, 90),
         (2, ["S90W001.hgt", "S90E000.hgt"], 2, 3, -1, -89),
     ] {
-        let tiles = [
-            TileName::parse(names[0].as_bytes())?,
-            TileName::parse(names[1].as_bytes())?,
-        ];
-        let layout = Layout::new(rt.alloc(), side, &tiles)?;
+        let first = TileName::parse(names[0].as_bytes())?;
+        let last = TileName::parse(names[1].as_bytes())?;
+        let layout = Layout::new(rt.alloc(), side, &[first, last])?;
         let shape = layout.shape();
         assert_eq!(rt; (shape.rows(), shape.cols()), (rows, cols), "{side}");
         assert_eq!(rt; (layout.west(), layout.north()), (west, north), "{side}");
         assert_eq!(rt; (layout.side(), layout.len()), (side, 2));
-        assert_eq!(rt; layout.name(1), tiles[1]);
+        assert_eq!(rt; layout.name(1), last);
     }
     Ok(())
 }
