@@ -11,7 +11,7 @@ use Rattle.drain_mosaic.specs.Mosaic.{Tile, Gives, IsValue, sample_over}
 use Rattle.drain_mosaic.specs.Joined.{value_from, first_value}
 use Rattle.drain_mosaic.specs.Laws.{AgreementGivesElevation}
 
-chosen : {A : Type 0} (b : Bool) (x y z : A) → cond b x y ≡ z → ((b ≡ true) × (x ≡ z)) ⊎ ((b ≡ false) × (y ≡ z))
+pub chosen : {A : Type 0} (b : Bool) (x y z : A) → cond b x y ≡ z → ((b ≡ true) × (x ≡ z)) ⊎ ((b ≡ false) × (y ≡ z))
 chosen true x y z e = inl (refl, e)
 chosen false x y z e = inr (refl, e)
 
@@ -22,7 +22,7 @@ four_true true true false d e = cc
 four_true true false c d e = cc
 four_true false b c d e = cc
 
-all_true : {A : Type 0} (a b c d : Bool) (x y : A) → a ≡ true → b ≡ true → c ≡ true → d ≡ true → cond (a && (b && (c && d))) x y ≡ x
+pub all_true : {A : Type 0} (a b c d : Bool) (x y : A) → a ≡ true → b ≡ true → c ≡ true → d ≡ true → cond (a && (b && (c && d))) x y ≡ x
 all_true a b c d x y p q r s = rw (p, q, r, s) refl
 
 pub gives_from : (t : Tiling) (tile : Tile) (c : Cell) (v : ℤ) → value_from t tile c ≡ Some v → Gives t tile c v
@@ -61,10 +61,10 @@ from_gives t tile c v g =
     (lt-ltb c.col (left + t.side) g.covers.to_right)
     ∙ g.is
 
-any_here : {X : Type 0} (P : X → Type 0) (x : X) (xs : List X) → P x → Any P (x ∷ xs)
+pub any_here : {X : Type 0} (P : X → Type 0) (x : X) (xs : List X) → P x → Any P (x ∷ xs)
 any_here P x xs p = (0, x, omega arith, refl, p)
 
-any_later : {X : Type 0} (P : X → Type 0) (x : X) (xs : List X) → Any P xs → Any P (x ∷ xs)
+pub any_later : {X : Type 0} (P : X → Type 0) (x : X) (xs : List X) → Any P xs → Any P (x ∷ xs)
 any_later P x xs a = (suc a.0, a.1, omega (arith, a.2), a.3, a.4)
 
 -- what the first value is, some tile gives

@@ -3,3 +3,7 @@ pub mod Repeated
 pub mod LayoutOrder
 pub mod Agreement
 pub mod Places
+pub mod Values
+pub mod Joining
+pub mod TileRows
+pub mod Rows

@@ -1,6 +1,6 @@
 -- A mosaic of tiles: which values its cells have (the SRTM HGT documentation).
-use Rattle.std.specs.Prelude.{◌≡◌, ◌≢◌, ◌↔◌, ◌+◌, ◌-◌, ◌≤◌, ◌<◌, ℤ, List, [], ◌∷◌, Option, Some}
-use Rattle.std.specs.List.{Any}
+use Rattle.std.specs.Prelude.{◌≡◌, ◌≢◌, ◌↔◌, ◌+◌, ◌-◌, ◌*◌, ◌≤◌, ◌<◌, ℤ, List, [], ◌∷◌, length, Option, Some}
+use Rattle.std.specs.List.{All, Any}
 use Rattle.drain_grid.specs.declared.cell.Cell.{Cell}
 use Rattle.drain_grid.specs.Extent.{IsCellOf, IsEarlier}
 use Rattle.drain_grid.specs.Tile.{height_from}
@@ -61,3 +61,8 @@ pub record IsFirstSeam (t : Tiling) (tiles : List Tile) (c : Cell) : Type 0 wher
   pub inside : IsCellOf (extent_of t) c
   pub differ : HasTwoValues t tiles c
   pub first : (b : Cell) → IsCellOf (extent_of t) b → IsEarlier b c → ¬ HasTwoValues t tiles b
+
+-- one tile of a square of samples for each corner
+pub record AreTiles (t : Tiling) (samples : List (List ℤ)) : Type 0 where
+  pub named : length samples ≡ length t.corners
+  pub whole : All (λ tile. length tile ≡ t.side * t.side) samples

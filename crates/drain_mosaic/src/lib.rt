@@ -3,8 +3,10 @@
 
 pub mod laws;
 pub mod layout;
+pub mod seams;
 
 pub use layout::{Layout, LayoutFault};
+pub use seams::{SeamFault, join};
 
 #[cfg(test)]
 mod tests;

@@ -1,7 +1,10 @@
 //! Worked layouts and mosaics, from the format's own rows.
 
 use crate::layout::{Layout, LayoutFault};
+use crate::seams::{SeamFault, join};
+use drain_grid::{Cell, Elevation, VOID};
 use drain_hgt::TileName;
+use std::alloc::Global;
 use std::test::Fail;
 
 #[test]
