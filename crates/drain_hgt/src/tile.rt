@@ -40,6 +40,7 @@ pub fn tile_length(side: u32) -> usize
 /// there are other than `2 * side * side` bytes; `OutOfMemory` where there is no memory for the samples.
 pub fn read_tile(alloc: Global, side: u32, bytes: &[u8]) -> Result<Vec<i16>, TileFault>
     ensures samples { IfOk result (λ samples. samples.items ≡ samples_of bytes.now) }
+    ensures counted { IfOk result (λ samples. length samples.items ≡ side * side) }
 
     // Faults come in this order, and each exactly where it holds.
     ensures bad_side { IsErrOf result TileFault.BadSide ↔ ¬ IsSide side }
@@ -60,7 +61,8 @@ pub fn read_tile(alloc: Global, side: u32, bytes: &[u8]) -> Result<Vec<i16>, Til
 /// The samples that so many pairs of bytes spell. Memory is taken once.
 fn samples(alloc: Global, count: usize, bytes: &[u8]) -> Result<Vec<i16>, AllocError>
     requires { length bytes.now ≡ 2 * count }
-    ensures { IfOk result (λ samples. samples.items ≡ samples_of bytes.now) }
+    ensures samples { IfOk result (λ samples. samples.items ≡ samples_of bytes.now) }
+    ensures counted { IfOk result (λ samples. length samples.items ≡ count) }
 {
     let mut samples = vec![in alloc; 0; count]?;
     BigEndian::read_i16_into(bytes, &mut samples);
