@@ -1,7 +1,7 @@
 -- The least and the greatest of some numbers, one number more at a time.
-use Rattle.std.proofs.Common.{◌≡◌, ℕ, ◌+◌, ◌<◌, ◌≤◌, ℤ, pos, negsuc, nat_abs, ◌+ℤ◌, ◌-ℤ◌, of_z, to_z, SFits, List, length, get_or, take, map, fold, zero, suc, [], ◌∷◌, ◌*◌, ◌-◌, ◌≤ℤ◌, w16, arith, refl, sym, ap, ◌∙◌}
+use Rattle.std.proofs.Common.{◌≡◌, ℕ, ◌+◌, ◌<◌, ◌≤◌, ℤ, pos, negsuc, nat_abs, ◌+ℤ◌, ◌-ℤ◌, of_z, to_z, SFits, List, length, get_or, take, map, fold, zero, suc, [], ◌∷◌, ◌*◌, ◌-◌, ◌≤ℤ◌, w16, arith, sym, ap, ◌∙◌}
 use Rattle.std.specs.Int.{int_min, int_max}
-use Rattle.std.proofs.lemmas.Int.{ints, clamps, to_z-of_z}
+use Rattle.std.proofs.lemmas.Int.{ints, clamps}
 use Rattle.std.proofs.lemmas.List.{get_or-map}
 use Rattle.std.proofs.lemmas.List.Sums.{fold_more}
 use Rattle.std.proofs.Math.Nat.{mul-le-mul_right}

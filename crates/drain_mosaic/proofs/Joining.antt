@@ -1,5 +1,5 @@
 -- One tile more over a row of the mosaic.
-use Rattle.std.proofs.Common.{◌≡◌, ◌≢◌, ℕ, zero, suc, ◌+◌, ◌-◌, ◌*◌, ◌<◌, ◌≤◌, ℤ, min, List, [], ◌∷◌, ◌++◌, length, Option, Some, None, arith, refl, sym, ap, ◌∙◌, inl, inr, subst, true, false, Bool, int_eq, cond, get_or}
+use Rattle.std.proofs.Common.{◌≡◌, ◌≢◌, ℕ, ◌+◌, ◌-◌, ◌<◌, ◌≤◌, ℤ, min, List, [], ◌∷◌, ◌++◌, length, Option, Some, None, arith, refl, sym, ap, ◌∙◌, inl, inr, subst, true, false, int_eq, cond}
 use Rattle.std.specs.Prelude.{◌⊎◌, slice_index_or, nat_le, nat_lt}
 use Rattle.std.specs.Option.{option_or}
 use Rattle.std.proofs.lemmas.Bool.{false≢true, cases_lt, lt-ltb, le-leb}
@@ -10,11 +10,11 @@ use Rattle.drain_grid.specs.declared.tile.TheConstants.{VOID}
 use Rattle.drain_grid.specs.Tile.{height_from}
 use Rattle.drain_hgt.specs.Samples.{sample_at}
 use Rattle.drain_mosaic.specs.Tiling.{Tiling, extent_of, top_of, left_of}
-use Rattle.drain_mosaic.specs.Mosaic.{Tile, Covers, Gives, HasTwoValues, sample_over}
+use Rattle.drain_mosaic.specs.Mosaic.{Tile, Covers, HasTwoValues, sample_over}
 use Rattle.drain_mosaic.specs.Joined.{value_from, first_value}
 use Rattle.drain_mosaic.specs.JoinedRows.{IsLeastOf, ConflictOver, IsLaidOver, IsJoinedRow, first_of, filled}
 use Rattle.drain_mosaic.proofs.Agreement.{all_true, gives_from}
-use Rattle.drain_mosaic.proofs.Values.{first_value_push, GivesAnother, two_keep, two_new, two_split}
+use Rattle.drain_mosaic.proofs.Values.{or_none, first_value_push, GivesAnother, two_keep, two_new, two_split}
 
 -- the least place of two properties together
 pub least_join : (P Q R : ℕ → Type 0) (n : ℕ) (a b : Option ℕ) → IsLeastOf P n a → IsLeastOf Q n b → ((k : ℕ) → k < n → P k → R k) → ((k : ℕ) → k < n → Q k → R k) → ((k : ℕ) → k < n → R k → P k ⊎ Q k) → IsLeastOf R n (first_of a b)
@@ -82,18 +82,14 @@ uncovered t tile c not = elim (value_from t tile c) as (λ o. value_from t tile 
   | None ↦ λ e. refl
 ] refl
 
-or_none : {A : Type 0} (o : Option A) → o ≡ option_or o None
-or_none (Some x) = refl
-or_none None = refl
-
-first_of_none : (a : Option ℕ) → first_of a None ≡ a
+pub first_of_none : (a : Option ℕ) → first_of a None ≡ a
 first_of_none (Some x) = refl
 first_of_none None = refl
 
 -- a tile that doesn't lie over the row changes nothing
 pub passed : (t : Tiling) (ts : List Tile) (tile : Tile) (row : ℕ) (samples : List ℤ) (seam : Option ℕ) → ¬ ((top_of t tile.corner ≤ row) × (row < top_of t tile.corner + t.side)) → IsJoinedRow t ts row samples seam → IsJoinedRow t (ts ++ tile ∷ []) row samples seam
 passed t ts tile row samples seam aside joined = record {
-  values = λ col inside. joined.values col inside ∙ or_none (first_value t ts (cell col)) ∙ ap (option_or (first_value t ts (cell col))) (sym (none col)) ∙ sym (first_value_push t ts tile (cell col));
+  values = λ col inside. joined.values col inside ∙ sym (or_none (first_value t ts (cell col))) ∙ ap (option_or (first_value t ts (cell col))) (sym (none col)) ∙ sym (first_value_push t ts tile (cell col));
   first = subst (IsLeastOf (λ col. HasTwoValues t (ts ++ tile ∷ []) (cell col)) (extent_of t).cols) (first_of_none seam) (least_join (λ col. HasTwoValues t ts (cell col)) (λ col. GivesAnother t ts tile (cell col)) (λ col. HasTwoValues t (ts ++ tile ∷ []) (cell col)) (extent_of t).cols seam None joined.first
       (λ col inside h. (let e = sym (none col) ∙ h.from in cc))
       (λ col inside. two_keep t ts tile (cell col))
@@ -142,7 +138,7 @@ laid t ts tile row old new part seam found wide from_top to_bottom long samples 
     given col from to = covered t tile (cell col) (covers col from to) ∙ ap height_from (sym (samples (col - left) (omega arith)))
 
     aside : (col : ℕ) → col < cols → (col < left) ⊎ (left + length part ≤ col) → ¬ Covers t tile (cell col) → height_from (slice_index_or new col VOID) ≡ option_or (first_value t ts (cell col)) (value_from t tile (cell col))
-    aside col inside out not = ap height_from (over.outside col out) ∙ joined.values col inside ∙ or_none (first_value t ts (cell col)) ∙ ap (option_or (first_value t ts (cell col))) (sym (uncovered t tile (cell col) not))
+    aside col inside out not = ap height_from (over.outside col out) ∙ joined.values col inside ∙ sym (or_none (first_value t ts (cell col))) ∙ ap (option_or (first_value t ts (cell col))) (sym (uncovered t tile (cell col) not))
 
     value : (col : ℕ) → col < cols → height_from (slice_index_or new col VOID) ≡ option_or (first_value t ts (cell col)) (value_from t tile (cell col))
     value col inside = elim (cases_lt col left) [

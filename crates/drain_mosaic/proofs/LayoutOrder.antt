@@ -1,5 +1,5 @@
 -- Which fault of a list of tiles comes first, and that a list without them makes a mosaic.
-use Rattle.std.proofs.Common.{◌≡◌, ◌≢◌, ℕ, ◌<◌, ◌≤◌, ◌*◌, ◌-◌, ◌+◌, ℤ, Bool, false, List, [], length, arith, inl, inr, Some, sym, ap, ◌∙◌, nat_abs, subst}
+use Rattle.std.proofs.Common.{◌≡◌, ◌≢◌, ℕ, ◌<◌, ◌≤◌, ◌*◌, ◌-◌, ◌+◌, ℤ, Bool, false, List, [], length, arith, inl, inr, sym, ap, ◌∙◌, nat_abs, subst}
 use Rattle.std.specs.Prelude.{◌⊎◌, ◌==◌}
 use Rattle.std.proofs.lemmas.Bool.{false≢true}
 use Rattle.drain_grid.specs.First.{IsFirst, IsBefore}
@@ -9,7 +9,7 @@ use Rattle.drain_hgt.specs.Corner.{Corner}
 use Rattle.drain_mosaic.specs.declared.layout.LayoutFault.{LayoutFault}
 use Rattle.drain_mosaic.specs.declared.layout.LayoutFault.TheVariants.{NoTiles, RepeatedTile, BoxTooLarge, OutOfMemory}
 use Rattle.drain_mosaic.specs.Tiling.{Tiling, tiles_down, tiles_across}
-use Rattle.drain_mosaic.specs.LayoutFaults.{HasLayoutFault, IsRepeatedAt, IsFirstRepeated, IsLayout, AreNumbersOf, AreBoundsOf, order_of}
+use Rattle.drain_mosaic.specs.LayoutFaults.{HasLayoutFault, IsRepeatedAt, IsLayout, AreNumbersOf, AreBoundsOf, order_of}
 
 -- there are tiles, each named once
 pub record AreNamedOnce (t : Tiling) : Type 0 where

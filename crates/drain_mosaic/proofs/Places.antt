@@ -1,5 +1,5 @@
 -- Where a tile lies in its mosaic, from the numbers of the box.
-use Rattle.std.proofs.Common.{◌≡◌, ℕ, ◌+◌, ◌-◌, ◌*◌, ◌<◌, ◌≤◌, ℤ, pos, ◌+ℤ◌, ◌-ℤ◌, ◌≤ℤ◌, nat_abs, List, length, map, get_or, Some, option_map, slice_get, to_z, of_z, w16, SFits, arith, refl, sym, ap, ◌∙◌, subst}
+use Rattle.std.proofs.Common.{◌≡◌, ℕ, ◌+◌, ◌-◌, ◌*◌, ◌<◌, ◌≤◌, ℤ, pos, ◌-ℤ◌, ◌≤ℤ◌, nat_abs, length, map, get_or, Some, option_map, slice_get, to_z, of_z, w16, SFits, arith, refl, sym, ap, ◌∙◌, subst}
 use Rattle.std.proofs.lemmas.Int.{ints, to_z-of_z}
 use Rattle.std.proofs.lemmas.List.{get_or-map, length-map}
 use Rattle.std.proofs.lemmas.Option.{slice_get_read}
@@ -7,9 +7,13 @@ use Rattle.drain_grid.specs.declared.cell.Cell.{Cell}
 use Rattle.drain_grid.specs.Size.{Extent}
 use Rattle.drain_grid.specs.Tile.{IsSide}
 use Rattle.drain_hgt.specs.Corner.{Corner}
-use Rattle.drain_mosaic.specs.Tiling.{Tiling, least, greatest, west_of, south_of, north_of, extent_of, place_of, tiles_down, tiles_across}
+use Rattle.drain_mosaic.specs.Tiling.{Tiling, least, greatest, west_of, north_of, extent_of, place_of, tiles_down, tiles_across}
 use Rattle.drain_mosaic.specs.LayoutFaults.{AreNumbersOf}
 use Rattle.drain_mosaic.proofs.Bounds.{least_le, greatest_ge, before_east, before_south, inside_box}
+
+-- a cell by its row and its column
+cell : (row col : ℕ) (c : Cell) → row ≡ c.row → col ≡ c.col → record { row = row; col = col } ≡ c
+cell row col c p q = ap (λ r. record { row = r; col = col }) p ∙ ap (λ k. record { row = c.row; col = k }) q
 
 -- the tile's north-west cell, and that the tile lies within the mosaic
 pub record IsPlaced (t : Tiling) (i row col : ℕ) : Type 0 where
@@ -34,9 +38,9 @@ placed t west north shape i corner row col side numbers inside is p q =
     let col_is : col ≡ nat_abs (corner.lon -ℤ west_of t) * (t.side - 1) = q ∙ ap (λ w. nat_abs (corner.lon -ℤ w) * (t.side - 1)) numbers.west_is in
     let down = inside_box t.side (nat_abs (north_of t -ℤ pos 1 -ℤ corner.lat)) (tiles_down t) side.least (before_south (least lats) corner.lat (greatest lats) south_most north_most) in
     let across = inside_box t.side (nat_abs (corner.lon -ℤ west_of t)) (tiles_across t) side.least (before_east (least lons) corner.lon (greatest lons) west_most east_most) in
+    let cell_is : record { row = row; col = col } ≡ place_of t corner = cell row col (place_of t corner) row_is col_is in
     record {
-      place = ap (λ r. Some (record { row = r; col = col })) row_is ∙ ap (λ k. Some (record { row = (place_of t corner).row; col = k })) col_is
-          ∙ sym (ap (option_map (place_of t)) (slice_get_read t.corners (length t.corners) i corner refl inside is));
+      place = ap (λ (cell : Cell). Some cell) cell_is ∙ sym (ap (option_map (place_of t)) (slice_get_read t.corners (length t.corners) i corner refl inside is));
       rows_inside = subst (λ r. r + t.side ≤ (extent_of t).rows) (sym row_is) down;
       cols_inside = subst (λ k. k + t.side ≤ (extent_of t).cols) (sym col_is) across;
     }

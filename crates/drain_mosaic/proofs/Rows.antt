@@ -1,19 +1,17 @@
 -- One row more of the mosaic, and from its rows to the elevation.
-use Rattle.std.proofs.Common.{◌≡◌, ◌≢◌, ℕ, zero, suc, ◌+◌, ◌-◌, ◌*◌, ◌<◌, ◌≤◌, ℤ, List, [], ◌∷◌, ◌++◌, length, take, drop, get_or, Option, Some, None, Bool, true, false, int_eq, arith, refl, sym, ap, ◌∙◌, inl, inr, subst}
-use Rattle.std.specs.Prelude.{slice_index_or, ◌⊎◌}
+use Rattle.std.proofs.Common.{◌≡◌, ℕ, ◌+◌, ◌-◌, ◌*◌, ◌<◌, ◌≤◌, ℤ, List, ◌++◌, length, take, drop, get_or, Some, None, true, false, int_eq, arith, refl, sym, ap, ◌∙◌, inl, inr, subst}
+use Rattle.std.specs.Prelude.{slice_index_or}
 use Rattle.std.proofs.lemmas.Bool.{cases_lt, false≢true}
 use Rattle.std.proofs.lemmas.Bool.Decides.{Decides-int_eq}
 use Rattle.std.proofs.lemmas.Grind.{common_steps}
 use Rattle.std.proofs.lemmas.List.{get_or_append_left, get_or-append-add, get_or-take, length-append, length-take-le, length-drop}
 use Rattle.std.proofs.Math.Nat.{mul-le-mul_right}
-use Rattle.drain_grid.specs.declared.cell.Cell.{Cell}
 use Rattle.drain_grid.specs.declared.tile.TheConstants.{VOID}
 use Rattle.drain_grid.specs.Rasters.{Heights}
-use Rattle.drain_grid.specs.Extent.{IsCellOf, IsEarlier}
 use Rattle.drain_grid.specs.Tile.{height_from}
 use Rattle.drain_grid.specs.Whole.{elevation_at}
 use Rattle.drain_mosaic.specs.Tiling.{Tiling, extent_of}
-use Rattle.drain_mosaic.specs.Mosaic.{Tile, IsValue, HasTwoValues, TilesAgree, IsElevation, IsFirstSeam}
+use Rattle.drain_mosaic.specs.Mosaic.{Tile, HasTwoValues, TilesAgree, IsElevation, IsFirstSeam}
 use Rattle.drain_mosaic.specs.Joined.{first_value}
 use Rattle.drain_mosaic.specs.JoinedRows.{IsJoinedRow, AreJoinedRows}
 use Rattle.drain_mosaic.proofs.Agreement.{agreement_gives_elevation}

@@ -1,18 +1,18 @@
 -- The tiles of a layout one by one, and their rows.
-use Rattle.std.proofs.Common.{◌≡◌, ℕ, zero, suc, ◌+◌, ◌-◌, ◌*◌, ◌<◌, ◌≤◌, ℤ, pos, List, [], ◌∷◌, ◌++◌, length, map, take, drop, get_or, Option, Some, None, option_map, slice_get, arith, refl, sym, ap, ◌∙◌, inl, inr, subst}
+use Rattle.std.proofs.Common.{◌≡◌, ℕ, zero, suc, ◌+◌, ◌-◌, ◌*◌, ◌<◌, ◌≤◌, ℤ, pos, List, [], ◌∷◌, ◌++◌, length, map, take, get_or, Option, Some, None, option_map, slice_get, arith, refl, sym, ap, ◌∙◌, inl, inr, subst}
 use Rattle.std.specs.Prelude.{◌⊎◌, slice_range, slice_index_or}
 use Rattle.std.proofs.lemmas.Bool.{cases_lt}
-use Rattle.std.proofs.lemmas.List.{get_or-map, get_or-take, get_or-drop, length-take-le, length-drop, take_more, take_all}
+use Rattle.std.proofs.lemmas.List.{get_or-map, get_or-take, get_or-drop, length-take-le, length-drop, take_more}
 use Rattle.std.proofs.lemmas.Slice.{between_is}
 use Rattle.std.proofs.lemmas.Option.{slice_get-get_or, same_Some}
 use Rattle.std.proofs.Math.Nat.{mul-le-mul_right}
 use Rattle.drain_grid.specs.declared.cell.Cell.{Cell}
 use Rattle.drain_grid.specs.declared.tile.TheConstants.{VOID}
 use Rattle.drain_hgt.specs.Corner.{Corner}
-use Rattle.drain_mosaic.specs.Tiling.{Tiling, extent_of, top_of, left_of, place_of}
+use Rattle.drain_mosaic.specs.Tiling.{Tiling, extent_of, top_of, place_of}
 use Rattle.drain_mosaic.specs.Mosaic.{Tile, AreTiles, tiles_of}
 use Rattle.drain_mosaic.specs.JoinedRows.{IsLaidOver, IsJoinedRow, first_of}
-use Rattle.drain_mosaic.proofs.Joining.{laid, passed, IsPartOf}
+use Rattle.drain_mosaic.proofs.Joining.{laid, passed, first_of_none}
 
 -- a tile to read lists of tiles by
 abbrev nowhere : Corner
@@ -55,10 +55,6 @@ pub record IsTileLaid (side : ℕ) (place : Cell) (tile : List ℤ) (row : ℕ) 
   pub over : place.row ≤ row → row < place.row + side → IsLaidOver place.col (slice_range tile ((row - place.row) * side) ((row - place.row) * side + side)) old new found
   pub beside : (row < place.row) ⊎ (place.row + side ≤ row) → (new ≡ old) × (found ≡ None)
 
-first_of_none : (a : Option ℕ) → a ≡ first_of a None
-first_of_none (Some x) = refl
-first_of_none None = refl
-
 tile_laid : (t : Tiling) (ts : List Tile) (tile : Tile) (row : ℕ) (old new : List ℤ) (seam found : Option ℕ) → length tile.samples ≡ t.side * t.side → length old ≡ (extent_of t).cols
     → IsTileLaid t.side (place_of t tile.corner) tile.samples row old new found → IsJoinedRow t ts row old seam → IsJoinedRow t (ts ++ tile ∷ []) row new (first_of seam found)
 tile_laid t ts tile row old new seam found whole wide is joined = elim (cases_lt row top) [
@@ -81,7 +77,7 @@ tile_laid t ts tile row old new seam found whole wide is joined = elim (cases_lt
         let same = is.beside aside in
         let before = passed t ts tile row old seam not joined in
         subst (λ samples. IsJoinedRow t (ts ++ tile ∷ []) row samples (first_of seam found)) (sym same.0)
-        (subst (λ f. IsJoinedRow t (ts ++ tile ∷ []) row old (first_of seam f)) (sym same.1) (subst (IsJoinedRow t (ts ++ tile ∷ []) row old) (first_of_none seam) before))
+        (subst (λ f. IsJoinedRow t (ts ++ tile ∷ []) row old (first_of seam f)) (sym same.1) (subst (IsJoinedRow t (ts ++ tile ∷ []) row old) (sym (first_of_none seam)) before))
 
 -- one tile of the layout more
 pub tile_step : (t : Tiling) (samples : List (List ℤ)) (i row : ℕ) (place : Cell) (tile : List ℤ) (side : ℕ) (old new : List ℤ) (seam found next : Option ℕ) → side ≡ t.side → AreTiles t samples → i < length samples → tile ≡ get_or samples i []

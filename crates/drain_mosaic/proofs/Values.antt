@@ -1,7 +1,6 @@
 -- The values of a cell, with one tile more.
-use Rattle.std.proofs.Common.{◌≡◌, ◌≢◌, ℕ, zero, suc, ◌+◌, ◌<◌, ℤ, List, [], ◌∷◌, ◌++◌, length, get_or, Option, Some, None, arith, refl, sym, ap, ◌∙◌, inl, inr, subst, true, false, Bool, int_eq}
+use Rattle.std.proofs.Common.{◌≡◌, ◌≢◌, zero, suc, ℤ, List, [], ◌∷◌, ◌++◌, Option, Some, None, arith, refl, sym, ap, ◌∙◌, inl, inr, true, false, int_eq}
 use Rattle.std.specs.Prelude.{◌⊎◌}
-use Rattle.std.specs.List.{Any}
 use Rattle.std.specs.Option.{option_or}
 use Rattle.std.proofs.lemmas.Bool.{false≢true}
 use Rattle.std.proofs.lemmas.Bool.Decides.{Decides-int_eq}
@@ -14,7 +13,7 @@ use Rattle.drain_mosaic.specs.Mosaic.{Tile, Gives, IsValue, HasTwoValues}
 use Rattle.drain_mosaic.specs.Joined.{value_from, first_value}
 use Rattle.drain_mosaic.proofs.Agreement.{gives_from, from_gives, value_of_first, is_some_first, any_here, any_later}
 
-or_none : {A : Type 0} (o : Option A) → option_or o None ≡ o
+pub or_none : {A : Type 0} (o : Option A) → option_or o None ≡ o
 or_none (Some x) = refl
 or_none None = refl
 

@@ -1,4 +1,4 @@
-use Rattle.std.proofs.Common.{◌≡◌, ◌<◌, ◌≤◌, ◌*◌, ◌+◌, length, map, sym, ap, ◌∙◌, subst, arith}
+use Rattle.std.proofs.Common.{◌≡◌, ◌*◌, ◌+◌, length, map, sym, ap, ◌∙◌, subst, arith}
 use Rattle.drain_grid.specs.declared.cell.Cell.{Cell}
 use Rattle.drain_grid.specs.Rasters.{Heights}
 use Rattle.drain_grid.specs.Whole.{elevation_at}

@@ -1,6 +1,5 @@
-use Rattle.std.proofs.Common.{◌≡◌, ℤ, List, w16, to_z, of_z, SFits, rules, arith, inl, inr, subst, sym, refl}
+use Rattle.std.proofs.Common.{List, w16, to_z, of_z, SFits, rules, arith, inl, inr, subst, sym}
 use Rattle.std.proofs.lemmas.Int.{to_z-of_z}
-use Rattle.drain_grid.specs.Size.{Extent}
 use Rattle.drain_hgt.specs.Corner.{Corner}
 use Rattle.drain_mosaic.specs.Tiling.{Tiling}
 use Rattle.drain_mosaic.specs.declared.layout.LayoutFault.{LayoutFault}
