@@ -3,8 +3,6 @@
 //! The words are the side of the tiles and how many rounds. The tiles lie in a square and agree; one sample of 64 is a void.
 #![tactic(auto)]
 
-ghost use Rattle.std.specs.Prelude.{◌≡◌, ◌∷◌, []};
-
 use drain_grid::tile::is_side;
 use drain_grid::{Cell, Elevation};
 use drain_hgt::{TileName, read_tile};
@@ -27,7 +25,7 @@ fn number(words: &[String], place: usize) -> Option<u32> {
 }
 
 /// The sum of what the rounds gave, none where a call refused.
-fn join_rounds(alloc: Global, side: u32, rounds: u32) -> Option<u64> {
+fn join_rounds(alloc: Global, side: u32, rounds: u32) -> Option<i64> {
     if !is_side(side) {
         return None;
     }
@@ -42,18 +40,34 @@ fn join_rounds(alloc: Global, side: u32, rounds: u32) -> Option<u64> {
     let north_east = tile_bytes(alloc, side, 0, side - 1).ok()?;
     let south_west = tile_bytes(alloc, side, side - 1, 0).ok()?;
     let south_east = tile_bytes(alloc, side, side - 1, side - 1).ok()?;
-    let mut sum = 0u64;
+    let mut sum = 0i64;
     for _ in 0..rounds {
-        let tiles = [
-            read_tile(alloc, side, &north_west).ok()?,
-            read_tile(alloc, side, &north_east).ok()?,
-            read_tile(alloc, side, &south_west).ok()?,
-            read_tile(alloc, side, &south_east).ok()?,
+        let square = [
+            north_west.as_slice(),
+            north_east.as_slice(),
+            south_west.as_slice(),
+            south_east.as_slice(),
         ];
-        let elevation = join(alloc, &layout, &tiles).ok()?;
-        sum = sum.wrapping_add(diagonal(&elevation));
+        sum = sum.wrapping_add(join_once(alloc, &layout, square)?);
     }
     Some(sum)
+}
+
+/// The sum of what four tiles give, none where a call refused.
+fn join_once(alloc: Global, layout: &Layout, square: [&[u8]; 4]) -> Option<i64> {
+    let [north_west, north_east, south_west, south_east] = square;
+    let side = layout.side();
+    if layout.len() != 4 {
+        return None;
+    }
+    let tiles = [
+        read_tile(alloc, side, north_west).ok()?,
+        read_tile(alloc, side, north_east).ok()?,
+        read_tile(alloc, side, south_west).ok()?,
+        read_tile(alloc, side, south_east).ok()?,
+    ];
+    let elevation = join(alloc, layout, &tiles).ok()?;
+    Some(diagonal(&elevation))
 }
 
 /// The bytes of a tile whose first sample lies in this row and column of the mosaic.
@@ -78,13 +92,13 @@ fn sample(row: u32, col: u32) -> i16 {
 }
 
 /// The sum of the elevations from the north-west to the south-east.
-fn diagonal(elevation: &Elevation) -> u64 {
+fn diagonal(elevation: &Elevation) -> i64 {
     let shape = elevation.shape();
-    let mut sum = 0u64;
+    let mut sum = 0i64;
     for row in 0..shape.rows() {
         if row < shape.cols() {
             let z = elevation.z(Cell { row, col: row }).unwrap_or(0);
-            sum = sum.wrapping_add(z as i64 as u64);
+            sum = sum.wrapping_add(i64::from(z));
         }
     }
     sum
