@@ -1,7 +1,9 @@
 //! Worked names and samples, from the format's own table.
 
+use crate::input::TileInput;
 use crate::name::{NameFault, TileName};
 use crate::tile::{TileFault, read_tile};
+use drain_device::{ByteList, SliceSource, read_body};
 use std::test::Fail;
 
 #[test]
@@ -66,5 +68,20 @@ fn bytes_of_no_tile(rt: HostRuntime) -> Result<(), Fail> {
         let answer = read_tile(rt.alloc(), side, &bytes[..length]);
         assert_eq!(rt; answer.err(), Some(fault), "{side}");
     }
+    Ok(())
+}
+
+#[test]
+fn a_tile_as_it_is_handed_in(rt: HostRuntime) -> Result<(), Fail> {
+    let bytes = [0, 7, 0, 8, 0, 9, 0, 10];
+    let mut input = TileInput {
+        name: ByteList::new(b"s01w001.hgt".to_vec(rt.alloc())?),
+        body: SliceSource::new(&bytes),
+    };
+    let name = TileName::parse(input.name.as_slice())?;
+    assert_eq!(rt; name.text().as_str(), "S01W001.hgt");
+    let body = read_body(rt.alloc(), &mut input.body, 8)?;
+    let samples = read_tile(rt.alloc(), 2, &body)?;
+    assert_eq!(rt; samples.as_slice(), [7, 8, 9, 10].as_slice());
     Ok(())
 }

@@ -217,8 +217,8 @@ fn lats(names: &[TileName]) -> (i16, i16)
     requires { 0 < length names.now }
     ensures least { result.0 ≡ least (map (λ c. c.lat) names.now) }
     ensures greatest { result.1 ≡ greatest (map (λ c. c.lat) names.now) }
-    ensures low { IsWithin 90 result.0 }
-    ensures high { IsWithin 90 result.1 }
+    ensures low { IsWithin POLE result.0 }
+    ensures high { IsWithin POLE result.1 }
 {
     let mut least = i16::from(names[0].lat());
     let mut greatest = least;
@@ -235,8 +235,8 @@ fn lons(names: &[TileName]) -> (i16, i16)
     requires { 0 < length names.now }
     ensures least { result.0 ≡ least (map (λ c. c.lon) names.now) }
     ensures greatest { result.1 ≡ greatest (map (λ c. c.lon) names.now) }
-    ensures low { IsWithin 180 result.0 }
-    ensures high { IsWithin 180 result.1 }
+    ensures low { IsWithin HALF_TURN result.0 }
+    ensures high { IsWithin HALF_TURN result.1 }
 {
     let mut least = names[0].lon();
     let mut greatest = least;
