@@ -1,6 +1,7 @@
 //! What no contract says: that the calls of this crate can succeed, over std's readers and writers too, which error
 //! of std becomes which fault, and at which call a scripted device answers what.
 
+use crate::byte_list::ByteList;
 use crate::fault::DeviceFault;
 use crate::faults::{ScriptSink, ScriptSource, Scripted, SinkAnswer};
 use crate::patience::{GaveUp, Patience};
@@ -52,6 +53,13 @@ fn a_slice_is_read_to_its_end(rt: HostRuntime) -> Result<(), Fail> {
     assert_eq!(rt; source.read_some(&mut out), Ok(0));
     assert_eq!(rt; source.failures(), 0);
     assert_eq!(rt; source.interruptions(), 0);
+    Ok(())
+}
+
+#[test]
+fn a_list_shows_its_bytes(rt: HostRuntime) -> Result<(), Fail> {
+    let list = ByteList::new(TEXT.to_vec(rt.alloc())?);
+    assert_eq!(rt; list.as_slice(), TEXT.as_slice());
     Ok(())
 }
 

@@ -1,0 +1,4 @@
+pub mod Spelling
+pub mod Reading
+pub mod Meanings
+pub mod Samples

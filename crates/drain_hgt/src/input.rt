@@ -1,0 +1,10 @@
+//! A tile as it is handed in.
+
+use drain_device::ByteList;
+
+/// A tile's name, and where its bytes come from.
+#[derive(Drop)]
+pub struct TileInput<R> {
+    pub name: ByteList,
+    pub body: R,
+}

@@ -1,0 +1,9 @@
+pub mod Bounds
+pub mod Repeated
+pub mod LayoutOrder
+pub mod Agreement
+pub mod Places
+pub mod Values
+pub mod Joining
+pub mod TileRows
+pub mod Rows

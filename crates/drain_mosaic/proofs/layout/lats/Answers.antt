@@ -1,0 +1,24 @@
+use Rattle.std.proofs.Common.{◌≡◌, ◌<◌, length, map, of_z, to_z, w8, w16, arith, subst, sym, ◌∙◌}
+use Rattle.std.proofs.lemmas.List.{length-map}
+use Rattle.std.proofs.lemmas.Int.{to_z-of_z}
+use Rattle.drain_hgt.specs.Corner.{IsWithin}
+use Rattle.drain_mosaic.proofs.Bounds.{step_is, least_step, greatest_step, within_least, within_greatest}
+use Rattle.drain_mosaic.proofs.layout.lats.Goals as goal
+
+pub loop-name-preserved : goal.loop-name-preserved
+loop-name-preserved c =
+    let names = c.args.names.now in
+    let i = c.loop-name.name-index in
+    let x = to_z w16 (of_z w16 c.from-lat.result) in
+    let seen = to_z-of_z w16 c.from-lat.result (record { sfits = c.from-lat.type_inv }) in
+    let degrees : x ≡ c.name-item.result.lat = seen ∙ c.from-lat.ensures ∙ to_z-of_z w8 c.lat-in-loop-name.result (record { sfits = c.lat-in-loop-name.type_inv }) ∙ c.lat-in-loop-name.ensures.degrees in
+    let here = step_is (λ c. c.lat) names i c.name-item.result x c.name-item.is c.loop-name-test.true degrees in
+    let within = subst (IsWithin 90) (sym degrees) c.lat-in-loop-name.ensures.on_map.lat in
+    let least = to_z-of_z w16 c.min-least.result (record { sfits = c.min-least.type_inv }) ∙ c.min-least.ensures.value in
+    let greatest = to_z-of_z w16 c.max-greatest.result (record { sfits = c.max-greatest.type_inv }) ∙ c.max-greatest.ensures.value in
+    let inside : i < length (map (λ c. c.lat) names) = omega (arith, length-map names (λ c. c.lat)) in (
+      least_step (map (λ c. c.lat) names) i _ _ x _ inside here least c.loop-name.invariant.0,
+      greatest_step (map (λ c. c.lat) names) i _ _ x _ inside here greatest c.loop-name.invariant.1,
+      within_least 90 _ x _ c.loop-name.invariant.2 within least,
+      within_greatest 90 _ x _ c.loop-name.invariant.3 within greatest,
+    )

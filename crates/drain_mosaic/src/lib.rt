@@ -1,0 +1,12 @@
+//! Mosaics: which tiles make one, and the elevation that they give together.
+#![tactic(auto)]
+
+pub mod laws;
+pub mod layout;
+pub mod seams;
+
+pub use layout::{Layout, LayoutFault};
+pub use seams::{SeamFault, join};
+
+#[cfg(test)]
+mod tests;
