@@ -43,7 +43,7 @@ fn shape(header: &Header) -> Shape
 
 /// Appends the numbers of a row.
 fn push_row<P: Pixel, T: ByteOrder>(numbers: &mut Vec<i64>, header: &Header, row: u32, body: &[u8])
-    requires spelled { AreSpelled header.now P.len (P.number T.number_of) }
+    requires spelled { AreSpelled header.now P.len (P.reads T.number_of) }
     requires inside { row < header.now.rows }
     requires long { needed_len header.now ≤ length body.now }
     requires room { vec_len numbers.old + header.now.cols ≤ vec_capacity numbers.old }
@@ -62,7 +62,7 @@ fn push_row<P: Pixel, T: ByteOrder>(numbers: &mut Vec<i64>, header: &Header, row
 
 /// Appends the numbers of all rows.
 fn push_rows<P: Pixel, T: ByteOrder>(numbers: &mut Vec<i64>, header: &Header, body: &[u8])
-    requires spelled { AreSpelled header.now P.len (P.number T.number_of) }
+    requires spelled { AreSpelled header.now P.len (P.reads T.number_of) }
     requires long { needed_len header.now ≤ length body.now }
     requires room { header.now.rows * header.now.cols ≤ vec_capacity numbers.old }
     requires empty { numbers.old.items ≡ [] }

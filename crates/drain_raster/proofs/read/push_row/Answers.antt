@@ -14,7 +14,7 @@ loop-col-preserved g c =
     let longer = rw c.unwrap.ensures at pushed.len in
     record {
       items = row-pushed (pixel_at c.args.header.now c.args.body.now) _ _ _ c.args.row c.loop-col.col _ inv.items grown
-          (c.number.ensures.value ∙ pixel-found c.args.header.now g.P.Pixel.len (g.P.Pixel.number g.T.ByteOrder.number_of) c.args.body.now _ c.args.row c.loop-col.col c.requires.spelled
+          (c.number.ensures.value ∙ pixel-found c.args.header.now g.P.Pixel.len (g.P.Pixel.reads g.T.ByteOrder.number_of) c.args.body.now _ c.args.row c.loop-col.col c.requires.spelled
           (ap (λ (h : Fields). h.skip + c.args.row * h.row_bytes + c.loop-col.col * c.len.result) c.header.view_is
           ∙ ap (λ l. c.args.header.now.skip + c.args.row * c.args.header.now.row_bytes + c.loop-col.col * l) c.len.ensures));
       len = omega (arith, longer, inv.len);
