@@ -1,2 +1,4 @@
+pub mod BufferLemmas
 pub mod CellLists
 pub mod PixelLemmas
+pub mod WritingLemmas

@@ -1,7 +1,7 @@
 -- The bytes of a raster, and the numbers that its pixels can spell.
 -- Source: the Esri description of BIL files and their headers (NBITS, PIXELTYPE, BYTEORDER, SKIPBYTES, TOTALROWBYTES), of one band; that
 -- bytes without a pixel are zeros is this project's own
-use Rattle.std.specs.Prelude.{◌≡◌, ℕ, ◌-◌, ◌*◌, ◌^◌, ℤ, pos, negsuc, neg_ℤ, ◌≤ℤ◌, Bool, true, false, List, ◌++◌, replicate}
+use Rattle.std.specs.Prelude.{◌≡◌, ℕ, ◌-◌, ◌*◌, ◌^◌, ◌<◌, ℤ, pos, negsuc, neg_ℤ, ◌≤ℤ◌, Bool, true, false, List, ◌++◌, map, replicate}
 use Rattle.std.specs.List.{flat_map, range_with_len}
 use Rattle.byteorder.specs.Endian.{big_bytes, little_bytes}
 use Rattle.drain_grid.specs.declared.cell.Cell.{Cell}
@@ -46,9 +46,13 @@ bytes_in Most n number = big_bytes n number
 abbrev pub pixel_bytes : Fields → ℤ → List ℕ
 pixel_bytes h z = bytes_in h.order (pixel_len h) (complement_of h.bits z)
 
--- the bytes of the pixels at these cells
-abbrev pub cells_bytes : Fields → Pixels → List Cell → List ℕ
-cells_bytes h p cs = flat_map (λ c. pixel_bytes h (number_at p c)) cs
+-- the bytes of the numbers at these cells, where a number has such bytes
+abbrev pub cells_bytes : (ℤ → List ℕ) → Pixels → List Cell → List ℕ
+cells_bytes bytes p cs = flat_map (λ c. bytes (number_at p c)) cs
+
+-- so many cells of a row from a column on
+abbrev pub cells_from : ℕ → ℕ → ℕ → List Cell
+cells_from r k n = map (λ col. record { row = r; col = col }) (range_with_len k n)
 
 -- the bytes of a row that no pixel takes
 abbrev pub padding_len : Fields → ℕ
@@ -56,15 +60,29 @@ padding_len h = h.row_bytes - h.cols * pixel_len h
 
 -- the pixels of a row, and zeros up to its length
 abbrev pub bytes_of_row : Fields → Pixels → ℕ → List ℕ
-bytes_of_row h p r = cells_bytes h p (row_cells h.cols r) ++ replicate (padding_len h) 0
+bytes_of_row h p r = cells_bytes (pixel_bytes h) p (row_cells h.cols r) ++ replicate (padding_len h) 0
 
 -- the bytes of a raster: zeros to skip, and its rows, the last one too up to its length
 abbrev pub raster_bytes : Fields → Pixels → List ℕ
 raster_bytes h p = replicate h.skip 0 ++ flat_map (bytes_of_row h p) (range_with_len 0 h.rows)
 
--- a pixel can spell each number
+-- so many bits can spell each number
+abbrev pub CanSpellAllIn : Bool → ℕ → Pixels → Type 0
+CanSpellAllIn signed bits p = (c : Cell) → IsCellOf p.extent c → CanSpellIn signed bits (number_at p c)
+
+-- a pixel can
 abbrev pub CanSpellAll : Fields → Pixels → Type 0
-CanSpellAll h p = (c : Cell) → IsCellOf p.extent c → CanSpell h (number_at p c)
+CanSpellAll h p = CanSpellAllIn h.signed h.bits p
+
+-- a pixel can spell each number of a row up to a column
+abbrev pub CanSpellTo : Fields → Pixels → ℕ → ℕ → Type 0
+CanSpellTo h p r n = (k : ℕ) → k < n → CanSpell h (number_at p (record { row = r; col = k }))
+
+-- the first column of a row whose number a pixel can't spell
+pub record IsFirstAlong (h : Fields) (p : Pixels) (r k : ℕ) : Type 0 where
+  pub inside : k < h.cols
+  pub unspelled : ¬ CanSpell h (number_at p (record { row = r; col = k }))
+  pub first : CanSpellTo h p r k
 
 -- the first cell whose number a pixel can't spell
 pub record IsFirstOutOfRange (h : Fields) (p : Pixels) (c : Cell) : Type 0 where

@@ -6,7 +6,10 @@
 
 mod fault;
 mod pixel;
+mod range;
 mod read;
+mod write;
 
 pub use fault::{RasterFault, WriteFault};
 pub use read::read_raster;
+pub use write::write_raster;
