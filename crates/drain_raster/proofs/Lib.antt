@@ -1,4 +1,5 @@
 pub mod BufferLemmas
 pub mod CellLists
+pub mod LengthLemmas
 pub mod PixelLemmas
 pub mod WritingLemmas

@@ -104,6 +104,13 @@ pixel_len-most bits ok = ∥∥₁_elim ok (hlevel props) (λ size. elim size [
   | inr rest ↦ elim rest [ inl is_16 ↦ rw is_16 (omega arith) | inr is_32 ↦ rw is_32 (omega arith) ]
 ])
 
+-- and at least one
+pub pixel_len-least : (bits : ℕ) → ∥ IsPixelSize bits ∥₁ → 1 ≤ bits / 8
+pixel_len-least bits ok = ∥∥₁_elim ok (hlevel props) (λ size. elim size [
+  | inl is_8 ↦ rw is_8 (omega arith)
+  | inr rest ↦ elim rest [ inl is_16 ↦ rw is_16 (omega arith) | inr is_32 ↦ rw is_32 (omega arith) ]
+])
+
 -- the pixels of a row have room in it
 pub packed-fits : (h : Fields) → h.cols * h.bits / 8 ≤ h.row_bytes → h.cols * pixel_len h ≤ h.row_bytes
 packed-fits h holds =

@@ -97,6 +97,25 @@ Hands-stopped old new counts_old counts_new stalls_old stalls_new patience left 
   exactly = ((λ _. stopped.exactly.0 refl), (λ _. fails));
 }
 
+-- the first part of a write went on
+pub Hands-both : {E F : Type 0} (old now new : Option (List ℕ)) (counts_old counts_now counts_new : FaultCounts) (stalls_old stalls_now stalls_new : ℕ)
+    (patience left least : ℕ) (result : Result (Unit {0}) F) (xs ys zs : List ℕ) →
+    Hands {E = E} old now counts_old counts_now stalls_old stalls_now patience left (Ok (tt {0})) xs →
+    Hands now new counts_now counts_new stalls_now stalls_new left least result ys → xs ++ ys ≡ zs →
+    Hands old new counts_old counts_new stalls_old stalls_new patience least result zs
+Hands-both old now new counts_old counts_now counts_new stalls_old stalls_now stalls_new patience left least result xs ys zs first second are =
+    subst (Hands old new counts_old counts_new stalls_old stalls_new patience least result) are
+    (Hands-then old now new counts_old counts_now counts_new stalls_old stalls_now stalls_new patience left least result xs ys first second)
+
+-- the first part of a write gave up
+pub Hands-halted : {E F : Type 0} (old new : Option (List ℕ)) (counts_old counts_new : FaultCounts) (stalls_old stalls_new : ℕ)
+    (patience left : ℕ) (e : E) (result : Result (Unit {0}) F) (xs rest zs : List ℕ) → IsErr result →
+    Hands old new counts_old counts_new stalls_old stalls_new patience left (Err e) xs → xs ++ rest ≡ zs →
+    Hands old new counts_old counts_new stalls_old stalls_new patience left result zs
+Hands-halted old new counts_old counts_new stalls_old stalls_new patience left e result xs rest zs fails stopped are =
+    subst (Hands old new counts_old counts_new stalls_old stalls_new patience left result) are
+    (Hands-stopped old new counts_old counts_new stalls_old stalls_new patience left e result xs rest fails stopped)
+
 -- both parts of a write went on
 pub Hands-more : {E F : Type 0} (old now new : Option (List ℕ)) (counts_old counts_now counts_new : FaultCounts) (stalls_old stalls_now stalls_new : ℕ)
     (patience left least : ℕ) (xs ys zs : List ℕ) →
@@ -149,3 +168,18 @@ Hands-write_all old new counts_old counts_new stalls_old stalls_new patience lef
   left_is = faults.5;
   exactly = faults.6;
 }
+
+-- a write that wasn't begun didn't fail
+pub WriteFails-not_begun : (counts : FaultCounts) (stalls : ℕ) (Fails : Type 0) → (Fails → ⊥) → WriteFails counts counts stalls stalls Fails
+WriteFails-not_begun counts stalls Fails fine = record {
+  failures = 0;
+  interruptions = 0;
+  stalls = 0;
+  answered = record { failures_are = omega arith; interruptions_are = omega arith };
+  stalled = omega arith;
+  exactly = ((λ fails. absurd (fine fails)), (λ gave_up. absurd (none_given full_patience gave_up)));
+}
+
+-- nothing of some bytes
+pub nothing-handed : {E : Type 0} (taken : Option (List ℕ)) (e : E) (bytes : List ℕ) → 0 < length bytes → HandsOver {T = Unit {0}} taken taken (Err e) bytes
+nothing-handed taken e bytes some = (0, some, search rules)

@@ -21,12 +21,30 @@ impl Spelled {
         ensures greatest { result.greatest ≡ greatest_number header.now.signed header.now.bits }
     {
         match (header.bits, header.signed) {
-            (8, false) => Spelled { least: 0, greatest: i64::from(u8::MAX) },
-            (8, true) => Spelled { least: i64::from(i8::MIN), greatest: i64::from(i8::MAX) },
-            (16, false) => Spelled { least: 0, greatest: i64::from(u16::MAX) },
-            (16, true) => Spelled { least: i64::from(i16::MIN), greatest: i64::from(i16::MAX) },
-            (_, false) => Spelled { least: 0, greatest: i64::from(u32::MAX) },
-            (_, true) => Spelled { least: i64::from(i32::MIN), greatest: i64::from(i32::MAX) },
+            (8, false) => Spelled {
+                least: 0,
+                greatest: i64::from(u8::MAX),
+            },
+            (8, true) => Spelled {
+                least: i64::from(i8::MIN),
+                greatest: i64::from(i8::MAX),
+            },
+            (16, false) => Spelled {
+                least: 0,
+                greatest: i64::from(u16::MAX),
+            },
+            (16, true) => Spelled {
+                least: i64::from(i16::MIN),
+                greatest: i64::from(i16::MAX),
+            },
+            (_, false) => Spelled {
+                least: 0,
+                greatest: i64::from(u32::MAX),
+            },
+            (_, true) => Spelled {
+                least: i64::from(i32::MIN),
+                greatest: i64::from(i32::MAX),
+            },
         }
     }
 

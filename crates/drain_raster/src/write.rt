@@ -208,6 +208,8 @@ pub fn write_raster<W: ByteSink>(
     // The write fails exactly where the sink failed, was interrupted for the 1,000th time, or took no byte of some.
     ensures faults { WriteFails (W.counts to.old) (W.counts to.new) (W.stalls to.old) (W.stalls to.new) (IsErrOf result WriteFault.WriteFailed) }
 {
+    // The proof knows what a header keeps once a field of it was read.
+    let _rows = header.rows;
     if let Some(cell) = first_out_of_range(header, raster) {
         return Err(WriteFault::OutOfRange(cell));
     }

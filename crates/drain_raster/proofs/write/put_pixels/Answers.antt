@@ -22,8 +22,8 @@ loop-col-preserved g c =
     let within = mul-le-mul_right {m = (c.loop-col.col - c.args.first) + 1} {n = c.args.end - c.args.first} g.P.Pixel.len (omega arith) in
     let room : (c.loop-col.col - c.args.first) * c.len.result + g.P.Pixel.len ≤ length c.loop-col.bytes = omega (arith, within, is_at, c.requires.room, c.loop-col.auto.bytes) in
     let rest : length (take (length c.loop-col.bytes - (c.loop-col.col - c.args.first) * c.len.result) (drop ((c.loop-col.col - c.args.first) * c.len.result) c.loop-col.bytes))
-        ≡ length c.loop-col.bytes - (c.loop-col.col - c.args.first) * c.len.result =
-        simp (length-take, length-drop) (omega arith) in
+    ≡ length c.loop-col.bytes - (c.loop-col.col - c.args.first) * c.len.result =
+    simp (length-take, length-drop) (omega arith) in
     rw next (put-more (g.P.Pixel.spells g.T.ByteOrder.bytes_of) c.args.raster.now c.args.row c.args.first (c.loop-col.col - c.args.first) g.P.Pixel.len _
     c.loop-col.bytes _ c.put.new.bytes c.value.result c.loop-col.invariant is_at room put c.put.auto.bytes rest
     (c.value.ensures.number ∙ ap (λ k. number_at c.args.raster.now (cell_of c.args.row k)) here))
