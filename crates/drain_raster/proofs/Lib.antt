@@ -2,4 +2,6 @@ pub mod BufferLemmas
 pub mod CellLists
 pub mod LengthLemmas
 pub mod PixelLemmas
+pub mod ReadBackLemmas
+pub mod SpellLemmas
 pub mod WritingLemmas
