@@ -1,3 +1,4 @@
+mod Vectors
 pub mod BufferLemmas
 pub mod CellLists
 pub mod LengthLemmas

@@ -9,6 +9,8 @@ pub mod laws;
 mod pixel;
 mod range;
 mod read;
+#[cfg(test)]
+mod tests;
 mod write;
 
 pub use fault::{RasterFault, WriteFault};

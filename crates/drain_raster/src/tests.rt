@@ -1,0 +1,455 @@
+//! Worked rasters: bytes with the numbers that they spell, and numbers with their bytes, each worked out by hand; and
+//! sinks that are slow, interrupted or fail.
+
+ghost use Rattle.std.specs.Prelude.{◌≡◌, IfOk, IfSome};
+ghost use Rattle.drain_raster.specs.Pixels.{extent_of};
+
+use crate::fault::{RasterFault, WriteFault};
+use crate::laws::bytes_read_back;
+use crate::read::read_raster;
+use crate::write::write_raster;
+use drain_device::faults::{ScriptSink, Scripted, SinkAnswer};
+use drain_device::{ByteSink, VecSink};
+use drain_grid::values::{GREATEST_PIXEL, LEAST_PIXEL};
+use drain_grid::{Cell, Product, Raster, Shape};
+use drain_header::{ByteOrdering, Header, Place};
+use std::alloc::{AllocError, Global};
+use std::test::Fail;
+
+/// Two by two pixels of 16 bits, a byte to skip, and one behind each row.
+const PADDED: [u8; 10] = [0xff, 1, 0, 0xfe, 0xff, 0xaa, 0, 0x80, 2, 0];
+
+const NOWHERE: Place = Place {
+    ulx: 0,
+    uly: 0,
+    xdim: 0,
+    ydim: 0,
+};
+
+fn padded(order: ByteOrdering) -> Header
+    ensures { extent_of result ≡ record { rows = 2; cols = 2 } }
+{
+    Header {
+        rows: 2,
+        cols: 2,
+        bits: 16,
+        order,
+        signed: true,
+        skip: 1,
+        row_bytes: 5,
+        place: NOWHERE,
+        nodata: None,
+    }
+}
+
+/// One pixel, in a row of four bytes.
+fn alone(bits: u8, signed: bool, order: ByteOrdering) -> Header
+    ensures { extent_of result ≡ record { rows = 1; cols = 1 } }
+{
+    let header = Header {
+        rows: 1,
+        cols: 1,
+        bits: 32,
+        order,
+        signed,
+        skip: 0,
+        row_bytes: 4,
+        place: NOWHERE,
+        nodata: None,
+    };
+    match bits {
+        8 => Header { bits: 8, ..header },
+        16 => Header { bits: 16, ..header },
+        _ => header,
+    }
+}
+
+/// The raster of these numbers, where each is one of a pixel and there are as many as cells.
+fn raster_of(
+    alloc: Global,
+    rows: u32,
+    cols: u32,
+    numbers: &[i64],
+) -> Result<Option<Raster>, AllocError>
+    ensures { IfOk result (λ some. IfSome some (λ raster. raster.extent ≡ record { rows = rows; cols = cols })) }
+{
+    let Some(shape) = Shape::new(rows, cols) else {
+        return Ok(None);
+    };
+    let are_pixels = numbers.iter().all(|number| LEAST_PIXEL <= *number
+        && *number <= GREATEST_PIXEL);
+    if numbers.len() != shape.cells() || !are_pixels {
+        return Ok(None);
+    }
+    Ok(Some(Raster::new(shape, 0, Vec::from_slice(alloc, numbers)?)))
+}
+
+/// The raster's numbers, row by row.
+fn numbers_of(alloc: Global, raster: &Raster) -> Result<Vec<i64>, AllocError> {
+    let mut numbers = Vec::new(alloc);
+    for row in 0..raster.shape().rows() {
+        for col in 0..raster.shape().cols() {
+            numbers.push(raster.value(Cell { row, col }))?;
+        }
+    }
+    Ok(numbers)
+}
+
+#[test]
+fn a_worked_raster_is_read_in_both_orders(rt: HostRuntime) -> Result<(), Fail> {
+    for (order, wanted) in [
+        (ByteOrdering::Least, [1, -2, -32768, 2]),
+        (ByteOrdering::Most, [256, -257, 128, 512]),
+    ] {
+        let raster = read_raster(rt.alloc(), Product::Con, &padded(order), &PADDED)?;
+        assert_eq!(rt; raster.shape().rows(), 2);
+        assert_eq!(rt; raster.shape().cols(), 2);
+        assert_eq!(rt;
+            numbers_of(rt.alloc(), &raster)?.as_slice(),
+            wanted.as_slice()
+        );
+    }
+    Ok(())
+}
+
+/// Its last pixel ends at byte 10; the byte behind its last row isn't needed, nor looked at.
+#[test]
+fn a_raster_is_short_before_its_last_pixel_ends(rt: HostRuntime) -> Result<(), Fail> {
+    let mut bytes = [0xaa; 16];
+    bytes[..10].copy_from_slice(&PADDED);
+    for len in 0..=16 {
+        let read = read_raster(
+            rt.alloc(),
+            Product::Con,
+            &padded(ByteOrdering::Least),
+            &bytes[..len],
+        );
+        match read {
+            Ok(raster) => {
+                assert!(rt; len >= 10, "{len} bytes");
+                assert_eq!(rt;
+                    numbers_of(rt.alloc(), &raster)?.as_slice(),
+                    [1, -2, -32768, 2].as_slice()
+                );
+            }
+            Err(fault) => {
+                assert!(rt; len < 10, "{len} bytes");
+                assert_eq!(rt; fault, RasterFault::Short);
+            }
+        }
+    }
+    Ok(())
+}
+
+/// A header's no-data number comes before the product's.
+#[test]
+fn the_no_data_number_is_that_of_the_header_or_the_product(rt: HostRuntime) -> Result<(), Fail> {
+    let header = alone(8, false, ByteOrdering::Least);
+    let given = Header {
+        nodata: Some(-9999),
+        ..header
+    };
+    for (product, number) in [
+        (Product::Con, -32768),
+        (Product::Dir, 255),
+        (Product::Acc, 0),
+        (Product::Bas, 0),
+        (Product::Spl, 255),
+        (Product::Rnk, 4294967295),
+    ] {
+        assert_eq!(rt;
+            read_raster(rt.alloc(), product, &header, &[7])?.nodata(),
+            number
+        );
+        assert_eq!(rt;
+            read_raster(rt.alloc(), product, &given, &[7])?.nodata(),
+            -9999
+        );
+    }
+    Ok(())
+}
+
+/// For each kind of pixel its least and its greatest number with their bytes, least significant first, and numbers that it
+/// can't spell.
+#[test]
+fn each_kind_of_pixel_spells_its_bounds(rt: HostRuntime) -> Result<(), Fail> {
+    let kinds: [(u8, bool, i64, [u8; 4], i64, [u8; 4], [i64; 2]); 6] = [
+        (8, false, 0, [0, 0, 0, 0], 255, [0xff, 0, 0, 0], [-1, 256]),
+        (
+            8,
+            true,
+            -128,
+            [0x80, 0, 0, 0],
+            127,
+            [0x7f, 0, 0, 0],
+            [-129, 128],
+        ),
+        (
+            16,
+            false,
+            0,
+            [0, 0, 0, 0],
+            65535,
+            [0xff, 0xff, 0, 0],
+            [-1, 65536],
+        ),
+        (
+            16,
+            true,
+            -32768,
+            [0, 0x80, 0, 0],
+            32767,
+            [0xff, 0x7f, 0, 0],
+            [-32769, 32768],
+        ),
+        (
+            32,
+            false,
+            0,
+            [0, 0, 0, 0],
+            4294967295,
+            [0xff, 0xff, 0xff, 0xff],
+            [-1, -2147483648],
+        ),
+        (
+            32,
+            true,
+            -2147483648,
+            [0, 0, 0, 0x80],
+            2147483647,
+            [0xff, 0xff, 0xff, 0x7f],
+            [2147483648, 4294967295],
+        ),
+    ];
+    for (bits, signed, least, least_bytes, greatest, greatest_bytes, outside) in kinds {
+        for order in [ByteOrdering::Least, ByteOrdering::Most] {
+            let header = alone(bits, signed, order);
+            for (number, least_first) in [(least, least_bytes), (greatest, greatest_bytes)] {
+                let mut bytes = least_first;
+                if order == ByteOrdering::Most {
+                    if let Some(pixel) = bytes.get_mut(..bits as usize / 8) {
+                        pixel.reverse();
+                    }
+                }
+                let raster = read_raster(rt.alloc(), Product::Con, &header, &bytes)?;
+                assert_eq!(rt;
+                    raster.value(Cell { row: 0, col: 0 }),
+                    number,
+                    "{bits} bits"
+                );
+                let mut sink = VecSink::new(Vec::new(rt.alloc()));
+                write_raster(&mut sink, &header, &raster)?;
+                assert_eq!(rt;
+                    sink.as_slice(),
+                    bytes.as_slice(),
+                    "{number} in {bits} bits"
+                );
+            }
+            for number in outside {
+                let Some(raster) = raster_of(rt.alloc(), 1, 1, &[number])? else {
+                    return Err(Fail::new("no raster"));
+                };
+                let mut sink = VecSink::new(Vec::new(rt.alloc()));
+                let cell = Cell { row: 0, col: 0 };
+                assert_eq!(rt;
+                    write_raster(&mut sink, &header, &raster),
+                    Err(WriteFault::OutOfRange(cell)),
+                    "{number} in {bits} bits"
+                );
+                assert!(rt; sink.as_slice().is_empty());
+            }
+        }
+    }
+    Ok(())
+}
+
+/// The bytes of the worked raster, with zeros where no pixel is.
+const WRITTEN: [u8; 11] = [0, 1, 0, 0xfe, 0xff, 0, 0, 0x80, 2, 0, 0];
+
+fn worked(alloc: Global) -> Result<Raster, Fail>
+    ensures { IfOk result (λ raster. raster.extent ≡ record { rows = 2; cols = 2 }) }
+{
+    Ok(read_raster(alloc, Product::Con, &padded(ByteOrdering::Least), &PADDED)?)
+}
+
+#[test]
+fn a_worked_raster_is_written_and_read_back(rt: HostRuntime) -> Result<(), Fail> {
+    let raster = worked(rt.alloc())?;
+    let mut sink = VecSink::new(Vec::new(rt.alloc()));
+    write_raster(&mut sink, &padded(ByteOrdering::Least), &raster)?;
+    assert_eq!(rt; sink.as_slice(), WRITTEN.as_slice());
+    bytes_read_back();
+    let again = read_raster(
+        rt.alloc(),
+        Product::Con,
+        &padded(ByteOrdering::Least),
+        sink.as_slice(),
+    )?;
+    assert_eq!(rt;
+        numbers_of(rt.alloc(), &again)?.as_slice(),
+        [1, -2, -32768, 2].as_slice()
+    );
+    Ok(())
+}
+
+/// The sink would fail at its first call, and isn't called.
+#[test]
+fn the_first_number_out_of_range_is_told_before_any_byte(rt: HostRuntime) -> Result<(), Fail> {
+    let cases: [([i64; 4], Cell); 4] = [
+        ([1, 40000, -32768, 2], Cell { row: 0, col: 1 }),
+        ([1, 40000, 40000, 40000], Cell { row: 0, col: 1 }),
+        ([-32769, -2, -32768, 2], Cell { row: 0, col: 0 }),
+        ([1, -2, -32768, 32768], Cell { row: 1, col: 1 }),
+    ];
+    for (numbers, cell) in cases {
+        let Some(raster) = raster_of(rt.alloc(), 2, 2, &numbers)? else {
+            return Err(Fail::new("no raster"));
+        };
+        let script = [Scripted {
+            first: 1,
+            last: 1,
+            answer: SinkAnswer::Failed,
+        }];
+        let mut sink = ScriptSink::new(Vec::new(rt.alloc()), 1, &script);
+        let written = write_raster(&mut sink, &padded(ByteOrdering::Least), &raster);
+        assert_eq!(rt; written, Err(WriteFault::OutOfRange(cell)));
+        assert!(rt; sink.as_slice().is_empty());
+        assert_eq!(rt; sink.failures(), 0);
+    }
+    Ok(())
+}
+
+/// A sink that takes one byte at a call is called eleven times for the worked raster.
+#[test]
+fn a_write_fails_where_its_sink_does(rt: HostRuntime) -> Result<(), Fail> {
+    let raster = worked(rt.alloc())?;
+    let failed = SinkAnswer::Failed;
+    let none = SinkAnswer::TookNone;
+    let interrupted = SinkAnswer::Interrupted;
+    for (first, last, answer, taken) in [
+        (1, 1, failed, 0),
+        (2, 2, failed, 1),
+        (3, 3, failed, 2),
+        (4, 4, failed, 3),
+        (5, 5, failed, 4),
+        (6, 6, failed, 5),
+        (7, 7, failed, 6),
+        (8, 8, failed, 7),
+        (9, 9, failed, 8),
+        (10, 10, failed, 9),
+        (11, 11, failed, 10),
+        (12, 12, failed, 11),
+        (1, 1, none, 0),
+        (6, 6, none, 5),
+        (11, 11, none, 10),
+        (12, 12, none, 11),
+        (1, 999, interrupted, 11),
+        (1, 1000, interrupted, 0),
+        (6, 1004, interrupted, 11),
+        (6, 1005, interrupted, 5),
+        (11, 1010, interrupted, 10),
+    ] {
+        let script = [Scripted {
+            first,
+            last,
+            answer,
+        }];
+        let mut sink = ScriptSink::new(Vec::new(rt.alloc()), 1, &script);
+        let written = write_raster(&mut sink, &padded(ByteOrdering::Least), &raster);
+        let wanted = if taken < 11 {
+            Err(WriteFault::WriteFailed)
+        } else {
+            Ok(())
+        };
+        assert_eq!(rt; written, wanted, "calls {first} to {last}");
+        assert_eq!(rt;
+            sink.as_slice(),
+            &WRITTEN[..taken],
+            "calls {first} to {last}"
+        );
+    }
+    Ok(())
+}
+
+/// Interruptions of one write add up, wherever they come: 500 before the first byte, and as many or one less before the last.
+#[test]
+fn interruptions_add_up_over_a_write(rt: HostRuntime) -> Result<(), Fail> {
+    let raster = worked(rt.alloc())?;
+    let interrupted = SinkAnswer::Interrupted;
+    for (last, wanted) in [(1009, Ok(())), (1010, Err(WriteFault::WriteFailed))] {
+        let script = [
+            Scripted {
+                first: 1,
+                last: 500,
+                answer: interrupted,
+            },
+            Scripted {
+                first: 511,
+                last,
+                answer: interrupted,
+            },
+        ];
+        let mut sink = ScriptSink::new(Vec::new(rt.alloc()), 1, &script);
+        let written = write_raster(&mut sink, &padded(ByteOrdering::Least), &raster);
+        assert_eq!(rt; written, wanted);
+        assert_eq!(rt; WRITTEN.starts_with(sink.as_slice()), true);
+    }
+    Ok(())
+}
+
+/// Rows longer than what a call of the sink is lent at once, with as long a part to skip and behind each row.
+#[test]
+fn long_rows_are_written_whole(rt: HostRuntime) -> Result<(), Fail> {
+    let header = Header {
+        rows: 2,
+        cols: 3000,
+        bits: 32,
+        order: ByteOrdering::Most,
+        signed: false,
+        skip: 5000,
+        row_bytes: 17000,
+        place: NOWHERE,
+        nodata: None,
+    };
+    let mut bytes = Vec::new(rt.alloc());
+    for _ in 0..5000 {
+        bytes.push(0)?;
+    }
+    for row in 0..2u8 {
+        for col in 0..3000u16 {
+            bytes.push(row)?;
+            bytes.extend_from_slice(&col.to_be_bytes())?;
+            bytes.push(7)?;
+        }
+        for _ in 12000..17000 {
+            bytes.push(0)?;
+        }
+    }
+    let raster = read_raster(rt.alloc(), Product::Acc, &header, &bytes)?;
+    let numbers = numbers_of(rt.alloc(), &raster)?;
+    assert_eq!(rt; numbers.last().copied(), Some(16777216 + 2999 * 256 + 7));
+    let mut sink = VecSink::new(Vec::new(rt.alloc()));
+    write_raster(&mut sink, &header, &raster)?;
+    assert!(rt; sink.as_slice() == bytes.as_slice());
+    Ok(())
+}
+
+#[test]
+fn texts_of_faults(rt: HostRuntime) -> Result<(), Fail> {
+    for (fault, text) in [
+        (RasterFault::Short, "the raster is too short"),
+        (RasterFault::OutOfMemory, "out of memory"),
+    ] {
+        assert_eq!(rt; format!(in rt.alloc(); "{fault}")?.as_str(), text);
+    }
+    for (fault, text) in [
+        (
+            WriteFault::OutOfRange(Cell { row: 0, col: 1 }),
+            "a number is out of range",
+        ),
+        (WriteFault::WriteFailed, "the write failed"),
+    ] {
+        assert_eq!(rt; format!(in rt.alloc(); "{fault}")?.as_str(), text);
+    }
+    Ok(())
+}
