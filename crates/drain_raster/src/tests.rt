@@ -169,96 +169,91 @@ fn the_no_data_number_is_that_of_the_header_or_the_product(rt: HostRuntime) -> R
     Ok(())
 }
 
-/// For each kind of pixel its least and its greatest number with their bytes, least significant first, and numbers that it
-/// can't spell.
+/// A pixel's bits and sign, a number, and its bytes with the least significant first and with the most significant first.
+type Spelling = (u8, bool, i64, [u8; 4], [u8; 4]);
+
+/// The least and the greatest number of each kind of pixel; behind a pixel stand zeros.
+const BOUNDS: [Spelling; 12] = [
+    (8, false, 0, [0, 0, 0, 0], [0, 0, 0, 0]),
+    (8, false, 255, [0xff, 0, 0, 0], [0xff, 0, 0, 0]),
+    (8, true, -128, [0x80, 0, 0, 0], [0x80, 0, 0, 0]),
+    (8, true, 127, [0x7f, 0, 0, 0], [0x7f, 0, 0, 0]),
+    (16, false, 0, [0, 0, 0, 0], [0, 0, 0, 0]),
+    (16, false, 65535, [0xff, 0xff, 0, 0], [0xff, 0xff, 0, 0]),
+    (16, true, -32768, [0, 0x80, 0, 0], [0x80, 0, 0, 0]),
+    (16, true, 32767, [0xff, 0x7f, 0, 0], [0x7f, 0xff, 0, 0]),
+    (32, false, 0, [0, 0, 0, 0], [0, 0, 0, 0]),
+    (
+        32,
+        false,
+        4294967295,
+        [0xff, 0xff, 0xff, 0xff],
+        [0xff, 0xff, 0xff, 0xff],
+    ),
+    (32, true, -2147483648, [0, 0, 0, 0x80], [0x80, 0, 0, 0]),
+    (
+        32,
+        true,
+        2147483647,
+        [0xff, 0xff, 0xff, 0x7f],
+        [0x7f, 0xff, 0xff, 0xff],
+    ),
+];
+
 #[test]
 fn each_kind_of_pixel_spells_its_bounds(rt: HostRuntime) -> Result<(), Fail> {
-    let kinds: [(u8, bool, i64, [u8; 4], i64, [u8; 4], [i64; 2]); 6] = [
-        (8, false, 0, [0, 0, 0, 0], 255, [0xff, 0, 0, 0], [-1, 256]),
-        (
-            8,
-            true,
-            -128,
-            [0x80, 0, 0, 0],
-            127,
-            [0x7f, 0, 0, 0],
-            [-129, 128],
-        ),
-        (
-            16,
-            false,
-            0,
-            [0, 0, 0, 0],
-            65535,
-            [0xff, 0xff, 0, 0],
-            [-1, 65536],
-        ),
-        (
-            16,
-            true,
-            -32768,
-            [0, 0x80, 0, 0],
-            32767,
-            [0xff, 0x7f, 0, 0],
-            [-32769, 32768],
-        ),
-        (
-            32,
-            false,
-            0,
-            [0, 0, 0, 0],
-            4294967295,
-            [0xff, 0xff, 0xff, 0xff],
-            [-1, -2147483648],
-        ),
-        (
-            32,
-            true,
-            -2147483648,
-            [0, 0, 0, 0x80],
-            2147483647,
-            [0xff, 0xff, 0xff, 0x7f],
-            [2147483648, 4294967295],
-        ),
-    ];
-    for (bits, signed, least, least_bytes, greatest, greatest_bytes, outside) in kinds {
-        for order in [ByteOrdering::Least, ByteOrdering::Most] {
+    for (bits, signed, number, least_first, most_first) in BOUNDS {
+        for (order, bytes) in [
+            (ByteOrdering::Least, least_first),
+            (ByteOrdering::Most, most_first),
+        ] {
             let header = alone(bits, signed, order);
-            for (number, least_first) in [(least, least_bytes), (greatest, greatest_bytes)] {
-                let mut bytes = least_first;
-                if order == ByteOrdering::Most {
-                    if let Some(pixel) = bytes.get_mut(..bits as usize / 8) {
-                        pixel.reverse();
-                    }
-                }
-                let raster = read_raster(rt.alloc(), Product::Con, &header, &bytes)?;
-                assert_eq!(rt;
-                    raster.value(Cell { row: 0, col: 0 }),
-                    number,
-                    "{bits} bits"
-                );
-                let mut sink = VecSink::new(Vec::new(rt.alloc()));
-                write_raster(&mut sink, &header, &raster)?;
-                assert_eq!(rt;
-                    sink.as_slice(),
-                    bytes.as_slice(),
-                    "{number} in {bits} bits"
-                );
-            }
-            for number in outside {
-                let Some(raster) = raster_of(rt.alloc(), 1, 1, &[number])? else {
-                    return Err(Fail::new("no raster"));
-                };
-                let mut sink = VecSink::new(Vec::new(rt.alloc()));
-                let cell = Cell { row: 0, col: 0 };
-                assert_eq!(rt;
-                    write_raster(&mut sink, &header, &raster),
-                    Err(WriteFault::OutOfRange(cell)),
-                    "{number} in {bits} bits"
-                );
-                assert!(rt; sink.as_slice().is_empty());
-            }
+            let raster = read_raster(rt.alloc(), Product::Con, &header, &bytes)?;
+            assert_eq!(rt;
+                numbers_of(rt.alloc(), &raster)?.as_slice(),
+                [number].as_slice(),
+                "{bits} bits"
+            );
+            let mut sink = VecSink::new(Vec::new(rt.alloc()));
+            write_raster(&mut sink, &header, &raster)?;
+            assert_eq!(rt;
+                sink.as_slice(),
+                bytes.as_slice(),
+                "{number} in {bits} bits"
+            );
         }
+    }
+    Ok(())
+}
+
+#[test]
+fn no_kind_of_pixel_spells_a_number_outside_its_bounds(rt: HostRuntime) -> Result<(), Fail> {
+    for (bits, signed, number) in [
+        (8, false, -1),
+        (8, false, 256),
+        (8, true, -129),
+        (8, true, 128),
+        (16, false, -1),
+        (16, false, 65536),
+        (16, true, -32769),
+        (16, true, 32768),
+        (32, false, -1),
+        (32, false, -2147483648),
+        (32, true, 2147483648),
+        (32, true, 4294967295),
+    ] {
+        let Some(raster) = raster_of(rt.alloc(), 1, 1, &[number])? else {
+            return Err(Fail::new("no raster"));
+        };
+        let header = alone(bits, signed, ByteOrdering::Least);
+        let mut sink = VecSink::new(Vec::new(rt.alloc()));
+        let fault = WriteFault::OutOfRange(Cell { row: 0, col: 0 });
+        assert_eq!(rt;
+            write_raster(&mut sink, &header, &raster),
+            Err(fault),
+            "{number} in {bits} bits"
+        );
+        assert!(rt; sink.as_slice().is_empty());
     }
     Ok(())
 }
@@ -362,9 +357,9 @@ fn a_write_fails_where_its_sink_does(rt: HostRuntime) -> Result<(), Fail> {
             Ok(())
         };
         assert_eq!(rt; written, wanted, "calls {first} to {last}");
-        assert_eq!(rt;
-            sink.as_slice(),
-            &WRITTEN[..taken],
+        assert_eq!(rt; sink.as_slice().len(), taken, "calls {first} to {last}");
+        assert!(rt;
+            WRITTEN.starts_with(sink.as_slice()),
             "calls {first} to {last}"
         );
     }
@@ -398,9 +393,10 @@ fn interruptions_add_up_over_a_write(rt: HostRuntime) -> Result<(), Fail> {
 }
 
 /// Rows longer than what a call of the sink is lent at once, with as long a part to skip and behind each row.
-#[test]
-fn long_rows_are_written_whole(rt: HostRuntime) -> Result<(), Fail> {
-    let header = Header {
+fn long() -> Header
+    ensures { extent_of result ≡ record { rows = 2; cols = 3000 } }
+{
+    Header {
         rows: 2,
         cols: 3000,
         bits: 32,
@@ -410,7 +406,11 @@ fn long_rows_are_written_whole(rt: HostRuntime) -> Result<(), Fail> {
         row_bytes: 17000,
         place: NOWHERE,
         nodata: None,
-    };
+    }
+}
+
+#[test]
+fn long_rows_are_written_whole(rt: HostRuntime) -> Result<(), Fail> {
     let mut bytes = Vec::new(rt.alloc());
     for _ in 0..5000 {
         bytes.push(0)?;
@@ -425,6 +425,7 @@ fn long_rows_are_written_whole(rt: HostRuntime) -> Result<(), Fail> {
             bytes.push(0)?;
         }
     }
+    let header = long();
     let raster = read_raster(rt.alloc(), Product::Acc, &header, &bytes)?;
     let numbers = numbers_of(rt.alloc(), &raster)?;
     assert_eq!(rt; numbers.last().copied(), Some(16777216 + 2999 * 256 + 7));
