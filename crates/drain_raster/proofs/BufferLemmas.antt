@@ -1,13 +1,15 @@
 -- What stands at the front of a buffer, pixel by pixel, and lists of zeros.
-use Rattle.std.proofs.Common.{◌≡◌, ℕ, zero, suc, ◌+◌, ◌-◌, ◌*◌, ◌<◌, ◌≤◌, ℤ, List, [], ◌∷◌, ◌++◌, length, map, take, drop, replicate, refl, arith, sym, ap, ◌∙◌, append-nil, length-append, length-drop}
+use Rattle.std.proofs.Common.{◌≡◌, ℕ, zero, suc, ◌+◌, ◌-◌, ◌*◌, ◌<◌, ◌≤◌, ℤ, List, [], ◌∷◌, ◌++◌, length, map, take, drop, replicate, All, set, refl, arith, sym, ap, subst, ◌∙◌, append_assoc, append-nil, length-append, length-drop}
 use Rattle.std.specs.List.{flat_map, range_with_len}
-use Rattle.std.proofs.lemmas.List.{take_at, map-append}
+use Rattle.std.proofs.lemmas.List.{take_at, map-append, take_more_set}
+use Rattle.std.proofs.lemmas.List.Elements.{All-push}
 use Rattle.std.proofs.lemmas.List.Concat.{flat_map-append}
 use Rattle.std.proofs.lemmas.List.FromFn.{map-range_with_len_more}
 use borrow.Rule.Slice.PartMut.{put_mid}
 use Rattle.drain_device.proofs.FillLemmas.{take-put_mid_part}
 use Rattle.drain_grid.specs.declared.cell.Cell.{Cell}
 use Rattle.drain_grid.specs.Rasters.{Pixels}
+use Rattle.drain_grid.specs.Values.{IsPixel}
 use Rattle.drain_grid.specs.Whole.{number_at}
 use Rattle.drain_raster.specs.Bytes.{cells_bytes, cells_from}
 use Rattle.drain_raster.proofs.CellLists.{cell_of, flat_map-rows_more}
@@ -60,6 +62,42 @@ range-split a (suc m) n =
     let longer : suc m + n ≡ suc (m + n) = omega arith in
     let from : a + suc m ≡ (a + 1) + m = omega arith in
     rw (longer, from) (ap (λ (xs : List ℕ). a ∷ xs) (range-split (a + 1) m n))
+
+-- what f makes of the cells of a row up to a column, and on to another
+pub map-cells_on : {X : Type 0} (f : Cell → X) (r first end : ℕ) → first ≤ end →
+    map f (cells_from r 0 first) ++ map f (cells_from r first (end - first)) ≡ map f (cells_from r 0 end)
+map-cells_on f r first end within =
+    let all : end ≡ first + (end - first) = omega arith in
+    let from : 0 + first ≡ first = omega arith in
+    ap (λ k. map f (cells_from r 0 first) ++ map f (cells_from r k (end - first))) (sym from)
+    ∙ sym (map-append f (cells_from r 0 first) (cells_from r (0 + first) (end - first)))
+    ∙ ap (map f) (sym (map-append (cell_of r) (range_with_len 0 first) (range_with_len (0 + first) (end - first))))
+    ∙ ap (λ ks. map f (map (cell_of r) ks)) (sym (range-split 0 first (end - first))) ∙ ap (λ n. map f (cells_from r 0 n)) (sym all)
+
+-- and of one cell more
+pub map-cells_more : {X : Type 0} (f : Cell → X) (r first n col : ℕ) → first + n ≡ col →
+    map f (cells_from r first (n + 1)) ≡ map f (cells_from r first n) ++ f (cell_of r col) ∷ []
+map-cells_more f r first n col is =
+    ap (map f) (map-range_with_len_more (cell_of r) first n col is) ∙ map-append f (cells_from r first n) (cell_of r col ∷ [])
+
+-- one number more at the front of a buffer
+pub number-put : (f : Cell → ℤ) (r first n col stepped : ℕ) (buffer : List ℤ) (x stored : ℤ) → first + n ≡ col → stepped ≡ n + 1 → n < length buffer →
+    take n buffer ≡ map f (cells_from r first n) → All IsPixel (take n buffer) → stored ≡ x → x ≡ f (cell_of r col) → IsPixel x →
+    (take stepped (set buffer n stored) ≡ map f (cells_from r first stepped)) × All IsPixel (take stepped (set buffer n stored))
+number-put f r first n col stepped buffer x stored here is_next inside so_far pixels is_stored is_number is_pixel =
+    let grown : take stepped (set buffer n stored) ≡ take n buffer ++ x ∷ [] =
+    ap (λ m. take m (set buffer n stored)) is_next ∙ take_more_set buffer n stored inside ∙ ap (λ z. take n buffer ++ z ∷ []) is_stored in (
+      grown ∙ ap (λ zs. zs ++ x ∷ []) so_far ∙ ap (λ z. map f (cells_from r first n) ++ z ∷ []) is_number
+          ∙ sym (map-cells_more f r first n col here) ∙ ap (λ m. map f (cells_from r first m)) (sym is_next),
+      subst (All IsPixel) (sym grown) (All-push IsPixel (take n buffer) x pixels is_pixel),
+    )
+
+-- numbers of some cells more behind others
+pub numbers-pushed : (f : Cell → ℤ) (r first end : ℕ) (old before new part : List ℤ) → first ≤ end → before ≡ old ++ map f (cells_from r 0 first) →
+    part ≡ map f (cells_from r first (end - first)) → new ≡ before ++ part → new ≡ old ++ map f (cells_from r 0 end)
+numbers-pushed f r first end old before new part within so_far is pushed =
+    pushed ∙ ap (λ zs. zs ++ part) so_far ∙ append_assoc old (map f (cells_from r 0 first)) part
+    ∙ ap (λ zs. old ++ zs) (ap (λ zs. map f (cells_from r 0 first) ++ zs) is ∙ map-cells_on f r first end within)
 
 -- the bytes of cells in two parts
 cells_bytes-split : (bytes : ℤ → List ℕ) (p : Pixels) (r k m n : ℕ) →

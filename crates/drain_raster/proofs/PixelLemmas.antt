@@ -28,12 +28,6 @@ pixel-found h len number body at row col spelled is_at =
     ap number (take_rest body at) ∙ spelled.number_is (drop at body)
     ∙ ap (λ k. pixel_of h (drop k body)) (is_at ∙ ap (λ l. h.skip + row * h.row_bytes + col * l) spelled.len_is)
 
--- a row with one number more
-pub row-pushed : (f : Cell → ℤ) (old before new : List ℤ) (row col : ℕ) (n : ℤ) → before ≡ old ++ map f (row_cells col row) →
-    new ≡ before ++ n ∷ [] → n ≡ f (cell_of row col) → new ≡ old ++ map f (row_cells (col + 1) row)
-row-pushed f old before new row col n so_far pushed is =
-    rw (map-row_cells_more f col row, ← is, ← append_assoc, ← so_far) pushed
-
 -- a number of a pixel goes through 64 bits unchanged
 pub pixel-stored : (n : ℤ) → IsPixel n → to_z w64 (of_z w64 n) ≡ n
 pixel-stored n ok = to_z-of_z w64 n (grind (arith, ints, ok.low, ok.high))

@@ -1,10 +1,11 @@
 //! Reading a raster.
 
-ghost use Rattle.std.specs.Prelude.{◌≡◌, ◌↔◌, ◌<◌, ◌≤◌, ◌*◌, ◌+◌, ◌++◌, [], length, map, All, IfOk, OnOk, IsErrOf, unwrap_or, vec_len};
+ghost use Rattle.std.specs.Prelude.{◌≡◌, ◌↔◌, ◌<◌, ◌≤◌, ◌*◌, ◌+◌, ◌-◌, ◌++◌, [], length, take, map, All, IfOk, OnOk, IsErrOf, unwrap_or, vec_len};
 ghost use Rattle.std.specs.Vec.{vec_capacity};
 ghost use Rattle.drain_grid.specs.Extent.{row_cells, cells};
 ghost use Rattle.drain_grid.specs.Product.{default_no_data};
 ghost use Rattle.drain_grid.specs.Values.{IsPixel, IsNoData};
+ghost use Rattle.drain_raster.specs.Bytes.{cells_from};
 ghost use Rattle.drain_raster.specs.Pixels.{AreSpelled, needed_len, IsShort, pixel_at, extent_of, raster_of};
 
 use crate::fault::RasterFault;
@@ -13,6 +14,9 @@ use byteorder::{BigEndian, ByteOrder, LittleEndian};
 use drain_grid::{Product, Raster, Shape};
 use drain_header::{ByteOrdering, Header};
 use std::alloc::Global;
+
+/// How many numbers are decoded before they are appended together: a loop without a vector that may grow is the fast one.
+const BUFFER_NUMBERS: u32 = 512;
 
 /// How many bytes a raster needs.
 fn needed_len(header: &Header) -> usize
@@ -41,6 +45,31 @@ fn shape(header: &Header) -> Shape
     Shape::new(header.rows, header.cols).unwrap()
 }
 
+/// Puts the numbers of a row from one column up to another at the front of the buffer.
+fn put_numbers<P: Pixel, T: ByteOrder>(
+    buffer: &mut [i64],
+    header: &Header,
+    row: u32,
+    body: &[u8],
+    first: u32,
+    end: u32,
+)
+    requires spelled { AreSpelled header.now P.len (P.reads T.number_of) }
+    requires inside { row < header.now.rows }
+    requires long { needed_len header.now ≤ length body.now }
+    requires end { end ≤ header.now.cols }
+    requires first { first ≤ end }
+    requires room { end - first ≤ length buffer.old }
+    ensures items { take (end - first) buffer.new ≡ map (pixel_at header.now body.now) (cells_from row first (end - first)) }
+    ensures pixels { All IsPixel (take (end - first) buffer.new) }
+{
+    let start = header.skip as usize + row as usize * header.row_bytes as usize;
+    for col in first..end {
+        let at = start + col as usize * P::len();
+        buffer[(col - first) as usize] = P::number::<T>(&body[at..]);
+    }
+}
+
 /// Appends the numbers of a row.
 fn push_row<P: Pixel, T: ByteOrder>(numbers: &mut Vec<i64>, header: &Header, row: u32, body: &[u8])
     requires spelled { AreSpelled header.now P.len (P.reads T.number_of) }
@@ -52,11 +81,14 @@ fn push_row<P: Pixel, T: ByteOrder>(numbers: &mut Vec<i64>, header: &Header, row
     ensures room { vec_capacity numbers.old ≤ vec_capacity numbers.new }
     ensures pixels { All IsPixel numbers.new.items }
 {
-    let start = header.skip as usize + row as usize * header.row_bytes as usize;
-    for col in 0..header.cols {
-        let at = start + col as usize * P::len();
-        let pushed = numbers.push(P::number::<T>(&body[at..]));
-        pushed.unwrap();
+    let mut buffer = [0; BUFFER_NUMBERS as usize];
+    let mut first = 0;
+    while first < header.cols {
+        let end = header.cols.min(first + BUFFER_NUMBERS);
+        put_numbers::<P, T>(&mut buffer, header, row, body, first, end);
+        let came = (end - first) as usize;
+        numbers.extend_from_slice(&buffer[..came]).unwrap();
+        first = end;
     }
 }
 

@@ -1,23 +1,22 @@
-use Rattle.std.proofs.Common.{◌+◌, ◌*◌, ◌∙◌, ap, arith}
-use Rattle.drain_raster.proofs.PixelLemmas.{pixel-found, row-pushed, pixel-stored}
-use Rattle.std.proofs.lemmas.List.Elements.{All-push}
+use Rattle.std.proofs.Common.{◌-◌, arith, ap}
+use Rattle.std.proofs.lemmas.List.{length-take}
+use Rattle.std.proofs.lemmas.List.Elements.{All-append}
 use Rattle.drain_grid.specs.Values.{IsPixel}
 use Rattle.drain_header.specs.Fields.{Fields}
 use Rattle.drain_raster.specs.Pixels.{pixel_at}
+use Rattle.drain_raster.proofs.BufferLemmas.{numbers-pushed}
 use Rattle.drain_raster.proofs.read.push_row.Goals as goal
 
-pub loop-col-preserved : goal.loop-col-preserved
-loop-col-preserved g c =
-    let inv = c.loop-col.invariant in
-    let pushed = c.push-pushed.ensures in
-    let grown = rw (c.unwrap.ensures, pixel-stored c.number.result c.number.ensures.in_range) at pushed.items in
-    let longer = rw c.unwrap.ensures at pushed.len in
+pub loop-first-preserved : goal.loop-first-preserved
+loop-first-preserved g c =
+    let inv = c.loop-first.invariant in
+    let grown = rw c.unwrap.ensures at c.extend_from_slice.ensures.items in
+    let longer = rw c.unwrap.ensures at c.extend_from_slice.ensures.len in
     record {
-      items = row-pushed (pixel_at c.args.header.now c.args.body.now) _ _ _ c.args.row c.loop-col.col _ inv.items grown
-          (c.number.ensures.value ∙ pixel-found c.args.header.now g.P.Pixel.len (g.P.Pixel.reads g.T.ByteOrder.number_of) c.args.body.now _ c.args.row c.loop-col.col c.requires.spelled
-          (ap (λ (h : Fields). h.skip + c.args.row * h.row_bytes + c.loop-col.col * c.len.result) c.header.view_is
-          ∙ ap (λ l. c.args.header.now.skip + c.args.row * c.args.header.now.row_bytes + c.loop-col.col * l) c.len.ensures));
-      len = omega (arith, longer, inv.len);
-      room = omega (arith, pushed.capacity, inv.room);
-      pixels = rw grown (All-push IsPixel c.loop-col.numbers.items c.number.result inv.pixels c.number.ensures.in_range);
+      within = omega (arith, c.min-end.ensures, ap (λ (h : Fields). h.cols) c.header.view_is);
+      items = numbers-pushed (pixel_at c.args.header.now c.args.body.now) c.args.row c.loop-first.first c.min-end.result _ _ _ _ (omega (arith, c.min-end.ensures)) inv.items
+          c.put_numbers.ensures.items grown;
+      len = omega (arith, longer, inv.len, length-take (c.min-end.result - c.loop-first.first) c.put_numbers.new.buffer, c.put_numbers.auto.buffer, c.min-end.ensures);
+      room = omega (arith, c.extend_from_slice.ensures.capacity, inv.room);
+      pixels = rw grown (All-append IsPixel c.loop-first.numbers.items _ inv.pixels c.put_numbers.ensures.pixels);
     }
