@@ -12,6 +12,8 @@ mod read;
 #[cfg(test)]
 mod tests;
 mod write;
+#[cfg(test)]
+mod write_tests;
 
 pub use fault::{RasterFault, WriteFault};
 pub use read::read_raster;
