@@ -1,0 +1,8 @@
+mod Vectors
+pub mod BufferLemmas
+pub mod CellLists
+pub mod LengthLemmas
+pub mod PixelLemmas
+pub mod ReadBackLemmas
+pub mod SpellLemmas
+pub mod WritingLemmas

@@ -1,0 +1,137 @@
+-- Where the pixels of a row stand, and which kind of pixel a header has.
+use Rattle.std.proofs.Common.{◌≡◌, ◌≢◌, ℕ, ◌+◌, ◌-◌, ◌*◌, ◌/◌, ◌≤◌, ◌<◌, ◌⊎◌, inl, inr, ℤ, pos, Bool, true, false, Option, Some, IfSome, List, [], ◌∷◌, ◌++◌, map, length, take, drop, refl, arith, rules, sym, ap, ◌∙◌, append_assoc, All}
+use Rattle.std.proofs.lemmas.Bool.{cases_lt}
+use Rattle.std.proofs.lemmas.List.{take_rest}
+use Rattle.std.proofs.lemmas.List.Elements.{All-push}
+use Rattle.std.proofs.lemmas.Grind.{not_there}
+use Rattle.std.proofs.lemmas.Int.{ints, to_z-of_z}
+use Rattle.std.proofs.Math.Nat.{mul-le-mul, mul-le-mul_left, div-mul-le_self, le-div_iff_mul-le}
+use Rattle.std.proofs.Props.{props}
+use Rattle.byteorder.specs.Endian.{little_number, twos_complement}
+use mathlib.Core.Logic.{∥∥₁_elim}
+use mir.Syntax.{w64}
+use mir.Val.{SFits, to_z, of_z}
+use Rattle.drain_grid.specs.declared.cell.Cell.{Cell}
+use Rattle.drain_grid.specs.Extent.{row_cells}
+use Rattle.drain_grid.specs.Values.{IsPixel, IsNoData}
+use Rattle.drain_header.specs.declared.header.ByteOrdering.{ByteOrdering}
+use Rattle.drain_header.specs.declared.header.ByteOrdering.TheVariants.{Least, Most}
+use Rattle.drain_header.specs.Fields.{Fields, AreWithinBounds, IsPixelSize}
+use Rattle.drain_raster.specs.Pixels.{pixel_len, place_of, needed_len, number_in, spelled_by, pixel_of, pixel_at, AreSpelled}
+use Rattle.drain_raster.specs.Bytes.{least_number, greatest_number, complement_of, bytes_in, AreWritten}
+use Rattle.drain_raster.proofs.CellLists.{cell_of, map-row_cells_more}
+
+-- a number of this kind, at the place of a pixel, is the pixel's
+pub pixel-found : (h : Fields) (len : ℕ) (number : List ℕ → ℤ) (body : List ℕ) (at row col : ℕ) → AreSpelled h len number →
+    at ≡ h.skip + row * h.row_bytes + col * len → number (take (length body - at) (drop at body)) ≡ pixel_at h body (cell_of row col)
+pixel-found h len number body at row col spelled is_at =
+    ap number (take_rest body at) ∙ spelled.number_is (drop at body)
+    ∙ ap (λ k. pixel_of h (drop k body)) (is_at ∙ ap (λ l. h.skip + row * h.row_bytes + col * l) spelled.len_is)
+
+-- a number of a pixel goes through 64 bits unchanged
+pub pixel-stored : (n : ℤ) → IsPixel n → to_z w64 (of_z w64 n) ≡ n
+pixel-stored n ok = to_z-of_z w64 n (grind (arith, ints, ok.low, ok.high))
+
+-- a number that stands for no data does too
+pub no_data-stored : (n : ℤ) → IsNoData n → IsNoData (to_z w64 (of_z w64 n))
+no_data-stored n ok = rw (to_z-of_z w64 n (grind (arith, ints, ok.low, ok.high))) ok
+
+-- a header's pixels are those of its bits, sign and order
+pub spelled-so : (h inside : Fields) (bits : ℕ) (signed : Bool) (order : ByteOrdering) → inside ≡ h → inside.bits ≡ bits → inside.signed ≡ signed →
+    inside.order ≡ order → AreSpelled h (bits / 8) (spelled_by signed order (bits / 8))
+spelled-so h inside bits signed order view is_bits is_signed is_order = rw (← view) (record {
+  len_is = ap (λ b. b / 8) (sym is_bits);
+  number_is = λ bytes. rw (is_bits, is_signed, is_order) refl;
+})
+
+-- one byte spells the same number in either order
+one_byte : (order : ByteOrdering) (bytes : List ℕ) → number_in order 1 bytes ≡ little_number 1 bytes
+one_byte Least bytes = refl
+one_byte Most bytes = omega arith
+
+byte_by : (signed : Bool) (order : ByteOrdering) (bytes : List ℕ) → spelled_by signed Least 1 bytes ≡ spelled_by signed order 1 bytes
+byte_by true order bytes = ap (twos_complement 1) (sym (one_byte order bytes))
+byte_by false order bytes = ap pos (sym (one_byte order bytes))
+
+-- pixels of 8 bits have no order
+pub spelled-byte : (h inside : Fields) (signed : Bool) → inside ≡ h → inside.bits ≡ 8 → inside.signed ≡ signed → AreSpelled h 1 (spelled_by signed Least 1)
+spelled-byte h inside signed view is_bits is_signed = rw (← view) (record {
+  len_is = ap (λ b. b / 8) (sym is_bits);
+  number_is = λ bytes. rw (is_bits, is_signed) (byte_by signed inside.order bytes);
+})
+
+-- the bounds of a header's pixels are those of its bits and sign
+pub least-so : (h inside : Fields) (bits : ℕ) (signed : Bool) → inside ≡ h → inside.bits ≡ bits → inside.signed ≡ signed →
+    least_number signed bits ≡ least_number h.signed h.bits
+least-so h inside bits signed view is_bits is_signed = rw (← view, is_bits, is_signed) refl
+
+pub greatest-so : (h inside : Fields) (bits : ℕ) (signed : Bool) → inside ≡ h → inside.bits ≡ bits → inside.signed ≡ signed →
+    greatest_number signed bits ≡ greatest_number h.signed h.bits
+greatest-so h inside bits signed view is_bits is_signed = rw (← view, is_bits, is_signed) refl
+
+-- a number that a header gives is a lawful one
+pub no_data-held : (nodata : Option ℤ) (n : ℤ) → ∥ IfSome nodata IsNoData ∥₁ → nodata ≡ Some n → IsNoData n
+no_data-held nodata n held is = ∥∥₁_elim held (hlevel props) (λ ok. rw is at ok)
+
+-- pixels that are of neither 8 nor 16 bits are of 32
+pub widest : (bits : ℕ) → ∥ IsPixelSize bits ∥₁ → bits ≢ 8 → bits ≢ 16 → bits ≡ 32
+widest bits ok not_8 not_16 =
+    let not_other : (bits ≢ 32) → ⊥ = λ other. not_there ok (λ size. elim size [ inl is_8 ↦ not_8 is_8 | inr rest ↦ elim rest [ inl is_16 ↦ not_16 is_16 | inr is_32 ↦ other is_32 ] ]) in
+    elim (cases_lt bits 32) [
+      | inl less ↦ absurd (not_other (λ e. omega arith))
+      | inr not_less ↦ elim (cases_lt 32 bits) [ inl more ↦ absurd (not_other (λ e. omega arith)) | inr not_more ↦ omega arith ]
+    ]
+
+-- the place of each pixel, and of each row's end, is within the needed bytes
+pub place-within : (h : Fields) (row col : ℕ) → row < h.rows → col ≤ h.cols → place_of h row col ≤ needed_len h
+place-within h row col above before =
+    omega (
+      arith,
+      mul-le-mul {n₁ = row} {m₁ = h.row_bytes} {n₂ = h.rows - 1} {m₂ = h.row_bytes} (omega arith) (omega arith),
+      mul-le-mul {n₁ = col} {m₁ = pixel_len h} {n₂ = h.cols} {m₂ = pixel_len h} before (omega arith),
+    )
+
+-- a pixel takes at most 4 bytes
+pub pixel_len-most : (bits : ℕ) → ∥ IsPixelSize bits ∥₁ → bits / 8 ≤ 4
+pixel_len-most bits ok = ∥∥₁_elim ok (hlevel props) (λ size. elim size [
+  | inl is_8 ↦ rw is_8 (omega arith)
+  | inr rest ↦ elim rest [ inl is_16 ↦ rw is_16 (omega arith) | inr is_32 ↦ rw is_32 (omega arith) ]
+])
+
+-- and at least one
+pub pixel_len-least : (bits : ℕ) → ∥ IsPixelSize bits ∥₁ → 1 ≤ bits / 8
+pixel_len-least bits ok = ∥∥₁_elim ok (hlevel props) (λ size. elim size [
+  | inl is_8 ↦ rw is_8 (omega arith)
+  | inr rest ↦ elim rest [ inl is_16 ↦ rw is_16 (omega arith) | inr is_32 ↦ rw is_32 (omega arith) ]
+])
+
+-- the pixels of a row have room in it
+pub packed-fits : (h : Fields) → h.cols * h.bits / 8 ≤ h.row_bytes → h.cols * pixel_len h ≤ h.row_bytes
+packed-fits h holds =
+    let whole = mul-le-mul_left h.cols (div-mul-le_self h.bits 8) in
+    omega (arith, (le-div_iff_mul-le {k = 8} {x = h.cols * (h.bits / 8)} {y = h.cols * h.bits} (omega arith)).1 (omega (arith, whole)))
+
+-- the numbers are those of pixels of these bits, sign and order
+pub written-so : (h inside : Fields) (bits : ℕ) (signed : Bool) (order : ByteOrdering) → inside ≡ h → inside.bits ≡ bits → inside.signed ≡ signed →
+    inside.order ≡ order → AreWritten h (bits / 8) bits signed (λ z. bytes_in order (bits / 8) (complement_of bits z))
+written-so h inside bits signed order view is_bits is_signed is_order = rw (← view) (record {
+  len_is = ap (λ b. b / 8) (sym is_bits);
+  bits_are = sym is_bits;
+  sign_is = sym is_signed;
+  bytes_are = λ z. rw (is_bits, is_order) refl;
+})
+
+-- one byte is the same in either order
+one_byte_of : (order : ByteOrdering) (n : ℕ) → bytes_in Least 1 n ≡ bytes_in order 1 n
+one_byte_of Least n = refl
+one_byte_of Most n = search rules
+
+-- and so are numbers of pixels of 8 bits
+pub written-byte : (h inside : Fields) (signed : Bool) → inside ≡ h → inside.bits ≡ 8 → inside.signed ≡ signed →
+    AreWritten h 1 8 signed (λ z. bytes_in Least 1 (complement_of 8 z))
+written-byte h inside signed view is_bits is_signed = rw (← view) (record {
+  len_is = ap (λ b. b / 8) (sym is_bits);
+  bits_are = sym is_bits;
+  sign_is = sym is_signed;
+  bytes_are = λ z. rw is_bits (one_byte_of inside.order (complement_of 8 z));
+})

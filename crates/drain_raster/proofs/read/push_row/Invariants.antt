@@ -1,0 +1,19 @@
+use Rattle.std.proofs.Common.{◌≡◌, ◌+◌, ◌-◌, ◌≤◌, ◌++◌, map, All, vec_len}
+use Rattle.std.specs.Vec.{vec_capacity}
+use Rattle.drain_grid.specs.Values.{IsPixel}
+use Rattle.drain_raster.specs.Bytes.{cells_from}
+use Rattle.drain_raster.specs.Pixels.{pixel_at}
+use Rattle.drain_raster.proofs.read.push_row.Given as goal
+
+-- the numbers of the pixels that were passed stand behind the others, and there is room for the rest
+abbrev pub invariant-loop-first : goal.invariant-loop-first
+invariant-loop-first g l = record {
+  within : l.first ≤ l.header.cols;
+  items : l.numbers.items ≡ l.fn.numbers.items ++ map (pixel_at l.header l.body) (cells_from l.row 0 l.first);
+  len : vec_len l.numbers ≡ vec_len l.fn.numbers + l.first;
+  room : vec_capacity l.fn.numbers ≤ vec_capacity l.numbers;
+  pixels : All IsPixel l.numbers.items;
+}
+
+abbrev pub decreases-loop-first : goal.decreases-loop-first
+decreases-loop-first g l = l.header.cols - l.first

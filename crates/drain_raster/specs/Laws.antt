@@ -1,0 +1,16 @@
+-- A raster's bytes read back.
+use Rattle.std.specs.Prelude.{◌≡◌}
+use Rattle.drain_grid.specs.Rasters.{Pixels, ArePixels}
+use Rattle.drain_header.specs.Fields.{Fields, AreWithinBounds}
+use Rattle.drain_raster.specs.Pixels.{IsShort, extent_of, raster_of}
+use Rattle.drain_raster.specs.Bytes.{CanSpellAll, raster_bytes}
+
+-- the bytes are long enough, and spell the same numbers
+pub record ReadBack (h : Fields) (p : Pixels) : Type 0 where
+  pub long : ¬ IsShort h (raster_bytes h p)
+  pub numbers : (raster_of h p.nodata (raster_bytes h p)).numbers ≡ p.numbers
+
+-- the bytes of a raster whose numbers pixels can spell are the raster again
+abbrev pub BytesReadBack : Type 0
+BytesReadBack =
+    (h : Fields) (p : Pixels) → AreWithinBounds h → ArePixels p → p.extent ≡ extent_of h → CanSpellAll h p → ReadBack h p

@@ -1,0 +1,4 @@
+pub mod Pixels
+pub mod Bytes
+pub mod Writing
+pub mod Laws

@@ -1,0 +1,62 @@
+-- The pixels of a raster's bytes: where they stand, and the numbers that they spell.
+-- Source: the Esri description of BIL files and their headers (NROWS, NCOLS, NBITS, PIXELTYPE, BYTEORDER, SKIPBYTES, TOTALROWBYTES), of one band
+use Rattle.std.specs.Prelude.{◌≡◌, ℕ, ◌+◌, ◌-◌, ◌*◌, ◌/◌, ◌<◌, ℤ, pos, Bool, true, false, List, length, drop, map, unwrap_or}
+use Rattle.byteorder.specs.Endian.{big_number, little_number, twos_complement}
+use Rattle.drain_grid.specs.declared.cell.Cell.{Cell}
+use Rattle.drain_grid.specs.Size.{Extent}
+use Rattle.drain_grid.specs.Extent.{cells}
+use Rattle.drain_grid.specs.Rasters.{Pixels}
+use Rattle.drain_header.specs.declared.header.ByteOrdering.{ByteOrdering}
+use Rattle.drain_header.specs.declared.header.ByteOrdering.TheVariants.{Least, Most}
+use Rattle.drain_header.specs.Fields.{Fields}
+
+-- how many bytes a pixel takes
+abbrev pub pixel_len : Fields → ℕ
+pixel_len h = h.bits / 8
+
+-- where the pixel of a row and a column begins
+abbrev pub place_of : Fields → ℕ → ℕ → ℕ
+place_of h row col = h.skip + row * h.row_bytes + col * pixel_len h
+
+-- how many bytes a raster needs: up to the end of its last pixel
+abbrev pub needed_len : Fields → ℕ
+needed_len h = place_of h (h.rows - 1) h.cols
+
+-- a byte that is needed is missing
+abbrev pub IsShort : Fields → List ℕ → Type 0
+IsShort h body = length body < needed_len h
+
+-- the number that the first n bytes spell in this order
+abbrev pub number_in : ByteOrdering → ℕ → List ℕ → ℕ
+number_in Least n bytes = little_number n bytes
+number_in Most n bytes = big_number n bytes
+
+-- the number that the first n bytes spell, in two's complement where pixels are signed
+abbrev pub spelled_by : Bool → ByteOrdering → ℕ → List ℕ → ℤ
+spelled_by true order n bytes = twos_complement n (number_in order n bytes)
+spelled_by false order n bytes = pos (number_in order n bytes)
+
+-- the number of the pixel at the front of the bytes
+abbrev pub pixel_of : Fields → List ℕ → ℤ
+pixel_of h bytes = spelled_by h.signed h.order (pixel_len h) bytes
+
+-- the number of the pixel at a cell
+abbrev pub pixel_at : Fields → List ℕ → Cell → ℤ
+pixel_at h body c = pixel_of h (drop (place_of h c.row c.col) body)
+
+-- pixels of so many bytes, whose bytes spell this number, are those of the header
+pub record AreSpelled (h : Fields) (len : ℕ) (number : List ℕ → ℤ) : Type 0 where
+  pub len_is : len ≡ pixel_len h
+  pub number_is : (bytes : List ℕ) → number bytes ≡ pixel_of h bytes
+
+-- the rows and columns of a header
+abbrev pub extent_of : Fields → Extent
+extent_of h = record { rows = h.rows; cols = h.cols }
+
+-- the raster of a body: its pixels in row order, with the header's no-data number or else this one
+abbrev pub raster_of : Fields → ℤ → List ℕ → Pixels
+raster_of h default body = record {
+  extent = extent_of h;
+  nodata = unwrap_or h.nodata default;
+  numbers = map (pixel_at h body) (cells (extent_of h));
+}

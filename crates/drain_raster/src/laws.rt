@@ -1,0 +1,10 @@
+//! What the definitions of this crate say together.
+//!
+//! A law is a function with nothing to do: its contract is the law, and a caller that calls it has the law at hand.
+
+ghost use Rattle.drain_raster.specs.Laws.{BytesReadBack};
+
+/// The bytes of a raster, where its pixels can spell each number, are long enough and are read back to the same numbers.
+pub fn bytes_read_back()
+    ensures { BytesReadBack }
+{}

@@ -1,0 +1,20 @@
+//! Rasters of pixels as bytes: reading them into memory and writing them to a device.
+//!
+//! A raster is the body of an Esri BIL file of one band. Its header says how many pixels there are, how each is
+//! spelled and where each stands.
+#![tactic(auto)]
+
+mod fault;
+pub mod laws;
+mod pixel;
+mod range;
+mod read;
+#[cfg(test)]
+mod tests;
+mod write;
+#[cfg(test)]
+mod write_tests;
+
+pub use fault::{RasterFault, WriteFault};
+pub use read::read_raster;
+pub use write::write_raster;

@@ -1,0 +1,87 @@
+//! The numbers that a header's pixels can spell.
+
+ghost use Rattle.std.specs.Prelude.{◌≡◌, ◌<◌, ◌≤ℤ◌, ◌↔◌, IsTrue, MatchOption};
+ghost use Rattle.drain_raster.specs.Pixels.{extent_of};
+ghost use Rattle.drain_raster.specs.Bytes.{least_number, greatest_number, CanSpellAll, CanSpellTo, IsFirstAlong, IsFirstOutOfRange};
+
+use drain_grid::{Cell, Raster};
+use drain_header::Header;
+
+/// The least and the greatest number that pixels can spell.
+#[derive(Clone, Copy)]
+struct Spelled {
+    least: i64,
+    greatest: i64,
+}
+
+impl Spelled {
+    /// Those of pixels of so many bits.
+    fn by(header: &Header) -> Spelled
+        ensures least { result.least ≡ least_number header.now.signed header.now.bits }
+        ensures greatest { result.greatest ≡ greatest_number header.now.signed header.now.bits }
+    {
+        match (header.bits, header.signed) {
+            (8, false) => Spelled {
+                least: 0,
+                greatest: i64::from(u8::MAX),
+            },
+            (8, true) => Spelled {
+                least: i64::from(i8::MIN),
+                greatest: i64::from(i8::MAX),
+            },
+            (16, false) => Spelled {
+                least: 0,
+                greatest: i64::from(u16::MAX),
+            },
+            (16, true) => Spelled {
+                least: i64::from(i16::MIN),
+                greatest: i64::from(i16::MAX),
+            },
+            (_, false) => Spelled {
+                least: 0,
+                greatest: i64::from(u32::MAX),
+            },
+            (_, true) => Spelled {
+                least: i64::from(i32::MIN),
+                greatest: i64::from(i32::MAX),
+            },
+        }
+    }
+
+    /// Whether the number is one of them.
+    fn holds(self, number: i64) -> bool
+        ensures { IsTrue result ↔ (self.least ≤ℤ number) × (number ≤ℤ self.greatest) }
+    {
+        self.least <= number && number <= self.greatest
+    }
+}
+
+/// The first column of a row with a number that a pixel can't spell.
+fn first_in_row(header: &Header, spelled: Spelled, raster: &Raster, row: u32) -> Option<u32>
+    requires shape { raster.now.extent ≡ extent_of header.now }
+    requires least { spelled.least ≡ least_number header.now.signed header.now.bits }
+    requires greatest { spelled.greatest ≡ greatest_number header.now.signed header.now.bits }
+    requires inside { row < header.now.rows }
+    ensures { MatchOption result (CanSpellTo header.now raster.now row header.now.cols) (IsFirstAlong header.now raster.now row) }
+{
+    for col in 0..header.cols {
+        if !spelled.holds(raster.value(Cell { row, col })) {
+            return Some(col);
+        }
+    }
+    None
+}
+
+/// The first cell with a number that a pixel can't spell.
+pub fn first_out_of_range(header: &Header, raster: &Raster) -> Option<Cell>
+    requires shape { raster.now.extent ≡ extent_of header.now }
+    ensures { MatchOption result (CanSpellAll header.now raster.now) (IsFirstOutOfRange header.now raster.now) }
+{
+    let spelled = Spelled::by(header);
+    for row in 0..header.rows {
+        if let Some(col) = first_in_row(header, spelled, raster, row) {
+            return Some(Cell { row, col });
+        }
+    }
+    None
+}
