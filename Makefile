@@ -12,6 +12,12 @@ build/drain: $(SOURCES)
 build/label_bench: $(SOURCES)
 	@tools/build_program.sh label_bench $@
 
+build/raster_bench: $(SOURCES)
+	@tools/build_program.sh raster_bench $@ read 8 unsigned I 1 2
+
+build/mosaic_bench: $(SOURCES)
+	@tools/build_program.sh mosaic_bench $@ 2 1
+
 .PHONY: demo test bench clean
 
 demo: build/drain
@@ -22,9 +28,11 @@ test:
 	@$(MAKE) --no-print-directory build/drain build/label_bench
 	tests/program/run.sh build/drain build/label_bench
 
-bench: build/drain build/label_bench
+bench: build/drain build/label_bench build/raster_bench build/mosaic_bench
 	bench/run.sh build/drain
 	bench/labels.sh build/label_bench
+	bench/rasters.sh build/raster_bench
+	bench/mosaic.sh build/mosaic_bench
 
 clean:
 	rm -rf build crates/*/out

@@ -10,7 +10,8 @@ use Rattle.drain_device.specs.Counts.{Answered, counted}
 use Rattle.drain_device.specs.Patience.{full_patience, GivesUpWriting}
 use Rattle.drain_device.specs.Writes.{HandsOver}
 use Rattle.drain_device.proofs.CountLemmas.{answered_more}
-use Rattle.drain_raster.specs.Writing.{Hands, WriteFails}
+use Rattle.drain_device.specs.Failing.{WriteFails}
+use Rattle.drain_raster.specs.Writing.{Hands}
 
 -- a call that didn't give up met no failure and no stall, and no more interruptions than are borne
 pub went_on : (patience failures interruptions stalls : ℕ) → (GivesUpWriting patience failures interruptions stalls → ⊥) →

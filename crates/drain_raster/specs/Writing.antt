@@ -2,19 +2,10 @@
 use Rattle.std.specs.Prelude.{◌≡◌, ◌↔◌, ℕ, ◌-◌, List, Option, Result, IsErr}
 use Rattle.drain_device.specs.declared.counts.FaultCounts.{FaultCounts}
 use Rattle.drain_device.specs.Counts.{Answered, counted}
-use Rattle.drain_device.specs.Patience.{full_patience, GivesUpWriting}
+use Rattle.drain_device.specs.Patience.{GivesUpWriting}
 use Rattle.drain_device.specs.Writes.{HandsOver}
 
--- between these counts the write failed exactly where the sink failed, was interrupted for the 1,000th time, or took no byte of some
-pub record WriteFails (counts_old counts_new : FaultCounts) (stalls_old stalls_new : ℕ) (Fails : Type 0) : Type 0 where
-  pub failures : ℕ
-  pub interruptions : ℕ
-  pub stalls : ℕ
-  pub answered : Answered counts_old counts_new failures interruptions
-  pub stalled : stalls_new ≡ counted stalls_old stalls
-  pub exactly : Fails ↔ GivesUpWriting full_patience failures interruptions stalls
-
--- a part of such a write, which began with so much patience and left so much: it handed the bytes over, or gave up before the last of them
+-- a part of a write, which began with so much patience and left so much: it handed the bytes over, or gave up before the last of them
 pub record Hands {E : Type 0} (taken_old taken_new : Option (List ℕ)) (counts_old counts_new : FaultCounts) (stalls_old stalls_new : ℕ)
     (patience left : ℕ) (result : Result (Unit {0}) E) (bytes : List ℕ) : Type 0 where
   pub handed : HandsOver taken_old taken_new result bytes

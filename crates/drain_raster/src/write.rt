@@ -10,7 +10,8 @@ ghost use Rattle.drain_grid.specs.declared.cell.TheConstants.{MAX_LENGTH};
 ghost use Rattle.drain_grid.specs.Rasters.{Pixels};
 ghost use Rattle.drain_raster.specs.Pixels.{extent_of};
 ghost use Rattle.drain_raster.specs.Bytes.{AreWritten, CanSpellAll, CanSpellAllIn, IsFirstOutOfRange, cells_bytes, cells_from, bytes_of_row, raster_bytes};
-ghost use Rattle.drain_raster.specs.Writing.{Hands, WriteFails};
+ghost use Rattle.drain_device.specs.Failing.{WriteFails};
+ghost use Rattle.drain_raster.specs.Writing.{Hands};
 
 use crate::fault::WriteFault;
 use crate::pixel::Pixel;
