@@ -1,0 +1,1 @@
+//! Worked products and their verdicts.
