@@ -6,14 +6,17 @@
 #![tactic(auto)]
 
 pub mod cell_check;
+pub mod line;
 pub mod outlet;
 pub mod patch_check;
 pub mod tally;
 #[cfg(test)]
 mod tests;
 pub mod verdict;
+pub mod verdict_report;
 pub mod whole_check;
 
 pub use patch_check::patch_fault;
 pub use verdict::{Counts, Verdict};
+pub use verdict_report::verdict_line;
 pub use whole_check::verdict_of;
