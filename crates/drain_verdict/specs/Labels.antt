@@ -1,0 +1,41 @@
+-- The labels of outlets, as the rule SharedLabel compares them: no outlet has the label of an earlier one.
+-- Source: that each basin has a label of its own is this project's own.
+use Rattle.std.specs.Prelude.{◌≡◌, ℕ, ℤ, pos, ◌↔◌, IsSome, List}
+use Rattle.drain_basin.specs.Admitted.{IsAdmitted}
+use Rattle.drain_grid.specs.declared.cell.Cell.{Cell}
+use Rattle.drain_grid.specs.declared.rule.Rule.TheVariants.{SharedLabel}
+use Rattle.drain_grid.specs.Extent.{IsEarlier}
+use Rattle.drain_grid.specs.Values.{Values, NoDataNumbers}
+use Rattle.drain_grid.specs.Grid.{Grid, Products, HasData}
+use Rattle.drain_grid.specs.PatchRules.{Profile, profile1}
+
+-- the values of a data cell with code 0
+pub record IsOutletByCode (v : Values) : Type 0 where
+  pub has_data : IsSome v.z
+  pub code : v.dir ≡ pos 0
+
+-- they have this label
+pub record IsLabelOf (v : Values) (label : ℤ) : Type 0 where
+  pub outlet : IsOutletByCode v
+  pub label_is : label ≡ v.bas
+
+-- some data cell has code 0
+abbrev pub HasOutlet : Grid → Products → Type 0
+HasOutlet g ps = (c : Cell) × HasData g c × (ps.dir c ≡ pos 0)
+
+-- a data cell with code 0 before this place in row order has the label
+pub record IsLabelBefore (g : Grid) (ps : Products) (place : Cell) (label : ℤ) : Type 0 where
+  pub cell : Cell
+  pub earlier : IsEarlier cell place
+  pub has_data : HasData g cell
+  pub code : ps.dir cell ≡ pos 0
+  pub label_is : label ≡ ps.bas cell
+
+-- the labels that were admitted are exactly those of the cells before this place
+abbrev pub AreLabelsBefore : Grid → Products → Cell → List (ℕ × ℕ) → Type 0
+AreLabelsBefore g ps place labels = (label : ℤ) → IsAdmitted labels label ↔ IsLabelBefore g ps place label
+
+-- the rules of a patch, and SharedLabel against the labels that were admitted
+abbrev pub labelled_profile : NoDataNumbers → List (ℕ × ℕ) → Profile
+labelled_profile nodata labels p SharedLabel = IsOutletByCode p.here → ¬ IsAdmitted labels p.here.bas
+labelled_profile nodata labels p r = profile1 nodata p r

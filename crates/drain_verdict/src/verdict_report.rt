@@ -1,0 +1,48 @@
+//! The line that tells a verdict.
+
+ghost use Rattle.std.specs.Prelude.{◌≡◌};
+ghost use Rattle.drain_verdict.specs.Lines.{verdict_line, accepted_line, rejected_line};
+
+use crate::line::{Line, push_number, words};
+use crate::verdict::{Counts, Verdict};
+use drain_grid::Rule;
+
+/// The line of a verdict, without a line end, in ASCII.
+pub fn verdict_line(verdict: &Verdict) -> Line
+    ensures { result.bytes ≡ verdict_line verdict.now }
+{
+    match verdict {
+        Verdict::Accepted(counts) => accepted(counts),
+        Verdict::Rejected { rule, row, col } => rejected(*rule, *row, *col),
+    }
+}
+
+fn accepted(counts: &Counts) -> Line
+    ensures { result.bytes ≡ accepted_line counts.now }
+{
+    let mut line = words("accepted rows=");
+    push_number(&mut line, counts.rows);
+    line.push_str(" cols=");
+    push_number(&mut line, counts.cols);
+    line.push_str(" data=");
+    push_number(&mut line, counts.data_cells);
+    line.push_str(" raised=");
+    push_number(&mut line, counts.raised);
+    line.push_str(" outlets=");
+    push_number(&mut line, counts.outlets);
+    line
+}
+
+fn rejected(rule: Rule, row: u32, col: u32) -> Line
+    ensures { result.bytes ≡ rejected_line rule row col }
+{
+    let mut line = words("rejected rule=");
+    push_number(&mut line, u32::from(rule.number()));
+    line.push_str(" ");
+    line.push_str(rule.name());
+    line.push_str(" row=");
+    push_number(&mut line, row);
+    line.push_str(" col=");
+    push_number(&mut line, col);
+    line
+}
