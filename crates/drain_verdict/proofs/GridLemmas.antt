@@ -8,18 +8,17 @@ use Rattle.std.proofs.Math.Nat.{mul-le-mul_right}
 use Rattle.drain_grid.specs.declared.cell.Cell.{Cell}
 use Rattle.drain_grid.specs.declared.rule.Rule.{Rule}
 use Rattle.drain_grid.specs.Rule.{IsBetween}
-use Rattle.drain_grid.specs.Extent.{IsEarlier, row_cells}
+use Rattle.drain_grid.specs.Extent.{row_cells}
 use Rattle.drain_grid.specs.Values.{NoDataNumbers}
 use Rattle.drain_grid.specs.Grid.{Grid, Products, IsInside}
 use Rattle.drain_grid.specs.Counts.{is_data, is_raised}
 use Rattle.drain_grid.specs.PatchRules.{profile1}
 use Rattle.drain_grid.specs.GridRules.{HoldsAt, IsEarlierPair, IsFirstFault}
 use Rattle.drain_grid.proofs.Neighbors.{place}
-use Rattle.drain_verdict.specs.declared.cell_check.Stop.TheVariants.{OutOfMemory}
 use Rattle.drain_verdict.specs.declared.tally.Tally.{Tally}
 use Rattle.drain_verdict.specs.declared.verdict.Verdict.TheVariants.{Accepted}
-use Rattle.drain_verdict.specs.Verdicts.{has_outlet_code, MayWantMemory, IsVerdict}
-use Rattle.drain_verdict.specs.Rows.{HoldAlong, CountsAlong, IsRowFault, IsStopAt}
+use Rattle.drain_verdict.specs.Verdicts.{has_outlet_code, IsVerdict}
+use Rattle.drain_verdict.specs.Rows.{HoldAlong, CountsAlong, IsRowFault}
 
 -- the cells of the first rows
 abbrev pub cells_above : Grid → ℕ → List Cell
@@ -57,15 +56,6 @@ CountsAbove-more g ps row old here new so_far along data_cells raised outlets = 
   outlets = omega (arith, count_by-cells_above_more (has_outlet_code g ps) g row, so_far.outlets, along.outlets);
 }
 
--- rules that hold at the rows above and along the row hold at each cell before this place
-holds_before : (nodata : NoDataNumbers) (g : Grid) (ps : Products) (row col : ℕ) → ((r : ℕ) → r < row → HoldAlong nodata g ps r g.extent.cols) →
-    HoldAlong nodata g ps row col →
-    (b : Cell) (q : Rule) → IsInside g b → IsBetween 1 15 q → IsEarlier b (place row col) → HoldsAt (profile1 nodata) g ps b q
-holds_before nodata g ps row col above along b q in_grid own (inl before) = above b.row before b.col q in_grid.col own
-holds_before nodata g ps row col above along b q in_grid own (inr beside) =
-    let back : HoldsAt (profile1 nodata) g ps (place row b.col) q = along b.col q beside.1 own in
-    subst (λ r. HoldsAt (profile1 nodata) g ps (place r b.col) q) (sym beside.0) back
-
 -- the first fault of the first row that has one is the first of the grid
 pub IsFirstFault-row : (nodata : NoDataNumbers) (g : Grid) (ps : Products) (row col : ℕ) (rule : Rule) → row < g.extent.rows →
     ((r : ℕ) → r < row → HoldAlong nodata g ps r g.extent.cols) → IsRowFault nodata g ps row col rule →
@@ -78,16 +68,11 @@ IsFirstFault-row nodata g ps row col rule inside above here = record {
 }
   where
     first : (b : Cell) (q : Rule) → IsInside g b → IsBetween 1 15 q → IsEarlierPair b q (place row col) rule → HoldsAt (profile1 nodata) g ps b q
-    first b q in_grid own (inl earlier) = holds_before nodata g ps row col above here.before b q in_grid own earlier
+    first b q in_grid own (inl (inl before)) = above b.row before b.col q in_grid.col own
+    first b q in_grid own (inl (inr beside)) =
+        let back : HoldsAt (profile1 nodata) g ps (place row b.col) q = here.before b.col q beside.1 own in
+        subst (λ r. HoldsAt (profile1 nodata) g ps (place r b.col) q) (sym beside.0) back
     first b q in_grid own (inr same) = subst (λ c. HoldsAt (profile1 nodata) g ps c q) (sym same.0) (here.smaller q own same.1)
-
--- want of memory in a row is want of memory on the grid
-pub MayWantMemory-row : (nodata : NoDataNumbers) (g : Grid) (ps : Products) (row col : ℕ) →
-    ((r : ℕ) → r < row → HoldAlong nodata g ps r g.extent.cols) → IsStopAt nodata g ps row col OutOfMemory → MayWantMemory g ps nodata
-MayWantMemory-row nodata g ps row col above stop = (
-  place row col,
-  record { has_data = stop.0; code = stop.1; before = holds_before nodata g ps row col above stop.2 },
-)
 
 -- a row's counts are at most its length
 pub tally_fits : (g : Grid) (ps : Products) (row cols : ℕ) (tally : Tally) → CountsAlong g ps row cols tally →

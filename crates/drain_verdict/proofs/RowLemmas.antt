@@ -76,4 +76,4 @@ IsStopAt-cell nodata g ps row col labels p (Fault rule) inside holds before is l
     (IsLeastFault-cell g ps nodata labels (place row col) p (Some rule) inside before is least)
 IsStopAt-cell nodata g ps row col labels p OutOfMemory inside holds before is outlet =
     let here : IsOutletByCode (values_at g ps (place row col)) = subst (λ (q : Patch). IsOutletByCode q.here) is outlet in
-    (record { inside = inside; is_data = here.has_data }, here.code, holds)
+    (record { inside = inside; is_data = here.has_data }, here.code)

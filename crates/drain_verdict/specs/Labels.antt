@@ -19,6 +19,10 @@ pub record IsLabelOf (v : Values) (label : ℤ) : Type 0 where
   pub outlet : IsOutletByCode v
   pub label_is : label ≡ v.bas
 
+-- some data cell has code 0
+abbrev pub HasOutlet : Grid → Products → Type 0
+HasOutlet g ps = (c : Cell) × HasData g c × (ps.dir c ≡ pos 0)
+
 -- a data cell with code 0 before this place in row order has the label
 pub record IsLabelBefore (g : Grid) (ps : Products) (place : Cell) (label : ℤ) : Type 0 where
   pub cell : Cell

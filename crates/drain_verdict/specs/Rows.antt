@@ -32,7 +32,7 @@ pub record IsRowFault (nodata : NoDataNumbers) (g : Grid) (ps : Products) (row c
 abbrev pub IsStopAt : NoDataNumbers → Grid → Products → ℕ → ℕ → Stop → Type 0
 IsStopAt nodata g ps row col (Fault rule) = IsRowFault nodata g ps row col rule
 IsStopAt nodata g ps row col OutOfMemory =
-    HasData g (record { row = row; col = col }) × (ps.dir (record { row = row; col = col }) ≡ pos 0) × HoldAlong nodata g ps row col
+    HasData g (record { row = row; col = col }) × (ps.dir (record { row = row; col = col }) ≡ pos 0)
 
 -- the same of the place and the reason together
 abbrev pub IsRowStop : NoDataNumbers → Grid → Products → ℕ → RowStop → Type 0

@@ -5,14 +5,12 @@ use Rattle.std.specs.List.{count_by}
 use Rattle.std.specs.Ordering.{int_eq}
 use Rattle.drain_grid.specs.declared.cell.Cell.{Cell}
 use Rattle.drain_grid.specs.declared.memory.OutOfMemory.{OutOfMemory}
-use Rattle.drain_grid.specs.declared.rule.Rule.{Rule}
-use Rattle.drain_grid.specs.Rule.{IsBetween}
-use Rattle.drain_grid.specs.Extent.{cells, IsEarlier}
+use Rattle.drain_grid.specs.Extent.{cells}
 use Rattle.drain_grid.specs.Values.{NoDataNumbers}
-use Rattle.drain_grid.specs.Grid.{Grid, Products, IsInside, HasData}
+use Rattle.drain_grid.specs.Grid.{Grid, Products}
 use Rattle.drain_grid.specs.Counts.{is_data, data_count, raised_count}
 use Rattle.drain_grid.specs.PatchRules.{profile1}
-use Rattle.drain_grid.specs.GridRules.{HoldsAt, RulesHold, IsFirstFault}
+use Rattle.drain_grid.specs.GridRules.{RulesHold, IsFirstFault}
 use Rattle.drain_verdict.specs.declared.verdict.Counts.{Counts}
 use Rattle.drain_verdict.specs.declared.verdict.Verdict.{Verdict}
 use Rattle.drain_verdict.specs.declared.verdict.Verdict.TheVariants.{Accepted, Rejected}
@@ -39,16 +37,6 @@ counts_of g ps = record {
 abbrev pub IsVerdict : Grid → Products → NoDataNumbers → Verdict → Type 0
 IsVerdict g ps nodata (Accepted counts) = RulesHold (profile1 nodata) 1 15 g ps × (counts ≡ counts_of g ps)
 IsVerdict g ps nodata (Rejected rule row col) = IsFirstFault (profile1 nodata) 1 15 g ps (record { row = row; col = col }) rule
-
--- a data cell with code 0, and every rule holds at each earlier cell: its label may be new, and want memory
-pub record WantsRoom (nodata : NoDataNumbers) (g : Grid) (ps : Products) (c : Cell) : Type 0 where
-  pub has_data : HasData g c
-  pub code : ps.dir c ≡ pos 0
-  pub before : (b : Cell) (r : Rule) → IsInside g b → IsBetween 1 15 r → IsEarlier b c → HoldsAt (profile1 nodata) g ps b r
-
--- some cell does
-abbrev pub MayWantMemory : Grid → Products → NoDataNumbers → Type 0
-MayWantMemory g ps nodata = (c : Cell) × WantsRoom nodata g ps c
 
 -- the fact holds where the verdict is an acceptance
 abbrev pub IfAccepted : Result Verdict OutOfMemory → Type 0 → Type 0

@@ -3,9 +3,9 @@
 ghost use Rattle.std.specs.Prelude.{◌≡◌, ◌+◌, ◌<◌, IfOk, IfErr, OnOk, OnErr};
 ghost use Rattle.drain_grid.specs.Correct.{IsCorrect, RunsAreSound};
 ghost use Rattle.drain_grid.specs.WholeGrid.{grid_of, products_of, nodata_of};
-ghost use Rattle.drain_verdict.specs.Labels.{AreLabelsBefore};
+ghost use Rattle.drain_verdict.specs.Labels.{AreLabelsBefore, HasOutlet};
 ghost use Rattle.drain_verdict.specs.Rows.{IsRowTally, IsRowStop};
-ghost use Rattle.drain_verdict.specs.Verdicts.{IsVerdict, MayWantMemory, IfAccepted};
+ghost use Rattle.drain_verdict.specs.Verdicts.{IsVerdict, IfAccepted};
 
 use crate::cell_check::{Stop, check_cell};
 use crate::tally::Tally;
@@ -30,7 +30,7 @@ pub fn verdict_of(
 ) -> Result<Verdict, OutOfMemory>
     requires same_shape { elevation.now.extent ≡ products.now.con.extent }
     ensures verdict { IfOk result (IsVerdict (grid_of elevation.now) (products_of products.now) (nodata_of products.now)) }
-    ensures err { OnErr result (MayWantMemory (grid_of elevation.now) (products_of products.now) (nodata_of products.now)) }
+    ensures err { OnErr result (HasOutlet (grid_of elevation.now) (products_of products.now)) }
 
     // What is accepted is correct, and every run is sound.
     ensures correct { IfAccepted result (IsCorrect (grid_of elevation.now) (products_of products.now) (nodata_of products.now)) }
@@ -45,7 +45,7 @@ pub fn verdict_of(
 fn walk(alloc: Global, elevation: &Elevation, products: &ProductSet) -> Result<Verdict, OutOfMemory>
     requires same_shape { elevation.now.extent ≡ products.now.con.extent }
     ensures verdict { IfOk result (IsVerdict (grid_of elevation.now) (products_of products.now) (nodata_of products.now)) }
-    ensures err { OnErr result (MayWantMemory (grid_of elevation.now) (products_of products.now) (nodata_of products.now)) }
+    ensures err { OnErr result (HasOutlet (grid_of elevation.now) (products_of products.now)) }
 {
     let shape = elevation.shape();
     let mut labels = OutletLabels::new(alloc);

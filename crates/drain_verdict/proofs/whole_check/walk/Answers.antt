@@ -2,7 +2,7 @@ use Rattle.std.proofs.Common.{◌≡◌, ◌+◌, ◌*◌, ◌<◌, ap, arith, b
 use Rattle.drain_grid.specs.Size.{Extent}
 use Rattle.drain_grid.specs.WholeGrid.{grid_of, products_of, nodata_of}
 use Rattle.drain_verdict.specs.Rows.{HoldAlong}
-use Rattle.drain_verdict.proofs.GridLemmas.{CountsAbove-more, IsFirstFault-row, MayWantMemory-row, IsVerdict-above, row_fits, tally_fits}
+use Rattle.drain_verdict.proofs.GridLemmas.{CountsAbove-more, IsFirstFault-row, IsVerdict-above, row_fits, tally_fits}
 use Rattle.drain_verdict.proofs.whole_check.walk.Goals as goal
 use Rattle.drain_verdict.proofs.whole_check.walk.Goals.{in-Fault, in-OutOfMemory}
 
@@ -45,15 +45,6 @@ returns-in-Err-clause-verdict c =
           rw w.result-is (IsFirstFault-row nodata g ps c.loop-row.row c.in-Err.end.col w.in-Fault.rule inside c.loop-row.invariant.holds
           (rw w.in-Fault.is at c.in-Err.ensures.stopped))
       | in-OutOfMemory w ↦ rw w.result-is tt
-    ]
-
-pub returns-in-Err-clause-err : goal.returns-in-Err-clause-err
-returns-in-Err-clause-err c =
-    elim c.match-end.branch [
-      | in-Fault w ↦ rw w.result-is tt
-      | in-OutOfMemory w ↦
-          rw w.result-is (MayWantMemory-row (nodata_of c.args.products.now) (grid_of c.args.elevation.now) (products_of c.args.products.now)
-          c.loop-row.row c.in-Err.end.col c.loop-row.invariant.holds (rw w.in-OutOfMemory.is at c.in-Err.ensures.stopped))
     ]
 
 pub loop-row-preserved : goal.loop-row-preserved
