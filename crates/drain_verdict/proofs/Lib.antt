@@ -1,4 +1,0 @@
-pub mod Faults
-pub mod GridLemmas
-pub mod LabelsBefore
-pub mod RowLemmas

@@ -1,5 +1,7 @@
-pub mod Labels
+pub mod Inputs
+pub mod Meaning
+pub mod Refusals
+pub mod Answers
+pub mod Faults
+pub mod Stages
 pub mod Lines
-pub mod Rows
-pub mod Stops
-pub mod Verdicts

@@ -1,10 +1,15 @@
--- The line that tells a verdict. Its words are this project's own.
-use Rattle.std.specs.Prelude.{ℕ, List, ◌++◌, codes, decimal}
+-- The line that tells the answer of a check. Its words are this project's own.
+use Rattle.std.specs.Prelude.{ℕ, List, ◌++◌, Result, Ok, Err, codes, decimal}
 use Rattle.drain_grid.specs.declared.rule.Rule.{Rule}
 use Rattle.drain_grid.specs.Rule.{number_of, name_of}
-use Rattle.drain_verdict.specs.declared.verdict.Counts.{Counts}
-use Rattle.drain_verdict.specs.declared.verdict.Verdict.{Verdict}
-use Rattle.drain_verdict.specs.declared.verdict.Verdict.TheVariants.{Accepted, Rejected}
+use Rattle.drain_grid.specs.Product.{name_of as product_name}
+use Rattle.drain_hgt.specs.Name.{name_of as tile_name}
+use Rattle.drain_header.specs.FaultText.{fault_text}
+use Rattle.drain_rules.specs.declared.verdict.Counts.{Counts}
+use Rattle.drain_rules.specs.declared.verdict.Verdict.{Verdict}
+use Rattle.drain_rules.specs.declared.verdict.Verdict.TheVariants.{Accepted, Rejected}
+use Rattle.drain_verdict.specs.declared.refusal.Refusal.{Refusal}
+use Rattle.drain_verdict.specs.declared.refusal.Refusal.TheVariants.{BadSide, BadName, NoTiles, RepeatedTile, BoxTooLarge, BadHeader, WrongShape, Misplaced, BadTileLength, RasterShort, SeamMismatch, OutOfMemory, ReadFailed}
 
 -- accepted rows=R cols=C data=D raised=U outlets=O
 abbrev pub accepted_line : Counts → List ℕ
@@ -21,3 +26,24 @@ rejected_line rule row col =
 abbrev pub verdict_line : Verdict → List ℕ
 verdict_line (Accepted counts) = accepted_line counts
 verdict_line (Rejected rule row col) = rejected_line rule row col
+
+-- refused WORD, and what it is about; failed WORD where memory or a source gave out
+abbrev pub refusal_line : Refusal → List ℕ
+refusal_line BadSide = codes "refused BadSide"
+refusal_line (BadName i) = codes "refused BadName " ++ decimal i
+refusal_line NoTiles = codes "refused NoTiles"
+refusal_line (RepeatedTile c) = codes "refused RepeatedTile " ++ tile_name c
+refusal_line BoxTooLarge = codes "refused BoxTooLarge"
+refusal_line (BadHeader p fault) = codes "refused BadHeader " ++ product_name p ++ codes " " ++ fault_text fault
+refusal_line (WrongShape p) = codes "refused WrongShape " ++ product_name p
+refusal_line (Misplaced p) = codes "refused Misplaced " ++ product_name p
+refusal_line (BadTileLength c) = codes "refused BadTileLength " ++ tile_name c
+refusal_line (RasterShort p) = codes "refused RasterShort " ++ product_name p
+refusal_line (SeamMismatch c) = codes "refused SeamMismatch row=" ++ decimal c.row ++ codes " col=" ++ decimal c.col
+refusal_line OutOfMemory = codes "failed OutOfMemory"
+refusal_line ReadFailed = codes "failed ReadFailed"
+
+-- the line of any answer
+abbrev pub report_line : Result Verdict Refusal → List ℕ
+report_line (Ok verdict) = verdict_line verdict
+report_line (Err refusal) = refusal_line refusal

@@ -1,22 +1,18 @@
-//! The verdict on a grid's products: each rule at each cell, the first fault, and the counts of an acceptance.
-//!
-//! A walk goes over the cells in row order and looks at one patch at a time. It stops at the first fault, so what it has
-//! passed keeps every rule. Of what it has passed it remembers three counts, and for the rule SharedLabel the labels of
-//! outlets. That rules kept at every cell make the products correct is `drain_grid`'s law `correct_from_rules`.
+//! The verdict on rasters that were made from tiles: from the bytes that readers give to an acceptance, a rejection or a refusal.
 #![tactic(auto)]
 
-pub mod cell_check;
-pub mod line;
-pub mod outlet;
-pub mod patch_check;
-pub mod tally;
-#[cfg(test)]
-mod tests;
-pub mod verdict;
-pub mod verdict_report;
-pub mod whole_check;
+ghost use Rattle.drain_verdict.specs.Stages.{IsRasterRefusal};
+ghost use Rattle.drain_verdict.specs.Answers.{IsAnswer};
+ghost use Rattle.drain_verdict.specs.Faults.{SomeReadFails};
 
-pub use patch_check::patch_fault;
-pub use verdict::{Counts, Verdict};
-pub use verdict_report::verdict_line;
-pub use whole_check::verdict_of;
+pub mod answer_report;
+pub mod headers;
+pub mod input;
+pub mod line;
+pub mod refusal;
+pub mod verdict_report;
+
+pub use answer_report::report;
+pub use drain_rules::{Counts, Verdict};
+pub use input::{Products, RasterInput};
+pub use refusal::Refusal;

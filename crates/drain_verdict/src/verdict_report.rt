@@ -4,8 +4,8 @@ ghost use Rattle.std.specs.Prelude.{◌≡◌};
 ghost use Rattle.drain_verdict.specs.Lines.{verdict_line, accepted_line, rejected_line};
 
 use crate::line::{Line, push_number, words};
-use crate::verdict::{Counts, Verdict};
 use drain_grid::Rule;
+use drain_rules::{Counts, Verdict};
 
 /// The line of a verdict, without a line end, in ASCII.
 pub fn verdict_line(verdict: &Verdict) -> Line

@@ -1,0 +1,53 @@
+-- The least fault of a cell: from its patch and the labels so far to the grid.
+use Rattle.std.proofs.Common.{◌≡◌, ℕ, ◌↔◌, List, Option, Some, None, sym, subst, arith}
+use Rattle.drain_grid.specs.declared.cell.Cell.{Cell}
+use Rattle.drain_grid.specs.declared.rule.Rule.{Rule}
+use Rattle.drain_grid.specs.declared.rule.Rule.TheVariants.{SharedLabel}
+use Rattle.drain_grid.specs.declared.patch.Patch.{Patch}
+use Rattle.drain_grid.specs.Rule.{IsBetween, IsLeastFault}
+use Rattle.drain_grid.specs.Values.{NoDataNumbers}
+use Rattle.drain_grid.specs.Grid.{Grid, Products, IsInside, patch_at}
+use Rattle.drain_grid.specs.PatchRules.{profile1}
+use Rattle.drain_grid.specs.GridRules.{HoldsAt, SharedLabelHolds}
+use Rattle.drain_rules.specs.Labels.{AreLabelsBefore, labelled_profile}
+
+-- rules that hold alike have one least fault
+pub IsLeastFault-same : (Own P Q : Rule → Type 0) (o : Option Rule) → ((r : Rule) → Own r → P r ↔ Q r) →
+    IsLeastFault Own P o → IsLeastFault Own Q o
+IsLeastFault-same Own P Q None same all = λ r own. (same r own).0 (all r own)
+IsLeastFault-same Own P Q (Some r) same least =
+    (least.0, λ holds. least.1 ((same r least.0).1 holds), λ q own below. (same q own).0 (least.2 q own below))
+
+-- the labels play no part in the rules of a patch
+pub labelled-patch : (nodata : NoDataNumbers) (labels : List (ℕ × ℕ)) (p : Patch) (r : Rule) → IsBetween 1 14 r →
+    profile1 nodata p r ↔ labelled_profile nodata labels p r
+labelled-patch nodata labels p SharedLabel own = absurd (omega (arith, own.1))
+labelled-patch nodata labels p r own = (λ h. h, λ h. h)
+
+-- with the labels of the outlets before the cell, SharedLabel is that of the grid
+shared-labelled : (g : Grid) (ps : Products) (nodata : NoDataNumbers) (labels : List (ℕ × ℕ)) (c : Cell) → IsInside g c →
+    AreLabelsBefore g ps c labels → labelled_profile nodata labels (patch_at g ps c) SharedLabel ↔ SharedLabelHolds g ps c
+shared-labelled g ps nodata labels c inside before = (
+  (λ fresh here code b at_b earlier code_b same.
+      fresh (record { has_data = here.is_data; code = code })
+      ((before (ps.bas c)).1 (record { cell = b; earlier = earlier; has_data = at_b; code = code_b; label_is = sym same }))),
+  (λ holds outlet admitted.
+      let b = (before (ps.bas c)).0 admitted in
+      holds (record { inside = inside; is_data = outlet.has_data }) outlet.code b.cell b.has_data b.earlier b.code (sym b.label_is)),
+)
+
+-- and so is every rule
+pub labelled-HoldsAt : (g : Grid) (ps : Products) (nodata : NoDataNumbers) (labels : List (ℕ × ℕ)) (c : Cell) (r : Rule) → IsInside g c →
+    AreLabelsBefore g ps c labels → labelled_profile nodata labels (patch_at g ps c) r ↔ HoldsAt (profile1 nodata) g ps c r
+labelled-HoldsAt g ps nodata labels c SharedLabel inside before = shared-labelled g ps nodata labels c inside before
+labelled-HoldsAt g ps nodata labels c r inside before = (λ h. h, λ h. h)
+
+-- the least fault of the cell's patch is that of the cell
+pub IsLeastFault-cell : (g : Grid) (ps : Products) (nodata : NoDataNumbers) (labels : List (ℕ × ℕ)) (c : Cell) (p : Patch) (o : Option Rule) →
+    IsInside g c → AreLabelsBefore g ps c labels → p ≡ patch_at g ps c →
+    IsLeastFault (IsBetween 1 15) (labelled_profile nodata labels p) o →
+    IsLeastFault (IsBetween 1 15) (HoldsAt (profile1 nodata) g ps c) o
+IsLeastFault-cell g ps nodata labels c p o inside before is least =
+    IsLeastFault-same (IsBetween 1 15) (labelled_profile nodata labels (patch_at g ps c)) (HoldsAt (profile1 nodata) g ps c) o
+    (λ r own. labelled-HoldsAt g ps nodata labels c r inside before)
+    (subst (λ p. IsLeastFault (IsBetween 1 15) (labelled_profile nodata labels p) o) is least)

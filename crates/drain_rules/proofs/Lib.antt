@@ -1,0 +1,4 @@
+pub mod Faults
+pub mod GridLemmas
+pub mod LabelsBefore
+pub mod RowLemmas

@@ -1,0 +1,79 @@
+-- One cell more of a row: what holds along it, and how many of its cells pass a test.
+use Rattle.std.proofs.Common.{◌≡◌, ℕ, ◌+◌, ◌<◌, Bool, cond, ◌&&◌, int_lt, is_some, unwrap_or, pos, List, None, Some, subst, arith, below_more}
+use Rattle.std.specs.List.{count_by}
+use Rattle.std.specs.Ordering.{int_eq}
+use Rattle.std.proofs.lemmas.List.FromFn.{sum_by-map-range_with_len_more}
+use Rattle.drain_grid.specs.declared.cell.Cell.{Cell}
+use Rattle.drain_grid.specs.declared.patch.Patch.{Patch}
+use Rattle.drain_grid.specs.declared.rule.Rule.{Rule}
+use Rattle.drain_grid.specs.Rule.{IsBetween, IsLeastFault}
+use Rattle.drain_grid.specs.Extent.{row_cells}
+use Rattle.drain_grid.specs.Values.{Values, NoDataNumbers}
+use Rattle.drain_grid.specs.Grid.{Grid, Products, IsInside, values_at, patch_at}
+use Rattle.drain_grid.specs.Counts.{is_data, is_raised}
+use Rattle.drain_grid.specs.PatchRules.{profile1}
+use Rattle.drain_grid.specs.GridRules.{HoldsAt}
+use Rattle.drain_grid.proofs.Neighbors.{place}
+use Rattle.drain_rules.specs.declared.cell_check.Stop.{Stop}
+use Rattle.drain_rules.specs.declared.cell_check.Stop.TheVariants.{Fault, OutOfMemory}
+use Rattle.drain_rules.specs.declared.tally.Tally.{Tally}
+use Rattle.drain_rules.specs.Labels.{IsOutletByCode, AreLabelsBefore}
+use Rattle.drain_rules.specs.Stops.{IsCellStop}
+use Rattle.drain_rules.specs.Verdicts.{has_outlet_code}
+use Rattle.drain_rules.specs.Rows.{HoldAlong, CountsAlong, IsRowFault, IsStopAt}
+use Rattle.drain_rules.proofs.Faults.{IsLeastFault-cell}
+
+-- how many pass, with one cell more
+count_by-row_cells_more : (p : Cell → Bool) (row cols : ℕ) →
+    count_by p (row_cells (cols + 1) row) ≡ count_by p (row_cells cols row) + cond (p (place row cols)) 1 0
+count_by-row_cells_more p row cols =
+    sum_by-map-range_with_len_more (λ c. cond (p c) 1 0) (λ k. place row k) 0 cols cols (omega arith)
+
+-- rules that hold along the row hold with one cell more, where that cell has no fault
+pub HoldAlong-more : (nodata : NoDataNumbers) (g : Grid) (ps : Products) (row col : ℕ) → HoldAlong nodata g ps row col →
+    IsLeastFault (IsBetween 1 15) (HoldsAt (profile1 nodata) g ps (place row col)) None → HoldAlong nodata g ps row (col + 1)
+HoldAlong-more nodata g ps row col before here k rule less own =
+    below_more (λ n. HoldsAt (profile1 nodata) g ps (place row n) rule) col (λ n earlier. before n rule earlier own) (here rule own) k less
+
+-- where the rules hold along the row, the fault of the next cell is that of the row
+pub IsRowFault-cell : (nodata : NoDataNumbers) (g : Grid) (ps : Products) (row col : ℕ) (rule : Rule) → col < g.extent.cols →
+    HoldAlong nodata g ps row col → IsLeastFault (IsBetween 1 15) (HoldsAt (profile1 nodata) g ps (place row col)) (Some rule) →
+    IsRowFault nodata g ps row col rule
+IsRowFault-cell nodata g ps row col rule inside before least = record {
+  inside = inside;
+  is_own = least.0;
+  fails = least.1;
+  before = before;
+  smaller = least.2;
+}
+
+-- the counts with one cell more
+pub CountsAlong-more : (g : Grid) (ps : Products) (row col : ℕ) (here : Values) (old new : Tally) →
+    here ≡ values_at g ps (place row col) → CountsAlong g ps row col old →
+    new.data_cells ≡ old.data_cells + cond (is_some here.z) 1 0 →
+    new.raised ≡ old.raised + cond (is_some here.z && int_lt (unwrap_or here.z (pos 0)) here.con) 1 0 →
+    new.outlets ≡ old.outlets + cond (is_some here.z && int_eq here.dir (pos 0)) 1 0 →
+    CountsAlong g ps row (col + 1) new
+CountsAlong-more g ps row col here old new is so_far data_cells raised outlets =
+    let one_data = count_by-row_cells_more (is_data g) row col in
+    let one_raised = count_by-row_cells_more (is_raised g ps) row col in
+    let one_outlet = count_by-row_cells_more (has_outlet_code g ps) row col in
+    let data_here : new.data_cells ≡ old.data_cells + cond (is_data g (place row col)) 1 0 = rw is at data_cells in
+    let raised_here : new.raised ≡ old.raised + cond (is_raised g ps (place row col)) 1 0 = rw is at raised in
+    let outlet_here : new.outlets ≡ old.outlets + cond (has_outlet_code g ps (place row col)) 1 0 = rw is at outlets in
+    record {
+      data_cells = omega (arith, one_data, data_here, so_far.data_cells);
+      raised = omega (arith, one_raised, raised_here, so_far.raised);
+      outlets = omega (arith, one_outlet, outlet_here, so_far.outlets);
+    }
+
+-- where the rules hold along the row, what stops a walk at the next cell stops it in the row
+pub IsStopAt-cell : (nodata : NoDataNumbers) (g : Grid) (ps : Products) (row col : ℕ) (labels : List (ℕ × ℕ)) (p : Patch) (stop : Stop) →
+    IsInside g (place row col) → HoldAlong nodata g ps row col → AreLabelsBefore g ps (place row col) labels →
+    p ≡ patch_at g ps (place row col) → IsCellStop nodata labels p stop → IsStopAt nodata g ps row col stop
+IsStopAt-cell nodata g ps row col labels p (Fault rule) inside holds before is least =
+    IsRowFault-cell nodata g ps row col rule inside.col holds
+    (IsLeastFault-cell g ps nodata labels (place row col) p (Some rule) inside before is least)
+IsStopAt-cell nodata g ps row col labels p OutOfMemory inside holds before is outlet =
+    let here : IsOutletByCode (values_at g ps (place row col)) = subst (λ (q : Patch). IsOutletByCode q.here) is outlet in
+    (record { inside = inside; is_data = here.has_data }, here.code)

@@ -1,0 +1,4 @@
+pub mod Labels
+pub mod Rows
+pub mod Stops
+pub mod Verdicts

@@ -1,0 +1,44 @@
+-- The verdict on a grid and its products: the first fault, or the counts of an acceptance.
+-- Source: the rules and the counts are this project's own.
+use Rattle.std.specs.Prelude.{◌≡◌, ℕ, pos, Bool, ◌&&◌, Result, Ok, Err}
+use Rattle.std.specs.List.{count_by}
+use Rattle.std.specs.Ordering.{int_eq}
+use Rattle.drain_grid.specs.declared.cell.Cell.{Cell}
+use Rattle.drain_grid.specs.Extent.{cells}
+use Rattle.drain_grid.specs.Values.{NoDataNumbers}
+use Rattle.drain_grid.specs.Grid.{Grid, Products}
+use Rattle.drain_grid.specs.Counts.{is_data, data_count, raised_count}
+use Rattle.drain_grid.specs.PatchRules.{profile1}
+use Rattle.drain_grid.specs.GridRules.{RulesHold, IsFirstFault}
+use Rattle.drain_rules.specs.declared.verdict.Counts.{Counts}
+use Rattle.drain_rules.specs.declared.verdict.Verdict.{Verdict}
+use Rattle.drain_rules.specs.declared.verdict.Verdict.TheVariants.{Accepted, Rejected}
+
+-- the cell has data, and its direction is 0
+abbrev pub has_outlet_code : Grid → Products → Cell → Bool
+has_outlet_code g ps c = is_data g c && int_eq (ps.dir c) (pos 0)
+
+-- how many cells do
+abbrev pub outlet_count : Grid → Products → ℕ
+outlet_count g ps = count_by (has_outlet_code g ps) (cells g.extent)
+
+-- the size of the grid, and how many of its cells have data, are raised, and are outlets
+abbrev pub counts_of : Grid → Products → Counts
+counts_of g ps = record {
+  rows = g.extent.rows;
+  cols = g.extent.cols;
+  data_cells = data_count g;
+  raised = raised_count g ps;
+  outlets = outlet_count g ps;
+}
+
+-- accepted where every rule holds at every cell, else rejected with the first fault
+abbrev pub IsVerdict : Grid → Products → NoDataNumbers → Verdict → Type 0
+IsVerdict g ps nodata (Accepted counts) = RulesHold (profile1 nodata) 1 15 g ps × (counts ≡ counts_of g ps)
+IsVerdict g ps nodata (Rejected rule row col) = IsFirstFault (profile1 nodata) 1 15 g ps (record { row = row; col = col }) rule
+
+-- the fact holds where the verdict is an acceptance
+abbrev pub IfAccepted : {E : Type 0} → Result Verdict E → Type 0 → Type 0
+IfAccepted (Ok (Accepted counts)) P = P
+IfAccepted (Ok (Rejected rule row col)) P = Unit {0}
+IfAccepted (Err refusal) P = Unit {0}

@@ -1,0 +1,25 @@
+-- The answer to the bytes: the first refusal that stands, else the verdict; and what an acceptance means.
+use Rattle.std.specs.Prelude.{Result, Ok, Err}
+use Rattle.drain_grid.specs.First.{IsFirst}
+use Rattle.drain_rules.specs.declared.verdict.Verdict.{Verdict}
+use Rattle.drain_rules.specs.Verdicts.{IsVerdict}
+use Rattle.drain_verdict.specs.declared.refusal.Refusal.{Refusal}
+use Rattle.drain_verdict.specs.declared.refusal.Refusal.TheVariants.{OutOfMemory, ReadFailed}
+use Rattle.drain_verdict.specs.Inputs.{Inputs}
+use Rattle.drain_verdict.specs.Meaning.{grid_of, products_of, no_data_numbers}
+use Rattle.drain_verdict.specs.Refusals.{Stands, place_of}
+
+-- no refusal stands
+abbrev pub AreReadable : Inputs → Type 0
+AreReadable i = (refusal : Refusal) → ¬ Stands i refusal
+
+-- the refusal is the first that stands; want of memory and a failed read say nothing of the bytes
+abbrev pub IsRefusal : Inputs → Refusal → Type 0
+IsRefusal i OutOfMemory = Unit {0}
+IsRefusal i ReadFailed = Unit {0}
+IsRefusal i refusal = IsFirst (place_of i) (Stands i) refusal
+
+-- the answer to the inputs
+abbrev pub IsAnswer : Inputs → Result Verdict Refusal → Type 0
+IsAnswer i (Ok verdict) = AreReadable i × IsVerdict (grid_of i) (products_of i) (no_data_numbers i) verdict
+IsAnswer i (Err refusal) = IsRefusal i refusal

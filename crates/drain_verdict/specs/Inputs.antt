@@ -1,0 +1,45 @@
+-- The bytes that a check is about.
+use Rattle.std.specs.Prelude.{◌≡◌, ℕ, List, map, Option, Some}
+use Rattle.std.specs.List.{All, AllZip}
+use Rattle.drain_grid.specs.declared.product.Product.{Product}
+use Rattle.drain_grid.specs.declared.product.Product.TheVariants.{Con, Dir, Acc, Bas, Spl, Rnk}
+use Rattle.drain_hgt.specs.declared.input.TileInput.{TileInput}
+use Rattle.drain_hgt.specs.Corner.{Corner}
+use Rattle.drain_hgt.specs.Name.{Names}
+use Rattle.drain_verdict.specs.declared.input.RasterInput.{RasterInput}
+use Rattle.drain_verdict.specs.declared.input.Products.{Products}
+
+-- the side, the names of the tiles, which tiles they name, the tiles' bodies, and each product's header and body
+pub record Inputs : Type 0 where
+  pub side : ℕ
+  pub names : List (List ℕ)
+  pub corners : List Corner
+  pub tiles : List (List ℕ)
+  pub header : Product → List ℕ
+  pub raster : Product → List ℕ
+
+-- the input of a product
+abbrev pub input_of : {R : Type 0} → Products R → Product → RasterInput R
+input_of ps Con = ps.con
+input_of ps Dir = ps.dir
+input_of ps Acc = ps.acc
+input_of ps Bas = ps.bas
+input_of ps Spl = ps.spl
+input_of ps Rnk = ps.rnk
+
+-- each name names a tile
+abbrev pub AreNames : List (List ℕ) → Type 0
+AreNames names = All (λ name. (c : Corner) × Names name c) names
+
+-- the names of the tiles
+abbrev pub names_of : {R : Type 0} → List (TileInput R) → List (List ℕ)
+names_of tiles = map (λ t. t.name) tiles
+
+-- what is handed in spells these inputs, where the devices tell their bytes
+pub record Tell {R : Type 0} (bytes_left : R → Option (List ℕ)) (side : ℕ) (tiles : List (TileInput R)) (ps : Products R) (i : Inputs) : Type 0 where
+  pub side_is : i.side ≡ side
+  pub names_are : i.names ≡ names_of tiles
+  pub corners_are : AreNames i.names → AllZip Names i.names i.corners
+  pub tiles_are : AllZip (λ t body. bytes_left t.body ≡ Some body) tiles i.tiles
+  pub headers_are : (p : Product) → i.header p ≡ (input_of ps p).header
+  pub rasters_are : (p : Product) → bytes_left (input_of ps p).body ≡ Some (i.raster p)

@@ -1,0 +1,60 @@
+-- What the bytes of a check mean: tiles, a grid, its products, and their no-data numbers.
+use Rattle.std.specs.Prelude.{ℤ, List, map, unwrap_or}
+use Rattle.drain_grid.specs.declared.cell.Cell.{Cell}
+use Rattle.drain_grid.specs.declared.product.Product.{Product}
+use Rattle.drain_grid.specs.declared.product.Product.TheVariants.{Con, Dir, Acc, Bas, Spl, Rnk}
+use Rattle.drain_grid.specs.Product.{default_no_data}
+use Rattle.drain_grid.specs.Text.{lines_of}
+use Rattle.drain_grid.specs.Values.{NoDataNumbers}
+use Rattle.drain_grid.specs.Grid as grid
+use Rattle.drain_hgt.specs.Samples.{samples_of}
+use Rattle.drain_header.specs.Fields.{Fields}
+use Rattle.drain_header.specs.Header.{header_of}
+use Rattle.drain_raster.specs.Pixels.{pixel_at}
+use Rattle.drain_mosaic.specs.Tiling.{Tiling}
+use Rattle.drain_mosaic.specs.Mosaic as mosaic
+use Rattle.drain_mosaic.specs.Joined as joined
+use Rattle.drain_verdict.specs.Inputs.{Inputs}
+
+-- the tiles that are named, and their samples
+abbrev pub tiling_of : Inputs → Tiling
+tiling_of i = record { side = i.side; corners = i.corners }
+
+abbrev pub tiles_of : Inputs → List mosaic.Tile
+tiles_of i = mosaic.tiles_of i.corners (map samples_of i.tiles)
+
+-- the grid of the elevations: a cell has the value of the first tile that gives one, which is its one value where the tiles agree
+abbrev pub grid_of : Inputs → grid.Grid
+grid_of i = joined.grid_of (tiling_of i) (tiles_of i)
+
+-- what a product's header says
+abbrev pub fields_of : Inputs → Product → Fields
+fields_of i p = header_of (lines_of (i.header p))
+
+-- the number of a product at a cell
+abbrev pub number_of : Inputs → Product → Cell → ℤ
+number_of i p c = pixel_at (fields_of i p) (i.raster p) c
+
+abbrev pub products_of : Inputs → grid.Products
+products_of i = record {
+  con = number_of i Con;
+  dir = number_of i Dir;
+  acc = number_of i Acc;
+  bas = number_of i Bas;
+  spl = number_of i Spl;
+  rnk = number_of i Rnk;
+}
+
+-- the number that stands for no data in a product: the header's, or else the product's default
+abbrev pub no_data_of : Inputs → Product → ℤ
+no_data_of i p = unwrap_or (fields_of i p).nodata (default_no_data p)
+
+abbrev pub no_data_numbers : Inputs → NoDataNumbers
+no_data_numbers i = record {
+  con = no_data_of i Con;
+  dir = no_data_of i Dir;
+  acc = no_data_of i Acc;
+  bas = no_data_of i Bas;
+  spl = no_data_of i Spl;
+  rnk = no_data_of i Rnk;
+}

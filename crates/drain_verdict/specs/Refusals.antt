@@ -1,0 +1,105 @@
+-- What each refusal of a check says of the bytes, and the order in which refusals are told. Both are this project's own.
+use Rattle.std.specs.Prelude.{◌≡◌, ℕ, suc, ◌+◌, ◌-◌, ◌*◌, ◌^◌, ℤ, pos, ◌-ℤ◌, ◌*ℤ◌, nat_abs, ◌≤◌, ◌<◌, ◌&&◌, List, [], ◌∷◌, slice_get, Some, Err, if◌then◌else◌}
+use Rattle.std.specs.Ordering.{int_eq}
+use Rattle.drain_grid.specs.declared.cell.Cell.{Cell}
+use Rattle.drain_grid.specs.declared.product.Product.{Product}
+use Rattle.drain_grid.specs.declared.product.Product.TheVariants.{Con, Dir, Acc, Bas, Spl, Rnk}
+use Rattle.drain_grid.specs.Extent.{IsCellOf, index_of}
+use Rattle.drain_grid.specs.Tile.{IsSide}
+use Rattle.drain_hgt.specs.Corner.{Corner}
+use Rattle.drain_hgt.specs.Name.{Names}
+use Rattle.drain_hgt.specs.Samples.{IsTile}
+use Rattle.drain_header.specs.declared.header.Place.{Place}
+use Rattle.drain_header.specs.Faults.{Answers}
+use Rattle.drain_raster.specs.Pixels.{extent_of, IsShort}
+use Rattle.drain_mosaic.specs.declared.layout.LayoutFault.{LayoutFault}
+use Rattle.drain_mosaic.specs.Tiling as tiling
+use Rattle.drain_mosaic.specs.LayoutFaults.{HasLayoutFault}
+use Rattle.drain_mosaic.specs.Mosaic.{HasTwoValues}
+use Rattle.drain_verdict.specs.declared.refusal.Refusal.{Refusal}
+use Rattle.drain_verdict.specs.declared.refusal.Refusal.TheVariants.{BadSide, BadName, NoTiles, RepeatedTile, BoxTooLarge, BadHeader, WrongShape, Misplaced, BadTileLength, RasterShort, SeamMismatch, OutOfMemory, ReadFailed}
+use Rattle.drain_verdict.specs.Inputs.{Inputs}
+use Rattle.drain_verdict.specs.Meaning.{tiling_of, tiles_of, fields_of}
+
+-- the name in this place names no tile
+pub record IsBadName (names : List (List ℕ)) (place : ℕ) : Type 0 where
+  pub name : List ℕ
+  pub is_there : slice_get names place ≡ Some name
+  pub names_none : (c : Corner) → ¬ Names name c
+
+-- within so many units of one another
+abbrev pub AreWithin : ℕ → ℤ → ℤ → Type 0
+AreWithin units a b = nat_abs (a -ℤ b) ≤ units
+
+-- the raster lies where the mosaic does: its corner within 10^-6 degree, its pixels' sizes within 10^-9 degree
+pub record IsPlaced (t : tiling.Tiling) (place : Place) : Type 0 where
+  pub ulx : AreWithin (10 ^ 9) place.ulx (tiling.west_of t *ℤ pos (10 ^ 15))
+  pub uly : AreWithin (10 ^ 9) place.uly (tiling.north_of t *ℤ pos (10 ^ 15))
+  pub xdim : AreWithin (10 ^ 6 * (t.side - 1)) (place.xdim *ℤ pos (t.side - 1)) (pos (10 ^ 15))
+  pub ydim : AreWithin (10 ^ 6 * (t.side - 1)) (place.ydim *ℤ pos (t.side - 1)) (pos (10 ^ 15))
+
+-- the product's header gives the rows and columns of the mosaic
+abbrev pub HasShape : Inputs → Product → Type 0
+HasShape i p = extent_of (fields_of i p) ≡ tiling.extent_of (tiling_of i)
+
+-- a tile at the corner has a body of another length
+pub record HasBadLength (i : Inputs) (c : Corner) : Type 0 where
+  pub place : ℕ
+  pub body : List ℕ
+  pub corner_is : slice_get i.corners place ≡ Some c
+  pub body_is : slice_get i.tiles place ≡ Some body
+  pub length_is_not : ¬ IsTile i.side body
+
+-- a cell of the mosaic has two values
+abbrev pub IsSeamFault : Inputs → Cell → Type 0
+IsSeamFault i c = IsCellOf (tiling.extent_of (tiling_of i)) c × HasTwoValues (tiling_of i) (tiles_of i) c
+
+-- what each refusal says; want of memory and a failed read are no facts of the bytes
+abbrev pub Stands : Inputs → Refusal → Type 0
+Stands i BadSide = ¬ IsSide i.side
+Stands i (BadName k) = IsBadName i.names k
+Stands i NoTiles = HasLayoutFault (tiling_of i) LayoutFault.NoTiles
+Stands i (RepeatedTile c) = HasLayoutFault (tiling_of i) (LayoutFault.RepeatedTile c)
+Stands i BoxTooLarge = HasLayoutFault (tiling_of i) LayoutFault.BoxTooLarge
+Stands i (BadHeader p fault) = Answers (i.header p) (Err fault)
+Stands i (WrongShape p) = ¬ HasShape i p
+Stands i (Misplaced p) = ¬ IsPlaced (tiling_of i) (fields_of i p).place
+Stands i (BadTileLength c) = HasBadLength i c
+Stands i (RasterShort p) = IsShort (fields_of i p) (i.raster p)
+Stands i (SeamMismatch c) = IsSeamFault i c
+Stands i OutOfMemory = ⊥
+Stands i ReadFailed = ⊥
+
+-- the place of a product in their order
+abbrev pub rank_of : Product → ℕ
+rank_of Con = 0
+rank_of Dir = 1
+rank_of Acc = 2
+rank_of Bas = 3
+rank_of Spl = 4
+rank_of Rnk = 5
+
+-- the first place of the corner in the list, its length where it isn't there
+abbrev pub place_among : List Corner → Corner → ℕ
+place_among [] c = 0
+place_among (d ∷ more) c = if int_eq c.lat d.lat && int_eq c.lon d.lon then 0 else suc (place_among more c)
+
+-- the order of the refusals; those of one product's header come before those of the next product
+abbrev pub place_of : Inputs → Refusal → ℕ × ℕ
+place_of i BadSide = (1, 0)
+place_of i (BadName k) = (2, k)
+place_of i NoTiles = (3, 0)
+place_of i (RepeatedTile c) = (3, 1)
+place_of i BoxTooLarge = (3, 2)
+place_of i (BadHeader p fault) = (4, 3 * rank_of p)
+place_of i (WrongShape p) = (4, 3 * rank_of p + 1)
+place_of i (Misplaced p) = (4, 3 * rank_of p + 2)
+place_of i (BadTileLength c) = (5, place_among i.corners c)
+place_of i (RasterShort p) = (6, rank_of p)
+place_of i (SeamMismatch c) = (7, index_of (tiling.extent_of (tiling_of i)) c)
+place_of i OutOfMemory = (8, 0)
+place_of i ReadFailed = (9, 0)
+
+-- no refusal of a kind before this one stands
+abbrev pub NoneStandsBefore : Inputs → ℕ → Type 0
+NoneStandsBefore i kind = (refusal : Refusal) → (place_of i refusal).0 < kind → ¬ Stands i refusal

@@ -1,0 +1,153 @@
+-- What the stages of a check find: the layout, the headers, the tiles, the rasters. Each is right, or the first refusal of its kind is told.
+use Rattle.std.specs.Prelude.{◌≡◌, ℕ, ◌<◌, ℤ, List, map, slice_get, Option, Some, Err}
+use Rattle.std.specs.List.{All, AllZip}
+use Rattle.drain_grid.specs.declared.product.Product.{Product}
+use Rattle.drain_grid.specs.declared.product.Product.TheVariants.{Con, Dir, Acc, Bas, Spl, Rnk}
+use Rattle.drain_grid.specs.declared.product_set.ProductSet.{ProductSet}
+use Rattle.drain_grid.specs.First.{IsFirst}
+use Rattle.drain_grid.specs.Product.{default_no_data}
+use Rattle.drain_grid.specs.Rasters.{Pixels}
+use Rattle.drain_grid.specs.Tile.{IsSide}
+use Rattle.drain_hgt.specs.declared.input.TileInput.{TileInput}
+use Rattle.drain_hgt.specs.Corner.{Corner}
+use Rattle.drain_hgt.specs.Name.{Names}
+use Rattle.drain_hgt.specs.Samples.{IsTile, samples_of}
+use Rattle.drain_header.specs.Fields.{Fields}
+use Rattle.drain_header.specs.Faults.{Answers, Describes}
+use Rattle.drain_raster.specs.Pixels.{extent_of, IsShort, raster_of}
+use Rattle.drain_mosaic.specs.declared.layout.LayoutFault.{LayoutFault}
+use Rattle.drain_mosaic.specs.declared.layout.LayoutFault.TheVariants as layout
+use Rattle.drain_mosaic.specs.Tiling as tiling
+use Rattle.drain_mosaic.specs.LayoutFaults.{HasLayoutFault, order_of}
+use Rattle.drain_verdict.specs.declared.headers.Headers.{Headers}
+use Rattle.drain_verdict.specs.declared.input.Products.{Products}
+use Rattle.drain_verdict.specs.declared.refusal.Refusal.{Refusal}
+use Rattle.drain_verdict.specs.declared.refusal.Refusal.TheVariants.{BadSide, BadName, NoTiles, RepeatedTile, BoxTooLarge, BadHeader, WrongShape, Misplaced, BadTileLength, RasterShort, OutOfMemory, ReadFailed}
+use Rattle.drain_verdict.specs.Inputs.{input_of}
+use Rattle.drain_verdict.specs.Refusals.{IsBadName, IsPlaced, rank_of}
+
+-- the names are those of tiles that make a mosaic
+pub record IsLayoutOf (side : ℕ) (names : List (List ℕ)) (t : tiling.Tiling) : Type 0 where
+  pub side_is : t.side ≡ side
+  pub in_range : IsSide side
+  pub named : AllZip Names names t.corners
+  pub sound : (fault : LayoutFault) → ¬ HasLayoutFault t fault
+
+-- the first name that names no tile
+pub record IsFirstBadName (names : List (List ℕ)) (place : ℕ) : Type 0 where
+  pub bad : IsBadName names place
+  pub first : (k : ℕ) → k < place → ¬ IsBadName names k
+
+-- the names are those of tiles, and this is the first fault of their list
+pub record IsLayoutFault (side : ℕ) (names : List (List ℕ)) (fault : LayoutFault) : Type 0 where
+  pub corners : List Corner
+  pub named : AllZip Names names corners
+  pub first : IsFirst order_of (HasLayoutFault (record { side = side; corners = corners })) fault
+
+-- why side and names are refused
+abbrev pub IsLayoutRefusal : ℕ → List (List ℕ) → Refusal → Type 0
+IsLayoutRefusal side names BadSide = ¬ IsSide side
+IsLayoutRefusal side names (BadName k) = IsSide side × IsFirstBadName names k
+IsLayoutRefusal side names NoTiles = IsSide side × IsLayoutFault side names layout.NoTiles
+IsLayoutRefusal side names (RepeatedTile c) = IsSide side × IsLayoutFault side names (layout.RepeatedTile c)
+IsLayoutRefusal side names BoxTooLarge = IsSide side × IsLayoutFault side names layout.BoxTooLarge
+IsLayoutRefusal side names OutOfMemory = Unit {0}
+IsLayoutRefusal side names refusal = ⊥
+
+-- the text describes a header with the shape and the place of the mosaic
+pub record IsHeaderFor (t : tiling.Tiling) (text : List ℕ) (h : Fields) : Type 0 where
+  pub described : Describes text h
+  pub shape : extent_of h ≡ tiling.extent_of t
+  pub placed : IsPlaced t h.place
+
+-- the text describes a header of another shape
+pub record HasWrongShape (t : tiling.Tiling) (text : List ℕ) : Type 0 where
+  pub fields : Fields
+  pub described : Describes text fields
+  pub shape_is_not : ¬ (extent_of fields ≡ tiling.extent_of t)
+
+-- the text describes a header of the right shape that lies elsewhere
+pub record IsElsewhere (t : tiling.Tiling) (text : List ℕ) : Type 0 where
+  pub fields : Fields
+  pub described : Describes text fields
+  pub shape : extent_of fields ≡ tiling.extent_of t
+  pub not_placed : ¬ IsPlaced t fields.place
+
+-- why the header of a product is refused
+abbrev pub IsHeaderRefusal : tiling.Tiling → Product → List ℕ → Refusal → Type 0
+IsHeaderRefusal t p text (BadHeader q fault) = (q ≡ p) × Answers text (Err fault)
+IsHeaderRefusal t p text (WrongShape q) = (q ≡ p) × HasWrongShape t text
+IsHeaderRefusal t p text (Misplaced q) = (q ≡ p) × IsElsewhere t text
+IsHeaderRefusal t p text refusal = ⊥
+
+-- the header of a product among all of them
+abbrev pub header_for : Headers → Product → Fields
+header_for hs Con = hs.con
+header_for hs Dir = hs.dir
+header_for hs Acc = hs.acc
+header_for hs Bas = hs.bas
+header_for hs Spl = hs.spl
+header_for hs Rnk = hs.rnk
+
+-- the header of each product is right
+abbrev pub AreHeadersFor : {R : Type 0} → tiling.Tiling → Products R → Headers → Type 0
+AreHeadersFor t ps hs = (p : Product) → IsHeaderFor t (input_of ps p).header (header_for hs p)
+
+-- the first product whose header is refused, and why
+pub record IsFirstHeaderRefusal {R : Type 0} (t : tiling.Tiling) (ps : Products R) (refusal : Refusal) : Type 0 where
+  pub product : Product
+  pub refused : IsHeaderRefusal t product (input_of ps product).header refusal
+  pub before : (q : Product) → rank_of q < rank_of product → (h : Fields) × IsHeaderFor t (input_of ps q).header h
+
+-- the tiles have these bodies
+abbrev pub AreBodies : {R : Type 0} → (R → Option (List ℕ)) → List (TileInput R) → List (List ℕ) → Type 0
+AreBodies bytes_left tiles bodies = AllZip (λ t body. bytes_left t.body ≡ Some body) tiles bodies
+
+-- the bodies have the length of tiles, and these are their samples
+pub record AreSamplesOf (side : ℕ) (bodies : List (List ℕ)) (samples : List (List ℤ)) : Type 0 where
+  pub lengths : All (IsTile side) bodies
+  pub samples_are : samples ≡ map samples_of bodies
+
+-- the body in this place has another length, and those before it have not
+pub record IsFirstBadLength (side : ℕ) (bodies : List (List ℕ)) (place : ℕ) : Type 0 where
+  pub body : List ℕ
+  pub body_is : slice_get bodies place ≡ Some body
+  pub length_is_not : ¬ IsTile side body
+  pub before : (k : ℕ) (earlier : List ℕ) → k < place → slice_get bodies k ≡ Some earlier → IsTile side earlier
+
+-- why the bodies of tiles are refused
+abbrev pub IsTileRefusal : tiling.Tiling → List (List ℕ) → Refusal → Type 0
+IsTileRefusal t bodies (BadTileLength c) = (place : ℕ) × (slice_get t.corners place ≡ Some c) × IsFirstBadLength t.side bodies place
+IsTileRefusal t bodies OutOfMemory = Unit {0}
+IsTileRefusal t bodies ReadFailed = Unit {0}
+IsTileRefusal t bodies refusal = ⊥
+
+-- the products have these bodies
+abbrev pub AreRasterBodies : {R : Type 0} → (R → Option (List ℕ)) → Products R → (Product → List ℕ) → Type 0
+AreRasterBodies bytes_left ps bodies = (p : Product) → bytes_left (input_of ps p).body ≡ Some (bodies p)
+
+-- the raster of a product among all of them
+abbrev pub raster_in : ProductSet → Product → Pixels
+raster_in s Con = s.con
+raster_in s Dir = s.dir
+raster_in s Acc = s.acc
+raster_in s Bas = s.bas
+raster_in s Spl = s.spl
+raster_in s Rnk = s.rnk
+
+-- the body is long enough, and this is its raster
+pub record IsRasterOf (h : Fields) (p : Product) (body : List ℕ) (raster : Pixels) : Type 0 where
+  pub long : ¬ IsShort h body
+  pub raster_is : raster ≡ raster_of h (default_no_data p) body
+
+-- the body of the product is the first that is too short
+pub record IsFirstShort (hs : Headers) (bodies : Product → List ℕ) (p : Product) : Type 0 where
+  pub short : IsShort (header_for hs p) (bodies p)
+  pub before : (q : Product) → rank_of q < rank_of p → ¬ IsShort (header_for hs q) (bodies q)
+
+-- why the bodies of products are refused
+abbrev pub IsRasterRefusal : Headers → (Product → List ℕ) → Refusal → Type 0
+IsRasterRefusal hs bodies (RasterShort p) = IsFirstShort hs bodies p
+IsRasterRefusal hs bodies OutOfMemory = Unit {0}
+IsRasterRefusal hs bodies ReadFailed = Unit {0}
+IsRasterRefusal hs bodies refusal = ⊥

@@ -1,0 +1,50 @@
+//! Why there is no verdict.
+
+use drain_grid::{Cell, Product};
+use drain_header::HeaderFault;
+use drain_hgt::TileName;
+use thiserror::Error;
+
+/// Why there is no verdict, in the order in which refusals are told. Those of one product's header come before those of the next.
+#[derive(Clone, Copy, PartialEq, Eq, Debug, Error)]
+pub enum Refusal {
+    /// No tile has so many samples along an edge.
+    #[error("no tile has this side")]
+    BadSide,
+    /// The name in this place, counted from 0, names no tile.
+    #[error("a name is no tile's")]
+    BadName(usize),
+    /// No tile is named.
+    #[error("no tile is named")]
+    NoTiles,
+    /// The tile was named before.
+    #[error("a tile is named twice")]
+    RepeatedTile(TileName),
+    /// The tiles lie further apart than 8 by 8.
+    #[error("the tiles lie too far apart")]
+    BoxTooLarge,
+    /// The product's header has this fault.
+    #[error("a header has a fault")]
+    BadHeader(Product, HeaderFault),
+    /// The product has other rows or columns than the mosaic.
+    #[error("a product has another shape")]
+    WrongShape(Product),
+    /// The product lies elsewhere than the mosaic.
+    #[error("a product lies elsewhere")]
+    Misplaced(Product),
+    /// The tile has another number of bytes.
+    #[error("a tile has another length")]
+    BadTileLength(TileName),
+    /// A byte of some pixel of the product is missing.
+    #[error("a raster is too short")]
+    RasterShort(Product),
+    /// Two tiles give the cell different values.
+    #[error("two tiles differ at a cell")]
+    SeamMismatch(Cell),
+    /// Memory was refused.
+    #[error("out of memory")]
+    OutOfMemory,
+    /// A source failed, or was interrupted for the 1,000th time.
+    #[error("the read failed")]
+    ReadFailed,
+}
