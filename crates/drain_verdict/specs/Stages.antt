@@ -44,6 +44,19 @@ pub record IsLayoutFault (side : ℕ) (names : List (List ℕ)) (fault : LayoutF
   pub named : AllZip Names names corners
   pub first : IsFirst order_of (HasLayoutFault (record { side = side; corners = corners })) fault
 
+-- why the names alone are refused
+abbrev pub IsNameRefusal : List (List ℕ) → Refusal → Type 0
+IsNameRefusal names (BadName k) = IsFirstBadName names k
+IsNameRefusal names OutOfMemory = Unit {0}
+IsNameRefusal names refusal = ⊥
+
+-- the refusal that tells a fault of the list of tiles
+abbrev pub IsLayoutFaultAs : LayoutFault → Refusal → Type 0
+IsLayoutFaultAs layout.NoTiles refusal = refusal ≡ NoTiles
+IsLayoutFaultAs (layout.RepeatedTile c) refusal = refusal ≡ RepeatedTile c
+IsLayoutFaultAs layout.BoxTooLarge refusal = refusal ≡ BoxTooLarge
+IsLayoutFaultAs layout.OutOfMemory refusal = refusal ≡ OutOfMemory
+
 -- why side and names are refused
 abbrev pub IsLayoutRefusal : ℕ → List (List ℕ) → Refusal → Type 0
 IsLayoutRefusal side names BadSide = ¬ IsSide side

@@ -8,6 +8,7 @@ ghost use Rattle.drain_verdict.specs.Faults.{SomeReadFails};
 pub mod answer_report;
 pub mod headers;
 pub mod input;
+pub mod layout_stage;
 pub mod line;
 pub mod refusal;
 pub mod verdict_report;
