@@ -64,3 +64,13 @@ pub named_all : {R : Type 0} (tiles : List (TileInput R)) (place : ℕ) (corners
     AllZip Names (take place (names_of tiles)) corners → AllZip Names (names_of tiles) corners
 named_all tiles place corners all so_far =
     subst (λ ns. AllZip Names ns corners) (take_all place (names_of tiles) (omega (arith, all, length-map tiles (λ t. t.name)))) so_far
+
+-- where each name names a tile, none is bad
+pub none_bad_in : (names : List (List ℕ)) (corners : List Corner) → AllZip Names names corners → (k : ℕ) → ¬ IsBadName names k
+none_bad_in [] corners named k bad = cc
+none_bad_in (x ∷ names) [] named k bad = absurd named
+none_bad_in (x ∷ names) (c ∷ corners) named zero bad =
+    let same : bad.name ≡ x = cc in
+    bad.names_none c (subst (λ name. Names name c) (sym same) named.0)
+none_bad_in (x ∷ names) (c ∷ corners) named (suc k) bad =
+    none_bad_in names corners named.1 k (record { name = bad.name; is_there = bad.is_there; names_none = bad.names_none })

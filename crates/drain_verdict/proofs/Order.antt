@@ -1,0 +1,81 @@
+-- The order of refusals, kind by kind.
+use Rattle.std.proofs.Common.{◌≡◌, ℕ, ◌+◌, ◌<◌, arith, inl, inr, refl, subst, below_more}
+use Rattle.drain_grid.specs.declared.cell.Cell.{Cell}
+use Rattle.drain_grid.specs.declared.product.Product.{Product}
+use Rattle.drain_grid.specs.First.{IsBefore, IsFirst}
+use Rattle.drain_hgt.specs.Corner.{Corner}
+use Rattle.drain_header.specs.declared.fault.HeaderFault.{HeaderFault}
+use Rattle.drain_verdict.specs.declared.refusal.Refusal.{Refusal}
+use Rattle.drain_verdict.specs.declared.refusal.Refusal.TheVariants.{BadSide, BadName, NoTiles, RepeatedTile, BoxTooLarge, BadHeader, WrongShape, Misplaced, BadTileLength, RasterShort, SeamMismatch, OutOfMemory, ReadFailed}
+use Rattle.drain_verdict.specs.Inputs.{Inputs}
+use Rattle.drain_verdict.specs.Refusals.{Stands, place_of, NoneStandsBefore}
+use Rattle.drain_verdict.specs.Answers.{AreReadable}
+
+-- a statement holds of every refusal of a kind where it holds of each that has the kind
+pub at_side : (i : Inputs) (P : Refusal → Type 0) → P BadSide → (b : Refusal) → (place_of i b).0 ≡ 1 → P b
+at_side i P side BadSide e = side
+at_side i P side b e = absurd (omega arith)
+
+pub at_name : (i : Inputs) (P : Refusal → Type 0) → ((k : ℕ) → P (BadName k)) → (b : Refusal) → (place_of i b).0 ≡ 2 → P b
+at_name i P name (BadName k) e = name k
+at_name i P name b e = absurd (omega arith)
+
+pub at_layout : (i : Inputs) (P : Refusal → Type 0) → P NoTiles → ((c : Corner) → P (RepeatedTile c)) → P BoxTooLarge → (b : Refusal) → (place_of i b).0 ≡ 3 → P b
+at_layout i P none repeated large NoTiles e = none
+at_layout i P none repeated large (RepeatedTile c) e = repeated c
+at_layout i P none repeated large BoxTooLarge e = large
+at_layout i P none repeated large b e = absurd (omega arith)
+
+pub at_header : (i : Inputs) (P : Refusal → Type 0) → ((p : Product) (fault : HeaderFault) → P (BadHeader p fault)) → ((p : Product) → P (WrongShape p))
+    → ((p : Product) → P (Misplaced p)) → (b : Refusal) → (place_of i b).0 ≡ 4 → P b
+at_header i P header shape place (BadHeader p fault) e = header p fault
+at_header i P header shape place (WrongShape p) e = shape p
+at_header i P header shape place (Misplaced p) e = place p
+at_header i P header shape place b e = absurd (omega arith)
+
+pub at_tile : (i : Inputs) (P : Refusal → Type 0) → ((c : Corner) → P (BadTileLength c)) → (b : Refusal) → (place_of i b).0 ≡ 5 → P b
+at_tile i P tile (BadTileLength c) e = tile c
+at_tile i P tile b e = absurd (omega arith)
+
+pub at_raster : (i : Inputs) (P : Refusal → Type 0) → ((p : Product) → P (RasterShort p)) → (b : Refusal) → (place_of i b).0 ≡ 6 → P b
+at_raster i P raster (RasterShort p) e = raster p
+at_raster i P raster b e = absurd (omega arith)
+
+pub at_seam : (i : Inputs) (P : Refusal → Type 0) → ((c : Cell) → P (SeamMismatch c)) → (b : Refusal) → (place_of i b).0 ≡ 7 → P b
+at_seam i P seam (SeamMismatch c) e = seam c
+at_seam i P seam b e = absurd (omega arith)
+
+-- nothing stands before the first kind
+pub none_first : (i : Inputs) → NoneStandsBefore i 1
+none_first i BadSide less = omega arith
+none_first i (BadName k) less = omega arith
+none_first i NoTiles less = omega arith
+none_first i (RepeatedTile c) less = omega arith
+none_first i BoxTooLarge less = omega arith
+none_first i (BadHeader p fault) less = omega arith
+none_first i (WrongShape p) less = omega arith
+none_first i (Misplaced p) less = omega arith
+none_first i (BadTileLength c) less = omega arith
+none_first i (RasterShort p) less = omega arith
+none_first i (SeamMismatch c) less = omega arith
+none_first i OutOfMemory less = omega arith
+none_first i ReadFailed less = omega arith
+
+-- nothing stands before the next kind, where nothing of this kind stands
+pub none_more : (i : Inputs) (kind : ℕ) → NoneStandsBefore i kind → ((b : Refusal) → (place_of i b).0 ≡ kind → ¬ Stands i b) → NoneStandsBefore i (kind + 1)
+none_more i kind before here b less =
+    below_more (λ n. (place_of i b).0 ≡ n → ¬ Stands i b) kind (λ n earlier e. before b (omega (arith, earlier, e))) (λ e. here b e) ((place_of i b).0) less refl
+
+-- where nothing of all the kinds stands, the bytes are readable
+pub readable : (i : Inputs) → NoneStandsBefore i 8 → AreReadable i
+readable i none OutOfMemory stands = stands
+readable i none ReadFailed stands = stands
+readable i none b stands = none b (omega arith) stands
+
+-- a refusal that stands is the first, where nothing of an earlier kind does, and of its own kind nothing in an earlier place
+pub first_of : (i : Inputs) (kind place : ℕ) (refusal : Refusal) → place_of i refusal ≡ (kind, place) → Stands i refusal → NoneStandsBefore i kind
+    → ((b : Refusal) → (place_of i b).0 ≡ kind → (place_of i b).1 < place → ¬ Stands i b) → IsFirst (place_of i) (Stands i) refusal
+first_of i kind place refusal at stands none same = record {
+  holds = stands;
+  first = λ b before. elim (subst (λ at. IsBefore (place_of i b) at) at before) [ inl earlier ↦ none b earlier | inr here ↦ same b here.0 here.1 ];
+}
