@@ -1,3 +1,6 @@
 mod Naming
 mod Order
 mod LayoutAnswers
+mod HeaderAnswers
+mod Places
+mod BodyAnswers
