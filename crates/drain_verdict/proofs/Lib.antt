@@ -4,3 +4,4 @@ mod LayoutAnswers
 mod HeaderAnswers
 mod Places
 mod BodyAnswers
+mod Acceptance

@@ -1,12 +1,18 @@
 -- When a check tells that a device failed, and how far it reads.
-use Rattle.std.specs.Prelude.{ℕ, ◌↔◌, List, [], ◌∷◌, map, ◌++◌}
-use Rattle.std.specs.List.{Any}
+use Rattle.std.specs.Prelude.{ℕ, ◌+◌, ◌↔◌, List, [], ◌∷◌, map, ◌++◌, Option}
+use Rattle.std.specs.List.{Any, AllZip}
 use Rattle.drain_device.specs.declared.counts.FaultCounts.{FaultCounts}
 use Rattle.drain_device.specs.Counts.{Answered}
 use Rattle.drain_device.specs.Patience.{GivesUp, full_patience}
+use Rattle.drain_device.specs.Reads.{TakesAtMost}
 use Rattle.drain_grid.specs.declared.product.Product.{Product}
 use Rattle.drain_grid.specs.declared.product.Product.TheVariants.{Con, Dir, Acc, Bas, Spl, Rnk}
+use Rattle.drain_grid.specs.Text.{lines_of}
 use Rattle.drain_hgt.specs.declared.input.TileInput.{TileInput}
+use Rattle.drain_hgt.specs.Samples.{tile_length}
+use Rattle.drain_header.specs.Fields.{Fields}
+use Rattle.drain_header.specs.Header.{header_of}
+use Rattle.drain_raster.specs.Pixels.{needed_len}
 use Rattle.drain_verdict.specs.declared.input.Products.{Products}
 use Rattle.drain_verdict.specs.Inputs.{input_of}
 
@@ -41,3 +47,15 @@ pub record SomeReadFails (old new : List FaultCounts) (Fails : Type 0) : Type 0 
   pub faults : List Faults
   pub answered : AnsweredEach old new faults
   pub exactly : Fails ↔ Any (λ f. GivesUp full_patience f.failures f.interruptions) faults
+
+-- of each tile at most one byte past its end was taken
+abbrev pub TilesTakeAtMost : {R : Type 0} → (R → Option (List ℕ)) → ℕ → List (TileInput R) → List (TileInput R) → Type 0
+TilesTakeAtMost bytes_left side old new = AllZip (λ a b. TakesAtMost (tile_length side + 1) (bytes_left a.body) (bytes_left b.body)) old new
+
+-- of the product's raster nothing past the last byte that this header needs was taken
+abbrev pub BodyTakesAtMost : {R : Type 0} → (R → Option (List ℕ)) → Fields → Products R → Products R → Product → Type 0
+BodyTakesAtMost bytes_left h old new p = TakesAtMost (needed_len h) (bytes_left (input_of old p).body) (bytes_left (input_of new p).body)
+
+-- the same of the header that is handed in
+abbrev pub RasterTakesAtMost : {R : Type 0} → (R → Option (List ℕ)) → Products R → Products R → Product → Type 0
+RasterTakesAtMost bytes_left old new p = BodyTakesAtMost bytes_left (header_of (lines_of (input_of old p).header)) old new p

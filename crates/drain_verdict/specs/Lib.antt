@@ -3,5 +3,6 @@ pub mod Meaning
 pub mod Refusals
 pub mod Answers
 pub mod Faults
+pub mod Headline
 pub mod Stages
 pub mod Lines

@@ -19,10 +19,11 @@ use Rattle.drain_mosaic.specs.declared.layout.LayoutFault.{LayoutFault}
 use Rattle.drain_mosaic.specs.declared.layout.LayoutFault.TheVariants as layout
 use Rattle.drain_mosaic.specs.Tiling as tiling
 use Rattle.drain_mosaic.specs.LayoutFaults.{HasLayoutFault, order_of}
+use Rattle.drain_mosaic.specs.Mosaic as mosaic
 use Rattle.drain_verdict.specs.declared.headers.Headers.{Headers}
 use Rattle.drain_verdict.specs.declared.input.Products.{Products}
 use Rattle.drain_verdict.specs.declared.refusal.Refusal.{Refusal}
-use Rattle.drain_verdict.specs.declared.refusal.Refusal.TheVariants.{BadSide, BadName, NoTiles, RepeatedTile, BoxTooLarge, BadHeader, WrongShape, Misplaced, BadTileLength, RasterShort, OutOfMemory, ReadFailed}
+use Rattle.drain_verdict.specs.declared.refusal.Refusal.TheVariants.{BadSide, BadName, NoTiles, RepeatedTile, BoxTooLarge, BadHeader, WrongShape, Misplaced, BadTileLength, RasterShort, SeamMismatch, OutOfMemory, ReadFailed}
 use Rattle.drain_verdict.specs.Inputs.{input_of}
 use Rattle.drain_verdict.specs.Refusals.{IsBadName, IsPlaced, rank_of}
 
@@ -164,3 +165,9 @@ IsRasterRefusal hs bodies (RasterShort p) = IsFirstShort hs bodies p
 IsRasterRefusal hs bodies OutOfMemory = Unit {0}
 IsRasterRefusal hs bodies ReadFailed = Unit {0}
 IsRasterRefusal hs bodies refusal = ⊥
+
+-- why samples of tiles are refused
+abbrev pub IsSeamRefusal : tiling.Tiling → List mosaic.Tile → Refusal → Type 0
+IsSeamRefusal t tiles (SeamMismatch c) = mosaic.IsFirstSeam t tiles c
+IsSeamRefusal t tiles OutOfMemory = Unit {0}
+IsSeamRefusal t tiles refusal = ⊥

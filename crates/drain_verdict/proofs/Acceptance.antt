@@ -1,0 +1,36 @@
+-- What an acceptance means follows from the answer.
+use Rattle.std.proofs.Common.{◌≡◌, ℤ, Ok, Err}
+use Rattle.std.specs.Prelude.{Result}
+use Rattle.std.proofs.Math.IntN.{ℤ_discrete}
+use Rattle.drain_grid.specs.Correct.{IsCorrect, RunsAreSound}
+use Rattle.drain_grid.specs.Laws.{CorrectFromRules}
+use Rattle.drain_mosaic.specs.Mosaic.{TilesAgree}
+use Rattle.drain_rules.specs.declared.verdict.Counts.{Counts}
+use Rattle.drain_rules.specs.declared.verdict.Verdict.{Verdict}
+use Rattle.drain_rules.specs.declared.verdict.Verdict.TheVariants.{Accepted, Rejected}
+use Rattle.drain_rules.specs.Verdicts.{IfAccepted}
+use Rattle.drain_verdict.specs.declared.refusal.Refusal.{Refusal}
+use Rattle.drain_verdict.specs.declared.refusal.Refusal.TheVariants.{SeamMismatch}
+use Rattle.drain_verdict.specs.Inputs.{Inputs}
+use Rattle.drain_verdict.specs.Meaning.{tiling_of, tiles_of, grid_of, products_of, no_data_numbers}
+use Rattle.drain_verdict.specs.Answers.{AreReadable, IsAnswer}
+
+same_value : (v w : ℤ) → ¬ (¬ (v ≡ w)) → v ≡ w
+same_value v w h = elim (ℤ_discrete v w) [ yes same ↦ same | no differ ↦ absurd (h differ) ]
+
+-- where no refusal stands, the tiles agree
+pub tiles_agree : (i : Inputs) → AreReadable i → TilesAgree (tiling_of i) (tiles_of i)
+tiles_agree i readable c v w inside is_v is_w =
+    same_value v w (λ differ. readable (SeamMismatch c) (inside, record { one = v; other = w; is_one = is_v; is_other = is_w; differ = differ }))
+
+-- where the answer is an acceptance, the products are correct, and every run is sound
+pub accepted_is_correct : CorrectFromRules → (i : Inputs) (counts : Counts) → IsAnswer i (Ok (Accepted counts)) →
+    IsCorrect (grid_of i) (products_of i) (no_data_numbers i) × RunsAreSound (grid_of i) (products_of i)
+accepted_is_correct rules_are_enough i counts answer = rules_are_enough (grid_of i) (products_of i) (no_data_numbers i) answer.1.0
+
+-- a fact that follows from an acceptance of the inputs holds where the answer accepts
+pub when_accepted : (Told Fact : Inputs → Type 0) → ((i : Inputs) (counts : Counts) → IsAnswer i (Ok (Accepted counts)) → Fact i) →
+    (result : Result Verdict Refusal) → ((i : Inputs) → Told i → IsAnswer i result) → IfAccepted result ((i : Inputs) → Told i → Fact i)
+when_accepted Told Fact follows (Ok (Accepted counts)) answer = λ i told. follows i counts (answer i told)
+when_accepted Told Fact follows (Ok (Rejected rule row col)) answer = tt
+when_accepted Told Fact follows (Err refusal) answer = tt
