@@ -1,0 +1,3 @@
+pub mod FaultLists
+pub mod OneTile
+pub mod TileLists

@@ -10,9 +10,11 @@ pub mod headers;
 pub mod input;
 pub mod line;
 pub mod refusal;
+pub mod tiles_stage;
 pub mod verdict_report;
 
 pub use answer_report::report;
 pub use drain_rules::{Counts, Verdict};
 pub use input::{Products, RasterInput};
 pub use refusal::Refusal;
+pub use tiles_stage::read_tiles;
