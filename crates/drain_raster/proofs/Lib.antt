@@ -2,6 +2,7 @@ mod Vectors
 pub mod BufferLemmas
 pub mod CellLists
 pub mod LengthLemmas
+pub mod NeededLemmas
 pub mod PixelLemmas
 pub mod ReadBackLemmas
 pub mod SpellLemmas

@@ -1,8 +1,7 @@
 -- Where the pixels of a row stand, and which kind of pixel a header has.
-use Rattle.std.proofs.Common.{◌≡◌, ◌≢◌, ℕ, ◌+◌, ◌-◌, ◌*◌, ◌/◌, ◌≤◌, ◌<◌, ◌⊎◌, inl, inr, ℤ, pos, Bool, true, false, Option, Some, IfSome, List, [], ◌∷◌, ◌++◌, map, length, take, drop, refl, arith, rules, sym, ap, ◌∙◌, append_assoc, All}
+use Rattle.std.proofs.Common.{◌≡◌, ◌≢◌, ℕ, ◌+◌, ◌-◌, ◌*◌, ◌/◌, ◌≤◌, ◌<◌, inl, inr, ℤ, pos, Bool, true, false, Option, Some, IfSome, List, length, take, drop, refl, arith, rules, sym, ap, ◌∙◌}
 use Rattle.std.proofs.lemmas.Bool.{cases_lt}
 use Rattle.std.proofs.lemmas.List.{take_rest}
-use Rattle.std.proofs.lemmas.List.Elements.{All-push}
 use Rattle.std.proofs.lemmas.Grind.{not_there}
 use Rattle.std.proofs.lemmas.Int.{ints, to_z-of_z}
 use Rattle.std.proofs.Math.Nat.{mul-le-mul, mul-le-mul_left, div-mul-le_self, le-div_iff_mul-le}
@@ -10,16 +9,14 @@ use Rattle.std.proofs.Props.{props}
 use Rattle.byteorder.specs.Endian.{little_number, twos_complement}
 use mathlib.Core.Logic.{∥∥₁_elim}
 use mir.Syntax.{w64}
-use mir.Val.{SFits, to_z, of_z}
-use Rattle.drain_grid.specs.declared.cell.Cell.{Cell}
-use Rattle.drain_grid.specs.Extent.{row_cells}
+use mir.Val.{to_z, of_z}
 use Rattle.drain_grid.specs.Values.{IsPixel, IsNoData}
 use Rattle.drain_header.specs.declared.header.ByteOrdering.{ByteOrdering}
 use Rattle.drain_header.specs.declared.header.ByteOrdering.TheVariants.{Least, Most}
-use Rattle.drain_header.specs.Fields.{Fields, AreWithinBounds, IsPixelSize}
+use Rattle.drain_header.specs.Fields.{Fields, IsPixelSize}
 use Rattle.drain_raster.specs.Pixels.{pixel_len, place_of, needed_len, number_in, spelled_by, pixel_of, pixel_at, AreSpelled}
 use Rattle.drain_raster.specs.Bytes.{least_number, greatest_number, complement_of, bytes_in, AreWritten}
-use Rattle.drain_raster.proofs.CellLists.{cell_of, map-row_cells_more}
+use Rattle.drain_raster.proofs.CellLists.{cell_of}
 
 -- a number of this kind, at the place of a pixel, is the pixel's
 pub pixel-found : (h : Fields) (len : ℕ) (number : List ℕ → ℤ) (body : List ℕ) (at row col : ℕ) → AreSpelled h len number →

@@ -1,20 +1,19 @@
 -- A raster's bytes hold each pixel at its place, and so read back.
-use Rattle.std.proofs.Common.{◌≡◌, ℕ, zero, suc, ◌+◌, ◌-◌, ◌*◌, ◌<◌, ◌≤◌, ℤ, pos, List, [], ◌∷◌, ◌++◌, length, map, take, drop, get_or, slice_index_or, replicate, refl, arith, sym, ap, subst, ◌∙◌, append_assoc, append-nil}
+use Rattle.std.proofs.Common.{◌≡◌, ℕ, zero, suc, ◌+◌, ◌-◌, ◌*◌, ◌<◌, ◌≤◌, ℤ, pos, List, [], ◌∷◌, ◌++◌, length, map, take, drop, get_or, replicate, refl, arith, sym, ap, ◌∙◌, append_assoc, append-nil}
 use Rattle.std.specs.List.{flat_map, range_with_len}
 use Rattle.std.proofs.lemmas.List.{length-replicate, length-drop, take_all, take_more, get_or-drop, drop_at}
 use Rattle.std.proofs.lemmas.List.FromFn.{length-map-range_with_len}
 use Rattle.std.proofs.Math.Seq.{take-add, drop-append-add}
-use Rattle.std.proofs.Math.Nat.{mul-le-mul_right}
 use Rattle.drain_grid.specs.declared.cell.Cell.{Cell}
 use Rattle.drain_grid.specs.Size.{Extent}
-use Rattle.drain_grid.specs.Extent.{IsCellOf, index_of, row_cells, cells}
-use Rattle.drain_grid.specs.Rasters.{Pixels, ArePixels}
+use Rattle.drain_grid.specs.Extent.{IsCellOf, row_cells}
+use Rattle.drain_grid.specs.Rasters.{Pixels}
 use Rattle.drain_grid.specs.Whole.{number_at}
 use Rattle.drain_header.specs.Fields.{Fields, AreWithinBounds}
-use Rattle.drain_raster.specs.Pixels.{IsShort, pixel_len, place_of, needed_len, pixel_of, pixel_at, extent_of}
-use Rattle.drain_raster.specs.Bytes.{CanSpell, CanSpellAll, pixel_bytes, cells_bytes, cells_from, padding_len, bytes_of_row, raster_bytes}
-use Rattle.drain_raster.specs.Laws.{ReadBack, BytesReadBack}
-use Rattle.drain_raster.proofs.BufferLemmas.{cells_bytes-on, cells_bytes-parts, rows-parts}
+use Rattle.drain_raster.specs.Pixels.{IsShort, pixel_len, place_of, pixel_of, pixel_at, extent_of}
+use Rattle.drain_raster.specs.Bytes.{CanSpellAll, pixel_bytes, cells_bytes, cells_from, padding_len, bytes_of_row, raster_bytes}
+use Rattle.drain_raster.specs.Laws.{BytesReadBack}
+use Rattle.drain_raster.proofs.BufferLemmas.{cells_bytes-parts, rows-parts}
 use Rattle.drain_raster.proofs.CellLists.{cell_of, map-row_cells_more, map-rows_more}
 use Rattle.drain_raster.proofs.LengthLemmas.{length-cells_bytes, length-row, length-lists, length-raster}
 use Rattle.drain_raster.proofs.PixelLemmas.{packed-fits}

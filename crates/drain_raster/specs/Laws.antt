@@ -1,8 +1,8 @@
--- A raster's bytes read back.
-use Rattle.std.specs.Prelude.{◌≡◌}
+-- A raster's bytes read back, and which bytes of a body say something.
+use Rattle.std.specs.Prelude.{◌≡◌, ℕ, ℤ, List, take}
 use Rattle.drain_grid.specs.Rasters.{Pixels, ArePixels}
 use Rattle.drain_header.specs.Fields.{Fields, AreWithinBounds}
-use Rattle.drain_raster.specs.Pixels.{IsShort, extent_of, raster_of}
+use Rattle.drain_raster.specs.Pixels.{IsShort, extent_of, needed_len, raster_of}
 use Rattle.drain_raster.specs.Bytes.{CanSpellAll, raster_bytes}
 
 -- the bytes are long enough, and spell the same numbers
@@ -14,3 +14,7 @@ pub record ReadBack (h : Fields) (p : Pixels) : Type 0 where
 abbrev pub BytesReadBack : Type 0
 BytesReadBack =
     (h : Fields) (p : Pixels) → AreWithinBounds h → ArePixels p → p.extent ≡ extent_of h → CanSpellAll h p → ReadBack h p
+
+-- bytes behind the last pixel say nothing
+abbrev pub OnlyNeededBytesCount : Type 0
+OnlyNeededBytesCount = (h : Fields) (default : ℤ) (body : List ℕ) → raster_of h default (take (needed_len h) body) ≡ raster_of h default body

@@ -16,5 +16,5 @@ mod write;
 mod write_tests;
 
 pub use fault::{RasterFault, WriteFault};
-pub use read::read_raster;
+pub use read::{needed_len, read_raster};
 pub use write::write_raster;

@@ -18,8 +18,10 @@ use std::alloc::Global;
 /// How many numbers are decoded before they are appended together: a loop without a vector that may grow is the fast one.
 const BUFFER_NUMBERS: u32 = 512;
 
-/// How many bytes a raster needs.
-fn needed_len(header: &Header) -> usize
+/// How many bytes a raster needs: those up to the end of its last pixel, with the header's `skip` bytes before the first.
+///
+/// It is `skip + (rows - 1) * row_bytes + cols * bits / 8`; `read_raster` answers `Short` to fewer, and looks at no byte behind them.
+pub fn needed_len(header: &Header) -> usize
     ensures { result ≡ needed_len header.now }
 {
     let rows_above = header.rows as usize - 1;

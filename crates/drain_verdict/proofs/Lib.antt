@@ -5,3 +5,6 @@ mod HeaderAnswers
 mod Places
 mod BodyAnswers
 mod Acceptance
+pub mod FaultLists
+pub mod OneTile
+pub mod TileLists

@@ -129,6 +129,13 @@ pub record IsFirstBadLength (side : ℕ) (bodies : List (List ℕ)) (place : ℕ
   pub length_is_not : ¬ IsTile side body
   pub before : (k : ℕ) (earlier : List ℕ) → k < place → slice_get bodies k ≡ Some earlier → IsTile side earlier
 
+-- why the body of the tile at a corner is refused
+abbrev pub IsOneTileRefusal : ℕ → Corner → List ℕ → Refusal → Type 0
+IsOneTileRefusal side corner body (BadTileLength c) = (c ≡ corner) × ¬ IsTile side body
+IsOneTileRefusal side corner body OutOfMemory = Unit {0}
+IsOneTileRefusal side corner body ReadFailed = Unit {0}
+IsOneTileRefusal side corner body refusal = ⊥
+
 -- why the bodies of tiles are refused
 abbrev pub IsTileRefusal : tiling.Tiling → List (List ℕ) → Refusal → Type 0
 IsTileRefusal t bodies (BadTileLength c) = (place : ℕ) × (slice_get t.corners place ≡ Some c) × IsFirstBadLength t.side bodies place

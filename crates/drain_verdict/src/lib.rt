@@ -19,3 +19,4 @@ pub use drain_rules::{Counts, Verdict};
 pub use input::{Products, RasterInput};
 pub use raster_check::check;
 pub use refusal::Refusal;
+pub use tiles_stage::read_tiles;

@@ -1,4 +1,4 @@
-use Rattle.std.proofs.Common.{◌≡◌, ◌+◌, ◌*◌, ◌++◌, map, arith, sym, ap, ◌∙◌, length, length-append}
+use Rattle.std.proofs.Common.{◌++◌, map, arith, sym, ap, ◌∙◌, length, length-append}
 use Rattle.drain_grid.specs.Extent.{row_cells}
 use Rattle.drain_raster.specs.Pixels.{pixel_at}
 use Rattle.drain_raster.proofs.CellLists.{map-rows_more, length-map-row_cells}

@@ -1,9 +1,5 @@
-use Rattle.std.proofs.Common.{◌≡◌, ◌+◌, ◌-◌, ◌*◌, ◌++◌, [], ◌∷◌, ℤ, List, map, take, All, arith, sym, ap, subst, ◌∙◌}
-use Rattle.std.proofs.lemmas.List.{take_more_set}
-use Rattle.std.proofs.lemmas.List.Elements.{All-push}
-use Rattle.drain_grid.specs.Values.{IsPixel}
+use Rattle.std.proofs.Common.{◌+◌, ◌-◌, ◌*◌, arith, ap, ◌∙◌}
 use Rattle.drain_header.specs.Fields.{Fields}
-use Rattle.drain_raster.specs.Bytes.{cells_from}
 use Rattle.drain_raster.specs.Pixels.{pixel_at}
 use Rattle.drain_raster.proofs.BufferLemmas.{number-put}
 use Rattle.drain_raster.proofs.PixelLemmas.{pixel-found, pixel-stored}

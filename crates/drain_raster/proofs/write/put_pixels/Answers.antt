@@ -1,7 +1,6 @@
-use Rattle.std.proofs.Common.{◌≡◌, ◌+◌, ◌-◌, ◌*◌, ◌≤◌, length, take, drop, arith, sym, ap, ◌∙◌}
+use Rattle.std.proofs.Common.{◌≡◌, ◌+◌, ◌-◌, ◌*◌, ◌≤◌, length, take, drop, arith, ap, ◌∙◌}
 use Rattle.std.proofs.lemmas.List.{length-take, length-drop}
 use Rattle.std.proofs.Math.Nat.{mul-le-mul_right}
-use Rattle.drain_grid.specs.Extent.{IsCellOf}
 use Rattle.drain_grid.specs.Whole.{number_at}
 use Rattle.drain_raster.proofs.BufferLemmas.{put-more}
 use Rattle.drain_raster.proofs.CellLists.{cell_of}

@@ -1,4 +1,4 @@
-use Rattle.std.proofs.Common.{◌≡◌, ◌++◌, ℕ, replicate, ap}
+use Rattle.std.proofs.Common.{◌++◌, ℕ, replicate, ap}
 use Rattle.std.specs.List.{range_with_len, flat_map}
 use Rattle.drain_header.specs.Fields.{Fields}
 use Rattle.drain_raster.specs.Bytes.{bytes_of_row, raster_bytes}

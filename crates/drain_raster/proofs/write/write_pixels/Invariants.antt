@@ -1,4 +1,4 @@
-use Rattle.std.proofs.Common.{◌≡◌, ◌-◌, ◌≤◌, Ok, length}
+use Rattle.std.proofs.Common.{◌-◌, ◌≤◌, Ok}
 use Rattle.drain_device.specs.declared.patience.GaveUp.{GaveUp}
 use Rattle.drain_raster.specs.Bytes.{cells_bytes, cells_from}
 use Rattle.drain_raster.specs.Writing.{Hands}

@@ -1,10 +1,8 @@
-use Rattle.std.proofs.Common.{◌≡◌, ◌-◌, ◌*◌, ◌≤◌, ℕ, replicate, ◌/◌, arith, ap, sym, ◌∙◌}
+use Rattle.std.proofs.Common.{◌-◌, ◌*◌, ℕ, replicate}
 use Rattle.drain_grid.specs.Extent.{row_cells}
-use Rattle.drain_header.specs.Fields.{Fields}
-use Rattle.drain_raster.specs.Pixels.{pixel_len}
 use Rattle.drain_raster.specs.Bytes.{cells_bytes, bytes_of_row}
 use Rattle.drain_raster.proofs.LengthLemmas.{row-bytes, padding-fits}
-use Rattle.drain_raster.proofs.PixelLemmas.{packed-fits, pixel_len-most}
+use Rattle.drain_raster.proofs.PixelLemmas.{pixel_len-most}
 use Rattle.drain_raster.proofs.WritingLemmas.{Hands-both, Hands-halted}
 use Rattle.drain_raster.proofs.write.write_row.Goals as goal
 

@@ -1,4 +1,4 @@
-use Rattle.std.proofs.Common.{◌≡◌, ◌+◌, ◌-◌, ◌++◌, ◌≤◌, ℕ, Ok, replicate, arith, sym, ap, ◌∙◌}
+use Rattle.std.proofs.Common.{◌+◌, ◌-◌, ◌++◌, ℕ, replicate, arith, sym, ap, ◌∙◌}
 use Rattle.std.proofs.lemmas.List.{take-replicate}
 use Rattle.drain_raster.specs.declared.write.TheConstants.{BUFFER_BYTES}
 use Rattle.drain_raster.proofs.BufferLemmas.{zeros-more, zeros-parts}

@@ -1,4 +1,4 @@
-use Rattle.std.proofs.Common.{◌-◌, ◌≤◌, Ok, Result, replicate}
+use Rattle.std.proofs.Common.{◌-◌, ◌≤◌, Ok, replicate}
 use Rattle.drain_device.specs.declared.patience.GaveUp.{GaveUp}
 use Rattle.drain_raster.specs.Writing.{Hands}
 use Rattle.drain_raster.proofs.write.write_zeros.Given as goal

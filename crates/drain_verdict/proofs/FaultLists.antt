@@ -1,0 +1,119 @@
+-- How the faults of many devices hang together with what a check of them answers: nothing was called, one device, and one part after another.
+use Rattle.std.proofs.Common.{◌↔◌, zero, suc, ◌⊎◌, inl, inr, List, [], ◌∷◌, ◌++◌, arith, refl}
+use Rattle.std.specs.List.{Any}
+use Rattle.drain_device.specs.declared.counts.FaultCounts.{FaultCounts}
+use Rattle.drain_device.specs.Counts.{Answered}
+use Rattle.drain_device.specs.Failing.{ReadFails}
+use Rattle.drain_device.specs.Patience.{GivesUp, full_patience}
+use Rattle.drain_verdict.specs.Faults.{Faults, AnsweredEach, SomeReadFails}
+
+-- the device failed, or was interrupted for the 1,000th time
+abbrev pub gave_up : Faults → Type 0
+gave_up f = GivesUp full_patience f.failures f.interruptions
+
+-- one of the faults comes first, or is among the rest
+any-first : {X : Type 0} (P : X → Type 0) (x : X) (xs : List X) → P x → Any P (x ∷ xs)
+any-first P x xs holds = (0, x, omega arith, refl, holds)
+
+any-later : {X : Type 0} (P : X → Type 0) (x : X) (xs : List X) → Any P xs → Any P (x ∷ xs)
+any-later P x xs (k, y, below, is, holds) = (suc k, y, omega (arith, below), is, holds)
+
+any-cases : {X : Type 0} (P : X → Type 0) (x : X) (xs : List X) → Any P (x ∷ xs) → P x ⊎ Any P xs
+any-cases P x xs (zero, y, below, is, holds) = inl (rw is holds)
+any-cases P x xs (suc k, y, below, is, holds) = inr (k, y, omega (arith, below), is, holds)
+
+any-none : {X : Type 0} (P : X → Type 0) → Any P [] → ⊥
+any-none P (k, y, below, is, holds) = omega (arith, below)
+
+-- of two lists, it is among the one or the other
+pub any-left : {X : Type 0} (P : X → Type 0) (xs ys : List X) → Any P xs → Any P (xs ++ ys)
+any-left P [] ys some = absurd (any-none P some)
+any-left P (x ∷ xs) ys some = elim (any-cases P x xs some) [
+  | inl here ↦ any-first P x (xs ++ ys) here
+  | inr later ↦ any-later P x (xs ++ ys) (any-left P xs ys later)
+]
+
+pub any-right : {X : Type 0} (P : X → Type 0) (xs ys : List X) → Any P ys → Any P (xs ++ ys)
+any-right P [] ys some = some
+any-right P (x ∷ xs) ys some = any-later P x (xs ++ ys) (any-right P xs ys some)
+
+pub any-either : {X : Type 0} (P : X → Type 0) (xs ys : List X) → Any P (xs ++ ys) → Any P xs ⊎ Any P ys
+any-either P [] ys some = inr some
+any-either P (x ∷ xs) ys some = elim (any-cases P x (xs ++ ys) some) [
+  | inl here ↦ inl (any-first P x xs here)
+  | inr later ↦ elim (any-either P xs ys later) [
+    | inl left ↦ inl (any-later P x xs left)
+    | inr right ↦ inr right
+  ]
+]
+
+-- a device that wasn't called answered no fault
+answered-none : (c : FaultCounts) → Answered c c 0 0
+answered-none c = record { failures_are = omega arith; interruptions_are = omega arith }
+
+abbrev nothing : Faults
+nothing = record { failures = 0; interruptions = 0 }
+
+nothing-borne : ¬ gave_up nothing
+nothing-borne (inl failed) = omega (arith, failed)
+nothing-borne (inr ran_out) = omega (arith, ran_out)
+
+-- what some devices answered, and then some more
+answered-then : (xs ys us vs : List FaultCounts) (fs gs : List Faults) → AnsweredEach xs ys fs → AnsweredEach us vs gs → AnsweredEach (xs ++ us) (ys ++ vs) (fs ++ gs)
+answered-then [] [] us vs [] gs first more = more
+answered-then [] [] us vs (f ∷ fs) gs first more = absurd first
+answered-then [] (b ∷ ys) us vs fs gs first more = absurd first
+answered-then (a ∷ xs) [] us vs fs gs first more = absurd first
+answered-then (a ∷ xs) (b ∷ ys) us vs [] gs first more = absurd first
+answered-then (a ∷ xs) (b ∷ ys) us vs (f ∷ fs) gs first more = (first.0, answered-then xs ys us vs fs gs first.1 more)
+
+-- the same said otherwise
+pub SomeReadFails-iff : {old new : List FaultCounts} {F G : Type 0} → F ↔ G → SomeReadFails old new F → SomeReadFails old new G
+SomeReadFails-iff same reads = record {
+  faults = reads.faults;
+  answered = reads.answered;
+  exactly = (λ g. reads.exactly.0 (same.1 g), λ some. same.0 (reads.exactly.1 some));
+}
+
+-- one part, and then another
+pub SomeReadFails-then : {xs ys us vs : List FaultCounts} {F G H : Type 0} → (F ⊎ G) ↔ H → SomeReadFails xs ys F → SomeReadFails us vs G →
+    SomeReadFails (xs ++ us) (ys ++ vs) H
+SomeReadFails-then {xs} {ys} {us} {vs} {F} {G} {H} either first more =
+    let to : (F ⊎ G) → Any gave_up (first.faults ++ more.faults) = λ s. elim s [
+      | inl f ↦ any-left gave_up first.faults more.faults (first.exactly.0 f)
+      | inr g ↦ any-right gave_up first.faults more.faults (more.exactly.0 g)
+    ] in
+    let from : Any gave_up (first.faults ++ more.faults) → F ⊎ G = λ some. elim (any-either gave_up first.faults more.faults some) [
+      | inl left ↦ inl (first.exactly.1 left)
+      | inr right ↦ inr (more.exactly.1 right)
+    ] in
+    record {
+      faults = first.faults ++ more.faults;
+      answered = answered-then xs ys us vs first.faults more.faults first.answered more.answered;
+      exactly = (λ h. to (either.1 h), λ some. either.0 (from some));
+    }
+
+-- one device
+pub SomeReadFails-one : {old new : FaultCounts} {F : Type 0} → ReadFails old new F → SomeReadFails (old ∷ []) (new ∷ []) F
+SomeReadFails-one {old} {new} {F} read =
+    let f : Faults = record { failures = read.failures; interruptions = read.interruptions } in
+    record {
+      faults = f ∷ [];
+      answered = (read.answered, tt);
+      exactly = (
+        λ fails. any-first gave_up f [] (read.exactly.0 fails),
+        λ some. elim (any-cases gave_up f [] some) [ inl here ↦ read.exactly.1 here | inr later ↦ absurd (any-none gave_up later) ],
+      );
+    }
+
+-- no device was called
+pub SomeReadFails-none : (us : List FaultCounts) {F : Type 0} → ¬ F → SomeReadFails us us F
+SomeReadFails-none [] not = record {
+  faults = [];
+  answered = tt;
+  exactly = (λ f. absurd (not f), λ some. absurd (any-none gave_up some));
+}
+SomeReadFails-none (c ∷ us) not =
+    SomeReadFails-then (λ either. elim either [ inl f ↦ f | inr f ↦ f ], λ f. absurd (not f))
+    (SomeReadFails-one (record { failures = 0; interruptions = 0; answered = answered-none c; exactly = (λ f. absurd (not f), λ up. absurd (nothing-borne up)) }))
+    (SomeReadFails-none us not)
