@@ -7,6 +7,7 @@ ghost use Rattle.drain_verdict.specs.Faults.{SomeReadFails};
 
 pub mod answer_report;
 pub mod headers;
+pub mod headers_stage;
 pub mod input;
 pub mod line;
 pub mod refusal;
