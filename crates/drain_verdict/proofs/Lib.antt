@@ -1,1 +1,2 @@
 pub mod HeaderOrder
+pub mod SameGrid
