@@ -1,2 +1,3 @@
 pub mod HeaderOrder
 pub mod SameGrid
+pub mod WholeGrids
