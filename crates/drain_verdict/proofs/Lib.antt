@@ -1,3 +1,4 @@
 pub mod HeaderOrder
 pub mod SameGrid
 pub mod WholeGrids
+pub mod InputVerdicts
