@@ -149,3 +149,6 @@ pub fn read_headers<R>(layout: &Layout, products: &Products<R>) -> Result<Header
         rnk,
     })
 }
+
+#[cfg(test)]
+mod tests;
