@@ -8,3 +8,7 @@ mod Acceptance
 pub mod FaultLists
 pub mod OneTile
 pub mod TileLists
+pub mod HeaderOrder
+pub mod SameGrid
+pub mod WholeGrids
+pub mod InputVerdicts

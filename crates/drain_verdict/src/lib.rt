@@ -19,4 +19,3 @@ pub use drain_rules::{Counts, Verdict};
 pub use input::{Products, RasterInput};
 pub use raster_check::check;
 pub use refusal::Refusal;
-pub use tiles_stage::read_tiles;

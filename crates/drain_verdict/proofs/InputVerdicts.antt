@@ -1,0 +1,79 @@
+-- The verdict on whole rasters that were read from the bytes of a check is the verdict on those bytes.
+use Rattle.std.proofs.Common.{◌≡◌, sym, ap, subst, ◌∙◌}
+use Rattle.drain_grid.specs.declared.cell.Cell.{Cell}
+use Rattle.drain_grid.specs.declared.product.Product.{Product}
+use Rattle.drain_grid.specs.declared.product.Product.TheVariants.{Con, Dir, Acc, Bas, Spl, Rnk}
+use Rattle.drain_grid.specs.declared.product_set.ProductSet.{ProductSet}
+use Rattle.drain_grid.specs.Product.{default_no_data}
+use Rattle.drain_grid.specs.Size.{Extent}
+use Rattle.drain_grid.specs.Extent.{IsCellOf}
+use Rattle.drain_grid.specs.Rasters.{Heights, Pixels}
+use Rattle.drain_grid.specs.Values.{NoDataNumbers}
+use Rattle.drain_grid.specs.Whole.{elevation_at, number_at}
+use Rattle.drain_grid.specs.WholeGrid as whole
+use Rattle.drain_raster.specs.Pixels as pixels
+use Rattle.drain_mosaic.specs.Tiling as tiling
+use Rattle.drain_mosaic.specs.Mosaic.{TilesAgree, IsElevation}
+use Rattle.drain_mosaic.specs.Laws.{AgreementGivesElevation}
+use Rattle.drain_rules.specs.declared.verdict.Verdict.{Verdict}
+use Rattle.drain_rules.specs.Verdicts.{IsVerdict}
+use Rattle.drain_verdict.specs.Inputs.{Inputs}
+use Rattle.drain_verdict.specs.Meaning.{tiling_of, tiles_of, grid_of, fields_of, number_of, products_of, no_data_of, no_data_numbers}
+use Rattle.drain_verdict.specs.Refusals.{HasShape}
+use Rattle.drain_verdict.specs.Stages.{raster_in}
+use Rattle.drain_verdict.proofs.SameGrid.{AreSame, verdict_goes_along}
+use Rattle.drain_verdict.proofs.WholeGrids.{elevation_is_first_value, number_of_raster}
+
+-- the elevations are the mosaic's, and each raster is that of the product's bytes
+pub record AreReadFrom (i : Inputs) (e : Heights) (set : ProductSet) : Type 0 where
+  pub extent : e.extent ≡ tiling.extent_of (tiling_of i)
+  pub agree : TilesAgree (tiling_of i) (tiles_of i)
+  pub elevation : IsElevation (tiling_of i) (tiles_of i) (elevation_at e)
+  pub shapes : (p : Product) → HasShape i p
+  pub rasters : (p : Product) → raster_in set p ≡ pixels.raster_of (fields_of i p) (default_no_data p) (i.raster p)
+
+number_read : (i : Inputs) (e : Heights) (set : ProductSet) → AreReadFrom i e set → (p : Product) (c : Cell) → IsCellOf e.extent c →
+    number_at (raster_in set p) c ≡ number_of i p c
+number_read i e set read p c inside =
+    let shape : e.extent ≡ pixels.extent_of (fields_of i p) = read.extent ∙ sym (read.shapes p) in
+    ap (λ (r : Pixels). number_at r c) (read.rasters p)
+    ∙ number_of_raster (fields_of i p) (default_no_data p) (i.raster p) c (subst (λ (x : Extent). IsCellOf x c) shape inside)
+
+-- the grid and the products are those of the bytes
+pub grids_same : (i : Inputs) (e : Heights) (set : ProductSet) → AgreementGivesElevation → AreReadFrom i e set →
+    AreSame (whole.grid_of e) (grid_of i) (whole.products_of set) (products_of i)
+grids_same i e set law read = record {
+  extent = read.extent;
+  elevation = λ c inside.
+      elevation_is_first_value (tiling_of i) (tiles_of i) e law read.agree read.elevation c
+      (subst (λ (x : Extent). IsCellOf x c) read.extent inside);
+  con = number_read i e set read Con;
+  dir = number_read i e set read Dir;
+  acc = number_read i e set read Acc;
+  bas = number_read i e set read Bas;
+  spl = number_read i e set read Spl;
+  rnk = number_read i e set read Rnk;
+}
+
+no_data_read : (i : Inputs) (e : Heights) (set : ProductSet) → AreReadFrom i e set → (p : Product) → (raster_in set p).nodata ≡ no_data_of i p
+no_data_read i e set read p = ap (λ (r : Pixels). r.nodata) (read.rasters p)
+
+no_data_same : (i : Inputs) (e : Heights) (set : ProductSet) → AreReadFrom i e set → whole.nodata_of set ≡ no_data_numbers i
+no_data_same i e set read = λ k. record {
+  con = no_data_read i e set read Con k;
+  dir = no_data_read i e set read Dir k;
+  acc = no_data_read i e set read Acc k;
+  bas = no_data_read i e set read Bas k;
+  spl = no_data_read i e set read Spl k;
+  rnk = no_data_read i e set read Rnk k;
+}
+
+-- so is the verdict
+pub verdict_of_bytes : (i : Inputs) (e : Heights) (set : ProductSet) (verdict : Verdict) → AgreementGivesElevation → AreReadFrom i e set →
+    IsVerdict (whole.grid_of e) (whole.products_of set) (whole.nodata_of set) verdict →
+    IsVerdict (grid_of i) (products_of i) (no_data_numbers i) verdict
+verdict_of_bytes i e set verdict law read is =
+    let along : IsVerdict (grid_of i) (products_of i) (whole.nodata_of set) verdict =
+    verdict_goes_along (whole.grid_of e) (grid_of i) (whole.products_of set) (products_of i) (whole.nodata_of set) verdict
+    (grids_same i e set law read) is in
+    subst (λ (n : NoDataNumbers). IsVerdict (grid_of i) (products_of i) n verdict) (no_data_same i e set read) along
