@@ -6,6 +6,8 @@
 #![tactic(auto)]
 
 pub mod cell_check;
+pub mod fill_check;
+pub mod fill_input;
 pub mod outlet;
 pub mod patch_check;
 pub mod tally;
@@ -14,6 +16,8 @@ mod tests;
 pub mod verdict;
 pub mod whole_check;
 
+pub use fill_check::{FillCounts, FillRefusal, FillVerdict, check_fill};
+pub use fill_input::fill_length;
 pub use patch_check::patch_fault;
 pub use verdict::{Counts, Verdict};
 pub use whole_check::verdict_of;

@@ -5,3 +5,4 @@ pub mod Answers
 pub mod Faults
 pub mod Stages
 pub mod Lines
+pub mod FillLines
