@@ -24,7 +24,9 @@ demo: build/drain
 	@tools/demo.sh build/drain
 
 test:
+	@mkdir -p build && rm -f build/gate_passed && rt version > build/gate_began
 	rt ci
+	@mv build/gate_began build/gate_passed
 	@$(MAKE) --no-print-directory build/drain build/label_bench
 	tests/program/run.sh build/drain build/label_bench
 	tests/refused_memory.sh drain_hgt:2 drain_mosaic:4 drain_header:4

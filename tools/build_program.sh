@@ -1,5 +1,6 @@
 #!/usr/bin/env bash
-# Proves the crates that a program needs, without their tests and must-fail edits, and builds it.
+# Proves the crates that a program needs, without their tests and must-fail edits, and builds it. Where the gate has proved these very
+# sources, it takes the program that the gate built.
 # Usage: tools/build_program.sh CRATE TARGET [WORD...]    (the words are those of a run that tries the program)
 set -euo pipefail
 crate=$1
@@ -11,6 +12,23 @@ command -v rt >/dev/null || {
     echo "$crate is built by the Rattle toolchain: put its command rt on the PATH" >&2
     exit 1
 }
+
+# Whether out/ holds the program of a gate that passed, was run by this toolchain, and began after the last change of a source. The
+# time of gate_passed is when the gate began (Makefile).
+is_from_gate() {
+    local passed=../../build/gate_passed
+    [ -f "$passed" ] && [ "out/$crate" -nt "$passed" ] && [ "$(rt version)" = "$(cat "$passed")" ] || return 1
+    local changed
+    changed=$(cd ../.. && find crates.txt HANDLES crates/*/src crates/*/specs crates/*/proofs -newer build/gate_passed -print -quit) || return 1
+    [ -z "$changed" ]
+}
+
+mkdir -p "$(dirname "$target")"
+if is_from_gate; then
+    cp "out/$crate" "$target"
+    echo "Taken from the gate, which proved and built it: ${target#"$(realpath ../..)/"}"
+    exit 0
+fi
 
 log=$(mktemp)
 trap 'rm -f "$log"' EXIT
@@ -35,6 +53,5 @@ if ! wait "$prover"; then
     grep -E 'error|no proof|did not prove' "$log" | head -n 20 >&2 || tail -n 20 "$log" >&2
     exit 1
 fi
-mkdir -p "$(dirname "$target")"
 cp "out/$crate" "$target"
 echo "Proved and built in $((SECONDS - started)) seconds: ${target#"$(realpath ../..)/"}"

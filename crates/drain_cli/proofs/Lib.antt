@@ -1,4 +1,2 @@
-pub mod GridLemmas
-pub mod PrintLemmas
 pub mod HeaderLemmas
-pub mod RowLemmas
+pub mod PrintLemmas

@@ -4,13 +4,15 @@ use Rattle.drain_device.specs.declared.counts.FaultCounts.{FaultCounts}
 use Rattle.drain_device.specs.declared.read.BodyFault.{BodyFault}
 use Rattle.drain_device.specs.declared.read.BodyFault.TheVariants.{ReadFailed, OutOfMemory}
 use Rattle.drain_device.specs.Failing.{ReadFails}
+use Rattle.drain_grid.specs.Path.{IsFilled}
+use Rattle.drain_rules.specs.Fill.{fill_grid, fill_products}
+use Rattle.drain_rules.specs.declared.fill_check.FillVerdict.{FillVerdict}
+use Rattle.drain_rules.specs.declared.fill_check.FillVerdict.TheVariants.{Accepted, Rejected}
+use Rattle.drain_rules.specs.declared.fill_check.FillRefusal.{FillRefusal}
+use Rattle.drain_rules.specs.FillVerdicts.{IsFillAnswer}
+use Rattle.drain_verdict.specs.FillLines.{fill_line}
 use Rattle.drain_cli.specs.declared.status.Status.{Status}
 use Rattle.drain_cli.specs.declared.status.Status.TheVariants as status
-use Rattle.drain_cli.specs.declared.fill_check.FillVerdict.{FillVerdict}
-use Rattle.drain_cli.specs.declared.fill_check.FillVerdict.TheVariants.{Accepted, Rejected}
-use Rattle.drain_cli.specs.declared.fill_check.FillRefusal.{FillRefusal}
-use Rattle.drain_cli.specs.FillVerdicts.{IsFillAnswer}
-use Rattle.drain_cli.specs.FillLines.{fill_line}
 
 -- an answer, or why there is none
 abbrev pub FillOutcome : Type 0
@@ -39,3 +41,8 @@ AnswersTold side (Some bytes) (Err fault) = Unit {0}
 pub record IsFillOutcome (side : ℕ) (left : Option (List ℕ)) (old new : FaultCounts) (outcome : FillOutcome) : Type 0 where
   pub answer : AnswersTold side left outcome
   pub faults : ReadFails old new (IsErrOf outcome ReadFailed)
+
+-- the conditioned elevations of these bytes are the filled surface of their tile, where the source tells its bytes
+abbrev pub IsFilledIfTold : ℕ → Option (List ℕ) → Type 0
+IsFilledIfTold side None = Unit {0}
+IsFilledIfTold side (Some bytes) = IsFilled (fill_grid side bytes) (fill_products side bytes).con

@@ -1,12 +1,6 @@
-pub mod Fill
-pub mod FillLines
-pub mod FillRows
+pub mod Failures
 pub mod FillRuns
-pub mod FillVerdicts
-pub mod Filled
-pub mod Parts
+pub mod HeaderRuns
+pub mod OpenFailures
 pub mod Printing
 pub mod Statuses
-pub mod HeaderRuns
-pub mod Failures
-pub mod OpenFailures

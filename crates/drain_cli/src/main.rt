@@ -5,10 +5,6 @@
 #![tactic(auto)]
 
 pub mod command_line;
-pub mod fill_check;
-pub mod fill_input;
-pub mod fill_report;
-pub mod line;
 pub mod open_failure;
 pub mod print;
 pub mod run_fill;

@@ -3,19 +3,17 @@
 ghost use Rattle.std.specs.Prelude.{◌≡◌, ◌+◌, ◌*◌};
 ghost use Rattle.drain_device.specs.Reads.{TakesAtMost};
 ghost use Rattle.drain_grid.specs.Tile.{IsSide};
-ghost use Rattle.drain_cli.specs.Filled.{IsFilledIfTold};
-ghost use Rattle.drain_cli.specs.FillRuns.{FillOutcome, IsFillOutcome, outcome_line, outcome_status};
+ghost use Rattle.drain_cli.specs.FillRuns.{FillOutcome, IsFillOutcome, IsFilledIfTold, outcome_line, outcome_status};
 ghost use Rattle.drain_cli.specs.Printing.{Prints};
 
-use crate::fill_check::{FillRefusal, FillVerdict, check_fill};
-use crate::fill_input::fill_length;
-use crate::fill_report::fill_report;
-use crate::line::{Line, words};
 use crate::print::print_line;
 use crate::status::Status;
 use drain_device::{BodyFault, ByteSink, ByteSource, read_body};
 use drain_grid::laws::least_from_rules;
 use drain_grid::tile::is_side;
+use drain_rules::fill_length;
+use drain_verdict::line::{Line, words};
+use drain_verdict::{FillRefusal, FillVerdict, check_fill, fill_report};
 use std::alloc::Global;
 
 /// An answer, or why there is none.

@@ -6,11 +6,11 @@ ghost use Rattle.drain_header.specs.FaultText.{fault_text};
 ghost use Rattle.drain_cli.specs.HeaderRuns.{HeaderOutcome, IsHeaderOutcome, IsToldAs, IsAnswerToldAs, header_printed, header_status};
 ghost use Rattle.drain_cli.specs.Printing.{PrintsText};
 
-use crate::line::{Line, words};
 use crate::print::{print_failure, print_line, print_text};
 use crate::status::Status;
 use drain_device::{BodyFault, ByteSink, ByteSource, read_body};
 use drain_header::{Header, HeaderFault, MAX_HEADER_BYTES, header_text, parse_header};
+use drain_verdict::line::{Line, words};
 use std::alloc::Global;
 
 /// An answer, or why there is none.

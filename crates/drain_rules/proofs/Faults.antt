@@ -1,13 +1,13 @@
--- The least fault of a cell: from its patch and the labels so far to the grid.
-use Rattle.std.proofs.Common.{◌≡◌, ℕ, ◌↔◌, List, Option, Some, None, sym, subst, arith}
+-- The least fault of a cell: from its patch, and for every rule from the labels so far, to the grid.
+use Rattle.std.proofs.Common.{◌≡◌, ℕ, ◌<◌, ◌↔◌, List, Option, Some, None, sym, subst, arith}
 use Rattle.drain_grid.specs.declared.cell.Cell.{Cell}
 use Rattle.drain_grid.specs.declared.rule.Rule.{Rule}
 use Rattle.drain_grid.specs.declared.rule.Rule.TheVariants.{SharedLabel}
 use Rattle.drain_grid.specs.declared.patch.Patch.{Patch}
-use Rattle.drain_grid.specs.Rule.{IsBetween, IsLeastFault}
+use Rattle.drain_grid.specs.Rule.{number_of, IsBetween, IsLeastFault}
 use Rattle.drain_grid.specs.Values.{NoDataNumbers}
 use Rattle.drain_grid.specs.Grid.{Grid, Products, IsInside, patch_at}
-use Rattle.drain_grid.specs.PatchRules.{profile1}
+use Rattle.drain_grid.specs.PatchRules.{Profile, profile1}
 use Rattle.drain_grid.specs.GridRules.{HoldsAt, SharedLabelHolds}
 use Rattle.drain_rules.specs.Labels.{AreLabelsBefore, labelled_profile}
 
@@ -17,6 +17,19 @@ pub IsLeastFault-same : (Own P Q : Rule → Type 0) (o : Option Rule) → ((r : 
 IsLeastFault-same Own P Q None same all = λ r own. (same r own).0 (all r own)
 IsLeastFault-same Own P Q (Some r) same least =
     (least.0, λ holds. least.1 ((same r least.0).1 holds), λ q own below. (same q own).0 (least.2 q own below))
+
+-- a rule of a patch holds at the cell exactly where it holds on its patch
+patch-HoldsAt : (profile : Profile) (g : Grid) (ps : Products) (c : Cell) (r : Rule) → number_of r < 15 →
+    profile (patch_at g ps c) r ↔ HoldsAt profile g ps c r
+patch-HoldsAt profile g ps c SharedLabel small = absurd (omega arith)
+patch-HoldsAt profile g ps c r small = (λ h. h, λ h. h)
+
+-- so of rules of a patch, the least fault of the patch is that of the cell
+pub IsLeastFault-patch : (profile : Profile) (low high : ℕ) (g : Grid) (ps : Products) (c : Cell) (o : Option Rule) → high < 15 →
+    IsLeastFault (IsBetween low high) (profile (patch_at g ps c)) o → IsLeastFault (IsBetween low high) (HoldsAt profile g ps c) o
+IsLeastFault-patch profile low high g ps c o small =
+    IsLeastFault-same (IsBetween low high) (profile (patch_at g ps c)) (HoldsAt profile g ps c) o
+    (λ r own. patch-HoldsAt profile g ps c r (omega (arith, own.1)))
 
 -- the labels play no part in the rules of a patch
 pub labelled-patch : (nodata : NoDataNumbers) (labels : List (ℕ × ℕ)) (p : Patch) (r : Rule) → IsBetween 1 14 r →

@@ -12,13 +12,14 @@ use Rattle.drain_grid.specs.Extent.{row_cells}
 use Rattle.drain_grid.specs.Values.{NoDataNumbers}
 use Rattle.drain_grid.specs.Grid.{Grid, Products, IsInside}
 use Rattle.drain_grid.specs.Counts.{is_data, is_raised}
-use Rattle.drain_grid.specs.PatchRules.{profile1}
-use Rattle.drain_grid.specs.GridRules.{HoldsAt, IsEarlierPair, IsFirstFault}
-use Rattle.drain_grid.proofs.Neighbors.{place}
+use Rattle.drain_grid.specs.PatchRules.{Profile, profile1}
+use Rattle.drain_grid.specs.GridRules.{HoldsAt, RulesHold, IsEarlierPair, IsFirstFault}
+use Rattle.drain_rules.specs.declared.fill_check.FillVerdict.TheVariants as fill
 use Rattle.drain_rules.specs.declared.tally.Tally.{Tally}
 use Rattle.drain_rules.specs.declared.verdict.Verdict.TheVariants.{Accepted}
+use Rattle.drain_rules.specs.FillVerdicts.{fill_rules, IsFillVerdict}
 use Rattle.drain_rules.specs.Verdicts.{has_outlet_code, IsVerdict}
-use Rattle.drain_rules.specs.Rows.{HoldAlong, CountsAlong, IsRowFault}
+use Rattle.drain_rules.specs.Rows.{place, HoldAlong, CountsAlong, IsRowFault}
 
 -- the cells of the first rows
 abbrev pub cells_above : Grid → ℕ → List Cell
@@ -56,45 +57,70 @@ CountsAbove-more g ps row old here new so_far along data_cells raised outlets = 
   outlets = omega (arith, count_by-cells_above_more (has_outlet_code g ps) g row, so_far.outlets, along.outlets);
 }
 
--- the first fault of the first row that has one is the first of the grid
-pub IsFirstFault-row : (nodata : NoDataNumbers) (g : Grid) (ps : Products) (row col : ℕ) (rule : Rule) → row < g.extent.rows →
-    ((r : ℕ) → r < row → HoldAlong nodata g ps r g.extent.cols) → IsRowFault nodata g ps row col rule →
-    IsFirstFault (profile1 nodata) 1 15 g ps (place row col) rule
-IsFirstFault-row nodata g ps row col rule inside above here = record {
-  inside = record { row = inside; col = here.inside };
-  is_own = here.is_own;
-  fails = here.fails;
-  first = first;
-}
-  where
-    first : (b : Cell) (q : Rule) → IsInside g b → IsBetween 1 15 q → IsEarlierPair b q (place row col) rule → HoldsAt (profile1 nodata) g ps b q
-    first b q in_grid own (inl (inl before)) = above b.row before b.col q in_grid.col own
-    first b q in_grid own (inl (inr beside)) =
-        let back : HoldsAt (profile1 nodata) g ps (place row b.col) q = here.before b.col q beside.1 own in
-        subst (λ r. HoldsAt (profile1 nodata) g ps (place r b.col) q) (sym beside.0) back
-    first b q in_grid own (inr same) = subst (λ c. HoldsAt (profile1 nodata) g ps c q) (sym same.0) (here.smaller q own same.1)
+-- at most all cells of a row, or of the first rows, pass a test
+count_by-row_fits : (p : Cell → Bool) (row cols : ℕ) → count_by p (row_cells cols row) ≤ cols
+count_by-row_fits p row cols =
+    let wide : length (row_cells cols row) ≡ cols = length-map-range_with_len _ 0 cols in
+    omega (arith, count_by-le-length p (row_cells cols row), wide)
 
--- a row's counts are at most its length
-pub tally_fits : (g : Grid) (ps : Products) (row cols : ℕ) (tally : Tally) → CountsAlong g ps row cols tally →
-    (tally.data_cells ≤ cols) × (tally.raised ≤ cols) × (tally.outlets ≤ cols)
-tally_fits g ps row cols tally counted =
-    let wide : length (row_cells cols row) ≡ cols = length-map-range_with_len _ 0 cols in (
-      omega (arith, counted.data_cells, count_by-le-length (is_data g) (row_cells cols row), wide),
-      omega (arith, counted.raised, count_by-le-length (is_raised g ps) (row_cells cols row), wide),
-      omega (arith, counted.outlets, count_by-le-length (has_outlet_code g ps) (row_cells cols row), wide),
-    )
+count_by-above_fits : (p : Cell → Bool) (g : Grid) (rows : ℕ) → count_by p (cells_above g rows) ≤ rows * g.extent.cols
+count_by-above_fits p g zero = omega arith
+count_by-above_fits p g (suc row) =
+    let sum : (row + 1) * g.extent.cols ≡ row * g.extent.cols + g.extent.cols = omega arith in
+    let more : count_by p (cells_above g (row + 1)) ≤ (row + 1) * g.extent.cols =
+    omega (arith, sum, count_by-cells_above_more p g row, count_by-above_fits p g row, count_by-row_fits p row g.extent.cols) in
+    subst (λ n. count_by p (cells_above g n) ≤ n * g.extent.cols) (add-one row) more
 
 -- a count of at most 28,801 rows of at most as many cells, with one row more, fits 32 bits
-pub row_fits : (row rows cols so_far here : ℕ) → row < rows → rows ≤ 28801 → cols ≤ 28801 → so_far ≤ row * cols → here ≤ cols →
+row_fits : (row rows cols so_far here : ℕ) → row < rows → rows ≤ 28801 → cols ≤ 28801 → so_far ≤ row * cols → here ≤ cols →
     so_far + here < 4294967296
 row_fits row rows cols so_far here less few narrow bound more =
     let above : row * cols ≤ 28801 * cols = mul-le-mul_right cols (omega arith) in
     let all : so_far + here ≤ 28801 * cols + cols = omega arith in
     omega arith
 
--- the rules that hold at every row, and the counts of all rows, make the acceptance
+count_fits : (p : Cell → Bool) (g : Grid) (row so_far here : ℕ) → row < g.extent.rows → g.extent.rows ≤ 28801 → g.extent.cols ≤ 28801 →
+    so_far ≡ count_by p (cells_above g row) → here ≡ count_by p (row_cells g.extent.cols row) → so_far + here < 4294967296
+count_fits p g row so_far here inside few narrow above along =
+    row_fits row g.extent.rows g.extent.cols so_far here inside few narrow (omega (arith, above, count_by-above_fits p g row))
+    (omega (arith, along, count_by-row_fits p row g.extent.cols))
+
+-- the counts of the rows above and of the next row fit 32 bits together
+pub tallies_fit : (g : Grid) (ps : Products) (row : ℕ) (total here : Tally) → row < g.extent.rows → g.extent.rows ≤ 28801 →
+    g.extent.cols ≤ 28801 → CountsAbove g ps row total → CountsAlong g ps row g.extent.cols here →
+    (total.data_cells + here.data_cells < 4294967296) × (total.raised + here.raised < 4294967296) × (total.outlets + here.outlets < 4294967296)
+tallies_fit g ps row total here inside few narrow above along = (
+  count_fits (is_data g) g row _ _ inside few narrow above.data_cells along.data_cells,
+  count_fits (is_raised g ps) g row _ _ inside few narrow above.raised along.raised,
+  count_fits (has_outlet_code g ps) g row _ _ inside few narrow above.outlets along.outlets,
+)
+
+-- the first fault of the first row that has one is the first of the grid
+pub IsFirstFault-row : (profile : Profile) (low high : ℕ) (g : Grid) (ps : Products) (row col : ℕ) (rule : Rule) → row < g.extent.rows →
+    ((r : ℕ) → r < row → HoldAlong profile low high g ps r g.extent.cols) → IsRowFault profile low high g ps row col rule →
+    IsFirstFault profile low high g ps (place row col) rule
+IsFirstFault-row profile low high g ps row col rule inside above here = record {
+  inside = record { row = inside; col = here.inside };
+  is_own = here.is_own;
+  fails = here.fails;
+  first = first;
+}
+  where
+    first : (b : Cell) (q : Rule) → IsInside g b → IsBetween low high q → IsEarlierPair b q (place row col) rule → HoldsAt profile g ps b q
+    first b q in_grid own (inl (inl before)) = above b.row before b.col q in_grid.col own
+    first b q in_grid own (inl (inr beside)) =
+        let back : HoldsAt profile g ps (place row b.col) q = here.before b.col q beside.1 own in
+        subst (λ r. HoldsAt profile g ps (place r b.col) q) (sym beside.0) back
+    first b q in_grid own (inr same) = subst (λ c. HoldsAt profile g ps c q) (sym same.0) (here.smaller q own same.1)
+
+-- rules that hold along every row hold at every cell
+RulesHold-rows : (profile : Profile) (low high : ℕ) (g : Grid) (ps : Products) →
+    ((row : ℕ) → row < g.extent.rows → HoldAlong profile low high g ps row g.extent.cols) → RulesHold profile low high g ps
+RulesHold-rows profile low high g ps holds c r inside own = holds c.row inside.row c.col r inside.col own
+
+-- with the counts of all rows, they make the acceptance of a grid's products
 pub IsVerdict-above : (nodata : NoDataNumbers) (g : Grid) (ps : Products) (total : Tally) → CountsAbove g ps g.extent.rows total →
-    ((row : ℕ) → row < g.extent.rows → HoldAlong nodata g ps row g.extent.cols) →
+    ((row : ℕ) → row < g.extent.rows → HoldAlong (profile1 nodata) 1 15 g ps row g.extent.cols) →
     IsVerdict g ps nodata (Accepted (record {
       rows = g.extent.rows;
       cols = g.extent.cols;
@@ -102,7 +128,16 @@ pub IsVerdict-above : (nodata : NoDataNumbers) (g : Grid) (ps : Products) (total
       raised = total.raised;
       outlets = total.outlets;
     }))
-IsVerdict-above nodata g ps total counted holds = (
-  (λ c r inside own. holds c.row inside.row c.col r inside.col own),
-  rw (counted.data_cells, counted.raised, counted.outlets) refl,
-)
+IsVerdict-above nodata g ps total counted holds =
+    (RulesHold-rows (profile1 nodata) 1 15 g ps holds, rw (counted.data_cells, counted.raised, counted.outlets) refl)
+
+-- and that of a fill input
+pub IsFillVerdict-above : (g : Grid) (ps : Products) (total : Tally) → CountsAbove g ps g.extent.rows total →
+    ((row : ℕ) → row < g.extent.rows → HoldAlong fill_rules 4 9 g ps row g.extent.cols) →
+    IsFillVerdict g ps (fill.Accepted (record {
+      rows = g.extent.rows;
+      cols = g.extent.cols;
+      data_cells = total.data_cells;
+      raised = total.raised;
+    }))
+IsFillVerdict-above g ps total counted holds = (RulesHold-rows fill_rules 4 9 g ps holds, rw (counted.data_cells, counted.raised) refl)

@@ -6,8 +6,8 @@ use Rattle.drain_grid.specs.declared.cell.Cell.{Cell}
 use Rattle.drain_grid.specs.Extent.{IsEarlier}
 use Rattle.drain_grid.specs.Values.{Values}
 use Rattle.drain_grid.specs.Grid.{Grid, Products, IsInside, values_at}
-use Rattle.drain_grid.proofs.Neighbors.{place}
 use Rattle.drain_rules.specs.Labels.{IsLabelOf, AreLabelsBefore}
+use Rattle.drain_rules.specs.Rows.{place}
 
 -- before the first cell there is none
 pub AreLabelsBefore-none : (g : Grid) (ps : Products) (labels : List (ℕ × ℕ)) → ((label : ℤ) → ¬ IsAdmitted labels label) →

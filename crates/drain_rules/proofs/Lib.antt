@@ -1,4 +1,5 @@
 pub mod Faults
 pub mod GridLemmas
 pub mod LabelsBefore
+pub mod PatchFaults
 pub mod RowLemmas

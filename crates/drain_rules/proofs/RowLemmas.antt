@@ -11,16 +11,15 @@ use Rattle.drain_grid.specs.Extent.{row_cells}
 use Rattle.drain_grid.specs.Values.{Values, NoDataNumbers}
 use Rattle.drain_grid.specs.Grid.{Grid, Products, IsInside, values_at, patch_at}
 use Rattle.drain_grid.specs.Counts.{is_data, is_raised}
-use Rattle.drain_grid.specs.PatchRules.{profile1}
+use Rattle.drain_grid.specs.PatchRules.{Profile, profile1}
 use Rattle.drain_grid.specs.GridRules.{HoldsAt}
-use Rattle.drain_grid.proofs.Neighbors.{place}
 use Rattle.drain_rules.specs.declared.cell_check.Stop.{Stop}
 use Rattle.drain_rules.specs.declared.cell_check.Stop.TheVariants.{Fault, OutOfMemory}
 use Rattle.drain_rules.specs.declared.tally.Tally.{Tally}
 use Rattle.drain_rules.specs.Labels.{IsOutletByCode, AreLabelsBefore}
 use Rattle.drain_rules.specs.Stops.{IsCellStop}
 use Rattle.drain_rules.specs.Verdicts.{has_outlet_code}
-use Rattle.drain_rules.specs.Rows.{HoldAlong, CountsAlong, IsRowFault, IsStopAt}
+use Rattle.drain_rules.specs.Rows.{place, HoldAlong, CountsAlong, IsRowFault, IsStopAt}
 use Rattle.drain_rules.proofs.Faults.{IsLeastFault-cell}
 
 -- how many pass, with one cell more
@@ -30,16 +29,16 @@ count_by-row_cells_more p row cols =
     sum_by-map-range_with_len_more (λ c. cond (p c) 1 0) (λ k. place row k) 0 cols cols (omega arith)
 
 -- rules that hold along the row hold with one cell more, where that cell has no fault
-pub HoldAlong-more : (nodata : NoDataNumbers) (g : Grid) (ps : Products) (row col : ℕ) → HoldAlong nodata g ps row col →
-    IsLeastFault (IsBetween 1 15) (HoldsAt (profile1 nodata) g ps (place row col)) None → HoldAlong nodata g ps row (col + 1)
-HoldAlong-more nodata g ps row col before here k rule less own =
-    below_more (λ n. HoldsAt (profile1 nodata) g ps (place row n) rule) col (λ n earlier. before n rule earlier own) (here rule own) k less
+pub HoldAlong-more : (profile : Profile) (low high : ℕ) (g : Grid) (ps : Products) (row col : ℕ) → HoldAlong profile low high g ps row col →
+    IsLeastFault (IsBetween low high) (HoldsAt profile g ps (place row col)) None → HoldAlong profile low high g ps row (col + 1)
+HoldAlong-more profile low high g ps row col before here k rule less own =
+    below_more (λ n. HoldsAt profile g ps (place row n) rule) col (λ n earlier. before n rule earlier own) (here rule own) k less
 
 -- where the rules hold along the row, the fault of the next cell is that of the row
-pub IsRowFault-cell : (nodata : NoDataNumbers) (g : Grid) (ps : Products) (row col : ℕ) (rule : Rule) → col < g.extent.cols →
-    HoldAlong nodata g ps row col → IsLeastFault (IsBetween 1 15) (HoldsAt (profile1 nodata) g ps (place row col)) (Some rule) →
-    IsRowFault nodata g ps row col rule
-IsRowFault-cell nodata g ps row col rule inside before least = record {
+pub IsRowFault-cell : (profile : Profile) (low high : ℕ) (g : Grid) (ps : Products) (row col : ℕ) (rule : Rule) → col < g.extent.cols →
+    HoldAlong profile low high g ps row col → IsLeastFault (IsBetween low high) (HoldsAt profile g ps (place row col)) (Some rule) →
+    IsRowFault profile low high g ps row col rule
+IsRowFault-cell profile low high g ps row col rule inside before least = record {
   inside = inside;
   is_own = least.0;
   fails = least.1;
@@ -69,10 +68,10 @@ CountsAlong-more g ps row col here old new is so_far data_cells raised outlets =
 
 -- where the rules hold along the row, what stops a walk at the next cell stops it in the row
 pub IsStopAt-cell : (nodata : NoDataNumbers) (g : Grid) (ps : Products) (row col : ℕ) (labels : List (ℕ × ℕ)) (p : Patch) (stop : Stop) →
-    IsInside g (place row col) → HoldAlong nodata g ps row col → AreLabelsBefore g ps (place row col) labels →
+    IsInside g (place row col) → HoldAlong (profile1 nodata) 1 15 g ps row col → AreLabelsBefore g ps (place row col) labels →
     p ≡ patch_at g ps (place row col) → IsCellStop nodata labels p stop → IsStopAt nodata g ps row col stop
 IsStopAt-cell nodata g ps row col labels p (Fault rule) inside holds before is least =
-    IsRowFault-cell nodata g ps row col rule inside.col holds
+    IsRowFault-cell (profile1 nodata) 1 15 g ps row col rule inside.col holds
     (IsLeastFault-cell g ps nodata labels (place row col) p (Some rule) inside before is least)
 IsStopAt-cell nodata g ps row col labels p OutOfMemory inside holds before is outlet =
     let here : IsOutletByCode (values_at g ps (place row col)) = subst (λ (q : Patch). IsOutletByCode q.here) is outlet in

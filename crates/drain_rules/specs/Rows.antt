@@ -1,13 +1,14 @@
 -- What a walk along one row finds.
 use Rattle.std.specs.Prelude.{◌≡◌, ℕ, pos, ◌<◌}
 use Rattle.std.specs.List.{count_by}
+use Rattle.drain_grid.specs.declared.cell.Cell.{Cell}
 use Rattle.drain_grid.specs.declared.rule.Rule.{Rule}
 use Rattle.drain_grid.specs.Rule.{number_of, IsBetween}
 use Rattle.drain_grid.specs.Extent.{row_cells}
 use Rattle.drain_grid.specs.Values.{NoDataNumbers}
 use Rattle.drain_grid.specs.Grid.{Grid, Products, HasData}
 use Rattle.drain_grid.specs.Counts.{is_data, is_raised}
-use Rattle.drain_grid.specs.PatchRules.{profile1}
+use Rattle.drain_grid.specs.PatchRules.{Profile, profile1}
 use Rattle.drain_grid.specs.GridRules.{HoldsAt}
 use Rattle.drain_rules.specs.declared.cell_check.Stop.{Stop}
 use Rattle.drain_rules.specs.declared.cell_check.Stop.TheVariants.{Fault, OutOfMemory}
@@ -15,24 +16,28 @@ use Rattle.drain_rules.specs.declared.whole_check.RowStop.{RowStop}
 use Rattle.drain_rules.specs.declared.tally.Tally.{Tally}
 use Rattle.drain_rules.specs.Verdicts.{has_outlet_code}
 
--- every rule holds at the first cells of the row
-abbrev pub HoldAlong : NoDataNumbers → Grid → Products → ℕ → ℕ → Type 0
-HoldAlong nodata g ps row cols =
-    (col : ℕ) (rule : Rule) → col < cols → IsBetween 1 15 rule → HoldsAt (profile1 nodata) g ps (record { row = row; col = col }) rule
+-- the cell of a row and a column
+abbrev pub place : ℕ → ℕ → Cell
+place row col = record { row = row; col = col }
 
--- the rule is the first that fails at the first cell of the row where one does
-pub record IsRowFault (nodata : NoDataNumbers) (g : Grid) (ps : Products) (row col : ℕ) (rule : Rule) : Type 0 where
+-- the rules with numbers from low to high hold at the first cells of the row
+abbrev pub HoldAlong : Profile → ℕ → ℕ → Grid → Products → ℕ → ℕ → Type 0
+HoldAlong profile low high g ps row cols =
+    (col : ℕ) (rule : Rule) → col < cols → IsBetween low high rule → HoldsAt profile g ps (place row col) rule
+
+-- the rule is the first of them that fails at the first cell of the row where one does
+pub record IsRowFault (profile : Profile) (low high : ℕ) (g : Grid) (ps : Products) (row col : ℕ) (rule : Rule) : Type 0 where
   pub inside : col < g.extent.cols
-  pub is_own : IsBetween 1 15 rule
-  pub fails : ¬ HoldsAt (profile1 nodata) g ps (record { row = row; col = col }) rule
-  pub before : HoldAlong nodata g ps row col
-  pub smaller : (r : Rule) → IsBetween 1 15 r → number_of r < number_of rule → HoldsAt (profile1 nodata) g ps (record { row = row; col = col }) r
+  pub is_own : IsBetween low high rule
+  pub fails : ¬ HoldsAt profile g ps (place row col) rule
+  pub before : HoldAlong profile low high g ps row col
+  pub smaller : (r : Rule) → IsBetween low high r → number_of r < number_of rule → HoldsAt profile g ps (place row col) r
 
 -- a walk along the row stops at its first fault, or for want of memory at a data cell with code 0
 abbrev pub IsStopAt : NoDataNumbers → Grid → Products → ℕ → ℕ → Stop → Type 0
-IsStopAt nodata g ps row col (Fault rule) = IsRowFault nodata g ps row col rule
+IsStopAt nodata g ps row col (Fault rule) = IsRowFault (profile1 nodata) 1 15 g ps row col rule
 IsStopAt nodata g ps row col OutOfMemory =
-    HasData g (record { row = row; col = col }) × (ps.dir (record { row = row; col = col }) ≡ pos 0)
+    HasData g (place row col) × (ps.dir (place row col) ≡ pos 0)
 
 -- the same of the place and the reason together
 abbrev pub IsRowStop : NoDataNumbers → Grid → Products → ℕ → RowStop → Type 0
@@ -44,7 +49,7 @@ pub record CountsAlong (g : Grid) (ps : Products) (row cols : ℕ) (tally : Tall
   pub raised : tally.raised ≡ count_by (is_raised g ps) (row_cells cols row)
   pub outlets : tally.outlets ≡ count_by (has_outlet_code g ps) (row_cells cols row)
 
--- the row keeps every rule, and these are its counts
-pub record IsRowTally (nodata : NoDataNumbers) (g : Grid) (ps : Products) (row : ℕ) (tally : Tally) : Type 0 where
-  pub holds : HoldAlong nodata g ps row g.extent.cols
+-- the row keeps the rules from low to high, and these are its counts
+pub record IsRowTally (profile : Profile) (low high : ℕ) (g : Grid) (ps : Products) (row : ℕ) (tally : Tally) : Type 0 where
+  pub holds : HoldAlong profile low high g ps row g.extent.cols
   pub counted : CountsAlong g ps row g.extent.cols tally

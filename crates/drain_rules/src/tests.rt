@@ -1,5 +1,7 @@
 //! Worked products and their verdicts, all worked out by hand from the rules.
 
+mod spill_levels;
+
 ghost use Rattle.std.specs.Prelude.{◌≡◌, ◌↔◌, IsTrue, IfOk};
 ghost use Rattle.drain_grid.specs.Values.{IsNoData, IsPixel};
 

@@ -6,3 +6,4 @@ pub mod Faults
 pub mod Headline
 pub mod Stages
 pub mod Lines
+pub mod FillLines

@@ -2,6 +2,7 @@
 #![tactic(auto)]
 
 pub mod answer_report;
+pub mod fill_line;
 pub mod headers;
 pub mod headers_stage;
 pub mod input;
@@ -15,7 +16,8 @@ pub mod tiles_stage;
 pub mod verdict_report;
 
 pub use answer_report::report;
-pub use drain_rules::{Counts, Verdict};
+pub use drain_rules::{Counts, FillCounts, FillRefusal, FillVerdict, Verdict, check_fill};
+pub use fill_line::fill_report;
 pub use input::{Products, RasterInput};
 pub use raster_check::check;
 pub use refusal::Refusal;

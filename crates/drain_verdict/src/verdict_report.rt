@@ -33,7 +33,8 @@ fn accepted(counts: &Counts) -> Line
     line
 }
 
-fn rejected(rule: Rule, row: u32, col: u32) -> Line
+/// The line that names the first rule that fails, and the first cell where it does.
+pub fn rejected(rule: Rule, row: u32, col: u32) -> Line
     ensures { result.bytes ≡ rejected_line rule row col }
 {
     let mut line = words("rejected rule=");

@@ -1,37 +1,32 @@
-use Rattle.std.proofs.Common.{◌≡◌, ◌+◌, ◌*◌, ◌<◌, ap, arith, below_more}
+use Rattle.std.proofs.Common.{◌≡◌, ◌<◌, ap, arith, below_more}
 use Rattle.drain_grid.specs.Size.{Extent}
+use Rattle.drain_grid.specs.PatchRules.{profile1}
 use Rattle.drain_grid.specs.WholeGrid.{grid_of, products_of, nodata_of}
 use Rattle.drain_rules.specs.Rows.{HoldAlong}
-use Rattle.drain_rules.proofs.GridLemmas.{CountsAbove-more, IsFirstFault-row, IsVerdict-above, row_fits, tally_fits}
+use Rattle.drain_rules.proofs.GridLemmas.{CountsAbove-more, IsFirstFault-row, IsVerdict-above, tallies_fit}
 use Rattle.drain_rules.proofs.whole_check.walk.Goals as goal
 use Rattle.drain_rules.proofs.whole_check.walk.Goals.{in-Fault, in-OutOfMemory}
 
 pub join-requires-clause-data_fit : goal.join-requires-clause-data_fit
 join-requires-clause-data_fit c =
-    let fits = tally_fits (grid_of c.args.elevation.now) (products_of c.args.products.now) _ _ _ c.in-Ok.ensures.tally.counted in
     let rows : c.shape-shape.result.rows ≡ c.args.elevation.now.extent.rows = ap (λ (e : Extent). e.rows) c.shape-shape.ensures in
     let cols : c.shape-shape.result.cols ≡ c.args.elevation.now.extent.cols = ap (λ (e : Extent). e.cols) c.shape-shape.ensures in
-    row_fits c.loop-row.row c.shape-shape.result.rows c.args.elevation.now.extent.cols _ _ (omega (arith, c.rows-row-end.ensures))
-    (omega arith) (omega (arith, cols))
-    c.loop-row.invariant.data_bound fits.0
+    (tallies_fit (grid_of c.args.elevation.now) (products_of c.args.products.now) c.loop-row.row _ _ (omega (arith, c.rows-row-end.ensures, rows))
+    (omega (arith, rows)) (omega (arith, cols)) c.loop-row.invariant.counted c.in-Ok.ensures.tally.counted).0
 
 pub join-requires-clause-raised_fit : goal.join-requires-clause-raised_fit
 join-requires-clause-raised_fit c =
-    let fits = tally_fits (grid_of c.args.elevation.now) (products_of c.args.products.now) _ _ _ c.in-Ok.ensures.tally.counted in
     let rows : c.shape-shape.result.rows ≡ c.args.elevation.now.extent.rows = ap (λ (e : Extent). e.rows) c.shape-shape.ensures in
     let cols : c.shape-shape.result.cols ≡ c.args.elevation.now.extent.cols = ap (λ (e : Extent). e.cols) c.shape-shape.ensures in
-    row_fits c.loop-row.row c.shape-shape.result.rows c.args.elevation.now.extent.cols _ _ (omega (arith, c.rows-row-end.ensures))
-    (omega arith) (omega (arith, cols))
-    c.loop-row.invariant.raised_bound fits.1
+    (tallies_fit (grid_of c.args.elevation.now) (products_of c.args.products.now) c.loop-row.row _ _ (omega (arith, c.rows-row-end.ensures, rows))
+    (omega (arith, rows)) (omega (arith, cols)) c.loop-row.invariant.counted c.in-Ok.ensures.tally.counted).1
 
 pub join-requires-clause-outlets_fit : goal.join-requires-clause-outlets_fit
 join-requires-clause-outlets_fit c =
-    let fits = tally_fits (grid_of c.args.elevation.now) (products_of c.args.products.now) _ _ _ c.in-Ok.ensures.tally.counted in
     let rows : c.shape-shape.result.rows ≡ c.args.elevation.now.extent.rows = ap (λ (e : Extent). e.rows) c.shape-shape.ensures in
     let cols : c.shape-shape.result.cols ≡ c.args.elevation.now.extent.cols = ap (λ (e : Extent). e.cols) c.shape-shape.ensures in
-    row_fits c.loop-row.row c.shape-shape.result.rows c.args.elevation.now.extent.cols _ _ (omega (arith, c.rows-row-end.ensures))
-    (omega arith) (omega (arith, cols))
-    c.loop-row.invariant.outlets_bound fits.2
+    (tallies_fit (grid_of c.args.elevation.now) (products_of c.args.products.now) c.loop-row.row _ _ (omega (arith, c.rows-row-end.ensures, rows))
+    (omega (arith, rows)) (omega (arith, cols)) c.loop-row.invariant.counted c.in-Ok.ensures.tally.counted).2
 
 pub returns-in-Err-clause-verdict : goal.returns-in-Err-clause-verdict
 returns-in-Err-clause-verdict c =
@@ -42,7 +37,7 @@ returns-in-Err-clause-verdict c =
     let inside : c.loop-row.row < c.args.elevation.now.extent.rows = omega (arith, c.rows-row-end.ensures, rows) in
     elim c.match-end.branch [
       | in-Fault w ↦
-          rw w.result-is (IsFirstFault-row nodata g ps c.loop-row.row c.in-Err.end.col w.in-Fault.rule inside c.loop-row.invariant.holds
+          rw w.result-is (IsFirstFault-row (profile1 nodata) 1 15 g ps c.loop-row.row c.in-Err.end.col w.in-Fault.rule inside c.loop-row.invariant.holds
           (rw w.in-Fault.is at c.in-Err.ensures.stopped))
       | in-OutOfMemory w ↦ rw w.result-is tt
     ]
@@ -55,15 +50,10 @@ loop-row-preserved c =
     let row = c.loop-row.row in
     let inv = c.loop-row.invariant in
     let here = c.in-Ok.ensures.tally in
-    let fits = tally_fits g ps _ _ _ here.counted in
-    let sum : (row + 1) * cols ≡ row * cols + cols = omega arith in
     record {
-      holds = below_more (λ r. HoldAlong (nodata_of c.args.products.now) g ps r cols) row inv.holds here.holds;
+      holds = below_more (λ r. HoldAlong (profile1 (nodata_of c.args.products.now)) 1 15 g ps r cols) row inv.holds here.holds;
       counted = CountsAbove-more g ps row _ _ _ inv.counted here.counted c.join.ensures.data_cells c.join.ensures.raised c.join.ensures.outlets;
       labels = c.in-Ok.ensures.labels;
-      data_bound = omega (arith, sum, fits.0, inv.data_bound, c.join.ensures.data_cells);
-      raised_bound = omega (arith, sum, fits.1, inv.raised_bound, c.join.ensures.raised);
-      outlets_bound = omega (arith, sum, fits.2, inv.outlets_bound, c.join.ensures.outlets);
     }
 
 pub returns-clause-verdict : goal.returns-clause-verdict

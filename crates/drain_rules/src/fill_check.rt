@@ -1,18 +1,19 @@
 //! The check of a fill input: rules 4 to 9 at each cell in row order, one patch at a time.
 
-ghost use Rattle.std.specs.Prelude.{◌≡◌, ◌+◌, ◌^◌, ◌<◌, ◌≤◌, ◌&&◌, if◌then◌else◌, IfOk, IfErr, int_lt, is_some, unwrap_or, pos};
+ghost use Rattle.std.specs.Prelude.{◌<◌, IfOk, IfErr};
 ghost use Rattle.drain_grid.specs.Path.{IsLeastSurface, ShowsSpillLevels};
-ghost use Rattle.drain_cli.specs.Fill.{fill_grid, fill_products};
-ghost use Rattle.drain_cli.specs.FillVerdicts.{IsFillAnswer, IsFillVerdict};
-ghost use Rattle.drain_cli.specs.Filled.{OnAccepted};
-ghost use Rattle.drain_cli.specs.FillRows.{IsRowTally, IsRowFault};
-ghost use Rattle.drain_cli.specs.Parts.{grid_of, products_of};
+ghost use Rattle.drain_rules.specs.Fill.{fill_grid, fill_products};
+ghost use Rattle.drain_rules.specs.FillVerdicts.{IsFillAnswer, IsFillVerdict, fill_rules};
+ghost use Rattle.drain_rules.specs.Filled.{OnAccepted};
+ghost use Rattle.drain_rules.specs.Parts.{grid_of, products_of};
+ghost use Rattle.drain_rules.specs.Rows.{IsRowTally, IsRowFault};
 
 use crate::fill_input::{FillInput, fill_length};
+use crate::tally::Tally;
 use drain_fill::fault;
 use drain_grid::laws::least_from_rules;
 use drain_grid::tile::is_side;
-use drain_grid::{Cell, CellValues, Rule};
+use drain_grid::{Cell, Rule};
 use thiserror::Error;
 
 /// The size of the tile, and how many cells have data and are raised.
@@ -49,57 +50,19 @@ pub struct RowFault {
     pub col: u32,
 }
 
-/// How many of the cells that were passed have data, and are raised.
-#[derive(Clone, Copy)]
-pub struct Tally {
-    pub data_cells: u32,
-    pub raised: u32,
-}
-
-impl Tally {
-    /// Counts one cell more.
-    fn add(&mut self, here: CellValues)
-        requires fits { self.old.data_cells + 1 < 2 ^ 32 }
-        requires within { self.old.raised ≤ self.old.data_cells }
-        ensures data_cells { self.new.data_cells ≡ self.old.data_cells + (if is_some here.z then 1 else 0) }
-        ensures raised { self.new.raised ≡ self.old.raised + (if is_some here.z && int_lt (unwrap_or here.z (pos 0)) here.con then 1 else 0) }
-    {
-        if let Some(ground) = here.z {
-            self.data_cells += 1;
-            if i64::from(ground) < here.con {
-                self.raised += 1;
-            }
-        }
-    }
-
-    /// Counts the cells of a row more.
-    fn join(&mut self, row: Tally)
-        requires data_fit { self.old.data_cells + row.data_cells < 2 ^ 32 }
-        requires raised_fit { self.old.raised + row.raised < 2 ^ 32 }
-        ensures data_cells { self.new.data_cells ≡ self.old.data_cells + row.data_cells }
-        ensures raised { self.new.raised ≡ self.old.raised + row.raised }
-    {
-        self.data_cells += row.data_cells;
-        self.raised += row.raised;
-    }
-}
-
 /// Tests rules 4 to 9 at the cells of a row, from west to east.
 fn check_row(input: &FillInput<'_>, row: u32) -> Result<Tally, RowFault>
     requires { row < input.now.shape.rows }
-    ensures tally { IfOk result (IsRowTally (grid_of input.now) (products_of input.now) row) }
-    ensures fault { IfErr result (IsRowFault (grid_of input.now) (products_of input.now) row) }
+    ensures tally { IfOk result (IsRowTally fill_rules 4 9 (grid_of input.now) (products_of input.now) row) }
+    ensures fault { IfErr result (λ fault. IsRowFault fill_rules 4 9 (grid_of input.now) (products_of input.now) row fault.col fault.rule) }
 {
-    let mut tally = Tally {
-        data_cells: 0,
-        raised: 0,
-    };
+    let mut tally = Tally::new();
     for col in 0..input.side() {
         let patch = input.patch(Cell { row, col });
         if let Some(rule) = fault(&patch) {
             return Err(RowFault { rule, col });
         }
-        tally.add(patch.here);
+        tally.add(&patch.here);
     }
     Ok(tally)
 }
@@ -109,10 +72,7 @@ fn verdict_of(input: &FillInput<'_>) -> FillVerdict
     ensures { IsFillVerdict (grid_of input.now) (products_of input.now) result }
 {
     let side = input.side();
-    let mut total = Tally {
-        data_cells: 0,
-        raised: 0,
-    };
+    let mut total = Tally::new();
     for row in 0..side {
         match check_row(input, row) {
             Ok(tally) => total.join(tally),

@@ -1,7 +1,7 @@
 -- What the code's input of the right length stands for.
-use Rattle.drain_cli.specs.declared.fill_input.FillInput.{FillInput}
+use Rattle.drain_rules.specs.declared.fill_input.FillInput.{FillInput}
 use Rattle.drain_grid.specs.Grid.{Grid, Products}
-use Rattle.drain_cli.specs.Fill.{fill_grid, fill_products}
+use Rattle.drain_rules.specs.Fill.{fill_grid, fill_products}
 
 abbrev pub grid_of : FillInput → Grid
 grid_of input = fill_grid input.shape.rows input.bytes.now

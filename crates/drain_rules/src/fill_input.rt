@@ -32,8 +32,8 @@ impl<'a> FillInput<'a> {
     ghost use Rattle.std.specs.Prelude.{option_map, ◌≢◌};
     ghost use Rattle.drain_grid.specs.Extent.{IsCellOf, step};
     ghost use Rattle.drain_grid.specs.Grid.{patch_at, values_at};
-    ghost use Rattle.drain_cli.specs.Fill.{square, IsFillLength};
-    ghost use Rattle.drain_cli.specs.Parts.{grid_of, products_of};
+    ghost use Rattle.drain_rules.specs.Fill.{square, IsFillLength};
+    ghost use Rattle.drain_rules.specs.Parts.{grid_of, products_of};
     ghost use Rattle.drain_grid.specs.Values.{IsPixel};
 
     /// The parts of an input of the right length.

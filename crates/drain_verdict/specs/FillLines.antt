@@ -1,0 +1,21 @@
+-- The line that tells the answer to a fill input. Its words are this project's own.
+use Rattle.std.specs.Prelude.{ℕ, List, ◌++◌, Result, Ok, Err, codes, decimal}
+use Rattle.drain_rules.specs.declared.fill_check.FillCounts.{FillCounts}
+use Rattle.drain_rules.specs.declared.fill_check.FillVerdict.{FillVerdict}
+use Rattle.drain_rules.specs.declared.fill_check.FillVerdict.TheVariants.{Accepted, Rejected}
+use Rattle.drain_rules.specs.declared.fill_check.FillRefusal.{FillRefusal}
+use Rattle.drain_rules.specs.declared.fill_check.FillRefusal.TheVariants.{BadSide, BadLength}
+use Rattle.drain_verdict.specs.Lines.{rejected_line}
+
+-- accepted rows=R cols=C data=D raised=U
+abbrev pub accepted_line : FillCounts → List ℕ
+accepted_line c =
+    codes "accepted rows=" ++ decimal c.rows ++ codes " cols=" ++ decimal c.cols ++ codes " data=" ++ decimal c.data_cells
+    ++ codes " raised=" ++ decimal c.raised
+
+-- the line of any answer
+abbrev pub fill_line : Result FillVerdict FillRefusal → List ℕ
+fill_line (Ok (Accepted counts)) = accepted_line counts
+fill_line (Ok (Rejected rule row col)) = rejected_line rule row col
+fill_line (Err BadSide) = codes "refused BadSide"
+fill_line (Err BadLength) = codes "refused BadLength"
