@@ -12,3 +12,4 @@ pub mod HeaderOrder
 pub mod SameGrid
 pub mod WholeGrids
 pub mod InputVerdicts
+mod SeamAnswers

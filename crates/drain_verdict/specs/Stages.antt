@@ -17,15 +17,17 @@ use Rattle.drain_header.specs.Faults.{Answers, Describes}
 use Rattle.drain_raster.specs.Pixels.{extent_of, IsShort, raster_of}
 use Rattle.drain_mosaic.specs.declared.layout.LayoutFault.{LayoutFault}
 use Rattle.drain_mosaic.specs.declared.layout.LayoutFault.TheVariants as layout
+use Rattle.drain_mosaic.specs.declared.seams.SeamFault.{SeamFault}
+use Rattle.drain_mosaic.specs.declared.seams.SeamFault.TheVariants as seam
 use Rattle.drain_mosaic.specs.Tiling as tiling
 use Rattle.drain_mosaic.specs.LayoutFaults.{HasLayoutFault, order_of}
-use Rattle.drain_mosaic.specs.Mosaic as mosaic
 use Rattle.drain_verdict.specs.declared.headers.Headers.{Headers}
 use Rattle.drain_verdict.specs.declared.input.Products.{Products}
 use Rattle.drain_verdict.specs.declared.refusal.Refusal.{Refusal}
 use Rattle.drain_verdict.specs.declared.refusal.Refusal.TheVariants.{BadSide, BadName, NoTiles, RepeatedTile, BoxTooLarge, BadHeader, WrongShape, Misplaced, BadTileLength, RasterShort, SeamMismatch, OutOfMemory, ReadFailed}
-use Rattle.drain_verdict.specs.Inputs.{input_of}
-use Rattle.drain_verdict.specs.Refusals.{IsBadName, IsPlaced, rank_of}
+use Rattle.drain_verdict.specs.Inputs.{Inputs, input_of}
+use Rattle.drain_verdict.specs.Meaning.{tiling_of, fields_of}
+use Rattle.drain_verdict.specs.Refusals.{IsBadName, IsPlaced, HasShape, rank_of}
 
 -- the names are those of tiles that make a mosaic
 pub record IsLayoutOf (side : ℕ) (names : List (List ℕ)) (t : tiling.Tiling) : Type 0 where
@@ -173,8 +175,14 @@ IsRasterRefusal hs bodies OutOfMemory = Unit {0}
 IsRasterRefusal hs bodies ReadFailed = Unit {0}
 IsRasterRefusal hs bodies refusal = ⊥
 
--- why samples of tiles are refused
-abbrev pub IsSeamRefusal : tiling.Tiling → List mosaic.Tile → Refusal → Type 0
-IsSeamRefusal t tiles (SeamMismatch c) = mosaic.IsFirstSeam t tiles c
-IsSeamRefusal t tiles OutOfMemory = Unit {0}
-IsSeamRefusal t tiles refusal = ⊥
+-- the refusal that tells a fault of the seams
+abbrev pub IsSeamFaultAs : SeamFault → Refusal → Type 0
+IsSeamFaultAs (seam.SeamMismatch c) refusal = refusal ≡ SeamMismatch c
+IsSeamFaultAs seam.OutOfMemory refusal = refusal ≡ OutOfMemory
+
+-- the layout, the samples and the rasters are those of the inputs
+pub record AreThoseOf (i : Inputs) (t : tiling.Tiling) (samples : List (List ℤ)) (set : ProductSet) : Type 0 where
+  pub tiling_is : t ≡ tiling_of i
+  pub samples_are : samples ≡ map samples_of i.tiles
+  pub shapes : (p : Product) → HasShape i p
+  pub rasters : (p : Product) → raster_in set p ≡ raster_of (fields_of i p) (default_no_data p) (i.raster p)

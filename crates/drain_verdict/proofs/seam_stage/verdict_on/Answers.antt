@@ -1,18 +1,16 @@
-use Rattle.std.proofs.Common.{Err, map, ap, subst, sym, ◌∙◌}
-use Rattle.drain_mosaic.specs.Mosaic.{tiles_of, TilesAgree, IsFirstSeam}
+use Rattle.std.proofs.Common.{rules, ◌≡◌, map, IsErrOf, ℕ, ◌+◌, ◌-◌, ◌*◌, ◌<◌, ◌≤◌, length, ◌/◌, ◌%◌, Bool, true, false, nat_eq, nat_lt, List, [], ◌∷◌, ◌++◌, slice_index_or, slice_set, bit_and, bit_or, Fits, w8, w32, w64, Bor, MutBor}
+use Rattle.drain_mosaic.specs.Tiling.{extent_of}
+use Rattle.drain_mosaic.specs.Mosaic.{AreTiles}
+use Rattle.drain_verdict.specs.Inputs.{Inputs}
+use Rattle.drain_verdict.specs.Refusals.{NoneStandsBefore}
+use Rattle.drain_verdict.specs.Answers.{IsAnswer}
+use Rattle.drain_verdict.specs.Stages.{AreThoseOf, IsSeamFaultAs}
 use Rattle.drain_verdict.proofs.seam_stage.verdict_on.Goals as goal
 
-pub returns-in-Err-SeamMismatch-clause-refusal : goal.returns-in-Err-SeamMismatch-clause-refusal
-returns-in-Err-SeamMismatch-clause-refusal c =
-    let t = c.args.layout.now in
-    let cell = c.in-Err-SeamMismatch.cell in
-    subst (λ samples. IsFirstSeam t (tiles_of t.corners (map (λ tile. tile.items) samples)) cell) c.deref.ensures.value
-    (c.join-joined.ensures.seam cell (c.in-Err-SeamMismatch.is ∙ ap (λ fault. Err fault) c.in-Err-SeamMismatch.field-0-is))
+-- src/seam_stage.rt:30:1
+pub returns-in-Ok-verdict_of-clause-answer : goal.returns-in-Ok-verdict_of-clause-answer
+returns-in-Ok-verdict_of-clause-answer c = ?
 
-pub returns-in-Ok-verdict_of-clause-agree : goal.returns-in-Ok-verdict_of-clause-agree
-returns-in-Ok-verdict_of-clause-agree c = λ ok.
-    let t = c.args.layout.now in
-    subst (λ samples. TilesAgree t (tiles_of t.corners (map (λ tile. tile.items) samples))) c.deref.ensures.value (c.in-Ok.ensures.agree ok)
-
-pub returns-in-Ok-verdict_of-clause-verdict : goal.returns-in-Ok-verdict_of-clause-verdict
-returns-in-Ok-verdict_of-clause-verdict c = ?
+-- src/seam_stage.rt:20:1
+pub returns-clause-answer : goal.returns-clause-answer
+returns-clause-answer c = ?
