@@ -13,3 +13,5 @@ pub mod SameGrid
 pub mod WholeGrids
 pub mod InputVerdicts
 mod SeamAnswers
+mod Devices
+mod StageAnswers
