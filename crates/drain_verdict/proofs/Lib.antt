@@ -1,3 +1,4 @@
 pub mod FaultLists
 pub mod OneTile
+pub mod RasterChain
 pub mod TileLists
