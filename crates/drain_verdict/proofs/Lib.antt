@@ -7,6 +7,7 @@ mod BodyAnswers
 mod Acceptance
 pub mod FaultLists
 pub mod OneTile
+pub mod RasterChain
 pub mod TileLists
 pub mod HeaderOrder
 pub mod SameGrid
@@ -15,3 +16,4 @@ pub mod InputVerdicts
 mod SeamAnswers
 mod Devices
 mod StageAnswers
+mod StartAnswers

@@ -54,7 +54,7 @@ same_failure {T} {V} {E} {y} {e} is = let same : y ≡ e = cc in ap (λ x. Err x
 
 -- which part told it: the first, the second, or none
 pub the_first : {T V E : Type 0} {y e : E} → (IsErrOf {T = T} {E = E} (Err y) e ⊎ ⊥) ↔ IsErrOf {T = V} {E = E} (Err y) e
-the_first = (λ either. elim either [ inl f ↦ same_failure f | inr no ↦ absurd no ], λ f. inl (same_failure f))
+the_first = (λ either. elim either [ inl f ↦ same_failure f | inr never ↦ absurd never ], λ f. inl (same_failure f))
 
 pub the_second : {S T V E : Type 0} {x : S} {y e : E} → (IsErrOf {T = S} {E = E} (Ok x) e ⊎ IsErrOf {T = T} {E = E} (Err y) e) ↔ IsErrOf {T = V} {E = E} (Err y) e
 the_second = (λ either. elim either [ inl f ↦ absurd (no_failure f) | inr g ↦ same_failure g ], λ g. inr (same_failure g))
