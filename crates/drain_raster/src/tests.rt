@@ -130,8 +130,8 @@ fn a_raster_is_short_before_its_last_pixel_ends(rt: HostRuntime) -> Result<(), F
                 );
             }
             Err(fault) => {
-                assert!(rt; len < 10, "{len} bytes");
                 assert_eq!(rt; fault, RasterFault::Short);
+                assert!(rt; len < 10, "{len} bytes");
             }
         }
     }

@@ -1,22 +1,22 @@
 -- What the stages of tiles, rasters and seams say of the inputs: nothing of their kinds stands, or their refusal is the first.
-use Rattle.std.proofs.Common.{◌≡◌, ℕ, ◌+◌, ◌<◌, List, slice_get, Some, arith, refl, sym, subst}
+use Rattle.std.proofs.Common.{◌≡◌, ℕ, ◌<◌, List, slice_get, Some, arith, refl, sym, subst}
 use Rattle.std.specs.List.{All}
 use Rattle.std.proofs.lemmas.Option.{get_or_from_slice_get, slice_get_within}
 use Rattle.drain_grid.specs.declared.cell.Cell.{Cell}
 use Rattle.drain_grid.specs.declared.product.Product.{Product}
 use Rattle.drain_grid.specs.Extent.{index_of}
 use Rattle.drain_hgt.specs.Corner.{Corner}
-use Rattle.drain_hgt.specs.Samples.{IsTile, samples_of}
+use Rattle.drain_hgt.specs.Samples.{IsTile}
 use Rattle.drain_raster.specs.Pixels.{IsShort}
 use Rattle.drain_mosaic.specs.Tiling as tiling
 use Rattle.drain_mosaic.specs.LayoutFaults.{IsFirstRepeated}
-use Rattle.drain_mosaic.specs.Mosaic.{TilesAgree, IsFirstSeam, HasTwoValues}
+use Rattle.drain_mosaic.specs.Mosaic.{TilesAgree, IsFirstSeam}
 use Rattle.drain_verdict.specs.declared.headers.Headers.{Headers}
 use Rattle.drain_verdict.specs.declared.refusal.Refusal.{Refusal}
-use Rattle.drain_verdict.specs.declared.refusal.Refusal.TheVariants.{BadSide, BadName, NoTiles, RepeatedTile, BoxTooLarge, BadHeader, WrongShape, Misplaced, BadTileLength, RasterShort, SeamMismatch, OutOfMemory, ReadFailed}
+use Rattle.drain_verdict.specs.declared.refusal.Refusal.TheVariants.{RepeatedTile, BadTileLength, RasterShort, SeamMismatch, OutOfMemory, ReadFailed}
 use Rattle.drain_verdict.specs.Inputs.{Inputs}
 use Rattle.drain_verdict.specs.Meaning.{tiling_of, tiles_of, fields_of}
-use Rattle.drain_verdict.specs.Refusals.{Stands, NoneStandsBefore, HasBadLength, IsSeamFault, place_of, place_among, rank_of}
+use Rattle.drain_verdict.specs.Refusals.{Stands, NoneStandsBefore, place_of, place_among, rank_of}
 use Rattle.drain_verdict.specs.Answers.{IsRefusal, AreReadable}
 use Rattle.drain_verdict.specs.Stages.{IsTileRefusal, IsRasterRefusal, header_for}
 use Rattle.drain_verdict.proofs.Order.{at_tile, at_raster, at_seam, none_more, readable, first_of}

@@ -4,18 +4,18 @@ use Rattle.drain_grid.specs.declared.product.Product.{Product}
 use Rattle.drain_grid.specs.declared.product.Product.TheVariants.{Con, Dir, Acc, Bas, Spl, Rnk}
 use Rattle.drain_header.specs.declared.fault.HeaderFault.{HeaderFault}
 use Rattle.drain_header.specs.Fields.{Fields}
-use Rattle.drain_header.specs.Faults.{Answers, Describes}
+use Rattle.drain_header.specs.Faults.{Describes}
 use Rattle.drain_raster.specs.Pixels.{extent_of}
 use Rattle.drain_mosaic.specs.Tiling as tiling
 use Rattle.drain_verdict.specs.declared.headers.Headers.{Headers}
 use Rattle.drain_verdict.specs.declared.input.Products.{Products}
 use Rattle.drain_verdict.specs.declared.refusal.Refusal.{Refusal}
-use Rattle.drain_verdict.specs.declared.refusal.Refusal.TheVariants.{BadSide, BadName, NoTiles, RepeatedTile, BoxTooLarge, BadHeader, WrongShape, Misplaced, BadTileLength, RasterShort, SeamMismatch, OutOfMemory, ReadFailed}
+use Rattle.drain_verdict.specs.declared.refusal.Refusal.TheVariants.{BadHeader, WrongShape, Misplaced}
 use Rattle.drain_verdict.specs.Inputs.{Inputs, input_of}
 use Rattle.drain_verdict.specs.Meaning.{tiling_of, fields_of}
 use Rattle.drain_verdict.specs.Refusals.{Stands, NoneStandsBefore, HasShape, IsPlaced, place_of, rank_of}
 use Rattle.drain_verdict.specs.Answers.{IsRefusal}
-use Rattle.drain_verdict.specs.Stages.{IsHeaderFor, IsHeaderRefusal, IsFirstHeaderRefusal, HasWrongShape, IsElsewhere, AreHeadersFor, header_for}
+use Rattle.drain_verdict.specs.Stages.{IsHeaderFor, IsHeaderRefusal, IsFirstHeaderRefusal, AreHeadersFor, header_for}
 use Rattle.drain_verdict.proofs.Order.{at_header, none_more, first_of}
 
 -- products of one rank are one product

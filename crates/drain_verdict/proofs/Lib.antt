@@ -1,19 +1,19 @@
-mod Naming
-mod Order
-mod LayoutAnswers
-mod HeaderAnswers
-mod Places
-mod BodyAnswers
 mod Acceptance
-pub mod FaultLists
-pub mod OneTile
-pub mod RasterChain
-pub mod TileLists
-pub mod HeaderOrder
-pub mod SameGrid
-pub mod WholeGrids
-pub mod InputVerdicts
-mod SeamAnswers
+mod BodyAnswers
 mod Devices
+mod FaultLists
+mod HeaderAnswers
+mod HeaderOrder
+mod InputVerdicts
+mod LayoutAnswers
+mod Naming
+mod OneTile
+mod Order
+mod Places
+mod RasterChain
+mod SameGrid
+mod SeamAnswers
 mod StageAnswers
 mod StartAnswers
+mod TileLists
+mod WholeGrids

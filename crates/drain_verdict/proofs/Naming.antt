@@ -1,5 +1,5 @@
 -- The names of tiles, one after the other: those that were read name tiles, and the first that is not read is the first bad one.
-use Rattle.std.proofs.Common.{◌≡◌, ℕ, zero, suc, ◌+◌, ◌<◌, ◌≤◌, List, [], ◌∷◌, ◌++◌, length, map, take, get_or, slice_get, Some, arith, refl, sym, ap, ◌∙◌, subst}
+use Rattle.std.proofs.Common.{◌≡◌, ℕ, zero, suc, ◌+◌, ◌<◌, ◌≤◌, List, [], ◌∷◌, ◌++◌, length, take, get_or, Some, arith, sym, ap, ◌∙◌, subst}
 use Rattle.std.specs.Prelude.{Err, nat_abs}
 use Rattle.std.specs.Int.{is_negative}
 use Rattle.std.specs.List.{AllZip}

@@ -1,7 +1,6 @@
 -- The stages of tiles and rasters, put together.
 use Rattle.std.proofs.Common.{◌≡◌, ◌⊎◌, ◌↔◌, inl, inr, List, ℤ, Ok, Err, IsErrOf, sym, ap, subst, ◌∙◌}
 use Rattle.drain_grid.specs.declared.product.Product.{Product}
-use Rattle.drain_grid.specs.declared.product.Product.TheVariants.{Con}
 use Rattle.drain_grid.specs.declared.product_set.ProductSet.{ProductSet}
 use Rattle.drain_grid.specs.Product.{default_no_data}
 use Rattle.drain_header.specs.Fields.{Fields}
@@ -11,7 +10,7 @@ use Rattle.drain_verdict.specs.declared.headers.Headers.{Headers}
 use Rattle.drain_verdict.specs.declared.refusal.Refusal.{Refusal}
 use Rattle.drain_verdict.specs.Inputs.{Inputs}
 use Rattle.drain_verdict.specs.Meaning.{tiling_of, fields_of}
-use Rattle.drain_verdict.specs.Refusals.{NoneStandsBefore, HasShape}
+use Rattle.drain_verdict.specs.Refusals.{NoneStandsBefore}
 use Rattle.drain_verdict.specs.Answers.{IsAnswer}
 use Rattle.drain_verdict.specs.Stages.{IsTileRefusal, IsRasterRefusal, IsRasterOf, AreSamplesOf, AreThoseOf, header_for, raster_in}
 use Rattle.drain_verdict.proofs.BodyAnswers.{tiles_none, tile_refused, rasters_none, raster_refused}

@@ -1,5 +1,5 @@
 -- The stages of the layout and the headers, put together.
-use Rattle.std.proofs.Common.{◌≡◌, ℕ, List, length, map, Err, IsErrOf, sym, ap, subst, ◌∙◌}
+use Rattle.std.proofs.Common.{◌≡◌, ℕ, List, length, Err, IsErrOf, sym, subst, ◌∙◌}
 use Rattle.std.specs.Prelude.{Option}
 use Rattle.std.specs.List.{AllZip}
 use Rattle.std.proofs.lemmas.List.{length-map}

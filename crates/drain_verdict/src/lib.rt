@@ -3,16 +3,16 @@
 
 pub mod answer_report;
 pub mod fill_line;
-pub mod headers;
-pub mod headers_stage;
+mod headers;
+mod headers_stage;
 pub mod input;
-pub mod layout_stage;
+mod layout_stage;
 pub mod line;
 pub mod raster_check;
-pub mod rasters_stage;
+mod rasters_stage;
 pub mod refusal;
-pub mod seam_stage;
-pub mod tiles_stage;
+mod seam_stage;
+mod tiles_stage;
 pub mod verdict_report;
 
 pub use answer_report::report;

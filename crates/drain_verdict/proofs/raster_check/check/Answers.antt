@@ -1,4 +1,3 @@
-use Rattle.std.proofs.Common.{◌≡◌}
 use Rattle.drain_verdict.specs.Inputs.{Tell}
 use Rattle.drain_verdict.specs.Meaning.{tiling_of, tiles_of}
 use Rattle.drain_verdict.specs.Headline.{TilesAreOne, ElevationIsTheirs, ConIsLeast, NoDirectionClimbs, DirectionsAreSteepest, CodesTellOutlets, RunsEnd, RunsEndAtOutlets, RunsVisitOnce, AccCountsUpstream, LabelsTellBasins, VoidsAreBlank, DataIsComplete}
