@@ -1,9 +1,10 @@
 -- How the faults of many devices hang together with what a check of them answers: nothing was called, one device, and one part after another.
-use Rattle.std.proofs.Common.{◌↔◌, zero, suc, ◌⊎◌, inl, inr, List, [], ◌∷◌, ◌++◌, arith, refl}
+use Rattle.std.proofs.Common.{◌↔◌, ℕ, zero, suc, ◌⊎◌, inl, inr, List, Option, Some, None, [], ◌∷◌, ◌++◌, arith, refl}
 use Rattle.std.specs.List.{Any}
 use Rattle.drain_device.specs.declared.counts.FaultCounts.{FaultCounts}
 use Rattle.drain_device.specs.Counts.{Answered}
 use Rattle.drain_device.specs.Failing.{ReadFails}
+use Rattle.drain_device.specs.Reads.{TakesAtMost}
 use Rattle.drain_device.specs.Patience.{GivesUp, full_patience}
 use Rattle.drain_verdict.specs.Faults.{Faults, AnsweredEach, SomeReadFails}
 
@@ -12,17 +13,17 @@ abbrev pub gave_up : Faults → Type 0
 gave_up f = GivesUp full_patience f.failures f.interruptions
 
 -- one of the faults comes first, or is among the rest
-any-first : {X : Type 0} (P : X → Type 0) (x : X) (xs : List X) → P x → Any P (x ∷ xs)
+pub any-first : {X : Type 0} (P : X → Type 0) (x : X) (xs : List X) → P x → Any P (x ∷ xs)
 any-first P x xs holds = (0, x, omega arith, refl, holds)
 
-any-later : {X : Type 0} (P : X → Type 0) (x : X) (xs : List X) → Any P xs → Any P (x ∷ xs)
+pub any-later : {X : Type 0} (P : X → Type 0) (x : X) (xs : List X) → Any P xs → Any P (x ∷ xs)
 any-later P x xs (k, y, below, is, holds) = (suc k, y, omega (arith, below), is, holds)
 
-any-cases : {X : Type 0} (P : X → Type 0) (x : X) (xs : List X) → Any P (x ∷ xs) → P x ⊎ Any P xs
+pub any-cases : {X : Type 0} (P : X → Type 0) (x : X) (xs : List X) → Any P (x ∷ xs) → P x ⊎ Any P xs
 any-cases P x xs (zero, y, below, is, holds) = inl (rw is holds)
 any-cases P x xs (suc k, y, below, is, holds) = inr (k, y, omega (arith, below), is, holds)
 
-any-none : {X : Type 0} (P : X → Type 0) → Any P [] → ⊥
+pub any-none : {X : Type 0} (P : X → Type 0) → Any P [] → ⊥
 any-none P (k, y, below, is, holds) = omega (arith, below)
 
 -- of two lists, it is among the one or the other
@@ -106,14 +107,26 @@ SomeReadFails-one {old} {new} {F} read =
       );
     }
 
--- no device was called
-pub SomeReadFails-none : (us : List FaultCounts) {F : Type 0} → ¬ F → SomeReadFails us us F
+-- a device that wasn't called
+pub untouched : (c : FaultCounts) {F : Type 0} → ¬ F → ReadFails c c F
+untouched c not = record {
+  failures = 0;
+  interruptions = 0;
+  answered = answered-none c;
+  exactly = (λ f. absurd (not f), λ up. absurd (nothing-borne up));
+}
+
+-- took no byte
+pub takes-none : (limit : ℕ) (left : Option (List ℕ)) → TakesAtMost limit left left
+takes-none limit None = ([], tt, omega arith)
+takes-none limit (Some xs) = ([], refl, omega arith)
+
+-- where no device was called none fails
+pub SomeReadFails-none : (cs : List FaultCounts) {F : Type 0} → ¬ F → SomeReadFails cs cs F
 SomeReadFails-none [] not = record {
   faults = [];
   answered = tt;
   exactly = (λ f. absurd (not f), λ some. absurd (any-none gave_up some));
 }
-SomeReadFails-none (c ∷ us) not =
-    SomeReadFails-then (λ either. elim either [ inl f ↦ f | inr f ↦ f ], λ f. absurd (not f))
-    (SomeReadFails-one (record { failures = 0; interruptions = 0; answered = answered-none c; exactly = (λ f. absurd (not f), λ up. absurd (nothing-borne up)) }))
-    (SomeReadFails-none us not)
+SomeReadFails-none (c ∷ cs) not =
+    SomeReadFails-then (λ either. elim either [ inl f ↦ f | inr f ↦ f ], λ f. absurd (not f)) (SomeReadFails-one (untouched c not)) (SomeReadFails-none cs not)

@@ -1,5 +1,5 @@
 -- What the reads of some tiles came to: those that were read, the one that stopped them, and those behind it, whose devices weren't called.
-use Rattle.std.proofs.Common.{◌≡◌, ◌↔◌, ℕ, ◌+◌, ◌*◌, ◌<◌, ◌⊎◌, inl, inr, ℤ, List, [], ◌∷◌, ◌++◌, map, length, get_or, slice_index_or, All, Option, Some, None, arith, refl, sym, ap, ◌∙◌, length-append, append_assoc, append-nil}
+use Rattle.std.proofs.Common.{◌≡◌, ◌↔◌, ℕ, ◌+◌, ◌*◌, ◌<◌, ◌⊎◌, inl, inr, ℤ, List, [], ◌∷◌, ◌++◌, map, length, get_or, slice_index_or, All, Option, Some, arith, refl, sym, ap, ◌∙◌, length-append, append_assoc, append-nil}
 use Rattle.std.specs.Prelude.{slice_get, slice_set}
 use Rattle.std.specs.List.{AllZip}
 use Rattle.std.proofs.Math.ListN.{set}
@@ -17,7 +17,7 @@ use Rattle.drain_verdict.specs.declared.refusal.Refusal.TheVariants.{BadSide, Ba
 use Rattle.drain_verdict.specs.Faults.{SomeReadFails, tile_devices}
 use Rattle.drain_verdict.specs.Inputs.{names_of}
 use Rattle.drain_verdict.specs.Stages.{AreBodies, AreSamplesOf, IsFirstBadLength, IsTileRefusal, IsOneTileRefusal}
-use Rattle.drain_verdict.proofs.FaultLists.{SomeReadFails-none, SomeReadFails-one, SomeReadFails-then}
+use Rattle.drain_verdict.proofs.FaultLists.{SomeReadFails-none, SomeReadFails-one, SomeReadFails-then, takes-none}
 
 -- a relation of two lists, place by place, holds of the parts, and of parts together
 AllZip-then : {A B : Type 0} (P : A → B → Type 0) (xs us : List A) (ys vs : List B) → AllZip P xs ys → AllZip P us vs → AllZip P (xs ++ us) (ys ++ vs)
@@ -63,11 +63,6 @@ set-seam (x ∷ xs) y v ys = ap (λ l. x ∷ l) (set-seam xs y v ys)
 get-seam : {A : Type 0} (xs : List A) (y d : A) (ys : List A) → slice_index_or (xs ++ y ∷ ys) (length xs) d ≡ y
 get-seam [] y d ys = refl
 get-seam (x ∷ xs) y d ys = get-seam xs y d ys
-
--- a device that wasn't called took no byte
-takes-none : (limit : ℕ) (left : Option (List ℕ)) → TakesAtMost limit left left
-takes-none limit None = ([], tt, omega arith)
-takes-none limit (Some xs) = ([], refl, omega arith)
 
 -- one tile's part: its device's faults, how far it was read, and its name
 pub record IsRead {R : Type 0} (bytes_left : R → Option (List ℕ)) (counts : R → FaultCounts) (side : ℕ) (old new : TileInput R) (Fails : Type 0) : Type 0 where

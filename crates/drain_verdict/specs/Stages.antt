@@ -163,6 +163,13 @@ pub record IsRasterOf (h : Fields) (p : Product) (body : List ℕ) (raster : Pix
   pub long : ¬ IsShort h body
   pub raster_is : raster ≡ raster_of h (default_no_data p) body
 
+-- why the body of a product is refused
+abbrev pub IsOneRasterRefusal : Fields → Product → List ℕ → Refusal → Type 0
+IsOneRasterRefusal h p body (RasterShort q) = (q ≡ p) × IsShort h body
+IsOneRasterRefusal h p body OutOfMemory = Unit {0}
+IsOneRasterRefusal h p body ReadFailed = Unit {0}
+IsOneRasterRefusal h p body refusal = ⊥
+
 -- the body of the product is the first that is too short
 pub record IsFirstShort (hs : Headers) (bodies : Product → List ℕ) (p : Product) : Type 0 where
   pub short : IsShort (header_for hs p) (bodies p)

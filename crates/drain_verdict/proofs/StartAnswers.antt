@@ -1,0 +1,75 @@
+-- The stages of the layout and the headers, put together.
+use Rattle.std.proofs.Common.{◌≡◌, ℕ, List, length, map, Err, IsErrOf, sym, ap, subst, ◌∙◌}
+use Rattle.std.specs.Prelude.{Option}
+use Rattle.std.specs.List.{AllZip}
+use Rattle.std.proofs.lemmas.List.{length-map}
+use Rattle.std.proofs.lemmas.Slice.Zip.{AllZip-long}
+use Rattle.drain_grid.specs.declared.product.Product.{Product}
+use Rattle.drain_hgt.specs.declared.input.TileInput.{TileInput}
+use Rattle.drain_hgt.specs.Corner.{Corner}
+use Rattle.drain_hgt.specs.Name.{Names}
+use Rattle.drain_hgt.specs.Laws.{OneName}
+use Rattle.drain_header.specs.Fields.{Fields}
+use Rattle.drain_mosaic.specs.Tiling.{Tiling}
+use Rattle.drain_verdict.specs.declared.headers.Headers.{Headers}
+use Rattle.drain_verdict.specs.declared.input.Products.{Products}
+use Rattle.drain_verdict.specs.declared.refusal.Refusal.{Refusal}
+use Rattle.drain_verdict.specs.declared.refusal.Refusal.TheVariants.{ReadFailed}
+use Rattle.drain_verdict.specs.Inputs.{Inputs, Tell, names_of, input_of}
+use Rattle.drain_verdict.specs.Meaning.{tiling_of, fields_of}
+use Rattle.drain_verdict.specs.Refusals.{NoneStandsBefore}
+use Rattle.drain_verdict.specs.Answers.{IsAnswer}
+use Rattle.drain_verdict.specs.Faults.{RasterTakesAtMost, BodyTakesAtMost}
+use Rattle.drain_verdict.specs.Stages.{IsLayoutOf, IsLayoutRefusal, IsHeaderRefusal, IsFirstHeaderRefusal, AreHeadersFor, header_for}
+use Rattle.drain_verdict.proofs.LayoutAnswers.{layout_is, layout_none, layout_refused}
+use Rattle.drain_verdict.proofs.HeaderAnswers.{headers_none, headers_are, header_refused}
+
+-- a layout has a name for each tile
+pub named_each : {R : Type 0} (tiles : List (TileInput R)) (corners : List Corner) → AllZip Names (names_of tiles) corners → length tiles ≡ length corners
+named_each tiles corners named = sym (AllZip-long Names (names_of tiles) corners named ∙ length-map tiles (λ t. t.name))
+
+layout_told : {R : Type 0} (bytes_left : R → Option (List ℕ)) (side : ℕ) (tiles : List (TileInput R)) (ps : Products R) (i : Inputs) (t : Tiling) →
+    Tell bytes_left side tiles ps i → IsLayoutOf side (names_of tiles) t → IsLayoutOf i.side i.names t
+layout_told bytes_left side tiles ps i t tell is =
+    subst (λ s. IsLayoutOf s i.names t) (sym tell.side_is) (subst (λ names. IsLayoutOf side names t) (sym tell.names_are) is)
+
+-- the refusal of the layout is the answer
+pub layout_answer : OneName → {R : Type 0} (bytes_left : R → Option (List ℕ)) (side : ℕ) (tiles : List (TileInput R)) (ps : Products R) (i : Inputs) (refusal : Refusal) →
+    Tell bytes_left side tiles ps i → IsLayoutRefusal side (names_of tiles) refusal → IsAnswer i (Err refusal)
+layout_answer one bytes_left side tiles ps i refusal tell bad =
+    layout_refused one i tell.corners_are refusal
+    (subst (λ s. IsLayoutRefusal s i.names refusal) (sym tell.side_is) (subst (λ names. IsLayoutRefusal side names refusal) (sym tell.names_are) bad))
+
+-- no read failed there
+pub layout_reads_none : {T : Type 0} (side : ℕ) (names : List (List ℕ)) (refusal : Refusal) → IsLayoutRefusal side names refusal → ¬ IsErrOf {T = T} (Err refusal) ReadFailed
+layout_reads_none side names refusal bad is =
+    let same : refusal ≡ ReadFailed = cc in
+    subst (IsLayoutRefusal side names) same bad
+
+-- the refusal of a header is the answer
+pub header_answer : OneName → {R : Type 0} (bytes_left : R → Option (List ℕ)) (side : ℕ) (tiles : List (TileInput R)) (ps : Products R) (i : Inputs) (t : Tiling) (refusal : Refusal) →
+    Tell bytes_left side tiles ps i → IsLayoutOf side (names_of tiles) t → IsFirstHeaderRefusal t ps refusal → IsAnswer i (Err refusal)
+header_answer one bytes_left side tiles ps i t refusal tell is bad =
+    let there = layout_told bytes_left side tiles ps i t tell is in
+    header_refused i ps refusal tell.headers_are (subst (λ (u : Tiling). IsFirstHeaderRefusal u ps refusal) (layout_is one i tell.corners_are t there) bad)
+    (layout_none one i tell.corners_are t there)
+
+pub header_reads_none : {R T : Type 0} (t : Tiling) (ps : Products R) (refusal : Refusal) → IsFirstHeaderRefusal t ps refusal → ¬ IsErrOf {T = T} (Err refusal) ReadFailed
+header_reads_none t ps refusal bad is =
+    let same : refusal ≡ ReadFailed = cc in
+    subst (IsHeaderRefusal t bad.product (input_of ps bad.product).header) same bad.refused
+
+-- the layout is that of the inputs, the headers are what theirs say, and nothing stands before the tiles
+pub started : OneName → {R : Type 0} (bytes_left : R → Option (List ℕ)) (side : ℕ) (tiles : List (TileInput R)) (ps : Products R) (i : Inputs) (t : Tiling) (hs : Headers) →
+    Tell bytes_left side tiles ps i → IsLayoutOf side (names_of tiles) t → AreHeadersFor t ps hs →
+    (t ≡ tiling_of i) × ((p : Product) → header_for hs p ≡ fields_of i p) × NoneStandsBefore i 5
+started one bytes_left side tiles ps i t hs tell is headers =
+    let there = layout_told bytes_left side tiles ps i t tell is in
+    let same = layout_is one i tell.corners_are t there in
+    let right : AreHeadersFor (tiling_of i) ps hs = subst (λ (u : Tiling). AreHeadersFor u ps hs) same headers in
+    (same, headers_are i ps hs tell.headers_are right, headers_none i ps hs tell.headers_are right (layout_none one i tell.corners_are t there))
+
+-- what a header needs is what its text says
+pub takes_as_told : {R : Type 0} (bytes_left : R → Option (List ℕ)) (t : Tiling) (old new : Products R) (hs : Headers) → AreHeadersFor t old hs → (p : Product) →
+    BodyTakesAtMost bytes_left (header_for hs p) old new p → RasterTakesAtMost bytes_left old new p
+takes_as_told bytes_left t old new hs headers p taken = subst (λ (h : Fields). BodyTakesAtMost bytes_left h old new p) (headers p).described.fields taken
