@@ -48,7 +48,9 @@ fn open_tiles(
 ) -> Result<Vec<TileInput<Reader<File>>>, OpenFault> {
     let mut tiles = Vec::new(rt.alloc());
     for path in paths {
-        tiles.push(open_tile(rt, path)?)?;
+        if tiles.push(open_tile(rt, path)?).is_err() {
+            return Err(OpenFault::Body(BodyFault::OutOfMemory));
+        }
     }
     Ok(tiles)
 }
