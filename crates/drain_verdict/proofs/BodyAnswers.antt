@@ -40,8 +40,8 @@ tile_refused i (BadTileLength c) bad none =
     first_of i 5 (place_among i.corners c) (BadTileLength c) refl
     (record { place = place; body = first.body; corner_is = bad.1; body_is = first.body_is; length_is_not = first.length_is_not }) none
     (at_tile i (λ b. (place_of i b).1 < place_among i.corners c → ¬ Stands i b) (λ d less stands.
-      stands.length_is_not (first.before stands.place stands.body
-      (omega (arith, less, here, place_of_tile i.corners distinct d stands.place stands.corner_is)) stands.body_is)))
+    stands.length_is_not (first.before stands.place stands.body
+    (omega (arith, less, here, place_of_tile i.corners distinct d stands.place stands.corner_is)) stands.body_is)))
 tile_refused i OutOfMemory bad none = tt
 tile_refused i ReadFailed bad none = tt
 tile_refused i refusal bad none = absurd bad

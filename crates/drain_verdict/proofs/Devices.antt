@@ -26,7 +26,7 @@ pub devices_then : {R : Type 0} (counts : R → FaultCounts) (old_tiles new_tile
     SomeReadFails (map counts (devices_of old_tiles old_products)) (map counts (devices_of new_tiles new_products)) H
 devices_then counts old_tiles new_tiles old_products new_products {F} {G} {H} either tiles products =
     let both : SomeReadFails (map counts (tile_devices old_tiles) ++ map counts (product_devices old_products)) (map counts (tile_devices new_tiles) ++ map counts (product_devices new_products)) H
-        = SomeReadFails-then either tiles products in
+    = SomeReadFails-then either tiles products in
     let old = map-append counts (tile_devices old_tiles) (product_devices old_products) in
     let new = map-append counts (tile_devices new_tiles) (product_devices new_products) in
     rw (old, new) both

@@ -70,10 +70,13 @@ before_product i p j small earlier header shape = at_header i (λ b. (place_of i
     either : (q : Product) → rank_of q < rank_of p + 1 → (P : Product → Type 0) → ((q : Product) → rank_of q < rank_of p → P q) → (rank_of q ≡ rank_of p → P p) → P q
     either q less P first last =
         below_more (λ n. rank_of q ≡ n → P q) (rank_of p) (λ n below e. first q (omega (arith, below, e))) (λ e. subst P (sym (one_rank q p e)) (last e)) (rank_of q) less refl
+
     on_header : (q : Product) (fault : HeaderFault) → 3 * rank_of q < 3 * rank_of p + j → ¬ Stands i (BadHeader q fault)
     on_header q fault less = either q (omega arith) (λ q. 3 * rank_of q < 3 * rank_of p + j → (fault : HeaderFault) → ¬ Stands i (BadHeader q fault)) (λ q below l fault. (earlier q below).no_fault fault) (λ same l. header (omega arith)) less fault
+
     on_shape : (q : Product) → 3 * rank_of q + 1 < 3 * rank_of p + j → ¬ Stands i (WrongShape q)
     on_shape q less = either q (omega arith) (λ q. 3 * rank_of q + 1 < 3 * rank_of p + j → ¬ Stands i (WrongShape q)) (λ q below l. (earlier q below).shape) (λ same l. shape (omega arith)) less
+
     on_place : (q : Product) → 3 * rank_of q + 2 < 3 * rank_of p + j → ¬ Stands i (Misplaced q)
     on_place q less = (earlier q (omega arith)).place
 

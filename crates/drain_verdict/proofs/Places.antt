@@ -65,6 +65,7 @@ earlier_by_index e b c in_b in_c less =
   where
     too_far : c.row < b.row → (suc c.row) * e.cols ≤ b.row * e.cols → ⊥
     too_far below far = omega (arith, far, less, in_c.col)
+
     not_below : b.row < c.row + 1
     not_below = elim (dec_lt c.row b.row) [
       | yes below ↦ absurd (too_far below (mul-le-mul_right e.cols below))

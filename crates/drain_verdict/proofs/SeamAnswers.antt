@@ -33,8 +33,7 @@ pub verdict_answers : AgreementGivesElevation → (i : Inputs) (t : Tiling) (sam
     e.extent ≡ extent_of t → mosaic.TilesAgree t (mosaic.tiles_of t.corners samples) → mosaic.IsElevation t (mosaic.tiles_of t.corners samples) (elevation_at e) →
     IsVerdict (whole.grid_of e) (whole.products_of set) (whole.nodata_of set) verdict → AreThoseOf i t samples set → NoneStandsBefore i 7 → IsAnswer i (Ok verdict)
 verdict_answers law i t samples set e verdict shape agree values is those none =
-    let agree_there = of_inputs mosaic.TilesAgree i t samples set those agree in
-    (
+    let agree_there = of_inputs mosaic.TilesAgree i t samples set those agree in (
       seams_none i agree_there none,
       verdict_of_bytes i e set verdict law (record {
         extent = shape ∙ ap extent_of those.tiling_is;

@@ -1,5 +1,5 @@
 use Rattle.std.proofs.lemmas.Result.{err_from_is_err_and}
-use Rattle.drain_verdict.proofs.Devices.{tiles_take_none, takes_none, devices_none}
+use Rattle.drain_verdict.proofs.Devices.{tiles_take_none, devices_none}
 use Rattle.drain_verdict.proofs.StartAnswers.{named_each, layout_answer, layout_reads_none, header_answer, header_reads_none, started, takes_as_told}
 use Rattle.drain_verdict.proofs.raster_check.answer_of.Goals as goal
 
@@ -35,7 +35,7 @@ check_bodies-requires-clause-named g c = named_each c.args.tiles.now _ c.in_ok-l
 pub returns-clause-answer : goal.returns-clause-answer
 returns-clause-answer g c = λ inputs tell.
     let begun = started c.one_name.ensures g.R.ByteSource.bytes_left c.args.side c.args.tiles.now c.args.products.now inputs c.in_ok-layout.layout c.in_ok-headers.headers tell
-        c.in_ok-layout.ensures.layout c.in_ok-headers.ensures.headers in
+    c.in_ok-layout.ensures.layout c.in_ok-headers.ensures.headers in
     c.check_bodies.ensures.answer inputs begun.0 begun.1 tell.tiles_are tell.rasters_are begun.2
 
 pub returns-clause-rasters_within : goal.returns-clause-rasters_within
