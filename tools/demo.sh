@@ -22,7 +22,31 @@ show_header() {
     "$drain" header "$file" || true
 }
 
+# Checks the products of real terrain in a folder of samples, or of a scratch folder that stands for it.
+show_check() {
+    local about=$1 tile=$2 products=$3
+    echo
+    echo "# $about"
+    echo "\$ drain check --side 121 --products $products $tile"
+    (cd "$scratch" && "$drain" check --side 121 --products "$products" "$tile") || true
+}
+
 show 'A pit of 81 bytes, filled to its border' pit-3.fill fill --side 3
 show 'Real terrain: the Jacksboro fault, Tennessee' jacksboro-121.fill fill --side 121
 show_header 'The header of a raster, as GDAL wrote it' headers/gdal-hgt-i16.hdr
 show_header 'A header of floating-point pixels, which are refused' headers/gdal-Float32.hdr
+
+# The products of real terrain, as they are, with one byte changed, and with rasters that aren't those of the tile.
+scratch=$(mktemp -d)
+trap 'rm -rf "$scratch"' EXIT
+cp -r jacksboro "$scratch/jacksboro"
+cp -r jacksboro "$scratch/turned"
+cp -r jacksboro "$scratch/cut"
+cp jacksboro/N36W085.hgt "$scratch/N36W084.hgt"
+chmod -R u+w "$scratch"
+printf '\x04' | dd of="$scratch/turned/dir.bil" bs=1 seek=$((121 * 60 + 60)) conv=notrunc status=none
+truncate -s -1 "$scratch/cut/acc.bil"
+show_check 'Real terrain with its six products: all rules hold' jacksboro/N36W085.hgt jacksboro
+show_check 'The same, but one direction is turned to the south' jacksboro/N36W085.hgt turned
+show_check 'The same, but the last byte of a raster is missing' jacksboro/N36W085.hgt cut
+show_check 'The same, but the tile has the name of its neighbour' N36W084.hgt jacksboro
