@@ -47,6 +47,7 @@ while IFS='|' read -r name input words status line errors; do
     judge "$name" "$status" "$scratch/want" $? "$errors"
 done < <(sed -E 's/ *\| */|/g; s/^ +| +$//g' "$here/table.txt")
 
+. "$here/terrain.sh"
 . "$here/streams.sh"
 . "$here/headers.sh"
 

@@ -1,0 +1,319 @@
+#!/usr/bin/env python3
+"""Makes the six products of one tile, or judges such products: slow and plain, for sides up to about 400.
+
+make_products.py SIDE TILE FOLDER             writes con, dir, acc, bas, spl and rnk, each a .hdr and a .bil
+make_products.py --verify SIDE TILE FOLDER    prints the line that `drain check` owes to these rasters
+
+Conditioned elevations come from Priority-Flood (Barnes, Lehman and Mulla 2014), which starts at the open cells. Judging
+is written rule by rule from docs/RULES.md and knows nothing of floods; it reads rasters of the form written here alone.
+"""
+
+import heapq
+import os
+import struct
+import sys
+
+VOID = -32768
+STEPS = {1: (0, 1), 2: (1, 1), 4: (1, 0), 8: (1, -1), 16: (0, -1), 32: (-1, -1), 64: (-1, 0), 128: (-1, 1)}
+STRAIGHT = (1, 4, 16, 64)
+
+# Name, bits of a pixel, whether it is signed, its form for struct, and the number that stands for no data.
+PRODUCTS = [
+    ("con", 16, True, "h", -32768),
+    ("dir", 8, False, "B", 255),
+    ("acc", 32, False, "I", 0),
+    ("bas", 32, False, "I", 0),
+    ("spl", 8, False, "B", 255),
+    ("rnk", 32, False, "I", 4294967295),
+]
+
+
+def opposite(code):
+    return code << 4 if code < 16 else code >> 4
+
+
+class Terrain:
+    """A square of elevations in row order, None at voids."""
+
+    def __init__(self, side, path):
+        with open(path, "rb") as file:
+            samples = struct.unpack(f">{side * side}h", file.read())
+        self.side = side
+        self.z = [None if sample == VOID else sample for sample in samples]
+        self.around = {}
+
+    def data_cells(self):
+        return [cell for cell, ground in enumerate(self.z) if ground is not None]
+
+    def beside(self, cell, code):
+        """The cell one step away, None outside the grid."""
+        row, col = cell // self.side + STEPS[code][0], cell % self.side + STEPS[code][1]
+        return row * self.side + col if 0 <= row < self.side and 0 <= col < self.side else None
+
+    def data_neighbors(self, cell):
+        """The neighbours with data, each after the code that leads to it; kept, since every rule asks for them."""
+        if cell not in self.around:
+            found = ((code, self.beside(cell, code)) for code in STEPS)
+            self.around[cell] = [(code, other) for code, other in found if other is not None and self.z[other] is not None]
+        return self.around[cell]
+
+    def is_open(self, cell):
+        return self.z[cell] is not None and len(self.data_neighbors(cell)) < 8
+
+
+# Making
+
+
+def key(code, drop):
+    """Twice the square of the slope."""
+    return 2 * drop * drop if code in STRAIGHT else drop * drop
+
+
+def flood(terrain):
+    """con, spl and rnk: a cell's rank is how many cells the flood visited before it."""
+    cells = terrain.side * terrain.side
+    con, spl, rnk = list(terrain.z), [None] * cells, [None] * cells
+    queue = []
+    for cell in terrain.data_cells():
+        if terrain.is_open(cell):
+            spl[cell] = 0
+            queue.append((con[cell], len(queue), cell))
+    heapq.heapify(queue)
+    found = len(queue)
+    visited = 0
+    while queue:
+        level, _, cell = heapq.heappop(queue)
+        rnk[cell] = visited
+        visited += 1
+        for code, other in terrain.data_neighbors(cell):
+            if spl[other] is None:
+                spl[other] = opposite(code)
+                con[other] = max(terrain.z[other], level)
+                heapq.heappush(queue, (con[other], found, other))
+                found += 1
+    return con, spl, rnk
+
+
+def direct(terrain, con, spl):
+    """dir: the first of the steepest ways down; on flats 0 at open cells, and else the way that the flood came."""
+    dir_ = [None] * len(con)
+    for cell in terrain.data_cells():
+        ways = [(key(code, con[cell] - con[other]), code) for code, other in terrain.data_neighbors(cell) if con[other] < con[cell]]
+        if ways:
+            dir_[cell] = max(ways, key=lambda way: way[0])[1]
+        else:
+            dir_[cell] = 0 if terrain.is_open(cell) else spl[cell]
+    return dir_
+
+
+def make(terrain):
+    """All products, None at voids. Each direction leads to a smaller rank, so ranks order both sums and labels."""
+    con, spl, rnk = flood(terrain)
+    dir_ = direct(terrain, con, spl)
+    acc, bas = [None] * len(con), [None] * len(con)
+    visits = sorted(terrain.data_cells(), key=lambda cell: rnk[cell])
+    outlets = [cell for cell in terrain.data_cells() if dir_[cell] == 0]
+    for label, cell in enumerate(outlets, 1):
+        bas[cell] = label
+    for cell in visits:
+        acc[cell] = 1
+        if dir_[cell] != 0:
+            bas[cell] = bas[terrain.beside(cell, dir_[cell])]
+    for cell in reversed(visits):
+        if dir_[cell] != 0:
+            acc[terrain.beside(cell, dir_[cell])] += acc[cell]
+    return {"con": con, "dir": dir_, "acc": acc, "bas": bas, "spl": spl, "rnk": rnk}
+
+
+# Files
+
+
+def fixed(units):
+    """A number of units of 10^-15 as a decimal with 15 places."""
+    sign, units = ("-" if units < 0 else ""), abs(units)
+    return f"{sign}{units // 10**15}.{units % 10**15:015d}"
+
+
+def header(side, tile, bits, signed, nodata):
+    """The header of a raster over the tile of this name, in the form that `drain header` prints."""
+    name = os.path.basename(tile).upper()
+    south = int(name[1:3]) * (1 if name[0] == "N" else -1)
+    west = int(name[4:7]) * (1 if name[3] == "E" else -1)
+    row_bytes = side * bits // 8
+    lines = [
+        "BYTEORDER I",
+        "LAYOUT BIL",
+        f"NROWS {side}",
+        f"NCOLS {side}",
+        "NBANDS 1",
+        f"NBITS {bits}",
+        f"BANDROWBYTES {row_bytes}",
+        f"TOTALROWBYTES {row_bytes}",
+        "SKIPBYTES 0",
+        f"PIXELTYPE {'SIGNEDINT' if signed else 'UNSIGNEDINT'}",
+        f"ULXMAP {fixed(west * 10**15)}",
+        f"ULYMAP {fixed((south + 1) * 10**15)}",
+        f"XDIM {fixed(10**15 // (side - 1))}",
+        f"YDIM {fixed(10**15 // (side - 1))}",
+        f"NODATA {nodata}",
+    ]
+    return "".join(line + "\n" for line in lines)
+
+
+def write(side, tile, products, folder):
+    os.makedirs(folder, exist_ok=True)
+    for name, bits, signed, form, nodata in PRODUCTS:
+        numbers = [nodata if number is None else number for number in products[name]]
+        with open(os.path.join(folder, name + ".hdr"), "w", newline="\n") as file:
+            file.write(header(side, tile, bits, signed, nodata))
+        with open(os.path.join(folder, name + ".bil"), "wb") as file:
+            file.write(struct.pack(f"<{len(numbers)}{form}", *numbers))
+
+
+def read(side, folder):
+    """The numbers of each product as they stand, those for no data too."""
+    products = {}
+    for name, _, _, form, _ in PRODUCTS:
+        with open(os.path.join(folder, name + ".bil"), "rb") as file:
+            products[name] = struct.unpack(f"<{side * side}{form}", file.read())
+    return products
+
+
+# Judging
+
+
+class Rules:
+    """The fifteen rules, each a method that answers whether it holds at a cell."""
+
+    def __init__(self, terrain, products):
+        self.terrain = terrain
+        self.products = products
+        self.z = terrain.z
+        self.con, self.dir, self.acc, self.bas, self.spl, self.rnk = (products[name] for name, *_ in PRODUCTS)
+        self.first_with_label = {}
+        for cell in terrain.data_cells():
+            if self.dir[cell] == 0:
+                self.first_with_label.setdefault(self.bas[cell], cell)
+
+    def lower(self, cell):
+        return [(code, other) for code, other in self.terrain.data_neighbors(cell) if self.con[other] < self.con[cell]]
+
+    def is_closed(self, cell):
+        return self.z[cell] is not None and not self.terrain.is_open(cell)
+
+    def named(self, cell, code):
+        """The data neighbour that a code names, None where it names none."""
+        other = self.terrain.beside(cell, code) if code in STEPS else None
+        return other if other is not None and self.z[other] is not None else None
+
+    def blanks(self, cell):
+        return [self.products[name][cell] == nodata for name, _, _, _, nodata in PRODUCTS]
+
+    def void_cell(self, cell):
+        return self.z[cell] is not None or all(self.blanks(cell))
+
+    def missing(self, cell):
+        return self.z[cell] is None or not any(self.blanks(cell))
+
+    def bad_code(self, cell):
+        codes = (self.dir[cell], self.spl[cell])
+        return self.z[cell] is None or all(code == 0 or code in STEPS for code in codes)
+
+    def below_ground(self, cell):
+        return self.z[cell] is None or self.con[cell] >= self.z[cell]
+
+    def open_raised(self, cell):
+        return not self.terrain.is_open(cell) or (self.con[cell] == self.z[cell] and self.spl[cell] == 0)
+
+    def no_spill(self, cell):
+        return not self.is_closed(cell) or self.spl[cell] in STEPS
+
+    def spill_height(self, cell):
+        parent = self.named(cell, self.spl[cell]) if self.is_closed(cell) else None
+        return parent is None or self.con[cell] == max(self.z[cell], self.con[parent])
+
+    def spill_rank(self, cell):
+        parent = self.named(cell, self.spl[cell]) if self.is_closed(cell) else None
+        return parent is None or self.rnk[parent] < self.rnk[cell]
+
+    def not_least(self, cell):
+        return self.z[cell] is None or all(
+            self.con[cell] <= max(self.z[cell], self.con[other]) for _, other in self.terrain.data_neighbors(cell)
+        )
+
+    def slope(self, cell):
+        if self.z[cell] is None or not self.lower(cell):
+            return True
+        keys = {code: key(code, self.con[cell] - self.con[other]) for code, other in self.lower(cell)}
+        return keys.get(self.dir[cell]) == max(keys.values())
+
+    def outlet_code(self, cell):
+        return not self.terrain.is_open(cell) or bool(self.lower(cell)) or self.dir[cell] == 0
+
+    def flat_step(self, cell):
+        if not self.is_closed(cell) or self.lower(cell):
+            return True
+        other = self.named(cell, self.dir[cell])
+        return other is not None and self.con[other] == self.con[cell] and self.rnk[other] < self.rnk[cell]
+
+    def accumulation(self, cell):
+        if self.z[cell] is None:
+            return True
+        inflow = (self.acc[other] for code, other in self.terrain.data_neighbors(cell) if self.dir[other] == opposite(code))
+        return self.acc[cell] == 1 + sum(inflow)
+
+    def label(self, cell):
+        other = self.named(cell, self.dir[cell]) if self.z[cell] is not None else None
+        return other is None or self.bas[cell] == self.bas[other]
+
+    def shared_label(self, cell):
+        return self.z[cell] is None or self.dir[cell] != 0 or self.first_with_label[self.bas[cell]] == cell
+
+
+RULES = [
+    (Rules.void_cell, "VoidCell"),
+    (Rules.missing, "Missing"),
+    (Rules.bad_code, "BadCode"),
+    (Rules.below_ground, "BelowGround"),
+    (Rules.open_raised, "OpenRaised"),
+    (Rules.no_spill, "NoSpill"),
+    (Rules.spill_height, "SpillHeight"),
+    (Rules.spill_rank, "SpillRank"),
+    (Rules.not_least, "NotLeast"),
+    (Rules.slope, "Slope"),
+    (Rules.outlet_code, "OutletCode"),
+    (Rules.flat_step, "FlatStep"),
+    (Rules.accumulation, "Accumulation"),
+    (Rules.label, "Label"),
+    (Rules.shared_label, "SharedLabel"),
+]
+
+
+def verify(terrain, products):
+    """The line of the verdict: the first cell in row order at which a rule fails, and the first such rule."""
+    rules = Rules(terrain, products)
+    for cell in range(terrain.side * terrain.side):
+        for number, (holds, name) in enumerate(RULES, 1):
+            if not holds(rules, cell):
+                return f"rejected rule={number} {name} row={cell // terrain.side} col={cell % terrain.side}"
+    data = terrain.data_cells()
+    raised = sum(rules.con[cell] > rules.z[cell] for cell in data)
+    outlets = sum(rules.dir[cell] == 0 for cell in data)
+    return f"accepted rows={terrain.side} cols={terrain.side} data={len(data)} raised={raised} outlets={outlets}"
+
+
+def main():
+    words = sys.argv[1:]
+    judging = words[:1] == ["--verify"]
+    if len(words) != 3 + judging:
+        sys.exit(__doc__)
+    side, tile, folder = int(words[-3]), words[-2], words[-1]
+    terrain = Terrain(side, tile)
+    if judging:
+        print(verify(terrain, read(side, folder)))
+    else:
+        write(side, tile, make(terrain), folder)
+
+
+if __name__ == "__main__":
+    main()

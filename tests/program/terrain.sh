@@ -1,0 +1,75 @@
+# `drain check` on real terrain, beside make_products.py, which makes products and judges them by the rules. Read by run.sh.
+
+maker=$here/make_products.py
+terrain=$scratch/terrain
+tile=samples/jacksboro/N36W085.hgt
+
+# Runs `drain check` on a tile of side 121 and products in a folder, and compares with the line in $scratch/want.
+# Usage: check_terrain NAME STATUS TILE FOLDER
+check_terrain() {
+    timeout 20 "$drain" check --side 121 --products "$4" "$3" </dev/null >"$scratch/out" 2>"$scratch/err"
+    judge "$1" "$2" "$scratch/want" $?
+}
+
+# Products made anew are the bundled ones, and their headers are as this program prints them.
+"$maker" 121 "$tile" "$terrain"
+for file in "$terrain"/*; do
+    cp "$file" "$scratch/out"
+    : >"$scratch/err"
+    judge "the bundled ${file##*/}" 0 "samples/jacksboro/${file##*/}" 0
+done
+for file in "$terrain"/*.hdr; do
+    "$drain" header "$file" </dev/null >"$scratch/out" 2>"$scratch/err"
+    judge "the header ${file##*/} of real terrain" 0 "$file" $?
+done
+
+# They are accepted, with the counts of the other program; and so they are whatever the case of the tile's name.
+want 'accepted rows=121 cols=121 data=14641 raised=690 outlets=32'
+"$maker" --verify 121 "$tile" "$terrain" >"$scratch/out" 2>"$scratch/err"
+judge 'real terrain by the other program' 0 "$scratch/want" $?
+check_terrain 'real terrain' 0 "$tile" "$terrain"
+for name in n36w085.hgt N36w085.HGT; do
+    cp "$tile" "$scratch/$name"
+    check_terrain "real terrain in the tile $name" 0 "$scratch/$name" "$terrain"
+    rm "$scratch/$name"
+done
+
+# One number changed: the rule that is to fail first, the file, its bytes a number, the cell, and the bytes put there.
+changes='
+1  N36W085.hgt 2   0   0 \x80\x00
+2  dir.bil     1  55  84 \xff
+2  acc.bil     4  55  84 \x00\x00\x00\x00
+2  bas.bil     4  94  63 \x00\x00\x00\x00
+3  dir.bil     1  55  84 \x03
+3  spl.bil     1  94  63 \x05
+4  con.bil     2  94  63 \x79\x02
+5  con.bil     2   0  73 \x1c\x02
+5  spl.bil     1   0  73 \x01
+6  spl.bil     1  94  63 \x00
+7  con.bil     2  94  63 \x7b\x02
+7  spl.bil     1  94  63 \x01
+8  rnk.bil     4  94  63 \x00\x00\x00\x00
+8  spl.bil     1  65   1 \x01
+9  con.bil     2  74  89 \x43\x01
+10 con.bil     2  55  84 \x47\x01
+10 dir.bil     1  55  84 \x00
+11 dir.bil     1   0  80 \x01
+11 con.bil     2   0 116 \xce\x01
+12 dir.bil     1  62  93 \x00
+13 acc.bil     4  94  63 \x05\x00\x00\x00
+13 dir.bil     1  94  63 \x00
+14 bas.bil     4  94  63 \x11\x00\x00\x00
+15 bas.bil     4   0  98 \x01\x00\x00\x00
+'
+while read -r rule file size row col bytes; do
+    [ -n "$rule" ] || continue
+    changed=$scratch/changed
+    rm -rf "$changed" && cp -r "$terrain" "$changed" && cp "$tile" "$changed" && chmod -R u+w "$changed"
+    printf "$bytes" | dd of="$changed/$file" bs=1 seek=$((size * (121 * row + col))) conv=notrunc status=none
+    "$maker" --verify 121 "$changed/N36W085.hgt" "$changed" >"$scratch/want"
+    name="rule $rule on real terrain, by $file"
+    case $(cat "$scratch/want") in
+        "rejected rule=$rule "*) check_terrain "$name" 1 "$changed/N36W085.hgt" "$changed" ;;
+        *) cp "$scratch/want" "$scratch/out" && want "rejected rule=$rule" && judge "$name, by the other program" 0 "$scratch/want" 0 ;;
+    esac
+done <<<"$changes"
