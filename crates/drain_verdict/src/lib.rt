@@ -12,6 +12,8 @@ pub mod raster_check;
 pub mod rasters_stage;
 pub mod refusal;
 pub mod seam_stage;
+#[cfg(test)]
+mod tests;
 pub mod tiles_stage;
 pub mod verdict_report;
 
