@@ -13,10 +13,8 @@ mod rasters_stage;
 pub mod refusal;
 mod seam_stage;
 mod tiles_stage;
-pub mod seam_stage;
 #[cfg(test)]
 mod tests;
-pub mod tiles_stage;
 pub mod verdict_report;
 
 pub use answer_report::report;
