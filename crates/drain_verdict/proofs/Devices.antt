@@ -1,21 +1,16 @@
 -- The devices of a check, and what is known of them where a part was not called.
-use Rattle.std.proofs.Common.{◌↔◌, ◌⊎◌, ℕ, List, [], ◌∷◌, ◌++◌, map, Option, None, Some, arith, refl}
+use Rattle.std.proofs.Common.{◌↔◌, ◌⊎◌, ℕ, List, [], ◌∷◌, ◌++◌, map, Option}
 use Rattle.std.proofs.lemmas.List.{map-append}
 use Rattle.drain_device.specs.declared.counts.FaultCounts.{FaultCounts}
-use Rattle.drain_device.specs.Reads.{TakesAtMost}
 use Rattle.drain_hgt.specs.declared.input.TileInput.{TileInput}
 use Rattle.drain_verdict.specs.declared.input.Products.{Products}
 use Rattle.drain_verdict.specs.Faults.{SomeReadFails, tile_devices, product_devices, devices_of, TilesTakeAtMost}
-use Rattle.drain_verdict.proofs.FaultLists.{SomeReadFails-then, SomeReadFails-none}
+use Rattle.drain_verdict.proofs.FaultLists.{SomeReadFails-then, SomeReadFails-none, takes-none}
 
--- where nothing was called, nothing was taken
-pub takes_none : (most : ℕ) (left : Option (List ℕ)) → TakesAtMost most left left
-takes_none most None = ([], tt, omega arith)
-takes_none most (Some bytes) = ([], refl, omega arith)
-
+-- where no tile was called, nothing was taken
 pub tiles_take_none : {R : Type 0} (bytes_left : R → Option (List ℕ)) (side : ℕ) (tiles : List (TileInput R)) → TilesTakeAtMost bytes_left side tiles tiles
 tiles_take_none bytes_left side [] = tt
-tiles_take_none bytes_left side (t ∷ tiles) = (takes_none _ (bytes_left t.body), tiles_take_none bytes_left side tiles)
+tiles_take_none bytes_left side (t ∷ tiles) = (takes-none _ (bytes_left t.body), tiles_take_none bytes_left side tiles)
 
 -- the faults of the tiles' devices, and then of the products'
 pub devices_then : {R : Type 0} (counts : R → FaultCounts) (old_tiles new_tiles : List (TileInput R)) (old_products new_products : Products R) {F G H : Type 0} →
