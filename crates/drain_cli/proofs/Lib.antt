@@ -1,2 +1,4 @@
+pub mod CheckLemmas
 pub mod HeaderLemmas
+pub mod PathLemmas
 pub mod PrintLemmas

@@ -1,4 +1,6 @@
+pub mod CheckRuns
 pub mod Failures
+pub mod FilePaths
 pub mod FillRuns
 pub mod HeaderRuns
 pub mod OpenFailures

@@ -5,8 +5,11 @@
 #![tactic(auto)]
 
 pub mod command_line;
+pub mod file_paths;
+pub mod open_check;
 pub mod open_failure;
 pub mod print;
+pub mod run_check;
 pub mod run_fill;
 pub mod run_header;
 pub mod status;
@@ -17,8 +20,10 @@ use clap::Error;
 use clap::error::ErrorKind;
 use command_line::Request;
 use drain_device::{BodyFault, ByteSink, Reader, Writer};
+use open_check::{CheckFiles, OpenFault, open_check};
 use open_failure::print_open_failure;
 use print::print_failure;
+use run_check::run_check;
 use run_fill::run_fill;
 use run_header::run_header;
 use status::Status;
@@ -52,6 +57,11 @@ fn run(rt: &HostRuntime, asked: &[String], out: &mut impl ByteSink) -> u8 {
     match command_line::parse(rt.alloc(), asked) {
         Ok(Request::Fill { side }) => run_fill(rt.alloc(), side, &mut Reader::new(rt.stdin()), out),
         Ok(Request::Header { path }) => header_of_file(rt, path, out),
+        Ok(Request::Check {
+            side,
+            products,
+            tiles,
+        }) => check_of_files(rt, side, products, tiles.as_slice(), out),
         Err(error) if error.kind() == ErrorKind::OutOfMemory => print_failure(
             out,
             BodyFault::OutOfMemory,
@@ -65,6 +75,24 @@ fn header_of_file(rt: &HostRuntime, path: &str, out: &mut impl ByteSink) -> u8 {
     match File::open(rt, path) {
         Ok(file) => run_header(rt.alloc(), &mut Reader::new(file), out),
         Err(_) => print_open_failure(rt.alloc(), out, path),
+    }
+}
+
+/// Opens the tiles and the products of a folder, checks them, and answers the exit status.
+fn check_of_files(
+    rt: &HostRuntime,
+    side: u32,
+    folder: &str,
+    tiles: &[&str],
+    out: &mut impl ByteSink,
+) -> u8 {
+    match open_check(rt, folder, tiles) {
+        Ok(CheckFiles {
+            mut tiles,
+            mut products,
+        }) => run_check(rt.alloc(), side, tiles.as_mut_slice(), &mut products, out),
+        Err(OpenFault::Open(path)) => print_open_failure(rt.alloc(), out, path.as_str()),
+        Err(OpenFault::Body(fault)) => print_failure(out, fault),
     }
 }
 

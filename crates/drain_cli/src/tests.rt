@@ -1,6 +1,8 @@
 //! Runs of `drain fill` over sources and sinks in memory: worked inputs with their lines, and devices
 //! that are slow, interrupted or fail. The expected lines were worked out by hand from the rules.
 
+mod check_runs;
+mod file_paths;
 mod header_runs;
 
 use crate::run_fill::run_fill;

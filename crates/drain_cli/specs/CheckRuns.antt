@@ -1,0 +1,45 @@
+-- How a run of `drain check` ends: with a verdict, or with the first refusal.
+use Rattle.std.specs.Prelude.{ℕ, List, map, Option, Result, Ok, Err, IsErrOf}
+use Rattle.drain_device.specs.declared.counts.FaultCounts.{FaultCounts}
+use Rattle.drain_hgt.specs.declared.input.TileInput.{TileInput}
+use Rattle.drain_rules.specs.declared.verdict.Verdict.{Verdict}
+use Rattle.drain_rules.specs.declared.verdict.Verdict.TheVariants.{Accepted, Rejected}
+use Rattle.drain_verdict.specs.declared.input.Products.{Products}
+use Rattle.drain_verdict.specs.declared.refusal.Refusal.{Refusal}
+use Rattle.drain_verdict.specs.declared.refusal.Refusal.TheVariants.{OutOfMemory, ReadFailed}
+use Rattle.drain_verdict.specs.Inputs.{Inputs, Tell}
+use Rattle.drain_verdict.specs.Answers.{IsAnswer}
+use Rattle.drain_verdict.specs.Faults.{SomeReadFails, devices_of}
+use Rattle.drain_verdict.specs.Headline.{TilesAreOne, ElevationIsTheirs, ConIsLeast, NoDirectionClimbs, DirectionsAreSteepest, CodesTellOutlets, RunsEnd, RunsEndAtOutlets, RunsVisitOnce, AccCountsUpstream, LabelsTellBasins, VoidsAreBlank, DataIsComplete}
+use Rattle.drain_cli.specs.declared.status.Status.{Status}
+use Rattle.drain_cli.specs.declared.status.Status.TheVariants as status
+
+-- the status that the run ends with, where its line is printed
+abbrev pub check_status : Result Verdict Refusal → Status
+check_status (Ok (Accepted counts)) = status.Done
+check_status (Ok (Rejected rule row col)) = status.Rejected
+check_status (Err OutOfMemory) = status.Failed
+check_status (Err ReadFailed) = status.Failed
+check_status (Err refusal) = status.Refused
+
+-- the answer is that of the bytes that the devices had left, where they tell them, and says that a read failed exactly where one did
+pub record IsCheckOutcome {R : Type 0} (bytes_left : R → Option (List ℕ)) (counts : R → FaultCounts) (side : ℕ)
+    (tiles_old tiles_new : List (TileInput R)) (products_old products_new : Products R) (outcome : Result Verdict Refusal) : Type 0 where
+  pub answer : (i : Inputs) → Tell bytes_left side tiles_old products_old i → IsAnswer i outcome
+  pub faults : SomeReadFails (map counts (devices_of tiles_old products_old)) (map counts (devices_of tiles_new products_new)) (IsErrOf outcome ReadFailed)
+
+-- the tiles agree, and the products of their mosaic are correct
+pub record IsRight (i : Inputs) : Type 0 where
+  pub tiles_agree : TilesAreOne i
+  pub elevation : ElevationIsTheirs i
+  pub least_surface : ConIsLeast i
+  pub never_climbs : NoDirectionClimbs i
+  pub steepest : DirectionsAreSteepest i
+  pub outlets : CodesTellOutlets i
+  pub runs_end : RunsEnd i
+  pub runs_end_at_outlets : RunsEndAtOutlets i
+  pub runs_visit_once : RunsVisitOnce i
+  pub accumulation : AccCountsUpstream i
+  pub labels : LabelsTellBasins i
+  pub voids : VoidsAreBlank i
+  pub complete : DataIsComplete i

@@ -1,0 +1,27 @@
+-- The paths of products' files, and what of a tile's path is its name.
+use Rattle.std.specs.Prelude.{◌≡◌, ◌≢◌, ◌⊎◌, ◌==◌, ℕ, List, [], ◌∷◌, ◌++◌, codes, if◌then◌else◌}
+use Rattle.std.specs.List.{All, ends_with}
+use Rattle.drain_grid.specs.declared.product.Product.{Product}
+use Rattle.drain_grid.specs.Product.{name_of}
+
+abbrev pub slash : ℕ
+slash = 47
+
+-- what stands between the path of a folder and the name of a file in it: a slash, or nothing behind a slash
+abbrev pub separator : List ℕ → List ℕ
+separator folder = if ends_with (λ a b. a == b) folder (slash ∷ []) then [] else slash ∷ []
+
+-- the path of a product's file with this ending, as DIR/con.hdr
+abbrev pub product_path : List ℕ → Product → List ℕ → List ℕ
+product_path folder product ending = folder ++ separator folder ++ name_of product ++ ending
+
+abbrev pub header_ending : List ℕ
+header_ending = codes ".hdr"
+
+abbrev pub raster_ending : List ℕ
+raster_ending = codes ".bil"
+
+-- the name is the whole path, or follows the path's last slash
+pub record IsLastPart (path name : List ℕ) : Type 0 where
+  pub ends : (path ≡ name) ⊎ ((folder : List ℕ) × (path ≡ folder ++ slash ∷ name))
+  pub has_no_slash : All (λ byte. byte ≢ slash) name

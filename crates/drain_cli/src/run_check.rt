@@ -1,0 +1,69 @@
+//! A run of `drain check`: products are checked against the tiles that they were made from, and the answer printed.
+
+ghost use Rattle.std.specs.Prelude.{◌≡◌, Result, Err};
+ghost use Rattle.drain_grid.specs.declared.product.Product.{Product};
+ghost use Rattle.drain_rules.specs.declared.verdict.Verdict.{Verdict};
+ghost use Rattle.drain_verdict.specs.declared.refusal.Refusal.{Refusal};
+ghost use Rattle.drain_verdict.specs.Inputs.{input_of, names_of};
+ghost use Rattle.drain_verdict.specs.Faults.{TilesTakeAtMost, RasterTakesAtMost};
+ghost use Rattle.drain_verdict.specs.Headline.{OfInputs};
+ghost use Rattle.drain_verdict.specs.Lines.{report_line};
+ghost use Rattle.drain_cli.specs.CheckRuns.{IsCheckOutcome, IsRight, check_status};
+ghost use Rattle.drain_cli.specs.Printing.{Prints};
+
+use crate::print::print_line;
+use crate::status::Status;
+use drain_device::{ByteSink, ByteSource};
+use drain_hgt::TileInput;
+use drain_verdict::{Products, Refusal, Verdict, check, report};
+use std::alloc::Global;
+
+/// Checks products against their tiles, prints the line of the answer and answers the exit status.
+///
+/// `side` is the number of samples along an edge of each tile. Of a tile at most one byte past its end is read, and of a raster nothing
+/// past its last needed byte. The statuses: 0 accepted, 1 rejected, 2 refused, 3 where memory was refused (`failed OutOfMemory`), a
+/// source gave up (`failed ReadFailed`), or the line couldn't be written.
+pub fn run_check<R: ByteSource, W: ByteSink>(
+    alloc: Global,
+    side: u32,
+    tiles: &mut [TileInput<R>],
+    products: &mut Products<R>,
+    out: &mut W,
+) -> u8
+    ensures run { (answer : Result Verdict Refusal)
+        × IsCheckOutcome R.bytes_left R.counts side tiles.old tiles.new products.old products.new answer
+        × Prints (W.bytes_taken out.old) (W.bytes_taken out.new) (W.counts out.old) (W.counts out.new)
+        (W.stalls out.old) (W.stalls out.new) (report_line answer) (check_status answer) result }
+
+    // A run ends with 0 only where the tiles agree and the products are correct.
+    ensures correct { result ≡ 0 → OfInputs R.bytes_left side tiles.old products.old IsRight }
+
+    // How far it reads, and that names and headers stay.
+    ensures tiles_within { TilesTakeAtMost R.bytes_left side tiles.old tiles.new }
+    ensures rasters_within { (p : Product) → RasterTakesAtMost R.bytes_left products.old products.new p }
+    ensures names { names_of tiles.new ≡ names_of tiles.old }
+    ensures headers { (p : Product) → (input_of products.new p).header ≡ (input_of products.old p).header }
+{
+    let answer = check(alloc, side, tiles, products);
+    print_line(out, &report(&answer), status_of(&answer))
+}
+
+/// The exit status of an answer.
+fn status_of(answer: &Result<Verdict, Refusal>) -> Status
+    ensures { result ≡ check_status answer.now }
+{
+    match answer {
+        Ok(Verdict::Accepted(_)) => Status::Done,
+        Ok(Verdict::Rejected { .. }) => Status::Rejected,
+        Err(refusal) => status_of_refusal(*refusal),
+    }
+}
+
+fn status_of_refusal(refusal: Refusal) -> Status
+    ensures { result ≡ check_status (Err refusal) }
+{
+    match refusal {
+        Refusal::OutOfMemory | Refusal::ReadFailed => Status::Failed,
+        _ => Status::Refused,
+    }
+}
