@@ -11,6 +11,7 @@ use rules::Rule;
 use std::collections::HashSet;
 use std::fs::read;
 use std::io;
+use std::path::Path;
 use std::process::ExitCode;
 use twin_check_io::{Counts, Files, NO_DATA, Verdict};
 
@@ -28,17 +29,18 @@ struct Products {
 
 impl Products {
     fn read(files: &Files) -> io::Result<Products> {
-        let z = decode(&read(&files.tile)?, i16::from_be_bytes);
-        let raster = |product: &str| read(files.raster(product));
+        let byte = |bytes: [u8; 1]| i64::from(bytes[0]);
+        let signed = |bytes| i64::from(i16::from_le_bytes(bytes));
+        let unsigned = |bytes| i64::from(u32::from_le_bytes(bytes));
         let products = Products {
             side: files.side,
-            z,
-            con: decode(&raster("con")?, |bytes| i64::from(i16::from_le_bytes(bytes))),
-            dir: decode(&raster("dir")?, |bytes: [u8; 1]| i64::from(bytes[0])),
-            acc: decode(&raster("acc")?, |bytes| i64::from(u32::from_le_bytes(bytes))),
-            bas: decode(&raster("bas")?, |bytes| i64::from(u32::from_le_bytes(bytes))),
-            spl: decode(&raster("spl")?, |bytes: [u8; 1]| i64::from(bytes[0])),
-            rnk: decode(&raster("rnk")?, |bytes| i64::from(u32::from_le_bytes(bytes))),
+            z: decode(&files.tile, i16::from_be_bytes)?,
+            con: decode(&files.raster("con"), signed)?,
+            dir: decode(&files.raster("dir"), byte)?,
+            acc: decode(&files.raster("acc"), unsigned)?,
+            bas: decode(&files.raster("bas"), unsigned)?,
+            spl: decode(&files.raster("spl"), byte)?,
+            rnk: decode(&files.raster("rnk"), unsigned)?,
         };
         let cells = files.side as usize * files.side as usize;
         let lengths = [
@@ -57,10 +59,14 @@ impl Products {
     }
 }
 
-/// The numbers that groups of bytes spell.
-fn decode<const WIDTH: usize, T>(bytes: &[u8], number: impl Fn([u8; WIDTH]) -> T) -> Vec<T> {
+/// The numbers that the bytes of a file spell.
+fn decode<const WIDTH: usize, T>(
+    path: &Path,
+    number: impl Fn([u8; WIDTH]) -> T,
+) -> io::Result<Vec<T>> {
+    let bytes = read(path)?;
     let groups = bytes.chunks_exact(WIDTH);
-    groups.map(|group| number(group.try_into().unwrap())).collect()
+    Ok(groups.map(|group| number(group.try_into().unwrap())).collect())
 }
 
 impl Values for Products {
