@@ -1,22 +1,9 @@
 //! What the two twins share: the words of the command line, the bytes of the input, the rules' names,
 //! and the one line and exit status of the answer. They are those of `drain fill --side N`.
 
+use crate::rules::Rule;
 use std::io::{self, Read};
 use std::process::ExitCode;
-
-/// The sample of a void.
-pub const VOID: i16 = -32768;
-
-/// The rules that a fill input is tested for, in their order.
-#[derive(Clone, Copy, PartialEq, Eq, Debug)]
-pub enum Rule {
-    BelowGround = 4,
-    OpenRaised = 5,
-    NoSpill = 6,
-    SpillHeight = 7,
-    SpillRank = 8,
-    NotLeast = 9,
-}
 
 /// The verdict on bytes of the right length.
 pub enum Verdict {

@@ -3,11 +3,16 @@
 //! but SpillRank are tested for eight cells of a row at once, without a branch (SSE2, on any x86-64), and
 //! SpillRank in one loop more. Only a row with a fault is looked at again, cell by cell.
 
+mod rules;
 mod twin_io;
 
+use rules::Rule;
 use std::arch::x86_64::*;
 use std::process::ExitCode;
-use twin_io::{Rule, Verdict, VOID};
+use twin_io::Verdict;
+
+/// The sample of a void.
+const VOID: i16 = -32768;
 
 /// How many cells are tested at once.
 const LANES: usize = 8;

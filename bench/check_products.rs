@@ -1,0 +1,148 @@
+//! The six products of a tile as `drain check` takes them: made from its elevations, and written with their headers.
+
+use crate::terrain::{Flood, VOID, flood, neighbors};
+use std::fs::{create_dir_all, write};
+use std::io;
+use std::path::Path;
+
+/// The elevations of one tile and its products, row after row; at voids products have their no-data numbers.
+#[derive(Clone)]
+pub struct Products {
+    pub side: usize,
+    pub z: Vec<i16>,
+    pub con: Vec<i16>,
+    pub dir: Vec<u8>,
+    pub acc: Vec<u32>,
+    pub bas: Vec<u32>,
+    pub spl: Vec<u8>,
+    pub rnk: Vec<u32>,
+}
+
+/// The name of the tile, whose place plays no part.
+pub const TILE: &str = "N00E000.hgt";
+
+impl Products {
+    /// The right products of these elevations.
+    pub fn made_of(z: Vec<i16>, side: usize) -> Products {
+        let Flood { con, spl, rnk } = flood(&z, side);
+        let mut products = Products {
+            side,
+            dir: vec![255; z.len()],
+            acc: vec![0; z.len()],
+            bas: vec![0; z.len()],
+            z,
+            con,
+            spl,
+            rnk,
+        };
+        for cell in 0..products.z.len() {
+            if products.z[cell] == VOID {
+                products.spl[cell] = 255;
+                products.rnk[cell] = u32::MAX;
+            } else {
+                products.dir[cell] = products.direction(cell);
+            }
+        }
+        products.follow_directions();
+        products
+    }
+
+    /// The first of the steepest ways down; on a flat the code of the spill parent, which is 0 at open cells.
+    fn direction(&self, cell: usize) -> u8 {
+        let mut steepest = 0;
+        let mut code = self.spl[cell];
+        for (direction, beside) in neighbors(self.side, cell) {
+            if self.z[beside] != VOID && self.con[beside] < self.con[cell] {
+                let drop = u64::from(self.con[cell].abs_diff(self.con[beside]));
+                let key = if direction % 2 == 0 { 2 } else { 1 } * drop * drop;
+                if key > steepest {
+                    steepest = key;
+                    code = 1 << direction;
+                }
+            }
+        }
+        code
+    }
+
+    /// Sums and labels. Each direction leads to a cell of smaller rank, so ranks order the cells for both.
+    fn follow_directions(&mut self) {
+        let mut visits = vec![u32::MAX; self.z.len()];
+        let mut data_cells = 0;
+        let mut labels = 0;
+        for cell in 0..self.z.len() {
+            if self.z[cell] == VOID {
+                continue;
+            }
+            visits[self.rnk[cell] as usize] = cell as u32;
+            data_cells += 1;
+            self.acc[cell] = 1;
+            if self.dir[cell] == 0 {
+                labels += 1;
+                self.bas[cell] = labels;
+            }
+        }
+        let visits = &visits[..data_cells];
+        for cell in visits.iter().map(|&cell| cell as usize) {
+            if let Some(next) = self.next(cell) {
+                self.bas[cell] = self.bas[next];
+            }
+        }
+        for cell in visits.iter().rev().map(|&cell| cell as usize) {
+            if let Some(next) = self.next(cell) {
+                self.acc[next] += self.acc[cell];
+            }
+        }
+    }
+
+    /// The cell that a cell's direction leads to.
+    fn next(&self, cell: usize) -> Option<usize> {
+        let code = self.dir[cell];
+        neighbors(self.side, cell)
+            .find(|&(direction, _)| code == 1 << direction)
+            .map(|(_, beside)| beside)
+    }
+
+    /// Writes the tile, and of each product its header and its raster, into this folder.
+    pub fn write(&self, folder: &Path) -> io::Result<()> {
+        create_dir_all(folder)?;
+        let tile: Vec<u8> = self.z.iter().flat_map(|z| z.to_be_bytes()).collect();
+        write(folder.join(TILE), tile)?;
+        self.write_one(folder, "con", 16, "SIGNEDINT", "-32768", bytes_of_16(&self.con))?;
+        self.write_one(folder, "dir", 8, "UNSIGNEDINT", "255", self.dir.clone())?;
+        self.write_one(folder, "acc", 32, "UNSIGNEDINT", "0", bytes_of_32(&self.acc))?;
+        self.write_one(folder, "bas", 32, "UNSIGNEDINT", "0", bytes_of_32(&self.bas))?;
+        self.write_one(folder, "spl", 8, "UNSIGNEDINT", "255", self.spl.clone())?;
+        self.write_one(folder, "rnk", 32, "UNSIGNEDINT", "4294967295", bytes_of_32(&self.rnk))
+    }
+
+    fn write_one(
+        &self,
+        folder: &Path,
+        name: &str,
+        bits: usize,
+        pixels: &str,
+        nodata: &str,
+        bytes: Vec<u8>,
+    ) -> io::Result<()> {
+        let side = self.side;
+        let step = format!("0.{:015}", 1_000_000_000_000_000 / (side as u64 - 1));
+        // A tile of side 2 has samples a whole degree apart.
+        let step = if side == 2 { "1.000000000000000" } else { &step };
+        let row = side * bits / 8;
+        let header = format!(
+            "BYTEORDER I\nLAYOUT BIL\nNROWS {side}\nNCOLS {side}\nNBANDS 1\nNBITS {bits}\nBANDROWBYTES {row}\n\
+             TOTALROWBYTES {row}\nSKIPBYTES 0\nPIXELTYPE {pixels}\nULXMAP 0.000000000000000\n\
+             ULYMAP 1.000000000000000\nXDIM {step}\nYDIM {step}\nNODATA {nodata}\n"
+        );
+        write(folder.join(format!("{name}.hdr")), header)?;
+        write(folder.join(format!("{name}.bil")), bytes)
+    }
+}
+
+fn bytes_of_16(numbers: &[i16]) -> Vec<u8> {
+    numbers.iter().flat_map(|number| number.to_le_bytes()).collect()
+}
+
+fn bytes_of_32(numbers: &[u32]) -> Vec<u8> {
+    numbers.iter().flat_map(|number| number.to_le_bytes()).collect()
+}

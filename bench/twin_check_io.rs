@@ -1,0 +1,74 @@
+//! What the two twins of `drain check` share: the words of the command line, the rules' names, and the one line and exit
+//! status of the answer. They take one tile, and rasters in the form that this program writes; headers they don't read.
+
+use crate::rules::Rule;
+use std::io;
+use std::path::{Path, PathBuf};
+use std::process::ExitCode;
+
+/// The numbers that stand for no data, in the order con, dir, acc, bas, spl, rnk.
+pub const NO_DATA: [i64; 6] = [-32768, 255, 0, 0, 255, 4294967295];
+
+/// How many cells have data, are raised, and are outlets.
+#[derive(Clone, Copy, Default)]
+pub struct Counts {
+    pub data_cells: u32,
+    pub raised: u32,
+    pub outlets: u32,
+}
+
+pub enum Verdict {
+    Accepted(Counts),
+    Rejected { rule: Rule, row: u32, col: u32 },
+}
+
+/// The files of a check.
+pub struct Files {
+    pub side: u32,
+    pub tile: PathBuf,
+    folder: PathBuf,
+}
+
+impl Files {
+    /// The raster of this product.
+    pub fn raster(&self, product: &str) -> PathBuf {
+        self.folder.join(format!("{product}.bil"))
+    }
+
+    fn from_words() -> Option<Files> {
+        let words: Vec<String> = std::env::args().skip(1).collect();
+        let words: Vec<&str> = words.iter().map(String::as_str).collect();
+        match words[..] {
+            ["check", "--side", side, "--products", folder, tile] => Some(Files {
+                side: side.parse().ok()?,
+                tile: Path::new(tile).to_path_buf(),
+                folder: Path::new(folder).to_path_buf(),
+            }),
+            _ => None,
+        }
+    }
+}
+
+/// Runs a twin: has the files judged, prints the line and gives the exit status.
+pub fn run(judge: impl FnOnce(&Files) -> io::Result<Verdict>) -> ExitCode {
+    let Some(files) = Files::from_words() else {
+        eprintln!("usage: check --side N --products FOLDER TILE");
+        return ExitCode::from(2);
+    };
+    let side = files.side;
+    match judge(&files) {
+        Ok(Verdict::Accepted(counts)) => {
+            let Counts { data_cells, raised, outlets } = counts;
+            println!("accepted rows={side} cols={side} data={data_cells} raised={raised} outlets={outlets}");
+            ExitCode::from(0)
+        }
+        Ok(Verdict::Rejected { rule, row, col }) => {
+            println!("rejected rule={} {rule:?} row={row} col={col}", rule as u8);
+            ExitCode::from(1)
+        }
+        Err(error) => {
+            eprintln!("cannot read the files: {error}");
+            ExitCode::from(3)
+        }
+    }
+}
