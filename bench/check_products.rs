@@ -1,6 +1,6 @@
 //! The six products of a tile as `drain check` takes them: made from its elevations, and written with their headers.
 
-use crate::terrain::{Flood, VOID, flood, neighbors};
+use crate::flood::{Flood, VOID, flood, neighbors};
 use std::fs::{create_dir_all, write};
 use std::io;
 use std::path::Path;

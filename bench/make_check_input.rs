@@ -1,15 +1,17 @@
-//! Makes a tile and right products of it, as `drain check --side N` takes them: the terrain of `terrain.rs` with plains, so
+//! Makes a tile and right products of it, as `drain check --side N` takes them: the terrain of `hills.rs` with plains, so
 //! that there are flats that no depression made. The same side and seed make the same files.
 //!
 //! Usage: make_check_input SIDE SEED FOLDER
 
 mod check_products;
-mod terrain;
+mod flood;
+mod hills;
 
 use check_products::Products;
+use flood::VOID;
+use hills::{add_voids, hills};
 use std::io;
 use std::path::Path;
-use terrain::{VOID, add_voids, hills};
 
 /// Levels the ground: each stretch of 200 m has a plain, of what lay in its lowest 8 m.
 fn add_plains(heights: &mut [i16]) {

@@ -1,13 +1,15 @@
-//! Makes an input that keeps the rules of `drain fill --side N`, on the terrain of `terrain.rs`. The same side and seed make
+//! Makes an input that keeps the rules of `drain fill --side N`, on the terrain of `hills.rs`. The same side and seed make
 //! the same bytes.
 //!
 //! Usage: make_input SIDE [FILE [SEED]]    (a FILE of `-`, or none, is standard output)
 
-mod terrain;
+mod flood;
+mod hills;
 
+use flood::flood;
+use hills::{add_voids, hills};
 use std::fs::File;
 use std::io::{self, Write};
-use terrain::{add_voids, flood, hills};
 
 fn main() -> io::Result<()> {
     let words: Vec<String> = std::env::args().skip(1).collect();

@@ -1,8 +1,8 @@
-//! Times programs that answer `fill --side N` on one input file, in turn, and prints a table: the medians
-//! of the time on the clock and of the processor's time (user and system), the ratio of the latter to that
-//! of the first program, and the greatest memory. It needs Linux on a 64-bit processor.
+//! Times programs on the same words and the same standard input, in turn, and prints a table: the medians of the time on the
+//! clock and of the processor's time (user and system), the latter for a million cells, its ratio to that of the first program,
+//! and the greatest memory. It needs Linux on a 64-bit processor.
 //!
-//! Usage: measure RUNS SIDE FILE PROGRAM...
+//! Usage: measure RUNS CELLS INPUT PROGRAM... -- WORD...
 
 use std::fs::File;
 use std::io;
@@ -33,11 +33,11 @@ struct Run {
     memory: f64,
 }
 
-fn measure(program: &str, side: &str, file: &str) -> io::Result<Run> {
+fn measure(program: &str, words: &[String], file: &str) -> io::Result<Run> {
     let input = File::open(file)?;
     let start = Instant::now();
     let child = Command::new(program)
-        .args(["fill", "--side", side])
+        .args(words)
         .stdin(input)
         .stdout(Stdio::null())
         .spawn()?;
@@ -78,45 +78,69 @@ fn name(program: &str) -> String {
     name.to_string_lossy().into_owned()
 }
 
-fn main() -> ExitCode {
-    let words: Vec<String> = std::env::args().skip(1).collect();
-    let rounds = words
-        .first()
-        .and_then(|word| word.parse::<usize>().ok())
-        .unwrap_or(0);
-    if rounds == 0 || words.len() < 4 {
-        eprintln!("usage: measure RUNS SIDE FILE PROGRAM...");
-        return ExitCode::from(2);
-    }
-    let programs = &words[3..];
-    let mut runs: Vec<Vec<Run>> = vec![Vec::new(); programs.len()];
-    for _ in 0..rounds {
-        for (program, runs) in programs.iter().zip(&mut runs) {
-            match measure(program, &words[1], &words[2]) {
-                Ok(run) => runs.push(run),
-                Err(error) => {
-                    eprintln!("{program}: {error}");
-                    return ExitCode::from(1);
-                }
-            }
+/// What is asked for: so many runs over so many million cells, a file for standard input, the programs, and their words.
+struct Task<'a> {
+    rounds: usize,
+    millions: f64,
+    input: &'a str,
+    programs: &'a [String],
+    words: &'a [String],
+}
+
+fn task_of(words: &[String]) -> Option<Task<'_>> {
+    let end = words.iter().position(|word| word == "--")?;
+    let [rounds, cells, input, programs @ ..] = &words[..end] else {
+        return None;
+    };
+    let rounds = rounds.parse().ok()?;
+    (rounds > 0 && !programs.is_empty()).then_some(Task {
+        rounds,
+        millions: cells.parse::<f64>().ok()? / 1e6,
+        input,
+        programs,
+        words: &words[end + 1..],
+    })
+}
+
+/// The runs of each program.
+fn run_in_turn(task: &Task<'_>) -> Result<Vec<Vec<Run>>, String> {
+    let mut runs: Vec<Vec<Run>> = vec![Vec::new(); task.programs.len()];
+    for _ in 0..task.rounds {
+        for (program, runs) in task.programs.iter().zip(&mut runs) {
+            let run = measure(program, task.words, task.input);
+            runs.push(run.map_err(|error| format!("{program}: {error}"))?);
         }
     }
+    Ok(runs)
+}
+
+fn main() -> ExitCode {
+    let words: Vec<String> = std::env::args().skip(1).collect();
+    let Some(task) = task_of(&words) else {
+        eprintln!("usage: measure RUNS CELLS INPUT PROGRAM... -- WORD...");
+        return ExitCode::from(2);
+    };
+    let runs = match run_in_turn(&task) {
+        Ok(runs) => runs,
+        Err(error) => {
+            eprintln!("{error}");
+            return ExitCode::from(1);
+        }
+    };
     let first = median(&runs[0], |run| run.processor);
+    let (rounds, of_first) = (task.rounds, name(&task.programs[0]));
+    println!("medians of {rounds} runs each; the ratio is of user+sys, to {of_first}");
     println!(
-        "medians of {rounds} runs each; the ratio is of user+sys, to {}",
-        name(&programs[0])
+        "{:<16} {:>10} {:>10} {:>9} {:>8} {:>8}",
+        "program", "user+sys s", "wall s", "s/Mcells", "ratio", "MiB"
     );
-    println!(
-        "{:<12} {:>10} {:>10} {:>8} {:>8}",
-        "program", "user+sys s", "wall s", "ratio", "MiB"
-    );
-    for (program, runs) in programs.iter().zip(&runs) {
+    for (program, runs) in task.programs.iter().zip(&runs) {
         let processor = median(runs, |run| run.processor);
         let clock = median(runs, |run| run.clock);
         let memory = runs.iter().map(|run| run.memory).fold(0.0, f64::max);
-        let ratio = processor / first;
+        let (each, ratio) = (processor / task.millions, processor / first);
         println!(
-            "{:<12} {processor:>10.3} {clock:>10.3} {ratio:>8.2} {memory:>8.1}",
+            "{:<16} {processor:>10.3} {clock:>10.3} {each:>9.4} {ratio:>8.2} {memory:>8.1}",
             name(program)
         );
     }

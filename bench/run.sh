@@ -28,13 +28,13 @@ programs+=("$out/twin_patch" "$out/twin_loop")
 
 mkdir -p "$out"
 for name in make_input twin_patch twin_loop compare measure; do
-    rustc --edition 2021 -O -C target-cpu=x86-64-v2 -o "$out/$name" "$bench/$name.rs"
+    rustc --edition 2024 -O -C target-cpu=x86-64-v2 -o "$out/$name" "$bench/$name.rs"
 done
 
 differ=0
 "$out/compare" 600 "${programs[@]}" || differ=1
 
-if [[ ! -f $input || $bench/make_input.rs -nt $input || $(stat -c %s "$input") -ne $length ]]; then
+if [[ ! -f $input || $bench/make_input.rs -nt $input || $bench/hills.rs -nt $input || $bench/flood.rs -nt $input || $(stat -c %s "$input") -ne $length ]]; then
     "$out/make_input" "$side" "$input.part"
     mv "$input.part" "$input"
 fi
@@ -80,5 +80,5 @@ same_changed "spill code" "rejected rule=6 " $((4 * cells + middle)) 03
 same_changed "rank" "rejected rule=8 " $((5 * cells + 4 * middle + 1)) 00
 rm -f "$changed"
 
-"$out/measure" 5 "$side" "$input" "${programs[@]}"
+"$out/measure" 5 "$cells" "$input" "${programs[@]}" -- fill --side "$side"
 exit "$differ"
