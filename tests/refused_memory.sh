@@ -2,6 +2,7 @@
 # Runs the tests of a crate with the first allocation of each test refused, then with the second, and so on, and looks that
 # a test that doesn't pass then tells of want of memory, and nothing else.
 # Usage: tests/refused_memory.sh CRATE:MOST...    (the last allocation that is refused; it stops earlier where all tests pass)
+#        tests/refused_memory.sh CRATE:FIRST-LAST..    (only these, for tests that take memory of their own first)
 set -u
 cd "$(dirname "$0")/../crates"
 
@@ -16,8 +17,10 @@ untold() {
 }
 
 refuse() {
-    local crate=${1%:*} most=${1#*:} at out summary
-    for at in $(seq 1 "$most"); do
+    local crate=${1%:*} range=${1#*:} first=1 most at out summary
+    most=${range#*-}
+    [ "$range" = "$most" ] || first=${range%-*}
+    for at in $(seq "$first" "$most"); do
         out=$(cd "$crate" && rt try --test --fail-alloc "$at" 2>&1 </dev/null)
         summary=$(grep '^test result:' <<<"$out") || {
             echo "FAILED $crate: no result where allocation $at is refused"
@@ -30,7 +33,7 @@ refuse() {
         }
         case $summary in *' 0 failed;'*) break ;; esac
     done
-    echo "$crate: want of memory is told where each of the first allocations of a test is refused, up to $at"
+    echo "$crate: want of memory is told where an allocation of a test is refused, from $first to $at"
 }
 
 running=()

@@ -12,9 +12,9 @@ pub mod raster_check;
 mod rasters_stage;
 pub mod refusal;
 mod seam_stage;
-mod tiles_stage;
 #[cfg(test)]
 mod tests;
+mod tiles_stage;
 pub mod verdict_report;
 
 pub use answer_report::report;

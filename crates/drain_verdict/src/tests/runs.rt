@@ -138,8 +138,16 @@ pub fn told(alloc: Global, example: &Example) -> Result<Line, Fail> {
         owner: Owner::Tile,
         script: &[],
     };
-    if told_slowly(alloc, example, faultless)?.as_str() != line.as_str() {
+    let slow = told_slowly(alloc, example, faultless)?;
+    if wants_memory(&line) || wants_memory(&slow) {
+        return Err("failed OutOfMemory".into());
+    }
+    if slow.as_str() != line.as_str() {
         return Err("another line where bytes come one at a call".into());
     }
     Ok(line)
+}
+
+fn wants_memory(line: &Line) -> bool {
+    line.as_str() == "failed OutOfMemory"
 }
