@@ -50,6 +50,7 @@ done < <(sed -E 's/ *\| */|/g; s/^ +| +$//g' "$here/table.txt")
 . "$here/terrain.sh"
 . "$here/streams.sh"
 . "$here/headers.sh"
+. "$here/check.sh"
 
 echo "$passed passed, $failed failed"
 [ "$failed" -eq 0 ]

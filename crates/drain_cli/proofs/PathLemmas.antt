@@ -1,7 +1,6 @@
 -- What follows the last slash of a path.
-use Rattle.std.proofs.Common.{◌≡◌, ℕ, ◌+◌, ◌<◌, ◌≤◌, true, List, ◌∷◌, ◌++◌, length, drop, take, slice_index, get_or, inl, inr, refl, sym, ap, ◌∙◌, arith, length-drop, take-append-drop}
-use Rattle.std.specs.Prelude.{◌≢◌, ◌==◌}
-use Rattle.std.proofs.lemmas.Bool.{eq-eqb}
+use Rattle.std.proofs.Common.{◌≡◌, ℕ, ◌+◌, ◌<◌, ◌≤◌, List, ◌∷◌, ◌++◌, length, drop, take, get_or, inl, inr, refl, sym, ap, ◌∙◌, arith, length-drop, take-append-drop}
+use Rattle.std.specs.Prelude.{◌≢◌}
 use Rattle.std.proofs.lemmas.List.{drop_more, get_or-drop}
 use Rattle.std.proofs.lemmas.List.Elements.{All-from_get_or}
 use Rattle.drain_cli.specs.FilePaths.{slash, IsLastPart}
@@ -22,5 +21,5 @@ pub after_last_slash : (path : List ℕ) (at : ℕ) → at < length path → get
 after_last_slash path at within is none = record {
   ends = inr (take at path, split_at_slash path at within is);
   has_no_slash = All-from_get_or (λ byte. byte ≢ slash) (drop (at + 1) path) 0
-    (λ i inside same. none (at + 1 + i) (omega arith) (omega (arith, inside, length-drop (at + 1) path)) (sym (get_or-drop (at + 1) path i 0) ∙ same));
+      (λ i inside same. none (at + 1 + i) (omega arith) (omega (arith, inside, length-drop (at + 1) path)) (sym (get_or-drop (at + 1) path i 0) ∙ same));
 }

@@ -7,9 +7,13 @@ use std::alloc::{AllocError, Global};
 #[derive(PartialEq, Eq, Debug, Drop)]
 pub enum Request<'a> {
     /// `drain fill`: check a conditioned surface from standard input.
-    Fill { side: u32 },
+    Fill {
+        side: u32,
+    },
     /// `drain header`: print what the header file at this path says.
-    Header { path: &'a str },
+    Header {
+        path: &'a str,
+    },
     /// `drain check`: check the products in this folder against the tiles at these paths.
     Check {
         side: u32,
@@ -56,8 +60,7 @@ const HEADER_AFTER: &str = "Lines and exit statuses:
      refused NotOneBand, refused BadBits, refused BadPixelType, refused RowTooShort
   3  failed Open PATH, failed ReadFailed, failed OutOfMemory, or standard output couldn't be written";
 
-const CHECK_ABOUT: &str =
-    "Check the six products of a mosaic of tiles: the conditioned surface, directions, accumulation, basins and their certificate";
+const CHECK_ABOUT: &str = "Check the six products of a mosaic against its tiles";
 
 const CHECK_LONG_ABOUT: &str =
     "Reads elevation tiles (SRTM .hgt files of one side, named as N37W105.hgt) and the six products of their
@@ -66,7 +69,7 @@ mosaic, each a BIL raster in the folder DIR: DIR/con.hdr and DIR/con.bil, and so
   con    conditioned elevations, in metres
   dir    directions, as codes: 0 at an outlet, else 1 E, 2 SE, 4 S, 8 SW, 16 W, 32 NW, 64 N, 128 NE
   acc    accumulation: how many cells drain through the cell, with the cell itself
-  bas    the label of the basin, one for each outlet
+  bas    labels of basins, one for each outlet
   spl    spill parents, as direction codes (0 for none)
   rnk    ranks, which fall along spill parents and where directions cross flats
 

@@ -57,11 +57,13 @@ fn run(rt: &HostRuntime, asked: &[String], out: &mut impl ByteSink) -> u8 {
     match command_line::parse(rt.alloc(), asked) {
         Ok(Request::Fill { side }) => run_fill(rt.alloc(), side, &mut Reader::new(rt.stdin()), out),
         Ok(Request::Header { path }) => header_of_file(rt, path, out),
-        Ok(Request::Check {
-            side,
-            products,
-            tiles,
-        }) => check_of_files(rt, side, products, tiles.as_slice(), out),
+        Ok(
+            Request::Check {
+                side,
+                products,
+                tiles,
+            },
+        ) => check_of_files(rt, side, products, tiles.as_slice(), out),
         Err(error) if error.kind() == ErrorKind::OutOfMemory => print_failure(
             out,
             BodyFault::OutOfMemory,
@@ -87,10 +89,12 @@ fn check_of_files(
     out: &mut impl ByteSink,
 ) -> u8 {
     match open_check(rt, folder, tiles) {
-        Ok(CheckFiles {
-            mut tiles,
-            mut products,
-        }) => run_check(rt.alloc(), side, tiles.as_mut_slice(), &mut products, out),
+        Ok(
+            CheckFiles {
+                mut tiles,
+                mut products,
+            },
+        ) => run_check(rt.alloc(), side, tiles.as_mut_slice(), &mut products, out),
         Err(OpenFault::Open(path)) => print_open_failure(rt.alloc(), out, path.as_str()),
         Err(OpenFault::Body(fault)) => print_failure(out, fault),
     }

@@ -32,20 +32,13 @@ impl From<AllocError> for OpenFault {
 }
 
 /// Opens the tiles at these paths and the products in this folder. The first fault ends it.
-pub fn open_check(
-    rt: &HostRuntime,
-    folder: &str,
-    tiles: &[&str],
-) -> Result<CheckFiles, OpenFault> {
+pub fn open_check(rt: &HostRuntime, folder: &str, tiles: &[&str]) -> Result<CheckFiles, OpenFault> {
     let tiles = open_tiles(rt, tiles)?;
     let products = open_products(rt, folder)?;
     Ok(CheckFiles { tiles, products })
 }
 
-fn open_tiles(
-    rt: &HostRuntime,
-    paths: &[&str],
-) -> Result<Vec<TileInput<Reader<File>>>, OpenFault> {
+fn open_tiles(rt: &HostRuntime, paths: &[&str]) -> Result<Vec<TileInput<Reader<File>>>, OpenFault> {
     let mut tiles = Vec::new(rt.alloc());
     for path in paths {
         if tiles.push(open_tile(rt, path)?).is_err() {

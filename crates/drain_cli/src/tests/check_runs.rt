@@ -64,8 +64,22 @@ fn prints_the_answer_to_products(rt: HostRuntime) -> Result<(), Fail> {
             "rejected rule=15 SharedLabel row=1 col=0\n",
         ),
         ("side 1", 1, "x", &[1, 2, 3, 4], 2, "refused BadSide\n"),
-        ("no tile's name", 2, "x", &[1, 2, 3, 4], 2, "refused BadName 0\n"),
-        ("a label too few", 2, tile, &[1, 2, 3], 2, "refused RasterShort bas\n"),
+        (
+            "no tile's name",
+            2,
+            "x",
+            &[1, 2, 3, 4],
+            2,
+            "refused BadName 0\n",
+        ),
+        (
+            "a label too few",
+            2,
+            tile,
+            &[1, 2, 3],
+            2,
+            "refused RasterShort bas\n",
+        ),
     ];
     for (name, side, tile, labels, status, line) in cases {
         let mut out = ScriptSink::new(Vec::new(rt.alloc()), 1000, [].as_slice());

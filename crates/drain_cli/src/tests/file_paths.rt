@@ -13,8 +13,14 @@ fn puts_one_slash_between_folder_and_file(rt: HostRuntime) -> Result<(), Fail> {
         ("/", "/con.hdr", "/rnk.bil"),
     ];
     for (folder, header, raster) in cases {
-        assert_eq!(rt; header_path(rt.alloc(), folder, Product::Con)?.as_str(), header);
-        assert_eq!(rt; raster_path(rt.alloc(), folder, Product::Rnk)?.as_str(), raster);
+        assert_eq!(rt;
+            header_path(rt.alloc(), folder, Product::Con)?.as_str(),
+            header
+        );
+        assert_eq!(rt;
+            raster_path(rt.alloc(), folder, Product::Rnk)?.as_str(),
+            raster
+        );
     }
     Ok(())
 }

@@ -1,4 +1,4 @@
-use Rattle.std.proofs.Common.{◌+◌, arith, length, sym}
+use Rattle.std.proofs.Common.{◌+◌, arith}
 use Rattle.std.proofs.lemmas.Bool.{eq-eqb, eqb-true}
 use Rattle.std.proofs.lemmas.List.{take_rest}
 use Rattle.drain_cli.proofs.PathLemmas.{whole_path, after_last_slash}
@@ -8,8 +8,8 @@ pub returns-in-Some : goal.returns-in-Some
 returns-in-Some c =
     let found = c.in-Some.ensures in
     rw (take_rest c.args.path.now (c.in-Some.slash + 1)) (
-      after_last_slash c.args.path.now c.in-Some.slash found.0.high (eqb-true _ _ found.1)
-        (λ k after inside same. found.0.after k after inside (eq-eqb _ _ same))
+    after_last_slash c.args.path.now c.in-Some.slash found.0.high (eqb-true _ _ found.1)
+    (λ k after inside same. found.0.after k after inside (eq-eqb _ _ same))
     )
 
 pub returns-in-None : goal.returns-in-None

@@ -1,5 +1,3 @@
-use Rattle.std.proofs.Common.{◌≡◌}
-use Rattle.drain_rules.specs.Verdicts.{IfAccepted}
 use Rattle.drain_verdict.specs.Headline.{OfInputs, TilesAreOne, ElevationIsTheirs, ConIsLeast, NoDirectionClimbs, DirectionsAreSteepest, CodesTellOutlets, RunsEnd, RunsEndAtOutlets, RunsVisitOnce, AccCountsUpstream, LabelsTellBasins, VoidsAreBlank, DataIsComplete}
 use Rattle.drain_cli.proofs.CheckLemmas.{when_zero}
 use Rattle.drain_cli.proofs.run_check.run_check.Goals as goal

@@ -1,0 +1,186 @@
+# Runs of `drain check`: a pit of height 1 in a border of height 5, conditioned to 5, and changes of its files. Read by run.sh.
+
+check=$scratch/check
+tile=$check/N00E000.hgt
+pit_checked='accepted rows=3 cols=3 data=9 raised=1 outlets=8'
+
+# The bytes of these numbers below 256, each in so many bytes, the least first.
+numbers() {
+    local width=$1 number
+    shift
+    for number; do
+        printf "\\x$(printf %02x "$number")"
+        head -c $((width - 1)) /dev/zero
+    done
+}
+
+# A header of the tile with so many bits, the line of its pixel type where one is needed, and these places.
+header_of() {
+    printf 'BYTEORDER I\nNROWS 3\nNCOLS 3\nNBITS %s\n' "$1"
+    [ -z "$2" ] || printf 'PIXELTYPE %s\n' "$2"
+    printf 'ULXMAP %s\nULYMAP 1\nXDIM 0.5\nYDIM 0.5\n' "${3:-0}"
+}
+
+# The files as they should be, in a new folder.
+make_pit() {
+    rm -rf "$check"
+    mkdir -p "$check/out"
+    printf '\0\5\0\5\0\5\0\5\0\1\0\5\0\5\0\5\0\5' >"$tile"
+    header_of 16 SIGNEDINT >"$check/out/con.hdr"
+    numbers 2 5 5 5 5 5 5 5 5 5 >"$check/out/con.bil"
+    header_of 8 '' | tee "$check/out/dir.hdr" >"$check/out/spl.hdr"
+    numbers 1 0 0 0 0 1 0 0 0 0 | tee "$check/out/dir.bil" >"$check/out/spl.bil"
+    header_of 32 '' | tee "$check/out/acc.hdr" "$check/out/bas.hdr" >"$check/out/rnk.hdr"
+    numbers 4 1 1 1 1 1 2 1 1 1 >"$check/out/acc.bil"
+    numbers 4 1 2 3 4 5 5 6 7 8 >"$check/out/bas.bil"
+    numbers 4 0 0 0 0 1 0 0 0 0 >"$check/out/rnk.bil"
+}
+
+# Compares one run of the words: its name, the status and the line that are wanted.
+judge_check() {
+    local name=$1 status=$2 line=$3
+    shift 3
+    want "$line"
+    timeout 20 "$drain" check "$@" </dev/null >"$scratch/out" 2>"$scratch/err"
+    judge "$name" "$status" "$scratch/want" $?
+}
+
+# The same on the tile of side 3 and its products.
+judge_pit() {
+    judge_check "$1" "$2" "$3" --side 3 --products "$check/out" "$tile"
+}
+
+# The words in any order, and names in any letter case.
+make_pit
+judge_pit 'the products of a pit' 0 "$pit_checked"
+judge_check 'options behind the tiles' 0 "$pit_checked" "$tile" --products="$check/out/" --side=3
+judge_check 'tiles behind two dashes' 0 "$pit_checked" --side 3 --products "$check/out" -- "$tile"
+(cd "$check" && timeout 20 "$drain" check --side 3 --products out N00E000.hgt >"$scratch/out" 2>"$scratch/err")
+judge 'paths from the folder that it runs in' 0 "$scratch/want" $?
+(cd "$check/out" && timeout 20 "$drain" check --side 3 --products . ../N00E000.hgt >"$scratch/out" 2>"$scratch/err")
+judge 'the folder of the products is the one that it runs in' 0 "$scratch/want" $?
+: >"$check/out/con.bil.aux.xml"
+judge_pit 'a file of another program beside the rasters' 0 "$pit_checked"
+mv "$tile" "$check/n00e000.HGT"
+judge_check 'a tile named in small letters' 0 "$pit_checked" --side 3 --products "$check/out" "$check/n00e000.HGT"
+head -c 17 "$check/n00e000.HGT" >"$scratch/short" && mv "$scratch/short" "$check/n00e000.HGT"
+judge_check 'a short tile named in small letters' 2 'refused BadTileLength N00E000.hgt' \
+    --side 3 --products "$check/out" "$check/n00e000.HGT"
+
+# Rejections.
+make_pit
+numbers 4 0 0 0 0 0 0 0 0 0 >"$check/out/rnk.bil"
+judge_pit 'rank 0 in the pit' 1 'rejected rule=8 SpillRank row=1 col=1'
+
+# Headers.
+make_pit
+sed -i 's/NROWS 3/NROWS 4/' "$check/out/dir.hdr"
+judge_pit 'a row too many' 2 'refused WrongShape dir'
+make_pit
+sed -i '/ULXMAP/d' "$check/out/dir.hdr"
+judge_pit 'a header without its corner' 2 'refused BadHeader dir MissingKey ULXMAP'
+make_pit
+header_of 16 SIGNEDINT 0.000001 >"$check/out/con.hdr"
+judge_pit 'a corner a millionth of a degree away' 0 "$pit_checked"
+header_of 16 SIGNEDINT 0.000001000000001 >"$check/out/con.hdr"
+judge_pit 'a corner further away' 2 'refused Misplaced con'
+make_pit
+head -c 65537 /dev/zero | tr '\0' '\n' >"$check/out/rnk.hdr"
+judge_pit 'a header of 65537 bytes' 2 'refused BadHeader rnk TooLong'
+
+# Tiles and rasters of other lengths.
+for bytes in 17 19; do
+    make_pit
+    { cat "$tile"; echo; } | head -c $bytes >"$scratch/tile" && mv "$scratch/tile" "$tile"
+    judge_pit "a tile of $bytes bytes" 2 'refused BadTileLength N00E000.hgt'
+done
+make_pit
+head -c 17 "$check/out/con.bil" >"$scratch/short" && mv "$scratch/short" "$check/out/con.bil"
+judge_pit 'a raster a byte short' 2 'refused RasterShort con'
+make_pit
+echo 'behind the end' >>"$check/out/con.bil"
+judge_pit 'bytes behind the end of a raster' 0 "$pit_checked"
+
+# Names and sides.
+make_pit
+judge_check 'no tile' 2 'refused NoTiles' --side 3 --products "$check/out"
+judge_check 'the same tile twice' 2 'refused RepeatedTile N00E000.hgt' --side 3 --products "$check/out" "$tile" "$tile"
+cp "$tile" "$check/x"
+judge_check 'a name that is no tile, side 3' 2 'refused BadName 0' --side 3 --products "$check/out" "$check/x"
+judge_check 'a name that is no tile, side 1' 2 'refused BadSide' --side 1 --products "$check/out" "$check/x"
+judge_check 'the second name is no tile' 2 'refused BadName 1' --side 3 --products "$check/out" "$tile" "$check/x"
+judge_check 'the default side' 2 'refused WrongShape con' --products "$check/out" "$tile"
+
+# Two tiles of side 2 that differ where they meet, and two that lie too far apart.
+make_pit
+head -c 8 /dev/zero | tee "$check/N00E001.hgt" "$check/N00E008.hgt" >"$tile"
+printf '\0\1' | dd of="$check/N00E001.hgt" conv=notrunc status=none
+sed -i -E 's/^NROWS .*/NROWS 2/; s/^(.DIM) .*/\1 1/' "$check"/out/*.hdr
+judge_check 'two tiles that differ at a cell' 2 'refused SeamMismatch row=0 col=1' \
+    --side 2 --products "$check/out" "$tile" "$check/N00E001.hgt"
+judge_check 'tiles too far apart' 2 'refused BoxTooLarge' --side 2 --products "$check/out" "$tile" "$check/N00E008.hgt"
+
+# Files that are not there: each is opened before anything is refused, the tiles first, and of each product its header first.
+for name in N00E000.hgt out/{con,dir,acc,bas,spl,rnk}.{hdr,bil}; do
+    make_pit
+    rm "$check/$name"
+    judge_pit "without $name" 3 "failed Open $check/$name"
+    judge_check "without $name, with a slash behind the folder" 3 "failed Open $check/$name" \
+        --side 3 --products "$check/out/" "$tile"
+    : >"$check/out/rnk.hdr"
+    [ "$name" = out/rnk.hdr ] || judge_pit "without $name, and a later fault" 3 "failed Open $check/$name"
+done
+make_pit
+rm "$check/out/rnk.bil"
+cp "$tile" "$check/x"
+judge_check 'without the last file, and a bad name' 3 "failed Open $check/out/rnk.bil" --side 1 --products "$check/out" "$check/x"
+rm "$check/out/con.hdr" "$tile"
+judge_check 'the first file that is not there' 3 "failed Open $tile" --side 3 --products "$check/out" "$check/x" "$tile"
+judge_check 'no folder of products' 3 "failed Open $check/none/con.hdr" --side 3 --products "$check/none" "$check/x"
+
+# Folders in the places of files.
+for name in N00E000.hgt out/con.hdr out/bas.bil; do
+    make_pit
+    rm "$check/$name"
+    mkdir "$check/$name"
+    judge_pit "a folder for $name" 3 'failed ReadFailed'
+done
+
+# Pipes that stay open. Of a raster no byte behind the last that it needs is waited for, of a tile one.
+make_pit
+for name in con.bil dir.bil rnk.bil; do
+    mv "$check/out/$name" "$scratch/bytes"
+    mkfifo "$check/out/$name"
+    exec 3<>"$check/out/$name"
+    cat "$scratch/bytes" >&3
+    judge_pit "an open pipe for $name" 0 "$pit_checked"
+    exec 3<&-
+    rm "$check/out/$name"
+    mv "$scratch/bytes" "$check/out/$name"
+done
+mv "$tile" "$scratch/bytes"
+mkfifo "$tile"
+cat "$scratch/bytes" >"$tile" &
+judge_pit 'a pipe for the tile' 0 "$pit_checked"
+wait $!
+exec 3<>"$tile"
+{ cat "$scratch/bytes"; printf x; } >&3
+judge_pit 'an open pipe for the tile with a byte too many' 2 'refused BadTileLength N00E000.hgt'
+exec 3<&-
+
+# Outputs that can't be written: status 3, whatever the line was.
+: >"$scratch/want"
+: >"$scratch/out"
+make_pit
+for words in "--side 3 --products $check/out $tile" "--side 3 --products $check/out" "--products $check $tile" '--help'; do
+    "$drain" check $words >/dev/full 2>"$scratch/err"
+    judge "a full standard output: check $words" 3 "$scratch/want" $?
+    "$drain" check $words >&- 2>"$scratch/err"
+    judge "a closed standard output: check $words" 3 "$scratch/want" $?
+done
+
+# No memory for a tile.
+sed -i -E 's/^(NROWS|NCOLS) .*/\1 3601/; s/^(.DIM) .*/\1 0.000277777777778/' "$check"/out/*.hdr
+want 'failed OutOfMemory'
+(ulimit -v 20000 && exec "$drain" check --side 3601 --products "$check/out" "$tile") >"$scratch/out" 2>"$scratch/err"
+judge 'no memory for a tile' 3 "$scratch/want" $?
