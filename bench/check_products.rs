@@ -107,12 +107,40 @@ impl Products {
         create_dir_all(folder)?;
         let tile: Vec<u8> = self.z.iter().flat_map(|z| z.to_be_bytes()).collect();
         write(folder.join(TILE), tile)?;
-        self.write_one(folder, "con", 16, "SIGNEDINT", "-32768", bytes_of_16(&self.con))?;
+        self.write_one(
+            folder,
+            "con",
+            16,
+            "SIGNEDINT",
+            "-32768",
+            bytes_of_16(&self.con),
+        )?;
         self.write_one(folder, "dir", 8, "UNSIGNEDINT", "255", self.dir.clone())?;
-        self.write_one(folder, "acc", 32, "UNSIGNEDINT", "0", bytes_of_32(&self.acc))?;
-        self.write_one(folder, "bas", 32, "UNSIGNEDINT", "0", bytes_of_32(&self.bas))?;
+        self.write_one(
+            folder,
+            "acc",
+            32,
+            "UNSIGNEDINT",
+            "0",
+            bytes_of_32(&self.acc),
+        )?;
+        self.write_one(
+            folder,
+            "bas",
+            32,
+            "UNSIGNEDINT",
+            "0",
+            bytes_of_32(&self.bas),
+        )?;
         self.write_one(folder, "spl", 8, "UNSIGNEDINT", "255", self.spl.clone())?;
-        self.write_one(folder, "rnk", 32, "UNSIGNEDINT", "4294967295", bytes_of_32(&self.rnk))
+        self.write_one(
+            folder,
+            "rnk",
+            32,
+            "UNSIGNEDINT",
+            "4294967295",
+            bytes_of_32(&self.rnk),
+        )
     }
 
     fn write_one(
@@ -127,7 +155,11 @@ impl Products {
         let side = self.side;
         let step = format!("0.{:015}", 1_000_000_000_000_000 / (side as u64 - 1));
         // A tile of side 2 has samples a whole degree apart.
-        let step = if side == 2 { "1.000000000000000" } else { &step };
+        let step = if side == 2 {
+            "1.000000000000000"
+        } else {
+            &step
+        };
         let row = side * bits / 8;
         let header = format!(
             "BYTEORDER I\nLAYOUT BIL\nNROWS {side}\nNCOLS {side}\nNBANDS 1\nNBITS {bits}\nBANDROWBYTES {row}\n\
@@ -140,9 +172,15 @@ impl Products {
 }
 
 fn bytes_of_16(numbers: &[i16]) -> Vec<u8> {
-    numbers.iter().flat_map(|number| number.to_le_bytes()).collect()
+    numbers
+        .iter()
+        .flat_map(|number| number.to_le_bytes())
+        .collect()
 }
 
 fn bytes_of_32(numbers: &[u32]) -> Vec<u8> {
-    numbers.iter().flat_map(|number| number.to_le_bytes()).collect()
+    numbers
+        .iter()
+        .flat_map(|number| number.to_le_bytes())
+        .collect()
 }

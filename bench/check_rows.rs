@@ -138,7 +138,9 @@ impl Source {
     pub fn read_row(&mut self, row: &mut Row) -> io::Result<()> {
         let byte = |bytes: [u8; 1]| u32::from(bytes[0]);
         self.decode(0, &mut row.z, |bytes| i32::from(i16::from_be_bytes(bytes)))?;
-        self.decode(1, &mut row.con, |bytes| i32::from(i16::from_le_bytes(bytes)))?;
+        self.decode(1, &mut row.con, |bytes| {
+            i32::from(i16::from_le_bytes(bytes))
+        })?;
         self.decode(2, &mut row.dir, byte)?;
         self.decode(3, &mut row.acc, u32::from_le_bytes)?;
         self.decode(4, &mut row.bas, u32::from_le_bytes)?;
@@ -166,5 +168,7 @@ impl Source {
 
 /// The numbers of a block of cells.
 pub fn block<T>(numbers: &[T], start: usize) -> &[T; BLOCK] {
-    numbers[start..start + BLOCK].try_into().expect("a whole block")
+    numbers[start..start + BLOCK]
+        .try_into()
+        .expect("a whole block")
 }

@@ -89,7 +89,8 @@ fn share_a_label(products: &mut Products, dice: &mut Dice) {
 
 /// Raises by a metre all raised cells of the height of the first of them.
 fn raise_a_lake(products: &mut Products) {
-    let is_raised = |cell: &usize| products.z[*cell] != VOID && products.con[*cell] > products.z[*cell];
+    let is_raised =
+        |cell: &usize| products.z[*cell] != VOID && products.con[*cell] > products.z[*cell];
     let Some(first) = (0..products.z.len()).find(is_raised) else {
         return;
     };
@@ -108,7 +109,9 @@ fn run(program: &str, side: usize, folder: &Path) -> io::Result<(String, i32)> {
         .arg(folder)
         .arg(folder.join(TILE))
         .output()?;
-    let line = String::from_utf8_lossy(&output.stdout).trim_end().to_string();
+    let line = String::from_utf8_lossy(&output.stdout)
+        .trim_end()
+        .to_string();
     Ok((line, output.status.code().unwrap_or(-1)))
 }
 
@@ -135,7 +138,9 @@ fn main() -> io::Result<ExitCode> {
         (0..changes).for_each(|_| change(&mut products, &mut dice));
         let folder = folder.join(number.to_string());
         products.write(&folder)?;
-        let answers = programs.iter().map(|program| run(program, products.side, &folder));
+        let answers = programs
+            .iter()
+            .map(|program| run(program, products.side, &folder));
         let answers = answers.collect::<io::Result<Vec<_>>>()?;
         remove_dir_all(&folder)?;
         let is_right = |answer: &(String, i32)| {
@@ -143,11 +148,16 @@ fn main() -> io::Result<ExitCode> {
         };
         if !answers.iter().all(is_right) {
             differences += 1;
-            println!("case {number}, side {}, {changes} changes: {answers:?}", products.side);
+            println!(
+                "case {number}, side {}, {changes} changes: {answers:?}",
+                products.side
+            );
         }
         *kinds.entry(kind(&answers[0].0)).or_default() += 1;
     }
     println!("{cases} small cases, {differences} differences: {kinds:?}");
     // Fifteen rules and an acceptance.
-    Ok(ExitCode::from(u8::from(differences > 0 || kinds.len() < 16)))
+    Ok(ExitCode::from(u8::from(
+        differences > 0 || kinds.len() < 16,
+    )))
 }

@@ -58,8 +58,14 @@ pub fn run(judge: impl FnOnce(&Files) -> io::Result<Verdict>) -> ExitCode {
     let side = files.side;
     match judge(&files) {
         Ok(Verdict::Accepted(counts)) => {
-            let Counts { data_cells, raised, outlets } = counts;
-            println!("accepted rows={side} cols={side} data={data_cells} raised={raised} outlets={outlets}");
+            let Counts {
+                data_cells,
+                raised,
+                outlets,
+            } = counts;
+            println!(
+                "accepted rows={side} cols={side} data={data_cells} raised={raised} outlets={outlets}"
+            );
             ExitCode::from(0)
         }
         Ok(Verdict::Rejected { rule, row, col }) => {

@@ -30,6 +30,31 @@ fn mask(holds: bool) -> u32 {
     u32::from(holds).wrapping_neg()
 }
 
+/// The square of the drop to a neighbour, 0 where it isn't lower. Drops are below 2^16, so it is a number of 32 bits.
+#[inline(always)]
+fn square_of_drop(con: i32, neighbor: i32) -> u32 {
+    let drop = (con - neighbor).max(0) as u32;
+    drop.wrapping_mul(drop)
+}
+
+/// Whether a code leads down the steepest way. Given are the squares of the greatest drops along and across, and whether the code
+/// leads to a cell so low. Half a square is compared where twice another would not be a number of 32 bits.
+#[inline(always)]
+fn is_steepest(
+    [straight, across]: [u32; 2],
+    code: u32,
+    [to_straight, to_across]: [bool; 2],
+) -> bool {
+    let straight_leads = to_straight & (straight >= (across >> 1) + (across & 1));
+    let across_leads = to_across & (across >> 1 >= straight);
+    let is_straight = code & 0b0101_0101 != 0;
+    if is_straight {
+        straight_leads
+    } else {
+        across_leads
+    }
+}
+
 /// The rows above, at and below the one that is tested.
 struct Window {
     rows: [Row; 3],
@@ -70,15 +95,18 @@ impl Window {
             let open_holds = (con[c] == z[c]) & (spl[c] == 0);
             let to_parent = con[c] == z[c].max(parent_con[c]);
             let closed_holds = (spl[c] != 0) & to_parent & (parent_rank[c] < rnk[c]);
-            let holds = if least_z[c] == VOID { open_holds } else { closed_holds };
+            let holds = if least_z[c] == VOID {
+                open_holds
+            } else {
+                closed_holds
+            };
             let is_least = (con[c] >= z[c]) & (con[c] <= z[c].max(least_con[c]));
             bad |= (z[c] != VOID) & !(holds & is_least);
         }
         !bad
     }
 
-    /// Rules 10 to 12, at the cells of a block. Drops are below 2^16, so their squares are numbers of 32 bits; half a square
-    /// is compared where twice another would not be one.
+    /// Rules 10 to 12, at the cells of a block.
     fn directions_hold(&self, start: usize) -> bool {
         let here = &self.rows[1];
         let (z, con) = (block(&here.z, start + 1), block(&here.con, start + 1));
@@ -101,18 +129,16 @@ impl Window {
         }
         let mut bad = false;
         for c in 0..BLOCK {
-            let square = |least: i32| {
-                let drop = (con[c] - least).max(0) as u32;
-                drop.wrapping_mul(drop)
-            };
-            let (straight, across) = (square(least[0][c]), square(least[1][c]));
-            let is_straight = dir[c] & 0b0101_0101 != 0;
-            let straight_leads = (next_con[c] == least[0][c]) & (straight >= (across >> 1) + (across & 1));
-            let across_leads = (next_con[c] == least[1][c]) & (across >> 1 >= straight);
-            let leads = if is_straight { straight_leads } else { across_leads };
+            let squares = [least[0][c], least[1][c]].map(|least| square_of_drop(con[c], least));
+            let reached = [least[0][c], least[1][c]].map(|least| next_con[c] == least);
+            let leads = is_steepest(squares, dir[c], reached);
             let steps = (dir[c] != 0) & (next_con[c] == con[c]) & (next_rank[c] < rnk[c]);
-            let flat_holds = if least_z[c] == VOID { dir[c] == 0 } else { steps };
-            let is_flat = (straight | across) == 0;
+            let flat_holds = if least_z[c] == VOID {
+                dir[c] == 0
+            } else {
+                steps
+            };
+            let is_flat = (squares[0] | squares[1]) == 0;
             let falls = (dir[c] != 0) & (next_con[c] < con[c]);
             let holds = if is_flat { flat_holds } else { leads & falls };
             bad |= (z[c] != VOID) & !holds;
@@ -129,7 +155,10 @@ impl Window {
         for (bit, (down, right)) in STEPS.into_iter().enumerate() {
             let row = &self.rows[down];
             let (zs, dirs) = (block(&row.z, start + right), block(&row.dir, start + right));
-            let (sums, labels) = (block(&row.acc, start + right), block(&row.bas, start + right));
+            let (sums, labels) = (
+                block(&row.acc, start + right),
+                block(&row.bas, start + right),
+            );
             for c in 0..BLOCK {
                 sum[c] += mask(dirs[c] == 1 << ((bit + 4) % 8)) & sums[c];
                 let named = mask(dir[c] == 1 << bit) & mask(zs[c] != VOID);
@@ -162,7 +191,11 @@ impl Window {
         match self.beside(col, direction) {
             Some((row, place)) if row.con[place] < con => {
                 let drop = i64::from(con - row.con[place]);
-                if direction % 2 == 0 { 2 * drop * drop } else { drop * drop }
+                if direction % 2 == 0 {
+                    2 * drop * drop
+                } else {
+                    drop * drop
+                }
             }
             _ => 0,
         }
@@ -178,7 +211,9 @@ impl Window {
         }
         let is_open = (0..8).any(|direction| self.beside(col, direction).is_none());
         let surface = self.surface_fault(col, is_open);
-        surface.or_else(|| self.direction_fault(col, is_open)).or_else(|| self.flow_fault(col))
+        surface
+            .or_else(|| self.direction_fault(col, is_open))
+            .or_else(|| self.flow_fault(col))
     }
 
     fn surface_fault(&self, col: usize, is_open: bool) -> Option<Rule> {
@@ -202,7 +237,9 @@ impl Window {
             }
         }
         let is_lower = |(row, place): (&Row, usize)| con > z.max(row.con[place]);
-        let not_least = (0..8).filter_map(|direction| self.beside(col, direction)).any(is_lower);
+        let not_least = (0..8)
+            .filter_map(|direction| self.beside(col, direction))
+            .any(is_lower);
         not_least.then_some(Rule::NotLeast)
     }
 
@@ -227,7 +264,9 @@ impl Window {
     fn flow_fault(&self, col: usize) -> Option<Rule> {
         let here = &self.rows[1];
         let inflow = |direction: usize| match self.beside(col, direction) {
-            Some((row, place)) if row.dir[place] == 1 << ((direction + 4) % 8) => i64::from(row.acc[place]),
+            Some((row, place)) if row.dir[place] == 1 << ((direction + 4) % 8) => {
+                i64::from(row.acc[place])
+            }
             _ => 0,
         };
         if i64::from(here.acc[col + 1]) != 1 + (0..8).map(inflow).sum::<i64>() {

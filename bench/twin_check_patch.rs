@@ -66,7 +66,9 @@ fn decode<const WIDTH: usize, T>(
 ) -> io::Result<Vec<T>> {
     let bytes = read(path)?;
     let groups = bytes.chunks_exact(WIDTH);
-    Ok(groups.map(|group| number(group.try_into().unwrap())).collect())
+    Ok(groups
+        .map(|group| number(group.try_into().unwrap()))
+        .collect())
 }
 
 impl Values for Products {
@@ -123,7 +125,11 @@ fn key(patch: &Patch, direction: Direction) -> u128 {
         Some(there) if there.z.is_some() && there.con < patch.here.con => {
             let drop = (patch.here.con - there.con) as u128;
             let square = drop * drop;
-            if direction.is_straight() { 2 * square } else { square }
+            if direction.is_straight() {
+                2 * square
+            } else {
+                square
+            }
         }
         _ => 0,
     }
