@@ -29,7 +29,7 @@ test:
 	@mv build/gate_began build/gate_passed
 	@$(MAKE) --no-print-directory build/drain build/label_bench
 	tests/program/run.sh build/drain build/label_bench
-	tests/refused_memory.sh drain_hgt:2 drain_mosaic:4 drain_header:4 drain_raster:2 drain_verdict:40-42
+	tests/refused_memory.sh drain_hgt:2 drain_mosaic:4 drain_header:4 drain_raster:1 drain_verdict:40-42
 
 bench: build/drain build/label_bench build/raster_bench build/mosaic_bench
 	bench/run.sh build/drain
