@@ -5,5 +5,6 @@ pub mod Answers
 pub mod Faults
 pub mod Headline
 pub mod Stages
+pub mod Mosaics
 pub mod Lines
 pub mod FillLines

@@ -1,0 +1,33 @@
+-- What products that were made are: of the mosaic's shape, right by every rule, and fit to be written.
+use Rattle.std.specs.Prelude.{◌≡◌}
+use Rattle.drain_grid.specs.declared.product.Product.{Product}
+use Rattle.drain_grid.specs.declared.product_set.ProductSet.{ProductSet}
+use Rattle.drain_grid.specs.Product.{default_numbers}
+use Rattle.drain_grid.specs.Rasters.{Heights, ArePixels}
+use Rattle.drain_grid.specs.WholeGrid.{grid_of, products_of, nodata_of}
+use Rattle.drain_grid.specs.PatchRules.{profile1}
+use Rattle.drain_grid.specs.GridRules.{RulesHold}
+use Rattle.drain_raster.specs.Bytes.{CanSpellAll}
+use Rattle.drain_mosaic.specs.Tiling.{Tiling}
+use Rattle.drain_verdict.specs.Stages.{raster_in}
+use Rattle.drain_maker.specs.Headers.{header_of}
+
+-- all fifteen rules hold at every cell, with the default no-data numbers
+abbrev pub KeepsEveryRule : Heights → ProductSet → Type 0
+KeepsEveryRule e ps = RulesHold (profile1 default_numbers) 1 15 (grid_of e) (products_of ps)
+
+-- the pixels of each product's header can spell each of its numbers
+abbrev pub CanBeWritten : Tiling → ProductSet → Type 0
+CanBeWritten t ps = (p : Product) → CanSpellAll (header_of t p) (raster_in ps p)
+
+-- each raster has a number for each cell, and numbers that some pixel spells
+abbrev pub AreRasters : ProductSet → Type 0
+AreRasters ps = (p : Product) → ArePixels (raster_in ps p)
+
+-- products that were made for the elevations of a mosaic
+pub record AreMade (t : Tiling) (e : Heights) (ps : ProductSet) : Type 0 where
+  pub shape : ps.con.extent ≡ e.extent
+  pub nodata : nodata_of ps ≡ default_numbers
+  pub rules : KeepsEveryRule e ps
+  pub written : CanBeWritten t ps
+  pub rasters : AreRasters ps

@@ -1,0 +1,65 @@
+//! The headers of the rasters that a maker writes.
+
+ghost use Rattle.std.specs.Prelude.{◌≡◌};
+ghost use Rattle.drain_maker.specs.Headers.{header_of, place_of, bits_of, is_signed};
+
+use drain_grid::Product;
+use drain_header::{ByteOrdering, Header, Place};
+use drain_mosaic::Layout;
+
+/// How many units of 10^-15 a degree has.
+const DEGREE: i128 = 1_000_000_000_000_000;
+
+/// The header of a product of this mosaic.
+///
+/// Pixels of 16 bits signed for con, 8 for dir and spl, 32 for acc, bas and rnk; the least significant byte first, nothing to skip and
+/// rows without padding. The place is the mosaic's north-west corner and the spacing of its samples, in units of 10^-15 degree, the
+/// spacing rounded down. The no-data number is the product's default. It takes no memory.
+pub fn product_header(layout: &Layout, product: Product) -> Header
+    ensures { result ≡ header_of layout.now product }
+{
+    let shape = layout.shape();
+    let bits = bits_of(product);
+    Header {
+        rows: shape.rows(),
+        cols: shape.cols(),
+        bits,
+        order: ByteOrdering::Least,
+        signed: is_signed(product),
+        skip: 0,
+        row_bytes: shape.cols() * u32::from(bits / 8),
+        place: place_of(layout),
+        nodata: Some(product.default_no_data()),
+    }
+}
+
+/// How many bits a pixel of the product takes.
+fn bits_of(product: Product) -> u8
+    ensures { result ≡ bits_of product }
+{
+    match product {
+        Product::Dir | Product::Spl => 8,
+        Product::Con => 16,
+        Product::Acc | Product::Bas | Product::Rnk => 32,
+    }
+}
+
+/// Whether numbers of the product can be negative.
+fn is_signed(product: Product) -> bool
+    ensures { result ≡ is_signed product }
+{
+    product == Product::Con
+}
+
+/// Where the mosaic lies, and the spacing of its samples.
+fn place_of(layout: &Layout) -> Place
+    ensures { result ≡ place_of layout.now }
+{
+    let spacing = DEGREE / i128::from(layout.side() - 1);
+    Place {
+        ulx: i128::from(layout.west()) * DEGREE,
+        uly: i128::from(layout.north()) * DEGREE,
+        xdim: spacing,
+        ydim: spacing,
+    }
+}

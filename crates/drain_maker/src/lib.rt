@@ -1,0 +1,10 @@
+//! Products made from elevations: a flood from the outlets inwards, and a test of all that it built before anything is handed out.
+//!
+//! Source: the flood is Priority-Flood (Barnes, Lehman and Mulla 2014); directions are D8 (O'Callaghan and Mark 1984).
+#![tactic(auto)]
+
+mod header;
+mod maker;
+
+pub use header::product_header;
+pub use maker::{MakeRefusal, make};

@@ -1,0 +1,48 @@
+//! Making products, and testing them before they are handed out.
+
+ghost use Rattle.std.specs.Prelude.{◌≡◌, IfOk};
+ghost use Rattle.drain_grid.specs.Correct.{IsCorrect, RunsAreSound};
+ghost use Rattle.drain_grid.specs.Product.{default_numbers};
+ghost use Rattle.drain_grid.specs.WholeGrid.{grid_of, products_of, nodata_of};
+ghost use Rattle.drain_mosaic.specs.Tiling.{extent_of};
+ghost use Rattle.drain_maker.specs.Made.{KeepsEveryRule, CanBeWritten, AreRasters};
+
+use drain_grid::{Elevation, ProductSet};
+use drain_mosaic::Layout;
+use std::alloc::Global;
+use thiserror::Error;
+
+/// Why there are no products.
+#[derive(Clone, Copy, PartialEq, Eq, Debug, Error)]
+pub enum MakeRefusal {
+    /// What was built failed the maker's own test. No input is known that comes to this.
+    #[error("the products that were made failed their test")]
+    MakerFault,
+    /// Memory was refused.
+    #[error("out of memory")]
+    OutOfMemory,
+}
+
+/// The products of a mosaic's elevations, with the default no-data numbers.
+///
+/// All rules were tried at every cell of what it hands out, and every number can be spelled by the pixels of `product_header`; else the
+/// answer is `MakerFault`. `OutOfMemory` comes where memory was refused. Labels count the outlets in row order from 1; a rank is the number of
+/// steps to an outlet or a void's edge along spill parents; off flats the direction is the first steepest, on flats the spill parent's.
+pub fn make(
+    alloc: Global,
+    layout: &Layout,
+    elevation: &Elevation,
+) -> Result<ProductSet, MakeRefusal>
+    requires same_shape { elevation.now.extent ≡ extent_of layout.now }
+    ensures shape { IfOk result (λ products. products.con.extent ≡ elevation.now.extent) }
+    ensures nodata { IfOk result (λ products. nodata_of products ≡ default_numbers) }
+    ensures rules { IfOk result (KeepsEveryRule elevation.now) }
+    ensures written { IfOk result (CanBeWritten layout.now) }
+    ensures rasters { IfOk result AreRasters }
+
+    // What every rule at every cell means: the products are correct, and every run is sound.
+    ensures correct { IfOk result (λ products. IsCorrect (grid_of elevation.now) (products_of products) default_numbers) }
+    ensures runs { IfOk result (λ products. RunsAreSound (grid_of elevation.now) (products_of products)) }
+{
+    Err(MakeRefusal::MakerFault)
+}

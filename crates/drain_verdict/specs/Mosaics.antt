@@ -1,0 +1,48 @@
+-- What reading tiles alone answers: their mosaic, or the first refusal of the tiles.
+use Rattle.std.specs.Prelude.{◌≡◌, ℕ, List, Option, Some}
+use Rattle.std.specs.List.{AllZip}
+use Rattle.drain_grid.specs.declared.cell.Cell.{Cell}
+use Rattle.drain_grid.specs.Extent.{IsCellOf}
+use Rattle.drain_grid.specs.First.{IsFirst}
+use Rattle.drain_grid.specs.Rasters.{Heights}
+use Rattle.drain_grid.specs.Whole.{elevation_at}
+use Rattle.drain_hgt.specs.declared.input.TileInput.{TileInput}
+use Rattle.drain_hgt.specs.Name.{Names}
+use Rattle.drain_mosaic.specs.Tiling.{Tiling, extent_of}
+use Rattle.drain_verdict.specs.declared.refusal.Refusal.{Refusal}
+use Rattle.drain_verdict.specs.declared.refusal.Refusal.TheVariants.{BadHeader, WrongShape, Misplaced, RasterShort, OutOfMemory, ReadFailed}
+use Rattle.drain_verdict.specs.Inputs.{Inputs, AreNames, names_of}
+use Rattle.drain_verdict.specs.Meaning.{tiling_of, grid_of}
+use Rattle.drain_verdict.specs.Refusals.{Stands, place_of}
+
+-- what is handed in spells the tiles of these inputs, where the devices tell their bytes
+pub record TellTiles {R : Type 0} (bytes_left : R → Option (List ℕ)) (side : ℕ) (tiles : List (TileInput R)) (i : Inputs) : Type 0 where
+  pub side_is : i.side ≡ side
+  pub names_are : i.names ≡ names_of tiles
+  pub corners_are : AreNames i.names → AllZip Names i.names i.corners
+  pub tiles_are : AllZip (λ t body. bytes_left t.body ≡ Some body) tiles i.tiles
+
+-- the refusal is about side, names or tiles, and not about a product
+abbrev pub IsOfTiles : Refusal → Type 0
+IsOfTiles (BadHeader p fault) = ⊥
+IsOfTiles (WrongShape p) = ⊥
+IsOfTiles (Misplaced p) = ⊥
+IsOfTiles (RasterShort p) = ⊥
+IsOfTiles refusal = Unit {0}
+
+-- such a refusal stands
+abbrev pub StandsOfTiles : Inputs → Refusal → Type 0
+StandsOfTiles i refusal = IsOfTiles refusal × Stands i refusal
+
+-- the tiles are in order, their mosaic has this tiling, and its elevations are these
+pub record IsMosaicOf (i : Inputs) (t : Tiling) (e : Heights) : Type 0 where
+  pub readable : (refusal : Refusal) → ¬ StandsOfTiles i refusal
+  pub tiling_is : t ≡ tiling_of i
+  pub extent_is : e.extent ≡ extent_of t
+  pub elevation_is : (c : Cell) → IsCellOf e.extent c → elevation_at e c ≡ (grid_of i).elevation c
+
+-- the refusal is the first that stands of the tiles; want of memory and a failed read say nothing of the bytes
+abbrev pub IsMosaicRefusal : Inputs → Refusal → Type 0
+IsMosaicRefusal i OutOfMemory = Unit {0}
+IsMosaicRefusal i ReadFailed = Unit {0}
+IsMosaicRefusal i refusal = IsFirst (place_of i) (StandsOfTiles i) refusal
