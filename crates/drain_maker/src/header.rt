@@ -1,6 +1,7 @@
 //! The headers of the rasters that a maker writes.
 
 ghost use Rattle.std.specs.Prelude.{◌≡◌};
+ghost use Rattle.drain_header.specs.Fields.{IsCoordinate};
 ghost use Rattle.drain_maker.specs.Headers.{header_of, place_of, bits_of, is_signed};
 
 use drain_grid::Product;
@@ -53,7 +54,13 @@ fn is_signed(product: Product) -> bool
 
 /// Where the mosaic lies, and the spacing of its samples.
 fn place_of(layout: &Layout) -> Place
-    ensures { result ≡ place_of layout.now }
+    ensures place { result ≡ place_of layout.now }
+
+    // Each number is one that a header can hold.
+    ensures ulx_ok { IsCoordinate result.ulx }
+    ensures uly_ok { IsCoordinate result.uly }
+    ensures xdim_ok { IsCoordinate result.xdim }
+    ensures ydim_ok { IsCoordinate result.ydim }
 {
     let spacing = DEGREE / i128::from(layout.side() - 1);
     Place {
