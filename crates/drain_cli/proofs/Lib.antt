@@ -2,3 +2,4 @@ pub mod CheckLemmas
 pub mod HeaderLemmas
 pub mod PathLemmas
 pub mod PrintLemmas
+pub mod SetLemmas

@@ -5,4 +5,6 @@ pub mod FillRuns
 pub mod HeaderRuns
 pub mod OpenFailures
 pub mod Printing
+pub mod SetFiles
+pub mod SetRuns
 pub mod Statuses

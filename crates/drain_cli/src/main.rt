@@ -12,9 +12,11 @@ pub mod print;
 pub mod run_check;
 pub mod run_fill;
 pub mod run_header;
+pub mod set_files;
 pub mod status;
 #[cfg(test)]
 mod tests;
+pub mod write_set;
 
 use clap::Error;
 use clap::error::ErrorKind;

@@ -1,0 +1,231 @@
+-- From the writes of single files to those of a product set.
+use Rattle.std.proofs.Common.{◌≡◌, ◌↔◌, ℕ, ◌+◌, ◌-◌, ◌*◌, ◌<◌, ◌≤◌, inl, inr, ℤ, List, [], ◌∷◌, ◌++◌, map, length, take, slice_index_or, Option, Some, None, Result, Ok, Err, IsErr, IsErrOf, arith, refl, sym, ap, ◌∙◌, length-append, append_assoc, append-nil}
+use Rattle.std.specs.Prelude.{slice_get, slice_set}
+use Rattle.std.specs.Io.KnownBytes.{Appends}
+use Rattle.drain_device.specs.declared.counts.FaultCounts.{FaultCounts}
+use Rattle.drain_device.specs.Counts.{Answered, counted}
+use Rattle.drain_device.specs.Failing.{WriteFails}
+use Rattle.drain_device.specs.Writes.{HandsOver}
+use Rattle.drain_device.specs.Patience.{full_patience, GivesUpWriting}
+use Rattle.std.proofs.lemmas.List.{get_or-map}
+use Rattle.drain_grid.specs.declared.product_set.ProductSet.{ProductSet}
+use Rattle.drain_header.specs.Fields.{Fields}
+use Rattle.drain_header.specs.Text.{text_of, shape_lines, pixel_lines, place_lines, nodata_line, line}
+use Rattle.drain_mosaic.specs.Tiling.{Tiling}
+use Rattle.drain_grid.specs.declared.cell.Cell.{Cell}
+use Rattle.drain_grid.specs.Rasters.{Pixels}
+use Rattle.drain_raster.specs.declared.fault.WriteFault.{WriteFault}
+use Rattle.drain_raster.specs.declared.fault.WriteFault.TheVariants as write
+use Rattle.drain_raster.specs.Bytes.{CanSpellAll, IsFirstOutOfRange, raster_bytes}
+use Rattle.drain_cli.specs.declared.set_files.SetFault.{SetFault}
+use Rattle.drain_cli.specs.declared.set_files.SetFault.TheVariants.{WriteFailed, OutOfMemory}
+use Rattle.drain_cli.specs.declared.set_files.SetFile.{SetFile}
+use Rattle.drain_cli.specs.declared.set_files.TheConstants.{FILE_COUNT, SET_FILES}
+use Rattle.drain_cli.specs.SetFiles.{WritesFile, WritesFiles, file_bytes, set_bytes}
+
+-- no byte was taken
+appends-nothing : (taken : Option (List ℕ)) → Appends taken taken []
+appends-nothing None = tt
+appends-nothing (Some xs) = sym (append-nil xs)
+
+-- without a fault no sink gives up
+never-gives-up : GivesUpWriting full_patience 0 0 0 → ⊥
+never-gives-up (inl failed) = omega (arith, failed)
+never-gives-up (inr (inl interrupted)) = omega (arith, interrupted)
+never-gives-up (inr (inr stalled)) = omega (arith, stalled)
+
+-- a file that wasn't called, for want of memory
+pub no_memory : {F : Type 0} (taken : F → Option (List ℕ)) (counts : F → FaultCounts) (stalls : F → ℕ) (file : F) (bytes : List ℕ) → 0 < length bytes →
+    WritesFile taken counts stalls file file bytes (Err OutOfMemory)
+no_memory taken counts stalls file bytes some = record {
+  written = (0, some, appends-nothing (taken file));
+  faults = record {
+    failures = 0;
+    interruptions = 0;
+    stalls = 0;
+    answered = record { failures_are = omega arith; interruptions_are = omega arith };
+    stalled = omega arith;
+    exactly = ((λ e. cc), λ gave. absurd (never-gives-up gave));
+  };
+}
+
+-- a header's text has some bytes
+shape-some : (h : Fields) → 0 < length (shape_lines h)
+unfolding shape_lines line
+shape-some h = omega arith
+
+some-more : (xs ys : List ℕ) → 0 < length xs → 0 < length (xs ++ ys)
+some-more xs ys some = omega (arith, some, length-append xs ys)
+
+pub text-some : (h : Fields) → 0 < length (text_of h)
+text-some h =
+    some-more (shape_lines h ++ pixel_lines h ++ place_lines h.place) (nodata_line h.nodata)
+    (some-more (shape_lines h ++ pixel_lines h) (place_lines h.place) (some-more (shape_lines h) (pixel_lines h) (shape-some h)))
+
+-- after so many files: those before took their bytes, and the rest is untouched
+pub record WritesSoFar {F : Type 0} (taken : F → Option (List ℕ)) (counts : F → FaultCounts) (stalls : F → ℕ) (start now : List F) (texts : List (List ℕ)) (k : ℕ) : Type 0 where
+  pub olds : List F
+  pub news : List F
+  pub rest : List F
+  pub done : List (List ℕ)
+  pub more : List (List ℕ)
+  pub start_is : start ≡ olds ++ rest
+  pub now_is : now ≡ news ++ rest
+  pub texts_are : texts ≡ done ++ more
+  pub place : k ≡ length news
+  pub texts_place : k ≡ length done
+  pub wrote : WritesFiles taken counts stalls olds news done (Ok tt)
+
+pub so_far-none : {F : Type 0} (taken : F → Option (List ℕ)) (counts : F → FaultCounts) (stalls : F → ℕ) (files : List F) (texts : List (List ℕ)) →
+    WritesSoFar taken counts stalls files files texts 0
+so_far-none taken counts stalls files texts = record {
+  olds = [];
+  news = [];
+  rest = files;
+  done = [];
+  more = texts;
+  start_is = refl;
+  now_is = refl;
+  texts_are = refl;
+  place = refl;
+  texts_place = refl;
+  wrote = refl;
+}
+
+-- files that took all their bytes, and then others
+wrote-then : {F : Type 0} (taken : F → Option (List ℕ)) (counts : F → FaultCounts) (stalls : F → ℕ) (olds news us vs : List F) (texts more : List (List ℕ)) (r : Result (Unit {0}) SetFault) →
+    WritesFiles taken counts stalls olds news texts (Ok tt) → WritesFiles taken counts stalls us vs more r →
+    WritesFiles taken counts stalls (olds ++ us) (news ++ vs) (texts ++ more) r
+wrote-then taken counts stalls [] [] us vs [] more r first then = then
+wrote-then taken counts stalls (o ∷ olds) (n ∷ news) us vs (t ∷ texts) more r (inl (one, first)) then =
+    inl (one, wrote-then taken counts stalls olds news us vs texts more r first then)
+wrote-then taken counts stalls (o ∷ olds) (n ∷ news) us vs (t ∷ texts) more r (inr (failed, other)) then = let no : ⊥ = cc in absurd no
+wrote-then taken counts stalls [] (n ∷ news) us vs texts more r first then = absurd first
+wrote-then taken counts stalls (o ∷ olds) [] us vs texts more r first then = absurd first
+wrote-then taken counts stalls [] [] us vs (t ∷ texts) more r first then = absurd first
+wrote-then taken counts stalls (o ∷ olds) (n ∷ news) us vs [] more r first then = absurd first
+
+-- the k-th of a list after k others
+set-seam : {A : Type 0} (xs : List A) (y v : A) (ys : List A) → slice_set (xs ++ y ∷ ys) (length xs) v ≡ xs ++ v ∷ ys
+set-seam [] y v ys = refl
+set-seam (x ∷ xs) y v ys = ap (λ l. x ∷ l) (set-seam xs y v ys)
+
+get-seam : {A : Type 0} (xs : List A) (y d : A) (ys : List A) → slice_index_or (xs ++ y ∷ ys) (length xs) d ≡ y
+get-seam [] y d ys = refl
+get-seam (x ∷ xs) y d ys = get-seam xs y d ys
+
+seam : {A : Type 0} (now news rest : List A) (k : ℕ) (d : A) → now ≡ news ++ rest → k ≡ length news → k < length now →
+    (more : List A) × (rest ≡ slice_index_or now k d ∷ more) × ((v : A) → slice_set now k v ≡ news ++ v ∷ more)
+seam now news [] k d is place below =
+    let all : length now ≡ length news = ap length (is ∙ append-nil news) in
+    let none : ⊥ = omega (arith, all, place, below) in absurd none
+seam now news (x ∷ more) k d is place below = (
+  more,
+  ap (λ y. y ∷ more) (sym (rw (is, place) (get-seam news x d more))),
+  λ v. rw (is, place) (set-seam news x v more),
+)
+
+-- one file more
+pub so_far-more : {F : Type 0} (taken : F → Option (List ℕ)) (counts : F → FaultCounts) (stalls : F → ℕ) (start now : List F) (texts : List (List ℕ)) (k : ℕ) (d new : F) (e : List ℕ) →
+    WritesSoFar taken counts stalls start now texts k → k < length now → k < length texts →
+    WritesFile taken counts stalls (slice_index_or now k d) new (slice_index_or texts k e) (Ok tt) →
+    WritesSoFar taken counts stalls start (slice_set now k new) texts (k + 1)
+so_far-more taken counts stalls start now texts k d new e so_far below texts_below one =
+    let files = seam now so_far.news so_far.rest k d so_far.now_is so_far.place below in
+    let bytes = seam texts so_far.done so_far.more k e so_far.texts_are so_far.texts_place texts_below in
+    let old = slice_index_or now k d in
+    let text = slice_index_or texts k e in
+    record {
+      olds = so_far.olds ++ old ∷ [];
+      news = so_far.news ++ new ∷ [];
+      rest = files.0;
+      done = so_far.done ++ text ∷ [];
+      more = bytes.0;
+      start_is = so_far.start_is ∙ ap (λ l. so_far.olds ++ l) files.1 ∙ sym (append_assoc so_far.olds (old ∷ []) files.0);
+      now_is = files.2 new ∙ sym (append_assoc so_far.news (new ∷ []) files.0);
+      texts_are = so_far.texts_are ∙ ap (λ l. so_far.done ++ l) bytes.1 ∙ sym (append_assoc so_far.done (text ∷ []) bytes.0);
+      place = omega (arith, so_far.place, length-append so_far.news (new ∷ []));
+      texts_place = omega (arith, so_far.texts_place, length-append so_far.done (text ∷ []));
+      wrote = wrote-then taken counts stalls so_far.olds so_far.news (old ∷ []) (new ∷ []) so_far.done (text ∷ []) (Ok tt) so_far.wrote (inl (one, refl));
+    }
+
+-- the bytes of each file
+pub set_bytes-len : (t : Tiling) (ps : ProductSet) → length (set_bytes t ps) ≡ FILE_COUNT
+unfolding set_bytes
+set_bytes-len t ps = refl
+
+pub set_bytes-at : (t : Tiling) (ps : ProductSet) (k : ℕ) (d : SetFile) (e : List ℕ) → k < FILE_COUNT →
+    slice_index_or (set_bytes t ps) k e ≡ file_bytes t ps (slice_index_or SET_FILES k d)
+unfolding set_bytes
+set_bytes-at t ps k d e below = get_or-map (file_bytes t ps) SET_FILES k d e below
+
+-- the same of the files of a product set
+pub set_so_far-more : {F : Type 0} (taken : F → Option (List ℕ)) (counts : F → FaultCounts) (stalls : F → ℕ) (start now : List F) (t : Tiling) (ps : ProductSet) (k : ℕ) (d new : F) (e : SetFile) →
+    WritesSoFar taken counts stalls start now (set_bytes t ps) k → k < length now → k < FILE_COUNT →
+    WritesFile taken counts stalls (slice_index_or now k d) new (file_bytes t ps (slice_index_or SET_FILES k e)) (Ok tt) →
+    WritesSoFar taken counts stalls start (slice_set now k new) (set_bytes t ps) (k + 1)
+set_so_far-more taken counts stalls start now t ps k d new e so_far below texts_below one =
+    so_far-more taken counts stalls start now (set_bytes t ps) k d new [] so_far below (omega (arith, set_bytes-len t ps, texts_below)) (rw (set_bytes-at t ps k e [] texts_below) one)
+
+-- the file that ended it
+pub so_far-stop : {F : Type 0} (taken : F → Option (List ℕ)) (counts : F → FaultCounts) (stalls : F → ℕ) (start now : List F) (texts : List (List ℕ)) (k : ℕ) (d new : F) (e : List ℕ) (fault : SetFault) →
+    WritesSoFar taken counts stalls start now texts k → k < length now → k < length texts →
+    WritesFile taken counts stalls (slice_index_or now k d) new (slice_index_or texts k e) (Err fault) →
+    WritesFiles taken counts stalls start (slice_set now k new) texts (Err fault)
+so_far-stop taken counts stalls start now texts k d new e fault so_far below texts_below one =
+    let files = seam now so_far.news so_far.rest k d so_far.now_is so_far.place below in
+    let bytes = seam texts so_far.done so_far.more k e so_far.texts_are so_far.texts_place texts_below in
+    let old = slice_index_or now k d in
+    let text = slice_index_or texts k e in
+    rw (so_far.start_is ∙ ap (λ l. so_far.olds ++ l) files.1, files.2 new, so_far.texts_are ∙ ap (λ l. so_far.done ++ l) bytes.1)
+    (wrote-then taken counts stalls so_far.olds so_far.news (old ∷ files.0) (new ∷ files.0) so_far.done (text ∷ bytes.0) (Err fault) so_far.wrote (inr (refl, (one, refl))))
+
+-- the same of the files of a product set
+pub set_so_far-stop : {F : Type 0} (taken : F → Option (List ℕ)) (counts : F → FaultCounts) (stalls : F → ℕ) (start now : List F) (t : Tiling) (ps : ProductSet) (k : ℕ) (d new : F) (e : SetFile) (fault : SetFault) →
+    WritesSoFar taken counts stalls start now (set_bytes t ps) k → k < length now → k < FILE_COUNT →
+    WritesFile taken counts stalls (slice_index_or now k d) new (file_bytes t ps (slice_index_or SET_FILES k e)) (Err fault) →
+    WritesFiles taken counts stalls start (slice_set now k new) (set_bytes t ps) (Err fault)
+set_so_far-stop taken counts stalls start now t ps k d new e fault so_far below texts_below one =
+    so_far-stop taken counts stalls start now (set_bytes t ps) k d new [] fault so_far below (omega (arith, set_bytes-len t ps, texts_below)) (rw (set_bytes-at t ps k e [] texts_below) one)
+
+-- nothing is left
+no-rest : {A : Type 0} (now news rest : List A) (k : ℕ) → now ≡ news ++ rest → k ≡ length news → length now ≤ k → rest ≡ []
+no-rest now news [] k is place all = refl
+no-rest now news (x ∷ rest) k is place all =
+    let whole : length now ≡ length (news ++ x ∷ rest) = ap length is in
+    let none : ⊥ = omega (arith, whole, length-append news (x ∷ rest), place, all) in absurd none
+
+-- all files
+so_far-all : {F : Type 0} (taken : F → Option (List ℕ)) (counts : F → FaultCounts) (stalls : F → ℕ) (start now : List F) (texts : List (List ℕ)) (k : ℕ) →
+    WritesSoFar taken counts stalls start now texts k → length now ≤ k → length texts ≤ k → WritesFiles taken counts stalls start now texts (Ok tt)
+so_far-all taken counts stalls start now texts k so_far all texts_all =
+    rw (so_far.start_is ∙ ap (λ l. so_far.olds ++ l) (no-rest now so_far.news so_far.rest k so_far.now_is so_far.place all) ∙ append-nil so_far.olds,
+        so_far.now_is ∙ ap (λ l. so_far.news ++ l) (no-rest now so_far.news so_far.rest k so_far.now_is so_far.place all) ∙ append-nil so_far.news,
+        so_far.texts_are ∙ ap (λ l. so_far.done ++ l) (no-rest texts so_far.done so_far.more k so_far.texts_are so_far.texts_place texts_all) ∙ append-nil so_far.done)
+    so_far.wrote
+
+-- the same of the files of a product set
+pub set_so_far-all : {F : Type 0} (taken : F → Option (List ℕ)) (counts : F → FaultCounts) (stalls : F → ℕ) (start now : List F) (t : Tiling) (ps : ProductSet) (k : ℕ) →
+    WritesSoFar taken counts stalls start now (set_bytes t ps) k → length now ≤ k → FILE_COUNT ≤ k → WritesFiles taken counts stalls start now (set_bytes t ps) (Ok tt)
+set_so_far-all taken counts stalls start now t ps k so_far all texts_all =
+    so_far-all taken counts stalls start now (set_bytes t ps) k so_far all (omega (arith, set_bytes-len t ps, texts_all))
+
+-- a raster each of whose numbers can be spelled is written, or its file gave up
+pub numbers-failed : {F : Type 0} (taken : F → Option (List ℕ)) (counts : F → FaultCounts) (stalls : F → ℕ) (old new : F) (h : Fields) (p : Pixels) (fault : WriteFault) →
+    CanSpellAll h p → ((c : Cell) → IsErrOf {T = Unit {0}} (Err fault) (write.OutOfRange c) ↔ IsFirstOutOfRange h p c) →
+    HandsOver {T = Unit {0}} (taken old) (taken new) (Err fault) (raster_bytes h p) →
+    WriteFails (counts old) (counts new) (stalls old) (stalls new) (IsErrOf {T = Unit {0}} (Err fault) write.WriteFailed) →
+    WritesFile taken counts stalls old new (raster_bytes h p) (Err WriteFailed)
+numbers-failed taken counts stalls old new h p (write.OutOfRange c) spelled first over faults =
+    let out = (first c).0 refl in absurd (out.unspelled (spelled c out.inside))
+numbers-failed taken counts stalls old new h p write.WriteFailed spelled first over faults = record {
+  written = over;
+  faults = record {
+    failures = faults.failures;
+    interruptions = faults.interruptions;
+    stalls = faults.stalls;
+    answered = faults.answered;
+    stalled = faults.stalled;
+    exactly = ((λ e. faults.exactly.0 refl), λ gave. refl);
+  };
+}

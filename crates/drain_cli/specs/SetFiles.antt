@@ -1,0 +1,46 @@
+-- The files of a product set: their bytes, and what came of writing them one after the other.
+use Rattle.std.specs.Prelude.{◌≡◌, ℕ, ◌<◌, ◌⊎◌, List, [], ◌∷◌, length, map, take, Option, Some, Result, Ok, Err, IsErr}
+use Rattle.drain_device.specs.declared.counts.FaultCounts.{FaultCounts}
+use Rattle.drain_device.specs.Failing.{WriteFails}
+use Rattle.drain_device.specs.Writes.{HandsOver}
+use Rattle.drain_grid.specs.declared.product_set.ProductSet.{ProductSet}
+use Rattle.drain_grid.specs.Rasters.{Pixels}
+use Rattle.drain_header.specs.Fields.{Fields}
+use Rattle.drain_header.specs.Text.{text_of}
+use Rattle.drain_mosaic.specs.Tiling.{Tiling}
+use Rattle.drain_raster.specs.Bytes.{raster_bytes}
+use Rattle.drain_verdict.specs.Stages.{raster_in}
+use Rattle.drain_maker.specs.Headers.{header_of}
+use Rattle.drain_cli.specs.declared.set_files.Part.{Part}
+use Rattle.drain_cli.specs.declared.set_files.Part.TheVariants.{Header, Raster}
+use Rattle.drain_cli.specs.declared.set_files.SetFile.{SetFile}
+use Rattle.drain_cli.specs.declared.set_files.SetFault.{SetFault}
+use Rattle.drain_cli.specs.declared.set_files.SetFault.TheVariants.{WriteFailed}
+use Rattle.drain_cli.specs.declared.set_files.TheConstants.{SET_FILES}
+
+-- what a part of a product is written as
+abbrev pub part_bytes : Part → Fields → Pixels → List ℕ
+part_bytes Header h p = text_of h
+part_bytes Raster h p = raster_bytes h p
+
+-- the bytes of a file
+abbrev pub file_bytes : Tiling → ProductSet → SetFile → List ℕ
+file_bytes t ps file = part_bytes file.part (header_of t file.product) (raster_in ps file.product)
+
+-- the bytes of all files, in their order
+unfoldable pub set_bytes : Tiling → ProductSet → List (List ℕ)
+set_bytes t ps = map (file_bytes t ps) SET_FILES
+
+-- the file took its bytes, or gave up before the last of them, or nothing was written for want of memory
+pub record WritesFile {F : Type 0} (taken : F → Option (List ℕ)) (counts : F → FaultCounts) (stalls : F → ℕ) (old new : F)
+    (bytes : List ℕ) (done : Result (Unit {0}) SetFault) : Type 0 where
+  pub written : HandsOver (taken old) (taken new) done bytes
+  pub faults : WriteFails (counts old) (counts new) (stalls old) (stalls new) (done ≡ Err WriteFailed)
+
+-- the files took their bytes one after the other; the first that didn't ended it, and those behind it are as they were
+abbrev pub WritesFiles : {F : Type 0} → (F → Option (List ℕ)) → (F → FaultCounts) → (F → ℕ) → List F → List F → List (List ℕ) → Result (Unit {0}) SetFault → Type 0
+WritesFiles taken counts stalls [] [] [] done = done ≡ Ok tt
+WritesFiles taken counts stalls (old ∷ olds) (new ∷ news) (bytes ∷ more) done =
+    (WritesFile taken counts stalls old new bytes (Ok tt) × WritesFiles taken counts stalls olds news more done)
+    ⊎ (IsErr done × (WritesFile taken counts stalls old new bytes done × (news ≡ olds)))
+WritesFiles taken counts stalls olds news texts done = ⊥

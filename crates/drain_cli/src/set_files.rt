@@ -1,0 +1,140 @@
+//! The files of a product set: which they are, in which order they stand, and writing them.
+
+ghost use Rattle.std.specs.Prelude.{◌≡◌, length};
+ghost use Rattle.drain_header.specs.Text.{text_of};
+ghost use Rattle.drain_mosaic.specs.Tiling.{extent_of};
+ghost use Rattle.drain_raster.specs.Pixels as pixels;
+ghost use Rattle.drain_raster.specs.Bytes.{CanSpellAll, raster_bytes};
+ghost use Rattle.drain_verdict.specs.Stages.{raster_in};
+ghost use Rattle.drain_maker.specs.Made.{CanBeWritten};
+ghost use Rattle.drain_cli.specs.SetFiles.{WritesFile, WritesFiles, file_bytes, set_bytes};
+
+use drain_device::{ByteSink, GaveUp, Patience, write_all};
+use drain_grid::{Product, ProductSet, Raster};
+use drain_header::{Header, header_text};
+use drain_maker::product_header;
+use drain_mosaic::Layout;
+use drain_raster::write_raster;
+use std::alloc::Global;
+
+/// What of a product a file holds.
+#[derive(Clone, Copy, PartialEq, Eq, Debug)]
+pub enum Part {
+    Header,
+    Raster,
+}
+
+/// A file of a product set.
+#[derive(Clone, Copy, PartialEq, Eq, Debug)]
+pub struct SetFile {
+    pub product: Product,
+    pub part: Part,
+}
+
+/// How many files a product set has.
+pub const FILE_COUNT: usize = 12;
+
+/// The files of a product set in their order: of each product its header, and then its raster.
+pub const SET_FILES: [SetFile; FILE_COUNT] = [
+    SetFile { product: Product::Con, part: Part::Header },
+    SetFile { product: Product::Con, part: Part::Raster },
+    SetFile { product: Product::Dir, part: Part::Header },
+    SetFile { product: Product::Dir, part: Part::Raster },
+    SetFile { product: Product::Acc, part: Part::Header },
+    SetFile { product: Product::Acc, part: Part::Raster },
+    SetFile { product: Product::Bas, part: Part::Header },
+    SetFile { product: Product::Bas, part: Part::Raster },
+    SetFile { product: Product::Spl, part: Part::Header },
+    SetFile { product: Product::Spl, part: Part::Raster },
+    SetFile { product: Product::Rnk, part: Part::Header },
+    SetFile { product: Product::Rnk, part: Part::Raster },
+];
+
+/// Why not every file was written.
+#[derive(Clone, Copy, PartialEq, Eq, Debug)]
+pub enum SetFault {
+    /// A sink failed, was interrupted for the 1,000th time, or took no byte of some.
+    WriteFailed,
+    /// Memory was refused for the text of a header.
+    OutOfMemory,
+}
+
+/// Writes the files of a product set, one after the other. The first that can't be written ends it.
+pub fn write_files<F: ByteSink>(
+    alloc: Global,
+    layout: &Layout,
+    products: &ProductSet,
+    files: &mut [F],
+) -> Result<(), SetFault>
+    requires counted { length files.old ≡ FILE_COUNT }
+    requires same_shape { products.now.con.extent ≡ extent_of layout.now }
+    requires written { CanBeWritten layout.now products.now }
+    ensures { WritesFiles F.bytes_taken F.counts F.stalls files.old files.new (set_bytes layout.now products.now) result }
+{
+    for (k, file) in files.iter_mut().enumerate() {
+        write_file(alloc, layout, products, SET_FILES[k], file)?;
+    }
+    Ok(())
+}
+
+/// Writes one file.
+fn write_file<F: ByteSink>(
+    alloc: Global,
+    layout: &Layout,
+    products: &ProductSet,
+    file: SetFile,
+    to: &mut F,
+) -> Result<(), SetFault>
+    requires same_shape { products.now.con.extent ≡ extent_of layout.now }
+    requires written { CanBeWritten layout.now products.now }
+    ensures { WritesFile F.bytes_taken F.counts F.stalls to.old to.new (file_bytes layout.now products.now file) result }
+{
+    let header = product_header(layout, file.product);
+    match file.part {
+        Part::Header => write_header(alloc, &header, to),
+        Part::Raster => write_numbers(&header, raster_of(products, file.product), to),
+    }
+}
+
+/// The raster of a product.
+fn raster_of(products: &ProductSet, product: Product) -> &Raster
+    ensures { result.now ≡ raster_in products.now product }
+{
+    match product {
+        Product::Con => &products.con,
+        Product::Dir => &products.dir,
+        Product::Acc => &products.acc,
+        Product::Bas => &products.bas,
+        Product::Spl => &products.spl,
+        Product::Rnk => &products.rnk,
+    }
+}
+
+/// Writes the text of a header.
+fn write_header<F: ByteSink>(alloc: Global, header: &Header, to: &mut F) -> Result<(), SetFault>
+    ensures { WritesFile F.bytes_taken F.counts F.stalls to.old to.new (text_of header.now) result }
+{
+    let Ok(text) = header_text(alloc, header) else {
+        return Err(SetFault::OutOfMemory);
+    };
+    match write_all(to, &text, &mut Patience::new()) {
+        Ok(()) => Ok(()),
+        Err(GaveUp) => Err(SetFault::WriteFailed),
+    }
+}
+
+/// Writes the bytes of a raster, each of whose numbers a pixel can spell.
+fn write_numbers<F: ByteSink>(
+    header: &Header,
+    raster: &Raster,
+    to: &mut F,
+) -> Result<(), SetFault>
+    requires shape { raster.now.extent ≡ pixels.extent_of header.now }
+    requires written { CanSpellAll header.now raster.now }
+    ensures { WritesFile F.bytes_taken F.counts F.stalls to.old to.new (raster_bytes header.now raster.now) result }
+{
+    match write_raster(to, header, raster) {
+        Ok(()) => Ok(()),
+        Err(_) => Err(SetFault::WriteFailed),
+    }
+}

@@ -1,0 +1,74 @@
+//! The last part of a run of `drain make`: the files are written, and what came of it is printed.
+
+ghost use Rattle.std.specs.Prelude.{◌≡◌, ◌++◌, length, Result, codes, decimal};
+ghost use Rattle.drain_mosaic.specs.Tiling.{Tiling, extent_of};
+ghost use Rattle.drain_maker.specs.Made.{CanBeWritten};
+ghost use Rattle.drain_cli.specs.declared.set_files.SetFault.{SetFault};
+ghost use Rattle.drain_cli.specs.declared.set_files.TheConstants.{FILE_COUNT};
+ghost use Rattle.drain_cli.specs.Printing.{Prints};
+ghost use Rattle.drain_cli.specs.SetFiles.{WritesFiles, set_bytes};
+ghost use Rattle.drain_cli.specs.SetRuns.{written_line, written_status};
+
+use crate::print::print_line;
+use crate::set_files::{SetFault, write_files};
+use crate::status::Status;
+use drain_device::ByteSink;
+use drain_grid::{ProductSet, Shape};
+use drain_mosaic::Layout;
+use drain_verdict::line::{Line, push_number, words};
+use std::alloc::Global;
+
+/// Writes header and raster of each product, in the order of `SET_FILES`, prints `made rows=R cols=C` and answers the exit status.
+///
+/// The first file that can't be written ends it: then a part of its bytes was written, from the first on, the files behind it weren't
+/// touched, the line is `failed WriteFailed` and the status 3. Where memory is refused for a header's text the line is
+/// `failed OutOfMemory` and the status 3; so is the status where the line can't be written.
+pub fn write_set<F: ByteSink, W: ByteSink>(
+    alloc: Global,
+    layout: &Layout,
+    products: &ProductSet,
+    files: &mut [F],
+    out: &mut W,
+) -> u8
+    requires counted { length files.old ≡ FILE_COUNT }
+    requires same_shape { products.now.con.extent ≡ extent_of layout.now }
+    requires written { CanBeWritten layout.now products.now }
+    ensures run { (done : Result (Unit {0}) SetFault)
+        × WritesFiles F.bytes_taken F.counts F.stalls files.old files.new (set_bytes layout.now products.now) done
+        × Prints (W.bytes_taken out.old) (W.bytes_taken out.new) (W.counts out.old) (W.counts out.new)
+        (W.stalls out.old) (W.stalls out.new) (written_line layout.now done) (written_status done) result }
+{
+    let done = write_files(alloc, layout, products, files);
+    print_line(out, &line_of(layout.shape(), &done), status_of(&done))
+}
+
+/// The line of what came of writing products of this shape.
+fn line_of(shape: Shape, done: &Result<(), SetFault>) -> Line
+    ensures { (t : Tiling) → shape ≡ extent_of t → result.bytes ≡ written_line t done.now }
+{
+    match done {
+        Ok(()) => made_line(shape),
+        Err(SetFault::WriteFailed) => words("failed WriteFailed"),
+        Err(SetFault::OutOfMemory) => words("failed OutOfMemory"),
+    }
+}
+
+fn made_line(shape: Shape) -> Line
+    ensures { result.bytes ≡ codes "made rows=" ++ decimal shape.rows ++ codes " cols=" ++ decimal shape.cols }
+{
+    let mut line = words("made rows=");
+    push_number(&mut line, shape.rows());
+    line.push_str(" cols=");
+    push_number(&mut line, shape.cols());
+    line
+}
+
+/// The exit status of what came of writing.
+fn status_of(done: &Result<(), SetFault>) -> Status
+    ensures { result ≡ written_status done.now }
+{
+    match done {
+        Ok(()) => Status::Done,
+        Err(_) => Status::Failed,
+    }
+}
