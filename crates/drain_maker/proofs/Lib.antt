@@ -1,1 +1,2 @@
-
+mod HeaderBounds
+mod Placing
