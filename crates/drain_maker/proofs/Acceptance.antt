@@ -1,35 +1,32 @@
 -- The files of products that were made: no refusal stands of them, and they are accepted.
-use Rattle.std.proofs.Common.{◌≡◌, ℕ, ◌≤◌, ◌<◌, inl, inr, ℤ, List, Result, Ok, Err, unwrap_or, refl, sym, ap, subst, ◌∙◌, arith}
+use Rattle.std.proofs.Common.{◌≡◌, ℕ, ◌<◌, inl, inr, List, Result, Ok, Err, unwrap_or, refl, sym, ap, subst, ◌∙◌, arith}
 use Rattle.drain_grid.specs.declared.cell.Cell.{Cell}
 use Rattle.drain_grid.specs.declared.product.Product.{Product}
 use Rattle.drain_grid.specs.declared.product.Product.TheVariants.{Con, Dir, Acc, Bas, Spl, Rnk}
 use Rattle.drain_grid.specs.declared.product_set.ProductSet.{ProductSet}
 use Rattle.drain_grid.specs.Extent.{IsCellOf}
 use Rattle.drain_grid.specs.Product.{default_no_data, default_numbers}
-use Rattle.drain_grid.specs.Rasters.{Heights, Pixels}
+use Rattle.drain_grid.specs.Rasters.{Heights}
 use Rattle.drain_grid.specs.Size.{Extent}
 use Rattle.drain_grid.specs.Values.{NoDataNumbers}
 use Rattle.drain_grid.specs.Whole.{number_at}
 use Rattle.drain_grid.specs.WholeGrid as whole
 use Rattle.drain_grid.specs.PatchRules.{profile1}
 use Rattle.drain_grid.specs.GridRules.{RulesHold}
-use Rattle.drain_header.specs.declared.header.Place.{Place}
 use Rattle.drain_header.specs.Faults.{Describes}
 use Rattle.drain_header.specs.Fields.{Fields}
 use Rattle.drain_header.specs.Laws.{TextReadsBack}
-use Rattle.drain_header.specs.Text.{text_of}
 use Rattle.drain_raster.specs.Bytes.{raster_bytes}
 use Rattle.drain_raster.specs.Laws.{ReadBack, BytesReadBack}
 use Rattle.drain_raster.specs.Pixels as pixels
 use Rattle.drain_mosaic.specs.Tiling as tiling
 use Rattle.drain_rules.specs.declared.verdict.Verdict.{Verdict}
 use Rattle.drain_rules.specs.declared.verdict.Verdict.TheVariants.{Accepted, Rejected}
-use Rattle.drain_rules.specs.Verdicts.{IsVerdict, counts_of}
 use Rattle.drain_verdict.specs.declared.refusal.Refusal.{Refusal}
 use Rattle.drain_verdict.specs.declared.refusal.Refusal.TheVariants.{BadSide, BadName, NoTiles, RepeatedTile, BoxTooLarge, BadHeader, WrongShape, Misplaced, BadTileLength, RasterShort, SeamMismatch, OutOfMemory, ReadFailed}
 use Rattle.drain_verdict.specs.Inputs.{Inputs}
 use Rattle.drain_verdict.specs.Meaning.{tiling_of, grid_of, fields_of, number_of, products_of, no_data_of, no_data_numbers}
-use Rattle.drain_verdict.specs.Refusals.{Stands, IsPlaced}
+use Rattle.drain_verdict.specs.Refusals.{IsPlaced}
 use Rattle.drain_verdict.specs.Mosaics.{IsMosaicOf}
 use Rattle.drain_verdict.specs.Stages.{raster_in}
 use Rattle.drain_verdict.specs.Answers.{AreReadable, IsAnswer}
@@ -53,10 +50,10 @@ small i e named mosaic =
       near = near_by_names i.side i.names i.corners (λ k bad. mosaic.readable (BadName k) (tt, bad)) named;
     }
 
--- each header is read back, and each raster
+-- each header is read back as what was to be written, and each raster as its numbers
 pub record AreReadBack (i : Inputs) (ps : ProductSet) : Type 0 where
   pub described : (p : Product) → Describes (i.header p) (header_of (tiling_of i) p)
-  pub side : IsSmall (tiling_of i)
+  pub small : IsSmall (tiling_of i)
   pub back : (p : Product) → ReadBack (header_of (tiling_of i) p) (raster_in ps p)
   pub rasters_are : (p : Product) → i.raster p ≡ raster_bytes (header_of (tiling_of i) p) (raster_in ps p)
   pub shapes : (p : Product) → (raster_in ps p).extent ≡ tiling.extent_of (tiling_of i)
@@ -73,14 +70,14 @@ one_shape ps Rnk = ps.rnk_shape
 pub read_back : (i : Inputs) (e : Heights) (ps : ProductSet) → TextReadsBack → BytesReadBack → AreNamed i → IsMosaicOf i (tiling_of i) e →
     AreMade (tiling_of i) e ps → AreFilesOf i ps → AreReadBack i ps
 read_back i e ps text bytes named mosaic made files =
-    let few = small i e named mosaic in
+    let fits = small i e named mosaic in
     let shape = λ (p : Product). one_shape ps p ∙ made.shape ∙ mosaic.extent_is in
     record {
       described = λ p.
           subst (λ (t : List ℕ). Describes t (header_of (tiling_of i) p)) (sym (files.headers_are p))
-          (text (header_of (tiling_of i) p) (within_bounds (tiling_of i) p few));
-      side = few;
-      back = λ p. bytes (header_of (tiling_of i) p) (raster_in ps p) (within_bounds (tiling_of i) p few) (made.rasters p) (shape p) (made.written p);
+          (text (header_of (tiling_of i) p) (within_bounds (tiling_of i) p fits));
+      small = fits;
+      back = λ p. bytes (header_of (tiling_of i) p) (raster_in ps p) (within_bounds (tiling_of i) p fits) (made.rasters p) (shape p) (made.written p);
       rasters_are = files.rasters_are;
       shapes = shape;
     }
@@ -99,7 +96,7 @@ none_stands i e ps mosaic read BoxTooLarge stands = mosaic.readable BoxTooLarge 
 none_stands i e ps mosaic read (BadHeader p fault) stands = (read.described p).sound fault stands.holds
 none_stands i e ps mosaic read (WrongShape p) stands = stands (ap (λ (h : Fields). pixels.extent_of h) (sym (says i ps read p)))
 none_stands i e ps mosaic read (Misplaced p) stands =
-    stands (subst (λ (h : Fields). IsPlaced (tiling_of i) h.place) (says i ps read p) (placed (tiling_of i) read.side.side))
+    stands (subst (λ (h : Fields). IsPlaced (tiling_of i) h.place) (says i ps read p) (placed (tiling_of i) read.small.side))
 none_stands i e ps mosaic read (BadTileLength c) stands = mosaic.readable (BadTileLength c) (tt, stands)
 none_stands i e ps mosaic read (RasterShort p) stands =
     (read.back p).long (subst (λ (h : Fields). pixels.IsShort h (raster_bytes (header_of (tiling_of i) p) (raster_in ps p))) (sym (says i ps read p))

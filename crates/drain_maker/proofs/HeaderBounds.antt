@@ -1,13 +1,13 @@
 -- The header of a product is within the bounds of a header, and lies where the mosaic does.
-use Rattle.std.proofs.Common.{◌≡◌, ℕ, ◌+◌, ◌-◌, ◌*◌, ◌/◌, ◌^◌, ◌<◌, ◌≤◌, inl, inr, ℤ, pos, negsuc, neg_ℤ, nat_abs, ◌+ℤ◌, ◌-ℤ◌, ◌*ℤ◌, ◌≤ℤ◌, IfSome, Some, refl, sym, ap, subst, ◌∙◌, arith, rules}
+use Rattle.std.proofs.Common.{ℕ, ◌+◌, ◌-◌, ◌*◌, ◌/◌, ◌^◌, ◌≤◌, inl, inr, ℤ, pos, negsuc, nat_abs, ◌-ℤ◌, ◌*ℤ◌, refl, arith, rules}
 use Rattle.std.proofs.lemmas.Int.{ints}
-use Rattle.std.proofs.Math.Nat.{mul-le-mul_right, mul-le-mul_left}
+use Rattle.std.proofs.Math.Nat.{mul-le-mul_right}
 use Rattle.drain_grid.specs.declared.product.Product.{Product}
 use Rattle.drain_grid.specs.declared.product.Product.TheVariants.{Con, Dir, Acc, Bas, Spl, Rnk}
 use Rattle.drain_grid.specs.Product.{default_no_data}
 use Rattle.drain_grid.specs.Tile.{IsSide}
 use Rattle.drain_grid.specs.Values.{IsNoData}
-use Rattle.drain_header.specs.Fields.{Fields, IsPixelSize, IsCoordinate, AreWithinBounds}
+use Rattle.drain_header.specs.Fields.{IsPixelSize, IsCoordinate, AreWithinBounds}
 use Rattle.drain_mosaic.specs.Tiling.{Tiling, west_of, north_of, tiles_down, tiles_across}
 use Rattle.drain_verdict.specs.Refusals.{IsPlaced}
 use Rattle.drain_maker.specs.Headers.{bits_of, degree, header_of, place_of}

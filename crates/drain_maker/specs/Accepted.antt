@@ -1,5 +1,5 @@
 -- Products that were made for a mosaic are accepted: what the files are, and what the answer to them is.
-use Rattle.std.specs.Prelude.{◌≡◌, ℕ, List, Result, Ok, Err}
+use Rattle.std.specs.Prelude.{◌≡◌, Result, Ok, Err}
 use Rattle.std.specs.List.{AllZip}
 use Rattle.drain_grid.specs.declared.product.Product.{Product}
 use Rattle.drain_grid.specs.declared.product_set.ProductSet.{ProductSet}
