@@ -23,7 +23,7 @@ use Rattle.drain_mosaic.specs.Tiling as tiling
 use Rattle.drain_rules.specs.declared.verdict.Verdict.{Verdict}
 use Rattle.drain_rules.specs.declared.verdict.Verdict.TheVariants.{Accepted, Rejected}
 use Rattle.drain_verdict.specs.declared.refusal.Refusal.{Refusal}
-use Rattle.drain_verdict.specs.declared.refusal.Refusal.TheVariants.{BadSide, BadName, NoTiles, RepeatedTile, BoxTooLarge, BadHeader, WrongShape, Misplaced, BadTileLength, RasterShort, SeamMismatch, OutOfMemory, ReadFailed}
+use Rattle.drain_verdict.specs.declared.refusal.Refusal.TheVariants.{BadSide, BadName, BoxTooLarge, BadHeader, WrongShape, Misplaced, RasterShort, OutOfMemory, ReadFailed}
 use Rattle.drain_verdict.specs.Inputs.{Inputs}
 use Rattle.drain_verdict.specs.Meaning.{tiling_of, grid_of, fields_of, number_of, products_of, no_data_of, no_data_numbers}
 use Rattle.drain_verdict.specs.Refusals.{IsPlaced}
@@ -41,22 +41,22 @@ use Rattle.drain_maker.proofs.SameGrid.{AreSame, rules_go_along, counts_go_along
 -- a mosaic that can be read is of at most 8 by 8 tiles, and on the map
 small : (i : Inputs) (e : Heights) → AreNamed i → IsMosaicOf i (tiling_of i) e → IsSmall (tiling_of i)
 small i e named mosaic =
-    let narrow : 8 < tiling.tiles_down (tiling_of i) → ⊥ = λ more. mosaic.readable BoxTooLarge (tt, inl more) in
-    let flat : 8 < tiling.tiles_across (tiling_of i) → ⊥ = λ more. mosaic.readable BoxTooLarge (tt, inr more) in
+    let not_tall : 8 < tiling.tiles_down (tiling_of i) → ⊥ = λ more. mosaic.readable BoxTooLarge (tt, inl more) in
+    let not_wide : 8 < tiling.tiles_across (tiling_of i) → ⊥ = λ more. mosaic.readable BoxTooLarge (tt, inr more) in
     record {
       side = side_by_readable i.side (λ no. mosaic.readable BadSide (tt, no));
-      down = omega (arith, narrow);
-      across = omega (arith, flat);
+      down = omega (arith, not_tall);
+      across = omega (arith, not_wide);
       near = near_by_names i.side i.names i.corners (λ k bad. mosaic.readable (BadName k) (tt, bad)) named;
     }
 
 -- each header is read back as what was to be written, and each raster as its numbers
-pub record AreReadBack (i : Inputs) (ps : ProductSet) : Type 0 where
-  pub described : (p : Product) → Describes (i.header p) (header_of (tiling_of i) p)
-  pub small : IsSmall (tiling_of i)
-  pub back : (p : Product) → ReadBack (header_of (tiling_of i) p) (raster_in ps p)
-  pub rasters_are : (p : Product) → i.raster p ≡ raster_bytes (header_of (tiling_of i) p) (raster_in ps p)
-  pub shapes : (p : Product) → (raster_in ps p).extent ≡ tiling.extent_of (tiling_of i)
+record AreReadBack (i : Inputs) (ps : ProductSet) : Type 0 where
+  described : (p : Product) → Describes (i.header p) (header_of (tiling_of i) p)
+  small : IsSmall (tiling_of i)
+  back : (p : Product) → ReadBack (header_of (tiling_of i) p) (raster_in ps p)
+  rasters_are : (p : Product) → i.raster p ≡ raster_bytes (header_of (tiling_of i) p) (raster_in ps p)
+  shapes : (p : Product) → (raster_in ps p).extent ≡ tiling.extent_of (tiling_of i)
 
 -- all six rasters have the shape of the first
 one_shape : (ps : ProductSet) (p : Product) → (raster_in ps p).extent ≡ ps.con.extent
@@ -67,7 +67,7 @@ one_shape ps Bas = ps.bas_shape
 one_shape ps Spl = ps.spl_shape
 one_shape ps Rnk = ps.rnk_shape
 
-pub read_back : (i : Inputs) (e : Heights) (ps : ProductSet) → TextReadsBack → BytesReadBack → AreNamed i → IsMosaicOf i (tiling_of i) e →
+read_back : (i : Inputs) (e : Heights) (ps : ProductSet) → TextReadsBack → BytesReadBack → AreNamed i → IsMosaicOf i (tiling_of i) e →
     AreMade (tiling_of i) e ps → AreFilesOf i ps → AreReadBack i ps
 read_back i e ps text bytes named mosaic made files =
     let fits = small i e named mosaic in
@@ -88,22 +88,14 @@ says i ps read p = (read.described p).fields
 
 -- no refusal stands
 none_stands : (i : Inputs) (e : Heights) (ps : ProductSet) → IsMosaicOf i (tiling_of i) e → AreReadBack i ps → AreReadable i
-none_stands i e ps mosaic read BadSide stands = mosaic.readable BadSide (tt, stands)
-none_stands i e ps mosaic read (BadName k) stands = mosaic.readable (BadName k) (tt, stands)
-none_stands i e ps mosaic read NoTiles stands = mosaic.readable NoTiles (tt, stands)
-none_stands i e ps mosaic read (RepeatedTile c) stands = mosaic.readable (RepeatedTile c) (tt, stands)
-none_stands i e ps mosaic read BoxTooLarge stands = mosaic.readable BoxTooLarge (tt, stands)
 none_stands i e ps mosaic read (BadHeader p fault) stands = (read.described p).sound fault stands.holds
 none_stands i e ps mosaic read (WrongShape p) stands = stands (ap (λ (h : Fields). pixels.extent_of h) (sym (says i ps read p)))
 none_stands i e ps mosaic read (Misplaced p) stands =
     stands (subst (λ (h : Fields). IsPlaced (tiling_of i) h.place) (says i ps read p) (placed (tiling_of i) read.small.side))
-none_stands i e ps mosaic read (BadTileLength c) stands = mosaic.readable (BadTileLength c) (tt, stands)
 none_stands i e ps mosaic read (RasterShort p) stands =
     (read.back p).long (subst (λ (h : Fields). pixels.IsShort h (raster_bytes (header_of (tiling_of i) p) (raster_in ps p))) (sym (says i ps read p))
     (subst (λ (body : List ℕ). pixels.IsShort (fields_of i p) body) (read.rasters_are p) stands))
-none_stands i e ps mosaic read (SeamMismatch c) stands = mosaic.readable (SeamMismatch c) (tt, stands)
-none_stands i e ps mosaic read OutOfMemory stands = stands
-none_stands i e ps mosaic read ReadFailed stands = stands
+none_stands i e ps mosaic read refusal stands = mosaic.readable refusal (tt, stands)
 
 -- the number of a product at a cell is that of its file
 number_kept : (i : Inputs) (e : Heights) (ps : ProductSet) → IsMosaicOf i (tiling_of i) e → AreReadBack i ps → (p : Product) (c : Cell) →
@@ -157,19 +149,9 @@ answer_is i e ps mosaic made read (Ok (Accepted counts)) is =
 answer_is i e ps mosaic made read (Ok (Rejected rule row col)) is =
     let c : Cell = record { row = row; col = col } in
     is.1.fails (rules_kept i e ps mosaic made read c rule is.1.inside is.1.is_own)
-answer_is i e ps mosaic made read (Err BadSide) is = none_stands i e ps mosaic read BadSide is.holds
-answer_is i e ps mosaic made read (Err (BadName k)) is = none_stands i e ps mosaic read (BadName k) is.holds
-answer_is i e ps mosaic made read (Err NoTiles) is = none_stands i e ps mosaic read NoTiles is.holds
-answer_is i e ps mosaic made read (Err (RepeatedTile c)) is = none_stands i e ps mosaic read (RepeatedTile c) is.holds
-answer_is i e ps mosaic made read (Err BoxTooLarge) is = none_stands i e ps mosaic read BoxTooLarge is.holds
-answer_is i e ps mosaic made read (Err (BadHeader p fault)) is = none_stands i e ps mosaic read (BadHeader p fault) is.holds
-answer_is i e ps mosaic made read (Err (WrongShape p)) is = none_stands i e ps mosaic read (WrongShape p) is.holds
-answer_is i e ps mosaic made read (Err (Misplaced p)) is = none_stands i e ps mosaic read (Misplaced p) is.holds
-answer_is i e ps mosaic made read (Err (BadTileLength c)) is = none_stands i e ps mosaic read (BadTileLength c) is.holds
-answer_is i e ps mosaic made read (Err (RasterShort p)) is = none_stands i e ps mosaic read (RasterShort p) is.holds
-answer_is i e ps mosaic made read (Err (SeamMismatch c)) is = none_stands i e ps mosaic read (SeamMismatch c) is.holds
 answer_is i e ps mosaic made read (Err OutOfMemory) is = tt
 answer_is i e ps mosaic made read (Err ReadFailed) is = tt
+answer_is i e ps mosaic made read (Err refusal) is = none_stands i e ps mosaic read refusal is.holds
 
 pub made_is_accepted : TextReadsBack → BytesReadBack → MadeIsAccepted
 made_is_accepted text bytes i e ps named mosaic made files =

@@ -79,7 +79,7 @@ near_past limit (pos n) h = omega (arith, ints, h.high)
 near_past limit (negsuc zero) h = omega (arith, ints, h.low)
 near_past limit (negsuc (suc n)) h = omega (arith, ints, h.low)
 
-pub is_near : (side : ℕ) (names : List (List ℕ)) (corners : List Corner) → AllZip Names names corners → IsNear (record { side = side; corners = corners })
+is_near : (side : ℕ) (names : List (List ℕ)) (corners : List Corner) → AllZip Names names corners → IsNear (record { side = side; corners = corners })
 is_near side names corners named =
     let each = all_on_map names corners named in
     record {
@@ -99,7 +99,7 @@ none_bad (name ∷ names) none not_named =
           (λ rest. not_named (All-cons (λ name. (c : Corner) × Names name c) name names (c, named) rest));
     })
 
--- a number that is not shown to be greater is at most so much
+-- what can't fail to be at most so much is at most so much
 stays : (a b : ℕ) → ¬ ¬ (a ≤ b) → a ≤ b
 stays a b holds = elim (dec_lt b a) [ yes more ↦ absurd (holds (λ less. omega arith)) | no less ↦ omega arith ]
 
@@ -111,5 +111,6 @@ near_by_names side names corners none named = record {
   north = stays _ 90 (λ far. none_bad names none (λ each. far (is_near side names corners (named each)).north));
 }
 
+-- a side that can't fail to be lawful is lawful
 pub side_by_readable : (side : ℕ) → ¬ ¬ IsSide side → IsSide side
 side_by_readable side holds = record { least = stays 2 side (λ no. holds (λ is. no is.least)); most = stays side 3601 (λ no. holds (λ is. no is.most)) }
