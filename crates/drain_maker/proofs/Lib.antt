@@ -1,0 +1,5 @@
+mod Acceptance
+mod FileNumbers
+mod HeaderBounds
+mod Placing
+mod SameGrid

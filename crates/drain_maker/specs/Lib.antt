@@ -1,2 +1,3 @@
 pub mod Headers
 pub mod Made
+pub mod Accepted

@@ -4,6 +4,7 @@
 #![tactic(auto)]
 
 mod header;
+pub mod laws;
 mod maker;
 
 pub use header::product_header;

@@ -1,0 +1,158 @@
+-- The files of products that were made: no refusal stands of them, and they are accepted.
+use Rattle.std.proofs.Common.{◌≡◌, ℕ, ◌<◌, inl, inr, List, Result, Ok, Err, unwrap_or, refl, sym, ap, subst, ◌∙◌, arith}
+use Rattle.drain_grid.specs.declared.cell.Cell.{Cell}
+use Rattle.drain_grid.specs.declared.product.Product.{Product}
+use Rattle.drain_grid.specs.declared.product.Product.TheVariants.{Con, Dir, Acc, Bas, Spl, Rnk}
+use Rattle.drain_grid.specs.declared.product_set.ProductSet.{ProductSet}
+use Rattle.drain_grid.specs.Extent.{IsCellOf}
+use Rattle.drain_grid.specs.Product.{default_no_data, default_numbers}
+use Rattle.drain_grid.specs.Rasters.{Heights}
+use Rattle.drain_grid.specs.Size.{Extent}
+use Rattle.drain_grid.specs.Values.{NoDataNumbers}
+use Rattle.drain_grid.specs.Whole.{number_at}
+use Rattle.drain_grid.specs.WholeGrid as whole
+use Rattle.drain_grid.specs.PatchRules.{profile1}
+use Rattle.drain_grid.specs.GridRules.{RulesHold}
+use Rattle.drain_header.specs.Faults.{Describes}
+use Rattle.drain_header.specs.Fields.{Fields}
+use Rattle.drain_header.specs.Laws.{TextReadsBack}
+use Rattle.drain_raster.specs.Bytes.{raster_bytes}
+use Rattle.drain_raster.specs.Laws.{ReadBack, BytesReadBack}
+use Rattle.drain_raster.specs.Pixels as pixels
+use Rattle.drain_mosaic.specs.Tiling as tiling
+use Rattle.drain_rules.specs.declared.verdict.Verdict.{Verdict}
+use Rattle.drain_rules.specs.declared.verdict.Verdict.TheVariants.{Accepted, Rejected}
+use Rattle.drain_verdict.specs.declared.refusal.Refusal.{Refusal}
+use Rattle.drain_verdict.specs.declared.refusal.Refusal.TheVariants.{BadSide, BadName, BoxTooLarge, BadHeader, WrongShape, Misplaced, RasterShort, OutOfMemory, ReadFailed}
+use Rattle.drain_verdict.specs.Inputs.{Inputs}
+use Rattle.drain_verdict.specs.Meaning.{tiling_of, grid_of, fields_of, number_of, products_of, no_data_of, no_data_numbers}
+use Rattle.drain_verdict.specs.Refusals.{IsPlaced}
+use Rattle.drain_verdict.specs.Mosaics.{IsMosaicOf}
+use Rattle.drain_verdict.specs.Stages.{raster_in}
+use Rattle.drain_verdict.specs.Answers.{AreReadable, IsAnswer}
+use Rattle.drain_maker.specs.Headers.{header_of}
+use Rattle.drain_maker.specs.Made.{AreMade}
+use Rattle.drain_maker.specs.Accepted.{AreNamed, AreFilesOf, IsAcceptance, MadeIsAccepted}
+use Rattle.drain_maker.proofs.Placing.{near_by_names, side_by_readable}
+use Rattle.drain_maker.proofs.HeaderBounds.{IsSmall, within_bounds, placed}
+use Rattle.drain_maker.proofs.FileNumbers.{number_in_bytes}
+use Rattle.drain_maker.proofs.SameGrid.{AreSame, rules_go_along, counts_go_along}
+
+-- a mosaic that can be read is of at most 8 by 8 tiles, and on the map
+small : (i : Inputs) (e : Heights) → AreNamed i → IsMosaicOf i (tiling_of i) e → IsSmall (tiling_of i)
+small i e named mosaic =
+    let not_tall : 8 < tiling.tiles_down (tiling_of i) → ⊥ = λ more. mosaic.readable BoxTooLarge (tt, inl more) in
+    let not_wide : 8 < tiling.tiles_across (tiling_of i) → ⊥ = λ more. mosaic.readable BoxTooLarge (tt, inr more) in
+    record {
+      side = side_by_readable i.side (λ no. mosaic.readable BadSide (tt, no));
+      down = omega (arith, not_tall);
+      across = omega (arith, not_wide);
+      near = near_by_names i.side i.names i.corners (λ k bad. mosaic.readable (BadName k) (tt, bad)) named;
+    }
+
+-- each header is read back as what was to be written, and each raster as its numbers
+record AreReadBack (i : Inputs) (ps : ProductSet) : Type 0 where
+  described : (p : Product) → Describes (i.header p) (header_of (tiling_of i) p)
+  small : IsSmall (tiling_of i)
+  back : (p : Product) → ReadBack (header_of (tiling_of i) p) (raster_in ps p)
+  rasters_are : (p : Product) → i.raster p ≡ raster_bytes (header_of (tiling_of i) p) (raster_in ps p)
+  shapes : (p : Product) → (raster_in ps p).extent ≡ tiling.extent_of (tiling_of i)
+
+-- all six rasters have the shape of the first
+one_shape : (ps : ProductSet) (p : Product) → (raster_in ps p).extent ≡ ps.con.extent
+one_shape ps Con = refl
+one_shape ps Dir = ps.dir_shape
+one_shape ps Acc = ps.acc_shape
+one_shape ps Bas = ps.bas_shape
+one_shape ps Spl = ps.spl_shape
+one_shape ps Rnk = ps.rnk_shape
+
+read_back : (i : Inputs) (e : Heights) (ps : ProductSet) → TextReadsBack → BytesReadBack → AreNamed i → IsMosaicOf i (tiling_of i) e →
+    AreMade (tiling_of i) e ps → AreFilesOf i ps → AreReadBack i ps
+read_back i e ps text bytes named mosaic made files =
+    let fits = small i e named mosaic in
+    let shape = λ (p : Product). one_shape ps p ∙ made.shape ∙ mosaic.extent_is in
+    record {
+      described = λ p.
+          subst (λ (t : List ℕ). Describes t (header_of (tiling_of i) p)) (sym (files.headers_are p))
+          (text (header_of (tiling_of i) p) (within_bounds (tiling_of i) p fits));
+      small = fits;
+      back = λ p. bytes (header_of (tiling_of i) p) (raster_in ps p) (within_bounds (tiling_of i) p fits) (made.rasters p) (shape p) (made.written p);
+      rasters_are = files.rasters_are;
+      shapes = shape;
+    }
+
+-- what a header says is what was to be written
+says : (i : Inputs) (ps : ProductSet) → AreReadBack i ps → (p : Product) → header_of (tiling_of i) p ≡ fields_of i p
+says i ps read p = (read.described p).fields
+
+-- no refusal stands
+none_stands : (i : Inputs) (e : Heights) (ps : ProductSet) → IsMosaicOf i (tiling_of i) e → AreReadBack i ps → AreReadable i
+none_stands i e ps mosaic read (BadHeader p fault) stands = (read.described p).sound fault stands.holds
+none_stands i e ps mosaic read (WrongShape p) stands = stands (ap (λ (h : Fields). pixels.extent_of h) (sym (says i ps read p)))
+none_stands i e ps mosaic read (Misplaced p) stands =
+    stands (subst (λ (h : Fields). IsPlaced (tiling_of i) h.place) (says i ps read p) (placed (tiling_of i) read.small.side))
+none_stands i e ps mosaic read (RasterShort p) stands =
+    (read.back p).long (subst (λ (h : Fields). pixels.IsShort h (raster_bytes (header_of (tiling_of i) p) (raster_in ps p))) (sym (says i ps read p))
+    (subst (λ (body : List ℕ). pixels.IsShort (fields_of i p) body) (read.rasters_are p) stands))
+none_stands i e ps mosaic read refusal stands = mosaic.readable refusal (tt, stands)
+
+-- the number of a product at a cell is that of its file
+number_kept : (i : Inputs) (e : Heights) (ps : ProductSet) → IsMosaicOf i (tiling_of i) e → AreReadBack i ps → (p : Product) (c : Cell) →
+    IsCellOf e.extent c → number_at (raster_in ps p) c ≡ number_of i p c
+number_kept i e ps mosaic read p c inside =
+    number_in_bytes (header_of (tiling_of i) p) (raster_in ps p) c (read.shapes p) (read.back p)
+    (subst (λ (x : Extent). IsCellOf x c) mosaic.extent_is inside)
+    ∙ ap (λ (h : Fields). pixels.pixel_at h (raster_bytes (header_of (tiling_of i) p) (raster_in ps p)) c) (says i ps read p)
+    ∙ ap (λ (body : List ℕ). pixels.pixel_at (fields_of i p) body c) (sym (read.rasters_are p))
+
+-- the grid and the products are those of the files
+same_grid : (i : Inputs) (e : Heights) (ps : ProductSet) → IsMosaicOf i (tiling_of i) e → AreReadBack i ps →
+    AreSame (whole.grid_of e) (grid_of i) (whole.products_of ps) (products_of i)
+same_grid i e ps mosaic read = record {
+  extent = mosaic.extent_is;
+  elevation = mosaic.elevation_is;
+  con = number_kept i e ps mosaic read Con;
+  dir = number_kept i e ps mosaic read Dir;
+  acc = number_kept i e ps mosaic read Acc;
+  bas = number_kept i e ps mosaic read Bas;
+  spl = number_kept i e ps mosaic read Spl;
+  rnk = number_kept i e ps mosaic read Rnk;
+}
+
+-- the no-data numbers are the defaults
+default_said : (i : Inputs) (ps : ProductSet) → AreReadBack i ps → (p : Product) → default_no_data p ≡ no_data_of i p
+default_said i ps read p = ap (λ (h : Fields). unwrap_or h.nodata (default_no_data p)) (says i ps read p)
+
+defaults_said : (i : Inputs) (ps : ProductSet) → AreReadBack i ps → default_numbers ≡ no_data_numbers i
+defaults_said i ps read = λ k. record {
+  con = default_said i ps read Con k;
+  dir = default_said i ps read Dir k;
+  acc = default_said i ps read Acc k;
+  bas = default_said i ps read Bas k;
+  spl = default_said i ps read Spl k;
+  rnk = default_said i ps read Rnk k;
+}
+
+-- so the rules hold of the files
+rules_kept : (i : Inputs) (e : Heights) (ps : ProductSet) → IsMosaicOf i (tiling_of i) e → AreMade (tiling_of i) e ps → AreReadBack i ps →
+    RulesHold (profile1 (no_data_numbers i)) 1 15 (grid_of i) (products_of i)
+rules_kept i e ps mosaic made read =
+    subst (λ (n : NoDataNumbers). RulesHold (profile1 n) 1 15 (grid_of i) (products_of i)) (defaults_said i ps read)
+    (rules_go_along default_numbers (whole.grid_of e) (grid_of i) (whole.products_of ps) (products_of i) (same_grid i e ps mosaic read) made.rules)
+
+-- and the answer is an acceptance
+answer_is : (i : Inputs) (e : Heights) (ps : ProductSet) → IsMosaicOf i (tiling_of i) e → AreMade (tiling_of i) e ps → AreReadBack i ps →
+    (answer : Result Verdict Refusal) → IsAnswer i answer → IsAcceptance (whole.grid_of e) (whole.products_of ps) answer
+answer_is i e ps mosaic made read (Ok (Accepted counts)) is =
+    is.1.1 ∙ sym (counts_go_along (whole.grid_of e) (grid_of i) (whole.products_of ps) (products_of i) (same_grid i e ps mosaic read))
+answer_is i e ps mosaic made read (Ok (Rejected rule row col)) is =
+    let c : Cell = record { row = row; col = col } in
+    is.1.fails (rules_kept i e ps mosaic made read c rule is.1.inside is.1.is_own)
+answer_is i e ps mosaic made read (Err OutOfMemory) is = tt
+answer_is i e ps mosaic made read (Err ReadFailed) is = tt
+answer_is i e ps mosaic made read (Err refusal) is = none_stands i e ps mosaic read refusal is.holds
+
+pub made_is_accepted : TextReadsBack → BytesReadBack → MadeIsAccepted
+made_is_accepted text bytes i e ps named mosaic made files =
+    answer_is i e ps mosaic made (read_back i e ps text bytes named mosaic made files)

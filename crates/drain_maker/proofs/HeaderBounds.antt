@@ -1,0 +1,100 @@
+-- The header of a product is within the bounds of a header, and lies where the mosaic does.
+use Rattle.std.proofs.Common.{ℕ, ◌+◌, ◌-◌, ◌*◌, ◌/◌, ◌^◌, ◌≤◌, inl, inr, ℤ, pos, negsuc, nat_abs, ◌-ℤ◌, ◌*ℤ◌, refl, arith, rules}
+use Rattle.std.proofs.lemmas.Int.{ints}
+use Rattle.std.proofs.Math.Nat.{mul-le-mul_right}
+use Rattle.drain_grid.specs.declared.product.Product.{Product}
+use Rattle.drain_grid.specs.declared.product.Product.TheVariants.{Con, Dir, Acc, Bas, Spl, Rnk}
+use Rattle.drain_grid.specs.Product.{default_no_data}
+use Rattle.drain_grid.specs.Tile.{IsSide}
+use Rattle.drain_grid.specs.Values.{IsNoData}
+use Rattle.drain_header.specs.Fields.{IsPixelSize, IsCoordinate, AreWithinBounds}
+use Rattle.drain_mosaic.specs.Tiling.{Tiling, west_of, north_of, tiles_down, tiles_across}
+use Rattle.drain_verdict.specs.Refusals.{IsPlaced}
+use Rattle.drain_maker.specs.Headers.{bits_of, degree, header_of, place_of}
+use Rattle.drain_maker.proofs.Placing.{IsNear, spacing, no_way}
+
+-- a tiling of at most 8 by 8 tiles of a lawful side, whose edges are degrees
+pub record IsSmall (t : Tiling) : Type 0 where
+  pub side : IsSide t.side
+  pub down : tiles_down t ≤ 8
+  pub across : tiles_across t ≤ 8
+  pub near : IsNear t
+
+-- 8 tiles of 3601 samples have at most 28801 of them
+length_fits : (n side : ℕ) → n ≤ 8 → side ≤ 3601 → n * (side - 1) + 1 ≤ 28801
+length_fits n side few small =
+    let wide : n * (side - 1) ≤ 8 * (side - 1) = mul-le-mul_right (side - 1) few in
+    omega (arith, wide)
+
+size_ok : (p : Product) → IsPixelSize (bits_of p)
+size_ok Con = inr (inl refl)
+size_ok Dir = inl refl
+size_ok Acc = inr (inr refl)
+size_ok Bas = inr (inr refl)
+size_ok Spl = inl refl
+size_ok Rnk = inr (inr refl)
+
+no_data_ok : (p : Product) → IsNoData (default_no_data p)
+no_data_ok Con = record { low = search rules; high = search rules }
+no_data_ok Dir = record { low = search rules; high = search rules }
+no_data_ok Acc = record { low = search rules; high = search rules }
+no_data_ok Bas = record { low = search rules; high = search rules }
+no_data_ok Spl = record { low = search rules; high = search rules }
+no_data_ok Rnk = record { low = search rules; high = search rules }
+
+-- rows without padding hold their pixels, and aren't too long for a header
+row_holds : (p : Product) (cols : ℕ) → cols * bits_of p / 8 ≤ cols * (bits_of p / 8)
+row_holds Con cols = omega arith
+row_holds Dir cols = omega arith
+row_holds Acc cols = omega arith
+row_holds Bas cols = omega arith
+row_holds Spl cols = omega arith
+row_holds Rnk cols = omega arith
+
+row_fits : (p : Product) (cols : ℕ) → cols ≤ 28801 → cols * (bits_of p / 8) ≤ 4294967295
+row_fits Con cols few = omega arith
+row_fits Dir cols few = omega arith
+row_fits Acc cols few = omega arith
+row_fits Bas cols few = omega arith
+row_fits Spl cols few = omega arith
+row_fits Rnk cols few = omega arith
+
+-- degrees are coordinates, and so is a spacing
+degrees_ok : (z : ℤ) → nat_abs z ≤ 180 → IsCoordinate (z *ℤ pos degree)
+degrees_ok (pos n) near = record { low = omega (arith, ints); high = omega (arith, ints) }
+degrees_ok (negsuc n) near = record { low = omega (arith, ints); high = omega (arith, ints) }
+
+spacing_ok : (n : ℕ) → 1 ≤ n → IsCoordinate (pos (degree / n))
+spacing_ok n some = record { low = omega (arith, ints); high = omega (arith, ints) }
+
+pub within_bounds : (t : Tiling) (p : Product) → IsSmall t → AreWithinBounds (header_of t p)
+within_bounds t p small =
+    let side : IsSide t.side = small.side in
+    let wide : tiles_across t * (t.side - 1) + 1 ≤ 28801 = length_fits (tiles_across t) t.side small.across side.most in
+    record {
+      some_row = omega arith;
+      rows_fit = length_fits (tiles_down t) t.side small.down side.most;
+      some_col = omega arith;
+      cols_fit = wide;
+      bits_ok = ∣ size_ok p ∣₁;
+      skip_fits = omega arith;
+      row_bytes_fit = row_fits p (tiles_across t * (t.side - 1) + 1) wide;
+      row_holds = row_holds p (tiles_across t * (t.side - 1) + 1);
+      ulx_ok = degrees_ok (west_of t) small.near.west;
+      uly_ok = degrees_ok (north_of t) (omega (arith, small.near.north));
+      xdim_ok = spacing_ok (t.side - 1) (omega (arith, side.least));
+      ydim_ok = spacing_ok (t.side - 1) (omega (arith, side.least));
+      nodata_ok = ∣ no_data_ok p ∣₁;
+    }
+
+-- the spacing is within a billionth of a degree of that of the samples
+spaced : (n : ℕ) → 1 ≤ n → nat_abs (pos (degree / n) *ℤ pos n -ℤ pos (10 ^ 15)) ≤ 10 ^ 6 * n
+spaced n some = let h = spacing degree n some in omega (arith, h)
+
+pub placed : (t : Tiling) → IsSide t.side → IsPlaced t (place_of t)
+placed t side = record {
+  ulx = no_way (10 ^ 9) (west_of t *ℤ pos degree);
+  uly = no_way (10 ^ 9) (north_of t *ℤ pos degree);
+  xdim = spaced (t.side - 1) (omega (arith, side.least));
+  ydim = spaced (t.side - 1) (omega (arith, side.least));
+}

@@ -1,0 +1,46 @@
+-- Products that were made for a mosaic are accepted: what the files are, and what the answer to them is.
+use Rattle.std.specs.Prelude.{◌≡◌, Result, Ok, Err}
+use Rattle.std.specs.List.{AllZip}
+use Rattle.drain_grid.specs.declared.product.Product.{Product}
+use Rattle.drain_grid.specs.declared.product_set.ProductSet.{ProductSet}
+use Rattle.drain_grid.specs.Grid.{Grid, Products}
+use Rattle.drain_grid.specs.Rasters.{Heights}
+use Rattle.drain_grid.specs.WholeGrid.{grid_of, products_of}
+use Rattle.drain_hgt.specs.Name.{Names}
+use Rattle.drain_header.specs.Text.{text_of}
+use Rattle.drain_raster.specs.Bytes.{raster_bytes}
+use Rattle.drain_rules.specs.declared.verdict.Verdict.{Verdict}
+use Rattle.drain_rules.specs.declared.verdict.Verdict.TheVariants.{Accepted, Rejected}
+use Rattle.drain_rules.specs.Verdicts.{counts_of}
+use Rattle.drain_verdict.specs.declared.refusal.Refusal.{Refusal}
+use Rattle.drain_verdict.specs.declared.refusal.Refusal.TheVariants.{OutOfMemory, ReadFailed}
+use Rattle.drain_verdict.specs.Inputs.{Inputs, AreNames}
+use Rattle.drain_verdict.specs.Meaning.{tiling_of}
+use Rattle.drain_verdict.specs.Mosaics.{IsMosaicOf}
+use Rattle.drain_verdict.specs.Stages.{raster_in}
+use Rattle.drain_verdict.specs.Answers.{IsAnswer}
+use Rattle.drain_maker.specs.Headers.{header_of}
+use Rattle.drain_maker.specs.Made.{AreMade}
+
+-- where each name names a tile, the corners are those of the tiles that are named
+abbrev pub AreNamed : Inputs → Type 0
+AreNamed i = AreNames i.names → AllZip Names i.names i.corners
+
+-- the products of these inputs are the files of these rasters: the text of each product's header, and the bytes of its raster
+pub record AreFilesOf (i : Inputs) (ps : ProductSet) : Type 0 where
+  pub headers_are : (p : Product) → i.header p ≡ text_of (header_of (tiling_of i) p)
+  pub rasters_are : (p : Product) → i.raster p ≡ raster_bytes (header_of (tiling_of i) p) (raster_in ps p)
+
+-- accepted with the counts of these products; only want of memory or a failed read keep that answer back
+abbrev pub IsAcceptance : Grid → Products → Result Verdict Refusal → Type 0
+IsAcceptance g ps (Ok (Accepted counts)) = counts ≡ counts_of g ps
+IsAcceptance g ps (Ok (Rejected rule row col)) = ⊥
+IsAcceptance g ps (Err OutOfMemory) = Unit {0}
+IsAcceptance g ps (Err ReadFailed) = Unit {0}
+IsAcceptance g ps (Err refusal) = ⊥
+
+-- products that were made for a mosaic are accepted with its tiles
+abbrev pub MadeIsAccepted : Type 0
+MadeIsAccepted =
+    (i : Inputs) (e : Heights) (ps : ProductSet) → AreNamed i → IsMosaicOf i (tiling_of i) e → AreMade (tiling_of i) e ps → AreFilesOf i ps →
+    (answer : Result Verdict Refusal) → IsAnswer i answer → IsAcceptance (grid_of e) (products_of ps) answer

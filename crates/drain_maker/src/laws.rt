@@ -1,0 +1,16 @@
+//! What the definitions of this crate say together.
+//!
+//! A law is a function with nothing to do but to have other laws at hand: its contract is the law, and a caller that calls it has it at hand.
+
+ghost use Rattle.drain_maker.specs.Accepted.{MadeIsAccepted};
+
+use drain_header::laws::text_reads_back;
+use drain_raster::laws::bytes_read_back;
+
+/// Products that were made for a mosaic's elevations, written to files and checked with the same tiles, are accepted.
+pub fn made_is_accepted()
+    ensures { MadeIsAccepted }
+{
+    text_reads_back();
+    bytes_read_back();
+}
