@@ -21,7 +21,7 @@ use Rattle.drain_verdict.specs.Meaning.{tiling_of, tiles_of, grid_of}
 use Rattle.drain_verdict.specs.Refusals.{Stands, NoneStandsBefore, place_of, place_among}
 use Rattle.drain_verdict.specs.Answers.{IsRefusal}
 use Rattle.drain_verdict.specs.Stages.{IsLayoutOf, IsLayoutRefusal, IsTileRefusal, AreSamplesOf, IsElevationOf, IsSeamRefusal}
-use Rattle.drain_verdict.specs.Mosaics.{TellTiles, StandsOfTiles, IsMosaicOf, IsMosaicRefusal}
+use Rattle.drain_verdict.specs.Mosaics.{TellTiles, IsOfTiles, StandsOfTiles, IsMosaicOf, IsMosaicRefusal}
 use Rattle.drain_verdict.proofs.Order.{at_header, at_tile, at_raster, at_seam, none_more, first_of}
 use Rattle.drain_verdict.proofs.LayoutAnswers.{layout_is, layout_none, layout_refused}
 use Rattle.drain_verdict.proofs.StartAnswers.{told_of_inputs}
@@ -56,21 +56,25 @@ past_seams i agree none =
     at_last before ReadFailed stands = stands.1
     at_last before b stands = before b (omega arith) stands
 
--- a refusal of side or names is the first of the tiles', as it is the first of all
-of_all : (i : Inputs) (side : ℕ) (names : List (List ℕ)) (refusal : Refusal) → IsLayoutRefusal side names refusal → IsRefusal i refusal → IsMosaicRefusal i refusal
-of_all i side names BadSide bad first = record { holds = (tt, first.holds); first = λ b before stands. first.first b before stands.1 }
-of_all i side names (BadName k) bad first = record { holds = (tt, first.holds); first = λ b before stands. first.first b before stands.1 }
-of_all i side names NoTiles bad first = record { holds = (tt, first.holds); first = λ b before stands. first.first b before stands.1 }
-of_all i side names (RepeatedTile c) bad first = record { holds = (tt, first.holds); first = λ b before stands. first.first b before stands.1 }
-of_all i side names BoxTooLarge bad first = record { holds = (tt, first.holds); first = λ b before stands. first.first b before stands.1 }
-of_all i side names OutOfMemory bad first = tt
-of_all i side names refusal bad first = absurd bad
+-- a refusal of the tiles is the first of theirs where it is the first of all
+first_of_theirs : (i : Inputs) (refusal : Refusal) → IsOfTiles refusal → IsFirst (place_of i) (Stands i) refusal → IsFirst (place_of i) (StandsOfTiles i) refusal
+first_of_theirs i refusal theirs first = record { holds = (theirs, first.holds); first = λ b before stands. first.first b before stands.1 }
+
+-- so is that of side or names
+layout_theirs : (i : Inputs) (side : ℕ) (names : List (List ℕ)) (refusal : Refusal) → IsLayoutRefusal side names refusal → IsRefusal i refusal → IsMosaicRefusal i refusal
+layout_theirs i side names OutOfMemory bad first = tt
+layout_theirs i side names BadSide bad first = first_of_theirs i BadSide tt first
+layout_theirs i side names (BadName k) bad first = first_of_theirs i (BadName k) tt first
+layout_theirs i side names NoTiles bad first = first_of_theirs i NoTiles tt first
+layout_theirs i side names (RepeatedTile c) bad first = first_of_theirs i (RepeatedTile c) tt first
+layout_theirs i side names BoxTooLarge bad first = first_of_theirs i BoxTooLarge tt first
+layout_theirs i side names refusal bad first = absurd bad
 
 -- the refusal of the layout is that of the mosaic
 pub layout_told : OneName → {R : Type 0} (bytes_left : R → Option (List ℕ)) (side : ℕ) (tiles : List (TileInput R)) (i : Inputs) (refusal : Refusal) →
     TellTiles bytes_left side tiles i → IsLayoutRefusal side (names_of tiles) refusal → IsMosaicRefusal i refusal
 layout_told one bytes_left side tiles i refusal tell bad =
-    of_all i side (names_of tiles) refusal bad
+    layout_theirs i side (names_of tiles) refusal bad
     (layout_refused one i tell.corners_are refusal (told_of_inputs (λ side names. IsLayoutRefusal side names refusal) i side (names_of tiles) tell.side_is tell.names_are bad))
 
 -- the layout is that of the inputs, and nothing of the tiles stands before their lengths
