@@ -8,7 +8,7 @@ use Rattle.drain_header.specs.declared.fault.HeaderFault.{HeaderFault}
 use Rattle.drain_verdict.specs.declared.refusal.Refusal.{Refusal}
 use Rattle.drain_verdict.specs.declared.refusal.Refusal.TheVariants.{BadSide, BadName, NoTiles, RepeatedTile, BoxTooLarge, BadHeader, WrongShape, Misplaced, BadTileLength, RasterShort, SeamMismatch, OutOfMemory, ReadFailed}
 use Rattle.drain_verdict.specs.Inputs.{Inputs}
-use Rattle.drain_verdict.specs.Refusals.{Stands, place_of, NoneStandsBefore}
+use Rattle.drain_verdict.specs.Refusals.{place_of, NoneStandsBefore}
 use Rattle.drain_verdict.specs.Answers.{AreReadable}
 
 -- a statement holds of every refusal of a kind where it holds of each that has the kind

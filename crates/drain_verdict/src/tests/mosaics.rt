@@ -110,6 +110,9 @@ fn tells_a_failed_source(rt: HostRuntime) -> Result<(), Fail> {
         script: &script,
     };
     let mut tiles = slow_tiles(alloc, &bytes, faulty)?;
-    assert_eq!(rt; refused(alloc, 2, &mut tiles)?.as_str(), "failed ReadFailed");
+    assert_eq!(rt;
+        refused(alloc, 2, &mut tiles)?.as_str(),
+        "failed ReadFailed"
+    );
     Ok(())
 }
