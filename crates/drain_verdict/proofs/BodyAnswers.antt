@@ -16,9 +16,9 @@ use Rattle.drain_verdict.specs.declared.refusal.Refusal.{Refusal}
 use Rattle.drain_verdict.specs.declared.refusal.Refusal.TheVariants.{RepeatedTile, BadTileLength, RasterShort, SeamMismatch, OutOfMemory, ReadFailed}
 use Rattle.drain_verdict.specs.Inputs.{Inputs}
 use Rattle.drain_verdict.specs.Meaning.{tiling_of, tiles_of, fields_of}
-use Rattle.drain_verdict.specs.Refusals.{Stands, NoneStandsBefore, place_of, place_among, rank_of}
+use Rattle.drain_verdict.specs.Refusals.{HasBadLength, IsSeamFault, Stands, NoneStandsBefore, place_of, place_among, rank_of}
 use Rattle.drain_verdict.specs.Answers.{IsRefusal, AreReadable}
-use Rattle.drain_verdict.specs.Stages.{IsTileRefusal, IsRasterRefusal, header_for}
+use Rattle.drain_verdict.specs.Stages.{IsFirstBadLength, IsTileRefusal, IsRasterRefusal, header_for}
 use Rattle.drain_verdict.proofs.Order.{at_tile, at_raster, at_seam, none_more, readable, first_of}
 use Rattle.drain_verdict.proofs.Places.{place_of_tile, earlier_by_index}
 
@@ -26,46 +26,62 @@ use Rattle.drain_verdict.proofs.Places.{place_of_tile, earlier_by_index}
 length_at : (side : ℕ) (bodies : List (List ℕ)) (k : ℕ) (body : List ℕ) → All (IsTile side) bodies → slice_get bodies k ≡ Some body → IsTile side body
 length_at side bodies k body all at = subst (IsTile side) (get_or_from_slice_get bodies k body body at) (all k body (slice_get_within bodies k body at))
 
+-- where all have the length of tiles, none has another
+pub none_of_another_length : (i : Inputs) → All (IsTile i.side) i.tiles → (c : Corner) → ¬ HasBadLength i c
+none_of_another_length i all c bad = bad.length_is_not (length_at i.side i.tiles bad.place bad.body all bad.body_is)
+
 pub tiles_none : (i : Inputs) → All (IsTile i.side) i.tiles → NoneStandsBefore i 5 → NoneStandsBefore i 6
-tiles_none i all none =
-    none_more i 5 none (at_tile i (λ b. ¬ Stands i b) (λ c bad. bad.length_is_not (length_at i.side i.tiles bad.place bad.body all bad.body_is)))
+tiles_none i all none = none_more i (Stands i) 5 none (at_tile i (λ b. ¬ Stands i b) (none_of_another_length i all))
+
+-- the first body of another length is that of the first such tile
+pub first_of_another_length : (i : Inputs) (c : Corner) (place : ℕ) → ((d : Corner) → ¬ IsFirstRepeated i.corners d) → slice_get i.corners place ≡ Some c →
+    IsFirstBadLength i.side i.tiles place → HasBadLength i c × ((d : Corner) → place_among i.corners d < place_among i.corners c → ¬ HasBadLength i d)
+first_of_another_length i c place distinct at first =
+    let here : place_among i.corners c ≡ place = place_of_tile i.corners distinct c place at in (
+      record { place = place; body = first.body; corner_is = at; body_is = first.body_is; length_is_not = first.length_is_not },
+      λ d less bad. bad.length_is_not (first.before bad.place bad.body (omega (arith, less, here, place_of_tile i.corners distinct d bad.place bad.corner_is)) bad.body_is),
+    )
 
 -- the refusal of a tile is the first
 pub tile_refused : (i : Inputs) (refusal : Refusal) → IsTileRefusal (tiling_of i) i.tiles refusal → NoneStandsBefore i 5 → IsRefusal i refusal
 tile_refused i (BadTileLength c) bad none =
-    let place = bad.0 in
-    let first = bad.2 in
-    let distinct : (d : Corner) → ¬ IsFirstRepeated i.corners d = λ d. none (RepeatedTile d) (omega arith) in
-    let here : place_among i.corners c ≡ place = place_of_tile i.corners distinct c place bad.1 in
-    first_of i 5 (place_among i.corners c) (BadTileLength c) refl
-    (record { place = place; body = first.body; corner_is = bad.1; body_is = first.body_is; length_is_not = first.length_is_not }) none
-    (at_tile i (λ b. (place_of i b).1 < place_among i.corners c → ¬ Stands i b) (λ d less stands.
-    stands.length_is_not (first.before stands.place stands.body
-    (omega (arith, less, here, place_of_tile i.corners distinct d stands.place stands.corner_is)) stands.body_is)))
+    let told = first_of_another_length i c bad.0 (λ d. none (RepeatedTile d) (omega arith)) bad.1 bad.2 in
+    first_of i (Stands i) 5 (place_among i.corners c) (BadTileLength c) refl told.0 none (at_tile i (λ b. (place_of i b).1 < place_among i.corners c → ¬ Stands i b) told.1)
 tile_refused i OutOfMemory bad none = tt
 tile_refused i ReadFailed bad none = tt
 tile_refused i refusal bad none = absurd bad
 
 pub rasters_none : (i : Inputs) → ((p : Product) → ¬ IsShort (fields_of i p) (i.raster p)) → NoneStandsBefore i 6 → NoneStandsBefore i 7
-rasters_none i long none = none_more i 6 none (at_raster i (λ b. ¬ Stands i b) long)
+rasters_none i long none = none_more i (Stands i) 6 none (at_raster i (λ b. ¬ Stands i b) long)
 
 -- the refusal of a raster is the first
 pub raster_refused : (i : Inputs) (hs : Headers) (refusal : Refusal) → ((p : Product) → header_for hs p ≡ fields_of i p) → IsRasterRefusal hs i.raster refusal →
     NoneStandsBefore i 6 → IsRefusal i refusal
 raster_refused i hs (RasterShort p) are bad none =
-    first_of i 6 (rank_of p) (RasterShort p) refl (subst (λ h. IsShort h (i.raster p)) (are p) bad.short) none
+    first_of i (Stands i) 6 (rank_of p) (RasterShort p) refl (subst (λ h. IsShort h (i.raster p)) (are p) bad.short) none
     (at_raster i (λ b. (place_of i b).1 < rank_of p → ¬ Stands i b) (λ q less short. bad.before q less (subst (λ h. IsShort h (i.raster q)) (sym (are q)) short)))
 raster_refused i hs OutOfMemory are bad none = tt
 raster_refused i hs ReadFailed are bad none = tt
 raster_refused i hs refusal are bad none = absurd bad
 
+-- where tiles agree, no cell has two values
+pub none_of_two_values : (i : Inputs) → TilesAgree (tiling_of i) (tiles_of i) → (c : Cell) → ¬ IsSeamFault i c
+none_of_two_values i agree c fault = fault.1.differ (agree c fault.1.one fault.1.other fault.0 fault.1.is_one fault.1.is_other)
+
 pub seams_none : (i : Inputs) → TilesAgree (tiling_of i) (tiles_of i) → NoneStandsBefore i 7 → AreReadable i
-seams_none i agree none =
-    readable i (none_more i 7 none (at_seam i (λ b. ¬ Stands i b) (λ c fault. fault.1.differ (agree c fault.1.one fault.1.other fault.0 fault.1.is_one fault.1.is_other))))
+seams_none i agree none = readable i (none_more i (Stands i) 7 none (at_seam i (λ b. ¬ Stands i b) (none_of_two_values i agree)))
+
+-- the first cell where tiles differ has two values, and none before it
+pub first_of_two_values : (i : Inputs) (c : Cell) → IsFirstSeam (tiling_of i) (tiles_of i) c →
+    IsSeamFault i c × ((b : Cell) → index_of (tiling.extent_of (tiling_of i)) b < index_of (tiling.extent_of (tiling_of i)) c → ¬ IsSeamFault i b)
+first_of_two_values i c first = (
+  (first.inside, first.differ),
+  λ b less fault. first.first b fault.0 (earlier_by_index (tiling.extent_of (tiling_of i)) b c fault.0 first.inside less) fault.1,
+)
 
 -- the refusal of a seam is the first
 pub seam_refused : (i : Inputs) (c : Cell) → IsFirstSeam (tiling_of i) (tiles_of i) c → NoneStandsBefore i 7 → IsRefusal i (SeamMismatch c)
 seam_refused i c first none =
     let e = tiling.extent_of (tiling_of i) in
-    first_of i 7 (index_of e c) (SeamMismatch c) refl (first.inside, first.differ) none
-    (at_seam i (λ b. (place_of i b).1 < index_of e c → ¬ Stands i b) (λ b less fault. first.first b fault.0 (earlier_by_index e b c fault.0 first.inside less) fault.1))
+    let told = first_of_two_values i c first in
+    first_of i (Stands i) 7 (index_of e c) (SeamMismatch c) refl told.0 none (at_seam i (λ b. (place_of i b).1 < index_of e c → ¬ Stands i b) told.1)

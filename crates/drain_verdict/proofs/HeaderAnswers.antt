@@ -55,7 +55,7 @@ pub headers_none : {R : Type 0} (i : Inputs) (ps : Products R) (hs : Headers) �
     NoneStandsBefore i 4 → NoneStandsBefore i 5
 headers_none i ps hs told are none =
     let right : (p : Product) → IsRight i p = λ p. is_right i p (header_for hs p) (subst (λ text. IsHeaderFor (tiling_of i) text (header_for hs p)) (sym (told p)) (are p)) in
-    none_more i 4 none (at_header i (λ b. ¬ Stands i b) (λ p fault. (right p).no_fault fault) (λ p. (right p).shape) (λ p. (right p).place))
+    none_more i (Stands i) 4 none (at_header i (λ b. ¬ Stands i b) (λ p fault. (right p).no_fault fault) (λ p. (right p).shape) (λ p. (right p).place))
 
 pub headers_are : {R : Type 0} (i : Inputs) (ps : Products R) (hs : Headers) → ((p : Product) → i.header p ≡ (input_of ps p).header) → AreHeadersFor (tiling_of i) ps hs →
     (p : Product) → header_for hs p ≡ fields_of i p
@@ -85,19 +85,19 @@ refused_for : (i : Inputs) (p : Product) (refusal : Refusal) → IsHeaderRefusal
 refused_for i p (BadHeader q fault) bad earlier none =
     let same : q ≡ p = bad.0 in
     subst (λ q. IsRefusal i (BadHeader q fault)) (sym same)
-    (first_of i 4 (3 * rank_of p) (BadHeader p fault) refl bad.1 none
+    (first_of i (Stands i) 4 (3 * rank_of p) (BadHeader p fault) refl bad.1 none
     (λ b at less. before_product i p 0 (omega arith) earlier (λ less. absurd (omega arith)) (λ less. absurd (omega arith)) b at (omega (arith, less))))
 refused_for i p (WrongShape q) bad earlier none =
     let w = bad.1 in
     let stands : ¬ HasShape i p = λ shape. w.shape_is_not (subst (λ (f : Fields). extent_of f ≡ tiling.extent_of (tiling_of i)) (sym w.described.fields) shape) in
     subst (λ q. IsRefusal i (WrongShape q)) (sym bad.0)
-    (first_of i 4 (3 * rank_of p + 1) (WrongShape p) refl stands none
+    (first_of i (Stands i) 4 (3 * rank_of p + 1) (WrongShape p) refl stands none
     (before_product i p 1 (omega arith) earlier (λ less. no_header_fault i p w.fields w.described) (λ less. absurd (omega arith))))
 refused_for i p (Misplaced q) bad earlier none =
     let w = bad.1 in
     let stands : ¬ IsPlaced (tiling_of i) (fields_of i p).place = λ placed. w.not_placed (subst (λ (f : Fields). IsPlaced (tiling_of i) f.place) (sym w.described.fields) placed) in
     subst (λ q. IsRefusal i (Misplaced q)) (sym bad.0)
-    (first_of i 4 (3 * rank_of p + 2) (Misplaced p) refl stands none
+    (first_of i (Stands i) 4 (3 * rank_of p + 2) (Misplaced p) refl stands none
     (before_product i p 2 (omega arith) earlier (λ less. no_header_fault i p w.fields w.described) (λ less stands. stands (has_shape i p w.fields w.described w.shape))))
 refused_for i p refusal bad earlier none = absurd bad
 

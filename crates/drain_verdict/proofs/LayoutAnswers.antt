@@ -53,7 +53,7 @@ same_corners one i told corners named = one_list one i.names corners i.corners n
 -- where the side is a tile's and the names are those of tiles, nothing of the first two kinds stands
 named_none : (i : Inputs) (corners : List Corner) → IsSide i.side → AllZip Names i.names corners → NoneStandsBefore i 3
 named_none i corners in_range named =
-    none_more i 2 (none_more i 1 (none_first i) (at_side i (λ b. ¬ Stands i b) (λ stands. stands in_range)))
+    none_more i (Stands i) 2 (none_more i (Stands i) 1 (none_first i) (at_side i (λ b. ¬ Stands i b) (λ stands. stands in_range)))
     (at_name i (λ b. ¬ Stands i b) (λ k. none_bad_in i.names corners named k))
 
 pub layout_is : OneName → (i : Inputs) → (AreNames i.names → AllZip Names i.names i.corners) → (t : Tiling) → IsLayoutOf i.side i.names t → t ≡ tiling_of i
@@ -65,7 +65,7 @@ layout_is one i told t is =
 pub layout_none : OneName → (i : Inputs) → (AreNames i.names → AllZip Names i.names i.corners) → (t : Tiling) → IsLayoutOf i.side i.names t → NoneStandsBefore i 4
 layout_none one i told t is =
     let sound : (fault : LayoutFault) → ¬ HasLayoutFault (tiling_of i) fault = subst (λ t. (fault : LayoutFault) → ¬ HasLayoutFault t fault) (layout_is one i told t is) is.sound in
-    none_more i 3 (named_none i t.corners is.in_range is.named)
+    none_more i (Stands i) 3 (named_none i t.corners is.in_range is.named)
     (at_layout i (λ b. ¬ Stands i b) (sound layout.NoTiles) (λ c. sound (layout.RepeatedTile c)) (sound layout.BoxTooLarge))
 
 -- the fault of the list of tiles is that of the inputs
@@ -76,26 +76,26 @@ first_fault one i told fault is =
 
 -- the refusal of a side or of names is the first
 pub layout_refused : OneName → (i : Inputs) → (AreNames i.names → AllZip Names i.names i.corners) → (refusal : Refusal) → IsLayoutRefusal i.side i.names refusal → IsRefusal i refusal
-layout_refused one i told BadSide bad = first_of i 1 0 BadSide refl bad (none_first i) (λ b at less. absurd (no_less b at less))
+layout_refused one i told BadSide bad = first_of i (Stands i) 1 0 BadSide refl bad (none_first i) (λ b at less. absurd (no_less b at less))
   where
     no_less : (b : Refusal) → (place_of i b).0 ≡ 1 → (place_of i b).1 < 0 → ⊥
     no_less b at less = omega arith
 layout_refused one i told (BadName k) bad =
-    first_of i 2 k (BadName k) refl bad.1.bad (none_more i 1 (none_first i) (at_side i (λ b. ¬ Stands i b) (λ stands. stands bad.0)))
+    first_of i (Stands i) 2 k (BadName k) refl bad.1.bad (none_more i (Stands i) 1 (none_first i) (at_side i (λ b. ¬ Stands i b) (λ stands. stands bad.0)))
     (at_name i (λ b. (place_of i b).1 < k → ¬ Stands i b) (λ j less. bad.1.first j less))
 layout_refused one i told NoTiles bad =
     let first = first_fault one i told layout.NoTiles bad.1 in
-    first_of i 3 0 NoTiles refl first.holds (named_none i bad.1.corners bad.0 bad.1.named) (λ b at less. absurd (no_less b at less))
+    first_of i (Stands i) 3 0 NoTiles refl first.holds (named_none i bad.1.corners bad.0 bad.1.named) (λ b at less. absurd (no_less b at less))
   where
     no_less : (b : Refusal) → (place_of i b).0 ≡ 3 → (place_of i b).1 < 0 → ⊥
     no_less b at less = omega arith
 layout_refused one i told (RepeatedTile c) bad =
     let first = first_fault one i told (layout.RepeatedTile c) bad.1 in
-    first_of i 3 1 (RepeatedTile c) refl first.holds (named_none i bad.1.corners bad.0 bad.1.named)
+    first_of i (Stands i) 3 1 (RepeatedTile c) refl first.holds (named_none i bad.1.corners bad.0 bad.1.named)
     (at_layout i (λ b. (place_of i b).1 < 1 → ¬ Stands i b) (λ less. first.first layout.NoTiles (inl (omega arith))) (λ d less. absurd (omega arith)) (λ less. absurd (omega arith)))
 layout_refused one i told BoxTooLarge bad =
     let first = first_fault one i told layout.BoxTooLarge bad.1 in
-    first_of i 3 2 BoxTooLarge refl first.holds (named_none i bad.1.corners bad.0 bad.1.named)
+    first_of i (Stands i) 3 2 BoxTooLarge refl first.holds (named_none i bad.1.corners bad.0 bad.1.named)
     (at_layout i (λ b. (place_of i b).1 < 2 → ¬ Stands i b) (λ less. first.first layout.NoTiles (inl (omega arith))) (λ d less. first.first (layout.RepeatedTile d) (inl (omega arith))) (λ less. absurd (omega arith)))
 layout_refused one i told OutOfMemory bad = tt
 layout_refused one i told ReadFailed bad = tt

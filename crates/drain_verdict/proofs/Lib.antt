@@ -6,6 +6,7 @@ mod HeaderAnswers
 mod HeaderOrder
 mod InputVerdicts
 mod LayoutAnswers
+mod MosaicAnswers
 mod Naming
 mod OneTile
 mod Order

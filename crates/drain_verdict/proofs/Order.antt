@@ -8,7 +8,7 @@ use Rattle.drain_header.specs.declared.fault.HeaderFault.{HeaderFault}
 use Rattle.drain_verdict.specs.declared.refusal.Refusal.{Refusal}
 use Rattle.drain_verdict.specs.declared.refusal.Refusal.TheVariants.{BadSide, BadName, NoTiles, RepeatedTile, BoxTooLarge, BadHeader, WrongShape, Misplaced, BadTileLength, RasterShort, SeamMismatch, OutOfMemory, ReadFailed}
 use Rattle.drain_verdict.specs.Inputs.{Inputs}
-use Rattle.drain_verdict.specs.Refusals.{Stands, place_of, NoneStandsBefore}
+use Rattle.drain_verdict.specs.Refusals.{place_of, NoneStandsBefore}
 use Rattle.drain_verdict.specs.Answers.{AreReadable}
 
 -- a statement holds of every refusal of a kind where it holds of each that has the kind
@@ -61,10 +61,11 @@ none_first i (SeamMismatch c) less = omega arith
 none_first i OutOfMemory less = omega arith
 none_first i ReadFailed less = omega arith
 
--- nothing stands before the next kind, where nothing of this kind stands
-pub none_more : (i : Inputs) (kind : ℕ) → NoneStandsBefore i kind → ((b : Refusal) → (place_of i b).0 ≡ kind → ¬ Stands i b) → NoneStandsBefore i (kind + 1)
-none_more i kind before here b less =
-    below_more (λ n. (place_of i b).0 ≡ n → ¬ Stands i b) kind (λ n earlier e. before b (omega (arith, earlier, e))) (λ e. here b e) ((place_of i b).0) less refl
+-- what holds of no refusal before this kind, and of none of this kind, holds of none before the next
+pub none_more : (i : Inputs) (Holds : Refusal → Type 0) (kind : ℕ) → ((b : Refusal) → (place_of i b).0 < kind → ¬ Holds b) → ((b : Refusal) → (place_of i b).0 ≡ kind → ¬ Holds b)
+    → (b : Refusal) → (place_of i b).0 < kind + 1 → ¬ Holds b
+none_more i Holds kind before here b less =
+    below_more (λ n. (place_of i b).0 ≡ n → ¬ Holds b) kind (λ n earlier e. before b (omega (arith, earlier, e))) (λ e. here b e) ((place_of i b).0) less refl
 
 -- where nothing of all the kinds stands, the bytes are readable
 pub readable : (i : Inputs) → NoneStandsBefore i 8 → AreReadable i
@@ -72,10 +73,11 @@ readable i none OutOfMemory stands = stands
 readable i none ReadFailed stands = stands
 readable i none b stands = none b (omega arith) stands
 
--- a refusal that stands is the first, where nothing of an earlier kind does, and of its own kind nothing in an earlier place
-pub first_of : (i : Inputs) (kind place : ℕ) (refusal : Refusal) → place_of i refusal ≡ (kind, place) → Stands i refusal → NoneStandsBefore i kind
-    → ((b : Refusal) → (place_of i b).0 ≡ kind → (place_of i b).1 < place → ¬ Stands i b) → IsFirst (place_of i) (Stands i) refusal
-first_of i kind place refusal at stands none same = record {
-  holds = stands;
+-- a refusal of which it holds is the first, where it holds of none of an earlier kind, and of its own kind of none in an earlier place
+pub first_of : (i : Inputs) (Holds : Refusal → Type 0) (kind place : ℕ) (refusal : Refusal) → place_of i refusal ≡ (kind, place) → Holds refusal
+    → ((b : Refusal) → (place_of i b).0 < kind → ¬ Holds b) → ((b : Refusal) → (place_of i b).0 ≡ kind → (place_of i b).1 < place → ¬ Holds b)
+    → IsFirst (place_of i) Holds refusal
+first_of i Holds kind place refusal at holds none same = record {
+  holds = holds;
   first = λ b before. elim (subst (λ at. IsBefore (place_of i b) at) at before) [ inl earlier ↦ none b earlier | inr here ↦ same b here.0 here.1 ];
 }

@@ -16,7 +16,7 @@ use Rattle.drain_verdict.specs.Stages.{IsTileRefusal, IsRasterRefusal, IsRasterO
 use Rattle.drain_verdict.proofs.BodyAnswers.{tiles_none, tile_refused, rasters_none, raster_refused}
 
 -- the lengths of the tiles, said of the inputs
-lengths_of : (i : Inputs) (t : tiling.Tiling) (samples : List (List ℤ)) → t ≡ tiling_of i → AreSamplesOf t.side i.tiles samples → AreSamplesOf i.side i.tiles samples
+pub lengths_of : (i : Inputs) (t : tiling.Tiling) (samples : List (List ℤ)) → t ≡ tiling_of i → AreSamplesOf t.side i.tiles samples → AreSamplesOf i.side i.tiles samples
 lengths_of i t samples is those = subst (λ (u : tiling.Tiling). AreSamplesOf u.side i.tiles samples) is those
 
 pub tiles_answer : (i : Inputs) (t : tiling.Tiling) (refusal : Refusal) → t ≡ tiling_of i → IsTileRefusal t i.tiles refusal → NoneStandsBefore i 5 → IsAnswer i (Err refusal)

@@ -28,17 +28,20 @@ use Rattle.drain_verdict.proofs.HeaderAnswers.{headers_none, headers_are, header
 pub named_each : {R : Type 0} (tiles : List (TileInput R)) (corners : List Corner) → AllZip Names (names_of tiles) corners → length tiles ≡ length corners
 named_each tiles corners named = sym (AllZip-long Names (names_of tiles) corners named ∙ length-map tiles (λ t. t.name))
 
+-- what is known of a side and names is known of those of the inputs
+pub told_of_inputs : (P : ℕ → List (List ℕ) → Type 0) (i : Inputs) (side : ℕ) (names : List (List ℕ)) → i.side ≡ side → i.names ≡ names → P side names → P i.side i.names
+told_of_inputs P i side names side_is names_are holds = subst (λ s. P s i.names) (sym side_is) (subst (P side) (sym names_are) holds)
+
 layout_told : {R : Type 0} (bytes_left : R → Option (List ℕ)) (side : ℕ) (tiles : List (TileInput R)) (ps : Products R) (i : Inputs) (t : Tiling) →
     Tell bytes_left side tiles ps i → IsLayoutOf side (names_of tiles) t → IsLayoutOf i.side i.names t
-layout_told bytes_left side tiles ps i t tell is =
-    subst (λ s. IsLayoutOf s i.names t) (sym tell.side_is) (subst (λ names. IsLayoutOf side names t) (sym tell.names_are) is)
+layout_told bytes_left side tiles ps i t tell is = told_of_inputs (λ side names. IsLayoutOf side names t) i side (names_of tiles) tell.side_is tell.names_are is
 
 -- the refusal of the layout is the answer
 pub layout_answer : OneName → {R : Type 0} (bytes_left : R → Option (List ℕ)) (side : ℕ) (tiles : List (TileInput R)) (ps : Products R) (i : Inputs) (refusal : Refusal) →
     Tell bytes_left side tiles ps i → IsLayoutRefusal side (names_of tiles) refusal → IsAnswer i (Err refusal)
 layout_answer one bytes_left side tiles ps i refusal tell bad =
     layout_refused one i tell.corners_are refusal
-    (subst (λ s. IsLayoutRefusal s i.names refusal) (sym tell.side_is) (subst (λ names. IsLayoutRefusal side names refusal) (sym tell.names_are) bad))
+    (told_of_inputs (λ side names. IsLayoutRefusal side names refusal) i side (names_of tiles) tell.side_is tell.names_are bad)
 
 -- no read failed there
 pub layout_reads_none : {T : Type 0} (side : ℕ) (names : List (List ℕ)) (refusal : Refusal) → IsLayoutRefusal side names refusal → ¬ IsErrOf {T = T} (Err refusal) ReadFailed

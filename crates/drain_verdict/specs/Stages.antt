@@ -6,8 +6,9 @@ use Rattle.drain_grid.specs.declared.product.Product.TheVariants.{Con, Dir, Acc,
 use Rattle.drain_grid.specs.declared.product_set.ProductSet.{ProductSet}
 use Rattle.drain_grid.specs.First.{IsFirst}
 use Rattle.drain_grid.specs.Product.{default_no_data}
-use Rattle.drain_grid.specs.Rasters.{Pixels}
+use Rattle.drain_grid.specs.Rasters.{Heights, Pixels}
 use Rattle.drain_grid.specs.Tile.{IsSide}
+use Rattle.drain_grid.specs.Whole.{elevation_at}
 use Rattle.drain_hgt.specs.declared.input.TileInput.{TileInput}
 use Rattle.drain_hgt.specs.Corner.{Corner}
 use Rattle.drain_hgt.specs.Name.{Names}
@@ -21,6 +22,7 @@ use Rattle.drain_mosaic.specs.declared.seams.SeamFault.{SeamFault}
 use Rattle.drain_mosaic.specs.declared.seams.SeamFault.TheVariants as seam
 use Rattle.drain_mosaic.specs.Tiling as tiling
 use Rattle.drain_mosaic.specs.LayoutFaults.{HasLayoutFault, order_of}
+use Rattle.drain_mosaic.specs.Mosaic.{tiles_of, TilesAgree, IsElevation, IsFirstSeam}
 use Rattle.drain_verdict.specs.declared.headers.Headers.{Headers}
 use Rattle.drain_verdict.specs.declared.input.Products.{Products}
 use Rattle.drain_verdict.specs.declared.refusal.Refusal.{Refusal}
@@ -181,6 +183,18 @@ IsRasterRefusal hs bodies (RasterShort p) = IsFirstShort hs bodies p
 IsRasterRefusal hs bodies OutOfMemory = Unit {0}
 IsRasterRefusal hs bodies ReadFailed = Unit {0}
 IsRasterRefusal hs bodies refusal = ⊥
+
+-- the tiles agree, and give this elevation together
+pub record IsElevationOf (t : tiling.Tiling) (samples : List (List ℤ)) (e : Heights) : Type 0 where
+  pub shape : e.extent ≡ tiling.extent_of t
+  pub agree : TilesAgree t (tiles_of t.corners samples)
+  pub values : IsElevation t (tiles_of t.corners samples) (elevation_at e)
+
+-- why tiles give no elevation
+abbrev pub IsSeamRefusal : tiling.Tiling → List (List ℤ) → Refusal → Type 0
+IsSeamRefusal t samples (SeamMismatch c) = IsFirstSeam t (tiles_of t.corners samples) c
+IsSeamRefusal t samples OutOfMemory = Unit {0}
+IsSeamRefusal t samples refusal = ⊥
 
 -- the refusal that tells a fault of the seams
 abbrev pub IsSeamFaultAs : SeamFault → Refusal → Type 0

@@ -1,22 +1,22 @@
 //! The last stage of a check: the tiles joined, and the verdict on the rasters.
 
-ghost use Rattle.std.specs.Prelude.{◌≡◌, map, IsErrOf};
+ghost use Rattle.std.specs.Prelude.{◌≡◌, map, IfOk, IfErr, IsErrOf};
 ghost use Rattle.drain_mosaic.specs.Tiling.{extent_of};
 ghost use Rattle.drain_mosaic.specs.Mosaic.{AreTiles};
 ghost use Rattle.drain_verdict.specs.Inputs.{Inputs};
 ghost use Rattle.drain_verdict.specs.Refusals.{NoneStandsBefore};
 ghost use Rattle.drain_verdict.specs.Answers.{IsAnswer};
-ghost use Rattle.drain_verdict.specs.Stages.{AreThoseOf, IsSeamFaultAs};
+ghost use Rattle.drain_verdict.specs.Stages.{AreThoseOf, IsElevationOf, IsSeamFaultAs, IsSeamRefusal};
 
 use crate::refusal::Refusal;
-use drain_grid::ProductSet;
+use drain_grid::{Elevation, ProductSet};
 use drain_mosaic::laws::agreement_gives_elevation;
 use drain_mosaic::{Layout, SeamFault, join};
 use drain_rules::{Verdict, verdict_of};
 use std::alloc::Global;
 
 /// The verdict on the rasters of a mosaic's products, or `SeamMismatch` with the first cell where tiles differ; `OutOfMemory` where memory is
-/// refused. `samples` are those of the tiles, in the order of the layout's names; they are let go once the tiles are joined.
+/// refused. `samples` are those of the tiles, in the order of the layout's names.
 pub fn verdict_on(
     alloc: Global,
     layout: &Layout,
@@ -30,13 +30,26 @@ pub fn verdict_on(
 {
     // The law that makes the joined elevation that of the tiles' first values.
     agreement_gives_elevation();
-    let joined = join(alloc, layout, &samples);
-    drop(samples);
-    match joined {
-        Ok(elevation) => match verdict_of(alloc, &elevation, products) {
-            Ok(verdict) => Ok(verdict),
-            Err(_) => Err(Refusal::OutOfMemory),
-        },
+    let elevation = elevation_of(alloc, layout, samples)?;
+    match verdict_of(alloc, &elevation, products) {
+        Ok(verdict) => Ok(verdict),
+        Err(_) => Err(Refusal::OutOfMemory),
+    }
+}
+
+/// The elevation that the tiles give together, or `SeamMismatch` with the first cell where they differ; `OutOfMemory` where memory is
+/// refused. `samples` are those of the tiles, in the order of the layout's names; they are let go once the tiles are joined.
+pub fn elevation_of(
+    alloc: Global,
+    layout: &Layout,
+    samples: Vec<Vec<i16>>,
+) -> Result<Elevation, Refusal>
+    requires { AreTiles layout.now (map (λ tile. tile.items) samples.items) }
+    ensures elevation { IfOk result (IsElevationOf layout.now (map (λ tile. tile.items) samples.items)) }
+    ensures refusal { IfErr result (IsSeamRefusal layout.now (map (λ tile. tile.items) samples.items)) }
+{
+    match join(alloc, layout, &samples) {
+        Ok(elevation) => Ok(elevation),
         Err(fault) => Err(refusal_of(fault)),
     }
 }

@@ -2,6 +2,7 @@
 
 mod accepted;
 mod example;
+mod mosaics;
 mod numbers;
 mod orders;
 mod refused;

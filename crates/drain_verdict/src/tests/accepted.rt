@@ -65,7 +65,7 @@ fn leaves_the_bytes_behind_a_raster(rt: HostRuntime) -> Result<(), Fail> {
     let mut example = one_tile(alloc, 3, &pit())?;
     example.con.body.extend_from_slice(b"behind")?;
     example.rnk.body.extend_from_slice(b"end")?;
-    let mut tiles = tiles_at_once(alloc, &example)?;
+    let mut tiles = tiles_at_once(alloc, &example.tiles)?;
     let mut products = products_at_once(alloc, &example)?;
     let answer = check(alloc, 3, &mut tiles, &mut products);
     assert_eq!(rt; report(&answer).as_str(), PIT_LINE);
@@ -91,7 +91,7 @@ fn reads_one_byte_past_the_end_of_a_tile(rt: HostRuntime) -> Result<(), Fail> {
     for tile in &mut example.tiles {
         tile.body.extend_from_slice(b"hello")?;
     }
-    let mut tiles = tiles_at_once(alloc, &example)?;
+    let mut tiles = tiles_at_once(alloc, &example.tiles)?;
     let mut products = products_at_once(alloc, &example)?;
     let answer = check(alloc, 3, &mut tiles, &mut products);
     assert_eq!(rt;

@@ -1,6 +1,6 @@
 //! Runs of a check over sources in memory: those that give all bytes at once, and those that give one at a call.
 
-use super::example::{Example, RasterBytes};
+use super::example::{Example, RasterBytes, TileBytes};
 use crate::answer_report::report;
 use crate::input::{Products, RasterInput};
 use crate::line::Line;
@@ -33,10 +33,10 @@ fn list(alloc: Global, bytes: &[u8]) -> Result<ByteList, AllocError> {
 /// The tiles, whose sources give all bytes at once.
 pub fn tiles_at_once<'a>(
     alloc: Global,
-    example: &'a Example,
+    bytes: &'a [TileBytes],
 ) -> Result<Vec<TileInput<SliceSource<'a>>>, AllocError> {
     let mut tiles = Vec::new(alloc);
-    for tile in &example.tiles {
+    for tile in bytes {
         tiles.push(TileInput {
             name: list(alloc, tile.name.as_slice())?,
             body: SliceSource::new(tile.body.as_slice()),
@@ -79,13 +79,14 @@ fn slow<'a>(bytes: &'a [u8], owner: Owner, faulty: Faulty<'a>) -> ScriptSource<'
     }
 }
 
-fn slow_tiles<'a>(
+/// The tiles, whose sources give one byte at a call, and fault as it says.
+pub fn slow_tiles<'a>(
     alloc: Global,
-    example: &'a Example,
+    bytes: &'a [TileBytes],
     faulty: Faulty<'a>,
 ) -> Result<Vec<TileInput<ScriptSource<'a>>>, AllocError> {
     let mut tiles = Vec::new(alloc);
-    for tile in &example.tiles {
+    for tile in bytes {
         tiles.push(TileInput {
             name: list(alloc, tile.name.as_slice())?,
             body: slow(tile.body.as_slice(), Owner::Tile, faulty),
@@ -123,7 +124,7 @@ fn slow_products<'a>(
 
 /// The line of a check whose sources give one byte at a call, and fault as it says.
 pub fn told_slowly(alloc: Global, example: &Example, faulty: Faulty) -> Result<Line, AllocError> {
-    let mut tiles = slow_tiles(alloc, example, faulty)?;
+    let mut tiles = slow_tiles(alloc, &example.tiles, faulty)?;
     let mut products = slow_products(alloc, example, faulty)?;
     let answer = check(alloc, example.side, &mut tiles, &mut products);
     Ok(report(&answer))
@@ -131,7 +132,7 @@ pub fn told_slowly(alloc: Global, example: &Example, faulty: Faulty) -> Result<L
 
 /// The line of a check whose sources never fault: the same whether they give all bytes at once or one at a call.
 pub fn told(alloc: Global, example: &Example) -> Result<Line, Fail> {
-    let mut tiles = tiles_at_once(alloc, example)?;
+    let mut tiles = tiles_at_once(alloc, &example.tiles)?;
     let mut products = products_at_once(alloc, example)?;
     let line = report(&check(alloc, example.side, &mut tiles, &mut products));
     let faultless = Faulty {

@@ -1,20 +1,19 @@
-use Rattle.std.proofs.Common.{Err, map, refl, ap, subst}
-use Rattle.drain_grid.specs.Whole.{elevation_at}
-use Rattle.drain_mosaic.specs.Mosaic.{tiles_of, TilesAgree, IsElevation, IsFirstSeam}
-use Rattle.drain_verdict.proofs.SeamAnswers.{verdict_answers, fault_answers}
+use Rattle.std.proofs.Common.{map}
+use Rattle.std.proofs.lemmas.Result.{err_from_is_err_and}
+use Rattle.drain_verdict.proofs.SeamAnswers.{verdict_answers, seam_answers, seam_reads_none}
 use Rattle.drain_verdict.proofs.seam_stage.verdict_on.Goals as goal
 
-pub returns-in-Ok-verdict_of-clause-answer : goal.returns-in-Ok-verdict_of-clause-answer
-returns-in-Ok-verdict_of-clause-answer c = λ inputs those none.
-    let t = c.args.layout.now in
-    let e = c.in-Ok.elevation in
-    let agree = subst (λ s. TilesAgree t (tiles_of t.corners (map (λ tile. tile.items) s))) c.deref.ensures.value (c.in-Ok.ensures.agree refl) in
-    let values = subst (λ s. IsElevation t (tiles_of t.corners (map (λ tile. tile.items) s)) (elevation_at e)) c.deref.ensures.value c.in-Ok.ensures.values in
-    verdict_answers c.agreement_gives_elevation.ensures inputs t (map (λ tile. tile.items) c.args.samples.items) c.args.products.now e c.in-Ok-verdict_of.verdict
-    c.in-Ok.ensures.shape agree values c.in-Ok-verdict_of.ensures.verdict those none
+pub returns-in_err-elevation-clause-answer : goal.returns-in_err-elevation-clause-answer
+returns-in_err-elevation-clause-answer c = λ inputs those none.
+    let told = err_from_is_err_and c.from_residual.result c.from_residual.ensures.1 in
+    rw (told.1, told.2) (seam_answers inputs c.args.layout.now _ c.args.products.now _ c.in_err-elevation.ensures.refusal those none)
 
-pub returns-clause-answer : goal.returns-clause-answer
-returns-clause-answer c = λ inputs those none.
-    let t = c.args.layout.now in
-    fault_answers inputs t (map (λ tile. tile.items) c.args.samples.items) c.args.products.now c.in-Err.fault c.refusal_of.result c.refusal_of.ensures
-    (λ cell is. subst (λ s. IsFirstSeam t (tiles_of t.corners (map (λ tile. tile.items) s)) cell) c.deref.ensures.value (c.in-Err.ensures.seam cell (ap (λ fault. Err fault) is))) those none
+pub returns-in_err-elevation-clause-no_read : goal.returns-in_err-elevation-clause-no_read
+returns-in_err-elevation-clause-no_read c =
+    let told = err_from_is_err_and c.from_residual.result c.from_residual.ensures.1 in
+    rw (told.1, told.2) (seam_reads_none _ _ _ c.in_err-elevation.ensures.refusal)
+
+pub returns-in-Ok-clause-answer : goal.returns-in-Ok-clause-answer
+returns-in-Ok-clause-answer c = λ inputs those none.
+    verdict_answers c.agreement_gives_elevation.ensures inputs c.args.layout.now (map (λ tile. tile.items) c.args.samples.items) c.args.products.now c.in_ok-elevation.elevation
+    c.in-Ok.verdict c.in_ok-elevation.ensures.elevation c.in-Ok.ensures.verdict those none

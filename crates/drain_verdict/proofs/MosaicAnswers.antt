@@ -1,0 +1,125 @@
+-- What the stages of tiles alone say of the inputs: their mosaic, or the first refusal of the tiles. The order of refusals is that of a check, with those of products left out.
+use Rattle.std.proofs.Common.{◌≡◌, ℕ, ◌<◌, List, ℤ, arith, refl, ap, subst, ◌∙◌}
+use Rattle.std.specs.Prelude.{Option}
+use Rattle.std.specs.List.{All}
+use Rattle.drain_grid.specs.Size.{Extent}
+use Rattle.drain_grid.specs.Extent.{IsCellOf, index_of}
+use Rattle.drain_grid.specs.First.{IsFirst}
+use Rattle.drain_grid.specs.Rasters.{Heights}
+use Rattle.drain_grid.specs.Whole.{elevation_at}
+use Rattle.drain_hgt.specs.declared.input.TileInput.{TileInput}
+use Rattle.drain_hgt.specs.Laws.{OneName}
+use Rattle.drain_hgt.specs.Samples.{IsTile}
+use Rattle.drain_mosaic.specs.Tiling.{Tiling, extent_of}
+use Rattle.drain_mosaic.specs.Mosaic as mosaic
+use Rattle.drain_mosaic.specs.Laws.{AgreementGivesElevation}
+use Rattle.drain_verdict.specs.declared.refusal.Refusal.{Refusal}
+use Rattle.drain_verdict.specs.declared.refusal.Refusal.TheVariants.{BadSide, BadName, NoTiles, RepeatedTile, BoxTooLarge, BadTileLength, SeamMismatch, OutOfMemory, ReadFailed}
+use Rattle.drain_verdict.specs.Inputs.{Inputs, names_of}
+use Rattle.drain_verdict.specs.Meaning.{tiling_of, tiles_of}
+use Rattle.drain_verdict.specs.Refusals.{Stands, NoneStandsBefore, place_of, place_among}
+use Rattle.drain_verdict.specs.Answers.{IsRefusal}
+use Rattle.drain_verdict.specs.Stages.{IsLayoutOf, IsLayoutRefusal, IsTileRefusal, AreSamplesOf, IsElevationOf, IsSeamRefusal}
+use Rattle.drain_verdict.specs.Mosaics.{TellTiles, IsOfTiles, StandsOfTiles, IsMosaicOf, IsMosaicRefusal}
+use Rattle.drain_verdict.proofs.Order.{at_header, at_tile, at_raster, at_seam, none_more, first_of}
+use Rattle.drain_verdict.proofs.LayoutAnswers.{layout_is, layout_none, layout_refused}
+use Rattle.drain_verdict.proofs.StartAnswers.{told_of_inputs}
+use Rattle.drain_verdict.proofs.StageAnswers.{lengths_of}
+use Rattle.drain_verdict.proofs.BodyAnswers.{none_of_another_length, first_of_another_length, none_of_two_values, first_of_two_values}
+use Rattle.drain_verdict.proofs.SeamAnswers.{of_inputs}
+use Rattle.drain_verdict.proofs.WholeGrids.{elevation_is_first_value}
+
+-- no refusal of the tiles of a kind before this one stands
+abbrev pub NoneOfTilesBefore : Inputs → ℕ → Type 0
+NoneOfTilesBefore i kind = (refusal : Refusal) → (place_of i refusal).0 < kind → ¬ StandsOfTiles i refusal
+
+-- the kinds of tiles and seams come after those of headers and rasters, which are no tiles'
+past_headers : (i : Inputs) → NoneStandsBefore i 4 → NoneOfTilesBefore i 5
+past_headers i none =
+    none_more i (StandsOfTiles i) 4 (λ b less stands. none b less stands.1)
+    (at_header i (λ b. ¬ StandsOfTiles i b) (λ p fault stands. stands.0) (λ p stands. stands.0) (λ p stands. stands.0))
+
+past_tiles : (i : Inputs) → All (IsTile i.side) i.tiles → NoneOfTilesBefore i 5 → NoneOfTilesBefore i 7
+past_tiles i all none =
+    none_more i (StandsOfTiles i) 6
+    (none_more i (StandsOfTiles i) 5 none (at_tile i (λ b. ¬ StandsOfTiles i b) (λ c stands. none_of_another_length i all c stands.1)))
+    (at_raster i (λ b. ¬ StandsOfTiles i b) (λ p stands. stands.0))
+
+past_seams : (i : Inputs) → mosaic.TilesAgree (tiling_of i) (tiles_of i) → NoneOfTilesBefore i 7 → (refusal : Refusal) → ¬ StandsOfTiles i refusal
+past_seams i agree none =
+    let before : NoneOfTilesBefore i 8 = none_more i (StandsOfTiles i) 7 none (at_seam i (λ b. ¬ StandsOfTiles i b) (λ c stands. none_of_two_values i agree c stands.1)) in
+    at_last before
+  where
+    at_last : NoneOfTilesBefore i 8 → (refusal : Refusal) → ¬ StandsOfTiles i refusal
+    at_last before OutOfMemory stands = stands.1
+    at_last before ReadFailed stands = stands.1
+    at_last before b stands = before b (omega arith) stands
+
+-- a refusal of the tiles is the first of theirs where it is the first of all
+first_of_theirs : (i : Inputs) (refusal : Refusal) → IsOfTiles refusal → IsFirst (place_of i) (Stands i) refusal → IsFirst (place_of i) (StandsOfTiles i) refusal
+first_of_theirs i refusal theirs first = record { holds = (theirs, first.holds); first = λ b before stands. first.first b before stands.1 }
+
+-- so is that of side or names
+layout_theirs : (i : Inputs) (side : ℕ) (names : List (List ℕ)) (refusal : Refusal) → IsLayoutRefusal side names refusal → IsRefusal i refusal → IsMosaicRefusal i refusal
+layout_theirs i side names OutOfMemory bad first = tt
+layout_theirs i side names BadSide bad first = first_of_theirs i BadSide tt first
+layout_theirs i side names (BadName k) bad first = first_of_theirs i (BadName k) tt first
+layout_theirs i side names NoTiles bad first = first_of_theirs i NoTiles tt first
+layout_theirs i side names (RepeatedTile c) bad first = first_of_theirs i (RepeatedTile c) tt first
+layout_theirs i side names BoxTooLarge bad first = first_of_theirs i BoxTooLarge tt first
+layout_theirs i side names refusal bad first = absurd bad
+
+-- the refusal of the layout is that of the mosaic
+pub layout_told : OneName → {R : Type 0} (bytes_left : R → Option (List ℕ)) (side : ℕ) (tiles : List (TileInput R)) (i : Inputs) (refusal : Refusal) →
+    TellTiles bytes_left side tiles i → IsLayoutRefusal side (names_of tiles) refusal → IsMosaicRefusal i refusal
+layout_told one bytes_left side tiles i refusal tell bad =
+    layout_theirs i side (names_of tiles) refusal bad
+    (layout_refused one i tell.corners_are refusal (told_of_inputs (λ side names. IsLayoutRefusal side names refusal) i side (names_of tiles) tell.side_is tell.names_are bad))
+
+-- the layout is that of the inputs, and nothing of the tiles stands before their lengths
+pub laid_out : OneName → {R : Type 0} (bytes_left : R → Option (List ℕ)) (side : ℕ) (tiles : List (TileInput R)) (i : Inputs) (t : Tiling) → TellTiles bytes_left side tiles i →
+    IsLayoutOf side (names_of tiles) t → (t ≡ tiling_of i) × NoneOfTilesBefore i 5
+laid_out one bytes_left side tiles i t tell is =
+    let there = told_of_inputs (λ side names. IsLayoutOf side names t) i side (names_of tiles) tell.side_is tell.names_are is in
+    (layout_is one i tell.corners_are t there, past_headers i (layout_none one i tell.corners_are t there))
+
+-- the refusal of a tile is that of the mosaic
+pub tile_told : (i : Inputs) (t : Tiling) (refusal : Refusal) → t ≡ tiling_of i → IsTileRefusal t i.tiles refusal → NoneOfTilesBefore i 5 → IsMosaicRefusal i refusal
+tile_told i t refusal is bad none = here refusal (subst (λ (u : Tiling). IsTileRefusal u i.tiles refusal) is bad)
+  where
+    here : (refusal : Refusal) → IsTileRefusal (tiling_of i) i.tiles refusal → IsMosaicRefusal i refusal
+    here (BadTileLength c) bad =
+        let told = first_of_another_length i c bad.0 (λ d repeated. none (RepeatedTile d) (omega arith) (tt, repeated)) bad.1 bad.2 in
+        first_of i (StandsOfTiles i) 5 (place_among i.corners c) (BadTileLength c) refl (tt, told.0) none
+        (at_tile i (λ b. (place_of i b).1 < place_among i.corners c → ¬ StandsOfTiles i b) (λ d less stands. told.1 d less stands.1))
+    here OutOfMemory bad = tt
+    here ReadFailed bad = tt
+    here refusal bad = absurd bad
+
+-- the refusal of a seam is that of the mosaic
+pub seam_told : (i : Inputs) (t : Tiling) (samples : List (List ℤ)) (refusal : Refusal) → t ≡ tiling_of i → AreSamplesOf t.side i.tiles samples → IsSeamRefusal t samples refusal →
+    NoneOfTilesBefore i 5 → IsMosaicRefusal i refusal
+seam_told i t samples (SeamMismatch c) is those first none =
+    let e = extent_of (tiling_of i) in
+    let told = first_of_two_values i c (of_inputs (λ u tiles. mosaic.IsFirstSeam u tiles c) i t samples is those.samples_are first) in
+    first_of i (StandsOfTiles i) 7 (index_of e c) (SeamMismatch c) refl (tt, told.0) (past_tiles i (lengths_of i t samples is those).lengths none)
+    (at_seam i (λ b. (place_of i b).1 < index_of e c → ¬ StandsOfTiles i b) (λ b less stands. told.1 b less stands.1))
+seam_told i t samples OutOfMemory is those bad none = tt
+seam_told i t samples ReadFailed is those bad none = tt
+seam_told i t samples refusal is those bad none = absurd bad
+
+-- the elevation that was joined is that of the mosaic
+pub mosaic_told : AgreementGivesElevation → (i : Inputs) (t : Tiling) (samples : List (List ℤ)) (e : Heights) → t ≡ tiling_of i → AreSamplesOf t.side i.tiles samples →
+    IsElevationOf t samples e → NoneOfTilesBefore i 5 → IsMosaicOf i t e
+mosaic_told law i t samples e is those joined none =
+    let agree = of_inputs mosaic.TilesAgree i t samples is those.samples_are joined.agree in
+    let extent : e.extent ≡ extent_of (tiling_of i) = joined.shape ∙ ap extent_of is in
+    record {
+      readable = past_seams i agree (past_tiles i (lengths_of i t samples is those).lengths none);
+      tiling_is = is;
+      extent_is = joined.shape;
+      elevation_is = λ c inside.
+          elevation_is_first_value (tiling_of i) (tiles_of i) e law agree
+          (of_inputs (λ u tiles. mosaic.IsElevation u tiles (elevation_at e)) i t samples is those.samples_are joined.values) c
+          (subst (λ (x : Extent). IsCellOf x c) extent inside);
+    }

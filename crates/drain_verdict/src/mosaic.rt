@@ -1,0 +1,53 @@
+//! Reading tiles alone: their mosaic, for whoever makes products of it.
+
+ghost use Rattle.std.specs.Prelude.{◌≡◌, map, IfOk, IfErr, IsErrOf};
+ghost use Rattle.drain_mosaic.specs.Tiling.{extent_of};
+ghost use Rattle.drain_verdict.specs.Inputs.{Inputs, names_of};
+ghost use Rattle.drain_verdict.specs.Faults.{SomeReadFails, tile_devices, TilesTakeAtMost};
+ghost use Rattle.drain_verdict.specs.Mosaics.{TellTiles, IsMosaicOf, IsMosaicRefusal};
+
+use crate::layout_stage::layout_of;
+use crate::refusal::Refusal;
+use crate::seam_stage::elevation_of;
+use crate::tiles_stage::read_tiles;
+use drain_device::ByteSource;
+use drain_grid::Elevation;
+use drain_hgt::TileInput;
+use drain_hgt::laws::one_name;
+use drain_mosaic::Layout;
+use drain_mosaic::laws::agreement_gives_elevation;
+use std::alloc::Global;
+
+/// Tiles put together: which they are and where they lie, and the elevations that they give.
+#[derive(Drop)]
+pub struct Mosaic {
+    pub layout: Layout,
+    pub elevation: Elevation,
+    ghost same_shape: { elevation.extent ≡ extent_of layout },
+}
+
+/// The mosaic of the tiles, or the first refusal of `check` that is about side, names or tiles: `BadSide`; `BadName`; `NoTiles`,
+/// `RepeatedTile`, `BoxTooLarge`; `BadTileLength`; `SeamMismatch`. `OutOfMemory` and `ReadFailed` come as with `check`.
+///
+/// The contract speaks of the bytes that the sources had left, where they tell them.
+pub fn read_mosaic<R: ByteSource>(
+    alloc: Global,
+    side: u32,
+    tiles: &mut [TileInput<R>],
+) -> Result<Mosaic, Refusal>
+    ensures mosaic { IfOk result (λ mosaic. (inputs : Inputs) → TellTiles R.bytes_left side tiles.old inputs → IsMosaicOf inputs mosaic.layout mosaic.elevation) }
+    ensures refusal { IfErr result (λ refusal. (inputs : Inputs) → TellTiles R.bytes_left side tiles.old inputs → IsMosaicRefusal inputs refusal) }
+
+    // How far it reads, when a read fails, and that names stay.
+    ensures within { TilesTakeAtMost R.bytes_left side tiles.old tiles.new }
+    ensures faults { SomeReadFails (map R.counts (tile_devices tiles.old)) (map R.counts (tile_devices tiles.new)) (IsErrOf result Refusal.ReadFailed) }
+    ensures names { names_of tiles.new ≡ names_of tiles.old }
+{
+    // The laws that bytes name one tile, and that the joined elevation is that of the tiles' first values.
+    one_name();
+    agreement_gives_elevation();
+    let layout = layout_of(alloc, side, tiles)?;
+    let samples = read_tiles(alloc, &layout, tiles)?;
+    let elevation = elevation_of(alloc, &layout, samples)?;
+    Ok(Mosaic { layout, elevation })
+}
