@@ -2,4 +2,5 @@ pub mod CheckLemmas
 pub mod HeaderLemmas
 pub mod PathLemmas
 pub mod PrintLemmas
+pub mod RoundTrips
 pub mod SetLemmas

@@ -3,8 +3,10 @@ pub mod Failures
 pub mod FilePaths
 pub mod FillRuns
 pub mod HeaderRuns
+pub mod MadeSets
 pub mod OpenFailures
 pub mod Printing
+pub mod RoundTrip
 pub mod SetFiles
 pub mod SetRuns
 pub mod Statuses

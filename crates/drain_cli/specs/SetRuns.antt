@@ -1,10 +1,17 @@
 -- How a run of `drain make` ends: with files that were written, or with the reason why there are none.
 use Rattle.std.specs.Prelude.{◌≡◌, ℕ, ◌++◌, List, Result, Ok, Err, codes, decimal}
 use Rattle.drain_mosaic.specs.Tiling.{Tiling, extent_of}
+use Rattle.drain_verdict.specs.declared.refusal.Refusal.{Refusal}
+use Rattle.drain_verdict.specs.declared.refusal.Refusal.TheVariants as refusal
+use Rattle.drain_verdict.specs.Lines.{refusal_line}
+use Rattle.drain_maker.specs.declared.maker.MakeRefusal.{MakeRefusal}
+use Rattle.drain_maker.specs.declared.maker.MakeRefusal.TheVariants as maker
 use Rattle.drain_cli.specs.declared.status.Status.{Status}
-use Rattle.drain_cli.specs.declared.status.Status.TheVariants.{Done, Failed}
+use Rattle.drain_cli.specs.declared.status.Status.TheVariants.{Done, Refused, Failed}
 use Rattle.drain_cli.specs.declared.set_files.SetFault.{SetFault}
 use Rattle.drain_cli.specs.declared.set_files.SetFault.TheVariants.{WriteFailed, OutOfMemory}
+use Rattle.drain_cli.specs.declared.make_set.NoSet.{NoSet}
+use Rattle.drain_cli.specs.declared.make_set.NoSet.TheVariants.{Tiles, Maker}
 
 -- the line that tells what came of writing: made rows=R cols=C
 abbrev pub written_line : Tiling → Result (Unit {0}) SetFault → List ℕ
@@ -16,3 +23,17 @@ written_line t (Err OutOfMemory) = codes "failed OutOfMemory"
 abbrev pub written_status : Result (Unit {0}) SetFault → Status
 written_status (Ok done) = Done
 written_status (Err fault) = Failed
+
+-- the line that tells why there is no product set
+abbrev pub no_set_line : NoSet → List ℕ
+no_set_line (Tiles refusal) = refusal_line refusal
+no_set_line (Maker maker.MakerFault) = codes "refused MakerFault"
+no_set_line (Maker maker.OutOfMemory) = codes "failed OutOfMemory"
+
+-- the status that it leaves: failed for want of memory or by a device, else refused
+abbrev pub no_set_status : NoSet → Status
+no_set_status (Tiles refusal.OutOfMemory) = Failed
+no_set_status (Tiles refusal.ReadFailed) = Failed
+no_set_status (Tiles refusal) = Refused
+no_set_status (Maker maker.OutOfMemory) = Failed
+no_set_status (Maker maker.MakerFault) = Refused

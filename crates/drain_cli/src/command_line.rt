@@ -20,11 +20,17 @@ pub enum Request<'a> {
         products: &'a str,
         tiles: Vec<&'a str>,
     },
+    /// `drain make`: make products of the tiles at these paths and write them into this folder.
+    Make {
+        side: u32,
+        folder: &'a str,
+        tiles: Vec<&'a str>,
+    },
 }
 
 const ABOUT: &str =
-    "Checks drainage rasters computed from SRTM elevation tiles. An acceptance is proved \
-    to mean what it says, whoever made the rasters.";
+    "Checks drainage rasters computed from SRTM elevation tiles, and makes them. An acceptance is \
+    proved to mean what it says, whoever made the rasters.";
 
 const FILL_ABOUT: &str =
     "Check a conditioned elevation raster, its spill parents and its ranks against their tile";
@@ -87,6 +93,30 @@ const CHECK_AFTER: &str = "Lines and exit statuses:
      refused SeamMismatch row=R col=C
   3  failed Open PATH, failed ReadFailed, failed OutOfMemory, or standard output couldn't be written";
 
+const MAKE_ABOUT: &str = "Make the six products of a mosaic from its tiles";
+
+const MAKE_LONG_ABOUT: &str =
+    "Reads elevation tiles (SRTM .hgt files of one side, named as N37W105.hgt) and writes the six products of
+their mosaic into the folder DIR, which must be there: DIR/con.hdr and DIR/con.bil, and so for dir, acc,
+bas, spl and rnk. What each product is: drain check --help.
+
+Depressions are filled by a flood from the edges and voids inwards (Priority-Flood). Off flats the
+direction is the first of the steepest descents in the order E, SE, S, SW, W, NW, N, NE; on flats it is the
+shortest way out. Labels number the outlets from 1, row by row.
+
+Before anything is written all fifteen rules are tried at every cell, and the files are created once
+nothing is left to refuse; files that are there already are replaced. Prints one line.";
+
+const MAKE_AFTER: &str = "Lines and exit statuses:
+  0  made rows=R cols=C
+  2  refused BadSide, refused BadName I, refused NoTiles, refused RepeatedTile TILE, refused BoxTooLarge,
+     refused BadTileLength TILE, refused SeamMismatch row=R col=C, or refused MakerFault, which means a
+     fault of this program: what it made failed its own test, and nothing was written
+  3  failed Open PATH, failed ReadFailed, failed WriteFailed, failed OutOfMemory, or standard output
+     couldn't be written; after failed WriteFailed the files are not whole";
+
+const OUT_HELP: &str = "The folder to write the products into";
+
 const PRODUCTS_HELP: &str = "The folder of the products";
 
 const TILES_HELP: &str = "The files of the tiles, each named after its south-west corner";
@@ -107,7 +137,8 @@ pub fn parse<'a>(alloc: Global, words: &'a [String]) -> Result<Request<'a>, Erro
         .arg_required_else_help(true)
         .subcommand(fill(alloc)?)?
         .subcommand(header(alloc)?)?
-        .subcommand(check(alloc)?)?;
+        .subcommand(check(alloc)?)?
+        .subcommand(make(alloc)?)?;
     let matches = command.try_get_matches_from(words)?;
     if let Some(header) = matches.subcommand_matches("header") {
         return Ok(Request::Header {
@@ -117,6 +148,9 @@ pub fn parse<'a>(alloc: Global, words: &'a [String]) -> Result<Request<'a>, Erro
     if let Some(check) = matches.subcommand_matches("check") {
         return Ok(check_request(alloc, check)?);
     }
+    if let Some(make) = matches.subcommand_matches("make") {
+        return Ok(make_request(alloc, make)?);
+    }
     let side = match matches.subcommand_matches("fill") {
         Some(fill) => fill.get_one::<u32>("side").unwrap_or(1201),
         None => 1201,
@@ -125,15 +159,27 @@ pub fn parse<'a>(alloc: Global, words: &'a [String]) -> Result<Request<'a>, Erro
 }
 
 fn check_request<'a>(alloc: Global, given: &ArgMatches<'a>) -> Result<Request<'a>, AllocError> {
-    let tiles = match given.get_strs("tiles") {
-        Some(tiles) => Vec::from_slice(alloc, tiles)?,
-        None => Vec::new(alloc),
-    };
     Ok(Request::Check {
         side: given.get_one::<u32>("side").unwrap_or(1201),
         products: given.get_str("products").unwrap_or(""),
-        tiles,
+        tiles: given_tiles(alloc, given)?,
     })
+}
+
+fn make_request<'a>(alloc: Global, given: &ArgMatches<'a>) -> Result<Request<'a>, AllocError> {
+    Ok(Request::Make {
+        side: given.get_one::<u32>("side").unwrap_or(1201),
+        folder: given.get_str("out").unwrap_or(""),
+        tiles: given_tiles(alloc, given)?,
+    })
+}
+
+/// The paths of the tiles, in the order given.
+fn given_tiles<'a>(alloc: Global, given: &ArgMatches<'a>) -> Result<Vec<&'a str>, AllocError> {
+    match given.get_strs("tiles") {
+        Some(tiles) => Vec::from_slice(alloc, tiles),
+        None => Ok(Vec::new(alloc)),
+    }
 }
 
 fn side<'a>(alloc: Global) -> Arg<'a> {
@@ -165,21 +211,39 @@ fn header<'a>(alloc: Global) -> Result<Command<'a>, AllocError> {
         .arg(file)
 }
 
+fn tiles<'a>(alloc: Global) -> Arg<'a> {
+    Arg::new(alloc, "tiles")
+        .value_name("TILE")
+        .action(ArgAction::Append)
+        .help(TILES_HELP)
+}
+
 fn check<'a>(alloc: Global) -> Result<Command<'a>, AllocError> {
     let products = Arg::new(alloc, "products")
         .long("products")
         .value_name("DIR")
         .required(true)
         .help(PRODUCTS_HELP);
-    let tiles = Arg::new(alloc, "tiles")
-        .value_name("TILE")
-        .action(ArgAction::Append)
-        .help(TILES_HELP);
     Command::new(alloc, "check")
         .about(CHECK_ABOUT)
         .long_about(CHECK_LONG_ABOUT)
         .after_long_help(CHECK_AFTER)
         .arg(side(alloc))?
         .arg(products)?
-        .arg(tiles)
+        .arg(tiles(alloc))
+}
+
+fn make<'a>(alloc: Global) -> Result<Command<'a>, AllocError> {
+    let out = Arg::new(alloc, "out")
+        .long("out")
+        .value_name("DIR")
+        .required(true)
+        .help(OUT_HELP);
+    Command::new(alloc, "make")
+        .about(MAKE_ABOUT)
+        .long_about(MAKE_LONG_ABOUT)
+        .after_long_help(MAKE_AFTER)
+        .arg(side(alloc))?
+        .arg(out)?
+        .arg(tiles(alloc))
 }

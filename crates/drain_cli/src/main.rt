@@ -6,8 +6,11 @@
 
 pub mod command_line;
 pub mod file_paths;
+pub mod laws;
+pub mod make_set;
 pub mod open_check;
 pub mod open_failure;
+pub mod open_files;
 pub mod print;
 pub mod run_check;
 pub mod run_fill;
@@ -22,8 +25,10 @@ use clap::Error;
 use clap::error::ErrorKind;
 use command_line::Request;
 use drain_device::{BodyFault, ByteSink, Reader, Writer};
-use open_check::{CheckFiles, OpenFault, open_check};
+use make_set::make_set;
+use open_check::{CheckFiles, open_check};
 use open_failure::print_open_failure;
+use open_files::{OpenFault, create_files, open_tiles};
 use print::print_failure;
 use run_check::run_check;
 use run_fill::run_fill;
@@ -32,6 +37,7 @@ use status::Status;
 use std::fs::File;
 use std::io;
 use std::process::ExitCode;
+use write_set::write_set;
 
 fn main(rt: HostRuntime) -> ExitCode {
     let mut out = Writer::new(rt.stdout());
@@ -66,6 +72,13 @@ fn run(rt: &HostRuntime, asked: &[String], out: &mut impl ByteSink) -> u8 {
                 tiles,
             },
         ) => check_of_files(rt, side, products, tiles.as_slice(), out),
+        Ok(
+            Request::Make {
+                side,
+                folder,
+                tiles,
+            },
+        ) => make_from_files(rt, side, folder, tiles.as_slice(), out),
         Err(error) if error.kind() == ErrorKind::OutOfMemory => print_failure(
             out,
             BodyFault::OutOfMemory,
@@ -97,8 +110,38 @@ fn check_of_files(
                 mut products,
             },
         ) => run_check(rt.alloc(), side, tiles.as_mut_slice(), &mut products, out),
-        Err(OpenFault::Open(path)) => print_open_failure(rt.alloc(), out, path.as_str()),
-        Err(OpenFault::Body(fault)) => print_failure(out, fault),
+        Err(fault) => print_open_fault(rt, fault, out),
+    }
+}
+
+/// Makes products of tiles and writes them into a folder, and answers the exit status. The files are created once nothing is left to refuse.
+fn make_from_files(
+    rt: &HostRuntime,
+    side: u32,
+    folder: &str,
+    tiles: &[&str],
+    out: &mut impl ByteSink,
+) -> u8 {
+    let mut tiles = match open_tiles(rt, tiles) {
+        Ok(tiles) => tiles,
+        Err(fault) => return print_open_fault(rt, fault, out),
+    };
+    let (layout, products) = match make_set(rt.alloc(), side, tiles.as_mut_slice(), out) {
+        Ok(set) => set,
+        Err(status) => return status,
+    };
+    drop(tiles);
+    match create_files(rt, folder) {
+        Ok(mut files) => write_set(rt.alloc(), &layout, &products, files.as_mut_slice(), out),
+        Err(fault) => print_open_fault(rt, fault, out),
+    }
+}
+
+/// Prints why files aren't open, and answers the exit status.
+fn print_open_fault(rt: &HostRuntime, fault: OpenFault, out: &mut impl ByteSink) -> u8 {
+    match fault {
+        OpenFault::Open(path) => print_open_failure(rt.alloc(), out, path.as_str()),
+        OpenFault::Body(fault) => print_failure(out, fault),
     }
 }
 

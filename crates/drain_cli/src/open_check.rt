@@ -1,12 +1,12 @@
 //! Opening the files of a check: the tiles in the order given, then of each product its header, which is read whole, and its raster.
 
-use crate::file_paths::{header_path, raster_path, tile_name};
-use drain_device::{BodyFault, ByteList, Reader, read_body};
+use crate::file_paths::{header_path, raster_path};
+use crate::open_files::{OpenFault, open, open_tiles};
+use drain_device::{ByteList, Reader, read_body};
 use drain_grid::Product;
 use drain_header::MAX_HEADER_BYTES;
 use drain_hgt::TileInput;
 use drain_verdict::{Products, RasterInput};
-use std::alloc::AllocError;
 use std::fs::File;
 
 /// The files of a check, of which nothing but the headers has been read.
@@ -16,45 +16,11 @@ pub struct CheckFiles {
     pub products: Products<Reader<File>>,
 }
 
-/// Why a check doesn't begin.
-#[derive(Drop)]
-pub enum OpenFault {
-    /// The file at this path can't be opened.
-    Open(String),
-    /// A header can't be read, or memory was refused.
-    Body(BodyFault),
-}
-
-impl From<AllocError> for OpenFault {
-    fn from(_fault: AllocError) -> OpenFault {
-        OpenFault::Body(BodyFault::OutOfMemory)
-    }
-}
-
 /// Opens the tiles at these paths and the products in this folder. The first fault ends it.
 pub fn open_check(rt: &HostRuntime, folder: &str, tiles: &[&str]) -> Result<CheckFiles, OpenFault> {
     let tiles = open_tiles(rt, tiles)?;
     let products = open_products(rt, folder)?;
     Ok(CheckFiles { tiles, products })
-}
-
-fn open_tiles(rt: &HostRuntime, paths: &[&str]) -> Result<Vec<TileInput<Reader<File>>>, OpenFault> {
-    let mut tiles = Vec::new(rt.alloc());
-    for path in paths {
-        if tiles.push(open_tile(rt, path)?).is_err() {
-            return Err(OpenFault::Body(BodyFault::OutOfMemory));
-        }
-    }
-    Ok(tiles)
-}
-
-fn open_tile(rt: &HostRuntime, path: &str) -> Result<TileInput<Reader<File>>, OpenFault> {
-    let name = Vec::from_slice(rt.alloc(), tile_name(path.as_bytes()))?;
-    let body = open(rt, path)?;
-    Ok(TileInput {
-        name: ByteList::new(name),
-        body,
-    })
 }
 
 fn open_products(rt: &HostRuntime, folder: &str) -> Result<Products<Reader<File>>, OpenFault> {
@@ -92,12 +58,5 @@ fn read_header(rt: &HostRuntime, path: &str) -> Result<ByteList, OpenFault> {
     match read_body(rt.alloc(), &mut file, MAX_HEADER_BYTES + 1) {
         Ok(bytes) => Ok(ByteList::new(bytes)),
         Err(fault) => Err(OpenFault::Body(fault)),
-    }
-}
-
-fn open(rt: &HostRuntime, path: &str) -> Result<Reader<File>, OpenFault> {
-    match File::open(rt, path) {
-        Ok(file) => Ok(Reader::new(file)),
-        Err(_) => Err(OpenFault::Open(String::from_str(rt.alloc(), path)?)),
     }
 }

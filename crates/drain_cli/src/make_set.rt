@@ -1,0 +1,104 @@
+//! The first part of a run of `drain make`: the tiles are read, and products are made of their mosaic.
+
+ghost use Rattle.std.specs.Prelude.{◌≡◌, map, IfOk, IfErr, OnOk, Err};
+ghost use Rattle.drain_grid.specs.Rasters.{Heights};
+ghost use Rattle.drain_verdict.specs.Faults.{TilesTakeAtMost};
+ghost use Rattle.drain_verdict.specs.Inputs.{names_of};
+ghost use Rattle.drain_cli.specs.declared.make_set.NoSet.{NoSet};
+ghost use Rattle.drain_cli.specs.MadeSets.{IsSetOf, IsNoSet};
+ghost use Rattle.drain_cli.specs.Printing.{Prints};
+ghost use Rattle.drain_cli.specs.SetRuns.{no_set_line, no_set_status};
+
+use crate::print::print_line;
+use crate::status::Status;
+use drain_device::{ByteSink, ByteSource};
+use drain_grid::ProductSet;
+use drain_hgt::TileInput;
+use drain_maker::{MakeRefusal, make};
+use drain_mosaic::Layout;
+use drain_verdict::line::{Line, words};
+use drain_verdict::{Refusal, Verdict, read_mosaic, report};
+use std::alloc::Global;
+
+/// Why there is no product set.
+#[derive(Clone, Copy, PartialEq, Eq, Debug)]
+pub enum NoSet {
+    /// Of the tiles.
+    Tiles(Refusal),
+    /// The maker made none.
+    Maker(MakeRefusal),
+}
+
+/// Reads the tiles and makes the products of their mosaic. Where there are none, it prints why and answers the exit status: 2 for
+/// `refused BadSide`, `BadName`, `NoTiles`, `RepeatedTile`, `BoxTooLarge`, `BadTileLength`, `SeamMismatch` and `MakerFault`, in this order;
+/// 3 for `failed OutOfMemory` and `failed ReadFailed`, and where the line can't be written.
+///
+/// `side` is the number of samples along an edge of each tile. Of a tile at most one byte past its end is read.
+pub fn make_set<R: ByteSource, W: ByteSink>(
+    alloc: Global,
+    side: u32,
+    tiles: &mut [TileInput<R>],
+    out: &mut W,
+) -> Result<(Layout, ProductSet), u8>
+    ensures made { IfOk result (λ set. IsSetOf R.bytes_left side tiles.old set.0 set.1) }
+    ensures quiet { OnOk result (out.new ≡ out.old) }
+    ensures refused { IfErr result (λ code. (why : NoSet) × IsNoSet R.bytes_left R.counts side tiles.old tiles.new why
+        × Prints (W.bytes_taken out.old) (W.bytes_taken out.new) (W.counts out.old) (W.counts out.new)
+        (W.stalls out.old) (W.stalls out.new) (no_set_line why) (no_set_status why) code) }
+
+    // How far it reads, and that names stay.
+    ensures within { TilesTakeAtMost R.bytes_left side tiles.old tiles.new }
+    ensures names { names_of tiles.new ≡ names_of tiles.old }
+{
+    match read_and_make(alloc, side, tiles) {
+        Ok(set) => Ok(set),
+        Err(why) => Err(print_line(out, &line_of(&why), status_of(&why))),
+    }
+}
+
+/// The products of the tiles' mosaic, or why there are none.
+fn read_and_make<R: ByteSource>(
+    alloc: Global,
+    side: u32,
+    tiles: &mut [TileInput<R>],
+) -> Result<(Layout, ProductSet), NoSet>
+    ensures made { IfOk result (λ set. IsSetOf R.bytes_left side tiles.old set.0 set.1) }
+    ensures refused { IfErr result (IsNoSet R.bytes_left R.counts side tiles.old tiles.new) }
+    ensures within { TilesTakeAtMost R.bytes_left side tiles.old tiles.new }
+    ensures names { names_of tiles.new ≡ names_of tiles.old }
+{
+    let mosaic = match read_mosaic(alloc, side, tiles) {
+        Ok(mosaic) => mosaic,
+        Err(refusal) => return Err(NoSet::Tiles(refusal)),
+    };
+    match make(alloc, &mosaic.layout, &mosaic.elevation) {
+        Ok(products) => Ok((mosaic.layout, products)),
+        Err(refusal) => Err(NoSet::Maker(refusal)),
+    }
+}
+
+/// The line that tells why there are no products.
+fn line_of(why: &NoSet) -> Line
+    ensures { result.bytes ≡ no_set_line why.now }
+{
+    match why {
+        NoSet::Tiles(refusal) => {
+            let answer: Result<Verdict, Refusal> = Err(*refusal);
+            report(&answer)
+        }
+        NoSet::Maker(MakeRefusal::MakerFault) => words("refused MakerFault"),
+        NoSet::Maker(MakeRefusal::OutOfMemory) => words("failed OutOfMemory"),
+    }
+}
+
+/// The exit status that it leaves.
+fn status_of(why: &NoSet) -> Status
+    ensures { result ≡ no_set_status why.now }
+{
+    match why {
+        NoSet::Tiles(Refusal::OutOfMemory | Refusal::ReadFailed) => Status::Failed,
+        NoSet::Tiles(_) => Status::Refused,
+        NoSet::Maker(MakeRefusal::OutOfMemory) => Status::Failed,
+        NoSet::Maker(MakeRefusal::MakerFault) => Status::Refused,
+    }
+}

@@ -1,0 +1,82 @@
+//! Opening files to read, tiles among them, and creating files to write.
+
+ghost use Rattle.std.specs.Prelude.{◌≡◌, IfOk, vec_len};
+ghost use Rattle.drain_cli.specs.declared.set_files.TheConstants.{FILE_COUNT};
+
+use crate::file_paths::{header_path, raster_path, tile_name};
+use crate::set_files::{Part, SET_FILES, SetFile};
+use drain_device::{BodyFault, ByteList, Reader, Writer};
+use drain_hgt::TileInput;
+use std::alloc::AllocError;
+use std::fs::File;
+
+/// Why the files aren't open.
+#[derive(Drop)]
+pub enum OpenFault {
+    /// The file at this path can't be opened.
+    Open(String),
+    /// A header can't be read, or memory was refused.
+    Body(BodyFault),
+}
+
+impl From<AllocError> for OpenFault {
+    fn from(_fault: AllocError) -> OpenFault {
+        OpenFault::Body(BodyFault::OutOfMemory)
+    }
+}
+
+/// Opens the tiles at these paths. The first fault ends it.
+pub fn open_tiles(rt: &HostRuntime, paths: &[&str]) -> Result<Vec<TileInput<Reader<File>>>, OpenFault> {
+    let mut tiles = Vec::new(rt.alloc());
+    for path in paths {
+        if tiles.push(open_tile(rt, path)?).is_err() {
+            return Err(OpenFault::Body(BodyFault::OutOfMemory));
+        }
+    }
+    Ok(tiles)
+}
+
+fn open_tile(rt: &HostRuntime, path: &str) -> Result<TileInput<Reader<File>>, OpenFault> {
+    let name = Vec::from_slice(rt.alloc(), tile_name(path.as_bytes()))?;
+    let body = open(rt, path)?;
+    Ok(TileInput {
+        name: ByteList::new(name),
+        body,
+    })
+}
+
+/// Opens a file to read.
+pub fn open(rt: &HostRuntime, path: &str) -> Result<Reader<File>, OpenFault> {
+    match File::open(rt, path) {
+        Ok(file) => Ok(Reader::new(file)),
+        Err(_) => Err(OpenFault::Open(String::from_str(rt.alloc(), path)?)),
+    }
+}
+
+/// Creates the files of a product set in this folder, in the order of `SET_FILES`. A file that is there is emptied. The first fault ends it.
+pub fn create_files(rt: &HostRuntime, folder: &str) -> Result<Vec<Writer<File>>, OpenFault>
+    ensures { IfOk result (λ files. vec_len files ≡ FILE_COUNT) }
+{
+    let mut files = Vec::new(rt.alloc());
+    for file in SET_FILES {
+        if files.push(create(rt, folder, file)?).is_err() {
+            return Err(OpenFault::Body(BodyFault::OutOfMemory));
+        }
+    }
+    Ok(files)
+}
+
+fn create(rt: &HostRuntime, folder: &str, file: SetFile) -> Result<Writer<File>, OpenFault> {
+    let path = path_of(rt, folder, file)?;
+    match File::create(rt, path.as_str()) {
+        Ok(created) => Ok(Writer::new(created)),
+        Err(_) => Err(OpenFault::Open(path)),
+    }
+}
+
+fn path_of(rt: &HostRuntime, folder: &str, file: SetFile) -> Result<String, AllocError> {
+    match file.part {
+        Part::Header => header_path(rt.alloc(), folder, file.product),
+        Part::Raster => raster_path(rt.alloc(), folder, file.product),
+    }
+}
