@@ -3,3 +3,5 @@ mod FileNumbers
 mod HeaderBounds
 mod Placing
 mod SameGrid
+pub mod Heaps
+pub mod Spelling

@@ -1,16 +1,17 @@
 -- What products that were made are: of the mosaic's shape, right by every rule, and fit to be written.
 use Rattle.std.specs.Prelude.{◌≡◌}
 use Rattle.drain_grid.specs.declared.product.Product.{Product}
+use Rattle.drain_grid.specs.declared.product.Product.TheVariants.{Con, Dir, Acc, Bas, Spl, Rnk}
 use Rattle.drain_grid.specs.declared.product_set.ProductSet.{ProductSet}
 use Rattle.drain_grid.specs.Product.{default_numbers}
 use Rattle.drain_grid.specs.Rasters.{Heights, ArePixels}
 use Rattle.drain_grid.specs.WholeGrid.{grid_of, products_of, nodata_of}
 use Rattle.drain_grid.specs.PatchRules.{profile1}
 use Rattle.drain_grid.specs.GridRules.{RulesHold}
-use Rattle.drain_raster.specs.Bytes.{CanSpellAll}
+use Rattle.drain_raster.specs.Bytes.{CanSpellAll, CanSpellAllIn}
 use Rattle.drain_mosaic.specs.Tiling.{Tiling}
 use Rattle.drain_verdict.specs.Stages.{raster_in}
-use Rattle.drain_maker.specs.Headers.{header_of}
+use Rattle.drain_maker.specs.Headers.{header_of, bits_of, is_signed}
 
 -- all fifteen rules hold at every cell, with the default no-data numbers
 abbrev pub KeepsEveryRule : Heights → ProductSet → Type 0
@@ -19,6 +20,15 @@ KeepsEveryRule e ps = RulesHold (profile1 default_numbers) 1 15 (grid_of e) (pro
 -- the pixels of each product's header can spell each of its numbers
 abbrev pub CanBeWritten : Tiling → ProductSet → Type 0
 CanBeWritten t ps = (p : Product) → CanSpellAll (header_of t p) (raster_in ps p)
+
+-- the same, a product at a time
+pub record AreSpelled (ps : ProductSet) : Type 0 where
+  pub con : CanSpellAllIn (is_signed Con) (bits_of Con) ps.con
+  pub dir : CanSpellAllIn (is_signed Dir) (bits_of Dir) ps.dir
+  pub acc : CanSpellAllIn (is_signed Acc) (bits_of Acc) ps.acc
+  pub bas : CanSpellAllIn (is_signed Bas) (bits_of Bas) ps.bas
+  pub spl : CanSpellAllIn (is_signed Spl) (bits_of Spl) ps.spl
+  pub rnk : CanSpellAllIn (is_signed Rnk) (bits_of Rnk) ps.rnk
 
 -- each raster has a number for each cell, and numbers that some pixel spells
 abbrev pub AreRasters : ProductSet → Type 0

@@ -3,9 +3,19 @@
 //! Source: the flood is Priority-Flood (Barnes, Lehman and Mulla 2014); directions are D8 (O'Callaghan and Mark 1984).
 #![tactic(auto)]
 
+mod accumulation;
+mod directions;
+mod flood;
 mod header;
+mod labels;
 pub mod laws;
+mod layer;
 mod maker;
+mod queue;
+mod rasters;
+#[cfg(test)]
+mod tests;
+mod visits;
 
 pub use header::product_header;
 pub use maker::{MakeRefusal, make};

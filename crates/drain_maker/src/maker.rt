@@ -5,10 +5,16 @@ ghost use Rattle.drain_grid.specs.Correct.{IsCorrect, RunsAreSound};
 ghost use Rattle.drain_grid.specs.Product.{default_numbers};
 ghost use Rattle.drain_grid.specs.WholeGrid.{grid_of, products_of, nodata_of};
 ghost use Rattle.drain_mosaic.specs.Tiling.{extent_of};
-ghost use Rattle.drain_maker.specs.Made.{KeepsEveryRule, CanBeWritten, AreRasters};
+ghost use Rattle.drain_maker.specs.Made.{KeepsEveryRule, CanBeWritten, AreSpelled, AreRasters};
 
-use drain_grid::{Elevation, ProductSet};
+use crate::accumulation::accumulation;
+use crate::directions::directions;
+use crate::flood::{Flooded, flood_grid};
+use crate::labels::labels;
+use crate::rasters::{raster_of_codes, raster_of_counts, raster_of_heights};
+use drain_grid::{Elevation, OutOfMemory, Product, ProductSet};
 use drain_mosaic::Layout;
+use drain_rules::{Verdict, verdict_of};
 use std::alloc::Global;
 use thiserror::Error;
 
@@ -44,5 +50,44 @@ pub fn make(
     ensures correct { IfOk result (λ products. IsCorrect (grid_of elevation.now) (products_of products) default_numbers) }
     ensures runs { IfOk result (λ products. RunsAreSound (grid_of elevation.now) (products_of products)) }
 {
-    Err(MakeRefusal::MakerFault)
+    let Ok(products) = products_from(alloc, elevation) else {
+        return Err(MakeRefusal::OutOfMemory);
+    };
+    match verdict_of(alloc, elevation, &products) {
+        Ok(Verdict::Accepted(_)) => Ok(products),
+        Ok(Verdict::Rejected { .. }) => Err(MakeRefusal::MakerFault),
+        Err(OutOfMemory) => Err(MakeRefusal::OutOfMemory),
+    }
+}
+
+/// Builds the products: a flood, then what follows from the order in which it came to the cells. They aren't tested yet.
+fn products_from(alloc: Global, elevation: &Elevation) -> Result<ProductSet, OutOfMemory>
+    ensures shape { IfOk result (λ products. products.con.extent ≡ elevation.now.extent) }
+    ensures nodata { IfOk result (λ products. nodata_of products ≡ default_numbers) }
+    ensures written { IfOk result AreSpelled }
+    ensures rasters { IfOk result AreRasters }
+{
+    let Flooded {
+        con,
+        spl,
+        rnk,
+        visits,
+    } = flood_grid(alloc, elevation)?;
+    let dir = directions(alloc, elevation, &con, &spl)?;
+    let acc = accumulation(alloc, &dir, &visits)?;
+    let bas = labels(alloc, &dir, &visits)?;
+    let con = raster_of_heights(alloc, Product::Con, con)?;
+    let dir = raster_of_codes(alloc, Product::Dir, dir)?;
+    let acc = raster_of_counts(alloc, Product::Acc, acc)?;
+    let bas = raster_of_counts(alloc, Product::Bas, bas)?;
+    let spl = raster_of_codes(alloc, Product::Spl, spl)?;
+    let rnk = raster_of_counts(alloc, Product::Rnk, rnk)?;
+    Ok(ProductSet {
+        con,
+        dir,
+        acc,
+        bas,
+        spl,
+        rnk,
+    })
 }

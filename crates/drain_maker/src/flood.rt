@@ -1,0 +1,156 @@
+//! The flood: from the open cells inwards, always at the lowest cell that was reached.
+//!
+//! A cell is reached over the neighbour from which its water has the lowest way out, so the level at which it is reached is its
+//! conditioned elevation, and that neighbour is its spill parent. Among cells of one level those that were reached first come first, so
+//! flats are crossed by the shortest way. Time goes with the cells and the logarithm of those that wait.
+//!
+//! Source: Priority-Flood (Barnes, Lehman and Mulla 2014).
+
+ghost use Rattle.std.specs.Prelude.{◌≡◌, IfOk, IfSome};
+ghost use Rattle.drain_grid.specs.Extent.{IsCellOf};
+
+use crate::layer::Layer;
+use crate::queue::Queue;
+use crate::visits::Visits;
+use drain_grid::{Cell, Code, Direction, Elevation, OutOfMemory, Shape, VOID};
+use std::alloc::Global;
+
+/// What a flood leaves. Cells that it didn't reach have the no-data numbers of con and rnk, and no spill parent.
+#[derive(Drop)]
+pub struct Flooded {
+    pub con: Layer<i16>,
+    pub spl: Layer<Option<Code>>,
+    pub rnk: Layer<u32>,
+    /// The cells that it came to, from the lowest to the highest.
+    pub visits: Visits,
+    ghost spl_shape: { spl.shape ≡ con.shape },
+    ghost rnk_shape: { rnk.shape ≡ con.shape },
+    ghost visits_shape: { visits.shape ≡ con.shape },
+}
+
+/// A flood under way.
+#[derive(Drop)]
+struct Flood {
+    done: Flooded,
+    queue: Queue,
+    ghost queue_shape: { queue.shape ≡ done.con.shape },
+}
+
+/// Floods a grid.
+pub fn flood_grid(alloc: Global, elevation: &Elevation) -> Result<Flooded, OutOfMemory>
+    ensures { IfOk result (λ flooded. flooded.con.shape ≡ elevation.now.extent) }
+{
+    let mut flood = Flood::new(alloc, elevation.shape())?;
+    flood.enter(elevation)?;
+    flood.spread(elevation)?;
+    Ok(flood.done)
+}
+
+impl Flood {
+    /// A grid of which no cell was reached.
+    fn new(alloc: Global, shape: Shape) -> Result<Flood, OutOfMemory>
+        ensures { IfOk result (λ flood. flood.done.con.shape ≡ shape) }
+    {
+        let con = Layer::new(alloc, shape, VOID)?;
+        let spl = Layer::new(alloc, shape, None)?;
+        let rnk = Layer::new(alloc, shape, u32::MAX)?;
+        let visits = Visits::new(alloc, shape)?;
+        let queue = Queue::new(alloc, shape)?;
+        Ok(Flood {
+            done: Flooded {
+                con,
+                spl,
+                rnk,
+                visits,
+            },
+            queue,
+        })
+    }
+
+    /// Reaches the open cells, in row order, each at its elevation.
+    fn enter(&mut self, elevation: &Elevation) -> Result<(), OutOfMemory>
+        requires { self.old.done.con.shape ≡ elevation.now.extent }
+        ensures { self.new.done.con.shape ≡ elevation.now.extent }
+    {
+        let shape = elevation.shape();
+        for index in 0..shape.cells() {
+            let cell = shape.cell(index);
+            if let Some(ground) = open_ground(elevation, cell) {
+                self.reach(cell, ground, Code::Outlet, 0)?;
+            }
+        }
+        Ok(())
+    }
+
+    /// Comes to the cells that were reached, lowest first, and reaches their neighbours. No cell waits twice, so there is a turn for each.
+    fn spread(&mut self, elevation: &Elevation) -> Result<(), OutOfMemory>
+        requires { self.old.done.con.shape ≡ elevation.now.extent }
+        ensures { self.new.done.con.shape ≡ elevation.now.extent }
+    {
+        for _ in 0..elevation.shape().cells() {
+            let Some(cell) = self.queue.pop() else {
+                return Ok(());
+            };
+            self.done.visits.push(cell)?;
+            for direction in Direction::ALL.iter() {
+                self.go_on(elevation, cell, *direction)?;
+            }
+        }
+        Ok(())
+    }
+
+    /// Reaches the neighbour in this direction, where it has data and wasn't reached yet.
+    fn go_on(
+        &mut self,
+        elevation: &Elevation,
+        cell: Cell,
+        direction: Direction,
+    ) -> Result<(), OutOfMemory>
+        requires same_shape { self.old.done.con.shape ≡ elevation.now.extent }
+        requires inside { IsCellOf elevation.now.extent cell }
+        ensures { self.new.done.con.shape ≡ elevation.now.extent }
+    {
+        let Some((next, ground)) = data_beside(elevation, cell, direction) else {
+            return Ok(());
+        };
+        if self.done.con.at(next) != VOID {
+            return Ok(());
+        }
+        let level = ground.max(self.done.con.at(cell));
+        let rank = self.done.rnk.at(cell).saturating_add(1);
+        self.reach(next, level, Code::To(direction.opposite()), rank)
+    }
+
+    /// Reaches a cell at a level: it waits from now on.
+    fn reach(&mut self, cell: Cell, level: i16, parent: Code, rank: u32) -> Result<(), OutOfMemory>
+        requires { IsCellOf self.old.done.con.shape cell }
+        ensures { self.new.done.con.shape ≡ self.old.done.con.shape }
+    {
+        self.done.con.put(cell, level);
+        self.done.spl.put(cell, Some(parent));
+        self.done.rnk.put(cell, rank);
+        self.queue.push(cell, level)
+    }
+}
+
+/// The neighbour in this direction and its elevation, if it has data.
+fn data_beside(elevation: &Elevation, cell: Cell, direction: Direction) -> Option<(Cell, i16)>
+    ensures { IfSome result (λ found. IsCellOf elevation.now.extent found.0) }
+{
+    let next = elevation.shape().step(cell, direction)?;
+    let ground = elevation.z(next)?;
+    Some((next, ground))
+}
+
+/// The elevation of an open cell: one with data, on the grid's edge or beside a void.
+fn open_ground(elevation: &Elevation, cell: Cell) -> Option<i16>
+    requires { IsCellOf elevation.now.extent cell }
+{
+    let ground = elevation.z(cell)?;
+    for direction in Direction::ALL.iter() {
+        if data_beside(elevation, cell, *direction).is_none() {
+            return Some(ground);
+        }
+    }
+    None
+}
