@@ -199,9 +199,11 @@ no-rest now news (x ∷ rest) k is place all =
 so_far-all : {F : Type 0} (taken : F → Option (List ℕ)) (counts : F → FaultCounts) (stalls : F → ℕ) (start now : List F) (texts : List (List ℕ)) (k : ℕ) →
     WritesSoFar taken counts stalls start now texts k → length now ≤ k → length texts ≤ k → WritesFiles taken counts stalls start now texts (Ok tt)
 so_far-all taken counts stalls start now texts k so_far all texts_all =
-    rw (so_far.start_is ∙ ap (λ l. so_far.olds ++ l) (no-rest now so_far.news so_far.rest k so_far.now_is so_far.place all) ∙ append-nil so_far.olds,
-        so_far.now_is ∙ ap (λ l. so_far.news ++ l) (no-rest now so_far.news so_far.rest k so_far.now_is so_far.place all) ∙ append-nil so_far.news,
-        so_far.texts_are ∙ ap (λ l. so_far.done ++ l) (no-rest texts so_far.done so_far.more k so_far.texts_are so_far.texts_place texts_all) ∙ append-nil so_far.done)
+    rw (
+      so_far.start_is ∙ ap (λ l. so_far.olds ++ l) (no-rest now so_far.news so_far.rest k so_far.now_is so_far.place all) ∙ append-nil so_far.olds,
+      so_far.now_is ∙ ap (λ l. so_far.news ++ l) (no-rest now so_far.news so_far.rest k so_far.now_is so_far.place all) ∙ append-nil so_far.news,
+      so_far.texts_are ∙ ap (λ l. so_far.done ++ l) (no-rest texts so_far.done so_far.more k so_far.texts_are so_far.texts_place texts_all) ∙ append-nil so_far.done,
+    )
     so_far.wrote
 
 -- the same of the files of a product set

@@ -26,7 +26,10 @@ impl From<AllocError> for OpenFault {
 }
 
 /// Opens the tiles at these paths. The first fault ends it.
-pub fn open_tiles(rt: &HostRuntime, paths: &[&str]) -> Result<Vec<TileInput<Reader<File>>>, OpenFault> {
+pub fn open_tiles(
+    rt: &HostRuntime,
+    paths: &[&str],
+) -> Result<Vec<TileInput<Reader<File>>>, OpenFault> {
     let mut tiles = Vec::new(rt.alloc());
     for path in paths {
         if tiles.push(open_tile(rt, path)?).is_err() {

@@ -36,18 +36,54 @@ pub const FILE_COUNT: usize = 12;
 
 /// The files of a product set in their order: of each product its header, and then its raster.
 pub const SET_FILES: [SetFile; FILE_COUNT] = [
-    SetFile { product: Product::Con, part: Part::Header },
-    SetFile { product: Product::Con, part: Part::Raster },
-    SetFile { product: Product::Dir, part: Part::Header },
-    SetFile { product: Product::Dir, part: Part::Raster },
-    SetFile { product: Product::Acc, part: Part::Header },
-    SetFile { product: Product::Acc, part: Part::Raster },
-    SetFile { product: Product::Bas, part: Part::Header },
-    SetFile { product: Product::Bas, part: Part::Raster },
-    SetFile { product: Product::Spl, part: Part::Header },
-    SetFile { product: Product::Spl, part: Part::Raster },
-    SetFile { product: Product::Rnk, part: Part::Header },
-    SetFile { product: Product::Rnk, part: Part::Raster },
+    SetFile {
+        product: Product::Con,
+        part: Part::Header,
+    },
+    SetFile {
+        product: Product::Con,
+        part: Part::Raster,
+    },
+    SetFile {
+        product: Product::Dir,
+        part: Part::Header,
+    },
+    SetFile {
+        product: Product::Dir,
+        part: Part::Raster,
+    },
+    SetFile {
+        product: Product::Acc,
+        part: Part::Header,
+    },
+    SetFile {
+        product: Product::Acc,
+        part: Part::Raster,
+    },
+    SetFile {
+        product: Product::Bas,
+        part: Part::Header,
+    },
+    SetFile {
+        product: Product::Bas,
+        part: Part::Raster,
+    },
+    SetFile {
+        product: Product::Spl,
+        part: Part::Header,
+    },
+    SetFile {
+        product: Product::Spl,
+        part: Part::Raster,
+    },
+    SetFile {
+        product: Product::Rnk,
+        part: Part::Header,
+    },
+    SetFile {
+        product: Product::Rnk,
+        part: Part::Raster,
+    },
 ];
 
 /// Why not every file was written.
@@ -124,11 +160,7 @@ fn write_header<F: ByteSink>(alloc: Global, header: &Header, to: &mut F) -> Resu
 }
 
 /// Writes the bytes of a raster, each of whose numbers a pixel can spell.
-fn write_numbers<F: ByteSink>(
-    header: &Header,
-    raster: &Raster,
-    to: &mut F,
-) -> Result<(), SetFault>
+fn write_numbers<F: ByteSink>(header: &Header, raster: &Raster, to: &mut F) -> Result<(), SetFault>
     requires shape { raster.now.extent ≡ pixels.extent_of header.now }
     requires written { CanSpellAll header.now raster.now }
     ensures { WritesFile F.bytes_taken F.counts F.stalls to.old to.new (raster_bytes header.now raster.now) result }

@@ -4,6 +4,7 @@
 mod check_runs;
 mod file_paths;
 mod header_runs;
+mod make_runs;
 
 use crate::run_fill::run_fill;
 use drain_device::faults::{ScriptSink, ScriptSource, Scripted, SinkAnswer};
