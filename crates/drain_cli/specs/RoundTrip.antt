@@ -1,6 +1,6 @@
 -- From tiles to products, to files, and to the check of these files: what was made and written is accepted.
-use Rattle.std.specs.Prelude.{◌≡◌, ℕ, List, [], map, Option, Some, Result, Ok}
-use Rattle.std.specs.List.{All}
+use Rattle.std.specs.Prelude.{◌≡◌, ℕ, List, [], ◌∷◌, map, Option, Some, Result, Ok}
+use Rattle.std.specs.List.{All, flat_map}
 use Rattle.drain_device.specs.declared.counts.FaultCounts.{FaultCounts}
 use Rattle.drain_grid.specs.declared.product_set.ProductSet.{ProductSet}
 use Rattle.drain_grid.specs.WholeGrid.{grid_of, products_of}
@@ -8,25 +8,17 @@ use Rattle.drain_hgt.specs.declared.input.TileInput.{TileInput}
 use Rattle.drain_mosaic.specs.Tiling.{Tiling}
 use Rattle.drain_rules.specs.declared.verdict.Verdict.{Verdict}
 use Rattle.drain_verdict.specs.declared.refusal.Refusal.{Refusal}
+use Rattle.drain_verdict.specs.Faults.{products}
 use Rattle.drain_verdict.specs.Inputs.{Inputs}
 use Rattle.drain_verdict.specs.Mosaics.{TellTiles}
 use Rattle.drain_verdict.specs.Answers.{IsAnswer}
 use Rattle.drain_maker.specs.Accepted.{IsAcceptance}
-use Rattle.drain_cli.specs.declared.set_files.Part.{Part}
-use Rattle.drain_cli.specs.declared.set_files.Part.TheVariants.{Header, Raster}
-use Rattle.drain_cli.specs.declared.set_files.SetFile.{SetFile}
-use Rattle.drain_cli.specs.declared.set_files.TheConstants.{SET_FILES}
 use Rattle.drain_cli.specs.SetFiles.{WritesFiles, set_bytes}
 use Rattle.drain_cli.specs.MadeSets.{IsSetOf}
 
--- what a check is given of a file
-abbrev pub part_given : Inputs → SetFile → Part → List ℕ
-part_given i file Header = i.header file.product
-part_given i file Raster = i.raster file.product
-
--- what it is given of all files, in their order
+-- the bytes that a check is given of the products: of each its header, and then its raster
 unfoldable pub files_given : Inputs → List (List ℕ)
-files_given i = map (λ file. part_given i file file.part) SET_FILES
+files_given i = flat_map (λ p. i.header p ∷ i.raster p ∷ []) products
 
 -- products that were made of tiles and written into empty files are accepted when they are checked with the same tiles; only want of
 -- memory or a failed read keep that answer back

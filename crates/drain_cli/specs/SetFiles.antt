@@ -1,5 +1,6 @@
 -- The files of a product set: their bytes, and what came of writing them one after the other.
-use Rattle.std.specs.Prelude.{◌≡◌, ℕ, ◌<◌, ◌⊎◌, List, [], ◌∷◌, length, map, take, Option, Some, Result, Ok, Err, IsErr}
+use Rattle.std.specs.Prelude.{◌≡◌, ℕ, ◌⊎◌, List, [], ◌∷◌, Option, Some, Result, Ok, Err, IsErr}
+use Rattle.std.specs.List.{flat_map}
 use Rattle.drain_device.specs.declared.counts.FaultCounts.{FaultCounts}
 use Rattle.drain_device.specs.Failing.{WriteFails}
 use Rattle.drain_device.specs.Writes.{HandsOver}
@@ -9,6 +10,7 @@ use Rattle.drain_header.specs.Fields.{Fields}
 use Rattle.drain_header.specs.Text.{text_of}
 use Rattle.drain_mosaic.specs.Tiling.{Tiling}
 use Rattle.drain_raster.specs.Bytes.{raster_bytes}
+use Rattle.drain_verdict.specs.Faults.{products}
 use Rattle.drain_verdict.specs.Stages.{raster_in}
 use Rattle.drain_maker.specs.Headers.{header_of}
 use Rattle.drain_cli.specs.declared.set_files.Part.{Part}
@@ -16,20 +18,18 @@ use Rattle.drain_cli.specs.declared.set_files.Part.TheVariants.{Header, Raster}
 use Rattle.drain_cli.specs.declared.set_files.SetFile.{SetFile}
 use Rattle.drain_cli.specs.declared.set_files.SetFault.{SetFault}
 use Rattle.drain_cli.specs.declared.set_files.SetFault.TheVariants.{WriteFailed}
-use Rattle.drain_cli.specs.declared.set_files.TheConstants.{SET_FILES}
 
--- what a part of a product is written as
+-- the bytes of a file: a header's text, or a raster's bytes
 abbrev pub part_bytes : Part → Fields → Pixels → List ℕ
 part_bytes Header h p = text_of h
 part_bytes Raster h p = raster_bytes h p
 
--- the bytes of a file
 abbrev pub file_bytes : Tiling → ProductSet → SetFile → List ℕ
 file_bytes t ps file = part_bytes file.part (header_of t file.product) (raster_in ps file.product)
 
--- the bytes of all files, in their order
+-- the bytes of all files: of each product its header, and then its raster
 unfoldable pub set_bytes : Tiling → ProductSet → List (List ℕ)
-set_bytes t ps = map (file_bytes t ps) SET_FILES
+set_bytes t ps = flat_map (λ p. text_of (header_of t p) ∷ raster_bytes (header_of t p) (raster_in ps p) ∷ []) products
 
 -- the file took its bytes, or gave up before the last of them, or nothing was written for want of memory
 pub record WritesFile {F : Type 0} (taken : F → Option (List ℕ)) (counts : F → FaultCounts) (stalls : F → ℕ) (old new : F)
