@@ -2,7 +2,7 @@
 
 use crate::make_set::make_set;
 use crate::run_check::run_check;
-use crate::set_files::{FILE_COUNT, SET_FILES};
+use crate::set_files::FILE_COUNT;
 use crate::write_set::write_set;
 use drain_device::faults::{ScriptSink, Scripted, SinkAnswer};
 use drain_device::{ByteList, SliceSource, VecSink};
@@ -20,6 +20,11 @@ struct Tile<'a> {
 
 /// A tile of side 3 with border 5 and a pit of 1.
 const PIT: [u8; 18] = [0, 5, 0, 5, 0, 5, 0, 5, 0, 1, 0, 5, 0, 5, 0, 5, 0, 5];
+
+/// A tile of side 4 that falls to the east, each row 4 3 2 1.
+const SLOPE: [u8; 32] = [
+    0, 4, 0, 3, 0, 2, 0, 1, 0, 4, 0, 3, 0, 2, 0, 1, 0, 4, 0, 3, 0, 2, 0, 1, 0, 4, 0, 3, 0, 2, 0, 1,
+];
 
 fn inputs<'a>(
     alloc: Global,
@@ -69,13 +74,14 @@ fn make(
     })
 }
 
-/// The header and the raster of a product, counted from 0, among the files.
-fn product(
+/// A product whose header and raster stand in these places among the files.
+fn product<'a>(
     alloc: Global,
-    files: &[VecSink],
-    place: usize,
-) -> Result<RasterInput<SliceSource<'_>>, Fail> {
-    let (Some(header), Some(raster)) = (files.get(2 * place), files.get(2 * place + 1)) else {
+    files: &'a [VecSink],
+    header: usize,
+    raster: usize,
+) -> Result<RasterInput<SliceSource<'a>>, Fail> {
+    let (Some(header), Some(raster)) = (files.get(header), files.get(raster)) else {
         return Err("a file is missing".into());
     };
     Ok(RasterInput {
@@ -85,14 +91,19 @@ fn product(
 }
 
 /// Checks the files with the tiles.
-fn check(alloc: Global, side: u32, tiles: &[Tile<'_>], files: &[VecSink]) -> Result<Told, Fail> {
+fn check<'a>(
+    alloc: Global,
+    side: u32,
+    tiles: &[Tile<'a>],
+    files: &'a [VecSink],
+) -> Result<Told, Fail> {
     let mut products = Products {
-        con: product(alloc, files, 0)?,
-        dir: product(alloc, files, 1)?,
-        acc: product(alloc, files, 2)?,
-        bas: product(alloc, files, 3)?,
-        spl: product(alloc, files, 4)?,
-        rnk: product(alloc, files, 5)?,
+        con: product(alloc, files, 0, 1)?,
+        dir: product(alloc, files, 2, 3)?,
+        acc: product(alloc, files, 4, 5)?,
+        bas: product(alloc, files, 6, 7)?,
+        spl: product(alloc, files, 8, 9)?,
+        rnk: product(alloc, files, 10, 11)?,
     };
     let mut inputs = inputs(alloc, tiles)?;
     let mut out = VecSink::new(Vec::new(alloc));
@@ -103,89 +114,98 @@ fn check(alloc: Global, side: u32, tiles: &[Tile<'_>], files: &[VecSink]) -> Res
     })
 }
 
+/// Whether the run printed this line and ended with this status.
+fn is(told: &Told, line: &str, status: u8) -> bool {
+    told.line.as_slice() == line.as_bytes() && told.status == status
+}
+
+/// Whether making tells one line, and checking what was made the other, and both end with 0.
+fn tells(
+    alloc: Global,
+    side: u32,
+    tiles: &[Tile<'_>],
+    made: &str,
+    accepted: &str,
+) -> Result<bool, Fail> {
+    let mut files = Vec::new(alloc);
+    let making = make(alloc, side, tiles, &mut files)?;
+    let checking = check(alloc, side, tiles, files.as_slice())?;
+    Ok(is(&making, made, 0) && is(&checking, accepted, 0))
+}
+
+/// One tile at 0 degrees.
+fn at_zero<'a>(bytes: &'a [u8]) -> [Tile<'a>; 1] {
+    [Tile {
+        name: "N00E000.hgt",
+        bytes,
+    }]
+}
+
 #[test]
 fn what_is_made_of_worked_tiles_is_accepted(rt: HostRuntime) -> Result<(), Fail> {
-    let zero = "N00E000.hgt";
-    let voids = [0x80, 0, 0x80, 0, 0x80, 0, 0x80, 0];
-    let slope = [
-        0, 4, 0, 3, 0, 2, 0, 1, 0, 4, 0, 3, 0, 2, 0, 1, 0, 4, 0, 3, 0, 2, 0, 1, 0, 4, 0, 3, 0, 2,
-        0, 1,
-    ];
-    let level = [
-        0, 5, 0, 5, 0, 5, 0, 5, 0, 5, 0, 5, 0, 5, 0, 5, 0, 5, 0, 5, 0, 5, 0, 5, 0, 5, 0, 5, 0, 5,
-        0, 5,
-    ];
-    let cases: [(u32, &[Tile<'_>], &str, &str); 6] = [
+    let cases: [(&str, u32, &[u8], &str, &str); 5] = [
         (
+            "a pit",
             3,
-            &[Tile {
-                name: zero,
-                bytes: &PIT,
-            }],
+            PIT.as_slice(),
             "made rows=3 cols=3\n",
             "accepted rows=3 cols=3 data=9 raised=1 outlets=8\n",
         ),
         (
+            "level, side 2",
             2,
-            &[Tile {
-                name: zero,
-                bytes: &[0; 8],
-            }],
+            &[0; 8],
             "made rows=2 cols=2\n",
             "accepted rows=2 cols=2 data=4 raised=0 outlets=4\n",
         ),
         (
+            "all void",
             2,
-            &[Tile {
-                name: zero,
-                bytes: &voids,
-            }],
+            &[128, 0, 128, 0, 128, 0, 128, 0],
             "made rows=2 cols=2\n",
             "accepted rows=2 cols=2 data=0 raised=0 outlets=0\n",
         ),
         (
+            "a slope",
             4,
-            &[Tile {
-                name: zero,
-                bytes: &slope,
-            }],
+            SLOPE.as_slice(),
             "made rows=4 cols=4\n",
             "accepted rows=4 cols=4 data=16 raised=0 outlets=4\n",
         ),
         (
+            "level, side 4",
             4,
-            &[Tile {
-                name: zero,
-                bytes: &level,
-            }],
+            &[1; 32],
             "made rows=4 cols=4\n",
             "accepted rows=4 cols=4 data=16 raised=0 outlets=12\n",
         ),
-        (
-            3,
-            &[
-                Tile {
-                    name: zero,
-                    bytes: &[0; 18],
-                },
-                Tile {
-                    name: "N00E002.hgt",
-                    bytes: &[0; 18],
-                },
-            ],
-            "made rows=3 cols=7\n",
-            "accepted rows=3 cols=7 data=18 raised=0 outlets=16\n",
-        ),
     ];
-    for (side, tiles, made, accepted) in cases {
-        let mut files = Vec::new(rt.alloc());
-        let told = make(rt.alloc(), side, tiles, &mut files)?;
-        assert_eq!(rt; told.line.as_slice(), made.as_bytes());
-        assert_eq!(rt; told.status, 0);
-        let told = check(rt.alloc(), side, tiles, files.as_slice())?;
-        assert_eq!(rt; told.line.as_slice(), accepted.as_bytes());
-        assert_eq!(rt; told.status, 0);
+    for (name, side, bytes, made, accepted) in cases {
+        let tiles = at_zero(bytes);
+        assert!(rt;
+            tells(rt.alloc(), side, tiles.as_slice(), made, accepted)?,
+            "{name}"
+        );
     }
+    Ok(())
+}
+
+#[test]
+fn what_is_made_of_tiles_apart_is_accepted(rt: HostRuntime) -> Result<(), Fail> {
+    let level = [0; 18];
+    let tiles = [
+        Tile {
+            name: "N00E000.hgt",
+            bytes: &level,
+        },
+        Tile {
+            name: "N00E002.hgt",
+            bytes: &level,
+        },
+    ];
+    let made = "made rows=3 cols=7\n";
+    let accepted = "accepted rows=3 cols=7 data=18 raised=0 outlets=16\n";
+    assert!(rt; tells(rt.alloc(), 3, &tiles, made, accepted)?);
     Ok(())
 }
 
@@ -212,85 +232,65 @@ fn what_is_made_of_every_tile_of_nine_inner_samples_is_accepted(
 ) -> Result<(), Fail> {
     for choice in 0..512u32 {
         let bytes = with_edge(choice);
-        let tiles = [Tile {
-            name: "N00E000.hgt",
-            bytes: &bytes,
-        }];
-        let mut files = Vec::new(rt.alloc());
-        let told = make(rt.alloc(), 5, &tiles, &mut files)?;
-        assert_eq!(rt; told.line.as_slice(), b"made rows=5 cols=5\n".as_slice());
-        let told = check(rt.alloc(), 5, &tiles, files.as_slice())?;
-        let zeros = 9 - choice.count_ones();
-        let wanted = format!(in rt.alloc();
+        let tiles = at_zero(&bytes);
+        let zeros = 9u32.saturating_sub(choice.count_ones());
+        let accepted = format!(in rt.alloc();
             "accepted rows=5 cols=5 data=25 raised={zeros} outlets=16\n"
         )?;
-        assert_eq!(rt; told.line.as_slice(), wanted.as_bytes(), "{choice}");
+        let made = "made rows=5 cols=5\n";
+        assert!(rt;
+            tells(rt.alloc(), 5, tiles.as_slice(), made, &accepted)?,
+            "{choice}"
+        );
     }
     Ok(())
 }
 
+/// Whether nothing is made of the tiles, and the line tells why.
+fn refuses(alloc: Global, side: u32, tiles: &[Tile<'_>], line: &str) -> Result<bool, Fail> {
+    let mut files = Vec::new(alloc);
+    let making = make(alloc, side, tiles, &mut files)?;
+    Ok(is(&making, line, 2) && files.is_empty())
+}
+
 #[test]
 fn tells_why_nothing_is_made(rt: HostRuntime) -> Result<(), Fail> {
-    let tile = Tile {
-        name: "N00E000.hgt",
-        bytes: &[0; 8],
+    let bytes = [0, 1, 0, 2, 0, 3, 0, 4];
+    let named = |name| Tile {
+        name,
+        bytes: &bytes,
     };
-    let cases: [(u32, &[Tile<'_>], &str); 7] = [
-        (
-            1,
-            &[Tile {
-                name: "x",
-                bytes: &[],
-            }],
-            "refused BadSide\n",
-        ),
-        (
-            2,
-            &[
-                tile,
-                Tile {
-                    name: "x",
-                    bytes: &[],
-                },
-            ],
-            "refused BadName 1\n",
-        ),
-        (2, &[], "refused NoTiles\n"),
-        (2, &[tile, tile], "refused RepeatedTile N00E000.hgt\n"),
-        (
-            2,
-            &[
-                tile,
-                Tile {
-                    name: "N00E008.hgt",
-                    bytes: &[],
-                },
-            ],
-            "refused BoxTooLarge\n",
-        ),
-        (3, &[tile], "refused BadTileLength N00E000.hgt\n"),
-        (
-            2,
-            &[
-                Tile {
-                    name: "N00E000.hgt",
-                    bytes: &[0, 1, 0, 2, 0, 3, 0, 4],
-                },
-                Tile {
-                    name: "N00E001.hgt",
-                    bytes: &[0, 9, 0, 5, 0, 4, 0, 6],
-                },
-            ],
-            "refused SeamMismatch row=0 col=1\n",
-        ),
+    let zero = named("N00E000.hgt");
+    let none = named("x");
+    let seam = [
+        zero,
+        Tile {
+            name: "N00E001.hgt",
+            bytes: &[0, 9, 0, 5, 0, 4, 0, 6],
+        },
     ];
-    for (side, tiles, line) in cases {
-        let mut files = Vec::new(rt.alloc());
-        let told = make(rt.alloc(), side, tiles, &mut files)?;
-        assert_eq!(rt; told.line.as_slice(), line.as_bytes());
-        assert_eq!(rt; told.status, 2);
-        assert!(rt; files.is_empty());
-    }
+    let far = named("N00E008.hgt");
+    assert!(rt; refuses(rt.alloc(), 1, &[none], "refused BadSide\n")?);
+    assert!(rt; refuses(rt.alloc(), 2, &[zero, none], "refused BadName 1\n")?);
+    assert!(rt; refuses(rt.alloc(), 2, &[], "refused NoTiles\n")?);
+    assert!(rt;
+        refuses(
+            rt.alloc(),
+            2,
+            &[zero, zero],
+            "refused RepeatedTile N00E000.hgt\n"
+        )?
+    );
+    assert!(rt; refuses(rt.alloc(), 2, &[zero, far], "refused BoxTooLarge\n")?);
+    assert!(rt;
+        refuses(
+            rt.alloc(),
+            3,
+            &[zero],
+            "refused BadTileLength N00E000.hgt\n"
+        )?
+    );
+    assert!(rt; refuses(rt.alloc(), 2, &seam, "refused SeamMismatch row=0 col=1\n")?);
     Ok(())
 }
 
@@ -339,14 +339,18 @@ fn lengths_where_one_fails(alloc: Global, place: usize) -> Result<(Told, Vec<usi
 #[test]
 fn a_file_that_fails_ends_the_writing(rt: HostRuntime) -> Result<(), Fail> {
     let whole = lengths_where_one_fails(rt.alloc(), FILE_COUNT)?.1;
-    assert_eq!(rt; &whole[..2], [230, 18].as_slice());
-    for place in 0..SET_FILES.len() {
+    assert_eq!(rt; whole.first(), Some(&230));
+    for place in 0..FILE_COUNT {
         let (told, lengths) = lengths_where_one_fails(rt.alloc(), place)?;
-        assert_eq!(rt; told.line.as_slice(), b"failed WriteFailed\n".as_slice());
-        assert_eq!(rt; told.status, 3);
-        assert_eq!(rt; &lengths[..place], &whole[..place]);
-        assert!(rt; 0 < lengths[place] && lengths[place] < whole[place]);
-        assert!(rt; lengths[place + 1..].iter().all(|length| *length == 0));
+        assert!(rt; is(&told, "failed WriteFailed\n", 3));
+        for (k, (length, all)) in lengths.iter().zip(whole.iter()).enumerate() {
+            let is_right = if k == place {
+                0 < *length && length < all
+            } else {
+                *length == if k < place { *all } else { 0 }
+            };
+            assert!(rt; is_right, "file {k} where {place} fails");
+        }
     }
     Ok(())
 }
