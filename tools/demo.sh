@@ -1,52 +1,53 @@
 #!/usr/bin/env bash
-# Runs the built program on the bundled samples.
+# Runs the built program on the bundled samples. Ends with 1 where it prints anything but what is expected.
 # Usage: tools/demo.sh PROGRAM
 set -eu
 drain=$(realpath "$1")
-cd "$(dirname "$0")/../samples"
-
-show() {
-    local about=$1 input=$2
-    shift 2
-    echo
-    echo "# $about"
-    echo "\$ drain $* < samples/$input"
-    "$drain" "$@" <"$input"
-}
-
-show_header() {
-    local about=$1 file=$2
-    echo
-    echo "# $about"
-    echo "\$ drain header samples/$file"
-    "$drain" header "$file" || true
-}
-
-# Checks products of side 121 in the scratch folder, where samples/ is at hand.
-show_check() {
-    local about=$1 products=$2 tile=$3
-    echo
-    echo "# $about"
-    echo "\$ drain check --side 121 --products $products $tile"
-    (cd "$scratch" && "$drain" check --side 121 --products "$products" "$tile") || true
-}
-
-show 'A pit of 81 bytes, filled to its border' pit-3.fill fill --side 3
-show 'Real terrain: the Jacksboro fault, Tennessee' jacksboro-121.fill fill --side 121
-show_header 'The header of a raster, as GDAL wrote it' headers/gdal-hgt-i16.hdr
-show_header 'A header of floating-point pixels, which are refused' headers/gdal-Float32.hdr
-
-# The products of real terrain as they are, and copies with one byte changed, one byte less, and a tile of another name.
+samples=$(cd "$(dirname "$0")/../samples" && pwd)
 scratch=$(mktemp -d)
 trap 'rm -rf "$scratch"' EXIT
-ln -s "$PWD" "$scratch/samples"
-cp -r jacksboro "$scratch/turned"
-cp -r jacksboro "$scratch/cut"
-cp jacksboro/N36W085.hgt "$scratch/N36W084.hgt"
-chmod -R u+w "$scratch/turned" "$scratch/cut"
-printf '\x04' | dd of="$scratch/turned/dir.bil" bs=1 seek=$((121 * 55 + 84)) conv=notrunc status=none
-truncate -s -1 "$scratch/cut/acc.bil"
-show_check 'Real terrain and its six products: all rules hold' samples/jacksboro samples/jacksboro/N36W085.hgt
-show_check 'The same, but one direction is turned from east to south' turned samples/jacksboro/N36W085.hgt
-show_check 'The same, but a raster lacks its last byte' cut samples/jacksboro/N36W085.hgt
-show_check 'The same, but the tile has the name of its neighbour' samples/jacksboro N36W084.hgt
+cd "$scratch" && ln -s "$samples" samples
+status=0
+
+# Runs the program on the words behind an input, and compares what it prints.
+show() {
+    local about=$1 expected=$2 input=$3 printed
+    shift 3
+    echo
+    echo "# $about"
+    case $input in
+        /dev/null) echo "\$ drain $*" ;;
+        *) echo "\$ drain $* < $input" ;;
+    esac
+    printed=$("$drain" "$@" <"$input") || true
+    echo "$printed"
+    if [ "$printed" != "$expected" ]; then
+        echo "EXPECTED: $expected"
+        status=1
+    fi
+}
+
+tile=samples/jacksboro-344/N36W085.hgt
+mkdir products
+show 'Real terrain, the Jacksboro fault in Tennessee: six products are made of its tile' \
+    'made rows=344 cols=344' /dev/null make --side 344 --out products $tile
+show 'They are checked against the tile: all rules hold' \
+    'accepted rows=344 cols=344 data=118336 raised=5200 outlets=115' /dev/null check --side 344 --products products $tile
+
+printf '\x02' | dd of=products/acc.bil bs=1 seek=$((4 * (344 * 172 + 172))) conv=notrunc status=none
+show 'One number of acc is changed from 1 to 2' \
+    'rejected rule=13 Accumulation row=172 col=172' /dev/null check --side 344 --products products $tile
+
+tile=samples/jacksboro/N36W085.hgt
+show 'A part of this terrain, with products that another program made' \
+    'accepted rows=121 cols=121 data=14641 raised=690 outlets=32' /dev/null check --side 121 --products samples/jacksboro $tile
+cp $tile N36W084.hgt
+show 'The same, but the tile has the name of its neighbour' \
+    'refused Misplaced con' /dev/null check --side 121 --products samples/jacksboro N36W084.hgt
+
+show 'A conditioned surface alone, in one stream with its tile and its certificate' \
+    'accepted rows=121 cols=121 data=14641 raised=690' samples/jacksboro-121.fill fill --side 121
+show 'The header of a raster, as GDAL wrote it' \
+    "$(cat samples/headers/gdal-hgt-i16.expected)" /dev/null header samples/headers/gdal-hgt-i16.hdr
+
+exit $status
