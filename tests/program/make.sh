@@ -136,6 +136,13 @@ for name in dir spl; do printf '\xff\xff\xff\xff' | judge_file 'voids alone' "$m
 for name in acc bas; do numbers 4 0 0 0 0 | judge_file 'voids alone' "$made/$name.bil"; done
 head -c 16 /dev/zero | tr '\0' '\377' | judge_file 'voids alone' "$made/rnk.bil"
 
+# The greatest drop.
+make_ground
+{ for _ in 1 2 3 4; do printf '\x80\1'; done; printf '\x7f\xff'; for _ in 1 2 3 4; do printf '\x80\1'; done; } >"$ground"
+judge_make 'a peak over a plain' 0 "$pit_made" --side 3 --out "$made" "$ground"
+judge_check 'products of a peak over a plain' 0 'accepted rows=3 cols=3 data=9 raised=0 outlets=8' --side 3 --products "$made" "$ground"
+numbers 1 0 0 0 0 1 0 0 0 0 | judge_file 'a peak over a plain' "$made/dir.bil"
+
 # A header in the south and west, with samples a degree apart.
 heights 1 2 3 4 >"$work/S10W070.hgt"
 judge_make 'a tile in the south and west' 0 'made rows=2 cols=2' --side 2 --out "$made" "$work/S10W070.hgt"
@@ -223,19 +230,21 @@ timeout 20 head -c 1 "$made/acc.bil" >"$work/acc.bil" &
 judge_make 'made into a pipe that nobody reads on' 3 'failed WriteFailed' --side 344 --out "$made" "$real"
 wait $!
 
-# Outputs that can't be written: status 3, whatever the line was. Products are written before the line.
+# Outputs that can't be written: status 3, whatever the line was; and no file takes the place of a stream that is closed.
 : >"$scratch/nothing"
 for words in "--side 3 --out $made $ground" "--side 3 --out $made" "--side 3 --out $work/none $ground" '--help'; do
-    for stream in full closed; do
+    for stream in 'full output' 'closed output' 'closed input and output'; do
         make_ground
         : >"$scratch/out"
-        if [ $stream = full ]; then
-            "$drain" make $words >/dev/full 2>"$scratch/err"
-        else
-            "$drain" make $words >&- 2>"$scratch/err"
-        fi
-        judge "a $stream standard output: make $words" 3 "$scratch/nothing" $?
-        [ "$words" != "--side 3 --out $made $ground" ] || judge_pit_files "a $stream standard output" "$made"
+        case $stream in
+            'full output') "$drain" make $words </dev/null >/dev/full 2>"$scratch/err" ;;
+            'closed output') "$drain" make $words </dev/null >&- 2>"$scratch/err" ;;
+            'closed input and output') "$drain" make $words <&- >&- 2>"$scratch/err" ;;
+        esac
+        judge "a $stream: make $words" 3 "$scratch/nothing" $?
+        for name in $(ls -A "$made"); do
+            judge_file "a $stream: make $words" "$made/$name" <"$scratch/whole/$name"
+        done
     done
 done
 
