@@ -1,6 +1,7 @@
 //! The six products of a tile as `drain check` takes them: made from its elevations, and written with their headers.
 
 use crate::flood::{Flood, VOID, flood, neighbors};
+use crate::headers::{ACC, BAS, CON, Corner, DIR, Pixels, RNK, SPL};
 use std::fs::{create_dir_all, write};
 use std::io;
 use std::path::Path;
@@ -107,67 +108,19 @@ impl Products {
         create_dir_all(folder)?;
         let tile: Vec<u8> = self.z.iter().flat_map(|z| z.to_be_bytes()).collect();
         write(folder.join(TILE), tile)?;
-        self.write_one(
-            folder,
-            "con",
-            16,
-            "SIGNEDINT",
-            "-32768",
-            bytes_of_16(&self.con),
-        )?;
-        self.write_one(folder, "dir", 8, "UNSIGNEDINT", "255", self.dir.clone())?;
-        self.write_one(
-            folder,
-            "acc",
-            32,
-            "UNSIGNEDINT",
-            "0",
-            bytes_of_32(&self.acc),
-        )?;
-        self.write_one(
-            folder,
-            "bas",
-            32,
-            "UNSIGNEDINT",
-            "0",
-            bytes_of_32(&self.bas),
-        )?;
-        self.write_one(folder, "spl", 8, "UNSIGNEDINT", "255", self.spl.clone())?;
-        self.write_one(
-            folder,
-            "rnk",
-            32,
-            "UNSIGNEDINT",
-            "4294967295",
-            bytes_of_32(&self.rnk),
-        )
+        self.write_one(folder, &CON, bytes_of_16(&self.con))?;
+        self.write_one(folder, &DIR, self.dir.clone())?;
+        self.write_one(folder, &ACC, bytes_of_32(&self.acc))?;
+        self.write_one(folder, &BAS, bytes_of_32(&self.bas))?;
+        self.write_one(folder, &SPL, self.spl.clone())?;
+        self.write_one(folder, &RNK, bytes_of_32(&self.rnk))
     }
 
-    fn write_one(
-        &self,
-        folder: &Path,
-        name: &str,
-        bits: usize,
-        pixels: &str,
-        nodata: &str,
-        bytes: Vec<u8>,
-    ) -> io::Result<()> {
-        let side = self.side;
-        let step = format!("0.{:015}", 1_000_000_000_000_000 / (side as u64 - 1));
-        // A tile of side 2 has samples a whole degree apart.
-        let step = if side == 2 {
-            "1.000000000000000"
-        } else {
-            &step
-        };
-        let row = side * bits / 8;
-        let header = format!(
-            "BYTEORDER I\nLAYOUT BIL\nNROWS {side}\nNCOLS {side}\nNBANDS 1\nNBITS {bits}\nBANDROWBYTES {row}\n\
-             TOTALROWBYTES {row}\nSKIPBYTES 0\nPIXELTYPE {pixels}\nULXMAP 0.000000000000000\n\
-             ULYMAP 1.000000000000000\nXDIM {step}\nYDIM {step}\nNODATA {nodata}\n"
-        );
-        write(folder.join(format!("{name}.hdr")), header)?;
-        write(folder.join(format!("{name}.bil")), bytes)
+    fn write_one(&self, folder: &Path, pixels: &Pixels, bytes: Vec<u8>) -> io::Result<()> {
+        let corner = Corner { west: 0, north: 1 };
+        let header = pixels.header(self.side, corner);
+        write(folder.join(pixels.name).with_extension("hdr"), header)?;
+        write(folder.join(pixels.name).with_extension("bil"), bytes)
     }
 }
 

@@ -6,6 +6,7 @@
 
 mod check_products;
 mod flood;
+mod headers;
 
 use check_products::{Products, TILE};
 use flood::VOID;

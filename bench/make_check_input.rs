@@ -5,6 +5,7 @@
 
 mod check_products;
 mod flood;
+mod headers;
 mod hills;
 
 use check_products::Products;

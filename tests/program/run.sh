@@ -51,6 +51,7 @@ done < <(sed -E 's/ *\| */|/g; s/^ +| +$//g' "$here/table.txt")
 . "$here/streams.sh"
 . "$here/headers.sh"
 . "$here/check.sh"
+. "$here/make.sh"
 
 echo "$passed passed, $failed failed"
 [ "$failed" -eq 0 ]

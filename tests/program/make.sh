@@ -1,0 +1,280 @@
+# Runs of `drain make`, and `drain check` on what it made. Read by run.sh behind terrain.sh and check.sh, whose functions it calls.
+
+work=$scratch/make
+made=$work/out
+ground=$work/N00E000.hgt
+files=$(echo {con,dir,acc,bas,spl,rnk}.{hdr,bil})
+
+# A tile's bytes of these heights from 0 to 255, each - a void.
+heights() {
+    local height
+    for height; do
+        case $height in -) printf '\x80\0' ;; *) printf "\\0\\x$(printf %02x "$height")" ;; esac
+    done
+}
+
+# An empty folder for products, beside no tile but the pit.
+make_ground() {
+    rm -rf "$work"
+    mkdir -p "$made"
+    heights 5 5 5 5 1 5 5 5 5 >"$ground"
+}
+
+# Compares one run of the words: its name, the status and the line that are wanted.
+judge_make() {
+    local name=$1 status=$2 line=$3
+    shift 3
+    want "$line"
+    timeout 60 "$drain" make "$@" </dev/null >"$scratch/out" 2>"$scratch/err"
+    judge "$name" "$status" "$scratch/want" $?
+}
+
+# The same on the pit, with a line that tells of no products, and then the folder is still empty.
+judge_nothing_made() {
+    judge_make "$@"
+    want -
+    ls -A "$made" >"$scratch/out" 2>"$scratch/err"
+    judge "$1: what is in the folder" 0 "$scratch/want" $?
+}
+
+# Compares a file with the bytes of standard input.
+judge_file() {
+    cat >"$scratch/want"
+    cat "$2" >"$scratch/out" 2>"$scratch/err"
+    judge "$1: ${2##*/}" 0 "$scratch/want" $?
+}
+
+# The products of the pit in a folder, as another program made them; its ranks are steps here.
+judge_pit_files() {
+    local file
+    for file in $files; do
+        [ "$file" = rnk.bil ] || judge_file "$1" "$2/$file" <"samples/pit-3/$file"
+    done
+    numbers 4 0 0 0 0 1 0 0 0 0 | judge_file "$1" "$2/rnk.bil"
+}
+
+pit_made='made rows=3 cols=3'
+make_ground
+judge_make 'a pit' 0 "$pit_made" --side 3 --out "$made" "$ground"
+judge_pit_files 'a pit' "$made"
+numbers 2 5 5 5 5 5 5 5 5 5 | judge_file 'a pit, number by number' "$made/con.bil"
+ls -A "$made" >"$scratch/out"
+printf '%s\n' $files | LC_ALL=C sort >"$scratch/want"
+judge 'twelve files and no other' 0 "$scratch/want" 0
+judge_check 'the products made of a pit' 0 "$pit_checked" --side 3 --products "$made" "$ground"
+
+# The words in any order, and names in any letter case.
+make_ground
+judge_make 'options behind the tiles, and a slash behind the folder' 0 "$pit_made" "$ground" --out="$made/" --side=3
+judge_pit_files 'options behind the tiles' "$made"
+make_ground
+judge_make 'tiles behind two dashes' 0 "$pit_made" --side 3 --out "$made" -- "$ground"
+judge_pit_files 'tiles behind two dashes' "$made"
+make_ground
+want "$pit_made"
+(cd "$made" && timeout 20 "$drain" make --side 3 --out . ../N00E000.hgt >"$scratch/out" 2>"$scratch/err")
+judge 'made in the folder that it runs in' 0 "$scratch/want" $?
+judge_pit_files 'made in the folder that it runs in' "$made"
+make_ground
+mv "$ground" "$work/n00e000.HGT"
+judge_make 'made of a tile named in small letters' 0 "$pit_made" --side 3 --out "$made" "$work/n00e000.HGT"
+judge_pit_files 'made of a tile named in small letters' "$made"
+
+# Files that were there before are replaced whole, but not by a run that makes nothing.
+make_ground
+for name in $files; do
+    yes 'of before' | head -c 1000 >"$made/$name"
+done
+cp -r "$made" "$work/before"
+cp "$ground" "$work/x"
+judge_make 'a bad name where files are' 2 'refused BadName 0' --side 3 --out "$made" "$work/x"
+for name in $files; do
+    judge_file 'files after a refusal' "$made/$name" <"$work/before/$name"
+done
+judge_make 'made over longer files' 0 "$pit_made" --side 3 --out "$made" "$ground"
+judge_pit_files 'made over longer files' "$made"
+
+# Real terrain, judged by another program too, with the counts that another maker's products of it have.
+real=samples/jacksboro-344/N36W085.hgt
+make_ground
+judge_make 'real terrain of side 344' 0 'made rows=344 cols=344' --side 344 --out "$made" "$real"
+real_checked='accepted rows=344 cols=344 data=118336 raised=5200 outlets=115'
+judge_check 'products made of real terrain' 0 "$real_checked" --side 344 --products "$made" "$real"
+"$maker" --verify 344 "$real" "$made" >"$scratch/out" 2>"$scratch/err"
+judge 'products made of real terrain, by the other program' 0 "$scratch/want" $?
+printf '\xff\xff\xff\x7f' | dd of="$made/acc.bil" bs=1 seek=$((4 * (344 * 200 + 100))) conv=notrunc status=none
+"$maker" --verify 344 "$real" "$made" >"$scratch/line"
+case $(cat "$scratch/line") in
+    'rejected rule=13 '*) line=$(cat "$scratch/line") ;;
+    *) line='rejected rule=13, and not what the other program told' ;;
+esac
+judge_check 'a sum changed that was made of real terrain' 1 "$line" --side 344 --products "$made" "$real"
+
+# Mosaics: a tile missing between two, in either order of the words; a seam that agrees; voids alone.
+for order in 'N00E000 N00E002' 'N00E002 N00E000'; do
+    make_ground
+    heights 0 0 0 0 0 0 0 0 0 | tee "$ground" >"$work/N00E002.hgt"
+    read -r first second <<<"$order"
+    set -- --side 3 "$work/$first.hgt" "$work/$second.hgt"
+    judge_make "a tile missing between $order" 0 'made rows=3 cols=7' --out "$made" "$@"
+    judge_check "products of $order" 0 'accepted rows=3 cols=7 data=18 raised=0 outlets=16' --products "$made" "$@"
+    for row in 0 1 2; do printf '\0\0\0\0\0\0\0\x80\0\0\0\0\0\0'; done | judge_file "products of $order" "$made/con.bil"
+done
+make_ground
+heights 1 2 3 4 >"$ground"
+heights 2 5 4 6 >"$work/N00E001.hgt"
+judge_make 'two tiles that agree' 0 'made rows=2 cols=3' --side 2 --out "$made" "$ground" "$work/N00E001.hgt"
+numbers 2 1 2 5 3 4 6 | judge_file 'two tiles that agree' "$made/con.bil"
+judge_check 'products of two tiles that agree' 0 'accepted rows=2 cols=3 data=6 raised=0 outlets=1' \
+    --side 2 --products "$made" "$ground" "$work/N00E001.hgt"
+make_ground
+heights - - - - >"$ground"
+judge_make 'voids alone' 0 'made rows=2 cols=2' --side 2 --out "$made" "$ground"
+judge_check 'products of voids alone' 0 'accepted rows=2 cols=2 data=0 raised=0 outlets=0' --side 2 --products "$made" "$ground"
+printf '\0\x80\0\x80\0\x80\0\x80' | judge_file 'voids alone' "$made/con.bil"
+for name in dir spl; do printf '\xff\xff\xff\xff' | judge_file 'voids alone' "$made/$name.bil"; done
+for name in acc bas; do numbers 4 0 0 0 0 | judge_file 'voids alone' "$made/$name.bil"; done
+head -c 16 /dev/zero | tr '\0' '\377' | judge_file 'voids alone' "$made/rnk.bil"
+
+# The greatest drop.
+make_ground
+{ for _ in 1 2 3 4; do printf '\x80\1'; done; printf '\x7f\xff'; for _ in 1 2 3 4; do printf '\x80\1'; done; } >"$ground"
+judge_make 'a peak over a plain' 0 "$pit_made" --side 3 --out "$made" "$ground"
+judge_check 'products of a peak over a plain' 0 'accepted rows=3 cols=3 data=9 raised=0 outlets=8' --side 3 --products "$made" "$ground"
+numbers 1 0 0 0 0 1 0 0 0 0 | judge_file 'a peak over a plain' "$made/dir.bil"
+
+# A header in the south and west, with samples a degree apart.
+heights 1 2 3 4 >"$work/S10W070.hgt"
+judge_make 'a tile in the south and west' 0 'made rows=2 cols=2' --side 2 --out "$made" "$work/S10W070.hgt"
+printf '%s\n' 'BYTEORDER I' 'LAYOUT BIL' 'NROWS 2' 'NCOLS 2' 'NBANDS 1' 'NBITS 32' 'BANDROWBYTES 8' 'TOTALROWBYTES 8' \
+    'SKIPBYTES 0' 'PIXELTYPE UNSIGNEDINT' 'ULXMAP -70.000000000000000' 'ULYMAP -9.000000000000000' \
+    'XDIM 1.000000000000000' 'YDIM 1.000000000000000' 'NODATA 4294967295' |
+    judge_file 'a tile in the south and west' "$made/rnk.hdr"
+
+# Refusals, after which no file was made.
+make_ground
+cp "$ground" "$work/x"
+cp "$ground" "$work/N00E008.hgt"
+judge_nothing_made 'made of a name that is no tile' 2 'refused BadName 0' --side 3 --out "$made" "$work/x"
+judge_nothing_made 'made with a second name that is no tile' 2 'refused BadName 1' --side 3 --out "$made" "$ground" "$work/x"
+for side in 0 1 3602; do
+    judge_nothing_made "made with side $side" 2 'refused BadSide' --side $side --out "$made" "$ground"
+    judge_nothing_made "made with side $side and a bad name" 2 'refused BadSide' --side $side --out "$made" "$work/x"
+done
+judge_nothing_made 'made of no tile' 2 'refused NoTiles' --side 3 --out "$made"
+judge_nothing_made 'made of one tile twice' 2 'refused RepeatedTile N00E000.hgt' --side 3 --out "$made" "$ground" "$ground"
+judge_nothing_made 'made of tiles too far apart' 2 'refused BoxTooLarge' --side 3 --out "$made" "$ground" "$work/N00E008.hgt"
+judge_nothing_made 'made with the default side' 2 'refused BadTileLength N00E000.hgt' --out "$made" "$ground"
+for bytes in 0 17 19; do
+    make_ground
+    { cat "$ground"; echo; } | head -c $bytes >"$scratch/tile" && mv "$scratch/tile" "$ground"
+    judge_nothing_made "made of a tile of $bytes bytes" 2 'refused BadTileLength N00E000.hgt' --side 3 --out "$made" "$ground"
+done
+make_ground
+heights 1 2 3 4 >"$ground"
+heights 9 5 4 6 >"$work/N00E001.hgt"
+judge_nothing_made 'made of tiles that differ at a cell' 2 'refused SeamMismatch row=0 col=1' \
+    --side 2 --out "$made" "$ground" "$work/N00E001.hgt"
+
+# Tiles that can't be opened or read.
+make_ground
+mkdir "$work/N00E001.hgt"
+judge_nothing_made 'made of a tile that is not there' 3 "failed Open $work/N01E000.hgt" --side 3 --out "$made" "$work/N01E000.hgt"
+judge_nothing_made 'made of a second tile that is not there' 3 "failed Open $work/x" --side 3 --out "$made" "$ground" "$work/x"
+judge_nothing_made 'made of a folder' 3 'failed ReadFailed' --side 3 --out "$made" "$ground" "$work/N00E001.hgt"
+
+# Files that can't be opened, which is tried behind every refusal.
+for folder in "$work/none" "$work/none/" "$ground"; do
+    judge_nothing_made "no folder at $folder" 3 "failed Open ${folder%/}/con.hdr" --side 3 --out "$folder" "$ground"
+    judge_nothing_made "a bad tile, and no folder at $folder" 2 'refused BadTileLength N00E000.hgt' --side 2 --out "$folder" "$ground"
+done
+for name in $files; do
+    make_ground
+    mkdir "$made/$name"
+    judge_make "a folder for $name to be made" 3 "failed Open $made/$name" --side 3 --out "$made" "$ground"
+done
+
+# Files that can't be written. Those before them are whole.
+make_ground
+"$drain" make --side 3 --out "$made" "$ground" >"$scratch/out" 2>&1
+mv "$made" "$scratch/whole"
+for name in $files; do
+    make_ground
+    ln -s /dev/full "$made/$name"
+    judge_make "a full device for $name" 3 'failed WriteFailed' --side 3 --out "$made" "$ground"
+    for before in ${files%%"$name"*}; do
+        judge_file "before a full device for $name" "$made/$before" <"$scratch/whole/$before"
+    done
+done
+
+# Pipes: for the tile, of which one byte behind its end is waited for, and for a raster, read to its end or not.
+make_ground
+mv "$ground" "$scratch/bytes"
+mkfifo "$ground"
+cat "$scratch/bytes" >"$ground" &
+judge_make 'made of a pipe' 0 "$pit_made" --side 3 --out "$made" "$ground"
+wait $!
+judge_pit_files 'made of a pipe' "$made"
+rm -r "$made" && mkdir "$made"
+exec 3<>"$ground"
+{ cat "$scratch/bytes"; printf x; } >&3
+judge_nothing_made 'made of an open pipe with a byte too many' 2 'refused BadTileLength N00E000.hgt' --side 3 --out "$made" "$ground"
+exec 3<&-
+make_ground
+mkfifo "$made/acc.bil"
+timeout 20 cat "$made/acc.bil" >"$work/acc.bil" &
+judge_make 'made into a pipe' 0 "$pit_made" --side 3 --out "$made" "$ground"
+wait $!
+judge_file 'made into a pipe' "$work/acc.bil" <samples/pit-3/acc.bil
+timeout 20 head -c 1 "$made/acc.bil" >"$work/acc.bil" &
+judge_make 'made into a pipe that nobody reads on' 3 'failed WriteFailed' --side 344 --out "$made" "$real"
+wait $!
+
+# Outputs that can't be written: status 3, whatever the line was; and no file takes the place of a stream that is closed.
+: >"$scratch/nothing"
+for words in "--side 3 --out $made $ground" "--side 3 --out $made" "--side 3 --out $work/none $ground" '--help'; do
+    for stream in 'full output' 'closed output' 'closed input and output'; do
+        make_ground
+        : >"$scratch/out"
+        case $stream in
+            'full output') "$drain" make $words </dev/null >/dev/full 2>"$scratch/err" ;;
+            'closed output') "$drain" make $words </dev/null >&- 2>"$scratch/err" ;;
+            'closed input and output') "$drain" make $words <&- >&- 2>"$scratch/err" ;;
+        esac
+        judge "a $stream: make $words" 3 "$scratch/nothing" $?
+        for name in $(ls -A "$made"); do
+            judge_file "a $stream: make $words" "$made/$name" <"$scratch/whole/$name"
+        done
+    done
+done
+
+# No memory, for a tile or for its products.
+make_ground
+head -c $((2 * 1201 * 1201)) /dev/zero >"$work/N00E001.hgt"
+want 'failed OutOfMemory'
+(ulimit -v 20000 && exec "$drain" make --side 3601 --out "$made" "$ground") >"$scratch/out" 2>"$scratch/err"
+judge 'no memory for a tile to make products of' 3 "$scratch/want" $?
+(ulimit -v 60000 && exec "$drain" make --out "$made" "$work/N00E001.hgt") >"$scratch/out" 2>"$scratch/err"
+judge 'no memory for the products of a tile' 3 "$scratch/want" $?
+want -
+ls -A "$made" >"$scratch/out" 2>"$scratch/err"
+judge 'no memory, and no file' 0 "$scratch/want" $?
+
+# Words that are refused, and help.
+while IFS= read -r words; do
+    "$drain" make $words </dev/null >"$scratch/out" 2>"$scratch/err"
+    judge "refused words: make $words" 2 "$scratch/nothing" $? words
+done <<END
+$ground
+--out
+--side 3 $ground
+--out $made --out $made $ground
+--out $made --side x $ground
+--out $made --side 4294967296 $ground
+--products $made $ground
+END
+"$drain" make --help </dev/null >"$scratch/help" 2>"$scratch/err"
+status=$?
+grep '^Usage:' "$scratch/help" >"$scratch/out"
+want 'Usage: drain make [OPTIONS] --out <DIR> [TILE]...'
+judge 'help of make' 0 "$scratch/want" $status
