@@ -113,7 +113,7 @@ const MAKE_AFTER: &str = "Lines and exit statuses:
      refused BadTileLength TILE, refused SeamMismatch row=R col=C, or refused MakerFault, which means a
      fault of this program: what it made failed its own test, and nothing was written
   3  failed Open PATH, failed ReadFailed, failed WriteFailed, failed OutOfMemory, or standard output
-     couldn't be written; after failed WriteFailed the files are not whole";
+     couldn't be written; once files were created, what stood in them before is lost";
 
 const OUT_HELP: &str = "The folder to write the products into";
 

@@ -115,6 +115,8 @@ fn check_of_files(
 }
 
 /// Makes products of tiles and writes them into a folder, and answers the exit status. The files are created once nothing is left to refuse.
+///
+/// Where standard output is closed nothing is opened: the first file would take its place, and the line would go into that file.
 fn make_from_files(
     rt: &HostRuntime,
     side: u32,
@@ -122,6 +124,9 @@ fn make_from_files(
     tiles: &[&str],
     out: &mut impl ByteSink,
 ) -> u8 {
+    if out.write_some(&[]).is_err() {
+        return Status::Failed.code();
+    }
     let mut tiles = match open_tiles(rt, tiles) {
         Ok(tiles) => tiles,
         Err(fault) => return print_open_fault(rt, fault, out),
