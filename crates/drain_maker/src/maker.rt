@@ -76,6 +76,7 @@ fn products_from(alloc: Global, elevation: &Elevation) -> Result<ProductSet, Out
     let dir = directions(alloc, elevation, &con, &spl)?;
     let acc = accumulation(alloc, &dir, &visits)?;
     let bas = labels(alloc, &dir, &visits)?;
+    drop(visits);
     let con = raster_of_heights(alloc, Product::Con, con)?;
     let dir = raster_of_codes(alloc, Product::Dir, dir)?;
     let acc = raster_of_counts(alloc, Product::Acc, acc)?;

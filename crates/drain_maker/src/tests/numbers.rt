@@ -87,6 +87,17 @@ fn slope_to_the_east(rt: HostRuntime) -> Result<(), Fail> {
     Ok(())
 }
 
+/// A flat is crossed by the shortest way.
+#[test]
+fn ranks_on_a_flat(rt: HostRuntime) -> Result<(), Fail> {
+    let given = made(rt.alloc(), 5, &[7; 25], Product::Rnk)?;
+    let wanted = [
+        0, 0, 0, 0, 0, 0, 1, 1, 1, 0, 0, 1, 2, 1, 0, 0, 1, 1, 1, 0, 0, 0, 0, 0, 0,
+    ];
+    assert_eq!(rt; given.as_slice(), wanted.as_slice());
+    Ok(())
+}
+
 /// A pit of one cell is filled, and drains to one of the eight cells of the edge: which of them no definition says.
 #[test]
 fn pit_in_the_middle(rt: HostRuntime) -> Result<(), Fail> {
