@@ -56,38 +56,34 @@ impl Terrain {
     }
 }
 
-/// A place in the heap, in one number: the level in the upper 16 bits, then how many were put in before, then the cell. The
-/// frame of the greatest tile has fewer than 2^24 cells.
+/// A place in the heap, in one number: the level in the upper 32 bits, then the cell.
 #[derive(Clone, Copy, PartialEq, Eq, PartialOrd, Ord)]
 struct Waiting(u64);
 
 impl Waiting {
-    fn new(level: i16, turn: u32, cell: usize) -> Waiting {
+    fn new(level: i16, cell: usize) -> Waiting {
         let above_least = (i64::from(level) - i64::from(VOID)) as u64;
-        Waiting(above_least << 48 | u64::from(turn) << 24 | cell as u64)
+        Waiting(above_least << 32 | cell as u64)
     }
 
     fn level(self) -> i16 {
-        ((self.0 >> 48) as i64 + i64::from(VOID)) as i16
+        ((self.0 >> 32) as i64 + i64::from(VOID)) as i16
     }
 
     fn cell(self) -> u32 {
-        self.0 as u32 & 0xFF_FFFF
+        self.0 as u32
     }
 }
 
-/// The cells that wait: the lowest comes first, and the first put in among the lowest.
+/// The cells that wait: the lowest comes first, and the first in row order among the lowest.
 #[derive(Default)]
 struct Queue {
     heap: BinaryHeap<Reverse<Waiting>>,
-    turn: u32,
 }
 
 impl Queue {
     fn push(&mut self, level: i16, cell: usize) {
-        self.heap
-            .push(Reverse(Waiting::new(level, self.turn, cell)));
-        self.turn += 1;
+        self.heap.push(Reverse(Waiting::new(level, cell)));
     }
 
     /// Moves the cells of the lowest level behind others, and tells the level.

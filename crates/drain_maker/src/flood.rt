@@ -1,8 +1,9 @@
 //! The flood: from the open cells inwards, always at the lowest cell that was reached.
 //!
 //! A cell is reached over the neighbour from which its water has the lowest way out, so the level at which it is reached is its
-//! conditioned elevation, and that neighbour is its spill parent. Among cells of one level those that were reached first come first, so
-//! flats are crossed by the shortest way. Time goes with the cells and the logarithm of those that wait.
+//! conditioned elevation, and that neighbour is its spill parent. Of the cells of one level first come those that waited for it, and then
+//! those that were found at it, in the order in which they were found; so flats are crossed by the shortest way. Time goes with the cells
+//! and the logarithm of those that wait.
 //!
 //! Source: Priority-Flood (Barnes, Lehman and Mulla 2014).
 
@@ -67,7 +68,7 @@ impl Flood {
         })
     }
 
-    /// Reaches the open cells, in row order, each at its elevation.
+    /// Reaches the open cells, each at its elevation, and puts them in the queue.
     fn enter(&mut self, elevation: &Elevation) -> Result<(), OutOfMemory>
         requires { self.old.done.con.shape ≡ elevation.now.extent }
         ensures { self.new.done.con.shape ≡ elevation.now.extent }
@@ -76,22 +77,25 @@ impl Flood {
         for index in 0..shape.cells() {
             let cell = shape.cell(index);
             if let Some(ground) = open_ground(elevation, cell) {
-                self.reach(cell, ground, Code::Outlet, 0)?;
+                self.reach(cell, ground, Code::Outlet, 0);
+                self.queue.push(cell, ground)?;
             }
         }
         Ok(())
     }
 
-    /// Comes to the cells that were reached, lowest first, and reaches their neighbours. No cell waits twice, so there is a turn for each.
+    /// Comes to the cells that were reached, lowest first, and reaches their neighbours. There is a turn for each cell of the grid.
     fn spread(&mut self, elevation: &Elevation) -> Result<(), OutOfMemory>
         requires { self.old.done.con.shape ≡ elevation.now.extent }
         ensures { self.new.done.con.shape ≡ elevation.now.extent }
     {
-        for _ in 0..elevation.shape().cells() {
-            let Some(cell) = self.queue.pop() else {
+        for place in 0..elevation.shape().cells() {
+            if place == self.done.visits.len() {
+                self.visit_lowest()?;
+            }
+            let Some(cell) = self.done.visits.get(place) else {
                 return Ok(());
             };
-            self.done.visits.push(cell)?;
             for direction in Direction::ALL.iter() {
                 self.go_on(elevation, cell, *direction)?;
             }
@@ -99,7 +103,25 @@ impl Flood {
         Ok(())
     }
 
+    /// Puts the cells that wait at the lowest level at the end of the visits.
+    fn visit_lowest(&mut self) -> Result<(), OutOfMemory>
+        ensures { self.new.done.con.shape ≡ self.old.done.con.shape }
+    {
+        let lowest = self.queue.level();
+        for _ in 0..self.queue.len() {
+            if self.queue.level() != lowest {
+                return Ok(());
+            }
+            if let Some(cell) = self.queue.pop() {
+                self.done.visits.push(cell)?;
+            }
+        }
+        Ok(())
+    }
+
     /// Reaches the neighbour in this direction, where it has data and wasn't reached yet.
+    ///
+    /// A cell that is reached at the level of the flood comes after all that waited at this level, so it needn't pass through the queue.
     fn go_on(
         &mut self,
         elevation: &Elevation,
@@ -116,20 +138,26 @@ impl Flood {
         if self.done.con.at(next) != VOID {
             return Ok(());
         }
-        let level = ground.max(self.done.con.at(cell));
+        let level = self.done.con.at(cell);
+        let parent = Code::To(direction.opposite());
         let rank = self.done.rnk.at(cell).saturating_add(1);
-        self.reach(next, level, Code::To(direction.opposite()), rank)
+        if ground <= level {
+            self.reach(next, level, parent, rank);
+            self.done.visits.push(next)
+        } else {
+            self.reach(next, ground, parent, rank);
+            self.queue.push(next, ground)
+        }
     }
 
-    /// Reaches a cell at a level: it waits from now on.
-    fn reach(&mut self, cell: Cell, level: i16, parent: Code, rank: u32) -> Result<(), OutOfMemory>
+    /// Reaches a cell at a level, over a neighbour or as an open cell.
+    fn reach(&mut self, cell: Cell, level: i16, parent: Code, rank: u32)
         requires { IsCellOf self.old.done.con.shape cell }
         ensures { self.new.done.con.shape ≡ self.old.done.con.shape }
     {
         self.done.con.put(cell, level);
         self.done.spl.put(cell, Some(parent));
         self.done.rnk.put(cell, rank);
-        self.queue.push(cell, level)
     }
 }
 

@@ -10,11 +10,10 @@ use std::alloc::Global;
 use std::cmp::Reverse;
 use std::collections::BinaryHeap;
 
-/// A cell that waits: the least level comes first, and of one level what was put in first.
+/// A cell that waits: the least level comes first, and of one level the first in row order.
 #[derive(Clone, Copy, PartialEq, Eq, PartialOrd, Ord)]
 struct Waiting {
     level: i16,
-    turn: u32,
     index: u32,
 }
 
@@ -22,7 +21,6 @@ struct Waiting {
 #[derive(Drop)]
 pub struct Queue {
     shape: Shape,
-    turn: u32,
     heap: BinaryHeap<Reverse<Waiting>>,
     ghost inside: { All (λ waiting. waiting.0.index < shape.rows * shape.cols) (heap_items heap) },
 }
@@ -33,11 +31,7 @@ impl Queue {
         ensures { IfOk result (λ queue. queue.shape ≡ shape) }
     {
         match BinaryHeap::with_capacity(alloc, shape.cells()) {
-            Ok(heap) => Ok(Queue {
-                shape,
-                turn: 0,
-                heap,
-            }),
+            Ok(heap) => Ok(Queue { shape, heap }),
             Err(_) => Err(OutOfMemory),
         }
     }
@@ -47,12 +41,23 @@ impl Queue {
         requires { IsCellOf self.old.shape cell }
         ensures { self.new.shape ≡ self.old.shape }
     {
-        let turn = self.turn;
-        self.turn = turn.saturating_add(1);
         let index = index_of(self.shape, cell);
-        match self.heap.push(Reverse(Waiting { level, turn, index })) {
+        match self.heap.push(Reverse(Waiting { level, index })) {
             Ok(()) => Ok(()),
             Err(_) => Err(OutOfMemory),
+        }
+    }
+
+    /// How many cells wait.
+    pub fn len(&self) -> usize {
+        self.heap.len()
+    }
+
+    /// The lowest level at which a cell waits, none where no cell waits.
+    pub fn level(&self) -> Option<i16> {
+        match self.heap.peek() {
+            Some(Reverse(waiting)) => Some(waiting.level),
+            None => None,
         }
     }
 

@@ -1,6 +1,6 @@
 //! The data cells in the order in which a flood came to them.
 
-ghost use Rattle.std.specs.Prelude.{◌≡◌, ◌*◌, ◌<◌, All, IfOk, vec_len};
+ghost use Rattle.std.specs.Prelude.{◌≡◌, ◌*◌, ◌<◌, All, IfOk, IfSome, vec_len};
 ghost use Rattle.drain_grid.specs.Extent.{IsCellOf};
 
 use drain_grid::{Cell, OutOfMemory, Shape};
@@ -41,6 +41,17 @@ impl Visits {
         ensures { result ≡ vec_len self.now.indices }
     {
         self.indices.len()
+    }
+
+    /// The cell at a place, counted from 0, none behind the last.
+    pub fn get(&self, place: usize) -> Option<Cell>
+        ensures { IfSome result (IsCellOf self.now.shape) }
+    {
+        if place < self.indices.len() {
+            Some(self.cell(place))
+        } else {
+            None
+        }
     }
 
     /// The cell at a place, counted from 0.
