@@ -29,11 +29,12 @@ test:
 	@mv build/gate_began build/gate_passed
 	@$(MAKE) --no-print-directory build/drain build/label_bench
 	tests/program/run.sh build/drain build/label_bench
-	tests/refused_memory.sh drain_hgt:2 drain_mosaic:4 drain_header:4 drain_raster:1 drain_verdict:40-42
+	tests/refused_memory.sh drain_hgt:2 drain_mosaic:4 drain_header:4 drain_raster:1 drain_verdict:40-42 drain_maker:8-9
 
 bench: build/drain build/label_bench build/raster_bench build/mosaic_bench
 	bench/run.sh build/drain
 	bench/check.sh build/drain
+	bench/make.sh build/drain
 	bench/labels.sh build/label_bench
 	bench/rasters.sh build/raster_bench
 	bench/mosaic.sh build/mosaic_bench

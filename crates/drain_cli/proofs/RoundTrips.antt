@@ -1,5 +1,5 @@
 -- What was written into empty files is what a check is given, and so is accepted.
-use Rattle.std.proofs.Common.{◌≡◌, ℕ, suc, ◌<◌, List, [], ◌∷◌, map, length, slice_index_or, All, Option, Some, None, Result, Ok, Err, IsErr, inl, inr, arith, refl, sym, ap, ◌∙◌, subst}
+use Rattle.std.proofs.Common.{◌≡◌, ℕ, suc, ◌<◌, List, [], ◌∷◌, map, length, slice_index_or, Option, Some, None, Ok, inl, inr, arith, refl, sym, ap, ◌∙◌, subst}
 use Rattle.std.specs.Io.KnownBytes.{Appends}
 use Rattle.drain_device.specs.declared.counts.FaultCounts.{FaultCounts}
 use Rattle.drain_grid.specs.declared.product.Product.{Product}
@@ -9,14 +9,12 @@ use Rattle.drain_header.specs.Text.{text_of}
 use Rattle.drain_mosaic.specs.Tiling.{Tiling}
 use Rattle.drain_raster.specs.Bytes.{raster_bytes}
 use Rattle.drain_verdict.specs.Inputs.{Inputs}
-use Rattle.drain_verdict.specs.Meaning.{tiling_of}
 use Rattle.drain_verdict.specs.Mosaics.{IsMosaicOf}
 use Rattle.drain_verdict.specs.Stages.{raster_in}
 use Rattle.drain_maker.specs.Headers.{header_of}
 use Rattle.drain_maker.specs.Made.{AreMade}
-use Rattle.drain_maker.specs.Accepted.{AreFilesOf, MadeIsAccepted}
-use Rattle.drain_cli.specs.declared.set_files.SetFault.{SetFault}
-use Rattle.drain_cli.specs.SetFiles.{WritesFile, WritesFiles, set_bytes}
+use Rattle.drain_maker.specs.Accepted.{MadeIsAccepted}
+use Rattle.drain_cli.specs.SetFiles.{WritesFiles, set_bytes}
 use Rattle.drain_cli.specs.RoundTrip.{WhatIsWrittenIsAccepted, files_given}
 
 -- what was appended to no bytes is all there is

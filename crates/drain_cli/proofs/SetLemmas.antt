@@ -1,9 +1,8 @@
 -- From the writes of single files to those of a product set.
-use Rattle.std.proofs.Common.{◌≡◌, ◌↔◌, ℕ, ◌+◌, ◌-◌, ◌*◌, ◌<◌, ◌≤◌, inl, inr, ℤ, List, [], ◌∷◌, ◌++◌, map, length, take, slice_index_or, Option, Some, None, Result, Ok, Err, IsErr, IsErrOf, arith, refl, sym, ap, ◌∙◌, length-append, append_assoc, append-nil}
-use Rattle.std.specs.Prelude.{slice_get, slice_set}
+use Rattle.std.proofs.Common.{◌≡◌, ◌↔◌, ℕ, ◌+◌, ◌<◌, ◌≤◌, inl, inr, List, [], ◌∷◌, ◌++◌, length, slice_index_or, Option, Some, None, Result, Ok, Err, IsErrOf, arith, refl, sym, ap, ◌∙◌, length-append, append_assoc, append-nil}
+use Rattle.std.specs.Prelude.{slice_set}
 use Rattle.std.specs.Io.KnownBytes.{Appends}
 use Rattle.drain_device.specs.declared.counts.FaultCounts.{FaultCounts}
-use Rattle.drain_device.specs.Counts.{Answered, counted}
 use Rattle.drain_device.specs.Failing.{WriteFails}
 use Rattle.drain_device.specs.Writes.{HandsOver}
 use Rattle.drain_device.specs.Patience.{full_patience, GivesUpWriting}

@@ -7,7 +7,7 @@
 //!
 //! Source: Priority-Flood (Barnes, Lehman and Mulla 2014).
 
-ghost use Rattle.std.specs.Prelude.{◌≡◌, IfOk, IfSome};
+ghost use Rattle.std.specs.Prelude.{◌≡◌, IfOk};
 ghost use Rattle.drain_grid.specs.Extent.{IsCellOf};
 
 use crate::layer::Layer;
@@ -132,12 +132,15 @@ impl Flood {
         requires inside { IsCellOf elevation.now.extent cell }
         ensures { self.new.done.con.shape ≡ elevation.now.extent }
     {
-        let Some((next, ground)) = data_beside(elevation, cell, direction) else {
+        let Some(next) = elevation.shape().step(cell, direction) else {
             return Ok(());
         };
         if self.done.con.at(next) != VOID {
             return Ok(());
         }
+        let Some(ground) = elevation.z(next) else {
+            return Ok(());
+        };
         let level = self.done.con.at(cell);
         let parent = Code::To(direction.opposite());
         let rank = self.done.rnk.at(cell).saturating_add(1);
@@ -161,24 +164,21 @@ impl Flood {
     }
 }
 
-/// The neighbour in this direction and its elevation, if it has data.
-fn data_beside(elevation: &Elevation, cell: Cell, direction: Direction) -> Option<(Cell, i16)>
-    ensures { IfSome result (λ found. IsCellOf elevation.now.extent found.0) }
-{
-    let next = elevation.shape().step(cell, direction)?;
-    let ground = elevation.z(next)?;
-    Some((next, ground))
-}
-
 /// The elevation of an open cell: one with data, on the grid's edge or beside a void.
 fn open_ground(elevation: &Elevation, cell: Cell) -> Option<i16>
     requires { IsCellOf elevation.now.extent cell }
 {
     let ground = elevation.z(cell)?;
     for direction in Direction::ALL.iter() {
-        if data_beside(elevation, cell, *direction).is_none() {
+        if ground_beside(elevation, cell, *direction).is_none() {
             return Some(ground);
         }
     }
     None
+}
+
+/// The elevation of the neighbour in this direction, if it has data.
+fn ground_beside(elevation: &Elevation, cell: Cell, direction: Direction) -> Option<i16> {
+    let next = elevation.shape().step(cell, direction)?;
+    elevation.z(next)
 }

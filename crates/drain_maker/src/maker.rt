@@ -33,7 +33,7 @@ pub enum MakeRefusal {
 ///
 /// All rules were tried at every cell of what it hands out, and every number can be spelled by the pixels of `product_header`; else the
 /// answer is `MakerFault`. `OutOfMemory` comes where memory was refused. Labels count the outlets in row order from 1; a rank is the number of
-/// steps to an outlet or a void's edge along spill parents; off flats the direction is the first steepest, on flats the spill parent's.
+/// steps to an open cell along spill parents; off flats the direction is the first steepest, on flats the spill parent's.
 pub fn make(
     alloc: Global,
     layout: &Layout,
