@@ -1,0 +1,40 @@
+#!/usr/bin/env bash
+# Shows that the tests of drain_maker fail for makers that build wrong products. No proof refuses these: such a maker answers MakerFault, as
+# it tests what it built, and no contract says that it succeeds. Each file of tests/wrong_makers is such a maker, in the form of a must-fail edit
+# (file, old text, new text); its tests are run in a copy, unproved.
+# Usage: tests/wrong_makers.sh
+set -euo pipefail
+top=$(cd "$(dirname "$0")/.." && pwd)
+scratch=$(mktemp -d)
+trap 'rm -rf "$scratch"' EXIT
+cp "$top/crates.txt" "$top/HANDLES" "$scratch"
+(cd "$top" && find crates -path '*/out' -prune -o -type f \( -name '*.rt' -o -name '*.antt' \) -print0 | xargs -0 cp --parents -t "$scratch")
+maker=$scratch/crates/drain_maker
+
+# Puts the new text in the place of the old, which stands once in the file.
+# Usage: apply EDIT
+apply() {
+    python3 - "$maker" "$1" <<'PYTHON'
+import pathlib, sys
+maker, edit = sys.argv[1:]
+words = dict(line.split(": ", 1) for line in pathlib.Path(edit).read_text().splitlines())
+file = pathlib.Path(maker, words["file"])
+text = file.read_text()
+if text.count(words["old"]) != 1:
+    sys.exit(f"{edit}: its old text doesn't stand once in {words['file']}")
+file.write_text(text.replace(words["old"], words["new"]))
+PYTHON
+}
+
+status=0
+for edit in "$top"/tests/wrong_makers/*.edit; do
+    name=$(basename "$edit" .edit)
+    cp -r "$top/crates/drain_maker/src" "$maker"
+    apply "$edit"
+    told=$(cd "$maker" && rt try --test 2>&1 </dev/null) || true
+    case $(grep '^test result:' <<<"$told") in
+        *FAILED*) echo "$name: tests fail, as they must: $(grep -c '^test .*FAILED$' <<<"$told")" ;;
+        *) echo "FAILED $name: no test fails"; status=1 ;;
+    esac
+done
+exit $status
