@@ -27,7 +27,7 @@ show() {
     fi
 }
 
-tile=samples/jacksboro-344/N36W085.hgt
+tile=samples/N36W085.hgt
 mkdir products
 show 'Real terrain, the Jacksboro fault in Tennessee: six products are made of its tile' \
     'made rows=344 cols=344' /dev/null make --side 344 --out products $tile

@@ -95,7 +95,7 @@ judge_make 'made over longer files' 0 "$pit_made" --side 3 --out "$made" "$groun
 judge_pit_files 'made over longer files' "$made"
 
 # Real terrain, judged by another program too, with the counts that another maker's products of it have.
-real=samples/jacksboro-344/N36W085.hgt
+real=samples/N36W085.hgt
 make_ground
 judge_make 'real terrain of side 344' 0 'made rows=344 cols=344' --side 344 --out "$made" "$real"
 real_checked='accepted rows=344 cols=344 data=118336 raised=5200 outlets=115'

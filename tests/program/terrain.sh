@@ -35,9 +35,9 @@ for name in n36w085.hgt N36w085.HGT; do
 done
 
 # All of the terrain that the bundled tile was cut from, with the counts that another maker's products of it have.
-"$maker" 344 samples/jacksboro-344/N36W085.hgt "$scratch/wide"
+"$maker" 344 samples/N36W085.hgt "$scratch/wide"
 want 'accepted rows=344 cols=344 data=118336 raised=5200 outlets=115'
-timeout 60 "$drain" check --side 344 --products "$scratch/wide" samples/jacksboro-344/N36W085.hgt </dev/null >"$scratch/out" 2>"$scratch/err"
+timeout 60 "$drain" check --side 344 --products "$scratch/wide" samples/N36W085.hgt </dev/null >"$scratch/out" 2>"$scratch/err"
 judge 'real terrain of side 344' 0 "$scratch/want" $?
 
 # One number changed: the rule that is to fail first, the file, its bytes a number, the cell, and the bytes put there.
