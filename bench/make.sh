@@ -41,7 +41,7 @@ done
 
 for side in 1201 3601; do
     "$out/make_check_input" "$side" 1 "$scratch/terrain"
-    "$out/mirror_tile" 344 "$top/samples/jacksboro-344/${real##*/}" "$side" "$real"
+    "$out/mirror_tile" 344 "$top/samples/${real##*/}" "$side" "$real"
     for input in "$tile" "$real"; do
         compare "$side" "$input"
         echo
