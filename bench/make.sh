@@ -1,7 +1,7 @@
 #!/usr/bin/env bash
-# Shows how fast `drain make` is beside its twin: builds the twin, compares the twelve files of both on small tiles and on tiles of
-# sides 1201 and 3601, made-up terrain and real terrain enlarged by mirrored copies, then times both on the large ones. It exits
-# with 1 where files differ; times never make it fail.
+# Shows how fast `drain make` is beside its twin, and beside a plainer form of that: builds them, compares the twelve files of drain and twin
+# on small tiles and on tiles of sides 1201 and 3601, made-up terrain and real terrain enlarged by mirrored copies, then times all three on
+# the large ones. It exits with 1 where files differ; times never make it fail.
 # Usage: bench/make.sh DRAIN
 set -euo pipefail
 drain=$(realpath "$1")
@@ -18,6 +18,7 @@ mkdir -p "$out"
 for name in make_check_input mirror_tile twin_make measure; do
     rustc --edition 2024 -O -C target-cpu=x86-64-v2 -o "$out/$name" "$bench/$name.rs"
 done
+rustc --edition 2024 -O -C target-cpu=x86-64-v2 --cfg plain -o "$out/twin_make_plain" "$bench/twin_make.rs"
 
 # Makes products with both programs, and compares their lines and files.
 # Usage: compare SIDE TILE
@@ -47,7 +48,7 @@ for side in 1201 3601; do
         echo
         echo "$([ "$input" = "$tile" ] && echo made-up || echo real) terrain of side $side"
         mkdir -p "$scratch/timed"
-        "$out/measure" 5 $((side * side)) /dev/null "$drain" "$twin" -- make --side "$side" --out "$scratch/timed" "$input"
+        "$out/measure" 5 $((side * side)) /dev/null "$drain" "$twin" "${twin}_plain" -- make --side "$side" --out "$scratch/timed" "$input"
     done
 done
 exit "$differ"

@@ -1,16 +1,20 @@
 //! The twin of `drain make`, as one writes it in plain Rust: reads one tile, makes its six products and writes them with their
 //! headers. It tests nothing. Of equal choices it makes those of the program, so both write the same bytes.
 //!
+//! Built with `--cfg plain` it is the flood as one writes it first: three fields to a place in the heap, and every cell through the heap. Of
+//! equal choices it then makes others where cells have one level.
+//!
 //! Numbers are kept as wide as their pixels. A frame of voids stands around the tile, so every cell has eight neighbours.
 //!
 //! Usage: make --side N --out FOLDER TILE
 
 mod headers;
+#[cfg_attr(plain, path = "queue_plain.rs")]
+#[cfg_attr(not(plain), path = "queue_packed.rs")]
+mod queue;
 
 use headers::{ACC, BAS, CON, Corner, DIR, Pixels, RNK, SPL};
-use std::cmp::Reverse;
-use std::collections::BinaryHeap;
-use std::collections::binary_heap::PeekMut;
+use queue::Queue;
 use std::fs::{File, read, write};
 use std::io::{self, BufWriter, Write};
 use std::path::{Path, PathBuf};
@@ -56,48 +60,6 @@ impl Terrain {
     }
 }
 
-/// A place in the heap, in one number: the level in the upper 32 bits, then the cell.
-#[derive(Clone, Copy, PartialEq, Eq, PartialOrd, Ord)]
-struct Waiting(u64);
-
-impl Waiting {
-    fn new(level: i16, cell: usize) -> Waiting {
-        let above_least = (i64::from(level) - i64::from(VOID)) as u64;
-        Waiting(above_least << 32 | cell as u64)
-    }
-
-    fn level(self) -> i16 {
-        ((self.0 >> 32) as i64 + i64::from(VOID)) as i16
-    }
-
-    fn cell(self) -> u32 {
-        self.0 as u32
-    }
-}
-
-/// The cells that wait: the lowest comes first, and the first in row order among the lowest.
-#[derive(Default)]
-struct Queue {
-    heap: BinaryHeap<Reverse<Waiting>>,
-}
-
-impl Queue {
-    fn push(&mut self, level: i16, cell: usize) {
-        self.heap.push(Reverse(Waiting::new(level, cell)));
-    }
-
-    /// Moves the cells of the lowest level behind others, and tells the level.
-    fn pop_level(&mut self, order: &mut Vec<u32>) -> Option<i16> {
-        let level = self.heap.peek()?.0.level();
-        while let Some(first) = self.heap.peek_mut()
-            && first.0.level() == level
-        {
-            order.push(PeekMut::pop(first).0.cell());
-        }
-        Some(level)
-    }
-}
-
 /// What the flood finds, and the data cells in the order in which it leaves them.
 struct Flood {
     con: Vec<i16>,
@@ -108,7 +70,8 @@ struct Flood {
 
 /// Priority-Flood (Barnes, Lehman and Mulla 2014) from the open cells.
 ///
-/// A cell found at the level that is being flooded comes after all that wait at this level, so it needn't pass through the heap.
+/// A cell found at the level that is being flooded comes after all that wait at this level, so it needn't pass through the heap (but does in
+/// the plain form).
 fn flood(terrain: &Terrain) -> Flood {
     let Terrain { side, ref z } = *terrain;
     let steps = terrain.steps();
@@ -157,11 +120,15 @@ impl Flood {
             self.spl[beside] = 1 << ((direction + 4) % 8);
             self.rnk[beside] = rank;
             let height = terrain.z[beside];
-            if height <= level {
-                self.con[beside] = level;
-                self.order.push(beside as u32);
-            } else {
+            if height > level {
                 queue.push(height, beside);
+            } else {
+                self.con[beside] = level;
+                if cfg!(plain) {
+                    queue.push(level, beside);
+                } else {
+                    self.order.push(beside as u32);
+                }
             }
         }
     }
