@@ -1,8 +1,7 @@
 //! The first part of a run of `drain make`: the tiles are read, and products are made of their mosaic.
 
-ghost use Rattle.std.specs.Prelude.{◌≡◌, map, IfOk, IfErr, OnOk, Err};
-ghost use Rattle.drain_grid.specs.Rasters.{Heights};
-ghost use Rattle.drain_verdict.specs.Faults.{TilesTakeAtMost};
+ghost use Rattle.std.specs.Prelude.{◌≡◌, map, IfOk, IfErr, OnOk};
+ghost use Rattle.drain_verdict.specs.Faults.{SomeReadFails, TilesTakeAtMost, tile_devices};
 ghost use Rattle.drain_verdict.specs.Inputs.{names_of};
 ghost use Rattle.drain_cli.specs.declared.make_set.NoSet.{NoSet};
 ghost use Rattle.drain_cli.specs.MadeSets.{IsSetOf, IsNoSet};
@@ -41,6 +40,7 @@ pub fn make_set<R: ByteSource, W: ByteSink>(
     out: &mut W,
 ) -> Result<(Layout, ProductSet), u8>
     ensures made { IfOk result (λ set. IsSetOf R.bytes_left side tiles.old set.0 set.1) }
+    ensures no_read_failed { OnOk result (SomeReadFails (map R.counts (tile_devices tiles.old)) (map R.counts (tile_devices tiles.new)) ⊥) }
     ensures quiet { OnOk result (out.new ≡ out.old) }
     ensures refused { IfErr result (λ code. (why : NoSet) × IsNoSet R.bytes_left R.counts side tiles.old tiles.new why
         × Prints (W.bytes_taken out.old) (W.bytes_taken out.new) (W.counts out.old) (W.counts out.new)
@@ -63,6 +63,7 @@ fn read_and_make<R: ByteSource>(
     tiles: &mut [TileInput<R>],
 ) -> Result<(Layout, ProductSet), NoSet>
     ensures made { IfOk result (λ set. IsSetOf R.bytes_left side tiles.old set.0 set.1) }
+    ensures no_read_failed { OnOk result (SomeReadFails (map R.counts (tile_devices tiles.old)) (map R.counts (tile_devices tiles.new)) ⊥) }
     ensures refused { IfErr result (IsNoSet R.bytes_left R.counts side tiles.old tiles.new) }
     ensures within { TilesTakeAtMost R.bytes_left side tiles.old tiles.new }
     ensures names { names_of tiles.new ≡ names_of tiles.old }
