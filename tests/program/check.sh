@@ -38,11 +38,7 @@ make_pit() {
 
 # Compares one run of the words: its name, the status and the line that are wanted.
 judge_check() {
-    local name=$1 status=$2 line=$3
-    shift 3
-    want "$line"
-    timeout 20 "$drain" check "$@" </dev/null >"$scratch/out" 2>"$scratch/err"
-    judge "$name" "$status" "$scratch/want" $?
+    judge_words "$1" "$2" "$3" check "${@:4}"
 }
 
 # The same on the tile of side 3 and its products.

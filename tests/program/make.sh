@@ -22,11 +22,7 @@ make_ground() {
 
 # Compares one run of the words: its name, the status and the line that are wanted.
 judge_make() {
-    local name=$1 status=$2 line=$3
-    shift 3
-    want "$line"
-    timeout 60 "$drain" make "$@" </dev/null >"$scratch/out" 2>"$scratch/err"
-    judge "$name" "$status" "$scratch/want" $?
+    judge_words "$1" "$2" "$3" make "${@:4}"
 }
 
 # The same on the pit, with a line that tells of no products, and then the folder is still empty.

@@ -39,6 +39,15 @@ want() {
     esac
 }
 
+# Compares one run of a command without input: its name, the status and the line that are wanted, and its words.
+judge_words() {
+    local name=$1 status=$2 line=$3
+    shift 3
+    want "$line"
+    timeout 60 "$drain" "$@" </dev/null >"$scratch/out" 2>"$scratch/err"
+    judge "$name" "$status" "$scratch/want" $?
+}
+
 while IFS='|' read -r name input words status line errors; do
     case $name in '' | \#*) continue ;; esac
     read -r -a asked <<<"$words"
