@@ -31,7 +31,7 @@ file_bytes t ps file = part_bytes file.part (header_of t file.product) (raster_i
 unfoldable pub set_bytes : Tiling → ProductSet → List (List ℕ)
 set_bytes t ps = flat_map (λ p. text_of (header_of t p) ∷ raster_bytes (header_of t p) (raster_in ps p) ∷ []) products
 
--- the file took its bytes, or gave up before the last of them, or nothing was written for want of memory
+-- the file took its bytes, or a proper part of them, from the first on; the write failed exactly where the file gave up
 pub record WritesFile {F : Type 0} (taken : F → Option (List ℕ)) (counts : F → FaultCounts) (stalls : F → ℕ) (old new : F)
     (bytes : List ℕ) (done : Result (Unit {0}) SetFault) : Type 0 where
   pub written : HandsOver (taken old) (taken new) done bytes
