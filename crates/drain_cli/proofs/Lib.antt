@@ -4,3 +4,4 @@ pub mod PathLemmas
 pub mod PrintLemmas
 pub mod RoundTrips
 pub mod SetLemmas
+pub mod TileNames

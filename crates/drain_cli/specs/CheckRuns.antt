@@ -1,5 +1,5 @@
 -- How a run of `drain check` ends: with a verdict, or with the first refusal.
-use Rattle.std.specs.Prelude.{ℕ, List, map, Option, Result, Ok, Err, IsErrOf}
+use Rattle.std.specs.Prelude.{◌≡◌, ℕ, List, map, Option, Result, Ok, Err, IfErr, IsErrOf}
 use Rattle.drain_device.specs.declared.counts.FaultCounts.{FaultCounts}
 use Rattle.drain_hgt.specs.declared.input.TileInput.{TileInput}
 use Rattle.drain_rules.specs.declared.verdict.Verdict.{Verdict}
@@ -9,6 +9,7 @@ use Rattle.drain_verdict.specs.declared.refusal.Refusal.{Refusal}
 use Rattle.drain_verdict.specs.declared.refusal.Refusal.TheVariants.{OutOfMemory, ReadFailed}
 use Rattle.drain_verdict.specs.Inputs.{Inputs, Tell}
 use Rattle.drain_verdict.specs.Answers.{IsAnswer}
+use Rattle.drain_verdict.specs.Refusals.{IsOfBodies}
 use Rattle.drain_verdict.specs.Faults.{SomeReadFails, devices_of}
 use Rattle.drain_verdict.specs.Headline.{TilesAreOne, ElevationIsTheirs, ConIsLeast, NoDirectionClimbs, DirectionsAreSteepest, CodesTellOutlets, RunsEnd, RunsEndAtOutlets, RunsVisitOnce, AccCountsUpstream, LabelsTellBasins, VoidsAreBlank, DataIsComplete}
 use Rattle.drain_cli.specs.declared.status.Status.{Status}
@@ -22,11 +23,13 @@ check_status (Err OutOfMemory) = status.Failed
 check_status (Err ReadFailed) = status.Failed
 check_status (Err refusal) = status.Refused
 
--- the answer is that of the bytes that the devices had left, where they tell them, and says that a read failed exactly where one did
+-- the answer is that of the bytes that the devices had left, where they tell them, and says that a read failed exactly where one did; where it
+-- refuses side, names, layout or headers every device is as it was
 pub record IsCheckOutcome {R : Type 0} (bytes_left : R → Option (List ℕ)) (counts : R → FaultCounts) (side : ℕ)
     (tiles_old tiles_new : List (TileInput R)) (products_old products_new : Products R) (outcome : Result Verdict Refusal) : Type 0 where
   pub answer : (i : Inputs) → Tell bytes_left side tiles_old products_old i → IsAnswer i outcome
   pub faults : SomeReadFails (map counts (devices_of tiles_old products_old)) (map counts (devices_of tiles_new products_new)) (IsErrOf outcome ReadFailed)
+  pub untouched : IfErr outcome (λ refusal. ¬ IsOfBodies refusal → (tiles_new ≡ tiles_old) × (products_new ≡ products_old))
 
 -- the tiles agree, and the products of their mosaic are correct
 pub record IsRight (i : Inputs) : Type 0 where

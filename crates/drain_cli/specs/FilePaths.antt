@@ -3,6 +3,8 @@ use Rattle.std.specs.Prelude.{◌≡◌, ◌≢◌, ◌⊎◌, ◌==◌, ℕ, Li
 use Rattle.std.specs.List.{All, ends_with}
 use Rattle.drain_grid.specs.declared.product.Product.{Product}
 use Rattle.drain_grid.specs.Product.{name_of}
+use Rattle.drain_cli.specs.declared.set_files.Part.{Part}
+use Rattle.drain_cli.specs.declared.set_files.Part.TheVariants.{Header, Raster}
 
 abbrev pub slash : ℕ
 slash = 47
@@ -20,6 +22,11 @@ header_ending = codes ".hdr"
 
 abbrev pub raster_ending : List ℕ
 raster_ending = codes ".bil"
+
+-- the ending of a file's name, by what of a product it holds
+abbrev pub ending_of : Part → List ℕ
+ending_of Header = header_ending
+ending_of Raster = raster_ending
 
 -- the name is the whole path, or follows the path's last slash
 pub record IsLastPart (path name : List ℕ) : Type 0 where

@@ -8,6 +8,7 @@ use Rattle.drain_mosaic.specs.Tiling.{Tiling, extent_of}
 use Rattle.drain_verdict.specs.declared.refusal.Refusal.TheVariants.{ReadFailed}
 use Rattle.drain_verdict.specs.Faults.{SomeReadFails, tile_devices}
 use Rattle.drain_verdict.specs.Inputs.{Inputs}
+use Rattle.drain_verdict.specs.Refusals.{IsOfBodies}
 use Rattle.drain_verdict.specs.Mosaics.{TellTiles, IsMosaicOf, IsMosaicRefusal}
 use Rattle.drain_maker.specs.Made.{AreMade}
 use Rattle.drain_cli.specs.declared.make_set.NoSet.{NoSet}
@@ -20,9 +21,11 @@ pub record IsSetOf {R : Type 0} (bytes_left : R → Option (List ℕ)) (side : �
   pub mosaic : (i : Inputs) → TellTiles bytes_left side tiles i → IsMosaicOf i t elevation
   pub made : AreMade t elevation ps
 
--- the first refusal of the tiles, of which a failed read is told exactly where one failed; nothing is known where the maker made none
+-- the first refusal of the tiles, of which a failed read is told exactly where one failed, and which leaves every device as it was where it is of side,
+-- names or layout; nothing is known where the maker made none
 abbrev pub IsNoSet : {R : Type 0} → (R → Option (List ℕ)) → (R → FaultCounts) → ℕ → List (TileInput R) → List (TileInput R) → NoSet → Type 0
 IsNoSet bytes_left counts side old new (Tiles refusal) =
     ((i : Inputs) → TellTiles bytes_left side old i → IsMosaicRefusal i refusal)
     × SomeReadFails (map counts (tile_devices old)) (map counts (tile_devices new)) (refusal ≡ ReadFailed)
+    × (¬ IsOfBodies refusal → new ≡ old)
 IsNoSet bytes_left counts side old new (Maker refusal) = SomeReadFails (map counts (tile_devices old)) (map counts (tile_devices new)) ⊥

@@ -1,5 +1,6 @@
 //! The words of the command line: which command is asked for, and the texts of help.
 
+use clap::builder::ValueParser;
 use clap::{Arg, ArgAction, ArgMatches, Command, Error};
 use std::alloc::{AllocError, Global};
 
@@ -32,6 +33,10 @@ const ABOUT: &str =
     "Checks drainage rasters computed from SRTM elevation tiles, and makes them. An acceptance is \
     proved to mean what it says, whoever made the rasters.";
 
+/// The program's version, and the toolchain whose logic proved it.
+const VERSION: &str = "0.1.0
+proved with rattle-kit-13b logic dac8208d650f15bf";
+
 const FILL_ABOUT: &str =
     "Check a conditioned elevation raster, its spill parents and its ranks against their tile";
 
@@ -51,7 +56,10 @@ const FILL_AFTER: &str = "Lines and exit statuses:
   0  accepted rows=R cols=C data=D raised=U
   1  rejected rule=N NAME row=R col=C        the first rule that fails, at the first cell
   2  refused BadSide, refused BadLength
-  3  failed ReadFailed, failed OutOfMemory, or standard output couldn't be written";
+  3  failed ReadFailed, failed OutOfMemory, or standard output couldn't be written
+
+Example:
+  drain fill --side 1201 < surface.fill";
 
 const HEADER_ABOUT: &str = "Print what the header of a BIL raster says, or why it is refused";
 
@@ -64,7 +72,10 @@ const HEADER_AFTER: &str = "Lines and exit statuses:
   0  the header, fifteen lines (fourteen without a NODATA line)
   2  refused TooLong, refused RepeatedKey LINE, refused BadValue LINE, refused MissingKey KEYWORD,
      refused NotOneBand, refused BadBits, refused BadPixelType, refused RowTooShort
-  3  failed Open PATH, failed ReadFailed, failed OutOfMemory, or standard output couldn't be written";
+  3  failed Open PATH, failed ReadFailed, failed OutOfMemory, or standard output couldn't be written
+
+Example:
+  drain header rasters/con.hdr";
 
 const CHECK_ABOUT: &str = "Check the six products of a mosaic against its tiles";
 
@@ -91,7 +102,10 @@ const CHECK_AFTER: &str = "Lines and exit statuses:
      refused BadHeader PRODUCT FAULT (a fault of drain header), refused WrongShape PRODUCT,
      refused Misplaced PRODUCT, refused BadTileLength TILE, refused RasterShort PRODUCT,
      refused SeamMismatch row=R col=C
-  3  failed Open PATH, failed ReadFailed, failed OutOfMemory, or standard output couldn't be written";
+  3  failed Open PATH, failed ReadFailed, failed OutOfMemory, or standard output couldn't be written
+
+Example:
+  drain check --side 1201 --products rasters N37W105.hgt N37W106.hgt";
 
 const MAKE_ABOUT: &str = "Make the six products of a mosaic from its tiles";
 
@@ -113,7 +127,10 @@ const MAKE_AFTER: &str = "Lines and exit statuses:
      refused BadTileLength TILE, refused SeamMismatch row=R col=C, or refused MakerFault, which means a
      fault of this program: what it made failed its own test, and nothing was written
   3  failed Open PATH, failed ReadFailed, failed WriteFailed, failed OutOfMemory, or standard output
-     couldn't be written; once files were created, what stood in them before is lost";
+     couldn't be written; once files were created, what stood in them before is lost
+
+Example:
+  drain make --side 1201 --out rasters N37W105.hgt N37W106.hgt";
 
 const OUT_HELP: &str = "The folder to write the products into";
 
@@ -130,15 +147,15 @@ const SIDE_HELP: &str = "Samples along an edge of the tile, 2 to 3601";
 /// Help and the version come as an error of their kind, as in `clap`, and so does a fault of the words.
 pub fn parse<'a>(alloc: Global, words: &'a [String]) -> Result<Request<'a>, Error> {
     let command = Command::new(alloc, "drain")
-        .version("0.1.0")
+        .version(VERSION)
         .bin_name("drain")?
         .about(ABOUT)
         .subcommand_required(true)
         .arg_required_else_help(true)
-        .subcommand(fill(alloc)?)?
-        .subcommand(header(alloc)?)?
         .subcommand(check(alloc)?)?
-        .subcommand(make(alloc)?)?;
+        .subcommand(make(alloc)?)?
+        .subcommand(fill(alloc)?)?
+        .subcommand(header(alloc)?)?;
     let matches = command.try_get_matches_from(words)?;
     if let Some(header) = matches.subcommand_matches("header") {
         return Ok(Request::Header {
@@ -202,6 +219,7 @@ fn fill<'a>(alloc: Global) -> Result<Command<'a>, AllocError> {
 fn header<'a>(alloc: Global) -> Result<Command<'a>, AllocError> {
     let file = Arg::new(alloc, "file")
         .value_name("FILE")
+        .value_parser(ValueParser::NonEmptyString)
         .required(true)
         .help(FILE_HELP);
     Command::new(alloc, "header")
@@ -214,6 +232,7 @@ fn header<'a>(alloc: Global) -> Result<Command<'a>, AllocError> {
 fn tiles<'a>(alloc: Global) -> Arg<'a> {
     Arg::new(alloc, "tiles")
         .value_name("TILE")
+        .value_parser(ValueParser::NonEmptyString)
         .action(ArgAction::Append)
         .help(TILES_HELP)
 }
@@ -222,6 +241,7 @@ fn check<'a>(alloc: Global) -> Result<Command<'a>, AllocError> {
     let products = Arg::new(alloc, "products")
         .long("products")
         .value_name("DIR")
+        .value_parser(ValueParser::NonEmptyString)
         .required(true)
         .help(PRODUCTS_HELP);
     Command::new(alloc, "check")
@@ -237,6 +257,7 @@ fn make<'a>(alloc: Global) -> Result<Command<'a>, AllocError> {
     let out = Arg::new(alloc, "out")
         .long("out")
         .value_name("DIR")
+        .value_parser(ValueParser::NonEmptyString)
         .required(true)
         .help(OUT_HELP);
     Command::new(alloc, "make")

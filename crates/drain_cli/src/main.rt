@@ -24,12 +24,12 @@ pub mod write_set;
 use clap::Error;
 use clap::error::ErrorKind;
 use command_line::Request;
-use drain_device::{BodyFault, ByteSink, Reader, Writer};
+use drain_device::{BodyFault, ByteSink, Reader, Writer, write_nothing};
 use make_set::make_set;
 use open_check::{CheckFiles, open_check};
 use open_failure::print_open_failure;
 use open_files::{OpenFault, create_files, open_tiles};
-use print::print_failure;
+use print::{print_failure, print_text};
 use run_check::run_check;
 use run_fill::run_fill;
 use run_header::run_header;
@@ -83,7 +83,7 @@ fn run(rt: &HostRuntime, asked: &[String], out: &mut impl ByteSink) -> u8 {
             out,
             BodyFault::OutOfMemory,
         ),
-        Err(error) => tell(rt, &error),
+        Err(error) => tell(rt, &error, out),
     }
 }
 
@@ -124,7 +124,7 @@ fn make_from_files(
     tiles: &[&str],
     out: &mut impl ByteSink,
 ) -> u8 {
-    if out.write_some(&[]).is_err() {
+    if write_nothing(out).is_err() {
         return Status::Failed.code();
     }
     let mut tiles = match open_tiles(rt, tiles) {
@@ -150,14 +150,15 @@ fn print_open_fault(rt: &HostRuntime, fault: OpenFault, out: &mut impl ByteSink)
     }
 }
 
-/// Shows help, the version or a fault of the words, and answers the exit status.
-fn tell(rt: &HostRuntime, error: &Error) -> u8 {
-    let shown = error.print(rt);
+/// Shows help, the version or a fault of the words, and answers the exit status. Help and the version go to standard output, where an
+/// interrupted call is tried again.
+fn tell(rt: &HostRuntime, error: &Error, out: &mut impl ByteSink) -> u8 {
     if error.use_stderr() {
-        Status::Refused.code()
-    } else if shown.is_ok() {
-        Status::Done.code()
-    } else {
-        Status::Failed.code()
+        let _ = error.print(rt);
+        return Status::Refused.code();
+    }
+    match format!(in rt.alloc(); "{error}") {
+        Ok(text) => print_text(out, text.as_bytes(), Status::Done),
+        Err(_) => print_failure(out, BodyFault::OutOfMemory),
     }
 }

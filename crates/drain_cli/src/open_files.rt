@@ -1,6 +1,9 @@
 //! Opening files to read, tiles among them, and creating files to write.
 
-ghost use Rattle.std.specs.Prelude.{◌≡◌, IfOk, vec_len};
+ghost use Rattle.std.specs.Prelude.{◌≡◌, IfOk, string_bytes, vec_len};
+ghost use Rattle.std.specs.List.{AllZip};
+ghost use Rattle.drain_verdict.specs.Inputs.{names_of};
+ghost use Rattle.drain_cli.specs.FilePaths.{IsLastPart, ending_of, product_path};
 ghost use Rattle.drain_cli.specs.declared.set_files.TheConstants.{FILE_COUNT};
 
 use crate::file_paths::{header_path, raster_path, tile_name};
@@ -25,11 +28,13 @@ impl From<AllocError> for OpenFault {
     }
 }
 
-/// Opens the tiles at these paths. The first fault ends it.
+/// Opens the tiles at these paths, in their order; each has the name that its path ends in. The first fault ends it.
 pub fn open_tiles(
     rt: &HostRuntime,
     paths: &[&str],
-) -> Result<Vec<TileInput<Reader<File>>>, OpenFault> {
+) -> Result<Vec<TileInput<Reader<File>>>, OpenFault>
+    ensures { IfOk result (λ tiles. AllZip (λ path name. IsLastPart path.now name) paths.now (names_of tiles.items)) }
+{
     let mut tiles = Vec::new(rt.alloc());
     for path in paths {
         if tiles.push(open_tile(rt, path)?).is_err() {
@@ -39,7 +44,9 @@ pub fn open_tiles(
     Ok(tiles)
 }
 
-fn open_tile(rt: &HostRuntime, path: &str) -> Result<TileInput<Reader<File>>, OpenFault> {
+fn open_tile(rt: &HostRuntime, path: &str) -> Result<TileInput<Reader<File>>, OpenFault>
+    ensures { IfOk result (λ tile. IsLastPart path.now tile.name) }
+{
     let name = Vec::from_slice(rt.alloc(), tile_name(path.as_bytes()))?;
     let body = open(rt, path)?;
     Ok(TileInput {
@@ -77,7 +84,10 @@ fn create(rt: &HostRuntime, folder: &str, file: SetFile) -> Result<Writer<File>,
     }
 }
 
-fn path_of(rt: &HostRuntime, folder: &str, file: SetFile) -> Result<String, AllocError> {
+/// The path of a file of a product set in this folder.
+fn path_of(rt: &HostRuntime, folder: &str, file: SetFile) -> Result<String, AllocError>
+    ensures { IfOk result (λ path. string_bytes path ≡ product_path folder.now file.product (ending_of file.part)) }
+{
     match file.part {
         Part::Header => header_path(rt.alloc(), folder, file.product),
         Part::Raster => raster_path(rt.alloc(), folder, file.product),

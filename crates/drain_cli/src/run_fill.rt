@@ -36,6 +36,7 @@ pub fn run_fill<R: ByteSource, W: ByteSink>(
         × Prints (W.bytes_taken out.old) (W.bytes_taken out.new) (W.counts out.old) (W.counts out.new)
         (W.stalls out.old) (W.stalls out.new) (outcome_line outcome) (outcome_status outcome) result }
     ensures within { TakesAtMost (9 * (side * side) + 1) (R.bytes_left input.old) (R.bytes_left input.new) }
+    ensures bad_side_reads_nothing { ¬ IsSide side → input.new ≡ input.old }
 
     // A run ends with 0 only where `con` is the filled surface.
     ensures filled { result ≡ 0 → IsFilledIfTold side (R.bytes_left input.old) }
@@ -50,13 +51,12 @@ pub fn run_fill<R: ByteSource, W: ByteSink>(
 fn read_and_check<R: ByteSource>(alloc: Global, side: u32, input: &mut R) -> FillOutcome
     ensures outcome { IsFillOutcome side (R.bytes_left input.old) (R.counts input.old) (R.counts input.new) result }
     ensures within { TakesAtMost (9 * (side * side) + 1) (R.bytes_left input.old) (R.bytes_left input.new) }
+    ensures bad_side_reads_nothing { ¬ IsSide side → input.new ≡ input.old }
 {
-    let limit = if is_side(side) {
-        fill_length(side) + 1
-    } else {
-        0
-    };
-    let body = read_body(alloc, input, limit)?;
+    if !is_side(side) {
+        return Ok(check_fill(side, &[]));
+    }
+    let body = read_body(alloc, input, fill_length(side) + 1)?;
     Ok(check_fill(side, body.as_slice()))
 }
 

@@ -2,7 +2,29 @@
 //!
 //! Each law is a function with nothing to do: its contract is the law, and a caller that calls it has the law at hand.
 
+ghost use Rattle.std.specs.Prelude.{◌≡◌, pos, neg_ℤ};
 ghost use Rattle.drain_grid.specs.Laws.{CorrectFromRules, CountsUpstream, LabelsAreBasins, LeastFromRules, RunsEnd};
+
+use crate::cell::MAX_LENGTH;
+use crate::no_data::{GREATEST_NO_DATA, LEAST_NO_DATA};
+use crate::tile::{MAX_SIDE, MIN_SIDE, VOID};
+use crate::values::{GREATEST_PIXEL, LEAST_PIXEL};
+
+/// The numerals of the constants that definitions name.
+///
+/// Sources: the SRTM HGT documentation for the void and for the greatest side, that of a 1 arc-second tile; the numbers that 32 bits spell,
+/// signed and not, for pixels; eight such tiles side by side, which share their edges, for the greatest length. The least side and the
+/// bounds of a no-data number are this project's own.
+pub fn constants()
+    ensures void { VOID ≡ neg_ℤ (pos 32768) }
+    ensures min_side { MIN_SIDE ≡ 2 }
+    ensures max_side { MAX_SIDE ≡ 3601 }
+    ensures max_length { MAX_LENGTH ≡ 28801 }
+    ensures least_pixel { LEAST_PIXEL ≡ neg_ℤ (pos 2147483648) }
+    ensures greatest_pixel { GREATEST_PIXEL ≡ pos 4294967295 }
+    ensures least_no_data { LEAST_NO_DATA ≡ neg_ℤ (pos 10000000000) }
+    ensures greatest_no_data { GREATEST_NO_DATA ≡ pos 10000000000 }
+{}
 
 /// Rules 4 to 9 make `con` the spill level of each data cell, and the least surface that drains.
 pub fn least_from_rules()

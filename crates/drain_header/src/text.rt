@@ -12,7 +12,7 @@ use itoa::Buffer;
 use std::alloc::Global;
 
 /// How many units of a coordinate make one degree.
-const UNITS_PER_DEGREE: u128 = 1_000_000_000_000_000;
+pub const UNITS_PER_DEGREE: u128 = 1_000_000_000_000_000;
 
 /// The text of a header, in ASCII: one line for each keyword, which is the keyword, a space, its value and a line feed.
 ///

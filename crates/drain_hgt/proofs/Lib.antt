@@ -1,4 +1,5 @@
 pub mod Spelling
 pub mod Reading
+pub mod Corners
 pub mod Meanings
 pub mod Samples

@@ -2,11 +2,28 @@
 //!
 //! Each law is a function with nothing to do: its contract is the law, and a caller that calls it has the law at hand.
 
-ghost use Rattle.drain_hgt.specs.Laws.{NameReadsBack, OneName};
+ghost use Rattle.std.specs.Prelude.{◌≡◌};
+ghost use Rattle.drain_hgt.specs.Laws.{NameReadsBack, NamesGiveCorners, OneName};
+
+use crate::name::{HALF_TURN, NAME_LENGTH, POLE};
+
+/// The numerals of the constants that definitions name: degrees of a quarter and of half a turn, and the bytes of a name.
+///
+/// Source: the SRTM HGT documentation.
+pub fn constants()
+    ensures pole { POLE ≡ 90 }
+    ensures half_turn { HALF_TURN ≡ 180 }
+    ensures name_length { NAME_LENGTH ≡ 11 }
+{}
 
 /// The text of a tile's name is read as that name.
 pub fn name_reads_back()
     ensures { NameReadsBack }
+{}
+
+/// Which tile bytes name is a function of the bytes.
+pub fn names_give_corners()
+    ensures { NamesGiveCorners }
 {}
 
 /// Bytes name one tile, or have one fault.

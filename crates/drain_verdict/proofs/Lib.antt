@@ -16,5 +16,6 @@ mod SameGrid
 mod SeamAnswers
 mod StageAnswers
 mod StartAnswers
+mod Telling
 mod TileLists
 mod WholeGrids

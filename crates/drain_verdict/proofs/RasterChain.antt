@@ -118,7 +118,7 @@ pub told-not : {T : Type 0} (r : Result T Refusal) (e : Refusal) (P : T → Type
 told-not (Ok x) e P is = absurd is
 told-not (Err told) e P is = tt
 
-told-of : {T : Type 0} (r : Result T Refusal) (e : Refusal) (P : Refusal → Type 0) → IsErrAnd r (λ told. told ≡ e) → P e → IfErr r P
+pub told-of : {T : Type 0} (r : Result T Refusal) (e : Refusal) (P : Refusal → Type 0) → IsErrAnd r (λ told. told ≡ e) → P e → IfErr r P
 told-of (Ok x) e P is holds = absurd is
 told-of (Err told) e P is holds = rw is holds
 

@@ -5,6 +5,7 @@ pub mod Answers
 pub mod Faults
 pub mod Headline
 pub mod Stages
+pub mod Laws
 pub mod Mosaics
 pub mod Lines
 pub mod FillLines

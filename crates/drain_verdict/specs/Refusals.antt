@@ -70,6 +70,15 @@ Stands i (SeamMismatch c) = IsSeamFault i c
 Stands i OutOfMemory = ⊥
 Stands i ReadFailed = ⊥
 
+-- a refusal that comes once bodies are read: of their bytes, of seams, for want of memory or for a failed read
+abbrev pub IsOfBodies : Refusal → Type 0
+IsOfBodies (BadTileLength c) = Unit {0}
+IsOfBodies (RasterShort p) = Unit {0}
+IsOfBodies (SeamMismatch c) = Unit {0}
+IsOfBodies OutOfMemory = Unit {0}
+IsOfBodies ReadFailed = Unit {0}
+IsOfBodies refusal = ⊥
+
 -- the place of a product in their order
 abbrev pub rank_of : Product → ℕ
 rank_of Con = 0

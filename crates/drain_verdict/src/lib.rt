@@ -6,6 +6,7 @@ pub mod fill_line;
 mod headers;
 mod headers_stage;
 pub mod input;
+pub mod laws;
 mod layout_stage;
 pub mod line;
 pub mod mosaic;

@@ -4,6 +4,7 @@ ghost use Rattle.std.specs.Prelude.{◌≡◌, map, IfOk, IfErr, IsErrOf};
 ghost use Rattle.drain_mosaic.specs.Tiling.{extent_of};
 ghost use Rattle.drain_verdict.specs.Inputs.{Inputs, names_of};
 ghost use Rattle.drain_verdict.specs.Faults.{SomeReadFails, tile_devices, TilesTakeAtMost};
+ghost use Rattle.drain_verdict.specs.Refusals.{IsOfBodies};
 ghost use Rattle.drain_verdict.specs.Mosaics.{TellTiles, IsMosaicOf, IsMosaicRefusal};
 
 use crate::layout_stage::layout_of;
@@ -42,6 +43,9 @@ pub fn read_mosaic<R: ByteSource>(
     ensures within { TilesTakeAtMost R.bytes_left side tiles.old tiles.new }
     ensures faults { SomeReadFails (map R.counts (tile_devices tiles.old)) (map R.counts (tile_devices tiles.new)) (IsErrOf result Refusal.ReadFailed) }
     ensures names { names_of tiles.new ≡ names_of tiles.old }
+
+    // A refusal of side, names or layout leaves every device as it was.
+    ensures untouched { IfErr result (λ refusal. ¬ IsOfBodies refusal → tiles.new ≡ tiles.old) }
 {
     // The laws that bytes name one tile, and that the joined elevation is that of the tiles' first values.
     one_name();

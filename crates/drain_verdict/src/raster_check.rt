@@ -3,14 +3,14 @@
 //! It goes in stages, in the order of their refusals: side, names and layout; the headers, product by product; the tiles; the rasters; the
 //! seams; and then the rules. No device is called before every header is right.
 
-ghost use Rattle.std.specs.Prelude.{◌≡◌, ◌↔◌, length, map, Err, IsErrOf};
+ghost use Rattle.std.specs.Prelude.{◌≡◌, ◌↔◌, length, map, Err, IfErr, IsErrOf};
 ghost use Rattle.drain_grid.specs.declared.product.Product.{Product};
 ghost use Rattle.drain_mosaic.specs.Tiling as tiling;
 ghost use Rattle.drain_raster.specs.Pixels.{extent_of};
 ghost use Rattle.drain_rules.specs.Verdicts.{IfAccepted};
 ghost use Rattle.drain_verdict.specs.Inputs.{Inputs, Tell, input_of, names_of};
 ghost use Rattle.drain_verdict.specs.Meaning.{tiling_of, fields_of};
-ghost use Rattle.drain_verdict.specs.Refusals.{NoneStandsBefore};
+ghost use Rattle.drain_verdict.specs.Refusals.{IsOfBodies, NoneStandsBefore};
 ghost use Rattle.drain_verdict.specs.Answers.{IsAnswer};
 ghost use Rattle.drain_verdict.specs.Stages.{AreBodies, AreRasterBodies, header_for};
 ghost use Rattle.drain_verdict.specs.Faults.{SomeReadFails, devices_of, TilesTakeAtMost, RasterTakesAtMost, BodyTakesAtMost};
@@ -84,6 +84,9 @@ pub fn check<R: ByteSource>(
     ensures faults { SomeReadFails (map R.counts (devices_of tiles.old products.old)) (map R.counts (devices_of tiles.new products.new)) (IsErrOf result Refusal.ReadFailed) }
     ensures names { names_of tiles.new ≡ names_of tiles.old }
     ensures headers { (p : Product) → (input_of products.new p).header ≡ (input_of products.old p).header }
+
+    // A refusal of side, names, layout or headers leaves every device and every value as it was.
+    ensures untouched { IfErr result (λ refusal. ¬ IsOfBodies refusal → (tiles.new ≡ tiles.old) × (products.new ≡ products.old)) }
 {
     // The laws that turn rules kept at every cell into correct products, and first values into the one elevation.
     correct_from_rules();
@@ -104,6 +107,7 @@ fn answer_of<R: ByteSource>(
     ensures faults { SomeReadFails (map R.counts (devices_of tiles.old products.old)) (map R.counts (devices_of tiles.new products.new)) (IsErrOf result Refusal.ReadFailed) }
     ensures names { names_of tiles.new ≡ names_of tiles.old }
     ensures headers { (p : Product) → (input_of products.new p).header ≡ (input_of products.old p).header }
+    ensures untouched { IfErr result (λ refusal. ¬ IsOfBodies refusal → (tiles.new ≡ tiles.old) × (products.new ≡ products.old)) }
 {
     // The law that bytes name one tile.
     one_name();
@@ -130,6 +134,7 @@ fn check_bodies<R: ByteSource>(
     ensures faults { SomeReadFails (map R.counts (devices_of tiles.old products.old)) (map R.counts (devices_of tiles.new products.new)) (IsErrOf result Refusal.ReadFailed) }
     ensures names { names_of tiles.new ≡ names_of tiles.old }
     ensures headers { (p : Product) → (input_of products.new p).header ≡ (input_of products.old p).header }
+    ensures of_bodies { IfErr result IsOfBodies }
 {
     let samples = read_tiles(alloc, layout, tiles)?;
     let set = read_products(alloc, headers, products)?;

@@ -7,6 +7,7 @@ ghost use Rattle.drain_grid.specs.declared.product.Product.{Product};
 ghost use Rattle.drain_raster.specs.Pixels.{extent_of, needed_len};
 ghost use Rattle.drain_verdict.specs.Faults.{SomeReadFails, product_devices};
 ghost use Rattle.drain_verdict.specs.Inputs.{input_of};
+ghost use Rattle.drain_verdict.specs.Refusals.{IsOfBodies};
 ghost use Rattle.drain_verdict.specs.Stages.{AreRasterBodies, IsRasterOf, IsOneRasterRefusal, IsRasterRefusal, header_for, raster_in};
 
 use crate::headers::Headers;
@@ -32,6 +33,7 @@ pub fn read_products<R: ByteSource>(
     ensures rasters { IfOk result (λ set. (bodies : Product → List ℕ) → AreRasterBodies R.bytes_left products.old bodies → (p : Product) → IsRasterOf (header_for headers.now p) p (bodies p) (raster_in set p)) }
     ensures shape { IfOk result (λ set. set.con.extent ≡ extent_of headers.now.con) }
     ensures refusal { IfErr result (λ refusal. (bodies : Product → List ℕ) → AreRasterBodies R.bytes_left products.old bodies → IsRasterRefusal headers.now bodies refusal) }
+    ensures of_bodies { IfErr result IsOfBodies }
 
     // A read fails exactly where the device of some product gives up; each gives at most the needed bytes.
     ensures faults { SomeReadFails (map R.counts (product_devices products.old)) (map R.counts (product_devices products.new)) (IsErrOf result Refusal.ReadFailed) }
@@ -64,6 +66,7 @@ fn read_product<R: ByteSource>(
     ensures raster { IfOk result (λ raster. (bytes : List ℕ) → R.bytes_left body.old ≡ Some bytes → IsRasterOf header.now product bytes raster) }
     ensures shape { IfOk result (λ raster. raster.extent ≡ extent_of header.now) }
     ensures refusal { IfErr result (λ refusal. (bytes : List ℕ) → R.bytes_left body.old ≡ Some bytes → IsOneRasterRefusal header.now product bytes refusal) }
+    ensures of_bodies { IfErr result IsOfBodies }
     ensures faults { ReadFails (R.counts body.old) (R.counts body.new) (IsErrOf result Refusal.ReadFailed) }
     ensures within { TakesAtMost (needed_len header.now) (R.bytes_left body.old) (R.bytes_left body.new) }
 {

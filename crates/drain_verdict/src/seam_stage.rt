@@ -4,7 +4,7 @@ ghost use Rattle.std.specs.Prelude.{◌≡◌, map, IfOk, IfErr, IsErrOf};
 ghost use Rattle.drain_mosaic.specs.Tiling.{extent_of};
 ghost use Rattle.drain_mosaic.specs.Mosaic.{AreTiles};
 ghost use Rattle.drain_verdict.specs.Inputs.{Inputs};
-ghost use Rattle.drain_verdict.specs.Refusals.{NoneStandsBefore};
+ghost use Rattle.drain_verdict.specs.Refusals.{IsOfBodies, NoneStandsBefore};
 ghost use Rattle.drain_verdict.specs.Answers.{IsAnswer};
 ghost use Rattle.drain_verdict.specs.Stages.{AreThoseOf, IsElevationOf, IsSeamFaultAs, IsSeamRefusal};
 
@@ -27,6 +27,7 @@ pub fn verdict_on(
     requires same_shape { products.now.con.extent ≡ extent_of layout.now }
     ensures answer { (inputs : Inputs) → AreThoseOf inputs layout.now (map (λ tile. tile.items) samples.items) products.now → NoneStandsBefore inputs 7 → IsAnswer inputs result }
     ensures no_read { ¬ IsErrOf result Refusal.ReadFailed }
+    ensures of_bodies { IfErr result IsOfBodies }
 {
     // The law that makes the joined elevation that of the tiles' first values.
     agreement_gives_elevation();
@@ -47,6 +48,7 @@ pub fn elevation_of(
     requires { AreTiles layout.now (map (λ tile. tile.items) samples.items) }
     ensures elevation { IfOk result (IsElevationOf layout.now (map (λ tile. tile.items) samples.items)) }
     ensures refusal { IfErr result (IsSeamRefusal layout.now (map (λ tile. tile.items) samples.items)) }
+    ensures of_bodies { IfErr result IsOfBodies }
 {
     match join(alloc, layout, &samples) {
         Ok(elevation) => Ok(elevation),
@@ -56,7 +58,8 @@ pub fn elevation_of(
 
 /// The refusal that tells a seam's fault.
 fn refusal_of(fault: SeamFault) -> Refusal
-    ensures { IsSeamFaultAs fault result }
+    ensures refusal { IsSeamFaultAs fault result }
+    ensures of_bodies { IsOfBodies result }
 {
     match fault {
         SeamFault::SeamMismatch(cell) => Refusal::SeamMismatch(cell),

@@ -9,6 +9,7 @@ ghost use Rattle.drain_hgt.specs.Samples.{IsTile, samples_of, tile_length};
 ghost use Rattle.drain_mosaic.specs.Mosaic.{AreTiles};
 ghost use Rattle.drain_verdict.specs.Faults.{SomeReadFails, tile_devices};
 ghost use Rattle.drain_verdict.specs.Inputs.{names_of};
+ghost use Rattle.drain_verdict.specs.Refusals.{IsOfBodies};
 ghost use Rattle.drain_verdict.specs.Stages.{AreBodies, AreSamplesOf, IsTileRefusal, IsOneTileRefusal};
 
 use crate::refusal::Refusal;
@@ -31,6 +32,7 @@ pub fn read_tiles<R: ByteSource>(
     ensures samples { IfOk result (λ samples. (bodies : List (List ℕ)) → AreBodies R.bytes_left tiles.old bodies → AreSamplesOf layout.now.side bodies (map (λ tile. tile.items) samples.items)) }
     ensures counted { IfOk result (λ samples. AreTiles layout.now (map (λ tile. tile.items) samples.items)) }
     ensures refusal { IfErr result (λ refusal. (bodies : List (List ℕ)) → AreBodies R.bytes_left tiles.old bodies → IsTileRefusal layout.now bodies refusal) }
+    ensures of_bodies { IfErr result IsOfBodies }
 
     // A read fails exactly where the device of some tile gives up; each gives at most a byte more than a tile has.
     ensures faults { SomeReadFails (map R.counts (tile_devices tiles.old)) (map R.counts (tile_devices tiles.new)) (IsErrOf result Refusal.ReadFailed) }
@@ -63,6 +65,7 @@ fn read_one<R: ByteSource>(
     ensures samples { IfOk result (λ samples. (bytes : List ℕ) → R.bytes_left body.old ≡ Some bytes → IsTile side bytes × (samples.items ≡ samples_of bytes)) }
     ensures counted { IfOk result (λ samples. length samples.items ≡ side * side) }
     ensures refusal { IfErr result (λ refusal. (bytes : List ℕ) → R.bytes_left body.old ≡ Some bytes → IsOneTileRefusal side name bytes refusal) }
+    ensures of_bodies { IfErr result IsOfBodies }
     ensures faults { ReadFails (R.counts body.old) (R.counts body.new) (IsErrOf result Refusal.ReadFailed) }
     ensures within { TakesAtMost (tile_length side + 1) (R.bytes_left body.old) (R.bytes_left body.new) }
 {

@@ -1,7 +1,8 @@
 use Rattle.std.proofs.Common.{arith, sym, ◌∙◌}
 use Rattle.drain_grid.specs.declared.product.Product.TheVariants.{Con, Dir, Acc, Bas, Spl, Rnk}
+use Rattle.drain_verdict.specs.Refusals.{IsOfBodies}
 use Rattle.drain_verdict.proofs.FaultLists.{SomeReadFails-iff}
-use Rattle.drain_verdict.proofs.RasterChain.{by_product, passed, refused, behind, told-fails, told-not, parts-all, stopped-at}
+use Rattle.drain_verdict.proofs.RasterChain.{by_product, passed, refused, behind, told-fails, told-not, told-of, parts-all, stopped-at}
 use Rattle.drain_verdict.proofs.rasters_stage.read_products.Goals as goal
 
 pub returns-in_err-con : goal.returns-in_err-con
@@ -21,6 +22,7 @@ returns-in_err-con g c =
       rasters = told-not c.from_residual.result e _ told;
       shape = told-not c.from_residual.result e _ told;
       refusal = stop.refusal;
+      of_bodies = told-of c.from_residual.result e IsOfBodies told last.of_bodies;
       faults = stop.parts.faults;
       within = stop.parts.within;
       headers = stop.parts.headers;
@@ -43,6 +45,7 @@ returns-in_err-dir g c =
       rasters = told-not c.from_residual-in_err-dir.result e _ told;
       shape = told-not c.from_residual-in_err-dir.result e _ told;
       refusal = stop.refusal;
+      of_bodies = told-of c.from_residual-in_err-dir.result e IsOfBodies told last.of_bodies;
       faults = stop.parts.faults;
       within = stop.parts.within;
       headers = stop.parts.headers;
@@ -65,6 +68,7 @@ returns-in_err-acc g c =
       rasters = told-not c.from_residual-in_err-acc.result e _ told;
       shape = told-not c.from_residual-in_err-acc.result e _ told;
       refusal = stop.refusal;
+      of_bodies = told-of c.from_residual-in_err-acc.result e IsOfBodies told last.of_bodies;
       faults = stop.parts.faults;
       within = stop.parts.within;
       headers = stop.parts.headers;
@@ -87,6 +91,7 @@ returns-in_err-bas g c =
       rasters = told-not c.from_residual-in_err-bas.result e _ told;
       shape = told-not c.from_residual-in_err-bas.result e _ told;
       refusal = stop.refusal;
+      of_bodies = told-of c.from_residual-in_err-bas.result e IsOfBodies told last.of_bodies;
       faults = stop.parts.faults;
       within = stop.parts.within;
       headers = stop.parts.headers;
@@ -109,6 +114,7 @@ returns-in_err-spl g c =
       rasters = told-not c.from_residual-in_err-spl.result e _ told;
       shape = told-not c.from_residual-in_err-spl.result e _ told;
       refusal = stop.refusal;
+      of_bodies = told-of c.from_residual-in_err-spl.result e IsOfBodies told last.of_bodies;
       faults = stop.parts.faults;
       within = stop.parts.within;
       headers = stop.parts.headers;
@@ -131,6 +137,7 @@ returns-in_err-rnk g c =
       rasters = told-not c.from_residual-in_err-rnk.result e _ told;
       shape = told-not c.from_residual-in_err-rnk.result e _ told;
       refusal = stop.refusal;
+      of_bodies = told-of c.from_residual-in_err-rnk.result e IsOfBodies told last.of_bodies;
       faults = stop.parts.faults;
       within = stop.parts.within;
       headers = stop.parts.headers;
@@ -162,6 +169,7 @@ returns g c =
       rasters = λ bodies are. by_product _ (c.in_ok-con.ensures.raster (bodies Con) (are Con)) (c.in_ok-dir.ensures.raster (bodies Dir) (are Dir)) (c.in_ok-acc.ensures.raster (bodies Acc) (are Acc)) (c.in_ok-bas.ensures.raster (bodies Bas) (are Bas)) (c.in_ok-spl.ensures.raster (bodies Spl) (are Spl)) (c.in_ok-rnk.ensures.raster (bodies Rnk) (are Rnk));
       shape = c.in_ok-con.ensures.shape;
       refusal = tt;
+      of_bodies = tt;
       faults = SomeReadFails-iff ((λ f. absurd f), (λ e. cc)) all.faults;
       within = all.within;
       headers = all.headers;

@@ -17,5 +17,5 @@ returns-in-Ok-clause-elevation c =
 pub returns-clause-refusal : goal.returns-clause-refusal
 returns-clause-refusal c =
     let t = c.args.layout.now in
-    fault_refused t (map (λ tile. tile.items) c.args.samples.items) c.in-Err.fault c.refusal_of.result c.refusal_of.ensures
+    fault_refused t (map (λ tile. tile.items) c.args.samples.items) c.in-Err.fault c.refusal_of.result c.refusal_of.ensures.refusal
     (λ cell is. subst (λ s. IsFirstSeam t (tiles_of t.corners (map (λ tile. tile.items) s)) cell) c.deref.ensures.value (c.in-Err.ensures.seam cell (ap (λ fault. Err fault) is)))

@@ -30,6 +30,7 @@ returns-in-Err g c =
       samples = tt;
       counted = tt;
       refusal = rw c.side-side.ensures.side at stop.refused;
+      of_bodies = one.of_bodies;
       faults = SomeReadFails-iff ((λ e. let same : c.in-Err.refusal ≡ ReadFailed = cc in ap Err same), (λ e. let same : c.in-Err.refusal ≡ ReadFailed = cc in ap Err same)) stop.read.faults;
       within = rw c.side-side.ensures.side at stop.read.within;
       names = stop.read.names;
@@ -47,6 +48,7 @@ returns-then-is_err g c =
       samples = tt;
       counted = tt;
       refusal = λ bodies are. tt;
+      of_bodies = tt;
       faults = SomeReadFails-iff ((λ e. cc), (λ e. cc)) stop.read.faults;
       within = rw c.side-side.ensures.side at stop.read.within;
       names = stop.read.names;
@@ -60,6 +62,7 @@ returns g c =
       samples = rw c.side-side.ensures.side at all.samples_are;
       counted = record { named = all.counted ∙ c.requires; whole = rw c.side-side.ensures.side at all.whole };
       refusal = tt;
+      of_bodies = tt;
       faults = SomeReadFails-iff ((λ e. absurd e), (λ e. cc)) all.read.faults;
       within = rw c.side-side.ensures.side at all.read.within;
       names = all.read.names;

@@ -1,0 +1,16 @@
+#!/usr/bin/env bash
+# Tries every must-fail edit of the crates, and the prover has to refuse each: those of must-fail/, which the gate tries as well, and those of
+# more-edits/, which are tried here alone. Run it on a crate that was changed before the change lands; it takes 10 to 30 seconds an edit.
+# Usage: tools/try_edits.sh [CRATE...]    (all of them where none is named)
+set -euo pipefail
+top=$(cd "$(dirname "$0")/.." && pwd)
+scratch=$(mktemp -d)
+trap 'rm -rf "$scratch"' EXIT
+cp -a "$top/crates.txt" "$top/HANDLES" "$top/crates" "$scratch"
+cd "$scratch"
+for more in crates/*/more-edits; do
+    mkdir -p "$(dirname "$more")/must-fail"
+    mv "$more"/*.edit "$(dirname "$more")/must-fail/"
+    rmdir "$more"
+done
+rt must-fail "$@"
