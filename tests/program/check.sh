@@ -134,6 +134,15 @@ rm "$check/out/con.hdr" "$tile"
 judge_check 'the first file that is not there' 3 "failed Open $tile" --side 3 --products "$check/out" "$check/x" "$tile"
 judge_check 'no folder of products' 3 "failed Open $check/none/con.hdr" --side 3 --products "$check/none" "$check/x"
 
+# The files of products are opened one after the other: each is the first that is told as long as it isn't there.
+make_pit
+mkdir "$check/filling"
+for name in {con,dir,acc,bas,spl,rnk}.{hdr,bil}; do
+    judge_check "a folder filled up to $name" 3 "failed Open $check/filling/$name" --side 3 --products "$check/filling" "$tile"
+    cp "$check/out/$name" "$check/filling/$name"
+done
+judge_check 'a folder that was filled' 0 "$pit_checked" --side 3 --products "$check/filling" "$tile"
+
 # Folders in the places of files.
 for name in N00E000.hgt out/con.hdr out/bas.bil; do
     make_pit

@@ -13,6 +13,11 @@ heights() {
     done
 }
 
+# The bytes of these numbers in 32 bits each, the least first.
+numbers_of_32_bits() {
+    python3 -c 'import struct, sys; sys.stdout.buffer.write(struct.pack(f"<{len(sys.argv) - 1}I", *map(int, sys.argv[1:])))' "$@"
+}
+
 # An empty folder for products, beside no tile but the pit.
 make_ground() {
     rm -rf "$work"
@@ -105,6 +110,36 @@ case $(cat "$scratch/line") in
     *) line='rejected rule=13, and not what the other program told' ;;
 esac
 judge_check 'a sum changed that was made of real terrain' 1 "$line" --side 344 --products "$made" "$real"
+
+# The same terrain, lowered so that its heights go from below the sea to above it: nothing but the heights changes.
+make_ground
+mkdir "$work/lowered"
+python3 - "$real" "$work/lowered/N36W085.hgt" <<'PYTHON'
+import struct, sys
+samples = struct.unpack(">118336h", open(sys.argv[1], "rb").read())
+middle = (min(samples) + max(samples)) // 2
+open(sys.argv[2], "wb").write(struct.pack(">118336h", *(sample - middle for sample in samples)))
+PYTHON
+judge_make 'real terrain, lowered to the sea' 0 'made rows=344 cols=344' --side 344 --out "$made" "$work/lowered/N36W085.hgt"
+judge_check 'products made of lowered terrain' 0 "$real_checked" --side 344 --products "$made" "$work/lowered/N36W085.hgt"
+"$drain" make --side 344 --out "$work/lowered" "$real" >"$scratch/out" 2>"$scratch/err"
+for name in dir acc bas spl rnk; do
+    judge_file 'lowered terrain' "$made/$name.bil" <"$work/lowered/$name.bil"
+done
+
+# A funnel of side 1201, from 600 metres below the sea to 600 above: every cell drains through the one outlet in its north edge.
+make_ground
+python3 - "$ground" <<'PYTHON'
+import struct, sys
+heights = (max(row, abs(col - 600)) - 600 for row in range(1201) for col in range(1201))
+open(sys.argv[1], "wb").write(struct.pack(">1442401h", *heights))
+PYTHON
+judge_make 'a funnel' 0 'made rows=1201 cols=1201' --out "$made" "$ground"
+judge_check 'products made of a funnel' 0 'accepted rows=1201 cols=1201 data=1442401 raised=0 outlets=1' --products "$made" "$ground"
+dd if="$made/acc.bil" bs=4 skip=600 count=1 status=none >"$scratch/out"
+numbers_of_32_bits 1442401 >"$scratch/want"
+judge 'the count at the outlet of a funnel' 0 "$scratch/want" 0
+rm -rf "$work"
 
 # Mosaics: a tile missing between two, in either order of the words; a seam that agrees; voids alone.
 for order in 'N00E000 N00E002' 'N00E002 N00E000'; do

@@ -53,6 +53,47 @@ mkfifo "$scratch/broken"
 wait $!
 judge 'a pipe that nobody reads' 3 "$scratch/want" "$(cat "$scratch/status")"
 
+# A small stack.
+want "$pit_line"
+(ulimit -s 128 && exec "$drain" fill --side 3) <"$pit" >"$scratch/out" 2>"$scratch/err"
+judge 'a stack of 128 KiB: fill' 0 "$scratch/want" $?
+want 'accepted rows=121 cols=121 data=14641 raised=690 outlets=32'
+(ulimit -s 128 && exec "$drain" check --side 121 --products samples/jacksboro samples/jacksboro/N36W085.hgt) >"$scratch/out" 2>"$scratch/err"
+judge 'a stack of 128 KiB: check' 0 "$scratch/want" $?
+mkdir "$scratch/small"
+want 'made rows=344 cols=344'
+(ulimit -s 128 && exec "$drain" make --side 344 --out "$scratch/small" samples/N36W085.hgt) >"$scratch/out" 2>"$scratch/err"
+judge 'a stack of 128 KiB: make' 0 "$scratch/want" $?
+(ulimit -s 128 && exec "$drain" header samples/headers/gdal-hgt-i16.hdr) >"$scratch/out" 2>"$scratch/err"
+judge 'a stack of 128 KiB: header' 0 samples/headers/gdal-hgt-i16.expected $?
+
+# Interrupted writes to standard output, where a system call tracer can make them: 999 are borne, the 1,000th is a failure.
+# Usage: judge_interrupted NAME STATUS COUNT WORD...
+judge_interrupted() {
+    local name=$1 status=$2 count=$3
+    shift 3
+    strace -qq -o "$scratch/calls" -e trace=write -e inject=write:error=EINTR:when=1.."$count" "$drain" "$@" <"$pit" >"$scratch/out" 2>"$scratch/err"
+    judge "$name, interrupted $count times" "$status" "$scratch/want" $?
+}
+if strace -qq -o /dev/null true 2>/dev/null; then
+    cp "$here/expected/version.txt" "$scratch/want" && judge_interrupted 'the version' 0 999 --version
+    cp "$here/expected/help.txt" "$scratch/want" && judge_interrupted 'help' 0 999 --help
+    want "$pit_line" && judge_interrupted 'a line' 0 999 fill --side 3
+    want 'made rows=344 cols=344' && judge_interrupted 'a maker' 0 1 make --side 344 --out "$scratch/small" samples/N36W085.hgt
+    want - && judge_interrupted 'the version' 3 1000 --version
+    judge_interrupted 'a maker' 3 1000 make --side 344 --out "$scratch/small" samples/N36W085.hgt
+else
+    echo "interrupted writes of the program aren't tried: there is no strace"
+fi
+
+# The toolchain that the version names is the one that is here.
+"$drain" --version | tail -n 1 >"$scratch/out"
+echo "proved with $(rt version)" >"$scratch/want"
+judge 'the toolchain that the version names' 0 "$scratch/want" 0
+grep -o 'rattle-kit[^`]*' README.md | head -n 1 >"$scratch/out"
+rt version >"$scratch/want"
+judge 'the toolchain that the README names' 0 "$scratch/want" 0
+
 # No memory for the input.
 want 'failed OutOfMemory'
 (ulimit -v 40000 && exec "$drain" fill --side 3601) <"$pit" >"$scratch/out" 2>"$scratch/err"
@@ -64,6 +105,16 @@ for limit in 20000 40000 80000; do
     (ulimit -v $limit && exec "$label_bench" 100000000 2654435761) </dev/null >"$scratch/out" 2>"$scratch/err"
     judge "no memory for a label, in $limit KiB" 0 "$scratch/want" $?
 done
+
+# Words that are empty, as an unset variable of a shell gives them.
+want -
+mkdir "$scratch/root"
+for words in 'check --side 3 --products' 'check --side 3 --products=' 'check --products a' 'make --side 3 --out' 'make --out a' 'header'; do
+    (cd "$scratch/root" && "$drain" $words '' >"$scratch/out" 2>"$scratch/err")
+    judge "an empty word: $words" 2 "$scratch/want" $? words
+done
+ls -A "$scratch/root" >"$scratch/out" && : >"$scratch/err"
+judge 'nothing is written for an empty word' 0 "$scratch/want" 0
 
 # A word that is no text.
 want -

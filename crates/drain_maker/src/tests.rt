@@ -1,5 +1,6 @@
 //! Worked mosaics: what is made of them, worked out by hand from the definitions, and terrains of which the products pass.
 
+mod funnel;
 mod headers;
 mod numbers;
 mod terrains;

@@ -102,8 +102,8 @@ impl Terrain {
     }
 }
 
-/// The samples of a tile.
-fn samples(alloc: Global, side: u32, terrain: Terrain) -> Result<Vec<i16>, Fail> {
+/// The samples of a tile, each lowered by so many metres.
+fn samples(alloc: Global, side: u32, terrain: Terrain, lowered: i16) -> Result<Vec<i16>, Fail> {
     let mut samples = Vec::new(alloc);
     let mut state: u32 = side;
     for row in 0..side {
@@ -114,7 +114,7 @@ fn samples(alloc: Global, side: u32, terrain: Terrain) -> Result<Vec<i16>, Fail>
             let sample = if matches!(terrain, Terrain::Holed) && noise % 11 == 0 {
                 VOID
             } else {
-                i16::try_from(terrain.sample(side, row, col, noise))?
+                i16::try_from(terrain.sample(side, row, col, noise))?.wrapping_sub(lowered)
             };
             samples.push(sample)?;
         }
@@ -122,21 +122,39 @@ fn samples(alloc: Global, side: u32, terrain: Terrain) -> Result<Vec<i16>, Fail>
     Ok(samples)
 }
 
+const TERRAINS: [Terrain; 6] = [
+    Terrain::Flat,
+    Terrain::Cone,
+    Terrain::Spiral,
+    Terrain::Checkerboard,
+    Terrain::Rough,
+    Terrain::Holed,
+];
+
 #[test]
 fn hard_terrains(rt: HostRuntime) -> Result<(), Fail> {
-    for terrain in [
-        Terrain::Flat,
-        Terrain::Cone,
-        Terrain::Spiral,
-        Terrain::Checkerboard,
-        Terrain::Rough,
-        Terrain::Holed,
-    ] {
+    for terrain in TERRAINS {
         for side in [2, 3, 4, 5, 8, 17, 33, 65] {
             let layout = one_tile(rt.alloc(), side)?;
-            let samples = samples(rt.alloc(), side, terrain)?;
+            let samples = samples(rt.alloc(), side, terrain, 0)?;
             let counts = accepted(rt.alloc(), &layout, samples)?;
             assert_eq!(rt; (counts.rows, counts.cols), (side, side), "{terrain:?}");
+        }
+    }
+    Ok(())
+}
+
+#[test]
+fn hard_terrains_whose_heights_cross_0(rt: HostRuntime) -> Result<(), Fail> {
+    for terrain in TERRAINS {
+        for side in [2, 3, 5, 8, 17] {
+            let layout = one_tile(rt.alloc(), side)?;
+            let above = samples(rt.alloc(), side, terrain, 0)?;
+            let counts = accepted(rt.alloc(), &layout, above)?;
+            for lowered in [1, 3] {
+                let crossing = samples(rt.alloc(), side, terrain, lowered)?;
+                assert_eq!(rt; accepted(rt.alloc(), &layout, crossing)?, counts, "{terrain:?}");
+            }
         }
     }
     Ok(())
