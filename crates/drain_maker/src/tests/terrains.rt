@@ -153,7 +153,11 @@ fn hard_terrains_whose_heights_cross_0(rt: HostRuntime) -> Result<(), Fail> {
             let counts = accepted(rt.alloc(), &layout, above)?;
             for lowered in [1, 3] {
                 let crossing = samples(rt.alloc(), side, terrain, lowered)?;
-                assert_eq!(rt; accepted(rt.alloc(), &layout, crossing)?, counts, "{terrain:?}");
+                assert_eq!(rt;
+                    accepted(rt.alloc(), &layout, crossing)?,
+                    counts,
+                    "{terrain:?}"
+                );
             }
         }
     }
