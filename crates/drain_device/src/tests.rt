@@ -5,6 +5,7 @@ use crate::byte_list::ByteList;
 use crate::fault::DeviceFault;
 use crate::faults::{ScriptSink, ScriptSource, Scripted, SinkAnswer};
 use crate::patience::{GaveUp, Patience};
+use crate::probe::write_nothing;
 use crate::read::{BodyFault, read_body, read_full};
 use crate::reader::Reader;
 use crate::sink::ByteSink;
@@ -194,6 +195,29 @@ fn a_write_gives_up_where_its_sink_does(rt: HostRuntime) -> Result<(), Fail> {
         assert!(rt; TEXT.starts_with(to.as_slice()), "calls {first} to {last}");
         let gave_up = to.failures() > 0 || to.stalls() > 0 || to.interruptions() > 999;
         assert_eq!(rt; gave_up, got.is_err(), "calls {first} to {last}");
+    }
+    Ok(())
+}
+
+#[test]
+fn a_write_of_nothing_gives_up_where_its_sink_does(rt: HostRuntime) -> Result<(), Fail> {
+    let failed = SinkAnswer::Failed;
+    let interrupted = SinkAnswer::Interrupted;
+    for (first, last, answer, want) in [
+        (1, 1, failed, Err(GaveUp)),
+        (2, 2, failed, Ok(())),
+        (1, 1, interrupted, Ok(())),
+        (1, 999, interrupted, Ok(())),
+        (1, 1000, interrupted, Err(GaveUp)),
+    ] {
+        let script = [Scripted {
+            first,
+            last,
+            answer,
+        }];
+        let mut to = ScriptSink::new(Vec::new(rt.alloc()), 1, &script);
+        assert_eq!(rt; write_nothing(&mut to), want, "calls {first} to {last}");
+        assert_eq!(rt; to.as_slice().len(), 0, "calls {first} to {last}");
     }
     Ok(())
 }
