@@ -11,7 +11,8 @@ use std::marker::Model;
 /// A set of labels. Contracts ask by `IsAdmitted` whether a label was admitted.
 ///
 /// Labels that lie side by side share a word, since makers number outlets one after the other, or by their cells. The words
-/// stand in a tree, so that no choice of labels makes a call slow, and they are short, since a node of a tree can be half empty.
+/// stand in a tree, so that no choice of labels makes a call slower than the logarithm of how many there are, and they are short,
+/// since a node of a tree can be half empty: where there are many labels, each takes at most 28 bytes.
 #[derive(Drop)]
 pub struct OutletLabels {
     /// For each block of 16 labels, a word with a bit for each of them: 1 where it was admitted. A block of which none was
