@@ -1,5 +1,5 @@
 -- What is admitted after one more bit is set in the word of a block.
-use Rattle.std.proofs.Common.{◌≡◌, ◌≢◌, ◌<◌, ◌*◌, ◌/◌, ◌%◌, ◌^◌, ℕ, ℤ, cond, List, Some, nat_eq, unwrap_or, FitsSigned, ◌↔◌, ◌⊎◌, inl, inr, sym, ◌∙◌, ap, subst, refl, arith, w64}
+use Rattle.std.proofs.Common.{◌≡◌, ◌≢◌, ◌<◌, ◌*◌, ◌/◌, ◌%◌, ◌^◌, ℕ, ℤ, cond, List, Some, nat_eq, unwrap_or, FitsSigned, ◌↔◌, ◌⊎◌, inl, inr, sym, ◌∙◌, ap, subst, refl, arith, w16, w64}
 use Rattle.std.specs.Int.{bit_at, cast_unsigned, cast_signed}
 use Rattle.std.specs.Int.RustNames.{bit_or}
 use Rattle.std.specs.Map.{lookup}
@@ -14,7 +14,7 @@ PutsWord old new block value = (q : ℕ) → lookup (nat_eq q) new ≡ cond (nat
 
 -- the word with one more bit
 abbrev pub with_bit : ℕ → ℕ → ℕ
-with_bit n bit = bit_or n (1 * 2 ^ bit % 2 ^ 64)
+with_bit n bit = bit_or n (1 * 2 ^ bit % 2 ^ 16)
 
 -- the block has the word that was put
 word_here : (old new : List (ℕ × ℕ)) (block value : ℕ) → PutsWord old new block value → word new block ≡ value
@@ -30,23 +30,23 @@ word_apart old new block value q put apart =
     ]
 
 -- the bit that was set is 1
-bit_here : (old new : List (ℕ × ℕ)) (block bit : ℕ) → bit < 64 → PutsWord old new block (with_bit (word old block) bit) → bit_at (word new block) bit ≡ 1
+bit_here : (old new : List (ℕ × ℕ)) (block bit : ℕ) → bit < 16 → PutsWord old new block (with_bit (word old block) bit) → bit_at (word new block) bit ≡ 1
 bit_here old new block bit within put =
-    ap (λ n. bit_at n bit) (word_here old new block _ put) ∙ bit_at_set_same w64 (word old block) bit within
+    ap (λ n. bit_at n bit) (word_here old new block _ put) ∙ bit_at_set_same w16 (word old block) bit within
 
 -- each other bit of each block stays
-bit_apart : (old new : List (ℕ × ℕ)) (block bit q r : ℕ) → bit < 64 → PutsWord old new block (with_bit (word old block) bit) →
+bit_apart : (old new : List (ℕ × ℕ)) (block bit q r : ℕ) → bit < 16 → PutsWord old new block (with_bit (word old block) bit) →
     (block ≡ q → bit ≡ r → ⊥) → bit_at (word new q) r ≡ bit_at (word old q) r
 bit_apart old new block bit q r within put apart =
     elim (cases_eq block q) [
       | inl same ↦
           subst (λ p. bit_at (word new p) r ≡ bit_at (word old p) r) same
-          (ap (λ n. bit_at n r) (word_here old new block _ put) ∙ bit_at_set_other w64 (word old block) bit within r (λ e. apart same (sym e)))
+          (ap (λ n. bit_at n r) (word_here old new block _ put) ∙ bit_at_set_other w16 (word old block) bit within r (λ e. apart same (sym e)))
       | inr other ↦ ap (λ n. bit_at n r) (word_apart old new block _ q put other)
     ]
 
 -- block and bit tell a place
-same_place : (m n : ℕ) → m / 64 ≡ n / 64 → m % 64 ≡ n % 64 → m ≡ n
+same_place : (m n : ℕ) → m / 16 ≡ n / 16 → m % 16 ≡ n % 16 → m ≡ n
 same_place m n blocks bits = omega arith
 
 -- two labels with one place are one
@@ -54,16 +54,16 @@ same_label : (a b : ℤ) → FitsSigned w64 a → FitsSigned w64 b → cast_unsi
 same_label a b fits_a fits_b same = sym (to_z-of_z w64 a fits_a) ∙ ap (cast_signed w64) same ∙ to_z-of_z w64 b fits_b
 
 -- after a label's bit is set, that label and those before it are admitted
-after_its_bit : (old new : List (ℕ × ℕ)) (label : ℤ) → FitsSigned w64 label →
+pub after_its_bit : (old new : List (ℕ × ℕ)) (label : ℤ) → FitsSigned w64 label →
     let place = cast_unsigned w64 label in
-    PutsWord old new (place / 64) (with_bit (word old (place / 64)) (place % 64)) →
+    PutsWord old new (place / 16) (with_bit (word old (place / 16)) (place % 16)) →
     (other : ℤ) → IsAdmitted new other ↔ ((other ≡ label) ⊎ IsAdmitted old other)
 after_its_bit old new label fits put other =
     let place : ℕ = cast_unsigned w64 label in
     let asked : ℕ = cast_unsigned w64 other in
-    let within : place % 64 < 64 = omega arith in
+    let within : place % 16 < 16 = omega arith in
     let here : IsAdmitted new label =
-    record { fits = fits; is_set = bit_here old new (place / 64) (place % 64) within put } in
+    record { fits = fits; is_set = bit_here old new (place / 16) (place % 16) within put } in
     elim (cases_eq place asked) [
       | inl same ↦ (
         (λ now. inl (same_label other label now.fits fits (sym same))),
@@ -73,8 +73,8 @@ after_its_bit old new label fits put other =
         ]),
       )
       | inr apart ↦
-          let stays : bit_at (word new (asked / 64)) (asked % 64) ≡ bit_at (word old (asked / 64)) (asked % 64) =
-          bit_apart old new (place / 64) (place % 64) (asked / 64) (asked % 64) within put (λ b r. apart (same_place place asked b r)) in (
+          let stays : bit_at (word new (asked / 16)) (asked % 16) ≡ bit_at (word old (asked / 16)) (asked % 16) =
+          bit_apart old new (place / 16) (place % 16) (asked / 16) (asked % 16) within put (λ b r. apart (same_place place asked b r)) in (
             (λ now. inr (record { fits = now.fits; is_set = sym stays ∙ now.is_set })),
             (λ told. elim told [
               | inl is ↦ absurd (apart (sym (ap (cast_unsigned w64) is)))
@@ -82,15 +82,3 @@ after_its_bit old new label fits put other =
             ]),
           )
     ]
-
--- the same, by what the code computes: the place, the blocks that it reads, and the word that it finds there
-pub admitted_after : (old read new : List (ℕ × ℕ)) (label : ℤ) (place found : ℕ) → FitsSigned w64 label →
-    place ≡ cast_unsigned w64 label → read ≡ old → found ≡ word read (place / 64) →
-    PutsWord read new (place / 64) (with_bit found (place % 64)) →
-    (other : ℤ) → IsAdmitted new other ↔ ((other ≡ label) ⊎ IsAdmitted old other)
-admitted_after old read new label place found fits is_place is_old is_word put =
-    let put_word : PutsWord read new (place / 64) (with_bit (word read (place / 64)) (place % 64)) =
-    subst (λ n. PutsWord read new (place / 64) (with_bit n (place % 64))) is_word put in
-    let put_old : PutsWord old new (place / 64) (with_bit (word old (place / 64)) (place % 64)) =
-    subst (λ es. PutsWord es new (place / 64) (with_bit (word es (place / 64)) (place % 64))) is_old put_word in
-    after_its_bit old new label fits (subst (λ p. PutsWord old new (p / 64) (with_bit (word old (p / 64)) (p % 64))) is_place put_old)

@@ -1,2 +1,3 @@
 pub mod BlockLabels
 pub mod NextLabels
+pub mod TreeWords

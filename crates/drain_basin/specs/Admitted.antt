@@ -1,4 +1,4 @@
--- The labels that were admitted, as blocks of 64 labels.
+-- The labels that were admitted, as blocks of 16 labels.
 use Rattle.std.specs.Prelude.{◌≡◌, ℕ, ℤ, ◌/◌, ◌%◌, List, nat_eq, unwrap_or, FitsSigned}
 use Rattle.std.specs.Int.{bit_at, cast_unsigned, w64}
 use Rattle.std.specs.Map.{lookup}
@@ -10,4 +10,4 @@ word blocks block = unwrap_or (lookup (nat_eq block) blocks) 0
 -- the label was admitted, which only an i64 can be
 pub record IsAdmitted (blocks : List (ℕ × ℕ)) (label : ℤ) : Type 0 where
   pub fits : FitsSigned w64 label
-  pub is_set : bit_at (word blocks (cast_unsigned w64 label / 64)) (cast_unsigned w64 label % 64) ≡ 1
+  pub is_set : bit_at (word blocks (cast_unsigned w64 label / 16)) (cast_unsigned w64 label % 16) ≡ 1

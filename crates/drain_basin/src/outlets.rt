@@ -5,17 +5,19 @@ ghost use Rattle.std.specs.Prelude.{◌≡◌, ◌↔◌, ◌⊎◌, ℤ, IsOk, 
 
 use drain_grid::OutOfMemory;
 use std::alloc::Global;
-use std::collections::HashMap;
+use std::collections::BTreeMap;
 use std::marker::Model;
 
 /// A set of labels. Contracts ask by `IsAdmitted` whether a label was admitted.
 ///
-/// Labels that lie side by side share a word, since makers number outlets one after the other, or by their cells.
+/// Labels that lie side by side share a word, since makers number outlets one after the other, or by their cells. The words
+/// stand in a tree, so that no choice of labels makes a call slower than the logarithm of how many there are, and they are short,
+/// since a node of a tree can be half empty: where there are many labels, each takes at most 28 bytes.
 #[derive(Drop)]
 pub struct OutletLabels {
-    /// For each block of 64 labels, a word with a bit for each of them: 1 where it was admitted. A block of which none was
+    /// For each block of 16 labels, a word with a bit for each of them: 1 where it was admitted. A block of which none was
     /// admitted has no word.
-    blocks: HashMap<u64, u64>,
+    blocks: BTreeMap<u64, u16>,
 }
 
 impl Model for OutletLabels {
@@ -32,7 +34,7 @@ impl OutletLabels {
         ensures { (label : ℤ) → ¬ IsAdmitted result label }
     {
         OutletLabels {
-            blocks: HashMap::new(alloc),
+            blocks: BTreeMap::new(alloc),
         }
     }
 
@@ -48,15 +50,14 @@ impl OutletLabels {
         ensures err { OnErr result (self.new ≡ self.old) }
     {
         let place = label.cast_unsigned();
-        let block = place / 64;
-        let bit = place % 64;
-        let word = self.blocks.get(&block).copied().unwrap_or(0);
-        if (word >> bit) & 1 == 1 {
-            return Ok(false);
-        }
-        let Ok(_) = self.blocks.insert(block, word | 1 << bit) else {
+        let block = place / 16;
+        let bit = place % 16;
+        let Ok(entry) = self.blocks.entry(block) else {
             return Err(OutOfMemory);
         };
-        Ok(true)
+        let word = entry.or_insert(0);
+        let is_new = (*word >> bit) & 1 == 0;
+        *word |= 1 << bit;
+        Ok(is_new)
     }
 }

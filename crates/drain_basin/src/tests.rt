@@ -44,17 +44,23 @@ fn admits_each_label_once(rt: HostRuntime) -> Result<(), Fail> {
         (8, false),
         (-2147483648, false),
         // The ends of a word's half, of a word and of what a label can be, and labels that lie whole words apart.
-        (31, true),
+        (15, true),
+        (16, true),
+        (23, true),
         (39, true),
         (63, true),
         (64, true),
         (71, true),
         (0, true),
         (-1, true),
+        (-16, true),
+        (-17, true),
         (-64, true),
         (-65, true),
         (i64::MIN, true),
         (i64::MAX, true),
+        (15, false),
+        (16, false),
         (63, false),
         (64, false),
         (0, false),
@@ -64,6 +70,38 @@ fn admits_each_label_once(rt: HostRuntime) -> Result<(), Fail> {
         (7, false),
     ] {
         assert_eq!(rt; labels.admit(label), Ok(is_new), "label {label}");
+    }
+    Ok(())
+}
+
+/// Labels of which no two share a word.
+fn far_apart(number: u8) -> i64 {
+    i64::from(number) * 16
+}
+
+/// Enough labels that the tree of words grows. A call may find no memory.
+#[test]
+fn holds_its_labels_where_memory_is_refused(rt: HostRuntime) -> Result<(), Fail> {
+    let mut labels = OutletLabels::new(rt.alloc());
+    for number in 0..40u8 {
+        let label = far_apart(number);
+        if labels.admit(label) != Ok(true) {
+            for earlier in 0..number {
+                assert_eq!(rt;
+                    labels.admit(far_apart(earlier)),
+                    Ok(false),
+                    "{earlier} before {number}"
+                );
+            }
+            assert_eq!(rt; labels.admit(label), Ok(true), "{number} again");
+        }
+    }
+    for number in 0..40u8 {
+        assert_eq!(rt;
+            labels.admit(far_apart(number)),
+            Ok(false),
+            "{number} at the end"
+        );
     }
     Ok(())
 }

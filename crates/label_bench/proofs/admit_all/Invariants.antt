@@ -3,4 +3,4 @@ use Rattle.label_bench.proofs.admit_all.Given as goal
 
 -- at most one label more in each turn
 abbrev pub invariant-loop-turn : goal.invariant-loop-turn
-invariant-loop-turn l = l.admitted ≤ l._turn
+invariant-loop-turn l = l.admitted ≤ l.turn
