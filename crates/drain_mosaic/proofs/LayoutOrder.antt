@@ -6,6 +6,7 @@ use Rattle.drain_grid.specs.First.{IsFirst, IsBefore}
 use Rattle.drain_grid.specs.Size.{Extent}
 use Rattle.drain_grid.specs.Tile.{IsSide}
 use Rattle.drain_hgt.specs.Corner.{Corner}
+use Rattle.drain_mosaic.specs.declared.layout.TheConstants.{MAX_BOX}
 use Rattle.drain_mosaic.specs.declared.layout.LayoutFault.{LayoutFault}
 use Rattle.drain_mosaic.specs.declared.layout.LayoutFault.TheVariants.{NoTiles, RepeatedTile, BoxTooLarge, OutOfMemory}
 use Rattle.drain_mosaic.specs.Tiling.{Tiling, tiles_down, tiles_across}
@@ -23,10 +24,10 @@ no_fault_before t named BoxTooLarge (inl before) h = absurd (omega arith)
 no_fault_before t named BoxTooLarge (inr before) h = absurd (omega (arith, before.1))
 no_fault_before t named OutOfMemory before h = h
 
-pub too_large : (t : Tiling) → AreNamedOnce t → (8 < tiles_down t) ⊎ (8 < tiles_across t) → IsFirst order_of (HasLayoutFault t) BoxTooLarge
+pub too_large : (t : Tiling) → AreNamedOnce t → (MAX_BOX < tiles_down t) ⊎ (MAX_BOX < tiles_across t) → IsFirst order_of (HasLayoutFault t) BoxTooLarge
 too_large t named large = record { holds = large; first = no_fault_before t named }
 
-pub sound : (t : Tiling) (down across : ℕ) → AreNamedOnce t → down ≡ tiles_down t → across ≡ tiles_across t → down ≤ 8 → across ≤ 8 → (fault : LayoutFault) → ¬ HasLayoutFault t fault
+pub sound : (t : Tiling) (down across : ℕ) → AreNamedOnce t → down ≡ tiles_down t → across ≡ tiles_across t → down ≤ MAX_BOX → across ≤ MAX_BOX → (fault : LayoutFault) → ¬ HasLayoutFault t fault
 sound t down across named p q few small NoTiles h = named.some h
 sound t down across named p q few small (RepeatedTile c) h = named.once h.place c h.repeated
 sound t down across named p q few small BoxTooLarge (inl h) = absurd (omega (arith, p, few, h))
@@ -36,11 +37,15 @@ sound t down across named p q few small OutOfMemory h = h
 pub is_some : (corners : List Corner) (empty : Bool) → empty ≡ false → empty ≡ (length corners == 0) → corners ≢ []
 is_some corners empty full is none = false≢true (sym full ∙ is ∙ ap (λ cs. length cs == 0) none)
 
+-- want of memory says nothing of the tiles, so it is never their first fault
+pub not_memory : (t : Tiling) (fault : LayoutFault) → IsFirst order_of (HasLayoutFault t) fault → fault ≢ OutOfMemory
+not_memory t fault first e = subst (HasLayoutFault t) e first.holds
+
 -- tiles without a fault make a mosaic, and the code's numbers are those of its box
-pub layout_is : (t : Tiling) (down across : ℕ) (west north w n : ℤ) (shape : Extent) → IsSide t.side → AreNamedOnce t → AreBoundsOf t west north down across → down ≤ 8 → across ≤ 8
+pub layout_is : (t : Tiling) (down across : ℕ) (west north w n : ℤ) (shape : Extent) → IsSide t.side → ((fault : LayoutFault) → ¬ HasLayoutFault t fault) → AreBoundsOf t west north down across
     → w ≡ west → n ≡ north → shape ≡ record { rows = down * (t.side - 1) + 1; cols = across * (t.side - 1) + 1 } → IsLayout t × AreNumbersOf t w n shape
-layout_is t down across west north w n shape side named bounds few small p q is = (
-  record { side = side; sound = sound t down across named bounds.down_is bounds.across_is few small },
+layout_is t down across west north w n shape side sound bounds p q is = (
+  record { side = side; sound = sound },
   record {
     west_is = p ∙ bounds.west_is;
     north_is = q ∙ bounds.north_is;

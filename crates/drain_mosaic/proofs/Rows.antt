@@ -13,7 +13,7 @@ use Rattle.drain_grid.specs.Whole.{elevation_at}
 use Rattle.drain_mosaic.specs.Tiling.{Tiling, extent_of}
 use Rattle.drain_mosaic.specs.Mosaic.{Tile, HasTwoValues, TilesAgree, IsElevation, IsFirstSeam}
 use Rattle.drain_mosaic.specs.Joined.{first_value}
-use Rattle.drain_mosaic.specs.JoinedRows.{IsJoinedRow, AreJoinedRows}
+use Rattle.drain_mosaic.specs.JoinedRows.{IsJoinedRow, AgreeAbove, AreJoinedRows}
 use Rattle.drain_mosaic.proofs.Agreement.{agreement_gives_elevation}
 
 -- a row lies within the rows
@@ -49,6 +49,13 @@ length_cut xs a e within = let rest = length-drop a xs in length-take-le (e - a)
 written_over : (new old : List ℤ) (n : ℕ) → length new ≡ length old → n ≡ length old → take n (new ++ drop (length new) old) ≡ new
 written_over new old n same whole = grind (arith, common_steps)
 
+-- where a row has no seam either, one row more agrees
+pub agree_more : (t : Tiling) (ts : List Tile) (r : ℕ) (out : List ℤ) → AgreeAbove t ts r → IsJoinedRow t ts r out None → AgreeAbove t ts (r + 1)
+agree_more t ts r out above here row col below inside = elim (cases_lt row r) [
+  | inl less ↦ above row col less inside
+  | inr more ↦ (let e : row ≡ r = omega arith in subst (λ q. ¬ HasTwoValues t ts (record { row = q; col = col })) (sym e) (here.first col inside))
+]
+
 -- the rows with one row more
 rows_more : (t : Tiling) (ts : List Tile) (r k : ℕ) (old out : List ℤ) → k ≡ length out → length out ≡ (extent_of t).cols → r * (extent_of t).cols + (extent_of t).cols ≤ length old → AreJoinedRows t ts r old → IsJoinedRow t ts r out None
     → AreJoinedRows t ts (r + 1) (spliced (r * (extent_of t).cols) k out old)
@@ -71,11 +78,8 @@ rows_more t ts r k old out same wide within above here = record { values = value
           (ap height_from (spliced_inside (r * cols) k out old col VOID (omega arith) (omega arith)) ∙ here.values col inside))
     ]
 
-    agree : (row col : ℕ) → row < r + 1 → col < cols → ¬ HasTwoValues t ts (record { row = row; col = col })
-    agree row col below inside = elim (cases_lt row r) [
-      | inl less ↦ above.agree row col less inside
-      | inr more ↦ (let e : row ≡ r = omega arith in subst (λ q. ¬ HasTwoValues t ts (record { row = q; col = col })) (sym e) (here.first col inside))
-    ]
+    agree : AgreeAbove t ts (r + 1)
+    agree = agree_more t ts r out above.agree here
 
 -- what the code wrote is the rows with one row more
 pub rows_step : (t : Tiling) (ts : List Tile) (r w n : ℕ) (xs old out : List ℤ) → xs ≡ old → w ≡ (extent_of t).cols → n ≡ length old → length out ≡ (r * w + w) - r * w → length old ≡ (extent_of t).rows * (extent_of t).cols → r < (extent_of t).rows
@@ -98,10 +102,10 @@ rows_step t ts r w n xs old out same wide all long whole inside above here =
     )
 
 -- where no cell has two values the tiles agree
-pub tiles_agree : (t : Tiling) (ts : List Tile) (rows : ℕ) (samples : List ℤ) → (extent_of t).rows ≤ rows → AreJoinedRows t ts rows samples → TilesAgree t ts
-tiles_agree t ts rows samples all joined c v w inside is_one is_other = elim (int_eq v w) as (λ b. int_eq v w ≡ b → v ≡ w) [
+pub tiles_agree : (t : Tiling) (ts : List Tile) (rows : ℕ) → (extent_of t).rows ≤ rows → AgreeAbove t ts rows → TilesAgree t ts
+tiles_agree t ts rows all agree c v w inside is_one is_other = elim (int_eq v w) as (λ b. int_eq v w ≡ b → v ≡ w) [
   | true ↦ λ e. (Decides-int_eq v w).0 e
-  | false ↦ λ e. absurd (joined.agree c.row c.col (omega (arith, inside.row)) inside.col
+  | false ↦ λ e. absurd (agree c.row c.col (omega (arith, inside.row)) inside.col
       (record { one = v; other = w; is_one = is_one; is_other = is_other; differ = λ p. false≢true (sym e ∙ (Decides-int_eq v w).1 p) }))
 ] refl
 
@@ -109,16 +113,16 @@ tiles_agree t ts rows samples all joined c v w inside is_one is_other = elim (in
 pub is_elevation : (t : Tiling) (ts : List Tile) (rows : ℕ) (heights : Heights) → (extent_of t).rows ≤ rows → heights.extent ≡ extent_of t → AreJoinedRows t ts rows heights.samples → IsElevation t ts (elevation_at heights)
 is_elevation t ts rows heights all shape joined c v inside =
     let same : elevation_at heights c ≡ first_value t ts c = ap (λ e. height_from (slice_index_or heights.samples (c.row * e.cols + c.col) VOID)) shape ∙ joined.values c.row c.col (omega (arith, inside.row)) inside.col in
-    let law = agreement_gives_elevation t ts (tiles_agree t ts rows heights.samples all joined) c v inside in
+    let law = agreement_gives_elevation t ts (tiles_agree t ts rows all joined.agree) c v inside in
     (λ e. law.0 (sym same ∙ e), λ is. same ∙ law.1 is)
 
 -- the first cell with two values of the first row that has one is the first seam
-pub first_seam : (t : Tiling) (ts : List Tile) (row col : ℕ) (samples out : List ℤ) → row < (extent_of t).rows → AreJoinedRows t ts row samples → IsJoinedRow t ts row out (Some col) → IsFirstSeam t ts (record { row = row; col = col })
-first_seam t ts row col samples out inside above here = record {
+pub first_seam : (t : Tiling) (ts : List Tile) (row col : ℕ) (out : List ℤ) → row < (extent_of t).rows → AgreeAbove t ts row → IsJoinedRow t ts row out (Some col) → IsFirstSeam t ts (record { row = row; col = col })
+first_seam t ts row col out inside above here = record {
   inside = record { row = inside; col = here.first.0 };
   differ = here.first.1;
   first = λ b in_grid earlier. elim earlier [
-    | inl north ↦ above.agree b.row b.col north in_grid.col
+    | inl north ↦ above b.row b.col north in_grid.col
     | inr west ↦ subst (λ q. ¬ HasTwoValues t ts (record { row = q; col = b.col })) (sym west.0) (here.first.2 b.col west.1)
   ];
 }

@@ -46,7 +46,11 @@ pub record IsJoinedRow (t : Tiling) (tiles : List Tile) (row : ℕ) (samples : L
   pub values : (col : ℕ) → col < (extent_of t).cols → height_from (slice_index_or samples col VOID) ≡ first_value t tiles (record { row = row; col = col })
   pub first : IsLeastOf (λ col. HasTwoValues t tiles (record { row = row; col = col })) (extent_of t).cols found
 
+-- no cell of the first rows has two values
+abbrev pub AgreeAbove : Tiling → List Tile → ℕ → Type 0
+AgreeAbove t tiles rows = (row col : ℕ) → row < rows → col < (extent_of t).cols → ¬ HasTwoValues t tiles (record { row = row; col = col })
+
 -- the samples of the first rows are the first values of their cells, none of which has two values
 pub record AreJoinedRows (t : Tiling) (tiles : List Tile) (rows : ℕ) (samples : List ℤ) : Type 0 where
   pub values : (row col : ℕ) → row < rows → col < (extent_of t).cols → height_from (slice_index_or samples (row * (extent_of t).cols + col) VOID) ≡ first_value t tiles (record { row = row; col = col })
-  pub agree : (row col : ℕ) → row < rows → col < (extent_of t).cols → ¬ HasTwoValues t tiles (record { row = row; col = col })
+  pub agree : AgreeAbove t tiles rows

@@ -4,7 +4,7 @@
 //! north to south has `a * (side - 1) + 1` rows. Source: the SRTM HGT documentation; that a box is at most 8 by 8 tiles is this
 //! project's choice.
 
-ghost use Rattle.std.specs.Prelude.{◌≡◌, ◌≢◌, ◌+◌, ◌-◌, ◌*◌, ◌≤◌, ◌<◌, ℕ, map, MatchOption, IfOk, IfErr, Some, slice_get, length, option_map, nat_abs, ◌-ℤ◌};
+ghost use Rattle.std.specs.Prelude.{◌≡◌, ◌≢◌, ◌+◌, ◌-◌, ◌*◌, ◌≤◌, ◌<◌, ℕ, map, MatchOption, IfOk, IfErr, IsOk, Some, slice_get, length, option_map, nat_abs, ◌-ℤ◌};
 ghost use Rattle.drain_grid.specs.First.{IsFirst};
 ghost use Rattle.drain_grid.specs.Tile.{IsSide};
 ghost use Rattle.drain_hgt.specs.Corner.{Corner, IsWithin};
@@ -33,7 +33,7 @@ pub enum LayoutFault {
     /// The tiles lie further apart than 8 by 8.
     #[error("the tiles lie too far apart")]
     BoxTooLarge,
-    /// There is no memory for the names.
+    /// The list has no fault, and there is no memory for the names.
     #[error("out of memory")]
     OutOfMemory,
 }
@@ -61,28 +61,25 @@ impl Model for Layout {
 
 impl Layout {
     /// The layout of the tiles, or the first fault of their list: `NoTiles` where it is empty, `RepeatedTile` with the first tile
-    /// that equals an earlier one, `BoxTooLarge` where they lie in no box of 8 by 8.
+    /// that equals an earlier one, `BoxTooLarge` where they lie in no box of 8 by 8. `OutOfMemory` comes only where there is no fault.
     pub fn new(alloc: Global, side: u32, names: &[TileName]) -> Result<Layout, LayoutFault>
         requires { IsSide side }
         ensures layout { IfOk result (λ layout. layout ≡ record { side = side; corners = names.now }) }
         ensures sound { IfOk result (λ layout. (fault : LayoutFault) → ¬ HasLayoutFault layout fault) }
         ensures first_fault { IfErr result (λ fault. fault ≢ LayoutFault.OutOfMemory → IsFirst order_of (HasLayoutFault (record { side = side; corners = names.now })) fault) }
+
+        // Want of memory never stands in place of a fault.
+        ensures wants_memory { result ≡ Err LayoutFault.OutOfMemory → (fault : LayoutFault) → ¬ HasLayoutFault (record { side = side; corners = names.now }) fault }
     {
-        if names.is_empty() {
-            return Err(LayoutFault::NoTiles);
-        }
-        if let Some(name) = first_repeated(names) {
-            return Err(LayoutFault::RepeatedTile(name));
-        }
         let Bounds {
             west,
             north,
             down,
             across,
-        } = bounds_of(names);
-        if down > MAX_BOX || across > MAX_BOX {
-            return Err(LayoutFault::BoxTooLarge);
-        }
+        } = match box_of(names) {
+            Ok(bounds) => bounds,
+            Err(fault) => return Err(fault),
+        };
         let shape = shape_of(side, down, across);
         match Vec::from_slice(alloc, names) {
             Ok(names) => Ok(Layout {
@@ -157,6 +154,27 @@ impl Layout {
     }
 }
 
+/// The bounding box of tiles whose list has no fault, else the first fault of the list. This takes no memory.
+fn box_of(names: &[TileName]) -> Result<Bounds, LayoutFault>
+    ensures bounds { IfOk result (λ b. (side : ℕ) → AreBoundsOf (record { side = side; corners = names.now }) b.west b.north b.down b.across) }
+    ensures down { IfOk result (λ b. b.down ≤ MAX_BOX) }
+    ensures across { IfOk result (λ b. b.across ≤ MAX_BOX) }
+    ensures sound { IsOk result → (side : ℕ) (fault : LayoutFault) → ¬ HasLayoutFault (record { side = side; corners = names.now }) fault }
+    ensures first_fault { IfErr result (λ fault. (side : ℕ) → IsFirst order_of (HasLayoutFault (record { side = side; corners = names.now })) fault) }
+{
+    if names.is_empty() {
+        return Err(LayoutFault::NoTiles);
+    }
+    if let Some(name) = first_repeated(names) {
+        return Err(LayoutFault::RepeatedTile(name));
+    }
+    let bounds = bounds_of(names);
+    if bounds.down > MAX_BOX || bounds.across > MAX_BOX {
+        return Err(LayoutFault::BoxTooLarge);
+    }
+    Ok(bounds)
+}
+
 /// The first tile that equals an earlier one.
 fn first_repeated(names: &[TileName]) -> Option<TileName>
     ensures { MatchOption result ((i : ℕ) (c : Corner) → ¬ IsRepeatedAt names.now i c) (IsFirstRepeated names.now) }
@@ -170,6 +188,7 @@ fn first_repeated(names: &[TileName]) -> Option<TileName>
 }
 
 /// A bounding box: its west and north edges in degrees, and how many tiles it has each way.
+#[derive(Clone, Copy)]
 struct Bounds {
     west: i16,
     north: i16,

@@ -2,14 +2,17 @@
 //!
 //! A row of the mosaic is made of voids, and each tile that lies over it fills the voids that it has samples for. So a cell gets the
 //! value of the first tile that gives one, and a later tile that gives another value is a seam fault.
+//!
+//! Want of memory hides no seam: whether tiles agree is found without memory too, so that a seam fault comes exactly where there is one.
 
-ghost use Rattle.std.specs.Prelude.{◌≡◌, ◌⊎◌, ◌+◌, ◌-◌, ◌*◌, ◌≤◌, ◌<◌, map, length, slice_range, IfOk, IsOk, EachIndex, slice_index_or};
+ghost use Rattle.std.specs.Prelude.{◌≡◌, ◌↔◌, ◌⊎◌, ◌+◌, ◌-◌, ◌*◌, ◌≤◌, ◌<◌, map, length, slice_range, IfOk, IfErr, IsOk, IsErrOf, MatchOption, EachIndex, slice_index_or};
 ghost use Rattle.drain_grid.specs.Whole.{elevation_at};
 ghost use Rattle.drain_mosaic.specs.Tiling.{extent_of};
 ghost use Rattle.drain_mosaic.specs.Mosaic.{AreTiles, tiles_of, TilesAgree, IsElevation, IsFirstSeam};
 ghost use Rattle.drain_mosaic.specs.JoinedRows.{IsLeastOf, ConflictAt, IsLaidOver, IsJoinedRow, first_of, filled};
 
 use crate::layout::Layout;
+use drain_grid::cell::MAX_LENGTH;
 use drain_grid::{Cell, Elevation, VOID};
 use std::alloc::Global;
 use thiserror::Error;
@@ -20,7 +23,7 @@ pub enum SeamFault {
     /// Two tiles give the cell different values.
     #[error("two tiles differ at a cell")]
     SeamMismatch(Cell),
-    /// There is no memory for the samples.
+    /// The tiles agree, and there is no memory for the samples.
     #[error("out of memory")]
     OutOfMemory,
 }
@@ -28,30 +31,71 @@ pub enum SeamFault {
 /// The elevation that the tiles give: at each cell the one data value of the tiles that cover it, void where none gives data.
 ///
 /// `tiles` has the samples of each tile, in the order of the layout's names. Answers `SeamMismatch` with the first cell in row order
-/// to which two tiles give different values.
+/// to which two tiles give different values, wherever there is one, and `OutOfMemory` only where the tiles agree.
 pub fn join(alloc: Global, layout: &Layout, tiles: &[Vec<i16>]) -> Result<Elevation, SeamFault>
     requires tiles { AreTiles layout.now (map (λ tile. tile.items) tiles.now) }
     ensures shape { IfOk result (λ elevation. elevation.extent ≡ extent_of layout.now) }
     ensures agree { IsOk result → TilesAgree layout.now (tiles_of layout.now.corners (map (λ tile. tile.items) tiles.now)) }
     ensures values { IfOk result (λ elevation. IsElevation layout.now (tiles_of layout.now.corners (map (λ tile. tile.items) tiles.now)) (elevation_at elevation)) }
     ensures seam { (cell : Cell) → result ≡ Err (SeamFault.SeamMismatch cell) → IsFirstSeam layout.now (tiles_of layout.now.corners (map (λ tile. tile.items) tiles.now)) cell }
+
+    // Want of memory never stands in place of a seam.
+    ensures wants_memory { result ≡ Err SeamFault.OutOfMemory → TilesAgree layout.now (tiles_of layout.now.corners (map (λ tile. tile.items) tiles.now)) }
+{
+    match vec![in alloc; VOID; layout.shape().cells()] {
+        Ok(room) => match elevation_of(layout, tiles, room) {
+            Ok(elevation) => Ok(elevation),
+            Err(cell) => Err(SeamFault::SeamMismatch(cell)),
+        },
+        Err(_) => match first_seam(layout, tiles) {
+            Some(cell) => Err(SeamFault::SeamMismatch(cell)),
+            None => Err(SeamFault::OutOfMemory),
+        },
+    }
+}
+
+/// The elevation that the tiles give, in the room of a sample for each cell; or the first cell with two values. This takes no memory.
+fn elevation_of(layout: &Layout, tiles: &[Vec<i16>], room: Vec<i16>) -> Result<Elevation, Cell>
+    requires tiles { AreTiles layout.now (map (λ tile. tile.items) tiles.now) }
+    requires room { length room.items ≡ (extent_of layout.now).rows * (extent_of layout.now).cols }
+    ensures shape { IfOk result (λ elevation. elevation.extent ≡ extent_of layout.now) }
+    ensures agree { IsOk result → TilesAgree layout.now (tiles_of layout.now.corners (map (λ tile. tile.items) tiles.now)) }
+    ensures values { IfOk result (λ elevation. IsElevation layout.now (tiles_of layout.now.corners (map (λ tile. tile.items) tiles.now)) (elevation_at elevation)) }
+    ensures seam { IfErr result (IsFirstSeam layout.now (tiles_of layout.now.corners (map (λ tile. tile.items) tiles.now))) }
 {
     let shape = layout.shape();
     let cols = shape.cols() as usize;
-    let mut samples = match vec![in alloc; VOID; shape.cells()] {
-        Ok(samples) => samples,
-        Err(_) => return Err(SeamFault::OutOfMemory),
-    };
+    let mut samples = room;
     for row in 0..shape.rows() {
         let from = row as usize * cols;
         if let Some(col) = join_row(layout, tiles, row, &mut samples[from..from + cols]) {
-            return Err(SeamFault::SeamMismatch(Cell {
+            return Err(Cell {
                 row,
                 col: col as u32,
-            }));
+            });
         }
     }
     Ok(Elevation::new(shape, samples))
+}
+
+/// The first cell in row order with two values, none where the tiles agree. This takes no memory.
+pub(crate) fn first_seam(layout: &Layout, tiles: &[Vec<i16>]) -> Option<Cell>
+    requires { AreTiles layout.now (map (λ tile. tile.items) tiles.now) }
+    ensures { MatchOption result (TilesAgree layout.now (tiles_of layout.now.corners (map (λ tile. tile.items) tiles.now))) (IsFirstSeam layout.now (tiles_of layout.now.corners (map (λ tile. tile.items) tiles.now))) }
+{
+    let shape = layout.shape();
+    let rows = shape.rows();
+    let mut samples = [VOID; MAX_LENGTH as usize];
+    let out = &mut samples[..shape.cols() as usize];
+    for row in 0..rows {
+        if let Some(found) = join_row(layout, tiles, row, out) {
+            return Some(Cell {
+                row,
+                col: found as u32,
+            });
+        }
+    }
+    None
 }
 
 /// Makes one row of the mosaic, and finds its first cell with two values.

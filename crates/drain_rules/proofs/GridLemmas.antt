@@ -8,7 +8,7 @@ use Rattle.std.proofs.Math.Nat.{mul-le-mul_right}
 use Rattle.drain_grid.specs.declared.cell.Cell.{Cell}
 use Rattle.drain_grid.specs.declared.rule.Rule.{Rule}
 use Rattle.drain_grid.specs.Rule.{IsBetween}
-use Rattle.drain_grid.specs.Extent.{row_cells}
+use Rattle.drain_grid.specs.Extent.{row_cells, IsEarlier}
 use Rattle.drain_grid.specs.Values.{NoDataNumbers}
 use Rattle.drain_grid.specs.Grid.{Grid, Products, IsInside}
 use Rattle.drain_grid.specs.Counts.{is_data, is_raised}
@@ -18,8 +18,9 @@ use Rattle.drain_rules.specs.declared.fill_check.FillVerdict.TheVariants as fill
 use Rattle.drain_rules.specs.declared.tally.Tally.{Tally}
 use Rattle.drain_rules.specs.declared.verdict.Verdict.TheVariants.{Accepted}
 use Rattle.drain_rules.specs.FillVerdicts.{fill_rules, IsFillVerdict}
+use Rattle.drain_rules.specs.Labels.{HasNewLabel}
 use Rattle.drain_rules.specs.Verdicts.{has_outlet_code, IsVerdict}
-use Rattle.drain_rules.specs.Rows.{place, HoldAlong, CountsAlong, IsRowFault}
+use Rattle.drain_rules.specs.Rows.{place, HoldAlong, CountsAlong, IsRowFault, IsNewLabelAlong}
 
 -- the cells of the first rows
 abbrev pub cells_above : Grid → ℕ → List Cell
@@ -112,6 +113,25 @@ IsFirstFault-row profile low high g ps row col rule inside above here = record {
         let back : HoldsAt profile g ps (place row b.col) q = here.before b.col q beside.1 own in
         subst (λ r. HoldsAt profile g ps (place r b.col) q) (sym beside.0) back
     first b q in_grid own (inr same) = subst (λ c. HoldsAt profile g ps c q) (sym same.0) (here.smaller q own same.1)
+
+-- where the rows above keep every rule, a new label of the row is one of the grid
+pub HasNewLabel-row : (nodata : NoDataNumbers) (g : Grid) (ps : Products) (row col : ℕ) →
+    ((r : ℕ) → r < row → HoldAlong (profile1 nodata) 1 15 g ps r g.extent.cols) → IsNewLabelAlong nodata g ps row col → HasNewLabel nodata g ps
+HasNewLabel-row nodata g ps row col above along = (
+  place row col,
+  record {
+    has_data = along.has_data;
+    code = along.code;
+    here = λ rule own. along.holds col rule (omega arith) own;
+    before = before;
+  },
+)
+  where
+    before : (b : Cell) (rule : Rule) → IsInside g b → IsEarlier b (place row col) → IsBetween 1 15 rule → HoldsAt (profile1 nodata) g ps b rule
+    before b rule in_grid (inl north) own = above b.row north b.col rule in_grid.col own
+    before b rule in_grid (inr west) own =
+        let back : HoldsAt (profile1 nodata) g ps (place row b.col) rule = along.holds b.col rule (omega (arith, west.1)) own in
+        subst (λ r. HoldsAt (profile1 nodata) g ps (place r b.col) rule) (sym west.0) back
 
 -- rules that hold along every row hold at every cell
 RulesHold-rows : (profile : Profile) (low high : ℕ) (g : Grid) (ps : Products) →

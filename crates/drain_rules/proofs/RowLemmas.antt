@@ -73,6 +73,11 @@ pub IsStopAt-cell : (nodata : NoDataNumbers) (g : Grid) (ps : Products) (row col
 IsStopAt-cell nodata g ps row col labels p (Fault rule) inside holds before is least =
     IsRowFault-cell (profile1 nodata) 1 15 g ps row col rule inside.col holds
     (IsLeastFault-cell g ps nodata labels (place row col) p (Some rule) inside before is least)
-IsStopAt-cell nodata g ps row col labels p OutOfMemory inside holds before is outlet =
-    let here : IsOutletByCode (values_at g ps (place row col)) = subst (λ (q : Patch). IsOutletByCode q.here) is outlet in
-    (record { inside = inside; is_data = here.has_data }, here.code)
+IsStopAt-cell nodata g ps row col labels p OutOfMemory inside holds before is want =
+    let here : IsOutletByCode (values_at g ps (place row col)) = subst (λ (q : Patch). IsOutletByCode q.here) is want.0 in
+    record {
+      has_data = record { inside = inside; is_data = here.has_data };
+      code = here.code;
+      holds = HoldAlong-more (profile1 nodata) 1 15 g ps row col holds
+          (IsLeastFault-cell g ps nodata labels (place row col) p None inside before is want.1);
+    }

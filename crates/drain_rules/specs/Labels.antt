@@ -3,11 +3,14 @@
 use Rattle.std.specs.Prelude.{◌≡◌, ℕ, ℤ, pos, ◌↔◌, IsSome, List}
 use Rattle.drain_basin.specs.Admitted.{IsAdmitted}
 use Rattle.drain_grid.specs.declared.cell.Cell.{Cell}
+use Rattle.drain_grid.specs.declared.rule.Rule.{Rule}
 use Rattle.drain_grid.specs.declared.rule.Rule.TheVariants.{SharedLabel}
+use Rattle.drain_grid.specs.Rule.{IsBetween}
 use Rattle.drain_grid.specs.Extent.{IsEarlier}
 use Rattle.drain_grid.specs.Values.{Values, NoDataNumbers}
-use Rattle.drain_grid.specs.Grid.{Grid, Products, HasData}
+use Rattle.drain_grid.specs.Grid.{Grid, Products, IsInside, HasData}
 use Rattle.drain_grid.specs.PatchRules.{Profile, profile1}
+use Rattle.drain_grid.specs.GridRules.{HoldsAt}
 
 -- the values of a data cell with code 0
 pub record IsOutletByCode (v : Values) : Type 0 where
@@ -19,9 +22,17 @@ pub record IsLabelOf (v : Values) (label : ℤ) : Type 0 where
   pub outlet : IsOutletByCode v
   pub label_is : label ≡ v.bas
 
--- some data cell has code 0
-abbrev pub HasOutlet : Grid → Products → Type 0
-HasOutlet g ps = (c : Cell) × HasData g c × (ps.dir c ≡ pos 0)
+-- a new label has to be admitted at the cell: it is a data cell with code 0, and every rule holds there and at each earlier cell. So by
+-- SharedLabel no earlier one has its label
+pub record IsNewLabelAt (nodata : NoDataNumbers) (g : Grid) (ps : Products) (c : Cell) : Type 0 where
+  pub has_data : HasData g c
+  pub code : ps.dir c ≡ pos 0
+  pub here : (rule : Rule) → IsBetween 1 15 rule → HoldsAt (profile1 nodata) g ps c rule
+  pub before : (b : Cell) (rule : Rule) → IsInside g b → IsEarlier b c → IsBetween 1 15 rule → HoldsAt (profile1 nodata) g ps b rule
+
+-- there is such a cell
+abbrev pub HasNewLabel : NoDataNumbers → Grid → Products → Type 0
+HasNewLabel nodata g ps = (c : Cell) × IsNewLabelAt nodata g ps c
 
 -- a data cell with code 0 before this place in row order has the label
 pub record IsLabelBefore (g : Grid) (ps : Products) (place : Cell) (label : ℤ) : Type 0 where

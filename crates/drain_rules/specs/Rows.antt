@@ -1,5 +1,5 @@
 -- What a walk along one row finds.
-use Rattle.std.specs.Prelude.{◌≡◌, ℕ, pos, ◌<◌}
+use Rattle.std.specs.Prelude.{◌≡◌, ℕ, pos, ◌+◌, ◌<◌}
 use Rattle.std.specs.List.{count_by}
 use Rattle.drain_grid.specs.declared.cell.Cell.{Cell}
 use Rattle.drain_grid.specs.declared.rule.Rule.{Rule}
@@ -33,11 +33,16 @@ pub record IsRowFault (profile : Profile) (low high : ℕ) (g : Grid) (ps : Prod
   pub before : HoldAlong profile low high g ps row col
   pub smaller : (r : Rule) → IsBetween low high r → number_of r < number_of rule → HoldsAt profile g ps (place row col) r
 
--- a walk along the row stops at its first fault, or for want of memory at a data cell with code 0
+-- the cell is a data cell with code 0, and every rule holds there and at the earlier cells of the row
+pub record IsNewLabelAlong (nodata : NoDataNumbers) (g : Grid) (ps : Products) (row col : ℕ) : Type 0 where
+  pub has_data : HasData g (place row col)
+  pub code : ps.dir (place row col) ≡ pos 0
+  pub holds : HoldAlong (profile1 nodata) 1 15 g ps row (col + 1)
+
+-- a walk along the row stops at its first fault, or for want of memory where a new label has to be admitted
 abbrev pub IsStopAt : NoDataNumbers → Grid → Products → ℕ → ℕ → Stop → Type 0
 IsStopAt nodata g ps row col (Fault rule) = IsRowFault (profile1 nodata) 1 15 g ps row col rule
-IsStopAt nodata g ps row col OutOfMemory =
-    HasData g (place row col) × (ps.dir (place row col) ≡ pos 0)
+IsStopAt nodata g ps row col OutOfMemory = IsNewLabelAlong nodata g ps row col
 
 -- the same of the place and the reason together
 abbrev pub IsRowStop : NoDataNumbers → Grid → Products → ℕ → RowStop → Type 0

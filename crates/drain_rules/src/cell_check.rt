@@ -22,7 +22,7 @@ pub enum Stop {
 /// Tests every rule at a cell, and admits its label if it is an outlet by its code.
 ///
 /// `labels` are those of the outlets before the cell. A label is admitted only where the other rules hold; an answer
-/// `OutOfMemory` comes only from that.
+/// `OutOfMemory` comes only from that, at an outlet whose label is new.
 pub fn check_cell(patch: &Patch, nodata: &NoData, labels: &mut OutletLabels) -> Result<(), Stop>
     ensures passed { OnOk result (IsLeastFault (IsBetween 1 15) (labelled_profile nodata.now labels.old patch.now) None) }
     ensures labels { OnOk result ((label : ℤ) → IsAdmitted labels.new label ↔ (IsLabelOf patch.now.here label ⊎ IsAdmitted labels.old label)) }
@@ -42,7 +42,7 @@ pub fn check_cell(patch: &Patch, nodata: &NoData, labels: &mut OutletLabels) -> 
 fn admits_label(labels: &mut OutletLabels, here: &CellValues) -> Result<bool, OutOfMemory>
     ensures is_new { IfOk result (λ is_new. IsTrue is_new ↔ (IsOutletByCode here.now → ¬ IsAdmitted labels.old here.now.bas)) }
     ensures labels { OnOk result ((label : ℤ) → IsAdmitted labels.new label ↔ (IsLabelOf here.now label ⊎ IsAdmitted labels.old label)) }
-    ensures err { OnErr result (IsOutletByCode here.now) }
+    ensures err { OnErr result (IsOutletByCode here.now × ¬ IsAdmitted labels.old here.now.bas) }
 {
     if is_outlet_by_code(here) {
         labels.admit(here.bas)

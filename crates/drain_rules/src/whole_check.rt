@@ -4,7 +4,7 @@ ghost use Rattle.std.specs.Prelude.{◌≡◌, ◌+◌, ◌<◌, IfOk, IfErr, On
 ghost use Rattle.drain_grid.specs.Correct.{IsCorrect, RunsAreSound};
 ghost use Rattle.drain_grid.specs.PatchRules.{profile1};
 ghost use Rattle.drain_grid.specs.WholeGrid.{grid_of, products_of, nodata_of};
-ghost use Rattle.drain_rules.specs.Labels.{AreLabelsBefore, HasOutlet};
+ghost use Rattle.drain_rules.specs.Labels.{AreLabelsBefore, HasNewLabel};
 ghost use Rattle.drain_rules.specs.Rows.{IsRowTally, IsRowStop};
 ghost use Rattle.drain_rules.specs.Verdicts.{IsVerdict, IfAccepted};
 
@@ -23,7 +23,8 @@ pub struct RowStop {
     pub col: u32,
 }
 
-/// The verdict on the products of a grid. `OutOfMemory` comes only where the labels of outlets find no room.
+/// The verdict on the products of a grid. `OutOfMemory` comes only at a data cell with code 0 whose label is new, where every rule
+/// holds, as at each earlier cell: its label found no room. So want of memory never stands in place of a fault.
 pub fn verdict_of(
     alloc: Global,
     elevation: &Elevation,
@@ -31,7 +32,7 @@ pub fn verdict_of(
 ) -> Result<Verdict, OutOfMemory>
     requires same_shape { elevation.now.extent ≡ products.now.con.extent }
     ensures verdict { IfOk result (IsVerdict (grid_of elevation.now) (products_of products.now) (nodata_of products.now)) }
-    ensures err { OnErr result (HasOutlet (grid_of elevation.now) (products_of products.now)) }
+    ensures err { OnErr result (HasNewLabel (nodata_of products.now) (grid_of elevation.now) (products_of products.now)) }
 
     // What is accepted is correct, and every run is sound.
     ensures correct { IfAccepted result (IsCorrect (grid_of elevation.now) (products_of products.now) (nodata_of products.now)) }
@@ -46,7 +47,7 @@ pub fn verdict_of(
 fn walk(alloc: Global, elevation: &Elevation, products: &ProductSet) -> Result<Verdict, OutOfMemory>
     requires same_shape { elevation.now.extent ≡ products.now.con.extent }
     ensures verdict { IfOk result (IsVerdict (grid_of elevation.now) (products_of products.now) (nodata_of products.now)) }
-    ensures err { OnErr result (HasOutlet (grid_of elevation.now) (products_of products.now)) }
+    ensures err { OnErr result (HasNewLabel (nodata_of products.now) (grid_of elevation.now) (products_of products.now)) }
 {
     let shape = elevation.shape();
     let mut labels = OutletLabels::new(alloc);

@@ -63,6 +63,14 @@ seam_reads_none t samples refusal bad is =
 
 -- a fault of the seams is told as their refusal
 pub fault_refused : (t : Tiling) (samples : List (List ℤ)) (fault : SeamFault) (refusal : Refusal) → IsSeamFaultAs fault refusal →
-    ((c : Cell) → fault ≡ seam.SeamMismatch c → mosaic.IsFirstSeam t (mosaic.tiles_of t.corners samples) c) → IsSeamRefusal t samples refusal
-fault_refused t samples (seam.SeamMismatch c) refusal told first = subst (IsSeamRefusal t samples) (sym told) (first c refl)
-fault_refused t samples seam.OutOfMemory refusal told first = subst (IsSeamRefusal t samples) (sym told) tt
+    ((c : Cell) → fault ≡ seam.SeamMismatch c → mosaic.IsFirstSeam t (mosaic.tiles_of t.corners samples) c) →
+    (fault ≡ seam.OutOfMemory → mosaic.TilesAgree t (mosaic.tiles_of t.corners samples)) → IsSeamRefusal t samples refusal
+fault_refused t samples (seam.SeamMismatch c) refusal told first agree = subst (IsSeamRefusal t samples) (sym told) (first c refl)
+fault_refused t samples seam.OutOfMemory refusal told first agree = subst (IsSeamRefusal t samples) (sym told) (agree refl)
+
+-- want of memory is told only where the tiles agree
+pub seam_wants : {T : Type 0} (t : Tiling) (samples : List (List ℤ)) (refusal : Refusal) → IsSeamRefusal t samples refusal → IsErrOf {T = T} (Err refusal) OutOfMemory →
+    mosaic.TilesAgree t (mosaic.tiles_of t.corners samples)
+seam_wants t samples refusal bad is =
+    let same : refusal ≡ OutOfMemory = cc in
+    subst (IsSeamRefusal t samples) same bad

@@ -190,10 +190,10 @@ pub record IsElevationOf (t : tiling.Tiling) (samples : List (List ℤ)) (e : He
   pub agree : TilesAgree t (tiles_of t.corners samples)
   pub values : IsElevation t (tiles_of t.corners samples) (elevation_at e)
 
--- why tiles give no elevation
+-- why tiles give no elevation; memory is wanted only where they agree
 abbrev pub IsSeamRefusal : tiling.Tiling → List (List ℤ) → Refusal → Type 0
 IsSeamRefusal t samples (SeamMismatch c) = IsFirstSeam t (tiles_of t.corners samples) c
-IsSeamRefusal t samples OutOfMemory = Unit {0}
+IsSeamRefusal t samples OutOfMemory = TilesAgree t (tiles_of t.corners samples)
 IsSeamRefusal t samples refusal = ⊥
 
 -- the refusal that tells a fault of the seams

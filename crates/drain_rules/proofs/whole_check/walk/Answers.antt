@@ -3,7 +3,7 @@ use Rattle.drain_grid.specs.Size.{Extent}
 use Rattle.drain_grid.specs.PatchRules.{profile1}
 use Rattle.drain_grid.specs.WholeGrid.{grid_of, products_of, nodata_of}
 use Rattle.drain_rules.specs.Rows.{HoldAlong}
-use Rattle.drain_rules.proofs.GridLemmas.{CountsAbove-more, IsFirstFault-row, IsVerdict-above, tallies_fit}
+use Rattle.drain_rules.proofs.GridLemmas.{CountsAbove-more, HasNewLabel-row, IsFirstFault-row, IsVerdict-above, tallies_fit}
 use Rattle.drain_rules.proofs.whole_check.walk.Goals as goal
 use Rattle.drain_rules.proofs.whole_check.walk.Goals.{in-Fault, in-OutOfMemory}
 
@@ -40,6 +40,18 @@ returns-in-Err-clause-verdict c =
           rw w.result-is (IsFirstFault-row (profile1 nodata) 1 15 g ps c.loop-row.row c.in-Err.end.col w.in-Fault.rule inside c.loop-row.invariant.holds
           (rw w.in-Fault.is at c.in-Err.ensures.stopped))
       | in-OutOfMemory w ↦ rw w.result-is tt
+    ]
+
+pub returns-in-Err-clause-err : goal.returns-in-Err-clause-err
+returns-in-Err-clause-err c =
+    let g = grid_of c.args.elevation.now in
+    let ps = products_of c.args.products.now in
+    let nodata = nodata_of c.args.products.now in
+    elim c.match-end.branch [
+      | in-Fault w ↦ rw w.result-is tt
+      | in-OutOfMemory w ↦
+          rw w.result-is (HasNewLabel-row nodata g ps c.loop-row.row c.in-Err.end.col c.loop-row.invariant.holds
+          (rw w.in-OutOfMemory.is at c.in-Err.ensures.stopped))
     ]
 
 pub loop-row-preserved : goal.loop-row-preserved

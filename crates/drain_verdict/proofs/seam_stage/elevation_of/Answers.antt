@@ -19,3 +19,4 @@ returns-clause-refusal c =
     let t = c.args.layout.now in
     fault_refused t (map (λ tile. tile.items) c.args.samples.items) c.in-Err.fault c.refusal_of.result c.refusal_of.ensures.refusal
     (λ cell is. subst (λ s. IsFirstSeam t (tiles_of t.corners (map (λ tile. tile.items) s)) cell) c.deref.ensures.value (c.in-Err.ensures.seam cell (ap (λ fault. Err fault) is)))
+    (λ is. subst (λ s. TilesAgree t (tiles_of t.corners (map (λ tile. tile.items) s))) c.deref.ensures.value (c.in-Err.ensures.wants_memory (ap (λ fault. Err fault) is)))

@@ -1,11 +1,10 @@
-use Rattle.std.proofs.Common.{◌≡◌, ◌*◌, ◌+◌, length, map, sym, ap, ◌∙◌, subst, arith}
-use Rattle.drain_grid.specs.declared.cell.Cell.{Cell}
+use Rattle.std.proofs.Common.{◌*◌, ◌+◌, length, map, sym, ap, ◌∙◌, subst, arith}
 use Rattle.drain_grid.specs.Rasters.{Heights}
 use Rattle.drain_grid.specs.Whole.{elevation_at}
 use Rattle.drain_mosaic.specs.Tiling.{extent_of}
-use Rattle.drain_mosaic.specs.Mosaic.{tiles_of, IsFirstSeam, IsElevation}
+use Rattle.drain_mosaic.specs.Mosaic.{tiles_of, IsElevation}
 use Rattle.drain_mosaic.proofs.Rows.{row_inside, rows_step, length_cut, tiles_agree, is_elevation, first_seam}
-use Rattle.drain_mosaic.proofs.seams.join.Goals as goal
+use Rattle.drain_mosaic.proofs.seams.elevation_of.Goals as goal
 
 pub slice_bounds-join_row-end : goal.slice_bounds-join_row-end
 slice_bounds-join_row-end c =
@@ -25,19 +24,17 @@ loop-row-preserved c =
     (omega (arith, tall, c.loop-row-test.true)) c.loop-row.invariant.1 c.in_default.ensures
 
 pub returns-in-Some-clause-seam : goal.returns-in-Some-clause-seam
-returns-in-Some-clause-seam c = λ cell e.
+returns-in-Some-clause-seam c =
     let t = c.args.layout.now in
     let tiles = tiles_of t.corners (map (λ tile. tile.items) c.args.tiles.now) in
     let tall = c.rows-row-end.ensures ∙ ap (λ e. e.rows) c.shape-shape.ensures in
-    let at : Cell = record { row = c.loop-row.row; col = c.in-Some.col } in
-    let here : at ≡ cell = cc in
-    subst (IsFirstSeam t tiles) here (first_seam t tiles c.loop-row.row c.in-Some.col c.loop-row.samples.items c.join_row.new.out (omega (arith, tall, c.loop-row-test.true)) c.loop-row.invariant.1 c.in-Some.ensures)
+    first_seam t tiles c.loop-row.row c.in-Some.col c.join_row.new.out (omega (arith, tall, c.loop-row-test.true)) c.loop-row.invariant.1.agree c.in-Some.ensures
 
 pub returns-clause-agree : goal.returns-clause-agree
 returns-clause-agree c = λ done.
     let t = c.args.layout.now in
     let tall = c.rows-row-end.ensures ∙ ap (λ e. e.rows) c.shape-shape.ensures in
-    tiles_agree t (tiles_of t.corners (map (λ tile. tile.items) c.args.tiles.now)) c.loop-row.row c.loop-row.samples.items (omega (arith, tall, c.loop-row-test.false)) c.loop-row.invariant.1
+    tiles_agree t (tiles_of t.corners (map (λ tile. tile.items) c.args.tiles.now)) c.loop-row.row (omega (arith, tall, c.loop-row-test.false)) c.loop-row.invariant.1.agree
 
 pub returns-clause-values : goal.returns-clause-values
 returns-clause-values c =
