@@ -5,7 +5,7 @@
 //!
 //! Want of memory hides no seam: whether tiles agree is found without memory too, so that a seam fault comes exactly where there is one.
 
-ghost use Rattle.std.specs.Prelude.{◌≡◌, ◌↔◌, ◌⊎◌, ◌+◌, ◌-◌, ◌*◌, ◌≤◌, ◌<◌, map, length, slice_range, IfOk, IfErr, IsOk, IsErrOf, MatchOption, EachIndex, slice_index_or};
+ghost use Rattle.std.specs.Prelude.{◌≡◌, ◌⊎◌, ◌+◌, ◌-◌, ◌*◌, ◌≤◌, ◌<◌, map, length, slice_range, IfOk, IfErr, IsOk, MatchOption, EachIndex, slice_index_or};
 ghost use Rattle.drain_grid.specs.Whole.{elevation_at};
 ghost use Rattle.drain_mosaic.specs.Tiling.{extent_of};
 ghost use Rattle.drain_mosaic.specs.Mosaic.{AreTiles, tiles_of, TilesAgree, IsElevation, IsFirstSeam};

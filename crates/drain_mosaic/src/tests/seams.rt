@@ -16,7 +16,7 @@ fn seam_of(alloc: Global, layout: &Layout, tiles: &[Vec<i16>]) -> Result<Option<
 {
     let seam = match join(alloc, layout, tiles).err() {
         Some(SeamFault::SeamMismatch(cell)) => Some(cell),
-        Some(SeamFault::OutOfMemory) => return Err("out of memory".into()),
+        Some(fault) => return Err(fault.into()),
         None => None,
     };
     if first_seam(layout, tiles) != seam {
