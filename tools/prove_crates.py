@@ -4,7 +4,8 @@
 Usage: tools/prove_crates.py CRATE
 
 A crate's check gets the processors that no other crate can use. Each check may take 3 GiB of memory, so fewer run at once where there is
-less. While it works it tells how many crates are proved, and of each that is being proved how many of its functions.
+less. While it works it tells how many crates are proved, and of each that is being proved how many of its functions. What each crate's check
+printed, and how many seconds it took, stays in build/proving.
 """
 import os
 import re
@@ -47,6 +48,7 @@ class Check:
 
     def __init__(self, name, is_top, jobs, logs):
         self.name = name
+        self.began = time.monotonic()
         self.log = f"{logs}/{name}.log"
         out = open(self.log, "w", encoding="utf-8")
         words = ["rt", "check" if is_top else "lib", "--jobs", str(jobs)]
@@ -104,6 +106,8 @@ def prove(top, logs):
                 teller.end()
                 sys.exit(f"{check.name} isn't proved:\n{failure(check)}")
             proved.add(check.name)
+            with open(f"{logs}/seconds", "a", encoding="utf-8") as seconds:
+                seconds.write(f"{check.name} {time.monotonic() - check.began:.0f}\n")
         if running:
             teller.tell(len(proved), len(crates), running)
     teller.end()
