@@ -39,13 +39,7 @@ edits:
 	tools/try_edits.sh $(CRATES)
 
 test:
-	@mkdir -p build && rm -f build/gate_passed && rt version > build/gate_began
-	rt ci
-	@mv build/gate_began build/gate_passed
-	@$(MAKE) --no-print-directory build/drain build/label_bench
-	tests/program/run.sh build/drain build/label_bench
-	tests/refused_memory.sh drain_hgt:2 drain_mosaic:4 drain_header:4 drain_raster:1 drain_verdict:40-42 drain_maker:8-9
-	tests/wrong_makers.sh
+	tools/gate.sh
 
 bench: build/drain build/label_bench build/raster_bench build/mosaic_bench
 	bench/run.sh build/drain
