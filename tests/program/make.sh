@@ -127,6 +127,24 @@ for name in dir acc bas spl rnk; do
     judge_file 'lowered terrain' "$made/$name.bil" <"$work/lowered/$name.bil"
 done
 
+# Rough ground of heights from -3 to 3, a void among eleven cells, judged by the other program too.
+for seed in 1 2 3; do
+    make_ground
+    python3 - "$seed" "$ground" <<'PYTHON'
+import random, struct, sys
+random.seed(int(sys.argv[1]))
+heights = (-32768 if random.random() < 1 / 11 else random.randint(-3, 3) for _ in range(65 * 65))
+open(sys.argv[2], "wb").write(struct.pack(">4225h", *heights))
+PYTHON
+    judge_make "rough ground $seed over the sea" 0 'made rows=65 cols=65' --side 65 --out "$made" "$ground"
+    line=$("$maker" --verify 65 "$ground" "$made")
+    case $line in
+        'accepted rows=65 cols=65 '*) ;;
+        *) line='accepted, and not what the other program told' ;;
+    esac
+    judge_check "products made of rough ground $seed" 0 "$line" --side 65 --products "$made" "$ground"
+done
+
 # A funnel of side 1201, from 600 metres below the sea to 600 above: every cell drains through the one outlet in its north edge.
 make_ground
 python3 - "$ground" <<'PYTHON'
