@@ -27,15 +27,33 @@ file.write_text(text.replace(words["old"], words["new"]))
 PYTHON
 }
 
+# The result line of the maker's tests, and how many of them fail.
+tried() {
+    local told
+    told=$(cd "$maker" && rt try --test 2>&1 </dev/null) || true
+    echo "$(grep '^test result:' <<<"$told") $(grep -c '^test .*FAILED$' <<<"$told")"
+}
+
 status=0
 for edit in "$top"/tests/wrong_makers/*.edit; do
     name=$(basename "$edit" .edit)
+    rm -rf "$maker/src"
     cp -r "$top/crates/drain_maker/src" "$maker"
     sed -i 's/^const SIDE: u32 = 1201;$/const SIDE: u32 = 257;/' "$maker/src/tests/funnel.rt"
     apply "$edit"
-    told=$(cd "$maker" && rt try --test 2>&1 </dev/null) || true
-    case $(grep '^test result:' <<<"$told") in
-        *FAILED*) echo "$name: tests fail, as they must: $(grep -c '^test .*FAILED$' <<<"$told")" ;;
+    # The funnel takes as long as all other tests together, so it is tried where none of them fails.
+    mv "$maker/src/tests/funnel.rt" "$scratch"
+    sed -i '/^mod funnel;$/d' "$maker/src/tests.rt"
+    result=$(tried)
+    case $result in
+        *ok.*)
+            mv "$scratch/funnel.rt" "$maker/src/tests"
+            sed -i 's/^mod headers;$/mod funnel;\nmod headers;/' "$maker/src/tests.rt"
+            result=$(tried)
+            ;;
+    esac
+    case $result in
+        *FAILED*) echo "$name: tests fail, as they must: ${result##* }" ;;
         *) echo "FAILED $name: no test fails"; status=1 ;;
     esac
 done

@@ -1,5 +1,5 @@
 -- What a call that was lent no byte leaves.
-use Rattle.std.proofs.Common.{◌≡◌, ℕ, zero, suc, ◌<◌, ◌≤◌, List, [], take, Option, Some, None, Ok, arith, inl, inr, refl}
+use Rattle.std.proofs.Common.{◌≡◌, ℕ, zero, suc, ◌≤◌, List, [], take, Option, Some, None, Ok, arith, inl, inr, refl}
 use Rattle.std.specs.Io.KnownBytes.{Appends, Keeps}
 use Rattle.std.proofs.lemmas.List.{append-nil}
 use Rattle.drain_device.specs.Counts.{stalls_after}

@@ -1,4 +1,4 @@
-use Rattle.std.proofs.Common.{◌≡◌, ◌+◌, ◌-◌, arith, rules, inl, inr, refl, ◌∙◌}
+use Rattle.std.proofs.Common.{arith, inl, inr, refl, ◌∙◌}
 use Rattle.std.proofs.KnownBytes.{Keeps-refl, Keeps-trans}
 use Rattle.std.proofs.lemmas.Bool.{false≢true}
 use Rattle.drain_device.specs.Patience.{full_patience}
