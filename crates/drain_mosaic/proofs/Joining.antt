@@ -92,7 +92,7 @@ passed t ts tile row samples seam aside joined = record {
   values = λ col inside. joined.values col inside ∙ sym (or_none (first_value t ts (cell col))) ∙ ap (option_or (first_value t ts (cell col))) (sym (none col)) ∙ sym (first_value_push t ts tile (cell col));
   first = subst (IsLeastOf (λ col. HasTwoValues t (ts ++ tile ∷ []) (cell col)) (extent_of t).cols) (first_of_none seam) (least_join (λ col. HasTwoValues t ts (cell col)) (λ col. GivesAnother t ts tile (cell col)) (λ col. HasTwoValues t (ts ++ tile ∷ []) (cell col)) (extent_of t).cols seam None joined.first
       (λ col inside h. (let e = sym (none col) ∙ h.from in cc))
-      (λ col inside. two_keep t ts tile (cell col))
+      (λ col inside. two_keep t ts (tile ∷ []) (cell col))
       (λ col inside. two_new t ts tile (cell col))
       (λ col inside. two_split t ts tile (cell col)));
 }
@@ -114,7 +114,7 @@ laid t ts tile row old new part seam found wide from_top to_bottom long samples 
   values = λ col inside. value col inside ∙ sym (first_value_push t ts tile (cell col));
   first = least_join (λ col. HasTwoValues t ts (cell col)) (ConflictOver left part old) (λ col. HasTwoValues t (ts ++ tile ∷ []) (cell col)) cols seam found joined.first
       (subst (λ n. IsLeastOf (ConflictOver left part old) n found) wide over.first)
-      (λ col inside. two_keep t ts tile (cell col))
+      (λ col inside. two_keep t ts (tile ∷ []) (cell col))
       (λ col inside h. two_new t ts tile (cell col) (conflict_gives col inside h))
       (λ col inside h. elim (two_split t ts tile (cell col) h) [ inl two ↦ inl two | inr another ↦ inr (gives_conflict col inside another) ]);
 }

@@ -6,4 +6,5 @@ pub mod Places
 pub mod Values
 pub mod Joining
 pub mod TileRows
+pub mod CellValues
 pub mod Rows

@@ -13,7 +13,7 @@ use Rattle.drain_grid.specs.Whole.{elevation_at}
 use Rattle.drain_mosaic.specs.Tiling.{Tiling, extent_of}
 use Rattle.drain_mosaic.specs.Mosaic.{Tile, HasTwoValues, TilesAgree, IsElevation, IsFirstSeam}
 use Rattle.drain_mosaic.specs.Joined.{first_value}
-use Rattle.drain_mosaic.specs.JoinedRows.{IsJoinedRow, AgreeAbove, AreJoinedRows}
+use Rattle.drain_mosaic.specs.JoinedRows.{IsSeamAlong, IsJoinedRow, AgreeAbove, AreJoinedRows}
 use Rattle.drain_mosaic.proofs.Agreement.{agreement_gives_elevation}
 
 -- a row lies within the rows
@@ -49,11 +49,18 @@ length_cut xs a e within = let rest = length-drop a xs in length-take-le (e - a)
 written_over : (new old : List ℤ) (n : ℕ) → length new ≡ length old → n ≡ length old → take n (new ++ drop (length new) old) ≡ new
 written_over new old n same whole = grind (arith, common_steps)
 
+-- where P holds at none of the first places, nor at the next
+pub none_so_far : (P : ℕ → Type 0) (n : ℕ) → ((k : ℕ) → k < n → ¬ P k) → ¬ P n → (k : ℕ) → k < n + 1 → ¬ P k
+none_so_far P n before here k below = elim (cases_lt k n) [
+  | inl less ↦ before k less
+  | inr more ↦ (let e : k ≡ n = omega arith in subst (λ q. ¬ P q) (sym e) here)
+]
+
 -- where a row has no seam either, one row more agrees
-pub agree_more : (t : Tiling) (ts : List Tile) (r : ℕ) (out : List ℤ) → AgreeAbove t ts r → IsJoinedRow t ts r out None → AgreeAbove t ts (r + 1)
-agree_more t ts r out above here row col below inside = elim (cases_lt row r) [
+pub agree_more : (t : Tiling) (ts : List Tile) (r : ℕ) → AgreeAbove t ts r → IsSeamAlong t ts r None → AgreeAbove t ts (r + 1)
+agree_more t ts r above here row col below inside = elim (cases_lt row r) [
   | inl less ↦ above row col less inside
-  | inr more ↦ (let e : row ≡ r = omega arith in subst (λ q. ¬ HasTwoValues t ts (record { row = q; col = col })) (sym e) (here.first col inside))
+  | inr more ↦ (let e : row ≡ r = omega arith in subst (λ q. ¬ HasTwoValues t ts (record { row = q; col = col })) (sym e) (here col inside))
 ]
 
 -- the rows with one row more
@@ -79,7 +86,7 @@ rows_more t ts r k old out same wide within above here = record { values = value
     ]
 
     agree : AgreeAbove t ts (r + 1)
-    agree = agree_more t ts r out above.agree here
+    agree = agree_more t ts r above.agree here.first
 
 -- what the code wrote is the rows with one row more
 pub rows_step : (t : Tiling) (ts : List Tile) (r w n : ℕ) (xs old out : List ℤ) → xs ≡ old → w ≡ (extent_of t).cols → n ≡ length old → length out ≡ (r * w + w) - r * w → length old ≡ (extent_of t).rows * (extent_of t).cols → r < (extent_of t).rows
@@ -117,12 +124,12 @@ is_elevation t ts rows heights all shape joined c v inside =
     (λ e. law.0 (sym same ∙ e), λ is. same ∙ law.1 is)
 
 -- the first cell with two values of the first row that has one is the first seam
-pub first_seam : (t : Tiling) (ts : List Tile) (row col : ℕ) (out : List ℤ) → row < (extent_of t).rows → AgreeAbove t ts row → IsJoinedRow t ts row out (Some col) → IsFirstSeam t ts (record { row = row; col = col })
-first_seam t ts row col out inside above here = record {
-  inside = record { row = inside; col = here.first.0 };
-  differ = here.first.1;
+pub first_seam : (t : Tiling) (ts : List Tile) (row col : ℕ) → row < (extent_of t).rows → AgreeAbove t ts row → IsSeamAlong t ts row (Some col) → IsFirstSeam t ts (record { row = row; col = col })
+first_seam t ts row col inside above here = record {
+  inside = record { row = inside; col = here.0 };
+  differ = here.1;
   first = λ b in_grid earlier. elim earlier [
     | inl north ↦ above b.row b.col north in_grid.col
-    | inr west ↦ subst (λ q. ¬ HasTwoValues t ts (record { row = q; col = b.col })) (sym west.0) (here.first.2 b.col west.1)
+    | inr west ↦ subst (λ q. ¬ HasTwoValues t ts (record { row = q; col = b.col })) (sym west.0) (here.2 b.col west.1)
   ];
 }

@@ -36,6 +36,20 @@ tiles_at (c ∷ cs) [] i same inside = absurd (omega arith)
 tiles_at (c ∷ cs) (s ∷ ss) zero same inside = refl
 tiles_at (c ∷ cs) (s ∷ ss) (suc i) same inside = tiles_at cs ss i (omega arith) (omega arith)
 
+-- the tile in place i of the layout
+abbrev pub tile_of : Tiling → List (List ℤ) → ℕ → Tile
+tile_of t samples i = record { corner = get_or t.corners i nowhere; samples = get_or samples i [] }
+
+-- the first tiles with one more
+pub take_tile : (t : Tiling) (samples : List (List ℤ)) (i : ℕ) → AreTiles t samples → i < length samples → take (i + 1) (tiles_of t.corners samples) ≡ take i (tiles_of t.corners samples) ++ tile_of t samples i ∷ []
+take_tile t samples i tiles inside =
+    let all = tiles_of t.corners samples in
+    let long = length-tiles_of t.corners samples tiles.named in
+    take_more all i no_tile (omega (arith, long, tiles.named)) ∙ ap (λ x. take i all ++ x ∷ []) (tiles_at t.corners samples i tiles.named (omega (arith, tiles.named)))
+
+pub place_is : (t : Tiling) (i : ℕ) (place : Cell) → i < length t.corners → Some place ≡ option_map (place_of t) (slice_get t.corners i) → place ≡ place_of t (get_or t.corners i nowhere)
+place_is t i place inside at = same_Some place (place_of t (get_or t.corners i nowhere)) (at ∙ ap (option_map (place_of t)) (slice_get-get_or t.corners i nowhere inside))
+
 -- a whole row lies within a square
 row_within : (side r : ℕ) → r < side → r * side + side ≤ side * side
 row_within side r less = let h = mul-le-mul_right side less in omega (arith, h)
@@ -85,11 +99,8 @@ pub tile_step : (t : Tiling) (samples : List (List ℤ)) (i row : ℕ) (place : 
     → IsJoinedRow t (take i (tiles_of t.corners samples)) row old seam → IsJoinedRow t (take (i + 1) (tiles_of t.corners samples)) row new next
 tile_step t samples i row place tile side old new seam found next side_is tiles inside is at wide laid_is next_is joined =
     let all = tiles_of t.corners samples in
-    let long = length-tiles_of t.corners samples tiles.named in
-    let corner = get_or t.corners i nowhere in
-    let here : get_or all i no_tile ≡ record { corner = corner; samples = get_or samples i [] } = tiles_at t.corners samples i tiles.named (omega (arith, tiles.named)) in
-    let place_is : place ≡ place_of t corner = same_Some place (place_of t corner) (at ∙ ap (option_map (place_of t)) (slice_get-get_or t.corners i nowhere (omega (arith, tiles.named)))) in
-    let laid_here = subst (λ ss. IsTileLaid t.side (place_of t corner) ss row old new found) is (subst (λ p. IsTileLaid t.side p tile row old new found) place_is (subst (λ n. IsTileLaid n place tile row old new found) side_is laid_is)) in
-    let more = tile_laid t (take i all) (record { corner = corner; samples = get_or samples i [] }) row old new seam found (tiles.whole i [] inside) wide laid_here joined in
-    let one_more : take (i + 1) all ≡ take i all ++ record { corner = corner; samples = get_or samples i [] } ∷ [] = take_more all i no_tile (omega (arith, long, tiles.named)) ∙ ap (λ x. take i all ++ x ∷ []) here in
-    subst (λ ts. IsJoinedRow t ts row new next) (sym one_more) (subst (IsJoinedRow t (take i all ++ record { corner = corner; samples = get_or samples i [] } ∷ []) row new) (sym next_is) more)
+    let here = tile_of t samples i in
+    let place_at = place_is t i place (omega (arith, tiles.named)) at in
+    let laid_here = subst (λ ss. IsTileLaid t.side (place_of t here.corner) ss row old new found) is (subst (λ p. IsTileLaid t.side p tile row old new found) place_at (subst (λ n. IsTileLaid n place tile row old new found) side_is laid_is)) in
+    let more = tile_laid t (take i all) here row old new seam found (tiles.whole i [] inside) wide laid_here joined in
+    subst (λ ts. IsJoinedRow t ts row new next) (sym (take_tile t samples i tiles inside)) (subst (IsJoinedRow t (take i all ++ here ∷ []) row new) (sym next_is) more)

@@ -36,9 +36,8 @@ is_value_push t (s ∷ ts) tile c v (suc k, x, below, at, gives) = elim (is_valu
   | inr from ↦ inr from
 ]
 
-is_value_keep : (t : Tiling) (ts : List Tile) (tile : Tile) (c : Cell) (v : ℤ) → IsValue t ts c v → IsValue t (ts ++ tile ∷ []) c v
-is_value_keep t ts tile c v (k, x, below, at, gives) =
-    (k, x, omega (arith, length-append ts (tile ∷ [])), get_or_append_left ts (tile ∷ []) x k below ∙ at, gives)
+is_value_keep : (t : Tiling) (ts more : List Tile) (c : Cell) (v : ℤ) → IsValue t ts c v → IsValue t (ts ++ more) c v
+is_value_keep t ts more c v (k, x, below, at, gives) = (k, x, omega (arith, length-append ts more), get_or_append_left ts more x k below ∙ at, gives)
 
 is_value_last : (t : Tiling) (ts : List Tile) (tile : Tile) (c : Cell) (v : ℤ) → value_from t tile c ≡ Some v → IsValue t (ts ++ tile ∷ []) c v
 is_value_last t ts tile c v from = Any-push (λ s. Gives t s c v) ts tile (gives_from t tile c v from)
@@ -51,12 +50,12 @@ pub record GivesAnother (t : Tiling) (ts : List Tile) (tile : Tile) (c : Cell) :
   pub from : value_from t tile c ≡ Some other
   pub differ : one ≢ other
 
-pub two_keep : (t : Tiling) (ts : List Tile) (tile : Tile) (c : Cell) → HasTwoValues t ts c → HasTwoValues t (ts ++ tile ∷ []) c
-two_keep t ts tile c h = record {
+pub two_keep : (t : Tiling) (ts more : List Tile) (c : Cell) → HasTwoValues t ts c → HasTwoValues t (ts ++ more) c
+two_keep t ts more c h = record {
   one = h.one;
   other = h.other;
-  is_one = is_value_keep t ts tile c h.one h.is_one;
-  is_other = is_value_keep t ts tile c h.other h.is_other;
+  is_one = is_value_keep t ts more c h.one h.is_one;
+  is_other = is_value_keep t ts more c h.other h.is_other;
   differ = h.differ;
 }
 
@@ -64,7 +63,7 @@ pub two_new : (t : Tiling) (ts : List Tile) (tile : Tile) (c : Cell) → GivesAn
 two_new t ts tile c h = record {
   one = h.one;
   other = h.other;
-  is_one = is_value_keep t ts tile c h.one (value_of_first t ts c h.one h.first);
+  is_one = is_value_keep t ts (tile ∷ []) c h.one (value_of_first t ts c h.one h.first);
   is_other = is_value_last t ts tile c h.other h.from;
   differ = h.differ;
 }

@@ -29,6 +29,10 @@ Conflict z s = (z ≢ VOID) × (s ≢ VOID) × (z ≢ s)
 abbrev pub ConflictAt : List ℤ → List ℤ → ℕ → Type 0
 ConflictAt zs ss k = Conflict (slice_index_or zs k VOID) (slice_index_or ss k VOID)
 
+-- both are values, and differ
+abbrev pub AreTwo : Option ℤ → Option ℤ → Type 0
+AreTwo one other = (one ≢ None) × (other ≢ None) × (one ≢ other)
+
 -- the part lies over the column from `left` on, and its sample there is in conflict with the row's
 pub record ConflictOver (left : ℕ) (part row : List ℤ) (col : ℕ) : Type 0 where
   pub from_left : left ≤ col
@@ -41,10 +45,14 @@ pub record IsLaidOver (left : ℕ) (part old new : List ℤ) (found : Option ℕ
   pub outside : (col : ℕ) → (col < left) ⊎ (left + length part ≤ col) → slice_index_or new col VOID ≡ slice_index_or old col VOID
   pub first : IsLeastOf (ConflictOver left part old) (length old) found
 
+-- the column of the row's first cell with two values, none where no cell of it has two
+abbrev pub IsSeamAlong : Tiling → List Tile → ℕ → Option ℕ → Type 0
+IsSeamAlong t tiles row found = IsLeastOf (λ col. HasTwoValues t tiles (record { row = row; col = col })) (extent_of t).cols found
+
 -- the row has the first value of each of its cells, and its first cell with two values was found
 pub record IsJoinedRow (t : Tiling) (tiles : List Tile) (row : ℕ) (samples : List ℤ) (found : Option ℕ) : Type 0 where
   pub values : (col : ℕ) → col < (extent_of t).cols → height_from (slice_index_or samples col VOID) ≡ first_value t tiles (record { row = row; col = col })
-  pub first : IsLeastOf (λ col. HasTwoValues t tiles (record { row = row; col = col })) (extent_of t).cols found
+  pub first : IsSeamAlong t tiles row found
 
 -- no cell of the first rows has two values
 abbrev pub AgreeAbove : Tiling → List Tile → ℕ → Type 0

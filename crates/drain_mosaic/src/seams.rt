@@ -5,14 +5,14 @@
 //!
 //! Want of memory hides no seam: whether tiles agree is found without memory too, so that a seam fault comes exactly where there is one.
 
-ghost use Rattle.std.specs.Prelude.{◌≡◌, ◌⊎◌, ◌+◌, ◌-◌, ◌*◌, ◌≤◌, ◌<◌, map, length, slice_range, IfOk, IfErr, IsOk, MatchOption, EachIndex, slice_index_or};
+ghost use Rattle.std.specs.Prelude.{◌≡◌, ◌⊎◌, ◌+◌, ◌-◌, ◌*◌, ◌≤◌, ◌<◌, map, length, slice_range, IfOk, IfErr, IsOk, EachIndex, slice_index_or};
 ghost use Rattle.drain_grid.specs.Whole.{elevation_at};
 ghost use Rattle.drain_mosaic.specs.Tiling.{extent_of};
 ghost use Rattle.drain_mosaic.specs.Mosaic.{AreTiles, tiles_of, TilesAgree, IsElevation, IsFirstSeam};
 ghost use Rattle.drain_mosaic.specs.JoinedRows.{IsLeastOf, ConflictAt, IsLaidOver, IsJoinedRow, first_of, filled};
 
+use crate::first_seam::first_seam;
 use crate::layout::Layout;
-use drain_grid::cell::MAX_LENGTH;
 use drain_grid::{Cell, Elevation, VOID};
 use std::alloc::Global;
 use thiserror::Error;
@@ -76,26 +76,6 @@ fn elevation_of(layout: &Layout, tiles: &[Vec<i16>], room: Vec<i16>) -> Result<E
         }
     }
     Ok(Elevation::new(shape, samples))
-}
-
-/// The first cell in row order with two values, none where the tiles agree. This takes no memory.
-pub(crate) fn first_seam(layout: &Layout, tiles: &[Vec<i16>]) -> Option<Cell>
-    requires { AreTiles layout.now (map (λ tile. tile.items) tiles.now) }
-    ensures { MatchOption result (TilesAgree layout.now (tiles_of layout.now.corners (map (λ tile. tile.items) tiles.now))) (IsFirstSeam layout.now (tiles_of layout.now.corners (map (λ tile. tile.items) tiles.now))) }
-{
-    let shape = layout.shape();
-    let rows = shape.rows();
-    let mut samples = [VOID; MAX_LENGTH as usize];
-    let out = &mut samples[..shape.cols() as usize];
-    for row in 0..rows {
-        if let Some(found) = join_row(layout, tiles, row, out) {
-            return Some(Cell {
-                row,
-                col: found as u32,
-            });
-        }
-    }
-    None
 }
 
 /// Makes one row of the mosaic, and finds its first cell with two values.

@@ -3,8 +3,9 @@
 ghost use Rattle.std.specs.Prelude.{map};
 ghost use Rattle.drain_mosaic.specs.Mosaic.{AreTiles};
 
+use crate::first_seam::first_seam;
 use crate::layout::Layout;
-use crate::seams::{SeamFault, first_seam, join};
+use crate::seams::{SeamFault, join};
 use drain_grid::{Cell, VOID};
 use drain_hgt::TileName;
 use std::alloc::Global;

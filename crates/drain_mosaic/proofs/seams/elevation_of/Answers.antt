@@ -28,7 +28,7 @@ returns-in-Some-clause-seam c =
     let t = c.args.layout.now in
     let tiles = tiles_of t.corners (map (λ tile. tile.items) c.args.tiles.now) in
     let tall = c.rows-row-end.ensures ∙ ap (λ e. e.rows) c.shape-shape.ensures in
-    first_seam t tiles c.loop-row.row c.in-Some.col c.join_row.new.out (omega (arith, tall, c.loop-row-test.true)) c.loop-row.invariant.1.agree c.in-Some.ensures
+    first_seam t tiles c.loop-row.row c.in-Some.col (omega (arith, tall, c.loop-row-test.true)) c.loop-row.invariant.1.agree c.in-Some.ensures.first
 
 pub returns-clause-agree : goal.returns-clause-agree
 returns-clause-agree c = λ done.
