@@ -3,13 +3,11 @@ use Rattle.std.proofs.Common.{◌≡◌, ℕ, List, [], ◌∷◌, map, Option, 
 use Rattle.std.specs.List.{All, AllZip}
 use Rattle.std.proofs.lemmas.Bool.{false≢true}
 use Rattle.std.proofs.lemmas.List.Elements.{All-head, All-tail}
-use Rattle.drain_grid.specs.declared.product.Product.{Product}
 use Rattle.drain_hgt.specs.declared.input.TileInput.{TileInput}
 use Rattle.drain_hgt.specs.Corner.{Corner}
 use Rattle.drain_hgt.specs.Name.{Names}
 use Rattle.drain_hgt.specs.Laws.{NamesGiveCorners}
-use Rattle.drain_verdict.specs.declared.input.Products.{Products}
-use Rattle.drain_verdict.specs.Inputs.{Inputs, Tell, AreNames, input_of, names_of}
+use Rattle.drain_verdict.specs.Inputs.{AreNames, input_of, names_of}
 use Rattle.drain_verdict.specs.Laws.{InputsAreTold}
 
 -- what is told, and nothing where nothing is
