@@ -29,7 +29,7 @@ test:
 	@mv build/gate_began build/gate_passed
 	@$(MAKE) --no-print-directory build/drain build/label_bench
 	tests/program/run.sh build/drain build/label_bench
-	tests/refused_memory.sh drain_hgt:2 drain_mosaic:4 drain_header:4 drain_raster:1 drain_verdict:40-42 drain_maker:8-9
+	tests/refused_memory.sh drain_device drain_grid drain_basin drain_hgt drain_header drain_raster drain_mosaic drain_rules drain_verdict drain_maker drain_cli
 	tests/wrong_makers.sh
 
 bench: build/drain build/label_bench build/raster_bench build/mosaic_bench

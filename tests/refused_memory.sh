@@ -5,6 +5,7 @@
 # `rt test` left in out/; tests/refuse_memory.c refuses.
 # Usage: tests/refused_memory.sh CRATE...
 set -u
+[ $# -gt 0 ] || { echo "usage: $0 CRATE..." >&2; exit 2; }
 top=$(cd "$(dirname "$0")/.." && pwd)
 compiler=$(dirname "$(readlink -f "$(command -v rt)")")/../toolchain/bin/clang
 [ -x "$compiler" ] || compiler=cc
@@ -43,8 +44,8 @@ judge() {
             forget()
             if (!refused["alone"]) fails("no allocation was refused")
             if (failed) { printf "FAILED %s: %d\n", crate, failed; exit 1 }
-            printf "%s: %d tests tell of want of memory at each of %d allocations: ", crate, tests, refused["alone"]
-            printf "refused alone (at %d of them a test still passes), and refused with every later one\n", passed
+            printf "%s: in %d tests %d allocations refused, each alone (%d times the test still passed)", crate, tests, refused["alone"], passed
+            print " and with every later one; where a test did not pass it told of want of memory"
         }
     '
 }
