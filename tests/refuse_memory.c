@@ -1,8 +1,9 @@
-/* Is loaded before the C library into a run of one test. At each allocation two copies of the process go on in turn, one that
-   is refused this allocation alone and one that is refused this and every later one. A line on standard error tells how each
-   ended, behind what the copy wrote; then the allocation is granted. So one run refuses each allocation of the test in both ways,
-   and no count of them is needed. A test that read a file or had a thread couldn't be copied so. It includes no header, and so needs
-   none but the compiler. */
+/* Is loaded before the C library into a run of one test. At each allocation copies of the process go on in turn: one that is
+   refused this allocation alone; where that passes, as a growth does that is tried again with the exact size, one that is refused
+   this and the next; and one that is refused this and every later one. A line on standard error tells how each ended, behind what
+   the copy wrote; then the allocation is granted. So one run refuses each allocation of the test in every way, and no count of
+   them is needed. A test that read a file or had a thread couldn't be copied so. It includes no header, and so needs none but the
+   compiler. */
 
 typedef __SIZE_TYPE__ size_t;
 
@@ -19,30 +20,47 @@ extern int dprintf(int, const char *, ...);
 
 enum { STANDARD_ERROR = 2, NO_MEMORY = 12, MOST_SECONDS = 60, ALARM = 14 };
 
-static enum { COPIES, GRANTS, REFUSES } state = COPIES;
+static enum { COPIES, IS_COPY, IS_BUSY } state = COPIES;
+
+/* How many allocations are still refused in a copy. */
+static long refusals;
+
 static long count;
+
+/* How a copy ends that is refused so many allocations from this one on. In the copy itself it is told that it is one. */
+static int copy_refused(const char *way, long many, int *is_copy) {
+    int status = -1, copy = fork();
+    if (copy == 0) {
+        state = IS_COPY;
+        refusals = many - 1;
+        alarm(MOST_SECONDS);
+        *is_copy = 1;
+        return 0;
+    }
+    if (copy > 0)
+        waitpid(copy, &status, 0);
+    dprintf(STANDARD_ERROR, "\nrefused %ld %s: %d\n", count, way, status);
+    if (status == ALARM)
+        _exit(1);
+    return status;
+}
 
 /* Whether the allocation that now comes is refused. */
 static int is_refused(void) {
-    if (state != COPIES)
-        return state == REFUSES;
-    state = GRANTS;
+    if (state == IS_BUSY)
+        return 0;
+    if (state == IS_COPY)
+        return refusals > 0 && refusals--;
+    state = IS_BUSY;
     count++;
-    for (int and_later = 0; and_later <= 1; and_later++) {
-        int status = -1, copy = fork();
-        if (copy == 0) {
-            state = and_later ? REFUSES : GRANTS;
-            alarm(MOST_SECONDS);
-            return 1;
-        }
-        if (copy > 0)
-            waitpid(copy, &status, 0);
-        dprintf(STANDARD_ERROR, "\nrefused %ld %s: %d\n", count, and_later ? "and later" : "alone", status);
-        if (status == ALARM)
-            _exit(1);
-    }
-    state = COPIES;
-    return 0;
+    int is_copy = 0;
+    if (copy_refused("alone", 1, &is_copy) == 0 && !is_copy)
+        copy_refused("and the next", 2, &is_copy);
+    if (!is_copy)
+        copy_refused("and later", __LONG_MAX__, &is_copy);
+    if (!is_copy)
+        state = COPIES;
+    return is_copy;
 }
 
 static void *refusal(void) {

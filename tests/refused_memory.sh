@@ -1,7 +1,7 @@
 #!/usr/bin/env bash
-# Refuses each allocation of each test of a crate, alone, and then together with every later one of that test, and looks that a test
-# that doesn't pass tells of want of memory, and of nothing else: by its error, or by the left side of an assertion. Refused alone, an
-# allocation may be tried again, so the test may pass; with every later one refused it may not. The tests are those that `rt ci` or
+# Refuses each allocation of each test of a crate: alone; where the test still passes, as one allocation may be tried again, together with
+# the next; and together with every later one. It looks that a test that doesn't pass tells of want of memory, and of nothing else: by its
+# error, or by the left side of an assertion. Only where an allocation is refused alone may a test pass. The tests are those that `rt ci` or
 # `rt test` left in out/; tests/refuse_memory.c refuses.
 # Usage: tests/refused_memory.sh CRATE...
 set -u
@@ -25,8 +25,8 @@ judge() {
         function forget() { told = 0; text = "" }
         /^== test / { test = $3; tests++; forget(); next }
         /^== ended / { if ($3 != 0) fails("its own run ended with status " $3); forget(); next }
-        /^refused [0-9]+ (alone|and later): -?[0-9]+$/ {
-            way = $3 == "alone:" ? "alone" : "with every later one"
+        /^refused [0-9]+ (alone|and the next|and later): -?[0-9]+$/ {
+            way = $3 == "alone:" ? "alone" : $4 == "later:" ? "with every later one" : "with the next"
             refused[way]++
             what = "allocation " $2 " refused " way
             if ($NF == 0 && way != "alone") fails(what ", it passes")
@@ -44,8 +44,9 @@ judge() {
             forget()
             if (!refused["alone"]) fails("no allocation was refused")
             if (failed) { printf "FAILED %s: %d\n", crate, failed; exit 1 }
-            printf "%s: in %d tests %d allocations refused, each alone (%d times the test still passed)", crate, tests, refused["alone"], passed
-            print " and with every later one; where a test did not pass it told of want of memory"
+            printf "%s: in %d tests %d allocations refused alone, %d with the next, %d with every later one; ", crate, tests, \
+                refused["alone"], refused["with the next"], refused["with every later one"]
+            print "each time " (passed ? "but " passed " of the first, where the test passed, " : "") "it was told"
         }
     '
 }
