@@ -1,39 +1,68 @@
 #!/usr/bin/env bash
-# Runs the tests of a crate with the first allocation of each test refused, then with the second, and so on, and looks that
-# a test that doesn't pass then tells of want of memory, and nothing else.
-# Usage: tests/refused_memory.sh CRATE:MOST...    (the last allocation that is refused; it stops earlier where all tests pass)
-#        tests/refused_memory.sh CRATE:FIRST-LAST..    (only these, for tests that take memory of their own first)
+# Refuses each allocation of each test of a crate: alone; where the test still passes, as one allocation may be tried again, together with
+# the next; and together with every later one. It looks that a test that doesn't pass tells of want of memory, and of nothing else: by its
+# error, or by the left side of an assertion. Only where an allocation is refused alone may a test pass. The tests are those that `rt ci` or
+# `rt test` left in out/; tests/refuse_memory.c refuses.
+# Usage: tests/refused_memory.sh CRATE...
 set -u
-cd "$(dirname "$0")/../crates"
+[ $# -gt 0 ] || { echo "usage: $0 CRATE..." >&2; exit 2; }
+top=$(cd "$(dirname "$0")/.." && pwd)
+compiler=$(dirname "$(readlink -f "$(command -v rt)")")/../toolchain/bin/clang
+[ -x "$compiler" ] || compiler=cc
+scratch=$(mktemp -d)
+trap 'rm -rf "$scratch"' EXIT
+ulimit -c 0
+"$compiler" -O2 -Wall -shared -fPIC -nostdlib -o "$scratch/refuse_memory.so" "$top/tests/refuse_memory.c" || exit 1
 
-# Prints the tests that failed without telling of want of memory, from what a run printed.
-untold() {
-    awk '
-        function ends() { if (name != "" && !told) print name; name = ""; told = 0 }
-        /^test .* \.\.\. / { ends(); if (/FAILED$/) name = $2 }
-        /^test result/ { ends() }
-        /OutOfMemory|AllocError|AllocFailed/ { told = 1 }
+# Judges what the runs of a crate's tests wrote: a line '== test NAME', what each copy wrote with a line that tells how it
+# ended, as waitpid has it, and a line '== ended STATUS'.
+judge() {
+    awk -v crate="$1" '
+        function fails(why) {
+            failed++
+            if (!shown[test]++) printf "FAILED %s: %s: %s\n%s", crate, test, why, text
+        }
+        function forget() { told = 0; text = "" }
+        /^== test / { test = $3; tests++; forget(); next }
+        /^== ended / { if ($3 != 0) fails("its own run ended with status " $3); forget(); next }
+        /^refused [0-9]+ (alone|and the next|and later): -?[0-9]+$/ {
+            way = $3 == "alone:" ? "alone" : $4 == "later:" ? "with every later one" : "with the next"
+            refused[way]++
+            what = "allocation " $2 " refused " way
+            if ($NF == 0 && way != "alone") fails(what ", it passes")
+            else if ($NF == 0) passed++
+            else if ($NF == 14) fails(what ", it does not end")
+            else if ($NF != 101 * 256 && $NF != 6) fails(what ", it crashes, with status " $NF)
+            else if (!told) fails(what ", it does not tell of want of memory")
+            forget()
+            next
+        }
+        /^(error| *left): .*(OutOfMemory|AllocError|AllocFailed)/ { told = 1 }
+        NF { text = text "    " $0 "\n" }
+        END {
+            test = "its tests"
+            forget()
+            if (!refused["alone"]) fails("no allocation was refused")
+            if (failed) { printf "FAILED %s: %d\n", crate, failed; exit 1 }
+            printf "%s: in %d tests %d allocations refused alone, %d with the next, %d with every later one; ", crate, tests, \
+                refused["alone"], refused["with the next"], refused["with every later one"]
+            print "each time " (passed ? "but " passed " of the first, where the test passed, " : "") "it was told"
+        }
     '
 }
 
 refuse() {
-    local crate=${1%:*} range=${1#*:} first=1 most at out summary
-    most=${range#*-}
-    [ "$range" = "$most" ] || first=${range%-*}
-    for at in $(seq "$first" "$most"); do
-        out=$(cd "$crate" && rt try --test --fail-alloc "$at" 2>&1 </dev/null)
-        summary=$(grep '^test result:' <<<"$out") || {
-            echo "FAILED $crate: no result where allocation $at is refused"
-            return 1
-        }
-        bad=$(untold <<<"$out")
-        [ -z "$bad" ] || {
-            echo "FAILED $crate: with allocation $at refused: $bad"
-            return 1
-        }
-        case $summary in *' 0 failed;'*) break ;; esac
-    done
-    echo "$crate: want of memory is told where an allocation of a test is refused, from $first to $at"
+    local crate=$1 program=$top/crates/$1/out/$1_tests tests each
+    if [ ! -x "$program" ] || [ -n "$(find "$top/crates/$crate/src" -newer "$program" -print -quit)" ]; then
+        echo "FAILED $crate: its tests are not built, or older than its files: run rt test in crates/$crate, or make test"
+        return 1
+    fi
+    tests=$("$program" --list | sed -n 's/: test$//p')
+    for each in $tests; do
+        echo "== test $each"
+        LD_PRELOAD=$scratch/refuse_memory.so "$program" "$each" 2>&1 </dev/null
+        echo "== ended $?"
+    done 2>/dev/null | judge "$crate"
 }
 
 running=()
@@ -45,4 +74,5 @@ failed=0
 for each in "${running[@]}"; do
     wait "$each" || failed=1
 done
-exit $failed
+[ "$failed" != 0 ] || echo "ok: no test swallows a want of memory"
+exit "$failed"

@@ -8,7 +8,7 @@ mod make_runs;
 
 use crate::run_fill::run_fill;
 use drain_device::faults::{ScriptSink, ScriptSource, Scripted, SinkAnswer};
-use drain_device::{DeviceFault, SliceSource};
+use drain_device::{BodyFault, DeviceFault, SliceSource};
 use std::alloc::{AllocError, Global};
 use std::test::Fail;
 
@@ -23,11 +23,24 @@ const PIT: [u8; 81] = [
 
 const PIT_LINE: &str = "accepted rows=3 cols=3 data=9 raised=1\n";
 
+/// Room for all that a run prints, or for a file, so that no sink wants memory.
+fn room(alloc: Global) -> Result<Vec<u8>, AllocError> {
+    Vec::with_capacity(alloc, 300)
+}
+
+/// What a run printed, unless that tells of want of memory.
+fn told(printed: &[u8]) -> Result<&[u8], BodyFault> {
+    if printed.starts_with(b"failed O") {
+        return Err(BodyFault::OutOfMemory);
+    }
+    Ok(printed)
+}
+
 /// The line that a run prints, and its status.
-fn printed(alloc: Global, side: u32, bytes: &[u8]) -> Result<(u8, Vec<u8>), AllocError> {
-    let mut out = ScriptSink::new(Vec::new(alloc), 1000, [].as_slice());
+fn printed(alloc: Global, side: u32, bytes: &[u8]) -> Result<(u8, Vec<u8>), Fail> {
+    let mut out = ScriptSink::new(room(alloc)?, 1000, [].as_slice());
     let status = run_fill(alloc, side, &mut SliceSource::new(bytes), &mut out);
-    Ok((status, Vec::from_slice(alloc, out.as_slice())?))
+    Ok((status, Vec::from_slice(alloc, told(out.as_slice())?)?))
 }
 
 /// The pit with other bytes at some places.
@@ -83,8 +96,12 @@ fn tells_the_first_fault_of_a_changed_pit(rt: HostRuntime) -> Result<(), Fail> {
         ),
     ];
     for (name, changes, status, line) in cases {
-        let (answered, told) = printed(rt.alloc(), 3, changed(rt.alloc(), changes)?.as_slice())?;
-        assert_eq!(rt; told.as_slice(), line.as_bytes(), "{name}");
+        let (answered, line_told) = printed(
+            rt.alloc(),
+            3,
+            changed(rt.alloc(), changes)?.as_slice(),
+        )?;
+        assert_eq!(rt; line_told.as_slice(), line.as_bytes(), "{name}");
         assert_eq!(rt; answered, status, "{name}");
     }
     Ok(())
@@ -169,8 +186,8 @@ fn tells_what_inputs_of_each_length_are(rt: HostRuntime) -> Result<(), Fail> {
         ("side 3602", 3602, PIT.as_slice(), 2, "refused BadSide\n"),
     ];
     for (name, side, bytes, status, line) in cases {
-        let (answered, told) = printed(rt.alloc(), side, bytes)?;
-        assert_eq!(rt; told.as_slice(), line.as_bytes(), "{name}");
+        let (answered, line_told) = printed(rt.alloc(), side, bytes)?;
+        assert_eq!(rt; line_told.as_slice(), line.as_bytes(), "{name}");
         assert_eq!(rt; answered, status, "{name}");
     }
     Ok(())
@@ -228,9 +245,9 @@ fn bears_999_interruptions_of_its_input(rt: HostRuntime) -> Result<(), Fail> {
     for (name, most, script, status, line) in cases {
         assert!(rt; most > 0);
         let mut input = ScriptSource::new(PIT.as_slice(), most, script.as_slice());
-        let mut out = ScriptSink::new(Vec::new(rt.alloc()), 1000, [].as_slice());
+        let mut out = ScriptSink::new(room(rt.alloc())?, 1000, [].as_slice());
         let answered = run_fill(rt.alloc(), 3, &mut input, &mut out);
-        assert_eq!(rt; out.as_slice(), line.as_bytes(), "{name}");
+        assert_eq!(rt; told(out.as_slice())?, line.as_bytes(), "{name}");
         assert_eq!(rt; answered, status, "{name}");
     }
     Ok(())
@@ -241,10 +258,10 @@ fn never_takes_a_failed_input_for_its_end(rt: HostRuntime) -> Result<(), Fail> {
     for call in 1..=82 {
         let script = fault(call, call, DeviceFault::Failed);
         let mut input = ScriptSource::new(PIT.as_slice(), 1, script.as_slice());
-        let mut out = ScriptSink::new(Vec::new(rt.alloc()), 1000, [].as_slice());
+        let mut out = ScriptSink::new(room(rt.alloc())?, 1000, [].as_slice());
         let answered = run_fill(rt.alloc(), 3, &mut input, &mut out);
         assert_eq!(rt;
-            out.as_slice(),
+            told(out.as_slice())?,
             b"failed ReadFailed\n".as_slice(),
             "call {call}"
         );
@@ -259,8 +276,8 @@ fn ends_with_status_3_where_the_line_cannot_be_written(rt: HostRuntime) -> Resul
         ("a failure at once", SinkAnswer::Failed, 1, 1, 3),
         ("a failure at the line end", SinkAnswer::Failed, 39, 39, 3),
         ("no byte is taken", SinkAnswer::TookNone, 20, 20, 3),
-        ("999 interruptions", SinkAnswer::Interrupted, 1, 999, 0),
         ("1,000 interruptions", SinkAnswer::Interrupted, 1, 1000, 3),
+        ("999 interruptions", SinkAnswer::Interrupted, 1, 999, 0),
     ];
     for (name, answer, first, last, status) in cases {
         let script = [Scripted {
@@ -268,9 +285,10 @@ fn ends_with_status_3_where_the_line_cannot_be_written(rt: HostRuntime) -> Resul
             last,
             answer,
         }];
-        let mut out = ScriptSink::new(Vec::new(rt.alloc()), 1, script.as_slice());
+        let mut out = ScriptSink::new(room(rt.alloc())?, 1, script.as_slice());
         let mut input = SliceSource::new(PIT.as_slice());
         let answered = run_fill(rt.alloc(), 3, &mut input, &mut out);
+        told(out.as_slice())?;
         assert_eq!(rt; answered, status, "{name}");
         let written = if status == 0 { 39 } else { first - 1 };
         assert_eq!(rt; out.as_slice().len() as u64, written, "{name}");

@@ -211,7 +211,7 @@ fn each_kind_of_pixel_spells_its_bounds(rt: HostRuntime) -> Result<(), Fail> {
                 [number].as_slice(),
                 "{bits} bits"
             );
-            let mut sink = VecSink::new(Vec::new(rt.alloc()));
+            let mut sink = VecSink::new(Vec::with_capacity(rt.alloc(), 4)?);
             write_raster(&mut sink, &header, &raster)?;
             assert_eq!(rt;
                 sink.as_slice(),

@@ -1,4 +1,5 @@
-//! Writing to sinks that are whole, slow, interrupted or fail, and numbers that pixels can't spell.
+//! Writing to sinks that are whole, slow, interrupted or fail, and numbers that pixels can't spell. Sinks have their memory
+//! first, so that want of it is told as such.
 
 ghost use Rattle.std.specs.Prelude.{◌≡◌, IfOk};
 ghost use Rattle.drain_raster.specs.Pixels.{extent_of};
@@ -27,7 +28,7 @@ fn worked(alloc: Global) -> Result<Raster, Fail>
 #[test]
 fn a_worked_raster_is_written_and_read_back(rt: HostRuntime) -> Result<(), Fail> {
     let raster = worked(rt.alloc())?;
-    let mut sink = VecSink::new(Vec::new(rt.alloc()));
+    let mut sink = VecSink::new(Vec::with_capacity(rt.alloc(), WRITTEN.len())?);
     write_raster(&mut sink, &padded(ByteOrdering::Least), &raster)?;
     assert_eq!(rt; sink.as_slice(), WRITTEN.as_slice());
     bytes_read_back();
@@ -106,7 +107,8 @@ fn a_write_fails_where_its_sink_does(rt: HostRuntime) -> Result<(), Fail> {
             last,
             answer,
         }];
-        let mut sink = ScriptSink::new(Vec::new(rt.alloc()), 1, &script);
+        let room = Vec::with_capacity(rt.alloc(), WRITTEN.len())?;
+        let mut sink = ScriptSink::new(room, 1, &script);
         let written = write_raster(&mut sink, &padded(ByteOrdering::Least), &raster);
         let wanted = if taken < 11 {
             Err(WriteFault::WriteFailed)
@@ -141,7 +143,8 @@ fn interruptions_add_up_over_a_write(rt: HostRuntime) -> Result<(), Fail> {
                 answer: interrupted,
             },
         ];
-        let mut sink = ScriptSink::new(Vec::new(rt.alloc()), 1, &script);
+        let room = Vec::with_capacity(rt.alloc(), WRITTEN.len())?;
+        let mut sink = ScriptSink::new(room, 1, &script);
         let written = write_raster(&mut sink, &padded(ByteOrdering::Least), &raster);
         assert_eq!(rt; written, wanted);
         assert_eq!(rt; WRITTEN.starts_with(sink.as_slice()), true);
@@ -186,7 +189,7 @@ fn long_rows_are_written_whole(rt: HostRuntime) -> Result<(), Fail> {
     let raster = read_raster(rt.alloc(), Product::Acc, &header, &bytes)?;
     let numbers = numbers_of(rt.alloc(), &raster)?;
     assert_eq!(rt; numbers.last().copied(), Some(16777216 + 2999 * 256 + 7));
-    let mut sink = VecSink::new(Vec::new(rt.alloc()));
+    let mut sink = VecSink::new(Vec::with_capacity(rt.alloc(), bytes.len())?);
     write_raster(&mut sink, &header, &raster)?;
     assert!(rt; sink.as_slice() == bytes.as_slice());
     Ok(())

@@ -1,6 +1,7 @@
 //! Runs of `drain check` over sources and sinks in memory: one tile of side 2 at 0 degrees, level, with its products.
 
 use crate::run_check::run_check;
+use crate::tests::{room, told};
 use drain_device::faults::{ScriptSink, Scripted, SinkAnswer};
 use drain_device::{ByteList, ByteSink, SliceSource};
 use drain_hgt::TileInput;
@@ -82,9 +83,9 @@ fn prints_the_answer_to_products(rt: HostRuntime) -> Result<(), Fail> {
         ),
     ];
     for (name, side, tile, labels, status, line) in cases {
-        let mut out = ScriptSink::new(Vec::new(rt.alloc()), 1000, [].as_slice());
+        let mut out = ScriptSink::new(room(rt.alloc())?, 1000, [].as_slice());
         let answered = status_of(rt.alloc(), side, tile, labels, &mut out)?;
-        assert_eq!(rt; out.as_slice(), line.as_bytes(), "{name}");
+        assert_eq!(rt; told(out.as_slice())?, line.as_bytes(), "{name}");
         assert_eq!(rt; answered, status, "{name}");
     }
     Ok(())
@@ -99,9 +100,9 @@ fn ends_with_status_3_where_the_line_of_a_check_cannot_be_written(
         last: 9,
         answer: SinkAnswer::Failed,
     }];
-    let mut out = ScriptSink::new(Vec::new(rt.alloc()), 1, script.as_slice());
+    let mut out = ScriptSink::new(room(rt.alloc())?, 1, script.as_slice());
     let answered = status_of(rt.alloc(), 2, "N00E000.hgt", &[1, 2, 3, 4], &mut out)?;
     assert_eq!(rt; answered, 3);
-    assert_eq!(rt; out.as_slice(), b"accepted".as_slice());
+    assert_eq!(rt; told(out.as_slice())?, b"accepted".as_slice());
     Ok(())
 }

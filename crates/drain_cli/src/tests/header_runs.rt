@@ -2,9 +2,10 @@
 //! slow, interrupted or fail.
 
 use crate::run_header::run_header;
+use crate::tests::{room, told};
 use drain_device::faults::{ScriptSink, ScriptSource, Scripted, SinkAnswer};
 use drain_device::{ByteSource, DeviceFault, SliceSource};
-use std::alloc::{AllocError, Global};
+use std::alloc::Global;
 use std::test::Fail;
 
 /// The header of a raster of 3 by 3 pixels, half a degree apart, as this program writes it.
@@ -60,10 +61,10 @@ NODATA -32768
 ";
 
 /// What a run prints, and its status.
-fn printed(alloc: Global, bytes: &[u8]) -> Result<(u8, Vec<u8>), AllocError> {
-    let mut out = ScriptSink::new(Vec::new(alloc), 1000, [].as_slice());
+fn printed(alloc: Global, bytes: &[u8]) -> Result<(u8, Vec<u8>), Fail> {
+    let mut out = ScriptSink::new(room(alloc)?, 1000, [].as_slice());
     let status = run_header(alloc, &mut SliceSource::new(bytes), &mut out);
-    Ok((status, Vec::from_slice(alloc, out.as_slice())?))
+    Ok((status, Vec::from_slice(alloc, told(out.as_slice())?)?))
 }
 
 #[test]
@@ -86,8 +87,8 @@ fn prints_headers_and_faults(rt: HostRuntime) -> Result<(), Fail> {
         ),
     ];
     for (name, bytes, status, text) in cases {
-        let (answered, told) = printed(rt.alloc(), bytes)?;
-        assert_eq!(rt; told.as_slice(), text.as_bytes(), "{name}");
+        let (answered, text_told) = printed(rt.alloc(), bytes)?;
+        assert_eq!(rt; text_told.as_slice(), text.as_bytes(), "{name}");
         assert_eq!(rt; answered, status, "{name}");
     }
     Ok(())
@@ -104,9 +105,9 @@ fn reads_one_byte_past_the_longest_header(rt: HostRuntime) -> Result<(), Fail> {
     ];
     for (length, line, left) in cases {
         let mut input = SliceSource::new(&line_feeds[..length]);
-        let mut out = ScriptSink::new(Vec::new(rt.alloc()), 1000, [].as_slice());
+        let mut out = ScriptSink::new(room(rt.alloc())?, 1000, [].as_slice());
         let status = run_header(rt.alloc(), &mut input, &mut out);
-        assert_eq!(rt; out.as_slice(), line.as_bytes(), "{length}");
+        assert_eq!(rt; told(out.as_slice())?, line.as_bytes(), "{length}");
         assert_eq!(rt; status, 2, "{length}");
         let mut rest = [0; 70000];
         assert_eq!(rt; input.read_some(&mut rest), Ok(left), "{length}");
@@ -128,9 +129,9 @@ fn bears_999_interruptions_of_its_file(rt: HostRuntime) -> Result<(), Fail> {
             answer,
         }];
         let mut input = ScriptSource::new(SMALL.as_bytes(), 1, script.as_slice());
-        let mut out = ScriptSink::new(Vec::new(rt.alloc()), 1000, [].as_slice());
+        let mut out = ScriptSink::new(room(rt.alloc())?, 1000, [].as_slice());
         let answered = run_header(rt.alloc(), &mut input, &mut out);
-        assert_eq!(rt; out.as_slice(), text.as_bytes());
+        assert_eq!(rt; told(out.as_slice())?, text.as_bytes());
         assert_eq!(rt; answered, status);
     }
     Ok(())
@@ -148,14 +149,14 @@ fn ends_with_status_3_where_the_header_cannot_be_written(rt: HostRuntime) -> Res
             last: 1099,
             answer,
         }];
-        let mut out = ScriptSink::new(Vec::new(rt.alloc()), 1, script.as_slice());
+        let mut out = ScriptSink::new(room(rt.alloc())?, 1, script.as_slice());
         let answered = run_header(
             rt.alloc(),
             &mut SliceSource::new(SMALL.as_bytes()),
             &mut out,
         );
         assert_eq!(rt; answered, 3);
-        assert_eq!(rt; out.as_slice(), &SMALL.as_bytes()[..99]);
+        assert_eq!(rt; told(out.as_slice())?, &SMALL.as_bytes()[..99]);
     }
     Ok(())
 }

@@ -3,6 +3,7 @@
 use crate::make_set::make_set;
 use crate::run_check::run_check;
 use crate::set_files::FILE_COUNT;
+use crate::tests::{room, told};
 use crate::write_set::write_set;
 use drain_device::faults::{ScriptSink, Scripted, SinkAnswer};
 use drain_device::{ByteList, SliceSource, VecSink};
@@ -47,6 +48,13 @@ struct Told {
     status: u8,
 }
 
+/// What a run told, unless that is want of memory.
+fn ended(out: VecSink, status: u8) -> Result<Told, Fail> {
+    let line = out.into_inner();
+    told(line.as_slice())?;
+    Ok(Told { line, status })
+}
+
 /// Makes products of the tiles and writes them; where there are none, tells why.
 fn make(
     alloc: Global,
@@ -54,12 +62,12 @@ fn make(
     tiles: &[Tile<'_>],
     files: &mut Vec<VecSink>,
 ) -> Result<Told, Fail> {
-    let mut out = VecSink::new(Vec::new(alloc));
+    let mut out = VecSink::new(room(alloc)?);
     let mut inputs = inputs(alloc, tiles)?;
     let status = match make_set(alloc, side, inputs.as_mut_slice(), &mut out) {
         Ok((layout, products)) => {
             for _ in 0..FILE_COUNT {
-                files.push(VecSink::new(Vec::new(alloc)))?;
+                files.push(VecSink::new(room(alloc)?))?;
             }
             if files.len() != FILE_COUNT {
                 return Err("twelve files".into());
@@ -68,10 +76,7 @@ fn make(
         }
         Err(status) => status,
     };
-    Ok(Told {
-        line: out.into_inner(),
-        status,
-    })
+    ended(out, status)
 }
 
 /// A product whose header and raster stand in these places among the files.
@@ -106,17 +111,14 @@ fn check<'a>(
         rnk: product(alloc, files, 10, 11)?,
     };
     let mut inputs = inputs(alloc, tiles)?;
-    let mut out = VecSink::new(Vec::new(alloc));
+    let mut out = VecSink::new(room(alloc)?);
     let status = run_check(alloc, side, inputs.as_mut_slice(), &mut products, &mut out);
-    Ok(Told {
-        line: out.into_inner(),
-        status,
-    })
+    ended(out, status)
 }
 
 /// Whether the run printed this line and ended with this status.
-fn is(told: &Told, line: &str, status: u8) -> bool {
-    told.line.as_slice() == line.as_bytes() && told.status == status
+fn is(run: &Told, line: &str, status: u8) -> bool {
+    run.line.as_slice() == line.as_bytes() && run.status == status
 }
 
 /// Whether making tells one line, and checking what was made the other, and both end with 0.
@@ -301,13 +303,14 @@ fn lengths_where_one_fails(alloc: Global, place: usize) -> Result<(Told, Vec<usi
         last: 2,
         answer: SinkAnswer::Failed,
     }];
-    let mut out = VecSink::new(Vec::new(alloc));
+    let mut out = VecSink::new(room(alloc)?);
     let tiles = [Tile {
         name: "N00E000.hgt",
         bytes: &PIT,
     }];
     let mut inputs = inputs(alloc, &tiles)?;
     let Ok((layout, products)) = make_set(alloc, 3, inputs.as_mut_slice(), &mut out) else {
+        told(out.as_slice())?;
         return Err("nothing made".into());
     };
     let mut files = Vec::new(alloc);
@@ -317,7 +320,7 @@ fn lengths_where_one_fails(alloc: Global, place: usize) -> Result<(Told, Vec<usi
         } else {
             [].as_slice()
         };
-        files.push(ScriptSink::new(Vec::new(alloc), 5, script))?;
+        files.push(ScriptSink::new(room(alloc)?, 5, script))?;
     }
     if files.len() != FILE_COUNT {
         return Err("twelve files".into());
@@ -327,13 +330,7 @@ fn lengths_where_one_fails(alloc: Global, place: usize) -> Result<(Told, Vec<usi
         .iter()
         .map(|file| file.as_slice().len())
         .collect(alloc)?;
-    Ok((
-        Told {
-            line: out.into_inner(),
-            status,
-        },
-        lengths,
-    ))
+    Ok((ended(out, status)?, lengths))
 }
 
 #[test]
@@ -341,8 +338,8 @@ fn a_file_that_fails_ends_the_writing(rt: HostRuntime) -> Result<(), Fail> {
     let whole = lengths_where_one_fails(rt.alloc(), FILE_COUNT)?.1;
     assert_eq!(rt; whole.first(), Some(&230));
     for place in 0..FILE_COUNT {
-        let (told, lengths) = lengths_where_one_fails(rt.alloc(), place)?;
-        assert!(rt; is(&told, "failed WriteFailed\n", 3));
+        let (run, lengths) = lengths_where_one_fails(rt.alloc(), place)?;
+        assert!(rt; is(&run, "failed WriteFailed\n", 3));
         for (k, (length, all)) in lengths.iter().zip(whole.iter()).enumerate() {
             let is_right = if k == place {
                 0 < *length && length < all

@@ -227,7 +227,7 @@ fn the_longest_text(rt: HostRuntime) -> Result<(), Fail> {
 fn writes_what_it_reads(rt: HostRuntime) -> Result<(), Fail> {
     let bytes = text(rt.alloc(), "\n", &[])?;
     assert_eq!(rt; bytes.len(), 230);
-    let written = header_text(rt.alloc(), &SMALL).map_err(|_| "no memory")?;
+    let written = header_text(rt.alloc(), &SMALL)?;
     assert_eq!(rt; written.as_slice(), bytes.as_slice());
     assert_eq!(rt; parse_header(written.as_slice()), Ok(SMALL));
     Ok(())

@@ -1,0 +1,85 @@
+/* Is loaded before the C library into a run of one test. At each allocation copies of the process go on in turn: one that is
+   refused this allocation alone; where that passes, as a growth does that is tried again with the exact size, one that is refused
+   this and the next; and one that is refused this and every later one. A line on standard error tells how each ended, behind what
+   the copy wrote; then the allocation is granted. So one run refuses each allocation of the test in every way, and no count of
+   them is needed. A test that read a file or had a thread couldn't be copied so. It includes no header, and so needs none but the
+   compiler. */
+
+typedef __SIZE_TYPE__ size_t;
+
+extern void *__libc_malloc(size_t);
+extern void *__libc_calloc(size_t, size_t);
+extern void *__libc_realloc(void *, size_t);
+extern void *__libc_memalign(size_t, size_t);
+extern int *__errno_location(void);
+extern int fork(void);
+extern int waitpid(int, int *, int);
+extern unsigned alarm(unsigned);
+extern void _exit(int);
+extern int dprintf(int, const char *, ...);
+
+enum { STANDARD_ERROR = 2, NO_MEMORY = 12, MOST_SECONDS = 60, ALARM = 14 };
+
+static enum { COPIES, IS_COPY, IS_BUSY } state = COPIES;
+
+/* How many allocations are still refused in a copy. */
+static long refusals;
+
+static long count;
+
+/* How a copy ends that is refused so many allocations from this one on. In the copy itself it is told that it is one. */
+static int copy_refused(const char *way, long many, int *is_copy) {
+    int status = -1, copy = fork();
+    if (copy == 0) {
+        state = IS_COPY;
+        refusals = many - 1;
+        alarm(MOST_SECONDS);
+        *is_copy = 1;
+        return 0;
+    }
+    if (copy > 0)
+        waitpid(copy, &status, 0);
+    dprintf(STANDARD_ERROR, "\nrefused %ld %s: %d\n", count, way, status);
+    if (status == ALARM)
+        _exit(1);
+    return status;
+}
+
+/* Whether the allocation that now comes is refused. */
+static int is_refused(void) {
+    if (state == IS_BUSY)
+        return 0;
+    if (state == IS_COPY)
+        return refusals > 0 && refusals--;
+    state = IS_BUSY;
+    count++;
+    int is_copy = 0;
+    if (copy_refused("alone", 1, &is_copy) == 0 && !is_copy)
+        copy_refused("and the next", 2, &is_copy);
+    if (!is_copy)
+        copy_refused("and later", __LONG_MAX__, &is_copy);
+    if (!is_copy)
+        state = COPIES;
+    return is_copy;
+}
+
+static void *refusal(void) {
+    *__errno_location() = NO_MEMORY;
+    return 0;
+}
+
+void *malloc(size_t size) { return is_refused() ? refusal() : __libc_malloc(size); }
+
+void *calloc(size_t items, size_t size) { return is_refused() ? refusal() : __libc_calloc(items, size); }
+
+void *realloc(void *old, size_t size) { return is_refused() ? refusal() : __libc_realloc(old, size); }
+
+void *aligned_alloc(size_t align, size_t size) { return is_refused() ? refusal() : __libc_memalign(align, size); }
+
+int posix_memalign(void **to, size_t align, size_t size) {
+    void *given = is_refused() ? 0 : __libc_memalign(align, size);
+    if (!given)
+        return NO_MEMORY;
+    *to = given;
+    return 0;
+}
