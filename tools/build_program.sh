@@ -39,7 +39,7 @@ jobs=$(nproc)
 log=$(mktemp)
 trap 'rm -f "$log"' EXIT
 crates=$(grep -c '^[a-z]' ../../crates.txt)
-echo "Proving the $crates crates, $jobs at a time: @MINUTES@ the first time, seconds after that ..."
+echo "Proving the $crates crates, $jobs at a time: about a quarter of an hour with 4 processors the first time, seconds after that ..."
 started=$SECONDS
 (cd ../.. && exec rt all check --jobs "$jobs") >"$log" 2>&1 </dev/null &
 prover=$!
@@ -58,7 +58,7 @@ while kill -0 "$prover" 2>/dev/null; do
 done
 [ -t 1 ] && printf '\r\033[K'
 tell() {
-    grep -E 'error|no proof|did not prove|not proved' "$log" | head -n 20 >&2 || tail -n 20 "$log" >&2
+    grep -E ': error|no proof|did not prove|not proved' "$log" | head -n 20 >&2 || tail -n 20 "$log" >&2
     exit 1
 }
 wait "$prover" || tell
