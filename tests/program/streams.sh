@@ -53,19 +53,19 @@ mkfifo "$scratch/broken"
 wait $!
 judge 'a pipe that nobody reads' 3 "$scratch/want" "$(cat "$scratch/status")"
 
-# A small stack.
+# A small stack: enough for the program, and too small for a buffer of 64 KiB more.
 want "$pit_line"
-(ulimit -s 64 && exec env -i "$drain" fill --side 3) <"$pit" >"$scratch/out" 2>"$scratch/err"
-judge 'a stack of 64 KiB: fill' 0 "$scratch/want" $?
+(ulimit -s 100 && exec env -i "$drain" fill --side 3) <"$pit" >"$scratch/out" 2>"$scratch/err"
+judge 'a stack of 100 KiB: fill' 0 "$scratch/want" $?
 want 'accepted rows=121 cols=121 data=14641 raised=690 outlets=32'
-(ulimit -s 64 && exec env -i "$drain" check --side 121 --products samples/jacksboro samples/jacksboro/N36W085.hgt) >"$scratch/out" 2>"$scratch/err"
-judge 'a stack of 64 KiB: check' 0 "$scratch/want" $?
+(ulimit -s 100 && exec env -i "$drain" check --side 121 --products samples/jacksboro samples/jacksboro/N36W085.hgt) >"$scratch/out" 2>"$scratch/err"
+judge 'a stack of 100 KiB: check' 0 "$scratch/want" $?
 mkdir "$scratch/small"
 want 'made rows=344 cols=344'
-(ulimit -s 64 && exec env -i "$drain" make --side 344 --out "$scratch/small" samples/N36W085.hgt) >"$scratch/out" 2>"$scratch/err"
-judge 'a stack of 64 KiB: make' 0 "$scratch/want" $?
-(ulimit -s 64 && exec env -i "$drain" header samples/headers/gdal-hgt-i16.hdr) >"$scratch/out" 2>"$scratch/err"
-judge 'a stack of 64 KiB: header' 0 samples/headers/gdal-hgt-i16.expected $?
+(ulimit -s 100 && exec env -i "$drain" make --side 344 --out "$scratch/small" samples/N36W085.hgt) >"$scratch/out" 2>"$scratch/err"
+judge 'a stack of 100 KiB: make' 0 "$scratch/want" $?
+(ulimit -s 100 && exec env -i "$drain" header samples/headers/gdal-hgt-i16.hdr) >"$scratch/out" 2>"$scratch/err"
+judge 'a stack of 100 KiB: header' 0 samples/headers/gdal-hgt-i16.expected $?
 
 # Interrupted writes to standard output, where a system call tracer can make them: 999 are borne, the 1,000th is a failure.
 # Usage: judge_interrupted NAME STATUS COUNT WORD...
