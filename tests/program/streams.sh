@@ -53,7 +53,7 @@ mkfifo "$scratch/broken"
 wait $!
 judge 'a pipe that nobody reads' 3 "$scratch/want" "$(cat "$scratch/status")"
 
-# A small stack: enough for the program, and too small for a buffer of 64 KiB more.
+# A small stack: enough for the program, and a check crashes on it where the buffer of a read has 64 KiB.
 want "$pit_line"
 (ulimit -s 100 && exec env -i "$drain" fill --side 3) <"$pit" >"$scratch/out" 2>"$scratch/err"
 judge 'a stack of 100 KiB: fill' 0 "$scratch/want" $?
