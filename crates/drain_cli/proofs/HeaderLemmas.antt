@@ -10,11 +10,11 @@ use Rattle.drain_grid.specs.First.{IsBefore, IsFirst}
 use Rattle.drain_header.specs.declared.fault.HeaderFault.{HeaderFault}
 use Rattle.drain_header.specs.declared.fault.HeaderFault.TheVariants.{TooLong, RepeatedKey, BadValue, MissingKey, NotOneBand, BadBits, BadPixelType, RowTooShort}
 use Rattle.drain_header.specs.Fields.{Fields}
-use Rattle.drain_header.specs.Faults.{place_of, HasFault, Answers}
+use Rattle.drain_header.specs.Faults.{fault_order, HasFault, Answers}
 use Rattle.drain_cli.specs.HeaderRuns.{HeaderOutcome, IsAnswerToldAs, IsToldAs, AnswersHeaderTold}
 
 -- nothing comes before a text that is too long
-none_earlier : (b : HeaderFault) → IsBefore (place_of b) (1, 0) → ⊥
+none_earlier : (b : HeaderFault) → IsBefore (fault_order b) (1, 0) → ⊥
 none_earlier TooLong before = elim before [ inl lower ↦ omega (arith, lower) | inr same ↦ omega (arith, same.1) ]
 none_earlier (RepeatedKey n) before = elim before [ inl lower ↦ omega (arith, lower) | inr same ↦ omega (arith, same.1) ]
 none_earlier (BadValue n) before = elim before [ inl lower ↦ omega (arith, lower) | inr same ↦ omega (arith, same.1) ]
@@ -24,7 +24,7 @@ none_earlier BadBits before = elim before [ inl lower ↦ omega (arith, lower) |
 none_earlier BadPixelType before = elim before [ inl lower ↦ omega (arith, lower) | inr same ↦ omega (arith, same.1) ]
 none_earlier RowTooShort before = elim before [ inl lower ↦ omega (arith, lower) | inr same ↦ omega (arith, same.1) ]
 
-too_long : (text : List ℕ) → 65536 < length text → IsFirst place_of (HasFault text) TooLong
+too_long : (text : List ℕ) → 65536 < length text → IsFirst fault_order (HasFault text) TooLong
 too_long text long = record { holds = long; first = λ b before has. none_earlier b before }
 
 -- of a text that is too long the answer says so

@@ -13,7 +13,7 @@ use Rattle.std.proofs.lemmas.List.Sums.{sum_by-cons}
 use Rattle.drain_grid.specs.declared.cell.Cell.{Cell}
 use Rattle.drain_grid.specs.declared.direction.Direction.{Direction}
 use Rattle.drain_grid.specs.declared.rule.Rule.TheVariants.{Accumulation}
-use Rattle.drain_grid.specs.Direction.{directions, place_of}
+use Rattle.drain_grid.specs.Direction.{directions, order_of}
 use Rattle.drain_grid.specs.Values.{NoDataNumbers}
 use Rattle.drain_grid.specs.Extent.{same_cell, cells, step}
 use Rattle.drain_grid.specs.Patch.{neighbor}
@@ -87,12 +87,12 @@ handed_one : (g : Grid) (ps : Products) (c : Cell) (f : Cell → ℕ) (d : Direc
 unfolding handed_on
 handed_one g ps c f d m from_m one others =
     sum_by_directions_one (λ e. share g ps (step g.extent c e) e f) d
-    (λ e. elim (cases_Bool (place_of e == place_of d)) [
+    (λ e. elim (cases_Bool (order_of e == order_of d)) [
       | inl here ↦
-          (let same : e ≡ d = same_place_same e d (eqb-true (place_of e) (place_of d) here) in
+          (let same : e ≡ d = same_place_same e d (eqb-true (order_of e) (order_of d) here) in
           ap (λ y. share g ps (step g.extent c y) y f) same ∙ (share_flow g ps c d m f from_m ∙ (one ∙ sym (ap (λ b. cond b 1 0) here))))
       | inr apart ↦
-          (let differ : e ≡ d → ⊥ = λ same. false≢true (sym apart ∙ eq-eqb (place_of e) (place_of d) (ap place_of same)) in
+          (let differ : e ≡ d → ⊥ = λ same. false≢true (sym apart ∙ eq-eqb (order_of e) (order_of d) (ap order_of same)) in
           elim (share_cases g ps c e) [ inl h ↦ h.2 f ∙ others e h.0 h.1 differ | inr h ↦ h f ] ∙ sym (ap (λ b. cond b 1 0) apart))
     ])
 

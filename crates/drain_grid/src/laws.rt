@@ -6,7 +6,7 @@ ghost use Rattle.std.specs.Prelude.{◌≡◌, pos, neg_ℤ};
 ghost use Rattle.drain_grid.specs.Laws.{CorrectFromRules, CountsUpstream, LabelsAreBasins, LeastFromRules, RunsEnd};
 
 use crate::cell::MAX_LENGTH;
-use crate::no_data::{GREATEST_NO_DATA, LEAST_NO_DATA};
+use crate::nodata::{GREATEST_NODATA, LEAST_NODATA};
 use crate::tile::{MAX_SIDE, MIN_SIDE, VOID};
 use crate::values::{GREATEST_PIXEL, LEAST_PIXEL};
 
@@ -22,8 +22,8 @@ pub fn constants()
     ensures max_length { MAX_LENGTH ≡ 28801 }
     ensures least_pixel { LEAST_PIXEL ≡ neg_ℤ (pos 2147483648) }
     ensures greatest_pixel { GREATEST_PIXEL ≡ pos 4294967295 }
-    ensures least_no_data { LEAST_NO_DATA ≡ neg_ℤ (pos 10000000000) }
-    ensures greatest_no_data { GREATEST_NO_DATA ≡ pos 10000000000 }
+    ensures least_nodata { LEAST_NODATA ≡ neg_ℤ (pos 10000000000) }
+    ensures greatest_nodata { GREATEST_NODATA ≡ pos 10000000000 }
 {}
 
 /// Rules 4 to 9 make `con` the spill level of each data cell, and the least surface that drains.

@@ -10,7 +10,7 @@ use Rattle.std.proofs.lemmas.Bool.{ltb-true, lt-ltb, ne_eqb}
 use Rattle.drain_grid.specs.Text.{lines_of, words_of}
 use Rattle.drain_header.specs.declared.key.Key.{Key}
 use Rattle.drain_header.specs.declared.key.Key.TheVariants.{Nrows, Ncols, Nbands, Nbits, ByteOrder, Layout, PixelType, SkipBytes, BandRowBytes, TotalRowBytes, Ulxmap, Ulymap, Xdim, Ydim, Nodata}
-use Rattle.drain_header.specs.Lines.{name_of, place_of_key, named_key, key_of, value_of, value_at, is_some_key, takes, takes_some}
+use Rattle.drain_header.specs.Lines.{name_of, key_order, named_key, key_of, value_of, value_at, is_some_key, takes, takes_some}
 use Rattle.drain_header.specs.Parts.{is_blank}
 use Rattle.drain_header.specs.Text.{line}
 
@@ -210,7 +210,7 @@ value_bare key value word = ap (λ ws. slice_get ws 1) (words_bare key value wor
 -- the value of the first entry with the keyword
 abbrev pub value_in : Key → List (Key × List ℕ) → Option (List ℕ)
 value_in key [] = None
-value_in key (e ∷ es) = cond (nat_eq (place_of_key key) (place_of_key e.0)) (Some e.1) (value_in key es)
+value_in key (e ∷ es) = cond (nat_eq (key_order key) (key_order e.0)) (Some e.1) (value_in key es)
 
 picked : (b : Bool) (line : List ℕ) (rest : Option (List ℕ)) (value : List ℕ) (known : Option (List ℕ)) → value_of line ≡ Some value → option_and_then value_of rest ≡ known
     → option_and_then value_of (cond b (Some line) rest) ≡ cond b (Some value) known
@@ -222,7 +222,7 @@ value_entries key n [] good = refl
 value_entries key n (e ∷ es) good =
     let rest = find (λ line. is_some_key key (key_of line)) (entries_lines es) in
     ap (λ o. option_and_then value_of (cond (is_some_key key o) (Some (bare e.0 e.1)) rest)) (key_bare e.0 e.1 good.0.word)
-    ∙ picked (nat_eq (place_of_key key) (place_of_key e.0)) (bare e.0 e.1) rest e.1 (value_in key es) (value_bare e.0 e.1 good.0.word) (value_entries key (suc n) es good.1)
+    ∙ picked (nat_eq (key_order key) (key_order e.0)) (bare e.0 e.1) rest e.1 (value_in key es) (value_bare e.0 e.1 good.0.word) (value_entries key (suc n) es good.1)
 
 -- what a line with a keyword says of it
 pub record IsToldAt (number : ℕ) (key : Key) (value : Option (List ℕ)) : Type 0 where

@@ -12,7 +12,7 @@ use Rattle.drain_header.specs.declared.key.Key.TheVariants.{Nrows, Ncols, Nbands
 use Rattle.drain_header.specs.declared.value.Value.{Value}
 use Rattle.drain_header.specs.declared.fault.HeaderFault.{HeaderFault}
 use Rattle.drain_header.specs.declared.fault.HeaderFault.TheVariants.{RepeatedKey, BadValue}
-use Rattle.drain_header.specs.Lines.{place_of_key, key_of, value_of, is_some_key, takes, takes_some}
+use Rattle.drain_header.specs.Lines.{key_order, key_of, value_of, is_some_key, takes, takes_some}
 use Rattle.drain_header.specs.Faults.{line_at}
 use Rattle.drain_header.specs.Values.{value_read}
 use Rattle.drain_header.specs.Reading.{Seen, nothing, with_value, with_key, with_lines, follow}
@@ -24,7 +24,7 @@ abbrev pub has : Key → List ℕ → Bool
 has key line = is_some_key key (key_of line)
 
 abbrev pub at : Key → Seen → Option Value
-at key seen = get_or seen (place_of_key key) None
+at key seen = get_or seen (key_order key) None
 
 some_mapped : {A B : Type 0} (f : A → B) (o : Option A) → is_some (option_map f o) ≡ is_some o
 some_mapped f None = refl
@@ -94,7 +94,7 @@ pub record IsSeen (lines front : List (List ℕ)) (n : ℕ) (seen : Seen) : Type
 
 pub start : (lines : List (List ℕ)) → IsSeen lines [] 1 nothing
 start lines =
-    let none : (key : Key) → at key nothing ≡ None = λ key. get_or-replicate 15 (place_of_key key) None None (place_below key) in
+    let none : (key : Key) → at key nothing ≡ None = λ key. get_or-replicate 15 (key_order key) None None (place_below key) in
     record {
       long = refl;
       there = λ key. sym (ap is_some (none key));
@@ -121,32 +121,32 @@ module _ (lines front rest : List (List ℕ)) (line : List ℕ) (n : ℕ) (seen 
       same : (key : Key) → find (has key) (front ++ line ∷ []) ≡ find (has key) front
       same key = find_more (has key) front line ∙ ap (λ o. option_or (find (has key) front) (cond (is_some_key key o) (Some line) None)) none ∙ or_none _
 
-  keyed : (k : Key) (x : Value) → key_of line ≡ Some k → is_some (at k seen) ≡ false → option_and_then (value_read k) (value_of line) ≡ Some x → IsSeen lines (front ++ line ∷ []) (suc n) (slice_set seen (place_of_key k) (Some x))
+  keyed : (k : Key) (x : Value) → key_of line ≡ Some k → is_some (at k seen) ≡ false → option_and_then (value_read k) (value_of line) ≡ Some x → IsSeen lines (front ++ line ∷ []) (suc n) (slice_set seen (key_order k) (Some x))
   keyed k x key_is new read = record {
-    long = length-set seen (place_of_key k) (Some x) ∙ s.long;
+    long = length-set seen (key_order k) (Some x) ∙ s.long;
     there = λ key. (each key).0;
     found = λ key. (each key).1;
     value = λ key. (each key).2;
   }
     where
       next : Seen
-      next = slice_set seen (place_of_key k) (Some x)
+      next = slice_set seen (key_order k) (Some x)
 
-      more : (key : Key) → find (has key) (front ++ line ∷ []) ≡ option_or (find (has key) front) (cond (nat_eq (place_of_key key) (place_of_key k)) (Some line) None)
+      more : (key : Key) → find (has key) (front ++ line ∷ []) ≡ option_or (find (has key) front) (cond (nat_eq (key_order key) (key_order k)) (Some line) None)
       more key = find_more (has key) front line ∙ ap (λ o. option_or (find (has key) front) (cond (is_some_key key o) (Some line) None)) key_is
 
-      each : (key : Key) → (any_below (λ m. is_some_key key (key_on lines m)) (suc n) ≡ is_some (get_or (slice_set seen (place_of_key k) (Some x)) (place_of_key key) None))
-          × (is_some (find (has key) (front ++ line ∷ [])) ≡ is_some (get_or (slice_set seen (place_of_key k) (Some x)) (place_of_key key) None))
-          × (get_or (slice_set seen (place_of_key k) (Some x)) (place_of_key key) None ≡ option_and_then (value_read key) (option_and_then value_of (find (has key) (front ++ line ∷ []))))
-      each key = elim (nat_eq (place_of_key key) (place_of_key k)) as (λ b. nat_eq (place_of_key key) (place_of_key k) ≡ b → (any_below (λ m. is_some_key key (key_on lines m)) (suc n) ≡ is_some (get_or (slice_set seen (place_of_key k) (Some x)) (place_of_key key) None))
-          × (is_some (find (has key) (front ++ line ∷ [])) ≡ is_some (get_or (slice_set seen (place_of_key k) (Some x)) (place_of_key key) None))
-          × (get_or (slice_set seen (place_of_key k) (Some x)) (place_of_key key) None ≡ option_and_then (value_read key) (option_and_then value_of (find (has key) (front ++ line ∷ []))))) [
+      each : (key : Key) → (any_below (λ m. is_some_key key (key_on lines m)) (suc n) ≡ is_some (get_or (slice_set seen (key_order k) (Some x)) (key_order key) None))
+          × (is_some (find (has key) (front ++ line ∷ [])) ≡ is_some (get_or (slice_set seen (key_order k) (Some x)) (key_order key) None))
+          × (get_or (slice_set seen (key_order k) (Some x)) (key_order key) None ≡ option_and_then (value_read key) (option_and_then value_of (find (has key) (front ++ line ∷ []))))
+      each key = elim (nat_eq (key_order key) (key_order k)) as (λ b. nat_eq (key_order key) (key_order k) ≡ b → (any_below (λ m. is_some_key key (key_on lines m)) (suc n) ≡ is_some (get_or (slice_set seen (key_order k) (Some x)) (key_order key) None))
+          × (is_some (find (has key) (front ++ line ∷ [])) ≡ is_some (get_or (slice_set seen (key_order k) (Some x)) (key_order key) None))
+          × (get_or (slice_set seen (key_order k) (Some x)) (key_order key) None ≡ option_and_then (value_read key) (option_and_then value_of (find (has key) (front ++ line ∷ []))))) [
             | true ↦ λ e. (
-                let place = eqb-true (place_of_key key) (place_of_key k) e in
+                let place = eqb-true (key_order key) (key_order k) e in
                 let keys = is_some_key-true key (Some k) e in
                 let same : k ≡ key = cc in
-                let inside : place_of_key k < length seen = omega (arith, place_below k, s.long) in
-                let here_key = ap (λ (i : ℕ). get_or (slice_set seen (place_of_key k) (Some x)) i None) place ∙ get_or-set_same seen (place_of_key k) (Some x) None inside in
+                let inside : key_order k < length seen = omega (arith, place_below k, s.long) in
+                let here_key = ap (λ (i : ℕ). get_or (slice_set seen (key_order k) (Some x)) i None) place ∙ get_or-set_same seen (key_order k) (Some x) None inside in
                 let before = s.found key ∙ ap (λ (i : ℕ). is_some (get_or seen i None)) place ∙ new in
                 let found_here = more key ∙ ap (λ b. option_or (find (has key) front) (cond b (Some line) None)) e ∙ none_or (find (has key) front) (Some line) before in (
                   ap (λ o. is_some_key key o || any_below (λ m. is_some_key key (key_on lines m)) n) (key_here ∙ key_is) ∙ ap (λ b. b || any_below (λ m. is_some_key key (key_on lines m)) n) e ∙ sym (ap is_some here_key),
@@ -154,8 +154,8 @@ module _ (lines front rest : List (List ℕ)) (line : List ℕ) (n : ℕ) (seen 
                   here_key ∙ sym read ∙ ap (λ (kk : Key). option_and_then (value_read kk) (value_of line)) same ∙ ap (λ o. option_and_then (value_read key) (option_and_then value_of o)) (sym found_here),
                 ))
             | false ↦ λ e. (
-                let other = eqb-false (place_of_key key) (place_of_key k) e in
-                let same_at = get_or-set_other seen (place_of_key k) (place_of_key key) (Some x) None other in
+                let other = eqb-false (key_order key) (key_order k) e in
+                let same_at = get_or-set_other seen (key_order k) (key_order key) (Some x) None other in
                 let found_same = more key ∙ ap (λ b. option_or (find (has key) front) (cond b (Some line) None)) e ∙ or_none (find (has key) front) in (
                   ap (λ o. is_some_key key o || any_below (λ m. is_some_key key (key_on lines m)) n) (key_here ∙ key_is) ∙ ap (λ b. b || any_below (λ m. is_some_key key (key_on lines m)) n) e ∙ s.there key ∙ ap is_some (sym same_at),
                   ap is_some found_same ∙ s.found key ∙ ap is_some (sym same_at),
@@ -210,7 +210,7 @@ fold lines front (line ∷ rest) n seen is count s none =
         | true ↦ λ old. first_found (line_fault lines) n (suc (length lines)) (RepeatedKey n) none (repeated lines front rest line n seen is count s k e old) inside
         | false ↦ λ new. elim (option_and_then (value_read k) (value_of line)) as (λ o. option_and_then (value_read k) (value_of line) ≡ o → Outcome lines (follow (with_value seen n k o) (λ next. with_lines next (n + 1) rest))) [
           | None ↦ λ no. first_found (line_fault lines) n (suc (length lines)) (BadValue n) none (bad lines front rest line n seen is count s k e new no) inside
-          | Some x ↦ λ read. go (slice_set seen (place_of_key k) (Some x)) (keyed lines front rest line n seen is count s k x e new read) (sound_keyed lines front rest line n seen is count s k x e new read)
+          | Some x ↦ λ read. go (slice_set seen (key_order k) (Some x)) (keyed lines front rest line n seen is count s k x e new read) (sound_keyed lines front rest line n seen is count s k x e new read)
         ] refl
       ] refl
     ] refl

@@ -7,7 +7,7 @@ use Rattle.drain_header.specs.declared.fault.HeaderFault.{HeaderFault}
 use Rattle.drain_header.specs.declared.fault.HeaderFault.TheVariants.{TooLong, RepeatedKey, BadValue, MissingKey, NotOneBand, BadBits, BadPixelType, RowTooShort}
 use Rattle.drain_header.specs.Fields.{Fields}
 use Rattle.drain_header.specs.Lines.{keys}
-use Rattle.drain_header.specs.Faults.{place_of, HasFault, Answers}
+use Rattle.drain_header.specs.Faults.{fault_order, HasFault, Answers}
 use Rattle.drain_header.proofs.PlainLemmas.{key_place}
 
 -- the fault of a line that has this second number
@@ -20,7 +20,7 @@ fault_at k m =
     option_and_then (λ fault. fault)
     (slice_get (None ∷ Some TooLong ∷ Some (line_fault_at m) ∷ option_map (λ key. MissingKey key) (slice_get keys m) ∷ Some NotOneBand ∷ Some BadBits ∷ Some BadPixelType ∷ Some RowTooShort ∷ []) k)
 
-fault_there : (f : HeaderFault) → fault_at (place_of f).0 (place_of f).1 ≡ Some f
+fault_there : (f : HeaderFault) → fault_at (fault_order f).0 (fault_order f).1 ≡ Some f
 fault_there TooLong = refl
 fault_there (RepeatedKey n) =
     ap (λ b. Some (cond b (RepeatedKey (2 * n / 2)) (BadValue (2 * n / 2)))) (eq-eqb (2 * n % 2) 0 (omega arith))
@@ -37,11 +37,11 @@ fault_there RowTooShort = refl
 same_number : (a b : ℕ) → (a < b → ⊥) → (b < a → ⊥) → a ≡ b
 same_number a b above below = omega arith
 
-one_fault : (text : List ℕ) (f g : HeaderFault) → IsFirst place_of (HasFault text) f → IsFirst place_of (HasFault text) g → f ≡ g
+one_fault : (text : List ℕ) (f g : HeaderFault) → IsFirst fault_order (HasFault text) f → IsFirst fault_order (HasFault text) g → f ≡ g
 one_fault text f g p q =
-    let kind = same_number (place_of f).0 (place_of g).0 (λ h. q.first f (inl h) p.holds) (λ h. p.first g (inl h) q.holds) in
-    let within = same_number (place_of f).1 (place_of g).1 (λ h. q.first f (inr (kind, h)) p.holds) (λ h. p.first g (inr (sym kind, h)) q.holds) in
-    let there = sym (fault_there f) ∙ ap (λ (k : ℕ). fault_at k (place_of f).1) kind ∙ ap (fault_at (place_of g).0) within ∙ fault_there g in
+    let kind = same_number (fault_order f).0 (fault_order g).0 (λ h. q.first f (inl h) p.holds) (λ h. p.first g (inl h) q.holds) in
+    let within = same_number (fault_order f).1 (fault_order g).1 (λ h. q.first f (inr (kind, h)) p.holds) (λ h. p.first g (inr (sym kind, h)) q.holds) in
+    let there = sym (fault_there f) ∙ ap (λ (k : ℕ). fault_at k (fault_order f).1) kind ∙ ap (fault_at (fault_order g).0) within ∙ fault_there g in
     cc
 
 pub one_answer : (text : List ℕ) (a b : Result Fields HeaderFault) → Answers text a → Answers text b → a ≡ b

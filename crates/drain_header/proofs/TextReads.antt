@@ -96,14 +96,14 @@ place_taken : (z : ℤ) → IsCoordinate z → is_some (coordinate_of (places_te
 place_taken z is = ap is_some (coordinate_read z is)
 
 -- what is known of a no-data number, where there is one
-abbrev SmallNodata : Option ℤ → Type 0
-SmallNodata o = IfSome o (λ z. unsigned_abs z ≤ 10000000000)
+abbrev SmallNoData : Option ℤ → Type 0
+SmallNoData o = IfSome o (λ z. unsigned_abs z ≤ 10000000000)
 
-small_nodata : (o : Option ℤ) → ∥ IfSome o IsNoData ∥₁ → SmallNodata o
+small_nodata : (o : Option ℤ) → ∥ IfSome o IsNoData ∥₁ → SmallNoData o
 small_nodata None t = tt
 small_nodata (Some z) t = ∥∥₁_elim t le_prop (nodata_small z)
 
-nodata_good : (o : Option ℤ) → SmallNodata o → AllGood 14 (nodata_entries o)
+nodata_good : (o : Option ℤ) → SmallNoData o → AllGood 14 (nodata_entries o)
 nodata_good None small = tt
 nodata_good (Some z) small = (
   record {
@@ -186,7 +186,7 @@ record AreLinesOf (h : Fields) (lines : List (List ℕ)) : Type 0 where
 value_is : (h : Fields) (lines : List (List ℕ)) → AreLinesOf h lines → (key : Key) → value_at key lines ≡ value_in key (entries_of h)
 value_is h lines of key = ap (value_at key) of.same ∙ value_entries key 0 (entries_of h) of.good
 
-nodata_said : (o : Option ℤ) → SmallNodata o → (word : Option (List ℕ)) → word ≡ value_in Nodata (nodata_entries o) → option_and_then nodata_of word ≡ o
+nodata_said : (o : Option ℤ) → SmallNoData o → (word : Option (List ℕ)) → word ≡ value_in Nodata (nodata_entries o) → option_and_then nodata_of word ≡ o
 nodata_said None small word is = ap (option_and_then nodata_of) is
 nodata_said (Some z) small word is = ap (option_and_then nodata_of) is ∙ nodata_read z small
 

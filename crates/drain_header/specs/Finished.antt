@@ -10,7 +10,7 @@ use Rattle.drain_header.specs.declared.value.Value.TheVariants.{Signed}
 use Rattle.drain_header.specs.declared.fault.HeaderFault.{HeaderFault}
 use Rattle.drain_header.specs.declared.fault.HeaderFault.TheVariants.{NotOneBand, BadBits, BadPixelType, RowTooShort}
 use Rattle.drain_header.specs.Fields.{Fields, IsCoordinate}
-use Rattle.drain_header.specs.Lines.{place_of_key}
+use Rattle.drain_header.specs.Lines.{key_order}
 use Rattle.drain_header.specs.Reading.{Seen}
 use Rattle.drain_header.specs.Said.{said_by, number_of, ordering_in, sign_in, coordinate_in, nodata_in}
 
@@ -67,7 +67,7 @@ abbrev pub finished : Seen → Result Fields HeaderFault
 finished seen =
     if not (number_or Nbands 1 seen == 1) then Err NotOneBand
     else (if not (is_pixel_size (number_or Nbits 8 seen)) then Err BadBits
-    else (if is_other_type_in (slice_index_or seen (place_of_key PixelType) None) then Err BadPixelType
+    else (if is_other_type_in (slice_index_or seen (key_order PixelType) None) then Err BadPixelType
     else (if nat_lt (row_bytes_in seen) (packed_row_in seen) then Err RowTooShort else Ok (header_in seen))))
 
 -- a number of rows or of columns that a header can have

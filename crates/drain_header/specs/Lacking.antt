@@ -2,12 +2,12 @@
 use Rattle.std.specs.Prelude.{Bool, Option, Some, None, is_none, slice_index_or, if◌then◌else◌}
 use Rattle.drain_header.specs.declared.key.Key.{Key}
 use Rattle.drain_header.specs.declared.key.Key.TheVariants.{Nrows, Ncols, Ulxmap, Ulymap, Xdim, Ydim}
-use Rattle.drain_header.specs.Lines.{place_of_key}
+use Rattle.drain_header.specs.Lines.{key_order}
 use Rattle.drain_header.specs.Reading.{Seen}
 
 -- no line so far has the keyword
 abbrev pub is_unseen : Seen → Key → Bool
-is_unseen seen key = is_none (slice_index_or seen (place_of_key key) None)
+is_unseen seen key = is_none (slice_index_or seen (key_order key) None)
 
 abbrev pub lacking : Seen → Option Key
 lacking seen =

@@ -4,7 +4,7 @@ use Rattle.drain_header.specs.declared.key.Key.{Key}
 use Rattle.drain_header.specs.declared.value.Value.{Value}
 use Rattle.drain_header.specs.declared.fault.HeaderFault.{HeaderFault}
 use Rattle.drain_header.specs.declared.fault.HeaderFault.TheVariants.{RepeatedKey, BadValue}
-use Rattle.drain_header.specs.Lines.{place_of_key, key_of, value_of}
+use Rattle.drain_header.specs.Lines.{key_order, key_of, value_of}
 use Rattle.drain_header.specs.Values.{value_read}
 
 -- the value of each keyword so far, at the keyword's place in the table
@@ -18,13 +18,13 @@ nothing = replicate 15 None
 -- a keyword's value after line n, which has the keyword
 abbrev pub with_value : Seen → ℕ → Key → Option Value → Result Seen HeaderFault
 with_value seen n key None = Err (BadValue n)
-with_value seen n key (Some value) = Ok (slice_set seen (place_of_key key) (Some value))
+with_value seen n key (Some value) = Ok (slice_set seen (key_order key) (Some value))
 
 -- line n has this keyword, if any, and this second word, if any
 abbrev pub with_key : Seen → ℕ → Option Key → Option (List ℕ) → Result Seen HeaderFault
 with_key seen n None word = Ok seen
 with_key seen n (Some key) word =
-    if is_some (slice_index_or seen (place_of_key key) None) then Err (RepeatedKey n)
+    if is_some (slice_index_or seen (key_order key) None) then Err (RepeatedKey n)
     else with_value seen n key (option_and_then (value_read key) word)
 
 -- what line n adds

@@ -4,7 +4,7 @@ use Rattle.drain_header.specs.declared.header.ByteOrdering.{ByteOrdering}
 use Rattle.drain_header.specs.declared.key.Key.{Key}
 use Rattle.drain_header.specs.declared.value.Value.{Value}
 use Rattle.drain_header.specs.declared.value.Value.TheVariants.{Number, Ordering, Signed, Coordinate, Nodata}
-use Rattle.drain_header.specs.Lines.{place_of_key}
+use Rattle.drain_header.specs.Lines.{key_order}
 use Rattle.drain_header.specs.Reading.{Seen}
 
 abbrev pub number_of : Value → Option ℕ
@@ -30,4 +30,4 @@ nodata_in value = None
 
 -- what a keyword's value says, if a line has the keyword
 abbrev pub said_by : {A : Type 0} → (Value → Option A) → Key → Seen → Option A
-said_by kind key seen = option_and_then kind (slice_index_or seen (place_of_key key) None)
+said_by kind key seen = option_and_then kind (slice_index_or seen (key_order key) None)

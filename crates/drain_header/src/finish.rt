@@ -1,7 +1,7 @@
 //! A header from the values of its keywords, or the first fault of the text as a whole.
 
 ghost use Rattle.std.specs.Prelude.{◌≡◌, ◌≤◌, ◌*◌, ◌/◌, ℕ, unwrap_or, ◌==◌, slice_index_or, None as none, Some as some, if◌then◌else◌};
-ghost use Rattle.drain_header.specs.Lines.{place_of_key};
+ghost use Rattle.drain_header.specs.Lines.{key_order};
 ghost use Rattle.drain_header.specs.Said.{said_by, sign_in};
 ghost use Rattle.drain_header.specs.Finished.{AreTaken, number_or as number_told, coordinate_or_zero as coordinate_told, is_other_type_in, is_pixel_size, finished};
 
@@ -81,7 +81,7 @@ fn pixel_size(bits: u32) -> Option<u8>
 }
 
 fn has_other_type(seen: &Seen) -> bool
-    ensures { result ≡ is_other_type_in (slice_index_or seen.now (place_of_key Key.PixelType) none) }
+    ensures { result ≡ is_other_type_in (slice_index_or seen.now (key_order Key.PixelType) none) }
 {
     let value = seen[Key::PixelType as usize];
     match value {

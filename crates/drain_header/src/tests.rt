@@ -36,7 +36,7 @@ fn decimals_in_units(rt: HostRuntime) -> Result<(), Fail> {
 }
 
 #[test]
-fn decimals_of_no_data(rt: HostRuntime) -> Result<(), Fail> {
+fn decimals_of_nodata(rt: HostRuntime) -> Result<(), Fail> {
     for (text, wanted) in [
         ("-9999.0", Some(-9999)),
         ("10000000000", Some(10_000_000_000)),

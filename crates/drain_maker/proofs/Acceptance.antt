@@ -25,7 +25,7 @@ use Rattle.drain_rules.specs.declared.verdict.Verdict.TheVariants.{Accepted, Rej
 use Rattle.drain_verdict.specs.declared.refusal.Refusal.{Refusal}
 use Rattle.drain_verdict.specs.declared.refusal.Refusal.TheVariants.{BadSide, BadName, BoxTooLarge, BadHeader, WrongShape, Misplaced, RasterShort, OutOfMemory, ReadFailed}
 use Rattle.drain_verdict.specs.Inputs.{Inputs}
-use Rattle.drain_verdict.specs.Meaning.{tiling_of, grid_of, fields_of, number_of, products_of, no_data_of, no_data_numbers}
+use Rattle.drain_verdict.specs.Meaning.{tiling_of, grid_of, fields_of, number_of, products_of, nodata_of, nodata_numbers}
 use Rattle.drain_verdict.specs.Refusals.{IsPlaced}
 use Rattle.drain_verdict.specs.Mosaics.{IsMosaicOf}
 use Rattle.drain_verdict.specs.Stages.{raster_in}
@@ -121,10 +121,10 @@ same_grid i e ps mosaic read = record {
 }
 
 -- the no-data numbers are the defaults
-default_said : (i : Inputs) (ps : ProductSet) → AreReadBack i ps → (p : Product) → default_no_data p ≡ no_data_of i p
+default_said : (i : Inputs) (ps : ProductSet) → AreReadBack i ps → (p : Product) → default_no_data p ≡ nodata_of i p
 default_said i ps read p = ap (λ (h : Fields). unwrap_or h.nodata (default_no_data p)) (says i ps read p)
 
-defaults_said : (i : Inputs) (ps : ProductSet) → AreReadBack i ps → default_numbers ≡ no_data_numbers i
+defaults_said : (i : Inputs) (ps : ProductSet) → AreReadBack i ps → default_numbers ≡ nodata_numbers i
 defaults_said i ps read = λ k. record {
   con = default_said i ps read Con k;
   dir = default_said i ps read Dir k;
@@ -136,7 +136,7 @@ defaults_said i ps read = λ k. record {
 
 -- so the rules hold of the files
 rules_kept : (i : Inputs) (e : Heights) (ps : ProductSet) → IsMosaicOf i (tiling_of i) e → AreMade (tiling_of i) e ps → AreReadBack i ps →
-    RulesHold (profile1 (no_data_numbers i)) 1 15 (grid_of i) (products_of i)
+    RulesHold (profile1 (nodata_numbers i)) 1 15 (grid_of i) (products_of i)
 rules_kept i e ps mosaic made read =
     subst (λ (n : NoDataNumbers). RulesHold (profile1 n) 1 15 (grid_of i) (products_of i)) (defaults_said i ps read)
     (rules_go_along default_numbers (whole.grid_of e) (grid_of i) (whole.products_of ps) (products_of i) (same_grid i e ps mosaic read) made.rules)

@@ -10,7 +10,7 @@ use Rattle.drain_grid.specs.Values.{IsNoData}
 use Rattle.drain_header.specs.Fields.{IsPixelSize, IsCoordinate, AreWithinBounds}
 use Rattle.drain_mosaic.specs.Tiling.{Tiling, west_of, north_of, tiles_down, tiles_across}
 use Rattle.drain_verdict.specs.Refusals.{IsPlaced}
-use Rattle.drain_maker.specs.Headers.{bits_of, degree, header_of, place_of}
+use Rattle.drain_maker.specs.Headers.{bits_of, degree, header_of, mosaic_place}
 use Rattle.drain_maker.proofs.Placing.{IsNear, spacing, no_way}
 
 -- a tiling of at most 8 by 8 tiles of a lawful side, whose edges are degrees
@@ -34,13 +34,13 @@ size_ok Bas = inr (inr refl)
 size_ok Spl = inl refl
 size_ok Rnk = inr (inr refl)
 
-no_data_ok : (p : Product) → IsNoData (default_no_data p)
-no_data_ok Con = record { low = search rules; high = search rules }
-no_data_ok Dir = record { low = search rules; high = search rules }
-no_data_ok Acc = record { low = search rules; high = search rules }
-no_data_ok Bas = record { low = search rules; high = search rules }
-no_data_ok Spl = record { low = search rules; high = search rules }
-no_data_ok Rnk = record { low = search rules; high = search rules }
+nodata_ok : (p : Product) → IsNoData (default_no_data p)
+nodata_ok Con = record { low = search rules; high = search rules }
+nodata_ok Dir = record { low = search rules; high = search rules }
+nodata_ok Acc = record { low = search rules; high = search rules }
+nodata_ok Bas = record { low = search rules; high = search rules }
+nodata_ok Spl = record { low = search rules; high = search rules }
+nodata_ok Rnk = record { low = search rules; high = search rules }
 
 -- rows without padding hold their pixels, and aren't too long for a header
 row_holds : (p : Product) (cols : ℕ) → cols * bits_of p / 8 ≤ cols * (bits_of p / 8)
@@ -84,14 +84,14 @@ within_bounds t p small =
       uly_ok = degrees_ok (north_of t) (omega (arith, small.near.north));
       xdim_ok = spacing_ok (t.side - 1) (omega (arith, side.least));
       ydim_ok = spacing_ok (t.side - 1) (omega (arith, side.least));
-      nodata_ok = ∣ no_data_ok p ∣₁;
+      nodata_ok = ∣ nodata_ok p ∣₁;
     }
 
 -- the spacing is within a billionth of a degree of that of the samples
 spaced : (n : ℕ) → 1 ≤ n → nat_abs (pos (degree / n) *ℤ pos n -ℤ pos (10 ^ 15)) ≤ 10 ^ 6 * n
 spaced n some = let h = spacing degree n some in omega (arith, h)
 
-pub placed : (t : Tiling) → IsSide t.side → IsPlaced t (place_of t)
+pub placed : (t : Tiling) → IsSide t.side → IsPlaced t (mosaic_place t)
 placed t side = record {
   ulx = no_way (10 ^ 9) (west_of t *ℤ pos degree);
   uly = no_way (10 ^ 9) (north_of t *ℤ pos degree);

@@ -28,8 +28,8 @@ abbrev pub degree : ℕ
 degree = 10 ^ 15
 
 -- the corner of the mosaic, and the spacing of its samples, rounded down
-abbrev pub place_of : Tiling → Place
-place_of t = record {
+abbrev pub mosaic_place : Tiling → Place
+mosaic_place t = record {
   ulx = west_of t *ℤ pos degree;
   uly = north_of t *ℤ pos degree;
   xdim = pos (degree / (t.side - 1));
@@ -46,6 +46,6 @@ header_of t p = record {
   signed = is_signed p;
   skip = 0;
   row_bytes = (extent_of t).cols * (bits_of p / 8);
-  place = place_of t;
+  place = mosaic_place t;
   nodata = Some (default_no_data p);
 }

@@ -2,7 +2,7 @@
 
 ghost use Rattle.std.specs.Prelude.{◌≡◌};
 ghost use Rattle.drain_header.specs.Fields.{IsCoordinate};
-ghost use Rattle.drain_maker.specs.Headers.{header_of, place_of, bits_of, is_signed};
+ghost use Rattle.drain_maker.specs.Headers.{header_of, mosaic_place, bits_of, is_signed};
 
 use drain_grid::Product;
 use drain_header::{ByteOrdering, Header, Place};
@@ -29,7 +29,7 @@ pub fn product_header(layout: &Layout, product: Product) -> Header
         signed: is_signed(product),
         skip: 0,
         row_bytes: shape.cols() * u32::from(bits / 8),
-        place: place_of(layout),
+        place: mosaic_place(layout),
         nodata: Some(product.default_no_data()),
     }
 }
@@ -53,8 +53,8 @@ fn is_signed(product: Product) -> bool
 }
 
 /// Where the mosaic lies, and the spacing of its samples.
-fn place_of(layout: &Layout) -> Place
-    ensures place { result ≡ place_of layout.now }
+fn mosaic_place(layout: &Layout) -> Place
+    ensures place { result ≡ mosaic_place layout.now }
 
     // Each number is one that a header can hold.
     ensures ulx_ok { IsCoordinate result.ulx }

@@ -8,7 +8,7 @@ use Rattle.std.proofs.lemmas.Option.{same_Some}
 use Rattle.drain_grid.specs.declared.cell.Cell.{Cell}
 use Rattle.drain_grid.specs.Tile.{height_from}
 use Rattle.drain_hgt.specs.Samples.{sample_at}
-use Rattle.drain_mosaic.specs.Tiling.{Tiling, top_of, left_of, place_of}
+use Rattle.drain_mosaic.specs.Tiling.{Tiling, top_of, left_of, top_left_of}
 use Rattle.drain_mosaic.specs.Mosaic.{Tile, Covers, HasTwoValues, AreTiles, tiles_of}
 use Rattle.drain_mosaic.specs.Joined.{value_from, first_value}
 use Rattle.drain_mosaic.specs.JoinedRows.{AreTwo}
@@ -21,7 +21,7 @@ pub record IsValueAt (side : ℕ) (place : Cell) (tile : List ℤ) (c : Cell) (v
   pub over : place.row ≤ c.row → c.row < place.row + side → place.col ≤ c.col → c.col < place.col + side → value ≡ height_from (sample_at side tile (c.row - place.row) (c.col - place.col))
   pub beside : (c.row < place.row) ⊎ (place.row + side ≤ c.row) ⊎ (c.col < place.col) ⊎ (place.col + side ≤ c.col) → value ≡ None
 
-value_is : (t : Tiling) (tile : Tile) (c : Cell) (value : Option ℤ) → IsValueAt t.side (place_of t tile.corner) tile.samples c value → value ≡ value_from t tile c
+value_is : (t : Tiling) (tile : Tile) (c : Cell) (value : Option ℤ) → IsValueAt t.side (top_left_of t tile.corner) tile.samples c value → value ≡ value_from t tile c
 value_is t tile c value is = elim (cases_lt c.row top) [
   | inl north ↦ aside (inl north) (λ h. absurd (omega (arith, north, h.from_top)))
   | inr from_top ↦ elim (cases_lt c.row (top + t.side)) [
@@ -47,11 +47,11 @@ value_is t tile c value is = elim (cases_lt c.row top) [
 
 -- what the code found in the tile in place i
 pub value_of_tile : (t : Tiling) (samples : List (List ℤ)) (i : ℕ) (place : Cell) (tile : List ℤ) (side : ℕ) (c : Cell) (value : Option ℤ) → side ≡ t.side → AreTiles t samples → i < length samples → tile ≡ get_or samples i []
-    → Some place ≡ option_map (place_of t) (slice_get t.corners i) → IsValueAt side place tile c value → value ≡ value_from t (tile_of t samples i) c
+    → Some place ≡ option_map (top_left_of t) (slice_get t.corners i) → IsValueAt side place tile c value → value ≡ value_from t (tile_of t samples i) c
 value_of_tile t samples i place tile side c value side_is tiles inside is at found =
     let here = tile_of t samples i in
     let place_at = place_is t i place (omega (arith, tiles.named)) at in
-    value_is t here c value (subst (λ ss. IsValueAt t.side (place_of t here.corner) ss c value) is (subst (λ p. IsValueAt t.side p tile c value) place_at (subst (λ n. IsValueAt n place tile c value) side_is found)))
+    value_is t here c value (subst (λ ss. IsValueAt t.side (top_left_of t here.corner) ss c value) is (subst (λ p. IsValueAt t.side p tile c value) place_at (subst (λ n. IsValueAt n place tile c value) side_is found)))
 
 another : (t : Tiling) (ts : List Tile) (tile : Tile) (c : Cell) (a b : Option ℤ) → a ≡ first_value t ts c → b ≡ value_from t tile c → AreTwo a b → GivesAnother t ts tile c
 another t ts tile c (Some x) (Some y) first from two = record { one = x; other = y; first = sym first; from = sym from; differ = λ e. two.2 (ap (λ w. Some w) e) }

@@ -7,7 +7,7 @@ use Rattle.drain_grid.specs.declared.cell.Cell.{Cell}
 use Rattle.drain_grid.specs.Size.{Extent}
 use Rattle.drain_grid.specs.Tile.{IsSide}
 use Rattle.drain_hgt.specs.Corner.{Corner}
-use Rattle.drain_mosaic.specs.Tiling.{Tiling, least, greatest, west_of, north_of, extent_of, place_of, tiles_down, tiles_across}
+use Rattle.drain_mosaic.specs.Tiling.{Tiling, least, greatest, west_of, north_of, extent_of, top_left_of, tiles_down, tiles_across}
 use Rattle.drain_mosaic.specs.LayoutFaults.{AreNumbersOf}
 use Rattle.drain_mosaic.proofs.Bounds.{least_le, greatest_ge, before_east, before_south, inside_box}
 
@@ -17,7 +17,7 @@ cell row col c p q = ap (λ r. record { row = r; col = col }) p ∙ ap (λ k. re
 
 -- the tile's north-west cell, and that the tile lies within the mosaic
 pub record IsPlaced (t : Tiling) (i row col : ℕ) : Type 0 where
-  pub place : Some (record { row = row; col = col }) ≡ option_map (place_of t) (slice_get t.corners i)
+  pub place : Some (record { row = row; col = col }) ≡ option_map (top_left_of t) (slice_get t.corners i)
   pub rows_inside : row + t.side ≤ (extent_of t).rows
   pub cols_inside : col + t.side ≤ (extent_of t).cols
 
@@ -38,9 +38,9 @@ placed t west north shape i corner row col side numbers inside is p q =
     let col_is : col ≡ nat_abs (corner.lon -ℤ west_of t) * (t.side - 1) = q ∙ ap (λ w. nat_abs (corner.lon -ℤ w) * (t.side - 1)) numbers.west_is in
     let down = inside_box t.side (nat_abs (north_of t -ℤ pos 1 -ℤ corner.lat)) (tiles_down t) side.least (before_south (least lats) corner.lat (greatest lats) south_most north_most) in
     let across = inside_box t.side (nat_abs (corner.lon -ℤ west_of t)) (tiles_across t) side.least (before_east (least lons) corner.lon (greatest lons) west_most east_most) in
-    let cell_is : record { row = row; col = col } ≡ place_of t corner = cell row col (place_of t corner) row_is col_is in
+    let cell_is : record { row = row; col = col } ≡ top_left_of t corner = cell row col (top_left_of t corner) row_is col_is in
     record {
-      place = ap (λ (cell : Cell). Some cell) cell_is ∙ sym (ap (option_map (place_of t)) (slice_get_read t.corners (length t.corners) i corner refl inside is));
+      place = ap (λ (cell : Cell). Some cell) cell_is ∙ sym (ap (option_map (top_left_of t)) (slice_get_read t.corners (length t.corners) i corner refl inside is));
       rows_inside = subst (λ r. r + t.side ≤ (extent_of t).rows) (sym row_is) down;
       cols_inside = subst (λ k. k + t.side ≤ (extent_of t).cols) (sym col_is) across;
     }

@@ -9,7 +9,7 @@ use Rattle.std.proofs.Math.Nat.{mul-le-mul_right}
 use Rattle.drain_grid.specs.declared.cell.Cell.{Cell}
 use Rattle.drain_grid.specs.declared.tile.TheConstants.{VOID}
 use Rattle.drain_hgt.specs.Corner.{Corner}
-use Rattle.drain_mosaic.specs.Tiling.{Tiling, extent_of, top_of, place_of}
+use Rattle.drain_mosaic.specs.Tiling.{Tiling, extent_of, top_of, top_left_of}
 use Rattle.drain_mosaic.specs.Mosaic.{Tile, AreTiles, tiles_of}
 use Rattle.drain_mosaic.specs.JoinedRows.{IsLaidOver, IsJoinedRow, first_of}
 use Rattle.drain_mosaic.proofs.Joining.{laid, passed, first_of_none}
@@ -47,8 +47,8 @@ take_tile t samples i tiles inside =
     let long = length-tiles_of t.corners samples tiles.named in
     take_more all i no_tile (omega (arith, long, tiles.named)) ∙ ap (λ x. take i all ++ x ∷ []) (tiles_at t.corners samples i tiles.named (omega (arith, tiles.named)))
 
-pub place_is : (t : Tiling) (i : ℕ) (place : Cell) → i < length t.corners → Some place ≡ option_map (place_of t) (slice_get t.corners i) → place ≡ place_of t (get_or t.corners i nowhere)
-place_is t i place inside at = same_Some place (place_of t (get_or t.corners i nowhere)) (at ∙ ap (option_map (place_of t)) (slice_get-get_or t.corners i nowhere inside))
+pub place_is : (t : Tiling) (i : ℕ) (place : Cell) → i < length t.corners → Some place ≡ option_map (top_left_of t) (slice_get t.corners i) → place ≡ top_left_of t (get_or t.corners i nowhere)
+place_is t i place inside at = same_Some place (top_left_of t (get_or t.corners i nowhere)) (at ∙ ap (option_map (top_left_of t)) (slice_get-get_or t.corners i nowhere inside))
 
 -- a whole row lies within a square
 row_within : (side r : ℕ) → r < side → r * side + side ≤ side * side
@@ -70,7 +70,7 @@ pub record IsTileLaid (side : ℕ) (place : Cell) (tile : List ℤ) (row : ℕ) 
   pub beside : (row < place.row) ⊎ (place.row + side ≤ row) → (new ≡ old) × (found ≡ None)
 
 tile_laid : (t : Tiling) (ts : List Tile) (tile : Tile) (row : ℕ) (old new : List ℤ) (seam found : Option ℕ) → length tile.samples ≡ t.side * t.side → length old ≡ (extent_of t).cols
-    → IsTileLaid t.side (place_of t tile.corner) tile.samples row old new found → IsJoinedRow t ts row old seam → IsJoinedRow t (ts ++ tile ∷ []) row new (first_of seam found)
+    → IsTileLaid t.side (top_left_of t tile.corner) tile.samples row old new found → IsJoinedRow t ts row old seam → IsJoinedRow t (ts ++ tile ∷ []) row new (first_of seam found)
 tile_laid t ts tile row old new seam found whole wide is joined = elim (cases_lt row top) [
   | inl north ↦ untouched (inl north) (λ h. absurd (omega (arith, north, h.0)))
   | inr from ↦ elim (cases_lt row (top + t.side)) [
@@ -95,12 +95,12 @@ tile_laid t ts tile row old new seam found whole wide is joined = elim (cases_lt
 
 -- one tile of the layout more
 pub tile_step : (t : Tiling) (samples : List (List ℤ)) (i row : ℕ) (place : Cell) (tile : List ℤ) (side : ℕ) (old new : List ℤ) (seam found next : Option ℕ) → side ≡ t.side → AreTiles t samples → i < length samples → tile ≡ get_or samples i []
-    → Some place ≡ option_map (place_of t) (slice_get t.corners i) → length old ≡ (extent_of t).cols → IsTileLaid side place tile row old new found → next ≡ first_of seam found
+    → Some place ≡ option_map (top_left_of t) (slice_get t.corners i) → length old ≡ (extent_of t).cols → IsTileLaid side place tile row old new found → next ≡ first_of seam found
     → IsJoinedRow t (take i (tiles_of t.corners samples)) row old seam → IsJoinedRow t (take (i + 1) (tiles_of t.corners samples)) row new next
 tile_step t samples i row place tile side old new seam found next side_is tiles inside is at wide laid_is next_is joined =
     let all = tiles_of t.corners samples in
     let here = tile_of t samples i in
     let place_at = place_is t i place (omega (arith, tiles.named)) at in
-    let laid_here = subst (λ ss. IsTileLaid t.side (place_of t here.corner) ss row old new found) is (subst (λ p. IsTileLaid t.side p tile row old new found) place_at (subst (λ n. IsTileLaid n place tile row old new found) side_is laid_is)) in
+    let laid_here = subst (λ ss. IsTileLaid t.side (top_left_of t here.corner) ss row old new found) is (subst (λ p. IsTileLaid t.side p tile row old new found) place_at (subst (λ n. IsTileLaid n place tile row old new found) side_is laid_is)) in
     let more = tile_laid t (take i all) here row old new seam found (tiles.whole i [] inside) wide laid_here joined in
     subst (λ ts. IsJoinedRow t ts row new next) (sym (take_tile t samples i tiles inside)) (subst (IsJoinedRow t (take i all ++ here ∷ []) row new) (sym next_is) more)

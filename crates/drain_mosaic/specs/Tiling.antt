@@ -51,5 +51,5 @@ abbrev pub left_of : Tiling → Corner → ℕ
 left_of t c = nat_abs (c.lon -ℤ west_of t) * (t.side - 1)
 
 -- the north-west cell of the tile at a corner
-abbrev pub place_of : Tiling → Corner → Cell
-place_of t c = record { row = top_of t c; col = left_of t c }
+abbrev pub top_left_of : Tiling → Corner → Cell
+top_left_of t c = record { row = top_of t c; col = left_of t c }

@@ -9,7 +9,7 @@ ghost use Rattle.drain_grid.specs.First.{IsFirst};
 ghost use Rattle.drain_grid.specs.Tile.{IsSide};
 ghost use Rattle.drain_hgt.specs.Corner.{Corner, IsWithin};
 ghost use Rattle.drain_mosaic.specs.LayoutFaults.{HasLayoutFault, IsFirstRepeated, IsRepeatedAt, AreBoundsOf, order_of};
-ghost use Rattle.drain_mosaic.specs.Tiling.{Tiling, least, greatest, west_of, north_of, extent_of, place_of};
+ghost use Rattle.drain_mosaic.specs.Tiling.{Tiling, least, greatest, west_of, north_of, extent_of, top_left_of};
 
 use drain_grid::{Cell, Shape};
 use drain_hgt::TileName;
@@ -142,7 +142,7 @@ impl Layout {
     /// The north-west cell of a tile, counted as by `name`. The tile lies within the mosaic.
     pub fn place(&self, i: usize) -> Cell
         requires { i < length self.now.corners }
-        ensures place { Some result ≡ option_map (place_of self.now) (slice_get self.now.corners i) }
+        ensures place { Some result ≡ option_map (top_left_of self.now) (slice_get self.now.corners i) }
         ensures rows_inside { result.row + self.now.side ≤ (extent_of self.now).rows }
         ensures cols_inside { result.col + self.now.side ≤ (extent_of self.now).cols }
     {

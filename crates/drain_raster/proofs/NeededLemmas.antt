@@ -9,7 +9,7 @@ use Rattle.drain_grid.specs.Extent.{row_cells}
 use Rattle.drain_header.specs.declared.header.ByteOrdering.{ByteOrdering}
 use Rattle.drain_header.specs.declared.header.ByteOrdering.TheVariants.{Least, Most}
 use Rattle.drain_header.specs.Fields.{Fields}
-use Rattle.drain_raster.specs.Pixels.{pixel_len, place_of, needed_len, number_in, spelled_by, pixel_of, pixel_at, extent_of, raster_of}
+use Rattle.drain_raster.specs.Pixels.{pixel_len, pixel_place, needed_len, number_in, spelled_by, pixel_of, pixel_at, extent_of, raster_of}
 use Rattle.drain_raster.specs.Laws.{OnlyNeededBytesCount}
 use Rattle.drain_raster.proofs.CellLists.{cell_of, map-row_cells_more, map-rows_more}
 use Rattle.drain_raster.proofs.PixelLemmas.{place-within}
@@ -24,7 +24,7 @@ spelled_by-take true order n m bytes fits = ap (twos_complement n) (number_in-ta
 spelled_by-take false order n m bytes fits = ap pos (number_in-take order n m bytes fits)
 
 -- each pixel ends within the needed bytes
-pixel-ends : (h : Fields) (r k : ℕ) → r < h.rows → k < h.cols → pixel_len h ≤ needed_len h - place_of h r k
+pixel-ends : (h : Fields) (r k : ℕ) → r < h.rows → k < h.cols → pixel_len h ≤ needed_len h - pixel_place h r k
 pixel-ends h r k above inside =
     let end : (k + 1) * pixel_len h ≡ k * pixel_len h + pixel_len h = omega arith in
     omega (arith, end, place-within h r (k + 1) above (omega (arith, inside)))
@@ -33,7 +33,7 @@ pixel-ends h r k above inside =
 pixel_at-needed : (h : Fields) (body : List ℕ) (r k : ℕ) → r < h.rows → k < h.cols →
     pixel_at h (take (needed_len h) body) (cell_of r k) ≡ pixel_at h body (cell_of r k)
 pixel_at-needed h body r k above inside =
-    let place = place_of h r k in
+    let place = pixel_place h r k in
     let rest = needed_len h - place in
     let split : needed_len h ≡ place + rest = omega (arith, place-within h r k above (omega (arith, inside))) in
     ap (λ n. pixel_of h (drop place (take n body))) split ∙ ap (pixel_of h) (drop-take place rest body)

@@ -14,7 +14,7 @@ use Rattle.drain_grid.specs.Values.{IsPixel, IsNoData}
 use Rattle.drain_header.specs.declared.header.ByteOrdering.{ByteOrdering}
 use Rattle.drain_header.specs.declared.header.ByteOrdering.TheVariants.{Least, Most}
 use Rattle.drain_header.specs.Fields.{Fields, IsPixelSize}
-use Rattle.drain_raster.specs.Pixels.{pixel_len, place_of, needed_len, number_in, spelled_by, pixel_of, pixel_at, AreSpelled}
+use Rattle.drain_raster.specs.Pixels.{pixel_len, pixel_place, needed_len, number_in, spelled_by, pixel_of, pixel_at, AreSpelled}
 use Rattle.drain_raster.specs.Bytes.{least_number, greatest_number, complement_of, bytes_in, AreWritten}
 use Rattle.drain_raster.proofs.CellLists.{cell_of}
 
@@ -30,8 +30,8 @@ pub pixel-stored : (n : ℤ) → IsPixel n → to_z w64 (of_z w64 n) ≡ n
 pixel-stored n ok = to_z-of_z w64 n (grind (arith, ints, ok.low, ok.high))
 
 -- a number that stands for no data does too
-pub no_data-stored : (n : ℤ) → IsNoData n → IsNoData (to_z w64 (of_z w64 n))
-no_data-stored n ok = rw (to_z-of_z w64 n (grind (arith, ints, ok.low, ok.high))) ok
+pub nodata-stored : (n : ℤ) → IsNoData n → IsNoData (to_z w64 (of_z w64 n))
+nodata-stored n ok = rw (to_z-of_z w64 n (grind (arith, ints, ok.low, ok.high))) ok
 
 -- a header's pixels are those of its bits, sign and order
 pub spelled-so : (h inside : Fields) (bits : ℕ) (signed : Bool) (order : ByteOrdering) → inside ≡ h → inside.bits ≡ bits → inside.signed ≡ signed →
@@ -67,8 +67,8 @@ pub greatest-so : (h inside : Fields) (bits : ℕ) (signed : Bool) → inside �
 greatest-so h inside bits signed view is_bits is_signed = rw (← view, is_bits, is_signed) refl
 
 -- a number that a header gives is a lawful one
-pub no_data-held : (nodata : Option ℤ) (n : ℤ) → ∥ IfSome nodata IsNoData ∥₁ → nodata ≡ Some n → IsNoData n
-no_data-held nodata n held is = ∥∥₁_elim held (hlevel props) (λ ok. rw is at ok)
+pub nodata-held : (nodata : Option ℤ) (n : ℤ) → ∥ IfSome nodata IsNoData ∥₁ → nodata ≡ Some n → IsNoData n
+nodata-held nodata n held is = ∥∥₁_elim held (hlevel props) (λ ok. rw is at ok)
 
 -- pixels that are of neither 8 nor 16 bits are of 32
 pub widest : (bits : ℕ) → ∥ IsPixelSize bits ∥₁ → bits ≢ 8 → bits ≢ 16 → bits ≡ 32
@@ -80,7 +80,7 @@ widest bits ok not_8 not_16 =
     ]
 
 -- the place of each pixel, and of each row's end, is within the needed bytes
-pub place-within : (h : Fields) (row col : ℕ) → row < h.rows → col ≤ h.cols → place_of h row col ≤ needed_len h
+pub place-within : (h : Fields) (row col : ℕ) → row < h.rows → col ≤ h.cols → pixel_place h row col ≤ needed_len h
 place-within h row col above before =
     omega (
       arith,

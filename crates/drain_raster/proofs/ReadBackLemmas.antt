@@ -10,7 +10,7 @@ use Rattle.drain_grid.specs.Extent.{IsCellOf, row_cells}
 use Rattle.drain_grid.specs.Rasters.{Pixels}
 use Rattle.drain_grid.specs.Whole.{number_at}
 use Rattle.drain_header.specs.Fields.{Fields, AreWithinBounds}
-use Rattle.drain_raster.specs.Pixels.{IsShort, pixel_len, place_of, pixel_of, pixel_at, extent_of}
+use Rattle.drain_raster.specs.Pixels.{IsShort, pixel_len, pixel_place, pixel_of, pixel_at, extent_of}
 use Rattle.drain_raster.specs.Bytes.{CanSpellAll, pixel_bytes, cells_bytes, cells_from, padding_len, bytes_of_row, raster_bytes}
 use Rattle.drain_raster.specs.Laws.{BytesReadBack}
 use Rattle.drain_raster.proofs.BufferLemmas.{cells_bytes-parts, rows-parts}
@@ -45,7 +45,7 @@ row-from h p r k below inside =
 
 -- and from its place in the raster
 raster-from : (h : Fields) (p : Pixels) (r k : ℕ) → AreWithinBounds h → r < h.rows → k < h.cols → (rest : List ℕ)
-    × (drop (place_of h r k) (raster_bytes h p) ≡ pixel_bytes h (number_at p (cell_of r k)) ++ rest)
+    × (drop (pixel_place h r k) (raster_bytes h p) ≡ pixel_bytes h (number_at p (cell_of r k)) ++ rest)
 raster-from h p r k ok above inside =
     let row = bytes_of_row h p in
     let skipped = replicate {A = ℕ} h.skip 0 in
@@ -54,7 +54,7 @@ raster-from h p r k ok above inside =
     let rows : over ++ (row r ++ under) ≡ flat_map row (range_with_len 0 h.rows) = sym (append_assoc over (row r) under) ∙ rows-parts row r h.rows above in
     let over_is : length over ≡ r * h.row_bytes = length-lists row 0 r h.row_bytes (λ q. length-row h p q ok) in
     let from = row-from h p r k under inside in
-    let place : place_of h r k ≡ h.skip + (r * h.row_bytes + k * pixel_len h) = omega arith in (
+    let place : pixel_place h r k ≡ h.skip + (r * h.row_bytes + k * pixel_len h) = omega arith in (
       from.0,
       ap (λ n. drop n (raster_bytes h p)) place
           ∙ drop-front skipped (flat_map row (range_with_len 0 h.rows)) h.skip (r * h.row_bytes + k * pixel_len h) (length-replicate {A = ℕ} h.skip 0)

@@ -15,12 +15,12 @@ abbrev pub pixel_len : Fields → ℕ
 pixel_len h = h.bits / 8
 
 -- where the pixel of a row and a column begins
-abbrev pub place_of : Fields → ℕ → ℕ → ℕ
-place_of h row col = h.skip + row * h.row_bytes + col * pixel_len h
+abbrev pub pixel_place : Fields → ℕ → ℕ → ℕ
+pixel_place h row col = h.skip + row * h.row_bytes + col * pixel_len h
 
 -- how many bytes a raster needs: up to the end of its last pixel
 abbrev pub needed_len : Fields → ℕ
-needed_len h = place_of h (h.rows - 1) h.cols
+needed_len h = pixel_place h (h.rows - 1) h.cols
 
 -- a byte that is needed is missing
 abbrev pub IsShort : Fields → List ℕ → Type 0
@@ -42,7 +42,7 @@ pixel_of h bytes = spelled_by h.signed h.order (pixel_len h) bytes
 
 -- the number of the pixel at a cell
 abbrev pub pixel_at : Fields → List ℕ → Cell → ℤ
-pixel_at h body c = pixel_of h (drop (place_of h c.row c.col) body)
+pixel_at h body c = pixel_of h (drop (pixel_place h c.row c.col) body)
 
 -- pixels of so many bytes, whose bytes spell this number, are those of the header
 pub record AreSpelled (h : Fields) (len : ℕ) (number : List ℕ → ℤ) : Type 0 where

@@ -14,7 +14,7 @@ use Rattle.drain_grid.specs.Grid.{Grid, Products, IsInside}
 use Rattle.drain_grid.specs.Counts.{is_data, is_raised}
 use Rattle.drain_grid.specs.PatchRules.{Profile, profile1}
 use Rattle.drain_grid.specs.GridRules.{HoldsAt, RulesHold, IsEarlierPair, IsFirstFault}
-use Rattle.drain_rules.specs.declared.fill_check.FillVerdict.TheVariants as fill
+use Rattle.drain_rules.specs.declared.fill_walk.FillVerdict.TheVariants as fill
 use Rattle.drain_rules.specs.declared.tally.Tally.{Tally}
 use Rattle.drain_rules.specs.declared.verdict.Verdict.TheVariants.{Accepted}
 use Rattle.drain_rules.specs.FillVerdicts.{fill_rules, IsFillVerdict}

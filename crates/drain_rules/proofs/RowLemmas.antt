@@ -13,8 +13,8 @@ use Rattle.drain_grid.specs.Grid.{Grid, Products, IsInside, values_at, patch_at}
 use Rattle.drain_grid.specs.Counts.{is_data, is_raised}
 use Rattle.drain_grid.specs.PatchRules.{Profile, profile1}
 use Rattle.drain_grid.specs.GridRules.{HoldsAt}
-use Rattle.drain_rules.specs.declared.cell_check.Stop.{Stop}
-use Rattle.drain_rules.specs.declared.cell_check.Stop.TheVariants.{Fault, OutOfMemory}
+use Rattle.drain_rules.specs.declared.cell_rules.Stop.{Stop}
+use Rattle.drain_rules.specs.declared.cell_rules.Stop.TheVariants.{Fault, OutOfMemory}
 use Rattle.drain_rules.specs.declared.tally.Tally.{Tally}
 use Rattle.drain_rules.specs.Labels.{IsOutletByCode, AreLabelsBefore}
 use Rattle.drain_rules.specs.Stops.{IsCellStop}

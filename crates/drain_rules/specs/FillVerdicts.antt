@@ -6,11 +6,11 @@ use Rattle.drain_grid.specs.Grid.{Grid, Products}
 use Rattle.drain_grid.specs.Counts.{data_count, raised_count}
 use Rattle.drain_grid.specs.PatchRules.{Profile, profile1}
 use Rattle.drain_grid.specs.GridRules.{RulesHold, IsFirstFault}
-use Rattle.drain_rules.specs.declared.fill_check.FillCounts.{FillCounts}
-use Rattle.drain_rules.specs.declared.fill_check.FillVerdict.{FillVerdict}
-use Rattle.drain_rules.specs.declared.fill_check.FillVerdict.TheVariants.{Accepted, Rejected}
-use Rattle.drain_rules.specs.declared.fill_check.FillRefusal.{FillRefusal}
-use Rattle.drain_rules.specs.declared.fill_check.FillRefusal.TheVariants.{BadSide, BadLength}
+use Rattle.drain_rules.specs.declared.fill_walk.FillCounts.{FillCounts}
+use Rattle.drain_rules.specs.declared.fill_walk.FillVerdict.{FillVerdict}
+use Rattle.drain_rules.specs.declared.fill_walk.FillVerdict.TheVariants.{Accepted, Rejected}
+use Rattle.drain_rules.specs.declared.fill_walk.FillRefusal.{FillRefusal}
+use Rattle.drain_rules.specs.declared.fill_walk.FillRefusal.TheVariants.{BadSide, BadLength}
 use Rattle.drain_rules.specs.Fill.{IsFillLength, fill_grid, fill_products}
 
 -- a fill input has no no-data numbers, and rules 4 to 9 look at none: these are as good as any

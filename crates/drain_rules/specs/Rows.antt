@@ -10,9 +10,9 @@ use Rattle.drain_grid.specs.Grid.{Grid, Products, HasData}
 use Rattle.drain_grid.specs.Counts.{is_data, is_raised}
 use Rattle.drain_grid.specs.PatchRules.{Profile, profile1}
 use Rattle.drain_grid.specs.GridRules.{HoldsAt}
-use Rattle.drain_rules.specs.declared.cell_check.Stop.{Stop}
-use Rattle.drain_rules.specs.declared.cell_check.Stop.TheVariants.{Fault, OutOfMemory}
-use Rattle.drain_rules.specs.declared.whole_check.RowStop.{RowStop}
+use Rattle.drain_rules.specs.declared.cell_rules.Stop.{Stop}
+use Rattle.drain_rules.specs.declared.cell_rules.Stop.TheVariants.{Fault, OutOfMemory}
+use Rattle.drain_rules.specs.declared.raster_walk.RowStop.{RowStop}
 use Rattle.drain_rules.specs.declared.tally.Tally.{Tally}
 use Rattle.drain_rules.specs.Verdicts.{has_outlet_code}
 

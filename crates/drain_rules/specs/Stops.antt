@@ -3,8 +3,8 @@ use Rattle.std.specs.Prelude.{ℕ, List, Some, None}
 use Rattle.drain_grid.specs.declared.patch.Patch.{Patch}
 use Rattle.drain_grid.specs.Rule.{IsBetween, IsLeastFault}
 use Rattle.drain_grid.specs.Values.{NoDataNumbers}
-use Rattle.drain_rules.specs.declared.cell_check.Stop.{Stop}
-use Rattle.drain_rules.specs.declared.cell_check.Stop.TheVariants.{Fault, OutOfMemory}
+use Rattle.drain_rules.specs.declared.cell_rules.Stop.{Stop}
+use Rattle.drain_rules.specs.declared.cell_rules.Stop.TheVariants.{Fault, OutOfMemory}
 use Rattle.drain_rules.specs.Labels.{IsOutletByCode, labelled_profile}
 
 -- with these labels the rule is the first that fails at the cell; memory is wanted only at an outlet where every rule holds, for its label

@@ -6,19 +6,19 @@
 //! fill input asks for rules 4 to 9 alone; that these make the filled surface is the law `least_from_rules`.
 #![tactic(auto)]
 
-pub mod cell_check;
-pub mod fill_check;
+pub mod cell_rules;
 pub mod fill_input;
+pub mod fill_walk;
 pub mod outlet;
-pub mod patch_check;
+pub mod patch_rules;
+pub mod raster_walk;
 pub mod tally;
 #[cfg(test)]
 mod tests;
 pub mod verdict;
-pub mod whole_check;
 
-pub use fill_check::{FillCounts, FillRefusal, FillVerdict, check_fill};
 pub use fill_input::fill_length;
-pub use patch_check::patch_fault;
+pub use fill_walk::{FillCounts, FillRefusal, FillVerdict, check_fill};
+pub use patch_rules::patch_fault;
+pub use raster_walk::verdict_of;
 pub use verdict::{Counts, Verdict};
-pub use whole_check::verdict_of;

@@ -1,6 +1,6 @@
 //! Worked products and their verdicts, all worked out by hand from the rules.
 
-mod long_lines;
+mod long_rows;
 mod spill_levels;
 
 ghost use Rattle.std.specs.Prelude.{◌≡◌, ◌↔◌, IsTrue, IfOk};

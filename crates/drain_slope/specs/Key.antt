@@ -4,7 +4,7 @@ use Rattle.drain_grid.specs.declared.direction.Direction.{Direction}
 use Rattle.drain_grid.specs.declared.patch.Patch.{Patch}
 use Rattle.drain_grid.specs.Values.{Values}
 use Rattle.drain_grid.specs.Patch.{neighbor, HasLower}
-use Rattle.drain_grid.specs.Direction.{place_of}
+use Rattle.drain_grid.specs.Direction.{order_of}
 use Rattle.drain_grid.specs.Slope.{key_to}
 
 -- the key of the way to these values, 0 where they are not those of a lower data cell
@@ -30,4 +30,4 @@ pub record IsSteepestKey (p : Patch) (key : ℕ) : Type 0 where
 abbrev pub IsFirstWithKey : Patch → ℕ → Option Direction → Type 0
 IsFirstWithKey p key None = (d : Direction) → key_at p d ≢ pos key
 IsFirstWithKey p key (Some d) =
-    (key_at p d ≡ pos key) × ((e : Direction) → place_of e < place_of d → key_at p e ≢ pos key)
+    (key_at p d ≡ pos key) × ((e : Direction) → order_of e < order_of d → key_at p e ≢ pos key)

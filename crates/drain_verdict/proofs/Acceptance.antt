@@ -12,7 +12,7 @@ use Rattle.drain_rules.specs.Verdicts.{IfAccepted}
 use Rattle.drain_verdict.specs.declared.refusal.Refusal.{Refusal}
 use Rattle.drain_verdict.specs.declared.refusal.Refusal.TheVariants.{SeamMismatch}
 use Rattle.drain_verdict.specs.Inputs.{Inputs}
-use Rattle.drain_verdict.specs.Meaning.{tiling_of, tiles_of, grid_of, products_of, no_data_numbers}
+use Rattle.drain_verdict.specs.Meaning.{tiling_of, tiles_of, grid_of, products_of, nodata_numbers}
 use Rattle.drain_verdict.specs.Answers.{AreReadable, IsAnswer}
 
 same_value : (v w : ℤ) → ¬ (¬ (v ≡ w)) → v ≡ w
@@ -25,8 +25,8 @@ tiles_agree i readable c v w inside is_v is_w =
 
 -- where the answer is an acceptance, the products are correct, and every run is sound
 pub accepted_is_correct : CorrectFromRules → (i : Inputs) (counts : Counts) → IsAnswer i (Ok (Accepted counts)) →
-    IsCorrect (grid_of i) (products_of i) (no_data_numbers i) × RunsAreSound (grid_of i) (products_of i)
-accepted_is_correct rules_are_enough i counts answer = rules_are_enough (grid_of i) (products_of i) (no_data_numbers i) answer.1.0
+    IsCorrect (grid_of i) (products_of i) (nodata_numbers i) × RunsAreSound (grid_of i) (products_of i)
+accepted_is_correct rules_are_enough i counts answer = rules_are_enough (grid_of i) (products_of i) (nodata_numbers i) answer.1.0
 
 -- a fact that follows from an acceptance of the inputs holds where the answer accepts
 pub when_accepted : (Told Fact : Inputs → Type 0) → ((i : Inputs) (counts : Counts) → IsAnswer i (Ok (Accepted counts)) → Fact i) →

@@ -16,7 +16,7 @@ use Rattle.drain_verdict.specs.declared.refusal.Refusal.{Refusal}
 use Rattle.drain_verdict.specs.declared.refusal.Refusal.TheVariants.{RepeatedTile, BadTileLength, RasterShort, SeamMismatch, OutOfMemory, ReadFailed}
 use Rattle.drain_verdict.specs.Inputs.{Inputs}
 use Rattle.drain_verdict.specs.Meaning.{tiling_of, tiles_of, fields_of}
-use Rattle.drain_verdict.specs.Refusals.{HasBadLength, IsSeamFault, Stands, NoneStandsBefore, place_of, place_among, rank_of}
+use Rattle.drain_verdict.specs.Refusals.{HasBadLength, IsSeamFault, Stands, NoneStandsBefore, refusal_order, place_among, rank_of}
 use Rattle.drain_verdict.specs.Answers.{IsRefusal, AreReadable}
 use Rattle.drain_verdict.specs.Stages.{IsFirstBadLength, IsTileRefusal, IsRasterRefusal, header_for}
 use Rattle.drain_verdict.proofs.Order.{at_tile, at_raster, at_seam, none_more, readable, first_of}
@@ -46,7 +46,7 @@ first_of_another_length i c place distinct at first =
 pub tile_refused : (i : Inputs) (refusal : Refusal) → IsTileRefusal (tiling_of i) i.tiles refusal → NoneStandsBefore i 5 → IsRefusal i refusal
 tile_refused i (BadTileLength c) bad none =
     let told = first_of_another_length i c bad.0 (λ d. none (RepeatedTile d) (omega arith)) bad.1 bad.2 in
-    first_of i (Stands i) 5 (place_among i.corners c) (BadTileLength c) refl told.0 none (at_tile i (λ b. (place_of i b).1 < place_among i.corners c → ¬ Stands i b) told.1)
+    first_of i (Stands i) 5 (place_among i.corners c) (BadTileLength c) refl told.0 none (at_tile i (λ b. (refusal_order i b).1 < place_among i.corners c → ¬ Stands i b) told.1)
 tile_refused i OutOfMemory bad none = tt
 tile_refused i ReadFailed bad none = tt
 tile_refused i refusal bad none = absurd bad
@@ -59,7 +59,7 @@ pub raster_refused : (i : Inputs) (hs : Headers) (refusal : Refusal) → ((p : P
     NoneStandsBefore i 6 → IsRefusal i refusal
 raster_refused i hs (RasterShort p) are bad none =
     first_of i (Stands i) 6 (rank_of p) (RasterShort p) refl (subst (λ h. IsShort h (i.raster p)) (are p) bad.short) none
-    (at_raster i (λ b. (place_of i b).1 < rank_of p → ¬ Stands i b) (λ q less short. bad.before q less (subst (λ h. IsShort h (i.raster q)) (sym (are q)) short)))
+    (at_raster i (λ b. (refusal_order i b).1 < rank_of p → ¬ Stands i b) (λ q less short. bad.before q less (subst (λ h. IsShort h (i.raster q)) (sym (are q)) short)))
 raster_refused i hs OutOfMemory are bad none = tt
 raster_refused i hs ReadFailed are bad none = tt
 raster_refused i hs refusal are bad none = absurd bad
@@ -84,4 +84,4 @@ pub seam_refused : (i : Inputs) (c : Cell) → IsFirstSeam (tiling_of i) (tiles_
 seam_refused i c first none =
     let e = tiling.extent_of (tiling_of i) in
     let told = first_of_two_values i c first in
-    first_of i (Stands i) 7 (index_of e c) (SeamMismatch c) refl told.0 none (at_seam i (λ b. (place_of i b).1 < index_of e c → ¬ Stands i b) told.1)
+    first_of i (Stands i) 7 (index_of e c) (SeamMismatch c) refl told.0 none (at_seam i (λ b. (refusal_order i b).1 < index_of e c → ¬ Stands i b) told.1)

@@ -13,7 +13,7 @@ use Rattle.drain_verdict.specs.declared.refusal.Refusal.{Refusal}
 use Rattle.drain_verdict.specs.declared.refusal.Refusal.TheVariants.{BadHeader, WrongShape, Misplaced}
 use Rattle.drain_verdict.specs.Inputs.{Inputs, input_of}
 use Rattle.drain_verdict.specs.Meaning.{tiling_of, fields_of}
-use Rattle.drain_verdict.specs.Refusals.{Stands, NoneStandsBefore, HasShape, IsPlaced, place_of, rank_of}
+use Rattle.drain_verdict.specs.Refusals.{Stands, NoneStandsBefore, HasShape, IsPlaced, refusal_order, rank_of}
 use Rattle.drain_verdict.specs.Answers.{IsRefusal}
 use Rattle.drain_verdict.specs.Stages.{IsHeaderFor, IsHeaderRefusal, IsFirstHeaderRefusal, AreHeadersFor, header_for}
 use Rattle.drain_verdict.proofs.Order.{at_header, none_more, first_of}
@@ -64,8 +64,8 @@ headers_are i ps hs told are p = fields_are i p (header_for hs p) (subst (λ tex
 -- the product and the refusals of its own that come before
 before_product : (i : Inputs) (p : Product) (j : ℕ) → j < 3 → ((q : Product) → rank_of q < rank_of p → IsRight i q)
     → (0 < j → (fault : HeaderFault) → ¬ Stands i (BadHeader p fault)) → (1 < j → ¬ Stands i (WrongShape p))
-    → (b : Refusal) → (place_of i b).0 ≡ 4 → (place_of i b).1 < 3 * rank_of p + j → ¬ Stands i b
-before_product i p j small earlier header shape = at_header i (λ b. (place_of i b).1 < 3 * rank_of p + j → ¬ Stands i b) on_header on_shape on_place
+    → (b : Refusal) → (refusal_order i b).0 ≡ 4 → (refusal_order i b).1 < 3 * rank_of p + j → ¬ Stands i b
+before_product i p j small earlier header shape = at_header i (λ b. (refusal_order i b).1 < 3 * rank_of p + j → ¬ Stands i b) on_header on_shape on_place
   where
     either : (q : Product) → rank_of q < rank_of p + 1 → (P : Product → Type 0) → ((q : Product) → rank_of q < rank_of p → P q) → (rank_of q ≡ rank_of p → P p) → P q
     either q less P first last =

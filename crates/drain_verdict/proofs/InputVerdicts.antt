@@ -18,7 +18,7 @@ use Rattle.drain_mosaic.specs.Laws.{AgreementGivesElevation}
 use Rattle.drain_rules.specs.declared.verdict.Verdict.{Verdict}
 use Rattle.drain_rules.specs.Verdicts.{IsVerdict}
 use Rattle.drain_verdict.specs.Inputs.{Inputs}
-use Rattle.drain_verdict.specs.Meaning.{tiling_of, tiles_of, grid_of, fields_of, number_of, products_of, no_data_of, no_data_numbers}
+use Rattle.drain_verdict.specs.Meaning.{tiling_of, tiles_of, grid_of, fields_of, number_of, products_of, nodata_of, nodata_numbers}
 use Rattle.drain_verdict.specs.Refusals.{HasShape}
 use Rattle.drain_verdict.specs.Stages.{raster_in}
 use Rattle.drain_verdict.proofs.SameGrid.{AreSame, verdict_goes_along}
@@ -55,25 +55,25 @@ grids_same i e set law read = record {
   rnk = number_read i e set read Rnk;
 }
 
-no_data_read : (i : Inputs) (e : Heights) (set : ProductSet) → AreReadFrom i e set → (p : Product) → (raster_in set p).nodata ≡ no_data_of i p
-no_data_read i e set read p = ap (λ (r : Pixels). r.nodata) (read.rasters p)
+nodata_read : (i : Inputs) (e : Heights) (set : ProductSet) → AreReadFrom i e set → (p : Product) → (raster_in set p).nodata ≡ nodata_of i p
+nodata_read i e set read p = ap (λ (r : Pixels). r.nodata) (read.rasters p)
 
-no_data_same : (i : Inputs) (e : Heights) (set : ProductSet) → AreReadFrom i e set → whole.nodata_of set ≡ no_data_numbers i
-no_data_same i e set read = λ k. record {
-  con = no_data_read i e set read Con k;
-  dir = no_data_read i e set read Dir k;
-  acc = no_data_read i e set read Acc k;
-  bas = no_data_read i e set read Bas k;
-  spl = no_data_read i e set read Spl k;
-  rnk = no_data_read i e set read Rnk k;
+nodata_same : (i : Inputs) (e : Heights) (set : ProductSet) → AreReadFrom i e set → whole.nodata_of set ≡ nodata_numbers i
+nodata_same i e set read = λ k. record {
+  con = nodata_read i e set read Con k;
+  dir = nodata_read i e set read Dir k;
+  acc = nodata_read i e set read Acc k;
+  bas = nodata_read i e set read Bas k;
+  spl = nodata_read i e set read Spl k;
+  rnk = nodata_read i e set read Rnk k;
 }
 
 -- so is the verdict
 pub verdict_of_bytes : (i : Inputs) (e : Heights) (set : ProductSet) (verdict : Verdict) → AgreementGivesElevation → AreReadFrom i e set →
     IsVerdict (whole.grid_of e) (whole.products_of set) (whole.nodata_of set) verdict →
-    IsVerdict (grid_of i) (products_of i) (no_data_numbers i) verdict
+    IsVerdict (grid_of i) (products_of i) (nodata_numbers i) verdict
 verdict_of_bytes i e set verdict law read is =
     let along : IsVerdict (grid_of i) (products_of i) (whole.nodata_of set) verdict =
     verdict_goes_along (whole.grid_of e) (grid_of i) (whole.products_of set) (products_of i) (whole.nodata_of set) verdict
     (grids_same i e set law read) is in
-    subst (λ (n : NoDataNumbers). IsVerdict (grid_of i) (products_of i) n verdict) (no_data_same i e set read) along
+    subst (λ (n : NoDataNumbers). IsVerdict (grid_of i) (products_of i) n verdict) (nodata_same i e set read) along

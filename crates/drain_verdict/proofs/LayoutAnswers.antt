@@ -14,7 +14,7 @@ use Rattle.drain_verdict.specs.declared.refusal.Refusal.{Refusal}
 use Rattle.drain_verdict.specs.declared.refusal.Refusal.TheVariants.{BadSide, BadName, NoTiles, RepeatedTile, BoxTooLarge, OutOfMemory, ReadFailed}
 use Rattle.drain_verdict.specs.Inputs.{Inputs, AreNames}
 use Rattle.drain_verdict.specs.Meaning.{tiling_of}
-use Rattle.drain_verdict.specs.Refusals.{Stands, NoneStandsBefore, place_of}
+use Rattle.drain_verdict.specs.Refusals.{Stands, NoneStandsBefore, refusal_order}
 use Rattle.drain_verdict.specs.Answers.{IsRefusal}
 use Rattle.drain_verdict.specs.Stages.{IsLayoutOf, IsLayoutRefusal, IsLayoutFault}
 use Rattle.drain_verdict.proofs.Naming.{none_bad_in}
@@ -78,25 +78,25 @@ first_fault one i told fault is =
 pub layout_refused : OneName → (i : Inputs) → (AreNames i.names → AllZip Names i.names i.corners) → (refusal : Refusal) → IsLayoutRefusal i.side i.names refusal → IsRefusal i refusal
 layout_refused one i told BadSide bad = first_of i (Stands i) 1 0 BadSide refl bad (none_first i) (λ b at less. absurd (no_less b at less))
   where
-    no_less : (b : Refusal) → (place_of i b).0 ≡ 1 → (place_of i b).1 < 0 → ⊥
+    no_less : (b : Refusal) → (refusal_order i b).0 ≡ 1 → (refusal_order i b).1 < 0 → ⊥
     no_less b at less = omega arith
 layout_refused one i told (BadName k) bad =
     first_of i (Stands i) 2 k (BadName k) refl bad.1.bad (none_more i (Stands i) 1 (none_first i) (at_side i (λ b. ¬ Stands i b) (λ stands. stands bad.0)))
-    (at_name i (λ b. (place_of i b).1 < k → ¬ Stands i b) (λ j less. bad.1.first j less))
+    (at_name i (λ b. (refusal_order i b).1 < k → ¬ Stands i b) (λ j less. bad.1.first j less))
 layout_refused one i told NoTiles bad =
     let first = first_fault one i told layout.NoTiles bad.1 in
     first_of i (Stands i) 3 0 NoTiles refl first.holds (named_none i bad.1.corners bad.0 bad.1.named) (λ b at less. absurd (no_less b at less))
   where
-    no_less : (b : Refusal) → (place_of i b).0 ≡ 3 → (place_of i b).1 < 0 → ⊥
+    no_less : (b : Refusal) → (refusal_order i b).0 ≡ 3 → (refusal_order i b).1 < 0 → ⊥
     no_less b at less = omega arith
 layout_refused one i told (RepeatedTile c) bad =
     let first = first_fault one i told (layout.RepeatedTile c) bad.1 in
     first_of i (Stands i) 3 1 (RepeatedTile c) refl first.holds (named_none i bad.1.corners bad.0 bad.1.named)
-    (at_layout i (λ b. (place_of i b).1 < 1 → ¬ Stands i b) (λ less. first.first layout.NoTiles (inl (omega arith))) (λ d less. absurd (omega arith)) (λ less. absurd (omega arith)))
+    (at_layout i (λ b. (refusal_order i b).1 < 1 → ¬ Stands i b) (λ less. first.first layout.NoTiles (inl (omega arith))) (λ d less. absurd (omega arith)) (λ less. absurd (omega arith)))
 layout_refused one i told BoxTooLarge bad =
     let first = first_fault one i told layout.BoxTooLarge bad.1 in
     first_of i (Stands i) 3 2 BoxTooLarge refl first.holds (named_none i bad.1.corners bad.0 bad.1.named)
-    (at_layout i (λ b. (place_of i b).1 < 2 → ¬ Stands i b) (λ less. first.first layout.NoTiles (inl (omega arith))) (λ d less. first.first (layout.RepeatedTile d) (inl (omega arith))) (λ less. absurd (omega arith)))
+    (at_layout i (λ b. (refusal_order i b).1 < 2 → ¬ Stands i b) (λ less. first.first layout.NoTiles (inl (omega arith))) (λ d less. first.first (layout.RepeatedTile d) (inl (omega arith))) (λ less. absurd (omega arith)))
 layout_refused one i told OutOfMemory bad = tt
 layout_refused one i told ReadFailed bad = tt
 layout_refused one i told refusal bad = absurd bad

@@ -17,7 +17,7 @@ use Rattle.drain_verdict.specs.declared.refusal.Refusal.{Refusal}
 use Rattle.drain_verdict.specs.declared.refusal.Refusal.TheVariants.{BadSide, BadName, NoTiles, RepeatedTile, BoxTooLarge, BadTileLength, SeamMismatch, OutOfMemory, ReadFailed}
 use Rattle.drain_verdict.specs.Inputs.{Inputs, names_of}
 use Rattle.drain_verdict.specs.Meaning.{tiling_of, tiles_of}
-use Rattle.drain_verdict.specs.Refusals.{Stands, NoneStandsBefore, place_of, place_among}
+use Rattle.drain_verdict.specs.Refusals.{Stands, NoneStandsBefore, refusal_order, place_among}
 use Rattle.drain_verdict.specs.Answers.{IsRefusal}
 use Rattle.drain_verdict.specs.Stages.{IsLayoutOf, IsLayoutRefusal, IsTileRefusal, AreSamplesOf, IsElevationOf, IsSeamRefusal}
 use Rattle.drain_verdict.specs.Mosaics.{TellTiles, IsOfTiles, StandsOfTiles, IsMosaicOf, IsMosaicRefusal}
@@ -31,7 +31,7 @@ use Rattle.drain_verdict.proofs.WholeGrids.{elevation_is_first_value}
 
 -- no refusal of the tiles of a kind before this one stands
 abbrev pub NoneOfTilesBefore : Inputs → ℕ → Type 0
-NoneOfTilesBefore i kind = (refusal : Refusal) → (place_of i refusal).0 < kind → ¬ StandsOfTiles i refusal
+NoneOfTilesBefore i kind = (refusal : Refusal) → (refusal_order i refusal).0 < kind → ¬ StandsOfTiles i refusal
 
 -- the kinds of tiles and seams come after those of headers and rasters, which are no tiles'
 past_headers : (i : Inputs) → NoneStandsBefore i 4 → NoneOfTilesBefore i 5
@@ -56,7 +56,7 @@ past_seams i agree none =
     at_last before b stands = before b (omega arith) stands
 
 -- a refusal of the tiles is the first of theirs where it is the first of all
-first_of_theirs : (i : Inputs) (refusal : Refusal) → IsOfTiles refusal → IsFirst (place_of i) (Stands i) refusal → IsFirst (place_of i) (StandsOfTiles i) refusal
+first_of_theirs : (i : Inputs) (refusal : Refusal) → IsOfTiles refusal → IsFirst (refusal_order i) (Stands i) refusal → IsFirst (refusal_order i) (StandsOfTiles i) refusal
 first_of_theirs i refusal theirs first = record { holds = (theirs, first.holds); first = λ b before stands. first.first b before stands.1 }
 
 -- so is that of side or names
@@ -91,7 +91,7 @@ tile_told i t refusal is bad none = here refusal (subst (λ (u : Tiling). IsTile
     here (BadTileLength c) bad =
         let told = first_of_another_length i c bad.0 (λ d repeated. none (RepeatedTile d) (omega arith) (tt, repeated)) bad.1 bad.2 in
         first_of i (StandsOfTiles i) 5 (place_among i.corners c) (BadTileLength c) refl (tt, told.0) none
-        (at_tile i (λ b. (place_of i b).1 < place_among i.corners c → ¬ StandsOfTiles i b) (λ d less stands. told.1 d less stands.1))
+        (at_tile i (λ b. (refusal_order i b).1 < place_among i.corners c → ¬ StandsOfTiles i b) (λ d less stands. told.1 d less stands.1))
     here OutOfMemory bad = tt
     here ReadFailed bad = tt
     here refusal bad = absurd bad
@@ -103,7 +103,7 @@ seam_told i t samples (SeamMismatch c) is those first none =
     let e = extent_of (tiling_of i) in
     let told = first_of_two_values i c (of_inputs (λ u tiles. mosaic.IsFirstSeam u tiles c) i t samples is those.samples_are first) in
     first_of i (StandsOfTiles i) 7 (index_of e c) (SeamMismatch c) refl (tt, told.0) (past_tiles i (lengths_of i t samples is those).lengths none)
-    (at_seam i (λ b. (place_of i b).1 < index_of e c → ¬ StandsOfTiles i b) (λ b less stands. told.1 b less stands.1))
+    (at_seam i (λ b. (refusal_order i b).1 < index_of e c → ¬ StandsOfTiles i b) (λ b less stands. told.1 b less stands.1))
 seam_told i t samples OutOfMemory is those bad none = tt
 seam_told i t samples ReadFailed is those bad none = tt
 seam_told i t samples refusal is those bad none = absurd bad

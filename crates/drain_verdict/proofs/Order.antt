@@ -8,40 +8,40 @@ use Rattle.drain_header.specs.declared.fault.HeaderFault.{HeaderFault}
 use Rattle.drain_verdict.specs.declared.refusal.Refusal.{Refusal}
 use Rattle.drain_verdict.specs.declared.refusal.Refusal.TheVariants.{BadSide, BadName, NoTiles, RepeatedTile, BoxTooLarge, BadHeader, WrongShape, Misplaced, BadTileLength, RasterShort, SeamMismatch, OutOfMemory, ReadFailed}
 use Rattle.drain_verdict.specs.Inputs.{Inputs}
-use Rattle.drain_verdict.specs.Refusals.{place_of, NoneStandsBefore}
+use Rattle.drain_verdict.specs.Refusals.{refusal_order, NoneStandsBefore}
 use Rattle.drain_verdict.specs.Answers.{AreReadable}
 
 -- a statement holds of every refusal of a kind where it holds of each that has the kind
-pub at_side : (i : Inputs) (P : Refusal → Type 0) → P BadSide → (b : Refusal) → (place_of i b).0 ≡ 1 → P b
+pub at_side : (i : Inputs) (P : Refusal → Type 0) → P BadSide → (b : Refusal) → (refusal_order i b).0 ≡ 1 → P b
 at_side i P side BadSide e = side
 at_side i P side b e = absurd (omega arith)
 
-pub at_name : (i : Inputs) (P : Refusal → Type 0) → ((k : ℕ) → P (BadName k)) → (b : Refusal) → (place_of i b).0 ≡ 2 → P b
+pub at_name : (i : Inputs) (P : Refusal → Type 0) → ((k : ℕ) → P (BadName k)) → (b : Refusal) → (refusal_order i b).0 ≡ 2 → P b
 at_name i P name (BadName k) e = name k
 at_name i P name b e = absurd (omega arith)
 
-pub at_layout : (i : Inputs) (P : Refusal → Type 0) → P NoTiles → ((c : Corner) → P (RepeatedTile c)) → P BoxTooLarge → (b : Refusal) → (place_of i b).0 ≡ 3 → P b
+pub at_layout : (i : Inputs) (P : Refusal → Type 0) → P NoTiles → ((c : Corner) → P (RepeatedTile c)) → P BoxTooLarge → (b : Refusal) → (refusal_order i b).0 ≡ 3 → P b
 at_layout i P none repeated large NoTiles e = none
 at_layout i P none repeated large (RepeatedTile c) e = repeated c
 at_layout i P none repeated large BoxTooLarge e = large
 at_layout i P none repeated large b e = absurd (omega arith)
 
 pub at_header : (i : Inputs) (P : Refusal → Type 0) → ((p : Product) (fault : HeaderFault) → P (BadHeader p fault)) → ((p : Product) → P (WrongShape p))
-    → ((p : Product) → P (Misplaced p)) → (b : Refusal) → (place_of i b).0 ≡ 4 → P b
+    → ((p : Product) → P (Misplaced p)) → (b : Refusal) → (refusal_order i b).0 ≡ 4 → P b
 at_header i P header shape place (BadHeader p fault) e = header p fault
 at_header i P header shape place (WrongShape p) e = shape p
 at_header i P header shape place (Misplaced p) e = place p
 at_header i P header shape place b e = absurd (omega arith)
 
-pub at_tile : (i : Inputs) (P : Refusal → Type 0) → ((c : Corner) → P (BadTileLength c)) → (b : Refusal) → (place_of i b).0 ≡ 5 → P b
+pub at_tile : (i : Inputs) (P : Refusal → Type 0) → ((c : Corner) → P (BadTileLength c)) → (b : Refusal) → (refusal_order i b).0 ≡ 5 → P b
 at_tile i P tile (BadTileLength c) e = tile c
 at_tile i P tile b e = absurd (omega arith)
 
-pub at_raster : (i : Inputs) (P : Refusal → Type 0) → ((p : Product) → P (RasterShort p)) → (b : Refusal) → (place_of i b).0 ≡ 6 → P b
+pub at_raster : (i : Inputs) (P : Refusal → Type 0) → ((p : Product) → P (RasterShort p)) → (b : Refusal) → (refusal_order i b).0 ≡ 6 → P b
 at_raster i P raster (RasterShort p) e = raster p
 at_raster i P raster b e = absurd (omega arith)
 
-pub at_seam : (i : Inputs) (P : Refusal → Type 0) → ((c : Cell) → P (SeamMismatch c)) → (b : Refusal) → (place_of i b).0 ≡ 7 → P b
+pub at_seam : (i : Inputs) (P : Refusal → Type 0) → ((c : Cell) → P (SeamMismatch c)) → (b : Refusal) → (refusal_order i b).0 ≡ 7 → P b
 at_seam i P seam (SeamMismatch c) e = seam c
 at_seam i P seam b e = absurd (omega arith)
 
@@ -62,10 +62,10 @@ none_first i OutOfMemory less = omega arith
 none_first i ReadFailed less = omega arith
 
 -- what holds of no refusal before this kind, and of none of this kind, holds of none before the next
-pub none_more : (i : Inputs) (Holds : Refusal → Type 0) (kind : ℕ) → ((b : Refusal) → (place_of i b).0 < kind → ¬ Holds b) → ((b : Refusal) → (place_of i b).0 ≡ kind → ¬ Holds b)
-    → (b : Refusal) → (place_of i b).0 < kind + 1 → ¬ Holds b
+pub none_more : (i : Inputs) (Holds : Refusal → Type 0) (kind : ℕ) → ((b : Refusal) → (refusal_order i b).0 < kind → ¬ Holds b) → ((b : Refusal) → (refusal_order i b).0 ≡ kind → ¬ Holds b)
+    → (b : Refusal) → (refusal_order i b).0 < kind + 1 → ¬ Holds b
 none_more i Holds kind before here b less =
-    below_more (λ n. (place_of i b).0 ≡ n → ¬ Holds b) kind (λ n earlier e. before b (omega (arith, earlier, e))) (λ e. here b e) ((place_of i b).0) less refl
+    below_more (λ n. (refusal_order i b).0 ≡ n → ¬ Holds b) kind (λ n earlier e. before b (omega (arith, earlier, e))) (λ e. here b e) ((refusal_order i b).0) less refl
 
 -- where nothing of all the kinds stands, the bytes are readable
 pub readable : (i : Inputs) → NoneStandsBefore i 8 → AreReadable i
@@ -74,10 +74,10 @@ readable i none ReadFailed stands = stands
 readable i none b stands = none b (omega arith) stands
 
 -- a refusal of which it holds is the first, where it holds of none of an earlier kind, and of its own kind of none in an earlier place
-pub first_of : (i : Inputs) (Holds : Refusal → Type 0) (kind place : ℕ) (refusal : Refusal) → place_of i refusal ≡ (kind, place) → Holds refusal
-    → ((b : Refusal) → (place_of i b).0 < kind → ¬ Holds b) → ((b : Refusal) → (place_of i b).0 ≡ kind → (place_of i b).1 < place → ¬ Holds b)
-    → IsFirst (place_of i) Holds refusal
+pub first_of : (i : Inputs) (Holds : Refusal → Type 0) (kind place : ℕ) (refusal : Refusal) → refusal_order i refusal ≡ (kind, place) → Holds refusal
+    → ((b : Refusal) → (refusal_order i b).0 < kind → ¬ Holds b) → ((b : Refusal) → (refusal_order i b).0 ≡ kind → (refusal_order i b).1 < place → ¬ Holds b)
+    → IsFirst (refusal_order i) Holds refusal
 first_of i Holds kind place refusal at holds none same = record {
   holds = holds;
-  first = λ b before. elim (subst (λ at. IsBefore (place_of i b) at) at before) [ inl earlier ↦ none b earlier | inr here ↦ same b here.0 here.1 ];
+  first = λ b before. elim (subst (λ at. IsBefore (refusal_order i b) at) at before) [ inl earlier ↦ none b earlier | inr here ↦ same b here.0 here.1 ];
 }

@@ -6,8 +6,8 @@ use Rattle.drain_rules.specs.Verdicts.{IsVerdict}
 use Rattle.drain_verdict.specs.declared.refusal.Refusal.{Refusal}
 use Rattle.drain_verdict.specs.declared.refusal.Refusal.TheVariants.{OutOfMemory, ReadFailed}
 use Rattle.drain_verdict.specs.Inputs.{Inputs}
-use Rattle.drain_verdict.specs.Meaning.{grid_of, products_of, no_data_numbers}
-use Rattle.drain_verdict.specs.Refusals.{Stands, place_of}
+use Rattle.drain_verdict.specs.Meaning.{grid_of, products_of, nodata_numbers}
+use Rattle.drain_verdict.specs.Refusals.{Stands, refusal_order}
 
 -- no refusal stands
 abbrev pub AreReadable : Inputs → Type 0
@@ -17,9 +17,9 @@ AreReadable i = (refusal : Refusal) → ¬ Stands i refusal
 abbrev pub IsRefusal : Inputs → Refusal → Type 0
 IsRefusal i OutOfMemory = Unit {0}
 IsRefusal i ReadFailed = Unit {0}
-IsRefusal i refusal = IsFirst (place_of i) (Stands i) refusal
+IsRefusal i refusal = IsFirst (refusal_order i) (Stands i) refusal
 
 -- the answer to the inputs
 abbrev pub IsAnswer : Inputs → Result Verdict Refusal → Type 0
-IsAnswer i (Ok verdict) = AreReadable i × IsVerdict (grid_of i) (products_of i) (no_data_numbers i) verdict
+IsAnswer i (Ok verdict) = AreReadable i × IsVerdict (grid_of i) (products_of i) (nodata_numbers i) verdict
 IsAnswer i (Err refusal) = IsRefusal i refusal

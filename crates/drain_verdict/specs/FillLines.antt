@@ -1,10 +1,10 @@
 -- The line that tells the answer to a fill input. Its words are this project's own.
 use Rattle.std.specs.Prelude.{ℕ, List, ◌++◌, Result, Ok, Err, codes, decimal}
-use Rattle.drain_rules.specs.declared.fill_check.FillCounts.{FillCounts}
-use Rattle.drain_rules.specs.declared.fill_check.FillVerdict.{FillVerdict}
-use Rattle.drain_rules.specs.declared.fill_check.FillVerdict.TheVariants.{Accepted, Rejected}
-use Rattle.drain_rules.specs.declared.fill_check.FillRefusal.{FillRefusal}
-use Rattle.drain_rules.specs.declared.fill_check.FillRefusal.TheVariants.{BadSide, BadLength}
+use Rattle.drain_rules.specs.declared.fill_walk.FillCounts.{FillCounts}
+use Rattle.drain_rules.specs.declared.fill_walk.FillVerdict.{FillVerdict}
+use Rattle.drain_rules.specs.declared.fill_walk.FillVerdict.TheVariants.{Accepted, Rejected}
+use Rattle.drain_rules.specs.declared.fill_walk.FillRefusal.{FillRefusal}
+use Rattle.drain_rules.specs.declared.fill_walk.FillRefusal.TheVariants.{BadSide, BadLength}
 use Rattle.drain_verdict.specs.Lines.{rejected_line}
 
 -- accepted rows=R cols=C data=D raised=U

@@ -9,7 +9,7 @@ use Rattle.drain_hgt.specs.declared.input.TileInput.{TileInput}
 use Rattle.drain_mosaic.specs.Mosaic.{TilesAgree, IsElevation}
 use Rattle.drain_verdict.specs.declared.input.Products.{Products}
 use Rattle.drain_verdict.specs.Inputs.{Inputs, Tell}
-use Rattle.drain_verdict.specs.Meaning.{tiling_of, tiles_of, grid_of, products_of, no_data_numbers}
+use Rattle.drain_verdict.specs.Meaning.{tiling_of, tiles_of, grid_of, products_of, nodata_numbers}
 
 -- the fact holds of the inputs that are handed in
 abbrev pub OfInputs : {R : Type 0} → (R → Option (List ℕ)) → ℕ → List (TileInput R) → Products R → (Inputs → Type 0) → Type 0
@@ -62,8 +62,8 @@ LabelsTellBasins i = (a b : Cell) → HasData (grid_of i) a → HasData (grid_of
 
 -- every void has the no-data numbers
 abbrev pub VoidsAreBlank : Inputs → Type 0
-VoidsAreBlank i = (c : Cell) → IsInside (grid_of i) c → IsNone ((grid_of i).elevation c) → IsBlankAt (products_of i) (no_data_numbers i) c
+VoidsAreBlank i = (c : Cell) → IsInside (grid_of i) c → IsNone ((grid_of i).elevation c) → IsBlankAt (products_of i) (nodata_numbers i) c
 
 -- no data cell has one
 abbrev pub DataIsComplete : Inputs → Type 0
-DataIsComplete i = (c : Cell) → HasData (grid_of i) c → IsCompleteAt (products_of i) (no_data_numbers i) c
+DataIsComplete i = (c : Cell) → HasData (grid_of i) c → IsCompleteAt (products_of i) (nodata_numbers i) c

@@ -46,15 +46,15 @@ products_of i = record {
 }
 
 -- the number that stands for no data in a product: the header's, or else the product's default
-abbrev pub no_data_of : Inputs → Product → ℤ
-no_data_of i p = unwrap_or (fields_of i p).nodata (default_no_data p)
+abbrev pub nodata_of : Inputs → Product → ℤ
+nodata_of i p = unwrap_or (fields_of i p).nodata (default_no_data p)
 
-abbrev pub no_data_numbers : Inputs → NoDataNumbers
-no_data_numbers i = record {
-  con = no_data_of i Con;
-  dir = no_data_of i Dir;
-  acc = no_data_of i Acc;
-  bas = no_data_of i Bas;
-  spl = no_data_of i Spl;
-  rnk = no_data_of i Rnk;
+abbrev pub nodata_numbers : Inputs → NoDataNumbers
+nodata_numbers i = record {
+  con = nodata_of i Con;
+  dir = nodata_of i Dir;
+  acc = nodata_of i Acc;
+  bas = nodata_of i Bas;
+  spl = nodata_of i Spl;
+  rnk = nodata_of i Rnk;
 }

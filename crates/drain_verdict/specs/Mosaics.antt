@@ -13,7 +13,7 @@ use Rattle.drain_verdict.specs.declared.refusal.Refusal.{Refusal}
 use Rattle.drain_verdict.specs.declared.refusal.Refusal.TheVariants.{BadHeader, WrongShape, Misplaced, RasterShort, OutOfMemory, ReadFailed}
 use Rattle.drain_verdict.specs.Inputs.{Inputs, AreNames, names_of}
 use Rattle.drain_verdict.specs.Meaning.{tiling_of, grid_of}
-use Rattle.drain_verdict.specs.Refusals.{Stands, place_of}
+use Rattle.drain_verdict.specs.Refusals.{Stands, refusal_order}
 
 -- what is handed in spells the tiles of these inputs, where the devices tell their bytes
 pub record TellTiles {R : Type 0} (bytes_left : R → Option (List ℕ)) (side : ℕ) (tiles : List (TileInput R)) (i : Inputs) : Type 0 where
@@ -45,4 +45,4 @@ pub record IsMosaicOf (i : Inputs) (t : Tiling) (e : Heights) : Type 0 where
 abbrev pub IsMosaicRefusal : Inputs → Refusal → Type 0
 IsMosaicRefusal i OutOfMemory = Unit {0}
 IsMosaicRefusal i ReadFailed = Unit {0}
-IsMosaicRefusal i refusal = IsFirst (place_of i) (StandsOfTiles i) refusal
+IsMosaicRefusal i refusal = IsFirst (refusal_order i) (StandsOfTiles i) refusal

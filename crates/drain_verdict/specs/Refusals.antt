@@ -94,21 +94,21 @@ place_among [] c = 0
 place_among (d ∷ more) c = if int_eq c.lat d.lat && int_eq c.lon d.lon then 0 else suc (place_among more c)
 
 -- the order of the refusals; those of one product's header come before those of the next product
-abbrev pub place_of : Inputs → Refusal → ℕ × ℕ
-place_of i BadSide = (1, 0)
-place_of i (BadName k) = (2, k)
-place_of i NoTiles = (3, 0)
-place_of i (RepeatedTile c) = (3, 1)
-place_of i BoxTooLarge = (3, 2)
-place_of i (BadHeader p fault) = (4, 3 * rank_of p)
-place_of i (WrongShape p) = (4, 3 * rank_of p + 1)
-place_of i (Misplaced p) = (4, 3 * rank_of p + 2)
-place_of i (BadTileLength c) = (5, place_among i.corners c)
-place_of i (RasterShort p) = (6, rank_of p)
-place_of i (SeamMismatch c) = (7, index_of (tiling.extent_of (tiling_of i)) c)
-place_of i OutOfMemory = (8, 0)
-place_of i ReadFailed = (9, 0)
+abbrev pub refusal_order : Inputs → Refusal → ℕ × ℕ
+refusal_order i BadSide = (1, 0)
+refusal_order i (BadName k) = (2, k)
+refusal_order i NoTiles = (3, 0)
+refusal_order i (RepeatedTile c) = (3, 1)
+refusal_order i BoxTooLarge = (3, 2)
+refusal_order i (BadHeader p fault) = (4, 3 * rank_of p)
+refusal_order i (WrongShape p) = (4, 3 * rank_of p + 1)
+refusal_order i (Misplaced p) = (4, 3 * rank_of p + 2)
+refusal_order i (BadTileLength c) = (5, place_among i.corners c)
+refusal_order i (RasterShort p) = (6, rank_of p)
+refusal_order i (SeamMismatch c) = (7, index_of (tiling.extent_of (tiling_of i)) c)
+refusal_order i OutOfMemory = (8, 0)
+refusal_order i ReadFailed = (9, 0)
 
 -- no refusal of a kind before this one stands
 abbrev pub NoneStandsBefore : Inputs → ℕ → Type 0
-NoneStandsBefore i kind = (refusal : Refusal) → (place_of i refusal).0 < kind → ¬ Stands i refusal
+NoneStandsBefore i kind = (refusal : Refusal) → (refusal_order i refusal).0 < kind → ¬ Stands i refusal

@@ -7,10 +7,10 @@ ghost use Rattle.drain_verdict.specs.Faults.{SomeReadFails, tile_devices, TilesT
 ghost use Rattle.drain_verdict.specs.Refusals.{IsOfBodies};
 ghost use Rattle.drain_verdict.specs.Mosaics.{TellTiles, IsMosaicOf, IsMosaicRefusal};
 
-use crate::layout_stage::layout_of;
+use crate::layout::layout_of;
 use crate::refusal::Refusal;
-use crate::seam_stage::elevation_of;
-use crate::tiles_stage::read_tiles;
+use crate::seams::elevation_of;
+use crate::tiles::read_tiles;
 use drain_device::ByteSource;
 use drain_grid::Elevation;
 use drain_hgt::TileInput;

@@ -1,5 +1,5 @@
 use Rattle.std.proofs.Common.{◌≡◌, ◌≢◌, ℕ, ◌<◌, pos, sym, ◌∙◌, ap, arith, subst}
-use Rattle.drain_grid.specs.Direction.{place_of}
+use Rattle.drain_grid.specs.Direction.{order_of}
 use Rattle.drain_slope.specs.Key.{key_at}
 use Rattle.drain_slope.proofs.Places.{place_at, of_earlier}
 use Rattle.drain_slope.proofs.first_with_key.Goals as goal
@@ -11,5 +11,5 @@ returns-then-key-wanted c =
     let is : c.key.result ≡ c.args.wanted = c.if-key-wanted.true in (
       sym c.key.ensures ∙ ap pos is,
       λ e before. of_earlier (λ d. key_at c.args.patch.now d ≢ pos c.args.wanted) i c.loop-direction.invariant e
-          (subst (λ (n : ℕ). place_of e < n) (place_at i within) before),
+          (subst (λ (n : ℕ). order_of e < n) (place_at i within) before),
     )

@@ -4,8 +4,8 @@ use super::example::{RasterBytes, one_tile, products_on, tile};
 use super::numbers::{PIT_LINE, level, parted, pit, slope, voids};
 use super::runs::{products_at_once, tiles_at_once, told};
 use crate::answer_report::report;
+use crate::checker::check;
 use crate::input::RasterInput;
-use crate::raster_check::check;
 use drain_device::ByteSource;
 use std::test::Fail;
 

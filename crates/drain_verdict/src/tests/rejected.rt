@@ -81,7 +81,7 @@ fn rejects_by_the_other_rules(rt: HostRuntime) -> Result<(), Fail> {
 
 /// Cells with data, whose number is that which the header gives for no data.
 #[test]
-fn rejects_the_number_of_no_data(rt: HostRuntime) -> Result<(), Fail> {
+fn rejects_the_number_of_nodata(rt: HostRuntime) -> Result<(), Fail> {
     let alloc = rt.alloc();
     let mut example = one_tile(alloc, 2, &level())?;
     let grid = "NODATA 0\nNROWS 2\nNCOLS 2\nULXMAP 0\nULYMAP 1\nXDIM 1\nYDIM 1\n";

@@ -2,9 +2,9 @@
 
 use super::example::{Example, RasterBytes, TileBytes};
 use crate::answer_report::report;
+use crate::checker::check;
 use crate::input::{Products, RasterInput};
 use crate::line::Line;
-use crate::raster_check::check;
 use drain_device::faults::{ScriptSource, Scripted};
 use drain_device::{ByteList, DeviceFault, SliceSource};
 use drain_grid::Product;

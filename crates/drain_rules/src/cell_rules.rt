@@ -1,0 +1,52 @@
+//! All rules at one cell, given the labels of the outlets before it.
+
+ghost use Rattle.std.specs.Prelude.{◌↔◌, ◌⊎◌, ℤ, IsTrue, IfOk, IfErr, OnOk, OnErr, None};
+ghost use Rattle.drain_basin.specs.Admitted.{IsAdmitted};
+ghost use Rattle.drain_grid.specs.Rule.{IsBetween, IsLeastFault};
+ghost use Rattle.drain_rules.specs.Labels.{IsOutletByCode, IsLabelOf, labelled_profile};
+ghost use Rattle.drain_rules.specs.Stops.{IsCellStop};
+
+use crate::outlet::is_outlet_by_code;
+use crate::patch_rules::patch_fault;
+use drain_basin::OutletLabels;
+use drain_grid::{CellValues, NoData, OutOfMemory, Patch, Rule};
+
+/// Why a walk goes no further.
+#[derive(Clone, Copy, PartialEq, Eq, Debug)]
+pub enum Stop {
+    /// The first rule that fails at the cell.
+    Fault(Rule),
+    OutOfMemory,
+}
+
+/// Tests every rule at a cell, and admits its label if it is an outlet by its code.
+///
+/// `labels` are those of the outlets before the cell. A label is admitted only where the other rules hold; an answer
+/// `OutOfMemory` comes only from that, at an outlet whose label is new.
+pub fn check_cell(patch: &Patch, nodata: &NoData, labels: &mut OutletLabels) -> Result<(), Stop>
+    ensures passed { OnOk result (IsLeastFault (IsBetween 1 15) (labelled_profile nodata.now labels.old patch.now) None) }
+    ensures labels { OnOk result ((label : ℤ) → IsAdmitted labels.new label ↔ (IsLabelOf patch.now.here label ⊎ IsAdmitted labels.old label)) }
+    ensures stopped { IfErr result (IsCellStop nodata.now labels.old patch.now) }
+{
+    if let Some(rule) = patch_fault(patch, nodata) {
+        return Err(Stop::Fault(rule));
+    }
+    match admits_label(labels, &patch.here) {
+        Ok(true) => Ok(()),
+        Ok(false) => Err(Stop::Fault(Rule::SharedLabel)),
+        Err(OutOfMemory) => Err(Stop::OutOfMemory),
+    }
+}
+
+/// Admits the label of an outlet, and answers whether it is new. Another cell has no label to admit, and none that is known.
+fn admits_label(labels: &mut OutletLabels, here: &CellValues) -> Result<bool, OutOfMemory>
+    ensures is_new { IfOk result (λ is_new. IsTrue is_new ↔ (IsOutletByCode here.now → ¬ IsAdmitted labels.old here.now.bas)) }
+    ensures labels { OnOk result ((label : ℤ) → IsAdmitted labels.new label ↔ (IsLabelOf here.now label ⊎ IsAdmitted labels.old label)) }
+    ensures err { OnErr result (IsOutletByCode here.now × ¬ IsAdmitted labels.old here.now.bas) }
+{
+    if is_outlet_by_code(here) {
+        labels.admit(here.bas)
+    } else {
+        Ok(true)
+    }
+}

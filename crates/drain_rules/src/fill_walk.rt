@@ -1,0 +1,118 @@
+//! The check of a fill input: rules 4 to 9 at each cell in row order, one patch at a time.
+
+ghost use Rattle.std.specs.Prelude.{◌<◌, IfOk, IfErr};
+ghost use Rattle.drain_grid.specs.Path.{IsLeastSurface, ShowsSpillLevels};
+ghost use Rattle.drain_rules.specs.Fill.{fill_grid, fill_products};
+ghost use Rattle.drain_rules.specs.FillVerdicts.{IsFillAnswer, IsFillVerdict, fill_rules};
+ghost use Rattle.drain_rules.specs.Filled.{OnAccepted};
+ghost use Rattle.drain_rules.specs.Parts.{grid_of, products_of};
+ghost use Rattle.drain_rules.specs.Rows.{IsRowTally, IsRowFault};
+
+use crate::fill_input::{FillInput, fill_length};
+use crate::tally::Tally;
+use drain_fill::fault;
+use drain_grid::laws::least_from_rules;
+use drain_grid::tile::is_side;
+use drain_grid::{Cell, Rule};
+use thiserror::Error;
+
+/// The size of the tile, and how many cells have data and are raised.
+#[derive(Clone, Copy, PartialEq, Eq, Debug)]
+pub struct FillCounts {
+    pub rows: u32,
+    pub cols: u32,
+    pub data_cells: u32,
+    pub raised: u32,
+}
+
+/// The verdict on bytes of the right length.
+#[derive(Clone, Copy, PartialEq, Eq, Debug)]
+pub enum FillVerdict {
+    Accepted(FillCounts),
+    Rejected { rule: Rule, row: u32, col: u32 },
+}
+
+/// Why there is no verdict.
+#[derive(Clone, Copy, PartialEq, Eq, Debug, Error)]
+pub enum FillRefusal {
+    /// A tile has no such number of samples along an edge.
+    #[error("the side is not from 2 to 3601")]
+    BadSide,
+    /// There are not nine bytes for each cell.
+    #[error("the input is not nine bytes for each cell")]
+    BadLength,
+}
+
+/// The first of rules 4 to 9 that fails in a row, and where.
+#[derive(Clone, Copy)]
+pub struct RowFault {
+    pub rule: Rule,
+    pub col: u32,
+}
+
+/// Tests rules 4 to 9 at the cells of a row, from west to east.
+fn check_fill_row(input: &FillInput<'_>, row: u32) -> Result<Tally, RowFault>
+    requires { row < input.now.shape.rows }
+    ensures tally { IfOk result (IsRowTally fill_rules 4 9 (grid_of input.now) (products_of input.now) row) }
+    ensures fault { IfErr result (λ fault. IsRowFault fill_rules 4 9 (grid_of input.now) (products_of input.now) row fault.col fault.rule) }
+{
+    let mut tally = Tally::new();
+    for col in 0..input.side() {
+        let patch = input.patch(Cell { row, col });
+        if let Some(rule) = fault(&patch) {
+            return Err(RowFault { rule, col });
+        }
+        tally.add(&patch.here);
+    }
+    Ok(tally)
+}
+
+/// Tests rules 4 to 9 at each cell in row order.
+fn fill_verdict(input: &FillInput<'_>) -> FillVerdict
+    ensures { IsFillVerdict (grid_of input.now) (products_of input.now) result }
+{
+    let side = input.side();
+    let mut total = Tally::new();
+    for row in 0..side {
+        match check_fill_row(input, row) {
+            Ok(tally) => total.join(tally),
+            Err(fault) => {
+                return FillVerdict::Rejected {
+                    rule: fault.rule,
+                    row,
+                    col: fault.col,
+                };
+            }
+        }
+    }
+    FillVerdict::Accepted(FillCounts {
+        rows: side,
+        cols: side,
+        data_cells: total.data_cells,
+        raised: total.raised,
+    })
+}
+
+/// The verdict on a fill input, or why there is none.
+///
+/// `side` is the number of samples along an edge of the tile, from 2 to 3601. The input is exactly nine
+/// bytes for each cell: the tile (two bytes a cell), the conditioned elevations (two, signed), the spill
+/// parents' codes (one) and the ranks (four), each part row after row, most significant byte first.
+/// It takes no memory.
+pub fn check_fill(side: u32, bytes: &[u8]) -> Result<FillVerdict, FillRefusal>
+    ensures answer { IsFillAnswer side bytes.now result }
+
+    // An accepted `con` is the filled surface.
+    ensures spill_level { OnAccepted result (ShowsSpillLevels (fill_grid side bytes.now) (fill_products side bytes.now).con) }
+    ensures least { OnAccepted result (IsLeastSurface (fill_grid side bytes.now) (fill_products side bytes.now).con) }
+{
+    if !is_side(side) {
+        return Err(FillRefusal::BadSide);
+    }
+    if bytes.len() != fill_length(side) {
+        return Err(FillRefusal::BadLength);
+    }
+    // The law that turns rules kept at every cell into the filled surface.
+    least_from_rules();
+    Ok(fill_verdict(&FillInput::new(side, bytes)))
+}
