@@ -10,9 +10,9 @@
 ghost use Rattle.std.specs.Prelude.{◌≡◌, ◌≤ℤ◌, ◌&&◌, is_some, ◌+ℤ◌, ◌-ℤ◌, drop, map, neg_ℤ, pos};
 ghost use Rattle.drain_grid.specs.Direction.{directions, names};
 ghost use Rattle.drain_grid.specs.Patch.{neighbor};
-ghost use Rattle.drain_grid.specs.PatchRules.{profile1, inflow, total};
-ghost use Rattle.drain_grid.specs.Rule.{IsBetween, IsLeastFault};
-ghost use Rattle.drain_grid.specs.Values.{NoDataNumbers, IsPixel};
+ghost use Rattle.drain_grid.specs.PatchRules.{flow_rules, inflow, total};
+ghost use Rattle.drain_grid.specs.Rule.{IsOnly, IsLeastFault};
+ghost use Rattle.drain_grid.specs.Values.{IsPixel};
 
 #[cfg(test)]
 mod tests;
@@ -21,7 +21,7 @@ use drain_grid::{CellValues, Direction, Patch, Rule};
 
 /// The rule, where it fails at the cell, none where it holds. A void keeps it.
 pub fn fault(patch: &Patch) -> Option<Rule>
-    ensures least { (nodata : NoDataNumbers) → IsLeastFault (IsBetween 13 13) (profile1 nodata patch.now) result }
+    ensures least { IsLeastFault (IsOnly Rule.Accumulation) (flow_rules patch.now) result }
 {
     if patch.here.z.is_some() && patch.here.acc != 1 + inflows(patch) {
         Some(Rule::Accumulation)

@@ -1,15 +1,14 @@
 //! The label of a cell and of the cell that its direction names.
 
 ghost use Rattle.std.specs.Prelude.{◌≡◌, ◌↔◌, IsSome, IsTrue};
-ghost use Rattle.drain_grid.specs.PatchRules.{profile1, LabelHolds};
-ghost use Rattle.drain_grid.specs.Rule.{IsBetween, IsLeastFault};
-ghost use Rattle.drain_grid.specs.Values.{NoDataNumbers};
+ghost use Rattle.drain_grid.specs.PatchRules.{flow_rules, LabelHolds};
+ghost use Rattle.drain_grid.specs.Rule.{IsOnly, IsLeastFault};
 
 use drain_grid::{CellValues, Code, Patch, Rule};
 
 /// The rule Label, where it fails at the cell, none where it holds. A void keeps it.
 pub fn fault(patch: &Patch) -> Option<Rule>
-    ensures least { (nodata : NoDataNumbers) → IsLeastFault (IsBetween 14 14) (profile1 nodata patch.now) result }
+    ensures least { IsLeastFault (IsOnly Rule.Label) (flow_rules patch.now) result }
 {
     if keeps_label(patch) {
         None

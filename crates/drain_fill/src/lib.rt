@@ -15,16 +15,15 @@ ghost use Rattle.std.specs.Prelude.{◌≡◌, ◌↔◌, ◌<ℤ◌, IsTrue, Ma
 ghost use Rattle.std.specs.Int.{int_max};
 ghost use Rattle.drain_grid.specs.Direction.{Names, NamesSome};
 ghost use Rattle.drain_grid.specs.Patch.{IsOpen, height};
-ghost use Rattle.drain_grid.specs.PatchRules.{profile1, BelowGroundHolds, OpenRaisedHolds, NotLeastHolds};
-ghost use Rattle.drain_grid.specs.Rule.{IsBetween, IsLeastFault};
-ghost use Rattle.drain_grid.specs.Values.{NoDataNumbers};
+ghost use Rattle.drain_grid.specs.PatchRules.{fill_rules, BelowGroundHolds, OpenRaisedHolds, NotLeastHolds};
+ghost use Rattle.drain_grid.specs.Rule.{IsFillRule, IsLevelRule, IsSpillRule, IsLeastFault};
 
 pub use below::first_below;
 use drain_grid::{CellValues, Code, Direction, Patch, Rule};
 
 /// The first of the six rules that fails at the cell, none where they all hold. A void keeps them all.
 pub fn fault(patch: &Patch) -> Option<Rule>
-    ensures least { (nodata : NoDataNumbers) → IsLeastFault (IsBetween 4 9) (profile1 nodata patch.now) result }
+    ensures least { IsLeastFault IsFillRule (fill_rules patch.now) result }
 {
     let Some(ground) = patch.here.z else {
         return None;
@@ -42,7 +41,7 @@ pub fn fault(patch: &Patch) -> Option<Rule>
 /// The first of the rules but NotLeast that fails at a data cell, none where they hold.
 fn level_fault(patch: &Patch, ground: i16) -> Option<Rule>
     requires { patch.now.here.z ≡ Some ground }
-    ensures least { (nodata : NoDataNumbers) → IsLeastFault (IsBetween 4 8) (profile1 nodata patch.now) result }
+    ensures least { IsLeastFault IsLevelRule (fill_rules patch.now) result }
 {
     if !is_above_ground(patch, ground) {
         return Some(Rule::BelowGround);
@@ -78,7 +77,7 @@ fn is_unraised(patch: &Patch, ground: i16) -> bool
 fn spill_fault(patch: &Patch, ground: i16) -> Option<Rule>
     requires elevation { patch.now.here.z ≡ Some ground }
     requires closed { ¬ IsOpen patch.now }
-    ensures least { (nodata : NoDataNumbers) → IsLeastFault (IsBetween 6 8) (profile1 nodata patch.now) result }
+    ensures least { IsLeastFault IsSpillRule (fill_rules patch.now) result }
 {
     let Some(direction) = spill_direction(patch) else {
         return Some(Rule::NoSpill);

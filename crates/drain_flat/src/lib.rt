@@ -12,15 +12,15 @@
 ghost use Rattle.std.specs.Prelude.{◌≡◌, ◌↔◌, ◌<ℤ◌, IsSome, IsTrue, MatchOption};
 ghost use Rattle.drain_grid.specs.Direction.{Names, NamesSome};
 ghost use Rattle.drain_grid.specs.Patch.{IsClosed, HasLower};
-ghost use Rattle.drain_grid.specs.PatchRules.{profile1, IsFlatStep};
-ghost use Rattle.drain_grid.specs.Rule.{IsBetween, IsLeastFault};
-ghost use Rattle.drain_grid.specs.Values.{Values, NoDataNumbers};
+ghost use Rattle.drain_grid.specs.PatchRules.{flow_rules, IsFlatStep};
+ghost use Rattle.drain_grid.specs.Rule.{IsOnly, IsLeastFault};
+ghost use Rattle.drain_grid.specs.Values.{Values};
 
 use drain_grid::{CellValues, Code, Direction, Patch, Rule};
 
 /// FlatStep where it fails at the cell, none where it holds. An open cell, one with a lower neighbour and a void keep it.
 pub fn fault(patch: &Patch) -> Option<Rule>
-    ensures least { (nodata : NoDataNumbers) → IsLeastFault (IsBetween 12 12) (profile1 nodata patch.now) result }
+    ensures least { IsLeastFault (IsOnly Rule.FlatStep) (flow_rules patch.now) result }
 {
     if steps_along(patch) || !is_inner_flat(patch) {
         None

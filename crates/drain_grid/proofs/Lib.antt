@@ -19,6 +19,7 @@ pub mod Options
 pub mod PatchDecisions
 pub mod Patches
 pub mod PresenceFaults
+pub mod Profiles
 pub mod WorkedGrids
 pub mod RuleDecisions
 pub mod RuleNumbers

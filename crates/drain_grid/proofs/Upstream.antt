@@ -14,10 +14,10 @@ use Rattle.drain_grid.specs.declared.cell.Cell.{Cell}
 use Rattle.drain_grid.specs.declared.direction.Direction.{Direction}
 use Rattle.drain_grid.specs.declared.rule.Rule.TheVariants.{Accumulation}
 use Rattle.drain_grid.specs.Direction.{directions, order_of}
-use Rattle.drain_grid.specs.Values.{NoDataNumbers}
 use Rattle.drain_grid.specs.Extent.{same_cell, cells, step}
 use Rattle.drain_grid.specs.Patch.{neighbor}
-use Rattle.drain_grid.specs.PatchRules.{profile1, inflow, total}
+use Rattle.drain_grid.specs.Rule.{IsWayRule, IsCountRule}
+use Rattle.drain_grid.specs.PatchRules.{flow_rules, inflow, total}
 use Rattle.drain_grid.specs.Grid.{Grid, Products, IsInside, HasData, patch_at}
 use Rattle.drain_grid.specs.GridRules.{RulesHold}
 use Rattle.drain_grid.specs.Run.{next, run, drains_through, upstream_count}
@@ -25,7 +25,7 @@ use Rattle.drain_grid.specs.Laws.{CountsUpstream}
 use Rattle.drain_grid.proofs.Patches.{neighbor-patch_at}
 use Rattle.drain_grid.proofs.CellSums.{sum_by_same, sum_by_zero, sum_by_add, sum_by_swap, sum_by_cells_same, sum_by_cells_one, sum_by_directions_one, directions_at_most, same_cell_true, same_cell_self, same_place_same}
 use Rattle.drain_grid.proofs.Chains.{AreChains, stands_self, one_longer, stands_no_longer, stands_unique, stands_next, stands_before}
-use Rattle.drain_grid.proofs.Steps.{RulesHold-within}
+use Rattle.drain_grid.proofs.Profiles.{RulesHold-within}
 use Rattle.drain_grid.proofs.Runs.{runs_are_chains}
 use Rattle.drain_grid.proofs.Inflows.{FlowsFrom, HasData-flow, next-flow, flow-next, flow_unique, share, share_cases, share_flow, share_sum, inflow_share}
 
@@ -225,7 +225,7 @@ module _ (g : Grid) (ps : Products) (chains : AreChains (HasData g) (next g ps) 
       add_up : (u w s t one h k : ℕ) → u ≡ w → w ≡ s + t → s ≡ one → one ≡ 1 → t ≡ h → h ≡ k → u ≡ 1 + k
       add_up u w s t one h k p q r e f z = omega arith
 
-  module _ (nodata : NoDataNumbers) (rules : RulesHold (profile1 nodata) 10 13 g ps) where
+  module _ (rules : RulesHold flow_rules IsCountRule g ps) where
     counts_below : (k : ℕ) (c : Cell) → HasData g c → upstream_count g ps c < k → ps.acc c ≡ pos (upstream_count g ps c)
     counts_below zero c here short = absurd (omega arith)
     counts_below (suc k) c here short =
@@ -245,6 +245,6 @@ module _ (g : Grid) (ps : Products) (chains : AreChains (HasData g) (next g ps) 
 
 -- rules 10 to 13 make acc the number of cells that drain through the cell
 pub counts_upstream : CountsUpstream
-counts_upstream g ps nodata rules =
-    let ways = RulesHold-within (profile1 nodata) 10 10 12 13 g ps (omega arith) (omega arith) rules in
-    acc_counts g ps (runs_are_chains g ps nodata ways) nodata rules
+counts_upstream g ps rules =
+    let ways = RulesHold-within flow_rules IsWayRule IsCountRule g ps (λ r own. (own.0, omega (arith, own.1))) rules in
+    acc_counts g ps (runs_are_chains g ps ways) rules

@@ -4,6 +4,7 @@ use Rattle.std.proofs.Common.{pos, ◌==◌, if◌then◌else◌, refl}
 use Rattle.drain_grid.specs.declared.cell.Cell.{Cell}
 use Rattle.drain_grid.specs.declared.rule.Rule.{Rule}
 use Rattle.drain_grid.specs.declared.rule.Rule.TheVariants.{VoidCell, Missing, BadCode, BelowGround, OpenRaised, NoSpill, SpillHeight, SpillRank, NotLeast, Slope, OutletCode, FlatStep, Accumulation, Label, SharedLabel}
+use Rattle.drain_grid.specs.Rule.{IsAnyRule, IsFillRule}
 use Rattle.drain_grid.specs.PatchRules.{profile1}
 use Rattle.drain_grid.specs.Grid.{Grid, Products}
 use Rattle.drain_grid.specs.Correct.{IsCorrect}
@@ -14,15 +15,15 @@ use Rattle.drain_grid.proofs.WorkedGrids.{cell, changed, defaults, pit_grid, pit
 
 -- every rule holds at every cell
 abbrev Accepted : Grid → Products → Type 0
-Accepted g ps = RulesHold (profile1 defaults) 1 15 g ps
+Accepted g ps = RulesHold (profile1 defaults) IsAnyRule g ps
 
 -- the rule is the first that fails
 abbrev Rejected : Grid → Products → Rule → Cell → Type 0
-Rejected g ps r c = IsFirstFault (profile1 defaults) 1 15 g ps c r
+Rejected g ps r c = IsFirstFault (profile1 defaults) IsAnyRule g ps c r
 
 -- the same of rules 4 to 9 alone
 abbrev Unfilled : Grid → Products → Rule → Cell → Type 0
-Unfilled g ps r c = IsFirstFault (profile1 defaults) 4 9 g ps c r
+Unfilled g ps r c = IsFirstFault (profile1 defaults) IsFillRule g ps c r
 
 pit_holds : Accepted pit_grid pit_products
 pit_holds = (rules_hold 1 15 pit_grid pit_products defaults).sound refl
@@ -54,7 +55,7 @@ rejects_void_cell : Rejected void_grid (record void_products { acc = changed voi
 rejects_void_cell = (first_fault 1 15 void_grid _ defaults (cell 1 0) VoidCell).sound refl
 
 -- 2: con has its no-data number, 0
-rejects_missing : IsFirstFault (profile1 (record defaults { con = pos 0 })) 1 15 flat_grid flat_products (cell 0 0) Missing
+rejects_missing : IsFirstFault (profile1 (record defaults { con = pos 0 })) IsAnyRule flat_grid flat_products (cell 0 0) Missing
 rejects_missing = (first_fault 1 15 flat_grid flat_products (record defaults { con = pos 0 }) (cell 0 0) Missing).sound refl
 
 -- 3: dir 3

@@ -5,36 +5,34 @@ use Rattle.drain_grid.specs.Values.{NoDataNumbers}
 use Rattle.drain_grid.specs.Grid.{Grid, Products, HasData}
 use Rattle.drain_grid.specs.Path.{IsFilled}
 use Rattle.drain_grid.specs.Run.{upstream_count, ShareBasin}
-use Rattle.drain_grid.specs.PatchRules.{profile1}
+use Rattle.drain_grid.specs.Rule.{IsAnyRule, IsFillRule, IsWayRule, IsCountRule, IsLabelRule}
+use Rattle.drain_grid.specs.PatchRules.{fill_rules, flow_rules, profile1}
 use Rattle.drain_grid.specs.GridRules.{RulesHold}
 use Rattle.drain_grid.specs.Correct.{RunsAreSound, IsCorrect}
 
 -- where rules 4 to 9 hold at every cell, con is the filled surface: the spill level of each data cell, and the least
 -- surface that covers the ground and drains
 abbrev pub LeastFromRules : Type 0
-LeastFromRules =
-    (g : Grid) (ps : Products) (nodata : NoDataNumbers) → RulesHold (profile1 nodata) 4 9 g ps → IsFilled g ps.con
+LeastFromRules = (g : Grid) (ps : Products) → RulesHold fill_rules IsFillRule g ps → IsFilled g ps.con
 
 -- where rules 10 to 12 hold at every cell, every run is sound: it never climbs, visits no cell twice, and ends at an outlet
 abbrev pub RunsEnd : Type 0
-RunsEnd =
-    (g : Grid) (ps : Products) (nodata : NoDataNumbers) → RulesHold (profile1 nodata) 10 12 g ps → RunsAreSound g ps
+RunsEnd = (g : Grid) (ps : Products) → RulesHold flow_rules IsWayRule g ps → RunsAreSound g ps
 
 -- where rules 10 to 13 hold at every cell, acc is the number of cells that drain through the cell
 abbrev pub CountsUpstream : Type 0
 CountsUpstream =
-    (g : Grid) (ps : Products) (nodata : NoDataNumbers) → RulesHold (profile1 nodata) 10 13 g ps →
+    (g : Grid) (ps : Products) → RulesHold flow_rules IsCountRule g ps →
     (c : Cell) → HasData g c → ps.acc c ≡ pos (upstream_count g ps c)
 
 -- where rules 10 to 12, 14 and 15 hold at every cell, labels are equal exactly where basins are shared
 abbrev pub LabelsAreBasins : Type 0
 LabelsAreBasins =
-    (g : Grid) (ps : Products) (nodata : NoDataNumbers) →
-    RulesHold (profile1 nodata) 10 12 g ps → RulesHold (profile1 nodata) 14 15 g ps →
+    (g : Grid) (ps : Products) → RulesHold flow_rules IsWayRule g ps → RulesHold flow_rules IsLabelRule g ps →
     (a b : Cell) → HasData g a → HasData g b → (ps.bas a ≡ ps.bas b) ↔ ShareBasin g ps a b
 
 -- where all fifteen rules hold at every cell, the products are correct, and every run is sound
 abbrev pub CorrectFromRules : Type 0
 CorrectFromRules =
-    (g : Grid) (ps : Products) (nodata : NoDataNumbers) → RulesHold (profile1 nodata) 1 15 g ps →
+    (g : Grid) (ps : Products) (nodata : NoDataNumbers) → RulesHold (profile1 nodata) IsAnyRule g ps →
     IsCorrect g ps nodata × RunsAreSound g ps

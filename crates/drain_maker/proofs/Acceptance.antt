@@ -11,7 +11,8 @@ use Rattle.drain_grid.specs.Size.{Extent}
 use Rattle.drain_grid.specs.Values.{NoDataNumbers}
 use Rattle.drain_grid.specs.Whole.{number_at}
 use Rattle.drain_grid.specs.WholeGrid as whole
-use Rattle.drain_grid.specs.PatchRules.{profile1}
+use Rattle.drain_grid.specs.Rule.{IsAnyRule}
+use Rattle.drain_grid.specs.PatchRules.{check_rules}
 use Rattle.drain_grid.specs.GridRules.{RulesHold}
 use Rattle.drain_header.specs.Faults.{Describes}
 use Rattle.drain_header.specs.Fields.{Fields}
@@ -136,9 +137,9 @@ defaults_said i ps read = λ k. record {
 
 -- so the rules hold of the files
 rules_kept : (i : Inputs) (e : Heights) (ps : ProductSet) → IsMosaicOf i (tiling_of i) e → AreMade (tiling_of i) e ps → AreReadBack i ps →
-    RulesHold (profile1 (nodata_numbers i)) 1 15 (grid_of i) (products_of i)
+    RulesHold (check_rules (nodata_numbers i)) IsAnyRule (grid_of i) (products_of i)
 rules_kept i e ps mosaic made read =
-    subst (λ (n : NoDataNumbers). RulesHold (profile1 n) 1 15 (grid_of i) (products_of i)) (defaults_said i ps read)
+    subst (λ (n : NoDataNumbers). RulesHold (check_rules n) IsAnyRule (grid_of i) (products_of i)) (defaults_said i ps read)
     (rules_go_along default_numbers (whole.grid_of e) (grid_of i) (whole.products_of ps) (products_of i) (same_grid i e ps mosaic read) made.rules)
 
 -- and the answer is an acceptance

@@ -16,7 +16,8 @@ use Rattle.drain_grid.specs.Extent.{IsCellOf, row_cells, cells, step}
 use Rattle.drain_grid.specs.Values.{NoDataNumbers}
 use Rattle.drain_grid.specs.Grid.{Grid, Products, IsInside, HasData, values_at, patch_at}
 use Rattle.drain_grid.specs.Counts.{is_data, is_raised}
-use Rattle.drain_grid.specs.PatchRules.{profile1}
+use Rattle.drain_grid.specs.Rule.{IsAnyRule}
+use Rattle.drain_grid.specs.PatchRules.{check_rules}
 use Rattle.drain_grid.specs.GridRules.{HoldsAt, SharedLabelHolds, RulesHold}
 use Rattle.drain_rules.specs.Verdicts.{has_outlet_code, counts_of}
 
@@ -150,9 +151,9 @@ shared_same e z w ps qs a c holds here code b at_b earlier code_b same =
     (a.bas b at_b.inside ∙ same ∙ sym (a.bas c here.inside))
 
 rule_same : (nodata : NoDataNumbers) (e : Extent) (z w : Cell → Option ℤ) (ps qs : Products) → AreAlike e z w ps qs → (c : Cell) (r : Rule) →
-    IsCellOf e c → HoldsAt (profile1 nodata) (grid e z) ps c r → HoldsAt (profile1 nodata) (grid e w) qs c r
+    IsCellOf e c → HoldsAt (check_rules nodata) (grid e z) ps c r → HoldsAt (check_rules nodata) (grid e w) qs c r
 rule_same nodata e z w ps qs a c SharedLabel inside holds = shared_same e z w ps qs a c holds
-rule_same nodata e z w ps qs a c r inside holds = subst (λ (p : Patch). profile1 nodata p r) (patch_same e z w ps qs a c inside) holds
+rule_same nodata e z w ps qs a c r inside holds = subst (λ (p : Patch). check_rules nodata p r) (patch_same e z w ps qs a c inside) holds
 
 -- and the cells that have data, are raised or are outlets are as many
 counts_same : (e : Extent) (z w : Cell → Option ℤ) (ps qs : Products) → AreAlike e z w ps qs →
@@ -167,9 +168,9 @@ counts_same e z w ps qs a =
 
 -- the rules that hold on the one hold on the other
 pub rules_go_along : (nodata : NoDataNumbers) (g h : Grid) (ps qs : Products) → AreSame g h ps qs →
-    RulesHold (profile1 nodata) 1 15 g ps → RulesHold (profile1 nodata) 1 15 h qs
+    RulesHold (check_rules nodata) IsAnyRule g ps → RulesHold (check_rules nodata) IsAnyRule h qs
 rules_go_along nodata g h ps qs same holds =
-    subst (λ (e : Extent). RulesHold (profile1 nodata) 1 15 (grid e h.elevation) qs) same.extent
+    subst (λ (e : Extent). RulesHold (check_rules nodata) IsAnyRule (grid e h.elevation) qs) same.extent
     (λ c r inside own. rule_same nodata g.extent g.elevation h.elevation ps qs (alike g h ps qs same) c r inside (holds c r inside own))
 
 -- and the counts of the one are those of the other

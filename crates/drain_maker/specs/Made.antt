@@ -6,7 +6,8 @@ use Rattle.drain_grid.specs.declared.product_set.ProductSet.{ProductSet}
 use Rattle.drain_grid.specs.Product.{default_numbers}
 use Rattle.drain_grid.specs.Rasters.{Heights, ArePixels}
 use Rattle.drain_grid.specs.WholeGrid.{grid_of, products_of, nodata_of}
-use Rattle.drain_grid.specs.PatchRules.{profile1}
+use Rattle.drain_grid.specs.Rule.{IsAnyRule}
+use Rattle.drain_grid.specs.PatchRules.{check_rules}
 use Rattle.drain_grid.specs.GridRules.{RulesHold}
 use Rattle.drain_raster.specs.Bytes.{CanSpellAll, CanSpellAllIn}
 use Rattle.drain_mosaic.specs.Tiling.{Tiling}
@@ -15,7 +16,7 @@ use Rattle.drain_maker.specs.Headers.{header_of, bits_of, is_signed}
 
 -- all fifteen rules hold at every cell, with the default no-data numbers
 abbrev pub KeepsEveryRule : Heights → ProductSet → Type 0
-KeepsEveryRule e ps = RulesHold (profile1 default_numbers) 1 15 (grid_of e) (products_of ps)
+KeepsEveryRule e ps = RulesHold (check_rules default_numbers) IsAnyRule (grid_of e) (products_of ps)
 
 -- the pixels of each product's header can spell each of its numbers
 abbrev pub CanBeWritten : Tiling → ProductSet → Type 0

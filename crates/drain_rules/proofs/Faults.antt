@@ -1,13 +1,13 @@
 -- The least fault of a cell: from its patch, and for every rule from the labels so far, to the grid.
-use Rattle.std.proofs.Common.{◌≡◌, ℕ, ◌<◌, ◌↔◌, List, Option, Some, None, sym, subst, arith}
+use Rattle.std.proofs.Common.{◌≡◌, ℕ, ◌↔◌, List, Option, Some, None, sym, subst, arith}
 use Rattle.drain_grid.specs.declared.cell.Cell.{Cell}
 use Rattle.drain_grid.specs.declared.rule.Rule.{Rule}
 use Rattle.drain_grid.specs.declared.rule.Rule.TheVariants.{SharedLabel}
 use Rattle.drain_grid.specs.declared.patch.Patch.{Patch}
-use Rattle.drain_grid.specs.Rule.{number_of, IsBetween, IsLeastFault}
+use Rattle.drain_grid.specs.Rule.{IsAnyRule, IsPatchRule, IsLeastFault}
 use Rattle.drain_grid.specs.Values.{NoDataNumbers}
 use Rattle.drain_grid.specs.Grid.{Grid, Products, IsInside, patch_at}
-use Rattle.drain_grid.specs.PatchRules.{Profile, profile1}
+use Rattle.drain_grid.specs.PatchRules.{Profile, check_rules}
 use Rattle.drain_grid.specs.GridRules.{HoldsAt, SharedLabelHolds}
 use Rattle.drain_rules.specs.Labels.{AreLabelsBefore, labelled_profile}
 
@@ -19,21 +19,21 @@ IsLeastFault-same Own P Q (Some r) same least =
     (least.0, λ holds. least.1 ((same r least.0).1 holds), λ q own below. (same q own).0 (least.2 q own below))
 
 -- a rule of a patch holds at the cell exactly where it holds on its patch
-patch-HoldsAt : (profile : Profile) (g : Grid) (ps : Products) (c : Cell) (r : Rule) → number_of r < 15 →
+patch-HoldsAt : (profile : Profile) (g : Grid) (ps : Products) (c : Cell) (r : Rule) → IsPatchRule r →
     profile (patch_at g ps c) r ↔ HoldsAt profile g ps c r
-patch-HoldsAt profile g ps c SharedLabel small = absurd (omega arith)
-patch-HoldsAt profile g ps c r small = (λ h. h, λ h. h)
+patch-HoldsAt profile g ps c SharedLabel own = absurd (omega (arith, own.1))
+patch-HoldsAt profile g ps c r own = (λ h. h, λ h. h)
 
 -- so of rules of a patch, the least fault of the patch is that of the cell
-pub IsLeastFault-patch : (profile : Profile) (low high : ℕ) (g : Grid) (ps : Products) (c : Cell) (o : Option Rule) → high < 15 →
-    IsLeastFault (IsBetween low high) (profile (patch_at g ps c)) o → IsLeastFault (IsBetween low high) (HoldsAt profile g ps c) o
-IsLeastFault-patch profile low high g ps c o small =
-    IsLeastFault-same (IsBetween low high) (profile (patch_at g ps c)) (HoldsAt profile g ps c) o
-    (λ r own. patch-HoldsAt profile g ps c r (omega (arith, own.1)))
+pub IsLeastFault-patch : (profile : Profile) (IsOwn : Rule → Type 0) (g : Grid) (ps : Products) (c : Cell) (o : Option Rule) → ((r : Rule) → IsOwn r → IsPatchRule r) →
+    IsLeastFault IsOwn (profile (patch_at g ps c)) o → IsLeastFault IsOwn (HoldsAt profile g ps c) o
+IsLeastFault-patch profile IsOwn g ps c o of_patch =
+    IsLeastFault-same IsOwn (profile (patch_at g ps c)) (HoldsAt profile g ps c) o
+    (λ r own. patch-HoldsAt profile g ps c r (of_patch r own))
 
 -- the labels play no part in the rules of a patch
-pub labelled-patch : (nodata : NoDataNumbers) (labels : List (ℕ × ℕ)) (p : Patch) (r : Rule) → IsBetween 1 14 r →
-    profile1 nodata p r ↔ labelled_profile nodata labels p r
+pub labelled-patch : (nodata : NoDataNumbers) (labels : List (ℕ × ℕ)) (p : Patch) (r : Rule) → IsPatchRule r →
+    check_rules nodata p r ↔ labelled_profile nodata labels p r
 labelled-patch nodata labels p SharedLabel own = absurd (omega (arith, own.1))
 labelled-patch nodata labels p r own = (λ h. h, λ h. h)
 
@@ -51,16 +51,16 @@ shared-labelled g ps nodata labels c inside before = (
 
 -- and so is every rule
 pub labelled-HoldsAt : (g : Grid) (ps : Products) (nodata : NoDataNumbers) (labels : List (ℕ × ℕ)) (c : Cell) (r : Rule) → IsInside g c →
-    AreLabelsBefore g ps c labels → labelled_profile nodata labels (patch_at g ps c) r ↔ HoldsAt (profile1 nodata) g ps c r
+    AreLabelsBefore g ps c labels → labelled_profile nodata labels (patch_at g ps c) r ↔ HoldsAt (check_rules nodata) g ps c r
 labelled-HoldsAt g ps nodata labels c SharedLabel inside before = shared-labelled g ps nodata labels c inside before
 labelled-HoldsAt g ps nodata labels c r inside before = (λ h. h, λ h. h)
 
 -- the least fault of the cell's patch is that of the cell
 pub IsLeastFault-cell : (g : Grid) (ps : Products) (nodata : NoDataNumbers) (labels : List (ℕ × ℕ)) (c : Cell) (p : Patch) (o : Option Rule) →
     IsInside g c → AreLabelsBefore g ps c labels → p ≡ patch_at g ps c →
-    IsLeastFault (IsBetween 1 15) (labelled_profile nodata labels p) o →
-    IsLeastFault (IsBetween 1 15) (HoldsAt (profile1 nodata) g ps c) o
+    IsLeastFault IsAnyRule (labelled_profile nodata labels p) o →
+    IsLeastFault IsAnyRule (HoldsAt (check_rules nodata) g ps c) o
 IsLeastFault-cell g ps nodata labels c p o inside before is least =
-    IsLeastFault-same (IsBetween 1 15) (labelled_profile nodata labels (patch_at g ps c)) (HoldsAt (profile1 nodata) g ps c) o
+    IsLeastFault-same IsAnyRule (labelled_profile nodata labels (patch_at g ps c)) (HoldsAt (check_rules nodata) g ps c) o
     (λ r own. labelled-HoldsAt g ps nodata labels c r inside before)
-    (subst (λ p. IsLeastFault (IsBetween 1 15) (labelled_profile nodata labels p) o) is least)
+    (subst (λ p. IsLeastFault IsAnyRule (labelled_profile nodata labels p) o) is least)

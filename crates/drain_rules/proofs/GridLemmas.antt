@@ -7,17 +7,17 @@ use Rattle.std.proofs.lemmas.List.FromFn.{length-map-range_with_len}
 use Rattle.std.proofs.Math.Nat.{mul-le-mul_right}
 use Rattle.drain_grid.specs.declared.cell.Cell.{Cell}
 use Rattle.drain_grid.specs.declared.rule.Rule.{Rule}
-use Rattle.drain_grid.specs.Rule.{IsBetween}
+use Rattle.drain_grid.specs.Rule.{IsAnyRule, IsFillRule}
 use Rattle.drain_grid.specs.Extent.{row_cells, IsEarlier}
 use Rattle.drain_grid.specs.Values.{NoDataNumbers}
 use Rattle.drain_grid.specs.Grid.{Grid, Products, IsInside}
 use Rattle.drain_grid.specs.Counts.{is_data, is_raised}
-use Rattle.drain_grid.specs.PatchRules.{Profile, profile1}
+use Rattle.drain_grid.specs.PatchRules.{Profile, fill_rules, check_rules}
 use Rattle.drain_grid.specs.GridRules.{HoldsAt, RulesHold, IsEarlierPair, IsFirstFault}
 use Rattle.drain_rules.specs.declared.fill_walk.FillVerdict.TheVariants as fill
 use Rattle.drain_rules.specs.declared.tally.Tally.{Tally}
 use Rattle.drain_rules.specs.declared.verdict.Verdict.TheVariants.{Accepted}
-use Rattle.drain_rules.specs.FillVerdicts.{fill_rules, IsFillVerdict}
+use Rattle.drain_rules.specs.FillVerdicts.{IsFillVerdict}
 use Rattle.drain_rules.specs.Labels.{HasNewLabel}
 use Rattle.drain_rules.specs.Verdicts.{has_outlet_code, IsVerdict}
 use Rattle.drain_rules.specs.Rows.{place, HoldAlong, CountsAlong, IsRowFault, IsNewLabelAlong}
@@ -97,17 +97,17 @@ tallies_fit g ps row total here inside few narrow above along = (
 )
 
 -- the first fault of the first row that has one is the first of the grid
-pub IsFirstFault-row : (profile : Profile) (low high : ℕ) (g : Grid) (ps : Products) (row col : ℕ) (rule : Rule) → row < g.extent.rows →
-    ((r : ℕ) → r < row → HoldAlong profile low high g ps r g.extent.cols) → IsRowFault profile low high g ps row col rule →
-    IsFirstFault profile low high g ps (place row col) rule
-IsFirstFault-row profile low high g ps row col rule inside above here = record {
+pub IsFirstFault-row : (profile : Profile) (IsOwn : Rule → Type 0) (g : Grid) (ps : Products) (row col : ℕ) (rule : Rule) → row < g.extent.rows →
+    ((r : ℕ) → r < row → HoldAlong profile IsOwn g ps r g.extent.cols) → IsRowFault profile IsOwn g ps row col rule →
+    IsFirstFault profile IsOwn g ps (place row col) rule
+IsFirstFault-row profile IsOwn g ps row col rule inside above here = record {
   inside = record { row = inside; col = here.inside };
   is_own = here.is_own;
   fails = here.fails;
   first = first;
 }
   where
-    first : (b : Cell) (q : Rule) → IsInside g b → IsBetween low high q → IsEarlierPair b q (place row col) rule → HoldsAt profile g ps b q
+    first : (b : Cell) (q : Rule) → IsInside g b → IsOwn q → IsEarlierPair b q (place row col) rule → HoldsAt profile g ps b q
     first b q in_grid own (inl (inl before)) = above b.row before b.col q in_grid.col own
     first b q in_grid own (inl (inr beside)) =
         let back : HoldsAt profile g ps (place row b.col) q = here.before b.col q beside.1 own in
@@ -116,7 +116,7 @@ IsFirstFault-row profile low high g ps row col rule inside above here = record {
 
 -- where the rows above keep every rule, a new label of the row is one of the grid
 pub HasNewLabel-row : (nodata : NoDataNumbers) (g : Grid) (ps : Products) (row col : ℕ) →
-    ((r : ℕ) → r < row → HoldAlong (profile1 nodata) 1 15 g ps r g.extent.cols) → IsNewLabelAlong nodata g ps row col → HasNewLabel nodata g ps
+    ((r : ℕ) → r < row → HoldAlong (check_rules nodata) IsAnyRule g ps r g.extent.cols) → IsNewLabelAlong nodata g ps row col → HasNewLabel nodata g ps
 HasNewLabel-row nodata g ps row col above along = (
   place row col,
   record {
@@ -127,20 +127,20 @@ HasNewLabel-row nodata g ps row col above along = (
   },
 )
   where
-    before : (b : Cell) (rule : Rule) → IsInside g b → IsEarlier b (place row col) → IsBetween 1 15 rule → HoldsAt (profile1 nodata) g ps b rule
+    before : (b : Cell) (rule : Rule) → IsInside g b → IsEarlier b (place row col) → IsAnyRule rule → HoldsAt (check_rules nodata) g ps b rule
     before b rule in_grid (inl north) own = above b.row north b.col rule in_grid.col own
     before b rule in_grid (inr west) own =
-        let back : HoldsAt (profile1 nodata) g ps (place row b.col) rule = along.holds b.col rule (omega (arith, west.1)) own in
-        subst (λ r. HoldsAt (profile1 nodata) g ps (place r b.col) rule) (sym west.0) back
+        let back : HoldsAt (check_rules nodata) g ps (place row b.col) rule = along.holds b.col rule (omega (arith, west.1)) own in
+        subst (λ r. HoldsAt (check_rules nodata) g ps (place r b.col) rule) (sym west.0) back
 
 -- rules that hold along every row hold at every cell
-RulesHold-rows : (profile : Profile) (low high : ℕ) (g : Grid) (ps : Products) →
-    ((row : ℕ) → row < g.extent.rows → HoldAlong profile low high g ps row g.extent.cols) → RulesHold profile low high g ps
-RulesHold-rows profile low high g ps holds c r inside own = holds c.row inside.row c.col r inside.col own
+RulesHold-rows : (profile : Profile) (IsOwn : Rule → Type 0) (g : Grid) (ps : Products) →
+    ((row : ℕ) → row < g.extent.rows → HoldAlong profile IsOwn g ps row g.extent.cols) → RulesHold profile IsOwn g ps
+RulesHold-rows profile IsOwn g ps holds c r inside own = holds c.row inside.row c.col r inside.col own
 
 -- with the counts of all rows, they make the acceptance of a grid's products
 pub IsVerdict-above : (nodata : NoDataNumbers) (g : Grid) (ps : Products) (total : Tally) → CountsAbove g ps g.extent.rows total →
-    ((row : ℕ) → row < g.extent.rows → HoldAlong (profile1 nodata) 1 15 g ps row g.extent.cols) →
+    ((row : ℕ) → row < g.extent.rows → HoldAlong (check_rules nodata) IsAnyRule g ps row g.extent.cols) →
     IsVerdict g ps nodata (Accepted (record {
       rows = g.extent.rows;
       cols = g.extent.cols;
@@ -149,15 +149,15 @@ pub IsVerdict-above : (nodata : NoDataNumbers) (g : Grid) (ps : Products) (total
       outlets = total.outlets;
     }))
 IsVerdict-above nodata g ps total counted holds =
-    (RulesHold-rows (profile1 nodata) 1 15 g ps holds, rw (counted.data_cells, counted.raised, counted.outlets) refl)
+    (RulesHold-rows (check_rules nodata) IsAnyRule g ps holds, rw (counted.data_cells, counted.raised, counted.outlets) refl)
 
 -- and that of a fill input
 pub IsFillVerdict-above : (g : Grid) (ps : Products) (total : Tally) → CountsAbove g ps g.extent.rows total →
-    ((row : ℕ) → row < g.extent.rows → HoldAlong fill_rules 4 9 g ps row g.extent.cols) →
+    ((row : ℕ) → row < g.extent.rows → HoldAlong fill_rules IsFillRule g ps row g.extent.cols) →
     IsFillVerdict g ps (fill.Accepted (record {
       rows = g.extent.rows;
       cols = g.extent.cols;
       data_cells = total.data_cells;
       raised = total.raised;
     }))
-IsFillVerdict-above g ps total counted holds = (RulesHold-rows fill_rules 4 9 g ps holds, rw (counted.data_cells, counted.raised) refl)
+IsFillVerdict-above g ps total counted holds = (RulesHold-rows fill_rules IsFillRule g ps holds, rw (counted.data_cells, counted.raised) refl)

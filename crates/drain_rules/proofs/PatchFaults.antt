@@ -1,34 +1,33 @@
 -- The first fault of a patch, from what the crates below answer in turn: where they find none, the rules so far hold.
-use Rattle.std.proofs.Common.{ℕ, ◌+◌, ◌≤◌, inl, inr, Option, Some, None, arith}
-use Rattle.std.proofs.lemmas.Bool.{cases_lt}
+use Rattle.std.proofs.Common.{◌≤◌, Option, Some, None, arith}
+use Rattle.drain_grid.specs.declared.patch.Patch.{Patch}
 use Rattle.drain_grid.specs.declared.rule.Rule.{Rule}
-use Rattle.drain_grid.specs.Rule.{number_of, IsBetween, IsLeastFault}
+use Rattle.drain_grid.specs.declared.rule.Rule.TheVariants.{VoidCell, BadCode, NotLeast, Label}
+use Rattle.drain_grid.specs.Values.{NoDataNumbers}
+use Rattle.drain_grid.specs.Rule.{number_of, IsPresenceRule, IsFillRule, IsPatchRule, IsLeastFault}
+use Rattle.drain_grid.specs.PatchRules.{fill_rules, flow_rules, check_rules}
+use Rattle.drain_grid.proofs.LeastFaults.{IsFrom, IsAfter, found_first, found_next}
+use Rattle.drain_grid.proofs.Profiles.{fill_same, flow_same}
+use Rattle.drain_grid.proofs.RuleNumbers.{numbered}
+use Rattle.drain_rules.proofs.Faults.{IsLeastFault-same}
 
--- the rules from the first to this one hold
-abbrev pub HoldTo : (Rule → Type 0) → ℕ → Type 0
-HoldTo P passed = (q : Rule) → IsBetween 1 passed q → P q
+-- where the rules before hold, the answer on the conditioned elevation is that of all rules so far
+pub fill_to : (nodata : NoDataNumbers) (p : Patch) (o : Option Rule) → IsLeastFault IsPresenceRule (check_rules nodata p) None →
+    IsLeastFault IsFillRule (fill_rules p) o → IsLeastFault (IsFrom VoidCell NotLeast) (check_rules nodata p) o
+fill_to nodata p o hold answer =
+    found_next (check_rules nodata p) VoidCell BadCode NotLeast o (omega arith) hold
+    (IsLeastFault-same IsFillRule (fill_rules p) (check_rules nodata p) o (fill_same nodata p) answer)
 
--- a rule was passed, or is one of those after
-by_turn : (P : Rule → Type 0) (passed high : ℕ) (q : Rule) → HoldTo P passed → (IsBetween (passed + 1) high q → P q) → IsBetween 1 high q → P q
-by_turn P passed high q before after own =
-    elim (cases_lt passed (number_of q)) [
-      | inl later ↦ after (omega arith, own.1)
-      | inr within ↦ before q (own.0, within)
-    ]
+-- and so is the answer on where water goes
+pub flow_to : (nodata : NoDataNumbers) (p : Patch) (passed last : Rule) (o : Option Rule) → number_of NotLeast ≤ number_of passed →
+    IsLeastFault (IsFrom VoidCell passed) (check_rules nodata p) None → IsLeastFault (IsAfter passed last) (flow_rules p) o →
+    IsLeastFault (IsFrom VoidCell last) (check_rules nodata p) o
+flow_to nodata p passed last o behind hold answer =
+    found_next (check_rules nodata p) VoidCell passed last o (omega arith) hold
+    (IsLeastFault-same (IsAfter passed last) (flow_rules p) (check_rules nodata p) o
+    (λ r own. flow_same nodata p r (omega (arith, own.0), omega (arith, (numbered r).1))) answer)
 
--- where none of those after fails, they hold too
-pub HoldTo-more : (P : Rule → Type 0) (passed high : ℕ) → HoldTo P passed → IsLeastFault (IsBetween (passed + 1) high) P None → HoldTo P high
-HoldTo-more P passed high before none q = by_turn P passed high q before (none q)
-
--- the first of them that fails is the first of all
-pub IsLeastFault-found : (P : Rule → Type 0) (passed high last : ℕ) (r : Rule) → high ≤ last → HoldTo P passed →
-    IsLeastFault (IsBetween (passed + 1) high) P (Some r) → IsLeastFault (IsBetween 1 last) P (Some r)
-IsLeastFault-found P passed high last r within before found =
-    let own = found.0 in
-    ((omega arith, omega arith), found.1, λ q own_q less. by_turn P passed high q before (λ here. found.2 q here less) (own_q.0, omega arith))
-
--- and the answer of the last is that of all
-pub IsLeastFault-last : (P : Rule → Type 0) (passed last : ℕ) (o : Option Rule) → HoldTo P passed →
-    IsLeastFault (IsBetween (passed + 1) last) P o → IsLeastFault (IsBetween 1 last) P o
-IsLeastFault-last P passed last None before none = HoldTo-more P passed last before none
-IsLeastFault-last P passed last (Some r) before found = IsLeastFault-found P passed last last r (omega arith) before found
+-- a fault among the rules so far is the first of the patch
+pub fault_of_patch : (P : Rule → Type 0) (last r : Rule) → number_of last ≤ number_of Label →
+    IsLeastFault (IsFrom VoidCell last) P (Some r) → IsLeastFault IsPatchRule P (Some r)
+fault_of_patch P last r within = found_first P VoidCell last Label r within

@@ -6,12 +6,12 @@ use Rattle.std.proofs.lemmas.List.FromFn.{sum_by-map-range_with_len_more}
 use Rattle.drain_grid.specs.declared.cell.Cell.{Cell}
 use Rattle.drain_grid.specs.declared.patch.Patch.{Patch}
 use Rattle.drain_grid.specs.declared.rule.Rule.{Rule}
-use Rattle.drain_grid.specs.Rule.{IsBetween, IsLeastFault}
+use Rattle.drain_grid.specs.Rule.{IsAnyRule, IsLeastFault}
 use Rattle.drain_grid.specs.Extent.{row_cells}
 use Rattle.drain_grid.specs.Values.{Values, NoDataNumbers}
 use Rattle.drain_grid.specs.Grid.{Grid, Products, IsInside, values_at, patch_at}
 use Rattle.drain_grid.specs.Counts.{is_data, is_raised}
-use Rattle.drain_grid.specs.PatchRules.{Profile, profile1}
+use Rattle.drain_grid.specs.PatchRules.{Profile, check_rules}
 use Rattle.drain_grid.specs.GridRules.{HoldsAt}
 use Rattle.drain_rules.specs.declared.cell_rules.Stop.{Stop}
 use Rattle.drain_rules.specs.declared.cell_rules.Stop.TheVariants.{Fault, OutOfMemory}
@@ -29,16 +29,16 @@ count_by-row_cells_more p row cols =
     sum_by-map-range_with_len_more (λ c. cond (p c) 1 0) (λ k. place row k) 0 cols cols (omega arith)
 
 -- rules that hold along the row hold with one cell more, where that cell has no fault
-pub HoldAlong-more : (profile : Profile) (low high : ℕ) (g : Grid) (ps : Products) (row col : ℕ) → HoldAlong profile low high g ps row col →
-    IsLeastFault (IsBetween low high) (HoldsAt profile g ps (place row col)) None → HoldAlong profile low high g ps row (col + 1)
-HoldAlong-more profile low high g ps row col before here k rule less own =
+pub HoldAlong-more : (profile : Profile) (IsOwn : Rule → Type 0) (g : Grid) (ps : Products) (row col : ℕ) → HoldAlong profile IsOwn g ps row col →
+    IsLeastFault IsOwn (HoldsAt profile g ps (place row col)) None → HoldAlong profile IsOwn g ps row (col + 1)
+HoldAlong-more profile IsOwn g ps row col before here k rule less own =
     below_more (λ n. HoldsAt profile g ps (place row n) rule) col (λ n earlier. before n rule earlier own) (here rule own) k less
 
 -- where the rules hold along the row, the fault of the next cell is that of the row
-pub IsRowFault-cell : (profile : Profile) (low high : ℕ) (g : Grid) (ps : Products) (row col : ℕ) (rule : Rule) → col < g.extent.cols →
-    HoldAlong profile low high g ps row col → IsLeastFault (IsBetween low high) (HoldsAt profile g ps (place row col)) (Some rule) →
-    IsRowFault profile low high g ps row col rule
-IsRowFault-cell profile low high g ps row col rule inside before least = record {
+pub IsRowFault-cell : (profile : Profile) (IsOwn : Rule → Type 0) (g : Grid) (ps : Products) (row col : ℕ) (rule : Rule) → col < g.extent.cols →
+    HoldAlong profile IsOwn g ps row col → IsLeastFault IsOwn (HoldsAt profile g ps (place row col)) (Some rule) →
+    IsRowFault profile IsOwn g ps row col rule
+IsRowFault-cell profile IsOwn g ps row col rule inside before least = record {
   inside = inside;
   is_own = least.0;
   fails = least.1;
@@ -68,16 +68,16 @@ CountsAlong-more g ps row col here old new is so_far data_cells raised outlets =
 
 -- where the rules hold along the row, what stops a walk at the next cell stops it in the row
 pub IsStopAt-cell : (nodata : NoDataNumbers) (g : Grid) (ps : Products) (row col : ℕ) (labels : List (ℕ × ℕ)) (p : Patch) (stop : Stop) →
-    IsInside g (place row col) → HoldAlong (profile1 nodata) 1 15 g ps row col → AreLabelsBefore g ps (place row col) labels →
+    IsInside g (place row col) → HoldAlong (check_rules nodata) IsAnyRule g ps row col → AreLabelsBefore g ps (place row col) labels →
     p ≡ patch_at g ps (place row col) → IsCellStop nodata labels p stop → IsStopAt nodata g ps row col stop
 IsStopAt-cell nodata g ps row col labels p (Fault rule) inside holds before is least =
-    IsRowFault-cell (profile1 nodata) 1 15 g ps row col rule inside.col holds
+    IsRowFault-cell (check_rules nodata) IsAnyRule g ps row col rule inside.col holds
     (IsLeastFault-cell g ps nodata labels (place row col) p (Some rule) inside before is least)
 IsStopAt-cell nodata g ps row col labels p OutOfMemory inside holds before is want =
     let here : IsOutletByCode (values_at g ps (place row col)) = subst (λ (q : Patch). IsOutletByCode q.here) is want.0 in
     record {
       has_data = record { inside = inside; is_data = here.has_data };
       code = here.code;
-      holds = HoldAlong-more (profile1 nodata) 1 15 g ps row col holds
+      holds = HoldAlong-more (check_rules nodata) IsAnyRule g ps row col holds
           (IsLeastFault-cell g ps nodata labels (place row col) p None inside before is want.1);
     }

@@ -5,11 +5,11 @@ use Rattle.drain_basin.specs.Admitted.{IsAdmitted}
 use Rattle.drain_grid.specs.declared.cell.Cell.{Cell}
 use Rattle.drain_grid.specs.declared.rule.Rule.{Rule}
 use Rattle.drain_grid.specs.declared.rule.Rule.TheVariants.{SharedLabel}
-use Rattle.drain_grid.specs.Rule.{IsBetween}
+use Rattle.drain_grid.specs.Rule.{IsAnyRule}
 use Rattle.drain_grid.specs.Extent.{IsEarlier}
 use Rattle.drain_grid.specs.Values.{Values, NoDataNumbers}
 use Rattle.drain_grid.specs.Grid.{Grid, Products, IsInside, HasData}
-use Rattle.drain_grid.specs.PatchRules.{Profile, profile1}
+use Rattle.drain_grid.specs.PatchRules.{Profile, check_rules}
 use Rattle.drain_grid.specs.GridRules.{HoldsAt}
 
 -- the values of a data cell with code 0
@@ -27,8 +27,8 @@ pub record IsLabelOf (v : Values) (label : ℤ) : Type 0 where
 pub record IsNewLabelAt (nodata : NoDataNumbers) (g : Grid) (ps : Products) (c : Cell) : Type 0 where
   pub has_data : HasData g c
   pub code : ps.dir c ≡ pos 0
-  pub here : (rule : Rule) → IsBetween 1 15 rule → HoldsAt (profile1 nodata) g ps c rule
-  pub before : (b : Cell) (rule : Rule) → IsInside g b → IsEarlier b c → IsBetween 1 15 rule → HoldsAt (profile1 nodata) g ps b rule
+  pub here : (rule : Rule) → IsAnyRule rule → HoldsAt (check_rules nodata) g ps c rule
+  pub before : (b : Cell) (rule : Rule) → IsInside g b → IsEarlier b c → IsAnyRule rule → HoldsAt (check_rules nodata) g ps b rule
 
 -- there is such a cell
 abbrev pub HasNewLabel : NoDataNumbers → Grid → Products → Type 0
@@ -49,4 +49,4 @@ AreLabelsBefore g ps place labels = (label : ℤ) → IsAdmitted labels label �
 -- the rules of a patch, and SharedLabel against the labels that were admitted
 abbrev pub labelled_profile : NoDataNumbers → List (ℕ × ℕ) → Profile
 labelled_profile nodata labels p SharedLabel = IsOutletByCode p.here → ¬ IsAdmitted labels p.here.bas
-labelled_profile nodata labels p r = profile1 nodata p r
+labelled_profile nodata labels p r = check_rules nodata p r

@@ -3,12 +3,12 @@ use Rattle.std.specs.Prelude.{◌≡◌, ℕ, pos, ◌+◌, ◌<◌}
 use Rattle.std.specs.List.{count_by}
 use Rattle.drain_grid.specs.declared.cell.Cell.{Cell}
 use Rattle.drain_grid.specs.declared.rule.Rule.{Rule}
-use Rattle.drain_grid.specs.Rule.{number_of, IsBetween}
+use Rattle.drain_grid.specs.Rule.{number_of, IsAnyRule}
 use Rattle.drain_grid.specs.Extent.{row_cells}
 use Rattle.drain_grid.specs.Values.{NoDataNumbers}
 use Rattle.drain_grid.specs.Grid.{Grid, Products, HasData}
 use Rattle.drain_grid.specs.Counts.{is_data, is_raised}
-use Rattle.drain_grid.specs.PatchRules.{Profile, profile1}
+use Rattle.drain_grid.specs.PatchRules.{Profile, check_rules}
 use Rattle.drain_grid.specs.GridRules.{HoldsAt}
 use Rattle.drain_rules.specs.declared.cell_rules.Stop.{Stop}
 use Rattle.drain_rules.specs.declared.cell_rules.Stop.TheVariants.{Fault, OutOfMemory}
@@ -20,28 +20,28 @@ use Rattle.drain_rules.specs.Verdicts.{has_outlet_code}
 abbrev pub place : ℕ → ℕ → Cell
 place row col = record { row = row; col = col }
 
--- the rules with numbers from low to high hold at the first cells of the row
-abbrev pub HoldAlong : Profile → ℕ → ℕ → Grid → Products → ℕ → ℕ → Type 0
-HoldAlong profile low high g ps row cols =
-    (col : ℕ) (rule : Rule) → col < cols → IsBetween low high rule → HoldsAt profile g ps (place row col) rule
+-- one's own rules hold at the first cells of the row
+abbrev pub HoldAlong : Profile → (Rule → Type 0) → Grid → Products → ℕ → ℕ → Type 0
+HoldAlong profile IsOwn g ps row cols =
+    (col : ℕ) (rule : Rule) → col < cols → IsOwn rule → HoldsAt profile g ps (place row col) rule
 
 -- the rule is the first of them that fails at the first cell of the row where one does
-pub record IsRowFault (profile : Profile) (low high : ℕ) (g : Grid) (ps : Products) (row col : ℕ) (rule : Rule) : Type 0 where
+pub record IsRowFault (profile : Profile) (IsOwn : Rule → Type 0) (g : Grid) (ps : Products) (row col : ℕ) (rule : Rule) : Type 0 where
   pub inside : col < g.extent.cols
-  pub is_own : IsBetween low high rule
+  pub is_own : IsOwn rule
   pub fails : ¬ HoldsAt profile g ps (place row col) rule
-  pub before : HoldAlong profile low high g ps row col
-  pub smaller : (r : Rule) → IsBetween low high r → number_of r < number_of rule → HoldsAt profile g ps (place row col) r
+  pub before : HoldAlong profile IsOwn g ps row col
+  pub smaller : (r : Rule) → IsOwn r → number_of r < number_of rule → HoldsAt profile g ps (place row col) r
 
 -- the cell is a data cell with code 0, and every rule holds there and at the earlier cells of the row
 pub record IsNewLabelAlong (nodata : NoDataNumbers) (g : Grid) (ps : Products) (row col : ℕ) : Type 0 where
   pub has_data : HasData g (place row col)
   pub code : ps.dir (place row col) ≡ pos 0
-  pub holds : HoldAlong (profile1 nodata) 1 15 g ps row (col + 1)
+  pub holds : HoldAlong (check_rules nodata) IsAnyRule g ps row (col + 1)
 
 -- a walk along the row stops at its first fault, or for want of memory where a new label has to be admitted
 abbrev pub IsStopAt : NoDataNumbers → Grid → Products → ℕ → ℕ → Stop → Type 0
-IsStopAt nodata g ps row col (Fault rule) = IsRowFault (profile1 nodata) 1 15 g ps row col rule
+IsStopAt nodata g ps row col (Fault rule) = IsRowFault (check_rules nodata) IsAnyRule g ps row col rule
 IsStopAt nodata g ps row col OutOfMemory = IsNewLabelAlong nodata g ps row col
 
 -- the same of the place and the reason together
@@ -54,7 +54,7 @@ pub record CountsAlong (g : Grid) (ps : Products) (row cols : ℕ) (tally : Tall
   pub raised : tally.raised ≡ count_by (is_raised g ps) (row_cells cols row)
   pub outlets : tally.outlets ≡ count_by (has_outlet_code g ps) (row_cells cols row)
 
--- the row keeps the rules from low to high, and these are its counts
-pub record IsRowTally (profile : Profile) (low high : ℕ) (g : Grid) (ps : Products) (row : ℕ) (tally : Tally) : Type 0 where
-  pub holds : HoldAlong profile low high g ps row g.extent.cols
+-- the row keeps one's own rules, and these are its counts
+pub record IsRowTally (profile : Profile) (IsOwn : Rule → Type 0) (g : Grid) (ps : Products) (row : ℕ) (tally : Tally) : Type 0 where
+  pub holds : HoldAlong profile IsOwn g ps row g.extent.cols
   pub counted : CountsAlong g ps row g.extent.cols tally

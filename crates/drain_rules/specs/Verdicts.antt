@@ -8,7 +8,8 @@ use Rattle.drain_grid.specs.Extent.{cells}
 use Rattle.drain_grid.specs.Values.{NoDataNumbers}
 use Rattle.drain_grid.specs.Grid.{Grid, Products}
 use Rattle.drain_grid.specs.Counts.{is_data, data_count, raised_count}
-use Rattle.drain_grid.specs.PatchRules.{profile1}
+use Rattle.drain_grid.specs.Rule.{IsAnyRule}
+use Rattle.drain_grid.specs.PatchRules.{check_rules}
 use Rattle.drain_grid.specs.GridRules.{RulesHold, IsFirstFault}
 use Rattle.drain_rules.specs.declared.verdict.Counts.{Counts}
 use Rattle.drain_rules.specs.declared.verdict.Verdict.{Verdict}
@@ -34,8 +35,8 @@ counts_of g ps = record {
 
 -- accepted where every rule holds at every cell, else rejected with the first fault
 abbrev pub IsVerdict : Grid → Products → NoDataNumbers → Verdict → Type 0
-IsVerdict g ps nodata (Accepted counts) = RulesHold (profile1 nodata) 1 15 g ps × (counts ≡ counts_of g ps)
-IsVerdict g ps nodata (Rejected rule row col) = IsFirstFault (profile1 nodata) 1 15 g ps (record { row = row; col = col }) rule
+IsVerdict g ps nodata (Accepted counts) = RulesHold (check_rules nodata) IsAnyRule g ps × (counts ≡ counts_of g ps)
+IsVerdict g ps nodata (Rejected rule row col) = IsFirstFault (check_rules nodata) IsAnyRule g ps (record { row = row; col = col }) rule
 
 -- the fact holds where the verdict is an acceptance
 abbrev pub IfAccepted : {E : Type 0} → Result Verdict E → Type 0 → Type 0

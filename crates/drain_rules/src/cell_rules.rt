@@ -2,7 +2,7 @@
 
 ghost use Rattle.std.specs.Prelude.{◌↔◌, ◌⊎◌, ℤ, IsTrue, IfOk, IfErr, OnOk, OnErr, None};
 ghost use Rattle.drain_basin.specs.Admitted.{IsAdmitted};
-ghost use Rattle.drain_grid.specs.Rule.{IsBetween, IsLeastFault};
+ghost use Rattle.drain_grid.specs.Rule.{IsAnyRule, IsLeastFault};
 ghost use Rattle.drain_rules.specs.Labels.{IsOutletByCode, IsLabelOf, labelled_profile};
 ghost use Rattle.drain_rules.specs.Stops.{IsCellStop};
 
@@ -24,7 +24,7 @@ pub enum Stop {
 /// `labels` are those of the outlets before the cell. A label is admitted only where the other rules hold; an answer
 /// `OutOfMemory` comes only from that, at an outlet whose label is new.
 pub fn check_cell(patch: &Patch, nodata: &NoData, labels: &mut OutletLabels) -> Result<(), Stop>
-    ensures passed { OnOk result (IsLeastFault (IsBetween 1 15) (labelled_profile nodata.now labels.old patch.now) None) }
+    ensures passed { OnOk result (IsLeastFault IsAnyRule (labelled_profile nodata.now labels.old patch.now) None) }
     ensures labels { OnOk result ((label : ℤ) → IsAdmitted labels.new label ↔ (IsLabelOf patch.now.here label ⊎ IsAdmitted labels.old label)) }
     ensures stopped { IfErr result (IsCellStop nodata.now labels.old patch.now) }
 {

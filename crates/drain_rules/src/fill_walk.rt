@@ -2,8 +2,10 @@
 
 ghost use Rattle.std.specs.Prelude.{◌<◌, IfOk, IfErr};
 ghost use Rattle.drain_grid.specs.Path.{IsLeastSurface, ShowsSpillLevels};
+ghost use Rattle.drain_grid.specs.PatchRules.{fill_rules};
+ghost use Rattle.drain_grid.specs.Rule.{IsFillRule};
 ghost use Rattle.drain_rules.specs.Fill.{fill_grid, fill_products};
-ghost use Rattle.drain_rules.specs.FillVerdicts.{IsFillAnswer, IsFillVerdict, fill_rules};
+ghost use Rattle.drain_rules.specs.FillVerdicts.{IsFillAnswer, IsFillVerdict};
 ghost use Rattle.drain_rules.specs.Filled.{OnAccepted};
 ghost use Rattle.drain_rules.specs.Parts.{grid_of, products_of};
 ghost use Rattle.drain_rules.specs.Rows.{IsRowTally, IsRowFault};
@@ -53,8 +55,8 @@ pub struct RowFault {
 /// Tests rules 4 to 9 at the cells of a row, from west to east.
 fn check_fill_row(input: &FillInput<'_>, row: u32) -> Result<Tally, RowFault>
     requires { row < input.now.shape.rows }
-    ensures tally { IfOk result (IsRowTally fill_rules 4 9 (grid_of input.now) (products_of input.now) row) }
-    ensures fault { IfErr result (λ fault. IsRowFault fill_rules 4 9 (grid_of input.now) (products_of input.now) row fault.col fault.rule) }
+    ensures tally { IfOk result (IsRowTally fill_rules IsFillRule (grid_of input.now) (products_of input.now) row) }
+    ensures fault { IfErr result (λ fault. IsRowFault fill_rules IsFillRule (grid_of input.now) (products_of input.now) row fault.col fault.rule) }
 {
     let mut tally = Tally::new();
     for col in 0..input.side() {

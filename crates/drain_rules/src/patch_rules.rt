@@ -1,7 +1,7 @@
 //! The first rule that fails at a cell, of those that look at its patch alone.
 
-ghost use Rattle.drain_grid.specs.PatchRules.{profile1};
-ghost use Rattle.drain_grid.specs.Rule.{IsBetween, IsLeastFault};
+ghost use Rattle.drain_grid.specs.PatchRules.{check_rules};
+ghost use Rattle.drain_grid.specs.Rule.{IsPatchRule, IsLeastFault};
 
 use drain_grid::{NoData, Patch, Rule};
 
@@ -9,7 +9,7 @@ use drain_grid::{NoData, Patch, Rule};
 ///
 /// SharedLabel is the one rule that is left: it is about the labels of other cells, wherever they lie.
 pub fn patch_fault(patch: &Patch, nodata: &NoData) -> Option<Rule>
-    ensures least { IsLeastFault (IsBetween 1 14) (profile1 nodata.now patch.now) result }
+    ensures least { IsLeastFault IsPatchRule (check_rules nodata.now patch.now) result }
 {
     if let Some(rule) = patch.presence_fault(nodata) {
         return Some(rule);

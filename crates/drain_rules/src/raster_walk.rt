@@ -2,7 +2,8 @@
 
 ghost use Rattle.std.specs.Prelude.{◌≡◌, ◌+◌, ◌<◌, IfOk, IfErr, OnOk, OnErr};
 ghost use Rattle.drain_grid.specs.Correct.{IsCorrect, RunsAreSound};
-ghost use Rattle.drain_grid.specs.PatchRules.{profile1};
+ghost use Rattle.drain_grid.specs.Rule.{IsAnyRule};
+ghost use Rattle.drain_grid.specs.PatchRules.{check_rules};
 ghost use Rattle.drain_grid.specs.WholeGrid.{grid_of, products_of, nodata_of};
 ghost use Rattle.drain_rules.specs.Labels.{AreLabelsBefore, HasNewLabel};
 ghost use Rattle.drain_rules.specs.Rows.{IsRowTally, IsRowStop};
@@ -86,7 +87,7 @@ fn check_row(
     requires same_shape { elevation.now.extent ≡ products.now.con.extent }
     requires inside { row < elevation.now.extent.rows }
     requires labels_above { AreLabelsBefore (grid_of elevation.now) (products_of products.now) (record { row = row; col = 0 }) labels.old }
-    ensures tally { IfOk result (IsRowTally (profile1 (nodata_of products.now)) 1 15 (grid_of elevation.now) (products_of products.now) row) }
+    ensures tally { IfOk result (IsRowTally (check_rules (nodata_of products.now)) IsAnyRule (grid_of elevation.now) (products_of products.now) row) }
     ensures labels { OnOk result (AreLabelsBefore (grid_of elevation.now) (products_of products.now) (record { row = row + 1; col = 0 }) labels.new) }
     ensures stopped { IfErr result (IsRowStop (nodata_of products.now) (grid_of elevation.now) (products_of products.now) row) }
 {

@@ -12,10 +12,9 @@
 ghost use Rattle.std.specs.Prelude.{◌≡◌, ◌↔◌, ◌<◌, ◌^◌, pos, IsTrue, MatchOption, Some};
 ghost use Rattle.drain_grid.specs.Direction.{Names, NamesSome, is_straight};
 ghost use Rattle.drain_grid.specs.Patch.{IsOpen, HasLower};
-ghost use Rattle.drain_grid.specs.PatchRules.{profile1};
-ghost use Rattle.drain_grid.specs.Rule.{IsBetween, IsLeastFault};
+ghost use Rattle.drain_grid.specs.PatchRules.{flow_rules};
+ghost use Rattle.drain_grid.specs.Rule.{IsSlopeRule, IsLeastFault};
 ghost use Rattle.drain_grid.specs.Slope.{slope_key, IsSteepest, IsFirstSteepest};
-ghost use Rattle.drain_grid.specs.Values.{NoDataNumbers};
 ghost use Rattle.drain_slope.specs.Key.{key_of, key_at, IsGreatestKey, IsSteepestKey, IsFirstWithKey};
 
 use drain_grid::{CellValues, Code, Direction, Patch, Rule};
@@ -30,7 +29,7 @@ pub fn steepest(patch: &Patch) -> Option<Direction>
 
 /// The first of the two rules that fails at the cell, none where they both hold. A void keeps them both.
 pub fn fault(patch: &Patch) -> Option<Rule>
-    ensures least { (nodata : NoDataNumbers) → IsLeastFault (IsBetween 10 11) (profile1 nodata patch.now) result }
+    ensures least { IsLeastFault IsSlopeRule (flow_rules patch.now) result }
 {
     match steepest_key(patch) {
         Some(steepest) => {

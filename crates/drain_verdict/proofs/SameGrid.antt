@@ -16,7 +16,7 @@ use Rattle.drain_grid.specs.Extent.{IsCellOf, row_cells, cells, step}
 use Rattle.drain_grid.specs.Values.{NoDataNumbers}
 use Rattle.drain_grid.specs.Grid.{Grid, Products, IsInside, HasData, values_at, patch_at}
 use Rattle.drain_grid.specs.Counts.{is_data, is_raised}
-use Rattle.drain_grid.specs.PatchRules.{profile1}
+use Rattle.drain_grid.specs.PatchRules.{check_rules}
 use Rattle.drain_grid.specs.GridRules.{HoldsAt, SharedLabelHolds}
 use Rattle.drain_rules.specs.declared.verdict.Verdict.{Verdict}
 use Rattle.drain_rules.specs.declared.verdict.Verdict.TheVariants.{Accepted, Rejected}
@@ -152,9 +152,9 @@ shared_same e z w ps qs a c holds here code b at_b earlier code_b same =
     (a.bas b at_b.inside ∙ same ∙ sym (a.bas c here.inside))
 
 rule_same : (nodata : NoDataNumbers) (e : Extent) (z w : Cell → Option ℤ) (ps qs : Products) → AreAlike e z w ps qs → (c : Cell) (r : Rule) →
-    IsCellOf e c → HoldsAt (profile1 nodata) (grid e z) ps c r → HoldsAt (profile1 nodata) (grid e w) qs c r
+    IsCellOf e c → HoldsAt (check_rules nodata) (grid e z) ps c r → HoldsAt (check_rules nodata) (grid e w) qs c r
 rule_same nodata e z w ps qs a c SharedLabel inside holds = shared_same e z w ps qs a c holds
-rule_same nodata e z w ps qs a c r inside holds = subst (λ (p : Patch). profile1 nodata p r) (patch_same e z w ps qs a c inside) holds
+rule_same nodata e z w ps qs a c r inside holds = subst (λ (p : Patch). check_rules nodata p r) (patch_same e z w ps qs a c inside) holds
 
 -- and the cells that have data, are raised or are outlets are as many
 counts_same : (e : Extent) (z w : Cell → Option ℤ) (ps qs : Products) → AreAlike e z w ps qs →

@@ -1,6 +1,7 @@
 use Rattle.std.proofs.Common.{None, Some, arith, ap}
 use Rattle.drain_grid.specs.declared.patch.Patch.{Patch}
-use Rattle.drain_rules.specs.FillVerdicts.{fill_rules, unused_numbers}
+use Rattle.drain_grid.specs.Rule.{IsFillRule}
+use Rattle.drain_grid.specs.PatchRules.{fill_rules}
 use Rattle.drain_rules.specs.Parts.{grid_of, products_of}
 use Rattle.drain_rules.specs.Rows.{place}
 use Rattle.drain_rules.proofs.Faults.{IsLeastFault-patch}
@@ -11,9 +12,9 @@ pub returns-in-Some-clause-fault : goal.returns-in-Some-clause-fault
 returns-in-Some-clause-fault c =
     let g = grid_of c.args.input.now in
     let ps = products_of c.args.input.now in
-    IsRowFault-cell fill_rules 4 9 g ps c.args.row c.loop-col.col c.in-Some.rule (omega (arith, c.side-col-end.ensures)) c.loop-col.invariant.holds
-    (IsLeastFault-patch fill_rules 4 9 g ps (place c.args.row c.loop-col.col) (Some c.in-Some.rule) (omega arith)
-    (rw c.patch-patch.ensures at (c.in-Some.ensures.least unused_numbers)))
+    IsRowFault-cell fill_rules IsFillRule g ps c.args.row c.loop-col.col c.in-Some.rule (omega (arith, c.side-col-end.ensures)) c.loop-col.invariant.holds
+    (IsLeastFault-patch fill_rules IsFillRule g ps (place c.args.row c.loop-col.col) (Some c.in-Some.rule) (λ r own. (omega (arith, own.0), omega (arith, own.1)))
+    (rw c.patch-patch.ensures at c.in-Some.ensures.least))
 
 pub loop-col-preserved : goal.loop-col-preserved
 loop-col-preserved c =
@@ -21,9 +22,9 @@ loop-col-preserved c =
     let ps = products_of c.args.input.now in
     let inv = c.loop-col.invariant in
     record {
-      holds = HoldAlong-more fill_rules 4 9 g ps c.args.row c.loop-col.col inv.holds
-          (IsLeastFault-patch fill_rules 4 9 g ps (place c.args.row c.loop-col.col) None (omega arith)
-          (rw c.patch-patch.ensures at (c.in_default.ensures.least unused_numbers)));
+      holds = HoldAlong-more fill_rules IsFillRule g ps c.args.row c.loop-col.col inv.holds
+          (IsLeastFault-patch fill_rules IsFillRule g ps (place c.args.row c.loop-col.col) None (λ r own. (omega (arith, own.0), omega (arith, own.1)))
+          (rw c.patch-patch.ensures at c.in_default.ensures.least));
       counted = CountsAlong-more g ps c.args.row c.loop-col.col c.patch-patch.result.here _ _
           (ap (λ (p : Patch). p.here) c.patch-patch.ensures) inv.counted c.add.ensures.data_cells c.add.ensures.raised c.add.ensures.outlets;
       data_bound = grind (arith, c.add.ensures.data_cells, inv.data_bound);

@@ -1,5 +1,6 @@
 use Rattle.std.proofs.Common.{◌≡◌, arith, below_more}
-use Rattle.drain_rules.specs.FillVerdicts.{fill_rules}
+use Rattle.drain_grid.specs.Rule.{IsFillRule}
+use Rattle.drain_grid.specs.PatchRules.{fill_rules}
 use Rattle.drain_rules.specs.Parts.{grid_of, products_of}
 use Rattle.drain_rules.specs.Rows.{HoldAlong}
 use Rattle.drain_rules.proofs.GridLemmas.{CountsAbove-more, IsFirstFault-row, IsFillVerdict-above, tallies_fit}
@@ -25,7 +26,7 @@ join-requires-clause-outlets_fit c =
 
 pub returns-in-Err : goal.returns-in-Err
 returns-in-Err c =
-    IsFirstFault-row fill_rules 4 9 (grid_of c.args.input.now) (products_of c.args.input.now) c.loop-row.row c.in-Err.fault.col c.in-Err.fault.rule
+    IsFirstFault-row fill_rules IsFillRule (grid_of c.args.input.now) (products_of c.args.input.now) c.loop-row.row c.in-Err.fault.col c.in-Err.fault.rule
     (omega (arith, c.side-side.ensures)) c.loop-row.invariant.holds c.in-Err.ensures.fault
 
 pub loop-row-preserved : goal.loop-row-preserved
@@ -35,7 +36,7 @@ loop-row-preserved c =
     let inv = c.loop-row.invariant in
     let here = c.in-Ok.ensures.tally in
     record {
-      holds = below_more (λ row. HoldAlong fill_rules 4 9 g ps row c.args.input.now.shape.rows) c.loop-row.row inv.holds here.holds;
+      holds = below_more (λ row. HoldAlong fill_rules IsFillRule g ps row c.args.input.now.shape.rows) c.loop-row.row inv.holds here.holds;
       counted = CountsAbove-more g ps c.loop-row.row _ _ _ inv.counted here.counted
           c.join.ensures.data_cells c.join.ensures.raised c.join.ensures.outlets;
     }

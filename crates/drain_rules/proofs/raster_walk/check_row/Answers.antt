@@ -2,7 +2,8 @@ use Rattle.std.proofs.Common.{◌≡◌, None, arith, ap}
 use Rattle.drain_grid.specs.declared.patch.Patch.{Patch}
 use Rattle.drain_grid.specs.Size.{Extent}
 use Rattle.drain_grid.specs.Grid.{IsInside}
-use Rattle.drain_grid.specs.PatchRules.{profile1}
+use Rattle.drain_grid.specs.Rule.{IsAnyRule}
+use Rattle.drain_grid.specs.PatchRules.{check_rules}
 use Rattle.drain_grid.specs.WholeGrid.{grid_of, products_of, nodata_of}
 use Rattle.drain_rules.specs.Rows.{place}
 use Rattle.drain_rules.proofs.Faults.{IsLeastFault-cell}
@@ -32,7 +33,7 @@ loop-col-preserved c =
     record { row = c.requires.inside; col = omega (arith, c.cols-col-end.ensures, cols) } in
     let here = ap (λ (p : Patch). p.here) c.patch-patch.ensures in
     record {
-      holds = HoldAlong-more (profile1 nodata) 1 15 g ps c.args.row c.loop-col.col inv.holds
+      holds = HoldAlong-more (check_rules nodata) IsAnyRule g ps c.args.row c.loop-col.col inv.holds
           (IsLeastFault-cell g ps nodata _ (place c.args.row c.loop-col.col) c.patch-patch.result None inside inv.labels c.patch-patch.ensures
           (rw c.nodata-nodata.ensures at c.in-Ok.ensures.passed));
       counted = CountsAlong-more g ps c.args.row c.loop-col.col c.patch-patch.result.here _ _ here inv.counted

@@ -1,6 +1,7 @@
 use Rattle.std.proofs.Common.{◌≡◌, ◌<◌, ap, arith, below_more}
 use Rattle.drain_grid.specs.Size.{Extent}
-use Rattle.drain_grid.specs.PatchRules.{profile1}
+use Rattle.drain_grid.specs.Rule.{IsAnyRule}
+use Rattle.drain_grid.specs.PatchRules.{check_rules}
 use Rattle.drain_grid.specs.WholeGrid.{grid_of, products_of, nodata_of}
 use Rattle.drain_rules.specs.Rows.{HoldAlong}
 use Rattle.drain_rules.proofs.GridLemmas.{CountsAbove-more, HasNewLabel-row, IsFirstFault-row, IsVerdict-above, tallies_fit}
@@ -37,7 +38,7 @@ returns-in-Err-clause-verdict c =
     let inside : c.loop-row.row < c.args.elevation.now.extent.rows = omega (arith, c.rows-row-end.ensures, rows) in
     elim c.match-end.branch [
       | in-Fault w ↦
-          rw w.result-is (IsFirstFault-row (profile1 nodata) 1 15 g ps c.loop-row.row c.in-Err.end.col w.in-Fault.rule inside c.loop-row.invariant.holds
+          rw w.result-is (IsFirstFault-row (check_rules nodata) IsAnyRule g ps c.loop-row.row c.in-Err.end.col w.in-Fault.rule inside c.loop-row.invariant.holds
           (rw w.in-Fault.is at c.in-Err.ensures.stopped))
       | in-OutOfMemory w ↦ rw w.result-is tt
     ]
@@ -63,7 +64,7 @@ loop-row-preserved c =
     let inv = c.loop-row.invariant in
     let here = c.in-Ok.ensures.tally in
     record {
-      holds = below_more (λ r. HoldAlong (profile1 (nodata_of c.args.products.now)) 1 15 g ps r cols) row inv.holds here.holds;
+      holds = below_more (λ r. HoldAlong (check_rules (nodata_of c.args.products.now)) IsAnyRule g ps r cols) row inv.holds here.holds;
       counted = CountsAbove-more g ps row _ _ _ inv.counted here.counted c.join.ensures.data_cells c.join.ensures.raised c.join.ensures.outlets;
       labels = c.in-Ok.ensures.labels;
     }
