@@ -5,7 +5,7 @@ ghost use Rattle.drain_grid.specs.PatchRules.{profile1, LabelHolds};
 ghost use Rattle.drain_grid.specs.Rule.{IsBetween, IsLeastFault};
 ghost use Rattle.drain_grid.specs.Values.{NoDataNumbers};
 
-use drain_grid::{CellValues, Code, Patch, Rule};
+use drain_grid::{CellValues, Patch, Rule};
 
 /// The rule Label, where it fails at the cell, none where it holds. A void keeps it.
 pub fn fault(patch: &Patch) -> Option<Rule>
@@ -25,12 +25,12 @@ fn keeps_label(patch: &Patch) -> bool
     if patch.here.z.is_none() {
         return true;
     }
-    match Code::from_number(patch.here.dir) {
-        Some(Code::To(direction)) => match patch.neighbor(direction) {
+    match patch.here.direction() {
+        Some(direction) => match patch.neighbor(direction) {
             Some(next) => agree(&patch.here, &next),
             None => true,
         },
-        _ => true,
+        None => true,
     }
 }
 
