@@ -4,7 +4,7 @@ ghost use Rattle.std.specs.Prelude.{◌≡◌, ◌↔◌, IsSome, IsTrue};
 ghost use Rattle.drain_grid.specs.PatchRules.{flow_rules, LabelHolds};
 ghost use Rattle.drain_grid.specs.Rule.{IsOnly, IsLeastFault};
 
-use drain_grid::{CellValues, Code, Patch, Rule};
+use drain_grid::{CellValues, Patch, Rule};
 
 /// The rule Label, where it fails at the cell, none where it holds. A void keeps it.
 pub fn fault(patch: &Patch) -> Option<Rule>
@@ -24,12 +24,12 @@ fn keeps_label(patch: &Patch) -> bool
     if patch.here.z.is_none() {
         return true;
     }
-    match Code::from_number(patch.here.dir) {
-        Some(Code::To(direction)) => match patch.neighbor(direction) {
+    match patch.here.direction() {
+        Some(direction) => match patch.neighbor(direction) {
             Some(next) => agree(&patch.here, &next),
             None => true,
         },
-        _ => true,
+        None => true,
     }
 }
 

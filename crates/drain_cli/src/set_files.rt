@@ -5,7 +5,6 @@ ghost use Rattle.drain_header.specs.Text.{text_of};
 ghost use Rattle.drain_mosaic.specs.Tiling.{extent_of};
 ghost use Rattle.drain_raster.specs.Pixels as pixels;
 ghost use Rattle.drain_raster.specs.Bytes.{CanSpellAll, raster_bytes};
-ghost use Rattle.drain_verdict.specs.Stages.{raster_in};
 ghost use Rattle.drain_maker.specs.Made.{CanBeWritten};
 ghost use Rattle.drain_cli.specs.SetFiles.{WritesFile, WritesFiles, file_bytes, set_bytes};
 
@@ -128,21 +127,7 @@ fn write_file<F: ByteSink>(
     let header = product_header(layout, file.product);
     match file.part {
         Part::Header => write_header(alloc, &header, to),
-        Part::Raster => write_numbers(&header, raster_of(products, file.product), to),
-    }
-}
-
-/// The raster of a product.
-fn raster_of(products: &ProductSet, product: Product) -> &Raster
-    ensures { result.now ≡ raster_in products.now product }
-{
-    match product {
-        Product::Con => &products.con,
-        Product::Dir => &products.dir,
-        Product::Acc => &products.acc,
-        Product::Bas => &products.bas,
-        Product::Spl => &products.spl,
-        Product::Rnk => &products.rnk,
+        Part::Raster => write_numbers(&header, products.raster(file.product), to),
     }
 }
 

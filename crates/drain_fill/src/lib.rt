@@ -11,15 +11,14 @@
 
 pub mod below;
 
-ghost use Rattle.std.specs.Prelude.{◌≡◌, ◌↔◌, ◌<ℤ◌, IsTrue, MatchOption, Some};
+ghost use Rattle.std.specs.Prelude.{◌≡◌, ◌↔◌, ◌<ℤ◌, IsTrue, Some};
 ghost use Rattle.std.specs.Int.{int_max};
-ghost use Rattle.drain_grid.specs.Direction.{Names, NamesSome};
 ghost use Rattle.drain_grid.specs.Patch.{IsOpen, height};
 ghost use Rattle.drain_grid.specs.PatchRules.{fill_rules, BelowGroundHolds, OpenRaisedHolds, NotLeastHolds};
 ghost use Rattle.drain_grid.specs.Rule.{IsFillRule, IsLevelRule, IsSpillRule, IsLeastFault};
 
 pub use below::first_below;
-use drain_grid::{CellValues, Code, Direction, Patch, Rule};
+use drain_grid::{CellValues, Patch, Rule};
 
 /// The first of the six rules that fails at the cell, none where they all hold. A void keeps them all.
 pub fn fault(patch: &Patch) -> Option<Rule>
@@ -79,7 +78,7 @@ fn spill_fault(patch: &Patch, ground: i16) -> Option<Rule>
     requires closed { ¬ IsOpen patch.now }
     ensures least { IsLeastFault IsSpillRule (fill_rules patch.now) result }
 {
-    let Some(direction) = spill_direction(patch) else {
+    let Some(direction) = patch.here.spill_direction() else {
         return Some(Rule::NoSpill);
     };
     // A data cell with no neighbour in some direction would be open.
@@ -92,16 +91,6 @@ fn spill_fault(patch: &Patch, ground: i16) -> Option<Rule>
         Some(Rule::SpillRank)
     } else {
         None
-    }
-}
-
-/// The direction that the spill code names, if it names one.
-fn spill_direction(patch: &Patch) -> Option<Direction>
-    ensures { MatchOption result (¬ NamesSome patch.now.here.spl) (Names patch.now.here.spl) }
-{
-    match Code::from_number(patch.here.spl) {
-        Some(Code::To(direction)) => Some(direction),
-        Some(Code::Outlet) | None => None,
     }
 }
 

@@ -9,14 +9,14 @@
 //! Mulla 2014). That a rank shows this at each cell, and the rule's wording, are this project's own.
 #![tactic(auto)]
 
-ghost use Rattle.std.specs.Prelude.{◌≡◌, ◌↔◌, ◌<ℤ◌, IsSome, IsTrue, MatchOption};
-ghost use Rattle.drain_grid.specs.Direction.{Names, NamesSome};
+ghost use Rattle.std.specs.Prelude.{◌≡◌, ◌↔◌, ◌<ℤ◌, IsSome, IsTrue};
+ghost use Rattle.drain_grid.specs.declared.direction.Direction.{Direction};
 ghost use Rattle.drain_grid.specs.Patch.{IsClosed, HasLower};
 ghost use Rattle.drain_grid.specs.PatchRules.{flow_rules, IsFlatStep};
 ghost use Rattle.drain_grid.specs.Rule.{IsOnly, IsLeastFault};
 ghost use Rattle.drain_grid.specs.Values.{Values};
 
-use drain_grid::{CellValues, Code, Direction, Patch, Rule};
+use drain_grid::{CellValues, Patch, Rule};
 
 /// FlatStep where it fails at the cell, none where it holds. An open cell, one with a lower neighbour and a void keep it.
 pub fn fault(patch: &Patch) -> Option<Rule>
@@ -33,22 +33,12 @@ pub fn fault(patch: &Patch) -> Option<Rule>
 fn steps_along(patch: &Patch) -> bool
     ensures { IsTrue result ↔ ((d : Direction) × (n : Values) × IsFlatStep patch.now d n) }
 {
-    let Some(direction) = named_direction(patch) else {
+    let Some(direction) = patch.here.direction() else {
         return false;
     };
     match patch.neighbor(direction) {
         Some(next) => is_nearer(patch, &next),
         None => false,
-    }
-}
-
-/// The direction that the cell's code names, if it names one.
-fn named_direction(patch: &Patch) -> Option<Direction>
-    ensures { MatchOption result (¬ NamesSome patch.now.here.dir) (Names patch.now.here.dir) }
-{
-    match Code::from_number(patch.here.dir) {
-        Some(Code::To(direction)) => Some(direction),
-        Some(Code::Outlet) | None => None,
     }
 }
 

@@ -14,6 +14,7 @@ use Rattle.drain_grid.specs.WholeGrid as whole
 use Rattle.drain_grid.specs.Rule.{IsAnyRule}
 use Rattle.drain_grid.specs.PatchRules.{check_rules}
 use Rattle.drain_grid.specs.GridRules.{RulesHold}
+use Rattle.drain_grid.specs.WholeGrid.{raster_in}
 use Rattle.drain_header.specs.Faults.{Describes}
 use Rattle.drain_header.specs.Fields.{Fields}
 use Rattle.drain_header.specs.Laws.{TextReadsBack}
@@ -29,7 +30,6 @@ use Rattle.drain_verdict.specs.Inputs.{Inputs}
 use Rattle.drain_verdict.specs.Meaning.{tiling_of, grid_of, fields_of, number_of, products_of, nodata_of, nodata_numbers}
 use Rattle.drain_verdict.specs.Refusals.{IsPlaced}
 use Rattle.drain_verdict.specs.Mosaics.{IsMosaicOf}
-use Rattle.drain_verdict.specs.Stages.{raster_in}
 use Rattle.drain_verdict.specs.Answers.{AreReadable, IsAnswer}
 use Rattle.drain_maker.specs.Headers.{header_of}
 use Rattle.drain_maker.specs.Made.{AreMade}

@@ -5,7 +5,7 @@ use Rattle.drain_grid.specs.declared.product.Product.{Product}
 use Rattle.drain_grid.specs.declared.product_set.ProductSet.{ProductSet}
 use Rattle.drain_grid.specs.Grid.{Grid, Products}
 use Rattle.drain_grid.specs.Rasters.{Heights}
-use Rattle.drain_grid.specs.WholeGrid.{grid_of, products_of}
+use Rattle.drain_grid.specs.WholeGrid.{grid_of, products_of, raster_in}
 use Rattle.drain_hgt.specs.Name.{Names}
 use Rattle.drain_header.specs.Text.{text_of}
 use Rattle.drain_raster.specs.Bytes.{raster_bytes}
@@ -17,7 +17,6 @@ use Rattle.drain_verdict.specs.declared.refusal.Refusal.TheVariants.{OutOfMemory
 use Rattle.drain_verdict.specs.Inputs.{Inputs, AreNames}
 use Rattle.drain_verdict.specs.Meaning.{tiling_of}
 use Rattle.drain_verdict.specs.Mosaics.{IsMosaicOf}
-use Rattle.drain_verdict.specs.Stages.{raster_in}
 use Rattle.drain_verdict.specs.Answers.{IsAnswer}
 use Rattle.drain_maker.specs.Headers.{header_of}
 use Rattle.drain_maker.specs.Made.{AreMade}

@@ -5,13 +5,12 @@ use Rattle.drain_grid.specs.declared.product.Product.TheVariants.{Con, Dir, Acc,
 use Rattle.drain_grid.specs.declared.product_set.ProductSet.{ProductSet}
 use Rattle.drain_grid.specs.Product.{default_numbers}
 use Rattle.drain_grid.specs.Rasters.{Heights, ArePixels}
-use Rattle.drain_grid.specs.WholeGrid.{grid_of, products_of, nodata_of}
+use Rattle.drain_grid.specs.WholeGrid.{grid_of, products_of, nodata_of, raster_in}
 use Rattle.drain_grid.specs.Rule.{IsAnyRule}
 use Rattle.drain_grid.specs.PatchRules.{check_rules}
 use Rattle.drain_grid.specs.GridRules.{RulesHold}
 use Rattle.drain_raster.specs.Bytes.{CanSpellAll, CanSpellAllIn}
 use Rattle.drain_mosaic.specs.Tiling.{Tiling}
-use Rattle.drain_verdict.specs.Stages.{raster_in}
 use Rattle.drain_maker.specs.Headers.{header_of, bits_of, is_signed}
 
 -- all fifteen rules hold at every cell, with the default no-data numbers

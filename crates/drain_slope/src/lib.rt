@@ -10,14 +10,14 @@
 #![tactic(auto)]
 
 ghost use Rattle.std.specs.Prelude.{◌≡◌, ◌↔◌, ◌<◌, ◌^◌, pos, IsTrue, MatchOption, Some};
-ghost use Rattle.drain_grid.specs.Direction.{Names, NamesSome, is_straight};
+ghost use Rattle.drain_grid.specs.Direction.{Names};
 ghost use Rattle.drain_grid.specs.Patch.{IsOpen, HasLower};
 ghost use Rattle.drain_grid.specs.PatchRules.{flow_rules};
 ghost use Rattle.drain_grid.specs.Rule.{IsSlopeRule, IsLeastFault};
 ghost use Rattle.drain_grid.specs.Slope.{slope_key, IsSteepest, IsFirstSteepest};
 ghost use Rattle.drain_slope.specs.Key.{key_of, key_at, IsGreatestKey, IsSteepestKey, IsFirstWithKey};
 
-use drain_grid::{CellValues, Code, Direction, Patch, Rule};
+use drain_grid::{CellValues, Direction, Patch, Rule};
 
 /// The first of the steepest lower neighbours, in the order of directions; none where no neighbour is lower, and at a void.
 pub fn steepest(patch: &Patch) -> Option<Direction>
@@ -61,19 +61,9 @@ fn leads_steepest(patch: &Patch, steepest: u128) -> bool
     requires { IsSteepestKey patch.now steepest }
     ensures { IsTrue result ↔ ((d : Direction) × Names patch.now.here.dir d × IsSteepest patch.now d) }
 {
-    match named_direction(patch) {
+    match patch.here.direction() {
         Some(direction) => key(patch, direction) == steepest,
         None => false,
-    }
-}
-
-/// The direction that the cell's code names, if it names one.
-fn named_direction(patch: &Patch) -> Option<Direction>
-    ensures { MatchOption result (¬ NamesSome patch.now.here.dir) (Names patch.now.here.dir) }
-{
-    match Code::from_number(patch.here.dir) {
-        Some(Code::To(direction)) => Some(direction),
-        Some(Code::Outlet) | None => None,
     }
 }
 
@@ -129,7 +119,7 @@ fn key_to(patch: &Patch, direction: Direction, there: &CellValues) -> u128
 {
     if there.z.is_some() && there.con < patch.here.con {
         let drop = (patch.here.con - there.con) as u64;
-        key_of_drop(is_straight(direction), drop)
+        key_of_drop(direction.is_straight(), drop)
     } else {
         0
     }
@@ -142,17 +132,6 @@ fn key_of_drop(straight: bool, drop: u64) -> u128
 {
     let square = drop as u128 * drop as u128;
     if straight { 2 * square } else { square }
-}
-
-/// Whether a step goes along a row or a column, and not across a corner.
-fn is_straight(direction: Direction) -> bool
-    ensures { result ≡ is_straight direction }
-{
-    match direction {
-        Direction::East | Direction::South | Direction::West | Direction::North => true,
-        Direction::SouthEast | Direction::SouthWest | Direction::NorthWest | Direction::NorthEast =>
-            false,
-    }
 }
 
 #[cfg(test)]

@@ -11,6 +11,7 @@ use Rattle.drain_grid.specs.Rasters.{Heights, Pixels}
 use Rattle.drain_grid.specs.Values.{NoDataNumbers}
 use Rattle.drain_grid.specs.Whole.{elevation_at, number_at}
 use Rattle.drain_grid.specs.WholeGrid as whole
+use Rattle.drain_grid.specs.WholeGrid.{raster_in}
 use Rattle.drain_raster.specs.Pixels as pixels
 use Rattle.drain_mosaic.specs.Tiling as tiling
 use Rattle.drain_mosaic.specs.Mosaic.{TilesAgree, IsElevation}
@@ -20,7 +21,6 @@ use Rattle.drain_rules.specs.Verdicts.{IsVerdict}
 use Rattle.drain_verdict.specs.Inputs.{Inputs}
 use Rattle.drain_verdict.specs.Meaning.{tiling_of, tiles_of, grid_of, fields_of, number_of, products_of, nodata_of, nodata_numbers}
 use Rattle.drain_verdict.specs.Refusals.{HasShape}
-use Rattle.drain_verdict.specs.Stages.{raster_in}
 use Rattle.drain_verdict.proofs.SameGrid.{AreSame, verdict_goes_along}
 use Rattle.drain_verdict.proofs.WholeGrids.{elevation_is_first_value, number_of_raster}
 

@@ -3,6 +3,7 @@ use Rattle.std.proofs.Common.{◌≡◌, ◌⊎◌, ◌↔◌, inl, inr, List, �
 use Rattle.drain_grid.specs.declared.product.Product.{Product}
 use Rattle.drain_grid.specs.declared.product_set.ProductSet.{ProductSet}
 use Rattle.drain_grid.specs.Product.{default_no_data}
+use Rattle.drain_grid.specs.WholeGrid.{raster_in}
 use Rattle.drain_header.specs.Fields.{Fields}
 use Rattle.drain_raster.specs.Pixels.{extent_of, raster_of, IsShort}
 use Rattle.drain_mosaic.specs.Tiling as tiling
@@ -12,7 +13,7 @@ use Rattle.drain_verdict.specs.Inputs.{Inputs}
 use Rattle.drain_verdict.specs.Meaning.{tiling_of, fields_of}
 use Rattle.drain_verdict.specs.Refusals.{NoneStandsBefore}
 use Rattle.drain_verdict.specs.Answers.{IsAnswer}
-use Rattle.drain_verdict.specs.Stages.{IsTileRefusal, IsRasterRefusal, IsRasterOf, AreSamplesOf, AreThoseOf, header_for, raster_in}
+use Rattle.drain_verdict.specs.Stages.{IsTileRefusal, IsRasterRefusal, IsRasterOf, AreSamplesOf, AreThoseOf, header_for}
 use Rattle.drain_verdict.proofs.BodyAnswers.{tiles_none, tile_refused, rasters_none, raster_refused}
 
 -- the lengths of the tiles, said of the inputs

@@ -9,6 +9,7 @@ use Rattle.drain_grid.specs.Product.{default_no_data}
 use Rattle.drain_grid.specs.Rasters.{Heights, Pixels}
 use Rattle.drain_grid.specs.Tile.{IsSide}
 use Rattle.drain_grid.specs.Whole.{elevation_at}
+use Rattle.drain_grid.specs.WholeGrid.{raster_in}
 use Rattle.drain_hgt.specs.declared.input.TileInput.{TileInput}
 use Rattle.drain_hgt.specs.Corner.{Corner}
 use Rattle.drain_hgt.specs.Name.{Names}
@@ -150,15 +151,6 @@ IsTileRefusal t bodies refusal = ⊥
 -- the products have these bodies
 abbrev pub AreRasterBodies : {R : Type 0} → (R → Option (List ℕ)) → Products R → (Product → List ℕ) → Type 0
 AreRasterBodies bytes_left ps bodies = (p : Product) → bytes_left (input_of ps p).body ≡ Some (bodies p)
-
--- the raster of a product among all of them
-abbrev pub raster_in : ProductSet → Product → Pixels
-raster_in s Con = s.con
-raster_in s Dir = s.dir
-raster_in s Acc = s.acc
-raster_in s Bas = s.bas
-raster_in s Spl = s.spl
-raster_in s Rnk = s.rnk
 
 -- the body is long enough, and this is its raster
 pub record IsRasterOf (h : Fields) (p : Product) (body : List ℕ) (raster : Pixels) : Type 0 where

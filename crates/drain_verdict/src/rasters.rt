@@ -4,11 +4,12 @@ ghost use Rattle.std.specs.Prelude.{◌≡◌, ℕ, List, Some, IfOk, IfErr, IsE
 ghost use Rattle.drain_device.specs.Failing.{ReadFails};
 ghost use Rattle.drain_device.specs.Reads.{TakesAtMost};
 ghost use Rattle.drain_grid.specs.declared.product.Product.{Product};
+ghost use Rattle.drain_grid.specs.WholeGrid.{raster_in};
 ghost use Rattle.drain_raster.specs.Pixels.{extent_of, needed_len};
 ghost use Rattle.drain_verdict.specs.Faults.{SomeReadFails, product_devices};
 ghost use Rattle.drain_verdict.specs.Inputs.{input_of};
 ghost use Rattle.drain_verdict.specs.Refusals.{IsOfBodies};
-ghost use Rattle.drain_verdict.specs.Stages.{AreRasterBodies, IsRasterOf, IsOneRasterRefusal, IsRasterRefusal, header_for, raster_in};
+ghost use Rattle.drain_verdict.specs.Stages.{AreRasterBodies, IsRasterOf, IsOneRasterRefusal, IsRasterRefusal, header_for};
 
 use crate::headers::Headers;
 use crate::input::Products;
