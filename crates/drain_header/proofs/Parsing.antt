@@ -3,7 +3,7 @@ use Rattle.std.proofs.Common.{◌≡◌, ℕ, ◌≤◌, false, List, suc, lengt
 use Rattle.std.specs.Prelude.{cond, nat_lt, Option, Some, None, Result, Ok, Err}
 use Rattle.std.specs.Result.{IsErrAnd}
 use Rattle.std.proofs.lemmas.Bool.{le-ltb}
-use Rattle.drain_grid.specs.Text.{lines_of}
+use Rattle.drain_text.specs.Text.{lines_of}
 use Rattle.drain_header.specs.declared.key.Key.{Key}
 use Rattle.drain_header.specs.declared.fault.HeaderFault.{HeaderFault}
 use Rattle.drain_header.specs.declared.fault.HeaderFault.TheVariants.{TooLong, MissingKey}

@@ -1,55 +1,25 @@
 -- The values of a header's text read back as the numbers that were printed.
 use Rattle.std.proofs.Common.{◌≡◌, ℕ, ◌+◌, ◌*◌, ◌/◌, ◌^◌, ◌<◌, ◌≤◌, Bool, true, false, List, [], ◌∷◌, ◌++◌, length, arith, refl, sym, ap, ◌∙◌, length-append, append-nil, append_assoc}
-use Rattle.std.specs.Prelude.{ℤ, pos, negsuc, unsigned_abs, cond, nat_le, ◌==◌, ◌&&◌, ◌||◌, slice_index, Option, Some, None, option_and_then, decimal}
-use Rattle.std.specs.List.{list_all}
-use Rattle.std.specs.Char.{is_ascii_digit}
+use Rattle.std.specs.Prelude.{ℤ, pos, negsuc, unsigned_abs, cond, nat_le, ◌==◌, ◌&&◌, ◌||◌, slice_index, Some, None, option_and_then, decimal}
 use Rattle.std.specs.Fmt.{sign_text, signed_decimal}
 use Rattle.std.specs.Int.{is_negative}
 use Rattle.std.specs.Str.Parse.{digits_value, AllDigits, IsNumeral}
 use Rattle.std.specs.Float.Numeral.{Parts, scan_numeral, minus}
 use Rattle.std.proofs.lemmas.Bool.{le-leb, le-ltb, lt-ltb, ne_eqb, eq-eqb}
-use Rattle.std.proofs.lemmas.Fmt.{decimal_is_IsNumeral, length-decimal-le}
+use Rattle.std.proofs.lemmas.Fmt.{decimal_is_IsNumeral}
 use Rattle.std.proofs.lemmas.Str.Parse.{digit_from_value}
 use Rattle.std.proofs.lemmas.Float.Parse.{scan_numeral-text_of}
 use Rattle.std.proofs.lemmas.Int.{ints}
-use Rattle.drain_grid.specs.Text.{whole_number}
 use Rattle.drain_grid.specs.Values.{IsNoData}
 use Rattle.drain_header.specs.Fields.{IsCoordinate}
 use Rattle.drain_header.specs.Decimals.{unsigned_part, are_decimal, decimal_from, decimal_of, is_small, is_whole, in_units, with_sign, coordinate_of, nodata_of}
 use Rattle.drain_header.specs.Lines.{size_of}
 use Rattle.drain_header.specs.Text.{fraction_text, places_text}
-use Rattle.drain_header.proofs.DecimalText.{length-last_digits, last_digits_are, value_of_places, pointed, pointed_reads}
+use Rattle.drain_text.proofs.LastDigits.{length-last_digits, last_digits_are}
+use Rattle.drain_header.proofs.DecimalText.{value_of_places, pointed, pointed_reads}
 use Rattle.drain_header.proofs.Units.{coordinate_is, nodata_is}
-use Rattle.drain_header.proofs.Entries.{AllInk, IsWord, ink-append}
-
--- digits are ink
-pub digits_ink : (ds : List ℕ) → AllDigits 10 ds → AllInk ds
-digits_ink [] h = tt
-digits_ink (c ∷ cs) h = let r = digit_from_value c h.0 in (omega arith, digits_ink cs h.1)
-
-two : (a b : Bool) → a ≡ true → b ≡ true → (a && b) ≡ true
-two a b p q = rw (p, q) refl
-
-digits_told : (ds : List ℕ) → AllDigits 10 ds → list_all is_ascii_digit ds ≡ true
-digits_told [] h = refl
-digits_told (c ∷ cs) h = let r = digit_from_value c h.0 in two _ _ (two _ _ (le-leb 48 c (omega arith)) (le-leb c 57 (omega arith))) (digits_told cs h.1)
-
--- a printed number is a word
-pub decimal_word : (n : ℕ) → n < 2 ^ 64 → IsWord (decimal n)
-decimal_word n small = let is = (decimal_is_IsNumeral n small).0 in record { some = is.0; ink = digits_ink (decimal n) is.1 }
-
-pub decimal_short : (n : ℕ) → n < 2 ^ 64 → length (decimal n) ≤ 20
-decimal_short n small = length-decimal-le 20 n (omega arith) (omega arith) (omega arith)
-
-chosen : (t : Bool) (x : Option ℕ) → t ≡ true → cond t x None ≡ x
-chosen t x is = ap (λ b. cond b x None) is
-
-pub whole_read : (n : ℕ) → n ≤ 4294967295 → whole_number (decimal n) ≡ Some n
-whole_read n fits =
-    let is = decimal_is_IsNumeral n (omega arith) in
-    let value = is.1 in
-    chosen _ (Some (digits_value 10 (decimal n))) (two _ _ (lt-ltb _ _ is.0.0) (two _ _ (digits_told (decimal n) is.0.1) (le-leb _ _ (omega arith))))
-    ∙ ap (λ (x : ℕ). Some x) value
+use Rattle.drain_text.proofs.Joining.{AllInk, IsWord, ink-append}
+use Rattle.drain_text.proofs.Printed.{two, chosen, digits_ink, decimal_word, decimal_short, whole_read}
 
 pub size_read : (n : ℕ) → 1 ≤ n → n ≤ 28801 → size_of (decimal n) ≡ Some n
 size_read n some fits =
