@@ -8,7 +8,7 @@ use Rattle.drain_header.specs.declared.fault.HeaderFault.TheVariants.{TooLong, R
 use Rattle.drain_header.specs.Fields.{Fields}
 use Rattle.drain_header.specs.Lines.{keys}
 use Rattle.drain_header.specs.Faults.{fault_order, HasFault, Answers}
-use Rattle.drain_header.proofs.PlainLemmas.{key_place}
+use Rattle.drain_header.proofs.AnswerTests.{key_place}
 
 -- the fault of a line that has this second number
 abbrev line_fault_at : ℕ → HeaderFault

@@ -13,8 +13,8 @@ use Rattle.drain_header.specs.Reading.{Seen, nothing, with_lines}
 use Rattle.drain_header.specs.Lacking.{lacking}
 use Rattle.drain_header.specs.Finished.{finished, AreTaken}
 use Rattle.drain_header.proofs.Search.{first_below}
-use Rattle.drain_header.proofs.Plain.{line_fault, last_answer, key_answer, line_answer, answer_of}
-use Rattle.drain_header.proofs.PlainAnswers.{answer_is}
+use Rattle.drain_header.proofs.AnswerFunction.{line_fault, last_answer, key_answer, line_answer, answer_of}
+use Rattle.drain_header.proofs.AnswerMeaning.{answer_is}
 use Rattle.drain_header.proofs.Folding.{IsSeen, Outcome, lines_read}
 use Rattle.drain_header.proofs.Missing.{missing_is}
 use Rattle.drain_header.proofs.Finishing

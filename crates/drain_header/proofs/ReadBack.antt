@@ -56,8 +56,8 @@ pointed_decimal negative (c ∷ cs) fraction is digits =
     (two _ _ (lt-ltb _ _ (omega arith)) (two _ _ (eq-eqb _ _ all) refl))
 
 -- the parts of digits alone
-abbrev pub plain : List ℕ → Parts
-plain whole = record {
+abbrev pub unpointed : List ℕ → Parts
+unpointed whole = record {
   whole = whole;
   point = false;
   fraction = [];
@@ -66,10 +66,10 @@ plain whole = record {
   len = length (whole ++ ([] ++ []));
 }
 
-plain_reads : (whole : List ℕ) → AllDigits 10 whole → scan_numeral whole ≡ plain whole
-plain_reads whole p =
+unpointed_reads : (whole : List ℕ) → AllDigits 10 whole → scan_numeral whole ≡ unpointed whole
+unpointed_reads whole p =
     ap scan_numeral (sym (append-nil whole))
-    ∙ scan_numeral-text_of (plain whole) (record {
+    ∙ scan_numeral-text_of (unpointed whole) (record {
       whole_digits = p;
       fraction_digits = tt;
       exponent_digits = tt;
@@ -78,13 +78,13 @@ plain_reads whole p =
       len_is = refl;
     })
 
-pub plain_decimal : (negative : Bool) (whole : List ℕ) → IsNumeral 10 whole → decimal_of (sign_text negative ++ whole) ≡ Some (decimal_from negative (plain whole))
-plain_decimal negative [] is = absurd (omega (arith, is.0))
-plain_decimal negative (c ∷ cs) is =
+pub unpointed_decimal : (negative : Bool) (whole : List ℕ) → IsNumeral 10 whole → decimal_of (sign_text negative ++ whole) ≡ Some (decimal_from negative (unpointed whole))
+unpointed_decimal negative [] is = absurd (omega (arith, is.0))
+unpointed_decimal negative (c ∷ cs) is =
     let first = digit_from_value c is.1.0 in
     let signed = signed_word negative c cs (omega arith) in
     let all : length ((c ∷ cs) ++ ([] ++ [])) ≡ length (c ∷ cs) = ap length (append-nil (c ∷ cs)) in
-    decimal_of_parts (sign_text negative ++ c ∷ cs) (c ∷ cs) negative (plain (c ∷ cs)) signed.0 signed.1 (plain_reads (c ∷ cs) is.1)
+    decimal_of_parts (sign_text negative ++ c ∷ cs) (c ∷ cs) negative (unpointed (c ∷ cs)) signed.0 signed.1 (unpointed_reads (c ∷ cs) is.1)
     (two _ _ (lt-ltb _ _ (omega arith)) (two _ _ (eq-eqb _ _ all) refl))
 
 -- a number is its sign and its magnitude
@@ -108,13 +108,13 @@ coordinate_small (negsuc n) is = let h = is.low in omega (arith, ints)
 pub nodata_read : (z : ℤ) → unsigned_abs z ≤ 10000000000 → nodata_of (signed_decimal z) ≡ Some z
 nodata_read z small =
     let numeral = decimal_is_IsNumeral (unsigned_abs z) (omega arith) in
-    let d = decimal_from (is_negative z) (plain (decimal (unsigned_abs z))) in
+    let d = decimal_from (is_negative z) (unpointed (decimal (unsigned_abs z))) in
     let value : digits_value 10 (decimal (unsigned_abs z) ++ []) ≡ unsigned_abs z = ap (digits_value 10) (append-nil (decimal (unsigned_abs z))) ∙ numeral.1 in
     let low : is_small d ≡ true = le-leb _ _ (omega (arith, value)) in
     let whole : is_whole d ≡ true = eq-eqb _ _ (omega arith) in
     let units : in_units 0 d ≡ z = ap (with_sign (is_negative z)) (omega (arith, value)) ∙ signed_again z in
     ap nodata_of (signed_text z)
-    ∙ sym (nodata_is (sign_text (is_negative z) ++ decimal (unsigned_abs z)) d z (sym (plain_decimal (is_negative z) (decimal (unsigned_abs z)) numeral.0)) low whole units)
+    ∙ sym (nodata_is (sign_text (is_negative z) ++ decimal (unsigned_abs z)) d z (sym (unpointed_decimal (is_negative z) (decimal (unsigned_abs z)) numeral.0)) low whole units)
 
 -- what the digits behind the point are
 pub record IsFraction (n : ℕ) : Type 0 where
