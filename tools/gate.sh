@@ -1,6 +1,7 @@
 #!/usr/bin/env bash
-# The merge gate: every proof from nothing, the must-fail edits and the tests (rt ci), then the program that came of it and its own tests, tests
-# with memory refused, and wrong makers. Each step ends with a line that tells its seconds: those that passed, and those of processors.
+# The merge gate: that each crate's README names its files; every proof from nothing, the must-fail edits and the tests (rt ci); then the program
+# that came of it and its own tests, tests with memory refused, and wrong makers. Each step but the first ends with a line that tells its seconds:
+# those that passed, and those of processors.
 # Usage: tools/gate.sh
 set -euo pipefail
 cd "$(dirname "$0")/.."
@@ -8,6 +9,7 @@ TIMEFORMAT='took %0R s, of processors %0U s and %0S s of the system'
 
 mkdir -p build
 rm -f build/gate_passed
+tools/check_readmes.py
 rt version >build/gate_began
 time rt ci
 mv build/gate_began build/gate_passed

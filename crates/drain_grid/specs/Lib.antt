@@ -2,7 +2,6 @@ pub mod Correct
 pub mod Counts
 pub mod Direction
 pub mod Extent
-pub mod First
 pub mod Grid
 pub mod GridRules
 pub mod Laws
@@ -16,7 +15,6 @@ pub mod Rule
 pub mod Run
 pub mod Size
 pub mod Slope
-pub mod Text
 pub mod Tile
 pub mod Values
 pub mod Whole

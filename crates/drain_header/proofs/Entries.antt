@@ -2,88 +2,19 @@
 --
 -- An entry is a keyword and its value. Everything goes by recursion along a list of entries: the lines of the text are those
 -- of the entries, and the value at a keyword is that of the first entry with the keyword.
-use Rattle.std.proofs.Common.{◌≡◌, ℕ, zero, suc, ◌+◌, ◌-◌, ◌*◌, ◌<◌, ◌≤◌, Bool, true, false, List, [], ◌∷◌, ◌++◌, length, take, arith, refl, sym, ap, ◌∙◌, length-append, append_assoc}
-use Rattle.std.specs.Prelude.{cond, find, nat_eq, nat_lt, ◌&&◌, ◌==◌, ◌||◌, filter, map, slice_get, slice_index, Option, Some, None, option_and_then}
-use Rattle.std.specs.List.{slice_split, onto_first, list_all}
-use Rattle.std.specs.Str.Lines.{strip_carriage_return}
-use Rattle.std.proofs.lemmas.Bool.{ltb-true, lt-ltb, ne_eqb}
-use Rattle.drain_grid.specs.Text.{lines_of, words_of}
+use Rattle.std.proofs.Common.{◌≡◌, ℕ, zero, suc, ◌+◌, ◌*◌, ◌<◌, ◌≤◌, Bool, true, false, List, [], ◌∷◌, ◌++◌, length, arith, refl, sym, ap, ◌∙◌, length-append, append_assoc}
+use Rattle.std.specs.Prelude.{cond, find, nat_eq, nat_lt, slice_get, Option, Some, None, option_and_then}
+use Rattle.std.specs.List.{list_all}
+use Rattle.drain_text.specs.Text.{lines_of, words_of}
+use Rattle.drain_text.proofs.Joining.{IsWord, ink_told, spaced, line_first, two_words}
 use Rattle.drain_header.specs.declared.key.Key.{Key}
 use Rattle.drain_header.specs.declared.key.Key.TheVariants.{Nrows, Ncols, Nbands, Nbits, ByteOrder, Layout, PixelType, SkipBytes, BandRowBytes, TotalRowBytes, Ulxmap, Ulymap, Xdim, Ydim, Nodata}
 use Rattle.drain_header.specs.Lines.{name_of, key_order, named_key, key_of, value_of, value_at, is_some_key, takes, takes_some}
-use Rattle.drain_header.specs.Parts.{is_blank}
 use Rattle.drain_header.specs.Text.{line}
-
--- each byte stands above the space
-abbrev pub AllInk : List ℕ → Type 0
-AllInk [] = Unit {0}
-AllInk (x ∷ xs) = (32 < x) × AllInk xs
-
--- a word: some bytes, each above the space
-pub record IsWord (word : List ℕ) : Type 0 where
-  pub some : 0 < length word
-  pub ink : AllInk word
-
-pub ink-append : (xs ys : List ℕ) → AllInk xs → AllInk ys → AllInk (xs ++ ys)
-ink-append [] ys p q = q
-ink-append (x ∷ xs) ys p q = (p.0, ink-append xs ys p.1 q)
-
-both : (a b : Bool) → (a && b) ≡ true → (a ≡ true) × (b ≡ true)
-both true b e = (refl, e)
-both false b e = cc
-
--- by a test that computes
-pub ink_told : (xs : List ℕ) → list_all (λ x. nat_lt 32 x) xs ≡ true → AllInk xs
-ink_told [] e = tt
-ink_told (x ∷ xs) e = let r = both _ _ e in (ltb-true _ _ r.0, ink_told xs r.1)
-
--- no element passes
-abbrev pub NonePasses : (ℕ → Bool) → List ℕ → Type 0
-NonePasses p [] = Unit {0}
-NonePasses p (x ∷ xs) = (p x ≡ false) × NonePasses p xs
-
-none-append : (p : ℕ → Bool) (xs ys : List ℕ) → NonePasses p xs → NonePasses p ys → NonePasses p (xs ++ ys)
-none-append p [] ys a b = b
-none-append p (x ∷ xs) ys a b = (a.0, none-append p xs ys a.1 b)
-
--- a text up to the first that passes
-split_at : (p : ℕ → Bool) (xs : List ℕ) (b : ℕ) (rest : List ℕ) → NonePasses p xs → p b ≡ true → slice_split p (xs ++ b ∷ rest) ≡ xs ∷ slice_split p rest
-split_at p [] b rest none is = ap (λ t. cond t ([] ∷ slice_split p rest) (onto_first b (slice_split p rest))) is
-split_at p (x ∷ xs) b rest none is =
-    ap (λ t. cond t ([] ∷ slice_split p (xs ++ b ∷ rest)) (onto_first x (slice_split p (xs ++ b ∷ rest)))) none.0
-    ∙ ap (onto_first x) (split_at p xs b rest none.1 is)
-
-split_none : (p : ℕ → Bool) (xs : List ℕ) → NonePasses p xs → slice_split p xs ≡ xs ∷ []
-split_none p [] none = refl
-split_none p (x ∷ xs) none =
-    ap (λ t. cond t ([] ∷ slice_split p xs) (onto_first x (slice_split p xs))) none.0
-    ∙ ap (onto_first x) (split_none p xs none.1)
-
--- bytes above the space are neither line feeds, nor carriage returns, nor blanks
-no_feed : (xs : List ℕ) → AllInk xs → NonePasses (λ b. b == 10) xs
-no_feed [] h = tt
-no_feed (x ∷ xs) h = let low = h.0 in (ne_eqb x 10 (λ e. omega (arith, e)), no_feed xs h.1)
-
-no_return : (xs : List ℕ) → AllInk xs → NonePasses (λ b. b == 13) xs
-no_return [] h = tt
-no_return (x ∷ xs) h = let low = h.0 in (ne_eqb x 13 (λ e. omega (arith, e)), no_return xs h.1)
-
-neither : (a b : Bool) → a ≡ false → b ≡ false → (a || b) ≡ false
-neither a b p q = rw (p, q) refl
-
-no_blank : (xs : List ℕ) → AllInk xs → NonePasses is_blank xs
-no_blank [] h = tt
-no_blank (x ∷ xs) h = let low = h.0 in (neither (x == 32) (x == 9) (ne_eqb x 32 (λ e. omega (arith, e))) (ne_eqb x 9 (λ e. omega (arith, e))), no_blank xs h.1)
-
-no_return_at : (xs : List ℕ) (i : ℕ) → NonePasses (λ b. b == 13) xs → (slice_index xs i == 13) ≡ false
-no_return_at [] zero h = refl
-no_return_at [] (suc i) h = refl
-no_return_at (x ∷ xs) zero h = h.0
-no_return_at (x ∷ xs) (suc i) h = no_return_at xs i h.1
 
 -- a keyword, a space and its value
 abbrev pub bare : Key → List ℕ → List ℕ
-bare key value = name_of key ++ 32 ∷ value
+bare key value = spaced (name_of key) value
 
 abbrev pub entries_text : List (Key × List ℕ) → List ℕ
 entries_text [] = []
@@ -175,31 +106,19 @@ abbrev pub AllGood : ℕ → List (Key × List ℕ) → Type 0
 AllGood n [] = Unit {0}
 AllGood n (e ∷ es) = IsGood n e × AllGood (suc n) es
 
--- a line of the text
-line_first : (key : Key) (value rest : List ℕ) → AllInk value → lines_of (bare key value ++ 10 ∷ rest) ≡ bare key value ∷ lines_of rest
-line_first key value rest ink =
-    let name = ink_told (name_of key) (name_ink key) in
-    let feeds : NonePasses (λ b. b == 10) (bare key value) = none-append (λ b. b == 10) (name_of key) (32 ∷ value) (no_feed _ name) (refl, no_feed _ ink) in
-    let returns : NonePasses (λ b. b == 13) (bare key value) = none-append (λ b. b == 13) (name_of key) (32 ∷ value) (no_return _ name) (refl, no_return _ ink) in
-    ap (map strip_carriage_return) (split_at (λ b. b == 10) (bare key value) 10 rest feeds refl)
-    ∙ ap (λ t. cond t (take (length (bare key value) - 1) (bare key value)) (bare key value) ∷ lines_of rest) (no_return_at (bare key value) (length (bare key value) - 1) returns)
-
+-- the lines of the text
 pub lines_entries : (n : ℕ) (es : List (Key × List ℕ)) → AllGood n es → lines_of (entries_text es) ≡ entries_lines es
 unfolding line
 lines_entries n [] good = refl
 lines_entries n (e ∷ es) good =
     let regrouped : line e.0 e.1 ++ entries_text es ≡ bare e.0 e.1 ++ 10 ∷ entries_text es = simp append_assoc in
     ap lines_of regrouped
-    ∙ line_first e.0 e.1 (entries_text es) good.0.word.ink
+    ∙ line_first (name_of e.0) e.1 (entries_text es) (ink_told (name_of e.0) (name_ink e.0)) good.0.word.ink
     ∙ ap (λ ls. bare e.0 e.1 ∷ ls) (lines_entries (suc n) es good.1)
 
 -- the words of a line
 words_bare : (key : Key) (value : List ℕ) → IsWord value → words_of (bare key value) ≡ name_of key ∷ value ∷ []
-words_bare key value word =
-    let name = no_blank (name_of key) (ink_told (name_of key) (name_ink key)) in
-    ap (filter (λ w. nat_lt 0 (length w))) (split_at is_blank (name_of key) 32 value name refl ∙ ap (λ ws. name_of key ∷ ws) (split_none is_blank value (no_blank value word.ink)))
-    ∙ ap (λ t. cond t (name_of key ∷ cond (nat_lt 0 (length value)) (value ∷ []) []) (cond (nat_lt 0 (length value)) (value ∷ []) [])) (lt-ltb _ _ (name_some key).0)
-    ∙ ap (λ t. name_of key ∷ cond t (value ∷ []) []) (lt-ltb _ _ word.some)
+words_bare key value word = two_words (name_of key) value (record { some = (name_some key).0; ink = ink_told (name_of key) (name_ink key) }) word
 
 pub key_bare : (key : Key) (value : List ℕ) → IsWord value → key_of (bare key value) ≡ Some key
 key_bare key value word = ap (λ ws. option_and_then named_key (slice_get ws 0)) (words_bare key value word) ∙ named key

@@ -2,7 +2,7 @@
 use Rattle.std.proofs.Common.{◌≡◌, ℕ, Bool, true, false, List, suc, length, ◌*◌, ◌/◌, arith, refl, sym, ap, subst, ◌∙◌}
 use Rattle.std.specs.Prelude.{ℤ, pos, not, ◌&&◌, ◌==◌, cond, nat_le, nat_lt, Option, Some, None, is_none, IfSome, option_and_then, option_map, unwrap_or, Result, Ok, Err}
 use Rattle.std.proofs.lemmas.Bool.{leb-true}
-use Rattle.drain_grid.specs.Text.{whole_number}
+use Rattle.drain_text.specs.Text.{whole_number}
 use Rattle.drain_grid.specs.Values.{IsNoData}
 use Rattle.drain_header.specs.declared.header.ByteOrdering.{ByteOrdering}
 use Rattle.drain_header.specs.declared.header.ByteOrdering.TheVariants.{Least}
@@ -19,7 +19,7 @@ use Rattle.drain_header.specs.Reading.{Seen}
 use Rattle.drain_header.specs.Lacking.{lacking, is_unseen}
 use Rattle.drain_header.specs.Said.{said_by, sign_in}
 use Rattle.drain_header.specs.Finished.{number_or, packed_row_in, row_bytes_in, is_other_type_in, is_pixel_size, header_in, finished, IsSize, AreTaken}
-use Rattle.drain_header.proofs.Plain.{is_bad_type, last_answer}
+use Rattle.drain_header.proofs.AnswerFunction.{is_bad_type, last_answer}
 use Rattle.drain_header.proofs.Bounds.{coordinate_within, nodata_within}
 use Rattle.drain_header.proofs.Folding.{IsSeen, at}
 use Rattle.drain_header.proofs.Saying

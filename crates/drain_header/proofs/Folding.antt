@@ -1,7 +1,7 @@
 -- The lines read one after another give the first fault of a line, or the value of each keyword.
 --
 -- By induction over the lines that are left: `IsSeen` says what is kept of those before. It speaks of a keyword in three
--- ways, since the plain answer does: whether an earlier line has it, the first line that has it, and that line's value.
+-- ways, since the function of the answer does: whether an earlier line has it, the first line that has it, and that line's value.
 use Rattle.std.proofs.Common.{◌≡◌, ℕ, zero, suc, ◌+◌, ◌<◌, Bool, true, false, List, [], ◌∷◌, ◌++◌, length, get_or, arith, refl, sym, ap, ◌∙◌}
 use Rattle.std.specs.Prelude.{◌||◌, not, cond, find, Option, Some, None, is_some, option_and_then, option_map, slice_get, slice_set, Result, Ok, Err, nat_eq}
 use Rattle.std.specs.Option.{option_or}
@@ -17,8 +17,8 @@ use Rattle.drain_header.specs.Faults.{line_at}
 use Rattle.drain_header.specs.Values.{value_read}
 use Rattle.drain_header.specs.Reading.{Seen, nothing, with_value, with_key, with_lines, follow}
 use Rattle.drain_header.proofs.Search.{any_below, first_below}
-use Rattle.drain_header.proofs.Plain.{key_on, is_repeated, is_bad, line_fault}
-use Rattle.drain_header.proofs.PlainLemmas.{place_below, is_some_key-true}
+use Rattle.drain_header.proofs.AnswerFunction.{key_on, is_repeated, is_bad, line_fault}
+use Rattle.drain_header.proofs.AnswerTests.{place_below, is_some_key-true}
 
 abbrev pub has : Key → List ℕ → Bool
 has key line = is_some_key key (key_of line)

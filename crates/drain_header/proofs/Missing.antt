@@ -7,7 +7,7 @@ use Rattle.drain_header.specs.declared.key.Key.TheVariants.{Nrows, Ncols, Ulxmap
 use Rattle.drain_header.specs.declared.value.Value.{Value}
 use Rattle.drain_header.specs.Reading.{Seen}
 use Rattle.drain_header.specs.Lacking.{lacking, is_unseen}
-use Rattle.drain_header.proofs.Plain.{is_absent, first_missing}
+use Rattle.drain_header.proofs.AnswerFunction.{is_absent, first_missing}
 use Rattle.drain_header.proofs.Folding.{IsSeen, at}
 
 abbrev either : Bool → Key → Option Key

@@ -2,13 +2,13 @@
 use Rattle.std.proofs.Common.{◌≡◌, ℕ, ◌+◌, ◌*◌, ◌/◌, ◌%◌, ◌<◌, List, [], ◌∷◌, arith, refl, sym, ap, ◌∙◌, inl, inr}
 use Rattle.std.specs.Prelude.{cond, ◌==◌, slice_get, Option, Some, None, option_and_then, option_map, Result, Ok, Err}
 use Rattle.std.proofs.lemmas.Bool.{eq-eqb, ne_eqb}
-use Rattle.drain_grid.specs.First.{IsFirst}
+use Rattle.drain_text.specs.First.{IsFirst}
 use Rattle.drain_header.specs.declared.fault.HeaderFault.{HeaderFault}
 use Rattle.drain_header.specs.declared.fault.HeaderFault.TheVariants.{TooLong, RepeatedKey, BadValue, MissingKey, NotOneBand, BadBits, BadPixelType, RowTooShort}
 use Rattle.drain_header.specs.Fields.{Fields}
 use Rattle.drain_header.specs.Lines.{keys}
 use Rattle.drain_header.specs.Faults.{fault_order, HasFault, Answers}
-use Rattle.drain_header.proofs.PlainLemmas.{key_place}
+use Rattle.drain_header.proofs.AnswerTests.{key_place}
 
 -- the fault of a line that has this second number
 abbrev line_fault_at : ℕ → HeaderFault

@@ -3,7 +3,7 @@ use Rattle.std.proofs.Common.{◌≡◌, ℕ, ◌≤◌, false, List, suc, lengt
 use Rattle.std.specs.Prelude.{cond, nat_lt, Option, Some, None, Result, Ok, Err}
 use Rattle.std.specs.Result.{IsErrAnd}
 use Rattle.std.proofs.lemmas.Bool.{le-ltb}
-use Rattle.drain_grid.specs.Text.{lines_of}
+use Rattle.drain_text.specs.Text.{lines_of}
 use Rattle.drain_header.specs.declared.key.Key.{Key}
 use Rattle.drain_header.specs.declared.fault.HeaderFault.{HeaderFault}
 use Rattle.drain_header.specs.declared.fault.HeaderFault.TheVariants.{TooLong, MissingKey}
@@ -13,8 +13,8 @@ use Rattle.drain_header.specs.Reading.{Seen, nothing, with_lines}
 use Rattle.drain_header.specs.Lacking.{lacking}
 use Rattle.drain_header.specs.Finished.{finished, AreTaken}
 use Rattle.drain_header.proofs.Search.{first_below}
-use Rattle.drain_header.proofs.Plain.{line_fault, last_answer, key_answer, line_answer, answer_of}
-use Rattle.drain_header.proofs.PlainAnswers.{answer_is}
+use Rattle.drain_header.proofs.AnswerFunction.{line_fault, last_answer, key_answer, line_answer, answer_of}
+use Rattle.drain_header.proofs.AnswerMeaning.{answer_is}
 use Rattle.drain_header.proofs.Folding.{IsSeen, Outcome, lines_read}
 use Rattle.drain_header.proofs.Missing.{missing_is}
 use Rattle.drain_header.proofs.Finishing

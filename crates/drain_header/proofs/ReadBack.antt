@@ -1,55 +1,25 @@
 -- The values of a header's text read back as the numbers that were printed.
 use Rattle.std.proofs.Common.{◌≡◌, ℕ, ◌+◌, ◌*◌, ◌/◌, ◌^◌, ◌<◌, ◌≤◌, Bool, true, false, List, [], ◌∷◌, ◌++◌, length, arith, refl, sym, ap, ◌∙◌, length-append, append-nil, append_assoc}
-use Rattle.std.specs.Prelude.{ℤ, pos, negsuc, unsigned_abs, cond, nat_le, ◌==◌, ◌&&◌, ◌||◌, slice_index, Option, Some, None, option_and_then, decimal}
-use Rattle.std.specs.List.{list_all}
-use Rattle.std.specs.Char.{is_ascii_digit}
+use Rattle.std.specs.Prelude.{ℤ, pos, negsuc, unsigned_abs, cond, nat_le, ◌==◌, ◌&&◌, ◌||◌, slice_index, Some, None, option_and_then, decimal}
 use Rattle.std.specs.Fmt.{sign_text, signed_decimal}
 use Rattle.std.specs.Int.{is_negative}
 use Rattle.std.specs.Str.Parse.{digits_value, AllDigits, IsNumeral}
 use Rattle.std.specs.Float.Numeral.{Parts, scan_numeral, minus}
 use Rattle.std.proofs.lemmas.Bool.{le-leb, le-ltb, lt-ltb, ne_eqb, eq-eqb}
-use Rattle.std.proofs.lemmas.Fmt.{decimal_is_IsNumeral, length-decimal-le}
+use Rattle.std.proofs.lemmas.Fmt.{decimal_is_IsNumeral}
 use Rattle.std.proofs.lemmas.Str.Parse.{digit_from_value}
 use Rattle.std.proofs.lemmas.Float.Parse.{scan_numeral-text_of}
 use Rattle.std.proofs.lemmas.Int.{ints}
-use Rattle.drain_grid.specs.Text.{whole_number}
 use Rattle.drain_grid.specs.Values.{IsNoData}
 use Rattle.drain_header.specs.Fields.{IsCoordinate}
 use Rattle.drain_header.specs.Decimals.{unsigned_part, are_decimal, decimal_from, decimal_of, is_small, is_whole, in_units, with_sign, coordinate_of, nodata_of}
 use Rattle.drain_header.specs.Lines.{size_of}
 use Rattle.drain_header.specs.Text.{fraction_text, places_text}
-use Rattle.drain_header.proofs.DecimalText.{length-last_digits, last_digits_are, value_of_places, pointed, pointed_reads}
+use Rattle.drain_text.proofs.LastDigits.{length-last_digits, last_digits_are}
+use Rattle.drain_header.proofs.DecimalText.{value_of_places, pointed, pointed_reads}
 use Rattle.drain_header.proofs.Units.{coordinate_is, nodata_is}
-use Rattle.drain_header.proofs.Entries.{AllInk, IsWord, ink-append}
-
--- digits are ink
-pub digits_ink : (ds : List ℕ) → AllDigits 10 ds → AllInk ds
-digits_ink [] h = tt
-digits_ink (c ∷ cs) h = let r = digit_from_value c h.0 in (omega arith, digits_ink cs h.1)
-
-two : (a b : Bool) → a ≡ true → b ≡ true → (a && b) ≡ true
-two a b p q = rw (p, q) refl
-
-digits_told : (ds : List ℕ) → AllDigits 10 ds → list_all is_ascii_digit ds ≡ true
-digits_told [] h = refl
-digits_told (c ∷ cs) h = let r = digit_from_value c h.0 in two _ _ (two _ _ (le-leb 48 c (omega arith)) (le-leb c 57 (omega arith))) (digits_told cs h.1)
-
--- a printed number is a word
-pub decimal_word : (n : ℕ) → n < 2 ^ 64 → IsWord (decimal n)
-decimal_word n small = let is = (decimal_is_IsNumeral n small).0 in record { some = is.0; ink = digits_ink (decimal n) is.1 }
-
-pub decimal_short : (n : ℕ) → n < 2 ^ 64 → length (decimal n) ≤ 20
-decimal_short n small = length-decimal-le 20 n (omega arith) (omega arith) (omega arith)
-
-chosen : (t : Bool) (x : Option ℕ) → t ≡ true → cond t x None ≡ x
-chosen t x is = ap (λ b. cond b x None) is
-
-pub whole_read : (n : ℕ) → n ≤ 4294967295 → whole_number (decimal n) ≡ Some n
-whole_read n fits =
-    let is = decimal_is_IsNumeral n (omega arith) in
-    let value = is.1 in
-    chosen _ (Some (digits_value 10 (decimal n))) (two _ _ (lt-ltb _ _ is.0.0) (two _ _ (digits_told (decimal n) is.0.1) (le-leb _ _ (omega arith))))
-    ∙ ap (λ (x : ℕ). Some x) value
+use Rattle.drain_text.proofs.Joining.{AllInk, IsWord, ink-append}
+use Rattle.drain_text.proofs.Printed.{two, chosen, digits_ink, decimal_word, decimal_short, whole_read}
 
 pub size_read : (n : ℕ) → 1 ≤ n → n ≤ 28801 → size_of (decimal n) ≡ Some n
 size_read n some fits =
@@ -86,8 +56,8 @@ pointed_decimal negative (c ∷ cs) fraction is digits =
     (two _ _ (lt-ltb _ _ (omega arith)) (two _ _ (eq-eqb _ _ all) refl))
 
 -- the parts of digits alone
-abbrev pub plain : List ℕ → Parts
-plain whole = record {
+abbrev pub unpointed : List ℕ → Parts
+unpointed whole = record {
   whole = whole;
   point = false;
   fraction = [];
@@ -96,10 +66,10 @@ plain whole = record {
   len = length (whole ++ ([] ++ []));
 }
 
-plain_reads : (whole : List ℕ) → AllDigits 10 whole → scan_numeral whole ≡ plain whole
-plain_reads whole p =
+unpointed_reads : (whole : List ℕ) → AllDigits 10 whole → scan_numeral whole ≡ unpointed whole
+unpointed_reads whole p =
     ap scan_numeral (sym (append-nil whole))
-    ∙ scan_numeral-text_of (plain whole) (record {
+    ∙ scan_numeral-text_of (unpointed whole) (record {
       whole_digits = p;
       fraction_digits = tt;
       exponent_digits = tt;
@@ -108,13 +78,13 @@ plain_reads whole p =
       len_is = refl;
     })
 
-pub plain_decimal : (negative : Bool) (whole : List ℕ) → IsNumeral 10 whole → decimal_of (sign_text negative ++ whole) ≡ Some (decimal_from negative (plain whole))
-plain_decimal negative [] is = absurd (omega (arith, is.0))
-plain_decimal negative (c ∷ cs) is =
+pub unpointed_decimal : (negative : Bool) (whole : List ℕ) → IsNumeral 10 whole → decimal_of (sign_text negative ++ whole) ≡ Some (decimal_from negative (unpointed whole))
+unpointed_decimal negative [] is = absurd (omega (arith, is.0))
+unpointed_decimal negative (c ∷ cs) is =
     let first = digit_from_value c is.1.0 in
     let signed = signed_word negative c cs (omega arith) in
     let all : length ((c ∷ cs) ++ ([] ++ [])) ≡ length (c ∷ cs) = ap length (append-nil (c ∷ cs)) in
-    decimal_of_parts (sign_text negative ++ c ∷ cs) (c ∷ cs) negative (plain (c ∷ cs)) signed.0 signed.1 (plain_reads (c ∷ cs) is.1)
+    decimal_of_parts (sign_text negative ++ c ∷ cs) (c ∷ cs) negative (unpointed (c ∷ cs)) signed.0 signed.1 (unpointed_reads (c ∷ cs) is.1)
     (two _ _ (lt-ltb _ _ (omega arith)) (two _ _ (eq-eqb _ _ all) refl))
 
 -- a number is its sign and its magnitude
@@ -138,13 +108,13 @@ coordinate_small (negsuc n) is = let h = is.low in omega (arith, ints)
 pub nodata_read : (z : ℤ) → unsigned_abs z ≤ 10000000000 → nodata_of (signed_decimal z) ≡ Some z
 nodata_read z small =
     let numeral = decimal_is_IsNumeral (unsigned_abs z) (omega arith) in
-    let d = decimal_from (is_negative z) (plain (decimal (unsigned_abs z))) in
+    let d = decimal_from (is_negative z) (unpointed (decimal (unsigned_abs z))) in
     let value : digits_value 10 (decimal (unsigned_abs z) ++ []) ≡ unsigned_abs z = ap (digits_value 10) (append-nil (decimal (unsigned_abs z))) ∙ numeral.1 in
     let low : is_small d ≡ true = le-leb _ _ (omega (arith, value)) in
     let whole : is_whole d ≡ true = eq-eqb _ _ (omega arith) in
     let units : in_units 0 d ≡ z = ap (with_sign (is_negative z)) (omega (arith, value)) ∙ signed_again z in
     ap nodata_of (signed_text z)
-    ∙ sym (nodata_is (sign_text (is_negative z) ++ decimal (unsigned_abs z)) d z (sym (plain_decimal (is_negative z) (decimal (unsigned_abs z)) numeral.0)) low whole units)
+    ∙ sym (nodata_is (sign_text (is_negative z) ++ decimal (unsigned_abs z)) d z (sym (unpointed_decimal (is_negative z) (decimal (unsigned_abs z)) numeral.0)) low whole units)
 
 -- what the digits behind the point are
 pub record IsFraction (n : ℕ) : Type 0 where

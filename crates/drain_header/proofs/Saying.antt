@@ -1,7 +1,7 @@
 -- What the values of the keywords say is what the lines say.
 use Rattle.std.proofs.Common.{◌≡◌, ℕ, List, suc, length, refl, ap, ◌∙◌}
 use Rattle.std.specs.Prelude.{Option, Some, None, option_and_then, option_map}
-use Rattle.drain_grid.specs.Text.{whole_number}
+use Rattle.drain_text.specs.Text.{whole_number}
 use Rattle.drain_header.specs.declared.key.Key.TheVariants.{Nrows, Ncols, Nbands, Nbits, ByteOrder, PixelType, SkipBytes, BandRowBytes, TotalRowBytes, Ulxmap, Ulymap, Xdim, Ydim}
 use Rattle.drain_header.specs.declared.key.Key.TheVariants as keys
 use Rattle.drain_header.specs.declared.value.Value.{Value}

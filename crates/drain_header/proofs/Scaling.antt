@@ -9,7 +9,7 @@ use Rattle.std.proofs.lemmas.List.{take-append-drop, take_min, drop_min, length-
 use Rattle.std.proofs.lemmas.Nat.{pow-add}
 use Rattle.std.proofs.Math.Nat.{one-le-pow, mul-le-mul_right, mul-lt-mul_of_pos_right, pow-le-pow_right}
 use Rattle.std.proofs.lemmas.Int.Digits.{digits_value-lt}
-use Rattle.drain_header.proofs.Digits.{value-append, after-append, drop_digits}
+use Rattle.drain_text.proofs.Digits.{value-append, after-append, drop_digits}
 
 take-append : (n : ℕ) (xs ys : List ℕ) → take n (xs ++ ys) ≡ take n xs ++ take (n - length xs) ys
 take-append zero [] ys = refl

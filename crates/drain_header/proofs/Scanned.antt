@@ -5,7 +5,7 @@ use Rattle.std.specs.Str.Parse.{AllDigits}
 use Rattle.std.specs.Float.Numeral.{Parts, scan_numeral, digits_end, exponent_start, has_exponent, dot}
 use Rattle.drain_header.specs.declared.numeral.Numeral.{Numeral}
 use Rattle.drain_header.specs.Numerals.{parts_of, IsOfDigits}
-use Rattle.drain_header.proofs.Digits.{counted_digits, append_digits}
+use Rattle.drain_text.proofs.Digits.{counted_digits, append_digits}
 
 run : (bs : List ℕ) (i : ℕ) → AllDigits 10 (slice_range bs i (digits_end bs i))
 run bs i = counted_digits (drop i bs) _ (omega arith)

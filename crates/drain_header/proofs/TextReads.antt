@@ -7,7 +7,7 @@ use Rattle.std.specs.Prelude.{ℤ, pos, unsigned_abs, ◌==◌, IfSome, Option, 
 use Rattle.std.specs.Fmt.{signed_decimal}
 use Rattle.std.proofs.Math.Logic.{∥∥₁_elim}
 use Rattle.std.proofs.Math.Bridge.{le_prop}
-use Rattle.drain_grid.specs.Text.{lines_of, whole_number}
+use Rattle.drain_text.specs.Text.{lines_of, whole_number}
 use Rattle.drain_grid.specs.Values.{IsNoData}
 use Rattle.drain_header.specs.declared.header.ByteOrdering.{ByteOrdering}
 use Rattle.drain_header.specs.declared.header.ByteOrdering.TheVariants.{Least, Most}
@@ -22,8 +22,10 @@ use Rattle.drain_header.specs.Lines.{key_of, value_of, value_at, takes, takes_so
 use Rattle.drain_header.specs.Decimals.{coordinate_of, nodata_of}
 use Rattle.drain_header.specs.Faults.{line_at, HasKey, HasFault, IsRequired, Describes}
 use Rattle.drain_header.specs.Text.{line, nodata_line, ordering_text, signedness_text, places_text, shape_lines, pixel_lines, place_lines, text_of}
-use Rattle.drain_header.proofs.Entries.{IsWord, ink_told, line_number, entries_text, entries_lines, AllGood, IsGood, value_in, lines_entries, value_entries, told_at, entries_short, key_bare}
-use Rattle.drain_header.proofs.ReadBack.{decimal_word, decimal_short, whole_read, size_read, coordinate_read, nodata_read, nodata_small, places_word, places_short, nodata_word, nodata_short}
+use Rattle.drain_text.proofs.Joining.{IsWord, ink_told}
+use Rattle.drain_header.proofs.Entries.{line_number, entries_text, entries_lines, AllGood, IsGood, value_in, lines_entries, value_entries, told_at, entries_short, key_bare}
+use Rattle.drain_text.proofs.Printed.{decimal_word, decimal_short, whole_read}
+use Rattle.drain_header.proofs.ReadBack.{size_read, coordinate_read, nodata_read, nodata_small, places_word, places_short, nodata_word, nodata_short}
 
 abbrev nodata_entries : Option ℤ → List (Key × List ℕ)
 nodata_entries None = []

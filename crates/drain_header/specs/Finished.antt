@@ -35,6 +35,7 @@ abbrev pub is_other_type : Value → Bool
 is_other_type (Signed signed) = is_none signed
 is_other_type value = false
 
+-- a value stands there, and it is such a pixel type
 abbrev pub is_other_type_in : Option Value → Bool
 is_other_type_in None = false
 is_other_type_in (Some value) = is_other_type value

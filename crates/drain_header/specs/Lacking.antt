@@ -9,6 +9,7 @@ use Rattle.drain_header.specs.Reading.{Seen}
 abbrev pub is_unseen : Seen → Key → Bool
 is_unseen seen key = is_none (slice_index_or seen (key_order key) None)
 
+-- the first keyword that is missing, in the order of the table
 abbrev pub lacking : Seen → Option Key
 lacking seen =
     if is_unseen seen Nrows then Some Nrows else (if is_unseen seen Ncols then Some Ncols

@@ -5,7 +5,6 @@ pub mod Header
 pub mod Faults
 pub mod Text
 pub mod FaultText
-pub mod Parts
 pub mod Numerals
 pub mod Values
 pub mod Reading

@@ -5,6 +5,7 @@ use Rattle.std.specs.Float.Numeral.{Parts, numeral_digits, tens_up, tens_down}
 use Rattle.drain_header.specs.Decimals.{Decimal, decimal_from}
 use Rattle.drain_header.specs.declared.numeral.Numeral.{Numeral}
 
+-- the parts that a numeral of the code has
 abbrev pub parts_of : Numeral → Parts
 parts_of n = record {
   whole = n.whole.now;

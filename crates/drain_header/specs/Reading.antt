@@ -31,6 +31,7 @@ with_key seen n (Some key) word =
 abbrev pub with_line : Seen → ℕ → List ℕ → Result Seen HeaderFault
 with_line seen n line = with_key seen n (key_of line) (value_of line)
 
+-- what comes next, unless a line had a fault
 abbrev pub follow : Result Seen HeaderFault → (Seen → Result Seen HeaderFault) → Result Seen HeaderFault
 follow (Ok seen) next = next seen
 follow (Err fault) next = Err fault

@@ -7,10 +7,12 @@ use Rattle.drain_header.specs.declared.value.Value.TheVariants.{Number, Ordering
 use Rattle.drain_header.specs.Lines.{key_order}
 use Rattle.drain_header.specs.Reading.{Seen}
 
+-- the whole number that a value is
 abbrev pub number_of : Value → Option ℕ
 number_of (Number n) = Some n
 number_of value = None
 
+-- the order of bytes that a value is
 abbrev pub ordering_in : Value → Option ByteOrdering
 ordering_in (Ordering order) = Some order
 ordering_in value = None
@@ -20,10 +22,12 @@ abbrev pub sign_in : Value → Option Bool
 sign_in (Signed signed) = signed
 sign_in value = None
 
+-- the coordinate that a value is
 abbrev pub coordinate_in : Value → Option ℤ
 coordinate_in (Coordinate z) = Some z
 coordinate_in value = None
 
+-- the no-data number that a value is
 abbrev pub nodata_in : Value → Option ℤ
 nodata_in (Nodata z) = Some z
 nodata_in value = None

@@ -1,6 +1,6 @@
 -- What words say as values of keywords.
 use Rattle.std.specs.Prelude.{ℕ, List, Option, Some, None, option_map, if◌then◌else◌}
-use Rattle.drain_grid.specs.Text.{whole_number}
+use Rattle.drain_text.specs.Text.{whole_number}
 use Rattle.drain_header.specs.declared.key.Key.{Key}
 use Rattle.drain_header.specs.declared.key.Key.TheVariants.{Nrows, Ncols, Nbands, Nbits, ByteOrder, Layout, PixelType, SkipBytes, BandRowBytes, TotalRowBytes, Ulxmap, Ulymap, Xdim, Ydim, Nodata}
 use Rattle.drain_header.specs.declared.value.Value.{Value}

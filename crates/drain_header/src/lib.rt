@@ -14,8 +14,6 @@ pub mod parse;
 mod said;
 mod text;
 mod value;
-mod whole_number;
-mod words;
 
 pub use fault::HeaderFault;
 pub use header::{ByteOrdering, Header, Place};

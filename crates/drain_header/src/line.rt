@@ -4,7 +4,7 @@ ghost use Rattle.std.specs.Prelude.{◌≡◌, option_map};
 ghost use Rattle.drain_header.specs.Lines.{key_of, value_of, named_key, reads as reads_word};
 
 use crate::key::Key;
-use crate::words::first_word;
+use drain_text::first_word;
 
 /// The keywords in the order of the table.
 const KEYS: [Key; 15] = [

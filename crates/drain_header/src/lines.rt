@@ -1,7 +1,7 @@
 //! The lines of a header, one after another: each keyword's value, or the first fault of a line.
 
 ghost use Rattle.std.specs.Prelude.{◌≡◌, ◌≤◌, length};
-ghost use Rattle.drain_grid.specs.Text.{lines_of};
+ghost use Rattle.drain_text.specs.Text.{lines_of};
 ghost use Rattle.drain_header.specs.Lacking.{lacking};
 ghost use Rattle.drain_header.specs.Reading.{nothing, with_line as line_added, with_lines as lines_added};
 
@@ -9,7 +9,7 @@ use crate::fault::HeaderFault;
 use crate::key::Key;
 use crate::line::key_and_value;
 use crate::value::{Value, read_value};
-use crate::words::first_line;
+use drain_text::first_line;
 
 /// A keyword's value stands at its place in the table, none where no line so far has the keyword.
 pub type Seen = [Option<Value>; 15];

@@ -1,4 +1,4 @@
-//! Decimals, whole numbers and lines of the format's tables, each with the value that the table gives; texts of faults.
+//! Decimals and lines of the format's tables, each with the value that the table gives; texts of faults.
 
 mod headers;
 
@@ -8,7 +8,6 @@ use crate::header::{ByteOrdering, Header, Place};
 use crate::key::Key;
 use crate::lines::read_lines;
 use crate::text::header_text;
-use crate::whole_number::whole_number;
 use std::test::Fail;
 
 #[test]
@@ -64,23 +63,6 @@ fn long_decimals(rt: HostRuntime) -> Result<(), Fail> {
     assert_eq!(rt; nodata(&digits), Some(1));
     digits[0] = b'1';
     assert_eq!(rt; coordinate(&digits), None);
-    Ok(())
-}
-
-#[test]
-fn whole_numbers(rt: HostRuntime) -> Result<(), Fail> {
-    for (text, wanted) in [
-        ("0", Some(0)),
-        ("000000000000000000000000000007", Some(7)),
-        ("4294967295", Some(4294967295)),
-        ("4294967296", None),
-        ("99999999999999999999999999", None),
-        ("", None),
-        ("+1", None),
-        ("1.", None),
-    ] {
-        assert_eq!(rt; whole_number(text.as_bytes()), wanted, "{text}");
-    }
     Ok(())
 }
 

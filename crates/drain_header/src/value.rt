@@ -8,7 +8,7 @@ use crate::decimal::{coordinate, nodata};
 use crate::header::ByteOrdering;
 use crate::key::Key;
 use crate::line::reads;
-use crate::whole_number::whole_number;
+use drain_text::whole_number;
 
 /// The most rows, and the most columns.
 const MAX_SIZE: u32 = 28801;

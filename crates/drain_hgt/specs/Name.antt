@@ -2,7 +2,7 @@
 use Rattle.std.specs.Prelude.{◌≡◌, ℕ, ℤ, nat_abs, Bool, List, ◌++◌, map, Result, Ok, Err, codes, if◌then◌else◌}
 use Rattle.std.specs.Char.{to_ascii_lowercase}
 use Rattle.std.specs.Int.{is_negative}
-use Rattle.drain_grid.specs.Text.{last_digits}
+use Rattle.drain_text.specs.Text.{last_digits}
 use Rattle.drain_hgt.specs.declared.name.NameFault.{NameFault}
 use Rattle.drain_hgt.specs.declared.name.NameFault.TheVariants.{BadForm, BadRange}
 use Rattle.drain_hgt.specs.Corner.{Corner, IsOnMap}

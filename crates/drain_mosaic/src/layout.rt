@@ -5,7 +5,7 @@
 //! project's choice.
 
 ghost use Rattle.std.specs.Prelude.{◌≡◌, ◌≢◌, ◌+◌, ◌-◌, ◌*◌, ◌≤◌, ◌<◌, ℕ, map, MatchOption, IfOk, IfErr, IsOk, Some, slice_get, length, option_map, nat_abs, ◌-ℤ◌};
-ghost use Rattle.drain_grid.specs.First.{IsFirst};
+ghost use Rattle.drain_text.specs.First.{IsFirst};
 ghost use Rattle.drain_grid.specs.Tile.{IsSide};
 ghost use Rattle.drain_hgt.specs.Corner.{Corner, IsWithin};
 ghost use Rattle.drain_mosaic.specs.LayoutFaults.{HasLayoutFault, IsFirstRepeated, IsRepeatedAt, AreBoundsOf, order_of};

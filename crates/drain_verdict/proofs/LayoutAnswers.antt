@@ -1,7 +1,7 @@
 -- What the stage of the layout says of the inputs: nothing of its kinds stands, or its refusal is the first.
 use Rattle.std.proofs.Common.{◌≡◌, ℕ, zero, suc, ◌<◌, length, get_or, List, [], ◌∷◌, Ok, arith, refl, subst, inl}
 use Rattle.std.specs.List.{AllZip}
-use Rattle.drain_grid.specs.First.{IsFirst}
+use Rattle.drain_text.specs.First.{IsFirst}
 use Rattle.drain_grid.specs.Tile.{IsSide}
 use Rattle.drain_hgt.specs.Corner.{Corner}
 use Rattle.drain_hgt.specs.Name.{Names}

@@ -4,7 +4,7 @@ use Rattle.std.specs.Prelude.{Option}
 use Rattle.std.specs.List.{All}
 use Rattle.drain_grid.specs.Size.{Extent}
 use Rattle.drain_grid.specs.Extent.{IsCellOf, index_of}
-use Rattle.drain_grid.specs.First.{IsFirst}
+use Rattle.drain_text.specs.First.{IsFirst}
 use Rattle.drain_grid.specs.Rasters.{Heights}
 use Rattle.drain_grid.specs.Whole.{elevation_at}
 use Rattle.drain_hgt.specs.declared.input.TileInput.{TileInput}

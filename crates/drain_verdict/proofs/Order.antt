@@ -2,7 +2,7 @@
 use Rattle.std.proofs.Common.{◌≡◌, ℕ, ◌+◌, ◌<◌, arith, inl, inr, refl, subst, below_more}
 use Rattle.drain_grid.specs.declared.cell.Cell.{Cell}
 use Rattle.drain_grid.specs.declared.product.Product.{Product}
-use Rattle.drain_grid.specs.First.{IsBefore, IsFirst}
+use Rattle.drain_text.specs.First.{IsBefore, IsFirst}
 use Rattle.drain_hgt.specs.Corner.{Corner}
 use Rattle.drain_header.specs.declared.fault.HeaderFault.{HeaderFault}
 use Rattle.drain_verdict.specs.declared.refusal.Refusal.{Refusal}

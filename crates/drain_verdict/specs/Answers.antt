@@ -1,6 +1,6 @@
 -- The answer to the bytes: the first refusal that stands, else the verdict; and what an acceptance means.
 use Rattle.std.specs.Prelude.{Result, Ok, Err}
-use Rattle.drain_grid.specs.First.{IsFirst}
+use Rattle.drain_text.specs.First.{IsFirst}
 use Rattle.drain_rules.specs.declared.verdict.Verdict.{Verdict}
 use Rattle.drain_rules.specs.Verdicts.{IsVerdict}
 use Rattle.drain_verdict.specs.declared.refusal.Refusal.{Refusal}

@@ -7,7 +7,7 @@ use Rattle.drain_device.specs.Patience.{GivesUp, full_patience}
 use Rattle.drain_device.specs.Reads.{TakesAtMost}
 use Rattle.drain_grid.specs.declared.product.Product.{Product}
 use Rattle.drain_grid.specs.declared.product.Product.TheVariants.{Con, Dir, Acc, Bas, Spl, Rnk}
-use Rattle.drain_grid.specs.Text.{lines_of}
+use Rattle.drain_text.specs.Text.{lines_of}
 use Rattle.drain_hgt.specs.declared.input.TileInput.{TileInput}
 use Rattle.drain_hgt.specs.Samples.{tile_length}
 use Rattle.drain_header.specs.Fields.{Fields}

@@ -4,7 +4,7 @@ use Rattle.drain_grid.specs.declared.cell.Cell.{Cell}
 use Rattle.drain_grid.specs.declared.product.Product.{Product}
 use Rattle.drain_grid.specs.declared.product.Product.TheVariants.{Con, Dir, Acc, Bas, Spl, Rnk}
 use Rattle.drain_grid.specs.Product.{default_no_data}
-use Rattle.drain_grid.specs.Text.{lines_of}
+use Rattle.drain_text.specs.Text.{lines_of}
 use Rattle.drain_grid.specs.Values.{NoDataNumbers}
 use Rattle.drain_grid.specs.Grid as grid
 use Rattle.drain_hgt.specs.Samples.{samples_of}

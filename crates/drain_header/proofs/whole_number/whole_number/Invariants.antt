@@ -1,8 +1,0 @@
-use Rattle.std.proofs.Common.{◌≡◌, ◌-◌, ◌^◌, min, drop, take}
-use Rattle.std.specs.List.{list_all}
-use Rattle.std.specs.Char.{is_ascii_digit}
-use Rattle.std.specs.Str.Parse.{digits_value}
-use Rattle.drain_header.proofs.whole_number.whole_number.Given as goal
-
-abbrev pub invariant-loop-byte : goal.invariant-loop-byte
-invariant-loop-byte l = (list_all is_ascii_digit l.word ≡ list_all is_ascii_digit (drop l.byte-index l.word)) × (l.value ≡ min (digits_value 10 (take l.byte-index l.word)) (2 ^ 64 - 1))

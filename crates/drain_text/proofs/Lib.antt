@@ -1,0 +1,5 @@
+pub mod Digits
+pub mod Joining
+pub mod LastDigits
+pub mod Printed
+pub mod Splitting

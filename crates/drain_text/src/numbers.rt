@@ -1,0 +1,29 @@
+//! Whole numbers that words spell: digits alone, below 2^32.
+
+ghost use Rattle.std.specs.Prelude.{◌≡◌};
+ghost use Rattle.drain_text.specs.Text.{whole_number as whole_number_of};
+
+/// The number that a word of digits spells, none where it is no such word or the number takes more than 32 bits.
+///
+/// Noughts may stand in front, as many as there are; a sign or a point may not.
+pub fn whole_number(word: &[u8]) -> Option<u32>
+    ensures { result ≡ whole_number_of word.now }
+{
+    if word.is_empty() {
+        return None;
+    }
+    let mut value = 0u64;
+    for byte in word {
+        if !byte.is_ascii_digit() {
+            return None;
+        }
+        // A number past 64 bits stays there: it is refused all the same.
+        value = value
+            .saturating_mul(10)
+            .saturating_add((*byte - b'0') as u64);
+    }
+    if value > u32::MAX as u64 {
+        return None;
+    }
+    Some(value as u32)
+}
