@@ -1,48 +1,29 @@
-//! The program `drain`: an acceptance checker for drainage rasters.
-//!
-//! `main` reads the words, opens the standard streams as devices and hands them to a run; what a run does
-//! is in the modules, each with its contract.
-#![tactic(auto)]
+//! What the program `drain` does: the words are read, the standard streams and the named files opened as devices and handed to a
+//! run, and its status answered. What a run does is in the other modules, each with its contract.
 
-pub mod command_line;
-pub mod file_paths;
-pub mod laws;
-pub mod make_set;
-pub mod open_check;
-pub mod open_failure;
-pub mod open_files;
-pub mod print;
-pub mod run_check;
-pub mod run_fill;
-pub mod run_header;
-pub mod set_files;
-pub mod status;
-#[cfg(test)]
-mod tests;
-pub mod write_set;
-
+use crate::command_line;
+use crate::command_line::Request;
+use crate::make_set::make_set;
+use crate::open_check::{CheckFiles, open_check};
+use crate::open_failure::print_open_failure;
+use crate::open_files::{OpenFault, create_files, open_tiles};
+use crate::print::{print_failure, print_text};
+use crate::run_check::run_check;
+use crate::run_fill::run_fill;
+use crate::run_header::run_header;
+use crate::status::Status;
+use crate::write_set::write_set;
 use clap::Error;
 use clap::error::ErrorKind;
-use command_line::Request;
 use drain_device::{BodyFault, ByteSink, Reader, Writer, write_nothing};
-use make_set::make_set;
-use open_check::{CheckFiles, open_check};
-use open_failure::print_open_failure;
-use open_files::{OpenFault, create_files, open_tiles};
-use print::{print_failure, print_text};
-use run_check::run_check;
-use run_fill::run_fill;
-use run_header::run_header;
-use status::Status;
 use std::fs::File;
 use std::io;
-use std::process::ExitCode;
-use write_set::write_set;
 
-fn main(rt: HostRuntime) -> ExitCode {
+/// Does what the words of the command line ask for, and answers the exit status.
+pub fn run_program(rt: &HostRuntime) -> u8 {
     let mut out = Writer::new(rt.stdout());
-    let status = match asked_words(&rt) {
-        Ok(asked) => run(&rt, asked.as_slice(), &mut out),
+    match asked_words(rt) {
+        Ok(asked) => run(rt, asked.as_slice(), &mut out),
         Err(error) if error.kind() == io::ErrorKind::OutOfMemory => print_failure(
             &mut out,
             BodyFault::OutOfMemory,
@@ -51,8 +32,7 @@ fn main(rt: HostRuntime) -> ExitCode {
             let _ = eprintln!(rt; "error: the command line can't be read: {error}");
             Status::Refused.code()
         }
-    };
-    ExitCode::from(status)
+    }
 }
 
 /// The words of the command line.
