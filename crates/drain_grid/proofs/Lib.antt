@@ -1,5 +1,5 @@
-mod Rows
-mod RuleRows
+mod WorkedDefinitions
+mod WorkedRules
 pub mod AllRules
 pub mod Basins
 pub mod Bounds
@@ -19,7 +19,7 @@ pub mod Options
 pub mod PatchDecisions
 pub mod Patches
 pub mod PresenceFaults
-pub mod RowGrids
+pub mod WorkedGrids
 pub mod RuleDecisions
 pub mod RuleNumbers
 pub mod Runs
