@@ -14,8 +14,6 @@ ghost use Rattle.drain_grid.specs.PatchRules.{profile1, inflow, total};
 ghost use Rattle.drain_grid.specs.Rule.{IsBetween, IsLeastFault};
 ghost use Rattle.drain_grid.specs.Values.{NoDataNumbers, IsPixel};
 
-#[cfg(test)]
-mod tests;
 
 use drain_grid::{CellValues, Direction, Patch, Rule};
 

@@ -104,7 +104,7 @@ fn steepest_key(patch: &Patch) -> Option<u128>
 }
 
 /// The greatest of the keys in the eight directions.
-fn greatest_key(patch: &Patch) -> u128
+pub fn greatest_key(patch: &Patch) -> u128
     ensures { IsGreatestKey patch.now result }
 {
     let mut greatest = 0;
@@ -155,6 +155,3 @@ fn is_straight(direction: Direction) -> bool
             false,
     }
 }
-
-#[cfg(test)]
-mod tests;
