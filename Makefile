@@ -12,7 +12,7 @@ CRATES ?=
 SOURCES := crates.txt HANDLES $(shell find crates -type f \( -name '*.rt' -o -name '*.antt' \) -not -path '*/out/*' -not -path '*/must-fail/*')
 
 build/drain: $(SOURCES)
-	@tools/build_program.sh drain_cli $@ --version
+	@tools/build_program.sh drain $@ --version
 
 build/label_bench: $(SOURCES)
 	@tools/build_program.sh label_bench $@

@@ -1,5 +1,5 @@
 #!/usr/bin/env bash
-# Shows that the tests of drain_maker fail for makers that build wrong products. No proof refuses these: such a maker answers MakerFault, as
+# Shows that the tests of maker_tests fail for makers that build wrong products. No proof refuses these: such a maker answers MakerFault, as
 # it tests what it built, and no contract says that it succeeds. Each file of tests/wrong_makers is such a maker, in the form of a must-fail edit
 # (file, old text, new text); its tests are run in a copy, unproved and with checks, so the funnel is smaller there: still wide enough that a count
 # of 16 bits doesn't hold its cells.
@@ -11,6 +11,7 @@ trap 'rm -rf "$scratch"' EXIT
 cp "$top/crates.txt" "$top/HANDLES" "$scratch"
 (cd "$top" && find crates -path '*/out' -prune -o -type f \( -name '*.rt' -o -name '*.antt' \) -print0 | xargs -0 cp --parents -t "$scratch")
 maker=$scratch/crates/drain_maker
+tests=$scratch/crates/maker_tests
 
 # Puts the new text in the place of the old, which stands once in the file.
 # Usage: apply EDIT
@@ -30,25 +31,27 @@ PYTHON
 # The result line of the maker's tests, and how many of them fail.
 tried() {
     local told
-    told=$(cd "$maker" && rt try --test 2>&1 </dev/null) || true
+    told=$(cd "$tests" && rt try --test 2>&1 </dev/null) || true
     echo "$(grep '^test result:' <<<"$told") $(grep -c '^test .*FAILED$' <<<"$told")"
 }
 
 status=0
 for edit in "$top"/tests/wrong_makers/*.edit; do
     name=$(basename "$edit" .edit)
-    rm -rf "$maker/src"
+    rm -rf "$maker/src" "$tests/src"
     cp -r "$top/crates/drain_maker/src" "$maker"
-    sed -i 's/^const SIDE: u32 = 1201;$/const SIDE: u32 = 257;/' "$maker/src/tests/funnel.rt"
+    cp -r "$top/crates/maker_tests/src" "$tests"
+    sed -i 's/^const SIDE: u32 = 1201;$/const SIDE: u32 = 257;/' "$tests/src/funnel.rt"
     apply "$edit"
     # The funnel takes as long as all other tests together, so it is tried where none of them fails.
-    mv "$maker/src/tests/funnel.rt" "$scratch"
-    sed -i '/^mod funnel;$/d' "$maker/src/tests.rt"
+    mv "$tests/src/funnel.rt" "$scratch"
+    cp "$tests/src/lib.rt" "$scratch/all_tests.rt"
+    sed -i -z 's/#\[cfg(test)\]\nmod funnel;\n//' "$tests/src/lib.rt"
     result=$(tried)
     case $result in
         *ok.*)
-            mv "$scratch/funnel.rt" "$maker/src/tests"
-            sed -i 's/^mod headers;$/mod funnel;\nmod headers;/' "$maker/src/tests.rt"
+            mv "$scratch/funnel.rt" "$tests/src"
+            cp "$scratch/all_tests.rt" "$tests/src/lib.rt"
             result=$(tried)
             ;;
     esac

@@ -15,6 +15,5 @@ time rt ci
 mv build/gate_began build/gate_passed
 time make --no-print-directory build/drain build/label_bench
 time tests/program/run.sh build/drain build/label_bench
-time tests/refused_memory.sh drain_device drain_grid drain_basin drain_hgt drain_header drain_raster drain_mosaic drain_rules drain_verdict drain_maker \
-    drain_cli
+time tests/refused_memory.sh byte_tests cell_tests rules_tests verdict_tests maker_tests cli_tests
 time tests/wrong_makers.sh

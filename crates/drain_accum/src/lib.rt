@@ -14,8 +14,6 @@ ghost use Rattle.drain_grid.specs.PatchRules.{flow_rules, inflow, total};
 ghost use Rattle.drain_grid.specs.Rule.{IsOnly, IsLeastFault};
 ghost use Rattle.drain_grid.specs.Values.{IsPixel};
 
-#[cfg(test)]
-mod tests;
 
 use drain_grid::{CellValues, Direction, Patch, Rule};
 

@@ -8,8 +8,6 @@
 
 pub mod label;
 pub mod outlets;
-#[cfg(test)]
-mod tests;
 
 pub use label::fault;
 pub use outlets::OutletLabels;

@@ -116,6 +116,3 @@ fn is_least(patch: &Patch, ground: i16) -> bool
 {
     patch.here.con <= ground as i64 || !patch.has_lower()
 }
-
-#[cfg(test)]
-mod tests;

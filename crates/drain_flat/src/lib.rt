@@ -55,6 +55,3 @@ fn is_inner_flat(patch: &Patch) -> bool
 {
     patch.here.z.is_some() && !patch.has_lower() && !patch.is_open()
 }
-
-#[cfg(test)]
-mod tests;

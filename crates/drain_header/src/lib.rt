@@ -1,14 +1,14 @@
 //! Header texts of rasters.
 #![tactic(auto)]
 
-mod decimal;
+pub mod decimal;
 pub mod fault;
 mod finish;
 pub mod header;
 pub mod key;
 pub mod laws;
 mod line;
-mod lines;
+pub mod lines;
 mod numeral;
 pub mod parse;
 mod said;
@@ -20,6 +20,3 @@ pub use header::{ByteOrdering, Header, Place};
 pub use key::Key;
 pub use parse::{MAX_HEADER_BYTES, parse_header};
 pub use text::header_text;
-
-#[cfg(test)]
-mod tests;

@@ -9,6 +9,3 @@ pub mod tile;
 pub use input::TileInput;
 pub use name::{NameFault, TileName};
 pub use tile::{TileFault, read_tile};
-
-#[cfg(test)]
-mod tests;

@@ -13,8 +13,6 @@ mod layer;
 mod maker;
 mod queue;
 mod rasters;
-#[cfg(test)]
-mod tests;
 mod visits;
 
 pub use header::product_header;

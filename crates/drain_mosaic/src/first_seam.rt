@@ -13,7 +13,7 @@ use drain_grid::Cell;
 use drain_grid::tile::height_from;
 
 /// The first cell in row order with two values, none where the tiles agree. This takes no memory.
-pub(crate) fn first_seam(layout: &Layout, tiles: &[Vec<i16>]) -> Option<Cell>
+pub fn first_seam(layout: &Layout, tiles: &[Vec<i16>]) -> Option<Cell>
     requires { AreTiles layout.now (map (λ tile. tile.items) tiles.now) }
     ensures { MatchOption result (TilesAgree layout.now (tiles_of layout.now.corners (map (λ tile. tile.items) tiles.now))) (IsFirstSeam layout.now (tiles_of layout.now.corners (map (λ tile. tile.items) tiles.now))) }
 {

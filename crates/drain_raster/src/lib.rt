@@ -9,11 +9,7 @@ pub mod laws;
 mod pixel;
 mod range;
 mod read;
-#[cfg(test)]
-mod tests;
 mod write;
-#[cfg(test)]
-mod write_tests;
 
 pub use fault::{RasterFault, WriteFault};
 pub use read::{needed_len, read_raster};

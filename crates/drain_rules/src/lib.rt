@@ -13,8 +13,6 @@ pub mod outlet;
 pub mod patch_rules;
 pub mod raster_walk;
 pub mod tally;
-#[cfg(test)]
-mod tests;
 pub mod verdict;
 
 pub use fill_input::fill_length;

@@ -93,7 +93,7 @@ fn steepest_key(patch: &Patch) -> Option<u128>
 }
 
 /// The greatest of the keys in the eight directions.
-fn greatest_key(patch: &Patch) -> u128
+pub fn greatest_key(patch: &Patch) -> u128
     ensures { IsGreatestKey patch.now result }
 {
     let mut greatest = 0;
@@ -133,6 +133,3 @@ fn key_of_drop(straight: bool, drop: u64) -> u128
     let square = drop as u128 * drop as u128;
     if straight { 2 * square } else { square }
 }
-
-#[cfg(test)]
-mod tests;

@@ -6,8 +6,6 @@
 
 pub mod lines;
 pub mod numbers;
-#[cfg(test)]
-mod tests;
 pub mod words;
 
 pub use lines::first_line;

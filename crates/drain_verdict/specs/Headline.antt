@@ -1,5 +1,5 @@
 -- What an acceptance means, a fact each.
-use Rattle.std.specs.Prelude.{◌≡◌, pos, ◌↔◌, ℕ, List, Option, IsNone}
+use Rattle.std.specs.Prelude.{◌≡◌, pos, ◌↔◌, ℕ, List, Option, IsNone, Result}
 use Rattle.drain_grid.specs.declared.cell.Cell.{Cell}
 use Rattle.drain_grid.specs.Grid.{IsInside, HasData}
 use Rattle.drain_grid.specs.Path.{IsLeastSurface}
@@ -7,13 +7,20 @@ use Rattle.drain_grid.specs.Run.{IsFlatCell, IsOutlet, run, run_end, RunEnds, Vi
 use Rattle.drain_grid.specs.Correct.{IsBlankAt, IsCompleteAt, NeverClimbs, GoesSteepest}
 use Rattle.drain_hgt.specs.declared.input.TileInput.{TileInput}
 use Rattle.drain_mosaic.specs.Mosaic.{TilesAgree, IsElevation}
+use Rattle.drain_rules.specs.declared.verdict.Verdict.{Verdict}
+use Rattle.drain_rules.specs.Verdicts.{IfAccepted}
 use Rattle.drain_verdict.specs.declared.input.Products.{Products}
+use Rattle.drain_verdict.specs.declared.refusal.Refusal.{Refusal}
 use Rattle.drain_verdict.specs.Inputs.{Inputs, Tell}
 use Rattle.drain_verdict.specs.Meaning.{tiling_of, tiles_of, grid_of, products_of, nodata_numbers}
 
 -- the fact holds of the inputs that are handed in
 abbrev pub OfInputs : {R : Type 0} → (R → Option (List ℕ)) → ℕ → List (TileInput R) → Products R → (Inputs → Type 0) → Type 0
 OfInputs bytes_left side tiles ps Fact = (i : Inputs) → Tell bytes_left side tiles ps i → Fact i
+
+-- where the answer is an acceptance, the fact holds of the inputs that were handed in
+abbrev pub AcceptedMeans : {R : Type 0} → (Inputs → Type 0) → (R → Option (List ℕ)) → ℕ → List (TileInput R) → Products R → Result Verdict Refusal → Type 0
+AcceptedMeans Fact bytes_left side tiles ps answer = IfAccepted answer (OfInputs bytes_left side tiles ps Fact)
 
 -- the tiles agree
 abbrev pub TilesAreOne : Inputs → Type 0

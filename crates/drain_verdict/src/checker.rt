@@ -5,31 +5,32 @@
 
 ghost use Rattle.std.specs.Prelude.{◌≡◌, ◌↔◌, length, map, Err, IfErr, IsErrOf};
 ghost use Rattle.drain_grid.specs.declared.product.Product.{Product};
+ghost use Rattle.drain_mosaic.specs.Mosaic.{AreTiles, TilesAgree, tiles_of};
 ghost use Rattle.drain_mosaic.specs.Tiling as tiling;
 ghost use Rattle.drain_raster.specs.Pixels.{extent_of};
-ghost use Rattle.drain_rules.specs.Verdicts.{IfAccepted};
 ghost use Rattle.drain_verdict.specs.Inputs.{Inputs, Tell, input_of, names_of};
 ghost use Rattle.drain_verdict.specs.Meaning.{tiling_of, fields_of};
 ghost use Rattle.drain_verdict.specs.Refusals.{IsOfBodies, NoneStandsBefore};
 ghost use Rattle.drain_verdict.specs.Answers.{IsAnswer};
-ghost use Rattle.drain_verdict.specs.Stages.{AreBodies, AreRasterBodies, header_for};
+ghost use Rattle.drain_verdict.specs.Stages.{AreBodies, AreRasterBodies, AreThoseOf, header_for};
 ghost use Rattle.drain_verdict.specs.Faults.{SomeReadFails, devices_of, TilesTakeAtMost, RasterTakesAtMost, BodyTakesAtMost};
-ghost use Rattle.drain_verdict.specs.Headline.{OfInputs, TilesAreOne, ElevationIsTheirs, ConIsLeast, NoDirectionClimbs, DirectionsAreSteepest, CodesTellOutlets, RunsEnd, RunsEndAtOutlets, RunsVisitOnce, AccCountsUpstream, LabelsTellBasins, VoidsAreBlank, DataIsComplete};
+ghost use Rattle.drain_verdict.specs.Headline.{AcceptedMeans, TilesAreOne, ElevationIsTheirs, ConIsLeast, NoDirectionClimbs, DirectionsAreSteepest, CodesTellOutlets, RunsEnd, RunsEndAtOutlets, RunsVisitOnce, AccCountsUpstream, LabelsTellBasins, VoidsAreBlank, DataIsComplete};
 
 use crate::headers::{Headers, read_headers};
 use crate::input::Products;
 use crate::layout::layout_of;
 use crate::rasters::read_products;
 use crate::refusal::Refusal;
-use crate::seams::verdict_on;
+use crate::seams::elevation_of;
 use crate::tiles::read_tiles;
 use drain_device::ByteSource;
+use drain_grid::ProductSet;
 use drain_grid::laws::correct_from_rules;
 use drain_hgt::TileInput;
 use drain_hgt::laws::one_name;
 use drain_mosaic::Layout;
 use drain_mosaic::laws::agreement_gives_elevation;
-use drain_rules::Verdict;
+use drain_rules::{Verdict, verdict_of};
 use std::alloc::Global;
 
 /// The verdict on products of the tiles, or the first refusal.
@@ -51,31 +52,31 @@ pub fn check<R: ByteSource>(
     ensures answer { (inputs : Inputs) → Tell R.bytes_left side tiles.old products.old inputs → IsAnswer inputs result }
 
     // Whenever it accepts, the tiles agree on one elevation raster.
-    ensures tiles_agree { IfAccepted result (OfInputs R.bytes_left side tiles.old products.old TilesAreOne) }
-    ensures elevation { IfAccepted result (OfInputs R.bytes_left side tiles.old products.old ElevationIsTheirs) }
+    ensures tiles_agree { AcceptedMeans TilesAreOne R.bytes_left side tiles.old products.old result }
+    ensures elevation { AcceptedMeans ElevationIsTheirs R.bytes_left side tiles.old products.old result }
 
     // The conditioned raster is the least surface above it from which every cell reaches an edge or void without climbing.
-    ensures least_surface { IfAccepted result (OfInputs R.bytes_left side tiles.old products.old ConIsLeast) }
+    ensures least_surface { AcceptedMeans ConIsLeast R.bytes_left side tiles.old products.old result }
 
     // No direction climbs, and off flats it is the steepest descent.
-    ensures never_climbs { IfAccepted result (OfInputs R.bytes_left side tiles.old products.old NoDirectionClimbs) }
-    ensures steepest { IfAccepted result (OfInputs R.bytes_left side tiles.old products.old DirectionsAreSteepest) }
+    ensures never_climbs { AcceptedMeans NoDirectionClimbs R.bytes_left side tiles.old products.old result }
+    ensures steepest { AcceptedMeans DirectionsAreSteepest R.bytes_left side tiles.old products.old result }
 
     // Every run of directions ends at an outlet, and visits no cell twice.
-    ensures outlets { IfAccepted result (OfInputs R.bytes_left side tiles.old products.old CodesTellOutlets) }
-    ensures runs_end { IfAccepted result (OfInputs R.bytes_left side tiles.old products.old RunsEnd) }
-    ensures runs_end_at_outlets { IfAccepted result (OfInputs R.bytes_left side tiles.old products.old RunsEndAtOutlets) }
-    ensures runs_visit_once { IfAccepted result (OfInputs R.bytes_left side tiles.old products.old RunsVisitOnce) }
+    ensures outlets { AcceptedMeans CodesTellOutlets R.bytes_left side tiles.old products.old result }
+    ensures runs_end { AcceptedMeans RunsEnd R.bytes_left side tiles.old products.old result }
+    ensures runs_end_at_outlets { AcceptedMeans RunsEndAtOutlets R.bytes_left side tiles.old products.old result }
+    ensures runs_visit_once { AcceptedMeans RunsVisitOnce R.bytes_left side tiles.old products.old result }
 
     // Accumulation counts exactly the cells draining through each cell.
-    ensures accumulation { IfAccepted result (OfInputs R.bytes_left side tiles.old products.old AccCountsUpstream) }
+    ensures accumulation { AcceptedMeans AccCountsUpstream R.bytes_left side tiles.old products.old result }
 
     // Two cells share a label exactly when they share an outlet.
-    ensures labels { IfAccepted result (OfInputs R.bytes_left side tiles.old products.old LabelsTellBasins) }
+    ensures labels { AcceptedMeans LabelsTellBasins R.bytes_left side tiles.old products.old result }
 
     // Voids have the no-data numbers, and no data cell has one.
-    ensures voids { IfAccepted result (OfInputs R.bytes_left side tiles.old products.old VoidsAreBlank) }
-    ensures complete { IfAccepted result (OfInputs R.bytes_left side tiles.old products.old DataIsComplete) }
+    ensures voids { AcceptedMeans VoidsAreBlank R.bytes_left side tiles.old products.old result }
+    ensures complete { AcceptedMeans DataIsComplete R.bytes_left side tiles.old products.old result }
 
     // How far it reads, when a read fails, and that names and headers stay.
     ensures tiles_within { TilesTakeAtMost R.bytes_left side tiles.old tiles.new }
@@ -138,4 +139,30 @@ fn check_bodies<R: ByteSource>(
     let samples = read_tiles(alloc, layout, tiles)?;
     let set = read_products(alloc, headers, products)?;
     verdict_on(alloc, layout, samples, &set)
+}
+
+/// The verdict on the rasters of a mosaic's products, or `SeamMismatch` with the first cell where tiles differ; `OutOfMemory` where they
+/// agree and memory is refused. `samples` are those of the tiles, in the order of the layout's names.
+fn verdict_on(
+    alloc: Global,
+    layout: &Layout,
+    samples: Vec<Vec<i16>>,
+    products: &ProductSet,
+) -> Result<Verdict, Refusal>
+    requires tiles { AreTiles layout.now (map (λ tile. tile.items) samples.items) }
+    requires same_shape { products.now.con.extent ≡ tiling.extent_of layout.now }
+    ensures answer { (inputs : Inputs) → AreThoseOf inputs layout.now (map (λ tile. tile.items) samples.items) products.now → NoneStandsBefore inputs 7 → IsAnswer inputs result }
+    ensures no_read { ¬ IsErrOf result Refusal.ReadFailed }
+    ensures of_bodies { IfErr result IsOfBodies }
+
+    // Want of memory never stands in place of a seam.
+    ensures wants_memory { IsErrOf result Refusal.OutOfMemory → TilesAgree layout.now (tiles_of layout.now.corners (map (λ tile. tile.items) samples.items)) }
+{
+    // The law that makes the joined elevation that of the tiles' first values.
+    agreement_gives_elevation();
+    let elevation = elevation_of(alloc, layout, samples)?;
+    match verdict_of(alloc, &elevation, products) {
+        Ok(verdict) => Ok(verdict),
+        Err(_) => Err(Refusal::OutOfMemory),
+    }
 }

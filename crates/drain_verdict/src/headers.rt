@@ -159,6 +159,3 @@ pub fn read_headers<R>(layout: &Layout, products: &Products<R>) -> Result<Header
         rnk,
     })
 }
-
-#[cfg(test)]
-mod tests;

@@ -13,8 +13,6 @@ pub mod mosaic;
 mod rasters;
 pub mod refusal;
 mod seams;
-#[cfg(test)]
-mod tests;
 mod tiles;
 pub mod verdict_report;
 

@@ -1,0 +1,157 @@
+//! Decimals and lines of the format's tables, each with the value that the table gives; texts of faults.
+
+use drain_header::decimal::{coordinate, nodata};
+use drain_header::lines::read_lines;
+use drain_header::{ByteOrdering, Header, HeaderFault, Key, Place, header_text};
+use std::test::Fail;
+
+#[test]
+fn decimals_in_units(rt: HostRuntime) -> Result<(), Fail> {
+    for (text, wanted) in [
+        ("-105", Some(-105_000_000_000_000_000)),
+        ("1e-3", Some(1_000_000_000_000)),
+        ("8.33e-004", Some(833_000_000_000)),
+        ("-.5", Some(-500_000_000_000_000)),
+        ("5.", Some(5_000_000_000_000_000)),
+        ("0.0000000000000019", Some(1)),
+        ("1e10", Some(10_000_000_000_000_000_000_000_000)),
+        ("-1e10", Some(-10_000_000_000_000_000_000_000_000)),
+        ("10000000000.0000000000000000001", None),
+        (".", None),
+        (".e1", None),
+        ("1e-0003", None),
+        ("1e11", None),
+        ("0x1", None),
+        ("-0", Some(0)),
+    ] {
+        assert_eq!(rt; coordinate(text.as_bytes()), wanted, "{text}");
+    }
+    Ok(())
+}
+
+#[test]
+fn decimals_of_nodata(rt: HostRuntime) -> Result<(), Fail> {
+    for (text, wanted) in [
+        ("-9999.0", Some(-9999)),
+        ("10000000000", Some(10_000_000_000)),
+        ("10000000001", None),
+        ("0.5", None),
+        ("0.00000000000000000001", None),
+        ("-32768", Some(-32768)),
+    ] {
+        assert_eq!(rt; nodata(text.as_bytes()), wanted, "{text}");
+    }
+    Ok(())
+}
+
+/// The digits are many, and the value is small.
+#[test]
+fn long_decimals(rt: HostRuntime) -> Result<(), Fail> {
+    let mut digits = [b'0'; 60000];
+    digits[1] = b'.';
+    assert_eq!(rt; coordinate(&digits), Some(0));
+    assert_eq!(rt; nodata(&digits), Some(0));
+    digits[59999] = b'1';
+    assert_eq!(rt; coordinate(&digits), Some(0));
+    assert_eq!(rt; nodata(&digits), None);
+    digits[1] = b'0';
+    assert_eq!(rt; nodata(&digits), Some(1));
+    digits[0] = b'1';
+    assert_eq!(rt; coordinate(&digits), None);
+    Ok(())
+}
+
+#[test]
+fn first_faults_of_lines(rt: HostRuntime) -> Result<(), Fail> {
+    for (text, wanted) in [
+        ("", None),
+        ("NROWS 2\nmoretext x\n\n", None),
+        ("NROWS 0\n", Some(HeaderFault::BadValue(1))),
+        ("NROWS 2\nNROWS 2\n", Some(HeaderFault::RepeatedKey(2))),
+        (
+            "nrows 2\r\nNcols 7\r\nNROWS 0\r\nNBITS x",
+            Some(HeaderFault::RepeatedKey(3)),
+        ),
+        ("NROWS 2\n  NBITS\n", Some(HeaderFault::BadValue(2))),
+        ("NODATA 0.5", Some(HeaderFault::BadValue(1))),
+        (
+            "\tBYTEORDER  m metres\nLAYOUT BIX",
+            Some(HeaderFault::BadValue(2)),
+        ),
+        ("PIXELTYPE FLOAT", None),
+    ] {
+        assert_eq!(rt; read_lines(text.as_bytes()).err(), wanted, "{text}");
+    }
+    Ok(())
+}
+
+#[test]
+fn texts_of_faults(rt: HostRuntime) -> Result<(), Fail> {
+    for (fault, wanted) in [
+        (HeaderFault::TooLong, "TooLong"),
+        (HeaderFault::RepeatedKey(3), "RepeatedKey 3"),
+        (HeaderFault::BadValue(4294967295), "BadValue 4294967295"),
+        (HeaderFault::MissingKey(Key::Ulxmap), "MissingKey ULXMAP"),
+        (HeaderFault::RowTooShort, "RowTooShort"),
+    ] {
+        assert_eq!(rt; fault.text().as_str(), wanted);
+    }
+    Ok(())
+}
+
+/// The header of a conditioned raster of 3 by 3 pixels, and one without a no-data number that lies west of Greenwich.
+#[test]
+fn headers_as_text(rt: HostRuntime) -> Result<(), Fail> {
+    let conditioned = Header {
+        rows: 3,
+        cols: 3,
+        bits: 16,
+        order: ByteOrdering::Least,
+        signed: true,
+        skip: 0,
+        row_bytes: 6,
+        place: Place {
+            ulx: 0,
+            uly: 1_000_000_000_000_000,
+            xdim: 500_000_000_000_000,
+            ydim: 500_000_000_000_000,
+        },
+        nodata: Some(-32768),
+    };
+    let western = Header {
+        rows: 1,
+        cols: 28801,
+        bits: 8,
+        order: ByteOrdering::Most,
+        signed: false,
+        skip: 4294967295,
+        row_bytes: 28801,
+        place: Place {
+            ulx: -500_000_000_000_000,
+            uly: -105_000_000_000_000_001,
+            xdim: 833_333_333_333,
+            ydim: 10_000_000_000_000_000_000_000_000,
+        },
+        nodata: None,
+    };
+    for (header, wanted) in [
+        (
+            conditioned,
+            "BYTEORDER I\nLAYOUT BIL\nNROWS 3\nNCOLS 3\nNBANDS 1\nNBITS 16\nBANDROWBYTES 6\n\
+             TOTALROWBYTES 6\nSKIPBYTES 0\nPIXELTYPE SIGNEDINT\nULXMAP 0.000000000000000\n\
+             ULYMAP 1.000000000000000\nXDIM 0.500000000000000\nYDIM 0.500000000000000\n\
+             NODATA -32768\n",
+        ),
+        (
+            western,
+            "BYTEORDER M\nLAYOUT BIL\nNROWS 1\nNCOLS 28801\nNBANDS 1\nNBITS 8\nBANDROWBYTES 28801\n\
+             TOTALROWBYTES 28801\nSKIPBYTES 4294967295\nPIXELTYPE UNSIGNEDINT\n\
+             ULXMAP -0.500000000000000\nULYMAP -105.000000000000001\nXDIM 0.000833333333333\n\
+             YDIM 10000000000.000000000000000\n",
+        ),
+    ] {
+        let text = header_text(rt.alloc(), &header)?;
+        assert_eq!(rt; str::from_utf8(&text), Ok(wanted));
+    }
+    Ok(())
+}

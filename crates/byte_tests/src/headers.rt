@@ -1,0 +1,230 @@
+//! Whole headers: each text with the header that it describes, or its first fault.
+
+use drain_header::{ByteOrdering, Header, HeaderFault, Key, Place, header_text, parse_header};
+use std::alloc::{AllocError, Global};
+use std::test::Fail;
+
+/// The lines of a small header, with a half degree from pixel to pixel.
+const LINES: [&str; 15] = [
+    "BYTEORDER I",
+    "LAYOUT BIL",
+    "NROWS 3",
+    "NCOLS 3",
+    "NBANDS 1",
+    "NBITS 16",
+    "BANDROWBYTES 6",
+    "TOTALROWBYTES 6",
+    "SKIPBYTES 0",
+    "PIXELTYPE SIGNEDINT",
+    "ULXMAP 0.000000000000000",
+    "ULYMAP 1.000000000000000",
+    "XDIM 0.500000000000000",
+    "YDIM 0.500000000000000",
+    "NODATA -32768",
+];
+
+/// What those lines say.
+const SMALL: Header = Header {
+    rows: 3,
+    cols: 3,
+    bits: 16,
+    order: ByteOrdering::Least,
+    signed: true,
+    skip: 0,
+    row_bytes: 6,
+    place: Place {
+        ulx: 0,
+        uly: 1_000_000_000_000_000,
+        xdim: 500_000_000_000_000,
+        ydim: 500_000_000_000_000,
+    },
+    nodata: Some(-32768),
+};
+
+/// The lines, each with this end, and some of them replaced. Lines are counted from 1.
+fn text(alloc: Global, end: &str, changes: &[(usize, &str)]) -> Result<Vec<u8>, AllocError> {
+    let mut text = Vec::new(alloc);
+    for (at, line) in LINES.iter().enumerate() {
+        let mut now = *line;
+        for (number, other) in changes {
+            if *number == at + 1 {
+                now = *other;
+            }
+        }
+        text.extend_from_slice(now.as_bytes())?;
+        text.extend_from_slice(end.as_bytes())?;
+    }
+    Ok(text)
+}
+
+#[test]
+fn the_last_faults(rt: HostRuntime) -> Result<(), Fail> {
+    let cases: [(&str, &[(usize, &str)], Result<Header, HeaderFault>); 14] = [
+        ("as it is", &[], Ok(SMALL)),
+        (
+            "three bands of four bits",
+            &[(5, "NBANDS 3"), (6, "NBITS 4")],
+            Err(HeaderFault::NotOneBand),
+        ),
+        ("no band", &[(5, "NBANDS 0")], Err(HeaderFault::NotOneBand)),
+        ("four bits", &[(6, "NBITS 4")], Err(HeaderFault::BadBits)),
+        (
+            "half a bit",
+            &[(6, "NBITS 0.5")],
+            Err(HeaderFault::BadValue(6)),
+        ),
+        (
+            "floating point",
+            &[(10, "PIXELTYPE FLOAT")],
+            Err(HeaderFault::BadPixelType),
+        ),
+        (
+            "a pixel type without a word",
+            &[(10, "PIXELTYPE")],
+            Err(HeaderFault::BadValue(10)),
+        ),
+        (
+            "five bytes for three pixels of two",
+            &[(8, "TOTALROWBYTES 5")],
+            Err(HeaderFault::RowTooShort),
+        ),
+        ("no row", &[(3, "NROWS 0")], Err(HeaderFault::BadValue(3))),
+        (
+            "rows are missing and a line is bad",
+            &[(3, ""), (15, "NODATA x")],
+            Err(HeaderFault::BadValue(15)),
+        ),
+        (
+            "no place, four bits",
+            &[(6, "NBITS 4"), (11, ""), (12, "")],
+            Err(HeaderFault::MissingKey(Key::Ulxmap)),
+        ),
+        (
+            "two bad lines",
+            &[(4, "NCOLS x"), (9, "SKIPBYTES x")],
+            Err(HeaderFault::BadValue(4)),
+        ),
+        (
+            "rows twice, once in other case and without a value",
+            &[(9, "nRoWs")],
+            Err(HeaderFault::RepeatedKey(9)),
+        ),
+        (
+            "rows twice",
+            &[(1, "NROWS 2"), (2, "NROWS 2")],
+            Err(HeaderFault::RepeatedKey(2)),
+        ),
+    ];
+    for (name, changes, wanted) in cases {
+        let bytes = text(rt.alloc(), "\n", changes)?;
+        assert_eq!(rt; parse_header(bytes.as_slice()), wanted, "{name}");
+    }
+    Ok(())
+}
+
+/// Carriage returns, tabs, small letters, further words and lines of other tools change nothing.
+#[test]
+fn other_spellings(rt: HostRuntime) -> Result<(), Fail> {
+    let cases: [(&str, &[(usize, &str)]); 3] = [
+        ("as it is", &[]),
+        (
+            "small letters and tabs",
+            &[
+                (1, "\tbyteorder\ti"),
+                (2, "layout bsq"),
+                (3, "nrows 3"),
+                (4, "ncols 3"),
+                (5, "nbands 1"),
+                (6, "nbits 16"),
+                (7, "bandrowbytes 6"),
+                (8, "totalrowbytes 6"),
+                (9, "skipbytes 0"),
+                (10, "pixeltype signedint"),
+                (11, "ulxmap 0"),
+                (12, "ulymap +1e0"),
+                (13, "xdim .5"),
+                (14, "ydim 5e-1"),
+                (15, "nodata -32768.0"),
+            ],
+        ),
+        (
+            "defaults",
+            &[
+                (1, ""),
+                (2, ""),
+                (5, ""),
+                (7, ""),
+                (8, ""),
+                (9, ""),
+                (10, ""),
+            ],
+        ),
+    ];
+    for (name, changes) in cases {
+        let bytes = text(rt.alloc(), "\r\n", changes)?;
+        assert_eq!(rt; parse_header(bytes.as_slice()), Ok(SMALL), "{name}");
+        let bytes = text(rt.alloc(), " and more\nmoretext x\n\n", changes)?;
+        assert_eq!(rt; parse_header(bytes.as_slice()), Ok(SMALL), "{name}");
+    }
+    // The last line counts without a line end, and with a carriage return alone.
+    let mut bytes = text(rt.alloc(), "\r\n", &[])?;
+    bytes.pop();
+    assert_eq!(rt; parse_header(bytes.as_slice()), Ok(SMALL));
+    bytes.pop();
+    assert_eq!(rt; parse_header(bytes.as_slice()), Ok(SMALL));
+    // Of two carriage returns one is part of the last word.
+    let bytes = text(rt.alloc(), "\r\r\n", &[])?;
+    assert_eq!(rt;
+        parse_header(bytes.as_slice()),
+        Err(HeaderFault::BadValue(1))
+    );
+    Ok(())
+}
+
+/// The header of a usual tool, for the tile N37W105 of side 1201.
+#[test]
+fn a_usual_tool(rt: HostRuntime) -> Result<(), Fail> {
+    let text =
+        "BYTEORDER      I\nLAYOUT         BIL\nNROWS          1201\nNCOLS          1201\nNBANDS         1\n\
+        NBITS          16\nBANDROWBYTES   2402\nTOTALROWBYTES  2402\nPIXELTYPE      SIGNEDINT\n\
+        ULXMAP         -105\nULYMAP         38\nXDIM           0.000833333333333333\n\
+        YDIM           0.000833333333333333\nNODATA         -32768\n";
+    let wanted = Header {
+        rows: 1201,
+        cols: 1201,
+        row_bytes: 2402,
+        place: Place {
+            ulx: -105_000_000_000_000_000,
+            uly: 38_000_000_000_000_000,
+            xdim: 833_333_333_333,
+            ydim: 833_333_333_333,
+        },
+        ..SMALL
+    };
+    assert_eq!(rt; parse_header(text.as_bytes()), Ok(wanted));
+    Ok(())
+}
+
+#[test]
+fn the_longest_text(rt: HostRuntime) -> Result<(), Fail> {
+    assert_eq!(rt; parse_header(b""), Err(HeaderFault::MissingKey(Key::Nrows)));
+    let longest = [b'\n'; 65536];
+    assert_eq!(rt;
+        parse_header(&longest),
+        Err(HeaderFault::MissingKey(Key::Nrows))
+    );
+    let longer = [b'\n'; 65537];
+    assert_eq!(rt; parse_header(&longer), Err(HeaderFault::TooLong));
+    Ok(())
+}
+
+/// What is written of a header is what was read, and is read as the same header.
+#[test]
+fn writes_what_it_reads(rt: HostRuntime) -> Result<(), Fail> {
+    let bytes = text(rt.alloc(), "\n", &[])?;
+    assert_eq!(rt; bytes.len(), 230);
+    let written = header_text(rt.alloc(), &SMALL)?;
+    assert_eq!(rt; written.as_slice(), bytes.as_slice());
+    assert_eq!(rt; parse_header(written.as_slice()), Ok(SMALL));
+    Ok(())
+}

@@ -1,0 +1,190 @@
+//! Boxes of eight tiles, worked by hand, and a wide and a tall mosaic: that they find memory is no clause.
+
+ghost use Rattle.std.specs.Prelude.{◌≡◌, ◌*◌, IfOk, length};
+ghost use Rattle.drain_grid.specs.Tile.{IsSide};
+
+use super::samples;
+use drain_grid::{Cell, Elevation};
+use drain_hgt::TileName;
+use drain_mosaic::{Layout, SeamFault, join};
+use std::alloc::{AllocError, Global};
+use std::test::Fail;
+
+/// What eight tiles of side 2 give together.
+fn eight(
+    alloc: Global,
+    names: [&str; 8],
+    tiles: [[i16; 4]; 8],
+) -> Result<Result<Elevation, SeamFault>, Fail> {
+    let names = [
+        TileName::parse(names[0].as_bytes())?,
+        TileName::parse(names[1].as_bytes())?,
+        TileName::parse(names[2].as_bytes())?,
+        TileName::parse(names[3].as_bytes())?,
+        TileName::parse(names[4].as_bytes())?,
+        TileName::parse(names[5].as_bytes())?,
+        TileName::parse(names[6].as_bytes())?,
+        TileName::parse(names[7].as_bytes())?,
+    ];
+    let layout = Layout::new(alloc, 2, &names)?;
+    let tiles = [
+        Vec::from_slice(alloc, &tiles[0])?,
+        Vec::from_slice(alloc, &tiles[1])?,
+        Vec::from_slice(alloc, &tiles[2])?,
+        Vec::from_slice(alloc, &tiles[3])?,
+        Vec::from_slice(alloc, &tiles[4])?,
+        Vec::from_slice(alloc, &tiles[5])?,
+        Vec::from_slice(alloc, &tiles[6])?,
+        Vec::from_slice(alloc, &tiles[7])?,
+    ];
+    Ok(join(alloc, &layout, &tiles))
+}
+
+/// Eight tiles from west to east, in 2 rows and 9 columns.
+fn wide(alloc: Global, tiles: [[i16; 4]; 8]) -> Result<Result<Elevation, SeamFault>, Fail> {
+    let names = [
+        "N00E000.hgt",
+        "N00E001.hgt",
+        "N00E002.hgt",
+        "N00E003.hgt",
+        "N00E004.hgt",
+        "N00E005.hgt",
+        "N00E006.hgt",
+        "N00E007.hgt",
+    ];
+    eight(alloc, names, tiles)
+}
+
+/// Eight tiles from north to south, in 9 rows and 2 columns.
+fn tall(alloc: Global, tiles: [[i16; 4]; 8]) -> Result<Result<Elevation, SeamFault>, Fail> {
+    let names = [
+        "N07E000.hgt",
+        "N06E000.hgt",
+        "N05E000.hgt",
+        "N04E000.hgt",
+        "N03E000.hgt",
+        "N02E000.hgt",
+        "N01E000.hgt",
+        "N00E000.hgt",
+    ];
+    eight(alloc, names, tiles)
+}
+
+/// The tiles of a row: 1 to 9 along its north, 11 to 19 along its south.
+fn row_of_tiles() -> [[i16; 4]; 8] {
+    [
+        [1, 2, 11, 12],
+        [2, 3, 12, 13],
+        [3, 4, 13, 14],
+        [4, 5, 14, 15],
+        [5, 6, 15, 16],
+        [6, 7, 16, 17],
+        [7, 8, 17, 18],
+        [8, 9, 18, 19],
+    ]
+}
+
+/// The tiles of a column: 1 to 9 along its west, 11 to 19 along its east.
+fn column_of_tiles() -> [[i16; 4]; 8] {
+    [
+        [1, 11, 2, 12],
+        [2, 12, 3, 13],
+        [3, 13, 4, 14],
+        [4, 14, 5, 15],
+        [5, 15, 6, 16],
+        [6, 16, 7, 17],
+        [7, 17, 8, 18],
+        [8, 18, 9, 19],
+    ]
+}
+
+/// The tiles with one sample turned to 0.
+fn turned(mut tiles: [[i16; 4]; 8], tile: usize, place: usize) -> [[i16; 4]; 8] {
+    if let Some(tile) = tiles.get_mut(tile) {
+        if let Some(sample) = tile.get_mut(place) {
+            *sample = 0;
+        }
+    }
+    tiles
+}
+
+#[test]
+fn eight_tiles_that_agree(rt: HostRuntime) -> Result<(), Fail> {
+    let elevation = wide(rt.alloc(), row_of_tiles())??;
+    let given = samples(rt.alloc(), &elevation)?;
+    let wanted = [
+        1, 2, 3, 4, 5, 6, 7, 8, 9, 11, 12, 13, 14, 15, 16, 17, 18, 19,
+    ];
+    assert_eq!(rt; given.as_slice(), wanted.as_slice());
+    let elevation = tall(rt.alloc(), column_of_tiles())??;
+    let given = samples(rt.alloc(), &elevation)?;
+    let wanted = [
+        1, 11, 2, 12, 3, 13, 4, 14, 5, 15, 6, 16, 7, 17, 8, 18, 9, 19,
+    ];
+    assert_eq!(rt; given.as_slice(), wanted.as_slice());
+    Ok(())
+}
+
+/// Each tile but the first differs in turn from the one before it, at the first and at the last of the cells that they share.
+#[test]
+fn eight_tiles_that_differ(rt: HostRuntime) -> Result<(), Fail> {
+    for (tile, seam) in [(1, 1), (2, 2), (3, 3), (4, 4), (5, 5), (6, 6), (7, 7)] {
+        for (place, row) in [(0, 0), (2, 1)] {
+            let answer = wide(rt.alloc(), turned(row_of_tiles(), tile, place))?;
+            let wanted = SeamFault::SeamMismatch(Cell { row, col: seam });
+            assert_eq!(rt; answer.err(), Some(wanted));
+        }
+        for (place, col) in [(0, 0), (1, 1)] {
+            let answer = tall(rt.alloc(), turned(column_of_tiles(), tile, place))?;
+            let wanted = SeamFault::SeamMismatch(Cell { row: seam, col });
+            assert_eq!(rt; answer.err(), Some(wanted));
+        }
+    }
+    Ok(())
+}
+
+/// A tile of one sample.
+fn level(alloc: Global, side: u32, sample: i16) -> Result<Vec<i16>, AllocError>
+    requires { IsSide side }
+    ensures { IfOk result (λ tile. length tile.items ≡ side * side) }
+{
+    vec![in alloc; sample; side as usize * side as usize]
+}
+
+/// What two tiles give together, the first of 1 and the last of 2.
+fn of_two(alloc: Global, side: u32, names: [&str; 2]) -> Result<Elevation, Fail>
+    requires { IsSide side }
+{
+    let names = [
+        TileName::parse(names[0].as_bytes())?,
+        TileName::parse(names[1].as_bytes())?,
+    ];
+    let layout = Layout::new(alloc, side, &names)?;
+    let tiles = [level(alloc, side, 1)?, level(alloc, side, 2)?];
+    Ok(join(alloc, &layout, &tiles)?)
+}
+
+/// As wide and as tall as a box of tiles of side 1201 can be.
+#[test]
+fn widest_and_tallest(rt: HostRuntime) -> Result<(), Fail> {
+    for (names, rows, cols) in [
+        (["N00E000.hgt", "N00E007.hgt"], 1201, 9601),
+        (["N07E000.hgt", "N00E000.hgt"], 9601, 1201),
+    ] {
+        let elevation = of_two(rt.alloc(), 1201, names)?;
+        let shape = elevation.shape();
+        assert_eq!(rt; (shape.rows(), shape.cols()), (rows, cols));
+        let (south, east) = (shape.rows() - 1, shape.cols() - 1);
+        let first = elevation.z(Cell { row: 0, col: 0 });
+        let last = elevation.z(Cell {
+            row: south,
+            col: east,
+        });
+        let middle = elevation.z(Cell {
+            row: south / 2,
+            col: east / 2,
+        });
+        assert_eq!(rt; (first, last, middle), (Some(1), Some(2), None));
+    }
+    Ok(())
+}

@@ -1,0 +1,203 @@
+//! Where tiles differ: wherever they share cells, and the first of several places, worked by hand.
+
+ghost use Rattle.std.specs.Prelude.{map};
+ghost use Rattle.drain_mosaic.specs.Mosaic.{AreTiles};
+
+use drain_grid::{Cell, VOID};
+use drain_hgt::TileName;
+use drain_mosaic::first_seam::first_seam;
+use drain_mosaic::{Layout, SeamFault, join};
+use std::alloc::Global;
+use std::test::Fail;
+
+/// The cell that a join names, none where it gives an elevation. Without memory the same cell is named.
+fn seam_of(alloc: Global, layout: &Layout, tiles: &[Vec<i16>]) -> Result<Option<Cell>, Fail>
+    requires { AreTiles layout.now (map (λ tile. tile.items) tiles.now) }
+{
+    let seam = match join(alloc, layout, tiles).err() {
+        Some(SeamFault::SeamMismatch(cell)) => Some(cell),
+        Some(fault) => return Err(fault.into()),
+        None => None,
+    };
+    if first_seam(layout, tiles) != seam {
+        return Err("another cell without memory".into());
+    }
+    Ok(seam)
+}
+
+/// The seam of two tiles of side 3.
+fn seam_of_pair(
+    alloc: Global,
+    names: [&str; 2],
+    first: [i16; 9],
+    last: [i16; 9],
+) -> Result<Option<Cell>, Fail> {
+    let names = [
+        TileName::parse(names[0].as_bytes())?,
+        TileName::parse(names[1].as_bytes())?,
+    ];
+    let layout = Layout::new(alloc, 3, &names)?;
+    let tiles = [
+        Vec::from_slice(alloc, &first)?,
+        Vec::from_slice(alloc, &last)?,
+    ];
+    seam_of(alloc, &layout, &tiles)
+}
+
+/// Two tiles that share column 2 of 3 rows and 5 columns.
+#[test]
+fn one_beside_the_other(rt: HostRuntime) -> Result<(), Fail> {
+    let v = VOID;
+    let west = [1, 2, 3, 4, 5, 6, 7, 8, 9];
+    for (case, east, row) in [
+        ("agree", [3, 0, 0, 6, 0, 0, 9, 0, 0], None),
+        ("first row", [0, 0, 0, 6, 0, 0, 9, 0, 0], Some(0)),
+        ("inner row", [3, 0, 0, 0, 0, 0, 9, 0, 0], Some(1)),
+        ("last row", [3, 0, 0, 6, 0, 0, 0, 0, 0], Some(2)),
+        ("every row", [0, 0, 0, 0, 0, 0, 0, 0, 0], Some(0)),
+        ("last rows", [3, 0, 0, 0, 0, 0, 0, 0, 0], Some(1)),
+        ("after a void", [v, 0, 0, v, 0, 0, 0, 0, 0], Some(2)),
+        ("voids", [v, 0, 0, v, 0, 0, v, 0, 0], None),
+        ("by one", [3, 0, 0, 7, 0, 0, 9, 0, 0], Some(1)),
+        ("by sign", [-3, 0, 0, 6, 0, 0, 9, 0, 0], Some(0)),
+        ("extremes", [32767, 0, 0, -32767, 0, 0, 9, 0, 0], Some(0)),
+    ] {
+        let wanted = row.map(|row| Cell { row, col: 2 });
+        let names = ["N00E000.hgt", "N00E001.hgt"];
+        let seam = seam_of_pair(rt.alloc(), names, west, east)?;
+        assert_eq!(rt; seam, wanted, "{case}");
+        let names = ["N00E001.hgt", "N00E000.hgt"];
+        let seam = seam_of_pair(rt.alloc(), names, east, west)?;
+        assert_eq!(rt; seam, wanted, "{case}, named from the east");
+    }
+    Ok(())
+}
+
+/// Two tiles that share row 2 of 5 rows and 3 columns.
+#[test]
+fn one_above_the_other(rt: HostRuntime) -> Result<(), Fail> {
+    let v = VOID;
+    let north = [1, 2, 3, 4, 5, 6, 7, 8, 9];
+    for (case, south, col) in [
+        ("agree", [7, 8, 9, 0, 0, 0, 0, 0, 0], None),
+        ("first column", [0, 8, 9, 0, 0, 0, 0, 0, 0], Some(0)),
+        ("inner column", [7, 0, 9, 0, 0, 0, 0, 0, 0], Some(1)),
+        ("last column", [7, 8, 0, 0, 0, 0, 0, 0, 0], Some(2)),
+        ("every column", [0, 0, 0, 0, 0, 0, 0, 0, 0], Some(0)),
+        ("both ends", [0, 8, 0, 0, 0, 0, 0, 0, 0], Some(0)),
+        ("last columns", [7, 0, 0, 0, 0, 0, 0, 0, 0], Some(1)),
+        ("after a void", [v, v, 0, 0, 0, 0, 0, 0, 0], Some(2)),
+        ("voids", [v, v, v, 0, 0, 0, 0, 0, 0], None),
+    ] {
+        let wanted = col.map(|col| Cell { row: 2, col });
+        let names = ["N01E000.hgt", "N00E000.hgt"];
+        let seam = seam_of_pair(rt.alloc(), names, north, south)?;
+        assert_eq!(rt; seam, wanted, "{case}");
+        let names = ["N00E000.hgt", "N01E000.hgt"];
+        let seam = seam_of_pair(rt.alloc(), names, south, north)?;
+        assert_eq!(rt; seam, wanted, "{case}, named from the south");
+    }
+    Ok(())
+}
+
+/// The seam of four tiles of side 3 in a square of 5 by 5 cells: north-west, north-east, south-west, south-east.
+fn seam_of_square(alloc: Global, tiles: [[i16; 9]; 4]) -> Result<Option<Cell>, Fail> {
+    let names = [
+        TileName::parse(b"N01E000.hgt")?,
+        TileName::parse(b"N01E001.hgt")?,
+        TileName::parse(b"N00E000.hgt")?,
+        TileName::parse(b"N00E001.hgt")?,
+    ];
+    let layout = Layout::new(alloc, 3, &names)?;
+    let tiles = [
+        Vec::from_slice(alloc, &tiles[0])?,
+        Vec::from_slice(alloc, &tiles[1])?,
+        Vec::from_slice(alloc, &tiles[2])?,
+        Vec::from_slice(alloc, &tiles[3])?,
+    ];
+    seam_of(alloc, &layout, &tiles)
+}
+
+/// Four tiles that agree: the cells of the square are numbered from 1 in row order.
+fn square() -> [[i16; 9]; 4] {
+    [
+        [1, 2, 3, 6, 7, 8, 11, 12, 13],
+        [3, 4, 5, 8, 9, 10, 13, 14, 15],
+        [11, 12, 13, 16, 17, 18, 21, 22, 23],
+        [13, 14, 15, 18, 19, 20, 23, 24, 25],
+    ]
+}
+
+/// The four tiles meet at one cell, each with a sample of its own there.
+#[test]
+fn corners_of_four_tiles(rt: HostRuntime) -> Result<(), Fail> {
+    let v = VOID;
+    for (case, samples, differ) in [
+        ("all the same", [13, 13, 13, 13], false),
+        ("all voids", [v, v, v, v], false),
+        ("north-west alone", [13, v, v, v], false),
+        ("south-east alone", [v, v, v, 13], false),
+        ("north-west and north-east", [1, 2, v, v], true),
+        ("north-west and south-west", [1, v, 2, v], true),
+        ("north-west and south-east", [1, v, v, 2], true),
+        ("north-east and south-west", [v, 1, 2, v], true),
+        ("north-east and south-east", [v, 1, v, 2], true),
+        ("south-west and south-east", [v, v, 1, 2], true),
+        ("north-west from the others", [1, 13, 13, 13], true),
+        ("north-east from the others", [13, 1, 13, 13], true),
+        ("south-west from the others", [13, 13, 1, 13], true),
+        ("south-east from the others", [13, 13, 13, 1], true),
+        ("each from each", [1, 2, 3, 4], true),
+    ] {
+        let [
+            mut north_west,
+            mut north_east,
+            mut south_west,
+            mut south_east,
+        ] = square();
+        north_west[8] = samples[0];
+        north_east[6] = samples[1];
+        south_west[2] = samples[2];
+        south_east[0] = samples[3];
+        let tiles = [north_west, north_east, south_west, south_east];
+        let wanted = if differ {
+            Some(Cell { row: 2, col: 2 })
+        } else {
+            None
+        };
+        assert_eq!(rt; seam_of_square(rt.alloc(), tiles)?, wanted, "{case}");
+    }
+    Ok(())
+}
+
+/// One or two samples of the two eastern or southern tiles are turned to 0.
+#[test]
+fn edges_of_four_tiles(rt: HostRuntime) -> Result<(), Fail> {
+    for (case, one, other, row, col) in [
+        ("first row", (1, 0), (1, 0), 0, 2),
+        ("above the corners", (1, 3), (1, 3), 1, 2),
+        ("first column", (2, 0), (2, 0), 2, 0),
+        ("before the corners", (2, 1), (2, 1), 2, 1),
+        ("after the corners", (3, 1), (3, 1), 2, 3),
+        ("last column", (3, 2), (3, 2), 2, 4),
+        ("below the corners", (3, 3), (3, 3), 3, 2),
+        ("last row", (3, 6), (3, 6), 4, 2),
+        ("first and last row", (3, 6), (1, 0), 0, 2),
+        ("first and last column", (3, 2), (2, 0), 2, 0),
+        ("last column and last row", (3, 6), (3, 2), 2, 4),
+        ("first row and first column", (2, 0), (1, 0), 0, 2),
+        ("corners and last column", (3, 2), (3, 0), 2, 2),
+    ] {
+        let mut tiles = square();
+        for (tile, place) in [one, other] {
+            if let Some(tile) = tiles.get_mut(tile) {
+                if let Some(sample) = tile.get_mut(place) {
+                    *sample = 0;
+                }
+            }
+        }
+        let seam = seam_of_square(rt.alloc(), tiles)?;
+        assert_eq!(rt; seam, Some(Cell { row, col }), "{case}");
+    }
+    Ok(())
+}

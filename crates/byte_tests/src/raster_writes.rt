@@ -1,0 +1,194 @@
+//! Writing to sinks that are whole, slow, interrupted or fail, and numbers that pixels can't spell. Sinks have their memory
+//! first, so that want of it is told as such.
+
+ghost use Rattle.std.specs.Prelude.{◌≡◌, IfOk};
+ghost use Rattle.drain_raster.specs.Pixels.{extent_of};
+
+use crate::rasters::{NOWHERE, PADDED, numbers_of, padded, raster_of};
+use drain_device::faults::{ScriptSink, Scripted, SinkAnswer};
+use drain_device::{ByteSink, VecSink};
+use drain_grid::{Cell, Product, Raster};
+use drain_header::{ByteOrdering, Header};
+use drain_raster::laws::bytes_read_back;
+use drain_raster::{WriteFault, read_raster, write_raster};
+use std::alloc::Global;
+use std::test::Fail;
+
+/// The bytes of the worked raster, with zeros where no pixel is.
+const WRITTEN: [u8; 11] = [0, 1, 0, 0xfe, 0xff, 0, 0, 0x80, 2, 0, 0];
+
+fn worked(alloc: Global) -> Result<Raster, Fail>
+    ensures { IfOk result (λ raster. raster.extent ≡ record { rows = 2; cols = 2 }) }
+{
+    Ok(read_raster(alloc, Product::Con, &padded(ByteOrdering::Least), &PADDED)?)
+}
+
+#[test]
+fn a_worked_raster_is_written_and_read_back(rt: HostRuntime) -> Result<(), Fail> {
+    let raster = worked(rt.alloc())?;
+    let mut sink = VecSink::new(Vec::with_capacity(rt.alloc(), WRITTEN.len())?);
+    write_raster(&mut sink, &padded(ByteOrdering::Least), &raster)?;
+    assert_eq!(rt; sink.as_slice(), WRITTEN.as_slice());
+    bytes_read_back();
+    let again = read_raster(
+        rt.alloc(),
+        Product::Con,
+        &padded(ByteOrdering::Least),
+        sink.as_slice(),
+    )?;
+    assert_eq!(rt;
+        numbers_of(rt.alloc(), &again)?.as_slice(),
+        [1, -2, -32768, 2].as_slice()
+    );
+    Ok(())
+}
+
+/// The sink would fail at its first call, and isn't called.
+#[test]
+fn the_first_number_out_of_range_is_told_before_any_byte(rt: HostRuntime) -> Result<(), Fail> {
+    let cases: [([i64; 4], Cell); 4] = [
+        ([1, 40000, -32768, 2], Cell { row: 0, col: 1 }),
+        ([1, 40000, 40000, 40000], Cell { row: 0, col: 1 }),
+        ([-32769, -2, -32768, 2], Cell { row: 0, col: 0 }),
+        ([1, -2, -32768, 32768], Cell { row: 1, col: 1 }),
+    ];
+    for (numbers, cell) in cases {
+        let Some(raster) = raster_of(rt.alloc(), 2, 2, &numbers)? else {
+            return Err(Fail::new("no raster"));
+        };
+        let script = [Scripted {
+            first: 1,
+            last: 1,
+            answer: SinkAnswer::Failed,
+        }];
+        let mut sink = ScriptSink::new(Vec::new(rt.alloc()), 1, &script);
+        let written = write_raster(&mut sink, &padded(ByteOrdering::Least), &raster);
+        assert_eq!(rt; written, Err(WriteFault::OutOfRange(cell)));
+        assert!(rt; sink.as_slice().is_empty());
+        assert_eq!(rt; sink.failures(), 0);
+    }
+    Ok(())
+}
+
+/// A sink that takes one byte at a call is called eleven times for the worked raster.
+#[test]
+fn a_write_fails_where_its_sink_does(rt: HostRuntime) -> Result<(), Fail> {
+    let raster = worked(rt.alloc())?;
+    let failed = SinkAnswer::Failed;
+    let none = SinkAnswer::TookNone;
+    let interrupted = SinkAnswer::Interrupted;
+    for (first, last, answer, taken) in [
+        (1, 1, failed, 0),
+        (2, 2, failed, 1),
+        (3, 3, failed, 2),
+        (4, 4, failed, 3),
+        (5, 5, failed, 4),
+        (6, 6, failed, 5),
+        (7, 7, failed, 6),
+        (8, 8, failed, 7),
+        (9, 9, failed, 8),
+        (10, 10, failed, 9),
+        (11, 11, failed, 10),
+        (12, 12, failed, 11),
+        (1, 1, none, 0),
+        (6, 6, none, 5),
+        (11, 11, none, 10),
+        (12, 12, none, 11),
+        (1, 999, interrupted, 11),
+        (1, 1000, interrupted, 0),
+        (6, 1004, interrupted, 11),
+        (6, 1005, interrupted, 5),
+        (11, 1010, interrupted, 10),
+    ] {
+        let script = [Scripted {
+            first,
+            last,
+            answer,
+        }];
+        let room = Vec::with_capacity(rt.alloc(), WRITTEN.len())?;
+        let mut sink = ScriptSink::new(room, 1, &script);
+        let written = write_raster(&mut sink, &padded(ByteOrdering::Least), &raster);
+        let wanted = if taken < 11 {
+            Err(WriteFault::WriteFailed)
+        } else {
+            Ok(())
+        };
+        assert_eq!(rt; written, wanted, "calls {first} to {last}");
+        assert_eq!(rt; sink.as_slice().len(), taken, "calls {first} to {last}");
+        assert!(rt;
+            WRITTEN.starts_with(sink.as_slice()),
+            "calls {first} to {last}"
+        );
+    }
+    Ok(())
+}
+
+/// Interruptions of one write add up, wherever they come: 500 before the first byte, and as many or one less before the last.
+#[test]
+fn interruptions_add_up_over_a_write(rt: HostRuntime) -> Result<(), Fail> {
+    let raster = worked(rt.alloc())?;
+    let interrupted = SinkAnswer::Interrupted;
+    for (last, wanted) in [(1009, Ok(())), (1010, Err(WriteFault::WriteFailed))] {
+        let script = [
+            Scripted {
+                first: 1,
+                last: 500,
+                answer: interrupted,
+            },
+            Scripted {
+                first: 511,
+                last,
+                answer: interrupted,
+            },
+        ];
+        let room = Vec::with_capacity(rt.alloc(), WRITTEN.len())?;
+        let mut sink = ScriptSink::new(room, 1, &script);
+        let written = write_raster(&mut sink, &padded(ByteOrdering::Least), &raster);
+        assert_eq!(rt; written, wanted);
+        assert_eq!(rt; WRITTEN.starts_with(sink.as_slice()), true);
+    }
+    Ok(())
+}
+
+/// Rows longer than what a call of the sink is lent at once, with as long a part to skip and behind each row.
+fn long() -> Header
+    ensures { extent_of result ≡ record { rows = 2; cols = 3000 } }
+{
+    Header {
+        rows: 2,
+        cols: 3000,
+        bits: 32,
+        order: ByteOrdering::Most,
+        signed: false,
+        skip: 5000,
+        row_bytes: 17000,
+        place: NOWHERE,
+        nodata: None,
+    }
+}
+
+#[test]
+fn long_rows_are_written_whole(rt: HostRuntime) -> Result<(), Fail> {
+    let mut bytes = Vec::new(rt.alloc());
+    for _ in 0..5000 {
+        bytes.push(0)?;
+    }
+    for row in 0..2u8 {
+        for col in 0..3000u16 {
+            bytes.push(row)?;
+            bytes.extend_from_slice(&col.to_be_bytes())?;
+            bytes.push(7)?;
+        }
+        for _ in 12000..17000 {
+            bytes.push(0)?;
+        }
+    }
+    let header = long();
+    let raster = read_raster(rt.alloc(), Product::Acc, &header, &bytes)?;
+    let numbers = numbers_of(rt.alloc(), &raster)?;
+    assert_eq!(rt; numbers.last().copied(), Some(16777216 + 2999 * 256 + 7));
+    let mut sink = VecSink::new(Vec::with_capacity(rt.alloc(), bytes.len())?);
+    write_raster(&mut sink, &header, &raster)?;
+    assert!(rt; sink.as_slice() == bytes.as_slice());
+    Ok(())
+}

@@ -1,0 +1,274 @@
+//! Worked rasters: bytes with the numbers that they spell, and numbers with their bytes, each worked out by hand.
+
+ghost use Rattle.std.specs.Prelude.{◌≡◌, IfOk, IfSome};
+ghost use Rattle.drain_raster.specs.Pixels.{extent_of};
+
+use drain_device::VecSink;
+use drain_grid::values::{GREATEST_PIXEL, LEAST_PIXEL};
+use drain_grid::{Cell, Product, Raster, Shape};
+use drain_header::{ByteOrdering, Header, Place};
+use drain_raster::{RasterFault, WriteFault, read_raster, write_raster};
+use std::alloc::{AllocError, Global};
+use std::test::Fail;
+
+/// Two by two pixels of 16 bits, a byte to skip, and one behind each row.
+pub const PADDED: [u8; 10] = [0xff, 1, 0, 0xfe, 0xff, 0xaa, 0, 0x80, 2, 0];
+
+pub const NOWHERE: Place = Place {
+    ulx: 0,
+    uly: 0,
+    xdim: 0,
+    ydim: 0,
+};
+
+pub fn padded(order: ByteOrdering) -> Header
+    ensures { extent_of result ≡ record { rows = 2; cols = 2 } }
+{
+    Header {
+        rows: 2,
+        cols: 2,
+        bits: 16,
+        order,
+        signed: true,
+        skip: 1,
+        row_bytes: 5,
+        place: NOWHERE,
+        nodata: None,
+    }
+}
+
+/// One pixel, in a row of four bytes.
+fn alone(bits: u8, signed: bool, order: ByteOrdering) -> Header
+    ensures { extent_of result ≡ record { rows = 1; cols = 1 } }
+{
+    let header = Header {
+        rows: 1,
+        cols: 1,
+        bits: 32,
+        order,
+        signed,
+        skip: 0,
+        row_bytes: 4,
+        place: NOWHERE,
+        nodata: None,
+    };
+    match bits {
+        8 => Header { bits: 8, ..header },
+        16 => Header { bits: 16, ..header },
+        _ => header,
+    }
+}
+
+/// The raster of these numbers, where each is one of a pixel and there are as many as cells.
+pub fn raster_of(
+    alloc: Global,
+    rows: u32,
+    cols: u32,
+    numbers: &[i64],
+) -> Result<Option<Raster>, AllocError>
+    ensures { IfOk result (λ some. IfSome some (λ raster. raster.extent ≡ record { rows = rows; cols = cols })) }
+{
+    let Some(shape) = Shape::new(rows, cols) else {
+        return Ok(None);
+    };
+    let are_pixels = numbers.iter().all(|number| LEAST_PIXEL <= *number
+        && *number <= GREATEST_PIXEL);
+    if numbers.len() != shape.cells() || !are_pixels {
+        return Ok(None);
+    }
+    Ok(Some(Raster::new(shape, 0, Vec::from_slice(alloc, numbers)?)))
+}
+
+/// The raster's numbers, row by row.
+pub fn numbers_of(alloc: Global, raster: &Raster) -> Result<Vec<i64>, AllocError> {
+    let mut numbers = Vec::new(alloc);
+    for row in 0..raster.shape().rows() {
+        for col in 0..raster.shape().cols() {
+            numbers.push(raster.value(Cell { row, col }))?;
+        }
+    }
+    Ok(numbers)
+}
+
+#[test]
+fn a_worked_raster_is_read_in_both_orders(rt: HostRuntime) -> Result<(), Fail> {
+    for (order, wanted) in [
+        (ByteOrdering::Least, [1, -2, -32768, 2]),
+        (ByteOrdering::Most, [256, -257, 128, 512]),
+    ] {
+        let raster = read_raster(rt.alloc(), Product::Con, &padded(order), &PADDED)?;
+        assert_eq!(rt; raster.shape().rows(), 2);
+        assert_eq!(rt; raster.shape().cols(), 2);
+        assert_eq!(rt;
+            numbers_of(rt.alloc(), &raster)?.as_slice(),
+            wanted.as_slice()
+        );
+    }
+    Ok(())
+}
+
+/// Its last pixel ends at byte 10; the byte behind its last row isn't needed, nor looked at.
+#[test]
+fn a_raster_is_short_before_its_last_pixel_ends(rt: HostRuntime) -> Result<(), Fail> {
+    let mut bytes = [0xaa; 16];
+    bytes[..10].copy_from_slice(&PADDED);
+    for len in 0..=16 {
+        let read = read_raster(
+            rt.alloc(),
+            Product::Con,
+            &padded(ByteOrdering::Least),
+            &bytes[..len],
+        );
+        match read {
+            Ok(raster) => {
+                assert!(rt; len >= 10, "{len} bytes");
+                assert_eq!(rt;
+                    numbers_of(rt.alloc(), &raster)?.as_slice(),
+                    [1, -2, -32768, 2].as_slice()
+                );
+            }
+            Err(fault) => {
+                assert_eq!(rt; fault, RasterFault::Short);
+                assert!(rt; len < 10, "{len} bytes");
+            }
+        }
+    }
+    Ok(())
+}
+
+/// A header's no-data number comes before the product's.
+#[test]
+fn the_no_data_number_is_that_of_the_header_or_the_product(rt: HostRuntime) -> Result<(), Fail> {
+    let header = alone(8, false, ByteOrdering::Least);
+    let given = Header {
+        nodata: Some(-9999),
+        ..header
+    };
+    for (product, number) in [
+        (Product::Con, -32768),
+        (Product::Dir, 255),
+        (Product::Acc, 0),
+        (Product::Bas, 0),
+        (Product::Spl, 255),
+        (Product::Rnk, 4294967295),
+    ] {
+        assert_eq!(rt;
+            read_raster(rt.alloc(), product, &header, &[7])?.nodata(),
+            number
+        );
+        assert_eq!(rt;
+            read_raster(rt.alloc(), product, &given, &[7])?.nodata(),
+            -9999
+        );
+    }
+    Ok(())
+}
+
+/// A pixel's bits and sign, a number, and its bytes with the least significant first and with the most significant first.
+type Spelling = (u8, bool, i64, [u8; 4], [u8; 4]);
+
+/// The least and the greatest number of each kind of pixel; behind a pixel stand zeros.
+const BOUNDS: [Spelling; 12] = [
+    (8, false, 0, [0, 0, 0, 0], [0, 0, 0, 0]),
+    (8, false, 255, [0xff, 0, 0, 0], [0xff, 0, 0, 0]),
+    (8, true, -128, [0x80, 0, 0, 0], [0x80, 0, 0, 0]),
+    (8, true, 127, [0x7f, 0, 0, 0], [0x7f, 0, 0, 0]),
+    (16, false, 0, [0, 0, 0, 0], [0, 0, 0, 0]),
+    (16, false, 65535, [0xff, 0xff, 0, 0], [0xff, 0xff, 0, 0]),
+    (16, true, -32768, [0, 0x80, 0, 0], [0x80, 0, 0, 0]),
+    (16, true, 32767, [0xff, 0x7f, 0, 0], [0x7f, 0xff, 0, 0]),
+    (32, false, 0, [0, 0, 0, 0], [0, 0, 0, 0]),
+    (
+        32,
+        false,
+        4294967295,
+        [0xff, 0xff, 0xff, 0xff],
+        [0xff, 0xff, 0xff, 0xff],
+    ),
+    (32, true, -2147483648, [0, 0, 0, 0x80], [0x80, 0, 0, 0]),
+    (
+        32,
+        true,
+        2147483647,
+        [0xff, 0xff, 0xff, 0x7f],
+        [0x7f, 0xff, 0xff, 0xff],
+    ),
+];
+
+#[test]
+fn each_kind_of_pixel_spells_its_bounds(rt: HostRuntime) -> Result<(), Fail> {
+    for (bits, signed, number, least_first, most_first) in BOUNDS {
+        for (order, bytes) in [
+            (ByteOrdering::Least, least_first),
+            (ByteOrdering::Most, most_first),
+        ] {
+            let header = alone(bits, signed, order);
+            let raster = read_raster(rt.alloc(), Product::Con, &header, &bytes)?;
+            assert_eq!(rt;
+                numbers_of(rt.alloc(), &raster)?.as_slice(),
+                [number].as_slice(),
+                "{bits} bits"
+            );
+            let mut sink = VecSink::new(Vec::with_capacity(rt.alloc(), 4)?);
+            write_raster(&mut sink, &header, &raster)?;
+            assert_eq!(rt;
+                sink.as_slice(),
+                bytes.as_slice(),
+                "{number} in {bits} bits"
+            );
+        }
+    }
+    Ok(())
+}
+
+#[test]
+fn no_kind_of_pixel_spells_a_number_outside_its_bounds(rt: HostRuntime) -> Result<(), Fail> {
+    for (bits, signed, number) in [
+        (8, false, -1),
+        (8, false, 256),
+        (8, true, -129),
+        (8, true, 128),
+        (16, false, -1),
+        (16, false, 65536),
+        (16, true, -32769),
+        (16, true, 32768),
+        (32, false, -1),
+        (32, false, -2147483648),
+        (32, true, 2147483648),
+        (32, true, 4294967295),
+    ] {
+        let Some(raster) = raster_of(rt.alloc(), 1, 1, &[number])? else {
+            return Err(Fail::new("no raster"));
+        };
+        let header = alone(bits, signed, ByteOrdering::Least);
+        let mut sink = VecSink::new(Vec::new(rt.alloc()));
+        let fault = WriteFault::OutOfRange(Cell { row: 0, col: 0 });
+        assert_eq!(rt;
+            write_raster(&mut sink, &header, &raster),
+            Err(fault),
+            "{number} in {bits} bits"
+        );
+        assert!(rt; sink.as_slice().is_empty());
+    }
+    Ok(())
+}
+
+#[test]
+fn texts_of_faults(rt: HostRuntime) -> Result<(), Fail> {
+    for (fault, text) in [
+        (RasterFault::Short, "the raster is too short"),
+        (RasterFault::OutOfMemory, "out of memory"),
+    ] {
+        assert_eq!(rt; format!(in rt.alloc(); "{fault}")?.as_str(), text);
+    }
+    for (fault, text) in [
+        (
+            WriteFault::OutOfRange(Cell { row: 0, col: 1 }),
+            "a number is out of range",
+        ),
+        (WriteFault::WriteFailed, "the write failed"),
+    ] {
+        assert_eq!(rt; format!(in rt.alloc(); "{fault}")?.as_str(), text);
+    }
+    Ok(())
+}

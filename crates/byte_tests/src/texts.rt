@@ -1,0 +1,59 @@
+//! Lines of texts, words of lines, and whole numbers, each with the parts or the value that it has.
+
+use drain_text::{first_line, first_word, whole_number};
+use std::test::Fail;
+
+#[test]
+fn first_lines(rt: HostRuntime) -> Result<(), Fail> {
+    for (text, line, rest) in [
+        ("", "", None),
+        ("a b", "a b", None),
+        ("a\n", "a", Some("")),
+        ("\na", "", Some("a")),
+        ("a\r\nb\nc", "a", Some("b\nc")),
+        ("a\r\r\nb", "a\r", Some("b")),
+        ("a\rb\r", "a\rb", None),
+        ("\r", "", None),
+    ] {
+        let (first, after) = first_line(text.as_bytes());
+        assert_eq!(rt; first, line.as_bytes(), "{text}");
+        assert_eq!(rt; after, rest.map(|rest| rest.as_bytes()), "{text}");
+    }
+    Ok(())
+}
+
+#[test]
+fn first_words(rt: HostRuntime) -> Result<(), Fail> {
+    for (line, wanted) in [
+        ("", None),
+        (" \t ", None),
+        ("a", Some(("a", ""))),
+        ("\t ab\tc d", Some(("ab", "\tc d"))),
+        ("a\rb ", Some(("a\rb", " "))),
+    ] {
+        let found = first_word(line.as_bytes());
+        assert_eq!(rt;
+            found,
+            wanted.map(|(word, rest)| (word.as_bytes(), rest.as_bytes())),
+            "{line}"
+        );
+    }
+    Ok(())
+}
+
+#[test]
+fn whole_numbers(rt: HostRuntime) -> Result<(), Fail> {
+    for (text, wanted) in [
+        ("0", Some(0)),
+        ("000000000000000000000000000007", Some(7)),
+        ("4294967295", Some(4294967295)),
+        ("4294967296", None),
+        ("99999999999999999999999999", None),
+        ("", None),
+        ("+1", None),
+        ("1.", None),
+    ] {
+        assert_eq!(rt; whole_number(text.as_bytes()), wanted, "{text}");
+    }
+    Ok(())
+}

@@ -1,0 +1,87 @@
+//! Worked names and samples, from the format's own table.
+
+use drain_device::{ByteList, SliceSource, read_body};
+use drain_hgt::input::TileInput;
+use drain_hgt::name::{NameFault, TileName};
+use drain_hgt::tile::{TileFault, read_tile};
+use std::test::Fail;
+
+#[test]
+fn names_and_their_degrees(rt: HostRuntime) -> Result<(), Fail> {
+    for (name, lat, lon, printed) in [
+        ("n37w105.HGT", 37, -105, "N37W105.hgt"),
+        ("N00E000.hgt", 0, 0, "N00E000.hgt"),
+        ("N89E179.hgt", 89, 179, "N89E179.hgt"),
+        ("s01w001.Hgt", -1, -1, "S01W001.hgt"),
+        ("S90W180.hgt", -90, -180, "S90W180.hgt"),
+    ] {
+        let tile = TileName::parse(name.as_bytes())?;
+        assert_eq!(rt; (tile.lat(), tile.lon()), (lat, lon), "{name}");
+        assert_eq!(rt; tile.text().as_str(), printed);
+    }
+    Ok(())
+}
+
+#[test]
+fn names_of_no_tile(rt: HostRuntime) -> Result<(), Fail> {
+    for (name, fault) in [
+        ("S00E000.hgt", NameFault::BadRange),
+        ("N90E000.hgt", NameFault::BadRange),
+        ("S91E000.hgt", NameFault::BadRange),
+        ("N00E180.hgt", NameFault::BadRange),
+        ("N00W000.hgt", NameFault::BadRange),
+        ("N00W181.hgt", NameFault::BadRange),
+        ("N99E999.hgt", NameFault::BadRange),
+        ("N7W105.hgt", NameFault::BadForm),
+        ("N037W105.hgt", NameFault::BadForm),
+        ("N37W105.hgt ", NameFault::BadForm),
+        ("E37N105.hgt", NameFault::BadForm),
+        ("N3:W105.hgt", NameFault::BadForm),
+        ("N37W1/5.hgt", NameFault::BadForm),
+        ("N37W105_hgt", NameFault::BadForm),
+        ("", NameFault::BadForm),
+    ] {
+        assert_eq!(rt; TileName::parse(name.as_bytes()), Err(fault), "{name}");
+    }
+    Ok(())
+}
+
+#[test]
+fn samples_most_significant_byte_first(rt: HostRuntime) -> Result<(), Fail> {
+    let bytes = [0x00, 0x01, 0x80, 0x00, 0xff, 0xff, 0x7f, 0xff];
+    let samples = read_tile(rt.alloc(), 2, &bytes)?;
+    assert_eq!(rt; samples.as_slice(), [1, -32768, -1, 32767].as_slice());
+    Ok(())
+}
+
+#[test]
+fn bytes_of_no_tile(rt: HostRuntime) -> Result<(), Fail> {
+    let bytes = [0; 8];
+    for (side, length, fault) in [
+        (2, 7, TileFault::BadLength),
+        (3, 8, TileFault::BadLength),
+        (3601, 8, TileFault::BadLength),
+        (1, 2, TileFault::BadSide),
+        (0, 0, TileFault::BadSide),
+        (3602, 8, TileFault::BadSide),
+    ] {
+        let answer = read_tile(rt.alloc(), side, &bytes[..length]);
+        assert_eq!(rt; answer.err(), Some(fault), "{side}");
+    }
+    Ok(())
+}
+
+#[test]
+fn a_tile_as_it_is_handed_in(rt: HostRuntime) -> Result<(), Fail> {
+    let bytes = [0, 7, 0, 8, 0, 9, 0, 10];
+    let mut input = TileInput {
+        name: ByteList::new(b"s01w001.hgt".to_vec(rt.alloc())?),
+        body: SliceSource::new(&bytes),
+    };
+    let name = TileName::parse(input.name.as_slice())?;
+    assert_eq!(rt; name.text().as_str(), "S01W001.hgt");
+    let body = read_body(rt.alloc(), &mut input.body, 8)?;
+    let samples = read_tile(rt.alloc(), 2, &body)?;
+    assert_eq!(rt; samples.as_slice(), [7, 8, 9, 10].as_slice());
+    Ok(())
+}

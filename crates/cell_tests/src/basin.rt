@@ -1,0 +1,107 @@
+//! Labels of a cell and the next, and of outlets.
+
+use drain_basin::{OutletLabels, fault};
+use drain_grid::{CellValues, Patch, Rule};
+use std::test::Fail;
+
+/// The patch of a cell with this direction and label 5, whose east has label 7 and whose other neighbours have label 5.
+fn patch(dir: i64) -> Result<Patch, Fail> {
+    let here = CellValues::new(Some(0), 0, dir, 1, 5, 0, 0).ok_or("values")?;
+    let mut around = [Some(here); 8];
+    around[0] = CellValues::new(Some(0), 0, 0, 1, 7, 0, 0);
+    Ok(Patch { here, around })
+}
+
+#[test]
+fn hands_a_label_on_along_a_direction(rt: HostRuntime) -> Result<(), Fail> {
+    for (dir, answer) in [
+        (1, Some(Rule::Label)),
+        (2, None),
+        (0, None),
+        (3, None),
+        (255, None),
+    ] {
+        assert_eq!(rt; fault(&patch(dir)?), answer, "direction {dir}");
+    }
+    let mut to_a_void = patch(1)?;
+    to_a_void.around[0] = CellValues::new(None, 0, 0, 1, 7, 0, 0);
+    assert_eq!(rt; fault(&to_a_void), None, "a void has no label to hand on");
+    let mut to_the_outside = patch(1)?;
+    to_the_outside.around[0] = None;
+    assert_eq!(rt; fault(&to_the_outside), None);
+    Ok(())
+}
+
+#[test]
+fn admits_each_label_once(rt: HostRuntime) -> Result<(), Fail> {
+    let mut labels = OutletLabels::new(rt.alloc());
+    for (label, is_new) in [
+        (7, true),
+        (7, false),
+        (8, true),
+        (-2147483648, true),
+        (4294967295, true),
+        (8, false),
+        (-2147483648, false),
+        // The ends of a word's half, of a word and of what a label can be, and labels that lie whole words apart.
+        (15, true),
+        (16, true),
+        (23, true),
+        (39, true),
+        (63, true),
+        (64, true),
+        (71, true),
+        (0, true),
+        (-1, true),
+        (-16, true),
+        (-17, true),
+        (-64, true),
+        (-65, true),
+        (i64::MIN, true),
+        (i64::MAX, true),
+        (15, false),
+        (16, false),
+        (63, false),
+        (64, false),
+        (0, false),
+        (-1, false),
+        (i64::MIN, false),
+        (i64::MAX, false),
+        (7, false),
+    ] {
+        assert_eq!(rt; labels.admit(label), Ok(is_new), "label {label}");
+    }
+    Ok(())
+}
+
+/// Labels of which no two share a word.
+fn far_apart(number: u8) -> i64 {
+    i64::from(number) * 16
+}
+
+/// Enough labels that the tree of words grows. A call may find no memory.
+#[test]
+fn holds_its_labels_where_memory_is_refused(rt: HostRuntime) -> Result<(), Fail> {
+    let mut labels = OutletLabels::new(rt.alloc());
+    for number in 0..40u8 {
+        let label = far_apart(number);
+        if labels.admit(label) != Ok(true) {
+            for earlier in 0..number {
+                assert_eq!(rt;
+                    labels.admit(far_apart(earlier)),
+                    Ok(false),
+                    "{earlier} before {number}"
+                );
+            }
+            assert_eq!(rt; labels.admit(label), Ok(true), "{number} again");
+        }
+    }
+    for number in 0..40u8 {
+        assert_eq!(rt;
+            labels.admit(far_apart(number)),
+            Ok(false),
+            "{number} at the end"
+        );
+    }
+    Ok(())
+}

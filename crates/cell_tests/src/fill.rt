@@ -1,0 +1,120 @@
+//! Patches of which only what these rules read is given, each with the first rule that fails; and slices with
+//! their first place below the ground.
+
+use drain_fill::{fault, first_below};
+use drain_grid::{CellValues, Patch, Rule};
+use std::test::Fail;
+
+/// What stands beside the cell.
+#[derive(Clone, Copy)]
+enum Beside {
+    Rim,
+    Crest,
+    Sunk,
+    Void,
+    Outside,
+    Least,
+    Greatest,
+}
+
+use Beside::{Crest, Greatest, Least, Outside, Rim, Sunk, Void};
+
+fn cell(z: Option<i16>, con: i64, spl: i64, rnk: i64) -> Option<CellValues> {
+    CellValues::new(z, con, 0, 0, 0, spl, rnk)
+}
+
+fn neighbor(beside: Beside) -> Option<CellValues> {
+    match beside {
+        Rim => cell(Some(5), 5, 0, 0),
+        Crest => cell(Some(7), 7, 0, 0),
+        Sunk => cell(Some(9), 5, 0, 0),
+        Void => cell(None, -32768, 255, 4294967295),
+        Outside => None,
+        Least => cell(Some(5), -2147483648, 0, 4294967294),
+        Greatest => cell(Some(5), 4294967295, 0, -2147483648),
+    }
+}
+
+/// One neighbour in the east, and another in each of the other directions.
+fn patch(here: CellValues, east: Beside, other: Beside) -> Patch {
+    Patch {
+        here,
+        around: [
+            neighbor(east),
+            neighbor(other),
+            neighbor(other),
+            neighbor(other),
+            neighbor(other),
+            neighbor(other),
+            neighbor(other),
+            neighbor(other),
+        ],
+    }
+}
+
+#[test]
+fn cells_in_a_pit(rt: HostRuntime) -> Result<(), Fail> {
+    for (name, east, con, spl, rnk, wanted) in [
+        ("a filled pit", Rim, 5, 1, 1, None),
+        ("under its ground", Sunk, 5, 1, 1, None),
+        ("below ground", Rim, 0, 1, 1, Some(Rule::BelowGround)),
+        ("no spill parent", Rim, 5, 0, 1, Some(Rule::NoSpill)),
+        ("no spill code", Rim, 5, 3, 1, Some(Rule::NoSpill)),
+        ("not raised", Rim, 1, 1, 1, Some(Rule::SpillHeight)),
+        ("too high", Rim, 6, 1, 1, Some(Rule::SpillHeight)),
+        ("equal ranks", Rim, 5, 1, 0, Some(Rule::SpillRank)),
+        ("smaller rank", Rim, 5, 1, -1, Some(Rule::SpillRank)),
+        ("past a crest", Crest, 5, 2, 1, None),
+        ("needless crest", Crest, 7, 1, 1, Some(Rule::NotLeast)),
+        ("not its crest", Crest, 7, 2, 1, Some(Rule::SpillHeight)),
+        ("open", Outside, 1, 0, 1, None),
+        ("open, raised", Outside, 5, 0, 1, Some(Rule::OpenRaised)),
+        ("open, spill", Outside, 1, 1, 1, Some(Rule::OpenRaised)),
+        ("beside a void", Void, 1, 0, 1, None),
+        ("to a void", Void, 1, 1, 1, Some(Rule::OpenRaised)),
+        ("as a void", Void, -32768, 1, 1, Some(Rule::BelowGround)),
+    ] {
+        let here = cell(Some(1), con, spl, rnk).ok_or(name)?;
+        let found = fault(&patch(here, east, Rim));
+        assert_eq!(rt; found, wanted, "{name}");
+    }
+    Ok(())
+}
+
+#[test]
+fn voids_and_bounds(rt: HostRuntime) -> Result<(), Fail> {
+    for (z, con, spl, rnk, beside, wanted) in [
+        (None, -32768, 255, 4294967295, Least, None),
+        (None, 0, 3, 0, Outside, None),
+        (Some(1), 4294967295, 128, 4294967295, Greatest, None),
+        (Some(-32767), -32767, 64, 4294967295, Least, None),
+        (Some(1), -2147483648, 64, 0, Least, Some(Rule::BelowGround)),
+    ] {
+        let here = cell(z, con, spl, rnk).ok_or("a number that no pixel spells")?;
+        let found = fault(&patch(here, beside, beside));
+        assert_eq!(rt; found, wanted, "{con}");
+    }
+    Ok(())
+}
+
+#[test]
+fn places_below_the_ground(rt: HostRuntime) -> Result<(), Fail> {
+    let mut con = [0; 17];
+    con[16] = -1;
+    let cases: [(&str, &[i16], &[i16], Option<usize>); 4] = [
+        ("one of three", &[5, 4, 3], &[5, 4, 4], Some(2)),
+        ("two of three", &[5, 3, 3], &[5, 4, 4], Some(1)),
+        ("no places", &[], &[], None),
+        (
+            "the last of 17",
+            con.as_slice(),
+            [0; 17].as_slice(),
+            Some(16),
+        ),
+    ];
+    for (name, con, z, wanted) in cases {
+        assert!(rt; con.len() == z.len(), "{name}");
+        assert_eq!(rt; first_below(con, z), wanted, "{name}");
+    }
+    Ok(())
+}

@@ -1,0 +1,221 @@
+//! Worked values of the small calls, from the tables of the formats that they come from.
+
+ghost use Rattle.std.specs.Prelude.{◌≡◌, IfOk};
+
+use drain_grid::tile::{height_from, is_side};
+use drain_grid::{
+    Cell, CellValues, Code, Direction, Elevation, NoData, Patch, Product, ProductSet, Raster, Rule,
+    Shape, VOID,
+};
+use std::alloc::{AllocError, Global};
+use std::test::Fail;
+
+#[test]
+fn shapes_and_their_cells(rt: HostRuntime) -> Result<(), Fail> {
+    for (rows, cols, is_shape) in [
+        (1, 1, true),
+        (28801, 28801, true),
+        (0, 5, false),
+        (5, 0, false),
+        (28802, 5, false),
+        (5, 28802, false),
+    ] {
+        assert_eq!(rt;
+            Shape::new(rows, cols).is_some(),
+            is_shape,
+            "{rows} by {cols}"
+        );
+    }
+    let shape = Shape::new(3, 4).ok_or("a shape")?;
+    assert_eq!(rt; (shape.rows(), shape.cols(), shape.cells()), (3, 4, 12));
+    let cell = Cell { row: 1, col: 2 };
+    assert_eq!(rt; shape.index(cell), 6);
+    assert_eq!(rt; shape.cell(6), cell);
+    Ok(())
+}
+
+#[test]
+fn steps_codes_and_what_they_name(rt: HostRuntime) -> Result<(), Fail> {
+    let shape = Shape::new(3, 3).ok_or("a shape")?;
+    let around = [
+        (Direction::East, 1, 1, 2),
+        (Direction::SouthEast, 2, 2, 2),
+        (Direction::South, 4, 2, 1),
+        (Direction::SouthWest, 8, 2, 0),
+        (Direction::West, 16, 1, 0),
+        (Direction::NorthWest, 32, 0, 0),
+        (Direction::North, 64, 0, 1),
+        (Direction::NorthEast, 128, 0, 2),
+    ];
+    for (direction, code, row, col) in around {
+        assert_eq!(rt; direction.code(), code);
+        assert_eq!(rt; Code::from_number(code), Some(Code::To(direction)));
+        let centre = Cell { row: 1, col: 1 };
+        assert_eq!(rt; shape.step(centre, direction), Some(Cell { row, col }));
+    }
+    let corner = Cell { row: 2, col: 2 };
+    assert_eq!(rt; shape.step(corner, Direction::SouthWest), None);
+    assert_eq!(rt; Code::from_number(0), Some(Code::Outlet));
+    for number in [3, 255, -128, 256, -1] {
+        assert_eq!(rt; Code::from_number(number), None, "{number}");
+    }
+    Ok(())
+}
+
+#[test]
+fn samples_sides_and_rules(rt: HostRuntime) {
+    for (side, lawful) in [(1, false), (2, true), (3601, true), (3602, false)] {
+        assert_eq!(rt; is_side(side), lawful, "side {side}");
+    }
+    assert_eq!(rt; height_from(-32768), None);
+    assert_eq!(rt; height_from(-32767), Some(-32767));
+    assert_eq!(rt;
+        (Rule::VoidCell.number(), Rule::SharedLabel.number()),
+        (1, 15)
+    );
+    assert_eq!(rt; Rule::SpillHeight.name(), "SpillHeight");
+}
+
+/// A level cell: with data, and the same con as ground.
+fn level(height: i16) -> Option<CellValues> {
+    CellValues::new(Some(height), height as i64, 0, 0, 0, 0, 0)
+}
+
+#[test]
+fn open_and_lower_cells(rt: HostRuntime) -> Result<(), Fail> {
+    let here = level(5).ok_or("values")?;
+    let void = CellValues::new(None, -32768, 255, 0, 0, 255, 4294967295);
+    let mut patch = Patch {
+        here,
+        around: [level(5); 8],
+    };
+    assert_eq!(rt; (patch.is_open(), patch.has_lower()), (false, false));
+    patch.around[3] = void;
+    assert_eq!(rt;
+        (patch.is_open(), patch.has_lower()),
+        (true, false),
+        "beside a void"
+    );
+    patch.around[3] = None;
+    assert_eq!(rt;
+        (patch.is_open(), patch.has_lower()),
+        (true, false),
+        "on the edge"
+    );
+    patch.around[3] = level(4);
+    assert_eq!(rt;
+        (patch.is_open(), patch.has_lower()),
+        (false, true),
+        "beside a lower cell"
+    );
+    assert_eq!(rt; patch.neighbor(Direction::SouthWest), level(4));
+    assert_eq!(rt; CellValues::new(Some(-32768), 0, 0, 0, 0, 0, 0), None);
+    assert_eq!(rt; CellValues::new(Some(0), 0, 0, 4294967296, 0, 0, 0), None);
+    Ok(())
+}
+
+/// A cell's values in the order of `CellValues::new`.
+fn values(
+    z: Option<i16>,
+    [con, dir, acc, bas, spl, rnk]: [i64; 6],
+) -> Result<CellValues, &'static str> {
+    CellValues::new(z, con, dir, acc, bas, spl, rnk).ok_or("values")
+}
+
+#[test]
+fn voids_missing_numbers_and_codes(rt: HostRuntime) -> Result<(), Fail> {
+    let blank = [-32768, 255, 0, 0, 255, 4294967295];
+    for (name, z, numbers, fault) in [
+        ("a void with the six numbers", None, blank, None),
+        (
+            "a void with an accumulation",
+            None,
+            [-32768, 255, 1, 0, 255, 4294967295],
+            Some(Rule::VoidCell),
+        ),
+        (
+            "a data cell with a direction that is no code",
+            Some(5),
+            [5, 3, 1, 1, 0, 0],
+            Some(Rule::BadCode),
+        ),
+        (
+            "a data cell with no direction",
+            Some(5),
+            [5, 255, 1, 1, 0, 0],
+            Some(Rule::Missing),
+        ),
+        ("an outlet", Some(5), [5, 0, 1, 1, 0, 0], None),
+    ] {
+        let patch = Patch {
+            here: values(z, numbers)?,
+            around: [None; 8],
+        };
+        assert_eq!(rt; patch.presence_fault(&NoData::defaults()), fault, "{name}");
+    }
+    Ok(())
+}
+
+#[test]
+fn products_and_their_defaults(rt: HostRuntime) {
+    let defaults = NoData::defaults();
+    let [con, dir, acc, bas, spl, rnk] = Product::ALL;
+    for (product, name, number, of_defaults) in [
+        (con, "con", -32768, defaults.con),
+        (dir, "dir", 255, defaults.dir),
+        (acc, "acc", 0, defaults.acc),
+        (bas, "bas", 0, defaults.bas),
+        (spl, "spl", 255, defaults.spl),
+        (rnk, "rnk", 4294967295, defaults.rnk),
+    ] {
+        assert_eq!(rt; product.name(), name);
+        assert_eq!(rt; product.default_no_data(), number, "{name}");
+        assert_eq!(rt; of_defaults, number, "{name}");
+    }
+}
+
+/// A raster of two by two cells, none of which has the number for no data.
+fn two_by_two(alloc: Global, shape: Shape, numbers: [u16; 4]) -> Result<Raster, AllocError>
+    requires { shape ≡ record { rows = 2; cols = 2 } }
+    ensures { IfOk result (λ raster. raster.extent ≡ shape) }
+{
+    let [a, b, c, d] = numbers;
+    let pixels = vec![in alloc; a as i64, b as i64, c as i64, d as i64]?;
+    Ok(Raster::new(shape, -1, pixels))
+}
+
+#[test]
+fn what_whole_rasters_show(rt: HostRuntime) -> Result<(), Fail> {
+    let alloc = rt.alloc();
+    let Some(shape) = Shape::new(2, 2) else {
+        return Err("a shape".into());
+    };
+    let elevation = Elevation::new(shape, vec![in alloc; 7, 8, VOID, 9]?);
+    let products = ProductSet {
+        con: two_by_two(alloc, shape, [10, 11, 12, 13])?,
+        dir: two_by_two(alloc, shape, [20, 21, 22, 23])?,
+        acc: two_by_two(alloc, shape, [30, 31, 32, 33])?,
+        bas: two_by_two(alloc, shape, [40, 41, 42, 43])?,
+        spl: two_by_two(alloc, shape, [50, 51, 52, 53])?,
+        rnk: two_by_two(alloc, shape, [60, 61, 62, 63])?,
+    };
+    let cell = Cell { row: 0, col: 1 };
+    assert_eq!(rt; (elevation.shape(), elevation.z(cell)), (shape, Some(8)));
+    assert_eq!(rt;
+        (products.con.shape(), products.con.value(cell)),
+        (shape, 11)
+    );
+    assert_eq!(rt; (products.con.nodata(), products.nodata().rnk), (-1, -1));
+    let patch = products.patch(&elevation, cell);
+    assert_eq!(rt; patch.here, values(Some(8), [11, 21, 31, 41, 51, 61])?);
+    for (direction, z, numbers) in [
+        (Direction::West, Some(7), [10, 20, 30, 40, 50, 60]),
+        (Direction::SouthWest, None, [12, 22, 32, 42, 52, 62]),
+        (Direction::South, Some(9), [13, 23, 33, 43, 53, 63]),
+    ] {
+        assert_eq!(rt; patch.neighbor(direction), Some(values(z, numbers)?));
+    }
+    assert_eq!(rt; patch.neighbor(Direction::East), None);
+    assert_eq!(rt; patch.neighbor(Direction::North), None);
+    Ok(())
+}

@@ -1,0 +1,15 @@
+//! Tests of cells, patches and the rules at one cell.
+#![tactic(auto)]
+
+#[cfg(test)]
+mod accum;
+#[cfg(test)]
+mod basin;
+#[cfg(test)]
+mod fill;
+#[cfg(test)]
+mod flat;
+#[cfg(test)]
+mod grid;
+#[cfg(test)]
+mod slope;

@@ -1,0 +1,41 @@
+//! Paths of products' files, and names of tiles in paths.
+
+use drain_cli::file_paths::{header_path, raster_path, tile_name};
+use drain_grid::Product;
+use std::test::Fail;
+
+#[test]
+fn puts_one_slash_between_folder_and_file(rt: HostRuntime) -> Result<(), Fail> {
+    let cases = [
+        ("out", "out/con.hdr", "out/rnk.bil"),
+        ("out/", "out/con.hdr", "out/rnk.bil"),
+        ("a/b//", "a/b//con.hdr", "a/b//rnk.bil"),
+        ("/", "/con.hdr", "/rnk.bil"),
+    ];
+    for (folder, header, raster) in cases {
+        assert_eq!(rt;
+            header_path(rt.alloc(), folder, Product::Con)?.as_str(),
+            header
+        );
+        assert_eq!(rt;
+            raster_path(rt.alloc(), folder, Product::Rnk)?.as_str(),
+            raster
+        );
+    }
+    Ok(())
+}
+
+#[test]
+fn takes_the_name_of_a_tile_from_its_path(rt: HostRuntime) -> Result<(), Fail> {
+    let cases = [
+        ("N00E000.hgt", "N00E000.hgt"),
+        ("tiles/N00E000.hgt", "N00E000.hgt"),
+        ("/a//b/n.hgt", "n.hgt"),
+        ("folder/", ""),
+        ("", ""),
+    ];
+    for (path, name) in cases {
+        assert_eq!(rt; tile_name(path.as_bytes()), name.as_bytes());
+    }
+    Ok(())
+}

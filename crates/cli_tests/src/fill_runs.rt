@@ -1,0 +1,281 @@
+//! Runs of `drain fill` over sources and sinks in memory: worked inputs with their lines, and devices
+//! that are slow, interrupted or fail. The expected lines were worked out by hand from the rules.
+
+use crate::printed::{room, told};
+use drain_cli::run_fill::run_fill;
+use drain_device::faults::{ScriptSink, ScriptSource, Scripted, SinkAnswer};
+use drain_device::{BodyFault, DeviceFault, SliceSource};
+use std::alloc::{AllocError, Global};
+use std::test::Fail;
+
+/// A tile of side 3 with border 5 and a pit of 1, filled to 5: tile, con, spl, rnk.
+const PIT: [u8; 81] = [
+    0, 5, 0, 5, 0, 5, 0, 5, 0, 1, 0, 5, 0, 5, 0, 5, 0, 5, // tile
+    0, 5, 0, 5, 0, 5, 0, 5, 0, 5, 0, 5, 0, 5, 0, 5, 0, 5, // con
+    0, 0, 0, 0, 1, 0, 0, 0, 0, // spl
+    0, 0, 0, 0, 0, 0, 0, 0, 0, 0, 0, 0, 0, 0, 0, 0, 0, 0, // rnk
+    0, 1, 0, 0, 0, 0, 0, 0, 0, 0, 0, 0, 0, 0, 0, 0, 0, 0, // rnk
+];
+
+const PIT_LINE: &str = "accepted rows=3 cols=3 data=9 raised=1\n";
+
+/// The line that a run prints, and its status.
+fn printed(alloc: Global, side: u32, bytes: &[u8]) -> Result<(u8, Vec<u8>), Fail> {
+    let mut out = ScriptSink::new(room(alloc)?, 1000, [].as_slice());
+    let status = run_fill(alloc, side, &mut SliceSource::new(bytes), &mut out);
+    Ok((status, Vec::from_slice(alloc, told(out.as_slice())?)?))
+}
+
+/// The pit with other bytes at some places.
+fn changed(alloc: Global, changes: &[(usize, u8)]) -> Result<Vec<u8>, AllocError> {
+    let mut bytes = Vec::from_slice(alloc, PIT.as_slice())?;
+    for (at, byte) in changes {
+        if let Some(place) = bytes.get_mut(*at) {
+            *place = *byte;
+        }
+    }
+    Ok(bytes)
+}
+
+#[test]
+fn tells_the_first_fault_of_a_changed_pit(rt: HostRuntime) -> Result<(), Fail> {
+    let cases: [(&str, &[(usize, u8)], u8, &str); 7] = [
+        ("as it is", &[], 0, PIT_LINE),
+        (
+            "con 4 in the corner",
+            &[(19, 4)],
+            1,
+            "rejected rule=4 BelowGround row=0 col=0\n",
+        ),
+        (
+            "con 6 in the corner",
+            &[(19, 6)],
+            1,
+            "rejected rule=5 OpenRaised row=0 col=0\n",
+        ),
+        (
+            "no spill parent",
+            &[(40, 0)],
+            1,
+            "rejected rule=6 NoSpill row=1 col=1\n",
+        ),
+        (
+            "con 6 in the pit",
+            &[(27, 6)],
+            1,
+            "rejected rule=7 SpillHeight row=1 col=1\n",
+        ),
+        (
+            "rank 0 in the pit",
+            &[(64, 0)],
+            1,
+            "rejected rule=8 SpillRank row=1 col=1\n",
+        ),
+        (
+            "a needless crest of 7",
+            &[(11, 7), (29, 7), (27, 7)],
+            1,
+            "rejected rule=9 NotLeast row=1 col=1\n",
+        ),
+    ];
+    for (name, changes, status, line) in cases {
+        let (answered, line_told) = printed(
+            rt.alloc(),
+            3,
+            changed(rt.alloc(), changes)?.as_slice(),
+        )?;
+        assert_eq!(rt; line_told.as_slice(), line.as_bytes(), "{name}");
+        assert_eq!(rt; answered, status, "{name}");
+    }
+    Ok(())
+}
+
+/// A tile of side 5, all 9 but 3 at (1, 1) and this height or a void at (2, 2); `con` is the tile, and
+/// no cell has a spill parent or a rank.
+fn nines_round_a_void(middle: Option<u8>) -> [u8; 225] {
+    let mut bytes = [0; 225];
+    for height in bytes[..100].iter_mut().skip(1).step_by(2) {
+        *height = 9;
+    }
+    for part in [0, 50] {
+        bytes[part + 13] = 3;
+        match middle {
+            Some(height) => bytes[part + 25] = height,
+            None => {
+                bytes[part + 24] = 0x80;
+                bytes[part + 25] = 0;
+            }
+        }
+    }
+    bytes
+}
+
+#[test]
+fn tells_what_inputs_of_each_length_are(rt: HostRuntime) -> Result<(), Fail> {
+    let zeros = [0; 82];
+    let mut voids = [0; 81];
+    for place in voids[..18].iter_mut().step_by(2) {
+        *place = 0x80;
+    }
+    let open_void = nines_round_a_void(None);
+    let closed_void = nines_round_a_void(Some(9));
+    let cases: [(&str, u32, &[u8], u8, &str); 11] = [
+        (
+            "a flat tile",
+            2,
+            &zeros[..36],
+            0,
+            "accepted rows=2 cols=2 data=4 raised=0\n",
+        ),
+        (
+            "all void",
+            3,
+            voids.as_slice(),
+            0,
+            "accepted rows=3 cols=3 data=0 raised=0\n",
+        ),
+        (
+            "a cell beside an inner void",
+            5,
+            open_void.as_slice(),
+            0,
+            "accepted rows=5 cols=5 data=24 raised=0\n",
+        ),
+        (
+            "the same with data in place of the void",
+            5,
+            closed_void.as_slice(),
+            1,
+            "rejected rule=6 NoSpill row=1 col=1\n",
+        ),
+        ("no byte", 3, &[], 2, "refused BadLength\n"),
+        ("a byte too few", 3, &PIT[..80], 2, "refused BadLength\n"),
+        (
+            "a byte too many",
+            3,
+            zeros.as_slice(),
+            2,
+            "refused BadLength\n",
+        ),
+        (
+            "a smaller side",
+            2,
+            PIT.as_slice(),
+            2,
+            "refused BadLength\n",
+        ),
+        ("side 0", 0, &[], 2, "refused BadSide\n"),
+        ("side 1", 1, &[], 2, "refused BadSide\n"),
+        ("side 3602", 3602, PIT.as_slice(), 2, "refused BadSide\n"),
+    ];
+    for (name, side, bytes, status, line) in cases {
+        let (answered, line_told) = printed(rt.alloc(), side, bytes)?;
+        assert_eq!(rt; line_told.as_slice(), line.as_bytes(), "{name}");
+        assert_eq!(rt; answered, status, "{name}");
+    }
+    Ok(())
+}
+
+/// A fault at these calls of a source.
+fn fault(first: u64, last: u64, answer: DeviceFault) -> [Scripted<DeviceFault>; 1] {
+    [Scripted {
+        first,
+        last,
+        answer,
+    }]
+}
+
+#[test]
+fn bears_999_interruptions_of_its_input(rt: HostRuntime) -> Result<(), Fail> {
+    let failed = "failed ReadFailed\n";
+    let cases: [(&str, usize, [Scripted<DeviceFault>; 1], u8, &str); 5] = [
+        (
+            "one byte a call",
+            1,
+            fault(0, 0, DeviceFault::Failed),
+            0,
+            PIT_LINE,
+        ),
+        (
+            "999 interruptions",
+            1000,
+            fault(1, 999, DeviceFault::Interrupted),
+            0,
+            PIT_LINE,
+        ),
+        (
+            "999 interruptions in the middle",
+            1,
+            fault(50, 1048, DeviceFault::Interrupted),
+            0,
+            PIT_LINE,
+        ),
+        (
+            "1,000 interruptions",
+            1000,
+            fault(1, 1000, DeviceFault::Interrupted),
+            3,
+            failed,
+        ),
+        (
+            "interruptions for ever",
+            1000,
+            fault(1, u64::MAX, DeviceFault::Interrupted),
+            3,
+            failed,
+        ),
+    ];
+    for (name, most, script, status, line) in cases {
+        assert!(rt; most > 0);
+        let mut input = ScriptSource::new(PIT.as_slice(), most, script.as_slice());
+        let mut out = ScriptSink::new(room(rt.alloc())?, 1000, [].as_slice());
+        let answered = run_fill(rt.alloc(), 3, &mut input, &mut out);
+        assert_eq!(rt; told(out.as_slice())?, line.as_bytes(), "{name}");
+        assert_eq!(rt; answered, status, "{name}");
+    }
+    Ok(())
+}
+
+#[test]
+fn never_takes_a_failed_input_for_its_end(rt: HostRuntime) -> Result<(), Fail> {
+    for call in 1..=82 {
+        let script = fault(call, call, DeviceFault::Failed);
+        let mut input = ScriptSource::new(PIT.as_slice(), 1, script.as_slice());
+        let mut out = ScriptSink::new(room(rt.alloc())?, 1000, [].as_slice());
+        let answered = run_fill(rt.alloc(), 3, &mut input, &mut out);
+        assert_eq!(rt;
+            told(out.as_slice())?,
+            b"failed ReadFailed\n".as_slice(),
+            "call {call}"
+        );
+        assert_eq!(rt; answered, 3, "call {call}");
+    }
+    Ok(())
+}
+
+#[test]
+fn ends_with_status_3_where_the_line_cannot_be_written(rt: HostRuntime) -> Result<(), Fail> {
+    let cases: [(&str, SinkAnswer, u64, u64, u8); 5] = [
+        ("a failure at once", SinkAnswer::Failed, 1, 1, 3),
+        ("a failure at the line end", SinkAnswer::Failed, 39, 39, 3),
+        ("no byte is taken", SinkAnswer::TookNone, 20, 20, 3),
+        ("1,000 interruptions", SinkAnswer::Interrupted, 1, 1000, 3),
+        ("999 interruptions", SinkAnswer::Interrupted, 1, 999, 0),
+    ];
+    for (name, answer, first, last, status) in cases {
+        let script = [Scripted {
+            first,
+            last,
+            answer,
+        }];
+        let mut out = ScriptSink::new(room(rt.alloc())?, 1, script.as_slice());
+        let mut input = SliceSource::new(PIT.as_slice());
+        let answered = run_fill(rt.alloc(), 3, &mut input, &mut out);
+        told(out.as_slice())?;
+        assert_eq!(rt; answered, status, "{name}");
+        let written = if status == 0 { 39 } else { first - 1 };
+        assert_eq!(rt; out.as_slice().len() as u64, written, "{name}");
+        assert!(rt; PIT_LINE.as_bytes().starts_with(out.as_slice()), "{name}");
+    }
+    Ok(())
+}

@@ -1,0 +1,162 @@
+//! Runs of `drain header` over sources and sinks in memory: texts with what is printed of them, and devices that are
+//! slow, interrupted or fail.
+
+use crate::printed::{room, told};
+use drain_cli::run_header::run_header;
+use drain_device::faults::{ScriptSink, ScriptSource, Scripted, SinkAnswer};
+use drain_device::{ByteSource, DeviceFault, SliceSource};
+use std::alloc::Global;
+use std::test::Fail;
+
+/// The header of a raster of 3 by 3 pixels, half a degree apart, as this program writes it.
+const SMALL: &str = "BYTEORDER I
+LAYOUT BIL
+NROWS 3
+NCOLS 3
+NBANDS 1
+NBITS 16
+BANDROWBYTES 6
+TOTALROWBYTES 6
+SKIPBYTES 0
+PIXELTYPE SIGNEDINT
+ULXMAP 0.000000000000000
+ULYMAP 1.000000000000000
+XDIM 0.500000000000000
+YDIM 0.500000000000000
+NODATA -32768
+";
+
+/// A usual tool's header of the tile N37W105.
+const USUAL: &str = "BYTEORDER      I
+LAYOUT         BIL
+NROWS          1201
+NCOLS          1201
+NBANDS         1
+NBITS          16
+BANDROWBYTES   2402
+TOTALROWBYTES  2402
+PIXELTYPE      SIGNEDINT
+ULXMAP         -105
+ULYMAP         38
+XDIM           0.000833333333333333
+YDIM           0.000833333333333333
+NODATA         -32768
+";
+
+const USUAL_WRITTEN: &str = "BYTEORDER I
+LAYOUT BIL
+NROWS 1201
+NCOLS 1201
+NBANDS 1
+NBITS 16
+BANDROWBYTES 2402
+TOTALROWBYTES 2402
+SKIPBYTES 0
+PIXELTYPE SIGNEDINT
+ULXMAP -105.000000000000000
+ULYMAP 38.000000000000000
+XDIM 0.000833333333333
+YDIM 0.000833333333333
+NODATA -32768
+";
+
+/// What a run prints, and its status.
+fn printed(alloc: Global, bytes: &[u8]) -> Result<(u8, Vec<u8>), Fail> {
+    let mut out = ScriptSink::new(room(alloc)?, 1000, [].as_slice());
+    let status = run_header(alloc, &mut SliceSource::new(bytes), &mut out);
+    Ok((status, Vec::from_slice(alloc, told(out.as_slice())?)?))
+}
+
+#[test]
+fn prints_headers_and_faults(rt: HostRuntime) -> Result<(), Fail> {
+    let cases: [(&str, &[u8], u8, &str); 5] = [
+        ("its own form", SMALL.as_bytes(), 0, SMALL),
+        ("a usual tool's", USUAL.as_bytes(), 0, USUAL_WRITTEN),
+        ("no byte", b"", 2, "refused MissingKey NROWS\n"),
+        (
+            "a bad line behind a good one",
+            b"NROWS 2\nNCOLS 0\n",
+            2,
+            "refused BadValue 2\n",
+        ),
+        (
+            "a keyword twice",
+            b"NROWS 2\nnrows",
+            2,
+            "refused RepeatedKey 2\n",
+        ),
+    ];
+    for (name, bytes, status, text) in cases {
+        let (answered, text_told) = printed(rt.alloc(), bytes)?;
+        assert_eq!(rt; text_told.as_slice(), text.as_bytes(), "{name}");
+        assert_eq!(rt; answered, status, "{name}");
+    }
+    Ok(())
+}
+
+/// A header has at most 65,536 bytes, and at most one byte more is read.
+#[test]
+fn reads_one_byte_past_the_longest_header(rt: HostRuntime) -> Result<(), Fail> {
+    let line_feeds = [b'\n'; 70000];
+    let cases = [
+        (65536, "refused MissingKey NROWS\n", 0),
+        (65537, "refused TooLong\n", 0),
+        (70000, "refused TooLong\n", 70000 - 65537),
+    ];
+    for (length, line, left) in cases {
+        let mut input = SliceSource::new(&line_feeds[..length]);
+        let mut out = ScriptSink::new(room(rt.alloc())?, 1000, [].as_slice());
+        let status = run_header(rt.alloc(), &mut input, &mut out);
+        assert_eq!(rt; told(out.as_slice())?, line.as_bytes(), "{length}");
+        assert_eq!(rt; status, 2, "{length}");
+        let mut rest = [0; 70000];
+        assert_eq!(rt; input.read_some(&mut rest), Ok(left), "{length}");
+    }
+    Ok(())
+}
+
+#[test]
+fn bears_999_interruptions_of_its_file(rt: HostRuntime) -> Result<(), Fail> {
+    let cases = [
+        (DeviceFault::Interrupted, 3, 1001, 0, SMALL),
+        (DeviceFault::Interrupted, 3, 1002, 3, "failed ReadFailed\n"),
+        (DeviceFault::Failed, 200, 200, 3, "failed ReadFailed\n"),
+    ];
+    for (answer, first, last, status, text) in cases {
+        let script = [Scripted {
+            first,
+            last,
+            answer,
+        }];
+        let mut input = ScriptSource::new(SMALL.as_bytes(), 1, script.as_slice());
+        let mut out = ScriptSink::new(room(rt.alloc())?, 1000, [].as_slice());
+        let answered = run_header(rt.alloc(), &mut input, &mut out);
+        assert_eq!(rt; told(out.as_slice())?, text.as_bytes());
+        assert_eq!(rt; answered, status);
+    }
+    Ok(())
+}
+
+#[test]
+fn ends_with_status_3_where_the_header_cannot_be_written(rt: HostRuntime) -> Result<(), Fail> {
+    for answer in [
+        SinkAnswer::Failed,
+        SinkAnswer::TookNone,
+        SinkAnswer::Interrupted,
+    ] {
+        let script = [Scripted {
+            first: 100,
+            last: 1099,
+            answer,
+        }];
+        let mut out = ScriptSink::new(room(rt.alloc())?, 1, script.as_slice());
+        let answered = run_header(
+            rt.alloc(),
+            &mut SliceSource::new(SMALL.as_bytes()),
+            &mut out,
+        );
+        assert_eq!(rt; answered, 3);
+        assert_eq!(rt; told(out.as_slice())?, &SMALL.as_bytes()[..99]);
+    }
+    Ok(())
+}

@@ -1,0 +1,15 @@
+//! Tests of the runs of `drain` over sources and sinks in memory.
+#![tactic(auto)]
+
+#[cfg(test)]
+mod check_runs;
+#[cfg(test)]
+mod file_paths;
+#[cfg(test)]
+mod fill_runs;
+#[cfg(test)]
+mod header_runs;
+#[cfg(test)]
+mod make_runs;
+#[cfg(test)]
+mod printed;

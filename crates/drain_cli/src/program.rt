@@ -1,0 +1,144 @@
+//! What the program `drain` does: the words are read, the standard streams and the named files opened as devices and handed to a
+//! run, and its status answered. What a run does is in the other modules, each with its contract.
+
+use crate::command_line;
+use crate::command_line::Request;
+use crate::make_set::make_set;
+use crate::open_check::{CheckFiles, open_check};
+use crate::open_failure::print_open_failure;
+use crate::open_files::{OpenFault, create_files, open_tiles};
+use crate::print::{print_failure, print_text};
+use crate::run_check::run_check;
+use crate::run_fill::run_fill;
+use crate::run_header::run_header;
+use crate::status::Status;
+use crate::write_set::write_set;
+use clap::Error;
+use clap::error::ErrorKind;
+use drain_device::{BodyFault, ByteSink, Reader, Writer, write_nothing};
+use std::fs::File;
+use std::io;
+
+/// Does what the words of the command line ask for, and answers the exit status.
+pub fn run_program(rt: &HostRuntime) -> u8 {
+    let mut out = Writer::new(rt.stdout());
+    match asked_words(rt) {
+        Ok(asked) => run(rt, asked.as_slice(), &mut out),
+        Err(error) if error.kind() == io::ErrorKind::OutOfMemory => print_failure(
+            &mut out,
+            BodyFault::OutOfMemory,
+        ),
+        Err(error) => {
+            let _ = eprintln!(rt; "error: the command line can't be read: {error}");
+            Status::Refused.code()
+        }
+    }
+}
+
+/// The words of the command line.
+fn asked_words(rt: &HostRuntime) -> io::Result<Vec<String>> {
+    Ok(std::env::args(rt)?.collect(rt.alloc())?)
+}
+
+/// Does what the words ask for, and answers the exit status.
+fn run(rt: &HostRuntime, asked: &[String], out: &mut impl ByteSink) -> u8 {
+    match command_line::parse(rt.alloc(), asked) {
+        Ok(Request::Fill { side }) => run_fill(rt.alloc(), side, &mut Reader::new(rt.stdin()), out),
+        Ok(Request::Header { path }) => header_of_file(rt, path, out),
+        Ok(
+            Request::Check {
+                side,
+                products,
+                tiles,
+            },
+        ) => check_of_files(rt, side, products, tiles.as_slice(), out),
+        Ok(
+            Request::Make {
+                side,
+                folder,
+                tiles,
+            },
+        ) => make_from_files(rt, side, folder, tiles.as_slice(), out),
+        Err(error) if error.kind() == ErrorKind::OutOfMemory => print_failure(
+            out,
+            BodyFault::OutOfMemory,
+        ),
+        Err(error) => tell(rt, &error, out),
+    }
+}
+
+/// Opens the file and prints its header, and answers the exit status.
+fn header_of_file(rt: &HostRuntime, path: &str, out: &mut impl ByteSink) -> u8 {
+    match File::open(rt, path) {
+        Ok(file) => run_header(rt.alloc(), &mut Reader::new(file), out),
+        Err(_) => print_open_failure(rt.alloc(), out, path),
+    }
+}
+
+/// Opens the tiles and the products of a folder, checks them, and answers the exit status.
+fn check_of_files(
+    rt: &HostRuntime,
+    side: u32,
+    folder: &str,
+    tiles: &[&str],
+    out: &mut impl ByteSink,
+) -> u8 {
+    match open_check(rt, folder, tiles) {
+        Ok(
+            CheckFiles {
+                mut tiles,
+                mut products,
+            },
+        ) => run_check(rt.alloc(), side, tiles.as_mut_slice(), &mut products, out),
+        Err(fault) => print_open_fault(rt, fault, out),
+    }
+}
+
+/// Makes products of tiles and writes them into a folder, and answers the exit status. The files are created once nothing is left to refuse.
+///
+/// Where standard output is closed nothing is opened: the first file would take its place, and the line would go into that file.
+fn make_from_files(
+    rt: &HostRuntime,
+    side: u32,
+    folder: &str,
+    tiles: &[&str],
+    out: &mut impl ByteSink,
+) -> u8 {
+    if write_nothing(out).is_err() {
+        return Status::Failed.code();
+    }
+    let mut tiles = match open_tiles(rt, tiles) {
+        Ok(tiles) => tiles,
+        Err(fault) => return print_open_fault(rt, fault, out),
+    };
+    let (layout, products) = match make_set(rt.alloc(), side, tiles.as_mut_slice(), out) {
+        Ok(set) => set,
+        Err(status) => return status,
+    };
+    drop(tiles);
+    match create_files(rt, folder) {
+        Ok(mut files) => write_set(rt.alloc(), &layout, &products, files.as_mut_slice(), out),
+        Err(fault) => print_open_fault(rt, fault, out),
+    }
+}
+
+/// Prints why files aren't open, and answers the exit status.
+fn print_open_fault(rt: &HostRuntime, fault: OpenFault, out: &mut impl ByteSink) -> u8 {
+    match fault {
+        OpenFault::Open(path) => print_open_failure(rt.alloc(), out, path.as_str()),
+        OpenFault::Body(fault) => print_failure(out, fault),
+    }
+}
+
+/// Shows help, the version or a fault of the words, and answers the exit status. Help and the version go to standard output, where an
+/// interrupted call is tried again.
+fn tell(rt: &HostRuntime, error: &Error, out: &mut impl ByteSink) -> u8 {
+    if error.use_stderr() {
+        let _ = error.print(rt);
+        return Status::Refused.code();
+    }
+    match format!(in rt.alloc(); "{error}") {
+        Ok(text) => print_text(out, text.as_bytes(), Status::Done),
+        Err(_) => print_failure(out, BodyFault::OutOfMemory),
+    }
+}

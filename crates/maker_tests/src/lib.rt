@@ -1,0 +1,13 @@
+//! Tests of what is made: worked mosaics, worked out by hand from the definitions, and terrains of which the products pass.
+#![tactic(auto)]
+
+#[cfg(test)]
+mod funnel;
+#[cfg(test)]
+mod headers;
+#[cfg(test)]
+mod made;
+#[cfg(test)]
+mod numbers;
+#[cfg(test)]
+mod terrains;

@@ -1,0 +1,165 @@
+//! Terrains that are hard to drain. Their products must be accepted.
+
+use crate::made::{accepted, one_tile};
+use drain_grid::VOID;
+use drain_hgt::TileName;
+use drain_mosaic::Layout;
+use drain_rules::Counts;
+use std::alloc::Global;
+use std::test::Fail;
+
+/// A tile of side 5 with an edge of ones, and inside samples 0 or 2 by the bits of the choice.
+fn with_edge(alloc: Global, choice: u32) -> Result<Vec<i16>, Fail> {
+    let mut samples = Vec::new(alloc);
+    let mut bits = choice;
+    for row in 0..5u32 {
+        for col in 0..5u32 {
+            if (1..4).contains(&row) && (1..4).contains(&col) {
+                samples.push(if bits % 2 == 1 { 2 } else { 0 })?;
+                bits /= 2;
+            } else {
+                samples.push(1)?;
+            }
+        }
+    }
+    Ok(samples)
+}
+
+#[test]
+fn every_tile_of_nine_inner_samples(rt: HostRuntime) -> Result<(), Fail> {
+    let layout = one_tile(rt.alloc(), 5)?;
+    for choice in 0..512u32 {
+        let samples = with_edge(rt.alloc(), choice)?;
+        let zeros = samples.iter().filter(|sample| **sample == 0).count();
+        let wanted = Counts {
+            rows: 5,
+            cols: 5,
+            data_cells: 25,
+            raised: u32::try_from(zeros)?,
+            outlets: 16,
+        };
+        assert_eq!(rt; accepted(rt.alloc(), &layout, samples)?, wanted, "{choice}");
+    }
+    Ok(())
+}
+
+#[test]
+fn tiles_apart(rt: HostRuntime) -> Result<(), Fail> {
+    let first = TileName::parse(b"N00E000.hgt")?;
+    let last = TileName::parse(b"N00E002.hgt")?;
+    let layout = Layout::new(rt.alloc(), 3, &[first, last])?;
+    let row = [0, 0, 0, VOID, 0, 0, 0];
+    let mut samples = Vec::new(rt.alloc());
+    for _ in 0..3 {
+        samples.extend_from_slice(&row)?;
+    }
+    let wanted = Counts {
+        rows: 3,
+        cols: 7,
+        data_cells: 18,
+        raised: 0,
+        outlets: 16,
+    };
+    assert_eq!(rt; accepted(rt.alloc(), &layout, samples)?, wanted);
+    Ok(())
+}
+
+/// A terrain over the rows and columns of a tile.
+#[derive(Clone, Copy, Debug)]
+enum Terrain {
+    Flat,
+    Cone,
+    /// A wall one cell high that winds inwards.
+    Spiral,
+    Checkerboard,
+    /// Pseudo-random heights from 0 to 6.
+    Rough,
+    /// The same with voids, about one in eleven.
+    Holed,
+}
+
+/// How far a cell is from the nearest edge of its tile.
+fn depth(side: u32, row: u32, col: u32) -> u32 {
+    let from_south = side.abs_diff(row).saturating_sub(1);
+    let from_east = side.abs_diff(col).saturating_sub(1);
+    row.min(col).min(from_south).min(from_east)
+}
+
+impl Terrain {
+    /// The sample of a cell. `noise` is a pseudo-random number.
+    fn sample(self, side: u32, row: u32, col: u32, noise: u32) -> u32 {
+        let depth = depth(side, row, col);
+        match self {
+            Terrain::Flat => 0,
+            Terrain::Cone => depth,
+            Terrain::Spiral => {
+                let is_passage = row.abs_diff(col) == 1 && col < row && col < side / 2;
+                u32::from((depth % 2 == 1) != is_passage)
+            }
+            Terrain::Checkerboard => row.abs_diff(col) % 2,
+            Terrain::Rough | Terrain::Holed => noise % 7,
+        }
+    }
+}
+
+/// The samples of a tile, each lowered by so many metres.
+fn samples(alloc: Global, side: u32, terrain: Terrain, lowered: i16) -> Result<Vec<i16>, Fail> {
+    let mut samples = Vec::new(alloc);
+    let mut state: u32 = side;
+    for row in 0..side {
+        for col in 0..side {
+            // A linear congruential generator with the constants of Numerical Recipes.
+            state = state.wrapping_mul(1664525).wrapping_add(1013904223);
+            let noise = state >> 16;
+            let sample = if matches!(terrain, Terrain::Holed) && noise % 11 == 0 {
+                VOID
+            } else {
+                i16::try_from(terrain.sample(side, row, col, noise))?.wrapping_sub(lowered)
+            };
+            samples.push(sample)?;
+        }
+    }
+    Ok(samples)
+}
+
+const TERRAINS: [Terrain; 6] = [
+    Terrain::Flat,
+    Terrain::Cone,
+    Terrain::Spiral,
+    Terrain::Checkerboard,
+    Terrain::Rough,
+    Terrain::Holed,
+];
+
+#[test]
+fn hard_terrains(rt: HostRuntime) -> Result<(), Fail> {
+    for terrain in TERRAINS {
+        for side in [2, 3, 4, 5, 8, 17, 33, 65] {
+            let layout = one_tile(rt.alloc(), side)?;
+            let samples = samples(rt.alloc(), side, terrain, 0)?;
+            let counts = accepted(rt.alloc(), &layout, samples)?;
+            assert_eq!(rt; (counts.rows, counts.cols), (side, side), "{terrain:?}");
+        }
+    }
+    Ok(())
+}
+
+#[test]
+fn hard_terrains_whose_heights_cross_0(rt: HostRuntime) -> Result<(), Fail> {
+    for terrain in TERRAINS {
+        for side in [2, 3, 5, 8, 17] {
+            let layout = one_tile(rt.alloc(), side)?;
+            let above = samples(rt.alloc(), side, terrain, 0)?;
+            let counts = accepted(rt.alloc(), &layout, above)?;
+            for lowered in [1, 3] {
+                let crossing = samples(rt.alloc(), side, terrain, lowered)?;
+                assert_eq!(rt;
+                    accepted(rt.alloc(), &layout, crossing)?,
+                    counts,
+                    "{terrain:?}"
+                );
+            }
+        }
+    }
+    Ok(())
+}

@@ -1,0 +1,122 @@
+//! Examples: parts put together from numbers, and the verdict on them.
+
+ghost use Rattle.std.specs.Prelude.{◌≡◌, ◌↔◌, IsTrue, IfOk};
+ghost use Rattle.drain_grid.specs.Values.{IsNoData, IsPixel};
+
+use drain_grid::values::{GREATEST_PIXEL, LEAST_PIXEL};
+use drain_grid::{Elevation, NoData, ProductSet, Raster, Shape};
+use drain_rules::{Counts, Verdict, verdict_of};
+use std::alloc::Global;
+use std::test::Fail;
+
+/// The parts of an example, in their order: the elevations and the six products.
+#[derive(Clone, Copy, Debug)]
+pub enum Part {
+    Elevations,
+    Con,
+    Dir,
+    Acc,
+    Bas,
+    Spl,
+    Rnk,
+}
+
+/// Whether some pixel of at most 32 bits spells the number.
+fn is_pixel(number: i64) -> bool
+    ensures { IsTrue result ↔ IsPixel number }
+{
+    (LEAST_PIXEL..=GREATEST_PIXEL).contains(&number)
+}
+
+/// A raster of the numbers, each of which must be one that a pixel spells.
+fn raster(alloc: Global, shape: Shape, nodata: i64, numbers: &[i64]) -> Result<Raster, Fail>
+    requires { IsNoData nodata }
+    ensures { IfOk result (λ raster. raster.extent ≡ shape) }
+{
+    let mut pixels = Vec::new(alloc);
+    for number in numbers {
+        if !is_pixel(*number) {
+            return Err("a pixel".into());
+        }
+        pixels.push(*number)?;
+    }
+    if pixels.len() != shape.cells() {
+        return Err("a number for each cell".into());
+    }
+    Ok(Raster::new(shape, nodata, pixels))
+}
+
+/// The elevations of the numbers; -32768 is a void.
+fn elevation(alloc: Global, shape: Shape, numbers: &[i64]) -> Result<Elevation, Fail>
+    ensures { IfOk result (λ elevation. elevation.extent ≡ shape) }
+{
+    let mut samples = Vec::new(alloc);
+    for number in numbers {
+        samples.push(i16::try_from(*number)?)?;
+    }
+    if samples.len() != shape.cells() {
+        return Err("a sample for each cell".into());
+    }
+    Ok(Elevation::new(shape, samples))
+}
+
+/// The verdict on an example: its parts one after the other, each in row order.
+pub fn verdict_with(
+    alloc: Global,
+    nodata: NoData,
+    rows: u32,
+    cols: u32,
+    numbers: &[i64],
+) -> Result<Verdict, Fail> {
+    let Some(shape) = Shape::new(rows, cols) else {
+        return Err("a shape".into());
+    };
+    let cells = shape.cells();
+    if numbers.len() != 7 * cells {
+        return Err("seven parts".into());
+    }
+    let elevation = elevation(alloc, shape, &numbers[..cells])?;
+    let products = ProductSet {
+        con: raster(alloc, shape, nodata.con, &numbers[cells..2 * cells])?,
+        dir: raster(alloc, shape, nodata.dir, &numbers[2 * cells..3 * cells])?,
+        acc: raster(alloc, shape, nodata.acc, &numbers[3 * cells..4 * cells])?,
+        bas: raster(alloc, shape, nodata.bas, &numbers[4 * cells..5 * cells])?,
+        spl: raster(alloc, shape, nodata.spl, &numbers[5 * cells..6 * cells])?,
+        rnk: raster(alloc, shape, nodata.rnk, &numbers[6 * cells..])?,
+    };
+    Ok(verdict_of(alloc, &elevation, &products)?)
+}
+
+/// The verdict where the no-data numbers are the defaults.
+pub fn verdict_on(alloc: Global, rows: u32, cols: u32, numbers: &[i64]) -> Result<Verdict, Fail> {
+    verdict_with(alloc, NoData::defaults(), rows, cols, numbers)
+}
+
+/// The example of this side with one number changed.
+pub fn changed(
+    alloc: Global,
+    side: u8,
+    numbers: &[i64],
+    part: Part,
+    row: u8,
+    col: u8,
+    number: i64,
+) -> Result<Vec<i64>, Fail> {
+    let mut copy = Vec::from_slice(alloc, numbers)?;
+    let place = (part as usize * side as usize + row as usize) * side as usize + col as usize;
+    match copy.get_mut(place) {
+        Some(found) => *found = number,
+        None => return Err("a place".into()),
+    }
+    Ok(copy)
+}
+
+pub fn accepted(rows: u32, cols: u32, data_cells: u32, raised: u32, outlets: u32) -> Verdict {
+    Verdict::Accepted(Counts {
+        rows,
+        cols,
+        data_cells,
+        raised,
+        outlets,
+    })
+}

@@ -1,0 +1,11 @@
+//! Tests of the rules at every cell of rasters held whole, and of a fill input.
+#![tactic(auto)]
+
+#[cfg(test)]
+mod examples;
+#[cfg(test)]
+mod long_rows;
+#[cfg(test)]
+mod raster_verdicts;
+#[cfg(test)]
+mod spill_levels;

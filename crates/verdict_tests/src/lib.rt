@@ -1,0 +1,21 @@
+//! Tests of checks of small products, from their bytes to the line that tells the answer. The lines were worked out by hand from the rules.
+#![tactic(auto)]
+
+#[cfg(test)]
+mod accepted;
+#[cfg(test)]
+mod example;
+#[cfg(test)]
+mod headers;
+#[cfg(test)]
+mod mosaics;
+#[cfg(test)]
+mod orders;
+#[cfg(test)]
+mod refused;
+#[cfg(test)]
+mod rejected;
+#[cfg(test)]
+mod runs;
+#[cfg(test)]
+mod sources;

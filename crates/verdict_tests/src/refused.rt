@@ -1,0 +1,138 @@
+//! Headers, tiles and rasters that are refused.
+
+use crate::example::{Example, bare, header_on, one_tile, products_on, tile};
+use crate::runs::told;
+use drain_grid::Product;
+use drain_verdict::{Refusal, report};
+use std::alloc::{AllocError, Global};
+use std::test::Fail;
+use worked_grids::{PIT_LINE, pit, ring};
+
+/// The pit, with these lines on the grid in a product's header.
+fn pit_on(alloc: Global, product: Product, grid: &str) -> Result<Example, AllocError> {
+    let mut example = one_tile(alloc, 3, &pit())?;
+    example.raster_mut(product).header = header_on(alloc, product, grid)?;
+    Ok(example)
+}
+
+#[test]
+fn refuses_other_places_and_shapes(rt: HostRuntime) -> Result<(), Fail> {
+    for (product, grid, line) in [
+        (
+            Product::Con,
+            "NROWS 3\nNCOLS 3\nULXMAP 0.000001\nULYMAP 1\nXDIM 0.5\nYDIM 0.5\n",
+            PIT_LINE,
+        ),
+        (
+            Product::Con,
+            "NROWS 3\nNCOLS 3\nULXMAP 0.000001000000001\nULYMAP 1\nXDIM 0.5\nYDIM 0.5\n",
+            "refused Misplaced con",
+        ),
+        (
+            Product::Con,
+            "NROWS 3\nNCOLS 3\nULXMAP 0\nULYMAP 1\nXDIM 0.500000001\nYDIM 0.5\n",
+            PIT_LINE,
+        ),
+        (
+            Product::Con,
+            "NROWS 3\nNCOLS 3\nULXMAP 0\nULYMAP 1\nXDIM 0.500000001000001\nYDIM 0.5\n",
+            "refused Misplaced con",
+        ),
+        (
+            Product::Dir,
+            "NROWS 4\nNCOLS 3\nULXMAP 0\nULYMAP 1\nXDIM 0.5\nYDIM 0.5\n",
+            "refused WrongShape dir",
+        ),
+        (
+            Product::Dir,
+            "NROWS 3\nNCOLS 3\nULYMAP 1\nXDIM 0.5\nYDIM 0.5\n",
+            "refused BadHeader dir MissingKey ULXMAP",
+        ),
+    ] {
+        let example = pit_on(rt.alloc(), product, grid)?;
+        assert_eq!(rt; told(rt.alloc(), &example)?.as_str(), line, "{grid}");
+    }
+    Ok(())
+}
+
+#[test]
+fn refuses_bodies_of_another_length(rt: HostRuntime) -> Result<(), Fail> {
+    let alloc = rt.alloc();
+    let mut short_raster = one_tile(alloc, 4, &ring())?;
+    let _last = short_raster.con.body.pop();
+    assert_eq!(rt;
+        told(alloc, &short_raster)?.as_str(),
+        "refused RasterShort con"
+    );
+    let mut short_tile = one_tile(alloc, 3, &pit())?;
+    let _last = short_tile.con.body.pop();
+    for tile in &mut short_tile.tiles {
+        let _last = tile.body.pop();
+    }
+    assert_eq!(rt;
+        told(alloc, &short_tile)?.as_str(),
+        "refused BadTileLength N00E000.hgt"
+    );
+    let mut long_tile = one_tile(alloc, 3, &pit())?;
+    let _last = long_tile.con.body.pop();
+    for tile in &mut long_tile.tiles {
+        tile.body.push(0)?;
+    }
+    assert_eq!(rt;
+        told(alloc, &long_tile)?.as_str(),
+        "refused BadTileLength N00E000.hgt"
+    );
+    Ok(())
+}
+
+/// Two tiles of side 2 that differ in the middle of the first row.
+#[test]
+fn refuses_tiles_that_differ(rt: HostRuntime) -> Result<(), Fail> {
+    let alloc = rt.alloc();
+    let grid = "NROWS 2\nNCOLS 3\nULXMAP 0\nULYMAP 1\nXDIM 1\nYDIM 1\n";
+    let mut example = products_on(alloc, 2, grid, &[0; 36])?;
+    example
+        .tiles
+        .push(tile(alloc, "N00E000.hgt", &[1, 2, 3, 4])?)?;
+    example
+        .tiles
+        .push(tile(alloc, "N00E001.hgt", &[9, 5, 4, 6])?)?;
+    assert_eq!(rt;
+        told(alloc, &example)?.as_str(),
+        "refused SeamMismatch row=0 col=1"
+    );
+    Ok(())
+}
+
+/// A usual tool's header of the tile N37W105, but for its spaces.
+const USUAL: &str = "BYTEORDER I
+LAYOUT BIL
+NROWS 1201
+NCOLS 1201
+NBANDS 1
+NBITS 16
+BANDROWBYTES 2402
+TOTALROWBYTES 2402
+PIXELTYPE SIGNEDINT
+ULXMAP -105
+ULYMAP 38
+XDIM 0.000833333333333333
+YDIM 0.000833333333333333
+NODATA -32768
+";
+
+#[test]
+fn takes_the_headers_of_usual_tools(rt: HostRuntime) -> Result<(), Fail> {
+    let example = bare(rt.alloc(), 1201, &["N37W105.hgt"], USUAL)?;
+    assert_eq!(rt;
+        told(rt.alloc(), &example)?.as_str(),
+        "refused BadTileLength N37W105.hgt"
+    );
+    Ok(())
+}
+
+#[test]
+fn want_of_memory_is_told_as_a_failure(rt: HostRuntime) {
+    let line = report(&Err(Refusal::OutOfMemory));
+    assert_eq!(rt; line.as_str(), "failed OutOfMemory");
+}

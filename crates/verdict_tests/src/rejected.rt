@@ -1,0 +1,108 @@
+//! Products that break one rule each, or one rule before another.
+
+use crate::example::{changed, header_on, one_tile};
+use crate::runs::told;
+use drain_grid::Product;
+use drain_verdict::line::Line;
+use std::alloc::Global;
+use std::test::Fail;
+use worked_grids::{level, needless_crest, pit, ring, slope, voids};
+
+/// The line of the slope with one number changed.
+fn slope_with(alloc: Global, place: usize, number: i64) -> Result<Line, Fail> {
+    let numbers = changed(alloc, &slope(), place, number)?;
+    told(alloc, &one_tile(alloc, 4, &numbers)?)
+}
+
+/// The places of the slope are counted through its samples and its products, 16 of each.
+#[test]
+fn rejects_a_changed_slope(rt: HostRuntime) -> Result<(), Fail> {
+    for (place, number, line) in [
+        (32, 3, "rejected rule=3 BadCode row=0 col=0"),
+        (16, 2, "rejected rule=4 BelowGround row=0 col=0"),
+        (16, 5, "rejected rule=5 OpenRaised row=0 col=0"),
+        (36, 2, "rejected rule=10 Slope row=1 col=0"),
+        (55, 5, "rejected rule=13 Accumulation row=1 col=3"),
+        (64, 9, "rejected rule=14 Label row=0 col=0"),
+    ] {
+        assert_eq!(rt;
+            slope_with(rt.alloc(), place, number)?.as_str(),
+            line,
+            "{place}"
+        );
+    }
+    Ok(())
+}
+
+/// The line of the pit with one number changed.
+fn pit_with(alloc: Global, place: usize, number: i64) -> Result<Line, Fail> {
+    let numbers = changed(alloc, &pit(), place, number)?;
+    told(alloc, &one_tile(alloc, 3, &numbers)?)
+}
+
+/// The places of the pit are counted through its samples and its products, 9 of each.
+#[test]
+fn rejects_a_changed_pit(rt: HostRuntime) -> Result<(), Fail> {
+    for (place, number, line) in [
+        (49, 0, "rejected rule=6 NoSpill row=1 col=1"),
+        (13, 6, "rejected rule=7 SpillHeight row=1 col=1"),
+        (58, 0, "rejected rule=8 SpillRank row=1 col=1"),
+    ] {
+        assert_eq!(rt;
+            pit_with(rt.alloc(), place, number)?.as_str(),
+            line,
+            "{place}"
+        );
+    }
+    Ok(())
+}
+
+#[test]
+fn rejects_by_the_other_rules(rt: HostRuntime) -> Result<(), Fail> {
+    let alloc = rt.alloc();
+    let numbers = changed(alloc, &voids(), 14, 1)?;
+    let count_at_a_void = told(alloc, &one_tile(alloc, 2, &numbers)?)?;
+    assert_eq!(rt;
+        count_at_a_void.as_str(),
+        "rejected rule=1 VoidCell row=1 col=0"
+    );
+    let numbers = changed(alloc, &level(), 8, 1)?;
+    let no_outlet = told(alloc, &one_tile(alloc, 2, &numbers)?)?;
+    assert_eq!(rt;
+        no_outlet.as_str(),
+        "rejected rule=11 OutletCode row=0 col=0"
+    );
+    let crest = told(alloc, &one_tile(alloc, 3, &needless_crest())?)?;
+    assert_eq!(rt; crest.as_str(), "rejected rule=9 NotLeast row=1 col=1");
+    let ring = told(alloc, &one_tile(alloc, 4, &ring())?)?;
+    assert_eq!(rt; ring.as_str(), "rejected rule=12 FlatStep row=1 col=1");
+    Ok(())
+}
+
+/// Cells with data, whose number is that which the header gives for no data.
+#[test]
+fn rejects_the_number_of_nodata(rt: HostRuntime) -> Result<(), Fail> {
+    let alloc = rt.alloc();
+    let mut example = one_tile(alloc, 2, &level())?;
+    let grid = "NODATA 0\nNROWS 2\nNCOLS 2\nULXMAP 0\nULYMAP 1\nXDIM 1\nYDIM 1\n";
+    example.con.header = header_on(alloc, Product::Con, grid)?;
+    assert_eq!(rt;
+        told(alloc, &example)?.as_str(),
+        "rejected rule=2 Missing row=0 col=0"
+    );
+    Ok(())
+}
+
+#[test]
+fn rejects_two_outlets_of_one_label(rt: HostRuntime) -> Result<(), Fail> {
+    let alloc = rt.alloc();
+    let mut numbers = Vec::from_slice(alloc, &slope())?;
+    for place in 68..72 {
+        numbers = changed(alloc, &numbers, place, 1)?;
+    }
+    assert_eq!(rt;
+        told(alloc, &one_tile(alloc, 4, &numbers)?)?.as_str(),
+        "rejected rule=15 SharedLabel row=1 col=3"
+    );
+    Ok(())
+}

@@ -1,0 +1,76 @@
+//! Sources that are interrupted or fail.
+
+use crate::example::one_tile;
+use crate::runs::{Faulty, Owner, told_slowly};
+use drain_device::DeviceFault;
+use drain_device::faults::Scripted;
+use drain_grid::Product;
+use drain_verdict::line::Line;
+use std::alloc::{AllocError, Global};
+use std::test::Fail;
+use worked_grids::{PIT_LINE, pit};
+
+const FAILED: &str = "failed ReadFailed";
+
+/// The line of the pit where an owner's source answers a fault from one call to another.
+fn pit_where(
+    alloc: Global,
+    owner: Owner,
+    first: u64,
+    last: u64,
+    answer: DeviceFault,
+) -> Result<Line, AllocError> {
+    let script = [Scripted {
+        first,
+        last,
+        answer,
+    }];
+    let faulty = Faulty {
+        owner,
+        script: &script,
+    };
+    told_slowly(alloc, &one_tile(alloc, 3, &pit())?, faulty)
+}
+
+#[test]
+fn bears_999_interruptions_of_each_source(rt: HostRuntime) -> Result<(), Fail> {
+    for owner in [
+        Owner::Tile,
+        Owner::Raster(Product::Con),
+        Owner::Raster(Product::Rnk),
+    ] {
+        for (first, last, line) in [
+            (1, 999, PIT_LINE),
+            (5, 1003, PIT_LINE),
+            (1, 1000, FAILED),
+            (5, 1004, FAILED),
+            (1, u64::MAX, FAILED),
+        ] {
+            let told = pit_where(rt.alloc(), owner, first, last, DeviceFault::Interrupted)?;
+            assert_eq!(rt; told.as_str(), line, "{owner:?} {first} {last}");
+        }
+    }
+    Ok(())
+}
+
+/// A tile of 18 bytes is asked once more, for its end; a raster isn't.
+#[test]
+fn never_takes_a_failed_source_for_its_end(rt: HostRuntime) -> Result<(), Fail> {
+    for (owner, calls) in [
+        (Owner::Tile, 19),
+        (Owner::Raster(Product::Con), 18),
+        (Owner::Raster(Product::Dir), 9),
+        (Owner::Raster(Product::Acc), 36),
+        (Owner::Raster(Product::Bas), 36),
+        (Owner::Raster(Product::Spl), 9),
+        (Owner::Raster(Product::Rnk), 36),
+    ] {
+        for call in 1..=calls {
+            let told = pit_where(rt.alloc(), owner, call, call, DeviceFault::Failed)?;
+            assert_eq!(rt; told.as_str(), FAILED, "{owner:?} {call}");
+        }
+        let never = pit_where(rt.alloc(), owner, calls + 1, u64::MAX, DeviceFault::Failed)?;
+        assert_eq!(rt; never.as_str(), PIT_LINE, "{owner:?}");
+    }
+    Ok(())
+}
