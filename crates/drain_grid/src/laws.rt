@@ -6,6 +6,7 @@ ghost use Rattle.std.specs.Prelude.{◌≡◌, pos, neg_ℤ};
 ghost use Rattle.drain_grid.specs.Laws.{CorrectFromRules, CountsUpstream, LabelsAreBasins, LeastFromRules, RunsEnd};
 
 use crate::cell::MAX_LENGTH;
+use crate::degree::UNITS_PER_DEGREE;
 use crate::nodata::{GREATEST_NODATA, LEAST_NODATA};
 use crate::tile::{MAX_SIDE, MIN_SIDE, VOID};
 use crate::values::{GREATEST_PIXEL, LEAST_PIXEL};
@@ -13,8 +14,8 @@ use crate::values::{GREATEST_PIXEL, LEAST_PIXEL};
 /// The numerals of the constants that definitions name.
 ///
 /// Sources: the SRTM HGT documentation for the void and for the greatest side, that of a 1 arc-second tile; the numbers that 32 bits spell,
-/// signed and not, for pixels; eight such tiles side by side, which share their edges, for the greatest length. The least side and the
-/// bounds of a no-data number are this project's own.
+/// signed and not, for pixels; eight such tiles side by side, which share their edges, for the greatest length. The least side, the
+/// bounds of a no-data number and the units of a degree are this project's own.
 pub fn constants()
     ensures void { VOID ≡ neg_ℤ (pos 32768) }
     ensures min_side { MIN_SIDE ≡ 2 }
@@ -22,6 +23,7 @@ pub fn constants()
     ensures max_length { MAX_LENGTH ≡ 28801 }
     ensures least_pixel { LEAST_PIXEL ≡ neg_ℤ (pos 2147483648) }
     ensures greatest_pixel { GREATEST_PIXEL ≡ pos 4294967295 }
+    ensures units_per_degree { UNITS_PER_DEGREE ≡ 1000000000000000 }
     ensures least_nodata { LEAST_NODATA ≡ neg_ℤ (pos 10000000000) }
     ensures greatest_nodata { GREATEST_NODATA ≡ pos 10000000000 }
 {}

@@ -7,14 +7,11 @@ ghost use Rattle.drain_header.specs.Laws.{OneAnswer, TextReadsBack};
 
 use crate::fault::FAULT_LENGTH;
 use crate::parse::MAX_HEADER_BYTES;
-use crate::text::UNITS_PER_DEGREE;
 
-/// The numerals of the constants: the bytes of a header and of a fault's text, and the units of a coordinate in a degree, 10^-15 each. They are
-/// this project's own.
+/// The numerals of the constants: the bytes of a header and of a fault's text. They are this project's own.
 pub fn constants()
     ensures max_header_bytes { MAX_HEADER_BYTES ≡ 65536 }
     ensures fault_length { FAULT_LENGTH ≡ 64 }
-    ensures units_per_degree { UNITS_PER_DEGREE ≡ 1000000000000000 }
 {}
 
 /// The text of a header within its bounds reads back as that header.

@@ -7,12 +7,9 @@ ghost use Rattle.drain_header.specs.Text.{text_of, shape_lines, pixel_lines, pla
 
 use crate::header::{ByteOrdering, Header, Place};
 use crate::key::Key;
-use drain_grid::OutOfMemory;
+use drain_grid::{OutOfMemory, UNITS_PER_DEGREE};
 use itoa::Buffer;
 use std::alloc::Global;
-
-/// How many units of a coordinate make one degree.
-pub const UNITS_PER_DEGREE: u128 = 1_000_000_000_000_000;
 
 /// The text of a header, in ASCII: one line for each keyword, which is the keyword, a space, its value and a line feed.
 ///

@@ -2,15 +2,16 @@
 use Rattle.std.proofs.Common.{ℕ, ◌+◌, ◌-◌, ◌*◌, ◌/◌, ◌^◌, ◌≤◌, inl, inr, ℤ, pos, negsuc, nat_abs, ◌-ℤ◌, ◌*ℤ◌, refl, arith, rules}
 use Rattle.std.proofs.lemmas.Int.{ints}
 use Rattle.std.proofs.Math.Nat.{mul-le-mul_right}
+use Rattle.drain_grid.specs.declared.degree.TheConstants.{UNITS_PER_DEGREE}
 use Rattle.drain_grid.specs.declared.product.Product.{Product}
 use Rattle.drain_grid.specs.declared.product.Product.TheVariants.{Con, Dir, Acc, Bas, Spl, Rnk}
 use Rattle.drain_grid.specs.Product.{default_no_data}
 use Rattle.drain_grid.specs.Tile.{IsSide}
 use Rattle.drain_grid.specs.Values.{IsNoData}
 use Rattle.drain_header.specs.Fields.{IsPixelSize, IsCoordinate, AreWithinBounds}
-use Rattle.drain_mosaic.specs.Tiling.{Tiling, west_of, north_of, tiles_down, tiles_across}
+use Rattle.drain_mosaic.specs.Tiling.{Tiling, west_of, north_of, west_edge, north_edge, tiles_down, tiles_across}
 use Rattle.drain_verdict.specs.Refusals.{IsPlaced}
-use Rattle.drain_maker.specs.Headers.{bits_of, degree, header_of, mosaic_place}
+use Rattle.drain_maker.specs.Headers.{bits_of, header_of, mosaic_place}
 use Rattle.drain_maker.proofs.Placing.{IsNear, spacing, no_way}
 
 -- a tiling of at most 8 by 8 tiles of a lawful side, whose edges are degrees
@@ -60,11 +61,11 @@ row_fits Spl cols few = omega arith
 row_fits Rnk cols few = omega arith
 
 -- degrees are coordinates, and so is a spacing
-degrees_ok : (z : ℤ) → nat_abs z ≤ 180 → IsCoordinate (z *ℤ pos degree)
+degrees_ok : (z : ℤ) → nat_abs z ≤ 180 → IsCoordinate (z *ℤ pos UNITS_PER_DEGREE)
 degrees_ok (pos n) near = record { low = omega (arith, ints); high = omega (arith, ints) }
 degrees_ok (negsuc n) near = record { low = omega (arith, ints); high = omega (arith, ints) }
 
-spacing_ok : (n : ℕ) → 1 ≤ n → IsCoordinate (pos (degree / n))
+spacing_ok : (n : ℕ) → 1 ≤ n → IsCoordinate (pos (UNITS_PER_DEGREE / n))
 spacing_ok n some = record { low = omega (arith, ints); high = omega (arith, ints) }
 
 pub within_bounds : (t : Tiling) (p : Product) → IsSmall t → AreWithinBounds (header_of t p)
@@ -88,13 +89,13 @@ within_bounds t p small =
     }
 
 -- the spacing is within a billionth of a degree of that of the samples
-spaced : (n : ℕ) → 1 ≤ n → nat_abs (pos (degree / n) *ℤ pos n -ℤ pos (10 ^ 15)) ≤ 10 ^ 6 * n
-spaced n some = let h = spacing degree n some in omega (arith, h)
+spaced : (n : ℕ) → 1 ≤ n → nat_abs (pos (UNITS_PER_DEGREE / n) *ℤ pos n -ℤ pos UNITS_PER_DEGREE) ≤ 10 ^ 6 * n
+spaced n some = let h = spacing UNITS_PER_DEGREE n some in omega (arith, h)
 
 pub placed : (t : Tiling) → IsSide t.side → IsPlaced t (mosaic_place t)
 placed t side = record {
-  ulx = no_way (10 ^ 9) (west_of t *ℤ pos degree);
-  uly = no_way (10 ^ 9) (north_of t *ℤ pos degree);
+  ulx = no_way (10 ^ 9) (west_edge t);
+  uly = no_way (10 ^ 9) (north_edge t);
   xdim = spaced (t.side - 1) (omega (arith, side.least));
   ydim = spaced (t.side - 1) (omega (arith, side.least));
 }

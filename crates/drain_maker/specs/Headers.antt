@@ -1,13 +1,13 @@
 -- The headers of the rasters that a maker writes.
 -- Source: the Esri description of BIL headers; sizes, byte order and no-data numbers are this project's own
-use Rattle.std.specs.Prelude.{ℕ, ◌-◌, ◌*◌, ◌/◌, ◌^◌, pos, ◌*ℤ◌, Bool, true, false, Some}
+use Rattle.std.specs.Prelude.{ℕ, ◌*◌, ◌/◌, Bool, true, false, Some}
 use Rattle.drain_grid.specs.declared.product.Product.{Product}
 use Rattle.drain_grid.specs.declared.product.Product.TheVariants.{Con, Dir, Acc, Bas, Spl, Rnk}
 use Rattle.drain_grid.specs.Product.{default_no_data}
 use Rattle.drain_header.specs.declared.header.ByteOrdering.TheVariants.{Least}
 use Rattle.drain_header.specs.declared.header.Place.{Place}
 use Rattle.drain_header.specs.Fields.{Fields}
-use Rattle.drain_mosaic.specs.Tiling.{Tiling, west_of, north_of, extent_of}
+use Rattle.drain_mosaic.specs.Tiling.{Tiling, west_edge, north_edge, spacing_of, extent_of}
 
 -- heights take 16 bits, codes 8, counts, labels and ranks 32
 abbrev pub bits_of : Product → ℕ
@@ -23,17 +23,13 @@ abbrev pub is_signed : Product → Bool
 is_signed Con = true
 is_signed p = false
 
--- how many units of 10^-15 a degree has
-abbrev pub degree : ℕ
-degree = 10 ^ 15
-
--- the corner of the mosaic, and the spacing of its samples, rounded down
+-- the corner of the mosaic, and the spacing of its samples
 abbrev pub mosaic_place : Tiling → Place
 mosaic_place t = record {
-  ulx = west_of t *ℤ pos degree;
-  uly = north_of t *ℤ pos degree;
-  xdim = pos (degree / (t.side - 1));
-  ydim = pos (degree / (t.side - 1));
+  ulx = west_edge t;
+  uly = north_edge t;
+  xdim = spacing_of t;
+  ydim = spacing_of t;
 }
 
 -- the header of a product: the least significant byte first, nothing to skip, rows without padding

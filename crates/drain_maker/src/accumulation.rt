@@ -2,9 +2,10 @@
 
 ghost use Rattle.std.specs.Prelude.{◌≡◌, IfOk};
 
+use crate::blanks::blank_count;
 use crate::layer::Layer;
 use crate::visits::Visits;
-use drain_grid::{Code, OutOfMemory};
+use drain_grid::{Code, OutOfMemory, Product};
 use std::alloc::Global;
 
 /// The counts, 0 at voids. A cell's direction names one that was visited before it, so from the last visit back each count is whole
@@ -18,7 +19,7 @@ pub fn accumulation(
     ensures { IfOk result (λ acc. acc.shape ≡ dir.now.shape) }
 {
     let shape = dir.shape();
-    let mut acc = Layer::new(alloc, shape, 0u32)?;
+    let mut acc = Layer::new(alloc, shape, blank_count(Product::Acc))?;
     for place in (0..visits.len()).rev() {
         let cell = visits.cell(place);
         let count = acc.at(cell);

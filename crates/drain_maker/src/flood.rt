@@ -10,10 +10,11 @@
 ghost use Rattle.std.specs.Prelude.{◌≡◌, IfOk};
 ghost use Rattle.drain_grid.specs.Extent.{IsCellOf};
 
+use crate::blanks::{blank_count, blank_height};
 use crate::layer::Layer;
 use crate::queue::Queue;
 use crate::visits::Visits;
-use drain_grid::{Cell, Code, Direction, Elevation, OutOfMemory, Shape, VOID};
+use drain_grid::{Cell, Code, Direction, Elevation, OutOfMemory, Product, Shape};
 use std::alloc::Global;
 
 /// What a flood leaves. Cells that it didn't reach have the no-data numbers of con and rnk, and no spill parent.
@@ -52,9 +53,9 @@ impl Flood {
     fn new(alloc: Global, shape: Shape) -> Result<Flood, OutOfMemory>
         ensures { IfOk result (λ flood. flood.done.con.shape ≡ shape) }
     {
-        let con = Layer::new(alloc, shape, VOID)?;
+        let con = Layer::new(alloc, shape, blank_height())?;
         let spl = Layer::new(alloc, shape, None)?;
-        let rnk = Layer::new(alloc, shape, u32::MAX)?;
+        let rnk = Layer::new(alloc, shape, blank_count(Product::Rnk))?;
         let visits = Visits::new(alloc, shape)?;
         let queue = Queue::new(alloc, shape)?;
         Ok(Flood {
@@ -76,7 +77,9 @@ impl Flood {
         let shape = elevation.shape();
         for index in 0..shape.cells() {
             let cell = shape.cell(index);
-            if let Some(ground) = open_ground(elevation, cell) {
+            if elevation.is_open(cell)
+                && let Some(ground) = elevation.z(cell)
+            {
                 self.reach(cell, ground, Code::Outlet, 0);
                 self.queue.push(cell, ground)?;
             }
@@ -135,7 +138,7 @@ impl Flood {
         let Some(next) = elevation.shape().step(cell, direction) else {
             return Ok(());
         };
-        if self.done.con.at(next) != VOID {
+        if self.done.spl.at(next).is_some() {
             return Ok(());
         }
         let Some(ground) = elevation.z(next) else {
@@ -162,23 +165,4 @@ impl Flood {
         self.done.spl.put(cell, Some(parent));
         self.done.rnk.put(cell, rank);
     }
-}
-
-/// The elevation of an open cell: one with data, on the grid's edge or beside a void.
-fn open_ground(elevation: &Elevation, cell: Cell) -> Option<i16>
-    requires { IsCellOf elevation.now.extent cell }
-{
-    let ground = elevation.z(cell)?;
-    for direction in Direction::ALL.iter() {
-        if ground_beside(elevation, cell, *direction).is_none() {
-            return Some(ground);
-        }
-    }
-    None
-}
-
-/// The elevation of the neighbour in this direction, if it has data.
-fn ground_beside(elevation: &Elevation, cell: Cell, direction: Direction) -> Option<i16> {
-    let next = elevation.shape().step(cell, direction)?;
-    elevation.z(next)
 }

@@ -8,9 +8,6 @@ use drain_grid::Product;
 use drain_header::{ByteOrdering, Header, Place};
 use drain_mosaic::Layout;
 
-/// How many units of 10^-15 a degree has.
-const DEGREE: i128 = 1_000_000_000_000_000;
-
 /// The header of a product of this mosaic.
 ///
 /// Pixels of 16 bits signed for con, 8 for dir and spl, 32 for acc, bas and rnk; the least significant byte first, nothing to skip and
@@ -62,10 +59,10 @@ fn mosaic_place(layout: &Layout) -> Place
     ensures xdim_ok { IsCoordinate result.xdim }
     ensures ydim_ok { IsCoordinate result.ydim }
 {
-    let spacing = DEGREE / i128::from(layout.side() - 1);
+    let spacing = layout.spacing();
     Place {
-        ulx: i128::from(layout.west()) * DEGREE,
-        uly: i128::from(layout.north()) * DEGREE,
+        ulx: layout.west_edge(),
+        uly: layout.north_edge(),
         xdim: spacing,
         ydim: spacing,
     }

@@ -2,9 +2,10 @@
 
 ghost use Rattle.std.specs.Prelude.{◌≡◌, IfOk};
 
+use crate::blanks::blank_count;
 use crate::layer::Layer;
 use crate::visits::Visits;
-use drain_grid::{Code, OutOfMemory};
+use drain_grid::{Code, OutOfMemory, Product};
 use std::alloc::Global;
 
 /// The labels, 0 at voids. Outlets have 1, 2, 3 and so on in row order; a cell's direction names one that was visited before it, so in the order
@@ -35,7 +36,7 @@ fn outlet_labels(alloc: Global, dir: &Layer<Option<Code>>) -> Result<Layer<u32>,
     ensures { IfOk result (λ bas. bas.shape ≡ dir.now.shape) }
 {
     let shape = dir.shape();
-    let mut bas = Layer::new(alloc, shape, 0u32)?;
+    let mut bas = Layer::new(alloc, shape, blank_count(Product::Bas))?;
     let mut outlets: u32 = 0;
     for index in 0..shape.cells() {
         let cell = shape.cell(index);

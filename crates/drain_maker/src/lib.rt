@@ -4,6 +4,7 @@
 #![tactic(auto)]
 
 mod accumulation;
+mod blanks;
 mod directions;
 mod flood;
 mod header;

@@ -1,8 +1,9 @@
 -- The bounding box of some tiles, and where each tile lies in it (the SRTM HGT documentation: adjacent tiles share their edges).
-use Rattle.std.specs.Prelude.{ℕ, ◌+◌, ◌-◌, ◌*◌, ℤ, pos, ◌+ℤ◌, ◌-ℤ◌, nat_abs, List, map, slice_index_or}
+use Rattle.std.specs.Prelude.{ℕ, ◌+◌, ◌-◌, ◌*◌, ◌/◌, ℤ, pos, ◌*ℤ◌, ◌+ℤ◌, ◌-ℤ◌, nat_abs, List, map, slice_index_or}
 use Rattle.std.specs.List.{fold}
 use Rattle.std.specs.Int.{int_min, int_max}
 use Rattle.drain_grid.specs.declared.cell.Cell.{Cell}
+use Rattle.drain_grid.specs.declared.degree.TheConstants.{UNITS_PER_DEGREE}
 use Rattle.drain_grid.specs.Size.{Extent}
 use Rattle.drain_hgt.specs.Corner.{Corner}
 
@@ -31,6 +32,17 @@ north_of t = greatest (map (λ c. c.lat) t.corners) +ℤ pos 1
 
 abbrev pub east_of : Tiling → ℤ
 east_of t = greatest (map (λ c. c.lon) t.corners) +ℤ pos 1
+
+-- the box's west and north edge, in units of 10^-15 degree
+abbrev pub west_edge : Tiling → ℤ
+west_edge t = west_of t *ℤ pos UNITS_PER_DEGREE
+
+abbrev pub north_edge : Tiling → ℤ
+north_edge t = north_of t *ℤ pos UNITS_PER_DEGREE
+
+-- from one sample of a tile to the next, in units of 10^-15 degree, rounded down
+abbrev pub spacing_of : Tiling → ℤ
+spacing_of t = pos (UNITS_PER_DEGREE / (t.side - 1))
 
 -- how many tiles the box has from north to south, and from west to east
 abbrev pub tiles_down : Tiling → ℕ

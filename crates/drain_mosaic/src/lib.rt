@@ -1,6 +1,7 @@
 //! Mosaics: which tiles make one, and the elevation that they give together.
 #![tactic(auto)]
 
+mod edges;
 pub mod first_seam;
 pub mod laws;
 pub mod layout;

@@ -2,6 +2,7 @@
 use Rattle.std.specs.Prelude.{◌≡◌, ℕ, suc, ◌+◌, ◌-◌, ◌*◌, ◌^◌, ℤ, pos, ◌-ℤ◌, ◌*ℤ◌, nat_abs, ◌≤◌, ◌<◌, ◌&&◌, List, [], ◌∷◌, slice_get, Some, Err, if◌then◌else◌}
 use Rattle.std.specs.Ordering.{int_eq}
 use Rattle.drain_grid.specs.declared.cell.Cell.{Cell}
+use Rattle.drain_grid.specs.declared.degree.TheConstants.{UNITS_PER_DEGREE}
 use Rattle.drain_grid.specs.declared.product.Product.{Product}
 use Rattle.drain_grid.specs.declared.product.Product.TheVariants.{Con, Dir, Acc, Bas, Spl, Rnk}
 use Rattle.drain_grid.specs.Extent.{IsCellOf, index_of}
@@ -33,10 +34,10 @@ AreWithin units a b = nat_abs (a -ℤ b) ≤ units
 
 -- the raster lies where the mosaic does: its corner within 10^-6 degree, its pixels' sizes within 10^-9 degree
 pub record IsPlaced (t : tiling.Tiling) (place : Place) : Type 0 where
-  pub ulx : AreWithin (10 ^ 9) place.ulx (tiling.west_of t *ℤ pos (10 ^ 15))
-  pub uly : AreWithin (10 ^ 9) place.uly (tiling.north_of t *ℤ pos (10 ^ 15))
-  pub xdim : AreWithin (10 ^ 6 * (t.side - 1)) (place.xdim *ℤ pos (t.side - 1)) (pos (10 ^ 15))
-  pub ydim : AreWithin (10 ^ 6 * (t.side - 1)) (place.ydim *ℤ pos (t.side - 1)) (pos (10 ^ 15))
+  pub ulx : AreWithin (10 ^ 9) place.ulx (tiling.west_edge t)
+  pub uly : AreWithin (10 ^ 9) place.uly (tiling.north_edge t)
+  pub xdim : AreWithin (10 ^ 6 * (t.side - 1)) (place.xdim *ℤ pos (t.side - 1)) (pos UNITS_PER_DEGREE)
+  pub ydim : AreWithin (10 ^ 6 * (t.side - 1)) (place.ydim *ℤ pos (t.side - 1)) (pos UNITS_PER_DEGREE)
 
 -- the product's header gives the rows and columns of the mosaic
 abbrev pub HasShape : Inputs → Product → Type 0

@@ -7,6 +7,7 @@ ghost use Rattle.drain_verdict.specs.Refusals.{AreWithin, IsPlaced};
 ghost use Rattle.drain_verdict.specs.Stages.{IsHeaderFor, IsHeaderRefusal, AreHeadersFor, IsFirstHeaderRefusal};
 
 use crate::input::Products;
+use crate::placing::is_placed;
 use crate::refusal::Refusal;
 use drain_grid::Product;
 use drain_header::{Header, parse_header};
@@ -21,91 +22,6 @@ pub struct Headers {
     pub bas: Header,
     pub spl: Header,
     pub rnk: Header,
-}
-
-/// One degree, in units of 10^-15 degree.
-const DEGREE: i128 = 1_000_000_000_000_000;
-
-/// How far a raster's corner may lie from the mosaic's: 10^-6 degree, in units of 10^-15 degree.
-const CORNER_TOLERANCE: u128 = 1_000_000_000;
-
-/// How much a pixel's size may differ from a sample's: 10^-9 degree, in units of 10^-15 degree.
-const SIZE_TOLERANCE: u128 = 1_000_000;
-
-/// No distance that is compared is between numbers further from 0 than this.
-const FARTHEST: u128 = 100_000_000_000_000_000_000_000_000_000;
-
-/// Whether two distances are within so many units of one another.
-fn are_within(units: u128, a: i128, b: i128) -> bool
-    requires a { nat_abs a ≤ FARTHEST }
-    requires b { nat_abs b ≤ FARTHEST }
-    ensures { IsTrue result ↔ AreWithin units a b }
-{
-    (a - b).unsigned_abs() <= units
-}
-
-/// The mosaic's west edge, in units of 10^-15 degree.
-fn west_edge(layout: &Layout) -> i128
-    ensures edge { result ≡ tiling.west_of layout.now *ℤ pos (10 ^ 15) }
-    ensures near { nat_abs result ≤ FARTHEST }
-{
-    i128::from(layout.west()) * DEGREE
-}
-
-/// The mosaic's north edge, in units of 10^-15 degree.
-fn north_edge(layout: &Layout) -> i128
-    ensures edge { result ≡ tiling.north_of layout.now *ℤ pos (10 ^ 15) }
-    ensures near { nat_abs result ≤ FARTHEST }
-{
-    i128::from(layout.north()) * DEGREE
-}
-
-/// Whether the raster's west edge is the mosaic's.
-fn is_at_west(layout: &Layout, header: &Header) -> bool
-    ensures { IsTrue result ↔ AreWithin (10 ^ 9) header.now.place.ulx (tiling.west_of layout.now *ℤ pos (10 ^ 15)) }
-{
-    are_within(CORNER_TOLERANCE, header.place.ulx, west_edge(layout))
-}
-
-/// Whether the raster's north edge is the mosaic's.
-fn is_at_north(layout: &Layout, header: &Header) -> bool
-    ensures { IsTrue result ↔ AreWithin (10 ^ 9) header.now.place.uly (tiling.north_of layout.now *ℤ pos (10 ^ 15)) }
-{
-    are_within(CORNER_TOLERANCE, header.place.uly, north_edge(layout))
-}
-
-/// Whether pixels are as wide as samples: those from one edge of a tile to the other make up one degree.
-fn is_as_wide(layout: &Layout, header: &Header) -> bool
-    ensures { IsTrue result ↔ AreWithin (10 ^ 6 * (layout.now.side - 1)) (header.now.place.xdim *ℤ pos (layout.now.side - 1)) (pos (10 ^ 15)) }
-{
-    let steps = layout.side() - 1;
-    are_within(
-        SIZE_TOLERANCE * u128::from(steps),
-        header.place.xdim * i128::from(steps),
-        DEGREE,
-    )
-}
-
-/// Whether pixels are as high as samples.
-fn is_as_high(layout: &Layout, header: &Header) -> bool
-    ensures { IsTrue result ↔ AreWithin (10 ^ 6 * (layout.now.side - 1)) (header.now.place.ydim *ℤ pos (layout.now.side - 1)) (pos (10 ^ 15)) }
-{
-    let steps = layout.side() - 1;
-    are_within(
-        SIZE_TOLERANCE * u128::from(steps),
-        header.place.ydim * i128::from(steps),
-        DEGREE,
-    )
-}
-
-/// Whether the header's raster lies where the mosaic does.
-fn is_placed(layout: &Layout, header: &Header) -> bool
-    ensures { IsTrue result ↔ IsPlaced layout.now header.now.place }
-{
-    is_at_west(layout, header)
-        && is_at_north(layout, header)
-        && is_as_wide(layout, header)
-        && is_as_high(layout, header)
 }
 
 /// Whether the header gives the rows and columns of the mosaic.

@@ -10,6 +10,7 @@ pub mod laws;
 mod layout;
 pub mod line;
 pub mod mosaic;
+mod placing;
 mod rasters;
 pub mod refusal;
 mod seams;

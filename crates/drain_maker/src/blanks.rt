@@ -1,0 +1,13 @@
+//! What a layer holds where a product has no number of its own: at voids the number for no data, as the product's pixels spell it.
+
+use drain_grid::{Product, VOID};
+
+/// The height of a cell without data.
+pub fn blank_height() -> i16 {
+    i16::try_from(Product::Con.default_no_data()).unwrap_or(VOID)
+}
+
+/// The count, label or rank of a cell without data.
+pub fn blank_count(product: Product) -> u32 {
+    u32::try_from(product.default_no_data()).unwrap_or(u32::MAX)
+}
