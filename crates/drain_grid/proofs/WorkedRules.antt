@@ -10,6 +10,7 @@ use Rattle.drain_grid.specs.Grid.{Grid, Products}
 use Rattle.drain_grid.specs.Correct.{IsCorrect}
 use Rattle.drain_grid.specs.GridRules.{RulesHold, IsFirstFault}
 use Rattle.drain_grid.proofs.AllRules.{correct_from_rules}
+use Rattle.drain_grid.proofs.Decisions.{Decision}
 use Rattle.drain_grid.proofs.RuleDecisions.{rules_hold, first_fault}
 use Rattle.drain_grid.proofs.WorkedGrids.{cell, changed, defaults, pit_grid, pit_products, overfilled_grid, overfilled_products, flat_grid, flat_products, void_grid, void_products, slope_grid, slope_products, ring_grid, ring_products, gap_grid, gap_products}
 
@@ -17,28 +18,37 @@ use Rattle.drain_grid.proofs.WorkedGrids.{cell, changed, defaults, pit_grid, pit
 abbrev Accepted : Grid → Products → Type 0
 Accepted g ps = RulesHold (profile1 defaults) IsAnyRule g ps
 
+abbrev accepted : (g : Grid) (ps : Products) → Decision (Accepted g ps)
+accepted g ps = rules_hold 1 15 g ps defaults
+
 -- the rule is the first that fails
 abbrev Rejected : Grid → Products → Rule → Cell → Type 0
 Rejected g ps r c = IsFirstFault (profile1 defaults) IsAnyRule g ps c r
 
--- the same of rules 4 to 9 alone
+abbrev rejected : (g : Grid) (ps : Products) (r : Rule) (c : Cell) → Decision (Rejected g ps r c)
+rejected g ps r c = first_fault 1 15 g ps defaults c r
+
+-- the same of the rules on the conditioned elevation alone
 abbrev Unfilled : Grid → Products → Rule → Cell → Type 0
 Unfilled g ps r c = IsFirstFault (profile1 defaults) IsFillRule g ps c r
 
+abbrev unfilled : (g : Grid) (ps : Products) (r : Rule) (c : Cell) → Decision (Unfilled g ps r c)
+unfilled g ps r c = first_fault 4 9 g ps defaults c r
+
 pit_holds : Accepted pit_grid pit_products
-pit_holds = (rules_hold 1 15 pit_grid pit_products defaults).sound refl
+pit_holds = (accepted pit_grid pit_products).sound refl
 
 flat_holds : Accepted flat_grid flat_products
-flat_holds = (rules_hold 1 15 flat_grid flat_products defaults).sound refl
+flat_holds = (accepted flat_grid flat_products).sound refl
 
 void_holds : Accepted void_grid void_products
-void_holds = (rules_hold 1 15 void_grid void_products defaults).sound refl
+void_holds = (accepted void_grid void_products).sound refl
 
 slope_holds : Accepted slope_grid slope_products
-slope_holds = (rules_hold 1 15 slope_grid slope_products defaults).sound refl
+slope_holds = (accepted slope_grid slope_products).sound refl
 
 gap_holds : Accepted gap_grid gap_products
-gap_holds = (rules_hold 1 15 gap_grid gap_products defaults).sound refl
+gap_holds = (accepted gap_grid gap_products).sound refl
 
 -- so these products are correct
 pit_correct : IsCorrect pit_grid pit_products defaults
@@ -52,7 +62,7 @@ gap_correct = (correct_from_rules gap_grid gap_products defaults gap_holds).0
 
 -- 1: acc 1 at a void
 rejects_void_cell : Rejected void_grid (record void_products { acc = changed void_products.acc (cell 1 0) 1 }) VoidCell (cell 1 0)
-rejects_void_cell = (first_fault 1 15 void_grid _ defaults (cell 1 0) VoidCell).sound refl
+rejects_void_cell = (rejected void_grid _ VoidCell (cell 1 0)).sound refl
 
 -- 2: con has its no-data number, 0
 rejects_missing : IsFirstFault (profile1 (record defaults { con = pos 0 })) IsAnyRule flat_grid flat_products (cell 0 0) Missing
@@ -60,55 +70,55 @@ rejects_missing = (first_fault 1 15 flat_grid flat_products (record defaults { c
 
 -- 3: dir 3
 rejects_bad_code : Rejected slope_grid (record slope_products { dir = changed slope_products.dir (cell 0 0) 3 }) BadCode (cell 0 0)
-rejects_bad_code = (first_fault 1 15 slope_grid _ defaults (cell 0 0) BadCode).sound refl
+rejects_bad_code = (rejected slope_grid _ BadCode (cell 0 0)).sound refl
 
 -- 4: con 2 where z is 4
 rejects_below_ground : Rejected slope_grid (record slope_products { con = changed slope_products.con (cell 0 0) 2 }) BelowGround (cell 0 0)
-rejects_below_ground = (first_fault 1 15 slope_grid _ defaults (cell 0 0) BelowGround).sound refl
+rejects_below_ground = (rejected slope_grid _ BelowGround (cell 0 0)).sound refl
 
 -- 5: con 5 where z is 4, at an open cell
 rejects_open_raised : Rejected slope_grid (record slope_products { con = changed slope_products.con (cell 0 0) 5 }) OpenRaised (cell 0 0)
-rejects_open_raised = (first_fault 1 15 slope_grid _ defaults (cell 0 0) OpenRaised).sound refl
+rejects_open_raised = (rejected slope_grid _ OpenRaised (cell 0 0)).sound refl
 
 -- 6: spl 0 at the centre
 rejects_no_spill : Rejected pit_grid (record pit_products { spl = λ c. pos 0 }) NoSpill (cell 1 1)
-rejects_no_spill = (first_fault 1 15 pit_grid _ defaults (cell 1 1) NoSpill).sound refl
+rejects_no_spill = (rejected pit_grid _ NoSpill (cell 1 1)).sound refl
 
 -- 7: con 6 at the centre, whose spill parent has 5
 rejects_spill_height : Unfilled pit_grid (record pit_products { con = changed pit_products.con (cell 1 1) 6 }) SpillHeight (cell 1 1)
-rejects_spill_height = (first_fault 4 9 pit_grid _ defaults (cell 1 1) SpillHeight).sound refl
+rejects_spill_height = (unfilled pit_grid _ SpillHeight (cell 1 1)).sound refl
 
 -- 8: rnk 0 at the centre
 rejects_spill_rank : Rejected pit_grid (record pit_products { rnk = λ c. pos 0 }) SpillRank (cell 1 1)
-rejects_spill_rank = (first_fault 1 15 pit_grid _ defaults (cell 1 1) SpillRank).sound refl
+rejects_spill_rank = (rejected pit_grid _ SpillRank (cell 1 1)).sound refl
 
 -- 9: a needless crest
 rejects_not_least : Unfilled overfilled_grid overfilled_products NotLeast (cell 1 1)
-rejects_not_least = (first_fault 4 9 overfilled_grid _ defaults (cell 1 1) NotLeast).sound refl
+rejects_not_least = (unfilled overfilled_grid _ NotLeast (cell 1 1)).sound refl
 
 -- 10: dir southeast, where east is as steep a drop over a shorter way
 rejects_slope : Rejected slope_grid (record slope_products { dir = changed slope_products.dir (cell 1 0) 2 }) Slope (cell 1 0)
-rejects_slope = (first_fault 1 15 slope_grid _ defaults (cell 1 0) Slope).sound refl
+rejects_slope = (rejected slope_grid _ Slope (cell 1 0)).sound refl
 
 -- 11: dir east at an outlet
 rejects_outlet_code : Rejected flat_grid (record flat_products { dir = changed flat_products.dir (cell 0 0) 1 }) OutletCode (cell 0 0)
-rejects_outlet_code = (first_fault 1 15 flat_grid _ defaults (cell 0 0) OutletCode).sound refl
+rejects_outlet_code = (rejected flat_grid _ OutletCode (cell 0 0)).sound refl
 
 -- 12: a ring on the flat
 rejects_flat_step : Rejected ring_grid ring_products FlatStep (cell 1 1)
-rejects_flat_step = (first_fault 1 15 ring_grid _ defaults (cell 1 1) FlatStep).sound refl
+rejects_flat_step = (rejected ring_grid _ FlatStep (cell 1 1)).sound refl
 
 -- 13: acc 5 where four cells drain through
 rejects_accumulation : Rejected slope_grid (record slope_products { acc = changed slope_products.acc (cell 1 3) 5 }) Accumulation (cell 1 3)
-rejects_accumulation = (first_fault 1 15 slope_grid _ defaults (cell 1 3) Accumulation).sound refl
+rejects_accumulation = (rejected slope_grid _ Accumulation (cell 1 3)).sound refl
 
 -- 14: bas 9, where the next cell has 1
 rejects_label : Rejected slope_grid (record slope_products { bas = changed slope_products.bas (cell 0 0) 9 }) Label (cell 0 0)
-rejects_label = (first_fault 1 15 slope_grid _ defaults (cell 0 0) Label).sound refl
+rejects_label = (rejected slope_grid _ Label (cell 0 0)).sound refl
 
 -- 15: two rows with one label
 rejects_shared_label : Rejected slope_grid (record slope_products {
   bas =
       λ c. if c.row == 1 then pos 1 else slope_products.bas c;
 }) SharedLabel (cell 1 3)
-rejects_shared_label = (first_fault 1 15 slope_grid _ defaults (cell 1 3) SharedLabel).sound refl
+rejects_shared_label = (rejected slope_grid _ SharedLabel (cell 1 3)).sound refl

@@ -1,29 +1,28 @@
 -- The files of products that were made: no refusal stands of them, and they are accepted.
-use Rattle.std.proofs.Common.{◌≡◌, ℕ, ◌<◌, inl, inr, List, Result, Ok, Err, unwrap_or, refl, sym, ap, subst, ◌∙◌, arith}
+use Rattle.std.proofs.Common.{◌≡◌, ℕ, ◌<◌, ℤ, pos, get_or, inl, inr, List, Result, Ok, Err, unwrap_or, refl, sym, ap, subst, ◌∙◌, arith}
 use Rattle.drain_grid.specs.declared.cell.Cell.{Cell}
 use Rattle.drain_grid.specs.declared.product.Product.{Product}
 use Rattle.drain_grid.specs.declared.product.Product.TheVariants.{Con, Dir, Acc, Bas, Spl, Rnk}
 use Rattle.drain_grid.specs.declared.product_set.ProductSet.{ProductSet}
-use Rattle.drain_grid.specs.Extent.{IsCellOf}
+use Rattle.drain_grid.specs.Extent.{IsCellOf, index_of}
 use Rattle.drain_grid.specs.Product.{default_no_data, default_numbers}
-use Rattle.drain_grid.specs.Rasters.{Heights}
+use Rattle.drain_grid.specs.Rasters.{Heights, Pixels}
 use Rattle.drain_grid.specs.Size.{Extent}
 use Rattle.drain_grid.specs.Values.{NoDataNumbers}
 use Rattle.drain_grid.specs.Whole.{number_at}
 use Rattle.drain_grid.specs.WholeGrid as whole
-use Rattle.drain_grid.specs.Rule.{IsAnyRule}
-use Rattle.drain_grid.specs.PatchRules.{check_rules}
-use Rattle.drain_grid.specs.GridRules.{RulesHold}
 use Rattle.drain_grid.specs.WholeGrid.{raster_in}
 use Rattle.drain_header.specs.Faults.{Describes}
 use Rattle.drain_header.specs.Fields.{Fields}
 use Rattle.drain_header.specs.Laws.{TextReadsBack}
 use Rattle.drain_raster.specs.Bytes.{raster_bytes}
-use Rattle.drain_raster.specs.Laws.{ReadBack, BytesReadBack}
+use Rattle.drain_raster.specs.Laws.{ReadBack, BytesReadBack, NumbersArePixels}
 use Rattle.drain_raster.specs.Pixels as pixels
 use Rattle.drain_mosaic.specs.Tiling as tiling
 use Rattle.drain_rules.specs.declared.verdict.Verdict.{Verdict}
 use Rattle.drain_rules.specs.declared.verdict.Verdict.TheVariants.{Accepted, Rejected}
+use Rattle.drain_rules.specs.Verdicts.{counts_of, IsVerdict}
+use Rattle.drain_rules.specs.Laws.{AreEqual, EqualGridsHaveOneVerdict}
 use Rattle.drain_verdict.specs.declared.refusal.Refusal.{Refusal}
 use Rattle.drain_verdict.specs.declared.refusal.Refusal.TheVariants.{BadSide, BadName, BoxTooLarge, BadHeader, WrongShape, Misplaced, RasterShort, OutOfMemory, ReadFailed}
 use Rattle.drain_verdict.specs.Inputs.{Inputs}
@@ -36,8 +35,6 @@ use Rattle.drain_maker.specs.Made.{AreMade}
 use Rattle.drain_maker.specs.Accepted.{AreNamed, AreFilesOf, IsAcceptance, MadeIsAccepted}
 use Rattle.drain_maker.proofs.Placing.{near_by_names, side_by_readable}
 use Rattle.drain_maker.proofs.HeaderBounds.{IsSmall, within_bounds, placed}
-use Rattle.drain_maker.proofs.FileNumbers.{number_in_bytes}
-use Rattle.drain_maker.proofs.SameGrid.{AreSame, rules_go_along, counts_go_along}
 
 -- a mosaic that can be read is of at most 8 by 8 tiles, and on the map
 small : (i : Inputs) (e : Heights) → AreNamed i → IsMosaicOf i (tiling_of i) e → IsSmall (tiling_of i)
@@ -98,27 +95,37 @@ none_stands i e ps mosaic read (RasterShort p) stands =
     (subst (λ (body : List ℕ). pixels.IsShort (fields_of i p) body) (read.rasters_are p) stands))
 none_stands i e ps mosaic read refusal stands = mosaic.readable refusal (tt, stands)
 
--- the number of a product at a cell is that of its file
-number_kept : (i : Inputs) (e : Heights) (ps : ProductSet) → IsMosaicOf i (tiling_of i) e → AreReadBack i ps → (p : Product) (c : Cell) →
+-- the number of a raster that is read back is that of its bytes
+number_in_bytes : NumbersArePixels → (h : Fields) (p : Pixels) (c : Cell) → p.extent ≡ pixels.extent_of h → ReadBack h p →
+    IsCellOf (pixels.extent_of h) c → number_at p c ≡ pixels.pixel_at h (raster_bytes h p) c
+number_in_bytes numbers h p c shape back inside =
+    ap (λ (e : Extent). get_or p.numbers (index_of e c) (pos 0)) shape
+    ∙ ap (λ (xs : List ℤ). get_or xs (index_of (pixels.extent_of h) c) (pos 0)) (sym back.numbers)
+    ∙ numbers h p.nodata (raster_bytes h p) c inside
+
+-- so the number of a product at a cell is that of its file
+number_kept : (i : Inputs) (e : Heights) (ps : ProductSet) → NumbersArePixels → IsMosaicOf i (tiling_of i) e → AreReadBack i ps → (p : Product) (c : Cell) →
     IsCellOf e.extent c → number_at (raster_in ps p) c ≡ number_of i p c
-number_kept i e ps mosaic read p c inside =
-    number_in_bytes (header_of (tiling_of i) p) (raster_in ps p) c (read.shapes p) (read.back p)
+number_kept i e ps numbers mosaic read p c inside =
+    number_in_bytes numbers (header_of (tiling_of i) p) (raster_in ps p) c (read.shapes p) (read.back p)
     (subst (λ (x : Extent). IsCellOf x c) mosaic.extent_is inside)
     ∙ ap (λ (h : Fields). pixels.pixel_at h (raster_bytes (header_of (tiling_of i) p) (raster_in ps p)) c) (says i ps read p)
     ∙ ap (λ (body : List ℕ). pixels.pixel_at (fields_of i p) body c) (sym (read.rasters_are p))
 
 -- the grid and the products are those of the files
-same_grid : (i : Inputs) (e : Heights) (ps : ProductSet) → IsMosaicOf i (tiling_of i) e → AreReadBack i ps →
-    AreSame (whole.grid_of e) (grid_of i) (whole.products_of ps) (products_of i)
-same_grid i e ps mosaic read = record {
+grids_equal : (i : Inputs) (e : Heights) (ps : ProductSet) → NumbersArePixels → IsMosaicOf i (tiling_of i) e → AreReadBack i ps →
+    AreEqual (whole.grid_of e) (grid_of i) (whole.products_of ps) (products_of i)
+grids_equal i e ps numbers mosaic read = record {
   extent = mosaic.extent_is;
-  elevation = mosaic.elevation_is;
-  con = number_kept i e ps mosaic read Con;
-  dir = number_kept i e ps mosaic read Dir;
-  acc = number_kept i e ps mosaic read Acc;
-  bas = number_kept i e ps mosaic read Bas;
-  spl = number_kept i e ps mosaic read Spl;
-  rnk = number_kept i e ps mosaic read Rnk;
+  values = λ c inside. λ k. record {
+    z = mosaic.elevation_is c inside k;
+    con = number_kept i e ps numbers mosaic read Con c inside k;
+    dir = number_kept i e ps numbers mosaic read Dir c inside k;
+    acc = number_kept i e ps numbers mosaic read Acc c inside k;
+    bas = number_kept i e ps numbers mosaic read Bas c inside k;
+    spl = number_kept i e ps numbers mosaic read Spl c inside k;
+    rnk = number_kept i e ps numbers mosaic read Rnk c inside k;
+  };
 }
 
 -- the no-data numbers are the defaults
@@ -135,25 +142,29 @@ defaults_said i ps read = λ k. record {
   rnk = default_said i ps read Rnk k;
 }
 
--- so the rules hold of the files
-rules_kept : (i : Inputs) (e : Heights) (ps : ProductSet) → IsMosaicOf i (tiling_of i) e → AreMade (tiling_of i) e ps → AreReadBack i ps →
-    RulesHold (check_rules (nodata_numbers i)) IsAnyRule (grid_of i) (products_of i)
-rules_kept i e ps mosaic made read =
-    subst (λ (n : NoDataNumbers). RulesHold (check_rules n) IsAnyRule (grid_of i) (products_of i)) (defaults_said i ps read)
-    (rules_go_along default_numbers (whole.grid_of e) (grid_of i) (whole.products_of ps) (products_of i) (same_grid i e ps mosaic read) made.rules)
+-- so the verdict on what was made, an acceptance with its counts, is that on the files
+verdict_kept : (i : Inputs) (e : Heights) (ps : ProductSet) → NumbersArePixels → EqualGridsHaveOneVerdict → IsMosaicOf i (tiling_of i) e →
+    AreMade (tiling_of i) e ps → AreReadBack i ps →
+    IsVerdict (grid_of i) (products_of i) (nodata_numbers i) (Accepted (counts_of (whole.grid_of e) (whole.products_of ps)))
+verdict_kept i e ps numbers one_verdict mosaic made read =
+    let accepted : Verdict = Accepted (counts_of (whole.grid_of e) (whole.products_of ps)) in
+    subst (λ (n : NoDataNumbers). IsVerdict (grid_of i) (products_of i) n accepted) (defaults_said i ps read)
+    (one_verdict (whole.grid_of e) (grid_of i) (whole.products_of ps) (products_of i) default_numbers
+    (grids_equal i e ps numbers mosaic read) accepted (made.rules, refl))
 
 -- and the answer is an acceptance
-answer_is : (i : Inputs) (e : Heights) (ps : ProductSet) → IsMosaicOf i (tiling_of i) e → AreMade (tiling_of i) e ps → AreReadBack i ps →
+answer_is : (i : Inputs) (e : Heights) (ps : ProductSet) → NumbersArePixels → EqualGridsHaveOneVerdict → IsMosaicOf i (tiling_of i) e →
+    AreMade (tiling_of i) e ps → AreReadBack i ps →
     (answer : Result Verdict Refusal) → IsAnswer i answer → IsAcceptance (whole.grid_of e) (whole.products_of ps) answer
-answer_is i e ps mosaic made read (Ok (Accepted counts)) is =
-    is.1.1 ∙ sym (counts_go_along (whole.grid_of e) (grid_of i) (whole.products_of ps) (products_of i) (same_grid i e ps mosaic read))
-answer_is i e ps mosaic made read (Ok (Rejected rule row col)) is =
+answer_is i e ps numbers one_verdict mosaic made read (Ok (Accepted counts)) is =
+    is.1.1 ∙ sym (verdict_kept i e ps numbers one_verdict mosaic made read).1
+answer_is i e ps numbers one_verdict mosaic made read (Ok (Rejected rule row col)) is =
     let c : Cell = record { row = row; col = col } in
-    is.1.fails (rules_kept i e ps mosaic made read c rule is.1.inside is.1.is_own)
-answer_is i e ps mosaic made read (Err OutOfMemory) is = tt
-answer_is i e ps mosaic made read (Err ReadFailed) is = tt
-answer_is i e ps mosaic made read (Err refusal) is = none_stands i e ps mosaic read refusal is.holds
+    is.1.fails ((verdict_kept i e ps numbers one_verdict mosaic made read).0 c rule is.1.inside is.1.is_own)
+answer_is i e ps numbers one_verdict mosaic made read (Err OutOfMemory) is = tt
+answer_is i e ps numbers one_verdict mosaic made read (Err ReadFailed) is = tt
+answer_is i e ps numbers one_verdict mosaic made read (Err refusal) is = none_stands i e ps mosaic read refusal is.holds
 
-pub made_is_accepted : TextReadsBack → BytesReadBack → MadeIsAccepted
-made_is_accepted text bytes i e ps named mosaic made files =
-    answer_is i e ps mosaic made (read_back i e ps text bytes named mosaic made files)
+pub made_is_accepted : TextReadsBack → BytesReadBack → NumbersArePixels → EqualGridsHaveOneVerdict → MadeIsAccepted
+made_is_accepted text bytes numbers one_verdict i e ps named mosaic made files =
+    answer_is i e ps numbers one_verdict mosaic made (read_back i e ps text bytes named mosaic made files)

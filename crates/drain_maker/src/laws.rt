@@ -5,7 +5,8 @@
 ghost use Rattle.drain_maker.specs.Accepted.{MadeIsAccepted};
 
 use drain_header::laws::text_reads_back;
-use drain_raster::laws::bytes_read_back;
+use drain_raster::laws::{bytes_read_back, numbers_are_pixels};
+use drain_rules::laws::equal_grids_have_one_verdict;
 
 /// Products that were made for a mosaic's elevations, written to files and checked with the same tiles, are accepted.
 pub fn made_is_accepted()
@@ -13,4 +14,6 @@ pub fn made_is_accepted()
 {
     text_reads_back();
     bytes_read_back();
+    numbers_are_pixels();
+    equal_grids_have_one_verdict();
 }

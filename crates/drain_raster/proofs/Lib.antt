@@ -1,6 +1,7 @@
 mod Vectors
 pub mod BufferLemmas
 pub mod CellLists
+mod CellPlaces
 pub mod LengthLemmas
 pub mod NeededLemmas
 pub mod PixelLemmas

@@ -1,8 +1,11 @@
--- A raster's bytes read back, and which bytes of a body say something.
+-- A raster's bytes read back, which bytes of a body say something, and what the raster of a body says at a cell.
 use Rattle.std.specs.Prelude.{◌≡◌, ℕ, ℤ, List, take}
+use Rattle.drain_grid.specs.declared.cell.Cell.{Cell}
+use Rattle.drain_grid.specs.Extent.{IsCellOf}
 use Rattle.drain_grid.specs.Rasters.{Pixels, ArePixels}
+use Rattle.drain_grid.specs.Whole.{number_at}
 use Rattle.drain_header.specs.Fields.{Fields, AreWithinBounds}
-use Rattle.drain_raster.specs.Pixels.{IsShort, extent_of, needed_len, raster_of}
+use Rattle.drain_raster.specs.Pixels.{IsShort, extent_of, needed_len, pixel_at, raster_of}
 use Rattle.drain_raster.specs.Bytes.{CanSpellAll, raster_bytes}
 
 -- the bytes are long enough, and spell the same numbers
@@ -18,3 +21,8 @@ BytesReadBack =
 -- bytes behind the last pixel say nothing
 abbrev pub OnlyNeededBytesCount : Type 0
 OnlyNeededBytesCount = (h : Fields) (default : ℤ) (body : List ℕ) → raster_of h default (take (needed_len h) body) ≡ raster_of h default body
+
+-- the number of a body's raster at a cell is the cell's pixel
+abbrev pub NumbersArePixels : Type 0
+NumbersArePixels =
+    (h : Fields) (default : ℤ) (body : List ℕ) (c : Cell) → IsCellOf (extent_of h) c → number_at (raster_of h default body) c ≡ pixel_at h body c

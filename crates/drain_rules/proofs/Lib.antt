@@ -1,3 +1,4 @@
+mod EqualGrids
 pub mod Faults
 pub mod GridLemmas
 pub mod LabelsBefore

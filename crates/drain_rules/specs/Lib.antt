@@ -2,6 +2,7 @@ pub mod Fill
 pub mod FillVerdicts
 pub mod Filled
 pub mod Labels
+pub mod Laws
 pub mod Parts
 pub mod Rows
 pub mod Stops

@@ -9,6 +9,7 @@
 pub mod cell_rules;
 pub mod fill_input;
 pub mod fill_walk;
+pub mod laws;
 pub mod outlet;
 pub mod patch_rules;
 pub mod raster_walk;

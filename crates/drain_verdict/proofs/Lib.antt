@@ -2,6 +2,7 @@ mod Acceptance
 mod BodyAnswers
 mod Devices
 mod FaultLists
+mod FirstValues
 mod HeaderAnswers
 mod HeaderOrder
 mod InputVerdicts
@@ -12,10 +13,8 @@ mod OneTile
 mod Order
 mod Places
 mod RasterChain
-mod SameGrid
 mod SeamAnswers
 mod StageAnswers
 mod StartAnswers
 mod Telling
 mod TileLists
-mod WholeGrids

@@ -27,7 +27,7 @@ use Rattle.drain_verdict.proofs.StartAnswers.{told_of_inputs}
 use Rattle.drain_verdict.proofs.StageAnswers.{lengths_of}
 use Rattle.drain_verdict.proofs.BodyAnswers.{none_of_another_length, first_of_another_length, none_of_two_values, first_of_two_values}
 use Rattle.drain_verdict.proofs.SeamAnswers.{of_inputs}
-use Rattle.drain_verdict.proofs.WholeGrids.{elevation_is_first_value}
+use Rattle.drain_verdict.proofs.FirstValues.{elevation_is_first_value}
 
 -- no refusal of the tiles of a kind before this one stands
 abbrev pub NoneOfTilesBefore : Inputs → ℕ → Type 0

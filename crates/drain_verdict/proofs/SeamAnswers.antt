@@ -6,6 +6,7 @@ use Rattle.drain_grid.specs.Rasters.{Heights}
 use Rattle.drain_grid.specs.Whole.{elevation_at}
 use Rattle.drain_grid.specs.WholeGrid as whole
 use Rattle.drain_hgt.specs.Samples.{samples_of}
+use Rattle.drain_raster.specs.Laws.{NumbersArePixels}
 use Rattle.drain_mosaic.specs.declared.seams.SeamFault.{SeamFault}
 use Rattle.drain_mosaic.specs.declared.seams.SeamFault.TheVariants as seam
 use Rattle.drain_mosaic.specs.Tiling.{Tiling, extent_of}
@@ -13,6 +14,7 @@ use Rattle.drain_mosaic.specs.Mosaic as mosaic
 use Rattle.drain_mosaic.specs.Laws.{AgreementGivesElevation}
 use Rattle.drain_rules.specs.declared.verdict.Verdict.{Verdict}
 use Rattle.drain_rules.specs.Verdicts.{IsVerdict}
+use Rattle.drain_rules.specs.Laws.{EqualGridsHaveOneVerdict}
 use Rattle.drain_verdict.specs.declared.refusal.Refusal.{Refusal}
 use Rattle.drain_verdict.specs.declared.refusal.Refusal.TheVariants.{SeamMismatch, OutOfMemory, ReadFailed}
 use Rattle.drain_verdict.specs.Inputs.{Inputs}
@@ -31,13 +33,13 @@ of_inputs P i t samples tiling_is samples_are holds =
     (subst (λ (u : Tiling). P u (mosaic.tiles_of u.corners samples)) tiling_is holds)
 
 -- a verdict on the joined elevation and the rasters is the answer
-pub verdict_answers : AgreementGivesElevation → (i : Inputs) (t : Tiling) (samples : List (List ℤ)) (set : ProductSet) (e : Heights) (verdict : Verdict) →
+pub verdict_answers : AgreementGivesElevation → NumbersArePixels → EqualGridsHaveOneVerdict → (i : Inputs) (t : Tiling) (samples : List (List ℤ)) (set : ProductSet) (e : Heights) (verdict : Verdict) →
     IsElevationOf t samples e → IsVerdict (whole.grid_of e) (whole.products_of set) (whole.nodata_of set) verdict → AreThoseOf i t samples set → NoneStandsBefore i 7 →
     IsAnswer i (Ok verdict)
-verdict_answers law i t samples set e verdict joined is those none =
+verdict_answers agreement numbers one_verdict i t samples set e verdict joined is those none =
     let agree_there = of_inputs mosaic.TilesAgree i t samples those.tiling_is those.samples_are joined.agree in (
       seams_none i agree_there none,
-      verdict_of_bytes i e set verdict law (record {
+      verdict_of_bytes i e set verdict agreement numbers one_verdict (record {
         extent = joined.shape ∙ ap extent_of those.tiling_is;
         agree = agree_there;
         elevation = of_inputs (λ u tiles. mosaic.IsElevation u tiles (elevation_at e)) i t samples those.tiling_is those.samples_are joined.values;

@@ -30,6 +30,8 @@ use drain_hgt::TileInput;
 use drain_hgt::laws::one_name;
 use drain_mosaic::Layout;
 use drain_mosaic::laws::agreement_gives_elevation;
+use drain_raster::laws::numbers_are_pixels;
+use drain_rules::laws::equal_grids_have_one_verdict;
 use drain_rules::{Verdict, verdict_of};
 use std::alloc::Global;
 
@@ -158,8 +160,10 @@ fn verdict_on(
     // Want of memory never stands in place of a seam.
     ensures wants_memory { IsErrOf result Refusal.OutOfMemory → TilesAgree layout.now (tiles_of layout.now.corners (map (λ tile. tile.items) samples.items)) }
 {
-    // The law that makes the joined elevation that of the tiles' first values.
+    // The laws that make what was read equal to what the bytes say, at each cell, and the verdict on the one that on the other.
     agreement_gives_elevation();
+    numbers_are_pixels();
+    equal_grids_have_one_verdict();
     let elevation = elevation_of(alloc, layout, samples)?;
     match verdict_of(alloc, &elevation, products) {
         Ok(verdict) => Ok(verdict),

@@ -20,5 +20,5 @@ returns-in_err-elevation-clause-wants_memory c =
 
 pub returns-in-Ok-clause-answer : goal.returns-in-Ok-clause-answer
 returns-in-Ok-clause-answer c = λ inputs those none.
-    verdict_answers c.agreement_gives_elevation.ensures inputs c.args.layout.now (map (λ tile. tile.items) c.args.samples.items) c.args.products.now c.in_ok-elevation.elevation
+    verdict_answers c.agreement_gives_elevation.ensures c.numbers_are_pixels.ensures c.equal_grids_have_one_verdict.ensures inputs c.args.layout.now (map (λ tile. tile.items) c.args.samples.items) c.args.products.now c.in_ok-elevation.elevation
     c.in-Ok.verdict c.in_ok-elevation.ensures.elevation c.in-Ok.ensures.verdict those none

@@ -1,5 +1,5 @@
--- The bytes of a raster that is read back say at each cell what the raster does.
-use Rattle.std.proofs.Common.{◌≡◌, ℕ, zero, suc, ◌+◌, ◌-◌, ◌*◌, ◌<◌, ℤ, pos, List, length, get_or, map, sym, ap, ◌∙◌, arith}
+-- Each cell of a grid stands in the list of cells in its place in row order, so what is made of the cells is found at their places.
+use Rattle.std.proofs.Common.{◌≡◌, ℕ, zero, suc, ◌+◌, ◌-◌, ◌*◌, ◌<◌, pos, length, get_or, map, ap, ◌∙◌, arith}
 use Rattle.std.specs.List.{flat_map, range_with_len}
 use Rattle.std.proofs.lemmas.List.{get_or-map, get_or_append_left, get_or-append_right, length-append}
 use Rattle.std.proofs.lemmas.List.FromFn.{get_or-map-range_with_len, length-map-range_with_len}
@@ -7,12 +7,8 @@ use Rattle.std.proofs.lemmas.Nat.{mul-add-lt}
 use Rattle.drain_grid.specs.declared.cell.Cell.{Cell}
 use Rattle.drain_grid.specs.Size.{Extent}
 use Rattle.drain_grid.specs.Extent.{IsCellOf, index_of, row_cells, cells}
-use Rattle.drain_grid.specs.Rasters.{Pixels}
-use Rattle.drain_grid.specs.Whole.{number_at}
-use Rattle.drain_header.specs.Fields.{Fields}
 use Rattle.drain_raster.specs.Pixels.{extent_of, pixel_at}
-use Rattle.drain_raster.specs.Bytes.{raster_bytes}
-use Rattle.drain_raster.specs.Laws.{ReadBack}
+use Rattle.drain_raster.specs.Laws.{NumbersArePixels}
 
 -- as many cells as rows times columns
 length-rows : (cols a n : ℕ) → length (flat_map (row_cells cols) (range_with_len a n)) ≡ n * cols
@@ -51,10 +47,5 @@ made_at f e c x inside =
     get_or-map f (cells e) (index_of e c) c x within
     ∙ ap f (cell_in_rows e.cols 0 e.rows c.row c.col c inside.row inside.col ∙ ap (λ r. record { row = r; col = c.col }) first)
 
--- the number of the raster is that of its bytes
-pub number_in_bytes : (h : Fields) (p : Pixels) (c : Cell) → p.extent ≡ extent_of h → ReadBack h p → IsCellOf (extent_of h) c →
-    number_at p c ≡ pixel_at h (raster_bytes h p) c
-number_in_bytes h p c shape back inside =
-    ap (λ (e : Extent). get_or p.numbers (index_of e c) (pos 0)) shape
-    ∙ ap (λ (numbers : List ℤ). get_or numbers (index_of (extent_of h) c) (pos 0)) (sym back.numbers)
-    ∙ made_at (pixel_at h (raster_bytes h p)) (extent_of h) c (pos 0) inside
+pub numbers_are_pixels : NumbersArePixels
+numbers_are_pixels h default body c inside = made_at (pixel_at h body) (extent_of h) c (pos 0) inside
