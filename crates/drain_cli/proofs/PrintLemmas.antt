@@ -1,23 +1,22 @@
 -- From what a write of many calls left to what was printed.
-use Rattle.std.proofs.Common.{◌≡◌, ℕ, ◌-◌, List, ◌↔◌, Option, Result, IsErr, subst}
-use Rattle.drain_device.specs.declared.counts.FaultCounts.{FaultCounts}
+use Rattle.std.proofs.Common.{◌≡◌, ℕ, ◌-◌, List, ◌↔◌, Result, IsErr, subst}
 use Rattle.drain_device.specs.declared.patience.GaveUp.{GaveUp}
 use Rattle.drain_device.specs.Counts.{Answered, counted}
+use Rattle.drain_device.specs.Devices.{Sink}
 use Rattle.drain_device.specs.Patience.{full_patience, GivesUpWriting}
 use Rattle.drain_device.specs.Writes.{HandsOver}
 use Rattle.drain_cli.specs.declared.status.Status.{Status}
 use Rattle.drain_cli.specs.Statuses.{code_of}
 use Rattle.drain_cli.specs.Printing.{status_after, PrintsText, Prints}
 
-pub PrintsText-write_all : (taken_old taken_new : Option (List ℕ)) (counts_old counts_new : FaultCounts) (stalls_old stalls_new : ℕ)
-    (text : List ℕ) (status : Status) (code : ℕ) (patience left : ℕ) (done : Result (Unit {0}) GaveUp) →
-    patience ≡ full_patience → HandsOver taken_old taken_new done text →
+pub PrintsText-write_all : {W : Type 0} (sink : Sink W) (old new : W) (text : List ℕ) (status : Status) (code : ℕ) (patience left : ℕ) (done : Result (Unit {0}) GaveUp) →
+    patience ≡ full_patience → HandsOver (sink.bytes_taken old) (sink.bytes_taken new) done text →
     code ≡ code_of (status_after done status) →
-    (failures : ℕ) × (interruptions : ℕ) × (stalls : ℕ) × Answered counts_old counts_new failures interruptions
-    × (stalls_new ≡ counted stalls_old stalls) × (left ≡ patience - interruptions)
+    (failures : ℕ) × (interruptions : ℕ) × (stalls : ℕ) × Answered (sink.counts old) (sink.counts new) failures interruptions
+    × (sink.stalls new ≡ counted (sink.stalls old) stalls) × (left ≡ patience - interruptions)
     × (IsErr done ↔ GivesUpWriting patience failures interruptions stalls) →
-    PrintsText taken_old taken_new counts_old counts_new stalls_old stalls_new text status code
-PrintsText-write_all taken_old taken_new counts_old counts_new stalls_old stalls_new text status code patience left done full over is_code faults = record {
+    PrintsText sink old new text status code
+PrintsText-write_all sink old new text status code patience left done full over is_code faults = record {
   done = done;
   written = over;
   code_is = is_code;
@@ -32,10 +31,10 @@ PrintsText-write_all taken_old taken_new counts_old counts_new stalls_old stalls
 }
 
 -- equal texts are printed alike
-pub PrintsText-same : {a b : Option (List ℕ)} {c d : FaultCounts} {e f : ℕ} {text other : List ℕ} {status : Status} {code : ℕ} →
-    text ≡ other → PrintsText a b c d e f text status code → PrintsText a b c d e f other status code
-PrintsText-same {a} {b} {c} {d} {e} {f} {text} {other} {status} {code} same prints = subst (λ t. PrintsText a b c d e f t status code) same prints
+pub PrintsText-same : {W : Type 0} {sink : Sink W} {old new : W} {text other : List ℕ} {status : Status} {code : ℕ} →
+    text ≡ other → PrintsText sink old new text status code → PrintsText sink old new other status code
+PrintsText-same {W} {sink} {old} {new} {text} {other} {status} {code} same prints = subst (λ t. PrintsText sink old new t status code) same prints
 
-pub Prints-same : {a b : Option (List ℕ)} {c d : FaultCounts} {e f : ℕ} {line other : List ℕ} {status : Status} {code : ℕ} →
-    line ≡ other → Prints a b c d e f line status code → Prints a b c d e f other status code
-Prints-same {a} {b} {c} {d} {e} {f} {line} {other} {status} {code} same prints = subst (λ l. Prints a b c d e f l status code) same prints
+pub Prints-same : {W : Type 0} {sink : Sink W} {old new : W} {line other : List ℕ} {status : Status} {code : ℕ} →
+    line ≡ other → Prints sink old new line status code → Prints sink old new other status code
+Prints-same {W} {sink} {old} {new} {line} {other} {status} {code} same prints = subst (λ l. Prints sink old new l status code) same prints

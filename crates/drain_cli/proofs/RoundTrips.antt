@@ -1,7 +1,7 @@
 -- What was written into empty files is what a check is given, and so is accepted.
 use Rattle.std.proofs.Common.{◌≡◌, ℕ, suc, ◌<◌, List, [], ◌∷◌, map, length, slice_index_or, Option, Some, None, Ok, inl, inr, arith, refl, sym, ap, ◌∙◌, subst}
 use Rattle.std.specs.Io.KnownBytes.{Appends}
-use Rattle.drain_device.specs.declared.counts.FaultCounts.{FaultCounts}
+use Rattle.drain_device.specs.Devices.{Sink}
 use Rattle.drain_grid.specs.declared.product.Product.{Product}
 use Rattle.drain_grid.specs.declared.product.Product.TheVariants.{Con, Dir, Acc, Bas, Spl, Rnk}
 use Rattle.drain_grid.specs.declared.product_set.ProductSet.{ProductSet}
@@ -23,19 +23,19 @@ from-nothing None bytes appends = absurd appends
 from-nothing (Some xs) bytes appends = ap Some appends
 
 -- files that were empty hold what was written
-holds-what-was-written : {F : Type 0} (taken : F → Option (List ℕ)) (counts : F → FaultCounts) (stalls : F → ℕ) (empty written : List F) (texts : List (List ℕ)) →
-    ((k : ℕ) (d : F) → k < length empty → taken (slice_index_or empty k d) ≡ Some []) → WritesFiles taken counts stalls empty written texts (Ok tt) →
-    map taken written ≡ map Some texts
-holds-what-was-written taken counts stalls [] [] [] none wrote = refl
-holds-what-was-written taken counts stalls [] [] (text ∷ texts) none wrote = absurd wrote
-holds-what-was-written taken counts stalls [] (new ∷ news) texts none wrote = absurd wrote
-holds-what-was-written taken counts stalls (old ∷ olds) [] texts none wrote = absurd wrote
-holds-what-was-written taken counts stalls (old ∷ olds) (new ∷ news) [] none wrote = absurd wrote
-holds-what-was-written taken counts stalls (old ∷ olds) (new ∷ news) (text ∷ texts) none (inr (failed, other)) = let no : ⊥ = cc in absurd no
-holds-what-was-written taken counts stalls (old ∷ olds) (new ∷ news) (text ∷ texts) none (inl (one, rest)) =
-    let was : taken old ≡ Some [] = none 0 old (omega arith) in
-    let first : taken new ≡ Some text = from-nothing (taken new) text (subst (λ b. Appends b (taken new) text) was one.written) in
-    let more = holds-what-was-written taken counts stalls olds news texts (λ k d below. none (suc k) d (omega (arith, below))) rest in
+holds-what-was-written : {F : Type 0} (sink : Sink F) (empty written : List F) (texts : List (List ℕ)) →
+    ((k : ℕ) (d : F) → k < length empty → sink.bytes_taken (slice_index_or empty k d) ≡ Some []) → WritesFiles sink empty written texts (Ok tt) →
+    map sink.bytes_taken written ≡ map Some texts
+holds-what-was-written sink [] [] [] none wrote = refl
+holds-what-was-written sink [] [] (text ∷ texts) none wrote = absurd wrote
+holds-what-was-written sink [] (new ∷ news) texts none wrote = absurd wrote
+holds-what-was-written sink (old ∷ olds) [] texts none wrote = absurd wrote
+holds-what-was-written sink (old ∷ olds) (new ∷ news) [] none wrote = absurd wrote
+holds-what-was-written sink (old ∷ olds) (new ∷ news) (text ∷ texts) none (inr (failed, other)) = let no : ⊥ = cc in absurd no
+holds-what-was-written sink (old ∷ olds) (new ∷ news) (text ∷ texts) none (inl (one, rest)) =
+    let was : sink.bytes_taken old ≡ Some [] = none 0 old (omega arith) in
+    let first : sink.bytes_taken new ≡ Some text = from-nothing (sink.bytes_taken new) text (subst (λ b. Appends b (sink.bytes_taken new) text) was one.written) in
+    let more = holds-what-was-written sink olds news texts (λ k d below. none (suc k) d (omega (arith, below))) rest in
     rw (first, more) refl
 
 -- two lists of known texts are the same texts
@@ -68,11 +68,11 @@ rasters-same t ps i same Bas = sym (ap (λ l. slice_index_or l 7 []) same)
 rasters-same t ps i same Spl = sym (ap (λ l. slice_index_or l 9 []) same)
 rasters-same t ps i same Rnk = sym (ap (λ l. slice_index_or l 11 []) same)
 
-pub accepted : {R F : Type 0} (bytes_left : R → Option (List ℕ)) (taken : F → Option (List ℕ)) (counts : F → FaultCounts) (stalls : F → ℕ) →
-    MadeIsAccepted → WhatIsWrittenIsAccepted bytes_left taken counts stalls
-accepted bytes_left taken counts stalls law side tiles t ps empty written i made tell none wrote given answer is =
+pub accepted : {R F : Type 0} (bytes_left : R → Option (List ℕ)) (sink : Sink F) →
+    MadeIsAccepted → WhatIsWrittenIsAccepted bytes_left sink
+accepted bytes_left sink law side tiles t ps empty written i made tell none wrote given answer is =
     let mosaic = made.mosaic i tell in
-    let same = texts-same (set_bytes t ps) (files_given i) (sym (holds-what-was-written taken counts stalls empty written (set_bytes t ps) none wrote) ∙ given) in
+    let same = texts-same (set_bytes t ps) (files_given i) (sym (holds-what-was-written sink empty written (set_bytes t ps) none wrote) ∙ given) in
     let tiling = mosaic.tiling_is in
     law i made.elevation ps tell.corners_are (subst (λ u. IsMosaicOf i u made.elevation) tiling mosaic) (subst (λ u. AreMade u made.elevation ps) tiling made.made)
     (record {

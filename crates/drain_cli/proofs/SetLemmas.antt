@@ -2,7 +2,7 @@
 use Rattle.std.proofs.Common.{◌≡◌, ◌↔◌, ℕ, ◌+◌, ◌<◌, ◌≤◌, inl, inr, List, [], ◌∷◌, ◌++◌, length, slice_index_or, Option, Some, None, Result, Ok, Err, IsErrOf, arith, refl, sym, ap, ◌∙◌, length-append, append_assoc, append-nil}
 use Rattle.std.specs.Prelude.{slice_set}
 use Rattle.std.specs.Io.KnownBytes.{Appends}
-use Rattle.drain_device.specs.declared.counts.FaultCounts.{FaultCounts}
+use Rattle.drain_device.specs.Devices.{Sink}
 use Rattle.drain_device.specs.Failing.{WriteFails}
 use Rattle.drain_device.specs.Writes.{HandsOver}
 use Rattle.drain_device.specs.Patience.{full_patience, GivesUpWriting}
@@ -34,10 +34,10 @@ never-gives-up (inr (inl interrupted)) = omega (arith, interrupted)
 never-gives-up (inr (inr stalled)) = omega (arith, stalled)
 
 -- a file that wasn't called, for want of memory
-pub no_memory : {F : Type 0} (taken : F → Option (List ℕ)) (counts : F → FaultCounts) (stalls : F → ℕ) (file : F) (bytes : List ℕ) → 0 < length bytes →
-    WritesFile taken counts stalls file file bytes (Err OutOfMemory)
-no_memory taken counts stalls file bytes some = record {
-  written = (0, some, appends-nothing (taken file));
+pub no_memory : {F : Type 0} (sink : Sink F) (file : F) (bytes : List ℕ) → 0 < length bytes →
+    WritesFile sink file file bytes (Err OutOfMemory)
+no_memory sink file bytes some = record {
+  written = (0, some, appends-nothing (sink.bytes_taken file));
   faults = record {
     failures = 0;
     interruptions = 0;
@@ -62,7 +62,7 @@ text-some h =
     (some-more (shape_lines h ++ pixel_lines h) (place_lines h.place) (some-more (shape_lines h) (pixel_lines h) (shape-some h)))
 
 -- after so many files: those before took their bytes, and the rest is untouched
-pub record WritesSoFar {F : Type 0} (taken : F → Option (List ℕ)) (counts : F → FaultCounts) (stalls : F → ℕ) (start now : List F) (texts : List (List ℕ)) (k : ℕ) : Type 0 where
+pub record WritesSoFar {F : Type 0} (sink : Sink F) (start now : List F) (texts : List (List ℕ)) (k : ℕ) : Type 0 where
   pub olds : List F
   pub news : List F
   pub rest : List F
@@ -73,11 +73,11 @@ pub record WritesSoFar {F : Type 0} (taken : F → Option (List ℕ)) (counts : 
   pub texts_are : texts ≡ done ++ more
   pub place : k ≡ length news
   pub texts_place : k ≡ length done
-  pub wrote : WritesFiles taken counts stalls olds news done (Ok tt)
+  pub wrote : WritesFiles sink olds news done (Ok tt)
 
-pub so_far-none : {F : Type 0} (taken : F → Option (List ℕ)) (counts : F → FaultCounts) (stalls : F → ℕ) (files : List F) (texts : List (List ℕ)) →
-    WritesSoFar taken counts stalls files files texts 0
-so_far-none taken counts stalls files texts = record {
+pub so_far-none : {F : Type 0} (sink : Sink F) (files : List F) (texts : List (List ℕ)) →
+    WritesSoFar sink files files texts 0
+so_far-none sink files texts = record {
   olds = [];
   news = [];
   rest = files;
@@ -92,17 +92,17 @@ so_far-none taken counts stalls files texts = record {
 }
 
 -- files that took all their bytes, and then others
-wrote-then : {F : Type 0} (taken : F → Option (List ℕ)) (counts : F → FaultCounts) (stalls : F → ℕ) (olds news us vs : List F) (texts more : List (List ℕ)) (r : Result (Unit {0}) SetFault) →
-    WritesFiles taken counts stalls olds news texts (Ok tt) → WritesFiles taken counts stalls us vs more r →
-    WritesFiles taken counts stalls (olds ++ us) (news ++ vs) (texts ++ more) r
-wrote-then taken counts stalls [] [] us vs [] more r first then = then
-wrote-then taken counts stalls (o ∷ olds) (n ∷ news) us vs (t ∷ texts) more r (inl (one, first)) then =
-    inl (one, wrote-then taken counts stalls olds news us vs texts more r first then)
-wrote-then taken counts stalls (o ∷ olds) (n ∷ news) us vs (t ∷ texts) more r (inr (failed, other)) then = let no : ⊥ = cc in absurd no
-wrote-then taken counts stalls [] (n ∷ news) us vs texts more r first then = absurd first
-wrote-then taken counts stalls (o ∷ olds) [] us vs texts more r first then = absurd first
-wrote-then taken counts stalls [] [] us vs (t ∷ texts) more r first then = absurd first
-wrote-then taken counts stalls (o ∷ olds) (n ∷ news) us vs [] more r first then = absurd first
+wrote-then : {F : Type 0} (sink : Sink F) (olds news us vs : List F) (texts more : List (List ℕ)) (r : Result (Unit {0}) SetFault) →
+    WritesFiles sink olds news texts (Ok tt) → WritesFiles sink us vs more r →
+    WritesFiles sink (olds ++ us) (news ++ vs) (texts ++ more) r
+wrote-then sink [] [] us vs [] more r first then = then
+wrote-then sink (o ∷ olds) (n ∷ news) us vs (t ∷ texts) more r (inl (one, first)) then =
+    inl (one, wrote-then sink olds news us vs texts more r first then)
+wrote-then sink (o ∷ olds) (n ∷ news) us vs (t ∷ texts) more r (inr (failed, other)) then = let no : ⊥ = cc in absurd no
+wrote-then sink [] (n ∷ news) us vs texts more r first then = absurd first
+wrote-then sink (o ∷ olds) [] us vs texts more r first then = absurd first
+wrote-then sink [] [] us vs (t ∷ texts) more r first then = absurd first
+wrote-then sink (o ∷ olds) (n ∷ news) us vs [] more r first then = absurd first
 
 -- the k-th of a list after k others
 set-seam : {A : Type 0} (xs : List A) (y v : A) (ys : List A) → slice_set (xs ++ y ∷ ys) (length xs) v ≡ xs ++ v ∷ ys
@@ -125,11 +125,11 @@ seam now news (x ∷ more) k d is place below = (
 )
 
 -- one file more
-pub so_far-more : {F : Type 0} (taken : F → Option (List ℕ)) (counts : F → FaultCounts) (stalls : F → ℕ) (start now : List F) (texts : List (List ℕ)) (k : ℕ) (d new : F) (e : List ℕ) →
-    WritesSoFar taken counts stalls start now texts k → k < length now → k < length texts →
-    WritesFile taken counts stalls (slice_index_or now k d) new (slice_index_or texts k e) (Ok tt) →
-    WritesSoFar taken counts stalls start (slice_set now k new) texts (k + 1)
-so_far-more taken counts stalls start now texts k d new e so_far below texts_below one =
+pub so_far-more : {F : Type 0} (sink : Sink F) (start now : List F) (texts : List (List ℕ)) (k : ℕ) (d new : F) (e : List ℕ) →
+    WritesSoFar sink start now texts k → k < length now → k < length texts →
+    WritesFile sink (slice_index_or now k d) new (slice_index_or texts k e) (Ok tt) →
+    WritesSoFar sink start (slice_set now k new) texts (k + 1)
+so_far-more sink start now texts k d new e so_far below texts_below one =
     let files = seam now so_far.news so_far.rest k d so_far.now_is so_far.place below in
     let bytes = seam texts so_far.done so_far.more k e so_far.texts_are so_far.texts_place texts_below in
     let old = slice_index_or now k d in
@@ -145,7 +145,7 @@ so_far-more taken counts stalls start now texts k d new e so_far below texts_bel
       texts_are = so_far.texts_are ∙ ap (λ l. so_far.done ++ l) bytes.1 ∙ sym (append_assoc so_far.done (text ∷ []) bytes.0);
       place = omega (arith, so_far.place, length-append so_far.news (new ∷ []));
       texts_place = omega (arith, so_far.texts_place, length-append so_far.done (text ∷ []));
-      wrote = wrote-then taken counts stalls so_far.olds so_far.news (old ∷ []) (new ∷ []) so_far.done (text ∷ []) (Ok tt) so_far.wrote (inl (one, refl));
+      wrote = wrote-then sink so_far.olds so_far.news (old ∷ []) (new ∷ []) so_far.done (text ∷ []) (Ok tt) so_far.wrote (inl (one, refl));
     }
 
 -- the bytes of each file
@@ -159,33 +159,33 @@ unfolding set_bytes
 set_bytes-at t ps k d e below = get_or-map (file_bytes t ps) SET_FILES k d e below
 
 -- the same of the files of a product set
-pub set_so_far-more : {F : Type 0} (taken : F → Option (List ℕ)) (counts : F → FaultCounts) (stalls : F → ℕ) (start now : List F) (t : Tiling) (ps : ProductSet) (k : ℕ) (d new : F) (e : SetFile) →
-    WritesSoFar taken counts stalls start now (set_bytes t ps) k → k < length now → k < FILE_COUNT →
-    WritesFile taken counts stalls (slice_index_or now k d) new (file_bytes t ps (slice_index_or SET_FILES k e)) (Ok tt) →
-    WritesSoFar taken counts stalls start (slice_set now k new) (set_bytes t ps) (k + 1)
-set_so_far-more taken counts stalls start now t ps k d new e so_far below texts_below one =
-    so_far-more taken counts stalls start now (set_bytes t ps) k d new [] so_far below (omega (arith, set_bytes-len t ps, texts_below)) (rw (set_bytes-at t ps k e [] texts_below) one)
+pub set_so_far-more : {F : Type 0} (sink : Sink F) (start now : List F) (t : Tiling) (ps : ProductSet) (k : ℕ) (d new : F) (e : SetFile) →
+    WritesSoFar sink start now (set_bytes t ps) k → k < length now → k < FILE_COUNT →
+    WritesFile sink (slice_index_or now k d) new (file_bytes t ps (slice_index_or SET_FILES k e)) (Ok tt) →
+    WritesSoFar sink start (slice_set now k new) (set_bytes t ps) (k + 1)
+set_so_far-more sink start now t ps k d new e so_far below texts_below one =
+    so_far-more sink start now (set_bytes t ps) k d new [] so_far below (omega (arith, set_bytes-len t ps, texts_below)) (rw (set_bytes-at t ps k e [] texts_below) one)
 
 -- the file that ended it
-pub so_far-stop : {F : Type 0} (taken : F → Option (List ℕ)) (counts : F → FaultCounts) (stalls : F → ℕ) (start now : List F) (texts : List (List ℕ)) (k : ℕ) (d new : F) (e : List ℕ) (fault : SetFault) →
-    WritesSoFar taken counts stalls start now texts k → k < length now → k < length texts →
-    WritesFile taken counts stalls (slice_index_or now k d) new (slice_index_or texts k e) (Err fault) →
-    WritesFiles taken counts stalls start (slice_set now k new) texts (Err fault)
-so_far-stop taken counts stalls start now texts k d new e fault so_far below texts_below one =
+pub so_far-stop : {F : Type 0} (sink : Sink F) (start now : List F) (texts : List (List ℕ)) (k : ℕ) (d new : F) (e : List ℕ) (fault : SetFault) →
+    WritesSoFar sink start now texts k → k < length now → k < length texts →
+    WritesFile sink (slice_index_or now k d) new (slice_index_or texts k e) (Err fault) →
+    WritesFiles sink start (slice_set now k new) texts (Err fault)
+so_far-stop sink start now texts k d new e fault so_far below texts_below one =
     let files = seam now so_far.news so_far.rest k d so_far.now_is so_far.place below in
     let bytes = seam texts so_far.done so_far.more k e so_far.texts_are so_far.texts_place texts_below in
     let old = slice_index_or now k d in
     let text = slice_index_or texts k e in
     rw (so_far.start_is ∙ ap (λ l. so_far.olds ++ l) files.1, files.2 new, so_far.texts_are ∙ ap (λ l. so_far.done ++ l) bytes.1)
-    (wrote-then taken counts stalls so_far.olds so_far.news (old ∷ files.0) (new ∷ files.0) so_far.done (text ∷ bytes.0) (Err fault) so_far.wrote (inr (refl, (one, refl))))
+    (wrote-then sink so_far.olds so_far.news (old ∷ files.0) (new ∷ files.0) so_far.done (text ∷ bytes.0) (Err fault) so_far.wrote (inr (refl, (one, refl))))
 
 -- the same of the files of a product set
-pub set_so_far-stop : {F : Type 0} (taken : F → Option (List ℕ)) (counts : F → FaultCounts) (stalls : F → ℕ) (start now : List F) (t : Tiling) (ps : ProductSet) (k : ℕ) (d new : F) (e : SetFile) (fault : SetFault) →
-    WritesSoFar taken counts stalls start now (set_bytes t ps) k → k < length now → k < FILE_COUNT →
-    WritesFile taken counts stalls (slice_index_or now k d) new (file_bytes t ps (slice_index_or SET_FILES k e)) (Err fault) →
-    WritesFiles taken counts stalls start (slice_set now k new) (set_bytes t ps) (Err fault)
-set_so_far-stop taken counts stalls start now t ps k d new e fault so_far below texts_below one =
-    so_far-stop taken counts stalls start now (set_bytes t ps) k d new [] fault so_far below (omega (arith, set_bytes-len t ps, texts_below)) (rw (set_bytes-at t ps k e [] texts_below) one)
+pub set_so_far-stop : {F : Type 0} (sink : Sink F) (start now : List F) (t : Tiling) (ps : ProductSet) (k : ℕ) (d new : F) (e : SetFile) (fault : SetFault) →
+    WritesSoFar sink start now (set_bytes t ps) k → k < length now → k < FILE_COUNT →
+    WritesFile sink (slice_index_or now k d) new (file_bytes t ps (slice_index_or SET_FILES k e)) (Err fault) →
+    WritesFiles sink start (slice_set now k new) (set_bytes t ps) (Err fault)
+set_so_far-stop sink start now t ps k d new e fault so_far below texts_below one =
+    so_far-stop sink start now (set_bytes t ps) k d new [] fault so_far below (omega (arith, set_bytes-len t ps, texts_below)) (rw (set_bytes-at t ps k e [] texts_below) one)
 
 -- nothing is left
 no-rest : {A : Type 0} (now news rest : List A) (k : ℕ) → now ≡ news ++ rest → k ≡ length news → length now ≤ k → rest ≡ []
@@ -195,9 +195,9 @@ no-rest now news (x ∷ rest) k is place all =
     let none : ⊥ = omega (arith, whole, length-append news (x ∷ rest), place, all) in absurd none
 
 -- all files
-so_far-all : {F : Type 0} (taken : F → Option (List ℕ)) (counts : F → FaultCounts) (stalls : F → ℕ) (start now : List F) (texts : List (List ℕ)) (k : ℕ) →
-    WritesSoFar taken counts stalls start now texts k → length now ≤ k → length texts ≤ k → WritesFiles taken counts stalls start now texts (Ok tt)
-so_far-all taken counts stalls start now texts k so_far all texts_all =
+so_far-all : {F : Type 0} (sink : Sink F) (start now : List F) (texts : List (List ℕ)) (k : ℕ) →
+    WritesSoFar sink start now texts k → length now ≤ k → length texts ≤ k → WritesFiles sink start now texts (Ok tt)
+so_far-all sink start now texts k so_far all texts_all =
     rw (
       so_far.start_is ∙ ap (λ l. so_far.olds ++ l) (no-rest now so_far.news so_far.rest k so_far.now_is so_far.place all) ∙ append-nil so_far.olds,
       so_far.now_is ∙ ap (λ l. so_far.news ++ l) (no-rest now so_far.news so_far.rest k so_far.now_is so_far.place all) ∙ append-nil so_far.news,
@@ -206,20 +206,20 @@ so_far-all taken counts stalls start now texts k so_far all texts_all =
     so_far.wrote
 
 -- the same of the files of a product set
-pub set_so_far-all : {F : Type 0} (taken : F → Option (List ℕ)) (counts : F → FaultCounts) (stalls : F → ℕ) (start now : List F) (t : Tiling) (ps : ProductSet) (k : ℕ) →
-    WritesSoFar taken counts stalls start now (set_bytes t ps) k → length now ≤ k → FILE_COUNT ≤ k → WritesFiles taken counts stalls start now (set_bytes t ps) (Ok tt)
-set_so_far-all taken counts stalls start now t ps k so_far all texts_all =
-    so_far-all taken counts stalls start now (set_bytes t ps) k so_far all (omega (arith, set_bytes-len t ps, texts_all))
+pub set_so_far-all : {F : Type 0} (sink : Sink F) (start now : List F) (t : Tiling) (ps : ProductSet) (k : ℕ) →
+    WritesSoFar sink start now (set_bytes t ps) k → length now ≤ k → FILE_COUNT ≤ k → WritesFiles sink start now (set_bytes t ps) (Ok tt)
+set_so_far-all sink start now t ps k so_far all texts_all =
+    so_far-all sink start now (set_bytes t ps) k so_far all (omega (arith, set_bytes-len t ps, texts_all))
 
 -- a raster each of whose numbers can be spelled is written, or its file gave up
-pub numbers-failed : {F : Type 0} (taken : F → Option (List ℕ)) (counts : F → FaultCounts) (stalls : F → ℕ) (old new : F) (h : Fields) (p : Pixels) (fault : WriteFault) →
+pub numbers-failed : {F : Type 0} (sink : Sink F) (old new : F) (h : Fields) (p : Pixels) (fault : WriteFault) →
     CanSpellAll h p → ((c : Cell) → IsErrOf {T = Unit {0}} (Err fault) (write.OutOfRange c) ↔ IsFirstOutOfRange h p c) →
-    HandsOver {T = Unit {0}} (taken old) (taken new) (Err fault) (raster_bytes h p) →
-    WriteFails (counts old) (counts new) (stalls old) (stalls new) (IsErrOf {T = Unit {0}} (Err fault) write.WriteFailed) →
-    WritesFile taken counts stalls old new (raster_bytes h p) (Err WriteFailed)
-numbers-failed taken counts stalls old new h p (write.OutOfRange c) spelled first over faults =
+    HandsOver {T = Unit {0}} (sink.bytes_taken old) (sink.bytes_taken new) (Err fault) (raster_bytes h p) →
+    WriteFails (sink.counts old) (sink.counts new) (sink.stalls old) (sink.stalls new) (IsErrOf {T = Unit {0}} (Err fault) write.WriteFailed) →
+    WritesFile sink old new (raster_bytes h p) (Err WriteFailed)
+numbers-failed sink old new h p (write.OutOfRange c) spelled first over faults =
     let out = (first c).0 refl in absurd (out.unspelled (spelled c out.inside))
-numbers-failed taken counts stalls old new h p write.WriteFailed spelled first over faults = record {
+numbers-failed sink old new h p write.WriteFailed spelled first over faults = record {
   written = over;
   faults = record {
     failures = faults.failures;

@@ -1,6 +1,6 @@
 -- How a run of `drain check` ends: with a verdict, or with the first refusal.
-use Rattle.std.specs.Prelude.{◌≡◌, ℕ, List, map, Option, Result, Ok, Err, IfErr, IsErrOf}
-use Rattle.drain_device.specs.declared.counts.FaultCounts.{FaultCounts}
+use Rattle.std.specs.Prelude.{◌≡◌, ℕ, List, map, Result, Ok, Err, IfErr, IsErrOf}
+use Rattle.drain_device.specs.Devices.{Source}
 use Rattle.drain_hgt.specs.declared.input.TileInput.{TileInput}
 use Rattle.drain_rules.specs.declared.verdict.Verdict.{Verdict}
 use Rattle.drain_rules.specs.declared.verdict.Verdict.TheVariants.{Accepted, Rejected}
@@ -10,7 +10,8 @@ use Rattle.drain_verdict.specs.declared.refusal.Refusal.TheVariants.{OutOfMemory
 use Rattle.drain_verdict.specs.Inputs.{Inputs, Tell}
 use Rattle.drain_verdict.specs.Answers.{IsAnswer}
 use Rattle.drain_verdict.specs.Refusals.{IsOfBodies}
-use Rattle.drain_verdict.specs.Faults.{SomeReadFails, devices_of}
+use Rattle.drain_device.specs.FaultLists.{SomeReadFails}
+use Rattle.drain_verdict.specs.Devices.{devices_of}
 use Rattle.drain_verdict.specs.Headline.{TilesAreOne, ElevationIsTheirs, ConIsLeast, NoDirectionClimbs, DirectionsAreSteepest, CodesTellOutlets, RunsEnd, RunsEndAtOutlets, RunsVisitOnce, AccCountsUpstream, LabelsTellBasins, VoidsAreBlank, DataIsComplete}
 use Rattle.drain_cli.specs.declared.status.Status.{Status}
 use Rattle.drain_cli.specs.declared.status.Status.TheVariants as status
@@ -25,10 +26,10 @@ check_status (Err refusal) = status.Refused
 
 -- the answer is that of the bytes that the devices had left, where they tell them, and says that a read failed exactly where one did; where it
 -- refuses side, names, layout or headers every device is as it was
-pub record IsCheckOutcome {R : Type 0} (bytes_left : R → Option (List ℕ)) (counts : R → FaultCounts) (side : ℕ)
-    (tiles_old tiles_new : List (TileInput R)) (products_old products_new : Products R) (outcome : Result Verdict Refusal) : Type 0 where
-  pub answer : (i : Inputs) → Tell bytes_left side tiles_old products_old i → IsAnswer i outcome
-  pub faults : SomeReadFails (map counts (devices_of tiles_old products_old)) (map counts (devices_of tiles_new products_new)) (IsErrOf outcome ReadFailed)
+pub record IsCheckOutcome {R : Type 0} (source : Source R) (side : ℕ) (tiles_old tiles_new : List (TileInput R))
+    (products_old products_new : Products R) (outcome : Result Verdict Refusal) : Type 0 where
+  pub answer : (i : Inputs) → Tell source.bytes_left side tiles_old products_old i → IsAnswer i outcome
+  pub faults : SomeReadFails (map source.counts (devices_of tiles_old products_old)) (map source.counts (devices_of tiles_new products_new)) (IsErrOf outcome ReadFailed)
   pub untouched : IfErr outcome (λ refusal. ¬ IsOfBodies refusal → (tiles_new ≡ tiles_old) × (products_new ≡ products_old))
 
 -- the tiles agree, and the products of their mosaic are correct

@@ -1,6 +1,6 @@
 -- How a run of `drain fill` ends: with the answer to its bytes, or without one for want of memory or by the source.
 use Rattle.std.specs.Prelude.{ℕ, List, Option, Some, None, Result, Ok, Err, IsErrOf, codes}
-use Rattle.drain_device.specs.declared.counts.FaultCounts.{FaultCounts}
+use Rattle.drain_device.specs.Devices.{Source}
 use Rattle.drain_device.specs.declared.read.BodyFault.{BodyFault}
 use Rattle.drain_device.specs.declared.read.BodyFault.TheVariants.{ReadFailed, OutOfMemory}
 use Rattle.drain_device.specs.Failing.{ReadFails}
@@ -37,10 +37,10 @@ AnswersTold side None outcome = Unit {0}
 AnswersTold side (Some bytes) (Ok answer) = IsFillAnswer side bytes answer
 AnswersTold side (Some bytes) (Err fault) = Unit {0}
 
--- the outcome of a run whose source had these bytes left, and these counts before and after
-pub record IsFillOutcome (side : ℕ) (left : Option (List ℕ)) (old new : FaultCounts) (outcome : FillOutcome) : Type 0 where
-  pub answer : AnswersTold side left outcome
-  pub faults : ReadFails old new (IsErrOf outcome ReadFailed)
+-- the outcome of a run whose source was as the first before it, and as the second after it
+pub record IsFillOutcome {R : Type 0} (source : Source R) (side : ℕ) (old new : R) (outcome : FillOutcome) : Type 0 where
+  pub answer : AnswersTold side (source.bytes_left old) outcome
+  pub faults : ReadFails (source.counts old) (source.counts new) (IsErrOf outcome ReadFailed)
 
 -- the conditioned elevations of these bytes are the filled surface of their tile, where the source tells its bytes
 abbrev pub IsFilledIfTold : ℕ → Option (List ℕ) → Type 0

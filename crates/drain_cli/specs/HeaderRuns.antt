@@ -1,6 +1,6 @@
 -- How a run of `drain header` ends: with the answer to its bytes, or without one for want of memory or by the source.
 use Rattle.std.specs.Prelude.{◌≡◌, ◌⊎◌, ℕ, ◌++◌, List, [], ◌∷◌, Option, Some, None, Result, Ok, Err, IsErrOf, codes}
-use Rattle.drain_device.specs.declared.counts.FaultCounts.{FaultCounts}
+use Rattle.drain_device.specs.Devices.{Source}
 use Rattle.drain_device.specs.declared.read.BodyFault.{BodyFault}
 use Rattle.drain_device.specs.declared.read.BodyFault.TheVariants.{ReadFailed, OutOfMemory}
 use Rattle.drain_device.specs.Failing.{ReadFails}
@@ -46,7 +46,7 @@ abbrev pub IsToldAs : HeaderOutcome → HeaderOutcome → Type 0
 IsToldAs (Ok answer) told = IsAnswerToldAs answer told
 IsToldAs (Err fault) told = told ≡ Err fault
 
--- the outcome of a run whose source had these bytes left, and these counts before and after
-pub record IsHeaderOutcome (left : Option (List ℕ)) (old new : FaultCounts) (outcome : HeaderOutcome) : Type 0 where
-  pub answer : AnswersHeaderTold left outcome
-  pub faults : ReadFails old new (IsErrOf outcome ReadFailed)
+-- the outcome of a run whose source was as the first before it, and as the second after it
+pub record IsHeaderOutcome {R : Type 0} (source : Source R) (old new : R) (outcome : HeaderOutcome) : Type 0 where
+  pub answer : AnswersHeaderTold (source.bytes_left old) outcome
+  pub faults : ReadFails (source.counts old) (source.counts new) (IsErrOf outcome ReadFailed)

@@ -1,12 +1,13 @@
 -- What products made of tiles are, and why there are none.
 use Rattle.std.specs.Prelude.{◌≡◌, ℕ, List, map, Option}
-use Rattle.drain_device.specs.declared.counts.FaultCounts.{FaultCounts}
+use Rattle.drain_device.specs.Devices.{Source}
 use Rattle.drain_grid.specs.declared.product_set.ProductSet.{ProductSet}
 use Rattle.drain_grid.specs.Rasters.{Heights}
 use Rattle.drain_hgt.specs.declared.input.TileInput.{TileInput}
 use Rattle.drain_mosaic.specs.Tiling.{Tiling, extent_of}
 use Rattle.drain_verdict.specs.declared.refusal.Refusal.TheVariants.{ReadFailed}
-use Rattle.drain_verdict.specs.Faults.{SomeReadFails, tile_devices}
+use Rattle.drain_device.specs.FaultLists.{SomeReadFails}
+use Rattle.drain_verdict.specs.Devices.{tile_devices}
 use Rattle.drain_verdict.specs.Inputs.{Inputs}
 use Rattle.drain_verdict.specs.Refusals.{IsOfBodies}
 use Rattle.drain_verdict.specs.Mosaics.{TellTiles, IsMosaicOf, IsMosaicRefusal}
@@ -23,9 +24,9 @@ pub record IsSetOf {R : Type 0} (bytes_left : R → Option (List ℕ)) (side : �
 
 -- the first refusal of the tiles, of which a failed read is told exactly where one failed, and which leaves every device as it was where it is of side,
 -- names or layout; nothing is known where the maker made none
-abbrev pub IsNoSet : {R : Type 0} → (R → Option (List ℕ)) → (R → FaultCounts) → ℕ → List (TileInput R) → List (TileInput R) → NoSet → Type 0
-IsNoSet bytes_left counts side old new (Tiles refusal) =
-    ((i : Inputs) → TellTiles bytes_left side old i → IsMosaicRefusal i refusal)
-    × SomeReadFails (map counts (tile_devices old)) (map counts (tile_devices new)) (refusal ≡ ReadFailed)
+abbrev pub IsNoSet : {R : Type 0} → Source R → ℕ → List (TileInput R) → List (TileInput R) → NoSet → Type 0
+IsNoSet source side old new (Tiles refusal) =
+    ((i : Inputs) → TellTiles source.bytes_left side old i → IsMosaicRefusal i refusal)
+    × SomeReadFails (map source.counts (tile_devices old)) (map source.counts (tile_devices new)) (refusal ≡ ReadFailed)
     × (¬ IsOfBodies refusal → new ≡ old)
-IsNoSet bytes_left counts side old new (Maker refusal) = SomeReadFails (map counts (tile_devices old)) (map counts (tile_devices new)) ⊥
+IsNoSet source side old new (Maker refusal) = SomeReadFails (map source.counts (tile_devices old)) (map source.counts (tile_devices new)) ⊥

@@ -1,7 +1,7 @@
 -- What is printed, and the status that it leaves.
-use Rattle.std.specs.Prelude.{◌≡◌, ℕ, ◌++◌, List, [], ◌∷◌, Option, Result, Ok, Err, IsErr}
-use Rattle.drain_device.specs.declared.counts.FaultCounts.{FaultCounts}
+use Rattle.std.specs.Prelude.{◌≡◌, ℕ, ◌++◌, List, [], ◌∷◌, Result, Ok, Err, IsErr}
 use Rattle.drain_device.specs.declared.patience.GaveUp.{GaveUp}
+use Rattle.drain_device.specs.Devices.{Sink}
 use Rattle.drain_device.specs.Failing.{WriteFails}
 use Rattle.drain_device.specs.Writes.{HandsOver}
 use Rattle.drain_cli.specs.declared.status.Status.{Status}
@@ -17,14 +17,12 @@ status_after (Ok done) status = status
 status_after (Err fault) status = Failed
 
 -- the text was written and the status stands, or a proper part of it was written and the status is that of a failure
-pub record PrintsText (taken_old taken_new : Option (List ℕ)) (counts_old counts_new : FaultCounts) (stalls_old stalls_new : ℕ)
-    (text : List ℕ) (status : Status) (code : ℕ) : Type 0 where
+pub record PrintsText {W : Type 0} (sink : Sink W) (old new : W) (text : List ℕ) (status : Status) (code : ℕ) : Type 0 where
   pub done : Result (Unit {0}) GaveUp
-  pub written : HandsOver taken_old taken_new done text
+  pub written : HandsOver (sink.bytes_taken old) (sink.bytes_taken new) done text
   pub code_is : code ≡ code_of (status_after done status)
-  pub faults : WriteFails counts_old counts_new stalls_old stalls_new (IsErr done)
+  pub faults : WriteFails (sink.counts old) (sink.counts new) (sink.stalls old) (sink.stalls new) (IsErr done)
 
 -- the same of a line and its line end
-abbrev pub Prints : Option (List ℕ) → Option (List ℕ) → FaultCounts → FaultCounts → ℕ → ℕ → List ℕ → Status → ℕ → Type 0
-Prints taken_old taken_new counts_old counts_new stalls_old stalls_new line status code =
-    PrintsText taken_old taken_new counts_old counts_new stalls_old stalls_new (line ++ line_feed ∷ []) status code
+abbrev pub Prints : {W : Type 0} → Sink W → W → W → List ℕ → Status → ℕ → Type 0
+Prints sink old new line status code = PrintsText sink old new (line ++ line_feed ∷ []) status code

@@ -1,14 +1,14 @@
 -- From tiles to products, to files, and to the check of these files: what was made and written is accepted.
 use Rattle.std.specs.Prelude.{◌≡◌, ℕ, List, [], ◌∷◌, map, Option, Some, Result, Ok}
 use Rattle.std.specs.List.{All, flat_map}
-use Rattle.drain_device.specs.declared.counts.FaultCounts.{FaultCounts}
+use Rattle.drain_device.specs.Devices.{Sink}
 use Rattle.drain_grid.specs.declared.product_set.ProductSet.{ProductSet}
 use Rattle.drain_grid.specs.WholeGrid.{grid_of, products_of}
 use Rattle.drain_hgt.specs.declared.input.TileInput.{TileInput}
 use Rattle.drain_mosaic.specs.Tiling.{Tiling}
 use Rattle.drain_rules.specs.declared.verdict.Verdict.{Verdict}
 use Rattle.drain_verdict.specs.declared.refusal.Refusal.{Refusal}
-use Rattle.drain_verdict.specs.Faults.{products}
+use Rattle.drain_verdict.specs.Devices.{products}
 use Rattle.drain_verdict.specs.Inputs.{Inputs}
 use Rattle.drain_verdict.specs.Mosaics.{TellTiles}
 use Rattle.drain_verdict.specs.Answers.{IsAnswer}
@@ -22,10 +22,10 @@ files_given i = flat_map (λ p. i.header p ∷ i.raster p ∷ []) products
 
 -- products that were made of tiles and written into empty files are accepted when they are checked with the same tiles; only want of
 -- memory or a failed read keep that answer back
-abbrev pub WhatIsWrittenIsAccepted : {R F : Type 0} → (R → Option (List ℕ)) → (F → Option (List ℕ)) → (F → FaultCounts) → (F → ℕ) → Type 0
-WhatIsWrittenIsAccepted {R} {F} bytes_left taken counts stalls =
+abbrev pub WhatIsWrittenIsAccepted : {R F : Type 0} → (R → Option (List ℕ)) → Sink F → Type 0
+WhatIsWrittenIsAccepted {R} {F} bytes_left sink =
     (side : ℕ) (tiles : List (TileInput R)) (t : Tiling) (ps : ProductSet) (empty written : List F) (i : Inputs) →
     (made : IsSetOf bytes_left side tiles t ps) → TellTiles bytes_left side tiles i →
-    All (λ file. taken file ≡ Some []) empty → WritesFiles taken counts stalls empty written (set_bytes t ps) (Ok tt) →
-    map taken written ≡ map Some (files_given i) →
+    All (λ file. sink.bytes_taken file ≡ Some []) empty → WritesFiles sink empty written (set_bytes t ps) (Ok tt) →
+    map sink.bytes_taken written ≡ map Some (files_given i) →
     (answer : Result Verdict Refusal) → IsAnswer i answer → IsAcceptance (grid_of made.elevation) (products_of ps) answer

@@ -1,7 +1,7 @@
 -- The files of a product set: their bytes, and what came of writing them one after the other.
-use Rattle.std.specs.Prelude.{◌≡◌, ℕ, ◌⊎◌, List, [], ◌∷◌, Option, Result, Ok, Err, IsErr}
+use Rattle.std.specs.Prelude.{◌≡◌, ℕ, ◌⊎◌, List, [], ◌∷◌, Result, Ok, Err, IsErr}
 use Rattle.std.specs.List.{flat_map}
-use Rattle.drain_device.specs.declared.counts.FaultCounts.{FaultCounts}
+use Rattle.drain_device.specs.Devices.{Sink}
 use Rattle.drain_device.specs.Failing.{WriteFails}
 use Rattle.drain_device.specs.Writes.{HandsOver}
 use Rattle.drain_grid.specs.declared.product_set.ProductSet.{ProductSet}
@@ -11,7 +11,7 @@ use Rattle.drain_header.specs.Fields.{Fields}
 use Rattle.drain_header.specs.Text.{text_of}
 use Rattle.drain_mosaic.specs.Tiling.{Tiling}
 use Rattle.drain_raster.specs.Bytes.{raster_bytes}
-use Rattle.drain_verdict.specs.Faults.{products}
+use Rattle.drain_verdict.specs.Devices.{products}
 use Rattle.drain_maker.specs.Headers.{header_of}
 use Rattle.drain_cli.specs.declared.set_files.Part.{Part}
 use Rattle.drain_cli.specs.declared.set_files.Part.TheVariants.{Header, Raster}
@@ -32,15 +32,14 @@ unfoldable pub set_bytes : Tiling → ProductSet → List (List ℕ)
 set_bytes t ps = flat_map (λ p. text_of (header_of t p) ∷ raster_bytes (header_of t p) (raster_in ps p) ∷ []) products
 
 -- the file took its bytes, or a proper part of them, from the first on; the write failed exactly where the file gave up
-pub record WritesFile {F : Type 0} (taken : F → Option (List ℕ)) (counts : F → FaultCounts) (stalls : F → ℕ) (old new : F)
-    (bytes : List ℕ) (done : Result (Unit {0}) SetFault) : Type 0 where
-  pub written : HandsOver (taken old) (taken new) done bytes
-  pub faults : WriteFails (counts old) (counts new) (stalls old) (stalls new) (done ≡ Err WriteFailed)
+pub record WritesFile {F : Type 0} (sink : Sink F) (old new : F) (bytes : List ℕ) (done : Result (Unit {0}) SetFault) : Type 0 where
+  pub written : HandsOver (sink.bytes_taken old) (sink.bytes_taken new) done bytes
+  pub faults : WriteFails (sink.counts old) (sink.counts new) (sink.stalls old) (sink.stalls new) (done ≡ Err WriteFailed)
 
 -- the files took their bytes one after the other; the first that didn't ended it, and those behind it are as they were
-abbrev pub WritesFiles : {F : Type 0} → (F → Option (List ℕ)) → (F → FaultCounts) → (F → ℕ) → List F → List F → List (List ℕ) → Result (Unit {0}) SetFault → Type 0
-WritesFiles taken counts stalls [] [] [] done = done ≡ Ok tt
-WritesFiles taken counts stalls (old ∷ olds) (new ∷ news) (bytes ∷ more) done =
-    (WritesFile taken counts stalls old new bytes (Ok tt) × WritesFiles taken counts stalls olds news more done)
-    ⊎ (IsErr done × (WritesFile taken counts stalls old new bytes done × (news ≡ olds)))
-WritesFiles taken counts stalls olds news texts done = ⊥
+abbrev pub WritesFiles : {F : Type 0} → Sink F → List F → List F → List (List ℕ) → Result (Unit {0}) SetFault → Type 0
+WritesFiles sink [] [] [] done = done ≡ Ok tt
+WritesFiles sink (old ∷ olds) (new ∷ news) (bytes ∷ more) done =
+    (WritesFile sink old new bytes (Ok tt) × WritesFiles sink olds news more done)
+    ⊎ (IsErr done × (WritesFile sink old new bytes done × (news ≡ olds)))
+WritesFiles sink olds news texts done = ⊥

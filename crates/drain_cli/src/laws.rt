@@ -10,7 +10,7 @@ use drain_maker::laws::made_is_accepted;
 /// What `make_set` made and `write_set` wrote into empty files is accepted by `check` with the same tiles, but for want of memory or a failed
 /// read: for any sources that tell their bytes, and any sinks that tell what they took.
 pub fn what_is_written_is_accepted<R: ByteSource, F: ByteSink>()
-    ensures { WhatIsWrittenIsAccepted R.bytes_left F.bytes_taken F.counts F.stalls }
+    ensures { WhatIsWrittenIsAccepted R.bytes_left F.ByteSink }
 {
     made_is_accepted();
 }

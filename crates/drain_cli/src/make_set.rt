@@ -1,7 +1,8 @@
 //! The first part of a run of `drain make`: the tiles are read, and products are made of their mosaic.
 
 ghost use Rattle.std.specs.Prelude.{◌≡◌, map, IfOk, IfErr, OnOk};
-ghost use Rattle.drain_verdict.specs.Faults.{SomeReadFails, TilesTakeAtMost, tile_devices};
+ghost use Rattle.drain_device.specs.FaultLists.{SomeReadFails};
+ghost use Rattle.drain_verdict.specs.Devices.{TilesTakeAtMost, tile_devices};
 ghost use Rattle.drain_verdict.specs.Inputs.{names_of};
 ghost use Rattle.drain_cli.specs.declared.make_set.NoSet.{NoSet};
 ghost use Rattle.drain_cli.specs.MadeSets.{IsSetOf, IsNoSet};
@@ -42,9 +43,8 @@ pub fn make_set<R: ByteSource, W: ByteSink>(
     ensures made { IfOk result (λ set. IsSetOf R.bytes_left side tiles.old set.0 set.1) }
     ensures no_read_failed { OnOk result (SomeReadFails (map R.counts (tile_devices tiles.old)) (map R.counts (tile_devices tiles.new)) ⊥) }
     ensures quiet { OnOk result (out.new ≡ out.old) }
-    ensures refused { IfErr result (λ code. (why : NoSet) × IsNoSet R.bytes_left R.counts side tiles.old tiles.new why
-        × Prints (W.bytes_taken out.old) (W.bytes_taken out.new) (W.counts out.old) (W.counts out.new)
-        (W.stalls out.old) (W.stalls out.new) (no_set_line why) (no_set_status why) code) }
+    ensures refused { IfErr result (λ code. (why : NoSet) × IsNoSet R.ByteSource side tiles.old tiles.new why
+        × Prints W.ByteSink out.old out.new (no_set_line why) (no_set_status why) code) }
 
     // How far it reads, and that names stay.
     ensures within { TilesTakeAtMost R.bytes_left side tiles.old tiles.new }
@@ -64,7 +64,7 @@ fn read_and_make<R: ByteSource>(
 ) -> Result<(Layout, ProductSet), NoSet>
     ensures made { IfOk result (λ set. IsSetOf R.bytes_left side tiles.old set.0 set.1) }
     ensures no_read_failed { OnOk result (SomeReadFails (map R.counts (tile_devices tiles.old)) (map R.counts (tile_devices tiles.new)) ⊥) }
-    ensures refused { IfErr result (IsNoSet R.bytes_left R.counts side tiles.old tiles.new) }
+    ensures refused { IfErr result (IsNoSet R.ByteSource side tiles.old tiles.new) }
     ensures within { TilesTakeAtMost R.bytes_left side tiles.old tiles.new }
     ensures names { names_of tiles.new ≡ names_of tiles.old }
 {

@@ -12,8 +12,7 @@ use std::alloc::{AllocError, Global};
 /// Prints `failed Open` and the path, and answers the status of a failure. Where there is no memory for the text, it prints that.
 pub fn print_open_failure<W: ByteSink>(alloc: Global, out: &mut W, path: &str) -> u8
     ensures { (text : List ℕ) × IsOpenFailure path.now text
-        × PrintsText (W.bytes_taken out.old) (W.bytes_taken out.new) (W.counts out.old) (W.counts out.new)
-        (W.stalls out.old) (W.stalls out.new) text Status.Failed result }
+        × PrintsText W.ByteSink out.old out.new text Status.Failed result }
 {
     match line_of(alloc, path) {
         Ok(line) => print_text(out, line.as_slice(), Status::Failed),

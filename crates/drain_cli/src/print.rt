@@ -12,7 +12,7 @@ use drain_verdict::line::{LINE_LENGTH, Line};
 /// Prints the line and its line end, and answers the exit status: that of the run, or that of a failure
 /// where the sink gives up before the last byte.
 pub fn print_line<W: ByteSink>(out: &mut W, line: &Line, status: Status) -> u8
-    ensures { Prints (W.bytes_taken out.old) (W.bytes_taken out.new) (W.counts out.old) (W.counts out.new) (W.stalls out.old) (W.stalls out.new) line.now.bytes status result }
+    ensures { Prints W.ByteSink out.old out.new line.now.bytes status result }
 {
     let mut text = ArrayString::<{ PRINTED_LENGTH }>::new();
     text.push_str(line.as_str());
@@ -22,7 +22,7 @@ pub fn print_line<W: ByteSink>(out: &mut W, line: &Line, status: Status) -> u8
 
 /// Prints the text as it is, and answers the exit status as `print_line` does.
 pub fn print_text<W: ByteSink>(out: &mut W, text: &[u8], status: Status) -> u8
-    ensures { PrintsText (W.bytes_taken out.old) (W.bytes_taken out.new) (W.counts out.old) (W.counts out.new) (W.stalls out.old) (W.stalls out.new) text.now status result }
+    ensures { PrintsText W.ByteSink out.old out.new text.now status result }
 {
     match write_all(out, text, &mut Patience::new()) {
         Ok(()) => status.code(),
@@ -32,8 +32,7 @@ pub fn print_text<W: ByteSink>(out: &mut W, text: &[u8], status: Status) -> u8
 
 /// Prints why there is no answer.
 pub fn print_failure<W: ByteSink>(out: &mut W, fault: BodyFault) -> u8
-    ensures { PrintsText (W.bytes_taken out.old) (W.bytes_taken out.new) (W.counts out.old) (W.counts out.new)
-        (W.stalls out.old) (W.stalls out.new) (failure_text fault) Status.Failed result }
+    ensures { PrintsText W.ByteSink out.old out.new (failure_text fault) Status.Failed result }
 {
     match fault {
         BodyFault::ReadFailed => print_text(out, b"failed ReadFailed\n", Status::Failed),

@@ -5,7 +5,7 @@ ghost use Rattle.drain_grid.specs.declared.product.Product.{Product};
 ghost use Rattle.drain_rules.specs.declared.verdict.Verdict.{Verdict};
 ghost use Rattle.drain_verdict.specs.declared.refusal.Refusal.{Refusal};
 ghost use Rattle.drain_verdict.specs.Inputs.{input_of, names_of};
-ghost use Rattle.drain_verdict.specs.Faults.{TilesTakeAtMost, RasterTakesAtMost};
+ghost use Rattle.drain_verdict.specs.Devices.{TilesTakeAtMost, RasterTakesAtMost};
 ghost use Rattle.drain_verdict.specs.Headline.{OfInputs};
 ghost use Rattle.drain_verdict.specs.Lines.{report_line};
 ghost use Rattle.drain_cli.specs.CheckRuns.{IsCheckOutcome, IsRight, check_status};
@@ -31,9 +31,8 @@ pub fn run_check<R: ByteSource, W: ByteSink>(
     out: &mut W,
 ) -> u8
     ensures run { (answer : Result Verdict Refusal)
-        × IsCheckOutcome R.bytes_left R.counts side tiles.old tiles.new products.old products.new answer
-        × Prints (W.bytes_taken out.old) (W.bytes_taken out.new) (W.counts out.old) (W.counts out.new)
-        (W.stalls out.old) (W.stalls out.new) (report_line answer) (check_status answer) result }
+        × IsCheckOutcome R.ByteSource side tiles.old tiles.new products.old products.new answer
+        × Prints W.ByteSink out.old out.new (report_line answer) (check_status answer) result }
 
     // A run ends with 0 only where the tiles agree and the products are correct.
     ensures correct { result ≡ 0 → OfInputs R.bytes_left side tiles.old products.old IsRight }

@@ -32,9 +32,8 @@ pub fn run_fill<R: ByteSource, W: ByteSink>(
     out: &mut W,
 ) -> u8
     ensures run { (outcome : FillOutcome)
-        × IsFillOutcome side (R.bytes_left input.old) (R.counts input.old) (R.counts input.new) outcome
-        × Prints (W.bytes_taken out.old) (W.bytes_taken out.new) (W.counts out.old) (W.counts out.new)
-        (W.stalls out.old) (W.stalls out.new) (outcome_line outcome) (outcome_status outcome) result }
+        × IsFillOutcome R.ByteSource side input.old input.new outcome
+        × Prints W.ByteSink out.old out.new (outcome_line outcome) (outcome_status outcome) result }
     ensures within { TakesAtMost (9 * (side * side) + 1) (R.bytes_left input.old) (R.bytes_left input.new) }
     ensures bad_side_reads_nothing { ¬ IsSide side → input.new ≡ input.old }
 
@@ -49,7 +48,7 @@ pub fn run_fill<R: ByteSource, W: ByteSink>(
 
 /// The answer to what the source has left.
 fn read_and_check<R: ByteSource>(alloc: Global, side: u32, input: &mut R) -> FillOutcome
-    ensures outcome { IsFillOutcome side (R.bytes_left input.old) (R.counts input.old) (R.counts input.new) result }
+    ensures outcome { IsFillOutcome R.ByteSource side input.old input.new result }
     ensures within { TakesAtMost (9 * (side * side) + 1) (R.bytes_left input.old) (R.bytes_left input.new) }
     ensures bad_side_reads_nothing { ¬ IsSide side → input.new ≡ input.old }
 {

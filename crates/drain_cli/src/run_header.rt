@@ -23,9 +23,8 @@ type HeaderOutcome = Result<Result<Header, HeaderFault>, BodyFault>;
 /// (`failed OutOfMemory`), the source gave up (`failed ReadFailed`), or the text couldn't be written.
 pub fn run_header<R: ByteSource, W: ByteSink>(alloc: Global, input: &mut R, out: &mut W) -> u8
     ensures run { (outcome : HeaderOutcome)
-        × IsHeaderOutcome (R.bytes_left input.old) (R.counts input.old) (R.counts input.new) outcome
-        × PrintsText (W.bytes_taken out.old) (W.bytes_taken out.new) (W.counts out.old) (W.counts out.new)
-        (W.stalls out.old) (W.stalls out.new) (header_printed outcome) (header_status outcome) result }
+        × IsHeaderOutcome R.ByteSource input.old input.new outcome
+        × PrintsText W.ByteSink out.old out.new (header_printed outcome) (header_status outcome) result }
     ensures within { TakesAtMost (MAX_HEADER_BYTES + 1) (R.bytes_left input.old) (R.bytes_left input.new) }
 {
     let outcome = read_header(alloc, input);
@@ -34,7 +33,7 @@ pub fn run_header<R: ByteSource, W: ByteSink>(alloc: Global, input: &mut R, out:
 
 /// The answer to what the source has left.
 fn read_header<R: ByteSource>(alloc: Global, input: &mut R) -> HeaderOutcome
-    ensures outcome { IsHeaderOutcome (R.bytes_left input.old) (R.counts input.old) (R.counts input.new) result }
+    ensures outcome { IsHeaderOutcome R.ByteSource input.old input.new result }
     ensures within { TakesAtMost (MAX_HEADER_BYTES + 1) (R.bytes_left input.old) (R.bytes_left input.new) }
 {
     let body = read_body(alloc, input, MAX_HEADER_BYTES + 1)?;
@@ -44,8 +43,7 @@ fn read_header<R: ByteSource>(alloc: Global, input: &mut R) -> HeaderOutcome
 /// Prints what an outcome tells, or that there was no memory for the text of its header.
 fn print_outcome<W: ByteSink>(alloc: Global, out: &mut W, outcome: HeaderOutcome) -> u8
     ensures { (told : HeaderOutcome) × IsToldAs outcome told
-        × PrintsText (W.bytes_taken out.old) (W.bytes_taken out.new) (W.counts out.old) (W.counts out.new)
-        (W.stalls out.old) (W.stalls out.new) (header_printed told) (header_status told) result }
+        × PrintsText W.ByteSink out.old out.new (header_printed told) (header_status told) result }
 {
     match outcome {
         Ok(answer) => print_answer(alloc, out, answer),
@@ -56,8 +54,7 @@ fn print_outcome<W: ByteSink>(alloc: Global, out: &mut W, outcome: HeaderOutcome
 /// Prints the lines of a header or the line of its fault, or that there was no memory for the text of the header.
 fn print_answer<W: ByteSink>(alloc: Global, out: &mut W, answer: Result<Header, HeaderFault>) -> u8
     ensures { (told : HeaderOutcome) × IsAnswerToldAs answer told
-        × PrintsText (W.bytes_taken out.old) (W.bytes_taken out.new) (W.counts out.old) (W.counts out.new)
-        (W.stalls out.old) (W.stalls out.new) (header_printed told) (header_status told) result }
+        × PrintsText W.ByteSink out.old out.new (header_printed told) (header_status told) result }
 {
     match answer {
         Ok(header) => match header_text(alloc, &header) {

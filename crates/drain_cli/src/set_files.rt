@@ -104,7 +104,7 @@ pub fn write_files<F: ByteSink>(
     requires counted { length files.old ≡ FILE_COUNT }
     requires same_shape { products.now.con.extent ≡ extent_of layout.now }
     requires written { CanBeWritten layout.now products.now }
-    ensures { WritesFiles F.bytes_taken F.counts F.stalls files.old files.new (set_bytes layout.now products.now) result }
+    ensures { WritesFiles F.ByteSink files.old files.new (set_bytes layout.now products.now) result }
 {
     for (k, file) in files.iter_mut().enumerate() {
         write_file(alloc, layout, products, SET_FILES[k], file)?;
@@ -122,7 +122,7 @@ fn write_file<F: ByteSink>(
 ) -> Result<(), SetFault>
     requires same_shape { products.now.con.extent ≡ extent_of layout.now }
     requires written { CanBeWritten layout.now products.now }
-    ensures { WritesFile F.bytes_taken F.counts F.stalls to.old to.new (file_bytes layout.now products.now file) result }
+    ensures { WritesFile F.ByteSink to.old to.new (file_bytes layout.now products.now file) result }
 {
     let header = product_header(layout, file.product);
     match file.part {
@@ -133,7 +133,7 @@ fn write_file<F: ByteSink>(
 
 /// Writes the text of a header.
 fn write_header<F: ByteSink>(alloc: Global, header: &Header, to: &mut F) -> Result<(), SetFault>
-    ensures { WritesFile F.bytes_taken F.counts F.stalls to.old to.new (text_of header.now) result }
+    ensures { WritesFile F.ByteSink to.old to.new (text_of header.now) result }
 {
     let Ok(text) = header_text(alloc, header) else {
         return Err(SetFault::OutOfMemory);
@@ -148,7 +148,7 @@ fn write_header<F: ByteSink>(alloc: Global, header: &Header, to: &mut F) -> Resu
 fn write_numbers<F: ByteSink>(header: &Header, raster: &Raster, to: &mut F) -> Result<(), SetFault>
     requires shape { raster.now.extent ≡ pixels.extent_of header.now }
     requires written { CanSpellAll header.now raster.now }
-    ensures { WritesFile F.bytes_taken F.counts F.stalls to.old to.new (raster_bytes header.now raster.now) result }
+    ensures { WritesFile F.ByteSink to.old to.new (raster_bytes header.now raster.now) result }
 {
     match write_raster(to, header, raster) {
         Ok(()) => Ok(()),

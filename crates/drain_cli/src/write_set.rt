@@ -34,9 +34,8 @@ pub fn write_set<F: ByteSink, W: ByteSink>(
     requires same_shape { products.now.con.extent ≡ extent_of layout.now }
     requires written { CanBeWritten layout.now products.now }
     ensures run { (done : Result (Unit {0}) SetFault)
-        × WritesFiles F.bytes_taken F.counts F.stalls files.old files.new (set_bytes layout.now products.now) done
-        × Prints (W.bytes_taken out.old) (W.bytes_taken out.new) (W.counts out.old) (W.counts out.new)
-        (W.stalls out.old) (W.stalls out.new) (written_line layout.now done) (written_status done) result }
+        × WritesFiles F.ByteSink files.old files.new (set_bytes layout.now products.now) done
+        × Prints W.ByteSink out.old out.new (written_line layout.now done) (written_status done) result }
 {
     let done = write_files(alloc, layout, products, files);
     print_line(out, &line_of(layout.shape(), &done), status_of(&done))

@@ -4,8 +4,9 @@ use Rattle.std.proofs.lemmas.List.{map-append}
 use Rattle.drain_device.specs.declared.counts.FaultCounts.{FaultCounts}
 use Rattle.drain_hgt.specs.declared.input.TileInput.{TileInput}
 use Rattle.drain_verdict.specs.declared.input.Products.{Products}
-use Rattle.drain_verdict.specs.Faults.{SomeReadFails, tile_devices, product_devices, devices_of, TilesTakeAtMost}
-use Rattle.drain_verdict.proofs.FaultLists.{SomeReadFails-then, SomeReadFails-none, takes-none}
+use Rattle.drain_device.specs.FaultLists.{SomeReadFails}
+use Rattle.drain_verdict.specs.Devices.{tile_devices, product_devices, devices_of, TilesTakeAtMost}
+use Rattle.drain_device.proofs.FaultLists.{SomeReadFails-then, SomeReadFails-none, takes-none}
 
 -- where no tile was called, nothing was taken
 pub tiles_take_none : {R : Type 0} (bytes_left : R → Option (List ℕ)) (side : ℕ) (tiles : List (TileInput R)) → TilesTakeAtMost bytes_left side tiles tiles

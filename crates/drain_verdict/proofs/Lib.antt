@@ -1,7 +1,6 @@
 mod Acceptance
 mod BodyAnswers
 mod Devices
-mod FaultLists
 mod FirstValues
 mod HeaderAnswers
 mod HeaderOrder

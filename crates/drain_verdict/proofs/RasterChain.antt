@@ -14,11 +14,12 @@ use Rattle.drain_verdict.specs.declared.headers.Headers.{Headers}
 use Rattle.drain_verdict.specs.declared.input.Products.{Products}
 use Rattle.drain_verdict.specs.declared.refusal.Refusal.{Refusal}
 use Rattle.drain_verdict.specs.declared.refusal.Refusal.TheVariants.{BadSide, BadName, NoTiles, RepeatedTile, BoxTooLarge, BadHeader, WrongShape, Misplaced, BadTileLength, RasterShort, SeamMismatch, OutOfMemory, ReadFailed}
-use Rattle.drain_verdict.specs.Faults.{SomeReadFails, products, product_devices}
+use Rattle.drain_device.specs.FaultLists.{SomeReadFails}
+use Rattle.drain_verdict.specs.Devices.{products, product_devices}
 use Rattle.drain_verdict.specs.Inputs.{input_of}
 use Rattle.drain_verdict.specs.Refusals.{rank_of}
 use Rattle.drain_verdict.specs.Stages.{AreRasterBodies, IsRasterOf, IsFirstShort, IsRasterRefusal, IsOneRasterRefusal, header_for}
-use Rattle.drain_verdict.proofs.FaultLists.{SomeReadFails-none, SomeReadFails-one, SomeReadFails-then, SomeReadFails-iff, any-first, any-later, any-cases, any-none, untouched, takes-none}
+use Rattle.drain_device.proofs.FaultLists.{SomeReadFails-none, SomeReadFails-one, SomeReadFails-then, SomeReadFails-iff, any-first, any-later, any-cases, any-none, untouched, takes-none}
 
 -- the faults of some devices, each of which fails where its own fact holds
 SomeReadFails-each : {X : Type 0} (old new : X → FaultCounts) (F : X → Type 0) (xs : List X) → ((x : X) → ReadFails (old x) (new x) (F x)) →

@@ -19,7 +19,7 @@ use Rattle.drain_verdict.specs.Inputs.{Inputs, Tell, names_of, input_of}
 use Rattle.drain_verdict.specs.Meaning.{tiling_of, fields_of}
 use Rattle.drain_verdict.specs.Refusals.{NoneStandsBefore}
 use Rattle.drain_verdict.specs.Answers.{IsAnswer}
-use Rattle.drain_verdict.specs.Faults.{RasterTakesAtMost, BodyTakesAtMost}
+use Rattle.drain_verdict.specs.Devices.{RasterTakesAtMost, BodyTakesAtMost}
 use Rattle.drain_verdict.specs.Stages.{IsLayoutOf, IsLayoutRefusal, IsHeaderRefusal, IsFirstHeaderRefusal, AreHeadersFor, header_for}
 use Rattle.drain_verdict.proofs.LayoutAnswers.{layout_is, layout_none, layout_refused}
 use Rattle.drain_verdict.proofs.HeaderAnswers.{headers_none, headers_are, header_refused}

@@ -14,10 +14,11 @@ use Rattle.drain_hgt.specs.Corner.{Corner}
 use Rattle.drain_hgt.specs.Samples.{IsTile, samples_of, tile_length}
 use Rattle.drain_verdict.specs.declared.refusal.Refusal.{Refusal}
 use Rattle.drain_verdict.specs.declared.refusal.Refusal.TheVariants.{BadSide, BadName, NoTiles, RepeatedTile, BoxTooLarge, BadHeader, WrongShape, Misplaced, BadTileLength, RasterShort, SeamMismatch, OutOfMemory, ReadFailed}
-use Rattle.drain_verdict.specs.Faults.{SomeReadFails, tile_devices}
+use Rattle.drain_device.specs.FaultLists.{SomeReadFails}
+use Rattle.drain_verdict.specs.Devices.{tile_devices}
 use Rattle.drain_verdict.specs.Inputs.{names_of}
 use Rattle.drain_verdict.specs.Stages.{AreBodies, AreSamplesOf, IsFirstBadLength, IsTileRefusal, IsOneTileRefusal}
-use Rattle.drain_verdict.proofs.FaultLists.{SomeReadFails-none, SomeReadFails-one, SomeReadFails-then, takes-none}
+use Rattle.drain_device.proofs.FaultLists.{SomeReadFails-none, SomeReadFails-one, SomeReadFails-then, takes-none}
 
 -- a relation of two lists, place by place, holds of the parts, and of parts together
 AllZip-then : {A B : Type 0} (P : A → B → Type 0) (xs us : List A) (ys vs : List B) → AllZip P xs ys → AllZip P us vs → AllZip P (xs ++ us) (ys ++ vs)

@@ -2,7 +2,7 @@ pub mod Inputs
 pub mod Meaning
 pub mod Refusals
 pub mod Answers
-pub mod Faults
+pub mod Devices
 pub mod Headline
 pub mod Stages
 pub mod Laws

@@ -13,7 +13,8 @@ ghost use Rattle.drain_verdict.specs.Meaning.{tiling_of, fields_of};
 ghost use Rattle.drain_verdict.specs.Refusals.{IsOfBodies, NoneStandsBefore};
 ghost use Rattle.drain_verdict.specs.Answers.{IsAnswer};
 ghost use Rattle.drain_verdict.specs.Stages.{AreBodies, AreRasterBodies, AreThoseOf, header_for};
-ghost use Rattle.drain_verdict.specs.Faults.{SomeReadFails, devices_of, TilesTakeAtMost, RasterTakesAtMost, BodyTakesAtMost};
+ghost use Rattle.drain_device.specs.FaultLists.{SomeReadFails};
+ghost use Rattle.drain_verdict.specs.Devices.{devices_of, TilesTakeAtMost, RasterTakesAtMost, BodyTakesAtMost};
 ghost use Rattle.drain_verdict.specs.Headline.{AcceptedMeans, TilesAreOne, ElevationIsTheirs, ConIsLeast, NoDirectionClimbs, DirectionsAreSteepest, CodesTellOutlets, RunsEnd, RunsEndAtOutlets, RunsVisitOnce, AccCountsUpstream, LabelsTellBasins, VoidsAreBlank, DataIsComplete};
 
 use crate::headers::{Headers, read_headers};

@@ -2,4 +2,4 @@ use Rattle.drain_cli.proofs.RoundTrips.{accepted}
 use Rattle.drain_cli.proofs.laws.what_is_written_is_accepted.Goals as goal
 
 pub returns : goal.returns
-returns g c = accepted g.R.ByteSource.bytes_left g.F.ByteSink.bytes_taken g.F.ByteSink.counts g.F.ByteSink.stalls c.made_is_accepted.ensures
+returns g c = accepted g.R.ByteSource.bytes_left g.F.ByteSink c.made_is_accepted.ensures

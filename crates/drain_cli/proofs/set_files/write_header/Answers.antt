@@ -2,4 +2,4 @@ use Rattle.drain_cli.proofs.SetLemmas.{no_memory, text-some}
 use Rattle.drain_cli.proofs.set_files.write_header.Goals as goal
 
 pub returns-in_default : goal.returns-in_default
-returns-in_default g c = no_memory g.F.ByteSink.bytes_taken g.F.ByteSink.counts g.F.ByteSink.stalls c.args.to.now _ (text-some c.args.header.now)
+returns-in_default g c = no_memory g.F.ByteSink c.args.to.now _ (text-some c.args.header.now)

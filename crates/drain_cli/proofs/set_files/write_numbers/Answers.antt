@@ -3,5 +3,5 @@ use Rattle.drain_cli.proofs.set_files.write_numbers.Goals as goal
 
 pub returns-in-Err : goal.returns-in-Err
 returns-in-Err g c =
-    numbers-failed g.F.ByteSink.bytes_taken g.F.ByteSink.counts g.F.ByteSink.stalls c.args.to.now c.write_raster.new.to c.args.header.now c.args.raster.now c.in-Err.field-0
+    numbers-failed g.F.ByteSink c.args.to.now c.write_raster.new.to c.args.header.now c.args.raster.now c.in-Err.field-0
     c.requires.written c.in-Err.ensures.out_of_range c.in-Err.ensures.bytes c.in-Err.ensures.faults

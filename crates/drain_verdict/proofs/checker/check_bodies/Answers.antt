@@ -1,9 +1,9 @@
 use Rattle.std.proofs.Common.{map, sym, ◌∙◌}
 use Rattle.std.proofs.lemmas.Result.{err_from_is_err_and}
 use Rattle.drain_grid.specs.declared.product.Product.TheVariants.{Con}
-use Rattle.drain_verdict.specs.Faults.{product_devices}
+use Rattle.drain_verdict.specs.Devices.{product_devices}
 use Rattle.drain_verdict.proofs.Devices.{devices_then}
-use Rattle.drain_verdict.proofs.FaultLists.{SomeReadFails-none}
+use Rattle.drain_device.proofs.FaultLists.{SomeReadFails-none}
 use Rattle.drain_verdict.proofs.StageAnswers.{tiles_answer, rasters_answer, are_those, none_of_bodies, the_first, the_second, neither}
 use Rattle.drain_verdict.proofs.checker.check_bodies.Goals as goal
 

@@ -1,7 +1,7 @@
 use Rattle.std.proofs.Common.{arith, sym, ◌∙◌}
 use Rattle.drain_grid.specs.declared.product.Product.TheVariants.{Con, Dir, Acc, Bas, Spl, Rnk}
 use Rattle.drain_verdict.specs.Refusals.{IsOfBodies}
-use Rattle.drain_verdict.proofs.FaultLists.{SomeReadFails-iff}
+use Rattle.drain_device.proofs.FaultLists.{SomeReadFails-iff}
 use Rattle.drain_verdict.proofs.RasterChain.{by_product, passed, refused, behind, told-fails, told-not, told-of, parts-all, stopped-at}
 use Rattle.drain_verdict.proofs.rasters.read_products.Goals as goal
 

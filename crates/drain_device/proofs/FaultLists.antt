@@ -1,4 +1,4 @@
--- How the faults of many devices hang together with what a check of them answers: nothing was called, one device, and one part after another.
+-- How the faults of many devices hang together with whether a read of them failed: none was called, one device, and one part after another.
 use Rattle.std.proofs.Common.{◌↔◌, ℕ, zero, suc, ◌⊎◌, inl, inr, List, Option, Some, None, [], ◌∷◌, ◌++◌, arith, refl}
 use Rattle.std.specs.List.{Any}
 use Rattle.drain_device.specs.declared.counts.FaultCounts.{FaultCounts}
@@ -6,7 +6,7 @@ use Rattle.drain_device.specs.Counts.{Answered}
 use Rattle.drain_device.specs.Failing.{ReadFails}
 use Rattle.drain_device.specs.Reads.{TakesAtMost}
 use Rattle.drain_device.specs.Patience.{GivesUp, full_patience}
-use Rattle.drain_verdict.specs.Faults.{Faults, AnsweredEach, SomeReadFails}
+use Rattle.drain_device.specs.FaultLists.{Faults, AnsweredEach, SomeReadFails}
 
 -- the device failed, or was interrupted for the 1,000th time
 abbrev pub gave_up : Faults → Type 0

@@ -1,9 +1,6 @@
--- When a check tells that a device failed, and how far it reads.
-use Rattle.std.specs.Prelude.{ℕ, ◌+◌, ◌↔◌, List, [], ◌∷◌, map, ◌++◌, Option}
-use Rattle.std.specs.List.{Any, AllZip}
-use Rattle.drain_device.specs.declared.counts.FaultCounts.{FaultCounts}
-use Rattle.drain_device.specs.Counts.{Answered}
-use Rattle.drain_device.specs.Patience.{GivesUp, full_patience}
+-- The devices of a check, and how far it reads from them.
+use Rattle.std.specs.Prelude.{ℕ, ◌+◌, List, [], ◌∷◌, map, ◌++◌, Option}
+use Rattle.std.specs.List.{AllZip}
 use Rattle.drain_device.specs.Reads.{TakesAtMost}
 use Rattle.drain_grid.specs.declared.product.Product.{Product}
 use Rattle.drain_grid.specs.declared.product.Product.TheVariants.{Con, Dir, Acc, Bas, Spl, Rnk}
@@ -30,23 +27,6 @@ product_devices ps = map (λ p. (input_of ps p).body) products
 -- the devices of a check
 abbrev pub devices_of : {R : Type 0} → List (TileInput R) → Products R → List R
 devices_of tiles ps = tile_devices tiles ++ product_devices ps
-
--- how many failures and interruptions a device answered
-pub record Faults : Type 0 where
-  pub failures : ℕ
-  pub interruptions : ℕ
-
--- between these counts each device answered these faults
-abbrev pub AnsweredEach : List FaultCounts → List FaultCounts → List Faults → Type 0
-AnsweredEach [] [] [] = Unit {0}
-AnsweredEach (old ∷ olds) (new ∷ news) (f ∷ fs) = Answered old new f.failures f.interruptions × AnsweredEach olds news fs
-AnsweredEach olds news fs = ⊥
-
--- between these counts some read failed exactly where one of the devices failed, or was interrupted for the 1,000th time
-pub record SomeReadFails (old new : List FaultCounts) (Fails : Type 0) : Type 0 where
-  pub faults : List Faults
-  pub answered : AnsweredEach old new faults
-  pub exactly : Fails ↔ Any (λ f. GivesUp full_patience f.failures f.interruptions) faults
 
 -- of each tile at most one byte past its end was taken
 abbrev pub TilesTakeAtMost : {R : Type 0} → (R → Option (List ℕ)) → ℕ → List (TileInput R) → List (TileInput R) → Type 0

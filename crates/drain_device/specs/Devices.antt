@@ -1,0 +1,11 @@
+-- What a contract sees of a device, in one record each: the ghost members of its trait.
+use Rattle.drain_device.specs.declared.sink.ByteSink as sinks
+use Rattle.drain_device.specs.declared.source.ByteSource as sources
+
+-- of a sink: `bytes_taken`, where it tells them, `counts` of its faults, and `stalls`, how often it took none of some
+abbrev pub Sink : Type 0 → Type 1
+Sink W = sinks.Ghosts W
+
+-- of a source: `bytes_left`, where it tells them, and `counts` of its faults
+abbrev pub Source : Type 0 → Type 1
+Source R = sources.Ghosts R
