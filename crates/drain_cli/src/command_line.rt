@@ -29,6 +29,10 @@ pub enum Request<'a> {
     },
 }
 
+/// The side of a tile where none is given: that of 3 arc seconds, as a number and as it is written in the help.
+const DEFAULT_SIDE: u32 = 1201;
+const DEFAULT_SIDE_WORD: &str = "1201";
+
 const ABOUT: &str =
     "Checks drainage rasters computed from SRTM elevation tiles, and makes them. An acceptance is \
     proved to mean what it says, whoever made the rasters.";
@@ -169,15 +173,15 @@ pub fn parse<'a>(alloc: Global, words: &'a [String]) -> Result<Request<'a>, Erro
         return Ok(make_request(alloc, make)?);
     }
     let side = match matches.subcommand_matches("fill") {
-        Some(fill) => fill.get_one::<u32>("side").unwrap_or(1201),
-        None => 1201,
+        Some(fill) => side_given(fill),
+        None => DEFAULT_SIDE,
     };
     Ok(Request::Fill { side })
 }
 
 fn check_request<'a>(alloc: Global, given: &ArgMatches<'a>) -> Result<Request<'a>, AllocError> {
     Ok(Request::Check {
-        side: given.get_one::<u32>("side").unwrap_or(1201),
+        side: side_given(given),
         products: given.get_str("products").unwrap_or(""),
         tiles: given_tiles(alloc, given)?,
     })
@@ -185,10 +189,15 @@ fn check_request<'a>(alloc: Global, given: &ArgMatches<'a>) -> Result<Request<'a
 
 fn make_request<'a>(alloc: Global, given: &ArgMatches<'a>) -> Result<Request<'a>, AllocError> {
     Ok(Request::Make {
-        side: given.get_one::<u32>("side").unwrap_or(1201),
+        side: side_given(given),
         folder: given.get_str("out").unwrap_or(""),
         tiles: given_tiles(alloc, given)?,
     })
+}
+
+/// The side that is asked for.
+fn side_given(given: &ArgMatches<'_>) -> u32 {
+    given.get_one::<u32>("side").unwrap_or(DEFAULT_SIDE)
 }
 
 /// The paths of the tiles, in the order given.
@@ -204,7 +213,7 @@ fn side<'a>(alloc: Global) -> Arg<'a> {
         .long("side")
         .value_name("N")
         .value_parser(clap::value_parser!(u32))
-        .default_value("1201")
+        .default_value(DEFAULT_SIDE_WORD)
         .help(SIDE_HELP)
 }
 
