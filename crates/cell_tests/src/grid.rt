@@ -38,27 +38,36 @@ fn shapes_and_their_cells(rt: HostRuntime) -> Result<(), Fail> {
 fn steps_codes_and_what_they_name(rt: HostRuntime) -> Result<(), Fail> {
     let shape = Shape::new(3, 3).ok_or("a shape")?;
     let around = [
-        (Direction::East, 1, 1, 2),
-        (Direction::SouthEast, 2, 2, 2),
-        (Direction::South, 4, 2, 1),
-        (Direction::SouthWest, 8, 2, 0),
-        (Direction::West, 16, 1, 0),
-        (Direction::NorthWest, 32, 0, 0),
-        (Direction::North, 64, 0, 1),
-        (Direction::NorthEast, 128, 0, 2),
+        (Direction::East, 1, true, 1, 2),
+        (Direction::SouthEast, 2, false, 2, 2),
+        (Direction::South, 4, true, 2, 1),
+        (Direction::SouthWest, 8, false, 2, 0),
+        (Direction::West, 16, true, 1, 0),
+        (Direction::NorthWest, 32, false, 0, 0),
+        (Direction::North, 64, true, 0, 1),
+        (Direction::NorthEast, 128, false, 0, 2),
     ];
-    for (direction, code, row, col) in around {
+    for (direction, code, straight, row, col) in around {
         assert_eq!(rt; direction.code(), code);
+        assert_eq!(rt; direction.is_straight(), straight);
         assert_eq!(rt; Code::from_number(code), Some(Code::To(direction)));
+        assert_eq!(rt; Code::direction_named(code), Some(direction));
         let centre = Cell { row: 1, col: 1 };
         assert_eq!(rt; shape.step(centre, direction), Some(Cell { row, col }));
     }
     let corner = Cell { row: 2, col: 2 };
     assert_eq!(rt; shape.step(corner, Direction::SouthWest), None);
     assert_eq!(rt; Code::from_number(0), Some(Code::Outlet));
+    assert_eq!(rt; Code::direction_named(0), None);
     for number in [3, 255, -128, 256, -1] {
         assert_eq!(rt; Code::from_number(number), None, "{number}");
+        assert_eq!(rt; Code::direction_named(number), None, "{number}");
     }
+    let led = values(Some(0), [0, 16, 0, 0, 4, 0])?;
+    assert_eq!(rt;
+        (led.direction(), led.spill_direction()),
+        (Some(Direction::West), Some(Direction::South))
+    );
     Ok(())
 }
 
@@ -206,6 +215,8 @@ fn what_whole_rasters_show(rt: HostRuntime) -> Result<(), Fail> {
         (shape, 11)
     );
     assert_eq!(rt; (products.con.nodata(), products.nodata().rnk), (-1, -1));
+    let (acc, spl) = (products.raster(Product::Acc), products.raster(Product::Spl));
+    assert_eq!(rt; (acc.value(cell), spl.value(cell)), (31, 51));
     let patch = products.patch(&elevation, cell);
     assert_eq!(rt; patch.here, values(Some(8), [11, 21, 31, 41, 51, 61])?);
     for (direction, z, numbers) in [

@@ -1,10 +1,9 @@
 //! The direction of each data cell: down the steepest way where a neighbour is lower, else over the spill parent.
 
 ghost use Rattle.std.specs.Prelude.{◌≡◌, IfOk};
-ghost use Rattle.drain_grid.specs.Extent.{IsCellOf};
 
 use crate::layer::Layer;
-use drain_grid::{Cell, CellValues, Code, Direction, Elevation, OutOfMemory, Patch};
+use drain_grid::{Cell, CellSource, CellValues, Code, Elevation, OutOfMemory, Patch, Shape};
 use drain_slope::steepest;
 use std::alloc::Global;
 
@@ -20,11 +19,12 @@ pub fn directions(
     ensures { IfOk result (λ dir. dir.shape ≡ elevation.now.extent) }
 {
     let shape = elevation.shape();
+    let surface = Surface { elevation, con };
     let mut dir = Layer::new(alloc, shape, None)?;
     for index in 0..shape.cells() {
         let cell = shape.cell(index);
         if elevation.z(cell).is_some() {
-            let code = match steepest(&patch(elevation, con, cell)) {
+            let code = match steepest(&Patch::at(&surface, cell)) {
                 Some(direction) => Some(Code::To(direction)),
                 None => spl.at(cell),
             };
@@ -34,53 +34,44 @@ pub fn directions(
     Ok(dir)
 }
 
-/// The elevations and conditioned elevations of the cell and its neighbours.
-fn patch(elevation: &Elevation, con: &Layer<i16>, cell: Cell) -> Patch
-    requires same_shape { con.now.shape ≡ elevation.now.extent }
-    requires inside { IsCellOf elevation.now.extent cell }
-{
-    Patch {
-        here: values(elevation, con, cell),
-        around: [
-            beside(elevation, con, cell, Direction::East),
-            beside(elevation, con, cell, Direction::SouthEast),
-            beside(elevation, con, cell, Direction::South),
-            beside(elevation, con, cell, Direction::SouthWest),
-            beside(elevation, con, cell, Direction::West),
-            beside(elevation, con, cell, Direction::NorthWest),
-            beside(elevation, con, cell, Direction::North),
-            beside(elevation, con, cell, Direction::NorthEast),
-        ],
-    }
+/// The ground and the surface over it: all that slopes look at.
+#[derive(Clone, Copy)]
+struct Surface<'a> {
+    elevation: &'a Elevation,
+    con: &'a Layer<i16>,
+    ghost same_shape: { con.now.shape ≡ elevation.now.extent },
 }
 
-/// The values in this direction, none outside the grid.
-fn beside(
-    elevation: &Elevation,
-    con: &Layer<i16>,
-    cell: Cell,
-    direction: Direction,
-) -> Option<CellValues>
-    requires { con.now.shape ≡ elevation.now.extent }
-{
-    match elevation.shape().step(cell, direction) {
-        Some(neighbor) => Some(values(elevation, con, neighbor)),
-        None => None,
-    }
-}
+impl<'a> CellSource for Surface<'a> {
+    ghost use Rattle.std.specs.Prelude.{pos, slice_get, unwrap_or};
+    ghost use Rattle.drain_grid.specs.Extent.{index_of};
+    ghost use Rattle.drain_grid.specs.Whole.{elevation_at};
 
-/// The cell's elevation and conditioned elevation.
-fn values(elevation: &Elevation, con: &Layer<i16>, cell: Cell) -> CellValues
-    requires same_shape { con.now.shape ≡ elevation.now.extent }
-    requires inside { IsCellOf elevation.now.extent cell }
-{
-    CellValues {
-        z: elevation.z(cell),
-        con: i64::from(con.at(cell)),
-        dir: 0,
-        acc: 0,
-        bas: 0,
-        spl: 0,
-        rnk: 0,
+    ghost size = { λ s. s.elevation.now.extent };
+
+    ghost shown = { λ s c. record {
+      z = elevation_at s.elevation.now c;
+      con = unwrap_or (slice_get s.con.now.values.items (index_of s.con.now.shape c)) (pos 0);
+      dir = pos 0;
+      acc = pos 0;
+      bas = pos 0;
+      spl = pos 0;
+      rnk = pos 0;
+    } };
+
+    fn shape(&self) -> Shape {
+        self.elevation.shape()
+    }
+
+    fn values(&self, cell: Cell) -> CellValues {
+        CellValues {
+            z: self.elevation.z(cell),
+            con: i64::from(self.con.at(cell)),
+            dir: 0,
+            acc: 0,
+            bas: 0,
+            spl: 0,
+            rnk: 0,
+        }
     }
 }

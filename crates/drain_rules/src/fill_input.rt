@@ -6,7 +6,7 @@ ghost use Rattle.drain_grid.specs.Tile.{IsSide};
 
 use byteorder::{BigEndian, ByteOrder};
 use drain_grid::tile::height_from;
-use drain_grid::{Cell, CellValues, Direction, Patch, Shape, VOID};
+use drain_grid::{Cell, CellSource, CellValues, Shape, VOID};
 
 /// How many bytes an input takes: nine for each cell.
 pub fn fill_length(side: u32) -> usize
@@ -29,9 +29,8 @@ pub struct FillInput<'a> {
 }
 
 impl<'a> FillInput<'a> {
-    ghost use Rattle.std.specs.Prelude.{option_map, ◌≢◌};
-    ghost use Rattle.drain_grid.specs.Extent.{IsCellOf, step};
-    ghost use Rattle.drain_grid.specs.Grid.{patch_at, values_at};
+    ghost use Rattle.std.specs.Prelude.{◌≢◌};
+    ghost use Rattle.drain_grid.specs.Extent.{IsCellOf};
     ghost use Rattle.drain_rules.specs.Fill.{square, IsFillLength};
     ghost use Rattle.drain_rules.specs.Parts.{grid_of, products_of};
     ghost use Rattle.drain_grid.specs.Values.{IsPixel};
@@ -55,53 +54,6 @@ impl<'a> FillInput<'a> {
         ensures { result ≡ self.now.shape.rows }
     {
         self.shape.rows()
-    }
-
-    /// The cell's values and those of its neighbours.
-    pub fn patch(&self, cell: Cell) -> Patch
-        requires { IsCellOf (square self.now.shape.rows) cell }
-        ensures { result ≡ patch_at (grid_of self.now) (products_of self.now) cell }
-    {
-        Patch {
-            here: self.values(cell),
-            around: [
-                self.beside(cell, Direction::East),
-                self.beside(cell, Direction::SouthEast),
-                self.beside(cell, Direction::South),
-                self.beside(cell, Direction::SouthWest),
-                self.beside(cell, Direction::West),
-                self.beside(cell, Direction::NorthWest),
-                self.beside(cell, Direction::North),
-                self.beside(cell, Direction::NorthEast),
-            ],
-        }
-    }
-
-    /// The values in this direction, none outside the grid.
-    fn beside(&self, cell: Cell, direction: Direction) -> Option<CellValues>
-        requires { IsCellOf (square self.now.shape.rows) cell }
-        ensures { result ≡ option_map (values_at (grid_of self.now) (products_of self.now)) (step (square self.now.shape.rows) cell direction) }
-    {
-        match self.shape.step(cell, direction) {
-            Some(neighbor) => Some(self.values(neighbor)),
-            None => None,
-        }
-    }
-
-    /// What the parts say at a cell.
-    fn values(&self, cell: Cell) -> CellValues
-        requires { IsCellOf (square self.now.shape.rows) cell }
-        ensures { result ≡ values_at (grid_of self.now) (products_of self.now) cell }
-    {
-        CellValues {
-            z: self.ground(cell),
-            con: self.conditioned(cell),
-            dir: 0,
-            acc: 0,
-            bas: 0,
-            spl: self.spill_parent(cell),
-            rnk: self.rank(cell),
-        }
     }
 
     fn ground(&self, cell: Cell) -> Option<i16>
@@ -138,5 +90,31 @@ impl<'a> FillInput<'a> {
     {
         let index = self.shape.index(cell);
         i64::from(BigEndian::read_u32(&self.bytes[5 * self.cells + 4 * index..]))
+    }
+}
+
+impl<'a> CellSource for FillInput<'a> {
+    ghost use Rattle.drain_grid.specs.Grid.{values_at};
+    ghost use Rattle.drain_rules.specs.Fill.{square};
+    ghost use Rattle.drain_rules.specs.Parts.{grid_of, products_of};
+
+    ghost size = { λ input. square input.shape.rows };
+
+    ghost shown = { λ input. values_at (grid_of input) (products_of input) };
+
+    fn shape(&self) -> Shape {
+        self.shape
+    }
+
+    fn values(&self, cell: Cell) -> CellValues {
+        CellValues {
+            z: self.ground(cell),
+            con: self.conditioned(cell),
+            dir: 0,
+            acc: 0,
+            bas: 0,
+            spl: self.spill_parent(cell),
+            rnk: self.rank(cell),
+        }
     }
 }

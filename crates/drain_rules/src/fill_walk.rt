@@ -15,7 +15,7 @@ use crate::tally::Tally;
 use drain_fill::fault;
 use drain_grid::laws::least_from_rules;
 use drain_grid::tile::is_side;
-use drain_grid::{Cell, Rule};
+use drain_grid::{Cell, Patch, Rule};
 use thiserror::Error;
 
 /// The size of the tile, and how many cells have data and are raised.
@@ -60,7 +60,7 @@ fn check_fill_row(input: &FillInput<'_>, row: u32) -> Result<Tally, RowFault>
 {
     let mut tally = Tally::new();
     for col in 0..input.side() {
-        let patch = input.patch(Cell { row, col });
+        let patch = Patch::at(input, Cell { row, col });
         if let Some(rule) = fault(&patch) {
             return Err(RowFault { rule, col });
         }

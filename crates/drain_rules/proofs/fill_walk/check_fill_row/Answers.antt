@@ -14,7 +14,7 @@ returns-in-Some-clause-fault c =
     let ps = products_of c.args.input.now in
     IsRowFault-cell fill_rules IsFillRule g ps c.args.row c.loop-col.col c.in-Some.rule (omega (arith, c.side-col-end.ensures)) c.loop-col.invariant.holds
     (IsLeastFault-patch fill_rules IsFillRule g ps (place c.args.row c.loop-col.col) (Some c.in-Some.rule) (λ r own. (omega (arith, own.0), omega (arith, own.1)))
-    (rw c.patch-patch.ensures at c.in-Some.ensures.least))
+    (rw c.at-patch.ensures at c.in-Some.ensures.least))
 
 pub loop-col-preserved : goal.loop-col-preserved
 loop-col-preserved c =
@@ -24,9 +24,9 @@ loop-col-preserved c =
     record {
       holds = HoldAlong-more fill_rules IsFillRule g ps c.args.row c.loop-col.col inv.holds
           (IsLeastFault-patch fill_rules IsFillRule g ps (place c.args.row c.loop-col.col) None (λ r own. (omega (arith, own.0), omega (arith, own.1)))
-          (rw c.patch-patch.ensures at c.in_default.ensures.least));
-      counted = CountsAlong-more g ps c.args.row c.loop-col.col c.patch-patch.result.here _ _
-          (ap (λ (p : Patch). p.here) c.patch-patch.ensures) inv.counted c.add.ensures.data_cells c.add.ensures.raised c.add.ensures.outlets;
+          (rw c.at-patch.ensures at c.in_default.ensures.least));
+      counted = CountsAlong-more g ps c.args.row c.loop-col.col c.at-patch.result.here _ _
+          (ap (λ (p : Patch). p.here) c.at-patch.ensures) inv.counted c.add.ensures.data_cells c.add.ensures.raised c.add.ensures.outlets;
       data_bound = grind (arith, c.add.ensures.data_cells, inv.data_bound);
       raised_bound = grind (arith, c.add.ensures.raised, c.add.ensures.data_cells, inv.raised_bound);
       outlets_bound = grind (arith, c.add.ensures.outlets, c.add.ensures.data_cells, inv.outlets_bound);

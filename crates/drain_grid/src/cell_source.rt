@@ -1,0 +1,30 @@
+//! Where the values at the cells of a grid come from: the trait that patches are built over.
+//!
+//! A source is apart from the rasters because it needn't hold them: it may read its values in place.
+
+ghost use Rattle.std.specs.Prelude.{◌≡◌};
+ghost use Rattle.drain_grid.specs.declared.cell.Cell.{Cell};
+ghost use Rattle.drain_grid.specs.Extent.{IsCellOf};
+ghost use Rattle.drain_grid.specs.Size.{Extent};
+ghost use Rattle.drain_grid.specs.Values.{Values};
+
+use crate::cell::{Cell, Shape};
+use crate::values::CellValues;
+
+/// A grid that shows the values at each of its cells.
+pub trait CellSource {
+    /// The rows and columns of the grid.
+    ghost size: { Self → Extent };
+
+    /// The values that the source shows at a cell.
+    ghost shown: { Self → Cell → Values };
+
+    /// The rows and columns of the grid.
+    fn shape(&self) -> Shape
+        ensures { result ≡ size self.now };
+
+    /// The values at a cell.
+    fn values(&self, cell: Cell) -> CellValues
+        requires { IsCellOf (size self.now) cell }
+        ensures { result ≡ shown self.now cell };
+}
