@@ -3,5 +3,4 @@ pub mod HeaderLemmas
 pub mod PathLemmas
 pub mod PrintLemmas
 pub mod RoundTrips
-pub mod SetLemmas
 pub mod TileNames

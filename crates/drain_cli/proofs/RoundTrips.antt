@@ -14,7 +14,7 @@ use Rattle.drain_verdict.specs.Mosaics.{IsMosaicOf}
 use Rattle.drain_maker.specs.Headers.{header_of}
 use Rattle.drain_maker.specs.Made.{AreMade}
 use Rattle.drain_maker.specs.Accepted.{MadeIsAccepted}
-use Rattle.drain_cli.specs.SetFiles.{WritesFiles, set_bytes}
+use Rattle.drain_maker.specs.ProductFiles.{WritesFiles, set_bytes}
 use Rattle.drain_cli.specs.RoundTrip.{WhatIsWrittenIsAccepted, files_given}
 
 -- what was appended to no bytes is all there is

@@ -3,8 +3,8 @@ use Rattle.std.specs.Prelude.{◌≡◌, ◌≢◌, ◌⊎◌, ◌==◌, ℕ, Li
 use Rattle.std.specs.List.{All, ends_with}
 use Rattle.drain_grid.specs.declared.product.Product.{Product}
 use Rattle.drain_grid.specs.Product.{name_of}
-use Rattle.drain_cli.specs.declared.set_files.Part.{Part}
-use Rattle.drain_cli.specs.declared.set_files.Part.TheVariants.{Header, Raster}
+use Rattle.drain_maker.specs.declared.product_files.Part.{Part}
+use Rattle.drain_maker.specs.declared.product_files.Part.TheVariants.{Header, Raster}
 
 abbrev pub slash : ℕ
 slash = 47

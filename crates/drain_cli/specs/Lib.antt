@@ -7,6 +7,5 @@ pub mod MadeSets
 pub mod OpenFailures
 pub mod Printing
 pub mod RoundTrip
-pub mod SetFiles
 pub mod SetRuns
 pub mod Statuses

@@ -13,7 +13,7 @@ use Rattle.drain_verdict.specs.Inputs.{Inputs}
 use Rattle.drain_verdict.specs.Mosaics.{TellTiles}
 use Rattle.drain_verdict.specs.Answers.{IsAnswer}
 use Rattle.drain_maker.specs.Accepted.{IsAcceptance}
-use Rattle.drain_cli.specs.SetFiles.{WritesFiles, set_bytes}
+use Rattle.drain_maker.specs.ProductFiles.{WritesFiles, set_bytes}
 use Rattle.drain_cli.specs.MadeSets.{IsSetOf}
 
 -- the bytes that a check is given of the products: of each its header, and then its raster

@@ -6,8 +6,8 @@ use Rattle.drain_verdict.specs.Lines.{refusal_line}
 use Rattle.drain_maker.specs.declared.maker.MakeRefusal.TheVariants as maker
 use Rattle.drain_cli.specs.declared.status.Status.{Status}
 use Rattle.drain_cli.specs.declared.status.Status.TheVariants.{Done, Refused, Failed}
-use Rattle.drain_cli.specs.declared.set_files.SetFault.{SetFault}
-use Rattle.drain_cli.specs.declared.set_files.SetFault.TheVariants.{WriteFailed, OutOfMemory}
+use Rattle.drain_maker.specs.declared.product_files.SetFault.{SetFault}
+use Rattle.drain_maker.specs.declared.product_files.SetFault.TheVariants.{WriteFailed, OutOfMemory}
 use Rattle.drain_cli.specs.declared.make_set.NoSet.{NoSet}
 use Rattle.drain_cli.specs.declared.make_set.NoSet.TheVariants.{Tiles, Maker}
 

@@ -31,6 +31,7 @@ pub enum Request<'a> {
 
 /// The side of a tile where none is given: that of 3 arc seconds, as a number and as it is written in the help.
 const DEFAULT_SIDE: u32 = 1201;
+
 const DEFAULT_SIDE_WORD: &str = "1201";
 
 const ABOUT: &str =

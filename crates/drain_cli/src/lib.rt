@@ -13,6 +13,5 @@ pub mod program;
 pub mod run_check;
 pub mod run_fill;
 pub mod run_header;
-pub mod set_files;
 pub mod status;
 pub mod write_set;

@@ -4,12 +4,12 @@ ghost use Rattle.std.specs.Prelude.{◌≡◌, IfOk, string_bytes, vec_len};
 ghost use Rattle.std.specs.List.{AllZip};
 ghost use Rattle.drain_verdict.specs.Inputs.{names_of};
 ghost use Rattle.drain_cli.specs.FilePaths.{IsLastPart, ending_of, product_path};
-ghost use Rattle.drain_cli.specs.declared.set_files.TheConstants.{FILE_COUNT};
+ghost use Rattle.drain_maker.specs.declared.product_files.TheConstants.{FILE_COUNT};
 
 use crate::file_paths::{header_path, raster_path, tile_name};
-use crate::set_files::{Part, SET_FILES, SetFile};
 use drain_device::{BodyFault, ByteList, Reader, Writer};
 use drain_hgt::TileInput;
+use drain_maker::product_files::{Part, SET_FILES, SetFile};
 use std::alloc::AllocError;
 use std::fs::File;
 

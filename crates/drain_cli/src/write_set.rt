@@ -3,17 +3,17 @@
 ghost use Rattle.std.specs.Prelude.{◌≡◌, ◌++◌, length, Result, codes, decimal};
 ghost use Rattle.drain_mosaic.specs.Tiling.{Tiling, extent_of};
 ghost use Rattle.drain_maker.specs.Made.{CanBeWritten};
-ghost use Rattle.drain_cli.specs.declared.set_files.SetFault.{SetFault};
-ghost use Rattle.drain_cli.specs.declared.set_files.TheConstants.{FILE_COUNT};
+ghost use Rattle.drain_maker.specs.declared.product_files.SetFault.{SetFault};
+ghost use Rattle.drain_maker.specs.declared.product_files.TheConstants.{FILE_COUNT};
 ghost use Rattle.drain_cli.specs.Printing.{Prints};
-ghost use Rattle.drain_cli.specs.SetFiles.{WritesFiles, set_bytes};
+ghost use Rattle.drain_maker.specs.ProductFiles.{WritesFiles, set_bytes};
 ghost use Rattle.drain_cli.specs.SetRuns.{written_line, written_status};
 
 use crate::print::print_line;
-use crate::set_files::{SetFault, write_files};
 use crate::status::Status;
 use drain_device::ByteSink;
 use drain_grid::{ProductSet, Shape};
+use drain_maker::product_files::{SetFault, write_files};
 use drain_mosaic::Layout;
 use drain_verdict::line::{Line, push_number, words};
 use std::alloc::Global;

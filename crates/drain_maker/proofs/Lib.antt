@@ -3,3 +3,4 @@ mod HeaderBounds
 mod Placing
 pub mod Heaps
 pub mod Spelling
+pub mod FileLemmas

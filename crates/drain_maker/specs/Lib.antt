@@ -1,3 +1,4 @@
 pub mod Headers
+pub mod ProductFiles
 pub mod Made
 pub mod Accepted

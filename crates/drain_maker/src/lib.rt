@@ -12,6 +12,7 @@ mod labels;
 pub mod laws;
 mod layer;
 mod maker;
+pub mod product_files;
 mod queue;
 mod rasters;
 mod visits;

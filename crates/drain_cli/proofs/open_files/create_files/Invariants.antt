@@ -1,5 +1,5 @@
 use Rattle.std.proofs.Common.{◌≡◌, length, vec_len}
-use Rattle.drain_cli.specs.declared.set_files.TheConstants.{FILE_COUNT}
+use Rattle.drain_maker.specs.declared.product_files.TheConstants.{FILE_COUNT}
 use Rattle.drain_cli.proofs.open_files.create_files.Given as goal
 
 -- as many files are created as were gone through

@@ -16,11 +16,11 @@ use Rattle.drain_grid.specs.Rasters.{Pixels}
 use Rattle.drain_raster.specs.declared.fault.WriteFault.{WriteFault}
 use Rattle.drain_raster.specs.declared.fault.WriteFault.TheVariants as write
 use Rattle.drain_raster.specs.Bytes.{CanSpellAll, IsFirstOutOfRange, raster_bytes}
-use Rattle.drain_cli.specs.declared.set_files.SetFault.{SetFault}
-use Rattle.drain_cli.specs.declared.set_files.SetFault.TheVariants.{WriteFailed, OutOfMemory}
-use Rattle.drain_cli.specs.declared.set_files.SetFile.{SetFile}
-use Rattle.drain_cli.specs.declared.set_files.TheConstants.{FILE_COUNT, SET_FILES}
-use Rattle.drain_cli.specs.SetFiles.{WritesFile, WritesFiles, file_bytes, set_bytes}
+use Rattle.drain_maker.specs.declared.product_files.SetFault.{SetFault}
+use Rattle.drain_maker.specs.declared.product_files.SetFault.TheVariants.{WriteFailed, OutOfMemory}
+use Rattle.drain_maker.specs.declared.product_files.SetFile.{SetFile}
+use Rattle.drain_maker.specs.declared.product_files.TheConstants.{FILE_COUNT, SET_FILES}
+use Rattle.drain_maker.specs.ProductFiles.{WritesFile, WritesFiles, file_bytes, set_bytes}
 
 -- no byte was taken
 appends-nothing : (taken : Option (List ℕ)) → Appends taken taken []

@@ -6,12 +6,12 @@ ghost use Rattle.drain_mosaic.specs.Tiling.{extent_of};
 ghost use Rattle.drain_raster.specs.Pixels as pixels;
 ghost use Rattle.drain_raster.specs.Bytes.{CanSpellAll, raster_bytes};
 ghost use Rattle.drain_maker.specs.Made.{CanBeWritten};
-ghost use Rattle.drain_cli.specs.SetFiles.{WritesFile, WritesFiles, file_bytes, set_bytes};
+ghost use Rattle.drain_maker.specs.ProductFiles.{WritesFile, WritesFiles, file_bytes, set_bytes};
 
+use crate::header::product_header;
 use drain_device::{ByteSink, GaveUp, Patience, write_all};
 use drain_grid::{Product, ProductSet, Raster};
 use drain_header::{Header, header_text};
-use drain_maker::product_header;
 use drain_mosaic::Layout;
 use drain_raster::write_raster;
 use std::alloc::Global;

@@ -1,8 +1,8 @@
 use Rattle.std.proofs.Common.{arith}
 use Rattle.std.proofs.lemmas.Result.{err_from_is_err_and}
-use Rattle.drain_cli.specs.SetFiles.{set_bytes}
-use Rattle.drain_cli.proofs.SetLemmas.{so_far-none, set_so_far-more, set_so_far-stop, set_so_far-all}
-use Rattle.drain_cli.proofs.set_files.write_files.Goals as goal
+use Rattle.drain_maker.specs.ProductFiles.{set_bytes}
+use Rattle.drain_maker.proofs.FileLemmas.{so_far-none, set_so_far-more, set_so_far-stop, set_so_far-all}
+use Rattle.drain_maker.proofs.product_files.write_files.Goals as goal
 
 pub loop-k-init : goal.loop-k-init
 loop-k-init g c = so_far-none g.F.ByteSink c.args.files.now (set_bytes c.args.layout.now c.args.products.now)

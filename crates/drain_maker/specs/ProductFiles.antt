@@ -13,11 +13,11 @@ use Rattle.drain_mosaic.specs.Tiling.{Tiling}
 use Rattle.drain_raster.specs.Bytes.{raster_bytes}
 use Rattle.drain_verdict.specs.Devices.{products}
 use Rattle.drain_maker.specs.Headers.{header_of}
-use Rattle.drain_cli.specs.declared.set_files.Part.{Part}
-use Rattle.drain_cli.specs.declared.set_files.Part.TheVariants.{Header, Raster}
-use Rattle.drain_cli.specs.declared.set_files.SetFile.{SetFile}
-use Rattle.drain_cli.specs.declared.set_files.SetFault.{SetFault}
-use Rattle.drain_cli.specs.declared.set_files.SetFault.TheVariants.{WriteFailed}
+use Rattle.drain_maker.specs.declared.product_files.Part.{Part}
+use Rattle.drain_maker.specs.declared.product_files.Part.TheVariants.{Header, Raster}
+use Rattle.drain_maker.specs.declared.product_files.SetFile.{SetFile}
+use Rattle.drain_maker.specs.declared.product_files.SetFault.{SetFault}
+use Rattle.drain_maker.specs.declared.product_files.SetFault.TheVariants.{WriteFailed}
 
 -- the bytes of a file: a header's text, or a raster's bytes
 abbrev pub part_bytes : Part → Fields → Pixels → List ℕ

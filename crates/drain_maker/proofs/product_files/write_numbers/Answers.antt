@@ -1,5 +1,5 @@
-use Rattle.drain_cli.proofs.SetLemmas.{numbers-failed}
-use Rattle.drain_cli.proofs.set_files.write_numbers.Goals as goal
+use Rattle.drain_maker.proofs.FileLemmas.{numbers-failed}
+use Rattle.drain_maker.proofs.product_files.write_numbers.Goals as goal
 
 pub returns-in-Err : goal.returns-in-Err
 returns-in-Err g c =

@@ -1,6 +1,6 @@
-use Rattle.drain_cli.specs.SetFiles.{set_bytes}
-use Rattle.drain_cli.proofs.SetLemmas.{WritesSoFar}
-use Rattle.drain_cli.proofs.set_files.write_files.Given as goal
+use Rattle.drain_maker.specs.ProductFiles.{set_bytes}
+use Rattle.drain_maker.proofs.FileLemmas.{WritesSoFar}
+use Rattle.drain_maker.proofs.product_files.write_files.Given as goal
 
 -- the files before this one are written
 abbrev pub invariant-loop-k : goal.invariant-loop-k
