@@ -1,5 +1,6 @@
 -- The verdict on a fill input: the first of rules 4 to 9 that fails, or the counts of an acceptance.
 use Rattle.std.specs.Prelude.{◌≡◌, ℕ, pos, List, Result, Ok, Err}
+use Rattle.drain_grid.specs.PerProduct.{per_product}
 use Rattle.drain_grid.specs.Values.{NoDataNumbers}
 use Rattle.drain_grid.specs.Tile.{IsSide}
 use Rattle.drain_grid.specs.Grid.{Grid, Products}
@@ -15,7 +16,7 @@ use Rattle.drain_rules.specs.Fill.{IsFillLength, fill_grid, fill_products}
 
 -- a fill input has no no-data numbers, and rules 4 to 9 look at none: these are as good as any
 abbrev pub unused_numbers : NoDataNumbers
-unused_numbers = record { con = pos 0; dir = pos 0; acc = pos 0; bas = pos 0; spl = pos 0; rnk = pos 0 }
+unused_numbers = per_product (λ p. pos 0)
 
 -- the rules that are tried
 abbrev pub fill_rules : Profile

@@ -3,7 +3,6 @@ mod BodyAnswers
 mod Devices
 mod FaultLists
 mod HeaderAnswers
-mod HeaderOrder
 mod InputVerdicts
 mod LayoutAnswers
 mod MosaicAnswers

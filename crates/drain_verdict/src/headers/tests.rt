@@ -1,10 +1,10 @@
 //! Headers of products on one tile of side 3 at 1 degree south and 7 degrees east, each text with its answer.
 
-use crate::headers::{Headers, read_headers};
+use crate::headers::read_headers;
 use crate::input::{Products, RasterInput};
 use crate::refusal::Refusal;
 use drain_device::ByteList;
-use drain_grid::Product;
+use drain_grid::{PerProduct, Product};
 use drain_header::{HeaderFault, Key};
 use drain_hgt::TileName;
 use drain_mosaic::Layout;
@@ -50,7 +50,7 @@ fn refusal_of(
         rnk: input(alloc, RIGHT)?,
     };
     match read_headers(layout, &products) {
-        Ok(Headers { .. }) => Ok(None),
+        Ok(PerProduct { .. }) => Ok(None),
         Err(refusal) => Ok(Some(refusal)),
     }
 }
