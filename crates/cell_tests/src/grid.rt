@@ -183,6 +183,26 @@ fn products_and_their_defaults(rt: HostRuntime) {
     }
 }
 
+#[test]
+fn one_thing_for_each_product(rt: HostRuntime) -> Result<(), Fail> {
+    let defaults = |product: Product| -> Result<i64, Product> { Ok(product.default_no_data()) };
+    let Ok(numbers) = PerProduct::from_each(&defaults) else {
+        return Err("numbers".into());
+    };
+    assert_eq!(rt; (numbers.con, *numbers.of(Product::Spl)), (-32768, 255));
+    let above_zero = |product: Product| -> Result<i64, Product> {
+        match product.default_no_data() {
+            0 => Err(product),
+            number => Ok(number),
+        }
+    };
+    assert_eq!(rt;
+        PerProduct::from_each(&above_zero).err(),
+        Some(Product::Acc)
+    );
+    Ok(())
+}
+
 /// A raster of two by two cells, none of which has the number for no data.
 fn two_by_two(alloc: Global, shape: Shape, numbers: [u16; 4]) -> Result<Raster, AllocError>
     requires { shape ≡ record { rows = 2; cols = 2 } }

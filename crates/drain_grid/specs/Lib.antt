@@ -9,6 +9,7 @@ pub mod Open
 pub mod Patch
 pub mod PatchRules
 pub mod Path
+pub mod PerProduct
 pub mod Product
 pub mod Rasters
 pub mod Rule

@@ -7,11 +7,11 @@ use Rattle.drain_device.specs.Writes.{HandsOver}
 use Rattle.drain_grid.specs.declared.product_set.ProductSet.{ProductSet}
 use Rattle.drain_grid.specs.Rasters.{Pixels}
 use Rattle.drain_grid.specs.WholeGrid.{raster_in}
+use Rattle.drain_grid.specs.PerProduct.{products}
 use Rattle.drain_header.specs.Fields.{Fields}
 use Rattle.drain_header.specs.Text.{text_of}
 use Rattle.drain_mosaic.specs.Tiling.{Tiling}
 use Rattle.drain_raster.specs.Bytes.{raster_bytes}
-use Rattle.drain_verdict.specs.Devices.{products}
 use Rattle.drain_maker.specs.Headers.{header_of}
 use Rattle.drain_maker.specs.declared.product_files.Part.{Part}
 use Rattle.drain_maker.specs.declared.product_files.Part.TheVariants.{Header, Raster}

@@ -5,20 +5,22 @@ use Rattle.std.proofs.lemmas.Option.{get_or_from_slice_get, slice_get_within}
 use Rattle.drain_grid.specs.declared.cell.Cell.{Cell}
 use Rattle.drain_grid.specs.declared.product.Product.{Product}
 use Rattle.drain_grid.specs.Extent.{index_of}
+use Rattle.drain_grid.specs.declared.per_product.PerProduct.{PerProduct}
+use Rattle.drain_grid.specs.PerProduct.{of_product, rank_of}
 use Rattle.drain_hgt.specs.Corner.{Corner}
 use Rattle.drain_hgt.specs.Samples.{IsTile}
+use Rattle.drain_header.specs.Fields.{Fields}
 use Rattle.drain_raster.specs.Pixels.{IsShort}
 use Rattle.drain_mosaic.specs.Tiling as tiling
 use Rattle.drain_mosaic.specs.LayoutFaults.{IsFirstRepeated}
 use Rattle.drain_mosaic.specs.Mosaic.{TilesAgree, IsFirstSeam}
-use Rattle.drain_verdict.specs.declared.headers.Headers.{Headers}
 use Rattle.drain_verdict.specs.declared.refusal.Refusal.{Refusal}
 use Rattle.drain_verdict.specs.declared.refusal.Refusal.TheVariants.{RepeatedTile, BadTileLength, RasterShort, SeamMismatch, OutOfMemory, ReadFailed}
 use Rattle.drain_verdict.specs.Inputs.{Inputs}
 use Rattle.drain_verdict.specs.Meaning.{tiling_of, tiles_of, fields_of}
-use Rattle.drain_verdict.specs.Refusals.{HasBadLength, IsSeamFault, Stands, NoneStandsBefore, refusal_order, place_among, rank_of}
+use Rattle.drain_verdict.specs.Refusals.{HasBadLength, IsSeamFault, Stands, NoneStandsBefore, refusal_order, place_among}
 use Rattle.drain_verdict.specs.Answers.{IsRefusal, AreReadable}
-use Rattle.drain_verdict.specs.Stages.{IsFirstBadLength, IsTileRefusal, IsRasterRefusal, header_for}
+use Rattle.drain_verdict.specs.Stages.{IsFirstBadLength, IsTileRefusal, IsRasterRefusal}
 use Rattle.drain_verdict.proofs.Order.{at_tile, at_raster, at_seam, none_more, readable, first_of}
 use Rattle.drain_verdict.proofs.Places.{place_of_tile, earlier_by_index}
 
@@ -55,7 +57,7 @@ pub rasters_none : (i : Inputs) → ((p : Product) → ¬ IsShort (fields_of i p
 rasters_none i long none = none_more i (Stands i) 6 none (at_raster i (λ b. ¬ Stands i b) long)
 
 -- the refusal of a raster is the first
-pub raster_refused : (i : Inputs) (hs : Headers) (refusal : Refusal) → ((p : Product) → header_for hs p ≡ fields_of i p) → IsRasterRefusal hs i.raster refusal →
+pub raster_refused : (i : Inputs) (hs : PerProduct Fields) (refusal : Refusal) → ((p : Product) → of_product hs p ≡ fields_of i p) → IsRasterRefusal hs i.raster refusal →
     NoneStandsBefore i 6 → IsRefusal i refusal
 raster_refused i hs (RasterShort p) are bad none =
     first_of i (Stands i) 6 (rank_of p) (RasterShort p) refl (subst (λ h. IsShort h (i.raster p)) (are p) bad.short) none

@@ -2,20 +2,21 @@
 use Rattle.std.proofs.Common.{◌≡◌, ℕ, ◌+◌, ◌*◌, ◌<◌, arith, refl, sym, subst, below_more}
 use Rattle.drain_grid.specs.declared.product.Product.{Product}
 use Rattle.drain_grid.specs.declared.product.Product.TheVariants.{Con, Dir, Acc, Bas, Spl, Rnk}
+use Rattle.drain_grid.specs.declared.per_product.PerProduct.{PerProduct}
+use Rattle.drain_grid.specs.PerProduct.{of_product, rank_of}
 use Rattle.drain_header.specs.declared.fault.HeaderFault.{HeaderFault}
 use Rattle.drain_header.specs.Fields.{Fields}
 use Rattle.drain_header.specs.Faults.{Describes}
 use Rattle.drain_raster.specs.Pixels.{extent_of}
 use Rattle.drain_mosaic.specs.Tiling as tiling
-use Rattle.drain_verdict.specs.declared.headers.Headers.{Headers}
 use Rattle.drain_verdict.specs.declared.input.Products.{Products}
 use Rattle.drain_verdict.specs.declared.refusal.Refusal.{Refusal}
 use Rattle.drain_verdict.specs.declared.refusal.Refusal.TheVariants.{BadHeader, WrongShape, Misplaced}
 use Rattle.drain_verdict.specs.Inputs.{Inputs, input_of}
 use Rattle.drain_verdict.specs.Meaning.{tiling_of, fields_of}
-use Rattle.drain_verdict.specs.Refusals.{Stands, NoneStandsBefore, HasShape, IsPlaced, refusal_order, rank_of}
+use Rattle.drain_verdict.specs.Refusals.{Stands, NoneStandsBefore, HasShape, IsPlaced, refusal_order}
 use Rattle.drain_verdict.specs.Answers.{IsRefusal}
-use Rattle.drain_verdict.specs.Stages.{IsHeaderFor, IsHeaderRefusal, IsFirstHeaderRefusal, AreHeadersFor, header_for}
+use Rattle.drain_verdict.specs.Stages.{IsHeaderFor, IsHeaderRefusal, IsFirstHeaderRefusal, AreHeadersFor}
 use Rattle.drain_verdict.proofs.Order.{at_header, none_more, first_of}
 
 -- products of one rank are one product
@@ -51,15 +52,15 @@ is_right i p h is = record {
   place = λ stands. stands (subst (λ (f : Fields). IsPlaced (tiling_of i) f.place) is.described.fields is.placed);
 }
 
-pub headers_none : {R : Type 0} (i : Inputs) (ps : Products R) (hs : Headers) → ((p : Product) → i.header p ≡ (input_of ps p).header) → AreHeadersFor (tiling_of i) ps hs →
+pub headers_none : {R : Type 0} (i : Inputs) (ps : Products R) (hs : PerProduct Fields) → ((p : Product) → i.header p ≡ (input_of ps p).header) → AreHeadersFor (tiling_of i) ps hs →
     NoneStandsBefore i 4 → NoneStandsBefore i 5
 headers_none i ps hs told are none =
-    let right : (p : Product) → IsRight i p = λ p. is_right i p (header_for hs p) (subst (λ text. IsHeaderFor (tiling_of i) text (header_for hs p)) (sym (told p)) (are p)) in
+    let right : (p : Product) → IsRight i p = λ p. is_right i p (of_product hs p) (subst (λ text. IsHeaderFor (tiling_of i) text (of_product hs p)) (sym (told p)) (are p)) in
     none_more i (Stands i) 4 none (at_header i (λ b. ¬ Stands i b) (λ p fault. (right p).no_fault fault) (λ p. (right p).shape) (λ p. (right p).place))
 
-pub headers_are : {R : Type 0} (i : Inputs) (ps : Products R) (hs : Headers) → ((p : Product) → i.header p ≡ (input_of ps p).header) → AreHeadersFor (tiling_of i) ps hs →
-    (p : Product) → header_for hs p ≡ fields_of i p
-headers_are i ps hs told are p = fields_are i p (header_for hs p) (subst (λ text. Describes text (header_for hs p)) (sym (told p)) ((are p).described))
+pub headers_are : {R : Type 0} (i : Inputs) (ps : Products R) (hs : PerProduct Fields) → ((p : Product) → i.header p ≡ (input_of ps p).header) → AreHeadersFor (tiling_of i) ps hs →
+    (p : Product) → of_product hs p ≡ fields_of i p
+headers_are i ps hs told are p = fields_are i p (of_product hs p) (subst (λ text. Describes text (of_product hs p)) (sym (told p)) ((are p).described))
 
 -- the product and the refusals of its own that come before
 before_product : (i : Inputs) (p : Product) (j : ℕ) → j < 3 → ((q : Product) → rank_of q < rank_of p → IsRight i q)

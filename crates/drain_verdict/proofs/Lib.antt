@@ -3,7 +3,6 @@ mod BodyAnswers
 mod Devices
 mod FirstValues
 mod HeaderAnswers
-mod HeaderOrder
 mod InputVerdicts
 mod LayoutAnswers
 mod MosaicAnswers

@@ -8,17 +8,17 @@ use Rattle.drain_device.specs.Reads.{TakesAtMost}
 use Rattle.drain_grid.specs.declared.product.Product.{Product}
 use Rattle.drain_grid.specs.declared.product.Product.TheVariants.{Con, Dir, Acc, Bas, Spl, Rnk}
 use Rattle.drain_grid.specs.Rasters.{Pixels}
+use Rattle.drain_grid.specs.declared.per_product.PerProduct.{PerProduct}
+use Rattle.drain_grid.specs.PerProduct.{of_product, products, rank_of}
 use Rattle.drain_header.specs.Fields.{Fields}
 use Rattle.drain_raster.specs.Pixels.{IsShort, needed_len}
-use Rattle.drain_verdict.specs.declared.headers.Headers.{Headers}
 use Rattle.drain_verdict.specs.declared.input.Products.{Products}
 use Rattle.drain_verdict.specs.declared.refusal.Refusal.{Refusal}
 use Rattle.drain_verdict.specs.declared.refusal.Refusal.TheVariants.{BadSide, BadName, NoTiles, RepeatedTile, BoxTooLarge, BadHeader, WrongShape, Misplaced, BadTileLength, RasterShort, SeamMismatch, OutOfMemory, ReadFailed}
 use Rattle.drain_device.specs.FaultLists.{SomeReadFails}
-use Rattle.drain_verdict.specs.Devices.{products, product_devices}
+use Rattle.drain_verdict.specs.Devices.{product_devices}
 use Rattle.drain_verdict.specs.Inputs.{input_of}
-use Rattle.drain_verdict.specs.Refusals.{rank_of}
-use Rattle.drain_verdict.specs.Stages.{AreRasterBodies, IsRasterOf, IsFirstShort, IsRasterRefusal, IsOneRasterRefusal, header_for}
+use Rattle.drain_verdict.specs.Stages.{AreRasterBodies, IsRasterOf, IsFirstShort, IsRasterRefusal, IsOneRasterRefusal}
 use Rattle.drain_device.proofs.FaultLists.{SomeReadFails-none, SomeReadFails-one, SomeReadFails-then, SomeReadFails-iff, any-first, any-later, any-cases, any-none, untouched, takes-none}
 
 -- the faults of some devices, each of which fails where its own fact holds
@@ -132,18 +132,18 @@ told-fails {S} k r e is =
     )
 
 -- the parts of all products together
-pub record Parts {R : Type 0} (bytes_left : R → Option (List ℕ)) (counts : R → FaultCounts) (hs : Headers) (olds news : Products R) (Fails : Type 0) : Type 0 where
+pub record Parts {R : Type 0} (bytes_left : R → Option (List ℕ)) (counts : R → FaultCounts) (hs : PerProduct Fields) (olds news : Products R) (Fails : Type 0) : Type 0 where
   pub faults : SomeReadFails (map counts (product_devices olds)) (map counts (product_devices news)) Fails
-  pub within : (p : Product) → TakesAtMost (needed_len (header_for hs p)) (bytes_left (input_of olds p).body) (bytes_left (input_of news p).body)
+  pub within : (p : Product) → TakesAtMost (needed_len (of_product hs p)) (bytes_left (input_of olds p).body) (bytes_left (input_of news p).body)
   pub headers : (p : Product) → (input_of news p).header ≡ (input_of olds p).header
 
-first-short : (hs : Headers) (bodies : Product → List ℕ) (k : Product) → ((q : Product) → rank_of q < rank_of k → ¬ IsShort (header_for hs q) (bodies q)) →
-    IsShort (header_for hs k) (bodies k) → IsFirstShort hs bodies k
+first-short : (hs : PerProduct Fields) (bodies : Product → List ℕ) (k : Product) → ((q : Product) → rank_of q < rank_of k → ¬ IsShort (of_product hs q) (bodies q)) →
+    IsShort (of_product hs k) (bodies k) → IsFirstShort hs bodies k
 first-short hs bodies k before short = record { short = short; before = before }
 
 -- a refusal of one product, where those before are long enough, is that of all
-pub refusal-at : (hs : Headers) (bodies : Product → List ℕ) (k : Product) (refusal : Refusal) → ((q : Product) → rank_of q < rank_of k → ¬ IsShort (header_for hs q) (bodies q)) →
-    IsOneRasterRefusal (header_for hs k) k (bodies k) refusal → IsRasterRefusal hs bodies refusal
+pub refusal-at : (hs : PerProduct Fields) (bodies : Product → List ℕ) (k : Product) (refusal : Refusal) → ((q : Product) → rank_of q < rank_of k → ¬ IsShort (of_product hs q) (bodies q)) →
+    IsOneRasterRefusal (of_product hs k) k (bodies k) refusal → IsRasterRefusal hs bodies refusal
 refusal-at hs bodies k (RasterShort p) before (same, short) = let here : k ≡ p = sym same in let found = first-short hs bodies k before short in rw here at found
 refusal-at hs bodies k OutOfMemory before why = tt
 refusal-at hs bodies k ReadFailed before why = tt
@@ -159,7 +159,7 @@ refusal-at hs bodies k (BadTileLength c) before why = why
 refusal-at hs bodies k (SeamMismatch c) before why = why
 
 -- none was refused
-pub parts-all : {R : Type 0} (bytes_left : R → Option (List ℕ)) (counts : R → FaultCounts) (hs : Headers) (ps : Products R) (con dir acc bas spl rnk : R) →
+pub parts-all : {R : Type 0} (bytes_left : R → Option (List ℕ)) (counts : R → FaultCounts) (hs : PerProduct Fields) (ps : Products R) (con dir acc bas spl rnk : R) →
     Part bytes_left counts hs.con ps.con.body con (⊥) (⊥) →
     Part bytes_left counts hs.dir ps.dir.body dir (⊥) (⊥) →
     Part bytes_left counts hs.acc ps.acc.body acc (⊥) (⊥) →
@@ -169,7 +169,7 @@ pub parts-all : {R : Type 0} (bytes_left : R → Option (List ℕ)) (counts : R 
     Parts bytes_left counts hs ps (with_bodies ps con dir acc bas spl rnk) ⊥
 parts-all bytes_left counts hs ps con dir acc bas spl rnk c d a b s r =
     let news = with_bodies ps con dir acc bas spl rnk in
-    let each = by_product (λ p. Part bytes_left counts (header_for hs p) (input_of ps p).body (input_of (with_bodies ps con dir acc bas spl rnk) p).body ⊥ ⊥) c d a b s r in
+    let each = by_product (λ p. Part bytes_left counts (of_product hs p) (input_of ps p).body (input_of (with_bodies ps con dir acc bas spl rnk) p).body ⊥ ⊥) c d a b s r in
     record {
       faults = SomeReadFails-iff ((λ some. some.4), (λ f. absurd f))
           (SomeReadFails-each (λ p. counts (input_of ps p).body) (λ p. counts (input_of news p).body) (λ p. ⊥) products (λ p. (each p).faults));
@@ -178,13 +178,13 @@ parts-all bytes_left counts hs ps con dir acc bas spl rnk c d a b s r =
     }
 
 -- the product k was refused
-pub record Stopped {R T : Type 0} (bytes_left : R → Option (List ℕ)) (counts : R → FaultCounts) (hs : Headers) (olds news : Products R) (r : Result T Refusal) : Type 0 where
+pub record Stopped {R T : Type 0} (bytes_left : R → Option (List ℕ)) (counts : R → FaultCounts) (hs : PerProduct Fields) (olds news : Products R) (r : Result T Refusal) : Type 0 where
   pub refusal : IfErr r (λ refusal. (bodies : Product → List ℕ) → AreRasterBodies bytes_left olds bodies → IsRasterRefusal hs bodies refusal)
   pub parts : Parts bytes_left counts hs olds news (IsErrOf r ReadFailed)
 
-pub stopped-at : {R T : Type 0} (bytes_left : R → Option (List ℕ)) (counts : R → FaultCounts) (hs : Headers) (ps : Products R) (con dir acc bas spl rnk : R) (k : Product) (e : Refusal) (r : Result T Refusal) →
+pub stopped-at : {R T : Type 0} (bytes_left : R → Option (List ℕ)) (counts : R → FaultCounts) (hs : PerProduct Fields) (ps : Products R) (con dir acc bas spl rnk : R) (k : Product) (e : Refusal) (r : Result T Refusal) →
     IsErrAnd r (λ told. told ≡ e) →
-    ((bytes : List ℕ) → bytes_left (input_of ps k).body ≡ Some bytes → IsOneRasterRefusal (header_for hs k) k bytes e) →
+    ((bytes : List ℕ) → bytes_left (input_of ps k).body ≡ Some bytes → IsOneRasterRefusal (of_product hs k) k bytes e) →
     Part bytes_left counts hs.con ps.con.body con ((Con ≡ k) × IsErrOf r ReadFailed) (rank_of Con < rank_of k) →
     Part bytes_left counts hs.dir ps.dir.body dir ((Dir ≡ k) × IsErrOf r ReadFailed) (rank_of Dir < rank_of k) →
     Part bytes_left counts hs.acc ps.acc.body acc ((Acc ≡ k) × IsErrOf r ReadFailed) (rank_of Acc < rank_of k) →
@@ -194,7 +194,7 @@ pub stopped-at : {R T : Type 0} (bytes_left : R → Option (List ℕ)) (counts :
     Stopped bytes_left counts hs ps (with_bodies ps con dir acc bas spl rnk) r
 stopped-at bytes_left counts hs ps con dir acc bas spl rnk k e r told one c d a b s t =
     let news = with_bodies ps con dir acc bas spl rnk in
-    let each = by_product (λ p. Part bytes_left counts (header_for hs p) (input_of ps p).body (input_of (with_bodies ps con dir acc bas spl rnk) p).body ((p ≡ k) × IsErrOf r ReadFailed) (rank_of p < rank_of k)) c d a b s t in
+    let each = by_product (λ p. Part bytes_left counts (of_product hs p) (input_of ps p).body (input_of (with_bodies ps con dir acc bas spl rnk) p).body ((p ≡ k) × IsErrOf r ReadFailed) (rank_of p < rank_of k)) c d a b s t in
     record {
       refusal = told-of r e _ told (λ bodies are. refusal-at hs bodies k e (λ q less. (each q).long less (bodies q) (are q)) (one (bodies k) (are k)));
       parts = record {

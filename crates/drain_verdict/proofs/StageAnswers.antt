@@ -4,16 +4,17 @@ use Rattle.drain_grid.specs.declared.product.Product.{Product}
 use Rattle.drain_grid.specs.declared.product_set.ProductSet.{ProductSet}
 use Rattle.drain_grid.specs.Product.{default_no_data}
 use Rattle.drain_grid.specs.WholeGrid.{raster_in}
+use Rattle.drain_grid.specs.declared.per_product.PerProduct.{PerProduct}
+use Rattle.drain_grid.specs.PerProduct.{of_product}
 use Rattle.drain_header.specs.Fields.{Fields}
 use Rattle.drain_raster.specs.Pixels.{extent_of, raster_of, IsShort}
 use Rattle.drain_mosaic.specs.Tiling as tiling
-use Rattle.drain_verdict.specs.declared.headers.Headers.{Headers}
 use Rattle.drain_verdict.specs.declared.refusal.Refusal.{Refusal}
 use Rattle.drain_verdict.specs.Inputs.{Inputs}
 use Rattle.drain_verdict.specs.Meaning.{tiling_of, fields_of}
 use Rattle.drain_verdict.specs.Refusals.{NoneStandsBefore}
 use Rattle.drain_verdict.specs.Answers.{IsAnswer}
-use Rattle.drain_verdict.specs.Stages.{IsTileRefusal, IsRasterRefusal, IsRasterOf, AreSamplesOf, AreThoseOf, header_for}
+use Rattle.drain_verdict.specs.Stages.{IsTileRefusal, IsRasterRefusal, IsRasterOf, AreSamplesOf, AreThoseOf}
 use Rattle.drain_verdict.proofs.BodyAnswers.{tiles_none, tile_refused, rasters_none, raster_refused}
 
 -- the lengths of the tiles, said of the inputs
@@ -23,14 +24,14 @@ lengths_of i t samples is those = subst (λ (u : tiling.Tiling). AreSamplesOf u.
 pub tiles_answer : (i : Inputs) (t : tiling.Tiling) (refusal : Refusal) → t ≡ tiling_of i → IsTileRefusal t i.tiles refusal → NoneStandsBefore i 5 → IsAnswer i (Err refusal)
 tiles_answer i t refusal is bad none = tile_refused i refusal (subst (λ (u : tiling.Tiling). IsTileRefusal u i.tiles refusal) is bad) none
 
-pub rasters_answer : (i : Inputs) (t : tiling.Tiling) (hs : Headers) (samples : List (List ℤ)) (refusal : Refusal) → t ≡ tiling_of i → ((p : Product) → header_for hs p ≡ fields_of i p) →
+pub rasters_answer : (i : Inputs) (t : tiling.Tiling) (hs : PerProduct Fields) (samples : List (List ℤ)) (refusal : Refusal) → t ≡ tiling_of i → ((p : Product) → of_product hs p ≡ fields_of i p) →
     AreSamplesOf t.side i.tiles samples → IsRasterRefusal hs i.raster refusal → NoneStandsBefore i 5 → IsAnswer i (Err refusal)
 rasters_answer i t hs samples refusal is fields those bad none = raster_refused i hs refusal fields bad (tiles_none i (lengths_of i t samples is those).lengths none)
 
 -- the samples and rasters that were read are those of the inputs
-pub are_those : (i : Inputs) (t : tiling.Tiling) (hs : Headers) (samples : List (List ℤ)) (set : ProductSet) → t ≡ tiling_of i → ((p : Product) → header_for hs p ≡ fields_of i p) →
-    ((p : Product) → extent_of (header_for hs p) ≡ tiling.extent_of t) → AreSamplesOf t.side i.tiles samples →
-    ((p : Product) → IsRasterOf (header_for hs p) p (i.raster p) (raster_in set p)) → AreThoseOf i t samples set
+pub are_those : (i : Inputs) (t : tiling.Tiling) (hs : PerProduct Fields) (samples : List (List ℤ)) (set : ProductSet) → t ≡ tiling_of i → ((p : Product) → of_product hs p ≡ fields_of i p) →
+    ((p : Product) → extent_of (of_product hs p) ≡ tiling.extent_of t) → AreSamplesOf t.side i.tiles samples →
+    ((p : Product) → IsRasterOf (of_product hs p) p (i.raster p) (raster_in set p)) → AreThoseOf i t samples set
 are_those i t hs samples set is fields shapes those rasters = record {
   tiling_is = is;
   samples_are = those.samples_are;
@@ -39,8 +40,8 @@ are_those i t hs samples set is fields shapes those rasters = record {
 }
 
 -- nothing of their kinds stands
-pub none_of_bodies : (i : Inputs) (t : tiling.Tiling) (hs : Headers) (samples : List (List ℤ)) (set : ProductSet) → t ≡ tiling_of i → ((p : Product) → header_for hs p ≡ fields_of i p) →
-    AreSamplesOf t.side i.tiles samples → ((p : Product) → IsRasterOf (header_for hs p) p (i.raster p) (raster_in set p)) → NoneStandsBefore i 5 → NoneStandsBefore i 7
+pub none_of_bodies : (i : Inputs) (t : tiling.Tiling) (hs : PerProduct Fields) (samples : List (List ℤ)) (set : ProductSet) → t ≡ tiling_of i → ((p : Product) → of_product hs p ≡ fields_of i p) →
+    AreSamplesOf t.side i.tiles samples → ((p : Product) → IsRasterOf (of_product hs p) p (i.raster p) (raster_in set p)) → NoneStandsBefore i 5 → NoneStandsBefore i 7
 none_of_bodies i t hs samples set is fields those rasters none =
     rasters_none i (λ p. subst (λ (h : Fields). ¬ IsShort h (i.raster p)) (fields p) (rasters p).long) (tiles_none i (lengths_of i t samples is those).lengths none)
 

@@ -5,13 +5,14 @@ use Rattle.std.specs.List.{AllZip}
 use Rattle.std.proofs.lemmas.List.{length-map}
 use Rattle.std.proofs.lemmas.Slice.Zip.{AllZip-long}
 use Rattle.drain_grid.specs.declared.product.Product.{Product}
+use Rattle.drain_grid.specs.declared.per_product.PerProduct.{PerProduct}
+use Rattle.drain_grid.specs.PerProduct.{of_product}
 use Rattle.drain_hgt.specs.declared.input.TileInput.{TileInput}
 use Rattle.drain_hgt.specs.Corner.{Corner}
 use Rattle.drain_hgt.specs.Name.{Names}
 use Rattle.drain_hgt.specs.Laws.{OneName}
 use Rattle.drain_header.specs.Fields.{Fields}
 use Rattle.drain_mosaic.specs.Tiling.{Tiling}
-use Rattle.drain_verdict.specs.declared.headers.Headers.{Headers}
 use Rattle.drain_verdict.specs.declared.input.Products.{Products}
 use Rattle.drain_verdict.specs.declared.refusal.Refusal.{Refusal}
 use Rattle.drain_verdict.specs.declared.refusal.Refusal.TheVariants.{ReadFailed}
@@ -20,7 +21,7 @@ use Rattle.drain_verdict.specs.Meaning.{tiling_of, fields_of}
 use Rattle.drain_verdict.specs.Refusals.{NoneStandsBefore}
 use Rattle.drain_verdict.specs.Answers.{IsAnswer}
 use Rattle.drain_verdict.specs.Devices.{RasterTakesAtMost, BodyTakesAtMost}
-use Rattle.drain_verdict.specs.Stages.{IsLayoutOf, IsLayoutRefusal, IsHeaderRefusal, IsFirstHeaderRefusal, AreHeadersFor, header_for}
+use Rattle.drain_verdict.specs.Stages.{IsLayoutOf, IsLayoutRefusal, IsHeaderRefusal, IsFirstHeaderRefusal, AreHeadersFor}
 use Rattle.drain_verdict.proofs.LayoutAnswers.{layout_is, layout_none, layout_refused}
 use Rattle.drain_verdict.proofs.HeaderAnswers.{headers_none, headers_are, header_refused}
 
@@ -63,9 +64,9 @@ header_reads_none t ps refusal bad is =
     subst (IsHeaderRefusal t bad.product (input_of ps bad.product).header) same bad.refused
 
 -- the layout is that of the inputs, the headers are what theirs say, and nothing stands before the tiles
-pub started : OneName → {R : Type 0} (bytes_left : R → Option (List ℕ)) (side : ℕ) (tiles : List (TileInput R)) (ps : Products R) (i : Inputs) (t : Tiling) (hs : Headers) →
+pub started : OneName → {R : Type 0} (bytes_left : R → Option (List ℕ)) (side : ℕ) (tiles : List (TileInput R)) (ps : Products R) (i : Inputs) (t : Tiling) (hs : PerProduct Fields) →
     Tell bytes_left side tiles ps i → IsLayoutOf side (names_of tiles) t → AreHeadersFor t ps hs →
-    (t ≡ tiling_of i) × ((p : Product) → header_for hs p ≡ fields_of i p) × NoneStandsBefore i 5
+    (t ≡ tiling_of i) × ((p : Product) → of_product hs p ≡ fields_of i p) × NoneStandsBefore i 5
 started one bytes_left side tiles ps i t hs tell is headers =
     let there = layout_told bytes_left side tiles ps i t tell is in
     let same = layout_is one i tell.corners_are t there in
@@ -73,6 +74,6 @@ started one bytes_left side tiles ps i t hs tell is headers =
     (same, headers_are i ps hs tell.headers_are right, headers_none i ps hs tell.headers_are right (layout_none one i tell.corners_are t there))
 
 -- what a header needs is what its text says
-pub takes_as_told : {R : Type 0} (bytes_left : R → Option (List ℕ)) (t : Tiling) (old new : Products R) (hs : Headers) → AreHeadersFor t old hs → (p : Product) →
-    BodyTakesAtMost bytes_left (header_for hs p) old new p → RasterTakesAtMost bytes_left old new p
+pub takes_as_told : {R : Type 0} (bytes_left : R → Option (List ℕ)) (t : Tiling) (old new : Products R) (hs : PerProduct Fields) → AreHeadersFor t old hs → (p : Product) →
+    BodyTakesAtMost bytes_left (of_product hs p) old new p → RasterTakesAtMost bytes_left old new p
 takes_as_told bytes_left t old new hs headers p taken = subst (λ (h : Fields). BodyTakesAtMost bytes_left h old new p) (headers p).described.fields taken

@@ -3,7 +3,7 @@ use Rattle.std.specs.Prelude.{ℕ, ◌+◌, List, [], ◌∷◌, map, ◌++◌, 
 use Rattle.std.specs.List.{AllZip}
 use Rattle.drain_device.specs.Reads.{TakesAtMost}
 use Rattle.drain_grid.specs.declared.product.Product.{Product}
-use Rattle.drain_grid.specs.declared.product.Product.TheVariants.{Con, Dir, Acc, Bas, Spl, Rnk}
+use Rattle.drain_grid.specs.PerProduct.{products}
 use Rattle.drain_text.specs.Text.{lines_of}
 use Rattle.drain_hgt.specs.declared.input.TileInput.{TileInput}
 use Rattle.drain_hgt.specs.Samples.{tile_length}
@@ -12,10 +12,6 @@ use Rattle.drain_header.specs.Header.{header_of}
 use Rattle.drain_raster.specs.Pixels.{needed_len}
 use Rattle.drain_verdict.specs.declared.input.Products.{Products}
 use Rattle.drain_verdict.specs.Inputs.{input_of}
-
--- the products in their order
-abbrev pub products : List Product
-products = Con ∷ Dir ∷ Acc ∷ Bas ∷ Spl ∷ Rnk ∷ []
 
 -- the devices of the tiles, and those of the products
 abbrev pub tile_devices : {R : Type 0} → List (TileInput R) → List R

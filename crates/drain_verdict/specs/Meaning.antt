@@ -2,7 +2,7 @@
 use Rattle.std.specs.Prelude.{ℤ, List, map, unwrap_or}
 use Rattle.drain_grid.specs.declared.cell.Cell.{Cell}
 use Rattle.drain_grid.specs.declared.product.Product.{Product}
-use Rattle.drain_grid.specs.declared.product.Product.TheVariants.{Con, Dir, Acc, Bas, Spl, Rnk}
+use Rattle.drain_grid.specs.PerProduct.{per_product}
 use Rattle.drain_grid.specs.Product.{default_no_data}
 use Rattle.drain_text.specs.Text.{lines_of}
 use Rattle.drain_grid.specs.Values.{NoDataNumbers}
@@ -36,25 +36,11 @@ abbrev pub number_of : Inputs → Product → Cell → ℤ
 number_of i p c = pixel_at (fields_of i p) (i.raster p) c
 
 abbrev pub products_of : Inputs → grid.Products
-products_of i = record {
-  con = number_of i Con;
-  dir = number_of i Dir;
-  acc = number_of i Acc;
-  bas = number_of i Bas;
-  spl = number_of i Spl;
-  rnk = number_of i Rnk;
-}
+products_of i = per_product (number_of i)
 
 -- the number that stands for no data in a product: the header's, or else the product's default
 abbrev pub nodata_of : Inputs → Product → ℤ
 nodata_of i p = unwrap_or (fields_of i p).nodata (default_no_data p)
 
 abbrev pub nodata_numbers : Inputs → NoDataNumbers
-nodata_numbers i = record {
-  con = nodata_of i Con;
-  dir = nodata_of i Dir;
-  acc = nodata_of i Acc;
-  bas = nodata_of i Bas;
-  spl = nodata_of i Spl;
-  rnk = nodata_of i Rnk;
-}
+nodata_numbers i = per_product (nodata_of i)

@@ -4,7 +4,7 @@ use Rattle.std.specs.Ordering.{int_eq}
 use Rattle.drain_grid.specs.declared.cell.Cell.{Cell}
 use Rattle.drain_grid.specs.declared.degree.TheConstants.{UNITS_PER_DEGREE}
 use Rattle.drain_grid.specs.declared.product.Product.{Product}
-use Rattle.drain_grid.specs.declared.product.Product.TheVariants.{Con, Dir, Acc, Bas, Spl, Rnk}
+use Rattle.drain_grid.specs.PerProduct.{rank_of}
 use Rattle.drain_grid.specs.Extent.{IsCellOf, index_of}
 use Rattle.drain_grid.specs.Tile.{IsSide}
 use Rattle.drain_hgt.specs.Corner.{Corner}
@@ -79,15 +79,6 @@ IsOfBodies (SeamMismatch c) = Unit {0}
 IsOfBodies OutOfMemory = Unit {0}
 IsOfBodies ReadFailed = Unit {0}
 IsOfBodies refusal = ⊥
-
--- the place of a product in their order
-abbrev pub rank_of : Product → ℕ
-rank_of Con = 0
-rank_of Dir = 1
-rank_of Acc = 2
-rank_of Bas = 3
-rank_of Spl = 4
-rank_of Rnk = 5
 
 -- the first place of the corner in the list, its length where it isn't there
 abbrev pub place_among : List Corner → Corner → ℕ

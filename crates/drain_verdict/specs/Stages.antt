@@ -2,7 +2,7 @@
 use Rattle.std.specs.Prelude.{◌≡◌, ℕ, ◌<◌, ℤ, List, map, slice_get, Option, Some, Err}
 use Rattle.std.specs.List.{All, AllZip}
 use Rattle.drain_grid.specs.declared.product.Product.{Product}
-use Rattle.drain_grid.specs.declared.product.Product.TheVariants.{Con, Dir, Acc, Bas, Spl, Rnk}
+use Rattle.drain_grid.specs.declared.per_product.PerProduct.{PerProduct}
 use Rattle.drain_grid.specs.declared.product_set.ProductSet.{ProductSet}
 use Rattle.drain_text.specs.First.{IsFirst}
 use Rattle.drain_grid.specs.Product.{default_no_data}
@@ -10,6 +10,7 @@ use Rattle.drain_grid.specs.Rasters.{Heights, Pixels}
 use Rattle.drain_grid.specs.Tile.{IsSide}
 use Rattle.drain_grid.specs.Whole.{elevation_at}
 use Rattle.drain_grid.specs.WholeGrid.{raster_in}
+use Rattle.drain_grid.specs.PerProduct.{of_product, rank_of}
 use Rattle.drain_hgt.specs.declared.input.TileInput.{TileInput}
 use Rattle.drain_hgt.specs.Corner.{Corner}
 use Rattle.drain_hgt.specs.Name.{Names}
@@ -24,13 +25,12 @@ use Rattle.drain_mosaic.specs.declared.seams.SeamFault.TheVariants as seam
 use Rattle.drain_mosaic.specs.Tiling as tiling
 use Rattle.drain_mosaic.specs.LayoutFaults.{HasLayoutFault, order_of}
 use Rattle.drain_mosaic.specs.Mosaic.{tiles_of, TilesAgree, IsElevation, IsFirstSeam}
-use Rattle.drain_verdict.specs.declared.headers.Headers.{Headers}
 use Rattle.drain_verdict.specs.declared.input.Products.{Products}
 use Rattle.drain_verdict.specs.declared.refusal.Refusal.{Refusal}
 use Rattle.drain_verdict.specs.declared.refusal.Refusal.TheVariants.{BadSide, BadName, NoTiles, RepeatedTile, BoxTooLarge, BadHeader, WrongShape, Misplaced, BadTileLength, RasterShort, SeamMismatch, OutOfMemory, ReadFailed}
 use Rattle.drain_verdict.specs.Inputs.{Inputs, input_of}
 use Rattle.drain_verdict.specs.Meaning.{tiling_of, fields_of}
-use Rattle.drain_verdict.specs.Refusals.{IsBadName, IsPlaced, HasShape, rank_of}
+use Rattle.drain_verdict.specs.Refusals.{IsBadName, IsPlaced, HasShape}
 
 -- the names are those of tiles that make a mosaic
 pub record IsLayoutOf (side : ℕ) (names : List (List ℕ)) (t : tiling.Tiling) : Type 0 where
@@ -99,18 +99,9 @@ IsHeaderRefusal t p text (WrongShape q) = (q ≡ p) × HasWrongShape t text
 IsHeaderRefusal t p text (Misplaced q) = (q ≡ p) × IsElsewhere t text
 IsHeaderRefusal t p text refusal = ⊥
 
--- the header of a product among all of them
-abbrev pub header_for : Headers → Product → Fields
-header_for hs Con = hs.con
-header_for hs Dir = hs.dir
-header_for hs Acc = hs.acc
-header_for hs Bas = hs.bas
-header_for hs Spl = hs.spl
-header_for hs Rnk = hs.rnk
-
 -- the header of each product is right
-abbrev pub AreHeadersFor : {R : Type 0} → tiling.Tiling → Products R → Headers → Type 0
-AreHeadersFor t ps hs = (p : Product) → IsHeaderFor t (input_of ps p).header (header_for hs p)
+abbrev pub AreHeadersFor : {R : Type 0} → tiling.Tiling → Products R → PerProduct Fields → Type 0
+AreHeadersFor t ps hs = (p : Product) → IsHeaderFor t (input_of ps p).header (of_product hs p)
 
 -- the first product whose header is refused, and why
 pub record IsFirstHeaderRefusal {R : Type 0} (t : tiling.Tiling) (ps : Products R) (refusal : Refusal) : Type 0 where
@@ -165,12 +156,12 @@ IsOneRasterRefusal h p body ReadFailed = Unit {0}
 IsOneRasterRefusal h p body refusal = ⊥
 
 -- the body of the product is the first that is too short
-pub record IsFirstShort (hs : Headers) (bodies : Product → List ℕ) (p : Product) : Type 0 where
-  pub short : IsShort (header_for hs p) (bodies p)
-  pub before : (q : Product) → rank_of q < rank_of p → ¬ IsShort (header_for hs q) (bodies q)
+pub record IsFirstShort (hs : PerProduct Fields) (bodies : Product → List ℕ) (p : Product) : Type 0 where
+  pub short : IsShort (of_product hs p) (bodies p)
+  pub before : (q : Product) → rank_of q < rank_of p → ¬ IsShort (of_product hs q) (bodies q)
 
 -- why the bodies of products are refused
-abbrev pub IsRasterRefusal : Headers → (Product → List ℕ) → Refusal → Type 0
+abbrev pub IsRasterRefusal : PerProduct Fields → (Product → List ℕ) → Refusal → Type 0
 IsRasterRefusal hs bodies (RasterShort p) = IsFirstShort hs bodies p
 IsRasterRefusal hs bodies OutOfMemory = Unit {0}
 IsRasterRefusal hs bodies ReadFailed = Unit {0}

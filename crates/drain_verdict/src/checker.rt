@@ -6,18 +6,19 @@
 ghost use Rattle.std.specs.Prelude.{◌≡◌, ◌↔◌, length, map, Err, IfErr, IsErrOf};
 ghost use Rattle.drain_grid.specs.declared.product.Product.{Product};
 ghost use Rattle.drain_mosaic.specs.Mosaic.{AreTiles, TilesAgree, tiles_of};
+ghost use Rattle.drain_grid.specs.PerProduct.{of_product};
 ghost use Rattle.drain_mosaic.specs.Tiling as tiling;
 ghost use Rattle.drain_raster.specs.Pixels.{extent_of};
 ghost use Rattle.drain_verdict.specs.Inputs.{Inputs, Tell, input_of, names_of};
 ghost use Rattle.drain_verdict.specs.Meaning.{tiling_of, fields_of};
 ghost use Rattle.drain_verdict.specs.Refusals.{IsOfBodies, NoneStandsBefore};
 ghost use Rattle.drain_verdict.specs.Answers.{IsAnswer};
-ghost use Rattle.drain_verdict.specs.Stages.{AreBodies, AreRasterBodies, AreThoseOf, header_for};
+ghost use Rattle.drain_verdict.specs.Stages.{AreBodies, AreRasterBodies, AreThoseOf};
 ghost use Rattle.drain_device.specs.FaultLists.{SomeReadFails};
 ghost use Rattle.drain_verdict.specs.Devices.{devices_of, TilesTakeAtMost, RasterTakesAtMost, BodyTakesAtMost};
 ghost use Rattle.drain_verdict.specs.Headline.{AcceptedMeans, TilesAreOne, ElevationIsTheirs, ConIsLeast, NoDirectionClimbs, DirectionsAreSteepest, CodesTellOutlets, RunsEnd, RunsEndAtOutlets, RunsVisitOnce, AccCountsUpstream, LabelsTellBasins, VoidsAreBlank, DataIsComplete};
 
-use crate::headers::{Headers, read_headers};
+use crate::headers::read_headers;
 use crate::input::Products;
 use crate::layout::layout_of;
 use crate::rasters::read_products;
@@ -25,8 +26,9 @@ use crate::refusal::Refusal;
 use crate::seams::elevation_of;
 use crate::tiles::read_tiles;
 use drain_device::ByteSource;
-use drain_grid::ProductSet;
+use drain_grid::{PerProduct, ProductSet};
 use drain_grid::laws::correct_from_rules;
+use drain_header::Header;
 use drain_hgt::TileInput;
 use drain_hgt::laws::one_name;
 use drain_mosaic::Layout;
@@ -123,17 +125,17 @@ fn answer_of<R: ByteSource>(
 fn check_bodies<R: ByteSource>(
     alloc: Global,
     layout: &Layout,
-    headers: &Headers,
+    headers: &PerProduct<Header>,
     tiles: &mut [TileInput<R>],
     products: &mut Products<R>,
 ) -> Result<Verdict, Refusal>
     requires named { length tiles.old ≡ length layout.now.corners }
-    requires shapes { (p : Product) → extent_of (header_for headers.now p) ≡ tiling.extent_of layout.now }
-    ensures answer { (inputs : Inputs) → layout.now ≡ tiling_of inputs → ((p : Product) → header_for headers.now p ≡ fields_of inputs p)
+    requires shapes { (p : Product) → extent_of (of_product headers.now p) ≡ tiling.extent_of layout.now }
+    ensures answer { (inputs : Inputs) → layout.now ≡ tiling_of inputs → ((p : Product) → of_product headers.now p ≡ fields_of inputs p)
         → AreBodies R.bytes_left tiles.old inputs.tiles → AreRasterBodies R.bytes_left products.old inputs.raster
         → NoneStandsBefore inputs 5 → IsAnswer inputs result }
     ensures tiles_within { TilesTakeAtMost R.bytes_left layout.now.side tiles.old tiles.new }
-    ensures rasters_within { (p : Product) → BodyTakesAtMost R.bytes_left (header_for headers.now p) products.old products.new p }
+    ensures rasters_within { (p : Product) → BodyTakesAtMost R.bytes_left (of_product headers.now p) products.old products.new p }
     ensures faults { SomeReadFails (map R.counts (devices_of tiles.old products.old)) (map R.counts (devices_of tiles.new products.new)) (IsErrOf result Refusal.ReadFailed) }
     ensures names { names_of tiles.new ≡ names_of tiles.old }
     ensures headers { (p : Product) → (input_of products.new p).header ≡ (input_of products.old p).header }

@@ -1,28 +1,17 @@
 //! The headers of all products: each is read, and must give the shape and the place of the mosaic.
 
-ghost use Rattle.std.specs.Prelude.{◌≡◌, ◌-◌, ◌*◌, ◌^◌, ◌≤◌, ◌*ℤ◌, ◌↔◌, pos, nat_abs, IsTrue, IfOk, IfErr};
+ghost use Rattle.std.specs.Prelude.{◌≡◌, ◌↔◌, IsTrue, IfOk, IfErr};
 ghost use Rattle.drain_raster.specs.Pixels.{extent_of};
 ghost use Rattle.drain_mosaic.specs.Tiling as tiling;
-ghost use Rattle.drain_verdict.specs.Refusals.{AreWithin, IsPlaced};
+ghost use Rattle.drain_verdict.specs.Inputs.{input_of};
 ghost use Rattle.drain_verdict.specs.Stages.{IsHeaderFor, IsHeaderRefusal, AreHeadersFor, IsFirstHeaderRefusal};
 
 use crate::input::Products;
 use crate::placing::is_placed;
 use crate::refusal::Refusal;
-use drain_grid::Product;
+use drain_grid::{PerProduct, Product};
 use drain_header::{Header, parse_header};
 use drain_mosaic::Layout;
-
-/// A header for each product, each with the shape and the place of the mosaic.
-#[derive(Drop)]
-pub struct Headers {
-    pub con: Header,
-    pub dir: Header,
-    pub acc: Header,
-    pub bas: Header,
-    pub spl: Header,
-    pub rnk: Header,
-}
 
 /// Whether the header gives the rows and columns of the mosaic.
 fn has_shape(layout: &Layout, header: &Header) -> bool
@@ -56,22 +45,16 @@ fn read_header(layout: &Layout, product: Product, text: &[u8]) -> Result<Header,
 /// A header is refused for its own first fault (`BadHeader`), then where its rows or columns aren't those of the mosaic (`WrongShape`),
 /// then where its corner lies more than 10^-6 degree from the mosaic's or its pixels differ from samples by more than 10^-9 degree
 /// (`Misplaced`).
-pub fn read_headers<R>(layout: &Layout, products: &Products<R>) -> Result<Headers, Refusal>
+pub fn read_headers<R>(
+    layout: &Layout,
+    products: &Products<R>,
+) -> Result<PerProduct<Header>, Refusal>
     ensures headers { IfOk result (AreHeadersFor layout.now products.now) }
     ensures refusal { IfErr result (IsFirstHeaderRefusal layout.now products.now) }
 {
-    let con = read_header(layout, Product::Con, products.con.header.as_slice())?;
-    let dir = read_header(layout, Product::Dir, products.dir.header.as_slice())?;
-    let acc = read_header(layout, Product::Acc, products.acc.header.as_slice())?;
-    let bas = read_header(layout, Product::Bas, products.bas.header.as_slice())?;
-    let spl = read_header(layout, Product::Spl, products.spl.header.as_slice())?;
-    let rnk = read_header(layout, Product::Rnk, products.rnk.header.as_slice())?;
-    Ok(Headers {
-        con,
-        dir,
-        acc,
-        bas,
-        spl,
-        rnk,
-    })
+    let read = |product: Product| -> Result<Header, Refusal>
+        ensures header { IfOk result (IsHeaderFor layout.entry.now (input_of products.entry.now product).header) }
+        ensures refusal { IfErr result (IsHeaderRefusal layout.entry.now product (input_of products.entry.now product).header) }
+    { read_header(layout, product, products.of(product).header.as_slice()) };
+    PerProduct::from_each(&read)
 }

@@ -4,19 +4,19 @@ ghost use Rattle.std.specs.Prelude.{◌≡◌, ℕ, List, Some, IfOk, IfErr, IsE
 ghost use Rattle.drain_device.specs.Failing.{ReadFails};
 ghost use Rattle.drain_device.specs.Reads.{TakesAtMost};
 ghost use Rattle.drain_grid.specs.declared.product.Product.{Product};
+ghost use Rattle.drain_grid.specs.PerProduct.{of_product};
 ghost use Rattle.drain_grid.specs.WholeGrid.{raster_in};
 ghost use Rattle.drain_raster.specs.Pixels.{extent_of, needed_len};
 ghost use Rattle.drain_device.specs.FaultLists.{SomeReadFails};
 ghost use Rattle.drain_verdict.specs.Devices.{product_devices};
 ghost use Rattle.drain_verdict.specs.Inputs.{input_of};
 ghost use Rattle.drain_verdict.specs.Refusals.{IsOfBodies};
-ghost use Rattle.drain_verdict.specs.Stages.{AreRasterBodies, IsRasterOf, IsOneRasterRefusal, IsRasterRefusal, header_for};
+ghost use Rattle.drain_verdict.specs.Stages.{AreRasterBodies, IsRasterOf, IsOneRasterRefusal, IsRasterRefusal};
 
-use crate::headers::Headers;
 use crate::input::Products;
 use crate::refusal::Refusal;
 use drain_device::{BodyFault, ByteSource, read_body};
-use drain_grid::{Product, ProductSet, Raster};
+use drain_grid::{PerProduct, Product, ProductSet, Raster};
 use drain_header::Header;
 use drain_raster::laws::only_needed_bytes_count;
 use drain_raster::{RasterFault, needed_len, read_raster};
@@ -28,18 +28,18 @@ use std::alloc::Global;
 /// `OutOfMemory` where there is no memory for its bytes or its numbers. The devices of the products behind it aren't read.
 pub fn read_products<R: ByteSource>(
     alloc: Global,
-    headers: &Headers,
+    headers: &PerProduct<Header>,
     products: &mut Products<R>,
 ) -> Result<ProductSet, Refusal>
-    requires one_shape { (p : Product) → extent_of (header_for headers.now p) ≡ extent_of headers.now.con }
-    ensures rasters { IfOk result (λ set. (bodies : Product → List ℕ) → AreRasterBodies R.bytes_left products.old bodies → (p : Product) → IsRasterOf (header_for headers.now p) p (bodies p) (raster_in set p)) }
+    requires one_shape { (p : Product) → extent_of (of_product headers.now p) ≡ extent_of headers.now.con }
+    ensures rasters { IfOk result (λ set. (bodies : Product → List ℕ) → AreRasterBodies R.bytes_left products.old bodies → (p : Product) → IsRasterOf (of_product headers.now p) p (bodies p) (raster_in set p)) }
     ensures shape { IfOk result (λ set. set.con.extent ≡ extent_of headers.now.con) }
     ensures refusal { IfErr result (λ refusal. (bodies : Product → List ℕ) → AreRasterBodies R.bytes_left products.old bodies → IsRasterRefusal headers.now bodies refusal) }
     ensures of_bodies { IfErr result IsOfBodies }
 
     // A read fails exactly where the device of some product gives up; each gives at most the needed bytes.
     ensures faults { SomeReadFails (map R.counts (product_devices products.old)) (map R.counts (product_devices products.new)) (IsErrOf result Refusal.ReadFailed) }
-    ensures within { (p : Product) → TakesAtMost (needed_len (header_for headers.now p)) (R.bytes_left (input_of products.old p).body) (R.bytes_left (input_of products.new p).body) }
+    ensures within { (p : Product) → TakesAtMost (needed_len (of_product headers.now p)) (R.bytes_left (input_of products.old p).body) (R.bytes_left (input_of products.new p).body) }
     ensures headers { (p : Product) → (input_of products.new p).header ≡ (input_of products.old p).header }
 {
     let con = read_product(alloc, Product::Con, &headers.con, &mut products.con.body)?;
