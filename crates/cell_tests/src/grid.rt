@@ -4,8 +4,8 @@ ghost use Rattle.std.specs.Prelude.{◌≡◌, IfOk};
 
 use drain_grid::tile::{height_from, is_side};
 use drain_grid::{
-    Cell, CellValues, Code, Direction, Elevation, NoData, Patch, Product, ProductSet, Raster, Rule,
-    Shape, VOID,
+    Cell, CellValues, Code, Direction, Elevation, NoData, Patch, PerProduct, Product, ProductSet,
+    Raster, Rule, Shape, VOID,
 };
 use std::alloc::{AllocError, Global};
 use std::test::Fail;
