@@ -14,7 +14,6 @@ ghost use Rattle.drain_grid.specs.PatchRules.{flow_rules, inflow, total};
 ghost use Rattle.drain_grid.specs.Rule.{IsOnly, IsLeastFault};
 ghost use Rattle.drain_grid.specs.Values.{IsPixel};
 
-
 use drain_grid::{CellValues, Direction, Patch, Rule};
 
 /// The rule, where it fails at the cell, none where it holds. A void keeps it.

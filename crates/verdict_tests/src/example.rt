@@ -131,14 +131,23 @@ pub fn products_on(
     })
 }
 
-/// The tile N00E000 and its products: the samples, then the numbers of one product after the other.
-pub fn one_tile(alloc: Global, side: u32, numbers: &[i64]) -> Result<Example, AllocError> {
+/// A tile and its products with these lines of a header on their grid: the samples, then the numbers of one product after the other.
+pub fn tile_on(
+    alloc: Global,
+    side: u32,
+    name: &str,
+    grid: &str,
+    numbers: &[i64],
+) -> Result<Example, AllocError> {
     let cells = numbers.len() / 7;
-    let mut example = products_on(alloc, side, grid_of(side), &numbers[cells..])?;
-    example
-        .tiles
-        .push(tile(alloc, "N00E000.hgt", &numbers[..cells])?)?;
+    let mut example = products_on(alloc, side, grid, &numbers[cells..])?;
+    example.tiles.push(tile(alloc, name, &numbers[..cells])?)?;
     Ok(example)
+}
+
+/// The tile N00E000 and its products.
+pub fn one_tile(alloc: Global, side: u32, numbers: &[i64]) -> Result<Example, AllocError> {
+    tile_on(alloc, side, "N00E000.hgt", grid_of(side), numbers)
 }
 
 fn bare_raster(alloc: Global, header: &str) -> Result<RasterBytes, AllocError> {

@@ -1,6 +1,6 @@
 //! Headers of the pit's products on the tile S01E007: which are right, and which fault is told of those that aren't.
 
-use crate::example::{header_on, products_on, tile};
+use crate::example::{header_on, tile_on};
 use crate::runs::told;
 use drain_grid::Product;
 use drain_verdict::line::Line;
@@ -25,9 +25,7 @@ const TOO_NARROW: &str = "NROWS 3\nNCOLS 3\nULXMAP 7\nULYMAP 0\nXDIM 0.499999998
 
 /// The line of the pit whose con and acc have headers with these lines on their grid, where the others are right.
 fn line_of(alloc: Global, con: &str, acc: &str) -> Result<Line, Fail> {
-    let pit = pit();
-    let mut example = products_on(alloc, 3, RIGHT, &pit[9..])?;
-    example.tiles.push(tile(alloc, "S01E007.hgt", &pit[..9])?)?;
+    let mut example = tile_on(alloc, 3, "S01E007.hgt", RIGHT, &pit())?;
     example.con.header = header_on(alloc, Product::Con, con)?;
     example.acc.header = header_on(alloc, Product::Acc, acc)?;
     told(alloc, &example)
