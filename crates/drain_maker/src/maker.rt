@@ -22,7 +22,7 @@ use thiserror::Error;
 #[derive(Clone, Copy, PartialEq, Eq, Debug, Error)]
 pub enum MakeRefusal {
     /// What was built failed the maker's own test. No input is known that comes to this.
-    #[error("the products that were made failed their test")]
+    #[error("the products that were made break a rule")]
     MakerFault,
     /// Memory was refused.
     #[error("out of memory")]
