@@ -1,10 +1,13 @@
 //! From tiles to products, to files in memory, and to the check of these files. The expected lines were worked out by hand.
 
 use crate::printed::{room, told};
-use drain_cli::{FILE_COUNT, make_set, run_check, write_set};
+use drain_cli::make_set::make_set;
+use drain_cli::run_check::run_check;
+use drain_cli::write_set::write_set;
 use drain_device::faults::{ScriptSink, Scripted, SinkAnswer};
 use drain_device::{ByteList, SliceSource, VecSink};
 use drain_hgt::TileInput;
+use drain_maker::product_files::FILE_COUNT;
 use drain_verdict::{Products, RasterInput};
 use std::alloc::{AllocError, Global};
 use std::test::Fail;
