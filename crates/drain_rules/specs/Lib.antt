@@ -1,9 +1,14 @@
 pub mod Fill
 pub mod FillVerdicts
 pub mod Filled
+pub mod Findings
+pub mod GridWalks
 pub mod Labels
 pub mod Laws
 pub mod Parts
+pub mod PatchRows
+pub mod RowNumbers
 pub mod Rows
 pub mod Stops
+pub mod ThreeRows
 pub mod Verdicts
