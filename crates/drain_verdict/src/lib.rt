@@ -4,18 +4,24 @@
 pub mod answer_report;
 pub mod checker;
 pub mod fill_line;
+mod grid_rows;
 mod headers;
+mod held_row;
 pub mod input;
+mod input_rows;
 pub mod laws;
 mod layout;
 pub mod line;
 pub mod mosaic;
+mod next_rows;
 mod placing;
 mod rasters;
 pub mod refusal;
+mod row_verdict;
 mod seams;
 mod tiles;
 pub mod verdict_report;
+mod window;
 
 pub use answer_report::report;
 pub use checker::check;
