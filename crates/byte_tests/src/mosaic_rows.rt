@@ -105,7 +105,12 @@ fn rows_of_two_tiles(rt: HostRuntime) -> Result<(), Fail> {
             let last = input(rt.alloc(), &bytes[..east], most, &[])?;
             let given = four_calls(rt.alloc(), BESIDE, first, last)?;
             assert_eq!(rt;
-                (given.answers, given.numbers.as_slice(), given.seam, given.wrong_length),
+                (
+                    given.answers,
+                    given.numbers.as_slice(),
+                    given.seam,
+                    given.wrong_length
+                ),
                 (WHOLE, numbers.as_slice(), seam, wrong),
                 "{west} and {east} bytes, {most} at a call"
             );
@@ -119,16 +124,41 @@ fn rows_of_two_tiles(rt: HostRuntime) -> Result<(), Fail> {
 fn rows_of_a_tile_above_another(rt: HostRuntime) -> Result<(), Fail> {
     const SOUTH: [u8; 8] = [0, 3, 0, 9, 0, 7, 0, 8];
     for (names, first, last, numbers) in [
-        (["N01E000.hgt", "N00E000.hgt"], &WEST[..8], &SOUTH[..], [1, 2, 3, 4, 7, 8]),
-        (["N00E000.hgt", "N01E000.hgt"], &SOUTH[..], &WEST[..8], [1, 2, 3, 9, 7, 8]),
+        (
+            ["N01E000.hgt", "N00E000.hgt"],
+            &WEST[..8],
+            &SOUTH[..],
+            [1, 2, 3, 4, 7, 8],
+        ),
+        (
+            ["N00E000.hgt", "N01E000.hgt"],
+            &SOUTH[..],
+            &WEST[..8],
+            [1, 2, 3, 9, 7, 8],
+        ),
     ] {
         let first = input(rt.alloc(), first, 100, &[])?;
         let last = input(rt.alloc(), last, 100, &[])?;
         let given = four_calls(rt.alloc(), names, first, last)?;
-        let answers = [Ok(RowStep::Row), Ok(RowStep::Row), Ok(RowStep::Row), Ok(RowStep::Ended)];
+        let answers = [
+            Ok(RowStep::Row),
+            Ok(RowStep::Row),
+            Ok(RowStep::Row),
+            Ok(RowStep::Ended),
+        ];
         assert_eq!(rt;
-            (given.answers, given.numbers.as_slice(), given.seam, given.wrong_length),
-            (answers, numbers.as_slice(), Some(Cell { row: 1, col: 1 }), None)
+            (
+                given.answers,
+                given.numbers.as_slice(),
+                given.seam,
+                given.wrong_length
+            ),
+            (
+                answers,
+                numbers.as_slice(),
+                Some(Cell { row: 1, col: 1 }),
+                None
+            )
         );
     }
     Ok(())
@@ -149,8 +179,11 @@ fn a_device_that_fails(rt: HostRuntime) -> Result<(), Fail> {
         }
         answers[call as usize - 1] = Err(ReadFault::ReadFailed);
         for east_fails in [false, true] {
-            let (west, east): (&[Scripted<DeviceFault>], &[Scripted<DeviceFault>]) =
-                if east_fails { (&[], &script) } else { (&script, &[]) };
+            let (west, east): (&[Scripted<DeviceFault>], &[Scripted<DeviceFault>]) = if east_fails {
+                (&[], &script)
+            } else {
+                (&script, &[])
+            };
             let first = input(rt.alloc(), &WEST, 100, west)?;
             let last = input(rt.alloc(), &EAST[..8], 100, east)?;
             let given = four_calls(rt.alloc(), BESIDE, first, last)?;

@@ -282,7 +282,10 @@ fn heights_told(alloc: Global) -> Result<(Shape, [Option<i16>; 2]), Fail> {
     let shape = Shape::new(1, 2).ok_or("a shape")?;
     let elevation = Elevation::new(shape, vec![in alloc; 8, VOID]?);
     let east = elevation.z(Cell { row: 0, col: 1 });
-    Ok((elevation.shape(), [elevation.z(Cell { row: 0, col: 0 }), east]))
+    Ok((
+        elevation.shape(),
+        [elevation.z(Cell { row: 0, col: 0 }), east],
+    ))
 }
 
 #[test]
