@@ -1,5 +1,5 @@
 -- One row more of a grid: how many of its cells pass a test; and from rows to the verdict.
-use Rattle.std.proofs.Common.{◌≡◌, ℕ, zero, suc, ◌+◌, ◌<◌, ◌≤◌, ◌*◌, Bool, length, List, [], ◌∷◌, ◌++◌, refl, sym, ◌∙◌, ap, inl, inr, arith, subst, add-one}
+use Rattle.std.proofs.Common.{◌≡◌, ℕ, zero, suc, ◌+◌, ◌<◌, ◌≤◌, ◌*◌, Bool, length, [], ◌∷◌, ◌++◌, refl, sym, ◌∙◌, ap, inl, inr, arith, subst, add-one}
 use Rattle.std.specs.List.{count_by, flat_map, range_with_len}
 use Rattle.std.proofs.lemmas.List.Sums.{sum_by-append, count_by-le-length}
 use Rattle.std.proofs.lemmas.List.{flat_map_more}
@@ -16,21 +16,11 @@ use Rattle.drain_grid.specs.PatchRules.{Profile, fill_rules, check_rules}
 use Rattle.drain_grid.specs.GridRules.{HoldsAt, RulesHold, IsEarlierPair, IsFirstFault}
 use Rattle.drain_rules.specs.declared.fill_walk.FillVerdict.TheVariants as fill
 use Rattle.drain_rules.specs.declared.tally.Tally.{Tally}
-use Rattle.drain_rules.specs.declared.verdict.Verdict.TheVariants.{Accepted}
 use Rattle.drain_rules.specs.FillVerdicts.{IsFillVerdict}
 use Rattle.drain_rules.specs.Labels.{HasNewLabel}
-use Rattle.drain_rules.specs.Verdicts.{has_outlet_code, IsVerdict}
+use Rattle.drain_rules.specs.Verdicts.{has_outlet_code}
+use Rattle.drain_rules.specs.Findings.{cells_above, CountsAbove}
 use Rattle.drain_rules.specs.Rows.{place, HoldAlong, CountsAlong, IsRowFault, IsNewLabelAlong}
-
--- the cells of the first rows
-abbrev pub cells_above : Grid → ℕ → List Cell
-cells_above g rows = flat_map (row_cells g.extent.cols) (range_with_len 0 rows)
-
--- how many of them have data, are raised, and are outlets by their code
-pub record CountsAbove (g : Grid) (ps : Products) (rows : ℕ) (tally : Tally) : Type 0 where
-  pub data_cells : tally.data_cells ≡ count_by (is_data g) (cells_above g rows)
-  pub raised : tally.raised ≡ count_by (is_raised g ps) (cells_above g rows)
-  pub outlets : tally.outlets ≡ count_by (has_outlet_code g ps) (cells_above g rows)
 
 range_with_len-more : (a n : ℕ) → range_with_len a (suc n) ≡ range_with_len a n ++ (a + n) ∷ []
 range_with_len-more a zero = let e : a + 0 ≡ a = omega arith in rw e refl
@@ -138,20 +128,7 @@ RulesHold-rows : (profile : Profile) (IsOwn : Rule → Type 0) (g : Grid) (ps : 
     ((row : ℕ) → row < g.extent.rows → HoldAlong profile IsOwn g ps row g.extent.cols) → RulesHold profile IsOwn g ps
 RulesHold-rows profile IsOwn g ps holds c r inside own = holds c.row inside.row c.col r inside.col own
 
--- with the counts of all rows, they make the acceptance of a grid's products
-pub IsVerdict-above : (nodata : NoDataNumbers) (g : Grid) (ps : Products) (total : Tally) → CountsAbove g ps g.extent.rows total →
-    ((row : ℕ) → row < g.extent.rows → HoldAlong (check_rules nodata) IsAnyRule g ps row g.extent.cols) →
-    IsVerdict g ps nodata (Accepted (record {
-      rows = g.extent.rows;
-      cols = g.extent.cols;
-      data_cells = total.data_cells;
-      raised = total.raised;
-      outlets = total.outlets;
-    }))
-IsVerdict-above nodata g ps total counted holds =
-    (RulesHold-rows (check_rules nodata) IsAnyRule g ps holds, rw (counted.data_cells, counted.raised, counted.outlets) refl)
-
--- and that of a fill input
+-- with the counts of all rows, they make the acceptance of a fill input
 pub IsFillVerdict-above : (g : Grid) (ps : Products) (total : Tally) → CountsAbove g ps g.extent.rows total →
     ((row : ℕ) → row < g.extent.rows → HoldAlong fill_rules IsFillRule g ps row g.extent.cols) →
     IsFillVerdict g ps (fill.Accepted (record {

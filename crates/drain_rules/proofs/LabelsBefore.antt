@@ -9,14 +9,6 @@ use Rattle.drain_grid.specs.Grid.{Grid, Products, IsInside, values_at}
 use Rattle.drain_rules.specs.Labels.{IsLabelOf, AreLabelsBefore}
 use Rattle.drain_rules.specs.Rows.{place}
 
--- before the first cell there is none
-pub AreLabelsBefore-none : (g : Grid) (ps : Products) (labels : List (ℕ × ℕ)) → ((label : ℤ) → ¬ IsAdmitted labels label) →
-    AreLabelsBefore g ps (place 0 0) labels
-AreLabelsBefore-none g ps labels none label = (
-  (λ admitted. absurd (none label admitted)),
-  (λ b. elim b.earlier [ inl above ↦ absurd (omega (arith, above)) | inr beside ↦ absurd (omega (arith, beside.1)) ]),
-)
-
 -- at or before the cell is before the next place in its row
 earlier-more : (b : Cell) (row col : ℕ) → IsEarlier b (place row (col + 1)) → (b ≡ place row col) ⊎ IsEarlier b (place row col)
 earlier-more b row col (inl above) = inr (inl above)

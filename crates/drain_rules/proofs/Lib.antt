@@ -1,6 +1,8 @@
 mod EqualGrids
 pub mod Faults
+pub mod FindingLemmas
 pub mod GridLemmas
 pub mod LabelsBefore
+pub mod PassedCells
 pub mod PatchFaults
 pub mod RowLemmas

@@ -1,9 +1,12 @@
 pub mod Fill
 pub mod FillVerdicts
 pub mod Filled
+pub mod Findings
+pub mod GridWalks
 pub mod Labels
 pub mod Laws
 pub mod Parts
+pub mod PatchRows
 pub mod Rows
 pub mod Stops
 pub mod Verdicts

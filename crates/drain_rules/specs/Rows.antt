@@ -12,7 +12,7 @@ use Rattle.drain_grid.specs.PatchRules.{Profile, check_rules}
 use Rattle.drain_grid.specs.GridRules.{HoldsAt}
 use Rattle.drain_rules.specs.declared.cell_rules.Stop.{Stop}
 use Rattle.drain_rules.specs.declared.cell_rules.Stop.TheVariants.{Fault, OutOfMemory}
-use Rattle.drain_rules.specs.declared.raster_walk.RowStop.{RowStop}
+use Rattle.drain_rules.specs.declared.row_walk.RowStop.{RowStop}
 use Rattle.drain_rules.specs.declared.tally.Tally.{Tally}
 use Rattle.drain_rules.specs.Verdicts.{has_outlet_code}
 

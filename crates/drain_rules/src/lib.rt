@@ -9,10 +9,14 @@
 pub mod cell_rules;
 pub mod fill_input;
 pub mod fill_walk;
+pub mod finding;
+pub mod grid_walk;
 pub mod laws;
 pub mod outlet;
+pub mod patch_row;
 pub mod patch_rules;
 pub mod raster_walk;
+pub mod row_walk;
 pub mod tally;
 pub mod verdict;
 

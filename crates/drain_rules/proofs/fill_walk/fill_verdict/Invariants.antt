@@ -3,7 +3,7 @@ use Rattle.drain_grid.specs.Rule.{IsFillRule}
 use Rattle.drain_grid.specs.PatchRules.{fill_rules}
 use Rattle.drain_rules.specs.Parts.{grid_of, products_of}
 use Rattle.drain_rules.specs.Rows.{HoldAlong}
-use Rattle.drain_rules.proofs.GridLemmas.{CountsAbove}
+use Rattle.drain_rules.specs.Findings.{CountsAbove}
 use Rattle.drain_rules.proofs.fill_walk.fill_verdict.Given as goal
 
 -- the rows that were passed keep the rules and are counted

@@ -1,72 +1,49 @@
-use Rattle.std.proofs.Common.{◌≡◌, ◌<◌, ap, arith, below_more}
+use Rattle.std.proofs.Common.{◌≡◌, ℕ, ◌<◌, ap, arith, refl, sym, subst}
+use Rattle.std.proofs.lemmas.Result.{err_from_is_err_and}
 use Rattle.drain_grid.specs.Size.{Extent}
-use Rattle.drain_grid.specs.Rule.{IsAnyRule}
-use Rattle.drain_grid.specs.PatchRules.{check_rules}
-use Rattle.drain_grid.specs.WholeGrid.{grid_of, products_of, nodata_of}
-use Rattle.drain_rules.specs.Rows.{HoldAlong}
-use Rattle.drain_rules.proofs.GridLemmas.{CountsAbove-more, HasNewLabel-row, IsFirstFault-row, IsVerdict-above, tallies_fit}
+use Rattle.drain_grid.specs.Grid.{Grid, Products, patch_at}
+use Rattle.drain_grid.specs.WholeGrid.{grid_of, products_of}
+use Rattle.drain_rules.specs.Labels.{HasNewLabel}
+use Rattle.drain_rules.specs.PatchRows.{AreRowPatches}
+use Rattle.drain_rules.specs.Rows.{place}
+use Rattle.drain_rules.specs.Verdicts.{IsVerdict}
 use Rattle.drain_rules.proofs.raster_walk.walk.Goals as goal
-use Rattle.drain_rules.proofs.raster_walk.walk.Goals.{in-Fault, in-OutOfMemory}
 
-pub join-requires-clause-data_fit : goal.join-requires-clause-data_fit
-join-requires-clause-data_fit c =
-    let rows : c.shape-shape.result.rows ≡ c.args.elevation.now.extent.rows = ap (λ (e : Extent). e.rows) c.shape-shape.ensures in
-    let cols : c.shape-shape.result.cols ≡ c.args.elevation.now.extent.cols = ap (λ (e : Extent). e.cols) c.shape-shape.ensures in
-    (tallies_fit (grid_of c.args.elevation.now) (products_of c.args.products.now) c.loop-row.row _ _ (omega (arith, c.rows-row-end.ensures, rows))
-    (omega (arith, rows)) (omega (arith, cols)) c.loop-row.invariant.counted c.in-Ok.ensures.tally.counted).0
+-- the rasters' row is a row of their grid
+own-patches : (g : Grid) (ps : Products) (row at : ℕ) → row < g.extent.rows → at ≡ row →
+    AreRowPatches g ps at g.extent.cols (λ col. patch_at g ps (place row col))
+own-patches g ps row at inside same =
+    let here : AreRowPatches g ps row g.extent.cols (λ col. patch_at g ps (place row col)) =
+    record { inside = inside; cols_are = refl; patches_are = λ col less. refl } in
+    subst (λ r. AreRowPatches g ps r g.extent.cols (λ col. patch_at g ps (place row col))) (sym same) here
 
-pub join-requires-clause-raised_fit : goal.join-requires-clause-raised_fit
-join-requires-clause-raised_fit c =
-    let rows : c.shape-shape.result.rows ≡ c.args.elevation.now.extent.rows = ap (λ (e : Extent). e.rows) c.shape-shape.ensures in
-    let cols : c.shape-shape.result.cols ≡ c.args.elevation.now.extent.cols = ap (λ (e : Extent). e.cols) c.shape-shape.ensures in
-    (tallies_fit (grid_of c.args.elevation.now) (products_of c.args.products.now) c.loop-row.row _ _ (omega (arith, c.rows-row-end.ensures, rows))
-    (omega (arith, rows)) (omega (arith, cols)) c.loop-row.invariant.counted c.in-Ok.ensures.tally.counted).1
+pub loop-row-init : goal.loop-row-init
+loop-row-init c = record {
+  counted = c.new-walk.ensures.rows;
+  right = c.new-walk.ensures.finding c.nodata-nodata.result (grid_of c.args.elevation.now) (products_of c.args.products.now);
+}
 
-pub join-requires-clause-outlets_fit : goal.join-requires-clause-outlets_fit
-join-requires-clause-outlets_fit c =
-    let rows : c.shape-shape.result.rows ≡ c.args.elevation.now.extent.rows = ap (λ (e : Extent). e.rows) c.shape-shape.ensures in
-    let cols : c.shape-shape.result.cols ≡ c.args.elevation.now.extent.cols = ap (λ (e : Extent). e.cols) c.shape-shape.ensures in
-    (tallies_fit (grid_of c.args.elevation.now) (products_of c.args.products.now) c.loop-row.row _ _ (omega (arith, c.rows-row-end.ensures, rows))
-    (omega (arith, rows)) (omega (arith, cols)) c.loop-row.invariant.counted c.in-Ok.ensures.tally.counted).2
-
-pub returns-in-Err-clause-verdict : goal.returns-in-Err-clause-verdict
-returns-in-Err-clause-verdict c =
+pub returns-in_err-check_row-clause-err : goal.returns-in_err-check_row-clause-err
+returns-in_err-check_row-clause-err c =
     let g = grid_of c.args.elevation.now in
     let ps = products_of c.args.products.now in
-    let nodata = nodata_of c.args.products.now in
+    let inv = c.loop-row.invariant in
     let rows : c.shape-shape.result.rows ≡ c.args.elevation.now.extent.rows = ap (λ (e : Extent). e.rows) c.shape-shape.ensures in
-    let inside : c.loop-row.row < c.args.elevation.now.extent.rows = omega (arith, c.rows-row-end.ensures, rows) in
-    elim c.match-end.branch [
-      | in-Fault w ↦
-          rw w.result-is (IsFirstFault-row (check_rules nodata) IsAnyRule g ps c.loop-row.row c.in-Err.end.col w.in-Fault.rule inside c.loop-row.invariant.holds
-          (rw w.in-Fault.is at c.in-Err.ensures.stopped))
-      | in-OutOfMemory w ↦ rw w.result-is tt
-    ]
-
-pub returns-in-Err-clause-err : goal.returns-in-Err-clause-err
-returns-in-Err-clause-err c =
-    let g = grid_of c.args.elevation.now in
-    let ps = products_of c.args.products.now in
-    let nodata = nodata_of c.args.products.now in
-    elim c.match-end.branch [
-      | in-Fault w ↦ rw w.result-is tt
-      | in-OutOfMemory w ↦
-          rw w.result-is (HasNewLabel-row nodata g ps c.loop-row.row c.in-Err.end.col c.loop-row.invariant.holds
-          (rw w.in-OutOfMemory.is at c.in-Err.ensures.stopped))
-    ]
+    let inside : c.loop-row.row < c.args.elevation.now.extent.rows = omega (arith, c.loop-row-test.true, c.rows-row-end.ensures, rows) in
+    let new_label = c.in_err-check_row.ensures.err g ps (own-patches g ps c.loop-row.row c.loop-row.walk.rows inside inv.counted) inv.right in
+    let told = err_from_is_err_and c.from_residual.result c.from_residual.ensures.1 in
+    rw told.1 (subst (λ n. HasNewLabel n g ps) c.nodata-nodata.ensures new_label)
 
 pub loop-row-preserved : goal.loop-row-preserved
 loop-row-preserved c =
     let g = grid_of c.args.elevation.now in
     let ps = products_of c.args.products.now in
-    let cols = c.args.elevation.now.extent.cols in
-    let row = c.loop-row.row in
     let inv = c.loop-row.invariant in
-    let here = c.in-Ok.ensures.tally in
+    let rows : c.shape-shape.result.rows ≡ c.args.elevation.now.extent.rows = ap (λ (e : Extent). e.rows) c.shape-shape.ensures in
+    let inside : c.loop-row.row < c.args.elevation.now.extent.rows = omega (arith, c.loop-row-test.true, c.rows-row-end.ensures, rows) in
     record {
-      holds = below_more (λ r. HoldAlong (check_rules (nodata_of c.args.products.now)) IsAnyRule g ps r cols) row inv.holds here.holds;
-      counted = CountsAbove-more g ps row _ _ _ inv.counted here.counted c.join.ensures.data_cells c.join.ensures.raised c.join.ensures.outlets;
-      labels = c.in-Ok.ensures.labels;
+      counted = omega (arith, c.in_ok-check_row.ensures.rows, inv.counted);
+      right = c.in_ok-check_row.ensures.finding g ps (own-patches g ps c.loop-row.row c.loop-row.walk.rows inside inv.counted) inv.right;
     }
 
 pub returns-clause-verdict : goal.returns-clause-verdict
@@ -74,9 +51,8 @@ returns-clause-verdict c =
     let g = grid_of c.args.elevation.now in
     let ps = products_of c.args.products.now in
     let inv = c.loop-row.invariant in
-    let shape_rows : c.shape-shape.result.rows ≡ c.args.elevation.now.extent.rows = ap (λ (e : Extent). e.rows) c.shape-shape.ensures in
-    let shape_cols : c.shape-shape.result.cols ≡ c.args.elevation.now.extent.cols = ap (λ (e : Extent). e.cols) c.shape-shape.ensures in
-    let last : c.loop-row.row ≡ c.args.elevation.now.extent.rows = omega (arith, c.rows-row-end.ensures, shape_rows) in
-    let rows : c.rows.result ≡ c.args.elevation.now.extent.rows = omega (arith, c.rows.ensures, shape_rows) in
-    let cols : c.cols.result ≡ c.args.elevation.now.extent.cols = omega (arith, c.cols.ensures, shape_cols) in
-    rw (rows, cols) (IsVerdict-above (nodata_of c.args.products.now) g ps c.loop-row.total (rw last at inv.counted) (rw last at inv.holds))
+    let rows : c.shape-shape.result.rows ≡ c.args.elevation.now.extent.rows = ap (λ (e : Extent). e.rows) c.shape-shape.ensures in
+    let last : c.loop-row.walk.rows ≡ c.args.elevation.now.extent.rows =
+    omega (arith, inv.counted, c.loop-row-test.false, c.loop-row.auto.row-end, c.rows-row-end.ensures, rows) in
+    let verdict = c.verdict.ensures.verdict c.nodata-nodata.result g ps (sym c.shape-shape.ensures) last inv.right in
+    subst (λ n. IsVerdict g ps n c.verdict.result) c.nodata-nodata.ensures verdict

@@ -1,0 +1,62 @@
+-- One cell more of a walk along a row of patches, for any grid whose row it is.
+use Rattle.std.proofs.Common.{◌≡◌, ℕ, ℤ, ◌+◌, ◌<◌, ◌↔◌, ◌⊎◌, cond, ◌&&◌, int_lt, is_some, unwrap_or, pos, List, None, ◌∙◌, ap, subst, arith}
+use Rattle.std.specs.Ordering.{int_eq}
+use Rattle.drain_basin.specs.Admitted.{IsAdmitted}
+use Rattle.drain_grid.specs.declared.patch.Patch.{Patch}
+use Rattle.drain_grid.specs.Rule.{IsAnyRule, IsLeastFault}
+use Rattle.drain_grid.specs.Values.{NoDataNumbers}
+use Rattle.drain_grid.specs.Grid.{Grid, Products, IsInside, patch_at}
+use Rattle.drain_grid.specs.PatchRules.{check_rules}
+use Rattle.drain_rules.specs.declared.cell_rules.Stop.{Stop}
+use Rattle.drain_rules.specs.declared.tally.Tally.{Tally}
+use Rattle.drain_rules.specs.Labels.{AreLabelsBefore, IsLabelOf, labelled_profile}
+use Rattle.drain_rules.specs.Rows.{place, IsRowTally, IsStopAt}
+use Rattle.drain_rules.specs.Stops.{IsCellStop}
+use Rattle.drain_rules.specs.PatchRows.{AreRowPatches, IsPassed}
+use Rattle.drain_rules.proofs.Faults.{IsLeastFault-cell}
+use Rattle.drain_rules.proofs.LabelsBefore.{AreLabelsBefore-more, AreLabelsBefore-row}
+use Rattle.drain_rules.proofs.RowLemmas.{HoldAlong-more, CountsAlong-more, IsStopAt-cell}
+
+inside-row : (g : Grid) (ps : Products) (row col cols : ℕ) (shown : ℕ → Patch) → AreRowPatches g ps row cols shown → col < cols → IsInside g (place row col)
+inside-row g ps row col cols shown are less = record { row = are.inside; col = omega (arith, less, are.cols_are) }
+
+-- where all rules hold at the next cell, it is passed too
+pub passed-more : (nodata : NoDataNumbers) (g : Grid) (ps : Products) (row col cols : ℕ) (shown : ℕ → Patch) (p : Patch) (old new : Tally) (before after : List (ℕ × ℕ)) →
+    AreRowPatches g ps row cols shown → col < cols → p ≡ shown col → IsPassed nodata g ps row col old before →
+    IsLeastFault IsAnyRule (labelled_profile nodata before p) None →
+    new.data_cells ≡ old.data_cells + cond (is_some p.here.z) 1 0 →
+    new.raised ≡ old.raised + cond (is_some p.here.z && int_lt (unwrap_or p.here.z (pos 0)) p.here.con) 1 0 →
+    new.outlets ≡ old.outlets + cond (is_some p.here.z && int_eq p.here.dir (pos 0)) 1 0 →
+    ((label : ℤ) → IsAdmitted after label ↔ (IsLabelOf p.here label ⊎ IsAdmitted before label)) → IsPassed nodata g ps row (col + 1) new after
+passed-more nodata g ps row col cols shown p old new before after are less is passed least data_cells raised outlets admits =
+    let inside = inside-row g ps row col cols shown are less in
+    let same : p ≡ patch_at g ps (place row col) = is ∙ are.patches_are col less in
+    let here = ap (λ (q : Patch). q.here) same in
+    record {
+      holds = HoldAlong-more (check_rules nodata) IsAnyRule g ps row col passed.holds
+          (IsLeastFault-cell g ps nodata before (place row col) p None inside passed.before same least);
+      counted = CountsAlong-more g ps row col p.here old new here passed.counted data_cells raised outlets;
+      before = AreLabelsBefore-more g ps row col p.here before after inside here passed.before admits;
+    }
+
+-- what stops a walk at the next cell stops it in the row
+pub stops-row : (nodata : NoDataNumbers) (g : Grid) (ps : Products) (row col cols : ℕ) (shown : ℕ → Patch) (p : Patch) (tally : Tally) (before : List (ℕ × ℕ)) (stop : Stop) →
+    AreRowPatches g ps row cols shown → col < cols → p ≡ shown col → IsPassed nodata g ps row col tally before →
+    IsCellStop nodata before p stop → IsStopAt nodata g ps row col stop
+stops-row nodata g ps row col cols shown p tally before stop are less is passed stopped =
+    IsStopAt-cell nodata g ps row col before p stop (inside-row g ps row col cols shown are less) passed.holds passed.before
+    (is ∙ are.patches_are col less) stopped
+
+-- a row that was passed to its end keeps the rules, and is counted
+pub passed-row : (nodata : NoDataNumbers) (g : Grid) (ps : Products) (row col cols : ℕ) (shown : ℕ → Patch) (tally : Tally) (labels : List (ℕ × ℕ)) →
+    AreRowPatches g ps row cols shown → col ≡ cols → IsPassed nodata g ps row col tally labels → IsRowTally (check_rules nodata) IsAnyRule g ps row tally
+passed-row nodata g ps row col cols shown tally labels are last passed =
+    let whole : IsPassed nodata g ps row g.extent.cols tally labels = subst (λ n. IsPassed nodata g ps row n tally labels) (last ∙ are.cols_are) passed in
+    record { holds = whole.holds; counted = whole.counted }
+
+-- and the labels are those before the next row
+pub passed-labels : (nodata : NoDataNumbers) (g : Grid) (ps : Products) (row col cols : ℕ) (shown : ℕ → Patch) (tally : Tally) (labels : List (ℕ × ℕ)) →
+    AreRowPatches g ps row cols shown → col ≡ cols → IsPassed nodata g ps row col tally labels → AreLabelsBefore g ps (place (row + 1) 0) labels
+passed-labels nodata g ps row col cols shown tally labels are last passed =
+    let whole : IsPassed nodata g ps row g.extent.cols tally labels = subst (λ n. IsPassed nodata g ps row n tally labels) (last ∙ are.cols_are) passed in
+    AreLabelsBefore-row g ps row labels whole.before

@@ -1,0 +1,12 @@
+use Rattle.std.proofs.Common.{ℕ}
+use Rattle.drain_grid.specs.Grid.{Grid, Products}
+use Rattle.drain_rules.specs.PatchRows.{IsAtMost, IsPassed, OfRow}
+use Rattle.drain_rules.proofs.row_walk.check_row.Given as goal
+
+-- the cells that were passed keep the rules, are counted, and their outlets' labels are admitted
+abbrev pub invariant-loop-col : goal.invariant-loop-col
+invariant-loop-col g l = record {
+  passed : OfRow (g.R.PatchRow.len l.row) (g.R.PatchRow.shown l.row) l.fn.labels
+      (λ (grid : Grid) (ps : Products) (row : ℕ). IsPassed l.nodata grid ps row l.col l.tally l.labels);
+  bounds : IsAtMost l.col l.tally;
+}

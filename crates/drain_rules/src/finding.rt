@@ -1,0 +1,49 @@
+//! What the rows above a row came to, and one row more.
+
+ghost use Rattle.std.specs.Prelude.{◌<◌, ◌+◌, ◌*◌, IfOk, OnErr};
+ghost use Rattle.drain_grid.specs.declared.cell.TheConstants.{MAX_LENGTH};
+ghost use Rattle.drain_rules.specs.Findings.{IsBounded, IsFindingAfter, IsNewLabelBelow};
+ghost use Rattle.drain_rules.specs.PatchRows.{IsAtMost};
+
+use crate::cell_rules::Stop;
+use crate::patch_row::PatchRow;
+use crate::row_walk::check_row;
+use crate::tally::Tally;
+use drain_basin::OutletLabels;
+use drain_grid::{Cell, NoData, OutOfMemory, Rule};
+
+/// What the rows so far came to.
+#[derive(Clone, Copy, PartialEq, Eq, Debug)]
+pub enum Finding {
+    /// Every rule holds at their cells, and these are their counts.
+    Sound(Tally),
+    /// The first cell where a rule fails, and the first rule that fails there.
+    Faulty(Cell, Rule),
+}
+
+/// What the rows come to with one more, where those above are sound. `total` counts their cells, and `labels` are those of their outlets.
+pub fn find_in_row<R: PatchRow>(
+    total: Tally,
+    row: u32,
+    patches: &R,
+    nodata: &NoData,
+    labels: &mut OutletLabels,
+) -> Result<Finding, OutOfMemory>
+    requires row { row < MAX_LENGTH }
+    requires bounded { IsAtMost (row * MAX_LENGTH) total }
+    ensures finding { IfOk result (IsFindingAfter nodata.now row (R.len patches.now) (R.shown patches.now) labels.old total labels.new) }
+    ensures bounded { IfOk result (IsBounded (row + 1)) }
+    ensures err { OnErr result (IsNewLabelBelow nodata.now row (R.len patches.now) (R.shown patches.now) labels.old total) }
+{
+    match check_row(patches, nodata, labels) {
+        Ok(tally) => {
+            let mut sum = total;
+            sum.join(tally);
+            Ok(Finding::Sound(sum))
+        }
+        Err(end) => match end.stop {
+            Stop::Fault(rule) => Ok(Finding::Faulty(Cell { row, col: end.col }, rule)),
+            Stop::OutOfMemory => Err(OutOfMemory),
+        },
+    }
+}

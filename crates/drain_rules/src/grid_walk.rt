@@ -1,0 +1,84 @@
+//! The walk over a grid, row by row.
+
+ghost use Rattle.drain_rules.specs.Findings.{IsBounded};
+
+use crate::finding::{Finding, find_in_row};
+use crate::patch_row::PatchRow;
+use crate::tally::Tally;
+use crate::verdict::{Counts, Verdict};
+use drain_basin::OutletLabels;
+use drain_grid::{NoData, OutOfMemory, Shape};
+use std::alloc::Global;
+
+/// How many rows were checked, the labels of their outlets, and what they came to.
+#[derive(Drop)]
+pub struct GridWalk {
+    rows: u32,
+    labels: OutletLabels,
+    finding: Finding,
+    ghost bounded: { IsBounded rows finding },
+}
+
+impl GridWalk {
+    ghost use Rattle.std.specs.Prelude.{◌≡◌, ◌<◌, ◌+◌, OnErr, OnOk};
+    ghost use Rattle.drain_grid.specs.declared.cell.TheConstants.{MAX_LENGTH};
+    ghost use Rattle.drain_grid.specs.Grid.{Grid, Products};
+    ghost use Rattle.drain_grid.specs.Values.{NoDataNumbers};
+    ghost use Rattle.drain_rules.specs.GridWalks.{IsRightOf};
+    ghost use Rattle.drain_rules.specs.Labels.{HasNewLabel};
+    ghost use Rattle.drain_rules.specs.PatchRows.{AreRowPatches};
+    ghost use Rattle.drain_rules.specs.Verdicts.{IsVerdict};
+
+    /// No row was checked. This takes no memory.
+    pub fn new(alloc: Global) -> GridWalk
+        ensures rows { result.rows ≡ 0 }
+        ensures finding { (nodata : NoDataNumbers) (g : Grid) (ps : Products) → IsRightOf nodata g ps result }
+    {
+        GridWalk {
+            rows: 0,
+            labels: OutletLabels::new(alloc),
+            finding: Finding::Sound(Tally::new()),
+        }
+    }
+
+    /// Checks the next row. Once a fault was found it looks at no row more.
+    pub fn check_row<R: PatchRow>(
+        &mut self,
+        patches: &R,
+        nodata: &NoData,
+    ) -> Result<(), OutOfMemory>
+        requires row { self.old.rows < MAX_LENGTH }
+        ensures rows { OnOk result (self.new.rows ≡ self.old.rows + 1) }
+        ensures finding { OnOk result ((g : Grid) (ps : Products) → AreRowPatches g ps self.old.rows (R.len patches.now) (R.shown patches.now) → IsRightOf nodata.now g ps self.old → IsRightOf nodata.now g ps self.new) }
+        ensures err { OnErr result ((g : Grid) (ps : Products) → AreRowPatches g ps self.old.rows (R.len patches.now) (R.shown patches.now) → IsRightOf nodata.now g ps self.old → HasNewLabel nodata.now g ps) }
+    {
+        if let Finding::Sound(total) = self.finding {
+            match find_in_row(total, self.rows, patches, nodata, &mut self.labels) {
+                Ok(finding) => self.finding = finding,
+                Err(OutOfMemory) => return Err(OutOfMemory),
+            }
+        }
+        self.rows += 1;
+        Ok(())
+    }
+
+    /// The verdict on the grid of this shape whose rows all were checked.
+    pub fn verdict(&self, shape: Shape) -> Verdict
+        ensures verdict { (nodata : NoDataNumbers) (g : Grid) (ps : Products) → g.extent ≡ shape → self.now.rows ≡ g.extent.rows → IsRightOf nodata g ps self.now → IsVerdict g ps nodata result }
+    {
+        match self.finding {
+            Finding::Sound(total) => Verdict::Accepted(Counts {
+                rows: shape.rows(),
+                cols: shape.cols(),
+                data_cells: total.data_cells,
+                raised: total.raised,
+                outlets: total.outlets,
+            }),
+            Finding::Faulty(cell, rule) => Verdict::Rejected {
+                rule,
+                row: cell.row,
+                col: cell.col,
+            },
+        }
+    }
+}

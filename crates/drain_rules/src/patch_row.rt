@@ -1,0 +1,28 @@
+//! Where the patches of a row come from: the trait that the walk along a row is written over.
+//!
+//! A row of patches is apart from the rasters because it needn't hold them: three rows of numbers show as much.
+
+ghost use Rattle.std.specs.Prelude.{◌≡◌, ◌<◌, ◌≤◌, ℕ};
+ghost use Rattle.drain_grid.specs.declared.cell.TheConstants.{MAX_LENGTH};
+ghost use Rattle.drain_grid.specs.declared.patch.Patch.{Patch};
+
+use drain_grid::Patch;
+
+/// A row of a grid that shows the patch round each of its cells.
+pub trait PatchRow {
+    /// How many cells the row has.
+    ghost len: { Self → ℕ };
+
+    /// The patch that it shows at a column.
+    ghost shown: { Self → ℕ → Patch };
+
+    /// How many cells the row has, at most 28,801.
+    fn cols(&self) -> u32
+        ensures count { result ≡ len self.now }
+        ensures narrow { result ≤ MAX_LENGTH };
+
+    /// The values at a column and those of its neighbours.
+    fn patch(&self, col: u32) -> Patch
+        requires { col < len self.now }
+        ensures { result ≡ shown self.now col };
+}
