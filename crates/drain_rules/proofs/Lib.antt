@@ -5,4 +5,6 @@ pub mod GridLemmas
 pub mod LabelsBefore
 pub mod PassedCells
 pub mod PatchFaults
+pub mod RowFields
 pub mod RowLemmas
+pub mod RowPatches

@@ -7,6 +7,8 @@ pub mod Labels
 pub mod Laws
 pub mod Parts
 pub mod PatchRows
+pub mod RowNumbers
 pub mod Rows
 pub mod Stops
+pub mod ThreeRows
 pub mod Verdicts

@@ -12,12 +12,15 @@ pub mod fill_walk;
 pub mod finding;
 pub mod grid_walk;
 pub mod laws;
+pub mod numbers;
 pub mod outlet;
 pub mod patch_row;
 pub mod patch_rules;
 pub mod raster_walk;
+pub mod row_view;
 pub mod row_walk;
 pub mod tally;
+pub mod three_rows;
 pub mod verdict;
 
 pub use fill_input::fill_length;

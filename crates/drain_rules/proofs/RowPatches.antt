@@ -1,0 +1,113 @@
+-- The patch of three rows is that of the grid: a neighbour at a time.
+use Rattle.std.proofs.Common.{◌≡◌, ℕ, zero, suc, ◌+◌, ◌-◌, ◌<◌, ◌≤◌, [], ◌∷◌, Option, Some, None, inl, inr, arith, refl, ap, subst, ◌∙◌}
+use Rattle.std.specs.Prelude.{◌&&◌, nat_lt, option_map, if◌then◌else◌}
+use Rattle.std.proofs.lemmas.Bool.{cases_lt, lt-ltb, le-ltb}
+use Rattle.drain_grid.specs.declared.cell.Cell.{Cell}
+use Rattle.drain_grid.specs.declared.product.Product.TheVariants.{Con, Dir, Acc, Bas, Spl, Rnk}
+use Rattle.drain_grid.specs.Size.{Extent}
+use Rattle.drain_grid.specs.Values.{Values}
+use Rattle.drain_grid.specs.Grid.{Grid, Products, patch_at, values_at}
+use Rattle.drain_rules.specs.declared.three_rows.ThreeRows.{ThreeRows}
+use Rattle.drain_rules.specs.RowNumbers.{AreNumbersOf, RowNumbers, beside, blank, values_in, west_of}
+use Rattle.drain_rules.specs.Rows.{place}
+use Rattle.drain_rules.specs.ThreeRows.{AreRowsAround, ThreeRowsShowPatches, patch_in}
+
+-- a cell by the numbers of its row and column, counted from 1; none outside
+abbrev stepped : Extent → ℕ → ℕ → Option Cell
+stepped e row col =
+    if nat_lt 0 row && (nat_lt (row - 1) e.rows && (nat_lt 0 col && nat_lt (col - 1) e.cols)) then Some (record { row = row - 1; col = col - 1 }) else None
+
+values-are : (g : Grid) (ps : Products) (row col : ℕ) (n : RowNumbers) → AreNumbersOf g ps row n → col < g.extent.cols → values_in n col ≡ values_at g ps (place row col)
+values-are g ps row col n are inside = λ i. record {
+  z = are.elevation col inside i;
+  con = are.products Con col inside i;
+  dir = are.products Dir col inside i;
+  acc = are.products Acc col inside i;
+  bas = are.products Bas col inside i;
+  spl = are.products Spl col inside i;
+  rnk = are.products Rnk col inside i;
+}
+
+there : (g : Grid) (ps : Products) (n : RowNumbers) (r c rr cc : ℕ) → AreNumbersOf g ps r n → rr ≡ r + 1 → cc ≡ c + 1 →
+    beside n c ≡ option_map (values_at g ps) (stepped g.extent rr cc)
+there g ps n r c rr cc are is_row is_col =
+    let down : rr - 1 ≡ r = omega arith in
+    let right : cc - 1 ≡ c = omega arith in
+    elim (cases_lt c g.extent.cols) [
+      | inl inside ↦ rw (are.cols_are, lt-ltb 0 rr (omega arith), down, lt-ltb r g.extent.rows are.inside, lt-ltb 0 cc (omega arith), right, lt-ltb c g.extent.cols inside)
+          (ap (λ (v : Values). Some v) (values-are g ps r c n are inside))
+      | inr outside ↦ rw (are.cols_are, lt-ltb 0 rr (omega arith), down, lt-ltb r g.extent.rows are.inside, lt-ltb 0 cc (omega arith), right, le-ltb c g.extent.cols (omega (arith, outside))) refl
+    ]
+
+to_west : (g : Grid) (ps : Products) (n : RowNumbers) (r c rr cc : ℕ) → AreNumbersOf g ps r n → rr ≡ r + 1 → cc ≡ c →
+    west_of n c ≡ option_map (values_at g ps) (stepped g.extent rr cc)
+to_west g ps n r zero rr cc are is_row is_col =
+    let down : rr - 1 ≡ r = omega arith in
+    rw (lt-ltb 0 rr (omega arith), down, lt-ltb r g.extent.rows are.inside, is_col) refl
+to_west g ps n r (suc c) rr cc are is_row is_col = there g ps n r c rr cc are is_row (omega arith)
+
+-- where there is no row
+gone : (g : Grid) (ps : Products) (rr cc : ℕ) → (0 < rr → g.extent.rows ≤ rr - 1) → None ≡ option_map (values_at g ps) (stepped g.extent rr cc)
+gone g ps rr cc past = elim (cases_lt 0 rr) [
+  | inl some ↦ rw (lt-ltb 0 rr some, le-ltb (rr - 1) g.extent.rows (past some)) refl
+  | inr none ↦ rw (le-ltb 0 rr (omega (arith, none))) refl
+]
+
+gone-west : (n : RowNumbers) (c : ℕ) → n ≡ blank → west_of n c ≡ None
+gone-west n zero is = refl
+gone-west n (suc c) is = rw (is, le-ltb c 0 (omega arith)) refl
+
+gone-beside : (n : RowNumbers) (c : ℕ) → n ≡ blank → beside n c ≡ None
+gone-beside n c is = rw (is, le-ltb c 0 (omega arith)) refl
+
+-- a row above or below, or none
+level : (g : Grid) (ps : Products) (n : RowNumbers) (c rr cc : ℕ) → ((r : ℕ) → rr ≡ r + 1 → r < g.extent.rows → AreNumbersOf g ps r n) →
+    ((0 < rr → g.extent.rows ≤ rr - 1) → n ≡ blank) → cc ≡ c + 1 → beside n c ≡ option_map (values_at g ps) (stepped g.extent rr cc)
+level g ps n c zero cc are none is_col = gone-beside n c (none (λ h. absurd (omega arith))) ∙ gone g ps zero cc (λ h. absurd (omega arith))
+level g ps n c (suc r) cc are none is_col = elim (cases_lt r g.extent.rows) [
+  | inl inside ↦ there g ps n r c (suc r) cc (are r (omega arith) inside) (omega arith) is_col
+  | inr past ↦ (let out : 0 < suc r → g.extent.rows ≤ suc r - 1 = λ h. omega (arith, past) in gone-beside n c (none out) ∙ gone g ps (suc r) cc out)
+]
+
+level-west : (g : Grid) (ps : Products) (n : RowNumbers) (c rr cc : ℕ) → ((r : ℕ) → rr ≡ r + 1 → r < g.extent.rows → AreNumbersOf g ps r n) →
+    ((0 < rr → g.extent.rows ≤ rr - 1) → n ≡ blank) → cc ≡ c → west_of n c ≡ option_map (values_at g ps) (stepped g.extent rr cc)
+level-west g ps n c zero cc are none is_col = gone-west n c (none (λ h. absurd (omega arith))) ∙ gone g ps zero cc (λ h. absurd (omega arith))
+level-west g ps n c (suc r) cc are none is_col = elim (cases_lt r g.extent.rows) [
+  | inl inside ↦ to_west g ps n r c (suc r) cc (are r (omega arith) inside) (omega arith) is_col
+  | inr past ↦ (let out : 0 < suc r → g.extent.rows ≤ suc r - 1 = λ h. omega (arith, past) in gone-west n c (none out) ∙ gone g ps (suc r) cc out)
+]
+
+patch-is : (g : Grid) (ps : Products) (row col : ℕ) (rows : ThreeRows) → AreRowsAround g ps row rows → col < g.extent.cols → patch_in rows col ≡ patch_at g ps (place row col)
+patch-is g ps row col rows are inside = λ i. record {
+  here = values-are g ps row col rows.here are.here inside i;
+  around = there g ps rows.here row (col + 1) (row + 1) (col + 2) are.here refl (omega arith) i
+      ∷ level g ps rows.below (col + 1) (row + 2) (col + 2) below none_below (omega arith) i
+      ∷ level g ps rows.below col (row + 2) (col + 1) below none_below refl i
+      ∷ level-west g ps rows.below col (row + 2) (col + 0) below none_below (omega arith) i
+      ∷ to_west g ps rows.here row col (row + 1) (col + 0) are.here refl (omega arith) i
+      ∷ level-west g ps rows.above col (row + 0) (col + 0) above none_above (omega arith) i
+      ∷ level g ps rows.above col (row + 0) (col + 1) above none_above refl i
+      ∷ level g ps rows.above (col + 1) (row + 0) (col + 2) above none_above (omega arith) i ∷ [];
+}
+  where
+    below : (r : ℕ) → row + 2 ≡ r + 1 → r < g.extent.rows → AreNumbersOf g ps r rows.below
+    below r is less = let e : row + 1 ≡ r = omega arith in subst (λ k. AreNumbersOf g ps k rows.below) e (are.below (omega arith))
+
+    none_below : (0 < row + 2 → g.extent.rows ≤ row + 2 - 1) → rows.below ≡ blank
+    none_below past = let last : g.extent.rows ≤ row + 2 - 1 = past (omega arith) in are.none_below (omega (arith, are.here.inside))
+
+    above : (r : ℕ) → row + 0 ≡ r + 1 → r < g.extent.rows → AreNumbersOf g ps r rows.above
+    above r is less = are.above r (omega arith)
+
+    none_above : (0 < row + 0 → g.extent.rows ≤ row + 0 - 1) → rows.above ≡ blank
+    none_above past = are.none_above (let in_grid = are.here.inside in elim (cases_lt 0 row) [
+      | inl some ↦ absurd (let last : g.extent.rows ≤ row + 0 - 1 = past (omega (arith, some)) in omega (arith, in_grid))
+      | inr none ↦ omega (arith, none)
+    ])
+
+pub three_rows_show_patches : ThreeRowsShowPatches
+three_rows_show_patches g ps row rows are = record {
+  inside = are.here.inside;
+  cols_are = are.here.cols_are;
+  patches_are = λ col less. patch-is g ps row col rows are (omega (arith, less, are.here.cols_are));
+}

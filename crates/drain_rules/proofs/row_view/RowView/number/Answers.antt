@@ -1,0 +1,20 @@
+use Rattle.std.proofs.Common.{◌≡◌, ℤ, List, length, All, rules, ap, sym, ◌∙◌, subst, arith}
+use Rattle.drain_grid.specs.PerProduct.{of_product}
+use Rattle.drain_grid.specs.Values.{IsPixel}
+use Rattle.drain_rules.specs.RowNumbers.{RowNumbers}
+use Rattle.drain_rules.proofs.RowFields.{of_per}
+use Rattle.drain_rules.proofs.row_view.RowView.number.Goals as goal
+
+pub bounds-numbers-col : goal.bounds-numbers-col
+bounds-numbers-col c =
+    let own = of_per (λ p. (of_product c.self.inside.products p).now) c.args.product in
+    let same : c.of-numbers.result.now.now ≡ (of_product c.self.inside.products c.args.product).now = ap (λ numbers. numbers.now) c.of-numbers.ensures in
+    let cols : length c.self.inside.z.now ≡ length c.args.self.now.z = ap (λ (row : RowNumbers). length row.z) c.self.view_is in
+    omega (arith, c.self.invariant.long c.args.product, ap length own, ap length same, cols)
+
+pub returns-clause-pixel : goal.returns-clause-pixel
+returns-clause-pixel c =
+    let own = of_per (λ p. (of_product c.self.inside.products p).now) c.args.product in
+    let same : c.of-numbers.result.now.now ≡ (of_product c.self.inside.products c.args.product).now = ap (λ numbers. numbers.now) c.of-numbers.ensures in
+    let pixels : All IsPixel c.of-numbers.result.now.now = subst (λ (numbers : List ℤ). All IsPixel numbers) (own ∙ sym same) (c.self.invariant.pixels c.args.product) in
+    search rules

@@ -1,0 +1,28 @@
+-- Three rows of a grid as the code holds them: the patch round a column of the middle one, and which rows of a grid they are.
+use Rattle.std.specs.Prelude.{◌≡◌, ℕ, ◌+◌, ◌<◌, [], ◌∷◌, length}
+use Rattle.drain_grid.specs.declared.patch.Patch.{Patch}
+use Rattle.drain_grid.specs.Grid.{Grid, Products}
+use Rattle.drain_rules.specs.declared.three_rows.ThreeRows.{ThreeRows}
+use Rattle.drain_rules.specs.PatchRows.{AreRowPatches}
+use Rattle.drain_rules.specs.RowNumbers.{AreNumbersOf, blank, values_in, beside, west_of}
+
+-- the patch, its neighbours in the order of the directions
+abbrev pub patch_in : ThreeRows → ℕ → Patch
+patch_in rows col = record {
+  here = values_in rows.here col;
+  around = beside rows.here (col + 1) ∷ beside rows.below (col + 1) ∷ beside rows.below col ∷ west_of rows.below col
+      ∷ west_of rows.here col ∷ west_of rows.above col ∷ beside rows.above col ∷ beside rows.above (col + 1) ∷ [];
+}
+
+-- they are a row of the grid and those above and below it, none where the grid ends
+pub record AreRowsAround (g : Grid) (ps : Products) (row : ℕ) (rows : ThreeRows) : Type 0 where
+  pub here : AreNumbersOf g ps row rows.here
+  pub below : row + 1 < g.extent.rows → AreNumbersOf g ps (row + 1) rows.below
+  pub none_below : g.extent.rows ≡ row + 1 → rows.below ≡ blank
+  pub above : (r : ℕ) → row ≡ r + 1 → AreNumbersOf g ps r rows.above
+  pub none_above : row ≡ 0 → rows.above ≡ blank
+
+-- three rows show the patches of the grid
+abbrev pub ThreeRowsShowPatches : Type 0
+ThreeRowsShowPatches =
+    (g : Grid) (ps : Products) (row : ℕ) (rows : ThreeRows) → AreRowsAround g ps row rows → AreRowPatches g ps row (length rows.here.z) (patch_in rows)
