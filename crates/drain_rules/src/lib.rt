@@ -25,6 +25,10 @@ pub mod verdict;
 
 pub use fill_input::fill_length;
 pub use fill_walk::{FillCounts, FillRefusal, FillVerdict, check_fill};
+pub use grid_walk::GridWalk;
+pub use patch_row::PatchRow;
 pub use patch_rules::patch_fault;
 pub use raster_walk::verdict_of;
+pub use row_view::RowView;
+pub use three_rows::ThreeRows;
 pub use verdict::{Counts, Verdict};

@@ -16,3 +16,4 @@ mod StageAnswers
 mod StartAnswers
 mod Telling
 mod TileLists
+mod WindowLemmas

@@ -4,7 +4,9 @@
 pub mod answer_report;
 pub mod checker;
 pub mod fill_line;
+mod grid_rows;
 mod headers;
+mod held_row;
 pub mod input;
 pub mod laws;
 mod layout;
@@ -13,9 +15,11 @@ pub mod mosaic;
 mod placing;
 mod rasters;
 pub mod refusal;
+mod row_verdict;
 mod seams;
 mod tiles;
 pub mod verdict_report;
+mod window;
 
 pub use answer_report::report;
 pub use checker::check;

@@ -1,0 +1,63 @@
+-- The window as it goes down the rows.
+use Rattle.std.proofs.Common.{◌≡◌, ℕ, ℤ, ◌+◌, ◌<◌, All, List, [], length, refl, sym, ap, subst, ◌∙◌, arith}
+use Rattle.drain_grid.specs.PerProduct.{of_product}
+use Rattle.drain_grid.specs.Values.{IsPixel}
+use Rattle.drain_grid.specs.declared.product.Product.{Product}
+use Rattle.drain_grid.specs.declared.product.Product.TheVariants.{Con, Dir, Acc, Bas, Spl, Rnk}
+use Rattle.drain_grid.specs.declared.patch.Patch.{Patch}
+use Rattle.drain_grid.specs.Grid.{Grid, Products}
+use Rattle.drain_rules.specs.declared.three_rows.ThreeRows.{ThreeRows}
+use Rattle.drain_rules.specs.PatchRows.{AreRowPatches}
+use Rattle.drain_rules.specs.RowNumbers.{AreNumbersOf, AreRowNumbers, RowNumbers, blank}
+use Rattle.drain_rules.specs.ThreeRows.{AreRowsAround}
+use Rattle.drain_verdict.specs.GridRows.{AreHeld, AreRowsOf}
+
+-- no row is as many numbers of each
+none-of : (p : Product) → of_product blank.products p ≡ []
+none-of Con = refl
+none-of Dir = refl
+none-of Acc = refl
+none-of Bas = refl
+none-of Spl = refl
+none-of Rnk = refl
+
+pub blank-whole : AreRowNumbers blank
+blank-whole = record {
+  narrow = omega arith;
+  long = λ p. ap length (none-of p);
+  samples = λ k n less. absurd (omega (arith, less));
+  pixels = λ p. subst (λ (ns : List ℤ). All IsPixel ns) (sym (none-of p)) (λ k n less. absurd (omega (arith, less)));
+}
+
+-- with the row below, three rows of the grid stand in the window
+pub rows-around : (g : Grid) (ps : Products) (rows : ℕ → RowNumbers) (row : ℕ) (three : ThreeRows) → AreRowsOf g ps rows → row < g.extent.rows →
+    AreHeld rows row three.above three.here → three.below ≡ rows (row + 1) → AreRowsAround g ps row three
+rows-around g ps rows row three all inside are below_is = record {
+  here = subst (λ n. AreNumbersOf g ps row n) (sym are.here_is) (all.row row inside);
+  below = λ more. subst (λ n. AreNumbersOf g ps (row + 1) n) (sym below_is) (all.row (row + 1) more);
+  none_below = λ last. below_is ∙ ap rows (sym last) ∙ all.last;
+  above = λ r is. subst (λ n. AreNumbersOf g ps r n) (sym (are.above_is r is)) (all.row r (omega (arith, is, inside)));
+  none_above = are.none_above;
+}
+
+-- one row further down
+pub held-more : (rows : ℕ → RowNumbers) (row : ℕ) (here below : RowNumbers) → here ≡ rows row → below ≡ rows (row + 1) → AreHeld rows (row + 1) here below
+held-more rows row here below here_is below_is = record {
+  here_is = below_is;
+  above_is = λ r is. let same : row ≡ r = omega (arith, is) in here_is ∙ ap rows same;
+  none_above = λ none. absurd (omega (arith, none));
+}
+
+-- the window turned
+pub held-turned : (rows : ℕ → RowNumbers) (row : ℕ) (above here above_now here_now : RowNumbers) → AreHeld rows row above here → above_now ≡ above →
+    here_now ≡ here → AreHeld rows row above_now here_now
+held-turned rows row above here above_now here_now are above_is here_is = record {
+  here_is = here_is ∙ are.here_is;
+  above_is = λ r is. above_is ∙ are.above_is r is;
+  none_above = λ none. above_is ∙ are.none_above none;
+}
+
+-- the patches of a row by another name of its number
+pub patches-at : (g : Grid) (ps : Products) (row same cols : ℕ) (shown : ℕ → Patch) → AreRowPatches g ps row cols shown → same ≡ row →
+    AreRowPatches g ps same cols shown
+patches-at g ps row same cols shown are is = subst (λ r. AreRowPatches g ps r cols shown) (sym is) are

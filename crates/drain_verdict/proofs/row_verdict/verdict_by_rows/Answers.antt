@@ -1,0 +1,79 @@
+use Rattle.std.proofs.Common.{◌≡◌, ◌+◌, ◌<◌, inr, refl, sym, ap, subst, ◌∙◌, arith}
+use Rattle.drain_grid.specs.Size.{Extent}
+use Rattle.drain_rules.specs.RowNumbers.{AreRowNumbers}
+use Rattle.drain_verdict.specs.HeldRows.{numbers_of}
+use Rattle.drain_verdict.proofs.WindowLemmas.{blank-whole, held-more, held-turned, patches-at, rows-around}
+use Rattle.drain_verdict.proofs.row_verdict.verdict_by_rows.Goals as goal
+
+pub loop-row-init : goal.loop-row-init
+loop-row-init g c =
+    let read = c.in_ok-read_row.ensures in
+    record {
+      counted = c.new-walk.ensures.rows;
+      here_whole = subst (λ n. AreRowNumbers n) (sym c.new-window.ensures.here) blank-whole;
+      below_whole = read.whole;
+      given = λ rows gives. (read.next rows 0 gives).1;
+      held = λ rows gives. record {
+        here_is = (read.next rows 0 gives).0;
+        above_is = λ r is. absurd (omega (arith, is));
+        none_above = λ is. c.new-window.ensures.here;
+      };
+      right = λ rows grid ps gives extent all. c.new-walk.ensures.finding c.args.nodata.now grid ps;
+      reads = read.reads;
+    }
+
+pub returns-in-Err-clause-refuses : goal.returns-in-Err-clause-refuses
+returns-in-Err-clause-refuses g c =
+    let row = c.loop-row._row in
+    let inv = c.loop-row.invariant in
+    let read = c.in_ok-read_row-2.ensures in
+    inr (
+      refl,
+      λ start before. read.reads start (inv.reads start before),
+      λ rows grid ps gives extent all.
+          let count = ap (λ (e : Extent). e.rows) extent in
+          let inside : row < grid.extent.rows = omega (arith, c.loop-row-test.true, c.rows-row-end.ensures, count) in
+          let held = held-turned rows row (numbers_of c.loop-row.window.here) (numbers_of c.loop-row.window.below) c.rows.result.above c.rows.result.here
+          (inv.held rows gives) (c.rows.ensures.above ∙ c.turn.ensures.above) (c.rows.ensures.here ∙ c.turn.ensures.here) in
+          let around = rows-around grid ps rows row c.rows.result all inside held (c.rows.ensures.below ∙ (read.next rows (row + 1) (inv.given rows gives)).0) in
+          c.in-Err.ensures.err grid ps
+          (patches-at grid ps row c.loop-row.walk.rows _ _ (c.three_rows_show_patches.ensures grid ps row c.rows.result around) inv.counted)
+          (inv.right rows grid ps gives extent all),
+    )
+
+pub loop-row-preserved : goal.loop-row-preserved
+loop-row-preserved g c =
+    let row = c.loop-row._row in
+    let inv = c.loop-row.invariant in
+    let read = c.in_ok-read_row-2.ensures in
+    record {
+      counted = omega (arith, c.in-Ok.ensures.rows, inv.counted);
+      here_whole = subst (λ n. AreRowNumbers n) (sym c.turn.ensures.here) inv.below_whole;
+      below_whole = read.whole;
+      given = λ rows gives. (read.next rows (row + 1) (inv.given rows gives)).1;
+      held = λ rows gives.
+          held-more rows row (numbers_of c.turn.new.self.here) (numbers_of c.read_row-in-loop-row.new.out) (c.turn.ensures.here ∙ (inv.held rows gives).here_is)
+          (read.next rows (row + 1) (inv.given rows gives)).0;
+      right = λ rows grid ps gives extent all.
+          let count = ap (λ (e : Extent). e.rows) extent in
+          let inside : row < grid.extent.rows = omega (arith, c.loop-row-test.true, c.rows-row-end.ensures, count) in
+          let held = held-turned rows row (numbers_of c.loop-row.window.here) (numbers_of c.loop-row.window.below) c.rows.result.above c.rows.result.here
+          (inv.held rows gives) (c.rows.ensures.above ∙ c.turn.ensures.above) (c.rows.ensures.here ∙ c.turn.ensures.here) in
+          let around = rows-around grid ps rows row c.rows.result all inside held (c.rows.ensures.below ∙ (read.next rows (row + 1) (inv.given rows gives)).0) in
+          c.in-Ok.ensures.finding grid ps
+          (patches-at grid ps row c.loop-row.walk.rows _ _ (c.three_rows_show_patches.ensures grid ps row c.rows.result around) inv.counted)
+          (inv.right rows grid ps gives extent all);
+      reads = λ start before. read.reads start (inv.reads start before);
+    }
+
+pub returns-clause-verdict : goal.returns-clause-verdict
+returns-clause-verdict g c = λ rows grid ps gives extent all.
+    let count = ap (λ (e : Extent). e.rows) extent in
+    c.verdict.ensures.verdict c.args.nodata.now grid ps extent
+    (omega (arith, c.loop-row.invariant.counted, c.loop-row-test.false, c.loop-row.auto._row-end, c.rows-row-end.ensures, count))
+    (c.loop-row.invariant.right rows grid ps gives extent all)
+
+pub returns-clause-given : goal.returns-clause-given
+returns-clause-given g c = λ rows gives.
+    let last : c.loop-row._row ≡ c.args.shape.rows = omega (arith, c.loop-row-test.false, c.loop-row.auto._row-end, c.rows-row-end.ensures) in
+    subst (λ n. g.S.GridRows.gives (c.loop-row.source, c.loop-row.tiles, c.loop-row.products) rows (n + 1)) last (c.loop-row.invariant.given rows gives)

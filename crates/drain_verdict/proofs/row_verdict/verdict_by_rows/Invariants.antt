@@ -1,0 +1,23 @@
+use Rattle.std.proofs.Common.{◌≡◌, ◌+◌, ℕ, None}
+use Rattle.drain_grid.specs.Grid.{Grid, Products}
+use Rattle.drain_rules.specs.GridWalks.{IsRightOf}
+use Rattle.drain_rules.specs.RowNumbers.{AreRowNumbers, RowNumbers}
+use Rattle.drain_verdict.specs.GridRows.{AreHeld, OfGrid, ReadsOn}
+use Rattle.drain_verdict.specs.HeldRows.{numbers_of}
+use Rattle.drain_verdict.proofs.row_verdict.verdict_by_rows.Given as goal
+
+-- the row below the window is the next to be checked, and what was found is right of the rows before it
+abbrev pub invariant-loop-row : goal.invariant-loop-row
+invariant-loop-row g l =
+    let source = g.S.GridRows in
+    record {
+      counted : l.walk.rows ≡ l._row;
+      here_whole : AreRowNumbers (numbers_of l.window.here);
+      below_whole : AreRowNumbers (numbers_of l.window.below);
+      given : (rows : ℕ → RowNumbers) → source.gives (l.fn.source, l.fn.tiles, l.fn.products) rows 0 →
+          source.gives (l.source, l.tiles, l.products) rows (l._row + 1);
+      held : (rows : ℕ → RowNumbers) → source.gives (l.fn.source, l.fn.tiles, l.fn.products) rows 0 →
+          AreHeld rows l._row (numbers_of l.window.here) (numbers_of l.window.below);
+      right : OfGrid (source.gives (l.fn.source, l.fn.tiles, l.fn.products)) l.shape (λ (grid : Grid) (ps : Products). IsRightOf l.nodata grid ps l.walk);
+      reads : ReadsOn source.has_read (l.fn.source, l.fn.tiles, l.fn.products) (l.source, l.tiles, l.products) None;
+    }

@@ -1,0 +1,8 @@
+-- What a row in vectors says.
+use Rattle.drain_grid.specs.PerProduct.{of_product, per_product}
+use Rattle.drain_rules.specs.RowNumbers.{RowNumbers}
+use Rattle.drain_verdict.specs.declared.held_row.HeldRow.{HeldRow}
+
+-- its numbers as lists
+abbrev pub numbers_of : HeldRow → RowNumbers
+numbers_of row = record { z = row.z.items; products = per_product (λ p. (of_product row.products p).items) }

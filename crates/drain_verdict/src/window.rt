@@ -1,0 +1,57 @@
+//! A window of three rows, which goes down the rows of a grid.
+
+ghost use Rattle.std.specs.Prelude.{◌≡◌};
+ghost use Rattle.drain_rules.specs.RowNumbers.{AreRowNumbers, blank};
+ghost use Rattle.drain_verdict.specs.HeldRows.{numbers_of};
+
+use crate::held_row::HeldRow;
+use drain_rules::ThreeRows;
+use std::alloc::Global;
+use std::mem::swap;
+
+/// A row, and those above and below it. The one below is there to be read into.
+#[derive(Drop)]
+pub struct Window {
+    pub above: HeldRow,
+    pub here: HeldRow,
+    pub below: HeldRow,
+}
+
+impl Window {
+    /// No rows. This takes no memory.
+    pub fn new(alloc: Global) -> Window
+        ensures above { numbers_of result.above ≡ blank }
+        ensures here { numbers_of result.here ≡ blank }
+    {
+        Window {
+            above: HeldRow::new(alloc),
+            here: HeldRow::new(alloc),
+            below: HeldRow::new(alloc),
+        }
+    }
+
+    /// Moves the window one row down. What stands below afterwards is of no use but for its memory.
+    pub fn turn(&mut self)
+        ensures above { numbers_of self.new.above ≡ numbers_of self.old.here }
+        ensures here { numbers_of self.new.here ≡ numbers_of self.old.below }
+    {
+        swap(&mut self.above, &mut self.here);
+        swap(&mut self.here, &mut self.below);
+    }
+
+    /// The rows as slices.
+    pub fn rows(&self) -> ThreeRows<'_>
+        requires above { AreRowNumbers (numbers_of self.now.above) }
+        requires here { AreRowNumbers (numbers_of self.now.here) }
+        requires below { AreRowNumbers (numbers_of self.now.below) }
+        ensures above { result.above ≡ numbers_of self.now.above }
+        ensures here { result.here ≡ numbers_of self.now.here }
+        ensures below { result.below ≡ numbers_of self.now.below }
+    {
+        ThreeRows {
+            above: self.above.view(),
+            here: self.here.view(),
+            below: self.below.view(),
+        }
+    }
+}
