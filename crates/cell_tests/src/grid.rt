@@ -213,31 +213,34 @@ fn two_by_two(alloc: Global, shape: Shape, numbers: [u16; 4]) -> Result<Raster, 
     Ok(Raster::new(shape, -1, pixels))
 }
 
-#[test]
-fn what_whole_rasters_show(rt: HostRuntime) -> Result<(), Fail> {
-    let alloc = rt.alloc();
-    let Some(shape) = Shape::new(2, 2) else {
-        return Err("a shape".into());
-    };
-    let elevation = Elevation::new(shape, vec![in alloc; 7, 8, VOID, 9]?);
-    let products = ProductSet {
+/// Products whose numbers tell the product, by their tens, and the cell.
+fn numbered(alloc: Global, shape: Shape) -> Result<ProductSet, AllocError>
+    requires { shape ≡ record { rows = 2; cols = 2 } }
+    ensures { IfOk result (λ products. products.con.extent ≡ shape) }
+{
+    Ok(ProductSet {
         con: two_by_two(alloc, shape, [10, 11, 12, 13])?,
         dir: two_by_two(alloc, shape, [20, 21, 22, 23])?,
         acc: two_by_two(alloc, shape, [30, 31, 32, 33])?,
         bas: two_by_two(alloc, shape, [40, 41, 42, 43])?,
         spl: two_by_two(alloc, shape, [50, 51, 52, 53])?,
         rnk: two_by_two(alloc, shape, [60, 61, 62, 63])?,
+    })
+}
+
+/// The patch of its second cell, with a void to the south-west.
+fn numbered_patch(alloc: Global) -> Result<Patch, AllocError> {
+    let Some(shape) = Shape::new(2, 2) else {
+        unreachable!()
     };
-    let cell = Cell { row: 0, col: 1 };
-    assert_eq!(rt; (elevation.shape(), elevation.z(cell)), (shape, Some(8)));
-    assert_eq!(rt;
-        (products.con.shape(), products.con.value(cell)),
-        (shape, 11)
-    );
-    assert_eq!(rt; (products.con.nodata(), products.nodata().rnk), (-1, -1));
-    let (acc, spl) = (products.raster(Product::Acc), products.raster(Product::Spl));
-    assert_eq!(rt; (acc.value(cell), spl.value(cell)), (31, 51));
-    let patch = products.patch(&elevation, cell);
+    let elevation = Elevation::new(shape, vec![in alloc; 7, 8, VOID, 9]?);
+    let products = numbered(alloc, shape)?;
+    Ok(products.patch(&elevation, Cell { row: 0, col: 1 }))
+}
+
+#[test]
+fn what_whole_rasters_show(rt: HostRuntime) -> Result<(), Fail> {
+    let patch = numbered_patch(rt.alloc())?;
     assert_eq!(rt; patch.here, values(Some(8), [11, 21, 31, 41, 51, 61])?);
     for (direction, z, numbers) in [
         (Direction::West, Some(7), [10, 20, 30, 40, 50, 60]),
@@ -246,7 +249,46 @@ fn what_whole_rasters_show(rt: HostRuntime) -> Result<(), Fail> {
     ] {
         assert_eq!(rt; patch.neighbor(direction), Some(values(z, numbers)?));
     }
-    assert_eq!(rt; patch.neighbor(Direction::East), None);
-    assert_eq!(rt; patch.neighbor(Direction::North), None);
+    for outside in [Direction::East, Direction::North] {
+        assert_eq!(rt; patch.neighbor(outside), None);
+    }
+    Ok(())
+}
+
+/// What a product set tells at its second cell: con's shape, its number there, its no-data number, acc's number and spl's.
+fn numbers_told(alloc: Global) -> Result<(Shape, [i64; 4]), Fail> {
+    let shape = Shape::new(2, 2).ok_or("a shape")?;
+    let products = numbered(alloc, shape)?;
+    let cell = Cell { row: 0, col: 1 };
+    let numbers = [
+        products.con.value(cell),
+        products.nodata().rnk,
+        products.raster(Product::Acc).value(cell),
+        products.raster(Product::Spl).value(cell),
+    ];
+    Ok((products.con.shape(), numbers))
+}
+
+#[test]
+fn what_a_product_set_tells(rt: HostRuntime) -> Result<(), Fail> {
+    let (shape, numbers) = numbers_told(rt.alloc())?;
+    assert_eq!(rt; (shape.rows(), shape.cols()), (2, 2));
+    assert_eq!(rt; numbers, [11, -1, 31, 51]);
+    Ok(())
+}
+
+/// What elevations tell: their shape, and the heights of their two cells, of which one is a void.
+fn heights_told(alloc: Global) -> Result<(Shape, [Option<i16>; 2]), Fail> {
+    let shape = Shape::new(1, 2).ok_or("a shape")?;
+    let elevation = Elevation::new(shape, vec![in alloc; 8, VOID]?);
+    let east = elevation.z(Cell { row: 0, col: 1 });
+    Ok((elevation.shape(), [elevation.z(Cell { row: 0, col: 0 }), east]))
+}
+
+#[test]
+fn what_elevations_tell(rt: HostRuntime) -> Result<(), Fail> {
+    let (shape, heights) = heights_told(rt.alloc())?;
+    assert_eq!(rt; (shape.rows(), shape.cols()), (1, 2));
+    assert_eq!(rt; heights, [Some(8), None]);
     Ok(())
 }

@@ -3,7 +3,7 @@
 use crate::file_paths::{header_path, raster_path};
 use crate::open_files::{OpenFault, open, open_tiles};
 use drain_device::{ByteList, Reader, read_body};
-use drain_grid::Product;
+use drain_grid::{PerProduct, Product};
 use drain_header::MAX_HEADER_BYTES;
 use drain_hgt::TileInput;
 use drain_verdict::{Products, RasterInput};
@@ -24,20 +24,10 @@ pub fn open_check(rt: &HostRuntime, folder: &str, tiles: &[&str]) -> Result<Chec
 }
 
 fn open_products(rt: &HostRuntime, folder: &str) -> Result<Products<Reader<File>>, OpenFault> {
-    let con = open_product(rt, folder, Product::Con)?;
-    let dir = open_product(rt, folder, Product::Dir)?;
-    let acc = open_product(rt, folder, Product::Acc)?;
-    let bas = open_product(rt, folder, Product::Bas)?;
-    let spl = open_product(rt, folder, Product::Spl)?;
-    let rnk = open_product(rt, folder, Product::Rnk)?;
-    Ok(Products {
-        con,
-        dir,
-        acc,
-        bas,
-        spl,
-        rnk,
-    })
+    let open = |product: Product| -> Result<RasterInput<Reader<File>>, OpenFault> {
+        open_product(rt, folder, product)
+    };
+    PerProduct::from_each(&open)
 }
 
 fn open_product(

@@ -3,8 +3,9 @@
 ghost use Rattle.std.specs.Prelude.{◌≡◌, Result, Err};
 ghost use Rattle.drain_grid.specs.declared.product.Product.{Product};
 ghost use Rattle.drain_rules.specs.declared.verdict.Verdict.{Verdict};
+ghost use Rattle.drain_grid.specs.PerProduct.{of_product};
 ghost use Rattle.drain_verdict.specs.declared.refusal.Refusal.{Refusal};
-ghost use Rattle.drain_verdict.specs.Inputs.{input_of, names_of};
+ghost use Rattle.drain_verdict.specs.Inputs.{names_of};
 ghost use Rattle.drain_verdict.specs.Devices.{TilesTakeAtMost, RasterTakesAtMost};
 ghost use Rattle.drain_verdict.specs.Headline.{OfInputs};
 ghost use Rattle.drain_verdict.specs.Lines.{report_line};
@@ -41,7 +42,7 @@ pub fn run_check<R: ByteSource, W: ByteSink>(
     ensures tiles_within { TilesTakeAtMost R.bytes_left side tiles.old tiles.new }
     ensures rasters_within { (p : Product) → RasterTakesAtMost R.bytes_left products.old products.new p }
     ensures names { names_of tiles.new ≡ names_of tiles.old }
-    ensures headers { (p : Product) → (input_of products.new p).header ≡ (input_of products.old p).header }
+    ensures headers { (p : Product) → (of_product products.new p).header ≡ (of_product products.old p).header }
 {
     let answer = check(alloc, side, tiles, products);
     print_line(out, &report(&answer), status_of(&answer))

@@ -3,6 +3,7 @@ mod WorkedRules
 pub mod AllRules
 pub mod Basins
 pub mod Bounds
+pub mod ByProduct
 pub mod CellSums
 pub mod Chains
 pub mod Codes

@@ -1,7 +1,6 @@
 -- What products that were made are: of the mosaic's shape, right by every rule, and fit to be written.
 use Rattle.std.specs.Prelude.{◌≡◌}
 use Rattle.drain_grid.specs.declared.product.Product.{Product}
-use Rattle.drain_grid.specs.declared.product.Product.TheVariants.{Con, Dir, Acc, Bas, Spl, Rnk}
 use Rattle.drain_grid.specs.declared.product_set.ProductSet.{ProductSet}
 use Rattle.drain_grid.specs.Product.{default_numbers}
 use Rattle.drain_grid.specs.Rasters.{Heights, ArePixels}
@@ -21,14 +20,9 @@ KeepsEveryRule e ps = RulesHold (check_rules default_numbers) IsAnyRule (grid_of
 abbrev pub CanBeWritten : Tiling → ProductSet → Type 0
 CanBeWritten t ps = (p : Product) → CanSpellAll (header_of t p) (raster_in ps p)
 
--- the same, a product at a time
-pub record AreSpelled (ps : ProductSet) : Type 0 where
-  pub con : CanSpellAllIn (is_signed Con) (bits_of Con) ps.con
-  pub dir : CanSpellAllIn (is_signed Dir) (bits_of Dir) ps.dir
-  pub acc : CanSpellAllIn (is_signed Acc) (bits_of Acc) ps.acc
-  pub bas : CanSpellAllIn (is_signed Bas) (bits_of Bas) ps.bas
-  pub spl : CanSpellAllIn (is_signed Spl) (bits_of Spl) ps.spl
-  pub rnk : CanSpellAllIn (is_signed Rnk) (bits_of Rnk) ps.rnk
+-- the same of the pixels that the product has in every mosaic
+abbrev pub AreSpelled : ProductSet → Type 0
+AreSpelled ps = (p : Product) → CanSpellAllIn (is_signed p) (bits_of p) (raster_in ps p)
 
 -- each raster has a number for each cell, and numbers that some pixel spells
 abbrev pub AreRasters : ProductSet → Type 0

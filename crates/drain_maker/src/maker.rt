@@ -61,6 +61,7 @@ pub fn make(
 }
 
 /// Builds the products: a flood, then what follows from the order in which it came to the cells. They aren't tested yet.
+#[tactic(auto, using(crate::proofs::EachProduct::each_spelled))]
 fn products_from(alloc: Global, elevation: &Elevation) -> Result<ProductSet, OutOfMemory>
     ensures shape { IfOk result (λ products. products.con.extent ≡ elevation.now.extent) }
     ensures nodata { IfOk result (λ products. nodata_of products ≡ default_numbers) }

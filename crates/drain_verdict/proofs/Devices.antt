@@ -1,9 +1,9 @@
 -- The devices of a check, and what is known of them where a part was not called.
+use Rattle.drain_verdict.specs.Inputs.{Products}
 use Rattle.std.proofs.Common.{◌↔◌, ◌⊎◌, ℕ, List, [], ◌∷◌, ◌++◌, map, Option}
 use Rattle.std.proofs.lemmas.List.{map-append}
 use Rattle.drain_device.specs.declared.counts.FaultCounts.{FaultCounts}
 use Rattle.drain_hgt.specs.declared.input.TileInput.{TileInput}
-use Rattle.drain_verdict.specs.declared.input.Products.{Products}
 use Rattle.drain_device.specs.FaultLists.{SomeReadFails}
 use Rattle.drain_verdict.specs.Devices.{tile_devices, product_devices, devices_of, TilesTakeAtMost}
 use Rattle.drain_device.proofs.FaultLists.{SomeReadFails-then, SomeReadFails-none, takes-none}

@@ -9,10 +9,9 @@ use Rattle.drain_header.specs.Fields.{Fields}
 use Rattle.drain_header.specs.Faults.{Describes}
 use Rattle.drain_raster.specs.Pixels.{extent_of}
 use Rattle.drain_mosaic.specs.Tiling as tiling
-use Rattle.drain_verdict.specs.declared.input.Products.{Products}
 use Rattle.drain_verdict.specs.declared.refusal.Refusal.{Refusal}
 use Rattle.drain_verdict.specs.declared.refusal.Refusal.TheVariants.{BadHeader, WrongShape, Misplaced}
-use Rattle.drain_verdict.specs.Inputs.{Inputs, input_of}
+use Rattle.drain_verdict.specs.Inputs.{Inputs, Products}
 use Rattle.drain_verdict.specs.Meaning.{tiling_of, fields_of}
 use Rattle.drain_verdict.specs.Refusals.{Stands, NoneStandsBefore, HasShape, IsPlaced, refusal_order}
 use Rattle.drain_verdict.specs.Answers.{IsRefusal}
@@ -52,13 +51,13 @@ is_right i p h is = record {
   place = λ stands. stands (subst (λ (f : Fields). IsPlaced (tiling_of i) f.place) is.described.fields is.placed);
 }
 
-pub headers_none : {R : Type 0} (i : Inputs) (ps : Products R) (hs : PerProduct Fields) → ((p : Product) → i.header p ≡ (input_of ps p).header) → AreHeadersFor (tiling_of i) ps hs →
+pub headers_none : {R : Type 0} (i : Inputs) (ps : Products R) (hs : PerProduct Fields) → ((p : Product) → i.header p ≡ (of_product ps p).header) → AreHeadersFor (tiling_of i) ps hs →
     NoneStandsBefore i 4 → NoneStandsBefore i 5
 headers_none i ps hs told are none =
     let right : (p : Product) → IsRight i p = λ p. is_right i p (of_product hs p) (subst (λ text. IsHeaderFor (tiling_of i) text (of_product hs p)) (sym (told p)) (are p)) in
     none_more i (Stands i) 4 none (at_header i (λ b. ¬ Stands i b) (λ p fault. (right p).no_fault fault) (λ p. (right p).shape) (λ p. (right p).place))
 
-pub headers_are : {R : Type 0} (i : Inputs) (ps : Products R) (hs : PerProduct Fields) → ((p : Product) → i.header p ≡ (input_of ps p).header) → AreHeadersFor (tiling_of i) ps hs →
+pub headers_are : {R : Type 0} (i : Inputs) (ps : Products R) (hs : PerProduct Fields) → ((p : Product) → i.header p ≡ (of_product ps p).header) → AreHeadersFor (tiling_of i) ps hs →
     (p : Product) → of_product hs p ≡ fields_of i p
 headers_are i ps hs told are p = fields_are i p (of_product hs p) (subst (λ text. Describes text (of_product hs p)) (sym (told p)) ((are p).described))
 
@@ -103,7 +102,7 @@ refused_for i p (Misplaced q) bad earlier none =
 refused_for i p refusal bad earlier none = absurd bad
 
 -- the refusal of a header is the first
-pub header_refused : {R : Type 0} (i : Inputs) (ps : Products R) (refusal : Refusal) → ((p : Product) → i.header p ≡ (input_of ps p).header) →
+pub header_refused : {R : Type 0} (i : Inputs) (ps : Products R) (refusal : Refusal) → ((p : Product) → i.header p ≡ (of_product ps p).header) →
     IsFirstHeaderRefusal (tiling_of i) ps refusal → NoneStandsBefore i 4 → IsRefusal i refusal
 header_refused i ps refusal told first none =
     refused_for i first.product refusal (subst (λ text. IsHeaderRefusal (tiling_of i) first.product text refusal) (sym (told first.product)) first.refused)

@@ -12,12 +12,11 @@ use Rattle.drain_grid.specs.declared.per_product.PerProduct.{PerProduct}
 use Rattle.drain_grid.specs.PerProduct.{of_product, products, rank_of}
 use Rattle.drain_header.specs.Fields.{Fields}
 use Rattle.drain_raster.specs.Pixels.{IsShort, needed_len}
-use Rattle.drain_verdict.specs.declared.input.Products.{Products}
 use Rattle.drain_verdict.specs.declared.refusal.Refusal.{Refusal}
 use Rattle.drain_verdict.specs.declared.refusal.Refusal.TheVariants.{BadSide, BadName, NoTiles, RepeatedTile, BoxTooLarge, BadHeader, WrongShape, Misplaced, BadTileLength, RasterShort, SeamMismatch, OutOfMemory, ReadFailed}
 use Rattle.drain_device.specs.FaultLists.{SomeReadFails}
 use Rattle.drain_verdict.specs.Devices.{product_devices}
-use Rattle.drain_verdict.specs.Inputs.{input_of}
+use Rattle.drain_verdict.specs.Inputs.{Products}
 use Rattle.drain_verdict.specs.Stages.{AreRasterBodies, IsRasterOf, IsFirstShort, IsRasterRefusal, IsOneRasterRefusal}
 use Rattle.drain_device.proofs.FaultLists.{SomeReadFails-none, SomeReadFails-one, SomeReadFails-then, SomeReadFails-iff, any-first, any-later, any-cases, any-none, untouched, takes-none}
 
@@ -40,7 +39,7 @@ with_bodies ps con dir acc bas spl rnk = record {
   rnk = record { header = ps.rnk.header; body = rnk };
 }
 
-headers-stay : {R : Type 0} (ps : Products R) (con dir acc bas spl rnk : R) (p : Product) → (input_of (with_bodies ps con dir acc bas spl rnk) p).header ≡ (input_of ps p).header
+headers-stay : {R : Type 0} (ps : Products R) (con dir acc bas spl rnk : R) (p : Product) → (of_product (with_bodies ps con dir acc bas spl rnk) p).header ≡ (of_product ps p).header
 headers-stay ps con dir acc bas spl rnk Con = refl
 headers-stay ps con dir acc bas spl rnk Dir = refl
 headers-stay ps con dir acc bas spl rnk Acc = refl
@@ -134,8 +133,8 @@ told-fails {S} k r e is =
 -- the parts of all products together
 pub record Parts {R : Type 0} (bytes_left : R → Option (List ℕ)) (counts : R → FaultCounts) (hs : PerProduct Fields) (olds news : Products R) (Fails : Type 0) : Type 0 where
   pub faults : SomeReadFails (map counts (product_devices olds)) (map counts (product_devices news)) Fails
-  pub within : (p : Product) → TakesAtMost (needed_len (of_product hs p)) (bytes_left (input_of olds p).body) (bytes_left (input_of news p).body)
-  pub headers : (p : Product) → (input_of news p).header ≡ (input_of olds p).header
+  pub within : (p : Product) → TakesAtMost (needed_len (of_product hs p)) (bytes_left (of_product olds p).body) (bytes_left (of_product news p).body)
+  pub headers : (p : Product) → (of_product news p).header ≡ (of_product olds p).header
 
 first-short : (hs : PerProduct Fields) (bodies : Product → List ℕ) (k : Product) → ((q : Product) → rank_of q < rank_of k → ¬ IsShort (of_product hs q) (bodies q)) →
     IsShort (of_product hs k) (bodies k) → IsFirstShort hs bodies k
@@ -169,10 +168,10 @@ pub parts-all : {R : Type 0} (bytes_left : R → Option (List ℕ)) (counts : R 
     Parts bytes_left counts hs ps (with_bodies ps con dir acc bas spl rnk) ⊥
 parts-all bytes_left counts hs ps con dir acc bas spl rnk c d a b s r =
     let news = with_bodies ps con dir acc bas spl rnk in
-    let each = by_product (λ p. Part bytes_left counts (of_product hs p) (input_of ps p).body (input_of (with_bodies ps con dir acc bas spl rnk) p).body ⊥ ⊥) c d a b s r in
+    let each = by_product (λ p. Part bytes_left counts (of_product hs p) (of_product ps p).body (of_product (with_bodies ps con dir acc bas spl rnk) p).body ⊥ ⊥) c d a b s r in
     record {
       faults = SomeReadFails-iff ((λ some. some.4), (λ f. absurd f))
-          (SomeReadFails-each (λ p. counts (input_of ps p).body) (λ p. counts (input_of news p).body) (λ p. ⊥) products (λ p. (each p).faults));
+          (SomeReadFails-each (λ p. counts (of_product ps p).body) (λ p. counts (of_product news p).body) (λ p. ⊥) products (λ p. (each p).faults));
       within = λ p. (each p).within;
       headers = headers-stay ps con dir acc bas spl rnk;
     }
@@ -184,7 +183,7 @@ pub record Stopped {R T : Type 0} (bytes_left : R → Option (List ℕ)) (counts
 
 pub stopped-at : {R T : Type 0} (bytes_left : R → Option (List ℕ)) (counts : R → FaultCounts) (hs : PerProduct Fields) (ps : Products R) (con dir acc bas spl rnk : R) (k : Product) (e : Refusal) (r : Result T Refusal) →
     IsErrAnd r (λ told. told ≡ e) →
-    ((bytes : List ℕ) → bytes_left (input_of ps k).body ≡ Some bytes → IsOneRasterRefusal (of_product hs k) k bytes e) →
+    ((bytes : List ℕ) → bytes_left (of_product ps k).body ≡ Some bytes → IsOneRasterRefusal (of_product hs k) k bytes e) →
     Part bytes_left counts hs.con ps.con.body con ((Con ≡ k) × IsErrOf r ReadFailed) (rank_of Con < rank_of k) →
     Part bytes_left counts hs.dir ps.dir.body dir ((Dir ≡ k) × IsErrOf r ReadFailed) (rank_of Dir < rank_of k) →
     Part bytes_left counts hs.acc ps.acc.body acc ((Acc ≡ k) × IsErrOf r ReadFailed) (rank_of Acc < rank_of k) →
@@ -194,12 +193,12 @@ pub stopped-at : {R T : Type 0} (bytes_left : R → Option (List ℕ)) (counts :
     Stopped bytes_left counts hs ps (with_bodies ps con dir acc bas spl rnk) r
 stopped-at bytes_left counts hs ps con dir acc bas spl rnk k e r told one c d a b s t =
     let news = with_bodies ps con dir acc bas spl rnk in
-    let each = by_product (λ p. Part bytes_left counts (of_product hs p) (input_of ps p).body (input_of (with_bodies ps con dir acc bas spl rnk) p).body ((p ≡ k) × IsErrOf r ReadFailed) (rank_of p < rank_of k)) c d a b s t in
+    let each = by_product (λ p. Part bytes_left counts (of_product hs p) (of_product ps p).body (of_product (with_bodies ps con dir acc bas spl rnk) p).body ((p ≡ k) × IsErrOf r ReadFailed) (rank_of p < rank_of k)) c d a b s t in
     record {
       refusal = told-of r e _ told (λ bodies are. refusal-at hs bodies k e (λ q less. (each q).long less (bodies q) (are q)) (one (bodies k) (are k)));
       parts = record {
         faults = SomeReadFails-iff ((λ some. some.4.1), (λ g. among (λ p. (p ≡ k) × IsErrOf r ReadFailed) k (refl, g)))
-            (SomeReadFails-each (λ p. counts (input_of ps p).body) (λ p. counts (input_of news p).body) (λ p. (p ≡ k) × IsErrOf r ReadFailed) products (λ p. (each p).faults));
+            (SomeReadFails-each (λ p. counts (of_product ps p).body) (λ p. counts (of_product news p).body) (λ p. (p ≡ k) × IsErrOf r ReadFailed) products (λ p. (each p).faults));
         within = λ p. (each p).within;
         headers = headers-stay ps con dir acc bas spl rnk;
       };

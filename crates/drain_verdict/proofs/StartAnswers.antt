@@ -13,10 +13,9 @@ use Rattle.drain_hgt.specs.Name.{Names}
 use Rattle.drain_hgt.specs.Laws.{OneName}
 use Rattle.drain_header.specs.Fields.{Fields}
 use Rattle.drain_mosaic.specs.Tiling.{Tiling}
-use Rattle.drain_verdict.specs.declared.input.Products.{Products}
 use Rattle.drain_verdict.specs.declared.refusal.Refusal.{Refusal}
 use Rattle.drain_verdict.specs.declared.refusal.Refusal.TheVariants.{ReadFailed}
-use Rattle.drain_verdict.specs.Inputs.{Inputs, Tell, names_of, input_of}
+use Rattle.drain_verdict.specs.Inputs.{Inputs, Tell, names_of, Products}
 use Rattle.drain_verdict.specs.Meaning.{tiling_of, fields_of}
 use Rattle.drain_verdict.specs.Refusals.{NoneStandsBefore}
 use Rattle.drain_verdict.specs.Answers.{IsAnswer}
@@ -61,7 +60,7 @@ header_answer one bytes_left side tiles ps i t refusal tell is bad =
 pub header_reads_none : {R T : Type 0} (t : Tiling) (ps : Products R) (refusal : Refusal) → IsFirstHeaderRefusal t ps refusal → ¬ IsErrOf {T = T} (Err refusal) ReadFailed
 header_reads_none t ps refusal bad is =
     let same : refusal ≡ ReadFailed = cc in
-    subst (IsHeaderRefusal t bad.product (input_of ps bad.product).header) same bad.refused
+    subst (IsHeaderRefusal t bad.product (of_product ps bad.product).header) same bad.refused
 
 -- the layout is that of the inputs, the headers are what theirs say, and nothing stands before the tiles
 pub started : OneName → {R : Type 0} (bytes_left : R → Option (List ℕ)) (side : ℕ) (tiles : List (TileInput R)) (ps : Products R) (i : Inputs) (t : Tiling) (hs : PerProduct Fields) →

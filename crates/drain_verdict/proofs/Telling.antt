@@ -7,7 +7,8 @@ use Rattle.drain_hgt.specs.declared.input.TileInput.{TileInput}
 use Rattle.drain_hgt.specs.Corner.{Corner}
 use Rattle.drain_hgt.specs.Name.{Names}
 use Rattle.drain_hgt.specs.Laws.{NamesGiveCorners}
-use Rattle.drain_verdict.specs.Inputs.{AreNames, input_of, names_of}
+use Rattle.drain_grid.specs.PerProduct.{of_product}
+use Rattle.drain_verdict.specs.Inputs.{AreNames, names_of}
 use Rattle.drain_verdict.specs.Laws.{InputsAreTold}
 
 -- what is told, and nothing where nothing is
@@ -43,8 +44,8 @@ inputs_are_told corner bytes_left side tiles ps tiles_tell products_tell = (
     names = names_of tiles;
     corners = map corner.0 (names_of tiles);
     tiles = map (λ t. told (bytes_left t.body)) tiles;
-    header = λ p. (input_of ps p).header;
-    raster = λ p. told (bytes_left (input_of ps p).body);
+    header = λ p. (of_product ps p).header;
+    raster = λ p. told (bytes_left (of_product ps p).body);
   },
   record {
     side_is = refl;
@@ -52,6 +53,6 @@ inputs_are_told corner bytes_left side tiles ps tiles_tell products_tell = (
     corners_are = corners_named corner.0 corner.1 (names_of tiles);
     tiles_are = bodies_told bytes_left tiles tiles_tell;
     headers_are = λ p. refl;
-    rasters_are = λ p. told_is (bytes_left (input_of ps p).body) (products_tell p);
+    rasters_are = λ p. told_is (bytes_left (of_product ps p).body) (products_tell p);
   },
 )

@@ -1,24 +1,23 @@
 -- The devices of a check, and how far it reads from them.
-use Rattle.std.specs.Prelude.{ℕ, ◌+◌, List, [], ◌∷◌, map, ◌++◌, Option}
+use Rattle.std.specs.Prelude.{ℕ, ◌+◌, List, map, ◌++◌, Option}
 use Rattle.std.specs.List.{AllZip}
 use Rattle.drain_device.specs.Reads.{TakesAtMost}
 use Rattle.drain_grid.specs.declared.product.Product.{Product}
-use Rattle.drain_grid.specs.PerProduct.{products}
+use Rattle.drain_grid.specs.PerProduct.{of_product, products}
 use Rattle.drain_text.specs.Text.{lines_of}
 use Rattle.drain_hgt.specs.declared.input.TileInput.{TileInput}
 use Rattle.drain_hgt.specs.Samples.{tile_length}
 use Rattle.drain_header.specs.Fields.{Fields}
 use Rattle.drain_header.specs.Header.{header_of}
 use Rattle.drain_raster.specs.Pixels.{needed_len}
-use Rattle.drain_verdict.specs.declared.input.Products.{Products}
-use Rattle.drain_verdict.specs.Inputs.{input_of}
+use Rattle.drain_verdict.specs.Inputs.{Products}
 
 -- the devices of the tiles, and those of the products
 abbrev pub tile_devices : {R : Type 0} → List (TileInput R) → List R
 tile_devices tiles = map (λ t. t.body) tiles
 
 abbrev pub product_devices : {R : Type 0} → Products R → List R
-product_devices ps = map (λ p. (input_of ps p).body) products
+product_devices ps = map (λ p. (of_product ps p).body) products
 
 -- the devices of a check
 abbrev pub devices_of : {R : Type 0} → List (TileInput R) → Products R → List R
@@ -30,8 +29,8 @@ TilesTakeAtMost bytes_left side old new = AllZip (λ a b. TakesAtMost (tile_leng
 
 -- of the product's raster nothing past the last byte that this header needs was taken
 abbrev pub BodyTakesAtMost : {R : Type 0} → (R → Option (List ℕ)) → Fields → Products R → Products R → Product → Type 0
-BodyTakesAtMost bytes_left h old new p = TakesAtMost (needed_len h) (bytes_left (input_of old p).body) (bytes_left (input_of new p).body)
+BodyTakesAtMost bytes_left h old new p = TakesAtMost (needed_len h) (bytes_left (of_product old p).body) (bytes_left (of_product new p).body)
 
 -- the same of the header that is handed in
 abbrev pub RasterTakesAtMost : {R : Type 0} → (R → Option (List ℕ)) → Products R → Products R → Product → Type 0
-RasterTakesAtMost bytes_left old new p = BodyTakesAtMost bytes_left (header_of (lines_of (input_of old p).header)) old new p
+RasterTakesAtMost bytes_left old new p = BodyTakesAtMost bytes_left (header_of (lines_of (of_product old p).header)) old new p

@@ -2,12 +2,12 @@
 use Rattle.std.specs.Prelude.{◌≡◌, ℕ, List, map, Option, Some}
 use Rattle.std.specs.List.{All, AllZip}
 use Rattle.drain_grid.specs.declared.product.Product.{Product}
-use Rattle.drain_grid.specs.declared.product.Product.TheVariants.{Con, Dir, Acc, Bas, Spl, Rnk}
+use Rattle.drain_grid.specs.declared.per_product.PerProduct.{PerProduct}
+use Rattle.drain_grid.specs.PerProduct.{of_product}
 use Rattle.drain_hgt.specs.declared.input.TileInput.{TileInput}
 use Rattle.drain_hgt.specs.Corner.{Corner}
 use Rattle.drain_hgt.specs.Name.{Names}
 use Rattle.drain_verdict.specs.declared.input.RasterInput.{RasterInput}
-use Rattle.drain_verdict.specs.declared.input.Products.{Products}
 
 -- the side, the names of the tiles, which tiles they name, the tiles' bodies, and each product's header and body
 pub record Inputs : Type 0 where
@@ -18,14 +18,9 @@ pub record Inputs : Type 0 where
   pub header : Product → List ℕ
   pub raster : Product → List ℕ
 
--- the input of a product
-abbrev pub input_of : {R : Type 0} → Products R → Product → RasterInput R
-input_of ps Con = ps.con
-input_of ps Dir = ps.dir
-input_of ps Acc = ps.acc
-input_of ps Bas = ps.bas
-input_of ps Spl = ps.spl
-input_of ps Rnk = ps.rnk
+-- the products of one mosaic
+abbrev pub Products : Type 0 → Type 0
+Products R = PerProduct (RasterInput R)
 
 -- each name names a tile
 abbrev pub AreNames : List (List ℕ) → Type 0
@@ -41,5 +36,5 @@ pub record Tell {R : Type 0} (bytes_left : R → Option (List ℕ)) (side : ℕ)
   pub names_are : i.names ≡ names_of tiles
   pub corners_are : AreNames i.names → AllZip Names i.names i.corners
   pub tiles_are : AllZip (λ t body. bytes_left t.body ≡ Some body) tiles i.tiles
-  pub headers_are : (p : Product) → i.header p ≡ (input_of ps p).header
-  pub rasters_are : (p : Product) → bytes_left (input_of ps p).body ≡ Some (i.raster p)
+  pub headers_are : (p : Product) → i.header p ≡ (of_product ps p).header
+  pub rasters_are : (p : Product) → bytes_left (of_product ps p).body ≡ Some (i.raster p)

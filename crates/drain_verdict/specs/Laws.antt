@@ -3,12 +3,12 @@ use Rattle.std.specs.Prelude.{ℕ, List, Option, IsSome}
 use Rattle.std.specs.List.{All}
 use Rattle.drain_grid.specs.declared.product.Product.{Product}
 use Rattle.drain_hgt.specs.declared.input.TileInput.{TileInput}
-use Rattle.drain_verdict.specs.declared.input.Products.{Products}
-use Rattle.drain_verdict.specs.Inputs.{Inputs, Tell, input_of}
+use Rattle.drain_grid.specs.PerProduct.{of_product}
+use Rattle.drain_verdict.specs.Inputs.{Inputs, Tell, Products}
 
 -- where each source tells its bytes, what is handed in tells some inputs
 abbrev pub InputsAreTold : {R : Type 0} → (R → Option (List ℕ)) → Type 0
 InputsAreTold {R} bytes_left =
     (side : ℕ) (tiles : List (TileInput R)) (ps : Products R) →
-    All (λ tile. IsSome (bytes_left tile.body)) tiles → ((p : Product) → IsSome (bytes_left (input_of ps p).body)) →
+    All (λ tile. IsSome (bytes_left tile.body)) tiles → ((p : Product) → IsSome (bytes_left (of_product ps p).body)) →
     (i : Inputs) × Tell bytes_left side tiles ps i

@@ -25,10 +25,9 @@ use Rattle.drain_mosaic.specs.declared.seams.SeamFault.TheVariants as seam
 use Rattle.drain_mosaic.specs.Tiling as tiling
 use Rattle.drain_mosaic.specs.LayoutFaults.{HasLayoutFault, order_of}
 use Rattle.drain_mosaic.specs.Mosaic.{tiles_of, TilesAgree, IsElevation, IsFirstSeam}
-use Rattle.drain_verdict.specs.declared.input.Products.{Products}
 use Rattle.drain_verdict.specs.declared.refusal.Refusal.{Refusal}
 use Rattle.drain_verdict.specs.declared.refusal.Refusal.TheVariants.{BadSide, BadName, NoTiles, RepeatedTile, BoxTooLarge, BadHeader, WrongShape, Misplaced, BadTileLength, RasterShort, SeamMismatch, OutOfMemory, ReadFailed}
-use Rattle.drain_verdict.specs.Inputs.{Inputs, input_of}
+use Rattle.drain_verdict.specs.Inputs.{Inputs, Products}
 use Rattle.drain_verdict.specs.Meaning.{tiling_of, fields_of}
 use Rattle.drain_verdict.specs.Refusals.{IsBadName, IsPlaced, HasShape}
 
@@ -101,13 +100,13 @@ IsHeaderRefusal t p text refusal = ⊥
 
 -- the header of each product is right
 abbrev pub AreHeadersFor : {R : Type 0} → tiling.Tiling → Products R → PerProduct Fields → Type 0
-AreHeadersFor t ps hs = (p : Product) → IsHeaderFor t (input_of ps p).header (of_product hs p)
+AreHeadersFor t ps hs = (p : Product) → IsHeaderFor t (of_product ps p).header (of_product hs p)
 
 -- the first product whose header is refused, and why
 pub record IsFirstHeaderRefusal {R : Type 0} (t : tiling.Tiling) (ps : Products R) (refusal : Refusal) : Type 0 where
   pub product : Product
-  pub refused : IsHeaderRefusal t product (input_of ps product).header refusal
-  pub before : (q : Product) → rank_of q < rank_of product → (h : Fields) × IsHeaderFor t (input_of ps q).header h
+  pub refused : IsHeaderRefusal t product (of_product ps product).header refusal
+  pub before : (q : Product) → rank_of q < rank_of product → (h : Fields) × IsHeaderFor t (of_product ps q).header h
 
 -- the tiles have these bodies
 abbrev pub AreBodies : {R : Type 0} → (R → Option (List ℕ)) → List (TileInput R) → List (List ℕ) → Type 0
@@ -141,7 +140,7 @@ IsTileRefusal t bodies refusal = ⊥
 
 -- the products have these bodies
 abbrev pub AreRasterBodies : {R : Type 0} → (R → Option (List ℕ)) → Products R → (Product → List ℕ) → Type 0
-AreRasterBodies bytes_left ps bodies = (p : Product) → bytes_left (input_of ps p).body ≡ Some (bodies p)
+AreRasterBodies bytes_left ps bodies = (p : Product) → bytes_left (of_product ps p).body ≡ Some (bodies p)
 
 -- the body is long enough, and this is its raster
 pub record IsRasterOf (h : Fields) (p : Product) (body : List ℕ) (raster : Pixels) : Type 0 where

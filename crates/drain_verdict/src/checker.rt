@@ -9,7 +9,7 @@ ghost use Rattle.drain_mosaic.specs.Mosaic.{AreTiles, TilesAgree, tiles_of};
 ghost use Rattle.drain_grid.specs.PerProduct.{of_product};
 ghost use Rattle.drain_mosaic.specs.Tiling as tiling;
 ghost use Rattle.drain_raster.specs.Pixels.{extent_of};
-ghost use Rattle.drain_verdict.specs.Inputs.{Inputs, Tell, input_of, names_of};
+ghost use Rattle.drain_verdict.specs.Inputs.{Inputs, Tell, names_of};
 ghost use Rattle.drain_verdict.specs.Meaning.{tiling_of, fields_of};
 ghost use Rattle.drain_verdict.specs.Refusals.{IsOfBodies, NoneStandsBefore};
 ghost use Rattle.drain_verdict.specs.Answers.{IsAnswer};
@@ -88,7 +88,7 @@ pub fn check<R: ByteSource>(
     ensures rasters_within { (p : Product) → RasterTakesAtMost R.bytes_left products.old products.new p }
     ensures faults { SomeReadFails (map R.counts (devices_of tiles.old products.old)) (map R.counts (devices_of tiles.new products.new)) (IsErrOf result Refusal.ReadFailed) }
     ensures names { names_of tiles.new ≡ names_of tiles.old }
-    ensures headers { (p : Product) → (input_of products.new p).header ≡ (input_of products.old p).header }
+    ensures headers { (p : Product) → (of_product products.new p).header ≡ (of_product products.old p).header }
 
     // A refusal of side, names, layout or headers leaves every device and every value as it was.
     ensures untouched { IfErr result (λ refusal. ¬ IsOfBodies refusal → (tiles.new ≡ tiles.old) × (products.new ≡ products.old)) }
@@ -111,7 +111,7 @@ fn answer_of<R: ByteSource>(
     ensures rasters_within { (p : Product) → RasterTakesAtMost R.bytes_left products.old products.new p }
     ensures faults { SomeReadFails (map R.counts (devices_of tiles.old products.old)) (map R.counts (devices_of tiles.new products.new)) (IsErrOf result Refusal.ReadFailed) }
     ensures names { names_of tiles.new ≡ names_of tiles.old }
-    ensures headers { (p : Product) → (input_of products.new p).header ≡ (input_of products.old p).header }
+    ensures headers { (p : Product) → (of_product products.new p).header ≡ (of_product products.old p).header }
     ensures untouched { IfErr result (λ refusal. ¬ IsOfBodies refusal → (tiles.new ≡ tiles.old) × (products.new ≡ products.old)) }
 {
     // The law that bytes name one tile.
@@ -138,7 +138,7 @@ fn check_bodies<R: ByteSource>(
     ensures rasters_within { (p : Product) → BodyTakesAtMost R.bytes_left (of_product headers.now p) products.old products.new p }
     ensures faults { SomeReadFails (map R.counts (devices_of tiles.old products.old)) (map R.counts (devices_of tiles.new products.new)) (IsErrOf result Refusal.ReadFailed) }
     ensures names { names_of tiles.new ≡ names_of tiles.old }
-    ensures headers { (p : Product) → (input_of products.new p).header ≡ (input_of products.old p).header }
+    ensures headers { (p : Product) → (of_product products.new p).header ≡ (of_product products.old p).header }
     ensures of_bodies { IfErr result IsOfBodies }
 {
     let samples = read_tiles(alloc, layout, tiles)?;

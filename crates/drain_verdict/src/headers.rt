@@ -3,7 +3,7 @@
 ghost use Rattle.std.specs.Prelude.{◌≡◌, ◌↔◌, IsTrue, IfOk, IfErr};
 ghost use Rattle.drain_raster.specs.Pixels.{extent_of};
 ghost use Rattle.drain_mosaic.specs.Tiling as tiling;
-ghost use Rattle.drain_verdict.specs.Inputs.{input_of};
+ghost use Rattle.drain_grid.specs.PerProduct.{of_product};
 ghost use Rattle.drain_verdict.specs.Stages.{IsHeaderFor, IsHeaderRefusal, AreHeadersFor, IsFirstHeaderRefusal};
 
 use crate::input::Products;
@@ -53,8 +53,8 @@ pub fn read_headers<R>(
     ensures refusal { IfErr result (IsFirstHeaderRefusal layout.now products.now) }
 {
     let read = |product: Product| -> Result<Header, Refusal>
-        ensures header { IfOk result (IsHeaderFor layout.entry.now (input_of products.entry.now product).header) }
-        ensures refusal { IfErr result (IsHeaderRefusal layout.entry.now product (input_of products.entry.now product).header) }
+        ensures header { IfOk result (IsHeaderFor layout.entry.now (of_product products.entry.now product).header) }
+        ensures refusal { IfErr result (IsHeaderRefusal layout.entry.now product (of_product products.entry.now product).header) }
     { read_header(layout, product, products.of(product).header.as_slice()) };
     PerProduct::from_each(&read)
 }

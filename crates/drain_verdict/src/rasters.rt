@@ -9,7 +9,6 @@ ghost use Rattle.drain_grid.specs.WholeGrid.{raster_in};
 ghost use Rattle.drain_raster.specs.Pixels.{extent_of, needed_len};
 ghost use Rattle.drain_device.specs.FaultLists.{SomeReadFails};
 ghost use Rattle.drain_verdict.specs.Devices.{product_devices};
-ghost use Rattle.drain_verdict.specs.Inputs.{input_of};
 ghost use Rattle.drain_verdict.specs.Refusals.{IsOfBodies};
 ghost use Rattle.drain_verdict.specs.Stages.{AreRasterBodies, IsRasterOf, IsOneRasterRefusal, IsRasterRefusal};
 
@@ -39,8 +38,8 @@ pub fn read_products<R: ByteSource>(
 
     // A read fails exactly where the device of some product gives up; each gives at most the needed bytes.
     ensures faults { SomeReadFails (map R.counts (product_devices products.old)) (map R.counts (product_devices products.new)) (IsErrOf result Refusal.ReadFailed) }
-    ensures within { (p : Product) → TakesAtMost (needed_len (of_product headers.now p)) (R.bytes_left (input_of products.old p).body) (R.bytes_left (input_of products.new p).body) }
-    ensures headers { (p : Product) → (input_of products.new p).header ≡ (input_of products.old p).header }
+    ensures within { (p : Product) → TakesAtMost (needed_len (of_product headers.now p)) (R.bytes_left (of_product products.old p).body) (R.bytes_left (of_product products.new p).body) }
+    ensures headers { (p : Product) → (of_product products.new p).header ≡ (of_product products.old p).header }
 {
     let con = read_product(alloc, Product::Con, &headers.con, &mut products.con.body)?;
     let dir = read_product(alloc, Product::Dir, &headers.dir, &mut products.dir.body)?;
