@@ -8,16 +8,18 @@ ghost use Rattle.drain_grid.specs.Laws.{CorrectFromRules, CountsUpstream, Labels
 use crate::cell::MAX_LENGTH;
 use crate::degree::UNITS_PER_DEGREE;
 use crate::nodata::{GREATEST_NODATA, LEAST_NODATA};
-use crate::tile::{MAX_SIDE, MIN_SIDE, VOID};
+use crate::tile::{GREATEST_SAMPLE, LEAST_SAMPLE, MAX_SIDE, MIN_SIDE, VOID};
 use crate::values::{GREATEST_PIXEL, LEAST_PIXEL};
 
 /// The numerals of the constants that definitions name.
 ///
-/// Sources: the SRTM HGT documentation for the void and for the greatest side, that of a 1 arc-second tile; the numbers that 32 bits spell,
-/// signed and not, for pixels; eight such tiles side by side, which share their edges, for the greatest length. The least side, the
-/// bounds of a no-data number and the units of a degree are this project's own.
+/// Sources: the SRTM HGT documentation for the void, for the numbers of samples, which are those of 16 signed bits, and for the greatest
+/// side, that of a 1 arc-second tile; the numbers that 32 bits spell, signed and not, for pixels; eight such tiles side by side, which share
+/// their edges, for the greatest length. The least side, the bounds of a no-data number and the units of a degree are this project's own.
 pub fn constants()
     ensures void { VOID ≡ neg_ℤ (pos 32768) }
+    ensures least_sample { LEAST_SAMPLE ≡ neg_ℤ (pos 32768) }
+    ensures greatest_sample { GREATEST_SAMPLE ≡ pos 32767 }
     ensures min_side { MIN_SIDE ≡ 2 }
     ensures max_side { MAX_SIDE ≡ 3601 }
     ensures max_length { MAX_LENGTH ≡ 28801 }

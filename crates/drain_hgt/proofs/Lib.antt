@@ -3,3 +3,6 @@ pub mod Reading
 pub mod Corners
 pub mod Meanings
 pub mod Samples
+pub mod TileRowLemmas
+pub mod TileEnds
+pub mod TileSamples

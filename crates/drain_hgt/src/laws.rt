@@ -1,9 +1,9 @@
-//! What the names of tiles promise.
+//! What the names and the rows of tiles promise.
 //!
 //! Each law is a function with nothing to do: its contract is the law, and a caller that calls it has the law at hand.
 
 ghost use Rattle.std.specs.Prelude.{◌≡◌};
-ghost use Rattle.drain_hgt.specs.Laws.{NameReadsBack, NamesGiveCorners, OneName};
+ghost use Rattle.drain_hgt.specs.Laws.{NameReadsBack, NamesGiveCorners, OneName, TileRowsAreSamples, TileRowsTellLengths};
 
 use crate::name::{HALF_TURN, NAME_LENGTH, POLE};
 
@@ -29,4 +29,14 @@ pub fn names_give_corners()
 /// Bytes name one tile, or have one fault.
 pub fn one_name()
     ensures { OneName }
+{}
+
+/// The rows of a whole tile are its samples.
+pub fn tile_rows_are_samples()
+    ensures { TileRowsAreSamples }
+{}
+
+/// A tile's rows end wrong exactly where its length is wrong.
+pub fn tile_rows_tell_lengths()
+    ensures { TileRowsTellLengths }
 {}
