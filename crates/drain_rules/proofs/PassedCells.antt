@@ -10,12 +10,18 @@ use Rattle.drain_grid.specs.PatchRules.{check_rules}
 use Rattle.drain_rules.specs.declared.cell_rules.Stop.{Stop}
 use Rattle.drain_rules.specs.declared.tally.Tally.{Tally}
 use Rattle.drain_rules.specs.Labels.{AreLabelsBefore, IsLabelOf, labelled_profile}
-use Rattle.drain_rules.specs.Rows.{place, IsRowTally, IsStopAt}
+use Rattle.drain_rules.specs.Rows.{place, CountsAlong, HoldAlong, IsRowTally, IsStopAt}
 use Rattle.drain_rules.specs.Stops.{IsCellStop}
-use Rattle.drain_rules.specs.PatchRows.{AreRowPatches, IsPassed}
+use Rattle.drain_rules.specs.PatchRows.{AreRowPatches}
 use Rattle.drain_rules.proofs.Faults.{IsLeastFault-cell}
 use Rattle.drain_rules.proofs.LabelsBefore.{AreLabelsBefore-more, AreLabelsBefore-row}
 use Rattle.drain_rules.proofs.RowLemmas.{HoldAlong-more, CountsAlong-more, IsStopAt-cell}
+
+-- the cells before this column keep the rules, are counted, and their outlets' labels are admitted
+pub record IsPassed (nodata : NoDataNumbers) (g : Grid) (ps : Products) (row col : ℕ) (tally : Tally) (labels : List (ℕ × ℕ)) : Type 0 where
+  pub holds : HoldAlong (check_rules nodata) IsAnyRule g ps row col
+  pub counted : CountsAlong g ps row col tally
+  pub before : AreLabelsBefore g ps (place row col) labels
 
 inside-row : (g : Grid) (ps : Products) (row col cols : ℕ) (shown : ℕ → Patch) → AreRowPatches g ps row cols shown → col < cols → IsInside g (place row col)
 inside-row g ps row col cols shown are less = record { row = are.inside; col = omega (arith, less, are.cols_are) }

@@ -1,13 +1,10 @@
 -- What a walk along a row of patches finds, for any grid whose row it is.
 use Rattle.std.specs.Prelude.{◌≡◌, ℕ, ◌<◌, ◌≤◌, List}
 use Rattle.drain_grid.specs.declared.patch.Patch.{Patch}
-use Rattle.drain_grid.specs.Values.{NoDataNumbers}
 use Rattle.drain_grid.specs.Grid.{Grid, Products, patch_at}
-use Rattle.drain_grid.specs.PatchRules.{check_rules}
-use Rattle.drain_grid.specs.Rule.{IsAnyRule}
 use Rattle.drain_rules.specs.declared.tally.Tally.{Tally}
 use Rattle.drain_rules.specs.Labels.{AreLabelsBefore}
-use Rattle.drain_rules.specs.Rows.{place, HoldAlong, CountsAlong}
+use Rattle.drain_rules.specs.Rows.{place}
 
 -- so many patches, and they are those of the row's cells
 pub record AreRowPatches (g : Grid) (ps : Products) (row cols : ℕ) (shown : ℕ → Patch) : Type 0 where
@@ -19,12 +16,6 @@ pub record AreRowPatches (g : Grid) (ps : Products) (row cols : ℕ) (shown : �
 abbrev pub OfRow : ℕ → (ℕ → Patch) → List (ℕ × ℕ) → (Grid → Products → ℕ → Type 0) → Type 0
 OfRow cols shown labels P =
     (g : Grid) (ps : Products) (row : ℕ) → AreRowPatches g ps row cols shown → AreLabelsBefore g ps (place row 0) labels → P g ps row
-
--- the cells before this column keep the rules, are counted, and their outlets' labels are admitted
-pub record IsPassed (nodata : NoDataNumbers) (g : Grid) (ps : Products) (row col : ℕ) (tally : Tally) (labels : List (ℕ × ℕ)) : Type 0 where
-  pub holds : HoldAlong (check_rules nodata) IsAnyRule g ps row col
-  pub counted : CountsAlong g ps row col tally
-  pub before : AreLabelsBefore g ps (place row col) labels
 
 -- the counts of so many cells
 pub record IsAtMost (cells : ℕ) (tally : Tally) : Type 0 where

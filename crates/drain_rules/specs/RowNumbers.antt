@@ -1,21 +1,15 @@
 -- A row of a grid and its products as lists of numbers, and the patch round a column of three such rows.
-use Rattle.std.specs.Prelude.{◌≡◌, ℕ, zero, suc, ◌<◌, ◌≤◌, ℤ, ◌≤ℤ◌, pos, nat_lt, List, [], length, slice_index_or, Option, Some, None, if◌then◌else◌}
+use Rattle.std.specs.Prelude.{◌≡◌, ℕ, zero, suc, ◌<◌, ◌≤◌, ℤ, pos, nat_lt, List, [], length, slice_index_or, Option, Some, None, if◌then◌else◌}
 use Rattle.std.specs.List.{All}
 use Rattle.drain_grid.specs.declared.cell.TheConstants.{MAX_LENGTH}
 use Rattle.drain_grid.specs.declared.per_product.PerProduct.{PerProduct}
 use Rattle.drain_grid.specs.declared.product.Product.{Product}
 use Rattle.drain_grid.specs.declared.tile.TheConstants.{VOID}
 use Rattle.drain_grid.specs.PerProduct.{of_product, per_product}
-use Rattle.drain_grid.specs.Tile.{height_from}
+use Rattle.drain_grid.specs.Tile.{IsSample, height_from}
 use Rattle.drain_grid.specs.Values.{Values, IsPixel}
 use Rattle.drain_grid.specs.Grid.{Grid, Products}
-use Rattle.drain_rules.specs.declared.numbers.TheConstants.{LEAST_SAMPLE, GREATEST_SAMPLE}
 use Rattle.drain_rules.specs.Rows.{place}
-
--- a number that a sample of 16 bits spells
-pub record IsSample (n : ℤ) : Type 0 where
-  pub low : LEAST_SAMPLE ≤ℤ n
-  pub high : n ≤ℤ GREATEST_SAMPLE
 
 -- the elevations, with the number of a void where there is none, and each product's numbers
 pub record RowNumbers : Type 0 where

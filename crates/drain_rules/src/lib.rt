@@ -2,8 +2,9 @@
 //!
 //! A walk goes over the cells in row order and looks at one patch at a time. It stops at the first fault, so what it has
 //! passed keeps every rule. Of what it has passed it remembers three counts, and for the rule SharedLabel the labels of
-//! outlets. That rules kept at every cell make the products correct is `drain_grid`'s law `correct_from_rules`. The walk over a
-//! fill input asks for rules 4 to 9 alone; that these make the filled surface is the law `least_from_rules`.
+//! outlets. It is written over rows that show patches: those of rasters held whole, or three rows of numbers. That rules
+//! kept at every cell make the products correct is `drain_grid`'s law `correct_from_rules`. The walk over a fill input asks
+//! for rules 4 to 9 alone; that these make the filled surface is the law `least_from_rules`.
 #![tactic(auto)]
 
 pub mod cell_rules;
@@ -12,7 +13,6 @@ pub mod fill_walk;
 pub mod finding;
 pub mod grid_walk;
 pub mod laws;
-pub mod numbers;
 pub mod outlet;
 pub mod patch_row;
 pub mod patch_rules;

@@ -4,9 +4,9 @@ ghost use Rattle.std.specs.Prelude.{◌≡◌, ◌≢◌, ◌≤◌, ◌<◌, So
 ghost use Rattle.drain_grid.specs.declared.cell.TheConstants.{MAX_LENGTH};
 ghost use Rattle.drain_grid.specs.declared.tile.TheConstants.{VOID};
 ghost use Rattle.drain_grid.specs.PerProduct.{of_product, per_product};
-ghost use Rattle.drain_grid.specs.Tile.{height_from};
+ghost use Rattle.drain_grid.specs.Tile.{IsSample, height_from};
 ghost use Rattle.drain_grid.specs.Values.{IsPixel};
-ghost use Rattle.drain_rules.specs.RowNumbers.{AreRowNumbers, IsSample, values_in, beside, west_of};
+ghost use Rattle.drain_rules.specs.RowNumbers.{AreRowNumbers, values_in, beside, west_of};
 
 use drain_grid::tile::height_from;
 use drain_grid::{CellValues, PerProduct, Product};

@@ -1,25 +1,26 @@
 -- The window as it goes down the rows.
 use Rattle.std.proofs.Common.{◌≡◌, ℕ, ℤ, ◌+◌, ◌<◌, All, List, [], length, refl, sym, ap, subst, ◌∙◌, arith}
 use Rattle.drain_grid.specs.PerProduct.{of_product}
+use Rattle.drain_verdict.proofs.RasterChain.{by_product}
 use Rattle.drain_grid.specs.Values.{IsPixel}
 use Rattle.drain_grid.specs.declared.product.Product.{Product}
-use Rattle.drain_grid.specs.declared.product.Product.TheVariants.{Con, Dir, Acc, Bas, Spl, Rnk}
 use Rattle.drain_grid.specs.declared.patch.Patch.{Patch}
 use Rattle.drain_grid.specs.Grid.{Grid, Products}
 use Rattle.drain_rules.specs.declared.three_rows.ThreeRows.{ThreeRows}
 use Rattle.drain_rules.specs.PatchRows.{AreRowPatches}
 use Rattle.drain_rules.specs.RowNumbers.{AreNumbersOf, AreRowNumbers, RowNumbers, blank}
 use Rattle.drain_rules.specs.ThreeRows.{AreRowsAround}
-use Rattle.drain_verdict.specs.GridRows.{AreHeld, AreRowsOf}
+use Rattle.drain_verdict.specs.GridRows.{AreRowsOf}
+
+-- of these rows two are held: this one, and the one above it, where there is one
+pub record AreHeld (rows : ℕ → RowNumbers) (row : ℕ) (above here : RowNumbers) : Type 0 where
+  pub here_is : here ≡ rows row
+  pub above_is : (r : ℕ) → row ≡ r + 1 → above ≡ rows r
+  pub none_above : row ≡ 0 → above ≡ blank
 
 -- no row is as many numbers of each
 none-of : (p : Product) → of_product blank.products p ≡ []
-none-of Con = refl
-none-of Dir = refl
-none-of Acc = refl
-none-of Bas = refl
-none-of Spl = refl
-none-of Rnk = refl
+none-of = by_product (λ p. of_product blank.products p ≡ []) refl refl refl refl refl refl
 
 pub blank-whole : AreRowNumbers blank
 blank-whole = record {

@@ -28,9 +28,3 @@ ReadsOn {State} has_read before after told = (start : State) → has_read start 
 abbrev pub IsRowsRefusal : {State : Type 0} → (State → State → Option Refusal → Type 0) → State → State → Type 0 → Refusal → Type 0
 IsRowsRefusal has_read before after NewLabel refusal =
     ReadsOn has_read before after (Some refusal) ⊎ ((refusal ≡ OutOfMemory) × ReadsOn has_read before after None × NewLabel)
-
--- of these rows two are held: this one, and the one above it, where there is one
-pub record AreHeld (rows : ℕ → RowNumbers) (row : ℕ) (above here : RowNumbers) : Type 0 where
-  pub here_is : here ≡ rows row
-  pub above_is : (r : ℕ) → row ≡ r + 1 → above ≡ rows r
-  pub none_above : row ≡ 0 → above ≡ blank

@@ -1,6 +1,7 @@
 use Rattle.std.proofs.Common.{ℕ}
 use Rattle.drain_grid.specs.Grid.{Grid, Products}
-use Rattle.drain_rules.specs.PatchRows.{IsAtMost, IsPassed, OfRow}
+use Rattle.drain_rules.specs.PatchRows.{IsAtMost, OfRow}
+use Rattle.drain_rules.proofs.PassedCells.{IsPassed}
 use Rattle.drain_rules.proofs.row_walk.check_row.Given as goal
 
 -- the cells that were passed keep the rules, are counted, and their outlets' labels are admitted

@@ -2,8 +2,9 @@ use Rattle.std.proofs.Common.{◌≡◌, ◌+◌, ℕ, None}
 use Rattle.drain_grid.specs.Grid.{Grid, Products}
 use Rattle.drain_rules.specs.GridWalks.{IsRightOf}
 use Rattle.drain_rules.specs.RowNumbers.{AreRowNumbers, RowNumbers}
-use Rattle.drain_verdict.specs.GridRows.{AreHeld, OfGrid, ReadsOn}
+use Rattle.drain_verdict.specs.GridRows.{OfGrid, ReadsOn}
 use Rattle.drain_verdict.specs.HeldRows.{numbers_of}
+use Rattle.drain_verdict.proofs.WindowLemmas.{AreHeld}
 use Rattle.drain_verdict.proofs.row_verdict.verdict_by_rows.Given as goal
 
 -- the row below the window is the next to be checked, and what was found is right of the rows before it
