@@ -1,5 +1,5 @@
 -- What the rows above a row came to: every rule kept, and counted; or the first fault.
-use Rattle.std.specs.Prelude.{◌≡◌, ℕ, ◌+◌, ◌*◌, ◌<◌, List}
+use Rattle.std.specs.Prelude.{◌≡◌, ℕ, ◌*◌, ◌<◌, List}
 use Rattle.std.specs.List.{count_by, flat_map, range_with_len}
 use Rattle.drain_grid.specs.declared.cell.Cell.{Cell}
 use Rattle.drain_grid.specs.declared.cell.TheConstants.{MAX_LENGTH}
@@ -14,7 +14,7 @@ use Rattle.drain_grid.specs.Rule.{IsAnyRule}
 use Rattle.drain_rules.specs.declared.finding.Finding.{Finding}
 use Rattle.drain_rules.specs.declared.finding.Finding.TheVariants.{Sound, Faulty}
 use Rattle.drain_rules.specs.declared.tally.Tally.{Tally}
-use Rattle.drain_rules.specs.Labels.{AreLabelsBefore, HasNewLabel}
+use Rattle.drain_rules.specs.Labels.{AreLabelsBefore}
 use Rattle.drain_rules.specs.PatchRows.{AreRowPatches, IsAtMost}
 use Rattle.drain_rules.specs.Rows.{place, HoldAlong}
 use Rattle.drain_rules.specs.Verdicts.{has_outlet_code}
@@ -40,15 +40,10 @@ abbrev pub IsFinding : NoDataNumbers → Grid → Products → ℕ → List (ℕ
 IsFinding nodata g ps row labels (Sound tally) = AreSound nodata g ps row labels tally
 IsFinding nodata g ps row labels (Faulty cell rule) = IsFirstFault (check_rules nodata) IsAnyRule g ps cell rule
 
--- the same with the row of these patches, where those above it are sound
-abbrev pub IsFindingAfter : NoDataNumbers → ℕ → ℕ → (ℕ → Patch) → List (ℕ × ℕ) → Tally → List (ℕ × ℕ) → Finding → Type 0
-IsFindingAfter nodata row cols shown labels total after finding =
-    (g : Grid) (ps : Products) → AreRowPatches g ps row cols shown → AreSound nodata g ps row labels total → IsFinding nodata g ps (row + 1) after finding
-
--- some cell of a grid of which this is a row has a new label, where the rows above it are sound
-abbrev pub IsNewLabelBelow : NoDataNumbers → ℕ → ℕ → (ℕ → Patch) → List (ℕ × ℕ) → Tally → Type 0
-IsNewLabelBelow nodata row cols shown labels total =
-    (g : Grid) (ps : Products) → AreRowPatches g ps row cols shown → AreSound nodata g ps row labels total → HasNewLabel nodata g ps
+-- this holds of each grid of which these are the row's patches, where the rows above it are sound
+abbrev pub OfRowBelow : NoDataNumbers → ℕ → ℕ → (ℕ → Patch) → List (ℕ × ℕ) → Tally → (Grid → Products → Type 0) → Type 0
+OfRowBelow nodata row cols shown labels total P =
+    (g : Grid) (ps : Products) → AreRowPatches g ps row cols shown → AreSound nodata g ps row labels total → P g ps
 
 -- the counts of the rows above, where they are sound
 abbrev pub tally_of : Finding → Tally

@@ -2,7 +2,8 @@
 
 ghost use Rattle.std.specs.Prelude.{◌<◌, ◌+◌, ◌*◌, IfOk, OnErr};
 ghost use Rattle.drain_grid.specs.declared.cell.TheConstants.{MAX_LENGTH};
-ghost use Rattle.drain_rules.specs.Findings.{IsBounded, IsFindingAfter, IsNewLabelBelow};
+ghost use Rattle.drain_rules.specs.Findings.{IsBounded, IsFinding, OfRowBelow};
+ghost use Rattle.drain_rules.specs.Labels.{HasNewLabel};
 ghost use Rattle.drain_rules.specs.PatchRows.{IsAtMost};
 
 use crate::cell_rules::Stop;
@@ -31,9 +32,9 @@ pub fn find_in_row<R: PatchRow>(
 ) -> Result<Finding, OutOfMemory>
     requires row { row < MAX_LENGTH }
     requires bounded { IsAtMost (row * MAX_LENGTH) total }
-    ensures finding { IfOk result (IsFindingAfter nodata.now row (R.len patches.now) (R.shown patches.now) labels.old total labels.new) }
+    ensures finding { IfOk result (λ finding. OfRowBelow nodata.now row (R.len patches.now) (R.shown patches.now) labels.old total (λ g ps. IsFinding nodata.now g ps (row + 1) labels.new finding)) }
     ensures bounded { IfOk result (IsBounded (row + 1)) }
-    ensures err { OnErr result (IsNewLabelBelow nodata.now row (R.len patches.now) (R.shown patches.now) labels.old total) }
+    ensures err { OnErr result (OfRowBelow nodata.now row (R.len patches.now) (R.shown patches.now) labels.old total (HasNewLabel nodata.now)) }
 {
     match check_row(patches, nodata, labels) {
         Ok(tally) => {

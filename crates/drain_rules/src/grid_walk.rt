@@ -24,9 +24,8 @@ impl GridWalk {
     ghost use Rattle.drain_grid.specs.declared.cell.TheConstants.{MAX_LENGTH};
     ghost use Rattle.drain_grid.specs.Grid.{Grid, Products};
     ghost use Rattle.drain_grid.specs.Values.{NoDataNumbers};
-    ghost use Rattle.drain_rules.specs.GridWalks.{IsRightOf};
+    ghost use Rattle.drain_rules.specs.GridWalks.{IsRightOf, OfNextRow};
     ghost use Rattle.drain_rules.specs.Labels.{HasNewLabel};
-    ghost use Rattle.drain_rules.specs.PatchRows.{AreRowPatches};
     ghost use Rattle.drain_rules.specs.Verdicts.{IsVerdict};
 
     /// No row was checked. This takes no memory.
@@ -42,6 +41,9 @@ impl GridWalk {
     }
 
     /// Checks the next row. Once a fault was found it looks at no row more.
+    ///
+    /// `OutOfMemory` comes only at a data cell with code 0 whose label is new, where every rule holds, as at each earlier cell: its label
+    /// found no room. Then the walk is over.
     pub fn check_row<R: PatchRow>(
         &mut self,
         patches: &R,
@@ -49,8 +51,8 @@ impl GridWalk {
     ) -> Result<(), OutOfMemory>
         requires row { self.old.rows < MAX_LENGTH }
         ensures rows { OnOk result (self.new.rows ≡ self.old.rows + 1) }
-        ensures finding { OnOk result ((g : Grid) (ps : Products) → AreRowPatches g ps self.old.rows (R.len patches.now) (R.shown patches.now) → IsRightOf nodata.now g ps self.old → IsRightOf nodata.now g ps self.new) }
-        ensures err { OnErr result ((g : Grid) (ps : Products) → AreRowPatches g ps self.old.rows (R.len patches.now) (R.shown patches.now) → IsRightOf nodata.now g ps self.old → HasNewLabel nodata.now g ps) }
+        ensures finding { OnOk result (OfNextRow nodata.now self.old (R.len patches.now) (R.shown patches.now) (λ g ps. IsRightOf nodata.now g ps self.new)) }
+        ensures err { OnErr result (OfNextRow nodata.now self.old (R.len patches.now) (R.shown patches.now) (HasNewLabel nodata.now)) }
     {
         if let Finding::Sound(total) = self.finding {
             match find_in_row(total, self.rows, patches, nodata, &mut self.labels) {
