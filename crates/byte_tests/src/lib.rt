@@ -1,4 +1,4 @@
-//! Tests of devices, texts, headers, tiles, mosaics and the pixels of rasters.
+//! Tests of devices, texts, headers, tiles, mosaics, the pixels of rasters and rows of both.
 #![tactic(auto)]
 
 #[cfg(test)]
@@ -8,11 +8,15 @@ mod header_lines;
 #[cfg(test)]
 mod headers;
 #[cfg(test)]
+mod mosaic_rows;
+#[cfg(test)]
 mod mosaics;
 #[cfg(test)]
 mod raster_writes;
 #[cfg(test)]
 mod rasters;
+#[cfg(test)]
+mod row_sources;
 #[cfg(test)]
 mod texts;
 #[cfg(test)]

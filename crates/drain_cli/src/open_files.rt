@@ -2,7 +2,7 @@
 
 ghost use Rattle.std.specs.Prelude.{◌≡◌, IfOk, string_bytes, vec_len};
 ghost use Rattle.std.specs.List.{AllZip};
-ghost use Rattle.drain_verdict.specs.Inputs.{names_of};
+ghost use Rattle.drain_hgt.specs.Inputs.{names_of};
 ghost use Rattle.drain_cli.specs.FilePaths.{IsLastPart, ending_of, product_path};
 ghost use Rattle.drain_maker.specs.declared.product_files.TheConstants.{FILE_COUNT};
 

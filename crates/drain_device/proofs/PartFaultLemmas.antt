@@ -17,7 +17,7 @@ PartFails-none a patience Fails never = record {
 }
 
 -- one that fails where another says so
-PartFails-same : (a b : FaultCounts) (patience left : ℕ) (F G : Type 0) → (F → G) → (G → F) → PartFails a b patience left F → PartFails a b patience left G
+pub PartFails-same : (a b : FaultCounts) (patience left : ℕ) (F G : Type 0) → (F → G) → (G → F) → PartFails a b patience left F → PartFails a b patience left G
 PartFails-same a b patience left F G there back part = record {
   failures = part.failures;
   interruptions = part.interruptions;

@@ -1,14 +1,18 @@
 -- Pairs of bytes read one by one are the samples of all of them.
-use Rattle.std.proofs.Common.{◌≡◌, ℕ, suc, ◌+◌, ◌*◌, ◌<◌, ℤ, List, [], ◌∷◌, length, drop, w16, take, ◌++◌, arith, refl, sym, ap, ◌∙◌}
+use Rattle.std.proofs.Common.{◌≡◌, ◌≢◌, ℕ, suc, ◌+◌, ◌-◌, ◌*◌, ◌<◌, ℤ, List, [], ◌∷◌, length, drop, w16, w64, take, set, get_or, get_or-set_other, get_or-set_same, below_more, ◌++◌, arith, refl, sym, ap, ◌∙◌}
 use Rattle.std.specs.Int.{cast_signed}
 use Rattle.std.specs.Prelude.{slice_index}
-use Rattle.std.proofs.lemmas.Int.{ints}
+use Rattle.std.proofs.lemmas.Int.{ints, to_z-of_z}
+use Rattle.std.proofs.lemmas.List.{take_rest}
 use Rattle.std.proofs.lemmas.Bool.Decides.{nat_tests}
 use Rattle.std.proofs.lemmas.Grind.{common_steps}
 use Rattle.byteorder.specs.Endian.{twos_complement, big_number, IsReadBy}
+use mir.Val.{to_z, of_z}
+use Rattle.drain_grid.specs.Tile.{IsSample}
 use Rattle.drain_hgt.specs.Samples.{samples_of}
 
-abbrev sample : List ℕ → ℤ
+-- the sample that the first two bytes spell
+abbrev pub sample : List ℕ → ℤ
 sample ys = cast_signed w16 (big_number 2 ys)
 
 sample_is : (n : ℕ) → n < 65536 → cast_signed w16 n ≡ twos_complement 2 n
@@ -32,3 +36,25 @@ all_samples (high ∷ low ∷ more) (x ∷ xs) long small read =
     read d (suc k) (omega arith) ∙ ap (λ n. sample (drop n (high ∷ low ∷ more))) two) in
     let tail = all_samples more xs (omega arith) (λ i. small (suc (suc i))) rest in
     ap (λ y. y ∷ samples_of more) (sym (first ∙ is)) ∙ ap (λ ys. x ∷ ys) tail
+
+-- the number is the sample at this place among bytes
+pub record IsSampleIn (bytes : List ℕ) (k : ℕ) (number : ℤ) : Type 0 where
+  pub value : number ≡ sample (drop (2 * k) bytes)
+  pub in_range : IsSample number
+
+-- a sample goes through 64 bits unchanged
+sample-stored : (n : ℤ) → IsSample n → to_z w64 (of_z w64 n) ≡ n
+sample-stored n ok = to_z-of_z w64 n (grind (arith, ints, ok.low, ok.high))
+
+-- one sample more in its place
+pub sample_put : (bytes : List ℕ) (out : List ℤ) (k : ℕ) (x : ℤ) → k < length out → x ≡ sample (take (length bytes - 2 * k) (drop (2 * k) bytes)) → IsSample x →
+    ((d : ℤ) (i : ℕ) → i < k → IsSampleIn bytes i (get_or out i d)) →
+    (d : ℤ) (i : ℕ) → i < k + 1 → IsSampleIn bytes i (get_or (set out k (to_z w64 (of_z w64 x))) i d)
+sample_put bytes out k x inside is ok so_far d =
+    let here : IsSampleIn bytes k x = record {
+      value = is ∙ ap sample (take_rest bytes (2 * k));
+      in_range = ok;
+    } in
+    below_more (λ i. IsSampleIn bytes i (get_or (set out k (to_z w64 (of_z w64 x))) i d)) k
+    (λ i h. let ne : i ≢ k = omega arith in rw get_or-set_other (so_far d i h))
+    (rw (get_or-set_same, sample-stored x ok) here)

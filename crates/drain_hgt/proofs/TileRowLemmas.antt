@@ -1,12 +1,7 @@
 -- What is to come of a tile, one row further.
-use Rattle.std.proofs.Common.{◌≡◌, ℕ, zero, suc, ◌+◌, ◌-◌, ◌*◌, ◌<◌, ◌≤◌, ℤ, List, [], ◌∷◌, ◌++◌, length, take, drop, set, get_or, w16, w64, Option, Ok, Err, below_more, get_or-set_other, get_or-set_same, ◌≢◌, arith, refl, ap, ◌∙◌, length-append}
+use Rattle.std.proofs.Common.{◌≡◌, ℕ, zero, suc, ◌+◌, ◌-◌, ◌*◌, ◌≤◌, ℤ, List, [], ◌∷◌, ◌++◌, length, Option, Ok, Err, arith, refl, length-append}
 use Rattle.std.proofs.lemmas.Bool.{lt-ltb, le-ltb}
 use Rattle.std.proofs.lemmas.List.{take_at, drop_at}
-use Rattle.std.specs.Int.{cast_signed}
-use Rattle.std.proofs.lemmas.List.{take_rest}
-use Rattle.std.proofs.lemmas.Int.{ints, to_z-of_z}
-use Rattle.byteorder.specs.Endian.{big_number}
-use mir.Val.{to_z, of_z}
 use Rattle.drain_device.specs.declared.row_source.RowStep.TheVariants.{Row}
 use Rattle.drain_device.specs.declared.row_source.ReadFault.{ReadFault}
 use Rattle.drain_device.specs.declared.row_source.Progress.{Progress}
@@ -15,29 +10,28 @@ use Rattle.drain_device.specs.ComingRows.Coming.{Next, Wrong}
 use Rattle.drain_device.specs.RowSteps.{Gives, ReadsWithin, coming_at, most_at}
 use Rattle.drain_device.specs.RowBytes.{RowComes, EndComes}
 use Rattle.drain_device.proofs.RowLemmas.{gives-row, gives-no_row, gives-no_end, within-row}
-use Rattle.drain_grid.specs.Tile.{IsSample}
 use Rattle.drain_hgt.specs.Samples.{samples_of}
 use Rattle.drain_hgt.specs.TileRows.{tile_rows}
 
 -- a row is there
-pub tile_rows-next : (side left : ℕ) (xs rest : List ℕ) → (left ≡ 0 → ⊥) → length xs ≡ 2 * side → tile_rows side left (xs ++ rest) ≡ Next (samples_of xs) (tile_rows side (left - 1) rest)
+tile_rows-next : (side left : ℕ) (xs rest : List ℕ) → (left ≡ 0 → ⊥) → length xs ≡ 2 * side → tile_rows side left (xs ++ rest) ≡ Next (samples_of xs) (tile_rows side (left - 1) rest)
 tile_rows-next side zero xs rest some whole = absurd (some refl)
 tile_rows-next side (suc left) xs rest some whole =
     let less : suc left - 1 ≡ left = omega arith in
     rw (le-ltb (length (xs ++ rest)) (2 * side) (omega (arith, length-append xs rest)), take_at xs rest (2 * side) whole, drop_at xs rest (2 * side) whole, less) refl
 
 -- a row isn't whole
-pub tile_rows-short : (side left : ℕ) (xs : List ℕ) → (left ≡ 0 → ⊥) → length xs + 1 ≤ 2 * side → tile_rows side left xs ≡ Wrong
+tile_rows-short : (side left : ℕ) (xs : List ℕ) → (left ≡ 0 → ⊥) → length xs + 1 ≤ 2 * side → tile_rows side left xs ≡ Wrong
 tile_rows-short side zero xs some short = absurd (some refl)
 tile_rows-short side (suc left) xs some short = rw (lt-ltb (length xs) (2 * side) (omega arith)) refl
 
 -- there is a byte behind the last row
-pub tile_rows-longer : (side : ℕ) (xs rest : List ℕ) → length xs ≡ 1 → tile_rows side 0 (xs ++ rest) ≡ Wrong
+tile_rows-longer : (side : ℕ) (xs rest : List ℕ) → length xs ≡ 1 → tile_rows side 0 (xs ++ rest) ≡ Wrong
 tile_rows-longer side [] rest one = absurd (omega arith)
 tile_rows-longer side (x ∷ xs) rest one = refl
 
 -- the bytes of a row, of those of all rows left
-pub tile_bytes : (side left : ℕ) → (left ≡ 0 → ⊥) → 2 * side + (2 * side * (left - 1) + 1) ≤ 2 * side * left + 1
+tile_bytes : (side left : ℕ) → (left ≡ 0 → ⊥) → 2 * side + (2 * side * (left - 1) + 1) ≤ 2 * side * left + 1
 tile_bytes side zero some = absurd (some refl)
 tile_bytes side (suc left) some =
     let less : suc left - 1 ≡ left = omega arith in
@@ -71,25 +65,3 @@ pub tile-within-no_row : (progress : Progress) → progress ≡ Going → (side 
     RowComes samples_of (2 * side) old new (Err fault) out bytes → ReadsWithin (most_at progress (2 * side * left + 1)) 0 old new
 tile-within-no_row progress going side left old new fault out bytes some came =
     rw going (within-row samples_of (2 * side) (2 * side * left + 1) 0 old new (Err fault) out bytes came (omega (arith, tile_bytes side left some)))
-
--- the number is the sample at this place among bytes
-pub record IsSampleIn (bytes : List ℕ) (k : ℕ) (number : ℤ) : Type 0 where
-  pub value : number ≡ cast_signed w16 (big_number 2 (drop (2 * k) bytes))
-  pub in_range : IsSample number
-
--- a sample goes through 64 bits unchanged
-sample-stored : (n : ℤ) → IsSample n → to_z w64 (of_z w64 n) ≡ n
-sample-stored n ok = to_z-of_z w64 n (grind (arith, ints, ok.low, ok.high))
-
--- one sample more in its place
-pub sample_put : (bytes : List ℕ) (out : List ℤ) (k : ℕ) (x : ℤ) → k < length out → x ≡ cast_signed w16 (big_number 2 (take (length bytes - 2 * k) (drop (2 * k) bytes))) → IsSample x →
-    ((d : ℤ) (i : ℕ) → i < k → IsSampleIn bytes i (get_or out i d)) →
-    (d : ℤ) (i : ℕ) → i < k + 1 → IsSampleIn bytes i (get_or (set out k (to_z w64 (of_z w64 x))) i d)
-sample_put bytes out k x inside is ok so_far d =
-    let here : IsSampleIn bytes k x = record {
-      value = is ∙ ap (λ (ys : List ℕ). cast_signed w16 (big_number 2 ys)) (take_rest bytes (2 * k));
-      in_range = ok;
-    } in
-    below_more (λ i. IsSampleIn bytes i (get_or (set out k (to_z w64 (of_z w64 x))) i d)) k
-    (λ i h. let ne : i ≢ k = omega arith in rw get_or-set_other (so_far d i h))
-    (rw (get_or-set_same, sample-stored x ok) here)

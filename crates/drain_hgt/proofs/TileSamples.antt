@@ -10,14 +10,14 @@ use Rattle.drain_hgt.specs.Samples.{samples_of}
 use Rattle.drain_hgt.specs.TileRows.{tile_rows}
 use Rattle.drain_hgt.specs.Laws.{TileRowsAreSamples}
 
-samples-append : (n : ℕ) (xs ys : List ℕ) → length xs ≡ 2 * n → samples_of (xs ++ ys) ≡ samples_of xs ++ samples_of ys
+pub samples-append : (n : ℕ) (xs ys : List ℕ) → length xs ≡ 2 * n → samples_of (xs ++ ys) ≡ samples_of xs ++ samples_of ys
 samples-append zero [] ys even = refl
 samples-append zero (x ∷ xs) ys even = absurd (omega arith)
 samples-append (suc n) [] ys even = absurd (omega arith)
 samples-append (suc n) (x ∷ []) ys even = absurd (omega arith)
 samples-append (suc n) (high ∷ low ∷ more) ys even = ap (λ (zs : List ℤ). twos_complement 2 (256 * high + low) ∷ zs) (samples-append n more ys (omega arith))
 
-samples-length : (n : ℕ) (xs : List ℕ) → length xs ≡ 2 * n → length (samples_of xs) ≡ n
+pub samples-length : (n : ℕ) (xs : List ℕ) → length xs ≡ 2 * n → length (samples_of xs) ≡ n
 samples-length zero [] even = refl
 samples-length zero (x ∷ xs) even = absurd (omega arith)
 samples-length (suc n) [] even = absurd (omega arith)

@@ -21,7 +21,7 @@ pub record IsValueAt (side : ℕ) (place : Cell) (tile : List ℤ) (c : Cell) (v
   pub over : place.row ≤ c.row → c.row < place.row + side → place.col ≤ c.col → c.col < place.col + side → value ≡ height_from (sample_at side tile (c.row - place.row) (c.col - place.col))
   pub beside : (c.row < place.row) ⊎ (place.row + side ≤ c.row) ⊎ (c.col < place.col) ⊎ (place.col + side ≤ c.col) → value ≡ None
 
-value_is : (t : Tiling) (tile : Tile) (c : Cell) (value : Option ℤ) → IsValueAt t.side (top_left_of t tile.corner) tile.samples c value → value ≡ value_from t tile c
+pub value_is : (t : Tiling) (tile : Tile) (c : Cell) (value : Option ℤ) → IsValueAt t.side (top_left_of t tile.corner) tile.samples c value → value ≡ value_from t tile c
 value_is t tile c value is = elim (cases_lt c.row top) [
   | inl north ↦ aside (inl north) (λ h. absurd (omega (arith, north, h.from_top)))
   | inr from_top ↦ elim (cases_lt c.row (top + t.side)) [

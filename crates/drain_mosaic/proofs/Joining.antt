@@ -41,19 +41,19 @@ least_join P Q R n (Some a) (Some b) p q pr qr split = elim (cases_lt a b) [
 ]
 
 -- a sample that isn't a void is its own height
-height_of_data : (z : ℤ) → z ≢ VOID → height_from z ≡ Some z
+pub height_of_data : (z : ℤ) → z ≢ VOID → height_from z ≡ Some z
 height_of_data z not_void = elim (int_eq z VOID) as (λ b. int_eq z VOID ≡ b → cond b None (Some z) ≡ Some z) [
   | true ↦ λ e. absurd (not_void ((Decides-int_eq z VOID).0 e))
   | false ↦ λ e. refl
 ] refl
 
-data_of_height : (z v : ℤ) → height_from z ≡ Some v → (z ≡ v) × (z ≢ VOID)
+pub data_of_height : (z v : ℤ) → height_from z ≡ Some v → (z ≡ v) × (z ≢ VOID)
 data_of_height z v = elim (int_eq z VOID) as (λ b. int_eq z VOID ≡ b → cond b None (Some z) ≡ Some v → (z ≡ v) × (z ≢ VOID)) [
   | true ↦ λ e is. cc
   | false ↦ λ e is. (same_Some z v is, λ p. false≢true (sym e ∙ (Decides-int_eq z VOID).1 p))
 ] refl
 
-height_of_filled : (z s : ℤ) → height_from (filled z s) ≡ option_or (height_from z) (height_from s)
+pub height_of_filled : (z s : ℤ) → height_from (filled z s) ≡ option_or (height_from z) (height_from s)
 height_of_filled z s = elim (int_eq z VOID) as (λ b. int_eq z VOID ≡ b → height_from (cond b s z) ≡ option_or (cond b None (Some z)) (height_from s)) [
   | true ↦ λ e. refl
   | false ↦ λ e. ap (λ b. cond b None (Some z)) e

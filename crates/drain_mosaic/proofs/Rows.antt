@@ -46,7 +46,8 @@ spliced_inside a k ys xs j d within below =
 pub length_cut : (xs : List ℤ) (a e : ℕ) → e ≤ length xs → length (take (e - a) (drop a xs)) ≡ e - a
 length_cut xs a e within = let rest = length-drop a xs in length-take-le (e - a) (drop a xs) (omega arith)
 
-written_over : (new old : List ℤ) (n : ℕ) → length new ≡ length old → n ≡ length old → take n (new ++ drop (length new) old) ≡ new
+-- what was written over all of a list is there
+pub written_over : {X : Type 0} (new old : List X) (n : ℕ) → length new ≡ length old → n ≡ length old → take n (new ++ drop (length new) old) ≡ new
 written_over new old n same whole = grind (arith, common_steps)
 
 -- where P holds at none of the first places, nor at the next

@@ -15,7 +15,7 @@ use Rattle.drain_mosaic.specs.JoinedRows.{IsLaidOver, IsJoinedRow, first_of}
 use Rattle.drain_mosaic.proofs.Joining.{laid, passed, first_of_none}
 
 -- a tile to read lists of tiles by
-abbrev nowhere : Corner
+abbrev pub nowhere : Corner
 nowhere = record { lat = pos 0; lon = pos 0 }
 
 abbrev no_tile : Tile

@@ -17,7 +17,7 @@ pub or_none : {A : Type 0} (o : Option A) → option_or o None ≡ o
 or_none (Some x) = refl
 or_none None = refl
 
-or_assoc : {A : Type 0} (a b d : Option A) → option_or a (option_or b d) ≡ option_or (option_or a b) d
+pub or_assoc : {A : Type 0} (a b d : Option A) → option_or a (option_or b d) ≡ option_or (option_or a b) d
 or_assoc (Some x) b d = refl
 or_assoc None b d = refl
 

@@ -4,3 +4,8 @@ pub mod Mosaic
 pub mod Joined
 pub mod JoinedRows
 pub mod Laws
+pub mod Streams
+pub mod GivenTiles
+pub mod PlacedRows
+pub mod MosaicRows
+pub mod RowLaws

@@ -1,11 +1,15 @@
-//! Mosaics: which tiles make one, and the elevation that they give together.
+//! Mosaics: which tiles make one, and the elevation that they give together, whole or row by row.
 #![tactic(auto)]
 
 mod edges;
 pub mod first_seam;
 pub mod laws;
 pub mod layout;
+pub mod mosaic_rows;
+mod overlay;
+mod placed_rows;
 pub mod seams;
 
 pub use layout::{Layout, LayoutFault};
+pub use mosaic_rows::MosaicRows;
 pub use seams::{SeamFault, join};

@@ -13,6 +13,7 @@ ghost use Rattle.drain_mosaic.specs.JoinedRows.{IsLeastOf, ConflictAt, IsLaidOve
 
 use crate::first_seam::first_seam;
 use crate::layout::Layout;
+use crate::overlay::first_of;
 use drain_grid::{Cell, Elevation, VOID};
 use std::alloc::Global;
 use thiserror::Error;
@@ -143,16 +144,5 @@ fn fill_voids(here: &mut [i16], other: &[i16])
 {
     for k in 0..here.len() {
         here[k] = if here[k] == VOID { other[k] } else { here[k] };
-    }
-}
-
-/// The lesser of two places, where there are two.
-fn first_of(one: Option<usize>, other: Option<usize>) -> Option<usize>
-    ensures { result ≡ first_of one other }
-{
-    match (one, other) {
-        (Some(a), Some(b)) => Some(a.min(b)),
-        (Some(a), None) => Some(a),
-        (None, found) => found,
     }
 }

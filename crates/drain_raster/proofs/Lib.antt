@@ -8,3 +8,7 @@ pub mod PixelLemmas
 pub mod ReadBackLemmas
 pub mod SpellLemmas
 pub mod WritingLemmas
+pub mod RasterRowLemmas
+pub mod RowNumberLemmas
+pub mod RasterEnds
+pub mod RasterPixels

@@ -19,7 +19,7 @@ number_in-take : (order : ByteOrdering) (n m : ℕ) (bytes : List ℕ) → n ≤
 number_in-take Least n m bytes fits = little_from-take 0 n m bytes (omega (arith, fits))
 number_in-take Most n m bytes fits = big_from-take 0 n m bytes (omega (arith, fits))
 
-spelled_by-take : (signed : Bool) (order : ByteOrdering) (n m : ℕ) (bytes : List ℕ) → n ≤ m → spelled_by signed order n (take m bytes) ≡ spelled_by signed order n bytes
+pub spelled_by-take : (signed : Bool) (order : ByteOrdering) (n m : ℕ) (bytes : List ℕ) → n ≤ m → spelled_by signed order n (take m bytes) ≡ spelled_by signed order n bytes
 spelled_by-take true order n m bytes fits = ap (twos_complement n) (number_in-take order n m bytes fits)
 spelled_by-take false order n m bytes fits = ap pos (number_in-take order n m bytes fits)
 

@@ -1,4 +1,4 @@
-//! Rasters of pixels as bytes: reading them into memory and writing them to a device.
+//! Rasters of pixels as bytes: reading them into memory, or a row at a time, and writing them to a device.
 //!
 //! A raster is the body of an Esri BIL file of one band. Its header says how many pixels there are, how each is
 //! spelled and where each stands.
@@ -8,9 +8,11 @@ mod fault;
 pub mod laws;
 mod pixel;
 mod range;
+mod raster_rows;
 mod read;
 mod write;
 
 pub use fault::{RasterFault, WriteFault};
+pub use raster_rows::RasterRows;
 pub use read::{needed_len, read_raster};
 pub use write::write_raster;

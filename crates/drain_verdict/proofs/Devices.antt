@@ -4,8 +4,9 @@ use Rattle.std.proofs.Common.{◌↔◌, ◌⊎◌, ℕ, List, [], ◌∷◌, �
 use Rattle.std.proofs.lemmas.List.{map-append}
 use Rattle.drain_device.specs.declared.counts.FaultCounts.{FaultCounts}
 use Rattle.drain_hgt.specs.declared.input.TileInput.{TileInput}
+use Rattle.drain_hgt.specs.Inputs.{tile_devices, TilesTakeAtMost}
 use Rattle.drain_device.specs.FaultLists.{SomeReadFails}
-use Rattle.drain_verdict.specs.Devices.{tile_devices, product_devices, devices_of, TilesTakeAtMost}
+use Rattle.drain_verdict.specs.Devices.{product_devices, devices_of}
 use Rattle.drain_device.proofs.FaultLists.{SomeReadFails-then, SomeReadFails-none, takes-none}
 
 -- where no tile was called, nothing was taken

@@ -17,3 +17,8 @@ mod StartAnswers
 mod Telling
 mod TileLists
 mod WindowLemmas
+pub mod RasterSteps
+pub mod InputLemmas
+pub mod MosaicRowSteps
+pub mod RowReads
+pub mod RowGiven

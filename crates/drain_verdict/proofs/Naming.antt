@@ -10,7 +10,7 @@ use Rattle.drain_hgt.specs.declared.name.NameFault.{NameFault}
 use Rattle.drain_hgt.specs.declared.name.NameFault.TheVariants.{BadForm, BadRange}
 use Rattle.drain_hgt.specs.Corner.{Corner}
 use Rattle.drain_hgt.specs.Name.{Names, MeansName}
-use Rattle.drain_verdict.specs.Inputs.{names_of}
+use Rattle.drain_hgt.specs.Inputs.{names_of}
 use Rattle.drain_verdict.specs.Refusals.{IsBadName}
 use Rattle.drain_verdict.specs.Stages.{IsFirstBadName}
 

@@ -7,8 +7,9 @@ use Rattle.drain_hgt.specs.declared.input.TileInput.{TileInput}
 use Rattle.drain_hgt.specs.Corner.{Corner}
 use Rattle.drain_hgt.specs.Name.{Names}
 use Rattle.drain_hgt.specs.Laws.{NamesGiveCorners}
+use Rattle.drain_hgt.specs.Inputs.{names_of}
 use Rattle.drain_grid.specs.PerProduct.{of_product}
-use Rattle.drain_verdict.specs.Inputs.{AreNames, names_of}
+use Rattle.drain_verdict.specs.Inputs.{AreNames}
 use Rattle.drain_verdict.specs.Laws.{InputsAreTold}
 
 -- what is told, and nothing where nothing is

@@ -1,31 +1,23 @@
 -- The devices of a check, and how far it reads from them.
-use Rattle.std.specs.Prelude.{ℕ, ◌+◌, List, map, ◌++◌, Option}
-use Rattle.std.specs.List.{AllZip}
+use Rattle.std.specs.Prelude.{ℕ, List, map, ◌++◌, Option}
 use Rattle.drain_device.specs.Reads.{TakesAtMost}
 use Rattle.drain_grid.specs.declared.product.Product.{Product}
 use Rattle.drain_grid.specs.PerProduct.{of_product, products}
 use Rattle.drain_text.specs.Text.{lines_of}
 use Rattle.drain_hgt.specs.declared.input.TileInput.{TileInput}
-use Rattle.drain_hgt.specs.Samples.{tile_length}
+use Rattle.drain_hgt.specs.Inputs.{tile_devices}
 use Rattle.drain_header.specs.Fields.{Fields}
 use Rattle.drain_header.specs.Header.{header_of}
 use Rattle.drain_raster.specs.Pixels.{needed_len}
 use Rattle.drain_verdict.specs.Inputs.{Products}
 
--- the devices of the tiles, and those of the products
-abbrev pub tile_devices : {R : Type 0} → List (TileInput R) → List R
-tile_devices tiles = map (λ t. t.body) tiles
-
+-- the devices of the products
 abbrev pub product_devices : {R : Type 0} → Products R → List R
 product_devices ps = map (λ p. (of_product ps p).body) products
 
 -- the devices of a check
 abbrev pub devices_of : {R : Type 0} → List (TileInput R) → Products R → List R
 devices_of tiles ps = tile_devices tiles ++ product_devices ps
-
--- of each tile at most one byte past its end was taken
-abbrev pub TilesTakeAtMost : {R : Type 0} → (R → Option (List ℕ)) → ℕ → List (TileInput R) → List (TileInput R) → Type 0
-TilesTakeAtMost bytes_left side old new = AllZip (λ a b. TakesAtMost (tile_length side + 1) (bytes_left a.body) (bytes_left b.body)) old new
 
 -- of the product's raster nothing past the last byte that this header needs was taken
 abbrev pub BodyTakesAtMost : {R : Type 0} → (R → Option (List ℕ)) → Fields → Products R → Products R → Product → Type 0

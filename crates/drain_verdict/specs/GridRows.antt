@@ -20,11 +20,11 @@ OfGrid gives extent P =
 abbrev pub IsNext : ((ℕ → RowNumbers) → ℕ → Type 0) → ((ℕ → RowNumbers) → ℕ → Type 0) → RowNumbers → Type 0
 IsNext before after row = (rows : ℕ → RowNumbers) (r : ℕ) → before rows r → (row ≡ rows r) × after rows (r + 1)
 
--- whatever was read before, more was read since, up to this refusal, if one came
-abbrev pub ReadsOn : {State : Type 0} → (State → State → Option Refusal → Type 0) → State → State → Option Refusal → Type 0
-ReadsOn {State} has_read before after told = (start : State) → has_read start before None → has_read start after told
+-- whatever was read before, so many calls more were made since, up to this refusal, if one came
+abbrev pub ReadsOn : {State : Type 0} → (State → State → ℕ → Option Refusal → Type 0) → State → State → ℕ → Option Refusal → Type 0
+ReadsOn {State} has_read before after calls told = (start : State) (n : ℕ) → has_read start before n None → has_read start after (n + calls) told
 
 -- the source has refused; or it has read on, and memory was wanted for a new label
-abbrev pub IsRowsRefusal : {State : Type 0} → (State → State → Option Refusal → Type 0) → State → State → Type 0 → Refusal → Type 0
+abbrev pub IsRowsRefusal : {State : Type 0} → (State → State → ℕ → Option Refusal → Type 0) → State → State → Type 0 → Refusal → Type 0
 IsRowsRefusal has_read before after NewLabel refusal =
-    ReadsOn has_read before after (Some refusal) ⊎ ((refusal ≡ OutOfMemory) × ReadsOn has_read before after None × NewLabel)
+    (calls : ℕ) × (ReadsOn has_read before after calls (Some refusal) ⊎ ((refusal ≡ OutOfMemory) × ReadsOn has_read before after calls None × NewLabel))

@@ -1,5 +1,5 @@
 -- The bytes that a check is about.
-use Rattle.std.specs.Prelude.{◌≡◌, ℕ, List, map, Option, Some}
+use Rattle.std.specs.Prelude.{◌≡◌, ℕ, List, Option, Some}
 use Rattle.std.specs.List.{All, AllZip}
 use Rattle.drain_grid.specs.declared.product.Product.{Product}
 use Rattle.drain_grid.specs.declared.per_product.PerProduct.{PerProduct}
@@ -7,6 +7,7 @@ use Rattle.drain_grid.specs.PerProduct.{of_product}
 use Rattle.drain_hgt.specs.declared.input.TileInput.{TileInput}
 use Rattle.drain_hgt.specs.Corner.{Corner}
 use Rattle.drain_hgt.specs.Name.{Names}
+use Rattle.drain_hgt.specs.Inputs.{names_of, AreBodies}
 use Rattle.drain_verdict.specs.declared.input.RasterInput.{RasterInput}
 
 -- the side, the names of the tiles, which tiles they name, the tiles' bodies, and each product's header and body
@@ -26,15 +27,11 @@ Products R = PerProduct (RasterInput R)
 abbrev pub AreNames : List (List ℕ) → Type 0
 AreNames names = All (λ name. (c : Corner) × Names name c) names
 
--- the names of the tiles
-abbrev pub names_of : {R : Type 0} → List (TileInput R) → List (List ℕ)
-names_of tiles = map (λ t. t.name) tiles
-
 -- what is handed in spells these inputs, where the devices tell their bytes
 pub record Tell {R : Type 0} (bytes_left : R → Option (List ℕ)) (side : ℕ) (tiles : List (TileInput R)) (ps : Products R) (i : Inputs) : Type 0 where
   pub side_is : i.side ≡ side
   pub names_are : i.names ≡ names_of tiles
   pub corners_are : AreNames i.names → AllZip Names i.names i.corners
-  pub tiles_are : AllZip (λ t body. bytes_left t.body ≡ Some body) tiles i.tiles
+  pub tiles_are : AreBodies bytes_left tiles i.tiles
   pub headers_are : (p : Product) → i.header p ≡ (of_product ps p).header
   pub rasters_are : (p : Product) → bytes_left (of_product ps p).body ≡ Some (i.raster p)

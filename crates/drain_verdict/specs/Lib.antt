@@ -5,9 +5,11 @@ pub mod GridRows
 pub mod Headline
 pub mod HeldRows
 pub mod Inputs
+pub mod InputReads
 pub mod Laws
 pub mod Lines
 pub mod Meaning
 pub mod Mosaics
 pub mod Refusals
+pub mod ToGive
 pub mod Stages

@@ -11,10 +11,10 @@ use Rattle.drain_grid.specs.Tile.{IsSide}
 use Rattle.drain_grid.specs.Whole.{elevation_at}
 use Rattle.drain_grid.specs.WholeGrid.{raster_in}
 use Rattle.drain_grid.specs.PerProduct.{of_product, rank_of}
-use Rattle.drain_hgt.specs.declared.input.TileInput.{TileInput}
 use Rattle.drain_hgt.specs.Corner.{Corner}
 use Rattle.drain_hgt.specs.Name.{Names}
 use Rattle.drain_hgt.specs.Samples.{IsTile, samples_of}
+use Rattle.drain_hgt.specs.Inputs.{IsFirstBadLength}
 use Rattle.drain_header.specs.Fields.{Fields}
 use Rattle.drain_header.specs.Faults.{Answers, Describes}
 use Rattle.drain_raster.specs.Pixels.{extent_of, IsShort, raster_of}
@@ -108,21 +108,10 @@ pub record IsFirstHeaderRefusal {R : Type 0} (t : tiling.Tiling) (ps : Products 
   pub refused : IsHeaderRefusal t product (of_product ps product).header refusal
   pub before : (q : Product) → rank_of q < rank_of product → (h : Fields) × IsHeaderFor t (of_product ps q).header h
 
--- the tiles have these bodies
-abbrev pub AreBodies : {R : Type 0} → (R → Option (List ℕ)) → List (TileInput R) → List (List ℕ) → Type 0
-AreBodies bytes_left tiles bodies = AllZip (λ t body. bytes_left t.body ≡ Some body) tiles bodies
-
 -- the bodies have the length of tiles, and these are their samples
 pub record AreSamplesOf (side : ℕ) (bodies : List (List ℕ)) (samples : List (List ℤ)) : Type 0 where
   pub lengths : All (IsTile side) bodies
   pub samples_are : samples ≡ map samples_of bodies
-
--- the body in this place has another length, and those before it have not
-pub record IsFirstBadLength (side : ℕ) (bodies : List (List ℕ)) (place : ℕ) : Type 0 where
-  pub body : List ℕ
-  pub body_is : slice_get bodies place ≡ Some body
-  pub length_is_not : ¬ IsTile side body
-  pub before : (k : ℕ) (earlier : List ℕ) → k < place → slice_get bodies k ≡ Some earlier → IsTile side earlier
 
 -- why the body of the tile at a corner is refused
 abbrev pub IsOneTileRefusal : ℕ → Corner → List ℕ → Refusal → Type 0

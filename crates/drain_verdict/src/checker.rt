@@ -9,13 +9,14 @@ ghost use Rattle.drain_mosaic.specs.Mosaic.{AreTiles, TilesAgree, tiles_of};
 ghost use Rattle.drain_grid.specs.PerProduct.{of_product};
 ghost use Rattle.drain_mosaic.specs.Tiling as tiling;
 ghost use Rattle.drain_raster.specs.Pixels.{extent_of};
-ghost use Rattle.drain_verdict.specs.Inputs.{Inputs, Tell, names_of};
+ghost use Rattle.drain_verdict.specs.Inputs.{Inputs, Tell};
 ghost use Rattle.drain_verdict.specs.Meaning.{tiling_of, fields_of};
 ghost use Rattle.drain_verdict.specs.Refusals.{IsOfBodies, NoneStandsBefore};
 ghost use Rattle.drain_verdict.specs.Answers.{IsAnswer};
-ghost use Rattle.drain_verdict.specs.Stages.{AreBodies, AreRasterBodies, AreThoseOf};
+ghost use Rattle.drain_verdict.specs.Stages.{AreRasterBodies, AreThoseOf};
 ghost use Rattle.drain_device.specs.FaultLists.{SomeReadFails};
-ghost use Rattle.drain_verdict.specs.Devices.{devices_of, TilesTakeAtMost, RasterTakesAtMost, BodyTakesAtMost};
+ghost use Rattle.drain_hgt.specs.Inputs.{names_of, AreBodies, TilesTakeAtMost};
+ghost use Rattle.drain_verdict.specs.Devices.{devices_of, RasterTakesAtMost, BodyTakesAtMost};
 ghost use Rattle.drain_verdict.specs.Headline.{AcceptedMeans, TilesAreOne, ElevationIsTheirs, ConIsLeast, NoDirectionClimbs, DirectionsAreSteepest, CodesTellOutlets, RunsEnd, RunsEndAtOutlets, RunsVisitOnce, AccCountsUpstream, LabelsTellBasins, VoidsAreBlank, DataIsComplete};
 
 use crate::headers::read_headers;

@@ -1,6 +1,6 @@
 //! A row of a grid and its products in vectors, which are kept for their memory.
 
-ghost use Rattle.std.specs.Prelude.{◌≡◌};
+ghost use Rattle.std.specs.Prelude.{◌≡◌, ◌↔◌, IsTrue};
 ghost use Rattle.drain_rules.specs.RowNumbers.{AreRowNumbers, blank};
 
 use drain_grid::PerProduct;
@@ -17,7 +17,7 @@ pub struct HeldRow {
 }
 
 impl HeldRow {
-    ghost use Rattle.drain_verdict.specs.HeldRows.{numbers_of};
+    ghost use Rattle.drain_verdict.specs.HeldRows.{IsEven, numbers_of};
 
     /// No row. This takes no memory.
     pub fn new(alloc: Global) -> HeldRow
@@ -47,6 +47,20 @@ impl HeldRow {
         self.products.bas.clear();
         self.products.spl.clear();
         self.products.rnk.clear();
+    }
+
+    /// Whether there are as many numbers of each product as elevations.
+    pub fn is_even(&self) -> bool
+        ensures { IsTrue result ↔ IsEven (numbers_of self.now) }
+    {
+        let len = self.z.len();
+        let products = &self.products;
+        products.con.len() == len
+            && products.dir.len() == len
+            && products.acc.len() == len
+            && products.bas.len() == len
+            && products.spl.len() == len
+            && products.rnk.len() == len
     }
 
     /// The row as slices.

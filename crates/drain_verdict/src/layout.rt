@@ -3,7 +3,7 @@
 ghost use Rattle.std.specs.Prelude.{IfOk, IfErr};
 ghost use Rattle.std.specs.List.{AllZip};
 ghost use Rattle.drain_hgt.specs.Name.{Names};
-ghost use Rattle.drain_verdict.specs.Inputs.{names_of};
+ghost use Rattle.drain_hgt.specs.Inputs.{names_of};
 ghost use Rattle.drain_verdict.specs.Stages.{IsLayoutOf, IsLayoutRefusal, IsNameRefusal, IsLayoutFaultAs};
 
 use crate::refusal::Refusal;

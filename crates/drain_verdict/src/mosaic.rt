@@ -2,9 +2,9 @@
 
 ghost use Rattle.std.specs.Prelude.{◌≡◌, map, IfOk, IfErr, IsErrOf};
 ghost use Rattle.drain_mosaic.specs.Tiling.{extent_of};
-ghost use Rattle.drain_verdict.specs.Inputs.{Inputs, names_of};
+ghost use Rattle.drain_verdict.specs.Inputs.{Inputs};
 ghost use Rattle.drain_device.specs.FaultLists.{SomeReadFails};
-ghost use Rattle.drain_verdict.specs.Devices.{tile_devices, TilesTakeAtMost};
+ghost use Rattle.drain_hgt.specs.Inputs.{names_of, tile_devices, TilesTakeAtMost};
 ghost use Rattle.drain_verdict.specs.Refusals.{IsOfBodies};
 ghost use Rattle.drain_verdict.specs.Mosaics.{TellTiles, IsMosaicOf, IsMosaicRefusal};
 

@@ -1,6 +1,6 @@
 //! The verdict on a grid and its products whose rows come one after another.
 
-ghost use Rattle.std.specs.Prelude.{◌+◌, ℕ, None, IfOk, IfErr, OnOk};
+ghost use Rattle.std.specs.Prelude.{◌≡◌, ◌+◌, ℕ, length, None, IfOk, IfErr, OnOk};
 ghost use Rattle.drain_rules.specs.Labels.{HasNewLabel};
 ghost use Rattle.drain_rules.specs.RowNumbers.{RowNumbers};
 ghost use Rattle.drain_rules.specs.Verdicts.{IsVerdict};
@@ -26,9 +26,10 @@ pub fn verdict_by_rows<T, P, S: GridRows<T, P>>(
     tiles: &mut [T],
     products: &mut P,
 ) -> Result<Verdict, Refusal>
+    requires counted { length tiles.old ≡ S.count source.old }
     ensures verdict { IfOk result (λ verdict. OfGrid (S.gives (source.old, tiles.old, products.old)) shape (λ g ps. IsVerdict g ps nodata.now verdict)) }
     ensures given { OnOk result ((rows : ℕ → RowNumbers) → S.gives (source.old, tiles.old, products.old) rows 0 → S.gives (source.new, tiles.new, products.new) rows (shape.rows + 1)) }
-    ensures reads { OnOk result (ReadsOn S.has_read (source.old, tiles.old, products.old) (source.new, tiles.new, products.new) None) }
+    ensures reads { OnOk result (ReadsOn S.has_read (source.old, tiles.old, products.old) (source.new, tiles.new, products.new) (shape.rows + 1) None) }
     ensures refuses { IfErr result (IsRowsRefusal S.has_read (source.old, tiles.old, products.old) (source.new, tiles.new, products.new) (OfGrid (S.gives (source.old, tiles.old, products.old)) shape (HasNewLabel nodata.now))) }
 {
     // The law that makes a row's patches of three rows.

@@ -6,12 +6,11 @@ ghost use Rattle.drain_device.specs.Failing.{ReadFails};
 ghost use Rattle.drain_device.specs.Reads.{TakesAtMost};
 ghost use Rattle.drain_grid.specs.Tile.{IsSide};
 ghost use Rattle.drain_hgt.specs.Samples.{IsTile, samples_of, tile_length};
+ghost use Rattle.drain_hgt.specs.Inputs.{names_of, tile_devices, AreBodies};
 ghost use Rattle.drain_mosaic.specs.Mosaic.{AreTiles};
 ghost use Rattle.drain_device.specs.FaultLists.{SomeReadFails};
-ghost use Rattle.drain_verdict.specs.Devices.{tile_devices};
-ghost use Rattle.drain_verdict.specs.Inputs.{names_of};
 ghost use Rattle.drain_verdict.specs.Refusals.{IsOfBodies};
-ghost use Rattle.drain_verdict.specs.Stages.{AreBodies, AreSamplesOf, IsTileRefusal, IsOneTileRefusal};
+ghost use Rattle.drain_verdict.specs.Stages.{AreSamplesOf, IsTileRefusal, IsOneTileRefusal};
 
 use crate::refusal::Refusal;
 use drain_device::{BodyFault, ByteSource, read_body};

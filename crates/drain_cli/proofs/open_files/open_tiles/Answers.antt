@@ -1,6 +1,6 @@
 use Rattle.std.proofs.Common.{◌≡◌, ◌++◌, ◌∷◌, [], take, rules}
 use Rattle.std.proofs.lemmas.List.{take_more, map-append}
-use Rattle.drain_verdict.specs.Inputs.{names_of}
+use Rattle.drain_hgt.specs.Inputs.{names_of}
 use Rattle.drain_cli.specs.FilePaths.{IsLastPart}
 use Rattle.drain_cli.proofs.TileNames.{AllZip-more}
 use Rattle.drain_cli.proofs.open_files.open_tiles.Goals as goal

@@ -1,6 +1,6 @@
 use Rattle.std.proofs.Common.{take}
 use Rattle.std.specs.List.{AllZip}
-use Rattle.drain_verdict.specs.Inputs.{names_of}
+use Rattle.drain_hgt.specs.Inputs.{names_of}
 use Rattle.drain_cli.specs.FilePaths.{IsLastPart}
 use Rattle.drain_cli.proofs.open_files.open_tiles.Given as goal
 

@@ -1,6 +1,5 @@
 use Rattle.std.proofs.Common.{arith, sym}
-use Rattle.drain_hgt.proofs.Samples.{all_samples}
-use Rattle.drain_hgt.proofs.TileRowLemmas.{sample_put}
+use Rattle.drain_hgt.proofs.Samples.{all_samples, sample_put}
 use Rattle.drain_hgt.proofs.tile_rows.put_samples.Goals as goal
 
 pub loop-k-preserved : goal.loop-k-preserved

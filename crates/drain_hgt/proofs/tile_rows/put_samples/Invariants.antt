@@ -1,5 +1,5 @@
 use Rattle.std.proofs.Common.{ℕ, ◌<◌, ℤ, get_or}
-use Rattle.drain_hgt.proofs.TileRowLemmas.{IsSampleIn}
+use Rattle.drain_hgt.proofs.Samples.{IsSampleIn}
 use Rattle.drain_hgt.proofs.tile_rows.put_samples.Given as goal
 
 -- the samples that were passed are there

@@ -1,7 +1,7 @@
 use Rattle.std.proofs.Common.{take, subst, sym, ◌+◌, Err}
 use Rattle.std.specs.List.{AllZip}
 use Rattle.drain_hgt.specs.Name.{Names, MeansName}
-use Rattle.drain_verdict.specs.Inputs.{names_of}
+use Rattle.drain_hgt.specs.Inputs.{names_of}
 use Rattle.drain_verdict.proofs.Naming.{named_more, named_all, first_bad}
 use Rattle.drain_verdict.proofs.layout.read_names.Goals as goal
 

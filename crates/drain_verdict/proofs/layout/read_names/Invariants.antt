@@ -1,7 +1,7 @@
 use Rattle.std.proofs.Common.{take}
 use Rattle.std.specs.List.{AllZip}
 use Rattle.drain_hgt.specs.Name.{Names}
-use Rattle.drain_verdict.specs.Inputs.{names_of}
+use Rattle.drain_hgt.specs.Inputs.{names_of}
 use Rattle.drain_verdict.proofs.layout.read_names.Given as goal
 
 -- the names that were passed are those of the tiles so far

@@ -1,7 +1,8 @@
-use Rattle.std.proofs.Common.{◌≡◌, ◌+◌, ◌<◌, inr, refl, sym, ap, subst, ◌∙◌, arith}
+use Rattle.std.proofs.Common.{◌≡◌, Some, None, inl, ◌+◌, ◌<◌, inr, refl, sym, ap, subst, ◌∙◌, arith}
 use Rattle.drain_grid.specs.Size.{Extent}
 use Rattle.drain_rules.specs.RowNumbers.{AreRowNumbers}
 use Rattle.drain_verdict.specs.HeldRows.{numbers_of}
+use Rattle.drain_verdict.proofs.RasterChain.{told-of}
 use Rattle.drain_verdict.proofs.WindowLemmas.{blank-whole, held-more, held-turned, patches-at, rows-around}
 use Rattle.drain_verdict.proofs.row_verdict.verdict_by_rows.Goals as goal
 
@@ -10,6 +11,7 @@ loop-row-init g c =
     let read = c.in_ok-read_row.ensures in
     record {
       counted = c.new-walk.ensures.rows;
+      as_many = read.as_many ∙ c.requires.counted ∙ sym read.counted;
       here_whole = subst (λ n. AreRowNumbers n) (sym c.new-window.ensures.here) blank-whole;
       below_whole = read.whole;
       given = λ rows gives. (read.next rows 0 gives).1;
@@ -26,19 +28,21 @@ pub returns-in-Err-clause-refuses : goal.returns-in-Err-clause-refuses
 returns-in-Err-clause-refuses g c =
     let row = c.loop-row._row in
     let inv = c.loop-row.invariant in
-    let read = c.in_ok-read_row-2.ensures in
-    inr (
-      refl,
-      λ start before. read.reads start (inv.reads start before),
-      λ rows grid ps gives extent all.
-          let count = ap (λ (e : Extent). e.rows) extent in
-          let inside : row < grid.extent.rows = omega (arith, c.loop-row-test.true, c.rows-row-end.ensures, count) in
-          let held = held-turned rows row (numbers_of c.loop-row.window.here) (numbers_of c.loop-row.window.below) c.rows.result.above c.rows.result.here
-          (inv.held rows gives) (c.rows.ensures.above ∙ c.turn.ensures.above) (c.rows.ensures.here ∙ c.turn.ensures.here) in
-          let around = rows-around grid ps rows row c.rows.result all inside held (c.rows.ensures.below ∙ (read.next rows (row + 1) (inv.given rows gives)).0) in
-          c.in-Err.ensures.err grid ps
-          (patches-at grid ps row c.loop-row.walk.rows _ _ (c.three_rows_show_patches.ensures grid ps row c.rows.result around) inv.counted)
-          (inv.right rows grid ps gives extent all),
+    let read = c.in_ok-read_row-2.ensures in (
+      row + 1 + 1,
+      inr (
+        refl,
+        λ start n before. let same : n + (row + 1) + 1 ≡ n + (row + 1 + 1) = omega arith in subst (λ k. g.S.GridRows.has_read start (c.read_row-in-loop-row.new.self, c.read_row-in-loop-row.new.tiles, c.read_row-in-loop-row.new.products) k None) same (read.reads start (n + (row + 1)) (inv.reads start n before)),
+        λ rows grid ps gives extent all.
+            let count = ap (λ (e : Extent). e.rows) extent in
+            let inside : row < grid.extent.rows = omega (arith, c.loop-row-test.true, c.rows-row-end.ensures, count) in
+            let held = held-turned rows row (numbers_of c.loop-row.window.here) (numbers_of c.loop-row.window.below) c.rows.result.above c.rows.result.here
+            (inv.held rows gives) (c.rows.ensures.above ∙ c.turn.ensures.above) (c.rows.ensures.here ∙ c.turn.ensures.here) in
+            let around = rows-around grid ps rows row c.rows.result all inside held (c.rows.ensures.below ∙ (read.next rows (row + 1) (inv.given rows gives)).0) in
+            c.in-Err.ensures.err grid ps
+            (patches-at grid ps row c.loop-row.walk.rows _ _ (c.three_rows_show_patches.ensures grid ps row c.rows.result around) inv.counted)
+            (inv.right rows grid ps gives extent all),
+      ),
     )
 
 pub loop-row-preserved : goal.loop-row-preserved
@@ -48,6 +52,7 @@ loop-row-preserved g c =
     let read = c.in_ok-read_row-2.ensures in
     record {
       counted = omega (arith, c.in-Ok.ensures.rows, inv.counted);
+      as_many = read.as_many ∙ inv.as_many ∙ sym read.counted;
       here_whole = subst (λ n. AreRowNumbers n) (sym c.turn.ensures.here) inv.below_whole;
       below_whole = read.whole;
       given = λ rows gives. (read.next rows (row + 1) (inv.given rows gives)).1;
@@ -63,7 +68,7 @@ loop-row-preserved g c =
           c.in-Ok.ensures.finding grid ps
           (patches-at grid ps row c.loop-row.walk.rows _ _ (c.three_rows_show_patches.ensures grid ps row c.rows.result around) inv.counted)
           (inv.right rows grid ps gives extent all);
-      reads = λ start before. read.reads start (inv.reads start before);
+      reads = λ start n before. let same : n + (row + 1) + 1 ≡ n + (row + 1 + 1) = omega arith in subst (λ k. g.S.GridRows.has_read start (c.read_row-in-loop-row.new.self, c.read_row-in-loop-row.new.tiles, c.read_row-in-loop-row.new.products) k None) same (read.reads start (n + (row + 1)) (inv.reads start n before));
     }
 
 pub returns-clause-verdict : goal.returns-clause-verdict
@@ -77,3 +82,24 @@ pub returns-clause-given : goal.returns-clause-given
 returns-clause-given g c = λ rows gives.
     let last : c.loop-row._row ≡ c.args.shape.rows = omega (arith, c.loop-row-test.false, c.loop-row.auto._row-end, c.rows-row-end.ensures) in
     subst (λ n. g.S.GridRows.gives (c.loop-row.source, c.loop-row.tiles, c.loop-row.products) rows (n + 1)) last (c.loop-row.invariant.given rows gives)
+
+pub returns-clause-reads : goal.returns-clause-reads
+returns-clause-reads g c = λ start n before.
+    let last : c.loop-row._row ≡ c.args.shape.rows = omega (arith, c.loop-row-test.false, c.loop-row.auto._row-end, c.rows-row-end.ensures) in
+    subst (λ k. g.S.GridRows.has_read start (c.loop-row.source, c.loop-row.tiles, c.loop-row.products) (n + (k + 1)) None) last (c.loop-row.invariant.reads start n before)
+
+pub returns-in_err-read_row-clause-refuses : goal.returns-in_err-read_row-clause-refuses
+returns-in_err-read_row-clause-refuses g c =
+    told-of c.from_residual.result c.in_err-read_row.field-0.0 _ c.from_residual.ensures.1 (1, inl c.in_err-read_row.ensures.refuses)
+
+pub returns-in_err-read_row-2-clause-refuses : goal.returns-in_err-read_row-2-clause-refuses
+returns-in_err-read_row-2-clause-refuses g c =
+    let row = c.loop-row._row in
+    let refusal = c.in_err-read_row-2.field-0.0 in
+    told-of c.from_residual-in_err-read_row-2.result refusal _ c.from_residual-in_err-read_row-2.ensures.1 (
+      row + 1 + 1,
+      inl (λ start n before.
+          let same : n + (row + 1) + 1 ≡ n + (row + 1 + 1) = omega arith in
+          subst (λ k. g.S.GridRows.has_read start (c.read_row-in-loop-row.new.self, c.read_row-in-loop-row.new.tiles, c.read_row-in-loop-row.new.products) k (Some refusal)) same
+          (c.in_err-read_row-2.ensures.refuses start (n + (row + 1)) (c.loop-row.invariant.reads start n before))),
+    )

@@ -1,4 +1,4 @@
-use Rattle.std.proofs.Common.{◌≡◌, ◌+◌, ℕ, None}
+use Rattle.std.proofs.Common.{◌≡◌, ◌+◌, ℕ, None, length}
 use Rattle.drain_grid.specs.Grid.{Grid, Products}
 use Rattle.drain_rules.specs.GridWalks.{IsRightOf}
 use Rattle.drain_rules.specs.RowNumbers.{AreRowNumbers, RowNumbers}
@@ -13,6 +13,7 @@ invariant-loop-row g l =
     let source = g.S.GridRows in
     record {
       counted : l.walk.rows ≡ l._row;
+      as_many : length l.tiles ≡ source.count l.source;
       here_whole : AreRowNumbers (numbers_of l.window.here);
       below_whole : AreRowNumbers (numbers_of l.window.below);
       given : (rows : ℕ → RowNumbers) → source.gives (l.fn.source, l.fn.tiles, l.fn.products) rows 0 →
@@ -20,5 +21,5 @@ invariant-loop-row g l =
       held : (rows : ℕ → RowNumbers) → source.gives (l.fn.source, l.fn.tiles, l.fn.products) rows 0 →
           AreHeld rows l._row (numbers_of l.window.here) (numbers_of l.window.below);
       right : OfGrid (source.gives (l.fn.source, l.fn.tiles, l.fn.products)) l.shape (λ (grid : Grid) (ps : Products). IsRightOf l.nodata grid ps l.walk);
-      reads : ReadsOn source.has_read (l.fn.source, l.fn.tiles, l.fn.products) (l.source, l.tiles, l.products) None;
+      reads : ReadsOn source.has_read (l.fn.source, l.fn.tiles, l.fn.products) (l.source, l.tiles, l.products) (l._row + 1) None;
     }

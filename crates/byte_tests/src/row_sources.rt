@@ -1,0 +1,160 @@
+//! Rows of tiles and rasters, worked out by hand, from sources that are whole, slow, interrupted or fail.
+
+use crate::rasters::{PADDED, padded};
+use drain_device::faults::{ScriptSource, Scripted};
+use drain_device::{DeviceFault, ReadFault, RowSource, RowStep};
+use drain_header::ByteOrdering;
+use drain_hgt::TileRows;
+use drain_raster::RasterRows;
+use std::alloc::{AllocError, Global};
+use std::test::Fail;
+
+/// Two rows of two samples, and a byte behind them.
+const TILE: [u8; 9] = [0x00, 0x01, 0x80, 0x00, 0xff, 0xff, 0x7f, 0xff, 0x00];
+
+/// The samples of the tile, in row order.
+const SAMPLES: [i64; 4] = [1, -32768, -1, 32767];
+
+/// What a row source answers.
+type Answer = Result<RowStep, ReadFault>;
+
+/// Two rows, and then the end.
+const WHOLE: [Answer; 4] = [
+    Ok(RowStep::Row),
+    Ok(RowStep::Row),
+    Ok(RowStep::Ended),
+    Ok(RowStep::Ended),
+];
+
+/// Two rows, and then a byte too many.
+const LONGER: [Answer; 4] = [
+    Ok(RowStep::Row),
+    Ok(RowStep::Row),
+    Err(ReadFault::WrongLength),
+    Err(ReadFault::AlreadyFailed),
+];
+
+/// A row, and then one that isn't whole.
+const SHORTER: [Answer; 4] = [
+    Ok(RowStep::Row),
+    Err(ReadFault::WrongLength),
+    Err(ReadFault::AlreadyFailed),
+    Err(ReadFault::AlreadyFailed),
+];
+
+/// A row, and then a read that fails.
+const FAILED: [Answer; 4] = [
+    Ok(RowStep::Row),
+    Err(ReadFault::ReadFailed),
+    Err(ReadFault::AlreadyFailed),
+    Err(ReadFault::AlreadyFailed),
+];
+
+/// The answers to four calls, and the numbers that each call left in the vector, one call's behind the other's.
+fn four_calls<'a, S: RowSource<ScriptSource<'a>>>(
+    alloc: Global,
+    rows: &mut S,
+    from: &mut ScriptSource<'a>,
+) -> Result<([Answer; 4], Vec<i64>), AllocError> {
+    let mut answers = [Ok(RowStep::Ended); 4];
+    let mut numbers = Vec::new(alloc);
+    let mut row = Vec::new(alloc);
+    for answer in &mut answers {
+        *answer = rows.next_row(from, &mut row);
+        numbers.extend_from_slice(&row)?;
+    }
+    Ok((answers, numbers))
+}
+
+#[test]
+fn a_tile_gives_its_rows(rt: HostRuntime) -> Result<(), Fail> {
+    for (length, most, wanted, count) in [
+        (8, 100, WHOLE, 4),
+        (8, 1, WHOLE, 4),
+        (9, 100, LONGER, 4),
+        (9, 1, LONGER, 4),
+        (7, 100, SHORTER, 2),
+        (7, 1, SHORTER, 2),
+    ] {
+        let mut from = ScriptSource::new(&TILE[..length], most, &[]);
+        let (answers, numbers) = four_calls(rt.alloc(), &mut TileRows::new(2), &mut from)?;
+        assert_eq!(rt;
+            (answers, numbers.as_slice()),
+            (wanted, &SAMPLES[..count]),
+            "{length} bytes, {most} at a call"
+        );
+    }
+    Ok(())
+}
+
+#[test]
+fn a_raster_gives_its_rows(rt: HostRuntime) -> Result<(), Fail> {
+    for (order, wanted) in [
+        (ByteOrdering::Least, [1, -2, -32768, 2]),
+        (ByteOrdering::Most, [256, -257, 128, 512]),
+    ] {
+        for (length, most, told, count) in [
+            (10, 100, WHOLE, 4),
+            (10, 1, WHOLE, 4),
+            (9, 100, SHORTER, 2),
+            (9, 1, SHORTER, 2),
+        ] {
+            let mut from = ScriptSource::new(&PADDED[..length], most, &[]);
+            let mut rows = RasterRows::new(padded(order));
+            let (answers, numbers) = four_calls(rt.alloc(), &mut rows, &mut from)?;
+            assert_eq!(rt;
+                (answers, numbers.as_slice()),
+                (told, &wanted[..count]),
+                "{length} bytes, {most} at a call"
+            );
+        }
+    }
+    Ok(())
+}
+
+/// This answer at two runs of calls, each from a first to a last call; from 0 to 0 there is none.
+fn faults(answer: DeviceFault, one: (u64, u64), other: (u64, u64)) -> [Scripted<DeviceFault>; 2] {
+    [one, other].map(|(first, last)| Scripted {
+        first,
+        last,
+        answer,
+    })
+}
+
+/// At a byte a call the first row of either is there after five calls at most, and the second after ten.
+#[test]
+fn rows_fail_where_their_source_gives_up(rt: HostRuntime) -> Result<(), Fail> {
+    let failed = DeviceFault::Failed;
+    let interrupted = DeviceFault::Interrupted;
+    for (script, wanted, count) in [
+        (faults(failed, (6, 6), (0, 0)), FAILED, 2),
+        (faults(interrupted, (2, 1000), (0, 0)), WHOLE, 4),
+        (faults(interrupted, (2, 501), (506, 1004)), WHOLE, 4),
+        (faults(interrupted, (2, 501), (506, 1005)), FAILED, 2),
+    ] {
+        let mut from = ScriptSource::new(&TILE[..8], 1, &script);
+        let (answers, numbers) = four_calls(rt.alloc(), &mut TileRows::new(2), &mut from)?;
+        assert_eq!(rt; (answers, numbers.as_slice()), (wanted, &SAMPLES[..count]));
+        let mut from = ScriptSource::new(&PADDED, 1, &script);
+        let mut rows = RasterRows::new(padded(ByteOrdering::Least));
+        let (answers, numbers) = four_calls(rt.alloc(), &mut rows, &mut from)?;
+        assert_eq!(rt;
+            (answers, numbers.as_slice()),
+            (wanted, &[1, -2, -32768, 2][..count])
+        );
+    }
+    Ok(())
+}
+
+#[test]
+fn texts_of_faults_of_rows(rt: HostRuntime) -> Result<(), Fail> {
+    for (fault, text) in [
+        (ReadFault::WrongLength, "the input has another length"),
+        (ReadFault::ReadFailed, "the read failed"),
+        (ReadFault::OutOfMemory, "out of memory"),
+        (ReadFault::AlreadyFailed, "an earlier call failed"),
+    ] {
+        assert_eq!(rt; format!(in rt.alloc(); "{fault}")?.as_str(), text);
+    }
+    Ok(())
+}

@@ -1,0 +1,5 @@
+use Rattle.drain_mosaic.proofs.WholeRows as lemmas
+use Rattle.drain_mosaic.proofs.laws.whole_tiles_give_their_samples.Goals as goal
+
+pub returns : goal.returns
+returns c = lemmas.whole_tiles_give_their_samples

@@ -1,0 +1,8 @@
+use Rattle.std.proofs.Common.{◌≡◌, ℕ, ◌<◌, ◌≤◌, get_or}
+use Rattle.drain_grid.specs.declared.tile.TheConstants.{VOID}
+use Rattle.drain_mosaic.specs.JoinedRows.{filled}
+use Rattle.drain_mosaic.proofs.overlay.fill_voids.Given as goal
+
+abbrev pub invariant-loop-k : goal.invariant-loop-k
+invariant-loop-k l =
+    ((k : ℕ) → k < l.k → get_or l.here k VOID ≡ filled (get_or l.fn.here k VOID) (get_or l.other k VOID)) × ((k : ℕ) → l.k ≤ k → get_or l.here k VOID ≡ get_or l.fn.here k VOID)

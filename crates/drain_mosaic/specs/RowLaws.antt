@@ -1,0 +1,46 @@
+-- What the rows of a mosaic mean.
+use Rattle.std.specs.Prelude.{◌≡◌, ℕ, ◌<◌, List, length, map, slice_index_or, Option, MatchOption}
+use Rattle.std.specs.List.{All}
+use Rattle.drain_device.specs.ComingRows.{after_rows, nth_row}
+use Rattle.drain_device.specs.ComingRows.Coming.{End}
+use Rattle.drain_grid.specs.declared.tile.TheConstants.{VOID}
+use Rattle.drain_grid.specs.Tile.{height_from}
+use Rattle.drain_hgt.specs.declared.input.TileInput.{TileInput}
+use Rattle.drain_hgt.specs.Inputs.{AreBodies, IsFirstBadLength}
+use Rattle.drain_hgt.specs.Samples.{IsTile, samples_of}
+use Rattle.drain_mosaic.specs.Tiling.{Tiling, extent_of}
+use Rattle.drain_mosaic.specs.Mosaic.{tiles_of, TilesAgree, IsFirstSeam}
+use Rattle.drain_mosaic.specs.LayoutFaults.{IsLayout}
+use Rattle.drain_mosaic.specs.Joined.{first_value}
+use Rattle.drain_mosaic.specs.Streams.{seam_from, wrong_from}
+use Rattle.drain_mosaic.specs.GivenTiles.{frame_of, given_tiles, mosaic_coming, tile_streams}
+use Rattle.drain_mosaic.specs.MosaicRows.{AreRowsOf, IsBegun}
+use Rattle.drain_mosaic.specs.declared.mosaic_rows.MosaicRows.{MosaicRows}
+
+-- new rows are those of the bodies that the devices tell
+abbrev pub NewRowsAreOfBodies : {R : Type 0} → (R → Option (List ℕ)) → Type 0
+NewRowsAreOfBodies {R} bytes_left =
+    (t : Tiling) (m : MosaicRows) (from : List (TileInput R)) (bodies : List (List ℕ)) → IsBegun t m → AreBodies bytes_left from bodies → AreRowsOf bytes_left t m from bodies
+
+-- all rows come, and then the end
+abbrev pub RowsEnd : Type 0
+RowsEnd = (t : Tiling) (bodies : List (List ℕ)) → after_rows (extent_of t).rows (mosaic_coming t bodies) ≡ End
+
+-- each number of a row is the first value of its cell: that of the first tile that gives it one
+abbrev pub RowsAreFirstValues : Type 0
+RowsAreFirstValues = (t : Tiling) (bodies : List (List ℕ)) (row col : ℕ) → IsLayout t → row < (extent_of t).rows → col < (extent_of t).cols →
+    height_from (slice_index_or (nth_row row (mosaic_coming t bodies)) col VOID) ≡ first_value t (given_tiles t bodies) (record { row = row; col = col })
+
+-- the seam that rows tell is the first; none is told where the tiles agree
+abbrev pub RowsTellSeams : Type 0
+RowsTellSeams = (t : Tiling) (bodies : List (List ℕ)) → IsLayout t →
+    MatchOption (seam_from (frame_of t) (extent_of t).rows 0 (tile_streams t t.corners bodies)) (TilesAgree t (given_tiles t bodies)) (IsFirstSeam t (given_tiles t bodies))
+
+-- the tile that they tell is the first of another length; none is told where each has the right one
+abbrev pub RowsTellLengths : Type 0
+RowsTellLengths = (t : Tiling) (bodies : List (List ℕ)) → IsLayout t → length bodies ≡ length t.corners →
+    MatchOption (wrong_from 0 (tile_streams t t.corners bodies)) (All (IsTile t.side) bodies) (IsFirstBadLength t.side bodies)
+
+-- tiles of the right length give all their samples
+abbrev pub WholeTilesGiveTheirSamples : Type 0
+WholeTilesGiveTheirSamples = (t : Tiling) (bodies : List (List ℕ)) → IsLayout t → All (IsTile t.side) bodies → given_tiles t bodies ≡ tiles_of t.corners (map samples_of bodies)

@@ -1,0 +1,62 @@
+//! Laying a part over a row of numbers: `seams` does the same with the samples of whole tiles.
+
+ghost use Rattle.std.specs.Prelude.{◌≡◌, ◌≤◌, ◌+◌, length, EachIndex, slice_index_or};
+ghost use Rattle.drain_grid.specs.declared.tile.TheConstants.{VOID};
+ghost use Rattle.drain_mosaic.specs.JoinedRows.{ConflictAt, IsLaidOver, IsLeastOf, filled, first_of};
+
+use drain_grid::VOID;
+
+/// The number that stands for a void.
+pub const VOID_NUMBER: i64 = VOID as i64;
+
+/// Lays a part over a row from `left` on: it fills the voids there. Finds the first column where both have data and differ.
+pub fn lay_over(row: &mut [i64], left: usize, part: &[i64]) -> Option<usize>
+    requires { left + length part.now ≤ length row.old }
+    ensures { IsLaidOver left part.now row.old row.new result }
+{
+    let under = &mut row[left..left + part.len()];
+    let conflict = first_conflict(under, part);
+    fill_voids(under, part);
+    match conflict {
+        Some(k) => Some(left + k),
+        None => None,
+    }
+}
+
+/// The first place where both have data and the numbers differ.
+fn first_conflict(here: &[i64], other: &[i64]) -> Option<usize>
+    requires { length here.now ≡ length other.now }
+    ensures { IsLeastOf (ConflictAt here.now other.now) (length here.now) result }
+{
+    for k in 0..here.len() {
+        if here[k] != VOID_NUMBER && other[k] != VOID_NUMBER && here[k] != other[k] {
+            return Some(k);
+        }
+    }
+    None
+}
+
+/// Puts the other number in the place of each void.
+fn fill_voids(here: &mut [i64], other: &[i64])
+    requires { length here.old ≡ length other.now }
+    ensures { EachIndex here.new (λ k. slice_index_or here.new k VOID ≡ filled (slice_index_or here.old k VOID) (slice_index_or other.now k VOID)) }
+{
+    for k in 0..here.len() {
+        here[k] = if here[k] == VOID_NUMBER {
+            other[k]
+        } else {
+            here[k]
+        };
+    }
+}
+
+/// The lesser of two places, where there are two.
+pub fn first_of(one: Option<usize>, other: Option<usize>) -> Option<usize>
+    ensures { result ≡ first_of one other }
+{
+    match (one, other) {
+        (Some(a), Some(b)) => Some(a.min(b)),
+        (Some(a), None) => Some(a),
+        (None, found) => found,
+    }
+}

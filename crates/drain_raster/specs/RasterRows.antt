@@ -1,0 +1,48 @@
+-- What is to come of a raster's bytes, row by row.
+-- Source: the Esri description of BIL files and their headers (NROWS, NCOLS, NBITS, SKIPBYTES, TOTALROWBYTES), of one band
+use Rattle.std.specs.Prelude.{ℕ, zero, suc, ◌+◌, ◌*◌, ℤ, nat_lt, List, [], ◌∷◌, length, take, drop, if◌then◌else◌}
+use Rattle.drain_device.specs.ComingRows.{Coming}
+use Rattle.drain_device.specs.ComingRows.Coming.{Next, End, Wrong}
+use Rattle.drain_device.specs.RowSteps.{coming_at, most_at}
+use Rattle.drain_header.specs.Fields.{Fields}
+use Rattle.drain_raster.specs.declared.raster_rows.RasterRows.{RasterRows}
+use Rattle.drain_raster.specs.Bytes.{padding_len}
+use Rattle.drain_raster.specs.Pixels.{pixel_len, pixel_of}
+
+-- so many numbers of so many bytes each, from the front of the bytes
+abbrev pub numbers_of : ℕ → (List ℕ → ℤ) → ℕ → List ℕ → List ℤ
+numbers_of len number zero bytes = []
+numbers_of len number (suc n) bytes = number (take len bytes) ∷ numbers_of len number n (drop len bytes)
+
+-- the pixels of a row
+abbrev pub pixels_of : Fields → List ℕ → List ℤ
+pixels_of h bytes = numbers_of (pixel_len h) (pixel_of h) h.cols bytes
+
+-- how many bytes the pixels of a row take
+abbrev pub packed_len : Fields → ℕ
+packed_len h = h.cols * pixel_len h
+
+-- the pixels of a row that stand behind so many bytes
+abbrev pub pixels_behind : Fields → ℕ → List ℕ → List ℤ
+pixels_behind h gap bytes = pixels_of h (drop gap bytes)
+
+-- the rows of a raster that has so many to go, where so many bytes stand before the next; a row whose pixels aren't all there is wrong
+abbrev pub raster_rows : Fields → ℕ → ℕ → List ℕ → Coming
+raster_rows h zero gap bytes = End
+raster_rows h (suc left) gap bytes =
+    if nat_lt (length bytes) (gap + packed_len h)
+    then Wrong
+    else Next (pixels_behind h gap (take (gap + packed_len h) bytes)) (raster_rows h left (padding_len h) (drop (gap + packed_len h) bytes))
+
+-- how many bytes those rows take at most: none behind the last pixel
+abbrev pub bytes_of_rows : Fields → ℕ → ℕ → ℕ
+bytes_of_rows h zero gap = 0
+bytes_of_rows h (suc left) gap = gap + packed_len h + bytes_of_rows h left (padding_len h)
+
+-- what is to come of a reader of a raster's rows
+abbrev pub raster_coming : RasterRows → List ℕ → Coming
+raster_coming rows bytes = coming_at rows.progress (raster_rows rows.header rows.left rows.gap bytes)
+
+-- how many bytes it still reads at most
+abbrev pub raster_most_bytes : RasterRows → ℕ
+raster_most_bytes rows = most_at rows.progress (bytes_of_rows rows.header rows.left rows.gap)

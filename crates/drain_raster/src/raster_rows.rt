@@ -1,0 +1,217 @@
+//! The rows of a raster, one at a time.
+
+ghost use Rattle.std.specs.Prelude.{◌≡◌, ◌≢◌, ◌≤◌, ◌*◌, ◌+◌, ◌-◌, ℕ, List, [], length, All, IsErrOf, OnOk};
+ghost use Rattle.drain_device.specs.PartFailing.{PartFails};
+ghost use Rattle.drain_device.specs.Patience.{full_patience};
+ghost use Rattle.drain_device.specs.RowBytes.{PartComes, RowComes};
+ghost use Rattle.drain_device.specs.RowSteps.{Gives, IsEmptyUnlessRow, IsLong, ReadsWithin, StaysEnded, progress_after};
+ghost use Rattle.drain_device.specs.declared.row_source.Progress.{Progress};
+ghost use Rattle.drain_grid.specs.Values.{IsPixel};
+ghost use Rattle.drain_raster.specs.Bytes.{padding_len};
+ghost use Rattle.drain_raster.specs.Pixels.{AreSpelled};
+ghost use Rattle.drain_raster.specs.RasterRows.{numbers_of, packed_len, pixels_behind, pixels_of, raster_coming, raster_most_bytes};
+
+use crate::pixel::Pixel;
+use byteorder::{BigEndian, ByteOrder, LittleEndian};
+use drain_device::{
+    ByteSource, Patience, Progress, ReadFault, RowSource, RowStep, pass_part, read_part,
+};
+use drain_header::ByteOrdering::{Least, Most};
+use drain_header::Header;
+
+/// How many pixels are read at once: 16 KiB of the largest.
+const CHUNK_PIXELS: usize = 4096;
+
+/// Room for so many pixels of the greatest size.
+const CHUNK_BYTES: usize = 4 * CHUNK_PIXELS;
+
+/// A reader of a raster's rows, the northernmost first, each from west to east.
+///
+/// The bytes before the first row, and those between one row's pixels and the next row, are passed over when that row is asked for, so
+/// that no byte behind the last pixel is read. It answers `WrongLength` at the row that a byte of some pixel is missing of; `OutOfMemory`
+/// where there is no memory for a row, and then nothing is read.
+///
+/// Source: the Esri description of BIL files.
+#[derive(Drop)]
+pub struct RasterRows {
+    header: Header,
+    left: u32,
+    gap: u32,
+    progress: Progress,
+    patience: Patience,
+}
+
+impl RasterRows {
+    /// The rows of a raster with this header, from its first byte on.
+    pub fn new(header: Header) -> RasterRows
+        ensures header { result.header ≡ header }
+        ensures left { result.left ≡ header.rows }
+        ensures gap { result.gap ≡ header.skip }
+        ensures going { result.progress ≡ Progress.Going }
+        ensures patience { result.patience ≡ full_patience }
+    {
+        let left = header.rows;
+        let gap = header.skip;
+        RasterRows {
+            header,
+            left,
+            gap,
+            progress: Progress::Going,
+            patience: Patience::new(),
+        }
+    }
+}
+
+impl<R: ByteSource> RowSource<R> for RasterRows {
+    ghost coming = { raster_coming };
+
+    ghost progress = { λ s. s.progress };
+
+    ghost most_bytes = { raster_most_bytes };
+
+    ghost patience = { λ s. s.patience };
+
+    ghost row_len = { λ s. s.header.cols };
+
+    fn next_row(&mut self, from: &mut R, out: &mut Vec<i64>) -> Result<RowStep, ReadFault>
+        ensures rows { Gives (raster_coming self.old) (raster_coming self.new) (R.bytes_left from.old) (R.bytes_left from.new) result out.new.items }
+        ensures empty { IsEmptyUnlessRow result out.new.items }
+        ensures long { IsLong self.old.header.cols result out.new.items }
+        ensures keeps_len { self.new.header.cols ≡ self.old.header.cols }
+        ensures stays { StaysEnded self.old.progress result }
+        ensures already { IsErrOf result ReadFault.AlreadyFailed → self.old.progress ≡ Progress.Stopped }
+        ensures after { self.new.progress ≡ progress_after result }
+        ensures reads_nothing { self.old.progress ≢ Progress.Going → from.new ≡ from.old }
+        ensures within { ReadsWithin (raster_most_bytes self.old) (raster_most_bytes self.new) (R.bytes_left from.old) (R.bytes_left from.new) }
+        ensures faults { PartFails (R.counts from.old) (R.counts from.new) self.old.patience self.new.patience (IsErrOf result ReadFault.ReadFailed) }
+
+        // Whatever the device: the numbers of a row are those of pixels, and want of memory comes before a call of it.
+        ensures pixels { All IsPixel out.new.items }
+        ensures no_memory { IsErrOf result ReadFault.OutOfMemory → from.new ≡ from.old }
+    {
+        out.clear();
+        match self.progress {
+            Progress::Done => return Ok(RowStep::Ended),
+            Progress::Stopped => return Err(ReadFault::AlreadyFailed),
+            Progress::Going => {}
+        }
+        if self.left == 0 {
+            self.progress = Progress::Done;
+            return Ok(RowStep::Ended);
+        }
+        match read_row(from, &self.header, self.gap, &mut self.patience, out) {
+            Ok(()) => {
+                self.left -= 1;
+                self.gap = padding(&self.header);
+                Ok(RowStep::Row)
+            }
+            Err(fault) => {
+                self.progress = Progress::Stopped;
+                Err(fault)
+            }
+        }
+    }
+}
+
+/// How many bytes stand between one row's pixels and the next row.
+fn padding(header: &Header) -> u32
+    ensures { result ≡ padding_len header.now }
+{
+    header.row_bytes - header.cols * (u32::from(header.bits) / 8)
+}
+
+/// Reads the pixels of a row behind so many bytes. Memory is wanted before the first byte, and where it is refused nothing is read.
+fn read_row<R: ByteSource>(
+    from: &mut R,
+    header: &Header,
+    gap: u32,
+    patience: &mut Patience,
+    out: &mut Vec<i64>,
+) -> Result<(), ReadFault>
+    requires empty { out.old.items ≡ [] }
+    ensures row { (bytes : List ℕ) × RowComes (pixels_behind header.now gap) (gap + packed_len header.now) (R.bytes_left from.old) (R.bytes_left from.new) result out.new.items bytes }
+    ensures counted { OnOk result (length out.new.items ≡ header.now.cols) }
+    ensures faults { PartFails (R.counts from.old) (R.counts from.new) patience.old patience.new (IsErrOf result ReadFault.ReadFailed) }
+    ensures pixels { All IsPixel out.new.items }
+    ensures no_memory { IsErrOf result ReadFault.OutOfMemory → from.new ≡ from.old }
+{
+    if out.resize(header.cols as usize, 0).is_err() {
+        return Err(ReadFault::OutOfMemory);
+    }
+    if let Err(fault) = pass_part(from, gap as usize, patience) {
+        out.clear();
+        return Err(fault);
+    }
+    if let Err(fault) = read_pixels(from, header, patience, out) {
+        out.clear();
+        return Err(fault);
+    }
+    Ok(())
+}
+
+/// Reads as many pixels as there are columns.
+fn read_pixels<R: ByteSource>(
+    from: &mut R,
+    header: &Header,
+    patience: &mut Patience,
+    out: &mut [i64],
+) -> Result<(), ReadFault>
+    requires { length out.old ≡ header.now.cols }
+    ensures bytes { (bytes : List ℕ) × PartComes (packed_len header.now) (R.bytes_left from.old) (R.bytes_left from.new) result bytes × OnOk result (out.new ≡ pixels_of header.now bytes) }
+    ensures faults { PartFails (R.counts from.old) (R.counts from.new) patience.old patience.new (IsErrOf result ReadFault.ReadFailed) }
+    ensures pixels { OnOk result (All IsPixel out.new) }
+{
+    match (header.bits, header.signed, header.order) {
+        (8, false, _) => read_numbers::<u8, LittleEndian, R>(from, header, patience, out),
+        (8, true, _) => read_numbers::<i8, LittleEndian, R>(from, header, patience, out),
+        (16, false, Least) => read_numbers::<u16, LittleEndian, R>(from, header, patience, out),
+        (16, false, Most) => read_numbers::<u16, BigEndian, R>(from, header, patience, out),
+        (16, true, Least) => read_numbers::<i16, LittleEndian, R>(from, header, patience, out),
+        (16, true, Most) => read_numbers::<i16, BigEndian, R>(from, header, patience, out),
+        (_, false, Least) => read_numbers::<u32, LittleEndian, R>(from, header, patience, out),
+        (_, false, Most) => read_numbers::<u32, BigEndian, R>(from, header, patience, out),
+        (_, true, Least) => read_numbers::<i32, LittleEndian, R>(from, header, patience, out),
+        (_, true, Most) => read_numbers::<i32, BigEndian, R>(from, header, patience, out),
+    }
+}
+
+/// Reads as many pixels of this kind, some at a time.
+fn read_numbers<P: Pixel, T: ByteOrder, R: ByteSource>(
+    from: &mut R,
+    header: &Header,
+    patience: &mut Patience,
+    out: &mut [i64],
+) -> Result<(), ReadFault>
+    requires spelled { AreSpelled header.now P.len (P.reads T.number_of) }
+    requires cols { length out.old ≡ header.now.cols }
+    ensures bytes { (bytes : List ℕ) × PartComes (packed_len header.now) (R.bytes_left from.old) (R.bytes_left from.new) result bytes × OnOk result (out.new ≡ pixels_of header.now bytes) }
+    ensures faults { PartFails (R.counts from.old) (R.counts from.new) patience.old patience.new (IsErrOf result ReadFault.ReadFailed) }
+    ensures pixels { OnOk result (All IsPixel out.new) }
+{
+    // The proof knows what a header keeps once a field of it was read.
+    let _bits = header.bits;
+    let len = P::len();
+    let mut chunk = [0; CHUNK_BYTES];
+    let mut first = 0;
+    while first < out.len() {
+        let came = CHUNK_PIXELS.min(out.len() - first);
+        let part = &mut chunk[..came * len];
+        read_part(from, part, patience)?;
+        put_numbers::<P, T>(&mut out[first..first + came], part);
+        first += came;
+    }
+    Ok(())
+}
+
+/// Puts the numbers that the bytes spell in the place of the numbers.
+fn put_numbers<P: Pixel, T: ByteOrder>(out: &mut [i64], bytes: &[u8])
+    requires { length bytes.now ≡ length out.old * P.len }
+    ensures items { out.new ≡ numbers_of P.len (P.reads T.number_of) (length out.old) bytes.now }
+    ensures pixels { All IsPixel out.new }
+{
+    let len = P::len();
+    for k in 0..out.len() {
+        let at = k * len;
+        out[k] = P::number::<T>(&bytes[at..at + len]);
+    }
+}

@@ -1,0 +1,126 @@
+-- Which product's device gave up, where each is read only while nothing was refused before.
+use Rattle.std.proofs.Common.{◌≡◌, ℕ, List, ◌↔◌, ◌⊎◌, inl, inr, Bool, IsTrue, Option, Some, None, Result, Ok, Err, IfErr, refl, ap, ◌∙◌, sym, subst}
+use Rattle.drain_device.specs.declared.counts.FaultCounts.{FaultCounts}
+use Rattle.drain_grid.specs.declared.per_product.PerProduct.{PerProduct}
+use Rattle.drain_grid.specs.PerProduct.{of_product}
+use Rattle.drain_grid.specs.declared.product.Product.{Product}
+use Rattle.drain_grid.specs.declared.product.Product.TheVariants.{Con, Dir, Acc, Bas, Spl, Rnk}
+use Rattle.drain_raster.specs.declared.raster_rows.RasterRows.{RasterRows}
+use Rattle.drain_verdict.specs.InputReads.{RasterHasRead, RastersHaveRead, gave_up, told_by}
+use Rattle.drain_verdict.specs.Inputs.{Products}
+use Rattle.drain_verdict.specs.declared.refusal.Refusal.{Refusal}
+use Rattle.drain_verdict.specs.declared.refusal.Refusal.TheVariants.{BadSide, BadName, NoTiles, RepeatedTile, BoxTooLarge, BadHeader, WrongShape, Misplaced, BadTileLength, RasterShort, SeamMismatch, OutOfMemory, ReadFailed}
+
+abbrev pub Answer : Type 0
+Answer = Result (Unit {0}) Refusal
+
+-- for all products at once
+pub by_product : (P : Product → Type 0) → P Con → P Dir → P Acc → P Bas → P Spl → P Rnk → (p : Product) → P p
+by_product P con dir acc bas spl rnk Con = con
+by_product P con dir acc bas spl rnk Dir = dir
+by_product P con dir acc bas spl rnk Acc = acc
+by_product P con dir acc bas spl rnk Bas = bas
+by_product P con dir acc bas spl rnk Spl = spl
+by_product P con dir acc bas spl rnk Rnk = rnk
+
+-- a refusal by which a device gave up
+pub only_failed : (refusal : Refusal) → IsTrue (gave_up None (Some refusal)) → refusal ≡ ReadFailed
+only_failed BadSide up = absurd (let no = up in cc)
+only_failed (BadName k) up = absurd (let no = up in cc)
+only_failed NoTiles up = absurd (let no = up in cc)
+only_failed (RepeatedTile c) up = absurd (let no = up in cc)
+only_failed BoxTooLarge up = absurd (let no = up in cc)
+only_failed (BadHeader p fault) up = absurd (let no = up in cc)
+only_failed (WrongShape p) up = absurd (let no = up in cc)
+only_failed (Misplaced p) up = absurd (let no = up in cc)
+only_failed (BadTileLength c) up = absurd (let no = up in cc)
+only_failed (RasterShort p) up = absurd (let no = up in cc)
+only_failed (SeamMismatch c) up = absurd (let no = up in cc)
+only_failed OutOfMemory up = absurd (let no = up in cc)
+only_failed ReadFailed up = refl
+
+abbrev pub HasFailed : Answer → Type 0
+HasFailed answer = told_by answer ≡ Some ReadFailed
+
+-- a device has given up exactly where one had before, or this one did
+pub fails_then : (before after : Answer) → IfErr before (λ refusal. after ≡ Err refusal) → HasFailed after ↔ (HasFailed before ⊎ IsTrue (gave_up (told_by before) (told_by after)))
+fails_then (Ok done) (Ok done_then) stays = (λ failed. absurd (let no = failed in cc), λ either. elim either [ inl failed ↦ absurd (let no = failed in cc) | inr up ↦ absurd (let no = up in cc) ])
+fails_then (Ok done) (Err refusal) stays = (
+  λ failed. let is : refusal ≡ ReadFailed = (let f = failed in cc) in inr (subst (λ r. IsTrue (gave_up None (Some r))) (sym is) refl),
+  λ either. elim either [ inl failed ↦ absurd (let no = failed in cc) | inr up ↦ ap Some (only_failed refusal up) ],
+)
+fails_then (Err refusal) after stays = (
+  λ failed. inl (sym (ap told_by stays) ∙ failed),
+  λ either. elim either [ inl failed ↦ ap told_by stays ∙ failed | inr up ↦ absurd (let no = up in cc) ],
+)
+
+-- whether the product's device gave up
+abbrev pub failed_at : (con dir acc bas spl rnk : Answer) → Product → Bool
+failed_at con dir acc bas spl rnk Con = gave_up None (told_by con)
+failed_at con dir acc bas spl rnk Dir = gave_up (told_by con) (told_by dir)
+failed_at con dir acc bas spl rnk Acc = gave_up (told_by dir) (told_by acc)
+failed_at con dir acc bas spl rnk Bas = gave_up (told_by acc) (told_by bas)
+failed_at con dir acc bas spl rnk Spl = gave_up (told_by bas) (told_by spl)
+failed_at con dir acc bas spl rnk Rnk = gave_up (told_by spl) (told_by rnk)
+
+-- what was told before stays the answer
+pub record Stay (con dir acc bas spl rnk : Answer) : Type 0 where
+  pub at_dir : IfErr con (λ refusal. dir ≡ Err refusal)
+  pub at_acc : IfErr dir (λ refusal. acc ≡ Err refusal)
+  pub at_bas : IfErr acc (λ refusal. bas ≡ Err refusal)
+  pub at_spl : IfErr bas (λ refusal. spl ≡ Err refusal)
+  pub at_rnk : IfErr spl (λ refusal. rnk ≡ Err refusal)
+
+-- the last answer tells that a device gave up exactly where that of some product did
+pub some_failed : (con dir acc bas spl rnk : Answer) → Stay con dir acc bas spl rnk → HasFailed rnk ↔ ((p : Product) × IsTrue (failed_at con dir acc bas spl rnk p))
+some_failed con dir acc bas spl rnk stay =
+    let at_con = fails_then (Ok tt) con tt in
+    let at_dir = fails_then con dir stay.at_dir in
+    let at_acc = fails_then dir acc stay.at_acc in
+    let at_bas = fails_then acc bas stay.at_bas in
+    let at_spl = fails_then bas spl stay.at_spl in
+    let at_rnk = fails_then spl rnk stay.at_rnk in
+    let from_con : HasFailed con → ((p : Product) × IsTrue (failed_at con dir acc bas spl rnk p)) = λ h. elim (at_con.0 h) [ inl none ↦ absurd (let no = none in cc) | inr up ↦ (Con, up) ] in
+    let from_dir : HasFailed dir → ((p : Product) × IsTrue (failed_at con dir acc bas spl rnk p)) = λ h. elim (at_dir.0 h) [ inl before ↦ from_con before | inr up ↦ (Dir, up) ] in
+    let from_acc : HasFailed acc → ((p : Product) × IsTrue (failed_at con dir acc bas spl rnk p)) = λ h. elim (at_acc.0 h) [ inl before ↦ from_dir before | inr up ↦ (Acc, up) ] in
+    let from_bas : HasFailed bas → ((p : Product) × IsTrue (failed_at con dir acc bas spl rnk p)) = λ h. elim (at_bas.0 h) [ inl before ↦ from_acc before | inr up ↦ (Bas, up) ] in
+    let from_spl : HasFailed spl → ((p : Product) × IsTrue (failed_at con dir acc bas spl rnk p)) = λ h. elim (at_spl.0 h) [ inl before ↦ from_bas before | inr up ↦ (Spl, up) ] in
+    let to_spl : HasFailed spl → HasFailed rnk = λ h. at_rnk.1 (inl h) in
+    let to_bas : HasFailed bas → HasFailed rnk = λ h. to_spl (at_spl.1 (inl h)) in
+    let to_acc : HasFailed acc → HasFailed rnk = λ h. to_bas (at_bas.1 (inl h)) in
+    let to_dir : HasFailed dir → HasFailed rnk = λ h. to_acc (at_acc.1 (inl h)) in
+    let to_con : HasFailed con → HasFailed rnk = λ h. to_dir (at_dir.1 (inl h)) in (
+      λ h. elim (at_rnk.0 h) [ inl before ↦ from_spl before | inr up ↦ (Rnk, up) ],
+      λ some. by_product (λ p. IsTrue (failed_at con dir acc bas spl rnk p) → HasFailed rnk)
+          (λ up. to_con (at_con.1 (inr up))) (λ up. to_dir (at_dir.1 (inr up))) (λ up. to_acc (at_acc.1 (inr up)))
+          (λ up. to_bas (at_bas.1 (inr up))) (λ up. to_spl (at_spl.1 (inr up))) (λ up. at_rnk.1 (inr up)) some.0 some.1,
+    )
+
+-- the products with other bodies
+abbrev pub with_bodies : {R : Type 0} → Products R → R → R → R → R → R → R → Products R
+with_bodies ps con dir acc bas spl rnk = record {
+  con = record { header = ps.con.header; body = con };
+  dir = record { header = ps.dir.header; body = dir };
+  acc = record { header = ps.acc.header; body = acc };
+  bas = record { header = ps.bas.header; body = bas };
+  spl = record { header = ps.spl.header; body = spl };
+  rnk = record { header = ps.rnk.header; body = rnk };
+}
+
+module _ {R : Type 0} (bytes_left : R → Option (List ℕ)) (counts : R → FaultCounts) (old new : PerProduct RasterRows) (lent : Products R) where
+  -- one product's part: between these answers its device was called, or left alone
+  abbrev pub IsPart : Product → R → Bool → Type 0
+  IsPart p body failed = RasterHasRead (bytes_left (of_product lent p).body) (bytes_left body) (counts (of_product lent p).body) (counts body) (of_product old p) (of_product new p) (IsTrue failed)
+
+  pub all_read : (con dir acc bas spl rnk : R) (a b c d e f : Answer) → Stay a b c d e f →
+      IsPart Con con (failed_at a b c d e f Con) → IsPart Dir dir (failed_at a b c d e f Dir) → IsPart Acc acc (failed_at a b c d e f Acc) →
+      IsPart Bas bas (failed_at a b c d e f Bas) → IsPart Spl spl (failed_at a b c d e f Spl) → IsPart Rnk rnk (failed_at a b c d e f Rnk) →
+      RastersHaveRead bytes_left counts old new lent (with_bodies lent con dir acc bas spl rnk) (told_by f)
+  all_read con dir acc bas spl rnk a b c d e f stay at_con at_dir at_acc at_bas at_spl at_rnk =
+      let lent_then = with_bodies lent con dir acc bas spl rnk in
+      record {
+        failed = failed_at a b c d e f;
+        exactly = some_failed a b c d e f stay;
+        each = by_product (λ p. IsPart p (of_product lent_then p).body (failed_at a b c d e f p)) at_con at_dir at_acc at_bas at_spl at_rnk;
+        headers = by_product (λ p. (of_product lent_then p).header ≡ (of_product lent p).header) refl refl refl refl refl refl;
+      }

@@ -1,0 +1,110 @@
+-- One row more of all inputs: what was read of each device.
+use Rattle.std.proofs.Common.{◌≡◌, ◌↔◌, ◌⊎◌, ℕ, false, inl, inr, IsTrue, List, [], length, Option, Some, None, refl, ap, subst, sym, ◌∙◌, arith, length-append, ◌++◌}
+use Rattle.std.proofs.KnownBytes.{Consumes-nil, Consumes-trans}
+use Rattle.drain_device.specs.declared.counts.FaultCounts.{FaultCounts}
+use Rattle.drain_device.proofs.PartFaultLemmas.{PartFails-none, PartFails-then}
+use Rattle.drain_grid.specs.declared.per_product.PerProduct.{PerProduct}
+use Rattle.drain_grid.specs.PerProduct.{of_product}
+use Rattle.drain_hgt.specs.declared.input.TileInput.{TileInput}
+use Rattle.drain_mosaic.specs.PlacedRows.{HaveRead}
+use Rattle.drain_mosaic.proofs.TileReads.{reads-then}
+use Rattle.drain_raster.specs.declared.raster_rows.RasterRows.{RasterRows}
+use Rattle.drain_verdict.specs.InputReads.{InputsHaveRead, IsOfReading, RasterHasRead, RastersHaveRead, Reading, gave_up, product_body, readers, tiles_lent}
+use Rattle.drain_hgt.specs.Inputs.{names_of}
+use Rattle.drain_verdict.specs.Inputs.{Products}
+use Rattle.drain_verdict.specs.declared.input_rows.InputRows.{InputRows}
+use Rattle.drain_verdict.specs.declared.refusal.Refusal.{Refusal}
+use Rattle.drain_verdict.specs.declared.refusal.Refusal.TheVariants.{ReadFailed}
+use Rattle.drain_verdict.proofs.InputLemmas.{only_failed}
+
+-- a raster that wasn't called
+raster_none : (known : Option (List ℕ)) (counts : FaultCounts) (raster : RasterRows) (Fails : Type 0) → (Fails → ⊥) → RasterHasRead known known counts counts raster raster Fails
+raster_none known counts raster Fails never = record {
+  within = ([], Consumes-nil known, omega arith);
+  faults = PartFails-none counts raster.patience Fails never;
+}
+
+-- calls that didn't fail, and then more
+raster_then : (a b c : Option (List ℕ)) (counts between after : FaultCounts) (r s t : RasterRows) (F G : Type 0) → (F → ⊥) →
+    RasterHasRead a b counts between r s F → RasterHasRead b c between after s t G → RasterHasRead a c counts after r t G
+raster_then a b c counts between after r s t F G never one other = record {
+  within = (
+    one.within.0 ++ other.within.0,
+    Consumes-trans a b c one.within.0 other.within.0 one.within.1 other.within.1,
+    omega (arith, one.within.2, other.within.2, length-append one.within.0 other.within.0),
+  );
+  faults = PartFails-then counts between after r.patience s.patience t.patience F G never one.faults other.faults;
+}
+
+abbrev nothing : Option Refusal
+nothing = None
+
+-- where nothing is refused no device gave up
+none_failed : {A B : Type 0} → (nothing ≡ Some ReadFailed) ↔ (A ⊎ B) → (A → ⊥) × (B → ⊥)
+none_failed exactly = (
+  λ a. let wrong = exactly.1 (inl a) in cc,
+  λ b. let wrong = exactly.1 (inr b) in cc,
+)
+
+-- no product was called
+pub rasters_none : {R : Type 0} (bl : R → Option (List ℕ)) (ct : R → FaultCounts) (rasters : PerProduct RasterRows) (ps : Products R) → RastersHaveRead bl ct rasters rasters ps ps None
+rasters_none bl ct rasters ps = record {
+  failed = λ p. false;
+  exactly = (λ wrong. absurd (let no = wrong in cc), λ some. absurd (let no = some.1 in cc));
+  each = λ p. raster_none (bl (of_product ps p).body) (ct (of_product ps p).body) (of_product rasters p) (IsTrue false) (λ no. cc);
+  headers = λ p. refl;
+}
+
+-- calls that didn't fail, and then more
+pub reads_then : {R : Type 0} (bl : R → Option (List ℕ)) (ct : R → FaultCounts) (start between after : Reading R) (told : Option Refusal) →
+    InputsHaveRead bl ct start between None → InputsHaveRead bl ct between after told → InputsHaveRead bl ct start after told
+reads_then {R} bl ct start between after told one other =
+    let well = none_failed one.exactly in
+    record {
+      tile_failed = other.tile_failed;
+      product_failed = other.product_failed;
+      exactly = other.exactly;
+      of_reading = other.of_reading;
+      counted = other.counted ∙ one.counted;
+      as_many = other.as_many ∙ one.as_many;
+      tiles = reads-then R bl ct (readers start).mosaic.tiles.items (readers between).mosaic.tiles.items (readers after).mosaic.tiles.items (tiles_lent start) (tiles_lent between) (tiles_lent after)
+          (IsTrue one.tile_failed) (IsTrue other.tile_failed) well.0 one.counted one.tiles other.tiles;
+      products = λ p. raster_then (bl (product_body start p)) (bl (product_body between p)) (bl (product_body after p)) (ct (product_body start p)) (ct (product_body between p)) (ct (product_body after p))
+          (of_product (readers start).rasters p) (of_product (readers between).rasters p) (of_product (readers after).rasters p)
+          (IsTrue (one.product_failed p)) (IsTrue (other.product_failed p)) (λ f. well.1 (p, f)) (one.products p) (other.products p);
+      names = other.names ∙ one.names;
+      headers = λ p. other.headers p ∙ one.headers p;
+    }
+
+-- one call of the mosaic, and one of the products
+pub one_read : {R : Type 0} (bl : R → Option (List ℕ)) (ct : R → FaultCounts) (old new : InputRows) (from now : List (TileInput R)) (ps ps_then : Products R) (by_mosaic by_rasters told : Option Refusal) →
+    (told ≡ Some ReadFailed) ↔ (IsTrue (gave_up None by_mosaic) ⊎ (by_rasters ≡ Some ReadFailed)) → IsOfReading told →
+    length new.mosaic.tiles.items ≡ length old.mosaic.tiles.items → length now ≡ length from → names_of now ≡ names_of from →
+    HaveRead bl ct old.mosaic.tiles.items new.mosaic.tiles.items from now (IsTrue (gave_up None by_mosaic)) →
+    RastersHaveRead bl ct old.rasters new.rasters ps ps_then by_rasters → InputsHaveRead bl ct (old, from, ps) (new, now, ps_then) told
+one_read bl ct old new from now ps ps_then by_mosaic by_rasters told exactly of_reading counted as_many names tiles rasters = record {
+  tile_failed = gave_up None by_mosaic;
+  product_failed = rasters.failed;
+  exactly = (
+    λ is. elim (exactly.0 is) [ inl tile ↦ inl tile | inr raster ↦ inr (rasters.exactly.0 raster) ],
+    λ some. elim some [ inl tile ↦ exactly.1 (inl tile) | inr raster ↦ exactly.1 (inr (rasters.exactly.1 raster)) ],
+  );
+  of_reading = of_reading;
+  counted = counted;
+  as_many = as_many;
+  tiles = tiles;
+  products = rasters.each;
+  names = names;
+  headers = rasters.headers;
+}
+
+-- the mosaic's refusal is the whole one's
+pub by_mosaic : (refusal : Refusal) → (Some refusal ≡ Some ReadFailed) ↔ (IsTrue (gave_up None (Some refusal)) ⊎ (nothing ≡ Some ReadFailed))
+by_mosaic refusal = (
+  λ is. let same : refusal ≡ ReadFailed = cc in inl (subst (λ r. IsTrue (gave_up None (Some r))) (sym same) refl),
+  λ either. elim either [ inl up ↦ ap Some (only_failed refusal up) | inr given_up ↦ absurd (let wrong = given_up in cc) ],
+)
+
+-- and so is the products', where the mosaic gave its row
+pub by_rasters : (told : Option Refusal) → (told ≡ Some ReadFailed) ↔ (IsTrue (gave_up None None) ⊎ (told ≡ Some ReadFailed))
+by_rasters told = (λ is. inr is, λ either. elim either [ inl up ↦ absurd (let wrong = up in cc) | inr is ↦ is ])

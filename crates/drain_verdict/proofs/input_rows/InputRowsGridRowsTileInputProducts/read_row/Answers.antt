@@ -1,0 +1,68 @@
+use Rattle.std.proofs.Common.{◌+◌, Some, None, inl, inr, rules}
+use Rattle.std.specs.List.{All}
+use Rattle.drain_grid.specs.declared.product.Product.TheVariants.{Con, Dir, Acc, Bas, Spl, Rnk}
+use Rattle.drain_grid.specs.PerProduct.{of_product}
+use Rattle.drain_grid.specs.Values.{IsPixel}
+use Rattle.drain_verdict.specs.HeldRows.{numbers_of}
+use Rattle.drain_verdict.proofs.InputLemmas.{by_product}
+use Rattle.drain_verdict.proofs.RasterChain.{told-of}
+use Rattle.drain_verdict.proofs.RowGiven.{IsKept, come_more, come_refused, kept_numbers, next_given}
+use Rattle.drain_verdict.proofs.RowReads.{by_mosaic, by_rasters, one_read, rasters_none, reads_then}
+use Rattle.drain_verdict.proofs.input_rows.InputRowsGridRowsTileInputProducts.read_row.Goals.{then-not-is_even, else-not-is_even}
+use Rattle.drain_verdict.proofs.input_rows.InputRowsGridRowsTileInputProducts.read_row.Goals as goal
+
+pub returns-in_err-read_mosaic-clause-refuses : goal.returns-in_err-read_mosaic-clause-refuses
+returns-in_err-read_mosaic-clause-refuses g c =
+    let bl = g.R.ByteSource.bytes_left in
+    let ct = g.R.ByteSource.counts in
+    let one = c.in_err-read_mosaic.ensures in
+    let refusal = c.in_err-read_mosaic.field-0.0 in
+    told-of c.from_residual.result refusal _ c.from_residual.ensures.1
+    (λ start n before. come_refused bl ct start _ (n + 1) refusal (reads_then bl ct start _ _ (Some refusal) before.reads
+    (one_read bl ct c.args.self.now _ c.args.tiles.now c.read_mosaic.new.tiles c.args.products.now c.args.products.now (Some refusal) None (Some refusal) (by_mosaic refusal)
+    one.of_reading one.counted (search rules) one.names one.read (rasters_none bl ct c.args.self.now.rasters c.args.products.now))))
+
+pub returns-in_err-read_rasters-clause-refuses : goal.returns-in_err-read_rasters-clause-refuses
+returns-in_err-read_rasters-clause-refuses g c =
+    let bl = g.R.ByteSource.bytes_left in
+    let ct = g.R.ByteSource.counts in
+    let one = c.in_ok-read_mosaic.ensures in
+    let other = c.in_err-read_rasters.ensures in
+    let refusal = c.in_err-read_rasters.field-0.0 in
+    told-of c.from_residual-in_err-read_rasters.result refusal _ c.from_residual-in_err-read_rasters.ensures.1
+    (λ start n before. come_refused bl ct start _ (n + 1) refusal (reads_then bl ct start _ _ (Some refusal) before.reads
+    (one_read bl ct c.args.self.now _ c.args.tiles.now c.read_mosaic.new.tiles c.args.products.now c.read_rasters.new.products None (Some refusal) (Some refusal) (by_rasters (Some refusal))
+    other.of_reading one.counted (search rules) one.names one.read other.read)))
+
+pub returns-clause-reads : goal.returns-clause-reads
+returns-clause-reads g c =
+    let bl = g.R.ByteSource.bytes_left in
+    let ct = g.R.ByteSource.counts in
+    let one = c.in_ok-read_mosaic.ensures in
+    let other = c.in_ok-read_rasters.ensures in
+    let row = numbers_of (record { z = c.read_mosaic.new.out; products = c.read_rasters.new.out }) in
+    λ start n before. come_more bl ct start c.args.self.now _ c.args.tiles.now c.read_mosaic.new.tiles c.args.products.now c.read_rasters.new.products row n before
+    (reads_then bl ct start _ _ None before.reads
+    (one_read bl ct c.args.self.now _ c.args.tiles.now c.read_mosaic.new.tiles c.args.products.now c.read_rasters.new.products None None None (by_rasters None)
+    other.of_reading one.counted (search rules) one.names one.read other.read))
+    one.rows (let each = other.rows in by_product _ (each Con) (each Dir) (each Acc) (each Bas) (each Spl) (each Rnk))
+
+pub returns-clause-whole : goal.returns-clause-whole
+returns-clause-whole g c =
+    let row = numbers_of (record { z = c.read_mosaic.new.out; products = c.read_rasters.new.out }) in
+    let kept : IsKept row (numbers_of c.if-not-is_even.out) = elim c.if-not-is_even.branch [
+      | then-not-is_even w ↦ inr (search rules, search rules)
+      | else-not-is_even w ↦ inl (search rules, search rules)
+    ] in
+    kept_numbers row (numbers_of c.if-not-is_even.out) c.in_ok-read_mosaic.ensures.narrow c.in_ok-read_mosaic.ensures.samples
+    (let each = c.in_ok-read_rasters.ensures.pixels in by_product (λ p. All IsPixel (of_product row.products p)) (each Con) (each Dir) (each Acc) (each Bas) (each Spl) (each Rnk)) kept
+
+pub returns-clause-next : goal.returns-clause-next
+returns-clause-next g c =
+    let row = numbers_of (record { z = c.read_mosaic.new.out; products = c.read_rasters.new.out }) in
+    let kept : IsKept row (numbers_of c.if-not-is_even.out) = elim c.if-not-is_even.branch [
+      | then-not-is_even w ↦ inr (search rules, search rules)
+      | else-not-is_even w ↦ inl (search rules, search rules)
+    ] in
+    next_given g.R.ByteSource.bytes_left c.args.self.now _ c.args.tiles.now c.read_mosaic.new.tiles c.args.products.now c.read_rasters.new.products row (numbers_of c.if-not-is_even.out) kept
+    c.in_ok-read_mosaic.ensures.rows (let each = c.in_ok-read_rasters.ensures.rows in by_product _ (each Con) (each Dir) (each Acc) (each Bas) (each Spl) (each Rnk))

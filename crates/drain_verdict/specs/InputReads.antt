@@ -1,0 +1,78 @@
+-- What was read of the tiles and products of a check between two of its rows, and which device gave up.
+use Rattle.std.specs.Prelude.{◌≡◌, ℕ, ◌⊎◌, ◌↔◌, List, length, Option, Some, None, MatchOption, Bool, true, false, IsTrue, Result, Ok, Err}
+use Rattle.drain_device.specs.PartFailing.{PartFails}
+use Rattle.drain_device.specs.RowSteps.{ReadsWithin}
+use Rattle.drain_device.specs.declared.counts.FaultCounts.{FaultCounts}
+use Rattle.drain_grid.specs.declared.product.Product.{Product}
+use Rattle.drain_grid.specs.declared.per_product.PerProduct.{PerProduct}
+use Rattle.drain_grid.specs.PerProduct.{of_product}
+use Rattle.drain_hgt.specs.declared.input.TileInput.{TileInput}
+use Rattle.drain_raster.specs.declared.raster_rows.RasterRows.{RasterRows}
+use Rattle.drain_raster.specs.RasterRows.{raster_most_bytes}
+use Rattle.drain_mosaic.specs.PlacedRows.{HaveRead}
+use Rattle.drain_hgt.specs.Inputs.{names_of}
+use Rattle.drain_verdict.specs.Inputs.{Products}
+use Rattle.drain_verdict.specs.declared.input_rows.InputRows.{InputRows}
+use Rattle.drain_verdict.specs.declared.refusal.Refusal.{Refusal}
+use Rattle.drain_verdict.specs.declared.refusal.Refusal.TheVariants.{OutOfMemory, ReadFailed}
+
+-- the refusal of an answer
+abbrev pub told_by : Result (Unit {0}) Refusal → Option Refusal
+told_by (Ok done) = None
+told_by (Err refusal) = Some refusal
+
+-- nothing was refused before, and now a device gave up
+abbrev pub gave_up : Option Refusal → Option Refusal → Bool
+gave_up None (Some ReadFailed) = true
+gave_up before told = false
+
+-- calls for a raster: its device gave at most what was still to be read, less what still is; so many of its faults were borne; and the last
+-- call failed exactly where the device gave up
+pub record RasterHasRead (known_before known_after : Option (List ℕ)) (before after : FaultCounts) (old new : RasterRows) (Fails : Type 0) : Type 0 where
+  pub within : ReadsWithin (raster_most_bytes old) (raster_most_bytes new) known_before known_after
+  pub faults : PartFails before after old.patience new.patience Fails
+
+-- the readers, and the tiles and products that they are lent
+abbrev pub Reading : Type 0 → Type 0
+Reading R = InputRows × List (TileInput R) × Products R
+
+abbrev pub readers : {R : Type 0} → Reading R → InputRows
+readers s = s.0
+
+abbrev pub tiles_lent : {R : Type 0} → Reading R → List (TileInput R)
+tiles_lent s = s.1
+
+abbrev pub products_lent : {R : Type 0} → Reading R → Products R
+products_lent s = s.2
+
+-- the body of a product
+abbrev pub product_body : {R : Type 0} → Reading R → Product → R
+product_body s p = (of_product (products_lent s) p).body
+
+-- a refusal of reading: memory was wanted, or a device gave up
+abbrev pub IsOfReading : Option Refusal → Type 0
+IsOfReading told = MatchOption told (Unit {0}) (λ refusal. (refusal ≡ OutOfMemory) ⊎ (refusal ≡ ReadFailed))
+
+-- calls for all products, from the one state on to the other: the device that gave up, if one did, ended the last
+pub record RastersHaveRead {R : Type 0} (bytes_left : R → Option (List ℕ)) (counts : R → FaultCounts) (old new : PerProduct RasterRows) (lent lent_then : Products R) (told : Option Refusal) : Type 0 where
+  pub failed : Product → Bool
+  pub exactly : (told ≡ Some ReadFailed) ↔ ((p : Product) × IsTrue (failed p))
+  pub each : (p : Product) →
+      RasterHasRead (bytes_left (of_product lent p).body) (bytes_left (of_product lent_then p).body) (counts (of_product lent p).body) (counts (of_product lent_then p).body)
+      (of_product old p) (of_product new p) (IsTrue (failed p))
+  pub headers : (p : Product) → (of_product lent_then p).header ≡ (of_product lent p).header
+
+-- calls for all of them, from the one state on to the other: the device that gave up, if one did, ended the last
+pub record InputsHaveRead {R : Type 0} (bytes_left : R → Option (List ℕ)) (counts : R → FaultCounts) (start now : Reading R) (told : Option Refusal) : Type 0 where
+  pub tile_failed : Bool
+  pub product_failed : Product → Bool
+  pub exactly : (told ≡ Some ReadFailed) ↔ (IsTrue tile_failed ⊎ ((p : Product) × IsTrue (product_failed p)))
+  pub of_reading : IsOfReading told
+  pub counted : length (readers now).mosaic.tiles.items ≡ length (readers start).mosaic.tiles.items
+  pub as_many : length (tiles_lent now) ≡ length (tiles_lent start)
+  pub tiles : HaveRead bytes_left counts (readers start).mosaic.tiles.items (readers now).mosaic.tiles.items (tiles_lent start) (tiles_lent now) (IsTrue tile_failed)
+  pub products : (p : Product) →
+      RasterHasRead (bytes_left (product_body start p)) (bytes_left (product_body now p)) (counts (product_body start p)) (counts (product_body now p))
+      (of_product (readers start).rasters p) (of_product (readers now).rasters p) (IsTrue (product_failed p))
+  pub names : names_of (tiles_lent now) ≡ names_of (tiles_lent start)
+  pub headers : (p : Product) → (of_product (products_lent now) p).header ≡ (of_product (products_lent start) p).header

@@ -1,0 +1,95 @@
+//! The next row of the mosaic, and of each product: where there is none, no number, and the fault that it tells is kept by its reader.
+
+ghost use Rattle.std.specs.Prelude.{◌≡◌, ◌≤◌, ℕ, None, Err, length, IfErr, IsTrue, OnOk};
+ghost use Rattle.std.specs.List.{All};
+ghost use Rattle.drain_device.specs.ComingRows.{Coming};
+ghost use Rattle.drain_grid.specs.declared.cell.TheConstants.{MAX_LENGTH};
+ghost use Rattle.drain_grid.specs.declared.product.Product.{Product};
+ghost use Rattle.drain_grid.specs.PerProduct.{of_product};
+ghost use Rattle.drain_grid.specs.Tile.{IsSample};
+ghost use Rattle.drain_grid.specs.Values.{IsPixel};
+ghost use Rattle.drain_mosaic.specs.PlacedRows.{HaveRead};
+ghost use Rattle.drain_hgt.specs.Inputs.{names_of};
+ghost use Rattle.drain_verdict.specs.InputReads.{IsOfReading, RasterHasRead, RastersHaveRead, gave_up, told_by};
+ghost use Rattle.drain_verdict.specs.ToGive.{IsAfterTold, IsMosaicAfter, IsMosaicOneMore, IsOneMore, ToGive};
+
+use crate::input::Products;
+use crate::refusal::Refusal;
+use drain_device::{ByteSource, ReadFault, RowSource};
+use drain_grid::PerProduct;
+use drain_hgt::TileInput;
+use drain_mosaic::MosaicRows;
+use drain_raster::RasterRows;
+
+/// Reads the next row of the mosaic: none behind the last.
+pub fn read_mosaic<R: ByteSource>(
+    mosaic: &mut MosaicRows,
+    tiles: &mut [TileInput<R>],
+    out: &mut Vec<i64>,
+) -> Result<(), Refusal>
+    requires counted { length tiles.old ≡ length mosaic.old.tiles.items }
+    requires narrow { mosaic.old.shape.cols ≤ MAX_LENGTH }
+    ensures rows { OnOk result ((t : ToGive) (n : ℕ) → IsMosaicAfter R.bytes_left mosaic.old tiles.old t n → IsMosaicOneMore R.bytes_left mosaic.new tiles.new t n out.new.items) }
+    ensures narrow { OnOk result (length out.new.items ≤ MAX_LENGTH) }
+    ensures samples { OnOk result (All IsSample out.new.items) }
+    ensures read { HaveRead R.bytes_left R.counts mosaic.old.tiles.items mosaic.new.tiles.items tiles.old tiles.new (IsTrue (gave_up None (told_by result))) }
+    ensures of_reading { IsOfReading (told_by result) }
+    ensures names { names_of tiles.new ≡ names_of tiles.old }
+    ensures counted { length mosaic.new.tiles.items ≡ length mosaic.old.tiles.items }
+    ensures keeps_shape { mosaic.new.shape ≡ mosaic.old.shape }
+{
+    match mosaic.next_row(tiles, out) {
+        Ok(_) => Ok(()),
+        Err(ReadFault::ReadFailed) => Err(Refusal::ReadFailed),
+        Err(_) => Err(Refusal::OutOfMemory),
+    }
+}
+
+/// Reads the next row of each product. The first refusal ends it.
+pub fn read_rasters<R: ByteSource>(
+    rasters: &mut PerProduct<RasterRows>,
+    products: &mut Products<R>,
+    out: &mut PerProduct<Vec<i64>>,
+) -> Result<(), Refusal>
+    ensures rows { OnOk result ((p : Product) (start : Coming) (n : ℕ) → IsAfterTold (of_product rasters.old p) (R.bytes_left (of_product products.old p).body) start n → IsOneMore (of_product rasters.new p) (R.bytes_left (of_product products.new p).body) start n (of_product out.new p).items) }
+    ensures pixels { OnOk result ((p : Product) → All IsPixel (of_product out.new p).items) }
+    ensures read { RastersHaveRead R.bytes_left R.counts rasters.old rasters.new products.old products.new (told_by result) }
+    ensures of_reading { IsOfReading (told_by result) }
+{
+    let told = read_raster(
+        Ok(()),
+        &mut rasters.con,
+        &mut products.con.body,
+        &mut out.con,
+    );
+    let told = read_raster(told, &mut rasters.dir, &mut products.dir.body, &mut out.dir);
+    let told = read_raster(told, &mut rasters.acc, &mut products.acc.body, &mut out.acc);
+    let told = read_raster(told, &mut rasters.bas, &mut products.bas.body, &mut out.bas);
+    let told = read_raster(told, &mut rasters.spl, &mut products.spl.body, &mut out.spl);
+    read_raster(told, &mut rasters.rnk, &mut products.rnk.body, &mut out.rnk)
+}
+
+/// Reads the next row of a product, where nothing was refused before: none where its raster has ended, or is short.
+fn read_raster<R: ByteSource>(
+    told: Result<(), Refusal>,
+    raster: &mut RasterRows,
+    body: &mut R,
+    out: &mut Vec<i64>,
+) -> Result<(), Refusal>
+    ensures rows { OnOk result ((start : Coming) (n : ℕ) → IsAfterTold raster.old (R.bytes_left body.old) start n → IsOneMore raster.new (R.bytes_left body.new) start n out.new.items) }
+    ensures pixels { OnOk result (All IsPixel out.new.items) }
+    ensures read { RasterHasRead (R.bytes_left body.old) (R.bytes_left body.new) (R.counts body.old) (R.counts body.new) raster.old raster.new (IsTrue (gave_up (told_by told) (told_by result))) }
+    ensures stays { IfErr told (λ refusal. result ≡ Err refusal) }
+    ensures of_reading { OnOk told (IsOfReading (told_by result)) }
+{
+    if let Err(refusal) = told {
+        return Err(refusal);
+    }
+    match raster.next_row(body, out) {
+        Ok(_) => Ok(()),
+        Err(ReadFault::WrongLength) => Ok(()),
+        Err(ReadFault::AlreadyFailed) => Ok(()),
+        Err(ReadFault::ReadFailed) => Err(Refusal::ReadFailed),
+        Err(ReadFault::OutOfMemory) => Err(Refusal::OutOfMemory),
+    }
+}
