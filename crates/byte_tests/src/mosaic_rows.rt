@@ -1,11 +1,13 @@
 //! Rows of two tiles beside one another, worked out by hand, from sources that are whole, slow, interrupted or fail.
 
+ghost use Rattle.std.specs.Prelude.{◌≡◌, ◌<◌, length};
+
 use drain_device::faults::{ScriptSource, Scripted};
 use drain_device::{ByteList, DeviceFault, ReadFault, RowStep};
 use drain_grid::Cell;
 use drain_hgt::{TileInput, TileName};
 use drain_mosaic::{Layout, MosaicRows};
-use std::alloc::Global;
+use std::alloc::{AllocError, Global};
 use std::test::Fail;
 
 /// The samples 1 2 and 3 4, and a byte behind them.
@@ -20,10 +22,13 @@ const OTHER: [u8; 9] = [0, 9, 0, 5, 0, 4, 0, 6, 0];
 /// The names of a tile and of that east of it.
 const BESIDE: [&str; 2] = ["N00E000.hgt", "N00E001.hgt"];
 
+/// What a call answers.
+type Answer = Result<RowStep, ReadFault>;
+
 /// What four calls gave.
 #[derive(Drop)]
 struct Given {
-    answers: [Result<RowStep, ReadFault>; 4],
+    answers: [Answer; 4],
     numbers: Vec<i64>,
     seam: Option<Cell>,
     wrong_length: Option<usize>,
@@ -44,8 +49,22 @@ fn input<'a>(
     })
 }
 
-/// What four calls give of two tiles of side 2 with these names: the answers, and the numbers that each left in the vector, one call's
-/// behind the other's.
+/// What a call answers. The numbers that it leaves in the row are put behind those of the calls before.
+fn call(
+    rows: &mut MosaicRows,
+    from: &mut [TileInput<ScriptSource<'_>>],
+    row: &mut Vec<i64>,
+    numbers: &mut Vec<i64>,
+) -> Result<Answer, AllocError>
+    requires { length from.old ≡ length rows.old.tiles.items }
+    ensures { length rows.new.tiles.items ≡ length rows.old.tiles.items }
+{
+    let answer = rows.next_row(from, row);
+    numbers.extend_from_slice(row)?;
+    Ok(answer)
+}
+
+/// What four calls give of two tiles of side 2 with these names.
 fn four_calls<'a>(
     alloc: Global,
     names: [&str; 2],
@@ -59,13 +78,14 @@ fn four_calls<'a>(
     let layout = Layout::new(alloc, 2, &names)?;
     let mut rows = MosaicRows::new(alloc, &layout)?;
     let mut from = [first, last];
-    let mut answers = [Ok(RowStep::Ended); 4];
-    let mut numbers = Vec::new(alloc);
     let mut row = Vec::new(alloc);
-    for answer in &mut answers {
-        *answer = rows.next_row(&mut from, &mut row);
-        numbers.extend_from_slice(&row)?;
-    }
+    let mut numbers = Vec::new(alloc);
+    let answers = [
+        call(&mut rows, &mut from, &mut row, &mut numbers)?,
+        call(&mut rows, &mut from, &mut row, &mut numbers)?,
+        call(&mut rows, &mut from, &mut row, &mut numbers)?,
+        call(&mut rows, &mut from, &mut row, &mut numbers)?,
+    ];
     Ok(Given {
         answers,
         numbers,
@@ -75,7 +95,7 @@ fn four_calls<'a>(
 }
 
 /// Two rows, and then the end.
-const WHOLE: [Result<RowStep, ReadFault>; 4] = [
+const WHOLE: [Answer; 4] = [
     Ok(RowStep::Row),
     Ok(RowStep::Row),
     Ok(RowStep::Ended),
