@@ -4,7 +4,7 @@ ghost use Rattle.std.specs.Prelude.{◌≡◌, ◌↔◌, IsTrue, IfOk};
 ghost use Rattle.drain_grid.specs.Values.{IsNoData, IsPixel};
 
 use drain_grid::values::{GREATEST_PIXEL, LEAST_PIXEL};
-use drain_grid::{Elevation, NoData, ProductSet, Raster, Shape};
+use drain_grid::{Elevation, Product, ProductSet, Raster, Shape};
 use drain_rules::{Counts, Verdict, verdict_of};
 use std::alloc::Global;
 use std::test::Fail;
@@ -60,10 +60,11 @@ fn elevation(alloc: Global, shape: Shape, numbers: &[i64]) -> Result<Elevation, 
     Ok(Elevation::new(shape, samples))
 }
 
-/// The verdict on an example: its parts one after the other, each in row order.
+/// The verdict on an example: its parts one after the other, each in row order. The number for no data of con is given; the others are
+/// the defaults.
 pub fn verdict_with(
     alloc: Global,
-    nodata: NoData,
+    con_nodata: i16,
     rows: u32,
     cols: u32,
     numbers: &[i64],
@@ -77,19 +78,44 @@ pub fn verdict_with(
     }
     let elevation = elevation(alloc, shape, &numbers[..cells])?;
     let products = ProductSet {
-        con: raster(alloc, shape, nodata.con, &numbers[cells..2 * cells])?,
-        dir: raster(alloc, shape, nodata.dir, &numbers[2 * cells..3 * cells])?,
-        acc: raster(alloc, shape, nodata.acc, &numbers[3 * cells..4 * cells])?,
-        bas: raster(alloc, shape, nodata.bas, &numbers[4 * cells..5 * cells])?,
-        spl: raster(alloc, shape, nodata.spl, &numbers[5 * cells..6 * cells])?,
-        rnk: raster(alloc, shape, nodata.rnk, &numbers[6 * cells..])?,
+        con: raster(alloc, shape, con_nodata.into(), &numbers[cells..2 * cells])?,
+        dir: raster(
+            alloc,
+            shape,
+            Product::Dir.default_no_data(),
+            &numbers[2 * cells..3 * cells],
+        )?,
+        acc: raster(
+            alloc,
+            shape,
+            Product::Acc.default_no_data(),
+            &numbers[3 * cells..4 * cells],
+        )?,
+        bas: raster(
+            alloc,
+            shape,
+            Product::Bas.default_no_data(),
+            &numbers[4 * cells..5 * cells],
+        )?,
+        spl: raster(
+            alloc,
+            shape,
+            Product::Spl.default_no_data(),
+            &numbers[5 * cells..6 * cells],
+        )?,
+        rnk: raster(
+            alloc,
+            shape,
+            Product::Rnk.default_no_data(),
+            &numbers[6 * cells..],
+        )?,
     };
     Ok(verdict_of(alloc, &elevation, &products)?)
 }
 
 /// The verdict where the no-data numbers are the defaults.
 pub fn verdict_on(alloc: Global, rows: u32, cols: u32, numbers: &[i64]) -> Result<Verdict, Fail> {
-    verdict_with(alloc, NoData::defaults(), rows, cols, numbers)
+    verdict_with(alloc, -32768, rows, cols, numbers)
 }
 
 /// The example of this side with one number changed.

@@ -1,7 +1,7 @@
 //! Worked products and their verdicts, all worked out by hand from the rules.
 
 use crate::examples::{Part, accepted, changed, verdict_on, verdict_with};
-use drain_grid::{NoData, Rule};
+use drain_grid::Rule;
 use drain_rules::Verdict;
 use std::test::Fail;
 use worked_grids::{level, needless_crest, parted, pit, ring, slope, voids};
@@ -82,12 +82,8 @@ fn rejects_by_the_other_rules(rt: HostRuntime) -> Result<(), Fail> {
             col: 0
         }
     );
-    let nodata = NoData {
-        con: 0,
-        ..NoData::defaults()
-    };
     assert_eq!(rt;
-        verdict_with(alloc, nodata, 2, 2, &level())?,
+        verdict_with(alloc, 0, 2, 2, &level())?,
         Verdict::Rejected {
             rule: Rule::Missing,
             row: 0,
