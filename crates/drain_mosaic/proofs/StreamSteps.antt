@@ -1,15 +1,15 @@
 -- The streams of a mosaic after so many rows: each tile goes on while it lies over them.
-use Rattle.std.proofs.Common.{◌≡◌, ℕ, zero, suc, ◌+◌, ◌-◌, ◌<◌, ◌≤◌, ℤ, List, [], ◌∷◌, map, max, arith, refl, sym, ap, ◌∙◌, inl, inr, cond}
+use Rattle.std.proofs.Common.{◌≡◌, ℕ, zero, suc, ◌+◌, ◌-◌, ◌<◌, ◌≤◌, ℤ, List, [], ◌∷◌, length, map, max, arith, refl, sym, ap, ◌∙◌, inl, inr, cond}
 use Rattle.std.specs.Prelude.{slice_index_or}
 use Rattle.std.proofs.lemmas.Bool.{cases_lt}
-use Rattle.std.proofs.lemmas.List.FromFn.{get_or-map-range_with_len}
+use Rattle.std.proofs.lemmas.List.FromFn.{get_or-map-range_with_len, length-map-range_with_len}
 use Rattle.drain_grid.specs.declared.tile.TheConstants.{VOID}
 use Rattle.drain_mosaic.specs.Streams.{Stream, Frame, first_sample, mosaic_row, mosaic_rows, next_stream}
 use Rattle.drain_device.specs.ComingRows.{Coming}
 use Rattle.drain_device.specs.ComingRows.Coming.{Next, End, Wrong}
 use Rattle.drain_mosaic.specs.Tiling.{extent_of}
 use Rattle.drain_mosaic.specs.GivenTiles.{frame_of, tile_streams}
-use Rattle.drain_mosaic.specs.RowLaws.{RowsEnd}
+use Rattle.drain_mosaic.specs.RowLaws.{RowsAreWhole, RowsEnd}
 use Rattle.drain_mosaic.proofs.Laying.{over-is, over-not}
 use Rattle.drain_device.specs.ComingRows.{after_rows, nth_row}
 
@@ -108,3 +108,20 @@ all-rows f (suc left) row ss = all-rows f left (row + 1) (map (next_stream f.sid
 
 pub rows_end : RowsEnd
 rows_end t bodies = all-rows (frame_of t) (extent_of t).rows 0 (tile_streams t t.corners bodies)
+
+-- behind the last there is none
+none-behind : (f : Frame) (left row : ℕ) (ss : List Stream) → nth_row left (mosaic_rows f left row ss) ≡ []
+none-behind f zero row ss = refl
+none-behind f (suc left) row ss = none-behind f left (row + 1) (map (next_stream f.side row) ss)
+
+-- each has a number for each column
+long : (f : Frame) (left row k : ℕ) (ss : List Stream) → k < left → length (nth_row k (mosaic_rows f left row ss)) ≡ f.cols
+long f zero row k ss inside = absurd (omega arith)
+long f (suc left) row zero ss inside = length-map-range_with_len (λ col. first_sample f.side row col ss) 0 f.cols
+long f (suc left) row (suc k) ss inside = long f left (row + 1) k (map (next_stream f.side row) ss) (omega arith)
+
+pub rows_are_whole : RowsAreWhole
+rows_are_whole t bodies = record {
+  long = λ row inside. long (frame_of t) (extent_of t).rows 0 row (tile_streams t t.corners bodies) inside;
+  none_behind = none-behind (frame_of t) (extent_of t).rows 0 (tile_streams t t.corners bodies);
+}

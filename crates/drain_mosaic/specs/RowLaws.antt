@@ -1,5 +1,5 @@
 -- What the rows of a mosaic mean.
-use Rattle.std.specs.Prelude.{◌≡◌, ℕ, ◌<◌, List, length, map, slice_index_or, Option, MatchOption}
+use Rattle.std.specs.Prelude.{◌≡◌, ℕ, ◌<◌, List, [], length, map, slice_index_or, Option, MatchOption}
 use Rattle.std.specs.List.{All}
 use Rattle.drain_device.specs.ComingRows.{after_rows, nth_row}
 use Rattle.drain_device.specs.ComingRows.Coming.{End}
@@ -25,6 +25,14 @@ NewRowsAreOfBodies {R} bytes_left =
 -- all rows come, and then the end
 abbrev pub RowsEnd : Type 0
 RowsEnd = (t : Tiling) (bodies : List (List ℕ)) → after_rows (extent_of t).rows (mosaic_coming t bodies) ≡ End
+
+-- each row has a number for each column, and behind the last there is no row
+pub record AreWholeRows (t : Tiling) (bodies : List (List ℕ)) : Type 0 where
+  pub long : (row : ℕ) → row < (extent_of t).rows → length (nth_row row (mosaic_coming t bodies)) ≡ (extent_of t).cols
+  pub none_behind : nth_row (extent_of t).rows (mosaic_coming t bodies) ≡ []
+
+abbrev pub RowsAreWhole : Type 0
+RowsAreWhole = (t : Tiling) (bodies : List (List ℕ)) → AreWholeRows t bodies
 
 -- each number of a row is the first value of its cell: that of the first tile that gives it one
 abbrev pub RowsAreFirstValues : Type 0

@@ -5,7 +5,7 @@
 ghost use Rattle.std.specs.Prelude.{◌≡◌};
 ghost use Rattle.drain_mosaic.specs.declared.layout.TheConstants.{MAX_BOX};
 ghost use Rattle.drain_mosaic.specs.Laws.{AgreementGivesElevation};
-ghost use Rattle.drain_mosaic.specs.RowLaws.{NewRowsAreOfBodies, RowsAreFirstValues, RowsEnd, RowsTellLengths, RowsTellSeams, WholeTilesGiveTheirSamples};
+ghost use Rattle.drain_mosaic.specs.RowLaws.{NewRowsAreOfBodies, RowsAreFirstValues, RowsAreWhole, RowsEnd, RowsTellLengths, RowsTellSeams, WholeTilesGiveTheirSamples};
 
 use drain_device::ByteSource;
 
@@ -22,6 +22,11 @@ pub fn new_rows_are_of_bodies<R: ByteSource>()
 /// All rows come, and then the end.
 pub fn rows_end()
     ensures { RowsEnd }
+{}
+
+/// Each row has a number for each column, and none comes behind the last.
+pub fn rows_are_whole()
+    ensures { RowsAreWhole }
 {}
 
 /// Each number of a row is the first value of its cell.

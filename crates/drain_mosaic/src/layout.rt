@@ -8,7 +8,7 @@ ghost use Rattle.std.specs.Prelude.{◌≡◌, ◌≢◌, ◌+◌, ◌-◌, ◌*
 ghost use Rattle.drain_text.specs.First.{IsFirst};
 ghost use Rattle.drain_grid.specs.Tile.{IsSide};
 ghost use Rattle.drain_hgt.specs.Corner.{Corner, IsWithin};
-ghost use Rattle.drain_mosaic.specs.LayoutFaults.{HasLayoutFault, IsFirstRepeated, IsRepeatedAt, AreBoundsOf, order_of};
+ghost use Rattle.drain_mosaic.specs.LayoutFaults.{HasLayoutFault, IsFirstRepeated, IsLayout, IsRepeatedAt, AreBoundsOf, order_of};
 ghost use Rattle.drain_mosaic.specs.Tiling.{Tiling, least, greatest, west_of, north_of, extent_of, top_left_of};
 
 use drain_grid::{Cell, Shape};
@@ -91,6 +91,14 @@ impl Layout {
             }),
             Err(_) => Err(LayoutFault::OutOfMemory),
         }
+    }
+
+    /// The law that the tiles make a mosaic: their side is in range, and their list has no fault.
+    pub fn makes_a_mosaic(&self)
+        ensures { IsLayout self.now }
+    {
+        // The proof knows what a layout keeps once a field of it was read.
+        let _side = self.side;
     }
 
     /// The rows and columns of the mosaic.

@@ -3,7 +3,7 @@
 //! A row is made of voids, and the next row of each tile that lies over it is laid over that. So no more than a row of the mosaic and a row of
 //! a tile are held, and each tile's device is read a row at a time.
 
-ghost use Rattle.std.specs.Prelude.{◌≡◌, ◌≢◌, ◌≤◌, ◌<◌, ◌^◌, [], None, length, IfOk, IfErr, IsErrOf, MatchOption, Ok, OnOk};
+ghost use Rattle.std.specs.Prelude.{◌≡◌, ◌≢◌, ◌≤◌, ◌<◌, ◌^◌, [], None, length, IfOk, IfErr, IfSome, IsErrOf, MatchOption, Ok, OnOk};
 ghost use Rattle.std.specs.List.{All};
 ghost use Rattle.std.specs.Option.{option_or};
 ghost use Rattle.drain_device.specs.RowSteps.{IsEmptyUnlessRow, IsLong, StaysEnded, Steps, progress_after};
@@ -83,6 +83,7 @@ impl MosaicRows {
     pub fn wrong_length(&self) -> Option<usize>
         ensures stopped { self.now.progress ≡ Progress.Stopped → result ≡ None }
         ensures told { self.now.progress ≢ Progress.Stopped → result ≡ first_stopped 0 self.now.tiles.items }
+        ensures of_a_tile { IfSome result (λ place. place < length self.now.tiles.items) }
     {
         if self.progress == Progress::Stopped {
             return None;

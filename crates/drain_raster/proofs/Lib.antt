@@ -3,7 +3,6 @@ pub mod BufferLemmas
 pub mod CellLists
 mod CellPlaces
 pub mod LengthLemmas
-pub mod NeededLemmas
 pub mod PixelLemmas
 pub mod ReadBackLemmas
 pub mod SpellLemmas

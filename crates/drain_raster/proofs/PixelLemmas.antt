@@ -7,6 +7,7 @@ use Rattle.std.proofs.lemmas.Int.{ints, to_z-of_z}
 use Rattle.std.proofs.Math.Nat.{mul-le-mul, mul-le-mul_left, div-mul-le_self, le-div_iff_mul-le}
 use Rattle.std.proofs.Props.{props}
 use Rattle.byteorder.specs.Endian.{little_number, twos_complement}
+use Rattle.byteorder.specs.Numbers.{big_from-take, little_from-take}
 use mathlib.Core.Logic.{∥∥₁_elim}
 use mir.Syntax.{w64}
 use mir.Val.{to_z, of_z}
@@ -132,3 +133,12 @@ written-byte h inside signed view is_bits is_signed = rw (← view) (record {
   sign_is = sym is_signed;
   bytes_are = λ z. rw is_bits (one_byte_of inside.order (complement_of 8 z));
 })
+
+-- a number is that of its own bytes
+number_in-take : (order : ByteOrdering) (n m : ℕ) (bytes : List ℕ) → n ≤ m → number_in order n (take m bytes) ≡ number_in order n bytes
+number_in-take Least n m bytes fits = little_from-take 0 n m bytes (omega (arith, fits))
+number_in-take Most n m bytes fits = big_from-take 0 n m bytes (omega (arith, fits))
+
+pub spelled_by-take : (signed : Bool) (order : ByteOrdering) (n m : ℕ) (bytes : List ℕ) → n ≤ m → spelled_by signed order n (take m bytes) ≡ spelled_by signed order n bytes
+spelled_by-take true order n m bytes fits = ap (twos_complement n) (number_in-take order n m bytes fits)
+spelled_by-take false order n m bytes fits = ap pos (number_in-take order n m bytes fits)

@@ -9,8 +9,7 @@ use Rattle.drain_header.specs.Fields.{Fields}
 use Rattle.drain_raster.specs.Pixels.{IsShort, needed_len, pixel_len, pixel_of}
 use Rattle.drain_raster.specs.RasterRows.{bytes_of_rows, numbers_of, packed_len, raster_rows}
 use Rattle.drain_raster.specs.Laws.{RasterRowsArePixels}
-use Rattle.drain_raster.proofs.NeededLemmas.{spelled_by-take}
-use Rattle.drain_raster.proofs.PixelLemmas.{packed-fits}
+use Rattle.drain_raster.proofs.PixelLemmas.{packed-fits, spelled_by-take}
 use Rattle.drain_raster.proofs.RasterEnds.{raster_rows_take_what_is_needed}
 
 -- the number at a place

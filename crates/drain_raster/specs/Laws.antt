@@ -1,6 +1,7 @@
--- A raster's bytes read back, which bytes of a body say something, and what the raster and the rows of a body say at a cell.
-use Rattle.std.specs.Prelude.{◌≡◌, ◌↔◌, ◌<◌, ℕ, ℤ, pos, List, IsTrue, slice_index_or, take}
-use Rattle.drain_device.specs.ComingRows.{ends_wrong, nth_row}
+-- A raster's bytes read back, what the raster and the rows of a body say at a cell, and how rows end.
+use Rattle.std.specs.Prelude.{◌≡◌, ◌↔◌, ◌<◌, ℕ, ℤ, pos, List, [], IsTrue, length, slice_index_or}
+use Rattle.drain_device.specs.ComingRows.{after_rows, ends_wrong, nth_row}
+use Rattle.drain_device.specs.ComingRows.Coming.{Wrong}
 use Rattle.drain_grid.specs.declared.cell.Cell.{Cell}
 use Rattle.drain_grid.specs.Extent.{IsCellOf}
 use Rattle.drain_grid.specs.Rasters.{Pixels, ArePixels}
@@ -20,10 +21,6 @@ abbrev pub BytesReadBack : Type 0
 BytesReadBack =
     (h : Fields) (p : Pixels) → AreWithinBounds h → ArePixels p → p.extent ≡ extent_of h → CanSpellAll h p → ReadBack h p
 
--- bytes behind the last pixel say nothing
-abbrev pub OnlyNeededBytesCount : Type 0
-OnlyNeededBytesCount = (h : Fields) (default : ℤ) (body : List ℕ) → raster_of h default (take (needed_len h) body) ≡ raster_of h default body
-
 -- the number of a body's raster at a cell is the cell's pixel
 abbrev pub NumbersArePixels : Type 0
 NumbersArePixels =
@@ -42,3 +39,13 @@ RasterRowsTellLengths = (h : Fields) (body : List ℕ) → AreWithinBounds h →
 -- all rows of a raster take the bytes that it needs, and no more
 abbrev pub RasterRowsTakeWhatIsNeeded : Type 0
 RasterRowsTakeWhatIsNeeded = (h : Fields) → AreWithinBounds h → bytes_of_rows h h.rows h.skip ≡ needed_len h
+
+-- the rows of a raster that isn't short have a number for each column; behind the last there is none, and there a short one was found out
+pub record AreAllRows (h : Fields) (body : List ℕ) : Type 0 where
+  pub long : (row : ℕ) → row < h.rows → ¬ IsShort h body → length (nth_row row (raster_rows h h.rows h.skip body)) ≡ h.cols
+  pub none_behind : nth_row h.rows (raster_rows h h.rows h.skip body) ≡ []
+  pub short : (after_rows h.rows (raster_rows h h.rows h.skip body) ≡ Wrong) ↔ IsShort h body
+
+-- all rows of a raster come, and then the end, or the answer that it is short
+abbrev pub RasterRowsEnd : Type 0
+RasterRowsEnd = (h : Fields) (body : List ℕ) → AreWithinBounds h → AreAllRows h body

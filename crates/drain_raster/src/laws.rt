@@ -2,16 +2,11 @@
 //!
 //! A law is a function with nothing to do: its contract is the law, and a caller that calls it has the law at hand.
 
-ghost use Rattle.drain_raster.specs.Laws.{BytesReadBack, NumbersArePixels, OnlyNeededBytesCount, RasterRowsArePixels, RasterRowsTakeWhatIsNeeded, RasterRowsTellLengths};
+ghost use Rattle.drain_raster.specs.Laws.{BytesReadBack, NumbersArePixels, RasterRowsArePixels, RasterRowsEnd, RasterRowsTakeWhatIsNeeded, RasterRowsTellLengths};
 
 /// The bytes of a raster, where its pixels can spell each number, are long enough and are read back to the same numbers.
 pub fn bytes_read_back()
     ensures { BytesReadBack }
-{}
-
-/// A body has the same raster without the bytes behind its last pixel.
-pub fn only_needed_bytes_count()
-    ensures { OnlyNeededBytesCount }
 {}
 
 /// The number of a body's raster at a cell is the pixel of the cell.
@@ -32,4 +27,9 @@ pub fn raster_rows_tell_lengths()
 /// All rows of a raster take the bytes that it needs, and no more.
 pub fn raster_rows_take_what_is_needed()
     ensures { RasterRowsTakeWhatIsNeeded }
+{}
+
+/// The rows of a raster that isn't short are as long as it has columns, and none comes behind the last; there a short raster was found out.
+pub fn raster_rows_end()
+    ensures { RasterRowsEnd }
 {}

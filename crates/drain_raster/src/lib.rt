@@ -14,5 +14,5 @@ mod write;
 
 pub use fault::{RasterFault, WriteFault};
 pub use raster_rows::RasterRows;
-pub use read::{needed_len, read_raster};
+pub use read::{needed_len, nodata, read_raster};
 pub use write::write_raster;

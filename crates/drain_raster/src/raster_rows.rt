@@ -1,6 +1,6 @@
 //! The rows of a raster, one at a time.
 
-ghost use Rattle.std.specs.Prelude.{◌≡◌, ◌≢◌, ◌≤◌, ◌*◌, ◌+◌, ◌-◌, ℕ, List, [], length, All, IsErrOf, OnOk};
+ghost use Rattle.std.specs.Prelude.{◌≡◌, ◌≢◌, ◌↔◌, ◌≤◌, ◌*◌, ◌+◌, ◌-◌, ℕ, List, [], length, All, IsErrOf, IsTrue, OnOk};
 ghost use Rattle.drain_device.specs.PartFailing.{PartFails};
 ghost use Rattle.drain_device.specs.Patience.{full_patience};
 ghost use Rattle.drain_device.specs.RowBytes.{PartComes, RowComes};
@@ -59,6 +59,13 @@ impl RasterRows {
             progress: Progress::Going,
             patience: Patience::new(),
         }
+    }
+
+    /// Whether it has answered a fault.
+    pub fn is_stopped(&self) -> bool
+        ensures { IsTrue result ↔ (self.now.progress ≡ Progress.Stopped) }
+    {
+        self.progress == Progress::Stopped
     }
 }
 

@@ -29,8 +29,8 @@ pub fn needed_len(header: &Header) -> usize
     header.skip as usize + rows_above * header.row_bytes as usize + header.cols as usize * pixel_len
 }
 
-/// The number that stands for no data.
-fn nodata(header: &Header, product: Product) -> i64
+/// The number that stands for no data in a product's raster: the header's, or else the product's default.
+pub fn nodata(header: &Header, product: Product) -> i64
     ensures number { result ≡ unwrap_or header.now.nodata (default_no_data product) }
     ensures in_range { IsNoData result }
 {

@@ -1,16 +1,14 @@
--- What the stages of tiles, rasters and seams say of the inputs: nothing of their kinds stands, or their refusal is the first.
-use Rattle.std.proofs.Common.{◌≡◌, ℕ, ◌<◌, List, slice_get, Some, arith, refl, sym, subst}
+-- What tiles, rasters and seams say of the inputs: nothing of their kinds stands, or their refusal is the first.
+use Rattle.std.proofs.Common.{◌≡◌, ℕ, ◌<◌, List, slice_get, Some, arith, refl, subst}
 use Rattle.std.specs.List.{All}
 use Rattle.std.proofs.lemmas.Option.{get_or_from_slice_get, slice_get_within}
 use Rattle.drain_grid.specs.declared.cell.Cell.{Cell}
 use Rattle.drain_grid.specs.declared.product.Product.{Product}
 use Rattle.drain_grid.specs.Extent.{index_of}
-use Rattle.drain_grid.specs.declared.per_product.PerProduct.{PerProduct}
-use Rattle.drain_grid.specs.PerProduct.{of_product, rank_of}
+use Rattle.drain_grid.specs.PerProduct.{rank_of}
 use Rattle.drain_hgt.specs.Corner.{Corner}
 use Rattle.drain_hgt.specs.Samples.{IsTile}
 use Rattle.drain_hgt.specs.Inputs.{IsFirstBadLength}
-use Rattle.drain_header.specs.Fields.{Fields}
 use Rattle.drain_raster.specs.Pixels.{IsShort}
 use Rattle.drain_mosaic.specs.Tiling as tiling
 use Rattle.drain_mosaic.specs.LayoutFaults.{IsFirstRepeated}
@@ -21,7 +19,7 @@ use Rattle.drain_verdict.specs.Inputs.{Inputs}
 use Rattle.drain_verdict.specs.Meaning.{tiling_of, tiles_of, fields_of}
 use Rattle.drain_verdict.specs.Refusals.{HasBadLength, IsSeamFault, Stands, NoneStandsBefore, refusal_order, place_among}
 use Rattle.drain_verdict.specs.Answers.{IsRefusal, AreReadable}
-use Rattle.drain_verdict.specs.Stages.{IsTileRefusal, IsRasterRefusal}
+use Rattle.drain_verdict.specs.Stages.{IsTileRefusal}
 use Rattle.drain_verdict.proofs.Order.{at_tile, at_raster, at_seam, none_more, readable, first_of}
 use Rattle.drain_verdict.proofs.Places.{place_of_tile, earlier_by_index}
 
@@ -58,14 +56,10 @@ pub rasters_none : (i : Inputs) → ((p : Product) → ¬ IsShort (fields_of i p
 rasters_none i long none = none_more i (Stands i) 6 none (at_raster i (λ b. ¬ Stands i b) long)
 
 -- the refusal of a raster is the first
-pub raster_refused : (i : Inputs) (hs : PerProduct Fields) (refusal : Refusal) → ((p : Product) → of_product hs p ≡ fields_of i p) → IsRasterRefusal hs i.raster refusal →
-    NoneStandsBefore i 6 → IsRefusal i refusal
-raster_refused i hs (RasterShort p) are bad none =
-    first_of i (Stands i) 6 (rank_of p) (RasterShort p) refl (subst (λ h. IsShort h (i.raster p)) (are p) bad.short) none
-    (at_raster i (λ b. (refusal_order i b).1 < rank_of p → ¬ Stands i b) (λ q less short. bad.before q less (subst (λ h. IsShort h (i.raster q)) (sym (are q)) short)))
-raster_refused i hs OutOfMemory are bad none = tt
-raster_refused i hs ReadFailed are bad none = tt
-raster_refused i hs refusal are bad none = absurd bad
+pub raster_refused : (i : Inputs) (p : Product) → IsShort (fields_of i p) (i.raster p) → ((q : Product) → rank_of q < rank_of p → ¬ IsShort (fields_of i q) (i.raster q)) →
+    NoneStandsBefore i 6 → IsRefusal i (RasterShort p)
+raster_refused i p short before none =
+    first_of i (Stands i) 6 (rank_of p) (RasterShort p) refl short none (at_raster i (λ b. (refusal_order i b).1 < rank_of p → ¬ Stands i b) before)
 
 -- where tiles agree, no cell has two values
 pub none_of_two_values : (i : Inputs) → TilesAgree (tiling_of i) (tiles_of i) → (c : Cell) → ¬ IsSeamFault i c

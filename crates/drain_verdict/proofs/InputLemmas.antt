@@ -1,5 +1,6 @@
 -- Which product's device gave up, where each is read only while nothing was refused before.
 use Rattle.std.proofs.Common.{◌≡◌, ℕ, List, ◌↔◌, ◌⊎◌, inl, inr, Bool, IsTrue, Option, Some, None, Result, Ok, Err, IfErr, refl, ap, ◌∙◌, sym, subst}
+use Rattle.std.specs.Result.{IsErrAnd}
 use Rattle.drain_device.specs.declared.counts.FaultCounts.{FaultCounts}
 use Rattle.drain_grid.specs.declared.per_product.PerProduct.{PerProduct}
 use Rattle.drain_grid.specs.PerProduct.{of_product}
@@ -13,6 +14,11 @@ use Rattle.drain_verdict.specs.declared.refusal.Refusal.TheVariants.{BadSide, Ba
 
 abbrev pub Answer : Type 0
 Answer = Result (Unit {0}) Refusal
+
+-- an answer that is this refusal, of which something holds
+pub told-of : {T : Type 0} (r : Result T Refusal) (e : Refusal) (P : Refusal → Type 0) → IsErrAnd r (λ told. told ≡ e) → P e → IfErr r P
+told-of (Ok x) e P is holds = absurd is
+told-of (Err told) e P is holds = rw is holds
 
 -- for all products at once
 pub by_product : (P : Product → Type 0) → P Con → P Dir → P Acc → P Bas → P Spl → P Rnk → (p : Product) → P p

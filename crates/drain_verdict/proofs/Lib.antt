@@ -3,16 +3,13 @@ mod BodyAnswers
 mod Devices
 mod FirstValues
 mod HeaderAnswers
-mod InputVerdicts
 mod LayoutAnswers
 mod MosaicAnswers
 mod Naming
 mod OneTile
 mod Order
 mod Places
-mod RasterChain
 mod SeamAnswers
-mod StageAnswers
 mod StartAnswers
 mod Telling
 mod TileLists
@@ -22,3 +19,8 @@ pub mod InputLemmas
 pub mod MosaicRowSteps
 pub mod RowReads
 pub mod RowGiven
+mod RowStart
+mod RowDevices
+mod RowEnd
+mod RowAnswers
+mod RowCheck

@@ -25,10 +25,13 @@ use Rattle.drain_verdict.specs.Mosaics.{TellTiles, IsOfTiles, StandsOfTiles, IsM
 use Rattle.drain_verdict.proofs.Order.{at_header, at_tile, at_raster, at_seam, none_more, first_of}
 use Rattle.drain_verdict.proofs.LayoutAnswers.{layout_is, layout_none, layout_refused}
 use Rattle.drain_verdict.proofs.StartAnswers.{told_of_inputs}
-use Rattle.drain_verdict.proofs.StageAnswers.{lengths_of}
 use Rattle.drain_verdict.proofs.BodyAnswers.{none_of_another_length, first_of_another_length, none_of_two_values, first_of_two_values}
 use Rattle.drain_verdict.proofs.SeamAnswers.{of_inputs}
 use Rattle.drain_verdict.proofs.FirstValues.{elevation_is_first_value}
+
+-- the lengths of the tiles, said of the inputs
+lengths_of : (i : Inputs) (t : Tiling) (samples : List (List ℤ)) → t ≡ tiling_of i → AreSamplesOf t.side i.tiles samples → AreSamplesOf i.side i.tiles samples
+lengths_of i t samples is those = subst (λ (u : Tiling). AreSamplesOf u.side i.tiles samples) is those
 
 -- no refusal of the tiles of a kind before this one stands
 abbrev pub NoneOfTilesBefore : Inputs → ℕ → Type 0

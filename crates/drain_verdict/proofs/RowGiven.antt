@@ -27,7 +27,7 @@ made_same : (z z2 con con2 dir dir2 acc acc2 bas bas2 spl spl2 rnk rnk2 : List �
 made_same z z2 con con2 dir dir2 acc acc2 bas bas2 spl spl2 rnk rnk2 a b c d e f g = rw (a, b, c, d, e, f, g) refl
 
 -- numbers that are the same, list by list
-same_numbers : (a b : RowNumbers) → a.z ≡ b.z → ((p : Product) → of_product a.products p ≡ of_product b.products p) → a ≡ b
+pub same_numbers : (a b : RowNumbers) → a.z ≡ b.z → ((p : Product) → of_product a.products p ≡ of_product b.products p) → a ≡ b
 same_numbers a b z each =
     made_same a.z b.z a.products.con b.products.con a.products.dir b.products.dir a.products.acc b.products.acc a.products.bas b.products.bas a.products.spl b.products.spl a.products.rnk b.products.rnk
     z (each Con) (each Dir) (each Acc) (each Bas) (each Spl) (each Rnk)

@@ -18,7 +18,7 @@ use Rattle.drain_verdict.specs.declared.refusal.Refusal.TheVariants.{ReadFailed}
 use Rattle.drain_verdict.proofs.InputLemmas.{only_failed}
 
 -- a raster that wasn't called
-raster_none : (known : Option (List ℕ)) (counts : FaultCounts) (raster : RasterRows) (Fails : Type 0) → (Fails → ⊥) → RasterHasRead known known counts counts raster raster Fails
+pub raster_none : (known : Option (List ℕ)) (counts : FaultCounts) (raster : RasterRows) (Fails : Type 0) → (Fails → ⊥) → RasterHasRead known known counts counts raster raster Fails
 raster_none known counts raster Fails never = record {
   within = ([], Consumes-nil known, omega arith);
   faults = PartFails-none counts raster.patience Fails never;

@@ -1,7 +1,7 @@
 -- The window as it goes down the rows.
 use Rattle.std.proofs.Common.{◌≡◌, ℕ, ℤ, ◌+◌, ◌<◌, All, List, [], length, refl, sym, ap, subst, ◌∙◌, arith}
 use Rattle.drain_grid.specs.PerProduct.{of_product}
-use Rattle.drain_verdict.proofs.RasterChain.{by_product}
+use Rattle.drain_verdict.proofs.InputLemmas.{by_product}
 use Rattle.drain_grid.specs.Values.{IsPixel}
 use Rattle.drain_grid.specs.declared.product.Product.{Product}
 use Rattle.drain_grid.specs.declared.patch.Patch.{Patch}

@@ -76,3 +76,9 @@ pub record InputsHaveRead {R : Type 0} (bytes_left : R → Option (List ℕ)) (c
       (of_product (readers start).rasters p) (of_product (readers now).rasters p) (IsTrue (product_failed p))
   pub names : names_of (tiles_lent now) ≡ names_of (tiles_lent start)
   pub headers : (p : Product) → (of_product (products_lent now) p).header ≡ (of_product (products_lent start) p).header
+
+-- the same where a check's answer tells whether some device gave up
+pub record HaveBeenRead {R : Type 0} (bytes_left : R → Option (List ℕ)) (counts : R → FaultCounts) (start now : Reading R) (Fails : Type 0) : Type 0 where
+  pub told : Option Refusal
+  pub exactly : (told ≡ Some ReadFailed) ↔ Fails
+  pub reads : InputsHaveRead bytes_left counts start now told

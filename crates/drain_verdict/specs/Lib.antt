@@ -6,6 +6,7 @@ pub mod Headline
 pub mod HeldRows
 pub mod Inputs
 pub mod InputReads
+pub mod InputRows
 pub mod Laws
 pub mod Lines
 pub mod Meaning

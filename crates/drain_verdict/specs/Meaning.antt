@@ -2,7 +2,8 @@
 use Rattle.std.specs.Prelude.{ℤ, List, map, unwrap_or}
 use Rattle.drain_grid.specs.declared.cell.Cell.{Cell}
 use Rattle.drain_grid.specs.declared.product.Product.{Product}
-use Rattle.drain_grid.specs.PerProduct.{per_product}
+use Rattle.drain_grid.specs.declared.per_product.PerProduct.{PerProduct}
+use Rattle.drain_grid.specs.PerProduct.{of_product, per_product}
 use Rattle.drain_grid.specs.Product.{default_no_data}
 use Rattle.drain_text.specs.Text.{lines_of}
 use Rattle.drain_grid.specs.Values.{NoDataNumbers}
@@ -41,6 +42,10 @@ products_of i = per_product (number_of i)
 -- the number that stands for no data in a product: the header's, or else the product's default
 abbrev pub nodata_of : Inputs → Product → ℤ
 nodata_of i p = unwrap_or (fields_of i p).nodata (default_no_data p)
+
+-- the same of these headers
+abbrev pub nodata_in : PerProduct Fields → NoDataNumbers
+nodata_in hs = per_product (λ p. unwrap_or (of_product hs p).nodata (default_no_data p))
 
 abbrev pub nodata_numbers : Inputs → NoDataNumbers
 nodata_numbers i = per_product (nodata_of i)

@@ -1,15 +1,12 @@
--- What the stages of a check find: the layout, the headers, the tiles, the rasters. Each is right, or the first refusal of its kind is told.
+-- What the stages of a check find, the layout, the headers and, where tiles are read alone, the tiles. Each is right, or the first refusal of its kind is told.
 use Rattle.std.specs.Prelude.{◌≡◌, ℕ, ◌<◌, ℤ, List, map, slice_get, Option, Some, Err}
 use Rattle.std.specs.List.{All, AllZip}
 use Rattle.drain_grid.specs.declared.product.Product.{Product}
 use Rattle.drain_grid.specs.declared.per_product.PerProduct.{PerProduct}
-use Rattle.drain_grid.specs.declared.product_set.ProductSet.{ProductSet}
 use Rattle.drain_text.specs.First.{IsFirst}
-use Rattle.drain_grid.specs.Product.{default_no_data}
-use Rattle.drain_grid.specs.Rasters.{Heights, Pixels}
+use Rattle.drain_grid.specs.Rasters.{Heights}
 use Rattle.drain_grid.specs.Tile.{IsSide}
 use Rattle.drain_grid.specs.Whole.{elevation_at}
-use Rattle.drain_grid.specs.WholeGrid.{raster_in}
 use Rattle.drain_grid.specs.PerProduct.{of_product, rank_of}
 use Rattle.drain_hgt.specs.Corner.{Corner}
 use Rattle.drain_hgt.specs.Name.{Names}
@@ -17,7 +14,7 @@ use Rattle.drain_hgt.specs.Samples.{IsTile, samples_of}
 use Rattle.drain_hgt.specs.Inputs.{IsFirstBadLength}
 use Rattle.drain_header.specs.Fields.{Fields}
 use Rattle.drain_header.specs.Faults.{Answers, Describes}
-use Rattle.drain_raster.specs.Pixels.{extent_of, IsShort, raster_of}
+use Rattle.drain_raster.specs.Pixels.{extent_of}
 use Rattle.drain_mosaic.specs.declared.layout.LayoutFault.{LayoutFault}
 use Rattle.drain_mosaic.specs.declared.layout.LayoutFault.TheVariants as layout
 use Rattle.drain_mosaic.specs.declared.seams.SeamFault.{SeamFault}
@@ -26,10 +23,9 @@ use Rattle.drain_mosaic.specs.Tiling as tiling
 use Rattle.drain_mosaic.specs.LayoutFaults.{HasLayoutFault, order_of}
 use Rattle.drain_mosaic.specs.Mosaic.{tiles_of, TilesAgree, IsElevation, IsFirstSeam}
 use Rattle.drain_verdict.specs.declared.refusal.Refusal.{Refusal}
-use Rattle.drain_verdict.specs.declared.refusal.Refusal.TheVariants.{BadSide, BadName, NoTiles, RepeatedTile, BoxTooLarge, BadHeader, WrongShape, Misplaced, BadTileLength, RasterShort, SeamMismatch, OutOfMemory, ReadFailed}
-use Rattle.drain_verdict.specs.Inputs.{Inputs, Products}
-use Rattle.drain_verdict.specs.Meaning.{tiling_of, fields_of}
-use Rattle.drain_verdict.specs.Refusals.{IsBadName, IsPlaced, HasShape}
+use Rattle.drain_verdict.specs.declared.refusal.Refusal.TheVariants.{BadSide, BadName, NoTiles, RepeatedTile, BoxTooLarge, BadHeader, WrongShape, Misplaced, BadTileLength, SeamMismatch, OutOfMemory, ReadFailed}
+use Rattle.drain_verdict.specs.Inputs.{Products}
+use Rattle.drain_verdict.specs.Refusals.{IsBadName, IsPlaced}
 
 -- the names are those of tiles that make a mosaic
 pub record IsLayoutOf (side : ℕ) (names : List (List ℕ)) (t : tiling.Tiling) : Type 0 where
@@ -131,30 +127,6 @@ IsTileRefusal t bodies refusal = ⊥
 abbrev pub AreRasterBodies : {R : Type 0} → (R → Option (List ℕ)) → Products R → (Product → List ℕ) → Type 0
 AreRasterBodies bytes_left ps bodies = (p : Product) → bytes_left (of_product ps p).body ≡ Some (bodies p)
 
--- the body is long enough, and this is its raster
-pub record IsRasterOf (h : Fields) (p : Product) (body : List ℕ) (raster : Pixels) : Type 0 where
-  pub long : ¬ IsShort h body
-  pub raster_is : raster ≡ raster_of h (default_no_data p) body
-
--- why the body of a product is refused
-abbrev pub IsOneRasterRefusal : Fields → Product → List ℕ → Refusal → Type 0
-IsOneRasterRefusal h p body (RasterShort q) = (q ≡ p) × IsShort h body
-IsOneRasterRefusal h p body OutOfMemory = Unit {0}
-IsOneRasterRefusal h p body ReadFailed = Unit {0}
-IsOneRasterRefusal h p body refusal = ⊥
-
--- the body of the product is the first that is too short
-pub record IsFirstShort (hs : PerProduct Fields) (bodies : Product → List ℕ) (p : Product) : Type 0 where
-  pub short : IsShort (of_product hs p) (bodies p)
-  pub before : (q : Product) → rank_of q < rank_of p → ¬ IsShort (of_product hs q) (bodies q)
-
--- why the bodies of products are refused
-abbrev pub IsRasterRefusal : PerProduct Fields → (Product → List ℕ) → Refusal → Type 0
-IsRasterRefusal hs bodies (RasterShort p) = IsFirstShort hs bodies p
-IsRasterRefusal hs bodies OutOfMemory = Unit {0}
-IsRasterRefusal hs bodies ReadFailed = Unit {0}
-IsRasterRefusal hs bodies refusal = ⊥
-
 -- the tiles agree, and give this elevation together
 pub record IsElevationOf (t : tiling.Tiling) (samples : List (List ℤ)) (e : Heights) : Type 0 where
   pub shape : e.extent ≡ tiling.extent_of t
@@ -171,10 +143,3 @@ IsSeamRefusal t samples refusal = ⊥
 abbrev pub IsSeamFaultAs : SeamFault → Refusal → Type 0
 IsSeamFaultAs (seam.SeamMismatch c) refusal = refusal ≡ SeamMismatch c
 IsSeamFaultAs seam.OutOfMemory refusal = refusal ≡ OutOfMemory
-
--- the layout, the samples and the rasters are those of the inputs
-pub record AreThoseOf (i : Inputs) (t : tiling.Tiling) (samples : List (List ℤ)) (set : ProductSet) : Type 0 where
-  pub tiling_is : t ≡ tiling_of i
-  pub samples_are : samples ≡ map samples_of i.tiles
-  pub shapes : (p : Product) → HasShape i p
-  pub rasters : (p : Product) → raster_in set p ≡ raster_of (fields_of i p) (default_no_data p) (i.raster p)

@@ -3,40 +3,46 @@
 //! It goes in stages, in the order of their refusals: side, names and layout; the headers, product by product; the tiles; the rasters; the
 //! seams; and then the rules. No device is called before every header is right.
 
-ghost use Rattle.std.specs.Prelude.{◌≡◌, ◌↔◌, length, map, Err, IfErr, IsErrOf};
+ghost use Rattle.std.specs.Prelude.{◌≡◌, length, map, IfErr, IsErrOf};
+ghost use Rattle.drain_grid.specs.declared.per_product.PerProduct.{PerProduct};
 ghost use Rattle.drain_grid.specs.declared.product.Product.{Product};
-ghost use Rattle.drain_mosaic.specs.Mosaic.{AreTiles, TilesAgree, tiles_of};
+ghost use Rattle.drain_header.specs.Fields.{Fields};
 ghost use Rattle.drain_grid.specs.PerProduct.{of_product};
 ghost use Rattle.drain_mosaic.specs.Tiling as tiling;
 ghost use Rattle.drain_raster.specs.Pixels.{extent_of};
 ghost use Rattle.drain_verdict.specs.Inputs.{Inputs, Tell};
-ghost use Rattle.drain_verdict.specs.Meaning.{tiling_of, fields_of};
+ghost use Rattle.drain_verdict.specs.InputReads.{HaveBeenRead};
+ghost use Rattle.drain_verdict.specs.InputRows.{AreBegun};
+ghost use Rattle.drain_verdict.specs.Meaning.{tiling_of, fields_of, nodata_in};
 ghost use Rattle.drain_verdict.specs.Refusals.{IsOfBodies, NoneStandsBefore};
 ghost use Rattle.drain_verdict.specs.Answers.{IsAnswer};
-ghost use Rattle.drain_verdict.specs.Stages.{AreRasterBodies, AreThoseOf};
+ghost use Rattle.drain_verdict.specs.Stages.{AreRasterBodies};
 ghost use Rattle.drain_device.specs.FaultLists.{SomeReadFails};
 ghost use Rattle.drain_hgt.specs.Inputs.{names_of, AreBodies, TilesTakeAtMost};
 ghost use Rattle.drain_verdict.specs.Devices.{devices_of, RasterTakesAtMost, BodyTakesAtMost};
 ghost use Rattle.drain_verdict.specs.Headline.{AcceptedMeans, TilesAreOne, ElevationIsTheirs, ConIsLeast, NoDirectionClimbs, DirectionsAreSteepest, CodesTellOutlets, RunsEnd, RunsEndAtOutlets, RunsVisitOnce, AccCountsUpstream, LabelsTellBasins, VoidsAreBlank, DataIsComplete};
 
-use crate::headers::read_headers;
+use crate::headers::{nodata_of, read_headers};
 use crate::input::Products;
+use crate::input_rows::InputRows;
 use crate::layout::layout_of;
-use crate::rasters::read_products;
 use crate::refusal::Refusal;
-use crate::seams::elevation_of;
-use crate::tiles::read_tiles;
+use crate::row_verdict::verdict_by_rows;
 use drain_device::ByteSource;
 use drain_grid::laws::correct_from_rules;
-use drain_grid::{PerProduct, ProductSet};
+use drain_grid::{NoData, PerProduct};
 use drain_header::Header;
 use drain_hgt::TileInput;
 use drain_hgt::laws::one_name;
 use drain_mosaic::Layout;
-use drain_mosaic::laws::agreement_gives_elevation;
-use drain_raster::laws::numbers_are_pixels;
-use drain_rules::laws::equal_grids_have_one_verdict;
-use drain_rules::{Verdict, verdict_of};
+use drain_mosaic::laws::{
+    agreement_gives_elevation, new_rows_are_of_bodies, rows_are_first_values, rows_are_whole,
+    rows_end, rows_tell_lengths, rows_tell_seams, whole_tiles_give_their_samples,
+};
+use drain_raster::laws::{
+    raster_rows_are_pixels, raster_rows_end, raster_rows_take_what_is_needed,
+};
+use drain_rules::Verdict;
 use std::alloc::Global;
 
 /// The verdict on products of the tiles, or the first refusal.
@@ -119,58 +125,69 @@ fn answer_of<R: ByteSource>(
     one_name();
     let layout = layout_of(alloc, side, tiles)?;
     let headers = read_headers(&layout, products)?;
-    check_bodies(alloc, &layout, &headers, tiles, products)
+    check_bodies(alloc, &layout, headers, tiles, products)
 }
 
-/// The answer to the bodies, where the layout and the headers are right.
+/// The answer to the bodies, where the layout and the headers are right: the verdict on their rows, unless they are refused.
 fn check_bodies<R: ByteSource>(
     alloc: Global,
     layout: &Layout,
-    headers: &PerProduct<Header>,
+    headers: PerProduct<Header>,
     tiles: &mut [TileInput<R>],
     products: &mut Products<R>,
 ) -> Result<Verdict, Refusal>
     requires named { length tiles.old ≡ length layout.now.corners }
-    requires shapes { (p : Product) → extent_of (of_product headers.now p) ≡ tiling.extent_of layout.now }
-    ensures answer { (inputs : Inputs) → layout.now ≡ tiling_of inputs → ((p : Product) → of_product headers.now p ≡ fields_of inputs p)
+    requires shapes { (p : Product) → extent_of (of_product headers p) ≡ tiling.extent_of layout.now }
+    ensures answer { (inputs : Inputs) → layout.now ≡ tiling_of inputs → ((p : Product) → of_product headers p ≡ fields_of inputs p)
         → AreBodies R.bytes_left tiles.old inputs.tiles → AreRasterBodies R.bytes_left products.old inputs.raster
         → NoneStandsBefore inputs 5 → IsAnswer inputs result }
     ensures tiles_within { TilesTakeAtMost R.bytes_left layout.now.side tiles.old tiles.new }
-    ensures rasters_within { (p : Product) → BodyTakesAtMost R.bytes_left (of_product headers.now p) products.old products.new p }
+    ensures rasters_within { (p : Product) → BodyTakesAtMost R.bytes_left (of_product headers p) products.old products.new p }
     ensures faults { SomeReadFails (map R.counts (devices_of tiles.old products.old)) (map R.counts (devices_of tiles.new products.new)) (IsErrOf result Refusal.ReadFailed) }
     ensures names { names_of tiles.new ≡ names_of tiles.old }
     ensures headers { (p : Product) → (of_product products.new p).header ≡ (of_product products.old p).header }
     ensures of_bodies { IfErr result IsOfBodies }
 {
-    let samples = read_tiles(alloc, layout, tiles)?;
-    let set = read_products(alloc, headers, products)?;
-    verdict_on(alloc, layout, samples, &set)
+    // The law that the rows of a raster take the bytes that it needs.
+    raster_rows_take_what_is_needed();
+    let nodata = nodata_of(&headers);
+    let mut rows = InputRows::new(alloc, layout, headers)?;
+    check_rows(alloc, layout, &nodata, &mut rows, tiles, products)
 }
 
-/// The verdict on the rasters of a mosaic's products, or `SeamMismatch` with the first cell where tiles differ; `OutOfMemory` where they
-/// agree and memory is refused. `samples` are those of the tiles, in the order of the layout's names.
-fn verdict_on(
+/// The verdict on the rows that new readers give, or the refusal that they tell behind the last.
+fn check_rows<R: ByteSource>(
     alloc: Global,
     layout: &Layout,
-    samples: Vec<Vec<i16>>,
-    products: &ProductSet,
+    nodata: &NoData,
+    rows: &mut InputRows,
+    tiles: &mut [TileInput<R>],
+    products: &mut Products<R>,
 ) -> Result<Verdict, Refusal>
-    requires tiles { AreTiles layout.now (map (λ tile. tile.items) samples.items) }
-    requires same_shape { products.now.con.extent ≡ tiling.extent_of layout.now }
-    ensures answer { (inputs : Inputs) → AreThoseOf inputs layout.now (map (λ tile. tile.items) samples.items) products.now → NoneStandsBefore inputs 7 → IsAnswer inputs result }
-    ensures no_read { ¬ IsErrOf result Refusal.ReadFailed }
+    requires named { length tiles.old ≡ length layout.now.corners }
+    requires counted { length rows.old.mosaic.tiles.items ≡ length layout.now.corners }
+    ensures answer { (inputs : Inputs) (hs : PerProduct Fields) → AreBegun layout.now hs rows.old → nodata.now ≡ nodata_in hs
+        → ((p : Product) → extent_of (of_product hs p) ≡ tiling.extent_of layout.now)
+        → layout.now ≡ tiling_of inputs → ((p : Product) → of_product hs p ≡ fields_of inputs p)
+        → AreBodies R.bytes_left tiles.old inputs.tiles → AreRasterBodies R.bytes_left products.old inputs.raster
+        → NoneStandsBefore inputs 5 → IsAnswer inputs result }
+    ensures reads { HaveBeenRead R.bytes_left R.counts (rows.old, tiles.old, products.old) (rows.new, tiles.new, products.new) (IsErrOf result Refusal.ReadFailed) }
     ensures of_bodies { IfErr result IsOfBodies }
-
-    // Want of memory never stands in place of a seam.
-    ensures wants_memory { IsErrOf result Refusal.OutOfMemory → TilesAgree layout.now (tiles_of layout.now.corners (map (λ tile. tile.items) samples.items)) }
 {
-    // The laws that make what was read equal to what the bytes say, at each cell, and the verdict on the one that on the other.
-    agreement_gives_elevation();
-    numbers_are_pixels();
-    equal_grids_have_one_verdict();
-    let elevation = elevation_of(alloc, layout, samples)?;
-    match verdict_of(alloc, &elevation, products) {
-        Ok(verdict) => Ok(verdict),
-        Err(_) => Err(Refusal::OutOfMemory),
+    // The laws that say which rows the bytes of tiles and rasters give, and what these tell of them.
+    layout.makes_a_mosaic();
+    new_rows_are_of_bodies::<R>();
+    rows_end();
+    rows_are_whole();
+    rows_are_first_values();
+    rows_tell_seams();
+    rows_tell_lengths();
+    whole_tiles_give_their_samples();
+    raster_rows_end();
+    raster_rows_are_pixels();
+    let verdict = verdict_by_rows(alloc, layout.shape(), nodata, rows, tiles, products)?;
+    match rows.refusal(layout) {
+        Some(refusal) => Err(refusal),
+        None => Ok(verdict),
     }
 }

@@ -1,17 +1,19 @@
-//! The headers of all products: each is read, and must give the shape and the place of the mosaic.
+//! The headers of all products: each is read, and must give the shape and the place of the mosaic; and the no-data numbers that they give.
 
 ghost use Rattle.std.specs.Prelude.{◌≡◌, ◌↔◌, IsTrue, IfOk, IfErr};
 ghost use Rattle.drain_raster.specs.Pixels.{extent_of};
 ghost use Rattle.drain_mosaic.specs.Tiling as tiling;
 ghost use Rattle.drain_grid.specs.PerProduct.{of_product};
+ghost use Rattle.drain_verdict.specs.Meaning.{nodata_in};
 ghost use Rattle.drain_verdict.specs.Stages.{IsHeaderFor, IsHeaderRefusal, AreHeadersFor, IsFirstHeaderRefusal};
 
 use crate::input::Products;
 use crate::placing::is_placed;
 use crate::refusal::Refusal;
-use drain_grid::{PerProduct, Product};
+use drain_grid::{NoData, PerProduct, Product};
 use drain_header::{Header, parse_header};
 use drain_mosaic::Layout;
+use drain_raster::nodata;
 
 /// Whether the header gives the rows and columns of the mosaic.
 fn has_shape(layout: &Layout, header: &Header) -> bool
@@ -57,4 +59,18 @@ pub fn read_headers<R>(
         ensures refusal { IfErr result (IsHeaderRefusal layout.entry.now product (of_product products.entry.now product).header) }
     { read_header(layout, product, products.of(product).header.as_slice()) };
     PerProduct::from_each(&read)
+}
+
+/// The numbers that stand for no data in the products with these headers.
+pub fn nodata_of(headers: &PerProduct<Header>) -> NoData
+    ensures { result ≡ nodata_in headers.now }
+{
+    NoData {
+        con: nodata(&headers.con, Product::Con),
+        dir: nodata(&headers.dir, Product::Dir),
+        acc: nodata(&headers.acc, Product::Acc),
+        bas: nodata(&headers.bas, Product::Bas),
+        spl: nodata(&headers.spl, Product::Spl),
+        rnk: nodata(&headers.rnk, Product::Rnk),
+    }
 }

@@ -15,7 +15,6 @@ pub mod line;
 pub mod mosaic;
 mod next_rows;
 mod placing;
-mod rasters;
 pub mod refusal;
 mod row_verdict;
 mod seams;

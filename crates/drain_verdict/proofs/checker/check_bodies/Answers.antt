@@ -1,55 +1,40 @@
-use Rattle.std.proofs.Common.{map, sym, ◌∙◌}
+use Rattle.std.proofs.Common.{◌≡◌}
 use Rattle.std.proofs.lemmas.Result.{err_from_is_err_and}
-use Rattle.drain_grid.specs.declared.product.Product.TheVariants.{Con}
-use Rattle.drain_verdict.specs.Devices.{product_devices}
-use Rattle.drain_verdict.proofs.Devices.{devices_then}
-use Rattle.drain_device.proofs.FaultLists.{SomeReadFails-none}
-use Rattle.drain_verdict.proofs.StageAnswers.{tiles_answer, rasters_answer, are_those, none_of_bodies, the_first, the_second, neither}
+use Rattle.drain_verdict.specs.declared.refusal.Refusal.TheVariants.{ReadFailed}
+use Rattle.drain_verdict.proofs.Devices.{devices_none, tiles_take_none}
+use Rattle.drain_verdict.proofs.RowDevices.{bodies_taken, devices_fail, tiles_taken}
 use Rattle.drain_verdict.proofs.checker.check_bodies.Goals as goal
 
-pub returns-in_err-samples-clause-answer : goal.returns-in_err-samples-clause-answer
-returns-in_err-samples-clause-answer g c = λ inputs tiling fields tiles rasters none.
+pub returns-in_err-rows-clause-tiles_within : goal.returns-in_err-rows-clause-tiles_within
+returns-in_err-rows-clause-tiles_within g c = tiles_take_none g.R.ByteSource.bytes_left c.args.layout.now.side c.args.tiles.now
+
+pub returns-in_err-rows-clause-faults : goal.returns-in_err-rows-clause-faults
+returns-in_err-rows-clause-faults g c =
     let told = err_from_is_err_and c.from_residual.result c.from_residual.ensures.1 in
-    rw (told.1, told.2) (tiles_answer inputs c.args.layout.now _ tiling (c.in_err-samples.ensures.refusal inputs.tiles tiles) none)
-
-pub returns-in_err-samples-clause-faults : goal.returns-in_err-samples-clause-faults
-returns-in_err-samples-clause-faults g c =
-    let told = err_from_is_err_and c.from_residual.result c.from_residual.ensures.1 in
-    let counts = g.R.ByteSource.counts in
-    let ps = c.args.products.now in
-    rw (told.1, told.2) (devices_then counts c.args.tiles.now c.read_tiles.new.tiles ps ps the_first c.in_err-samples.ensures.faults
-    (SomeReadFails-none (map counts (product_devices ps)) (λ no. no)))
-
-pub read_products-requires : goal.read_products-requires
-read_products-requires g c = record { one_shape = λ p. c.requires.shapes p ∙ sym (c.requires.shapes Con) }
-
-pub returns-in_err-set-clause-answer : goal.returns-in_err-set-clause-answer
-returns-in_err-set-clause-answer g c = λ inputs tiling fields tiles rasters none.
-    let told = err_from_is_err_and c.from_residual-in_err-set.result c.from_residual-in_err-set.ensures.1 in
-    rw (told.1, told.2) (rasters_answer inputs c.args.layout.now c.args.headers.now _ _ tiling fields (c.in_ok-samples.ensures.samples inputs.tiles tiles)
-    (c.in_err-set.ensures.refusal inputs.raster rasters) none)
-
-pub returns-in_err-set-clause-faults : goal.returns-in_err-set-clause-faults
-returns-in_err-set-clause-faults g c =
-    let told = err_from_is_err_and c.from_residual-in_err-set.result c.from_residual-in_err-set.ensures.1 in
-    rw (told.1, told.2) (devices_then g.R.ByteSource.counts c.args.tiles.now c.read_tiles.new.tiles c.args.products.now c.read_products.new.products
-    the_second c.in_ok-samples.ensures.faults c.in_err-set.ensures.faults)
-
-pub verdict_on-requires-clause-same_shape : goal.verdict_on-requires-clause-same_shape
-verdict_on-requires-clause-same_shape g c = c.in_ok-set.ensures.shape ∙ c.requires.shapes Con
+    rw (told.1, told.2) (devices_none g.R.ByteSource.counts c.args.tiles.now c.args.products.now
+    (λ is. let wants = c.in_err-rows.ensures.no_memory in let other : c.in_err-rows.field-0.0 ≡ ReadFailed = cc in cc))
 
 pub returns-clause-answer : goal.returns-clause-answer
-returns-clause-answer g c = λ inputs tiling fields tiles rasters none.
-    let t = c.args.layout.now in
-    let hs = c.args.headers.now in
-    let samples = map (λ tile. tile.items) c.in_ok-samples.samples.items in
-    let set = c.in_ok-set.set in
-    let those = c.in_ok-samples.ensures.samples inputs.tiles tiles in
-    let read = c.in_ok-set.ensures.rasters inputs.raster rasters in
-    c.verdict_on.ensures.answer inputs (are_those inputs t hs samples set tiling fields c.requires.shapes those read)
-    (none_of_bodies inputs t hs samples set tiling fields those read none)
+returns-clause-answer g c = λ inputs is fields tiles rasters none.
+    c.check_rows.ensures.answer inputs c.args.headers c.in_ok-rows.ensures.begun c.nodata_of-nodata.ensures c.requires.shapes is fields tiles rasters none
+
+pub returns-clause-tiles_within : goal.returns-clause-tiles_within
+returns-clause-tiles_within g c =
+    let read = c.check_rows.ensures.reads in
+    let new = c.check_rows.new in
+    tiles_taken g.R.ByteSource.bytes_left g.R.ByteSource.counts c.args.layout.now c.args.headers c.in_ok-rows.rows new.rows c.args.tiles.now new.tiles c.args.products.now new.products read.told
+    c.in_ok-rows.ensures.begun c.requires.named read.reads
+
+pub returns-clause-rasters_within : goal.returns-clause-rasters_within
+returns-clause-rasters_within g c =
+    let read = c.check_rows.ensures.reads in
+    let new = c.check_rows.new in
+    bodies_taken g.R.ByteSource.bytes_left g.R.ByteSource.counts c.args.layout.now c.args.headers c.in_ok-rows.rows new.rows c.args.tiles.now new.tiles c.args.products.now new.products read.told
+    c.raster_rows_take_what_is_needed.ensures c.in_ok-rows.ensures.begun.bounds c.in_ok-rows.ensures.begun read.reads
 
 pub returns-clause-faults : goal.returns-clause-faults
 returns-clause-faults g c =
-    devices_then g.R.ByteSource.counts c.args.tiles.now c.read_tiles.new.tiles c.args.products.now c.read_products.new.products
-    (neither c.verdict_on.ensures.no_read) c.in_ok-samples.ensures.faults c.in_ok-set.ensures.faults
+    let read = c.check_rows.ensures.reads in
+    let new = c.check_rows.new in
+    devices_fail g.R.ByteSource.bytes_left g.R.ByteSource.counts c.args.layout.now c.args.headers c.in_ok-rows.rows new.rows c.args.tiles.now new.tiles c.args.products.now new.products read.told
+    c.in_ok-rows.ensures.begun c.requires.named read.reads read.exactly

@@ -2,7 +2,7 @@ use Rattle.std.proofs.Common.{◌≡◌, Some, None, inl, ◌+◌, ◌<◌, inr,
 use Rattle.drain_grid.specs.Size.{Extent}
 use Rattle.drain_rules.specs.RowNumbers.{AreRowNumbers}
 use Rattle.drain_verdict.specs.HeldRows.{numbers_of}
-use Rattle.drain_verdict.proofs.RasterChain.{told-of}
+use Rattle.drain_verdict.proofs.InputLemmas.{told-of}
 use Rattle.drain_verdict.proofs.WindowLemmas.{blank-whole, held-more, held-turned, patches-at, rows-around}
 use Rattle.drain_verdict.proofs.row_verdict.verdict_by_rows.Goals as goal
 

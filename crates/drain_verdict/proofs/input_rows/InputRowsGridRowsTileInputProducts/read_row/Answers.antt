@@ -4,8 +4,7 @@ use Rattle.drain_grid.specs.declared.product.Product.TheVariants.{Con, Dir, Acc,
 use Rattle.drain_grid.specs.PerProduct.{of_product}
 use Rattle.drain_grid.specs.Values.{IsPixel}
 use Rattle.drain_verdict.specs.HeldRows.{numbers_of}
-use Rattle.drain_verdict.proofs.InputLemmas.{by_product}
-use Rattle.drain_verdict.proofs.RasterChain.{told-of}
+use Rattle.drain_verdict.proofs.InputLemmas.{by_product, told-of}
 use Rattle.drain_verdict.proofs.RowGiven.{IsKept, come_more, come_refused, kept_numbers, next_given}
 use Rattle.drain_verdict.proofs.RowReads.{by_mosaic, by_rasters, one_read, rasters_none, reads_then}
 use Rattle.drain_verdict.proofs.input_rows.InputRowsGridRowsTileInputProducts.read_row.Goals.{then-not-is_even, else-not-is_even}

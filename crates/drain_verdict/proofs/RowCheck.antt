@@ -1,0 +1,126 @@
+-- The answer of a check by rows, from new readers to their last row.
+use Rattle.std.proofs.Common.{◌≡◌, ◌⊎◌, ◌+◌, ℕ, inl, inr, List, length, Option, Some, None, Ok, Err, IsErrOf, arith, refl, sym, ap, subst}
+use Rattle.drain_device.specs.declared.counts.FaultCounts.{FaultCounts}
+use Rattle.drain_device.specs.declared.row_source.Progress.TheVariants.{Stopped}
+use Rattle.drain_grid.specs.declared.per_product.PerProduct.{PerProduct}
+use Rattle.drain_grid.specs.declared.product.Product.{Product}
+use Rattle.drain_grid.specs.PerProduct.{of_product}
+use Rattle.drain_grid.specs.Size.{Extent}
+use Rattle.drain_grid.specs.Values.{NoDataNumbers}
+use Rattle.drain_header.specs.Fields.{Fields}
+use Rattle.drain_hgt.specs.Inputs.{AreBodies}
+use Rattle.drain_hgt.specs.declared.input.TileInput.{TileInput}
+use Rattle.drain_mosaic.specs.LayoutFaults.{IsLayout}
+use Rattle.drain_mosaic.specs.PlacedRows.{first_stopped}
+use Rattle.drain_mosaic.specs.RowLaws.{NewRowsAreOfBodies}
+use Rattle.drain_mosaic.specs.Tiling.{Tiling, extent_of}
+use Rattle.drain_raster.specs.Pixels as pixels
+use Rattle.drain_rules.specs.Verdicts.{IsVerdict}
+use Rattle.drain_rules.specs.declared.verdict.Verdict.{Verdict}
+use Rattle.drain_verdict.specs.Answers.{IsAnswer, IsRefusal}
+use Rattle.drain_verdict.specs.GridRows.{IsRowsRefusal, OfGrid, ReadsOn}
+use Rattle.drain_verdict.specs.InputReads.{HaveBeenRead}
+use Rattle.drain_verdict.specs.InputRows.{AreBegun, HasStopped, IsToldRefusal}
+use Rattle.drain_verdict.specs.Inputs.{Inputs, Products}
+use Rattle.drain_verdict.specs.Meaning.{fields_of, grid_of, nodata_in, products_of, tiling_of}
+use Rattle.drain_verdict.specs.Refusals.{IsOfBodies, NoneStandsBefore}
+use Rattle.drain_verdict.specs.Stages.{AreRasterBodies}
+use Rattle.drain_verdict.specs.ToGive.{AreGiven, HaveCome, IsAfter}
+use Rattle.drain_verdict.specs.declared.input_rows.InputRows.{InputRows}
+use Rattle.drain_verdict.specs.declared.refusal.Refusal.{Refusal}
+use Rattle.drain_verdict.specs.declared.refusal.Refusal.TheVariants.{OutOfMemory, ReadFailed}
+use Rattle.drain_verdict.proofs.RowAnswers.{told_none, told_refusal}
+use Rattle.drain_verdict.proofs.RowDevices.{come_none}
+use Rattle.drain_verdict.proofs.RowEnd.{AreAtEnd, Laws, at_end, mosaic_goes}
+use Rattle.drain_verdict.proofs.RowStart.{after_none, row_given, start_given, to_give}
+
+-- new readers gave all rows, and then told this
+pub record Read {R : Type 0} (bl : R → Option (List ℕ)) (ct : R → FaultCounts) (i : Inputs) (hs : PerProduct Fields) (rows rows_then : InputRows) (tiles tiles_then : List (TileInput R)) (ps ps_then : Products R) (e : Extent) (told : Option Refusal) (t : Tiling) : Type 0 where
+  pub extent_is : e ≡ extent_of t
+  pub laws : Laws
+  pub of_bodies : NewRowsAreOfBodies bl
+  pub layout : IsLayout t
+  pub shapes : (p : Product) → pixels.extent_of (of_product hs p) ≡ extent_of t
+  pub counted : length i.tiles ≡ length t.corners
+  pub begun : AreBegun t hs rows
+  pub come : HaveCome bl ct (rows, tiles, ps) (rows_then, tiles_then, ps_then) (0 + (e.rows + 1)) None
+  pub tells : (rows_then.mosaic.progress ≡ Stopped → ⊥) → IsToldRefusal t (first_stopped 0 rows_then.mosaic.tiles.items) (HasStopped rows_then) rows_then.mosaic.seam told
+  pub bodies : AreBodies bl tiles i.tiles
+  pub rasters : AreRasterBodies bl ps i.raster
+
+module _ {R : Type 0} (bl : R → Option (List ℕ)) (ct : R → FaultCounts) (i : Inputs) (hs : PerProduct Fields) (rows rows_then : InputRows) (tiles tiles_then : List (TileInput R)) (ps ps_then : Products R) (e : Extent) where
+  -- as many rows as there are and one more were asked for
+  asked : (told : Option Refusal) (t : Tiling) → Read bl ct i hs rows rows_then tiles tiles_then ps ps_then e told t → IsAfter bl rows_then tiles_then ps_then (to_give t hs i.tiles i.raster) ((extent_of t).rows + 1)
+  asked told t read =
+      let rows_are = ap (λ (x : Extent). x.rows) read.extent_is in
+      let same : 0 + (0 + (e.rows + 1)) ≡ (extent_of t).rows + 1 = omega (arith, rows_are) in
+      subst (λ n. IsAfter bl rows_then tiles_then ps_then (to_give t hs i.tiles i.raster) n) same
+      (read.come.after refl (to_give t hs i.tiles i.raster) 0 (after_none bl t hs rows tiles ps i.tiles i.raster read.of_bodies read.begun read.bodies read.rasters))
+
+  ended : (told : Option Refusal) (t : Tiling) → Read bl ct i hs rows rows_then tiles tiles_then ps ps_then e told t → AreAtEnd t hs i (first_stopped 0 rows_then.mosaic.tiles.items) (HasStopped rows_then) rows_then.mosaic.seam
+  ended told t read = at_end bl t hs i rows_then tiles_then ps_then (asked told t read) read.laws read.layout read.counted read.begun.bounds read.shapes
+
+  goes : (told : Option Refusal) (t : Tiling) → Read bl ct i hs rows rows_then tiles tiles_then ps ps_then e told t → (rows_then.mosaic.progress ≡ Stopped → ⊥)
+  goes told t read = mosaic_goes bl t hs i rows_then tiles_then ps_then (asked told t read) read.laws.rows_end
+
+  -- the refusal that was told is the answer
+  pub refusal_answers : (refusal : Refusal) (t : Tiling) → t ≡ tiling_of i → ((p : Product) → of_product hs p ≡ fields_of i p) → NoneStandsBefore i 5 →
+      Read bl ct i hs rows rows_then tiles tiles_then ps ps_then e (Some refusal) t → IsAnswer i (Err refusal)
+  refusal_answers refusal t is fields none read =
+      let here = subst (Read bl ct i hs rows rows_then tiles tiles_then ps ps_then e (Some refusal)) is read in
+      told_refusal here.laws i hs fields (ended (Some refusal) (tiling_of i) here) refusal (here.tells (goes (Some refusal) (tiling_of i) here)) none
+
+  -- where none was told, the verdict is
+  pub verdict_answers : (nodata : NoDataNumbers) (verdict : Verdict) (t : Tiling) → t ≡ tiling_of i → ((p : Product) → of_product hs p ≡ fields_of i p) → NoneStandsBefore i 5 → nodata ≡ nodata_in hs →
+      OfGrid (AreGiven bl (rows, tiles, ps)) e (λ g products. IsVerdict g products nodata verdict) →
+      Read bl ct i hs rows rows_then tiles tiles_then ps ps_then e None t → IsAnswer i (Ok verdict)
+  verdict_answers nodata verdict t is fields none nodata_is of_grid read =
+      let here = subst (Read bl ct i hs rows rows_then tiles tiles_then ps ps_then e None) is read in
+      told_none here.laws i hs fields (ended None (tiling_of i) here) verdict (here.tells (goes None (tiling_of i) here)) none
+      (λ are. subst (λ (n : NoDataNumbers). IsVerdict (grid_of i) (products_of i) n verdict) nodata_is
+      (of_grid (row_given (to_give (tiling_of i) hs i.tiles i.raster)) (grid_of i) (products_of i)
+      (start_given bl (tiling_of i) hs rows tiles ps i.tiles i.raster here.of_bodies here.begun here.bodies here.rasters) (sym here.extent_is) are))
+
+-- a refusal of reading
+module _ {R : Type 0} (bl : R → Option (List ℕ)) (ct : R → FaultCounts) (rows rows_then : InputRows) (tiles tiles_then : List (TileInput R)) (ps ps_then : Products R) where
+  -- all rows were read, and no device gave up
+  pub all_read : {H : Type 0} (n : ℕ) → ReadsOn (HaveCome bl ct) (rows, tiles, ps) (rows_then, tiles_then, ps_then) n None → (H → ⊥) → HaveBeenRead bl ct (rows, tiles, ps) (rows_then, tiles_then, ps_then) H
+  all_read n reads never = record {
+    told = None;
+    exactly = (λ wrong. absurd (let no = wrong in cc), λ h. absurd (never h));
+    reads = (reads (rows, tiles, ps) 0 (come_none bl ct rows tiles ps)).reads;
+  }
+
+  pub refused : {T N : Type 0} (refusal : Refusal) → IsRowsRefusal (HaveCome bl ct) (rows, tiles, ps) (rows_then, tiles_then, ps_then) N refusal →
+      ((refusal ≡ OutOfMemory) ⊎ (refusal ≡ ReadFailed)) × HaveBeenRead bl ct (rows, tiles, ps) (rows_then, tiles_then, ps_then) (IsErrOf {T = T} (Err refusal) ReadFailed)
+  refused {T} refusal (calls, why) = elim why [
+    | inl reads ↦ (let now = (reads (rows, tiles, ps) 0 (come_none bl ct rows tiles ps)).reads in (
+      now.of_reading,
+      record {
+        told = Some refusal;
+        exactly = (λ is. (let same : refusal ≡ ReadFailed = cc in ap Err same), λ is. (let same : refusal ≡ ReadFailed = cc in ap Some same));
+        reads = now;
+      },
+    ))
+    | inr wants ↦ (
+      inl wants.0,
+      record {
+        told = None;
+        exactly = (λ wrong. absurd (let no = wrong in cc), λ is. absurd (let other : refusal ≡ ReadFailed = cc in let same = wants.0 in cc));
+        reads = (wants.1 (rows, tiles, ps) 0 (come_none bl ct rows tiles ps)).reads;
+      },
+    )
+  ]
+
+-- want of memory and a failed read may come at any point
+pub of_reading_answers : (i : Inputs) (refusal : Refusal) → (refusal ≡ OutOfMemory) ⊎ (refusal ≡ ReadFailed) → IsAnswer i (Err refusal)
+of_reading_answers i refusal why = elim why [
+  | inl is ↦ subst (IsRefusal i) (sym is) tt
+  | inr is ↦ subst (IsRefusal i) (sym is) tt
+]
+
+pub of_reading_bodies : (refusal : Refusal) → (refusal ≡ OutOfMemory) ⊎ (refusal ≡ ReadFailed) → IsOfBodies refusal
+of_reading_bodies refusal why = elim why [
+  | inl is ↦ subst IsOfBodies (sym is) tt
+  | inr is ↦ subst IsOfBodies (sym is) tt
+]

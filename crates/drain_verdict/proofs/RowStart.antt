@@ -1,0 +1,109 @@
+-- What new readers of a check's inputs are to give: the rows of the bytes.
+use Rattle.std.proofs.Common.{◌≡◌, ℕ, ◌⊎◌, List, length, Option, Some, arith, refl, sym, ap, subst, ◌∙◌, inl, inr}
+use Rattle.std.proofs.lemmas.Bool.{cases_eq}
+use Rattle.drain_device.specs.RowSteps.{coming_at}
+use Rattle.drain_grid.specs.declared.per_product.PerProduct.{PerProduct}
+use Rattle.drain_grid.specs.declared.product.Product.{Product}
+use Rattle.drain_grid.specs.declared.product.Product.TheVariants.{Con, Dir, Acc, Bas, Spl, Rnk}
+use Rattle.drain_grid.specs.PerProduct.{of_product}
+use Rattle.drain_header.specs.Fields.{Fields}
+use Rattle.drain_hgt.specs.Inputs.{AreBodies}
+use Rattle.drain_hgt.specs.declared.input.TileInput.{TileInput}
+use Rattle.drain_mosaic.specs.GivenTiles.{frame_of, mosaic_coming, tile_streams}
+use Rattle.drain_mosaic.specs.RowLaws.{NewRowsAreOfBodies}
+use Rattle.drain_mosaic.specs.Streams.{seam_from, wrong_from}
+use Rattle.drain_mosaic.specs.Tiling.{Tiling, extent_of}
+use Rattle.drain_raster.specs.RasterRows.{raster_coming, raster_rows}
+use Rattle.drain_raster.specs.declared.raster_rows.RasterRows.{RasterRows}
+use Rattle.drain_rules.specs.RowNumbers.{RowNumbers, blank}
+use Rattle.drain_verdict.specs.InputRows.{AreBegun, IsRasterBegun}
+use Rattle.drain_verdict.specs.Inputs.{Products}
+use Rattle.drain_verdict.specs.Stages.{AreRasterBodies}
+use Rattle.drain_verdict.specs.ToGive.{AreGiven, IsAfter, IsAfterTold, IsRasterAfter, IsRowGiven, ToGive, given}
+use Rattle.drain_verdict.specs.declared.input_rows.InputRows.{InputRows}
+use Rattle.drain_verdict.proofs.InputLemmas.{by_product}
+
+-- what the bodies of tiles and products are to give
+abbrev pub to_give : Tiling → PerProduct Fields → List (List ℕ) → (Product → List ℕ) → ToGive
+to_give t hs bodies rasters = record {
+  mosaic = mosaic_coming t bodies;
+  seam = seam_from (frame_of t) (extent_of t).rows 0 (tile_streams t t.corners bodies);
+  wrong = wrong_from 0 (tile_streams t t.corners bodies);
+  product = λ p. raster_rows (of_product hs p) (of_product hs p).rows (of_product hs p).skip (rasters p);
+}
+
+-- it holds of all products, or it doesn't, where that is so of each
+abbrev all_or_not : (P : Product → Type 0) → ((p : Product) → P p ⊎ ¬ P p) → ((p : Product) → P p) ⊎ ¬ ((p : Product) → P p)
+all_or_not P each = elim (each Con) [
+  | inr not ↦ inr (λ all. not (all Con))
+  | inl con ↦ elim (each Dir) [
+    | inr not ↦ inr (λ all. not (all Dir))
+    | inl dir ↦ elim (each Acc) [
+      | inr not ↦ inr (λ all. not (all Acc))
+      | inl acc ↦ elim (each Bas) [
+        | inr not ↦ inr (λ all. not (all Bas))
+        | inl bas ↦ elim (each Spl) [
+          | inr not ↦ inr (λ all. not (all Spl))
+          | inl spl ↦ elim (each Rnk) [
+            | inr not ↦ inr (λ all. not (all Rnk))
+            | inl rnk ↦ inl (by_product P con dir acc bas spl rnk)
+          ]
+        ]
+      ]
+    ]
+  ]
+]
+
+-- some row is the one of that number
+abbrev some_row : (t : ToGive) (n : ℕ) → (row : RowNumbers) × IsRowGiven t n row
+some_row t n = elim (all_or_not (λ p. length (of_product (given t n).products p) ≡ length (given t n).z) (λ p. cases_eq (length (of_product (given t n).products p)) (length (given t n).z))) [
+  | inl even ↦ (given t n, record { even = λ is. refl; uneven = λ no. absurd (no even) })
+  | inr uneven ↦ (blank, record { even = λ is. absurd (uneven is); uneven = λ no. refl })
+]
+
+abbrev pub row_given : ToGive → ℕ → RowNumbers
+row_given t n = (some_row t n).0
+
+pub is_row_given : (t : ToGive) (n : ℕ) → IsRowGiven t n (row_given t n)
+is_row_given t n = (some_row t n).1
+
+-- all rows of a raster are to come
+raster_starts : (h : Fields) (raster : RasterRows) (bytes : List ℕ) → IsRasterBegun h raster → raster_coming raster bytes ≡ raster_rows h h.rows h.skip bytes
+raster_starts h raster bytes begun =
+    ap (λ progress. coming_at progress (raster_rows raster.header raster.left raster.gap bytes)) begun.going
+    ∙ ap (λ left. raster_rows raster.header left raster.gap bytes) begun.left_is
+    ∙ ap (λ gap. raster_rows raster.header h.rows gap bytes) begun.gap_is
+    ∙ ap (λ (k : Fields). raster_rows k h.rows h.skip bytes) begun.header_is
+
+raster_after_none : (h : Fields) (raster : RasterRows) (bytes : List ℕ) (known : Option (List ℕ)) → IsRasterBegun h raster → known ≡ Some bytes → IsAfterTold raster known (raster_rows h h.rows h.skip bytes) 0
+raster_after_none h raster bytes known begun told =
+    let start : IsRasterAfter raster bytes (raster_rows h h.rows h.skip bytes) 0 = record {
+      coming_is = raster_starts h raster bytes begun;
+      stopped = λ m none. absurd (omega (arith, none));
+    } in
+    subst (λ (k : Option (List ℕ)). IsAfterTold raster k (raster_rows h h.rows h.skip bytes) 0) (sym told) start
+
+-- no row was asked for
+pub after_none : {R : Type 0} (bl : R → Option (List ℕ)) (t : Tiling) (hs : PerProduct Fields) (rows : InputRows) (tiles : List (TileInput R)) (ps : Products R) (bodies : List (List ℕ)) (rasters : Product → List ℕ) →
+    NewRowsAreOfBodies bl → AreBegun t hs rows → AreBodies bl tiles bodies → AreRasterBodies bl ps rasters → IsAfter bl rows tiles ps (to_give t hs bodies rasters) 0
+after_none bl t hs rows tiles ps bodies rasters law begun are raster_are =
+    let mosaic = law t rows.mosaic tiles bodies begun.mosaic are in
+    record {
+      mosaic = record {
+        told = mosaic.told;
+        coming_is = mosaic.rows_are;
+        seam_is = mosaic.seam_is;
+        wrong_is = mosaic.wrong_is;
+        at_end = λ m none. absurd (omega (arith, none));
+      };
+      product = λ p. raster_after_none (of_product hs p) (of_product rows.rasters p) (rasters p) (bl (of_product ps p).body) (begun.raster p) (raster_are p);
+    }
+
+-- the rows of the bytes are to be given
+pub start_given : {R : Type 0} (bl : R → Option (List ℕ)) (t : Tiling) (hs : PerProduct Fields) (rows : InputRows) (tiles : List (TileInput R)) (ps : Products R) (bodies : List (List ℕ)) (rasters : Product → List ℕ) →
+    NewRowsAreOfBodies bl → AreBegun t hs rows → AreBodies bl tiles bodies → AreRasterBodies bl ps rasters → AreGiven bl (rows, tiles, ps) (row_given (to_give t hs bodies rasters)) 0
+start_given bl t hs rows tiles ps bodies rasters law begun are raster_are = record {
+  to_give = to_give t hs bodies rasters;
+  after = after_none bl t hs rows tiles ps bodies rasters law begun are raster_are;
+  rows_are = is_row_given (to_give t hs bodies rasters);
+}
