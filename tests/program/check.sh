@@ -184,8 +184,16 @@ for words in "--side 3 --products $check/out $tile" "--side 3 --products $check/
     judge "a closed standard output: check $words" 3 "$scratch/want" $?
 done
 
-# No memory for a tile.
+# Numbers of a header are read, and never taken as memory: over short bodies each answers its refusal with little memory.
+for line in 'SKIPBYTES 4294967295' 'BANDROWBYTES 4294967295' 'TOTALROWBYTES 4294967295'; do
+    make_pit
+    echo "$line" >>"$check/out/con.hdr"
+    want 'refused RasterShort con'
+    (ulimit -v 200000 && exec timeout 20 "$drain" check --side 3 --products "$check/out" "$tile") >"$scratch/out" 2>"$scratch/err"
+    judge "$line over a short body" 2 "$scratch/want" $?
+done
+make_pit
 sed -i -E 's/^(NROWS|NCOLS) .*/\1 3601/; s/^(.DIM) .*/\1 0.000277777777778/' "$check"/out/*.hdr
-want 'failed OutOfMemory'
+want 'refused BadTileLength N00E000.hgt'
 (ulimit -v 20000 && exec "$drain" check --side 3601 --products "$check/out" "$tile") >"$scratch/out" 2>"$scratch/err"
-judge 'no memory for a tile' 3 "$scratch/want" $?
+judge 'headers of the greatest side over short bodies' 2 "$scratch/want" $?

@@ -13,3 +13,5 @@ mod header_runs;
 mod make_runs;
 #[cfg(test)]
 mod printed;
+#[cfg(test)]
+mod stamped_reads;
