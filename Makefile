@@ -44,6 +44,7 @@ test:
 bench: build/drain build/label_bench build/raster_bench build/mosaic_bench
 	bench/run.sh build/drain
 	bench/check.sh build/drain
+	bench/memory.sh build/drain
 	bench/make.sh build/drain
 	bench/labels.sh build/label_bench
 	bench/rasters.sh build/raster_bench

@@ -109,6 +109,9 @@ fn made(alloc: Global) -> Result<Vec<VecSink>, Fail> {
     let Ok((layout, products)) = make_set(alloc, 64, tiles.as_mut_slice(), &mut out) else {
         return Err("nothing was made".into());
     };
+    if files.len() != FILE_COUNT {
+        return Err("twelve files".into());
+    }
     match write_set(alloc, &layout, &products, files.as_mut_slice(), &mut out) {
         0 => Ok(files),
         _ => Err("the files were not written".into()),
@@ -122,7 +125,8 @@ fn product<'a>(
     header: usize,
     clock: &'a Cell<u64>,
 ) -> Result<RasterInput<Stamped<'a>>, Fail> {
-    let (Some(header), Some(raster)) = (files.get(header), files.get(header.saturating_add(1))) else {
+    let (Some(header), Some(raster)) = (files.get(header), files.get(header.saturating_add(1)))
+    else {
         return Err("a file is missing".into());
     };
     Ok(RasterInput {
