@@ -22,4 +22,3 @@ pub mod RowSeams
 pub mod RowLengths
 pub mod NewRows
 pub mod TileReads
-pub mod RowRuns

@@ -1,10 +1,10 @@
 -- Where the pixels of a row stand, and which kind of pixel a header has.
-use Rattle.std.proofs.Common.{◌≡◌, ◌≢◌, ℕ, ◌+◌, ◌-◌, ◌*◌, ◌/◌, ◌≤◌, ◌<◌, inl, inr, ℤ, pos, Bool, true, false, Option, Some, IfSome, List, length, take, drop, refl, arith, rules, sym, ap, ◌∙◌}
+use Rattle.std.proofs.Common.{◌≡◌, ◌≢◌, ℕ, ◌+◌, ◌-◌, ◌*◌, ◌/◌, ◌≤◌, inl, inr, ℤ, pos, Bool, true, false, Option, Some, IfSome, List, length, take, drop, refl, arith, rules, sym, ap, ◌∙◌}
 use Rattle.std.proofs.lemmas.Bool.{cases_lt}
 use Rattle.std.proofs.lemmas.List.{take_rest}
 use Rattle.std.proofs.lemmas.Grind.{not_there}
 use Rattle.std.proofs.lemmas.Int.{ints, to_z-of_z}
-use Rattle.std.proofs.Math.Nat.{mul-le-mul, mul-le-mul_left, div-mul-le_self, le-div_iff_mul-le}
+use Rattle.std.proofs.Math.Nat.{mul-le-mul_left, div-mul-le_self, le-div_iff_mul-le}
 use Rattle.std.proofs.Props.{props}
 use Rattle.byteorder.specs.Endian.{little_number, twos_complement}
 use Rattle.byteorder.specs.Numbers.{big_from-take, little_from-take}
@@ -15,7 +15,7 @@ use Rattle.drain_grid.specs.Values.{IsPixel, IsNoData}
 use Rattle.drain_header.specs.declared.header.ByteOrdering.{ByteOrdering}
 use Rattle.drain_header.specs.declared.header.ByteOrdering.TheVariants.{Least, Most}
 use Rattle.drain_header.specs.Fields.{Fields, IsPixelSize}
-use Rattle.drain_raster.specs.Pixels.{pixel_len, pixel_place, needed_len, number_in, spelled_by, pixel_of, pixel_at, AreSpelled}
+use Rattle.drain_raster.specs.Pixels.{pixel_len, number_in, spelled_by, pixel_of, pixel_at, AreSpelled}
 use Rattle.drain_raster.specs.Bytes.{least_number, greatest_number, complement_of, bytes_in, AreWritten}
 use Rattle.drain_raster.proofs.CellLists.{cell_of}
 
@@ -79,15 +79,6 @@ widest bits ok not_8 not_16 =
       | inl less ↦ absurd (not_other (λ e. omega arith))
       | inr not_less ↦ elim (cases_lt 32 bits) [ inl more ↦ absurd (not_other (λ e. omega arith)) | inr not_more ↦ omega arith ]
     ]
-
--- the place of each pixel, and of each row's end, is within the needed bytes
-pub place-within : (h : Fields) (row col : ℕ) → row < h.rows → col ≤ h.cols → pixel_place h row col ≤ needed_len h
-place-within h row col above before =
-    omega (
-      arith,
-      mul-le-mul {n₁ = row} {m₁ = h.row_bytes} {n₂ = h.rows - 1} {m₂ = h.row_bytes} (omega arith) (omega arith),
-      mul-le-mul {n₁ = col} {m₁ = pixel_len h} {n₂ = h.cols} {m₂ = pixel_len h} before (omega arith),
-    )
 
 -- a pixel takes at most 4 bytes
 pub pixel_len-most : (bits : ℕ) → ∥ IsPixelSize bits ∥₁ → bits / 8 ≤ 4
