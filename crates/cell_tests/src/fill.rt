@@ -101,7 +101,9 @@ fn voids_and_bounds(rt: HostRuntime) -> Result<(), Fail> {
 fn places_below_the_ground(rt: HostRuntime) -> Result<(), Fail> {
     let mut con = [0; 17];
     con[16] = -1;
-    let cases: [(&str, &[i16], &[i16], Option<usize>); 4] = [
+    let cases: [(&str, &[i16], &[i16], Option<usize>); 6] = [
+        ("the greatest over the least", &[32767], &[-32768], None),
+        ("the least below the greatest", &[-32768], &[32767], Some(0)),
         ("one of three", &[5, 4, 3], &[5, 4, 4], Some(2)),
         ("two of three", &[5, 3, 3], &[5, 4, 4], Some(1)),
         ("no places", &[], &[], None),
@@ -115,6 +117,26 @@ fn places_below_the_ground(rt: HostRuntime) -> Result<(), Fail> {
     for (name, con, z, wanted) in cases {
         assert!(rt; con.len() == z.len(), "{name}");
         assert_eq!(rt; first_below(con, z), wanted, "{name}");
+    }
+    Ok(())
+}
+
+/// Heights that are equal but in one place, and then in the last place too.
+#[test]
+fn the_first_place_of_each_length(rt: HostRuntime) -> Result<(), Fail> {
+    assert_eq!(rt; first_below(&[7; 67][..0], &[7; 67][..0]), None);
+    for len in 1..68 {
+        for place in 0..len {
+            for second in [place, len - 1] {
+                let mut con = [7; 67];
+                con[place] = 6;
+                con[second] = 6;
+                let (con, z) = (&con[..len], &[7; 67][..len]);
+                assert!(rt; con.len() == z.len());
+                let found = first_below(con, z);
+                assert_eq!(rt; found, Some(place), "{len} {second}");
+            }
+        }
     }
     Ok(())
 }
