@@ -7,6 +7,7 @@ use drain_device::{
     BodyFault, ByteList, ByteSink, ByteSource, DeviceFault, GaveUp, Patience, Reader, SliceSource,
     VecSink, Writer, read_body, read_full, write_all, write_nothing,
 };
+use std::alloc::{AllocError, Global};
 use std::io;
 use std::io::{ErrorKind, Read, Write};
 use std::test::Fail;
@@ -39,14 +40,11 @@ impl Write for Broken {
 fn a_slice_is_read_to_its_end(rt: HostRuntime) -> Result<(), Fail> {
     let mut source = SliceSource::new(TEXT);
     let mut out = [0; 5];
-    assert_eq!(rt; source.read_some(&mut out), Ok(5));
-    assert_eq!(rt; out.as_slice(), b"drain".as_slice());
-    let mut patience = Patience::new();
-    assert_eq!(rt; read_full(&mut source, &mut out, &mut patience), Ok(3));
-    assert_eq!(rt; out.as_slice(), b"agein".as_slice());
+    assert_eq!(rt; (source.read_some(&mut out), out), (Ok(5), *b"drain"));
+    let read = read_full(&mut source, &mut out, &mut Patience::new());
+    assert_eq!(rt; (read, out), (Ok(3), *b"agein"));
     assert_eq!(rt; source.read_some(&mut out), Ok(0));
-    assert_eq!(rt; source.failures(), 0);
-    assert_eq!(rt; source.interruptions(), 0);
+    assert_eq!(rt; (source.failures(), source.interruptions()), (0, 0));
     Ok(())
 }
 
@@ -62,32 +60,35 @@ fn a_vector_takes_all(rt: HostRuntime) -> Result<(), Fail> {
     let mut sink = VecSink::new(b"a ".to_vec(rt.alloc())?);
     // It fails only for want of memory.
     let taken = sink.write_some(TEXT).map_err(|_| BodyFault::OutOfMemory)?;
-    assert_eq!(rt; taken, 8);
-    assert_eq!(rt; sink.as_slice(), b"a drainage".as_slice());
-    assert_eq!(rt; sink.failures(), 0);
-    assert_eq!(rt; sink.interruptions(), 0);
+    assert_eq!(rt; (taken, sink.as_slice()), (8, b"a drainage".as_slice()));
+    assert_eq!(rt; (sink.failures(), sink.interruptions()), (0, 0));
     assert_eq!(rt; sink.into_inner().as_slice(), b"a drainage".as_slice());
     Ok(())
+}
+
+/// What a writer of std has of these bytes, and its stalls.
+fn written(alloc: Global, bytes: &[u8]) -> Result<(Vec<u8>, u64), Fail> {
+    let mut to = Writer::new(Vec::with_capacity(alloc, bytes.len())?);
+    write_all(&mut to, bytes, &mut Patience::new())?;
+    to.flush()?;
+    let stalls = to.stalls();
+    Ok((to.into_inner(), stalls))
 }
 
 #[test]
 fn readers_and_writers_of_std_are_devices(rt: HostRuntime) -> Result<(), Fail> {
     let mut from = Reader::new(TEXT.as_slice());
     let body = read_body(rt.alloc(), &mut from, 5)?;
-    assert_eq!(rt; body.as_slice(), b"drain".as_slice());
-    assert_eq!(rt; from.into_inner(), b"age".as_slice());
-    let mut to = Writer::new(Vec::with_capacity(rt.alloc(), 5)?);
-    write_all(&mut to, &body, &mut Patience::new())?;
-    to.flush()?;
-    assert_eq!(rt; to.stalls(), 0);
-    assert_eq!(rt; to.into_inner().as_slice(), b"drain".as_slice());
+    assert_eq!(rt;
+        (body.as_slice(), from.into_inner()),
+        (b"drain".as_slice(), b"age".as_slice())
+    );
+    let (copy, stalls) = written(rt.alloc(), &body)?;
+    assert_eq!(rt; (copy.as_slice(), stalls), (b"drain".as_slice(), 0));
     let mut room = [0; 3];
     let mut small = Writer::new(room.as_mut_slice());
-    assert_eq!(rt;
-        write_all(&mut small, TEXT, &mut Patience::new()),
-        Err(GaveUp)
-    );
-    assert_eq!(rt; small.stalls(), 1);
+    let wrote = write_all(&mut small, TEXT, &mut Patience::new());
+    assert_eq!(rt; (wrote, small.stalls()), (Err(GaveUp), 1));
     Ok(())
 }
 
@@ -101,18 +102,41 @@ fn an_interruption_of_std_is_one_and_every_other_error_is_a_failure(
         (ErrorKind::WouldBlock, DeviceFault::Failed, 1, 0),
     ] {
         let mut from = Reader::new(Broken { kind });
-        assert_eq!(rt; from.read_some(&mut [0]), Err(fault));
-        assert_eq!(rt; from.failures(), failures);
-        assert_eq!(rt; from.interruptions(), interruptions);
+        let read = from.read_some(&mut [0]);
+        assert_eq!(rt;
+            (read, from.failures(), from.interruptions()),
+            (Err(fault), failures, interruptions)
+        );
         let mut to = Writer::new(Broken { kind });
-        assert_eq!(rt; to.write_some(TEXT), Err(fault));
-        assert_eq!(rt; to.failures(), failures);
-        assert_eq!(rt; to.interruptions(), interruptions);
-        assert_eq!(rt; to.flush(), Err(fault));
-        assert_eq!(rt; to.failures() > failures, failures > 0);
-        assert_eq!(rt; to.interruptions() > interruptions, interruptions > 0);
+        let wrote = to.write_some(TEXT);
+        assert_eq!(rt;
+            (wrote, to.failures(), to.interruptions()),
+            (Err(fault), failures, interruptions)
+        );
+        let flushed = to.flush();
+        assert_eq!(rt;
+            (
+                flushed,
+                to.failures() > failures,
+                to.interruptions() > interruptions
+            ),
+            (Err(fault), failures > 0, interruptions > 0)
+        );
     }
     Ok(())
+}
+
+/// How many bytes of `TEXT` are read, one at a call, and whether they are its first.
+fn read(
+    alloc: Global,
+    script: &[Scripted<DeviceFault>],
+    limit: usize,
+) -> (Result<usize, BodyFault>, bool) {
+    let mut from = ScriptSource::new(TEXT, 1, script);
+    match read_body(alloc, &mut from, limit) {
+        Ok(body) => (Ok(body.len()), TEXT.starts_with(&body)),
+        Err(fault) => (Err(fault), true),
+    }
 }
 
 /// A source of `TEXT` that gives one byte at a call is asked nine times for all of it, the last time for the end.
@@ -136,16 +160,11 @@ fn a_read_gives_up_where_its_source_does(rt: HostRuntime) -> Result<(), Fail> {
             last,
             answer,
         }];
-        let mut from = ScriptSource::new(TEXT, 1, &script);
-        let got = read_body(rt.alloc(), &mut from, limit);
-        if let Ok(body) = &got {
-            assert_eq!(rt;
-                body.as_slice(),
-                &TEXT[..body.len()],
-                "calls {first} to {last}"
-            );
-        }
-        assert_eq!(rt; got.map(|body| body.len()), want, "calls {first} to {last}");
+        assert_eq!(rt;
+            read(rt.alloc(), &script, limit),
+            (want, true),
+            "calls {first} to {last}"
+        );
     }
     Ok(())
 }
@@ -159,6 +178,19 @@ fn a_read_with_no_memory_for_its_limit_reads_nothing(rt: HostRuntime) -> Result<
     assert_eq!(rt; from.read_some(&mut out), Ok(8));
     assert_eq!(rt; out, *TEXT);
     Ok(())
+}
+
+/// What a write of `TEXT` answers, one byte at a call; how many bytes were taken, and whether they are its first; and whether the sink tells
+/// that it gave up.
+fn write(
+    alloc: Global,
+    script: &[Scripted<SinkAnswer>],
+) -> Result<(Result<(), GaveUp>, usize, bool, bool), AllocError> {
+    let mut to = ScriptSink::new(Vec::with_capacity(alloc, 8)?, 1, script);
+    let got = write_all(&mut to, TEXT, &mut Patience::new());
+    let gave_up = to.failures() > 0 || to.stalls() > 0 || to.interruptions() > 999;
+    let taken = to.as_slice();
+    Ok((got, taken.len(), TEXT.starts_with(taken), gave_up))
 }
 
 /// A sink that takes one byte at a call is called eight times for `TEXT`.
@@ -183,13 +215,11 @@ fn a_write_gives_up_where_its_sink_does(rt: HostRuntime) -> Result<(), Fail> {
             last,
             answer,
         }];
-        let mut to = ScriptSink::new(Vec::with_capacity(rt.alloc(), 8)?, 1, &script);
-        let got = write_all(&mut to, TEXT, &mut Patience::new());
-        assert_eq!(rt; got, want, "calls {first} to {last}");
-        assert_eq!(rt; to.as_slice().len(), taken, "calls {first} to {last}");
-        assert!(rt; TEXT.starts_with(to.as_slice()), "calls {first} to {last}");
-        let gave_up = to.failures() > 0 || to.stalls() > 0 || to.interruptions() > 999;
-        assert_eq!(rt; gave_up, got.is_err(), "calls {first} to {last}");
+        assert_eq!(rt;
+            write(rt.alloc(), &script)?,
+            (want, taken, true, want.is_err()),
+            "calls {first} to {last}"
+        );
     }
     Ok(())
 }
@@ -211,8 +241,12 @@ fn a_write_of_nothing_gives_up_where_its_sink_does(rt: HostRuntime) -> Result<()
             answer,
         }];
         let mut to = ScriptSink::new(Vec::new(rt.alloc()), 1, &script);
-        assert_eq!(rt; write_nothing(&mut to), want, "calls {first} to {last}");
-        assert_eq!(rt; to.as_slice().len(), 0, "calls {first} to {last}");
+        let got = write_nothing(&mut to);
+        assert_eq!(rt;
+            (got, to.as_slice().len()),
+            (want, 0),
+            "calls {first} to {last}"
+        );
     }
     Ok(())
 }

@@ -1,6 +1,6 @@
 //! Rows of two tiles beside one another, worked out by hand, from sources that are whole, slow, interrupted or fail.
 
-ghost use Rattle.std.specs.Prelude.{◌≡◌, ◌<◌, length};
+ghost use Rattle.std.specs.Prelude.{◌≡◌, IfOk, length};
 
 use drain_device::faults::{ScriptSource, Scripted};
 use drain_device::{ByteList, DeviceFault, ReadFault, RowStep};
@@ -25,28 +25,15 @@ const BESIDE: [&str; 2] = ["N00E000.hgt", "N00E001.hgt"];
 /// What a call answers.
 type Answer = Result<RowStep, ReadFault>;
 
-/// What four calls gave.
-#[derive(Drop)]
-struct Given {
-    answers: [Answer; 4],
-    numbers: Vec<i64>,
-    seam: Option<Cell>,
-    wrong_length: Option<usize>,
-}
+/// What four calls gave: their answers; how many numbers, and the first six of them; the seam, and the tile of wrong length.
+type Given = ([Answer; 4], (usize, [i64; 6]), Option<Cell>, Option<usize>);
 
-/// A tile whose source has these bytes, with so many at a call and these faults.
-fn input<'a>(
-    alloc: Global,
-    bytes: &'a [u8],
-    most: usize,
-    script: &'a [Scripted<DeviceFault>],
-) -> Result<TileInput<ScriptSource<'a>>, Fail>
-    requires { 0 < most }
-{
-    Ok(TileInput {
+/// A tile of this source.
+fn input<'a>(alloc: Global, body: ScriptSource<'a>) -> TileInput<ScriptSource<'a>> {
+    TileInput {
         name: ByteList::new(Vec::new(alloc)),
-        body: ScriptSource::new(bytes, most, script),
-    })
+        body,
+    }
 }
 
 /// What a call answers. The numbers that it leaves in the row are put behind those of the calls before.
@@ -64,34 +51,61 @@ fn call(
     Ok(answer)
 }
 
-/// What four calls give of two tiles of side 2 with these names.
-fn four_calls<'a>(
-    alloc: Global,
-    names: [&str; 2],
-    first: TileInput<ScriptSource<'a>>,
-    last: TileInput<ScriptSource<'a>>,
-) -> Result<Given, Fail> {
+/// What four calls answer, one after the other.
+fn answers(
+    rows: &mut MosaicRows,
+    from: &mut [TileInput<ScriptSource<'_>>],
+    row: &mut Vec<i64>,
+    numbers: &mut Vec<i64>,
+) -> Result<[Answer; 4], AllocError>
+    requires { length from.old ≡ length rows.old.tiles.items }
+{
+    Ok([
+        call(rows, from, row, numbers)?,
+        call(rows, from, row, numbers)?,
+        call(rows, from, row, numbers)?,
+        call(rows, from, row, numbers)?,
+    ])
+}
+
+/// The rows of two tiles of side 2 with these names.
+fn rows_of(alloc: Global, names: [&str; 2]) -> Result<MosaicRows, Fail>
+    ensures { IfOk result (λ rows. length rows.tiles.items ≡ 2) }
+{
     let names = [
         TileName::parse(names[0].as_bytes())?,
         TileName::parse(names[1].as_bytes())?,
     ];
     let layout = Layout::new(alloc, 2, &names)?;
-    let mut rows = MosaicRows::new(alloc, &layout)?;
-    let mut from = [first, last];
-    let mut row = Vec::new(alloc);
+    Ok(MosaicRows::new(alloc, &layout)?)
+}
+
+/// The first six numbers, with zeros where there are fewer.
+fn first_six(numbers: &[i64]) -> [i64; 6] {
+    let mut first = [0; 6];
+    for (place, number) in first.iter_mut().zip(numbers) {
+        *place = *number;
+    }
+    first
+}
+
+/// What four calls give of two tiles of side 2 with these names.
+fn four_calls<'a>(
+    alloc: Global,
+    names: [&str; 2],
+    first: ScriptSource<'a>,
+    last: ScriptSource<'a>,
+) -> Result<Given, Fail> {
+    let mut rows = rows_of(alloc, names)?;
+    let mut from = [input(alloc, first), input(alloc, last)];
     let mut numbers = Vec::new(alloc);
-    let answers = [
-        call(&mut rows, &mut from, &mut row, &mut numbers)?,
-        call(&mut rows, &mut from, &mut row, &mut numbers)?,
-        call(&mut rows, &mut from, &mut row, &mut numbers)?,
-        call(&mut rows, &mut from, &mut row, &mut numbers)?,
-    ];
-    Ok(Given {
+    let answers = answers(&mut rows, &mut from, &mut Vec::new(alloc), &mut numbers)?;
+    Ok((
         answers,
-        numbers,
-        seam: rows.seam(),
-        wrong_length: rows.wrong_length(),
-    })
+        (numbers.len(), first_six(&numbers)),
+        rows.seam(),
+        rows.wrong_length(),
+    ))
 }
 
 /// Two rows, and then the end.
@@ -121,17 +135,11 @@ fn rows_of_two_tiles(rt: HostRuntime) -> Result<(), Fail> {
     ] {
         for most in [1, 100] {
             let bytes = if other { &OTHER } else { &EAST };
-            let first = input(rt.alloc(), &WEST[..west], most, &[])?;
-            let last = input(rt.alloc(), &bytes[..east], most, &[])?;
-            let given = four_calls(rt.alloc(), BESIDE, first, last)?;
+            let first = ScriptSource::new(&WEST[..west], most, &[]);
+            let last = ScriptSource::new(&bytes[..east], most, &[]);
             assert_eq!(rt;
-                (
-                    given.answers,
-                    given.numbers.as_slice(),
-                    given.seam,
-                    given.wrong_length
-                ),
-                (WHOLE, numbers.as_slice(), seam, wrong),
+                four_calls(rt.alloc(), BESIDE, first, last)?,
+                (WHOLE, (6, numbers), seam, wrong),
                 "{west} and {east} bytes, {most} at a call"
             );
         }
@@ -157,9 +165,8 @@ fn rows_of_a_tile_above_another(rt: HostRuntime) -> Result<(), Fail> {
             [1, 2, 3, 9, 7, 8],
         ),
     ] {
-        let first = input(rt.alloc(), first, 100, &[])?;
-        let last = input(rt.alloc(), last, 100, &[])?;
-        let given = four_calls(rt.alloc(), names, first, last)?;
+        let first = ScriptSource::new(first, 100, &[]);
+        let last = ScriptSource::new(last, 100, &[]);
         let answers = [
             Ok(RowStep::Row),
             Ok(RowStep::Row),
@@ -167,18 +174,8 @@ fn rows_of_a_tile_above_another(rt: HostRuntime) -> Result<(), Fail> {
             Ok(RowStep::Ended),
         ];
         assert_eq!(rt;
-            (
-                given.answers,
-                given.numbers.as_slice(),
-                given.seam,
-                given.wrong_length
-            ),
-            (
-                answers,
-                numbers.as_slice(),
-                Some(Cell { row: 1, col: 1 }),
-                None
-            )
+            four_calls(rt.alloc(), names, first, last)?,
+            (answers, (6, numbers), Some(Cell { row: 1, col: 1 }), None)
         );
     }
     Ok(())
@@ -204,11 +201,11 @@ fn a_device_that_fails(rt: HostRuntime) -> Result<(), Fail> {
             } else {
                 (&script, &[])
             };
-            let first = input(rt.alloc(), &WEST, 100, west)?;
-            let last = input(rt.alloc(), &EAST[..8], 100, east)?;
-            let given = four_calls(rt.alloc(), BESIDE, first, last)?;
+            let first = ScriptSource::new(&WEST, 100, west);
+            let last = ScriptSource::new(&EAST[..8], 100, east);
+            let (given, (count, _), _, wrong_length) = four_calls(rt.alloc(), BESIDE, first, last)?;
             assert_eq!(rt;
-                (given.answers, given.numbers.len(), given.wrong_length),
+                (given, count, wrong_length),
                 (answers, 3 * (call as usize - 1), None),
                 "call {call}"
             );
@@ -231,10 +228,10 @@ fn devices_that_are_interrupted(rt: HostRuntime) -> Result<(), Fail> {
             last: times,
             answer: DeviceFault::Interrupted,
         }];
-        let first = input(rt.alloc(), &WEST[..8], 100, &often)?;
-        let last = input(rt.alloc(), &EAST[..8], 100, &more_often)?;
-        let given = four_calls(rt.alloc(), BESIDE, first, last)?;
-        assert_eq!(rt; given.answers.first(), Some(&step), "{times} interruptions");
+        let first = ScriptSource::new(&WEST[..8], 100, &often);
+        let last = ScriptSource::new(&EAST[..8], 100, &more_often);
+        let (answers, ..) = four_calls(rt.alloc(), BESIDE, first, last)?;
+        assert_eq!(rt; answers.first(), Some(&step), "{times} interruptions");
     }
     Ok(())
 }

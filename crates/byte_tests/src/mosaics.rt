@@ -85,16 +85,20 @@ fn tiles_in_a_square(rt: HostRuntime) -> Result<(), Fail> {
     Ok(())
 }
 
-#[test]
-fn tiles_with_a_gap_between_them(rt: HostRuntime) -> Result<(), Fail> {
-    let alloc = rt.alloc();
+/// The samples of two tiles of zeros, of side 3, with a gap of one tile between them.
+fn with_a_gap(alloc: Global) -> Result<Vec<i16>, Fail> {
     let first = TileName::parse(b"N00E000.hgt")?;
     let last = TileName::parse(b"N00E002.hgt")?;
     let layout = Layout::new(alloc, 3, &[first, last])?;
     let west = Vec::from_slice(alloc, &[0; 9])?;
     let east = Vec::from_slice(alloc, &[0; 9])?;
     let elevation = join(alloc, &layout, &[west, east])?;
-    let given = samples(alloc, &elevation)?;
+    samples(alloc, &elevation)
+}
+
+#[test]
+fn tiles_with_a_gap_between_them(rt: HostRuntime) -> Result<(), Fail> {
+    let given = with_a_gap(rt.alloc())?;
     let v = VOID;
     let wanted = [
         0, 0, 0, v, 0, 0, 0, 0, 0, 0, v, 0, 0, 0, 0, 0, 0, v, 0, 0, 0,
@@ -103,10 +107,8 @@ fn tiles_with_a_gap_between_them(rt: HostRuntime) -> Result<(), Fail> {
     Ok(())
 }
 
-/// A box of 8 by 8 tiles of which only the corners are there.
-#[test]
-fn corners_of_the_largest_box(rt: HostRuntime) -> Result<(), Fail> {
-    let alloc = rt.alloc();
+/// The samples of a box of 8 by 8 tiles of side 2, of which only the corners are there, each of one number.
+fn largest_box(alloc: Global) -> Result<Vec<i16>, Fail> {
     let names = [
         TileName::parse(b"N00E000.hgt")?,
         TileName::parse(b"N07E007.hgt")?,
@@ -121,7 +123,12 @@ fn corners_of_the_largest_box(rt: HostRuntime) -> Result<(), Fail> {
         Vec::from_slice(alloc, &[4; 4])?,
     ];
     let elevation = join(alloc, &layout, &tiles)?;
-    let given = samples(alloc, &elevation)?;
+    samples(alloc, &elevation)
+}
+
+#[test]
+fn corners_of_the_largest_box(rt: HostRuntime) -> Result<(), Fail> {
+    let given = largest_box(rt.alloc())?;
     assert_eq!(rt; given.len(), 81);
     for (place, sample) in [
         (0, 4),

@@ -4,14 +4,14 @@
 ghost use Rattle.std.specs.Prelude.{◌≡◌, IfOk};
 ghost use Rattle.drain_raster.specs.Pixels.{extent_of};
 
-use crate::rasters::{NOWHERE, PADDED, numbers_of, padded, raster_of};
+use crate::rasters::{NOWHERE, PADDED, numbers_in, numbers_of, padded, raster_of};
 use drain_device::faults::{ScriptSink, Scripted, SinkAnswer};
 use drain_device::{ByteSink, VecSink};
 use drain_grid::{Cell, Product, Raster};
 use drain_header::{ByteOrdering, Header};
 use drain_raster::laws::bytes_read_back;
 use drain_raster::{WriteFault, read_raster, write_raster};
-use std::alloc::Global;
+use std::alloc::{AllocError, Global};
 use std::test::Fail;
 
 /// The bytes of the worked raster, with zeros where no pixel is.
@@ -36,10 +36,7 @@ fn a_worked_raster_is_written_and_read_back(rt: HostRuntime) -> Result<(), Fail>
         &padded(ByteOrdering::Least),
         sink.as_slice(),
     )?;
-    assert_eq!(rt;
-        numbers_of(rt.alloc(), &again)?.as_slice(),
-        [1, -2, -32768, 2].as_slice()
-    );
+    assert_eq!(rt; numbers_in(rt.alloc(), &again)?, Some([1, -2, -32768, 2]));
     Ok(())
 }
 
@@ -63,11 +60,27 @@ fn the_first_number_out_of_range_is_told_before_any_byte(rt: HostRuntime) -> Res
         }];
         let mut sink = ScriptSink::new(Vec::new(rt.alloc()), 1, &script);
         let written = write_raster(&mut sink, &padded(ByteOrdering::Least), &raster);
-        assert_eq!(rt; written, Err(WriteFault::OutOfRange(cell)));
-        assert!(rt; sink.as_slice().is_empty());
-        assert_eq!(rt; sink.failures(), 0);
+        assert_eq!(rt;
+            (written, sink.as_slice().len(), sink.failures()),
+            (Err(WriteFault::OutOfRange(cell)), 0, 0)
+        );
     }
     Ok(())
+}
+
+/// What a write of the worked raster answers, one byte at a call; how many bytes were taken, and whether they are its first.
+fn write(
+    alloc: Global,
+    raster: &Raster,
+    script: &[Scripted<SinkAnswer>],
+) -> Result<(Result<(), WriteFault>, usize, bool), AllocError>
+    requires { raster.now.extent ≡ record { rows = 2; cols = 2 } }
+{
+    let room = Vec::with_capacity(alloc, WRITTEN.len())?;
+    let mut sink = ScriptSink::new(room, 1, script);
+    let written = write_raster(&mut sink, &padded(ByteOrdering::Least), raster);
+    let taken = sink.as_slice();
+    Ok((written, taken.len(), WRITTEN.starts_with(taken)))
 }
 
 /// A sink that takes one byte at a call is called eleven times for the worked raster.
@@ -105,18 +118,14 @@ fn a_write_fails_where_its_sink_does(rt: HostRuntime) -> Result<(), Fail> {
             last,
             answer,
         }];
-        let room = Vec::with_capacity(rt.alloc(), WRITTEN.len())?;
-        let mut sink = ScriptSink::new(room, 1, &script);
-        let written = write_raster(&mut sink, &padded(ByteOrdering::Least), &raster);
         let wanted = if taken < 11 {
             Err(WriteFault::WriteFailed)
         } else {
             Ok(())
         };
-        assert_eq!(rt; written, wanted, "calls {first} to {last}");
-        assert_eq!(rt; sink.as_slice().len(), taken, "calls {first} to {last}");
-        assert!(rt;
-            WRITTEN.starts_with(sink.as_slice()),
+        assert_eq!(rt;
+            write(rt.alloc(), &raster, &script)?,
+            (wanted, taken, true),
             "calls {first} to {last}"
         );
     }
@@ -141,11 +150,8 @@ fn interruptions_add_up_over_a_write(rt: HostRuntime) -> Result<(), Fail> {
                 answer: interrupted,
             },
         ];
-        let room = Vec::with_capacity(rt.alloc(), WRITTEN.len())?;
-        let mut sink = ScriptSink::new(room, 1, &script);
-        let written = write_raster(&mut sink, &padded(ByteOrdering::Least), &raster);
-        assert_eq!(rt; written, wanted);
-        assert_eq!(rt; WRITTEN.starts_with(sink.as_slice()), true);
+        let (written, _, begins) = write(rt.alloc(), &raster, &script)?;
+        assert_eq!(rt; (written, begins), (wanted, true));
     }
     Ok(())
 }
@@ -167,9 +173,9 @@ fn long() -> Header
     }
 }
 
-#[test]
-fn long_rows_are_written_whole(rt: HostRuntime) -> Result<(), Fail> {
-    let mut bytes = Vec::new(rt.alloc());
+/// Bytes of that raster: its skipped ones and those behind a row are zeros, and each pixel's are its row, its column and a 7.
+fn long_bytes(alloc: Global) -> Result<Vec<u8>, AllocError> {
+    let mut bytes = Vec::new(alloc);
     for _ in 0..5000 {
         bytes.push(0)?;
     }
@@ -183,10 +189,23 @@ fn long_rows_are_written_whole(rt: HostRuntime) -> Result<(), Fail> {
             bytes.push(0)?;
         }
     }
+    Ok(bytes)
+}
+
+/// The last of the raster's numbers.
+fn last_of(alloc: Global, raster: &Raster) -> Result<Option<i64>, AllocError> {
+    Ok(numbers_of(alloc, raster)?.last().copied())
+}
+
+#[test]
+fn long_rows_are_written_whole(rt: HostRuntime) -> Result<(), Fail> {
+    let bytes = long_bytes(rt.alloc())?;
     let header = long();
     let raster = read_raster(rt.alloc(), Product::Acc, &header, &bytes)?;
-    let numbers = numbers_of(rt.alloc(), &raster)?;
-    assert_eq!(rt; numbers.last().copied(), Some(16777216 + 2999 * 256 + 7));
+    assert_eq!(rt;
+        last_of(rt.alloc(), &raster)?,
+        Some(16777216 + 2999 * 256 + 7)
+    );
     let mut sink = VecSink::new(Vec::with_capacity(rt.alloc(), bytes.len())?);
     write_raster(&mut sink, &header, &raster)?;
     assert!(rt; sink.as_slice() == bytes.as_slice());

@@ -79,6 +79,15 @@ pub fn raster_of(
     Ok(Some(Raster::new(shape, 0, Vec::from_slice(alloc, numbers)?)))
 }
 
+/// The raster's numbers, row by row, where there are so many; else none.
+pub fn numbers_in<const N: usize>(
+    alloc: Global,
+    raster: &Raster,
+) -> Result<Option<[i64; N]>, AllocError> {
+    let numbers = numbers_of(alloc, raster)?;
+    Ok(numbers.as_slice().try_into().ok())
+}
+
 /// The raster's numbers, row by row.
 pub fn numbers_of(alloc: Global, raster: &Raster) -> Result<Vec<i64>, AllocError> {
     let mut numbers = Vec::new(alloc);
@@ -97,14 +106,21 @@ fn a_worked_raster_is_read_in_both_orders(rt: HostRuntime) -> Result<(), Fail> {
         (ByteOrdering::Most, [256, -257, 128, 512]),
     ] {
         let raster = read_raster(rt.alloc(), Product::Con, &padded(order), &PADDED)?;
-        assert_eq!(rt; raster.shape().rows(), 2);
-        assert_eq!(rt; raster.shape().cols(), 2);
+        let shape = raster.shape();
         assert_eq!(rt;
-            numbers_of(rt.alloc(), &raster)?.as_slice(),
-            wanted.as_slice()
+            (shape.rows(), shape.cols(), numbers_in(rt.alloc(), &raster)?),
+            (2, 2, Some(wanted))
         );
     }
     Ok(())
+}
+
+/// The four numbers of the padded raster with these bytes.
+fn four_numbers(alloc: Global, bytes: &[u8]) -> Result<Result<[i64; 4], RasterFault>, Fail> {
+    match read_raster(alloc, Product::Con, &padded(ByteOrdering::Least), bytes) {
+        Ok(raster) => Ok(Ok(numbers_in(alloc, &raster)?.ok_or("four numbers")?)),
+        Err(fault) => Ok(Err(fault)),
+    }
 }
 
 /// Its last pixel ends at byte 10; the byte behind its last row isn't needed, nor looked at.
@@ -113,25 +129,16 @@ fn a_raster_is_short_before_its_last_pixel_ends(rt: HostRuntime) -> Result<(), F
     let mut bytes = [0xaa; 16];
     bytes[..10].copy_from_slice(&PADDED);
     for len in 0..=16 {
-        let read = read_raster(
-            rt.alloc(),
-            Product::Con,
-            &padded(ByteOrdering::Least),
-            &bytes[..len],
+        let wanted = if len < 10 {
+            Err(RasterFault::Short)
+        } else {
+            Ok([1, -2, -32768, 2])
+        };
+        assert_eq!(rt;
+            four_numbers(rt.alloc(), &bytes[..len])?,
+            wanted,
+            "{len} bytes"
         );
-        match read {
-            Ok(raster) => {
-                assert!(rt; len >= 10, "{len} bytes");
-                assert_eq!(rt;
-                    numbers_of(rt.alloc(), &raster)?.as_slice(),
-                    [1, -2, -32768, 2].as_slice()
-                );
-            }
-            Err(fault) => {
-                assert_eq!(rt; fault, RasterFault::Short);
-                assert!(rt; len < 10, "{len} bytes");
-            }
-        }
     }
     Ok(())
 }
@@ -195,6 +202,19 @@ const BOUNDS: [Spelling; 12] = [
     ),
 ];
 
+/// The one number that the bytes spell, and the four bytes that are written of it; none where there are more or fewer.
+fn spelled(
+    alloc: Global,
+    header: &Header,
+    bytes: &[u8],
+) -> Result<(Option<[i64; 1]>, Option<[u8; 4]>), Fail> {
+    let raster = read_raster(alloc, Product::Con, header, bytes)?;
+    let mut sink = VecSink::new(Vec::with_capacity(alloc, 4)?);
+    write_raster(&mut sink, header, &raster)?;
+    let written = sink.as_slice().try_into().ok();
+    Ok((numbers_in(alloc, &raster)?, written))
+}
+
 #[test]
 fn each_kind_of_pixel_spells_its_bounds(rt: HostRuntime) -> Result<(), Fail> {
     for (bits, signed, number, least_first, most_first) in BOUNDS {
@@ -203,17 +223,9 @@ fn each_kind_of_pixel_spells_its_bounds(rt: HostRuntime) -> Result<(), Fail> {
             (ByteOrdering::Most, most_first),
         ] {
             let header = alone(bits, signed, order);
-            let raster = read_raster(rt.alloc(), Product::Con, &header, &bytes)?;
             assert_eq!(rt;
-                numbers_of(rt.alloc(), &raster)?.as_slice(),
-                [number].as_slice(),
-                "{bits} bits"
-            );
-            let mut sink = VecSink::new(Vec::with_capacity(rt.alloc(), 4)?);
-            write_raster(&mut sink, &header, &raster)?;
-            assert_eq!(rt;
-                sink.as_slice(),
-                bytes.as_slice(),
+                spelled(rt.alloc(), &header, &bytes)?,
+                (Some([number]), Some(bytes)),
                 "{number} in {bits} bits"
             );
         }

@@ -50,39 +50,45 @@ const FAILED: [Answer; 4] = [
     Err(ReadFault::AlreadyFailed),
 ];
 
+/// How many numbers there are, and the first four, with zeros where there are fewer.
+type Numbers = (usize, [i64; 4]);
+
+/// What these numbers are.
+fn numbers_of(numbers: &[i64]) -> Numbers {
+    let mut first = [0; 4];
+    for (place, number) in first.iter_mut().zip(numbers) {
+        *place = *number;
+    }
+    (numbers.len(), first)
+}
+
 /// The answers to four calls, and the numbers that each call left in the vector, one call's behind the other's.
 fn four_calls<'a, S: RowSource<ScriptSource<'a>>>(
     alloc: Global,
     rows: &mut S,
-    from: &mut ScriptSource<'a>,
-) -> Result<([Answer; 4], Vec<i64>), AllocError> {
+    mut from: ScriptSource<'a>,
+) -> Result<([Answer; 4], Numbers), AllocError> {
     let mut answers = [Ok(RowStep::Ended); 4];
     let mut numbers = Vec::new(alloc);
     let mut row = Vec::new(alloc);
     for answer in &mut answers {
-        *answer = rows.next_row(from, &mut row);
+        *answer = rows.next_row(&mut from, &mut row);
         numbers.extend_from_slice(&row)?;
     }
-    Ok((answers, numbers))
+    Ok((answers, numbers_of(&numbers)))
 }
 
 #[test]
 fn a_tile_gives_its_rows(rt: HostRuntime) -> Result<(), Fail> {
-    for (length, most, wanted, count) in [
-        (8, 100, WHOLE, 4),
-        (8, 1, WHOLE, 4),
-        (9, 100, LONGER, 4),
-        (9, 1, LONGER, 4),
-        (7, 100, SHORTER, 2),
-        (7, 1, SHORTER, 2),
-    ] {
-        let mut from = ScriptSource::new(&TILE[..length], most, &[]);
-        let (answers, numbers) = four_calls(rt.alloc(), &mut TileRows::new(2), &mut from)?;
-        assert_eq!(rt;
-            (answers, numbers.as_slice()),
-            (wanted, &SAMPLES[..count]),
-            "{length} bytes, {most} at a call"
-        );
+    for (length, wanted, count) in [(8, WHOLE, 4), (9, LONGER, 4), (7, SHORTER, 2)] {
+        for most in [100, 1] {
+            let from = ScriptSource::new(&TILE[..length], most, &[]);
+            assert_eq!(rt;
+                four_calls(rt.alloc(), &mut TileRows::new(2), from)?,
+                (wanted, numbers_of(&SAMPLES[..count])),
+                "{length} bytes, {most} at a call"
+            );
+        }
     }
     Ok(())
 }
@@ -99,12 +105,10 @@ fn a_raster_gives_its_rows(rt: HostRuntime) -> Result<(), Fail> {
             (9, 100, SHORTER, 2),
             (9, 1, SHORTER, 2),
         ] {
-            let mut from = ScriptSource::new(&PADDED[..length], most, &[]);
-            let mut rows = RasterRows::new(padded(order));
-            let (answers, numbers) = four_calls(rt.alloc(), &mut rows, &mut from)?;
+            let from = ScriptSource::new(&PADDED[..length], most, &[]);
             assert_eq!(rt;
-                (answers, numbers.as_slice()),
-                (told, &wanted[..count]),
+                four_calls(rt.alloc(), &mut RasterRows::new(padded(order)), from)?,
+                (told, numbers_of(&wanted[..count])),
                 "{length} bytes, {most} at a call"
             );
         }
@@ -132,15 +136,17 @@ fn rows_fail_where_their_source_gives_up(rt: HostRuntime) -> Result<(), Fail> {
         (faults(interrupted, (2, 501), (506, 1004)), WHOLE, 4),
         (faults(interrupted, (2, 501), (506, 1005)), FAILED, 2),
     ] {
-        let mut from = ScriptSource::new(&TILE[..8], 1, &script);
-        let (answers, numbers) = four_calls(rt.alloc(), &mut TileRows::new(2), &mut from)?;
-        assert_eq!(rt; (answers, numbers.as_slice()), (wanted, &SAMPLES[..count]));
-        let mut from = ScriptSource::new(&PADDED, 1, &script);
+        let from = ScriptSource::new(&TILE[..8], 1, &script);
+        let of_tile = four_calls(rt.alloc(), &mut TileRows::new(2), from)?;
+        let from = ScriptSource::new(&PADDED, 1, &script);
         let mut rows = RasterRows::new(padded(ByteOrdering::Least));
-        let (answers, numbers) = four_calls(rt.alloc(), &mut rows, &mut from)?;
+        let of_raster = four_calls(rt.alloc(), &mut rows, from)?;
         assert_eq!(rt;
-            (answers, numbers.as_slice()),
-            (wanted, &[1, -2, -32768, 2][..count])
+            (of_tile, of_raster),
+            (
+                (wanted, numbers_of(&SAMPLES[..count])),
+                (wanted, numbers_of(&[1, -2, -32768, 2][..count])),
+            )
         );
     }
     Ok(())

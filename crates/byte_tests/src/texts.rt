@@ -15,9 +15,8 @@ fn first_lines(rt: HostRuntime) -> Result<(), Fail> {
         ("a\rb\r", "a\rb", None),
         ("\r", "", None),
     ] {
-        let (first, after) = first_line(text.as_bytes());
-        assert_eq!(rt; first, line.as_bytes(), "{text}");
-        assert_eq!(rt; after, rest.map(|rest| rest.as_bytes()), "{text}");
+        let wanted = (line.as_bytes(), rest.map(|rest| rest.as_bytes()));
+        assert_eq!(rt; first_line(text.as_bytes()), wanted, "{text}");
     }
     Ok(())
 }

@@ -1,11 +1,31 @@
 //! Worked layouts: boxes, and the faults of lists, up to the 64 tiles of a full box.
 
+ghost use Rattle.drain_grid.specs.Tile.{IsSide};
+
 use drain_grid::Cell;
 use drain_grid::tile::is_side;
 use drain_hgt::TileName;
 use drain_mosaic::{Layout, LayoutFault};
 use std::alloc::Global;
 use std::test::Fail;
+
+/// What the layout of two tiles tells: its rows and columns, its west and north, its side and length, and its last tile.
+fn told(
+    alloc: Global,
+    side: u32,
+    names: [TileName; 2],
+) -> Result<((u32, u32), (i16, i16), (u32, usize), TileName), LayoutFault>
+    requires { IsSide side }
+{
+    let layout = Layout::new(alloc, side, &names)?;
+    let shape = layout.shape();
+    Ok((
+        (shape.rows(), shape.cols()),
+        (layout.west(), layout.north()),
+        (layout.side(), layout.len()),
+        layout.name(1),
+    ))
+}
 
 #[test]
 fn boxes_of_tiles(rt: HostRuntime) -> Result<(), Fail> {
@@ -19,20 +39,23 @@ fn boxes_of_tiles(rt: HostRuntime) -> Result<(), Fail> {
         let first = TileName::parse(names[0].as_bytes())?;
         let last = TileName::parse(names[1].as_bytes())?;
         assert!(rt; is_side(side));
-        let layout = Layout::new(rt.alloc(), side, &[first, last])?;
-        let shape = layout.shape();
-        assert_eq!(rt; (shape.rows(), shape.cols()), (rows, cols), "{side}");
-        assert_eq!(rt; (layout.west(), layout.north()), (west, north), "{side}");
-        assert_eq!(rt; (layout.side(), layout.len()), (side, 2));
-        assert_eq!(rt; layout.name(1), last);
+        assert_eq!(rt;
+            told(rt.alloc(), side, [first, last])?,
+            ((rows, cols), (west, north), (side, 2), last),
+            "{side}"
+        );
     }
     Ok(())
 }
 
+/// The fault of tiles of side 2, none where they make a mosaic.
+fn fault_of(alloc: Global, tiles: &[TileName]) -> Option<LayoutFault> {
+    Layout::new(alloc, 2, tiles).err()
+}
+
 #[test]
 fn tiles_that_make_no_mosaic(rt: HostRuntime) -> Result<(), Fail> {
-    let none = Layout::new(rt.alloc(), 2, &[]);
-    assert_eq!(rt; none.err(), Some(LayoutFault::NoTiles));
+    assert_eq!(rt; fault_of(rt.alloc(), &[]), Some(LayoutFault::NoTiles));
     let here = TileName::parse(b"N00E000.hgt")?;
     let beside = TileName::parse(b"N00E001.hgt")?;
     for (names, fault) in [
@@ -63,8 +86,7 @@ fn tiles_that_make_no_mosaic(rt: HostRuntime) -> Result<(), Fail> {
             TileName::parse(names[2].as_bytes())?,
             TileName::parse(names[3].as_bytes())?,
         ];
-        let layout = Layout::new(rt.alloc(), 2, &tiles);
-        assert_eq!(rt; layout.err(), Some(fault));
+        assert_eq!(rt; fault_of(rt.alloc(), &tiles), Some(fault));
     }
     Ok(())
 }
@@ -98,6 +120,12 @@ fn a_full_box(rt: HostRuntime) -> Result<(), Fail> {
         assert_eq!(rt; layout.place(tile), Cell { row, col }, "{tile}");
     }
     Ok(())
+}
+
+/// The fault of a full box between two more tiles.
+fn fault_of_box(alloc: Global, front: &str, back: &str) -> Result<Option<LayoutFault>, Fail> {
+    let names = full_box(alloc, front, back)?;
+    Ok(fault_of(alloc, &names))
 }
 
 #[test]
@@ -144,9 +172,11 @@ fn faults_of_many_tiles(rt: HostRuntime) -> Result<(), Fail> {
             LayoutFault::BoxTooLarge,
         ),
     ] {
-        let names = full_box(rt.alloc(), front, back)?;
-        let layout = Layout::new(rt.alloc(), 2, &names);
-        assert_eq!(rt; layout.err(), Some(wanted), "{case}");
+        assert_eq!(rt;
+            fault_of_box(rt.alloc(), front, back)?,
+            Some(wanted),
+            "{case}"
+        );
     }
     Ok(())
 }

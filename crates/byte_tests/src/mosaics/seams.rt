@@ -63,12 +63,9 @@ fn one_beside_the_other(rt: HostRuntime) -> Result<(), Fail> {
         ("extremes", [32767, 0, 0, -32767, 0, 0, 9, 0, 0], Some(0)),
     ] {
         let wanted = row.map(|row| Cell { row, col: 2 });
-        let names = ["N00E000.hgt", "N00E001.hgt"];
-        let seam = seam_of_pair(rt.alloc(), names, west, east)?;
-        assert_eq!(rt; seam, wanted, "{case}");
-        let names = ["N00E001.hgt", "N00E000.hgt"];
-        let seam = seam_of_pair(rt.alloc(), names, east, west)?;
-        assert_eq!(rt; seam, wanted, "{case}, named from the east");
+        let from_west = seam_of_pair(rt.alloc(), ["N00E000.hgt", "N00E001.hgt"], west, east)?;
+        let from_east = seam_of_pair(rt.alloc(), ["N00E001.hgt", "N00E000.hgt"], east, west)?;
+        assert_eq!(rt; (from_west, from_east), (wanted, wanted), "{case}");
     }
     Ok(())
 }
@@ -90,12 +87,9 @@ fn one_above_the_other(rt: HostRuntime) -> Result<(), Fail> {
         ("voids", [v, v, v, 0, 0, 0, 0, 0, 0], None),
     ] {
         let wanted = col.map(|col| Cell { row: 2, col });
-        let names = ["N01E000.hgt", "N00E000.hgt"];
-        let seam = seam_of_pair(rt.alloc(), names, north, south)?;
-        assert_eq!(rt; seam, wanted, "{case}");
-        let names = ["N00E000.hgt", "N01E000.hgt"];
-        let seam = seam_of_pair(rt.alloc(), names, south, north)?;
-        assert_eq!(rt; seam, wanted, "{case}, named from the south");
+        let from_north = seam_of_pair(rt.alloc(), ["N01E000.hgt", "N00E000.hgt"], north, south)?;
+        let from_south = seam_of_pair(rt.alloc(), ["N00E000.hgt", "N01E000.hgt"], south, north)?;
+        assert_eq!(rt; (from_north, from_south), (wanted, wanted), "{case}");
     }
     Ok(())
 }
