@@ -3,6 +3,7 @@
 ghost use Rattle.std.specs.Prelude.{None};
 ghost use Rattle.drain_device.specs.Counts.{no_faults};
 
+use crate::printed::told;
 use drain_cli::make_set::make_set;
 use drain_cli::run_check::run_check;
 use drain_cli::write_set::write_set;
@@ -107,12 +108,15 @@ fn made(alloc: Global) -> Result<Vec<VecSink>, Fail> {
         files.push(VecSink::new(Vec::with_capacity(alloc, 4 * SIDE * SIDE)?))?;
     }
     let Ok((layout, products)) = make_set(alloc, 64, tiles.as_mut_slice(), &mut out) else {
+        told(out.as_slice())?;
         return Err("nothing was made".into());
     };
     if files.len() != FILE_COUNT {
         return Err("twelve files".into());
     }
-    match write_set(alloc, &layout, &products, files.as_mut_slice(), &mut out) {
+    let status = write_set(alloc, &layout, &products, files.as_mut_slice(), &mut out);
+    told(out.as_slice())?;
+    match status {
         0 => Ok(files),
         _ => Err("the files were not written".into()),
     }
@@ -152,7 +156,9 @@ fn stamps(alloc: Global, files: &[VecSink]) -> Result<[(Stamps, Stamps); 7], Fai
         rnk: product(alloc, files, 10, &clock)?,
     };
     let mut out = VecSink::new(Vec::with_capacity(alloc, 300)?);
-    if run_check(alloc, 64, tiles.as_mut_slice(), &mut products, &mut out) != 0 {
+    let status = run_check(alloc, 64, tiles.as_mut_slice(), &mut products, &mut out);
+    told(out.as_slice())?;
+    if status != 0 {
         return Err("not accepted".into());
     }
     let Some(tile) = tiles.first() else {
