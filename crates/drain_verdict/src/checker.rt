@@ -1,7 +1,8 @@
 //! The check of products against the tiles that they were made from: from the bytes that devices give to the answer.
 //!
-//! It goes in stages, in the order of their refusals: side, names and layout; the headers, product by product; the tiles; the rasters; the
-//! seams; and then the rules. No device is called before every header is right.
+//! It goes in stages, in the order of their refusals: side, names and layout; the headers, product by product; then the rows of all tiles and
+//! rasters together. Behind the last row the tiles, the rasters and the seams are refused, in this order, and else the rules have the verdict.
+//! No device is called before every header is right.
 
 ghost use Rattle.std.specs.Prelude.{◌≡◌, length, map, IfErr, IsErrOf};
 ghost use Rattle.drain_grid.specs.declared.per_product.PerProduct.{PerProduct};
