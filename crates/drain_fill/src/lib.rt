@@ -15,7 +15,7 @@ ghost use Rattle.std.specs.Prelude.{◌≡◌, ◌↔◌, ◌<ℤ◌, IsTrue, So
 ghost use Rattle.std.specs.Int.{int_max};
 ghost use Rattle.drain_grid.specs.Patch.{IsOpen, height};
 ghost use Rattle.drain_grid.specs.PatchRules.{fill_rules, BelowGroundHolds, OpenRaisedHolds, NotLeastHolds};
-ghost use Rattle.drain_grid.specs.Rule.{IsFillRule, IsLevelRule, IsSpillRule, IsLeastFault};
+ghost use Rattle.drain_grid.specs.Rule.{IsFillRule, IsAboveRule, IsLevelRule, IsSpillRule, IsLeastFault};
 
 pub use below::first_below;
 use drain_grid::{CellValues, Patch, Rule};
@@ -23,6 +23,21 @@ use drain_grid::{CellValues, Patch, Rule};
 /// The first of the six rules that fails at the cell, none where they all hold. A void keeps them all.
 pub fn fault(patch: &Patch) -> Option<Rule>
     ensures least { IsLeastFault IsFillRule (fill_rules patch.now) result }
+{
+    if is_above_ground(patch) {
+        fault_above(patch)
+    } else {
+        Some(Rule::BelowGround)
+    }
+}
+
+/// The first of the five rules after BelowGround that fails at a cell that is not below its ground, none where they
+/// all hold.
+///
+/// The cells of a row before the place that `first_below` answers are such cells.
+pub fn fault_above(patch: &Patch) -> Option<Rule>
+    requires above { BelowGroundHolds patch.now }
+    ensures least { IsLeastFault IsAboveRule (fill_rules patch.now) result }
 {
     let Some(ground) = patch.here.z else {
         return None;
@@ -37,14 +52,21 @@ pub fn fault(patch: &Patch) -> Option<Rule>
     }
 }
 
-/// The first of the rules but NotLeast that fails at a data cell, none where they hold.
+/// Whether the cell is not below its ground. A void never is.
+fn is_above_ground(patch: &Patch) -> bool
+    ensures { IsTrue result ↔ BelowGroundHolds patch.now }
+{
+    match patch.here.z {
+        Some(ground) => ground as i64 <= patch.here.con,
+        None => true,
+    }
+}
+
+/// The first of them but NotLeast that fails at a data cell, none where they hold.
 fn level_fault(patch: &Patch, ground: i16) -> Option<Rule>
     requires { patch.now.here.z ≡ Some ground }
     ensures least { IsLeastFault IsLevelRule (fill_rules patch.now) result }
 {
-    if !is_above_ground(patch, ground) {
-        return Some(Rule::BelowGround);
-    }
     if !patch.is_open() {
         return spill_fault(patch, ground);
     }
@@ -53,14 +75,6 @@ fn level_fault(patch: &Patch, ground: i16) -> Option<Rule>
     } else {
         Some(Rule::OpenRaised)
     }
-}
-
-/// Whether the cell is not below its ground.
-fn is_above_ground(patch: &Patch, ground: i16) -> bool
-    requires { patch.now.here.z ≡ Some ground }
-    ensures { IsTrue result ↔ BelowGroundHolds patch.now }
-{
-    ground as i64 <= patch.here.con
 }
 
 /// Whether an open cell is neither raised nor has a spill parent.

@@ -1,26 +1,12 @@
-use Rattle.std.proofs.Common.{refl, Some, None, arith}
-use Rattle.drain_grid.specs.declared.rule.Rule.TheVariants.{BelowGround, SpillRank, NotLeast}
+use Rattle.std.proofs.Common.{refl, arith}
+use Rattle.drain_grid.specs.declared.rule.Rule.TheVariants.{BelowGround, NotLeast}
 use Rattle.drain_grid.specs.PatchRules.{fill_rules}
-use Rattle.std.proofs.lemmas.Bool.{false≢true}
-use Rattle.drain_grid.proofs.LeastFaults.{holds_alone, fails_alone, found_first, found_next}
+use Rattle.drain_grid.proofs.LeastFaults.{holds_alone, found_next}
 use Rattle.drain_fill.proofs.fault.Goals as goal
 
-pub returns-in-Some-level_fault : goal.returns-in-Some-level_fault
-returns-in-Some-level_fault c = record {
-  least = found_first (fill_rules c.args.patch.now) BelowGround SpillRank NotLeast c.in-Some-level_fault.rule (omega arith)
-      (c.in-Some-level_fault.ensures.least);
-}
-
-pub returns-then-is_least : goal.returns-then-is_least
-returns-then-is_least c = record {
+pub returns-then-is_above_ground : goal.returns-then-is_above_ground
+returns-then-is_above_ground c = record {
   least = let P = fill_rules c.args.patch.now in
-      found_next P BelowGround SpillRank NotLeast None (omega arith) (c.in_default-level_fault.ensures.least)
-      (holds_alone P NotLeast (c.if-is_least.ensures.0 refl));
-}
-
-pub returns-else-is_least : goal.returns-else-is_least
-returns-else-is_least c = record {
-  least = let P = fill_rules c.args.patch.now in
-      found_next P BelowGround SpillRank NotLeast (Some NotLeast) (omega arith) (c.in_default-level_fault.ensures.least)
-      (fails_alone P NotLeast (λ holds. false≢true (c.if-is_least.ensures.1 holds)));
+      found_next P BelowGround BelowGround NotLeast c.fault_above.result (omega arith) (holds_alone P BelowGround (c.if-is_above_ground.ensures.0 refl))
+      (c.fault_above.ensures.least);
 }

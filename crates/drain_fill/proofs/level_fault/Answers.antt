@@ -1,6 +1,6 @@
-use Rattle.std.proofs.Common.{refl, arith}
+use Rattle.std.proofs.Common.{arith}
 use Rattle.std.proofs.lemmas.Bool.{false≢true}
-use Rattle.drain_grid.specs.declared.rule.Rule.TheVariants.{BelowGround, OpenRaised, SpillRank}
+use Rattle.drain_grid.specs.declared.rule.Rule.TheVariants.{OpenRaised, SpillRank}
 use Rattle.drain_grid.specs.PatchRules.{fill_rules}
 use Rattle.drain_grid.proofs.LeastFaults.{holds_alone, found_next}
 use Rattle.drain_fill.proofs.level_fault.Goals as goal
@@ -8,8 +8,7 @@ use Rattle.drain_fill.proofs.level_fault.Goals as goal
 pub returns-then-not-is_open : goal.returns-then-not-is_open
 returns-then-not-is_open c = record {
   least = let P = fill_rules c.args.patch.now in
-      found_next P BelowGround BelowGround SpillRank c.spill_fault.result (omega arith) (holds_alone P BelowGround (c.if-not-is_above_ground.ensures.0 refl))
-      (found_next P OpenRaised OpenRaised SpillRank c.spill_fault.result (omega arith)
+      found_next P OpenRaised OpenRaised SpillRank c.spill_fault.result (omega arith)
       (holds_alone P OpenRaised (λ opened. absurd (false≢true (c.if-not-is_open.ensures.1 opened))))
-      (c.spill_fault.ensures.least));
+      (c.spill_fault.ensures.least);
 }

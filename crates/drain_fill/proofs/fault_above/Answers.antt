@@ -1,0 +1,26 @@
+use Rattle.std.proofs.Common.{refl, Some, None, arith}
+use Rattle.drain_grid.specs.declared.rule.Rule.TheVariants.{OpenRaised, SpillRank, NotLeast}
+use Rattle.drain_grid.specs.PatchRules.{fill_rules}
+use Rattle.std.proofs.lemmas.Bool.{false≢true}
+use Rattle.drain_grid.proofs.LeastFaults.{holds_alone, fails_alone, found_first, found_next}
+use Rattle.drain_fill.proofs.fault_above.Goals as goal
+
+pub returns-in-Some-level_fault : goal.returns-in-Some-level_fault
+returns-in-Some-level_fault c = record {
+  least = found_first (fill_rules c.args.patch.now) OpenRaised SpillRank NotLeast c.in-Some-level_fault.rule (omega arith)
+      (c.in-Some-level_fault.ensures.least);
+}
+
+pub returns-then-is_least : goal.returns-then-is_least
+returns-then-is_least c = record {
+  least = let P = fill_rules c.args.patch.now in
+      found_next P OpenRaised SpillRank NotLeast None (omega arith) (c.in_default-level_fault.ensures.least)
+      (holds_alone P NotLeast (c.if-is_least.ensures.0 refl));
+}
+
+pub returns-else-is_least : goal.returns-else-is_least
+returns-else-is_least c = record {
+  least = let P = fill_rules c.args.patch.now in
+      found_next P OpenRaised SpillRank NotLeast (Some NotLeast) (omega arith) (c.in_default-level_fault.ensures.least)
+      (fails_alone P NotLeast (λ holds. false≢true (c.if-is_least.ensures.1 holds)));
+}
