@@ -8,3 +8,4 @@ pub mod PatchFaults
 pub mod RowFields
 pub mod RowLemmas
 pub mod RowPatches
+pub mod Screens

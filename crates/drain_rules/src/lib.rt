@@ -19,6 +19,7 @@ pub mod patch_rules;
 pub mod raster_walk;
 pub mod row_view;
 pub mod row_walk;
+pub mod screen;
 pub mod tally;
 pub mod three_rows;
 pub mod verdict;

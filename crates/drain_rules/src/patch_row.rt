@@ -5,6 +5,7 @@
 ghost use Rattle.std.specs.Prelude.{◌≡◌, ◌<◌, ◌≤◌, ℕ};
 ghost use Rattle.drain_grid.specs.declared.cell.TheConstants.{MAX_LENGTH};
 ghost use Rattle.drain_grid.specs.declared.patch.Patch.{Patch};
+ghost use Rattle.drain_grid.specs.PatchRules.{BelowGroundHolds};
 
 use drain_grid::Patch;
 
@@ -20,6 +21,10 @@ pub trait PatchRow {
     fn cols(&self) -> u32
         ensures count { result ≡ len self.now }
         ensures narrow { result ≤ MAX_LENGTH };
+
+    /// How many of its first cells are seen together not to be below their ground. It may answer less than there are.
+    fn cells_above_ground(&self) -> u32
+        ensures { (col : ℕ) → col < result → col < len self.now → BelowGroundHolds (shown self.now col) };
 
     /// The values at a column and those of its neighbours.
     fn patch(&self, col: u32) -> Patch

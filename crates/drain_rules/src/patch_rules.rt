@@ -1,7 +1,8 @@
 //! The first rule that fails at a cell, of those that look at its patch alone.
 
-ghost use Rattle.drain_grid.specs.PatchRules.{check_rules};
-ghost use Rattle.drain_grid.specs.Rule.{IsPatchRule, IsLeastFault};
+ghost use Rattle.std.specs.Prelude.{IsTrue};
+ghost use Rattle.drain_grid.specs.PatchRules.{check_rules, fill_rules, BelowGroundHolds};
+ghost use Rattle.drain_grid.specs.Rule.{IsFillRule, IsPatchRule, IsLeastFault};
 
 use drain_grid::{NoData, Patch, Rule};
 
@@ -11,10 +12,18 @@ use drain_grid::{NoData, Patch, Rule};
 pub fn patch_fault(patch: &Patch, nodata: &NoData) -> Option<Rule>
     ensures least { IsLeastFault IsPatchRule (check_rules nodata.now patch.now) result }
 {
+    screened_fault(patch, nodata, false)
+}
+
+/// The same, of a cell that may be known not to be below its ground (`is_above`): then that isn't asked again.
+pub fn screened_fault(patch: &Patch, nodata: &NoData, is_above: bool) -> Option<Rule>
+    requires { IsTrue is_above → BelowGroundHolds patch.now }
+    ensures least { IsLeastFault IsPatchRule (check_rules nodata.now patch.now) result }
+{
     if let Some(rule) = patch.presence_fault(nodata) {
         return Some(rule);
     }
-    if let Some(rule) = drain_fill::fault(patch) {
+    if let Some(rule) = fill_fault(patch, is_above) {
         return Some(rule);
     }
     if let Some(rule) = drain_slope::fault(patch) {
@@ -27,4 +36,16 @@ pub fn patch_fault(patch: &Patch, nodata: &NoData) -> Option<Rule>
         return Some(rule);
     }
     drain_basin::fault(patch)
+}
+
+/// The first of the rules on the conditioned elevation that fails at such a cell, none where they all hold.
+fn fill_fault(patch: &Patch, is_above: bool) -> Option<Rule>
+    requires { IsTrue is_above → BelowGroundHolds patch.now }
+    ensures least { IsLeastFault IsFillRule (fill_rules patch.now) result }
+{
+    if is_above {
+        drain_fill::fault_above(patch)
+    } else {
+        drain_fill::fault(patch)
+    }
 }

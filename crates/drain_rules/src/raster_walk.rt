@@ -76,6 +76,11 @@ impl<'a> PatchRow for RasterRow<'a> {
         self.elevation.shape().cols()
     }
 
+    /// None: each cell of rasters held whole is asked by itself.
+    fn cells_above_ground(&self) -> u32 {
+        0
+    }
+
     fn patch(&self, col: u32) -> Patch {
         self.products
             .patch(self.elevation, Cell { row: self.row, col })

@@ -1,6 +1,7 @@
 //! A row of a grid and its products, as slices of numbers.
 
-ghost use Rattle.std.specs.Prelude.{◌≡◌, ◌≢◌, ◌≤◌, ◌<◌, Some, length, pos, slice_index_or};
+ghost use Rattle.std.specs.Prelude.{ℕ, ◌≡◌, ◌≢◌, ◌≤◌, ◌<◌, Some, length, pos, slice_index_or};
+ghost use Rattle.drain_fill.specs.Below.{AreHeights, IsBelowAt};
 ghost use Rattle.drain_grid.specs.declared.cell.TheConstants.{MAX_LENGTH};
 ghost use Rattle.drain_grid.specs.declared.tile.TheConstants.{VOID};
 ghost use Rattle.drain_grid.specs.PerProduct.{of_product, per_product};
@@ -8,6 +9,7 @@ ghost use Rattle.drain_grid.specs.Tile.{IsSample, height_from};
 ghost use Rattle.drain_grid.specs.Values.{IsPixel};
 ghost use Rattle.drain_rules.specs.RowNumbers.{AreRowNumbers, values_in, beside, west_of};
 
+use crate::screen::cells_above_ground;
 use drain_grid::tile::height_from;
 use drain_grid::{CellValues, PerProduct, Product};
 use std::marker::Model;
@@ -45,6 +47,16 @@ impl<'a> RowView<'a> {
         ensures narrow { result ≤ MAX_LENGTH }
     {
         self.z.len() as u32
+    }
+
+    /// The first column whose conditioned elevation is below its ground, the number of columns where there is none. Where a conditioned
+    /// elevation doesn't fit 16 bits the answer may be a column before.
+    pub fn cells_above_ground(&self) -> u32
+        ensures within { result ≤ length self.now.z }
+        ensures above { (col : ℕ) → col < result → ¬ IsBelowAt self.now.products.con self.now.z col }
+        ensures first { AreHeights self.now.products.con → result < length self.now.z → IsBelowAt self.now.products.con self.now.z result }
+    {
+        cells_above_ground(self.products.con, self.z) as u32
     }
 
     /// What the row says at a column.

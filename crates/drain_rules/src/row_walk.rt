@@ -34,10 +34,11 @@ pub fn check_row<R: PatchRow>(
     ensures stopped { IfErr result (λ end. OfRow (R.len row.now) (R.shown row.now) labels.old (λ g ps r. IsRowStop nodata.now g ps r end)) }
     ensures bounds { IfOk result (IsAtMost MAX_LENGTH) }
 {
+    let above = row.cells_above_ground();
     let mut tally = Tally::new();
     for col in 0..row.cols() {
         let patch = row.patch(col);
-        match check_cell(&patch, nodata, labels) {
+        match check_cell(&patch, nodata, col < above, labels) {
             Ok(()) => tally.add(&patch.here),
             Err(stop) => return Err(RowStop { stop, col }),
         }

@@ -24,6 +24,10 @@ impl PatchRow for ThreeRows<'_> {
         self.here.cols()
     }
 
+    fn cells_above_ground(&self) -> u32 {
+        self.here.cells_above_ground()
+    }
+
     fn patch(&self, col: u32) -> Patch {
         let col = col as usize;
         Patch {

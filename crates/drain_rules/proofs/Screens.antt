@@ -1,0 +1,31 @@
+-- The heights of a row, some at a time, in 16 bits each.
+use Rattle.std.proofs.Common.{◌≡◌, ◌∙◌, ◌+◌, ◌-◌, ◌<◌, ◌≤◌, ℕ, ℤ, pos, List, length, drop, All, slice_index_or, slice_range, get_or-take, get_or-drop, inl, inr, FitsSigned, w16, rules, arith}
+use Rattle.std.proofs.lemmas.Bool.{cases_lt}
+use Rattle.drain_fill.specs.Below.{AreHeights, IsBelowAt}
+use Rattle.drain_grid.specs.Tile.{IsSample}
+
+-- the first numbers fit, and are in their places
+pub record ArePut (numbers out : List ℤ) (place : ℕ) : Type 0 where
+  pub long : length out ≡ length numbers
+  pub fit : (k : ℕ) → k < place → FitsSigned w16 (slice_index_or numbers k (pos 0))
+  pub same : (k : ℕ) → k < place → slice_index_or out k (pos 0) ≡ slice_index_or numbers k (pos 0)
+
+-- a number of a part of a list is that of the list, so many places on
+in_part : (xs : List ℤ) (at end k : ℕ) → k < end - at → slice_index_or (slice_range xs at end) k (pos 0) ≡ slice_index_or xs (at + k) (pos 0)
+in_part xs at end k less = get_or-take (end - at) (drop at xs) k (pos 0) less ∙ get_or-drop at xs k (pos 0)
+
+-- where no place before is below the ground, and none of so many in the next part, none of them all is
+pub clear_on : (con ground : List ℤ) (at end above : ℕ) → above ≤ end - at → ((place : ℕ) → place < at → ¬ IsBelowAt con ground place) →
+    ((place : ℕ) → place < above → ¬ IsBelowAt (slice_range con at end) (slice_range ground at end) place) →
+    (place : ℕ) → place < at + above → ¬ IsBelowAt con ground place
+clear_on con ground at end above within before here place less = elim (cases_lt place at) [
+  | inl earlier ↦ before place earlier
+  | inr later ↦ (let k : ℕ = place - at in
+      let there : at + k ≡ place = omega (arith, later) in
+      let inside : k < above = omega (arith, later, less) in
+      λ below. here k inside (rw (in_part con at end k (omega (arith, inside, within)), in_part ground at end k (omega (arith, inside, within)), there) below))
+]
+
+-- samples fit 16 bits
+pub samples_fit : (samples : List ℤ) → All IsSample samples → AreHeights samples
+samples_fit samples all place less = let s = all place (pos 0) less in search (rules, s.low, s.high)

@@ -1,0 +1,64 @@
+//! How many of a row's first cells are not below their ground, seen sixteen cells at a time.
+
+ghost use Rattle.std.specs.Prelude.{◌≡◌, ◌<◌, ◌≤◌, ◌↔◌, ℕ, IsTrue, length};
+ghost use Rattle.drain_fill.specs.Below.{AreHeights, IsBelowAt};
+
+use drain_fill::first_below;
+
+/// How many cells are looked at in one go: their heights are on the stack.
+const BLOCK: usize = 256;
+
+/// The place of the first conditioned elevation below its ground, their number where there is none.
+///
+/// A void counts with its sample, -32768, which nothing is below. Where a number doesn't fit 16 bits the answer may be a place before.
+pub fn cells_above_ground(con: &[i64], ground: &[i64]) -> usize
+    requires { length con.now ≡ length ground.now }
+    ensures within { result ≤ length con.now }
+    ensures above { (place : ℕ) → place < result → ¬ IsBelowAt con.now ground.now place }
+    ensures first { AreHeights con.now → AreHeights ground.now → result < length con.now → IsBelowAt con.now ground.now result }
+{
+    let mut at = 0;
+    while at < con.len() {
+        let end = con.len().min(at + BLOCK);
+        let above = cells_of_block(&con[at..end], &ground[at..end]);
+        if above < end - at {
+            return at + above;
+        }
+        at = end;
+    }
+    at
+}
+
+/// The same of at most 256 places, none where a number doesn't fit 16 bits.
+fn cells_of_block(con: &[i64], ground: &[i64]) -> usize
+    requires same { length con.now ≡ length ground.now }
+    requires short { length con.now ≤ BLOCK }
+    ensures within { result ≤ length con.now }
+    ensures above { (place : ℕ) → place < result → ¬ IsBelowAt con.now ground.now place }
+    ensures first { AreHeights con.now → AreHeights ground.now → result < length con.now → IsBelowAt con.now ground.now result }
+{
+    let mut conditioned = [0; BLOCK];
+    let mut heights = [0; BLOCK];
+    let conditioned = &mut conditioned[..con.len()];
+    let heights = &mut heights[..con.len()];
+    if narrow(conditioned, con) && narrow(heights, ground) {
+        first_below(conditioned, heights).unwrap_or(con.len())
+    } else {
+        0
+    }
+}
+
+/// Puts the numbers in their places in 16 bits each, and answers whether all of them fit.
+fn narrow(out: &mut [i16], numbers: &[i64]) -> bool
+    requires { length numbers.now ≡ length out.old }
+    ensures all { IsTrue result ↔ AreHeights numbers.now }
+    ensures same { IsTrue result → out.new ≡ numbers.now }
+{
+    for place in 0..numbers.len() {
+        let Ok(height) = i16::try_from(numbers[place]) else {
+            return false;
+        };
+        out[place] = height;
+    }
+    true
+}
