@@ -23,6 +23,9 @@ build/raster_bench: $(SOURCES)
 build/mosaic_bench: $(SOURCES)
 	@tools/build_program.sh mosaic_bench $@ 2 1
 
+build/lanes_bench: $(SOURCES)
+	@tools/build_program.sh lanes_bench $@
+
 build/drain.1: build/drain tools/man_page.py
 	@tools/man_page.py build/drain >$@
 
@@ -41,7 +44,7 @@ edits:
 test:
 	tools/gate.sh
 
-bench: build/drain build/label_bench build/raster_bench build/mosaic_bench
+bench: build/drain build/label_bench build/raster_bench build/mosaic_bench build/lanes_bench
 	bench/run.sh build/drain
 	bench/check.sh build/drain
 	bench/memory.sh build/drain
@@ -49,6 +52,7 @@ bench: build/drain build/label_bench build/raster_bench build/mosaic_bench
 	bench/labels.sh build/label_bench
 	bench/rasters.sh build/raster_bench
 	bench/mosaic.sh build/mosaic_bench
+	bench/lanes.sh build/lanes_bench
 
 clean:
 	rm -rf build crates/*/out

@@ -8,4 +8,6 @@ mod long_rows;
 #[cfg(test)]
 mod raster_verdicts;
 #[cfg(test)]
+mod screened_rows;
+#[cfg(test)]
 mod spill_levels;

@@ -1,0 +1,32 @@
+//! The screen of rows that are longer than one of its blocks.
+
+use drain_rules::screen::cells_above_ground;
+use std::test::Fail;
+
+/// One place below the ground, alone or with the last place too.
+#[test]
+fn tells_the_first_place_below_the_ground(rt: HostRuntime) -> Result<(), Fail> {
+    for place in [0, 255, 256, 511, 512, 598, 599] {
+        for second in [place, 599] {
+            let mut con = [-7; 600];
+            con[place] = -8;
+            con[second] = -8;
+            let found = cells_above_ground(&con, &[-7; 600]);
+            assert_eq!(rt; found, place, "{second}");
+        }
+    }
+    Ok(())
+}
+
+/// Rows without such a place: level ones of heights and of voids, the greatest height over a void, and no cell.
+#[test]
+fn takes_in_rows_that_are_nowhere_below(rt: HostRuntime) -> Result<(), Fail> {
+    let found = [
+        cells_above_ground(&[7; 600], &[7; 600]),
+        cells_above_ground(&[-32768; 600], &[-32768; 600]),
+        cells_above_ground(&[32767; 600], &[-32768; 600]),
+        cells_above_ground(&[], &[]),
+    ];
+    assert_eq!(rt; found, [600, 600, 600, 0]);
+    Ok(())
+}
