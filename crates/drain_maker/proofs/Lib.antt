@@ -2,6 +2,11 @@ mod Acceptance
 mod HeaderBounds
 mod Placing
 pub mod EachProduct
-pub mod Heaps
 pub mod Spelling
 pub mod FileLemmas
+pub mod ChainLemmas
+pub mod PairLemmas
+pub mod PopLemmas
+pub mod PushLemmas
+pub mod QueueLemmas
+pub mod RisingPairs

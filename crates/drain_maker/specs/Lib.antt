@@ -2,3 +2,5 @@ pub mod Headers
 pub mod ProductFiles
 pub mod Made
 pub mod Accepted
+pub mod Chains
+pub mod Waiting

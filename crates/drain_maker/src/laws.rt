@@ -2,6 +2,8 @@
 //!
 //! A law is a function with nothing to do but to have other laws at hand: its contract is the law, and a caller that calls it has it at hand.
 
+ghost use Rattle.std.specs.Prelude.{◌≡◌};
+ghost use Rattle.drain_maker.specs.declared.level_queue.TheConstants.{MAX_CELLS};
 ghost use Rattle.drain_maker.specs.Accepted.{MadeIsAccepted};
 
 use drain_header::laws::text_reads_back;
@@ -17,3 +19,8 @@ pub fn made_is_accepted()
     numbers_are_pixels();
     equal_grids_have_one_verdict();
 }
+
+/// A queue of levels holds at most 829,497,601 items: the cells of the greatest mosaic, 28,801 rows of as many.
+pub fn constants()
+    ensures max_cells { MAX_CELLS ≡ 829497601 }
+{}

@@ -11,11 +11,12 @@ mod header;
 mod labels;
 pub mod laws;
 mod layer;
+pub mod level_queue;
 mod maker;
 pub mod product_files;
-mod queue;
 mod rasters;
 mod visits;
 
 pub use header::product_header;
+pub use level_queue::LevelQueue;
 pub use maker::{MakeRefusal, make};

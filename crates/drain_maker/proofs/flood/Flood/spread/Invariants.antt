@@ -4,5 +4,5 @@ use Rattle.drain_maker.proofs.flood.Flood.spread.Given as goal
 abbrev pub invariant-loop-direction : goal.invariant-loop-direction
 invariant-loop-direction l = l.self.done.con.shape ≡ l.fn.elevation.extent
 
-abbrev pub invariant-loop-place : goal.invariant-loop-place
-invariant-loop-place l = l.self.done.con.shape ≡ l.fn.elevation.extent
+abbrev pub invariant-loop : goal.invariant-loop
+invariant-loop l = l.self.done.con.shape ≡ l.fn.elevation.extent
