@@ -1,5 +1,5 @@
 #!/usr/bin/env bash
-# Shows how fast `drain make` is beside its twin, and beside a plainer form of that: builds them, compares the twelve files of drain and twin
+# Shows how fast `drain make` is beside its twin, and beside a plainer form of that: builds them, compares the twelve files of all three
 # on small tiles and on tiles of sides 1201 and 3601, made-up terrain and real terrain enlarged by mirrored copies, then times all three on
 # the large ones. It exits with 1 where files differ; times never make it fail.
 # Usage: bench/make.sh DRAIN
@@ -20,18 +20,20 @@ for name in make_check_input mirror_tile twin_make measure; do
 done
 rustc --edition 2024 -O -C target-cpu=x86-64-v2 --cfg plain -o "$out/twin_make_plain" "$bench/twin_make.rs"
 
-# Makes products with both programs, and compares their lines and files.
+# Makes products with all programs, and compares their lines and files.
 # Usage: compare SIDE TILE
 differ=0
 compare() {
-    local program line wanted="made rows=$1 cols=$1" name
-    for program in "$drain" "$twin"; do
+    local program line wanted="made rows=$1 cols=$1" name other
+    for program in "$drain" "$twin" "${twin}_plain"; do
         mkdir -p "$scratch/${program##*/}"
         line=$("$program" make --side "$1" --out "$scratch/${program##*/}" "$2") || true
         [ "$line" = "$wanted" ] || { echo "${program##*/} prints '$line', not '$wanted'"; differ=1; }
     done
     for name in {con,dir,acc,bas,spl,rnk}.{hdr,bil}; do
-        cmp "$scratch/${drain##*/}/$name" "$scratch/${twin##*/}/$name" || differ=1
+        for other in "${twin##*/}" "${twin##*/}_plain"; do
+            cmp "$scratch/${drain##*/}/$name" "$scratch/$other/$name" || differ=1
+        done
     done
 }
 

@@ -4,34 +4,36 @@ use std::cmp::Reverse;
 use std::collections::BinaryHeap;
 use std::collections::binary_heap::PeekMut;
 
-/// A place in the heap, in one number: the level in the upper 32 bits, then the cell.
+/// A place in the heap, in one number: the level in the upper 16 bits, then its turn and the cell in 24 bits each, as a tile has fewer cells.
 #[derive(Clone, Copy, PartialEq, Eq, PartialOrd, Ord)]
 struct Waiting(u64);
 
 impl Waiting {
-    fn new(level: i16, cell: usize) -> Waiting {
+    fn new(level: i16, turn: u64, cell: usize) -> Waiting {
         let above_least = (i64::from(level) - i64::from(i16::MIN)) as u64;
-        Waiting(above_least << 32 | cell as u64)
+        Waiting(above_least << 48 | turn << 24 | cell as u64)
     }
 
     fn level(self) -> i16 {
-        ((self.0 >> 32) as i64 + i64::from(i16::MIN)) as i16
+        ((self.0 >> 48) as i64 + i64::from(i16::MIN)) as i16
     }
 
     fn cell(self) -> u32 {
-        self.0 as u32
+        self.0 as u32 & 0xff_ffff
     }
 }
 
-/// The cells that wait: the lowest comes first, and the first in row order among the lowest.
+/// The cells that wait: the lowest comes first, and the first put in among the lowest.
 #[derive(Default)]
 pub struct Queue {
     heap: BinaryHeap<Reverse<Waiting>>,
+    turn: u64,
 }
 
 impl Queue {
     pub fn push(&mut self, level: i16, cell: usize) {
-        self.heap.push(Reverse(Waiting::new(level, cell)));
+        self.heap.push(Reverse(Waiting::new(level, self.turn, cell)));
+        self.turn += 1;
     }
 
     /// Moves the cells of the lowest level behind others, and tells the level.

@@ -1,8 +1,8 @@
 //! The twin of `drain make`, as one writes it in plain Rust: reads one tile, makes its six products and writes them with their
 //! headers. It tests nothing. Of equal choices it makes those of the program, so both write the same bytes.
 //!
-//! Built with `--cfg plain` it is the flood as one writes it first: three fields to a place in the heap, and every cell through the heap. Of
-//! equal choices it then makes others where cells have one level.
+//! Built with `--cfg plain` it is the flood as one writes it first: three fields to a place in the heap, and every cell through the heap. It
+//! makes the same choices.
 //!
 //! Numbers are kept as wide as their pixels. A frame of voids stands around the tile, so every cell has eight neighbours.
 //!

@@ -6,6 +6,8 @@ mod funnel;
 #[cfg(test)]
 mod headers;
 #[cfg(test)]
+mod level_queue;
+#[cfg(test)]
 mod made;
 #[cfg(test)]
 mod numbers;
