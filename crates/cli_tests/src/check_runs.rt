@@ -1,9 +1,10 @@
 //! Runs of `drain check` over sources and sinks in memory: one tile of side 2 at 0 degrees, level, with its products.
 
-use crate::printed::{room, told};
+use crate::printed::{Printed, slow_sink, whole_sink};
 use drain_cli::run_check::run_check;
 use drain_device::faults::{ScriptSink, Scripted, SinkAnswer};
-use drain_device::{ByteList, ByteSink, SliceSource};
+use drain_device::{BodyFault, ByteList, SliceSource};
+use drain_grid::{PerProduct, Product};
 use drain_hgt::TileInput;
 use drain_verdict::{Products, RasterInput};
 use std::alloc::{AllocError, Global};
@@ -16,39 +17,73 @@ const BYTES: &str = "NROWS 2\nNCOLS 2\nULXMAP 0\nULYMAP 1\nXDIM 1\nYDIM 1\n";
 
 const LINE: &str = "accepted rows=2 cols=2 data=4 raised=0 outlets=4\n";
 
-fn product<'a>(
+/// The bytes of a product's raster; those of bas are the labels.
+fn body_of<'a>(product: Product, labels: &'a [u8]) -> &'a [u8] {
+    match product {
+        Product::Con => &[0; 8],
+        Product::Acc => &[1; 4],
+        Product::Bas => labels,
+        _ => &[0; 4],
+    }
+}
+
+/// A product of the tile.
+fn product_of<'a>(
     alloc: Global,
-    header: &str,
-    body: &'a [u8],
+    labels: &'a [u8],
+    product: Product,
 ) -> Result<RasterInput<SliceSource<'a>>, AllocError> {
+    let header = if product == Product::Con {
+        WORDS
+    } else {
+        BYTES
+    };
     Ok(RasterInput {
         header: ByteList::new(Vec::from_slice(alloc, header.as_bytes())?),
-        body: SliceSource::new(body),
+        body: SliceSource::new(body_of(product, labels)),
     })
 }
 
-/// The status of a run on the tile of this name and side, with these labels.
-fn status_of<W: ByteSink>(
+/// The products of the tile, with these labels.
+fn products<'a>(alloc: Global, labels: &'a [u8]) -> Result<Products<SliceSource<'a>>, AllocError> {
+    let input = |product: Product| -> Result<RasterInput<SliceSource<'_>>, AllocError> {
+        product_of(alloc, labels, product)
+    };
+    PerProduct::from_each(&input)
+}
+
+/// A tile of this name and of side 2.
+fn tile(alloc: Global, name: &str) -> Result<TileInput<SliceSource<'static>>, AllocError> {
+    Ok(TileInput {
+        name: ByteList::new(Vec::from_slice(alloc, name.as_bytes())?),
+        body: SliceSource::new(&[0; 8]),
+    })
+}
+
+/// What a check of the tile prints.
+fn check_printed<'a>(
+    alloc: Global,
+    side: u32,
+    tile: TileInput<SliceSource<'a>>,
+    mut products: Products<SliceSource<'a>>,
+    mut out: ScriptSink<'_>,
+) -> Result<Printed, BodyFault> {
+    let mut tiles = [tile];
+    let status = run_check(alloc, side, &mut tiles, &mut products, &mut out);
+    Printed::new(out.as_slice(), status)
+}
+
+/// What a run on the tile of this name and side prints, with these labels.
+fn printed(
     alloc: Global,
     side: u32,
     name: &str,
     labels: &[u8],
-    out: &mut W,
-) -> Result<u8, AllocError> {
-    let mut products = Products {
-        con: product(alloc, WORDS, &[0; 8])?,
-        dir: product(alloc, BYTES, &[0; 4])?,
-        acc: product(alloc, BYTES, &[1; 4])?,
-        bas: product(alloc, BYTES, labels)?,
-        spl: product(alloc, BYTES, &[0; 4])?,
-        rnk: product(alloc, BYTES, &[0; 4])?,
-    };
-    let mut tiles = Vec::new(alloc);
-    tiles.push(TileInput {
-        name: ByteList::new(Vec::from_slice(alloc, name.as_bytes())?),
-        body: SliceSource::new(&[0; 8]),
-    })?;
-    Ok(run_check(alloc, side, tiles.as_mut_slice(), &mut products, out))
+    out: ScriptSink<'_>,
+) -> Result<Printed, Fail> {
+    let products = products(alloc, labels)?;
+    let tile = tile(alloc, name)?;
+    Ok(check_printed(alloc, side, tile, products, out)?)
 }
 
 #[test]
@@ -83,10 +118,14 @@ fn prints_the_answer_to_products(rt: HostRuntime) -> Result<(), Fail> {
         ),
     ];
     for (name, side, tile, labels, status, line) in cases {
-        let mut out = ScriptSink::new(room(rt.alloc())?, 1000, [].as_slice());
-        let answered = status_of(rt.alloc(), side, tile, labels, &mut out)?;
-        assert_eq!(rt; told(out.as_slice())?, line.as_bytes(), "{name}");
-        assert_eq!(rt; answered, status, "{name}");
+        let out = whole_sink(rt.alloc())?;
+        let answered = printed(rt.alloc(), side, tile, labels, out)?;
+        let wanted = Printed::new(line.as_bytes(), status)?;
+        assert_eq!(rt;
+            (answered.text(), answered.status),
+            (wanted.text(), wanted.status),
+            "{name}"
+        );
     }
     Ok(())
 }
@@ -100,9 +139,11 @@ fn ends_with_status_3_where_the_line_of_a_check_cannot_be_written(
         last: 9,
         answer: SinkAnswer::Failed,
     }];
-    let mut out = ScriptSink::new(room(rt.alloc())?, 1, script.as_slice());
-    let answered = status_of(rt.alloc(), 2, "N00E000.hgt", &[1, 2, 3, 4], &mut out)?;
-    assert_eq!(rt; answered, 3);
-    assert_eq!(rt; told(out.as_slice())?, b"accepted".as_slice());
+    let out = slow_sink(rt.alloc(), &script)?;
+    let answered = printed(rt.alloc(), 2, "N00E000.hgt", &[1, 2, 3, 4], out)?;
+    assert_eq!(rt;
+        (answered.text(), answered.status),
+        (b"accepted".as_slice(), 3)
+    );
     Ok(())
 }

@@ -2,7 +2,16 @@
 
 use drain_cli::file_paths::{header_path, raster_path, tile_name};
 use drain_grid::Product;
+use std::alloc::{AllocError, Global};
 use std::test::Fail;
+
+/// Whether in this folder the paths of con's header and of rnk's raster are these.
+fn are_paths(alloc: Global, folder: &str, header: &str, raster: &str) -> Result<bool, AllocError> {
+    Ok(
+        header_path(alloc, folder, Product::Con)?.as_str() == header
+            && raster_path(alloc, folder, Product::Rnk)?.as_str() == raster,
+    )
+}
 
 #[test]
 fn puts_one_slash_between_folder_and_file(rt: HostRuntime) -> Result<(), Fail> {
@@ -13,14 +22,7 @@ fn puts_one_slash_between_folder_and_file(rt: HostRuntime) -> Result<(), Fail> {
         ("/", "/con.hdr", "/rnk.bil"),
     ];
     for (folder, header, raster) in cases {
-        assert_eq!(rt;
-            header_path(rt.alloc(), folder, Product::Con)?.as_str(),
-            header
-        );
-        assert_eq!(rt;
-            raster_path(rt.alloc(), folder, Product::Rnk)?.as_str(),
-            raster
-        );
+        assert!(rt; are_paths(rt.alloc(), folder, header, raster)?, "{folder}");
     }
     Ok(())
 }

@@ -1,11 +1,11 @@
 //! Runs of `drain fill` over sources and sinks in memory: worked inputs with their lines, and devices
 //! that are slow, interrupted or fail. The expected lines were worked out by hand from the rules.
 
-use crate::printed::{room, told};
+use crate::printed::{Printed, slow_sink, whole_sink};
 use drain_cli::run_fill::run_fill;
 use drain_device::faults::{ScriptSink, ScriptSource, Scripted, SinkAnswer};
-use drain_device::{BodyFault, DeviceFault, SliceSource};
-use std::alloc::{AllocError, Global};
+use drain_device::{BodyFault, ByteSource, DeviceFault, SliceSource};
+use std::alloc::Global;
 use std::test::Fail;
 
 /// A tile of side 3 with border 5 and a pit of 1, filled to 5: tile, con, spl, rnk.
@@ -19,22 +19,46 @@ const PIT: [u8; 81] = [
 
 const PIT_LINE: &str = "accepted rows=3 cols=3 data=9 raised=1\n";
 
-/// The line that a run prints, and its status.
-fn printed(alloc: Global, side: u32, bytes: &[u8]) -> Result<(u8, Vec<u8>), Fail> {
-    let mut out = ScriptSink::new(room(alloc)?, 1000, [].as_slice());
-    let status = run_fill(alloc, side, &mut SliceSource::new(bytes), &mut out);
-    Ok((status, Vec::from_slice(alloc, told(out.as_slice())?)?))
+/// What a run over the input prints.
+fn printed<R: ByteSource>(
+    alloc: Global,
+    side: u32,
+    input: &mut R,
+    mut out: ScriptSink<'_>,
+) -> Result<Printed, BodyFault> {
+    let status = run_fill(alloc, side, input, &mut out);
+    Printed::new(out.as_slice(), status)
+}
+
+/// What a run over these bytes prints.
+fn told(alloc: Global, side: u32, bytes: &[u8]) -> Result<Printed, Fail> {
+    let out = whole_sink(alloc)?;
+    Ok(printed(alloc, side, &mut SliceSource::new(bytes), out)?)
+}
+
+/// What a run over the pit prints, whose source gives at most so many bytes at a call, and faults by the script.
+fn told_slowly(
+    alloc: Global,
+    most: usize,
+    script: &[Scripted<DeviceFault>],
+) -> Result<Printed, Fail> {
+    if most == 0 {
+        return Err("a byte at a call, or more".into());
+    }
+    let out = whole_sink(alloc)?;
+    let mut input = ScriptSource::new(PIT.as_slice(), most, script);
+    Ok(printed(alloc, 3, &mut input, out)?)
 }
 
 /// The pit with other bytes at some places.
-fn changed(alloc: Global, changes: &[(usize, u8)]) -> Result<Vec<u8>, AllocError> {
-    let mut bytes = Vec::from_slice(alloc, PIT.as_slice())?;
+fn changed(changes: &[(usize, u8)]) -> [u8; 81] {
+    let mut bytes = PIT;
     for (at, byte) in changes {
         if let Some(place) = bytes.get_mut(*at) {
             *place = *byte;
         }
     }
-    Ok(bytes)
+    bytes
 }
 
 #[test]
@@ -79,13 +103,13 @@ fn tells_the_first_fault_of_a_changed_pit(rt: HostRuntime) -> Result<(), Fail> {
         ),
     ];
     for (name, changes, status, line) in cases {
-        let (answered, line_told) = printed(
-            rt.alloc(),
-            3,
-            changed(rt.alloc(), changes)?.as_slice(),
-        )?;
-        assert_eq!(rt; line_told.as_slice(), line.as_bytes(), "{name}");
-        assert_eq!(rt; answered, status, "{name}");
+        let answered = told(rt.alloc(), 3, &changed(changes))?;
+        let wanted = Printed::new(line.as_bytes(), status)?;
+        assert_eq!(rt;
+            (answered.text(), answered.status),
+            (wanted.text(), wanted.status),
+            "{name}"
+        );
     }
     Ok(())
 }
@@ -169,9 +193,13 @@ fn tells_what_inputs_of_each_length_are(rt: HostRuntime) -> Result<(), Fail> {
         ("side 3602", 3602, PIT.as_slice(), 2, "refused BadSide\n"),
     ];
     for (name, side, bytes, status, line) in cases {
-        let (answered, line_told) = printed(rt.alloc(), side, bytes)?;
-        assert_eq!(rt; line_told.as_slice(), line.as_bytes(), "{name}");
-        assert_eq!(rt; answered, status, "{name}");
+        let answered = told(rt.alloc(), side, bytes)?;
+        let wanted = Printed::new(line.as_bytes(), status)?;
+        assert_eq!(rt;
+            (answered.text(), answered.status),
+            (wanted.text(), wanted.status),
+            "{name}"
+        );
     }
     Ok(())
 }
@@ -226,12 +254,13 @@ fn bears_999_interruptions_of_its_input(rt: HostRuntime) -> Result<(), Fail> {
         ),
     ];
     for (name, most, script, status, line) in cases {
-        assert!(rt; most > 0);
-        let mut input = ScriptSource::new(PIT.as_slice(), most, script.as_slice());
-        let mut out = ScriptSink::new(room(rt.alloc())?, 1000, [].as_slice());
-        let answered = run_fill(rt.alloc(), 3, &mut input, &mut out);
-        assert_eq!(rt; told(out.as_slice())?, line.as_bytes(), "{name}");
-        assert_eq!(rt; answered, status, "{name}");
+        let answered = told_slowly(rt.alloc(), most, &script)?;
+        let wanted = Printed::new(line.as_bytes(), status)?;
+        assert_eq!(rt;
+            (answered.text(), answered.status),
+            (wanted.text(), wanted.status),
+            "{name}"
+        );
     }
     Ok(())
 }
@@ -240,17 +269,21 @@ fn bears_999_interruptions_of_its_input(rt: HostRuntime) -> Result<(), Fail> {
 fn never_takes_a_failed_input_for_its_end(rt: HostRuntime) -> Result<(), Fail> {
     for call in 1..=82 {
         let script = fault(call, call, DeviceFault::Failed);
-        let mut input = ScriptSource::new(PIT.as_slice(), 1, script.as_slice());
-        let mut out = ScriptSink::new(room(rt.alloc())?, 1000, [].as_slice());
-        let answered = run_fill(rt.alloc(), 3, &mut input, &mut out);
+        let answered = told_slowly(rt.alloc(), 1, &script)?;
         assert_eq!(rt;
-            told(out.as_slice())?,
-            b"failed ReadFailed\n".as_slice(),
+            (answered.text(), answered.status),
+            (b"failed ReadFailed\n".as_slice(), 3),
             "call {call}"
         );
-        assert_eq!(rt; answered, 3, "call {call}");
     }
     Ok(())
+}
+
+/// What a run over the pit prints into a sink that takes one byte at a call, and faults by the script.
+fn told_into(alloc: Global, script: &[Scripted<SinkAnswer>]) -> Result<Printed, Fail> {
+    let out = slow_sink(alloc, script)?;
+    let mut input = SliceSource::new(PIT.as_slice());
+    Ok(printed(alloc, 3, &mut input, out)?)
 }
 
 #[test]
@@ -268,14 +301,15 @@ fn ends_with_status_3_where_the_line_cannot_be_written(rt: HostRuntime) -> Resul
             last,
             answer,
         }];
-        let mut out = ScriptSink::new(room(rt.alloc())?, 1, script.as_slice());
-        let mut input = SliceSource::new(PIT.as_slice());
-        let answered = run_fill(rt.alloc(), 3, &mut input, &mut out);
-        told(out.as_slice())?;
-        assert_eq!(rt; answered, status, "{name}");
+        let answered = told_into(rt.alloc(), &script)?;
         let written = if status == 0 { 39 } else { first - 1 };
-        assert_eq!(rt; out.as_slice().len() as u64, written, "{name}");
-        assert!(rt; PIT_LINE.as_bytes().starts_with(out.as_slice()), "{name}");
+        let text = answered.text();
+        let is_of_the_line = PIT_LINE.as_bytes().starts_with(text);
+        assert_eq!(rt;
+            (answered.status, text.len() as u64, is_of_the_line),
+            (status, written, true),
+            "{name}"
+        );
     }
     Ok(())
 }

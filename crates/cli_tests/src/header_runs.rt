@@ -1,10 +1,10 @@
 //! Runs of `drain header` over sources and sinks in memory: texts with what is printed of them, and devices that are
 //! slow, interrupted or fail.
 
-use crate::printed::{room, told};
+use crate::printed::{Printed, slow_sink, whole_sink};
 use drain_cli::run_header::run_header;
 use drain_device::faults::{ScriptSink, ScriptSource, Scripted, SinkAnswer};
-use drain_device::{ByteSource, DeviceFault, SliceSource};
+use drain_device::{BodyFault, ByteSource, DeviceFault, SliceSource};
 use std::alloc::Global;
 use std::test::Fail;
 
@@ -60,11 +60,37 @@ YDIM 0.000833333333333
 NODATA -32768
 ";
 
-/// What a run prints, and its status.
-fn printed(alloc: Global, bytes: &[u8]) -> Result<(u8, Vec<u8>), Fail> {
-    let mut out = ScriptSink::new(room(alloc)?, 1000, [].as_slice());
-    let status = run_header(alloc, &mut SliceSource::new(bytes), &mut out);
-    Ok((status, Vec::from_slice(alloc, told(out.as_slice())?)?))
+/// What a run over the input prints.
+fn printed<R: ByteSource>(
+    alloc: Global,
+    input: &mut R,
+    mut out: ScriptSink<'_>,
+) -> Result<Printed, BodyFault> {
+    let status = run_header(alloc, input, &mut out);
+    Printed::new(out.as_slice(), status)
+}
+
+/// What a run over these bytes prints, and how many bytes its source still gives.
+fn told(alloc: Global, bytes: &[u8]) -> Result<(Printed, Result<usize, DeviceFault>), Fail> {
+    let out = whole_sink(alloc)?;
+    let mut input = SliceSource::new(bytes);
+    let answered = printed(alloc, &mut input, out)?;
+    let mut rest = [0; 70000];
+    Ok((answered, input.read_some(&mut rest)))
+}
+
+/// What a run over the small header prints, whose source gives one byte at a call, and faults by the script.
+fn told_slowly(alloc: Global, script: &[Scripted<DeviceFault>]) -> Result<Printed, Fail> {
+    let out = whole_sink(alloc)?;
+    let mut input = ScriptSource::new(SMALL.as_bytes(), 1, script);
+    Ok(printed(alloc, &mut input, out)?)
+}
+
+/// What a run over the small header prints into a sink that takes one byte at a call, and faults by the script.
+fn told_into(alloc: Global, script: &[Scripted<SinkAnswer>]) -> Result<Printed, Fail> {
+    let out = slow_sink(alloc, script)?;
+    let mut input = SliceSource::new(SMALL.as_bytes());
+    Ok(printed(alloc, &mut input, out)?)
 }
 
 #[test]
@@ -87,9 +113,13 @@ fn prints_headers_and_faults(rt: HostRuntime) -> Result<(), Fail> {
         ),
     ];
     for (name, bytes, status, text) in cases {
-        let (answered, text_told) = printed(rt.alloc(), bytes)?;
-        assert_eq!(rt; text_told.as_slice(), text.as_bytes(), "{name}");
-        assert_eq!(rt; answered, status, "{name}");
+        let (answered, _) = told(rt.alloc(), bytes)?;
+        let wanted = Printed::new(text.as_bytes(), status)?;
+        assert_eq!(rt;
+            (answered.text(), answered.status),
+            (wanted.text(), wanted.status),
+            "{name}"
+        );
     }
     Ok(())
 }
@@ -104,13 +134,13 @@ fn reads_one_byte_past_the_longest_header(rt: HostRuntime) -> Result<(), Fail> {
         (70000, "refused TooLong\n", 70000 - 65537),
     ];
     for (length, line, left) in cases {
-        let mut input = SliceSource::new(&line_feeds[..length]);
-        let mut out = ScriptSink::new(room(rt.alloc())?, 1000, [].as_slice());
-        let status = run_header(rt.alloc(), &mut input, &mut out);
-        assert_eq!(rt; told(out.as_slice())?, line.as_bytes(), "{length}");
-        assert_eq!(rt; status, 2, "{length}");
-        let mut rest = [0; 70000];
-        assert_eq!(rt; input.read_some(&mut rest), Ok(left), "{length}");
+        let (answered, rest) = told(rt.alloc(), &line_feeds[..length])?;
+        let wanted = Printed::new(line.as_bytes(), 2)?;
+        assert_eq!(rt;
+            (answered.text(), answered.status, rest),
+            (wanted.text(), wanted.status, Ok(left)),
+            "{length}"
+        );
     }
     Ok(())
 }
@@ -128,11 +158,12 @@ fn bears_999_interruptions_of_its_file(rt: HostRuntime) -> Result<(), Fail> {
             last,
             answer,
         }];
-        let mut input = ScriptSource::new(SMALL.as_bytes(), 1, script.as_slice());
-        let mut out = ScriptSink::new(room(rt.alloc())?, 1000, [].as_slice());
-        let answered = run_header(rt.alloc(), &mut input, &mut out);
-        assert_eq!(rt; told(out.as_slice())?, text.as_bytes());
-        assert_eq!(rt; answered, status);
+        let answered = told_slowly(rt.alloc(), &script)?;
+        let wanted = Printed::new(text.as_bytes(), status)?;
+        assert_eq!(rt;
+            (answered.text(), answered.status),
+            (wanted.text(), wanted.status)
+        );
     }
     Ok(())
 }
@@ -149,14 +180,11 @@ fn ends_with_status_3_where_the_header_cannot_be_written(rt: HostRuntime) -> Res
             last: 1099,
             answer,
         }];
-        let mut out = ScriptSink::new(room(rt.alloc())?, 1, script.as_slice());
-        let answered = run_header(
-            rt.alloc(),
-            &mut SliceSource::new(SMALL.as_bytes()),
-            &mut out,
+        let answered = told_into(rt.alloc(), &script)?;
+        assert_eq!(rt;
+            (answered.text(), answered.status),
+            (&SMALL.as_bytes()[..99], 3)
         );
-        assert_eq!(rt; answered, 3);
-        assert_eq!(rt; told(out.as_slice())?, &SMALL.as_bytes()[..99]);
     }
     Ok(())
 }

@@ -12,6 +12,8 @@ mod header_runs;
 #[cfg(test)]
 mod make_runs;
 #[cfg(test)]
+mod making;
+#[cfg(test)]
 mod printed;
 #[cfg(test)]
 mod stamped_reads;

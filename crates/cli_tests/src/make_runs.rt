@@ -1,23 +1,19 @@
 //! From tiles to products, to files in memory, and to the check of these files. The expected lines were worked out by hand.
 
-use crate::printed::{room, told};
+ghost use Rattle.std.specs.Prelude.{◌≡◌, length, IfOk};
+
+use crate::making::{Tile, at_zero, inputs, make};
+use crate::printed::{Printed, ROOM, check_printed, files_of, room};
 use drain_cli::make_set::make_set;
-use drain_cli::run_check::run_check;
 use drain_cli::write_set::write_set;
 use drain_device::faults::{ScriptSink, Scripted, SinkAnswer};
 use drain_device::{ByteList, SliceSource, VecSink};
+use drain_grid::{PerProduct, Product};
 use drain_hgt::TileInput;
 use drain_maker::product_files::FILE_COUNT;
 use drain_verdict::{Products, RasterInput};
-use std::alloc::{AllocError, Global};
+use std::alloc::Global;
 use std::test::Fail;
-
-/// The name of a tile's file and its bytes.
-#[derive(Clone, Copy, Debug)]
-struct Tile<'a> {
-    name: &'a str,
-    bytes: &'a [u8],
-}
 
 /// A tile of side 3 with border 5 and a pit of 1.
 const PIT: [u8; 18] = [0, 5, 0, 5, 0, 5, 0, 5, 0, 1, 0, 5, 0, 5, 0, 5, 0, 5];
@@ -27,72 +23,25 @@ const SLOPE: [u8; 32] = [
     0, 4, 0, 3, 0, 2, 0, 1, 0, 4, 0, 3, 0, 2, 0, 1, 0, 4, 0, 3, 0, 2, 0, 1, 0, 4, 0, 3, 0, 2, 0, 1,
 ];
 
-fn inputs<'a>(
-    alloc: Global,
-    tiles: &[Tile<'a>],
-) -> Result<Vec<TileInput<SliceSource<'a>>>, AllocError> {
-    let mut inputs = Vec::new(alloc);
-    for tile in tiles {
-        inputs.push(TileInput {
-            name: ByteList::new(Vec::from_slice(alloc, tile.name.as_bytes())?),
-            body: SliceSource::new(tile.bytes),
-        })?;
-    }
-    Ok(inputs)
-}
-
-/// What was printed, and the status.
-#[derive(Drop)]
-struct Told {
-    line: Vec<u8>,
-    status: u8,
-}
-
-/// What a run told, unless that is want of memory.
-fn ended(out: VecSink, status: u8) -> Result<Told, Fail> {
-    let line = out.into_inner();
-    told(line.as_slice())?;
-    Ok(Told { line, status })
-}
-
-/// Makes products of the tiles and writes them; where there are none, tells why.
-fn make(
-    alloc: Global,
-    side: u32,
-    tiles: &[Tile<'_>],
-    files: &mut Vec<VecSink>,
-) -> Result<Told, Fail> {
-    let mut out = VecSink::new(room(alloc)?);
-    let mut inputs = inputs(alloc, tiles)?;
-    let status = match make_set(alloc, side, inputs.as_mut_slice(), &mut out) {
-        Ok((layout, products)) => {
-            for _ in 0..FILE_COUNT {
-                files.push(VecSink::new(room(alloc)?))?;
-            }
-            if files.len() != FILE_COUNT {
-                return Err("twelve files".into());
-            }
-            write_set(alloc, &layout, &products, files.as_mut_slice(), &mut out)
-        }
-        Err(status) => status,
-    };
-    ended(out, status)
-}
-
-/// A product whose header and raster stand in these places among the files.
-fn product<'a>(
+/// A product whose header and raster are among the files.
+fn product_of<'a>(
     alloc: Global,
     files: &'a [VecSink],
-    header: usize,
-    raster: usize,
+    product: Product,
 ) -> Result<RasterInput<SliceSource<'a>>, Fail> {
-    let (Some(header), Some(raster)) = (files.get(header), files.get(raster)) else {
-        return Err("a file is missing".into());
-    };
+    let (header, raster) = files_of(files, product)?;
     Ok(RasterInput {
-        header: ByteList::new(Vec::from_slice(alloc, header.as_slice())?),
-        body: SliceSource::new(raster.as_slice()),
+        header: ByteList::new(Vec::from_slice(alloc, header)?),
+        body: SliceSource::new(raster),
     })
+}
+
+/// The products whose headers and rasters are the files.
+fn products<'a>(alloc: Global, files: &'a [VecSink]) -> Result<Products<SliceSource<'a>>, Fail> {
+    let input = |product: Product| -> Result<RasterInput<SliceSource<'_>>, Fail> {
+        product_of(alloc, files, product)
+    };
+    PerProduct::from_each(&input)
 }
 
 /// Checks the files with the tiles.
@@ -101,24 +50,15 @@ fn check<'a>(
     side: u32,
     tiles: &[Tile<'a>],
     files: &'a [VecSink],
-) -> Result<Told, Fail> {
-    let mut products = Products {
-        con: product(alloc, files, 0, 1)?,
-        dir: product(alloc, files, 2, 3)?,
-        acc: product(alloc, files, 4, 5)?,
-        bas: product(alloc, files, 6, 7)?,
-        spl: product(alloc, files, 8, 9)?,
-        rnk: product(alloc, files, 10, 11)?,
-    };
+) -> Result<Printed, Fail> {
+    let mut products = products(alloc, files)?;
     let mut inputs = inputs(alloc, tiles)?;
-    let mut out = VecSink::new(room(alloc)?);
-    let status = run_check(alloc, side, inputs.as_mut_slice(), &mut products, &mut out);
-    ended(out, status)
+    check_printed(alloc, side, &mut inputs, &mut products)
 }
 
 /// Whether the run printed this line and ended with this status.
-fn is(run: &Told, line: &str, status: u8) -> bool {
-    run.line.as_slice() == line.as_bytes() && run.status == status
+fn is(run: &Printed, line: &str, status: u8) -> bool {
+    run.text() == line.as_bytes() && run.status == status
 }
 
 /// Whether making tells one line, and checking what was made the other, and both end with 0.
@@ -130,17 +70,9 @@ fn tells(
     accepted: &str,
 ) -> Result<bool, Fail> {
     let mut files = Vec::new(alloc);
-    let making = make(alloc, side, tiles, &mut files)?;
+    let making = make(alloc, side, tiles, ROOM, &mut files)?;
     let checking = check(alloc, side, tiles, files.as_slice())?;
     Ok(is(&making, made, 0) && is(&checking, accepted, 0))
-}
-
-/// One tile at 0 degrees.
-fn at_zero<'a>(bytes: &'a [u8]) -> [Tile<'a>; 1] {
-    [Tile {
-        name: "N00E000.hgt",
-        bytes,
-    }]
 }
 
 #[test]
@@ -228,22 +160,27 @@ fn with_edge(choice: u32) -> [u8; 50] {
     bytes
 }
 
+/// Whether products are made of the tile of a choice, and accepted with a raised cell for each 0 inside.
+fn tells_choice(alloc: Global, choice: u32) -> Result<bool, Fail> {
+    let zeros = 9u32.saturating_sub(choice.count_ones());
+    let accepted = format!(in alloc; "accepted rows=5 cols=5 data=25 raised={zeros} outlets=16\n")?;
+    let bytes = with_edge(choice);
+    let tiles = at_zero(&bytes);
+    tells(
+        alloc,
+        5,
+        tiles.as_slice(),
+        "made rows=5 cols=5\n",
+        &accepted,
+    )
+}
+
 #[test]
 fn what_is_made_of_every_tile_of_nine_inner_samples_is_accepted(
     rt: HostRuntime,
 ) -> Result<(), Fail> {
     for choice in 0..512u32 {
-        let bytes = with_edge(choice);
-        let tiles = at_zero(&bytes);
-        let zeros = 9u32.saturating_sub(choice.count_ones());
-        let accepted = format!(in rt.alloc();
-            "accepted rows=5 cols=5 data=25 raised={zeros} outlets=16\n"
-        )?;
-        let made = "made rows=5 cols=5\n";
-        assert!(rt;
-            tells(rt.alloc(), 5, tiles.as_slice(), made, &accepted)?,
-            "{choice}"
-        );
+        assert!(rt; tells_choice(rt.alloc(), choice)?, "{choice}");
     }
     Ok(())
 }
@@ -251,86 +188,105 @@ fn what_is_made_of_every_tile_of_nine_inner_samples_is_accepted(
 /// Whether nothing is made of the tiles, and the line tells why.
 fn refuses(alloc: Global, side: u32, tiles: &[Tile<'_>], line: &str) -> Result<bool, Fail> {
     let mut files = Vec::new(alloc);
-    let making = make(alloc, side, tiles, &mut files)?;
+    let making = make(alloc, side, tiles, ROOM, &mut files)?;
     Ok(is(&making, line, 2) && files.is_empty())
+}
+
+/// A tile of this name and of side 2.
+fn named(name: &'static str) -> Tile<'static> {
+    Tile {
+        name,
+        bytes: &[0, 1, 0, 2, 0, 3, 0, 4],
+    }
 }
 
 #[test]
 fn tells_why_nothing_is_made(rt: HostRuntime) -> Result<(), Fail> {
-    let bytes = [0, 1, 0, 2, 0, 3, 0, 4];
-    let named = |name| Tile {
-        name,
-        bytes: &bytes,
-    };
     let zero = named("N00E000.hgt");
     let none = named("x");
-    let seam = [
-        zero,
-        Tile {
-            name: "N00E001.hgt",
-            bytes: &[0, 9, 0, 5, 0, 4, 0, 6],
-        },
-    ];
+    let seam = Tile {
+        name: "N00E001.hgt",
+        bytes: &[0, 9, 0, 5, 0, 4, 0, 6],
+    };
     let far = named("N00E008.hgt");
-    assert!(rt; refuses(rt.alloc(), 1, &[none], "refused BadSide\n")?);
-    assert!(rt; refuses(rt.alloc(), 2, &[zero, none], "refused BadName 1\n")?);
-    assert!(rt; refuses(rt.alloc(), 2, &[], "refused NoTiles\n")?);
-    assert!(rt;
-        refuses(
-            rt.alloc(),
-            2,
-            &[zero, zero],
-            "refused RepeatedTile N00E000.hgt\n"
-        )?
-    );
-    assert!(rt; refuses(rt.alloc(), 2, &[zero, far], "refused BoxTooLarge\n")?);
-    assert!(rt;
-        refuses(
-            rt.alloc(),
-            3,
-            &[zero],
-            "refused BadTileLength N00E000.hgt\n"
-        )?
-    );
-    assert!(rt; refuses(rt.alloc(), 2, &seam, "refused SeamMismatch row=0 col=1\n")?);
+    for (side, tiles, count, line) in [
+        (1, [none, none], 1, "refused BadSide\n"),
+        (2, [zero, none], 2, "refused BadName 1\n"),
+        (2, [none, none], 0, "refused NoTiles\n"),
+        (2, [zero, zero], 2, "refused RepeatedTile N00E000.hgt\n"),
+        (2, [zero, far], 2, "refused BoxTooLarge\n"),
+        (3, [zero, zero], 1, "refused BadTileLength N00E000.hgt\n"),
+        (2, [zero, seam], 2, "refused SeamMismatch row=0 col=1\n"),
+    ] {
+        assert!(rt; refuses(rt.alloc(), side, &tiles[..count], line)?, "{line}");
+    }
     Ok(())
 }
 
-/// The pit's files; the one in this place takes some bytes and then fails. Answers how many bytes each took.
-fn lengths_where_one_fails(alloc: Global, place: usize) -> Result<(Told, Vec<usize>), Fail> {
+/// Files for the products; the one in this place has this script.
+fn scripted_files<'a>(
+    alloc: Global,
+    place: usize,
+    script: &'a [Scripted<SinkAnswer>],
+) -> Result<Vec<ScriptSink<'a>>, Fail>
+    ensures { IfOk result (λ files. length files.items ≡ FILE_COUNT) }
+{
+    let mut files = Vec::new(alloc);
+    for k in 0..FILE_COUNT {
+        let script = if k == place { script } else { &[] };
+        files.push(ScriptSink::new(room(alloc)?, 5, script))?;
+    }
+    if files.len() != FILE_COUNT {
+        return Err("twelve files".into());
+    }
+    Ok(files)
+}
+
+/// How many bytes each file took.
+fn lengths_of(files: &[ScriptSink<'_>]) -> [usize; FILE_COUNT] {
+    let mut lengths = [0; FILE_COUNT];
+    for (length, file) in lengths.iter_mut().zip(files) {
+        *length = file.as_slice().len();
+    }
+    lengths
+}
+
+/// What writing the pit's files printed, where the one in this place takes some bytes and then fails, and how many bytes each took.
+fn lengths_where_one_fails(
+    alloc: Global,
+    place: usize,
+) -> Result<(Printed, [usize; FILE_COUNT]), Fail> {
     let fails = [Scripted {
         first: 2,
         last: 2,
         answer: SinkAnswer::Failed,
     }];
     let mut out = VecSink::new(room(alloc)?);
-    let tiles = [Tile {
-        name: "N00E000.hgt",
-        bytes: &PIT,
-    }];
-    let mut inputs = inputs(alloc, &tiles)?;
+    let mut files = scripted_files(alloc, place, &fails)?;
+    let mut inputs = inputs(alloc, &at_zero(&PIT))?;
     let Ok((layout, products)) = make_set(alloc, 3, inputs.as_mut_slice(), &mut out) else {
-        told(out.as_slice())?;
+        Printed::new(out.as_slice(), 0)?;
         return Err("nothing made".into());
     };
-    let mut files = Vec::new(alloc);
-    for k in 0..FILE_COUNT {
-        let script = if k == place {
-            fails.as_slice()
-        } else {
-            [].as_slice()
-        };
-        files.push(ScriptSink::new(room(alloc)?, 5, script))?;
-    }
-    if files.len() != FILE_COUNT {
-        return Err("twelve files".into());
-    }
     let status = write_set(alloc, &layout, &products, files.as_mut_slice(), &mut out);
-    let lengths = files
-        .iter()
-        .map(|file| file.as_slice().len())
-        .collect(alloc)?;
-    Ok((ended(out, status)?, lengths))
+    let lengths = lengths_of(files.as_slice());
+    Ok((Printed::new(out.as_slice(), status)?, lengths))
+}
+
+/// The first file that took another number of bytes than it has to where the one in this place fails.
+fn first_wrong(
+    place: usize,
+    lengths: &[usize; FILE_COUNT],
+    whole: &[usize; FILE_COUNT],
+) -> Option<usize> {
+    lengths.iter().zip(whole.iter()).enumerate().position(|(k, (length, all))| {
+        let is_right = if k == place {
+            0 < *length && length < all
+        } else {
+            *length == if k < place { *all } else { 0 }
+        };
+        !is_right
+    })
 }
 
 #[test]
@@ -339,15 +295,11 @@ fn a_file_that_fails_ends_the_writing(rt: HostRuntime) -> Result<(), Fail> {
     assert_eq!(rt; whole.first(), Some(&230));
     for place in 0..FILE_COUNT {
         let (run, lengths) = lengths_where_one_fails(rt.alloc(), place)?;
-        assert!(rt; is(&run, "failed WriteFailed\n", 3));
-        for (k, (length, all)) in lengths.iter().zip(whole.iter()).enumerate() {
-            let is_right = if k == place {
-                0 < *length && length < all
-            } else {
-                *length == if k < place { *all } else { 0 }
-            };
-            assert!(rt; is_right, "file {k} where {place} fails");
-        }
+        assert_eq!(rt;
+            (run.text(), run.status, first_wrong(place, &lengths, &whole)),
+            (b"failed WriteFailed\n".as_slice(), 3, None),
+            "{place}"
+        );
     }
     Ok(())
 }

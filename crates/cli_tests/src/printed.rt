@@ -1,17 +1,107 @@
-//! Where a run prints into, and what it printed.
+//! What a run printed, and where it prints into.
 
-use drain_device::BodyFault;
+ghost use Rattle.std.specs.Prelude.{◌≡◌, length, IfOk};
+
+use drain_cli::run_check::run_check;
+use drain_device::faults::{ScriptSink, Scripted, SinkAnswer};
+use drain_device::{BodyFault, ByteSource, VecSink};
+use drain_grid::Product;
+use drain_hgt::TileInput;
+use drain_maker::product_files::FILE_COUNT;
+use drain_verdict::Products;
 use std::alloc::{AllocError, Global};
+use std::test::Fail;
 
-/// Room for all that a run prints, or for a file, so that no sink wants memory.
+/// The most bytes that a run of a test prints.
+pub const ROOM: usize = 300;
+
+/// Room for all that a run prints, so that no sink wants memory.
 pub fn room(alloc: Global) -> Result<Vec<u8>, AllocError> {
-    Vec::with_capacity(alloc, 300)
+    Vec::with_capacity(alloc, ROOM)
 }
 
-/// What a run printed, unless that tells of want of memory.
-pub fn told(printed: &[u8]) -> Result<&[u8], BodyFault> {
-    if printed.starts_with(b"failed O") {
-        return Err(BodyFault::OutOfMemory);
+/// A sink that takes all that it is given.
+pub fn whole_sink(alloc: Global) -> Result<ScriptSink<'static>, AllocError> {
+    Ok(ScriptSink::new(room(alloc)?, 1000, &[]))
+}
+
+/// A sink that takes one byte at a call, and faults by the script.
+pub fn slow_sink<'a>(
+    alloc: Global,
+    script: &'a [Scripted<SinkAnswer>],
+) -> Result<ScriptSink<'a>, AllocError> {
+    Ok(ScriptSink::new(room(alloc)?, 1, script))
+}
+
+/// Files for the products of one mosaic, each with room for so many bytes.
+pub fn empty_files(alloc: Global, capacity: usize) -> Result<Vec<VecSink>, Fail>
+    ensures { IfOk result (λ files. length files.items ≡ FILE_COUNT) }
+{
+    let mut files = Vec::new(alloc);
+    for _ in 0..FILE_COUNT {
+        files.push(VecSink::new(Vec::with_capacity(alloc, capacity)?))?;
     }
-    Ok(printed)
+    if files.len() != FILE_COUNT {
+        return Err("twelve files".into());
+    }
+    Ok(files)
+}
+
+/// The bytes of a product's header and of its raster, among the files.
+pub fn files_of<'a>(files: &'a [VecSink], product: Product) -> Result<(&'a [u8], &'a [u8]), Fail> {
+    let place: usize = match product {
+        Product::Con => 0,
+        Product::Dir => 2,
+        Product::Acc => 4,
+        Product::Bas => 6,
+        Product::Spl => 8,
+        Product::Rnk => 10,
+    };
+    let (Some(header), Some(raster)) = (files.get(place), files.get(place.saturating_add(1))) else {
+        return Err("a file is missing".into());
+    };
+    Ok((header.as_slice(), raster.as_slice()))
+}
+
+/// What a run printed, and the status that it ended with. It owns no memory, so that a test that holds some is cheap to prove.
+#[derive(Clone, Copy)]
+pub struct Printed {
+    bytes: [u8; ROOM],
+    length: usize,
+    pub status: u8,
+}
+
+impl Printed {
+    /// What a run printed, unless that tells of want of memory.
+    pub fn new(printed: &[u8], status: u8) -> Result<Printed, BodyFault> {
+        if printed.starts_with(b"failed O") {
+            return Err(BodyFault::OutOfMemory);
+        }
+        let mut bytes = [0; ROOM];
+        for (place, byte) in bytes.iter_mut().zip(printed) {
+            *place = *byte;
+        }
+        Ok(Printed {
+            bytes,
+            length: printed.len(),
+            status,
+        })
+    }
+
+    /// The bytes that were printed; none where there were more than a run prints.
+    pub fn text(&self) -> &[u8] {
+        self.bytes.get(..self.length).unwrap_or(&[])
+    }
+}
+
+/// What a check prints.
+pub fn check_printed<R: ByteSource>(
+    alloc: Global,
+    side: u32,
+    tiles: &mut [TileInput<R>],
+    products: &mut Products<R>,
+) -> Result<Printed, Fail> {
+    let mut out = VecSink::new(room(alloc)?);
+    let status = run_check(alloc, side, tiles, products, &mut out);
+    Ok(Printed::new(out.as_slice(), status)?)
 }

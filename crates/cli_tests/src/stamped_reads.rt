@@ -3,13 +3,11 @@
 ghost use Rattle.std.specs.Prelude.{None};
 ghost use Rattle.drain_device.specs.Counts.{no_faults};
 
-use crate::printed::told;
-use drain_cli::make_set::make_set;
-use drain_cli::run_check::run_check;
-use drain_cli::write_set::write_set;
+use crate::making::{at_zero, make};
+use crate::printed::{check_printed, files_of};
 use drain_device::{ByteList, ByteSource, DeviceFault, SliceSource, VecSink};
+use drain_grid::{PerProduct, Product};
 use drain_hgt::TileInput;
-use drain_maker::product_files::FILE_COUNT;
 use drain_verdict::{Products, RasterInput};
 use std::alloc::{AllocError, Global};
 use std::cell::Cell;
@@ -91,88 +89,90 @@ impl ByteSource for Stamped<'_> {
     }
 }
 
-fn name(alloc: Global) -> Result<ByteList, AllocError> {
-    Ok(ByteList::new(Vec::from_slice(alloc, b"N00E000.hgt")?))
-}
-
 /// The files of the products that are made of the tile of zeros.
 fn made(alloc: Global) -> Result<Vec<VecSink>, Fail> {
-    let mut out = VecSink::new(Vec::with_capacity(alloc, 300)?);
-    let mut tiles = Vec::new(alloc);
-    tiles.push(TileInput {
-        name: name(alloc)?,
-        body: SliceSource::new(&ZEROS),
-    })?;
     let mut files = Vec::new(alloc);
-    for _ in 0..FILE_COUNT {
-        files.push(VecSink::new(Vec::with_capacity(alloc, 4 * SIDE * SIDE)?))?;
-    }
-    let Ok((layout, products)) = make_set(alloc, 64, tiles.as_mut_slice(), &mut out) else {
-        told(out.as_slice())?;
-        return Err("nothing was made".into());
-    };
-    if files.len() != FILE_COUNT {
-        return Err("twelve files".into());
-    }
-    let status = write_set(alloc, &layout, &products, files.as_mut_slice(), &mut out);
-    told(out.as_slice())?;
-    match status {
+    let run = make(alloc, 64, &at_zero(&ZEROS), 4 * SIDE * SIDE, &mut files)?;
+    match run.status {
         0 => Ok(files),
-        _ => Err("the files were not written".into()),
+        _ => Err("the files were not made and written".into()),
     }
 }
 
-/// The product whose header and raster stand in these places among the files.
-fn product<'a>(
-    alloc: Global,
+/// Files of products that are read by one clock.
+#[derive(Clone, Copy)]
+struct Watched<'a> {
     files: &'a [VecSink],
-    header: usize,
     clock: &'a Cell<u64>,
+}
+
+/// A product whose header and raster are among the files.
+fn product_of<'a>(
+    alloc: Global,
+    watched: Watched<'a>,
+    product: Product,
 ) -> Result<RasterInput<Stamped<'a>>, Fail> {
-    let (Some(header), Some(raster)) = (files.get(header), files.get(header.saturating_add(1)))
-    else {
-        return Err("a file is missing".into());
-    };
+    let (header, raster) = files_of(watched.files, product)?;
     Ok(RasterInput {
-        header: ByteList::new(Vec::from_slice(alloc, header.as_slice())?),
-        body: Stamped::new(raster.as_slice(), clock),
+        header: ByteList::new(Vec::from_slice(alloc, header)?),
+        body: Stamped::new(raster, watched.clock),
     })
 }
 
+/// The products whose headers and rasters are the files.
+fn products<'a>(alloc: Global, watched: Watched<'a>) -> Result<Products<Stamped<'a>>, Fail> {
+    let input = |product: Product| -> Result<RasterInput<Stamped<'_>>, Fail> {
+        product_of(alloc, watched, product)
+    };
+    PerProduct::from_each(&input)
+}
+
+/// The stamps of each row's first byte, and of its last.
+fn stamps_of(source: &Stamped<'_>) -> (Stamps, Stamps) {
+    (source.first, source.last)
+}
+
 /// For each source, the tile's first, the stamps of each row's first byte, and of its last.
+fn stamps_of_each(tile: &Stamped<'_>, products: &Products<Stamped<'_>>) -> [(Stamps, Stamps); 7] {
+    [
+        stamps_of(tile),
+        stamps_of(&products.con.body),
+        stamps_of(&products.dir.body),
+        stamps_of(&products.acc.body),
+        stamps_of(&products.bas.body),
+        stamps_of(&products.spl.body),
+        stamps_of(&products.rnk.body),
+    ]
+}
+
+/// The tile of zeros.
+fn tile<'a>(alloc: Global, clock: &'a Cell<u64>) -> Result<TileInput<Stamped<'a>>, AllocError> {
+    Ok(TileInput {
+        name: ByteList::new(Vec::from_slice(alloc, b"N00E000.hgt")?),
+        body: Stamped::new(&ZEROS, clock),
+    })
+}
+
+/// The stamps of the sources of a check of the tile of zeros with the files.
 fn stamps(alloc: Global, files: &[VecSink]) -> Result<[(Stamps, Stamps); 7], Fail> {
     let clock = Cell::new(0);
-    let mut tiles = Vec::new(alloc);
-    tiles.push(TileInput {
-        name: name(alloc)?,
-        body: Stamped::new(&ZEROS, &clock),
-    })?;
-    let mut products = Products {
-        con: product(alloc, files, 0, &clock)?,
-        dir: product(alloc, files, 2, &clock)?,
-        acc: product(alloc, files, 4, &clock)?,
-        bas: product(alloc, files, 6, &clock)?,
-        spl: product(alloc, files, 8, &clock)?,
-        rnk: product(alloc, files, 10, &clock)?,
+    let watched = Watched {
+        files,
+        clock: &clock,
     };
-    let mut out = VecSink::new(Vec::with_capacity(alloc, 300)?);
-    let status = run_check(alloc, 64, tiles.as_mut_slice(), &mut products, &mut out);
-    told(out.as_slice())?;
-    if status != 0 {
+    let mut products = products(alloc, watched)?;
+    let mut tiles = [tile(alloc, &clock)?];
+    let run = check_printed(alloc, 64, &mut tiles, &mut products)?;
+    if run.status != 0 {
         return Err("not accepted".into());
     }
-    let Some(tile) = tiles.first() else {
-        return Err("no tile".into());
-    };
-    Ok([
-        (tile.body.first, tile.body.last),
-        (products.con.body.first, products.con.body.last),
-        (products.dir.body.first, products.dir.body.last),
-        (products.acc.body.first, products.acc.body.last),
-        (products.bas.body.first, products.bas.body.last),
-        (products.spl.body.first, products.spl.body.last),
-        (products.rnk.body.first, products.rnk.body.last),
-    ])
+    Ok(stamps_of_each(&tiles[0].body, &products))
+}
+
+/// The stamps of a check of the tile of zeros with the products that are made of it.
+fn stamps_of_a_check(alloc: Global) -> Result<[(Stamps, Stamps); 7], Fail> {
+    let files = made(alloc)?;
+    stamps(alloc, files.as_slice())
 }
 
 /// The first row of which a source gave a byte before the other had given the last of the row four above.
@@ -182,8 +182,7 @@ fn too_early(first: &Stamps, last: &Stamps) -> Option<usize> {
 
 #[test]
 fn no_source_is_four_rows_ahead_of_another(rt: HostRuntime) -> Result<(), Fail> {
-    let files = made(rt.alloc())?;
-    let stamps = stamps(rt.alloc(), files.as_slice())?;
+    let stamps = stamps_of_a_check(rt.alloc())?;
     for (k, (first, _)) in stamps.iter().enumerate() {
         for (j, (_, last)) in stamps.iter().enumerate() {
             assert_eq!(rt; too_early(first, last), None, "{k} {j}");

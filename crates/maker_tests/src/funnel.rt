@@ -1,27 +1,51 @@
 //! A funnel: every cell drains through one outlet, over heights from below the sea to above it.
 
 use crate::made::{elevation, one_tile};
-use drain_grid::Cell;
+use drain_grid::{Cell, Raster};
 use drain_maker::make;
 use drain_rules::{Counts, Verdict, verdict_of};
+use std::alloc::Global;
 use std::test::Fail;
 
 /// Samples along an edge. Scripts that run the tests with checks, which takes fifty times as long, put a smaller side here.
 const SIDE: u32 = 1201;
 
-#[test]
-fn every_cell_drains_through_one_outlet(rt: HostRuntime) -> Result<(), Fail> {
+/// The samples of the funnel in row order.
+fn samples(alloc: Global) -> Result<Vec<i16>, Fail> {
     let middle = SIDE / 2;
-    let mut samples = Vec::new(rt.alloc());
+    let mut samples = Vec::new(alloc);
     for row in 0..SIDE {
         for col in 0..SIDE {
             let steps = i16::try_from(row.max(col.abs_diff(middle)))?;
             samples.push(steps.wrapping_sub(i16::try_from(middle)?))?;
         }
     }
-    let layout = one_tile(rt.alloc(), SIDE)?;
-    let elevation = elevation(&layout, samples)?;
-    let products = make(rt.alloc(), &layout, &elevation)?;
+    Ok(samples)
+}
+
+/// The greatest number of a raster, or 0 where it is more.
+fn greatest(raster: &Raster) -> i64 {
+    let shape = raster.shape();
+    let mut greatest = 0;
+    for row in 0..shape.rows() {
+        for col in 0..shape.cols() {
+            greatest = greatest.max(raster.value(Cell { row, col }));
+        }
+    }
+    greatest
+}
+
+/// The verdict on the products that are made of the funnel, and their greatest accumulation.
+fn verdict_and_greatest(alloc: Global) -> Result<(Verdict, i64), Fail> {
+    let layout = one_tile(alloc, SIDE)?;
+    let elevation = elevation(&layout, samples(alloc)?)?;
+    let products = make(alloc, &layout, &elevation)?;
+    let verdict = verdict_of(alloc, &elevation, &products)?;
+    Ok((verdict, greatest(&products.acc)))
+}
+
+#[test]
+fn every_cell_drains_through_one_outlet(rt: HostRuntime) -> Result<(), Fail> {
     let wanted = Verdict::Accepted(Counts {
         rows: SIDE,
         cols: SIDE,
@@ -29,14 +53,9 @@ fn every_cell_drains_through_one_outlet(rt: HostRuntime) -> Result<(), Fail> {
         raised: 0,
         outlets: 1,
     });
-    assert_eq!(rt; verdict_of(rt.alloc(), &elevation, &products)?, wanted);
-    let shape = products.acc.shape();
-    let mut greatest = 0;
-    for row in 0..shape.rows() {
-        for col in 0..shape.cols() {
-            greatest = greatest.max(products.acc.value(Cell { row, col }));
-        }
-    }
-    assert_eq!(rt; greatest, i64::from(SIDE * SIDE));
+    assert_eq!(rt;
+        verdict_and_greatest(rt.alloc())?,
+        (wanted, i64::from(SIDE * SIDE))
+    );
     Ok(())
 }

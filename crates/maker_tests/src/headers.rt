@@ -4,22 +4,34 @@ use crate::made::one_tile;
 use drain_grid::Product;
 use drain_header::header_text;
 use drain_maker::product_header;
+use std::alloc::Global;
 use std::test::Fail;
+
+/// Whether this is the text of the header of one tile's heights.
+fn is_text_of_heights(alloc: Global, wanted: &str) -> Result<bool, Fail> {
+    let layout = one_tile(alloc, 3)?;
+    let text = header_text(alloc, &product_header(&layout, Product::Con))?;
+    Ok(text.as_slice() == wanted.as_bytes())
+}
 
 #[test]
 fn text_of_heights(rt: HostRuntime) -> Result<(), Fail> {
-    let layout = one_tile(rt.alloc(), 3)?;
-    let text = header_text(rt.alloc(), &product_header(&layout, Product::Con))?;
     let wanted =
         "BYTEORDER I\nLAYOUT BIL\nNROWS 3\nNCOLS 3\nNBANDS 1\nNBITS 16\nBANDROWBYTES 6\nTOTALROWBYTES 6\nSKIPBYTES 0\nPIXELTYPE SIGNEDINT\nULXMAP 0.000000000000000\nULYMAP 1.000000000000000\nXDIM 0.500000000000000\nYDIM 0.500000000000000\nNODATA -32768\n";
-    assert_eq!(rt; wanted.len(), 230);
-    assert_eq!(rt; text.as_slice(), wanted.as_bytes());
+    let is_wanted = is_text_of_heights(rt.alloc(), wanted)?;
+    assert_eq!(rt; (wanted.len(), is_wanted), (230, true));
     Ok(())
+}
+
+/// What the header of one tile's product says of its pixels: their bits, the bytes of a row, whether they have signs, and no data.
+fn pixels_of(alloc: Global, product: Product) -> Result<(u8, u32, bool, Option<i64>), Fail> {
+    let layout = one_tile(alloc, 3)?;
+    let header = product_header(&layout, product);
+    Ok((header.bits, header.row_bytes, header.signed, header.nodata))
 }
 
 #[test]
 fn pixels_of_each_product(rt: HostRuntime) -> Result<(), Fail> {
-    let layout = one_tile(rt.alloc(), 3)?;
     for (product, bits, row_bytes, signed, nodata) in [
         (Product::Con, 16, 6, true, -32768),
         (Product::Dir, 8, 3, false, 255),
@@ -28,15 +40,9 @@ fn pixels_of_each_product(rt: HostRuntime) -> Result<(), Fail> {
         (Product::Spl, 8, 3, false, 255),
         (Product::Rnk, 32, 12, false, 4294967295),
     ] {
-        let header = product_header(&layout, product);
         assert_eq!(rt;
-            (header.bits, header.row_bytes),
-            (bits, row_bytes),
-            "{product:?}"
-        );
-        assert_eq!(rt;
-            (header.signed, header.nodata),
-            (signed, Some(nodata)),
+            pixels_of(rt.alloc(), product)?,
+            (bits, row_bytes, signed, Some(nodata)),
             "{product:?}"
         );
     }

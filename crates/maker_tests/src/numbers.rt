@@ -6,31 +6,45 @@ use drain_maker::make;
 use std::alloc::Global;
 use std::test::Fail;
 
-/// The numbers of a raster in row order.
-fn numbers(alloc: Global, raster: &Raster) -> Result<Vec<i64>, Fail> {
-    let shape = raster.shape();
-    let mut numbers = Vec::new(alloc);
-    for row in 0..shape.rows() {
-        for col in 0..shape.cols() {
-            numbers.push(raster.value(Cell { row, col }))?;
+/// The most numbers of a product here.
+const ROOM: usize = 25;
+
+/// The numbers of a product in row order. They own no memory, so that a test that holds some is cheap to prove.
+#[derive(Clone, Copy)]
+struct Numbers {
+    list: [i64; ROOM],
+    count: usize,
+}
+
+impl Numbers {
+    /// The numbers of a raster.
+    fn of(raster: &Raster) -> Numbers {
+        let shape = raster.shape();
+        let mut list = [0; ROOM];
+        let mut count: usize = 0;
+        for row in 0..shape.rows() {
+            for col in 0..shape.cols() {
+                if let Some(place) = list.get_mut(count) {
+                    *place = raster.value(Cell { row, col });
+                }
+                count = count.saturating_add(1);
+            }
         }
+        Numbers { list, count }
     }
-    Ok(numbers)
+
+    /// The numbers; none where there are more than there is room for.
+    fn as_slice(&self) -> &[i64] {
+        self.list.get(..self.count).unwrap_or(&[])
+    }
 }
 
 /// The numbers of a product that is made of one tile.
-fn made(alloc: Global, side: u32, samples: &[i16], product: Product) -> Result<Vec<i64>, Fail> {
+fn made(alloc: Global, side: u32, samples: &[i16], product: Product) -> Result<Numbers, Fail> {
     let layout = one_tile(alloc, side)?;
     let elevation = elevation(&layout, Vec::from_slice(alloc, samples)?)?;
     let products = make(alloc, &layout, &elevation)?;
-    match product {
-        Product::Con => numbers(alloc, &products.con),
-        Product::Dir => numbers(alloc, &products.dir),
-        Product::Acc => numbers(alloc, &products.acc),
-        Product::Bas => numbers(alloc, &products.bas),
-        Product::Spl => numbers(alloc, &products.spl),
-        Product::Rnk => numbers(alloc, &products.rnk),
-    }
+    Ok(Numbers::of(products.raster(product)))
 }
 
 #[test]
@@ -109,17 +123,29 @@ fn pit_in_the_middle(rt: HostRuntime) -> Result<(), Fail> {
         (Product::Rnk, 0, Some(1)),
     ] {
         let mut given = made(rt.alloc(), 3, &tile, product)?;
-        assert_eq!(rt; given.len(), 9);
-        let in_middle = given.remove(4);
-        assert!(rt; given.iter().all(|number| *number == edge), "{product:?}");
-        match middle {
-            Some(wanted) => assert_eq!(rt; in_middle, wanted, "{product:?}"),
-            None => assert!(rt; in_middle != 0, "{product:?}"),
-        }
+        let in_middle = given.list[4];
+        let is_right = match middle {
+            Some(wanted) => in_middle == wanted,
+            None => in_middle != 0,
+        };
+        given.list[4] = edge;
+        let is_even = given.as_slice().iter().all(|number| *number == edge);
+        assert_eq!(rt;
+            (given.count, is_right, is_even),
+            (9, true, true),
+            "{product:?}, {in_middle} in the middle"
+        );
     }
+    Ok(())
+}
+
+#[test]
+fn accumulation_at_a_pit(rt: HostRuntime) -> Result<(), Fail> {
+    let tile = [5, 5, 5, 5, 1, 5, 5, 5, 5];
     let mut counts = made(rt.alloc(), 3, &tile, Product::Acc)?;
-    assert_eq!(rt; counts.get(4), Some(&1));
-    counts.sort_unstable();
-    assert_eq!(rt; counts.as_slice(), [1, 1, 1, 1, 1, 1, 1, 1, 2].as_slice());
+    let in_middle = counts.list[4];
+    counts.list[..9].sort_unstable();
+    let wanted = [1, 1, 1, 1, 1, 1, 1, 1, 2];
+    assert_eq!(rt; (in_middle, counts.as_slice()), (1, wanted.as_slice()));
     Ok(())
 }

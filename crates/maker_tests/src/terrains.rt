@@ -25,12 +25,18 @@ fn with_edge(alloc: Global, choice: u32) -> Result<Vec<i16>, Fail> {
     Ok(samples)
 }
 
+/// How many zeros the tile of a choice has, and what the verdict on its products counts.
+fn choice_made(alloc: Global, choice: u32) -> Result<(usize, Counts), Fail> {
+    let samples = with_edge(alloc, choice)?;
+    let zeros = samples.iter().filter(|sample| **sample == 0).count();
+    let layout = one_tile(alloc, 5)?;
+    Ok((zeros, accepted(alloc, &layout, samples)?))
+}
+
 #[test]
 fn every_tile_of_nine_inner_samples(rt: HostRuntime) -> Result<(), Fail> {
-    let layout = one_tile(rt.alloc(), 5)?;
     for choice in 0..512u32 {
-        let samples = with_edge(rt.alloc(), choice)?;
-        let zeros = samples.iter().filter(|sample| **sample == 0).count();
+        let (zeros, counts) = choice_made(rt.alloc(), choice)?;
         let wanted = Counts {
             rows: 5,
             cols: 5,
@@ -38,21 +44,25 @@ fn every_tile_of_nine_inner_samples(rt: HostRuntime) -> Result<(), Fail> {
             raised: u32::try_from(zeros)?,
             outlets: 16,
         };
-        assert_eq!(rt; accepted(rt.alloc(), &layout, samples)?, wanted, "{choice}");
+        assert_eq!(rt; counts, wanted, "{choice}");
     }
     Ok(())
 }
 
-#[test]
-fn tiles_apart(rt: HostRuntime) -> Result<(), Fail> {
+/// What the verdict on the products of two tiles with a gap between them counts.
+fn apart_made(alloc: Global) -> Result<Counts, Fail> {
     let first = TileName::parse(b"N00E000.hgt")?;
     let last = TileName::parse(b"N00E002.hgt")?;
-    let layout = Layout::new(rt.alloc(), 3, &[first, last])?;
-    let row = [0, 0, 0, VOID, 0, 0, 0];
-    let mut samples = Vec::new(rt.alloc());
-    for _ in 0..3 {
-        samples.extend_from_slice(&row)?;
-    }
+    let layout = Layout::new(alloc, 3, &[first, last])?;
+    let v = VOID;
+    let samples = [
+        0, 0, 0, v, 0, 0, 0, 0, 0, 0, v, 0, 0, 0, 0, 0, 0, v, 0, 0, 0,
+    ];
+    accepted(alloc, &layout, Vec::from_slice(alloc, &samples)?)
+}
+
+#[test]
+fn tiles_apart(rt: HostRuntime) -> Result<(), Fail> {
     let wanted = Counts {
         rows: 3,
         cols: 7,
@@ -60,7 +70,7 @@ fn tiles_apart(rt: HostRuntime) -> Result<(), Fail> {
         raised: 0,
         outlets: 16,
     };
-    assert_eq!(rt; accepted(rt.alloc(), &layout, samples)?, wanted);
+    assert_eq!(rt; apart_made(rt.alloc())?, wanted);
     Ok(())
 }
 
@@ -131,13 +141,18 @@ const TERRAINS: [Terrain; 6] = [
     Terrain::Holed,
 ];
 
+/// What the verdict on the products of a terrain counts.
+fn terrain_made(alloc: Global, side: u32, terrain: Terrain, lowered: i16) -> Result<Counts, Fail> {
+    let layout = one_tile(alloc, side)?;
+    let samples = samples(alloc, side, terrain, lowered)?;
+    accepted(alloc, &layout, samples)
+}
+
 #[test]
 fn hard_terrains(rt: HostRuntime) -> Result<(), Fail> {
     for terrain in TERRAINS {
         for side in [2, 3, 4, 5, 8, 17, 33, 65] {
-            let layout = one_tile(rt.alloc(), side)?;
-            let samples = samples(rt.alloc(), side, terrain, 0)?;
-            let counts = accepted(rt.alloc(), &layout, samples)?;
+            let counts = terrain_made(rt.alloc(), side, terrain, 0)?;
             assert_eq!(rt; (counts.rows, counts.cols), (side, side), "{terrain:?}");
         }
     }
@@ -148,13 +163,10 @@ fn hard_terrains(rt: HostRuntime) -> Result<(), Fail> {
 fn hard_terrains_whose_heights_cross_0(rt: HostRuntime) -> Result<(), Fail> {
     for terrain in TERRAINS {
         for side in [2, 3, 5, 8, 17] {
-            let layout = one_tile(rt.alloc(), side)?;
-            let above = samples(rt.alloc(), side, terrain, 0)?;
-            let counts = accepted(rt.alloc(), &layout, above)?;
+            let counts = terrain_made(rt.alloc(), side, terrain, 0)?;
             for lowered in [1, 3] {
-                let crossing = samples(rt.alloc(), side, terrain, lowered)?;
                 assert_eq!(rt;
-                    accepted(rt.alloc(), &layout, crossing)?,
+                    terrain_made(rt.alloc(), side, terrain, lowered)?,
                     counts,
                     "{terrain:?}"
                 );

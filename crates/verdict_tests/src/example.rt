@@ -1,28 +1,29 @@
 //! What a check reads, made from small arrays of numbers.
 
+use crate::bytes::Bytes;
 use drain_grid::Product;
-use std::alloc::{AllocError, Global};
 use std::test::Fail;
 
 /// A tile's name and its bytes.
-#[derive(Drop)]
+#[derive(Clone, Copy)]
 pub struct TileBytes {
-    pub name: Vec<u8>,
-    pub body: Vec<u8>,
+    pub name: Bytes,
+    pub body: Bytes,
 }
 
 /// A product's header and the bytes of its raster.
-#[derive(Drop)]
+#[derive(Clone, Copy)]
 pub struct RasterBytes {
-    pub header: Vec<u8>,
-    pub body: Vec<u8>,
+    pub header: Bytes,
+    pub body: Bytes,
 }
 
-/// Tiles and their products.
-#[derive(Drop)]
+/// The first so many of these tiles, and their products.
+#[derive(Clone, Copy)]
 pub struct Example {
     pub side: u32,
-    pub tiles: Vec<TileBytes>,
+    pub tiles: [TileBytes; 3],
+    pub tile_count: usize,
     pub con: RasterBytes,
     pub dir: RasterBytes,
     pub acc: RasterBytes,
@@ -32,6 +33,31 @@ pub struct Example {
 }
 
 impl Example {
+    pub fn tiles(&self) -> &[TileBytes] {
+        self.tiles.get(..self.tile_count).unwrap_or(&[])
+    }
+
+    /// Puts a tile behind the others.
+    pub fn push_tile(&mut self, tile: TileBytes) -> Result<(), Fail> {
+        match self.tiles.get_mut(self.tile_count) {
+            Some(place) => *place = tile,
+            None => return Err("room for three tiles".into()),
+        }
+        self.tile_count = self.tile_count.saturating_add(1);
+        Ok(())
+    }
+
+    pub fn raster(&self, product: Product) -> &RasterBytes {
+        match product {
+            Product::Con => &self.con,
+            Product::Dir => &self.dir,
+            Product::Acc => &self.acc,
+            Product::Bas => &self.bas,
+            Product::Spl => &self.spl,
+            Product::Rnk => &self.rnk,
+        }
+    }
+
     pub fn raster_mut(&mut self, product: Product) -> &mut RasterBytes {
         match product {
             Product::Con => &mut self.con,
@@ -65,124 +91,106 @@ fn pixels_of(product: Product) -> &'static str {
 }
 
 /// A product's header with these lines on its grid.
-pub fn header_on(alloc: Global, product: Product, grid: &str) -> Result<Vec<u8>, AllocError> {
-    let mut header = grid.as_bytes().to_vec(alloc)?;
-    header.extend_from_slice(pixels_of(product).as_bytes())?;
-    Ok(header)
+pub fn header_on(product: Product, grid: &str) -> Bytes {
+    let mut header = Bytes::of(grid.as_bytes());
+    header.extend(pixels_of(product).as_bytes());
+    header
 }
 
 /// A tile of these samples, each with its most significant byte first.
-pub fn tile(alloc: Global, name: &str, samples: &[i64]) -> Result<TileBytes, AllocError> {
-    let mut body = Vec::new(alloc);
+pub fn tile(name: &str, samples: &[i64]) -> TileBytes {
+    let mut body = Bytes::new();
     for sample in samples {
         let bytes = sample.to_be_bytes();
-        body.extend_from_slice(&bytes[6..])?;
+        body.extend(&bytes[6..]);
     }
-    Ok(TileBytes {
-        name: name.as_bytes().to_vec(alloc)?,
+    TileBytes {
+        name: Bytes::of(name.as_bytes()),
         body,
-    })
+    }
 }
 
 /// A number as a product's pixel, its least significant byte first.
-fn push_pixel(body: &mut Vec<u8>, product: Product, number: i64) -> Result<(), AllocError> {
+fn push_pixel(body: &mut Bytes, product: Product, number: i64) {
     let bytes = number.to_le_bytes();
     match product {
-        Product::Con => body.extend_from_slice(&bytes[..2]),
-        Product::Dir => body.extend_from_slice(&bytes[..1]),
-        Product::Spl => body.extend_from_slice(&bytes[..1]),
-        _ => body.extend_from_slice(&bytes[..4]),
+        Product::Con => body.extend(&bytes[..2]),
+        Product::Dir => body.extend(&bytes[..1]),
+        Product::Spl => body.extend(&bytes[..1]),
+        _ => body.extend(&bytes[..4]),
     }
 }
 
-fn raster(
-    alloc: Global,
-    product: Product,
-    grid: &str,
-    numbers: &[i64],
-) -> Result<RasterBytes, AllocError> {
-    let mut body = Vec::new(alloc);
+fn raster(product: Product, grid: &str, numbers: &[i64]) -> RasterBytes {
+    let mut body = Bytes::new();
     for number in numbers {
-        push_pixel(&mut body, product, *number)?;
+        push_pixel(&mut body, product, *number);
     }
-    Ok(RasterBytes {
-        header: header_on(alloc, product, grid)?,
+    RasterBytes {
+        header: header_on(product, grid),
         body,
-    })
+    }
 }
 
 /// Products of these numbers, one product after the other, and no tile yet.
-pub fn products_on(
-    alloc: Global,
-    side: u32,
-    grid: &str,
-    numbers: &[i64],
-) -> Result<Example, AllocError> {
+pub fn products_on(side: u32, grid: &str, numbers: &[i64]) -> Example {
     let cells = numbers.len() / 6;
-    Ok(Example {
+    Example {
         side,
-        tiles: Vec::new(alloc),
-        con: raster(alloc, Product::Con, grid, &numbers[..cells])?,
-        dir: raster(alloc, Product::Dir, grid, &numbers[cells..2 * cells])?,
-        acc: raster(alloc, Product::Acc, grid, &numbers[2 * cells..3 * cells])?,
-        bas: raster(alloc, Product::Bas, grid, &numbers[3 * cells..4 * cells])?,
-        spl: raster(alloc, Product::Spl, grid, &numbers[4 * cells..5 * cells])?,
-        rnk: raster(alloc, Product::Rnk, grid, &numbers[5 * cells..])?,
-    })
+        tiles: [tile("", &[]); 3],
+        tile_count: 0,
+        con: raster(Product::Con, grid, &numbers[..cells]),
+        dir: raster(Product::Dir, grid, &numbers[cells..2 * cells]),
+        acc: raster(Product::Acc, grid, &numbers[2 * cells..3 * cells]),
+        bas: raster(Product::Bas, grid, &numbers[3 * cells..4 * cells]),
+        spl: raster(Product::Spl, grid, &numbers[4 * cells..5 * cells]),
+        rnk: raster(Product::Rnk, grid, &numbers[5 * cells..]),
+    }
 }
 
 /// A tile and its products with these lines of a header on their grid: the samples, then the numbers of one product after the other.
-pub fn tile_on(
-    alloc: Global,
-    side: u32,
-    name: &str,
-    grid: &str,
-    numbers: &[i64],
-) -> Result<Example, AllocError> {
+pub fn tile_on(side: u32, name: &str, grid: &str, numbers: &[i64]) -> Result<Example, Fail> {
     let cells = numbers.len() / 7;
-    let mut example = products_on(alloc, side, grid, &numbers[cells..])?;
-    example.tiles.push(tile(alloc, name, &numbers[..cells])?)?;
+    let mut example = products_on(side, grid, &numbers[cells..]);
+    example.push_tile(tile(name, &numbers[..cells]))?;
     Ok(example)
 }
 
 /// The tile N00E000 and its products.
-pub fn one_tile(alloc: Global, side: u32, numbers: &[i64]) -> Result<Example, AllocError> {
-    tile_on(alloc, side, "N00E000.hgt", grid_of(side), numbers)
-}
-
-fn bare_raster(alloc: Global, header: &str) -> Result<RasterBytes, AllocError> {
-    Ok(RasterBytes {
-        header: header.as_bytes().to_vec(alloc)?,
-        body: Vec::new(alloc),
-    })
+pub fn one_tile(side: u32, numbers: &[i64]) -> Result<Example, Fail> {
+    tile_on(side, "N00E000.hgt", grid_of(side), numbers)
 }
 
 /// Tiles of these names and products that all have this header, with no byte behind them.
-pub fn bare(alloc: Global, side: u32, names: &[&str], header: &str) -> Result<Example, AllocError> {
-    let mut tiles = Vec::new(alloc);
-    for name in names {
-        tiles.push(tile(alloc, name, &[])?)?;
-    }
-    Ok(Example {
+pub fn bare(side: u32, names: &[&str], header: &str) -> Result<Example, Fail> {
+    let raster = RasterBytes {
+        header: Bytes::of(header.as_bytes()),
+        body: Bytes::new(),
+    };
+    let mut example = Example {
         side,
-        tiles,
-        con: bare_raster(alloc, header)?,
-        dir: bare_raster(alloc, header)?,
-        acc: bare_raster(alloc, header)?,
-        bas: bare_raster(alloc, header)?,
-        spl: bare_raster(alloc, header)?,
-        rnk: bare_raster(alloc, header)?,
-    })
+        tiles: [tile("", &[]); 3],
+        tile_count: 0,
+        con: raster,
+        dir: raster,
+        acc: raster,
+        bas: raster,
+        spl: raster,
+        rnk: raster,
+    };
+    for name in names {
+        example.push_tile(tile(name, &[]))?;
+    }
+    Ok(example)
 }
 
 /// The numbers with another in one place.
-pub fn changed(
-    alloc: Global,
-    numbers: &[i64],
+pub fn changed<const N: usize>(
+    numbers: &[i64; N],
     place: usize,
     number: i64,
-) -> Result<Vec<i64>, Fail> {
-    let mut copy = Vec::from_slice(alloc, numbers)?;
+) -> Result<[i64; N], Fail> {
+    let mut copy = *numbers;
     match copy.get_mut(place) {
         Some(found) => *found = number,
         None => return Err("a place".into()),

@@ -25,9 +25,9 @@ const TOO_NARROW: &str = "NROWS 3\nNCOLS 3\nULXMAP 7\nULYMAP 0\nXDIM 0.499999998
 
 /// The line of the pit whose con and acc have headers with these lines on their grid, where the others are right.
 fn line_of(alloc: Global, con: &str, acc: &str) -> Result<Line, Fail> {
-    let mut example = tile_on(alloc, 3, "S01E007.hgt", RIGHT, &pit())?;
-    example.con.header = header_on(alloc, Product::Con, con)?;
-    example.acc.header = header_on(alloc, Product::Acc, acc)?;
+    let mut example = tile_on(3, "S01E007.hgt", RIGHT, &pit())?;
+    example.con.header = header_on(Product::Con, con);
+    example.acc.header = header_on(Product::Acc, acc);
     told(alloc, &example)
 }
 

@@ -8,38 +8,48 @@ use drain_grid::{Cell, Elevation, VOID};
 use drain_hgt::TileInput;
 use drain_verdict::line::Line;
 use drain_verdict::{Refusal, read_mosaic, report};
-use std::alloc::{AllocError, Global};
+use std::alloc::Global;
 use std::test::Fail;
 
 /// Two tiles of side 2, one west of the other; the eastern one has this first sample.
-fn side_by_side(alloc: Global, sample: i64) -> Result<Vec<TileBytes>, AllocError> {
-    let mut tiles = Vec::new(alloc);
-    tiles.push(tile(alloc, "N00E000.hgt", &[1, 2, 3, 4])?)?;
-    tiles.push(tile(alloc, "N00E001.hgt", &[sample, 5, 4, 6])?)?;
-    Ok(tiles)
+fn side_by_side(sample: i64) -> [TileBytes; 2] {
+    [
+        tile("N00E000.hgt", &[1, 2, 3, 4]),
+        tile("N00E001.hgt", &[sample, 5, 4, 6]),
+    ]
 }
 
-/// The samples of an elevation in row order.
-fn samples_of(alloc: Global, elevation: &Elevation) -> Result<Vec<i16>, AllocError> {
+/// The first six samples of an elevation in row order, and how many it has.
+fn samples_of(elevation: &Elevation) -> ([i16; 6], usize) {
     let shape = elevation.shape();
-    let mut samples = Vec::new(alloc);
+    let mut samples = [VOID; 6];
+    let mut count: usize = 0;
     for row in 0..shape.rows() {
         for col in 0..shape.cols() {
-            samples.push(elevation.z(Cell { row, col }).unwrap_or(VOID))?;
+            if let Some(place) = samples.get_mut(count) {
+                *place = elevation.z(Cell { row, col }).unwrap_or(VOID);
+            }
+            count = count.saturating_add(1);
         }
     }
-    Ok(samples)
+    (samples, count)
+}
+
+/// A mosaic's west, its north, its first six samples and how many it has.
+type Joined = (i16, i16, [i16; 6], usize);
+
+/// What the tiles make together.
+fn joined(alloc: Global, bytes: &[TileBytes]) -> Result<Joined, Fail> {
+    let mut tiles = tiles_at_once(alloc, bytes)?;
+    let mosaic = read_mosaic(alloc, 2, &mut tiles)?;
+    let (samples, count) = samples_of(&mosaic.elevation);
+    Ok((mosaic.layout.west(), mosaic.layout.north(), samples, count))
 }
 
 #[test]
 fn joins_tiles_side_by_side(rt: HostRuntime) -> Result<(), Fail> {
-    let alloc = rt.alloc();
-    let bytes = side_by_side(alloc, 2)?;
-    let mut tiles = tiles_at_once(alloc, &bytes)?;
-    let mosaic = read_mosaic(alloc, 2, &mut tiles)?;
-    assert_eq!(rt; (mosaic.layout.west(), mosaic.layout.north()), (0, 1));
-    let samples = samples_of(alloc, &mosaic.elevation)?;
-    assert_eq!(rt; samples.as_slice(), [1, 2, 5, 3, 4, 6].as_slice());
+    let joined = joined(rt.alloc(), &side_by_side(2))?;
+    assert_eq!(rt; joined, (0, 1, [1, 2, 5, 3, 4, 6], 6));
     Ok(())
 }
 
@@ -56,60 +66,63 @@ fn refused<R: ByteSource>(
     }
 }
 
+/// The line of the refusal of tiles of this side, whose sources give all bytes at once.
+fn refused_at_once(alloc: Global, side: u32, bytes: &[TileBytes]) -> Result<Line, Fail> {
+    let mut tiles = tiles_at_once(alloc, bytes)?;
+    refused(alloc, side, &mut tiles)
+}
+
 #[test]
 fn refuses_side_and_names(rt: HostRuntime) -> Result<(), Fail> {
-    let alloc = rt.alloc();
-    let bytes = [tile(alloc, "x", &[])?];
+    let bytes = [tile("x", &[])];
     for (side, tiles, line) in [
         (1, 1, "refused BadSide"),
         (3, 1, "refused BadName 0"),
         (3, 0, "refused NoTiles"),
     ] {
-        let mut tiles = tiles_at_once(alloc, &bytes[..tiles])?;
-        assert_eq!(rt; refused(alloc, side, &mut tiles)?.as_str(), line);
+        let told = refused_at_once(rt.alloc(), side, &bytes[..tiles])?;
+        assert_eq!(rt; told.as_str(), line);
     }
     Ok(())
 }
 
 #[test]
 fn refuses_bodies(rt: HostRuntime) -> Result<(), Fail> {
-    let alloc = rt.alloc();
-    let differing = side_by_side(alloc, 9)?;
-    let mut tiles = tiles_at_once(alloc, &differing)?;
-    assert_eq!(rt;
-        refused(alloc, 2, &mut tiles)?.as_str(),
-        "refused SeamMismatch row=0 col=1"
-    );
-    let mut short = tile(alloc, "N00E000.hgt", &[1, 2, 3, 4])?;
-    let _last = short.body.pop();
-    let mut long = tile(alloc, "N00E000.hgt", &[1, 2, 3, 4])?;
-    long.body.push(0)?;
-    for bytes in [[short], [long]] {
-        let mut tiles = tiles_at_once(alloc, &bytes)?;
-        assert_eq!(rt;
-            refused(alloc, 2, &mut tiles)?.as_str(),
-            "refused BadTileLength N00E000.hgt"
-        );
+    let mut short = tile("N00E000.hgt", &[1, 2, 3, 4]);
+    short.body.pop();
+    let mut long = tile("N00E000.hgt", &[1, 2, 3, 4]);
+    long.body.push(0);
+    for (bytes, tiles, line) in [
+        (side_by_side(9), 2, "refused SeamMismatch row=0 col=1"),
+        ([short; 2], 1, "refused BadTileLength N00E000.hgt"),
+        ([long; 2], 1, "refused BadTileLength N00E000.hgt"),
+    ] {
+        let told = refused_at_once(rt.alloc(), 2, &bytes[..tiles])?;
+        assert_eq!(rt; told.as_str(), line);
     }
     Ok(())
 }
 
+/// The line of the refusal of two tiles whose sources fault by this script.
+fn refused_slowly(alloc: Global, script: &[Scripted<DeviceFault>]) -> Result<Line, Fail> {
+    let faulty = Faulty {
+        owner: Owner::Tile,
+        script,
+    };
+    let bytes = side_by_side(2);
+    let mut tiles = slow_tiles(alloc, &bytes, faulty)?;
+    refused(alloc, 2, &mut tiles)
+}
+
 #[test]
 fn tells_a_failed_source(rt: HostRuntime) -> Result<(), Fail> {
-    let alloc = rt.alloc();
-    let bytes = side_by_side(alloc, 2)?;
     let script = [Scripted {
         first: 3,
         last: 3,
         answer: DeviceFault::Failed,
     }];
-    let faulty = Faulty {
-        owner: Owner::Tile,
-        script: &script,
-    };
-    let mut tiles = slow_tiles(alloc, &bytes, faulty)?;
     assert_eq!(rt;
-        refused(alloc, 2, &mut tiles)?.as_str(),
+        refused_slowly(rt.alloc(), &script)?.as_str(),
         "failed ReadFailed"
     );
     Ok(())

@@ -4,14 +4,13 @@ use crate::example::{Example, bare, header_on, one_tile, products_on, tile};
 use crate::runs::told;
 use drain_grid::Product;
 use drain_verdict::{Refusal, report};
-use std::alloc::{AllocError, Global};
 use std::test::Fail;
 use worked_grids::{PIT_LINE, pit, ring};
 
 /// The pit, with these lines on the grid in a product's header.
-fn pit_on(alloc: Global, product: Product, grid: &str) -> Result<Example, AllocError> {
-    let mut example = one_tile(alloc, 3, &pit())?;
-    example.raster_mut(product).header = header_on(alloc, product, grid)?;
+fn pit_on(product: Product, grid: &str) -> Result<Example, Fail> {
+    let mut example = one_tile(3, &pit())?;
+    example.raster_mut(product).header = header_on(product, grid);
     Ok(example)
 }
 
@@ -49,7 +48,7 @@ fn refuses_other_places_and_shapes(rt: HostRuntime) -> Result<(), Fail> {
             "refused BadHeader dir MissingKey ULXMAP",
         ),
     ] {
-        let example = pit_on(rt.alloc(), product, grid)?;
+        let example = pit_on(product, grid)?;
         assert_eq!(rt; told(rt.alloc(), &example)?.as_str(), line, "{grid}");
     }
     Ok(())
@@ -57,48 +56,33 @@ fn refuses_other_places_and_shapes(rt: HostRuntime) -> Result<(), Fail> {
 
 #[test]
 fn refuses_bodies_of_another_length(rt: HostRuntime) -> Result<(), Fail> {
-    let alloc = rt.alloc();
-    let mut short_raster = one_tile(alloc, 4, &ring())?;
-    let _last = short_raster.con.body.pop();
-    assert_eq!(rt;
-        told(alloc, &short_raster)?.as_str(),
-        "refused RasterShort con"
-    );
-    let mut short_tile = one_tile(alloc, 3, &pit())?;
-    let _last = short_tile.con.body.pop();
-    for tile in &mut short_tile.tiles {
-        let _last = tile.body.pop();
+    let mut short_raster = one_tile(4, &ring())?;
+    short_raster.con.body.pop();
+    let mut short_tile = one_tile(3, &pit())?;
+    short_tile.con.body.pop();
+    short_tile.tiles[0].body.pop();
+    let mut long_tile = one_tile(3, &pit())?;
+    long_tile.con.body.pop();
+    long_tile.tiles[0].body.push(0);
+    for (example, line) in [
+        (short_raster, "refused RasterShort con"),
+        (short_tile, "refused BadTileLength N00E000.hgt"),
+        (long_tile, "refused BadTileLength N00E000.hgt"),
+    ] {
+        assert_eq!(rt; told(rt.alloc(), &example)?.as_str(), line);
     }
-    assert_eq!(rt;
-        told(alloc, &short_tile)?.as_str(),
-        "refused BadTileLength N00E000.hgt"
-    );
-    let mut long_tile = one_tile(alloc, 3, &pit())?;
-    let _last = long_tile.con.body.pop();
-    for tile in &mut long_tile.tiles {
-        tile.body.push(0)?;
-    }
-    assert_eq!(rt;
-        told(alloc, &long_tile)?.as_str(),
-        "refused BadTileLength N00E000.hgt"
-    );
     Ok(())
 }
 
 /// Two tiles of side 2 that differ in the middle of the first row.
 #[test]
 fn refuses_tiles_that_differ(rt: HostRuntime) -> Result<(), Fail> {
-    let alloc = rt.alloc();
     let grid = "NROWS 2\nNCOLS 3\nULXMAP 0\nULYMAP 1\nXDIM 1\nYDIM 1\n";
-    let mut example = products_on(alloc, 2, grid, &[0; 36])?;
-    example
-        .tiles
-        .push(tile(alloc, "N00E000.hgt", &[1, 2, 3, 4])?)?;
-    example
-        .tiles
-        .push(tile(alloc, "N00E001.hgt", &[9, 5, 4, 6])?)?;
+    let mut example = products_on(2, grid, &[0; 36]);
+    example.push_tile(tile("N00E000.hgt", &[1, 2, 3, 4]))?;
+    example.push_tile(tile("N00E001.hgt", &[9, 5, 4, 6]))?;
     assert_eq!(rt;
-        told(alloc, &example)?.as_str(),
+        told(rt.alloc(), &example)?.as_str(),
         "refused SeamMismatch row=0 col=1"
     );
     Ok(())
@@ -123,7 +107,7 @@ NODATA -32768
 
 #[test]
 fn takes_the_headers_of_usual_tools(rt: HostRuntime) -> Result<(), Fail> {
-    let example = bare(rt.alloc(), 1201, &["N37W105.hgt"], USUAL)?;
+    let example = bare(1201, &["N37W105.hgt"], USUAL)?;
     assert_eq!(rt;
         told(rt.alloc(), &example)?.as_str(),
         "refused BadTileLength N37W105.hgt"

@@ -10,8 +10,8 @@ use worked_grids::{level, needless_crest, pit, ring, slope, voids};
 
 /// The line of the slope with one number changed.
 fn slope_with(alloc: Global, place: usize, number: i64) -> Result<Line, Fail> {
-    let numbers = changed(alloc, &slope(), place, number)?;
-    told(alloc, &one_tile(alloc, 4, &numbers)?)
+    let numbers = changed(&slope(), place, number)?;
+    told(alloc, &one_tile(4, &numbers)?)
 }
 
 /// The places of the slope are counted through its samples and its products, 16 of each.
@@ -36,8 +36,8 @@ fn rejects_a_changed_slope(rt: HostRuntime) -> Result<(), Fail> {
 
 /// The line of the pit with one number changed.
 fn pit_with(alloc: Global, place: usize, number: i64) -> Result<Line, Fail> {
-    let numbers = changed(alloc, &pit(), place, number)?;
-    told(alloc, &one_tile(alloc, 3, &numbers)?)
+    let numbers = changed(&pit(), place, number)?;
+    told(alloc, &one_tile(3, &numbers)?)
 }
 
 /// The places of the pit are counted through its samples and its products, 9 of each.
@@ -59,35 +59,30 @@ fn rejects_a_changed_pit(rt: HostRuntime) -> Result<(), Fail> {
 
 #[test]
 fn rejects_by_the_other_rules(rt: HostRuntime) -> Result<(), Fail> {
-    let alloc = rt.alloc();
-    let numbers = changed(alloc, &voids(), 14, 1)?;
-    let count_at_a_void = told(alloc, &one_tile(alloc, 2, &numbers)?)?;
-    assert_eq!(rt;
-        count_at_a_void.as_str(),
-        "rejected rule=1 VoidCell row=1 col=0"
-    );
-    let numbers = changed(alloc, &level(), 8, 1)?;
-    let no_outlet = told(alloc, &one_tile(alloc, 2, &numbers)?)?;
-    assert_eq!(rt;
-        no_outlet.as_str(),
-        "rejected rule=11 OutletCode row=0 col=0"
-    );
-    let crest = told(alloc, &one_tile(alloc, 3, &needless_crest())?)?;
-    assert_eq!(rt; crest.as_str(), "rejected rule=9 NotLeast row=1 col=1");
-    let ring = told(alloc, &one_tile(alloc, 4, &ring())?)?;
-    assert_eq!(rt; ring.as_str(), "rejected rule=12 FlatStep row=1 col=1");
+    let count_at_a_void = changed(&voids(), 14, 1)?;
+    let no_outlet = changed(&level(), 8, 1)?;
+    let (crest, ring) = (needless_crest(), ring());
+    let cases: [(u32, &[i64], &str); 4] = [
+        (2, &count_at_a_void, "rejected rule=1 VoidCell row=1 col=0"),
+        (2, &no_outlet, "rejected rule=11 OutletCode row=0 col=0"),
+        (3, &crest, "rejected rule=9 NotLeast row=1 col=1"),
+        (4, &ring, "rejected rule=12 FlatStep row=1 col=1"),
+    ];
+    for (side, numbers, line) in cases {
+        let told = told(rt.alloc(), &one_tile(side, numbers)?)?;
+        assert_eq!(rt; told.as_str(), line);
+    }
     Ok(())
 }
 
 /// Cells with data, whose number is that which the header gives for no data.
 #[test]
 fn rejects_the_number_of_nodata(rt: HostRuntime) -> Result<(), Fail> {
-    let alloc = rt.alloc();
-    let mut example = one_tile(alloc, 2, &level())?;
+    let mut example = one_tile(2, &level())?;
     let grid = "NODATA 0\nNROWS 2\nNCOLS 2\nULXMAP 0\nULYMAP 1\nXDIM 1\nYDIM 1\n";
-    example.con.header = header_on(alloc, Product::Con, grid)?;
+    example.con.header = header_on(Product::Con, grid);
     assert_eq!(rt;
-        told(alloc, &example)?.as_str(),
+        told(rt.alloc(), &example)?.as_str(),
         "rejected rule=2 Missing row=0 col=0"
     );
     Ok(())
@@ -95,13 +90,12 @@ fn rejects_the_number_of_nodata(rt: HostRuntime) -> Result<(), Fail> {
 
 #[test]
 fn rejects_two_outlets_of_one_label(rt: HostRuntime) -> Result<(), Fail> {
-    let alloc = rt.alloc();
-    let mut numbers = Vec::from_slice(alloc, &slope())?;
+    let mut numbers = slope();
     for place in 68..72 {
-        numbers = changed(alloc, &numbers, place, 1)?;
+        numbers = changed(&numbers, place, 1)?;
     }
     assert_eq!(rt;
-        told(alloc, &one_tile(alloc, 4, &numbers)?)?.as_str(),
+        told(rt.alloc(), &one_tile(4, &numbers)?)?.as_str(),
         "rejected rule=15 SharedLabel row=1 col=3"
     );
     Ok(())

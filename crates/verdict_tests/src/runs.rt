@@ -3,7 +3,7 @@
 use crate::example::{Example, RasterBytes, TileBytes};
 use drain_device::faults::{ScriptSource, Scripted};
 use drain_device::{ByteList, DeviceFault, SliceSource};
-use drain_grid::Product;
+use drain_grid::{PerProduct, Product};
 use drain_hgt::TileInput;
 use drain_verdict::line::Line;
 use drain_verdict::{Products, RasterInput, check, report};
@@ -28,6 +28,16 @@ fn list(alloc: Global, bytes: &[u8]) -> Result<ByteList, AllocError> {
     Ok(ByteList::new(bytes.to_vec(alloc)?))
 }
 
+fn tile_at_once<'a>(
+    alloc: Global,
+    tile: &'a TileBytes,
+) -> Result<TileInput<SliceSource<'a>>, AllocError> {
+    Ok(TileInput {
+        name: list(alloc, tile.name.as_slice())?,
+        body: SliceSource::new(tile.body.as_slice()),
+    })
+}
+
 /// The tiles, whose sources give all bytes at once.
 pub fn tiles_at_once<'a>(
     alloc: Global,
@@ -35,10 +45,7 @@ pub fn tiles_at_once<'a>(
 ) -> Result<Vec<TileInput<SliceSource<'a>>>, AllocError> {
     let mut tiles = Vec::new(alloc);
     for tile in bytes {
-        tiles.push(TileInput {
-            name: list(alloc, tile.name.as_slice())?,
-            body: SliceSource::new(tile.body.as_slice()),
-        })?;
+        tiles.push(tile_at_once(alloc, tile)?)?;
     }
     Ok(tiles)
 }
@@ -58,14 +65,10 @@ pub fn products_at_once<'a>(
     alloc: Global,
     example: &'a Example,
 ) -> Result<Products<SliceSource<'a>>, AllocError> {
-    Ok(Products {
-        con: raster_at_once(alloc, &example.con)?,
-        dir: raster_at_once(alloc, &example.dir)?,
-        acc: raster_at_once(alloc, &example.acc)?,
-        bas: raster_at_once(alloc, &example.bas)?,
-        spl: raster_at_once(alloc, &example.spl)?,
-        rnk: raster_at_once(alloc, &example.rnk)?,
-    })
+    let input = |product: Product| -> Result<RasterInput<SliceSource<'_>>, AllocError> {
+        raster_at_once(alloc, example.raster(product))
+    };
+    PerProduct::from_each(&input)
 }
 
 /// A source that gives one byte at a call.
@@ -77,6 +80,17 @@ fn slow<'a>(bytes: &'a [u8], owner: Owner, faulty: Faulty<'a>) -> ScriptSource<'
     }
 }
 
+fn slow_tile<'a>(
+    alloc: Global,
+    tile: &'a TileBytes,
+    faulty: Faulty<'a>,
+) -> Result<TileInput<ScriptSource<'a>>, AllocError> {
+    Ok(TileInput {
+        name: list(alloc, tile.name.as_slice())?,
+        body: slow(tile.body.as_slice(), Owner::Tile, faulty),
+    })
+}
+
 /// The tiles, whose sources give one byte at a call, and fault as it says.
 pub fn slow_tiles<'a>(
     alloc: Global,
@@ -85,54 +99,63 @@ pub fn slow_tiles<'a>(
 ) -> Result<Vec<TileInput<ScriptSource<'a>>>, AllocError> {
     let mut tiles = Vec::new(alloc);
     for tile in bytes {
-        tiles.push(TileInput {
-            name: list(alloc, tile.name.as_slice())?,
-            body: slow(tile.body.as_slice(), Owner::Tile, faulty),
-        })?;
+        tiles.push(slow_tile(alloc, tile, faulty)?)?;
     }
     Ok(tiles)
+}
+
+/// An example whose sources give one byte at a call, and fault as it says.
+#[derive(Clone, Copy)]
+struct SlowExample<'a> {
+    example: &'a Example,
+    faulty: Faulty<'a>,
 }
 
 fn slow_raster<'a>(
     alloc: Global,
     product: Product,
-    raster: &'a RasterBytes,
-    faulty: Faulty<'a>,
+    slowly: SlowExample<'a>,
 ) -> Result<RasterInput<ScriptSource<'a>>, AllocError> {
+    let raster = slowly.example.raster(product);
     Ok(RasterInput {
         header: list(alloc, raster.header.as_slice())?,
-        body: slow(raster.body.as_slice(), Owner::Raster(product), faulty),
+        body: slow(
+            raster.body.as_slice(),
+            Owner::Raster(product),
+            slowly.faulty,
+        ),
     })
 }
 
 fn slow_products<'a>(
     alloc: Global,
-    example: &'a Example,
-    faulty: Faulty<'a>,
+    slowly: SlowExample<'a>,
 ) -> Result<Products<ScriptSource<'a>>, AllocError> {
-    Ok(Products {
-        con: slow_raster(alloc, Product::Con, &example.con, faulty)?,
-        dir: slow_raster(alloc, Product::Dir, &example.dir, faulty)?,
-        acc: slow_raster(alloc, Product::Acc, &example.acc, faulty)?,
-        bas: slow_raster(alloc, Product::Bas, &example.bas, faulty)?,
-        spl: slow_raster(alloc, Product::Spl, &example.spl, faulty)?,
-        rnk: slow_raster(alloc, Product::Rnk, &example.rnk, faulty)?,
-    })
+    let input = |product: Product| -> Result<RasterInput<ScriptSource<'_>>, AllocError> {
+        slow_raster(alloc, product, slowly)
+    };
+    PerProduct::from_each(&input)
 }
 
 /// The line of a check whose sources give one byte at a call, and fault as it says.
 pub fn told_slowly(alloc: Global, example: &Example, faulty: Faulty) -> Result<Line, AllocError> {
-    let mut tiles = slow_tiles(alloc, &example.tiles, faulty)?;
-    let mut products = slow_products(alloc, example, faulty)?;
+    let mut tiles = slow_tiles(alloc, example.tiles(), faulty)?;
+    let mut products = slow_products(alloc, SlowExample { example, faulty })?;
+    let answer = check(alloc, example.side, &mut tiles, &mut products);
+    Ok(report(&answer))
+}
+
+/// The line of a check whose sources give all bytes at once.
+fn told_at_once(alloc: Global, example: &Example) -> Result<Line, AllocError> {
+    let mut tiles = tiles_at_once(alloc, example.tiles())?;
+    let mut products = products_at_once(alloc, example)?;
     let answer = check(alloc, example.side, &mut tiles, &mut products);
     Ok(report(&answer))
 }
 
 /// The line of a check whose sources never fault: the same whether they give all bytes at once or one at a call.
 pub fn told(alloc: Global, example: &Example) -> Result<Line, Fail> {
-    let mut tiles = tiles_at_once(alloc, &example.tiles)?;
-    let mut products = products_at_once(alloc, example)?;
-    let line = report(&check(alloc, example.side, &mut tiles, &mut products));
+    let line = told_at_once(alloc, example)?;
     let faultless = Faulty {
         owner: Owner::Tile,
         script: &[],

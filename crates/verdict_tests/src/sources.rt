@@ -6,7 +6,7 @@ use drain_device::DeviceFault;
 use drain_device::faults::Scripted;
 use drain_grid::Product;
 use drain_verdict::line::Line;
-use std::alloc::{AllocError, Global};
+use std::alloc::Global;
 use std::test::Fail;
 use worked_grids::{PIT_LINE, pit};
 
@@ -19,7 +19,7 @@ fn pit_where(
     first: u64,
     last: u64,
     answer: DeviceFault,
-) -> Result<Line, AllocError> {
+) -> Result<Line, Fail> {
     let script = [Scripted {
         first,
         last,
@@ -29,7 +29,7 @@ fn pit_where(
         owner,
         script: &script,
     };
-    told_slowly(alloc, &one_tile(alloc, 3, &pit())?, faulty)
+    Ok(told_slowly(alloc, &one_tile(3, &pit())?, faulty)?)
 }
 
 #[test]
@@ -57,7 +57,7 @@ fn bears_999_interruptions_of_each_source(rt: HostRuntime) -> Result<(), Fail> {
 #[test]
 fn never_takes_a_failed_source_for_its_end(rt: HostRuntime) -> Result<(), Fail> {
     for (owner, calls) in [
-        (Owner::Tile, 19),
+        (Owner::Tile, 19u64),
         (Owner::Raster(Product::Con), 18),
         (Owner::Raster(Product::Dir), 9),
         (Owner::Raster(Product::Acc), 36),
@@ -65,12 +65,16 @@ fn never_takes_a_failed_source_for_its_end(rt: HostRuntime) -> Result<(), Fail> 
         (Owner::Raster(Product::Spl), 9),
         (Owner::Raster(Product::Rnk), 36),
     ] {
-        for call in 1..=calls {
-            let told = pit_where(rt.alloc(), owner, call, call, DeviceFault::Failed)?;
-            assert_eq!(rt; told.as_str(), FAILED, "{owner:?} {call}");
+        for before in 0..=calls {
+            let call = before.saturating_add(1);
+            let (last, line) = if before < calls {
+                (call, FAILED)
+            } else {
+                (u64::MAX, PIT_LINE)
+            };
+            let told = pit_where(rt.alloc(), owner, call, last, DeviceFault::Failed)?;
+            assert_eq!(rt; told.as_str(), line, "{owner:?} {call}");
         }
-        let never = pit_where(rt.alloc(), owner, calls + 1, u64::MAX, DeviceFault::Failed)?;
-        assert_eq!(rt; never.as_str(), PIT_LINE, "{owner:?}");
     }
     Ok(())
 }

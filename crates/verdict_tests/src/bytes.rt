@@ -1,0 +1,48 @@
+//! Bytes on the stack.
+
+/// The most bytes of a header, of a tile or of a raster in these tests.
+const ROOM: usize = 400;
+
+/// Bytes that own no memory, so that a test that holds some is cheap to prove. Where there are more than there is room for, it has none.
+#[derive(Clone, Copy)]
+pub struct Bytes {
+    room: [u8; ROOM],
+    length: usize,
+}
+
+impl Bytes {
+    pub fn new() -> Bytes {
+        Bytes {
+            room: [0; ROOM],
+            length: 0,
+        }
+    }
+
+    pub fn of(bytes: &[u8]) -> Bytes {
+        let mut copy = Bytes::new();
+        copy.extend(bytes);
+        copy
+    }
+
+    pub fn push(&mut self, byte: u8) {
+        if let Some(place) = self.room.get_mut(self.length) {
+            *place = byte;
+        }
+        self.length = self.length.saturating_add(1);
+    }
+
+    pub fn extend(&mut self, bytes: &[u8]) {
+        for byte in bytes {
+            self.push(*byte);
+        }
+    }
+
+    /// Takes the last byte away.
+    pub fn pop(&mut self) {
+        self.length = self.length.saturating_sub(1);
+    }
+
+    pub fn as_slice(&self) -> &[u8] {
+        self.room.get(..self.length).unwrap_or(&[])
+    }
+}
