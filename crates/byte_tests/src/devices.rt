@@ -2,6 +2,7 @@
 //! of std becomes which fault, and at which call a scripted device answers what. Sinks mostly have their memory
 //! first, so that want of it is told as such.
 
+use crate::agree::same;
 use drain_device::faults::{ScriptSink, ScriptSource, Scripted, SinkAnswer};
 use drain_device::{
     BodyFault, ByteList, ByteSink, ByteSource, DeviceFault, GaveUp, Patience, Reader, SliceSource,
@@ -39,19 +40,22 @@ impl Write for Broken {
 #[test]
 fn a_slice_is_read_to_its_end(rt: HostRuntime) -> Result<(), Fail> {
     let mut source = SliceSource::new(TEXT);
-    let mut out = [0; 5];
-    assert_eq!(rt; (source.read_some(&mut out), out), (Ok(5), *b"drain"));
-    let read = read_full(&mut source, &mut out, &mut Patience::new());
-    assert_eq!(rt; (read, out), (Ok(3), *b"agein"));
-    assert_eq!(rt; source.read_some(&mut out), Ok(0));
-    assert_eq!(rt; (source.failures(), source.interruptions()), (0, 0));
+    let mut first = [0; 5];
+    let read = source.read_some(&mut first);
+    let mut out = first;
+    let rest = read_full(&mut source, &mut out, &mut Patience::new());
+    let at_end = source.read_some(&mut [0; 5]);
+    let faults = (source.failures(), source.interruptions());
+    same(&rt, "bytes", (first, out), (*b"drain", *b"agein"));
+    same(&rt, "rest", rest, Ok(3));
+    same(&rt, "calls", (read, at_end, faults), (Ok(5), Ok(0), (0, 0)));
     Ok(())
 }
 
 #[test]
 fn a_list_shows_its_bytes(rt: HostRuntime) -> Result<(), Fail> {
     let list = ByteList::new(TEXT.to_vec(rt.alloc())?);
-    assert_eq!(rt; list.as_slice(), TEXT.as_slice());
+    same(&rt, "a list", list.as_slice(), TEXT.as_slice());
     Ok(())
 }
 
@@ -60,9 +64,15 @@ fn a_vector_takes_all(rt: HostRuntime) -> Result<(), Fail> {
     let mut sink = VecSink::new(b"a ".to_vec(rt.alloc())?);
     // It fails only for want of memory.
     let taken = sink.write_some(TEXT).map_err(|_| BodyFault::OutOfMemory)?;
-    assert_eq!(rt; (taken, sink.as_slice()), (8, b"a drainage".as_slice()));
-    assert_eq!(rt; (sink.failures(), sink.interruptions()), (0, 0));
-    assert_eq!(rt; sink.into_inner().as_slice(), b"a drainage".as_slice());
+    same(&rt, "taken", sink.as_slice(), b"a drainage".as_slice());
+    let numbers = (taken, sink.failures(), sink.interruptions());
+    same(
+        &rt,
+        "handed out",
+        sink.into_inner().as_slice(),
+        b"a drainage".as_slice(),
+    );
+    same(&rt, "numbers", numbers, (8, 0, 0));
     Ok(())
 }
 
@@ -75,20 +85,29 @@ fn written(alloc: Global, bytes: &[u8]) -> Result<(Vec<u8>, u64), Fail> {
     Ok((to.into_inner(), stalls))
 }
 
+/// What a write of `TEXT` into room for three bytes answers, and its stalls.
+fn written_to_three_bytes() -> (Result<(), GaveUp>, u64) {
+    let mut room = [0; 3];
+    let mut small = Writer::new(room.as_mut_slice());
+    let wrote = write_all(&mut small, TEXT, &mut Patience::new());
+    (wrote, small.stalls())
+}
+
 #[test]
 fn readers_and_writers_of_std_are_devices(rt: HostRuntime) -> Result<(), Fail> {
     let mut from = Reader::new(TEXT.as_slice());
     let body = read_body(rt.alloc(), &mut from, 5)?;
-    assert_eq!(rt;
-        (body.as_slice(), from.into_inner()),
-        (b"drain".as_slice(), b"age".as_slice())
-    );
     let (copy, stalls) = written(rt.alloc(), &body)?;
-    assert_eq!(rt; (copy.as_slice(), stalls), (b"drain".as_slice(), 0));
-    let mut room = [0; 3];
-    let mut small = Writer::new(room.as_mut_slice());
-    let wrote = write_all(&mut small, TEXT, &mut Patience::new());
-    assert_eq!(rt; (wrote, small.stalls()), (Err(GaveUp), 1));
+    same(&rt, "read", body.as_slice(), b"drain".as_slice());
+    same(&rt, "left", from.into_inner(), b"age".as_slice());
+    same(&rt, "written", copy.as_slice(), b"drain".as_slice());
+    let (wrote, small_stalls) = written_to_three_bytes();
+    same(
+        &rt,
+        "stalls",
+        (wrote, small_stalls, stalls),
+        (Err(GaveUp), 1, 0),
+    );
     Ok(())
 }
 
@@ -103,27 +122,37 @@ fn an_interruption_of_std_is_one_and_every_other_error_is_a_failure(
     ] {
         let mut from = Reader::new(Broken { kind });
         let read = from.read_some(&mut [0]);
-        assert_eq!(rt;
-            (read, from.failures(), from.interruptions()),
-            (Err(fault), failures, interruptions)
+        let counts = (from.failures(), from.interruptions());
+        same(
+            &rt,
+            "read",
+            (read, counts),
+            (Err(fault), (failures, interruptions)),
         );
         let mut to = Writer::new(Broken { kind });
         let wrote = to.write_some(TEXT);
-        assert_eq!(rt;
-            (wrote, to.failures(), to.interruptions()),
-            (Err(fault), failures, interruptions)
+        let counts = (to.failures(), to.interruptions());
+        same(
+            &rt,
+            "write",
+            (wrote, counts),
+            (Err(fault), (failures, interruptions)),
         );
         let flushed = to.flush();
-        assert_eq!(rt;
-            (
-                flushed,
-                to.failures() > failures,
-                to.interruptions() > interruptions
-            ),
-            (Err(fault), failures > 0, interruptions > 0)
-        );
+        let more = (to.failures() > failures, to.interruptions() > interruptions);
+        same(&rt, "flush", flushed, Err(fault));
+        same(&rt, "counts", more, (failures > 0, interruptions > 0));
     }
     Ok(())
+}
+
+/// How many bytes are read.
+fn length_read(
+    alloc: Global,
+    from: &mut ScriptSource<'_>,
+    limit: usize,
+) -> Result<usize, BodyFault> {
+    Ok(read_body(alloc, from, limit)?.len())
 }
 
 /// How many bytes of `TEXT` are read, one at a call, and whether they are its first.
@@ -160,10 +189,11 @@ fn a_read_gives_up_where_its_source_does(rt: HostRuntime) -> Result<(), Fail> {
             last,
             answer,
         }];
-        assert_eq!(rt;
+        same(
+            &rt,
+            (first, last),
             read(rt.alloc(), &script, limit),
             (want, true),
-            "calls {first} to {last}"
         );
     }
     Ok(())
@@ -172,11 +202,11 @@ fn a_read_gives_up_where_its_source_does(rt: HostRuntime) -> Result<(), Fail> {
 #[test]
 fn a_read_with_no_memory_for_its_limit_reads_nothing(rt: HostRuntime) -> Result<(), Fail> {
     let mut from = ScriptSource::new(TEXT, 8, &[]);
-    let got = read_body(rt.alloc(), &mut from, usize::MAX);
-    assert_eq!(rt; got.map(|body| body.len()), Err(BodyFault::OutOfMemory));
+    let length = length_read(rt.alloc(), &mut from, usize::MAX);
     let mut out = [0; 8];
-    assert_eq!(rt; from.read_some(&mut out), Ok(8));
-    assert_eq!(rt; out, *TEXT);
+    let read = from.read_some(&mut out);
+    same(&rt, "length", length, Err(BodyFault::OutOfMemory));
+    same(&rt, "bytes", (read, out), (Ok(8), *TEXT));
     Ok(())
 }
 
@@ -215,13 +245,22 @@ fn a_write_gives_up_where_its_sink_does(rt: HostRuntime) -> Result<(), Fail> {
             last,
             answer,
         }];
-        assert_eq!(rt;
-            write(rt.alloc(), &script)?,
+        let given = write(rt.alloc(), &script)?;
+        same(
+            &rt,
+            (first, last),
+            given,
             (want, taken, true, want.is_err()),
-            "calls {first} to {last}"
         );
     }
     Ok(())
+}
+
+/// What a write of nothing answers, and how many bytes were taken.
+fn nothing_written(alloc: Global, script: &[Scripted<SinkAnswer>]) -> (Result<(), GaveUp>, usize) {
+    let mut to = ScriptSink::new(Vec::new(alloc), 1, script);
+    let got = write_nothing(&mut to);
+    (got, to.as_slice().len())
 }
 
 #[test]
@@ -240,13 +279,8 @@ fn a_write_of_nothing_gives_up_where_its_sink_does(rt: HostRuntime) -> Result<()
             last,
             answer,
         }];
-        let mut to = ScriptSink::new(Vec::new(rt.alloc()), 1, &script);
-        let got = write_nothing(&mut to);
-        assert_eq!(rt;
-            (got, to.as_slice().len()),
-            (want, 0),
-            "calls {first} to {last}"
-        );
+        let given = nothing_written(rt.alloc(), &script);
+        same(&rt, (first, last), given, (want, 0));
     }
     Ok(())
 }

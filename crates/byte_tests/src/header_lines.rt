@@ -1,5 +1,6 @@
 //! Decimals and lines of the format's tables, each with the value that the table gives; texts of faults.
 
+use crate::agree::same;
 use drain_header::decimal::{coordinate, nodata};
 use drain_header::lines::read_lines;
 use drain_header::{ByteOrdering, Header, HeaderFault, Key, Place, header_text};
@@ -24,7 +25,7 @@ fn decimals_in_units(rt: HostRuntime) -> Result<(), Fail> {
         ("0x1", None),
         ("-0", Some(0)),
     ] {
-        assert_eq!(rt; coordinate(text.as_bytes()), wanted, "{text}");
+        same(&rt, text, coordinate(text.as_bytes()), wanted);
     }
     Ok(())
 }
@@ -39,7 +40,7 @@ fn decimals_of_nodata(rt: HostRuntime) -> Result<(), Fail> {
         ("0.00000000000000000001", None),
         ("-32768", Some(-32768)),
     ] {
-        assert_eq!(rt; nodata(text.as_bytes()), wanted, "{text}");
+        same(&rt, text, nodata(text.as_bytes()), wanted);
     }
     Ok(())
 }
@@ -49,15 +50,16 @@ fn decimals_of_nodata(rt: HostRuntime) -> Result<(), Fail> {
 fn long_decimals(rt: HostRuntime) -> Result<(), Fail> {
     let mut digits = [b'0'; 60000];
     digits[1] = b'.';
-    assert_eq!(rt; coordinate(&digits), Some(0));
-    assert_eq!(rt; nodata(&digits), Some(0));
+    let zero = (coordinate(&digits), nodata(&digits));
     digits[59999] = b'1';
-    assert_eq!(rt; coordinate(&digits), Some(0));
-    assert_eq!(rt; nodata(&digits), None);
+    let small = (coordinate(&digits), nodata(&digits));
     digits[1] = b'0';
-    assert_eq!(rt; nodata(&digits), Some(1));
+    let one = nodata(&digits);
     digits[0] = b'1';
-    assert_eq!(rt; coordinate(&digits), None);
+    let large = coordinate(&digits);
+    same(&rt, "zero", zero, (Some(0), Some(0)));
+    same(&rt, "a last digit", small, (Some(0), None));
+    same(&rt, "one, and a large one", (large, one), (None, Some(1)));
     Ok(())
 }
 
@@ -80,7 +82,7 @@ fn first_faults_of_lines(rt: HostRuntime) -> Result<(), Fail> {
         ),
         ("PIXELTYPE FLOAT", None),
     ] {
-        assert_eq!(rt; read_lines(text.as_bytes()).err(), wanted, "{text}");
+        same(&rt, text, read_lines(text.as_bytes()).err(), wanted);
     }
     Ok(())
 }
@@ -94,7 +96,7 @@ fn texts_of_faults(rt: HostRuntime) -> Result<(), Fail> {
         (HeaderFault::MissingKey(Key::Ulxmap), "MissingKey ULXMAP"),
         (HeaderFault::RowTooShort, "RowTooShort"),
     ] {
-        assert_eq!(rt; fault.text().as_str(), wanted);
+        same(&rt, wanted, fault.text().as_str(), wanted);
     }
     Ok(())
 }
@@ -151,7 +153,7 @@ fn headers_as_text(rt: HostRuntime) -> Result<(), Fail> {
         ),
     ] {
         let text = header_text(rt.alloc(), &header)?;
-        assert_eq!(rt; str::from_utf8(&text), Ok(wanted));
+        same(&rt, header.cols, str::from_utf8(&text), Ok(wanted));
     }
     Ok(())
 }

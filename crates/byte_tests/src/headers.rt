@@ -1,5 +1,6 @@
 //! Whole headers: each text with the header that it describes, or its first fault.
 
+use crate::agree::same;
 use drain_header::{ByteOrdering, Header, HeaderFault, Key, Place, header_text, parse_header};
 use std::alloc::{AllocError, Global};
 use std::test::Fail;
@@ -76,120 +77,134 @@ fn parsed(
 
 #[test]
 fn the_last_faults(rt: HostRuntime) -> Result<(), Fail> {
-    let cases: [(&str, &[(usize, &str)], Result<Header, HeaderFault>); 14] = [
-        ("as it is", &[], Ok(SMALL)),
+    let cases: [(&str, &[(usize, &str)], HeaderFault); 13] = [
         (
             "three bands of four bits",
             &[(5, "NBANDS 3"), (6, "NBITS 4")],
-            Err(HeaderFault::NotOneBand),
+            HeaderFault::NotOneBand,
         ),
-        ("no band", &[(5, "NBANDS 0")], Err(HeaderFault::NotOneBand)),
-        ("four bits", &[(6, "NBITS 4")], Err(HeaderFault::BadBits)),
-        (
-            "half a bit",
-            &[(6, "NBITS 0.5")],
-            Err(HeaderFault::BadValue(6)),
-        ),
+        ("no band", &[(5, "NBANDS 0")], HeaderFault::NotOneBand),
+        ("four bits", &[(6, "NBITS 4")], HeaderFault::BadBits),
+        ("half a bit", &[(6, "NBITS 0.5")], HeaderFault::BadValue(6)),
         (
             "floating point",
             &[(10, "PIXELTYPE FLOAT")],
-            Err(HeaderFault::BadPixelType),
+            HeaderFault::BadPixelType,
         ),
         (
             "a pixel type without a word",
             &[(10, "PIXELTYPE")],
-            Err(HeaderFault::BadValue(10)),
+            HeaderFault::BadValue(10),
         ),
         (
             "five bytes for three pixels of two",
             &[(8, "TOTALROWBYTES 5")],
-            Err(HeaderFault::RowTooShort),
+            HeaderFault::RowTooShort,
         ),
-        ("no row", &[(3, "NROWS 0")], Err(HeaderFault::BadValue(3))),
+        ("no row", &[(3, "NROWS 0")], HeaderFault::BadValue(3)),
         (
             "rows are missing and a line is bad",
             &[(3, ""), (15, "NODATA x")],
-            Err(HeaderFault::BadValue(15)),
+            HeaderFault::BadValue(15),
         ),
         (
             "no place, four bits",
             &[(6, "NBITS 4"), (11, ""), (12, "")],
-            Err(HeaderFault::MissingKey(Key::Ulxmap)),
+            HeaderFault::MissingKey(Key::Ulxmap),
         ),
         (
             "two bad lines",
             &[(4, "NCOLS x"), (9, "SKIPBYTES x")],
-            Err(HeaderFault::BadValue(4)),
+            HeaderFault::BadValue(4),
         ),
         (
             "rows twice, once in other case and without a value",
             &[(9, "nRoWs")],
-            Err(HeaderFault::RepeatedKey(9)),
+            HeaderFault::RepeatedKey(9),
         ),
         (
             "rows twice",
             &[(1, "NROWS 2"), (2, "NROWS 2")],
-            Err(HeaderFault::RepeatedKey(2)),
+            HeaderFault::RepeatedKey(2),
         ),
     ];
     for (name, changes, wanted) in cases {
-        assert_eq!(rt; parsed(rt.alloc(), "\n", changes, 0)?, wanted, "{name}");
+        let answer = parsed(rt.alloc(), "\n", changes, 0)?;
+        same(&rt, name, answer, Err(wanted));
     }
     Ok(())
 }
 
-/// Carriage returns, tabs, small letters, further words and lines of other tools change nothing.
+/// The lines in small letters, with tabs, and with numbers spelled otherwise.
+const SMALL_LETTERS: [(usize, &str); 15] = [
+    (1, "\tbyteorder\ti"),
+    (2, "layout bsq"),
+    (3, "nrows 3"),
+    (4, "ncols 3"),
+    (5, "nbands 1"),
+    (6, "nbits 16"),
+    (7, "bandrowbytes 6"),
+    (8, "totalrowbytes 6"),
+    (9, "skipbytes 0"),
+    (10, "pixeltype signedint"),
+    (11, "ulxmap 0"),
+    (12, "ulymap +1e0"),
+    (13, "xdim .5"),
+    (14, "ydim 5e-1"),
+    (15, "nodata -32768.0"),
+];
+
+/// Without each line whose value is the default.
+const DEFAULTS: [(usize, &str); 7] = [
+    (1, ""),
+    (2, ""),
+    (5, ""),
+    (7, ""),
+    (8, ""),
+    (9, ""),
+    (10, ""),
+];
+
+/// Carriage returns, tabs, small letters, further words and lines of other tools change nothing. The last line counts with a carriage
+/// return alone, and without a line end. Of two carriage returns one is part of the last word.
 #[test]
 fn other_spellings(rt: HostRuntime) -> Result<(), Fail> {
-    let cases: [(&str, &[(usize, &str)]); 3] = [
-        ("as it is", &[]),
+    let more = " and more\nmoretext x\n\n";
+    let twice = Err(HeaderFault::BadValue(1));
+    let cases: [(
+        &str,
+        &str,
+        &[(usize, &str)],
+        usize,
+        Result<Header, HeaderFault>,
+    ); 10] = [
+        ("as it is", "\n", &[], 0, Ok(SMALL)),
+        ("carriage returns", "\r\n", &[], 0, Ok(SMALL)),
+        ("further words and lines", more, &[], 0, Ok(SMALL)),
         (
             "small letters and tabs",
-            &[
-                (1, "\tbyteorder\ti"),
-                (2, "layout bsq"),
-                (3, "nrows 3"),
-                (4, "ncols 3"),
-                (5, "nbands 1"),
-                (6, "nbits 16"),
-                (7, "bandrowbytes 6"),
-                (8, "totalrowbytes 6"),
-                (9, "skipbytes 0"),
-                (10, "pixeltype signedint"),
-                (11, "ulxmap 0"),
-                (12, "ulymap +1e0"),
-                (13, "xdim .5"),
-                (14, "ydim 5e-1"),
-                (15, "nodata -32768.0"),
-            ],
+            "\r\n",
+            &SMALL_LETTERS,
+            0,
+            Ok(SMALL),
         ),
         (
-            "defaults",
-            &[
-                (1, ""),
-                (2, ""),
-                (5, ""),
-                (7, ""),
-                (8, ""),
-                (9, ""),
-                (10, ""),
-            ],
+            "small letters, further words",
+            more,
+            &SMALL_LETTERS,
+            0,
+            Ok(SMALL),
         ),
+        ("defaults", "\r\n", &DEFAULTS, 0, Ok(SMALL)),
+        ("defaults, further words", more, &DEFAULTS, 0, Ok(SMALL)),
+        ("no line feed", "\r\n", &[], 1, Ok(SMALL)),
+        ("no line end", "\r\n", &[], 2, Ok(SMALL)),
+        ("two carriage returns", "\r\r\n", &[], 0, twice),
     ];
-    for (name, changes) in cases {
-        for end in ["\r\n", " and more\nmoretext x\n\n"] {
-            assert_eq!(rt; parsed(rt.alloc(), end, changes, 0)?, Ok(SMALL), "{name}");
-        }
+    for (name, end, changes, cut, wanted) in cases {
+        let answer = parsed(rt.alloc(), end, changes, cut)?;
+        same(&rt, name, answer, wanted);
     }
-    // The last line counts with a carriage return alone, and without a line end.
-    for cut in [1, 2] {
-        assert_eq!(rt; parsed(rt.alloc(), "\r\n", &[], cut)?, Ok(SMALL), "{cut}");
-    }
-    // Of two carriage returns one is part of the last word.
-    assert_eq!(rt;
-        parsed(rt.alloc(), "\r\r\n", &[], 0)?,
-        Err(HeaderFault::BadValue(1))
-    );
     Ok(())
 }
 
@@ -213,20 +228,26 @@ fn a_usual_tool(rt: HostRuntime) -> Result<(), Fail> {
         },
         ..SMALL
     };
-    assert_eq!(rt; parse_header(text.as_bytes()), Ok(wanted));
+    same(
+        &rt,
+        "a usual tool",
+        parse_header(text.as_bytes()),
+        Ok(wanted),
+    );
     Ok(())
 }
 
 #[test]
 fn the_longest_text(rt: HostRuntime) -> Result<(), Fail> {
-    assert_eq!(rt; parse_header(b""), Err(HeaderFault::MissingKey(Key::Nrows)));
-    let longest = [b'\n'; 65536];
-    assert_eq!(rt;
-        parse_header(&longest),
-        Err(HeaderFault::MissingKey(Key::Nrows))
-    );
-    let longer = [b'\n'; 65537];
-    assert_eq!(rt; parse_header(&longer), Err(HeaderFault::TooLong));
+    let line_feeds = [b'\n'; 65537];
+    for (length, wanted) in [
+        (0, HeaderFault::MissingKey(Key::Nrows)),
+        (65536, HeaderFault::MissingKey(Key::Nrows)),
+        (65537, HeaderFault::TooLong),
+    ] {
+        let answer = parse_header(&line_feeds[..length]);
+        same(&rt, length, answer, Err(wanted));
+    }
     Ok(())
 }
 
@@ -234,9 +255,9 @@ fn the_longest_text(rt: HostRuntime) -> Result<(), Fail> {
 #[test]
 fn writes_what_it_reads(rt: HostRuntime) -> Result<(), Fail> {
     let bytes = text(rt.alloc(), "\n", &[])?;
-    assert_eq!(rt; bytes.len(), 230);
     let written = header_text(rt.alloc(), &SMALL)?;
-    assert_eq!(rt; written.as_slice(), bytes.as_slice());
-    assert_eq!(rt; parse_header(written.as_slice()), Ok(SMALL));
+    same(&rt, "written", written.as_slice(), bytes.as_slice());
+    let again = parse_header(written.as_slice());
+    same(&rt, "read again", (bytes.len(), again), (230, Ok(SMALL)));
     Ok(())
 }

@@ -1,7 +1,8 @@
 //! Rows of two tiles beside one another, worked out by hand, from sources that are whole, slow, interrupted or fail.
 
-ghost use Rattle.std.specs.Prelude.{◌≡◌, IfOk, length};
+ghost use Rattle.std.specs.Prelude.{◌≡◌, ◌<◌, IfOk, length};
 
+use crate::agree::same;
 use drain_device::faults::{ScriptSource, Scripted};
 use drain_device::{ByteList, DeviceFault, ReadFault, RowStep};
 use drain_grid::Cell;
@@ -108,6 +109,21 @@ fn four_calls<'a>(
     ))
 }
 
+/// What four calls give where the sources never fail.
+fn of_bytes(
+    alloc: Global,
+    names: [&str; 2],
+    first: &[u8],
+    last: &[u8],
+    most: usize,
+) -> Result<Given, Fail>
+    requires { 0 < most }
+{
+    let first = ScriptSource::new(first, most, &[]);
+    let last = ScriptSource::new(last, most, &[]);
+    four_calls(alloc, names, first, last)
+}
+
 /// Two rows, and then the end.
 const WHOLE: [Answer; 4] = [
     Ok(RowStep::Row),
@@ -124,24 +140,19 @@ fn rows_of_two_tiles(rt: HostRuntime) -> Result<(), Fail> {
     let seam = Some(Cell { row: 0, col: 1 });
     let west_cut = [1, 2, 5, -32768, 4, 6];
     let east_cut = [1, 2, 5, 3, 4, -32768];
-    for (west, east, other, numbers, seam, wrong) in [
-        (8, 8, false, NUMBERS, None, None),
-        (8, 8, true, NUMBERS, seam, None),
-        (9, 8, false, NUMBERS, None, Some(0)),
-        (9, 9, true, NUMBERS, seam, Some(0)),
-        (7, 8, false, west_cut, None, Some(0)),
-        (8, 7, false, east_cut, None, Some(1)),
-        (8, 9, true, NUMBERS, seam, Some(1)),
+    for (west, east, numbers, seam, wrong) in [
+        (&WEST[..8], &EAST[..8], NUMBERS, None, None),
+        (&WEST[..8], &OTHER[..8], NUMBERS, seam, None),
+        (&WEST[..9], &EAST[..8], NUMBERS, None, Some(0)),
+        (&WEST[..9], &OTHER[..9], NUMBERS, seam, Some(0)),
+        (&WEST[..7], &EAST[..8], west_cut, None, Some(0)),
+        (&WEST[..8], &EAST[..7], east_cut, None, Some(1)),
+        (&WEST[..8], &OTHER[..9], NUMBERS, seam, Some(1)),
     ] {
         for most in [1, 100] {
-            let bytes = if other { &OTHER } else { &EAST };
-            let first = ScriptSource::new(&WEST[..west], most, &[]);
-            let last = ScriptSource::new(&bytes[..east], most, &[]);
-            assert_eq!(rt;
-                four_calls(rt.alloc(), BESIDE, first, last)?,
-                (WHOLE, (6, numbers), seam, wrong),
-                "{west} and {east} bytes, {most} at a call"
-            );
+            let given = of_bytes(rt.alloc(), BESIDE, west, east, most)?;
+            let wanted = (WHOLE, (6, numbers), seam, wrong);
+            same(&rt, (west.len(), east.len(), most), given, wanted);
         }
     }
     Ok(())
@@ -165,18 +176,15 @@ fn rows_of_a_tile_above_another(rt: HostRuntime) -> Result<(), Fail> {
             [1, 2, 3, 9, 7, 8],
         ),
     ] {
-        let first = ScriptSource::new(first, 100, &[]);
-        let last = ScriptSource::new(last, 100, &[]);
         let answers = [
             Ok(RowStep::Row),
             Ok(RowStep::Row),
             Ok(RowStep::Row),
             Ok(RowStep::Ended),
         ];
-        assert_eq!(rt;
-            four_calls(rt.alloc(), names, first, last)?,
-            (answers, (6, numbers), Some(Cell { row: 1, col: 1 }), None)
-        );
+        let given = of_bytes(rt.alloc(), names, first, last, 100)?;
+        let wanted = (answers, (6, numbers), Some(Cell { row: 1, col: 1 }), None);
+        same(&rt, names, given, wanted);
     }
     Ok(())
 }
@@ -204,10 +212,12 @@ fn a_device_that_fails(rt: HostRuntime) -> Result<(), Fail> {
             let first = ScriptSource::new(&WEST, 100, west);
             let last = ScriptSource::new(&EAST[..8], 100, east);
             let (given, (count, _), _, wrong_length) = four_calls(rt.alloc(), BESIDE, first, last)?;
-            assert_eq!(rt;
+            let wanted = (answers, 3 * (call as usize - 1), None);
+            same(
+                &rt,
+                (call, east_fails),
                 (given, count, wrong_length),
-                (answers, 3 * (call as usize - 1), None),
-                "call {call}"
+                wanted,
             );
         }
     }
@@ -231,7 +241,7 @@ fn devices_that_are_interrupted(rt: HostRuntime) -> Result<(), Fail> {
         let first = ScriptSource::new(&WEST[..8], 100, &often);
         let last = ScriptSource::new(&EAST[..8], 100, &more_often);
         let (answers, ..) = four_calls(rt.alloc(), BESIDE, first, last)?;
-        assert_eq!(rt; answers.first(), Some(&step), "{times} interruptions");
+        same(&rt, times, answers[0], step);
     }
     Ok(())
 }

@@ -4,6 +4,7 @@ mod boxes;
 mod layouts;
 mod seams;
 
+use crate::agree::same;
 use drain_grid::{Cell, Elevation, VOID};
 use drain_hgt::TileName;
 use drain_mosaic::{Layout, SeamFault, join};
@@ -22,18 +23,15 @@ fn samples(alloc: Global, elevation: &Elevation) -> Result<Vec<i16>, Fail> {
     Ok(samples)
 }
 
-/// What two tiles of side 2 give, one west of the other.
-fn side_by_side(
-    alloc: Global,
-    west: [i16; 4],
-    east: [i16; 4],
-) -> Result<Result<Elevation, SeamFault>, Fail> {
+/// The samples of two tiles of side 2, one west of the other.
+fn side_by_side(alloc: Global, west: [i16; 4], east: [i16; 4]) -> Result<Vec<i16>, Fail> {
     let first = TileName::parse(b"N00E000.hgt")?;
     let last = TileName::parse(b"N00E001.hgt")?;
     let layout = Layout::new(alloc, 2, &[first, last])?;
     let west = Vec::from_slice(alloc, &west)?;
     let east = Vec::from_slice(alloc, &east)?;
-    Ok(join(alloc, &layout, &[west, east]))
+    let elevation = join(alloc, &layout, &[west, east])?;
+    samples(alloc, &elevation)
 }
 
 #[test]
@@ -44,9 +42,8 @@ fn tiles_side_by_side(rt: HostRuntime) -> Result<(), Fail> {
         ([1, 2, 3, 4], [v, 5, 4, 6], [1, 2, 5, 3, 4, 6]),
         ([1, v, 3, v], [2, 5, v, 6], [1, 2, 5, 3, v, 6]),
     ] {
-        let elevation = side_by_side(rt.alloc(), west, east)??;
-        let given = samples(rt.alloc(), &elevation)?;
-        assert_eq!(rt; given.as_slice(), wanted.as_slice());
+        let given = side_by_side(rt.alloc(), west, east)?;
+        same(&rt, east, given.as_slice(), wanted.as_slice());
     }
     Ok(())
 }
@@ -76,12 +73,11 @@ fn square(alloc: Global, sample: i16) -> Result<Result<Elevation, SeamFault>, Fa
 fn tiles_in_a_square(rt: HostRuntime) -> Result<(), Fail> {
     let elevation = square(rt.alloc(), VOID)??;
     let given = samples(rt.alloc(), &elevation)?;
-    assert_eq!(rt; given.as_slice(), [1, 2, 3, 4, 5, 6, 7, 8, 9].as_slice());
+    let wanted = [1, 2, 3, 4, 5, 6, 7, 8, 9];
+    same(&rt, "samples", given.as_slice(), wanted.as_slice());
     let answer = square(rt.alloc(), 0)?;
-    assert_eq!(rt;
-        answer.err(),
-        Some(SeamFault::SeamMismatch(Cell { row: 1, col: 1 }))
-    );
+    let wanted = SeamFault::SeamMismatch(Cell { row: 1, col: 1 });
+    same(&rt, "a seam", answer.err(), Some(wanted));
     Ok(())
 }
 
@@ -103,7 +99,7 @@ fn tiles_with_a_gap_between_them(rt: HostRuntime) -> Result<(), Fail> {
     let wanted = [
         0, 0, 0, v, 0, 0, 0, 0, 0, 0, v, 0, 0, 0, 0, 0, 0, v, 0, 0, 0,
     ];
-    assert_eq!(rt; given.as_slice(), wanted.as_slice());
+    same(&rt, "a gap", given.as_slice(), wanted.as_slice());
     Ok(())
 }
 
@@ -129,7 +125,7 @@ fn largest_box(alloc: Global) -> Result<Vec<i16>, Fail> {
 #[test]
 fn corners_of_the_largest_box(rt: HostRuntime) -> Result<(), Fail> {
     let given = largest_box(rt.alloc())?;
-    assert_eq!(rt; given.len(), 81);
+    same(&rt, "samples", Some(given.len()), Some(81));
     for (place, sample) in [
         (0, 4),
         (1, 4),
@@ -142,7 +138,7 @@ fn corners_of_the_largest_box(rt: HostRuntime) -> Result<(), Fail> {
         (72, 1),
         (80, 3),
     ] {
-        assert_eq!(rt; given.get(place).copied(), Some(sample), "{place}");
+        same(&rt, place, given.get(place).copied(), Some(sample));
     }
     Ok(())
 }

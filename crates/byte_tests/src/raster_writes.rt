@@ -4,6 +4,7 @@
 ghost use Rattle.std.specs.Prelude.{◌≡◌, IfOk};
 ghost use Rattle.drain_raster.specs.Pixels.{extent_of};
 
+use crate::agree::same;
 use crate::rasters::{NOWHERE, PADDED, numbers_in, numbers_of, padded, raster_of};
 use drain_device::faults::{ScriptSink, Scripted, SinkAnswer};
 use drain_device::{ByteSink, VecSink};
@@ -23,21 +24,40 @@ fn worked(alloc: Global) -> Result<Raster, Fail>
     Ok(read_raster(alloc, Product::Con, &padded(ByteOrdering::Least), &PADDED)?)
 }
 
+/// The bytes that are written of the worked raster, where there are eleven, and the numbers that they spell, where there are four.
+fn written_and_read_back(alloc: Global) -> Result<(Option<[u8; 11]>, Option<[i64; 4]>), Fail> {
+    let raster = worked(alloc)?;
+    let header = padded(ByteOrdering::Least);
+    let mut sink = VecSink::new(Vec::with_capacity(alloc, WRITTEN.len())?);
+    write_raster(&mut sink, &header, &raster)?;
+    bytes_read_back();
+    let again = read_raster(alloc, Product::Con, &header, sink.as_slice())?;
+    Ok((sink.as_slice().try_into().ok(), numbers_in(alloc, &again)?))
+}
+
 #[test]
 fn a_worked_raster_is_written_and_read_back(rt: HostRuntime) -> Result<(), Fail> {
-    let raster = worked(rt.alloc())?;
-    let mut sink = VecSink::new(Vec::with_capacity(rt.alloc(), WRITTEN.len())?);
-    write_raster(&mut sink, &padded(ByteOrdering::Least), &raster)?;
-    assert_eq!(rt; sink.as_slice(), WRITTEN.as_slice());
-    bytes_read_back();
-    let again = read_raster(
-        rt.alloc(),
-        Product::Con,
-        &padded(ByteOrdering::Least),
-        sink.as_slice(),
-    )?;
-    assert_eq!(rt; numbers_in(rt.alloc(), &again)?, Some([1, -2, -32768, 2]));
+    let given = written_and_read_back(rt.alloc())?;
+    same(
+        &rt,
+        "worked",
+        given,
+        (Some(WRITTEN), Some([1, -2, -32768, 2])),
+    );
     Ok(())
+}
+
+/// What a write of these numbers to a sink that would fail at its first call answers, how many bytes were taken, and the failures.
+fn refused(alloc: Global, numbers: &[i64]) -> Result<(Result<(), WriteFault>, usize, u64), Fail> {
+    let raster = raster_of(alloc, 2, 2, numbers)?.ok_or("no raster")?;
+    let script = [Scripted {
+        first: 1,
+        last: 1,
+        answer: SinkAnswer::Failed,
+    }];
+    let mut sink = ScriptSink::new(Vec::new(alloc), 1, &script);
+    let written = write_raster(&mut sink, &padded(ByteOrdering::Least), &raster);
+    Ok((written, sink.as_slice().len(), sink.failures()))
 }
 
 /// The sink would fail at its first call, and isn't called.
@@ -50,19 +70,12 @@ fn the_first_number_out_of_range_is_told_before_any_byte(rt: HostRuntime) -> Res
         ([1, -2, -32768, 32768], Cell { row: 1, col: 1 }),
     ];
     for (numbers, cell) in cases {
-        let Some(raster) = raster_of(rt.alloc(), 2, 2, &numbers)? else {
-            return Err(Fail::new("no raster"));
-        };
-        let script = [Scripted {
-            first: 1,
-            last: 1,
-            answer: SinkAnswer::Failed,
-        }];
-        let mut sink = ScriptSink::new(Vec::new(rt.alloc()), 1, &script);
-        let written = write_raster(&mut sink, &padded(ByteOrdering::Least), &raster);
-        assert_eq!(rt;
-            (written, sink.as_slice().len(), sink.failures()),
-            (Err(WriteFault::OutOfRange(cell)), 0, 0)
+        let given = refused(rt.alloc(), &numbers)?;
+        same(
+            &rt,
+            numbers,
+            given,
+            (Err(WriteFault::OutOfRange(cell)), 0, 0),
         );
     }
     Ok(())
@@ -71,14 +84,12 @@ fn the_first_number_out_of_range_is_told_before_any_byte(rt: HostRuntime) -> Res
 /// What a write of the worked raster answers, one byte at a call; how many bytes were taken, and whether they are its first.
 fn write(
     alloc: Global,
-    raster: &Raster,
     script: &[Scripted<SinkAnswer>],
-) -> Result<(Result<(), WriteFault>, usize, bool), AllocError>
-    requires { raster.now.extent ≡ record { rows = 2; cols = 2 } }
-{
+) -> Result<(Result<(), WriteFault>, usize, bool), Fail> {
+    let raster = worked(alloc)?;
     let room = Vec::with_capacity(alloc, WRITTEN.len())?;
     let mut sink = ScriptSink::new(room, 1, script);
-    let written = write_raster(&mut sink, &padded(ByteOrdering::Least), raster);
+    let written = write_raster(&mut sink, &padded(ByteOrdering::Least), &raster);
     let taken = sink.as_slice();
     Ok((written, taken.len(), WRITTEN.starts_with(taken)))
 }
@@ -86,7 +97,6 @@ fn write(
 /// A sink that takes one byte at a call is called eleven times for the worked raster.
 #[test]
 fn a_write_fails_where_its_sink_does(rt: HostRuntime) -> Result<(), Fail> {
-    let raster = worked(rt.alloc())?;
     let failed = SinkAnswer::Failed;
     let none = SinkAnswer::TookNone;
     let interrupted = SinkAnswer::Interrupted;
@@ -123,11 +133,8 @@ fn a_write_fails_where_its_sink_does(rt: HostRuntime) -> Result<(), Fail> {
         } else {
             Ok(())
         };
-        assert_eq!(rt;
-            write(rt.alloc(), &raster, &script)?,
-            (wanted, taken, true),
-            "calls {first} to {last}"
-        );
+        let given = write(rt.alloc(), &script)?;
+        same(&rt, (first, last), given, (wanted, taken, true));
     }
     Ok(())
 }
@@ -135,7 +142,6 @@ fn a_write_fails_where_its_sink_does(rt: HostRuntime) -> Result<(), Fail> {
 /// Interruptions of one write add up, wherever they come: 500 before the first byte, and as many or one less before the last.
 #[test]
 fn interruptions_add_up_over_a_write(rt: HostRuntime) -> Result<(), Fail> {
-    let raster = worked(rt.alloc())?;
     let interrupted = SinkAnswer::Interrupted;
     for (last, wanted) in [(1009, Ok(())), (1010, Err(WriteFault::WriteFailed))] {
         let script = [
@@ -150,8 +156,8 @@ fn interruptions_add_up_over_a_write(rt: HostRuntime) -> Result<(), Fail> {
                 answer: interrupted,
             },
         ];
-        let (written, _, begins) = write(rt.alloc(), &raster, &script)?;
-        assert_eq!(rt; (written, begins), (wanted, true));
+        let (written, _, begins) = write(rt.alloc(), &script)?;
+        same(&rt, last, (written, begins), (wanted, true));
     }
     Ok(())
 }
@@ -197,17 +203,25 @@ fn last_of(alloc: Global, raster: &Raster) -> Result<Option<i64>, AllocError> {
     Ok(numbers_of(alloc, raster)?.last().copied())
 }
 
+/// The last number that these bytes spell, and whether the same bytes are written.
+fn read_and_written(alloc: Global, bytes: &[u8]) -> Result<(Option<i64>, bool), Fail> {
+    let header = long();
+    let raster = read_raster(alloc, Product::Acc, &header, bytes)?;
+    let last = last_of(alloc, &raster)?;
+    let mut sink = VecSink::new(Vec::with_capacity(alloc, bytes.len())?);
+    write_raster(&mut sink, &header, &raster)?;
+    Ok((last, sink.as_slice() == bytes))
+}
+
 #[test]
 fn long_rows_are_written_whole(rt: HostRuntime) -> Result<(), Fail> {
     let bytes = long_bytes(rt.alloc())?;
-    let header = long();
-    let raster = read_raster(rt.alloc(), Product::Acc, &header, &bytes)?;
-    assert_eq!(rt;
-        last_of(rt.alloc(), &raster)?,
-        Some(16777216 + 2999 * 256 + 7)
+    let given = read_and_written(rt.alloc(), &bytes)?;
+    same(
+        &rt,
+        "long rows",
+        given,
+        (Some(16777216 + 2999 * 256 + 7), true),
     );
-    let mut sink = VecSink::new(Vec::with_capacity(rt.alloc(), bytes.len())?);
-    write_raster(&mut sink, &header, &raster)?;
-    assert!(rt; sink.as_slice() == bytes.as_slice());
     Ok(())
 }

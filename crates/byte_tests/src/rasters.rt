@@ -3,6 +3,7 @@
 ghost use Rattle.std.specs.Prelude.{◌≡◌, IfOk, IfSome};
 ghost use Rattle.drain_raster.specs.Pixels.{extent_of};
 
+use crate::agree::same;
 use drain_device::VecSink;
 use drain_grid::values::{GREATEST_PIXEL, LEAST_PIXEL};
 use drain_grid::{Cell, Product, Raster, Shape};
@@ -107,10 +108,9 @@ fn a_worked_raster_is_read_in_both_orders(rt: HostRuntime) -> Result<(), Fail> {
     ] {
         let raster = read_raster(rt.alloc(), Product::Con, &padded(order), &PADDED)?;
         let shape = raster.shape();
-        assert_eq!(rt;
-            (shape.rows(), shape.cols(), numbers_in(rt.alloc(), &raster)?),
-            (2, 2, Some(wanted))
-        );
+        let numbers = numbers_in(rt.alloc(), &raster)?;
+        let given = ((shape.rows(), shape.cols()), numbers);
+        same(&rt, order, given, ((2, 2), Some(wanted)));
     }
     Ok(())
 }
@@ -134,13 +134,14 @@ fn a_raster_is_short_before_its_last_pixel_ends(rt: HostRuntime) -> Result<(), F
         } else {
             Ok([1, -2, -32768, 2])
         };
-        assert_eq!(rt;
-            four_numbers(rt.alloc(), &bytes[..len])?,
-            wanted,
-            "{len} bytes"
-        );
+        same(&rt, len, four_numbers(rt.alloc(), &bytes[..len])?, wanted);
     }
     Ok(())
+}
+
+/// The no-data number of a raster of one pixel with this header.
+fn nodata_of(alloc: Global, product: Product, header: &Header) -> Result<i64, RasterFault> {
+    Ok(read_raster(alloc, product, header, &[7])?.nodata())
 }
 
 /// A header's no-data number comes before the product's.
@@ -159,14 +160,9 @@ fn the_no_data_number_is_that_of_the_header_or_the_product(rt: HostRuntime) -> R
         (Product::Spl, 255),
         (Product::Rnk, 4294967295),
     ] {
-        assert_eq!(rt;
-            read_raster(rt.alloc(), product, &header, &[7])?.nodata(),
-            number
-        );
-        assert_eq!(rt;
-            read_raster(rt.alloc(), product, &given, &[7])?.nodata(),
-            -9999
-        );
+        let of_product = nodata_of(rt.alloc(), product, &header)?;
+        let of_header = nodata_of(rt.alloc(), product, &given)?;
+        same(&rt, product, (of_product, of_header), (number, -9999));
     }
     Ok(())
 }
@@ -223,14 +219,26 @@ fn each_kind_of_pixel_spells_its_bounds(rt: HostRuntime) -> Result<(), Fail> {
             (ByteOrdering::Most, most_first),
         ] {
             let header = alone(bits, signed, order);
-            assert_eq!(rt;
-                spelled(rt.alloc(), &header, &bytes)?,
-                (Some([number]), Some(bytes)),
-                "{number} in {bits} bits"
-            );
+            let given = spelled(rt.alloc(), &header, &bytes)?;
+            let wanted = (Some([number]), Some(bytes));
+            same(&rt, (bits, signed, order), given, wanted);
         }
     }
     Ok(())
+}
+
+/// What a write of this one number answers, and how many bytes were taken.
+fn refused(
+    alloc: Global,
+    header: &Header,
+    number: i64,
+) -> Result<(Result<(), WriteFault>, usize), Fail>
+    requires { extent_of header.now ≡ record { rows = 1; cols = 1 } }
+{
+    let raster = raster_of(alloc, 1, 1, &[number])?.ok_or("no raster")?;
+    let mut sink = VecSink::new(Vec::new(alloc));
+    let written = write_raster(&mut sink, header, &raster);
+    Ok((written, sink.as_slice().len()))
 }
 
 #[test]
@@ -249,18 +257,10 @@ fn no_kind_of_pixel_spells_a_number_outside_its_bounds(rt: HostRuntime) -> Resul
         (32, true, 2147483648),
         (32, true, 4294967295),
     ] {
-        let Some(raster) = raster_of(rt.alloc(), 1, 1, &[number])? else {
-            return Err(Fail::new("no raster"));
-        };
         let header = alone(bits, signed, ByteOrdering::Least);
-        let mut sink = VecSink::new(Vec::new(rt.alloc()));
+        let given = refused(rt.alloc(), &header, number)?;
         let fault = WriteFault::OutOfRange(Cell { row: 0, col: 0 });
-        assert_eq!(rt;
-            write_raster(&mut sink, &header, &raster),
-            Err(fault),
-            "{number} in {bits} bits"
-        );
-        assert!(rt; sink.as_slice().is_empty());
+        same(&rt, (bits, number), given, (Err(fault), 0));
     }
     Ok(())
 }
@@ -271,7 +271,8 @@ fn texts_of_faults(rt: HostRuntime) -> Result<(), Fail> {
         (RasterFault::Short, "the raster is too short"),
         (RasterFault::OutOfMemory, "out of memory"),
     ] {
-        assert_eq!(rt; format!(in rt.alloc(); "{fault}")?.as_str(), text);
+        let given = format!(in rt.alloc(); "{fault}")?;
+        same(&rt, text, given.as_str(), text);
     }
     for (fault, text) in [
         (
@@ -280,7 +281,8 @@ fn texts_of_faults(rt: HostRuntime) -> Result<(), Fail> {
         ),
         (WriteFault::WriteFailed, "the write failed"),
     ] {
-        assert_eq!(rt; format!(in rt.alloc(); "{fault}")?.as_str(), text);
+        let given = format!(in rt.alloc(); "{fault}")?;
+        same(&rt, text, given.as_str(), text);
     }
     Ok(())
 }

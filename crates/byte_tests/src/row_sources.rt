@@ -1,5 +1,8 @@
 //! Rows of tiles and rasters, worked out by hand, from sources that are whole, slow, interrupted or fail.
 
+ghost use Rattle.std.specs.Prelude.{◌<◌};
+
+use crate::agree::same;
 use crate::rasters::{PADDED, padded};
 use drain_device::faults::{ScriptSource, Scripted};
 use drain_device::{DeviceFault, ReadFault, RowSource, RowStep};
@@ -78,16 +81,46 @@ fn four_calls<'a, S: RowSource<ScriptSource<'a>>>(
     Ok((answers, numbers_of(&numbers)))
 }
 
+/// What four calls give of a tile of side 2 with these bytes.
+fn of_tile(
+    alloc: Global,
+    bytes: &[u8],
+    most: usize,
+    script: &[Scripted<DeviceFault>],
+) -> Result<([Answer; 4], Numbers), AllocError>
+    requires { 0 < most }
+{
+    let from = ScriptSource::new(bytes, most, script);
+    four_calls(alloc, &mut TileRows::new(2), from)
+}
+
+/// What four calls give of the padded raster with these bytes.
+fn of_raster(
+    alloc: Global,
+    order: ByteOrdering,
+    bytes: &[u8],
+    most: usize,
+    script: &[Scripted<DeviceFault>],
+) -> Result<([Answer; 4], Numbers), AllocError>
+    requires { 0 < most }
+{
+    let from = ScriptSource::new(bytes, most, script);
+    four_calls(alloc, &mut RasterRows::new(padded(order)), from)
+}
+
+/// The samples of the tile's first row.
+const FIRST_SAMPLES: [i64; 4] = [1, -32768, 0, 0];
+
 #[test]
 fn a_tile_gives_its_rows(rt: HostRuntime) -> Result<(), Fail> {
-    for (length, wanted, count) in [(8, WHOLE, 4), (9, LONGER, 4), (7, SHORTER, 2)] {
+    for (bytes, wanted, numbers) in [
+        (&TILE[..8], WHOLE, (4, SAMPLES)),
+        (&TILE[..9], LONGER, (4, SAMPLES)),
+        (&TILE[..7], SHORTER, (2, FIRST_SAMPLES)),
+    ] {
         for most in [100, 1] {
-            let from = ScriptSource::new(&TILE[..length], most, &[]);
-            assert_eq!(rt;
-                four_calls(rt.alloc(), &mut TileRows::new(2), from)?,
-                (wanted, numbers_of(&SAMPLES[..count])),
-                "{length} bytes, {most} at a call"
-            );
+            let given = of_tile(rt.alloc(), bytes, most, &[])?;
+            same(&rt, (bytes.len(), most), given, (wanted, numbers));
         }
     }
     Ok(())
@@ -95,22 +128,35 @@ fn a_tile_gives_its_rows(rt: HostRuntime) -> Result<(), Fail> {
 
 #[test]
 fn a_raster_gives_its_rows(rt: HostRuntime) -> Result<(), Fail> {
-    for (order, wanted) in [
-        (ByteOrdering::Least, [1, -2, -32768, 2]),
-        (ByteOrdering::Most, [256, -257, 128, 512]),
+    for (order, bytes, wanted, numbers) in [
+        (
+            ByteOrdering::Least,
+            &PADDED[..10],
+            WHOLE,
+            (4, [1, -2, -32768, 2]),
+        ),
+        (
+            ByteOrdering::Least,
+            &PADDED[..9],
+            SHORTER,
+            (2, [1, -2, 0, 0]),
+        ),
+        (
+            ByteOrdering::Most,
+            &PADDED[..10],
+            WHOLE,
+            (4, [256, -257, 128, 512]),
+        ),
+        (
+            ByteOrdering::Most,
+            &PADDED[..9],
+            SHORTER,
+            (2, [256, -257, 0, 0]),
+        ),
     ] {
-        for (length, most, told, count) in [
-            (10, 100, WHOLE, 4),
-            (10, 1, WHOLE, 4),
-            (9, 100, SHORTER, 2),
-            (9, 1, SHORTER, 2),
-        ] {
-            let from = ScriptSource::new(&PADDED[..length], most, &[]);
-            assert_eq!(rt;
-                four_calls(rt.alloc(), &mut RasterRows::new(padded(order)), from)?,
-                (told, numbers_of(&wanted[..count])),
-                "{length} bytes, {most} at a call"
-            );
+        for most in [100, 1] {
+            let given = of_raster(rt.alloc(), order, bytes, most, &[])?;
+            same(&rt, (bytes.len(), most), given, (wanted, numbers));
         }
     }
     Ok(())
@@ -130,24 +176,38 @@ fn faults(answer: DeviceFault, one: (u64, u64), other: (u64, u64)) -> [Scripted<
 fn rows_fail_where_their_source_gives_up(rt: HostRuntime) -> Result<(), Fail> {
     let failed = DeviceFault::Failed;
     let interrupted = DeviceFault::Interrupted;
-    for (script, wanted, count) in [
-        (faults(failed, (6, 6), (0, 0)), FAILED, 2),
-        (faults(interrupted, (2, 1000), (0, 0)), WHOLE, 4),
-        (faults(interrupted, (2, 501), (506, 1004)), WHOLE, 4),
-        (faults(interrupted, (2, 501), (506, 1005)), FAILED, 2),
+    let least = ByteOrdering::Least;
+    let whole = [1, -2, -32768, 2];
+    for (script, wanted, samples, pixels) in [
+        (
+            faults(failed, (6, 6), (0, 0)),
+            FAILED,
+            (2, FIRST_SAMPLES),
+            (2, [1, -2, 0, 0]),
+        ),
+        (
+            faults(interrupted, (2, 1000), (0, 0)),
+            WHOLE,
+            (4, SAMPLES),
+            (4, whole),
+        ),
+        (
+            faults(interrupted, (2, 501), (506, 1004)),
+            WHOLE,
+            (4, SAMPLES),
+            (4, whole),
+        ),
+        (
+            faults(interrupted, (2, 501), (506, 1005)),
+            FAILED,
+            (2, FIRST_SAMPLES),
+            (2, [1, -2, 0, 0]),
+        ),
     ] {
-        let from = ScriptSource::new(&TILE[..8], 1, &script);
-        let of_tile = four_calls(rt.alloc(), &mut TileRows::new(2), from)?;
-        let from = ScriptSource::new(&PADDED, 1, &script);
-        let mut rows = RasterRows::new(padded(ByteOrdering::Least));
-        let of_raster = four_calls(rt.alloc(), &mut rows, from)?;
-        assert_eq!(rt;
-            (of_tile, of_raster),
-            (
-                (wanted, numbers_of(&SAMPLES[..count])),
-                (wanted, numbers_of(&[1, -2, -32768, 2][..count])),
-            )
-        );
+        let tile = of_tile(rt.alloc(), &TILE[..8], 1, &script)?;
+        let raster = of_raster(rt.alloc(), least, &PADDED, 1, &script)?;
+        same(&rt, "a tile", tile, (wanted, samples));
+        same(&rt, "a raster", raster, (wanted, pixels));
     }
     Ok(())
 }
@@ -160,7 +220,8 @@ fn texts_of_faults_of_rows(rt: HostRuntime) -> Result<(), Fail> {
         (ReadFault::OutOfMemory, "out of memory"),
         (ReadFault::AlreadyFailed, "an earlier call failed"),
     ] {
-        assert_eq!(rt; format!(in rt.alloc(); "{fault}")?.as_str(), text);
+        let given = format!(in rt.alloc(); "{fault}")?;
+        same(&rt, text, given.as_str(), text);
     }
     Ok(())
 }

@@ -1,5 +1,6 @@
 //! Lines of texts, words of lines, and whole numbers, each with the parts or the value that it has.
 
+use crate::agree::same;
 use drain_text::{first_line, first_word, whole_number};
 use std::test::Fail;
 
@@ -16,7 +17,7 @@ fn first_lines(rt: HostRuntime) -> Result<(), Fail> {
         ("\r", "", None),
     ] {
         let wanted = (line.as_bytes(), rest.map(|rest| rest.as_bytes()));
-        assert_eq!(rt; first_line(text.as_bytes()), wanted, "{text}");
+        same(&rt, text, first_line(text.as_bytes()), wanted);
     }
     Ok(())
 }
@@ -31,11 +32,8 @@ fn first_words(rt: HostRuntime) -> Result<(), Fail> {
         ("a\rb ", Some(("a\rb", " "))),
     ] {
         let found = first_word(line.as_bytes());
-        assert_eq!(rt;
-            found,
-            wanted.map(|(word, rest)| (word.as_bytes(), rest.as_bytes())),
-            "{line}"
-        );
+        let wanted = wanted.map(|(word, rest)| (word.as_bytes(), rest.as_bytes()));
+        same(&rt, line, found, wanted);
     }
     Ok(())
 }
@@ -52,7 +50,7 @@ fn whole_numbers(rt: HostRuntime) -> Result<(), Fail> {
         ("+1", None),
         ("1.", None),
     ] {
-        assert_eq!(rt; whole_number(text.as_bytes()), wanted, "{text}");
+        same(&rt, text, whole_number(text.as_bytes()), wanted);
     }
     Ok(())
 }

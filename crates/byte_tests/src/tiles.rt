@@ -1,9 +1,11 @@
 //! Worked names and samples, from the format's own table.
 
+use crate::agree::same;
 use drain_device::{ByteList, SliceSource, read_body};
 use drain_hgt::input::TileInput;
 use drain_hgt::name::{NameFault, TileName};
 use drain_hgt::tile::{TileFault, read_tile};
+use std::alloc::Global;
 use std::test::Fail;
 
 #[test]
@@ -16,8 +18,9 @@ fn names_and_their_degrees(rt: HostRuntime) -> Result<(), Fail> {
         ("S90W180.hgt", -90, -180, "S90W180.hgt"),
     ] {
         let tile = TileName::parse(name.as_bytes())?;
-        assert_eq!(rt; (tile.lat(), tile.lon()), (lat, lon), "{name}");
-        assert_eq!(rt; tile.text().as_str(), printed);
+        let text = tile.text();
+        let told = (tile.lat(), tile.lon(), text.as_str());
+        same(&rt, name, told, (lat, lon, printed));
     }
     Ok(())
 }
@@ -41,7 +44,7 @@ fn names_of_no_tile(rt: HostRuntime) -> Result<(), Fail> {
         ("N37W105_hgt", NameFault::BadForm),
         ("", NameFault::BadForm),
     ] {
-        assert_eq!(rt; TileName::parse(name.as_bytes()), Err(fault), "{name}");
+        same(&rt, name, TileName::parse(name.as_bytes()), Err(fault));
     }
     Ok(())
 }
@@ -50,7 +53,8 @@ fn names_of_no_tile(rt: HostRuntime) -> Result<(), Fail> {
 fn samples_most_significant_byte_first(rt: HostRuntime) -> Result<(), Fail> {
     let bytes = [0x00, 0x01, 0x80, 0x00, 0xff, 0xff, 0x7f, 0xff];
     let samples = read_tile(rt.alloc(), 2, &bytes)?;
-    assert_eq!(rt; samples.as_slice(), [1, -32768, -1, 32767].as_slice());
+    let wanted = [1, -32768, -1, 32767];
+    same(&rt, "samples", samples.as_slice(), wanted.as_slice());
     Ok(())
 }
 
@@ -66,9 +70,20 @@ fn bytes_of_no_tile(rt: HostRuntime) -> Result<(), Fail> {
         (3602, 8, TileFault::BadSide),
     ] {
         let answer = read_tile(rt.alloc(), side, &bytes[..length]);
-        assert_eq!(rt; answer.err(), Some(fault), "{side}");
+        same(&rt, side, answer.err(), Some(fault));
     }
     Ok(())
+}
+
+/// The name of a tile of side 2, and its samples where there are four.
+fn read_input(
+    alloc: Global,
+    input: &mut TileInput<SliceSource<'_>>,
+) -> Result<(TileName, Option<[i16; 4]>), Fail> {
+    let name = TileName::parse(input.name.as_slice())?;
+    let body = read_body(alloc, &mut input.body, 8)?;
+    let samples = read_tile(alloc, 2, &body)?;
+    Ok((name, samples.as_slice().try_into().ok()))
 }
 
 #[test]
@@ -78,10 +93,8 @@ fn a_tile_as_it_is_handed_in(rt: HostRuntime) -> Result<(), Fail> {
         name: ByteList::new(b"s01w001.hgt".to_vec(rt.alloc())?),
         body: SliceSource::new(&bytes),
     };
-    let name = TileName::parse(input.name.as_slice())?;
-    assert_eq!(rt; name.text().as_str(), "S01W001.hgt");
-    let body = read_body(rt.alloc(), &mut input.body, 8)?;
-    let samples = read_tile(rt.alloc(), 2, &body)?;
-    assert_eq!(rt; samples.as_slice(), [7, 8, 9, 10].as_slice());
+    let (name, samples) = read_input(rt.alloc(), &mut input)?;
+    same(&rt, "name", name.text().as_str(), "S01W001.hgt");
+    same(&rt, "samples", samples, Some([7, 8, 9, 10]));
     Ok(())
 }

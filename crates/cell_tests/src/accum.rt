@@ -1,5 +1,6 @@
 //! A cell that all its neighbours lead to.
 
+use crate::agree::same_rule;
 use drain_accum::fault;
 use drain_grid::{CellValues, Patch, Rule};
 use std::test::Fail;
@@ -28,33 +29,33 @@ fn meeting_place(acc: i64) -> Result<Patch, Fail> {
 
 #[test]
 fn counts_the_cell_and_what_its_neighbors_hand_on(rt: HostRuntime) -> Result<(), Fail> {
-    assert_eq!(rt; fault(&meeting_place(9)?), None);
-    assert_eq!(rt; fault(&meeting_place(8)?), Some(Rule::Accumulation));
+    let too_few = Some(Rule::Accumulation);
+    same_rule(&rt, "nine", fault(&meeting_place(9)?), None);
+    same_rule(&rt, "eight", fault(&meeting_place(8)?), too_few);
 
     let mut beside_a_void = meeting_place(8)?;
     beside_a_void.around[0] = CellValues::new(None, 0, 16, 1, 0, 0, 0);
-    assert_eq!(rt; fault(&beside_a_void), None, "a void hands on nothing");
+    same_rule(&rt, "a void hands on nothing", fault(&beside_a_void), None);
 
     let mut at_the_edge = meeting_place(8)?;
     at_the_edge.around[0] = None;
-    assert_eq!(rt; fault(&at_the_edge), None, "the outside hands on nothing");
+    same_rule(
+        &rt,
+        "the outside hands on nothing",
+        fault(&at_the_edge),
+        None,
+    );
 
     let mut one_leads_away = meeting_place(8)?;
     one_leads_away.around[0] = cell(1, 1);
-    assert_eq!(rt;
-        fault(&one_leads_away),
-        None,
-        "who leads away hands on nothing"
-    );
+    let away = fault(&one_leads_away);
+    same_rule(&rt, "who leads away hands on nothing", away, None);
 
     let greatest = Patch {
         here: cell(0, 4294967295).ok_or("values")?,
         around: [cell(16, 4294967295); 8],
     };
-    assert_eq!(rt;
-        fault(&greatest),
-        Some(Rule::Accumulation),
-        "one more than 32 bits"
-    );
+    let one_more = fault(&greatest);
+    same_rule(&rt, "one more than 32 bits", one_more, too_few);
     Ok(())
 }

@@ -1,5 +1,6 @@
 //! Labels of a cell and the next, and of outlets.
 
+use crate::agree::{same, same_rule};
 use drain_basin::{OutletLabels, fault};
 use drain_grid::{CellValues, Patch, Rule};
 use std::test::Fail;
@@ -14,21 +15,26 @@ fn patch(dir: i64) -> Result<Patch, Fail> {
 
 #[test]
 fn hands_a_label_on_along_a_direction(rt: HostRuntime) -> Result<(), Fail> {
-    for (dir, answer) in [
-        (1, Some(Rule::Label)),
-        (2, None),
-        (0, None),
-        (3, None),
-        (255, None),
+    for (name, dir, answer) in [
+        ("east", 1, Some(Rule::Label)),
+        ("southeast", 2, None),
+        ("no direction", 0, None),
+        ("no code", 3, None),
+        ("void", 255, None),
     ] {
-        assert_eq!(rt; fault(&patch(dir)?), answer, "direction {dir}");
+        same_rule(&rt, name, fault(&patch(dir)?), answer);
     }
     let mut to_a_void = patch(1)?;
     to_a_void.around[0] = CellValues::new(None, 0, 0, 1, 7, 0, 0);
-    assert_eq!(rt; fault(&to_a_void), None, "a void has no label to hand on");
+    same_rule(
+        &rt,
+        "a void has no label to hand on",
+        fault(&to_a_void),
+        None,
+    );
     let mut to_the_outside = patch(1)?;
     to_the_outside.around[0] = None;
-    assert_eq!(rt; fault(&to_the_outside), None);
+    same_rule(&rt, "to the outside", fault(&to_the_outside), None);
     Ok(())
 }
 
@@ -69,7 +75,7 @@ fn admits_each_label_once(rt: HostRuntime) -> Result<(), Fail> {
         (i64::MAX, false),
         (7, false),
     ] {
-        assert_eq!(rt; labels.admit(label), Ok(is_new), "label {label}");
+        same(&rt, label, labels.admit(label), Ok(is_new));
     }
     Ok(())
 }
@@ -87,21 +93,15 @@ fn holds_its_labels_where_memory_is_refused(rt: HostRuntime) -> Result<(), Fail>
         let label = far_apart(number);
         if labels.admit(label) != Ok(true) {
             for earlier in 0..number {
-                assert_eq!(rt;
-                    labels.admit(far_apart(earlier)),
-                    Ok(false),
-                    "{earlier} before {number}"
-                );
+                let admitted = labels.admit(far_apart(earlier));
+                same(&rt, (earlier, "before"), admitted, Ok(false));
             }
-            assert_eq!(rt; labels.admit(label), Ok(true), "{number} again");
+            same(&rt, (number, "again"), labels.admit(label), Ok(true));
         }
     }
     for number in 0..40u8 {
-        assert_eq!(rt;
-            labels.admit(far_apart(number)),
-            Ok(false),
-            "{number} at the end"
-        );
+        let admitted = labels.admit(far_apart(number));
+        same(&rt, (number, "at the end"), admitted, Ok(false));
     }
     Ok(())
 }

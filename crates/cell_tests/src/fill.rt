@@ -1,6 +1,9 @@
 //! Patches of which only what these rules read is given, each with the first rule that fails; and slices with
 //! their first place below the ground.
 
+ghost use Rattle.std.specs.Prelude.{◌<◌};
+
+use crate::agree::{same, same_rule};
 use drain_fill::{fault, first_below};
 use drain_grid::{CellValues, Patch, Rule};
 use std::test::Fail;
@@ -24,32 +27,23 @@ fn cell(z: Option<i16>, con: i64, spl: i64, rnk: i64) -> Option<CellValues> {
 }
 
 fn neighbor(beside: Beside) -> Option<CellValues> {
-    match beside {
-        Rim => cell(Some(5), 5, 0, 0),
-        Crest => cell(Some(7), 7, 0, 0),
-        Sunk => cell(Some(9), 5, 0, 0),
-        Void => cell(None, -32768, 255, 4294967295),
-        Outside => None,
-        Least => cell(Some(5), -2147483648, 0, 4294967294),
-        Greatest => cell(Some(5), 4294967295, 0, -2147483648),
-    }
+    let (z, con, spl, rnk) = match beside {
+        Rim => (Some(5), 5, 0, 0),
+        Crest => (Some(7), 7, 0, 0),
+        Sunk => (Some(9), 5, 0, 0),
+        Void => (None, -32768, 255, 4294967295),
+        Outside => return None,
+        Least => (Some(5), -2147483648, 0, 4294967294),
+        Greatest => (Some(5), 4294967295, 0, -2147483648),
+    };
+    cell(z, con, spl, rnk)
 }
 
 /// One neighbour in the east, and another in each of the other directions.
 fn patch(here: CellValues, east: Beside, other: Beside) -> Patch {
-    Patch {
-        here,
-        around: [
-            neighbor(east),
-            neighbor(other),
-            neighbor(other),
-            neighbor(other),
-            neighbor(other),
-            neighbor(other),
-            neighbor(other),
-            neighbor(other),
-        ],
-    }
+    let mut around = [neighbor(other); 8];
+    around[0] = neighbor(east);
+    Patch { here, around }
 }
 
 #[test]
@@ -76,25 +70,42 @@ fn cells_in_a_pit(rt: HostRuntime) -> Result<(), Fail> {
     ] {
         let here = cell(Some(1), con, spl, rnk).ok_or(name)?;
         let found = fault(&patch(here, east, Rim));
-        assert_eq!(rt; found, wanted, "{name}");
+        same_rule(&rt, name, found, wanted);
     }
     Ok(())
 }
 
 #[test]
 fn voids_and_bounds(rt: HostRuntime) -> Result<(), Fail> {
-    for (z, con, spl, rnk, beside, wanted) in [
-        (None, -32768, 255, 4294967295, Least, None),
-        (None, 0, 3, 0, Outside, None),
-        (Some(1), 4294967295, 128, 4294967295, Greatest, None),
-        (Some(-32767), -32767, 64, 4294967295, Least, None),
-        (Some(1), -2147483648, 64, 0, Least, Some(Rule::BelowGround)),
+    let below = Some(Rule::BelowGround);
+    for (name, z, con, spl, rnk, beside, wanted) in [
+        ("a void", None, -32768, 255, 4294967295, Least, None),
+        ("a void with numbers", None, 0, 3, 0, Outside, None),
+        (
+            "greatest",
+            Some(1),
+            4294967295,
+            128,
+            4294967295,
+            Greatest,
+            None,
+        ),
+        ("deepest", Some(-32767), -32767, 64, 4294967295, Least, None),
+        ("least", Some(1), -2147483648, 64, 0, Least, below),
     ] {
         let here = cell(z, con, spl, rnk).ok_or("a number that no pixel spells")?;
         let found = fault(&patch(here, beside, beside));
-        assert_eq!(rt; found, wanted, "{con}");
+        same_rule(&rt, name, found, wanted);
     }
     Ok(())
+}
+
+/// The first place below the ground, none where slices differ in length.
+fn first_place(con: &[i16], z: &[i16]) -> Option<Option<usize>> {
+    if con.len() != z.len() {
+        return None;
+    }
+    Some(first_below(con, z))
 }
 
 #[test]
@@ -115,26 +126,33 @@ fn places_below_the_ground(rt: HostRuntime) -> Result<(), Fail> {
         ),
     ];
     for (name, con, z, wanted) in cases {
-        assert!(rt; con.len() == z.len(), "{name}");
-        assert_eq!(rt; first_below(con, z), wanted, "{name}");
+        same(&rt, name, first_place(con, z), Some(wanted));
     }
     Ok(())
+}
+
+/// The first place below the ground among so many sevens, at most 67, two of which are sixes.
+fn first_of_two(len: usize, place: usize, second: usize) -> Option<Option<usize>>
+    requires place { place < 67 }
+    requires second { second < 67 }
+{
+    let mut con = [7; 67];
+    con[place] = 6;
+    con[second] = 6;
+    let z = [7; 67];
+    first_place(con.get(..len)?, z.get(..len)?)
 }
 
 /// Heights that are equal but in one place, and then in the last place too.
 #[test]
 fn the_first_place_of_each_length(rt: HostRuntime) -> Result<(), Fail> {
-    assert_eq!(rt; first_below(&[7; 67][..0], &[7; 67][..0]), None);
+    let of_none = first_place(&[7; 67][..0], &[7; 67][..0]);
+    same(&rt, (0, 0), of_none, Some(None));
     for len in 1..68 {
         for place in 0..len {
             for second in [place, len - 1] {
-                let mut con = [7; 67];
-                con[place] = 6;
-                con[second] = 6;
-                let (con, z) = (&con[..len], &[7; 67][..len]);
-                assert!(rt; con.len() == z.len());
-                let found = first_below(con, z);
-                assert_eq!(rt; found, Some(place), "{len} {second}");
+                let found = first_of_two(len, place, second);
+                same(&rt, (len, second), found, Some(Some(place)));
             }
         }
     }

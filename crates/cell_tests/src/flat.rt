@@ -1,5 +1,6 @@
 //! Cells on and off flats, each with what the rule says of it. Only what the rule reads is given.
 
+use crate::agree::same_rule;
 use drain_flat::fault;
 use drain_grid::{CellValues, Patch, Rule};
 use std::test::Fail;
@@ -14,8 +15,10 @@ fn level(rnk: i64) -> Option<CellValues> {
 }
 
 fn here(dir: i64, rnk: i64) -> Result<CellValues, Fail> {
-    let values = cell(Some(5), 5, dir, rnk).ok_or("a cell")?;
-    Ok(values)
+    match cell(Some(5), 5, dir, rnk) {
+        Some(values) => Ok(values),
+        None => Err("a cell".into()),
+    }
 }
 
 /// Cells of a flat of four by four at height 5, with these ranks:
@@ -50,14 +53,14 @@ fn cells_of_a_flat(rt: HostRuntime) -> Result<(), Fail> {
                 level(ranks[7]),
             ],
         };
-        assert_eq!(rt; fault(&patch), wanted, "{name}");
+        same_rule(&rt, name, fault(&patch), wanted);
     }
     // Its first cell, which lies in a corner.
     let corner = Patch {
         here: here(0, 0)?,
         around: [level(0), level(1), level(0), None, None, None, None, None],
     };
-    assert_eq!(rt; fault(&corner), None, "in a corner");
+    same_rule(&rt, "in a corner", fault(&corner), None);
     Ok(())
 }
 
@@ -109,20 +112,11 @@ fn what_a_direction_leads_to(rt: HostRuntime) -> Result<(), Fail> {
         ("the least rank", 1, East::Least, None),
         ("the greatest rank", 1, East::Greatest, Some(Rule::FlatStep)),
     ] {
-        let patch = Patch {
-            here: here(dir, 3)?,
-            around: [
-                east_values(east),
-                level(3),
-                level(3),
-                level(3),
-                level(3),
-                level(3),
-                level(3),
-                level(3),
-            ],
-        };
-        assert_eq!(rt; fault(&patch), wanted, "{name}");
+        let mut around = [level(3); 8];
+        around[0] = east_values(east);
+        let here = here(dir, 3)?;
+        let patch = Patch { here, around };
+        same_rule(&rt, name, fault(&patch), wanted);
     }
     Ok(())
 }
@@ -133,6 +127,6 @@ fn a_void(rt: HostRuntime) -> Result<(), Fail> {
         here: cell(None, -32768, 255, 4294967295).ok_or("a void")?,
         around: [level(0); 8],
     };
-    assert_eq!(rt; fault(&patch), None);
+    same_rule(&rt, "a void", fault(&patch), None);
     Ok(())
 }

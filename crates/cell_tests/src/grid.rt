@@ -2,6 +2,7 @@
 
 ghost use Rattle.std.specs.Prelude.{◌≡◌, IfOk};
 
+use crate::agree::{same, same_rule};
 use drain_grid::tile::{height_from, is_side};
 use drain_grid::{
     Cell, CellValues, Code, Direction, Elevation, NoData, Patch, PerProduct, Product, ProductSet,
@@ -20,17 +21,18 @@ fn shapes_and_their_cells(rt: HostRuntime) -> Result<(), Fail> {
         (28802, 5, false),
         (5, 28802, false),
     ] {
-        assert_eq!(rt;
+        same(
+            &rt,
+            (rows, cols),
             Shape::new(rows, cols).is_some(),
             is_shape,
-            "{rows} by {cols}"
         );
     }
     let shape = Shape::new(3, 4).ok_or("a shape")?;
-    assert_eq!(rt; (shape.rows(), shape.cols(), shape.cells()), (3, 4, 12));
     let cell = Cell { row: 1, col: 2 };
-    assert_eq!(rt; shape.index(cell), 6);
-    assert_eq!(rt; shape.cell(6), cell);
+    let sizes = ((shape.rows(), shape.cols()), shape.cells());
+    let given = (sizes, shape.index(cell), shape.cell(6));
+    same(&rt, (3, 4), given, (((3, 4), 12), 6, cell));
     Ok(())
 }
 
@@ -48,25 +50,52 @@ fn steps_codes_and_what_they_name(rt: HostRuntime) -> Result<(), Fail> {
         (Direction::NorthEast, 128, false, 0, 2),
     ];
     for (direction, code, straight, row, col) in around {
-        assert_eq!(rt; direction.code(), code);
-        assert_eq!(rt; direction.is_straight(), straight);
-        assert_eq!(rt; Code::from_number(code), Some(Code::To(direction)));
-        assert_eq!(rt; Code::direction_named(code), Some(direction));
+        let told = (direction.code(), direction.is_straight());
+        same(&rt, direction, told, (code, straight));
         let centre = Cell { row: 1, col: 1 };
-        assert_eq!(rt; shape.step(centre, direction), Some(Cell { row, col }));
+        let to = shape.step(centre, direction);
+        same(&rt, direction, to, Some(Cell { row, col }));
     }
     let corner = Cell { row: 2, col: 2 };
-    assert_eq!(rt; shape.step(corner, Direction::SouthWest), None);
-    assert_eq!(rt; Code::from_number(0), Some(Code::Outlet));
-    assert_eq!(rt; Code::direction_named(0), None);
-    for number in [3, 255, -128, 256, -1] {
-        assert_eq!(rt; Code::from_number(number), None, "{number}");
-        assert_eq!(rt; Code::direction_named(number), None, "{number}");
+    let outside = Direction::SouthWest;
+    same(&rt, outside, shape.step(corner, outside), None);
+    Ok(())
+}
+
+#[test]
+fn codes_of_numbers(rt: HostRuntime) -> Result<(), Fail> {
+    for (number, direction) in [
+        (1, Direction::East),
+        (2, Direction::SouthEast),
+        (4, Direction::South),
+        (8, Direction::SouthWest),
+        (16, Direction::West),
+        (32, Direction::NorthWest),
+        (64, Direction::North),
+        (128, Direction::NorthEast),
+    ] {
+        let given = (Code::from_number(number), Code::direction_named(number));
+        let wanted = (Some(Code::To(direction)), Some(direction));
+        same(&rt, number, given, wanted);
+    }
+    for (number, code) in [
+        (0, Some(Code::Outlet)),
+        (3, None),
+        (255, None),
+        (-128, None),
+        (256, None),
+        (-1, None),
+    ] {
+        let given = (Code::from_number(number), Code::direction_named(number));
+        same(&rt, number, given, (code, None));
     }
     let led = values(Some(0), [0, 16, 0, 0, 4, 0])?;
-    assert_eq!(rt;
-        (led.direction(), led.spill_direction()),
-        (Some(Direction::West), Some(Direction::South))
+    let given = [led.direction(), led.spill_direction()];
+    same(
+        &rt,
+        "directions",
+        given,
+        [Some(Direction::West), Some(Direction::South)],
     );
     Ok(())
 }
@@ -74,15 +103,17 @@ fn steps_codes_and_what_they_name(rt: HostRuntime) -> Result<(), Fail> {
 #[test]
 fn samples_sides_and_rules(rt: HostRuntime) {
     for (side, lawful) in [(1, false), (2, true), (3601, true), (3602, false)] {
-        assert_eq!(rt; is_side(side), lawful, "side {side}");
+        same(&rt, side, is_side(side), lawful);
     }
-    assert_eq!(rt; height_from(-32768), None);
-    assert_eq!(rt; height_from(-32767), Some(-32767));
-    assert_eq!(rt;
-        (Rule::VoidCell.number(), Rule::SharedLabel.number()),
-        (1, 15)
+    let heights = [height_from(-32768), height_from(-32767)];
+    let numbers = (Rule::VoidCell.number(), Rule::SharedLabel.number());
+    same(
+        &rt,
+        "heights, numbers",
+        (heights, numbers),
+        ([None, Some(-32767)], (1, 15)),
     );
-    assert_eq!(rt; Rule::SpillHeight.name(), "SpillHeight");
+    same(&rt, "a name", Rule::SpillHeight.name(), "SpillHeight");
 }
 
 /// A level cell: with data, and the same con as ground.
@@ -98,28 +129,23 @@ fn open_and_lower_cells(rt: HostRuntime) -> Result<(), Fail> {
         here,
         around: [level(5); 8],
     };
-    assert_eq!(rt; (patch.is_open(), patch.has_lower()), (false, false));
+    let inside = (patch.is_open(), patch.has_lower());
     patch.around[3] = void;
-    assert_eq!(rt;
-        (patch.is_open(), patch.has_lower()),
-        (true, false),
-        "beside a void"
-    );
+    let beside_a_void = (patch.is_open(), patch.has_lower());
     patch.around[3] = None;
-    assert_eq!(rt;
-        (patch.is_open(), patch.has_lower()),
-        (true, false),
-        "on the edge"
-    );
+    let on_the_edge = (patch.is_open(), patch.has_lower());
     patch.around[3] = level(4);
-    assert_eq!(rt;
-        (patch.is_open(), patch.has_lower()),
-        (false, true),
-        "beside a lower cell"
-    );
-    assert_eq!(rt; patch.neighbor(Direction::SouthWest), level(4));
-    assert_eq!(rt; CellValues::new(Some(-32768), 0, 0, 0, 0, 0, 0), None);
-    assert_eq!(rt; CellValues::new(Some(0), 0, 0, 4294967296, 0, 0, 0), None);
+    let beside_a_lower = (patch.is_open(), patch.has_lower());
+    same(&rt, "inside", inside, (false, false));
+    same(&rt, "beside a void", beside_a_void, (true, false));
+    same(&rt, "on the edge", on_the_edge, (true, false));
+    same(&rt, "beside a lower cell", beside_a_lower, (false, true));
+    let southwest = patch.neighbor(Direction::SouthWest);
+    same(&rt, "a neighbor", southwest, level(4));
+    let void_as_data = CellValues::new(Some(-32768), 0, 0, 0, 0, 0, 0);
+    same(&rt, "a void's number", void_as_data, None);
+    let no_pixel = CellValues::new(Some(0), 0, 0, 4294967296, 0, 0, 0);
+    same(&rt, "a number that no pixel spells", no_pixel, None);
     Ok(())
 }
 
@@ -160,7 +186,8 @@ fn voids_missing_numbers_and_codes(rt: HostRuntime) -> Result<(), Fail> {
             here: values(z, numbers)?,
             around: [None; 8],
         };
-        assert_eq!(rt; patch.presence_fault(&NoData::defaults()), fault, "{name}");
+        let found = patch.presence_fault(&NoData::defaults());
+        same_rule(&rt, name, found, fault);
     }
     Ok(())
 }
@@ -177,9 +204,9 @@ fn products_and_their_defaults(rt: HostRuntime) {
         (spl, "spl", 255, defaults.spl),
         (rnk, "rnk", 4294967295, defaults.rnk),
     ] {
-        assert_eq!(rt; product.name(), name);
-        assert_eq!(rt; product.default_no_data(), number, "{name}");
-        assert_eq!(rt; of_defaults, number, "{name}");
+        same(&rt, name, product.name(), name);
+        let numbers = (product.default_no_data(), of_defaults);
+        same(&rt, name, numbers, (number, number));
     }
 }
 
@@ -189,17 +216,16 @@ fn one_thing_for_each_product(rt: HostRuntime) -> Result<(), Fail> {
     let Ok(numbers) = PerProduct::from_each(&defaults) else {
         return Err("numbers".into());
     };
-    assert_eq!(rt; (numbers.con, *numbers.of(Product::Spl)), (-32768, 255));
+    let given = (numbers.con, *numbers.of(Product::Spl));
+    same(&rt, "numbers", given, (-32768, 255));
     let above_zero = |product: Product| -> Result<i64, Product> {
         match product.default_no_data() {
             0 => Err(product),
             number => Ok(number),
         }
     };
-    assert_eq!(rt;
-        PerProduct::from_each(&above_zero).err(),
-        Some(Product::Acc)
-    );
+    let first = PerProduct::from_each(&above_zero).err();
+    same(&rt, "the first that fails", first, Some(Product::Acc));
     Ok(())
 }
 
@@ -241,16 +267,18 @@ fn numbered_patch(alloc: Global) -> Result<Patch, AllocError> {
 #[test]
 fn what_whole_rasters_show(rt: HostRuntime) -> Result<(), Fail> {
     let patch = numbered_patch(rt.alloc())?;
-    assert_eq!(rt; patch.here, values(Some(8), [11, 21, 31, 41, 51, 61])?);
+    let here = values(Some(8), [11, 21, 31, 41, 51, 61])?;
+    same(&rt, "here", Some(patch.here), Some(here));
     for (direction, z, numbers) in [
         (Direction::West, Some(7), [10, 20, 30, 40, 50, 60]),
         (Direction::SouthWest, None, [12, 22, 32, 42, 52, 62]),
         (Direction::South, Some(9), [13, 23, 33, 43, 53, 63]),
     ] {
-        assert_eq!(rt; patch.neighbor(direction), Some(values(z, numbers)?));
+        let wanted = values(z, numbers)?;
+        same(&rt, direction, patch.neighbor(direction), Some(wanted));
     }
     for outside in [Direction::East, Direction::North] {
-        assert_eq!(rt; patch.neighbor(outside), None);
+        same(&rt, outside, patch.neighbor(outside), None);
     }
     Ok(())
 }
@@ -272,8 +300,8 @@ fn numbers_told(alloc: Global) -> Result<(Shape, [i64; 4]), Fail> {
 #[test]
 fn what_a_product_set_tells(rt: HostRuntime) -> Result<(), Fail> {
     let (shape, numbers) = numbers_told(rt.alloc())?;
-    assert_eq!(rt; (shape.rows(), shape.cols()), (2, 2));
-    assert_eq!(rt; numbers, [11, -1, 31, 51]);
+    let given = ((shape.rows(), shape.cols()), numbers);
+    same(&rt, "products", given, ((2, 2), [11, -1, 31, 51]));
     Ok(())
 }
 
@@ -291,7 +319,7 @@ fn heights_told(alloc: Global) -> Result<(Shape, [Option<i16>; 2]), Fail> {
 #[test]
 fn what_elevations_tell(rt: HostRuntime) -> Result<(), Fail> {
     let (shape, heights) = heights_told(rt.alloc())?;
-    assert_eq!(rt; (shape.rows(), shape.cols()), (1, 2));
-    assert_eq!(rt; heights, [Some(8), None]);
+    let given = ((shape.rows(), shape.cols()), heights);
+    same(&rt, "elevations", given, ((1, 2), [Some(8), None]));
     Ok(())
 }

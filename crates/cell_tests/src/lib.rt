@@ -4,6 +4,8 @@
 #[cfg(test)]
 mod accum;
 #[cfg(test)]
+mod agree;
+#[cfg(test)]
 mod basin;
 #[cfg(test)]
 mod fill;

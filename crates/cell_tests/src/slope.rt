@@ -1,6 +1,7 @@
 //! A cell with given heights in the east, the southeast and the south: its first steepest way down, the greatest key,
 //! and the rule that fails. Only what these rules read is given.
 
+use crate::agree::{same, same_rule};
 use drain_grid::{CellValues, Direction, Patch, Rule};
 use drain_slope::{fault, greatest_key, steepest};
 use std::test::Fail;
@@ -16,19 +17,11 @@ fn at(con: i64) -> Option<CellValues> {
 
 /// A cell with neighbours in the east, the southeast and the south, and another in each of the other directions.
 fn patch(here: CellValues, east: i64, southeast: i64, south: i64, other: i64) -> Patch {
-    Patch {
-        here,
-        around: [
-            at(east),
-            at(southeast),
-            at(south),
-            at(other),
-            at(other),
-            at(other),
-            at(other),
-            at(other),
-        ],
-    }
+    let mut around = [at(other); 8];
+    around[0] = at(east);
+    around[1] = at(southeast);
+    around[2] = at(south);
+    Patch { here, around }
 }
 
 #[test]
@@ -67,8 +60,8 @@ fn steepest_ways_down(rt: HostRuntime) -> Result<(), Fail> {
     ] {
         let here = at(con).ok_or(name)?;
         let shown = patch(here, in_east, in_southeast, in_south, other);
-        assert_eq!(rt; steepest(&shown), wanted, "{name}");
-        assert_eq!(rt; greatest_key(&shown), key, "{name}");
+        let given = (steepest(&shown), greatest_key(&shown));
+        same(&rt, name, given, (wanted, key));
     }
     Ok(())
 }
@@ -79,57 +72,66 @@ fn voids_and_the_outside(rt: HostRuntime) -> Result<(), Fail> {
     let mut shown = patch(here, 10, 10, 10, 10);
     shown.around[0] = cell(None, -100, 0);
     shown.around[1] = None;
-    assert_eq!(rt; steepest(&shown), None, "a void is not lower");
+    same(&rt, "a void is not lower", steepest(&shown), None);
     shown.around[7] = at(9);
-    assert_eq!(rt; steepest(&shown), Some(Direction::NorthEast), "past a void");
+    let past = Some(Direction::NorthEast);
+    same(&rt, "past a void", steepest(&shown), past);
     shown.here = cell(None, 10, 0).ok_or("a void")?;
-    assert_eq!(rt; steepest(&shown), None, "at a void");
+    same(&rt, "at a void", steepest(&shown), None);
     Ok(())
 }
 
 #[test]
 fn codes_on_a_slope(rt: HostRuntime) -> Result<(), Fail> {
-    for (dir, wanted) in [
-        (1, None),
-        (4, None),
-        (2, Some(Rule::Slope)),
-        (16, Some(Rule::Slope)),
-        (0, Some(Rule::Slope)),
-        (3, Some(Rule::Slope)),
-        (-1, Some(Rule::Slope)),
+    for (name, dir, wanted) in [
+        ("east", 1, None),
+        ("south", 4, None),
+        ("southeast", 2, Some(Rule::Slope)),
+        ("west", 16, Some(Rule::Slope)),
+        ("no direction", 0, Some(Rule::Slope)),
+        ("no code", 3, Some(Rule::Slope)),
+        ("no code, negative", -1, Some(Rule::Slope)),
     ] {
         let here = cell(Some(0), 10, dir).ok_or("a cell")?;
         let mut shown = patch(here, 8, 10, 8, 10);
-        assert_eq!(rt; fault(&shown), wanted, "{dir}");
+        let inside = fault(&shown);
         // An open cell keeps the same rule.
         shown.around[6] = None;
-        assert_eq!(rt; fault(&shown), wanted, "{dir} on the edge");
+        same(&rt, name, (inside, fault(&shown)), (wanted, wanted));
     }
     // A lower neighbour is not enough.
     let here = cell(Some(0), 10, 1).ok_or("a cell")?;
     let gentle = patch(here, 9, 10, 8, 10);
-    assert_eq!(rt; fault(&gentle), Some(Rule::Slope));
+    same_rule(&rt, "a gentle slope", fault(&gentle), Some(Rule::Slope));
     Ok(())
 }
 
 #[test]
 fn codes_with_no_way_down(rt: HostRuntime) -> Result<(), Fail> {
-    for (dir, wanted) in [
-        (0, None),
-        (1, Some(Rule::OutletCode)),
-        (3, Some(Rule::OutletCode)),
+    for (name, dir, wanted) in [
+        ("no direction", 0, None),
+        ("east", 1, Some(Rule::OutletCode)),
+        ("no code", 3, Some(Rule::OutletCode)),
     ] {
         let here = cell(Some(0), 10, dir).ok_or("a cell")?;
         let mut shown = patch(here, 10, 10, 10, 10);
-        assert_eq!(rt; fault(&shown), None, "{dir} on a flat");
+        let on_a_flat = fault(&shown);
         shown.around[3] = None;
-        assert_eq!(rt; fault(&shown), wanted, "{dir} on the edge");
+        let on_the_edge = fault(&shown);
         shown.around[3] = cell(None, -32768, 255);
-        assert_eq!(rt; fault(&shown), wanted, "{dir} beside a void");
+        let beside_a_void = fault(&shown);
         shown.here = cell(None, 10, dir).ok_or("a void")?;
-        assert_eq!(rt; fault(&shown), None, "{dir} at a void");
+        let at_a_void = fault(&shown);
         shown.around[0] = at(5);
-        assert_eq!(rt; fault(&shown), None, "{dir} at a void over a cell");
+        let over_a_cell = fault(&shown);
+        let given = [
+            on_a_flat,
+            on_the_edge,
+            beside_a_void,
+            at_a_void,
+            over_a_cell,
+        ];
+        same(&rt, name, given, [None, wanted, wanted, None, None]);
     }
     Ok(())
 }

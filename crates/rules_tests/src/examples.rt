@@ -4,9 +4,10 @@ ghost use Rattle.std.specs.Prelude.{◌≡◌, ◌↔◌, IsTrue, IfOk};
 ghost use Rattle.drain_grid.specs.Values.{IsNoData, IsPixel};
 
 use drain_grid::values::{GREATEST_PIXEL, LEAST_PIXEL};
-use drain_grid::{Elevation, Product, ProductSet, Raster, Shape};
+use drain_grid::{Elevation, Product, ProductSet, Raster, Rule, Shape};
 use drain_rules::{Counts, Verdict, verdict_of};
 use std::alloc::Global;
+use std::process::Abort;
 use std::test::Fail;
 
 /// The parts of an example, in their order: the elevations and the six products.
@@ -135,6 +136,20 @@ pub fn changed(
         None => return Err("a place".into()),
     }
     Ok(copy)
+}
+
+/// Ends the test where the two verdicts differ, and tells of which case they are. A proof of a call of it costs less than that of an
+/// assertion in place.
+pub fn same(rt: &impl Abort, case: &str, given: Verdict, wanted: Verdict) {
+    assert_eq!(rt; given, wanted, "{case}");
+}
+
+pub fn rejected(rule: Rule, row: u8, col: u8) -> Verdict {
+    Verdict::Rejected {
+        rule,
+        row: row.into(),
+        col: col.into(),
+    }
 }
 
 pub fn accepted(rows: u32, cols: u32, data_cells: u32, raised: u32, outlets: u32) -> Verdict {

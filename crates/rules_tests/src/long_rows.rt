@@ -1,6 +1,6 @@
 //! The longest rows of outlets: that their labels find memory is no clause.
 
-use crate::examples::{accepted, verdict_on};
+use crate::examples::{accepted, same, verdict_on};
 use std::test::Fail;
 
 /// On a level row each cell is an outlet with a label of its own, from 1 on.
@@ -17,11 +17,9 @@ fn accepts_the_longest_rows(rt: HostRuntime) -> Result<(), Fail> {
             numbers.push(number)?;
         }
     }
-    for (rows, cols) in [(1, 28801), (28801, 1)] {
-        assert_eq!(rt;
-            verdict_on(rt.alloc(), rows, cols, &numbers)?,
-            accepted(rows, cols, 28801, 0, 28801)
-        );
+    for (name, rows, cols) in [("a row", 1, 28801), ("a column", 28801, 1)] {
+        let verdict = verdict_on(rt.alloc(), rows, cols, &numbers)?;
+        same(&rt, name, verdict, accepted(rows, cols, 28801, 0, 28801));
     }
     Ok(())
 }

@@ -1,26 +1,39 @@
 //! Worked products and their verdicts, all worked out by hand from the rules.
 
-use crate::examples::{Part, accepted, changed, verdict_on, verdict_with};
+use crate::examples::{Part, accepted, changed, rejected, same, verdict_on, verdict_with};
 use drain_grid::Rule;
 use drain_rules::Verdict;
+use std::alloc::Global;
 use std::test::Fail;
 use worked_grids::{level, needless_crest, parted, pit, ring, slope, voids};
 
 #[test]
 fn accepts_right_products(rt: HostRuntime) -> Result<(), Fail> {
     let alloc = rt.alloc();
-    assert_eq!(rt; verdict_on(alloc, 3, 3, &pit())?, accepted(3, 3, 9, 1, 8));
-    assert_eq!(rt; verdict_on(alloc, 2, 2, &level())?, accepted(2, 2, 4, 0, 4));
-    assert_eq!(rt; verdict_on(alloc, 2, 2, &voids())?, accepted(2, 2, 0, 0, 0));
-    assert_eq!(rt;
-        verdict_on(alloc, 4, 4, &slope())?,
-        accepted(4, 4, 16, 0, 4)
-    );
-    assert_eq!(rt;
-        verdict_on(alloc, 3, 7, &parted())?,
-        accepted(3, 7, 18, 0, 16)
-    );
+    let on_pit = verdict_on(alloc, 3, 3, &pit())?;
+    same(&rt, "a pit", on_pit, accepted(3, 3, 9, 1, 8));
+    let on_level = verdict_on(alloc, 2, 2, &level())?;
+    same(&rt, "level", on_level, accepted(2, 2, 4, 0, 4));
+    let on_voids = verdict_on(alloc, 2, 2, &voids())?;
+    same(&rt, "voids", on_voids, accepted(2, 2, 0, 0, 0));
+    let on_slope = verdict_on(alloc, 4, 4, &slope())?;
+    same(&rt, "a slope", on_slope, accepted(4, 4, 16, 0, 4));
+    let on_parted = verdict_on(alloc, 3, 7, &parted())?;
+    same(&rt, "parted", on_parted, accepted(3, 7, 18, 0, 16));
     Ok(())
+}
+
+/// The verdict on this example with one number changed.
+fn verdict_changed(
+    alloc: Global,
+    side: u8,
+    numbers: &[i64],
+    part: Part,
+    (row, col): (u8, u8),
+    number: i64,
+) -> Result<Verdict, Fail> {
+    let numbers = changed(alloc, side, numbers, part, row, col, number)?;
+    verdict_on(alloc, side.into(), side.into(), &numbers)
 }
 
 #[test]
@@ -33,17 +46,8 @@ fn rejects_a_changed_slope(rt: HostRuntime) -> Result<(), Fail> {
         (Part::Acc, 5, Rule::Accumulation, 1, 3),
         (Part::Bas, 9, Rule::Label, 0, 0),
     ] {
-        let numbers = changed(rt.alloc(), 4, &slope(), part, row, col, number)?;
-        let rejected = Verdict::Rejected {
-            rule,
-            row: row.into(),
-            col: col.into(),
-        };
-        assert_eq!(rt;
-            verdict_on(rt.alloc(), 4, 4, &numbers)?,
-            rejected,
-            "{rule:?}"
-        );
+        let verdict = verdict_changed(rt.alloc(), 4, &slope(), part, (row, col), number)?;
+        same(&rt, rule.name(), verdict, rejected(rule, row, col));
     }
     Ok(())
 }
@@ -55,17 +59,8 @@ fn rejects_a_changed_pit(rt: HostRuntime) -> Result<(), Fail> {
         (Part::Con, 6, Rule::SpillHeight),
         (Part::Rnk, 0, Rule::SpillRank),
     ] {
-        let numbers = changed(rt.alloc(), 3, &pit(), part, 1, 1, number)?;
-        let rejected = Verdict::Rejected {
-            rule,
-            row: 1,
-            col: 1,
-        };
-        assert_eq!(rt;
-            verdict_on(rt.alloc(), 3, 3, &numbers)?,
-            rejected,
-            "{rule:?}"
-        );
+        let verdict = verdict_changed(rt.alloc(), 3, &pit(), part, (1, 1), number)?;
+        same(&rt, rule.name(), verdict, rejected(rule, 1, 1));
     }
     Ok(())
 }
@@ -73,49 +68,24 @@ fn rejects_a_changed_pit(rt: HostRuntime) -> Result<(), Fail> {
 #[test]
 fn rejects_by_the_other_rules(rt: HostRuntime) -> Result<(), Fail> {
     let alloc = rt.alloc();
-    let acc_at_a_void = changed(alloc, 2, &voids(), Part::Acc, 1, 0, 1)?;
-    assert_eq!(rt;
-        verdict_on(alloc, 2, 2, &acc_at_a_void)?,
-        Verdict::Rejected {
-            rule: Rule::VoidCell,
-            row: 1,
-            col: 0
-        }
+    let acc_at_a_void = verdict_changed(alloc, 2, &voids(), Part::Acc, (1, 0), 1)?;
+    let void_cell = rejected(Rule::VoidCell, 1, 0);
+    same(&rt, "a void", acc_at_a_void, void_cell);
+    let missing = verdict_with(alloc, 0, 2, 2, &level())?;
+    same(
+        &rt,
+        "a cell with data, whose number is that for no data",
+        missing,
+        rejected(Rule::Missing, 0, 0),
     );
-    assert_eq!(rt;
-        verdict_with(alloc, 0, 2, 2, &level())?,
-        Verdict::Rejected {
-            rule: Rule::Missing,
-            row: 0,
-            col: 0
-        },
-        "a cell with data, whose number is that for no data"
-    );
-    let no_outlet = changed(alloc, 2, &level(), Part::Dir, 0, 0, 1)?;
-    assert_eq!(rt;
-        verdict_on(alloc, 2, 2, &no_outlet)?,
-        Verdict::Rejected {
-            rule: Rule::OutletCode,
-            row: 0,
-            col: 0
-        }
-    );
-    assert_eq!(rt;
-        verdict_on(alloc, 3, 3, &needless_crest())?,
-        Verdict::Rejected {
-            rule: Rule::NotLeast,
-            row: 1,
-            col: 1
-        }
-    );
-    assert_eq!(rt;
-        verdict_on(alloc, 4, 4, &ring())?,
-        Verdict::Rejected {
-            rule: Rule::FlatStep,
-            row: 1,
-            col: 1
-        }
-    );
+    let no_outlet = verdict_changed(alloc, 2, &level(), Part::Dir, (0, 0), 1)?;
+    let outlet_code = rejected(Rule::OutletCode, 0, 0);
+    same(&rt, "no outlet", no_outlet, outlet_code);
+    let crest = verdict_on(alloc, 3, 3, &needless_crest())?;
+    let not_least = rejected(Rule::NotLeast, 1, 1);
+    same(&rt, "a needless crest", crest, not_least);
+    let ring = verdict_on(alloc, 4, 4, &ring())?;
+    same(&rt, "a ring", ring, rejected(Rule::FlatStep, 1, 1));
     Ok(())
 }
 
@@ -126,41 +96,42 @@ fn rejects_two_outlets_of_one_label(rt: HostRuntime) -> Result<(), Fail> {
     for col in 0..4 {
         numbers = changed(alloc, 4, &numbers, Part::Bas, 1, col, 1)?;
     }
-    assert_eq!(rt;
-        verdict_on(alloc, 4, 4, &numbers)?,
-        Verdict::Rejected {
-            rule: Rule::SharedLabel,
-            row: 1,
-            col: 3
-        }
-    );
+    let verdict = verdict_on(alloc, 4, 4, &numbers)?;
+    let shared_label = rejected(Rule::SharedLabel, 1, 3);
+    same(&rt, "two outlets", verdict, shared_label);
     Ok(())
+}
+
+/// The verdict on the slope with two numbers changed, each at its part, row and column.
+fn verdict_changed_twice(
+    alloc: Global,
+    (one, (row, col), first): (Part, (u8, u8), i64),
+    (other, place, last): (Part, (u8, u8), i64),
+) -> Result<Verdict, Fail> {
+    let numbers = changed(alloc, 4, &slope(), one, row, col, first)?;
+    verdict_changed(alloc, 4, &numbers, other, place, last)
 }
 
 #[test]
 fn tells_the_first_of_two_faults(rt: HostRuntime) -> Result<(), Fail> {
-    let alloc = rt.alloc();
-    let later_sum = changed(alloc, 4, &slope(), Part::Acc, 0, 3, 5)?;
-    let two_cells = changed(alloc, 4, &later_sum, Part::Con, 2, 0, 2)?;
-    assert_eq!(rt;
-        verdict_on(alloc, 4, 4, &two_cells)?,
-        Verdict::Rejected {
-            rule: Rule::Accumulation,
-            row: 0,
-            col: 3
-        },
-        "the first cell, though its rule is the later one"
-    );
-    let sum = changed(alloc, 4, &slope(), Part::Acc, 0, 0, 5)?;
-    let two_rules = changed(alloc, 4, &sum, Part::Con, 0, 0, 2)?;
-    assert_eq!(rt;
-        verdict_on(alloc, 4, 4, &two_rules)?,
-        Verdict::Rejected {
-            rule: Rule::BelowGround,
-            row: 0,
-            col: 0
-        },
-        "the first rule at a cell"
-    );
+    for (name, sum, con, wanted) in [
+        (
+            "the first cell, though its rule is the later one",
+            (0, 3),
+            (2, 0),
+            rejected(Rule::Accumulation, 0, 3),
+        ),
+        (
+            "the first rule at a cell",
+            (0, 0),
+            (0, 0),
+            rejected(Rule::BelowGround, 0, 0),
+        ),
+    ] {
+        let sum = (Part::Acc, sum, 5);
+        let con = (Part::Con, con, 2);
+        let verdict = verdict_changed_twice(rt.alloc(), sum, con)?;
+        same(&rt, name, verdict, wanted);
+    }
     Ok(())
 }

@@ -4,6 +4,7 @@ ghost use Rattle.std.specs.Prelude.{◌≡◌, ◌*◌, IfOk, length};
 ghost use Rattle.drain_grid.specs.Tile.{IsSide};
 
 use super::samples;
+use crate::agree::same;
 use drain_grid::{Cell, Elevation};
 use drain_hgt::TileName;
 use drain_mosaic::{Layout, SeamFault, join};
@@ -108,20 +109,23 @@ fn turned(mut tiles: [[i16; 4]; 8], tile: usize, place: usize) -> [[i16; 4]; 8] 
     tiles
 }
 
+/// The samples of an elevation that was made.
+fn samples_made(alloc: Global, made: Result<Elevation, SeamFault>) -> Result<Vec<i16>, Fail> {
+    samples(alloc, &made?)
+}
+
 #[test]
 fn eight_tiles_that_agree(rt: HostRuntime) -> Result<(), Fail> {
-    let elevation = wide(rt.alloc(), row_of_tiles())??;
-    let given = samples(rt.alloc(), &elevation)?;
+    let given = samples_made(rt.alloc(), wide(rt.alloc(), row_of_tiles())?)?;
     let wanted = [
         1, 2, 3, 4, 5, 6, 7, 8, 9, 11, 12, 13, 14, 15, 16, 17, 18, 19,
     ];
-    assert_eq!(rt; given.as_slice(), wanted.as_slice());
-    let elevation = tall(rt.alloc(), column_of_tiles())??;
-    let given = samples(rt.alloc(), &elevation)?;
+    same(&rt, "wide", given.as_slice(), wanted.as_slice());
+    let given = samples_made(rt.alloc(), tall(rt.alloc(), column_of_tiles())?)?;
     let wanted = [
         1, 11, 2, 12, 3, 13, 4, 14, 5, 15, 6, 16, 7, 17, 8, 18, 9, 19,
     ];
-    assert_eq!(rt; given.as_slice(), wanted.as_slice());
+    same(&rt, "tall", given.as_slice(), wanted.as_slice());
     Ok(())
 }
 
@@ -132,12 +136,12 @@ fn eight_tiles_that_differ(rt: HostRuntime) -> Result<(), Fail> {
         for (place, row) in [(0, 0), (2, 1)] {
             let answer = wide(rt.alloc(), turned(row_of_tiles(), tile, place))?;
             let wanted = SeamFault::SeamMismatch(Cell { row, col: seam });
-            assert_eq!(rt; answer.err(), Some(wanted));
+            same(&rt, (tile, place), answer.err(), Some(wanted));
         }
         for (place, col) in [(0, 0), (1, 1)] {
             let answer = tall(rt.alloc(), turned(column_of_tiles(), tile, place))?;
             let wanted = SeamFault::SeamMismatch(Cell { row: seam, col });
-            assert_eq!(rt; answer.err(), Some(wanted));
+            same(&rt, (tile, place), answer.err(), Some(wanted));
         }
     }
     Ok(())
@@ -151,8 +155,11 @@ fn level(alloc: Global, side: u32, sample: i16) -> Result<Vec<i16>, AllocError>
     vec![in alloc; sample; side as usize * side as usize]
 }
 
-/// What two tiles give together, the first of 1 and the last of 2.
-fn of_two(alloc: Global, side: u32, names: [&str; 2]) -> Result<Elevation, Fail>
+/// Rows, columns, and samples: the first, the last and the middle one.
+type Shown = ((u32, u32), [Option<i16>; 3]);
+
+/// What two tiles show together, the first of 1 and the last of 2.
+fn of_two(alloc: Global, side: u32, names: [&str; 2]) -> Result<Shown, Fail>
     requires { IsSide side }
 {
     let names = [
@@ -161,7 +168,23 @@ fn of_two(alloc: Global, side: u32, names: [&str; 2]) -> Result<Elevation, Fail>
     ];
     let layout = Layout::new(alloc, side, &names)?;
     let tiles = [level(alloc, side, 1)?, level(alloc, side, 2)?];
-    Ok(join(alloc, &layout, &tiles)?)
+    Ok(shown(&join(alloc, &layout, &tiles)?))
+}
+
+/// What an elevation shows.
+fn shown(elevation: &Elevation) -> Shown {
+    let shape = elevation.shape();
+    let (south, east) = (shape.rows() - 1, shape.cols() - 1);
+    let first = elevation.z(Cell { row: 0, col: 0 });
+    let last = elevation.z(Cell {
+        row: south,
+        col: east,
+    });
+    let middle = elevation.z(Cell {
+        row: south / 2,
+        col: east / 2,
+    });
+    ((shape.rows(), shape.cols()), [first, last, middle])
 }
 
 /// As wide and as tall as a box of tiles of side 1201 can be.
@@ -171,20 +194,8 @@ fn widest_and_tallest(rt: HostRuntime) -> Result<(), Fail> {
         (["N00E000.hgt", "N00E007.hgt"], 1201, 9601),
         (["N07E000.hgt", "N00E000.hgt"], 9601, 1201),
     ] {
-        let elevation = of_two(rt.alloc(), 1201, names)?;
-        let shape = elevation.shape();
-        assert_eq!(rt; (shape.rows(), shape.cols()), (rows, cols));
-        let (south, east) = (shape.rows() - 1, shape.cols() - 1);
-        let first = elevation.z(Cell { row: 0, col: 0 });
-        let last = elevation.z(Cell {
-            row: south,
-            col: east,
-        });
-        let middle = elevation.z(Cell {
-            row: south / 2,
-            col: east / 2,
-        });
-        assert_eq!(rt; (first, last, middle), (Some(1), Some(2), None));
+        let given = of_two(rt.alloc(), 1201, names)?;
+        same(&rt, names, given, ((rows, cols), [Some(1), Some(2), None]));
     }
     Ok(())
 }

@@ -2,9 +2,10 @@
 
 ghost use Rattle.drain_grid.specs.Tile.{IsSide};
 
+use crate::agree::same;
 use drain_grid::Cell;
 use drain_grid::tile::is_side;
-use drain_hgt::TileName;
+use drain_hgt::{NameFault, TileName};
 use drain_mosaic::{Layout, LayoutFault};
 use std::alloc::Global;
 use std::test::Fail;
@@ -39,11 +40,9 @@ fn boxes_of_tiles(rt: HostRuntime) -> Result<(), Fail> {
         let first = TileName::parse(names[0].as_bytes())?;
         let last = TileName::parse(names[1].as_bytes())?;
         assert!(rt; is_side(side));
-        assert_eq!(rt;
-            told(rt.alloc(), side, [first, last])?,
-            ((rows, cols), (west, north), (side, 2), last),
-            "{side}"
-        );
+        let given = told(rt.alloc(), side, [first, last])?;
+        let wanted = ((rows, cols), (west, north), (side, 2), last);
+        same(&rt, names, given, wanted);
     }
     Ok(())
 }
@@ -53,40 +52,52 @@ fn fault_of(alloc: Global, tiles: &[TileName]) -> Option<LayoutFault> {
     Layout::new(alloc, 2, tiles).err()
 }
 
+/// The fault of four tiles of side 2 with these names.
+fn fault_of_four(alloc: Global, names: [&str; 4]) -> Result<Option<LayoutFault>, NameFault> {
+    let tiles = [
+        TileName::parse(names[0].as_bytes())?,
+        TileName::parse(names[1].as_bytes())?,
+        TileName::parse(names[2].as_bytes())?,
+        TileName::parse(names[3].as_bytes())?,
+    ];
+    Ok(fault_of(alloc, &tiles))
+}
+
 #[test]
 fn tiles_that_make_no_mosaic(rt: HostRuntime) -> Result<(), Fail> {
-    assert_eq!(rt; fault_of(rt.alloc(), &[]), Some(LayoutFault::NoTiles));
+    let none = fault_of(rt.alloc(), &[]);
+    same(&rt, "no tiles", none, Some(LayoutFault::NoTiles));
     let here = TileName::parse(b"N00E000.hgt")?;
     let beside = TileName::parse(b"N00E001.hgt")?;
-    for (names, fault) in [
+    for (case, names, fault) in [
         (
+            "two pairs",
             ["n00e000.hgt", "N00E000.HGT", "N00E001.hgt", "n00e001.hgt"],
             LayoutFault::RepeatedTile(here),
         ),
         (
+            "a pair inside another",
             ["N00E000.hgt", "N00E001.hgt", "n00e001.hgt", "n00e000.hgt"],
             LayoutFault::RepeatedTile(beside),
         ),
         (
+            "too wide",
             ["N00E000.hgt", "N00E008.hgt", "N01E000.hgt", "N02E000.hgt"],
             LayoutFault::BoxTooLarge,
         ),
         (
+            "too tall",
             ["N00E000.hgt", "S08E000.hgt", "N01E000.hgt", "N02E000.hgt"],
             LayoutFault::BoxTooLarge,
         ),
         (
+            "too wide, with a pair",
             ["N00E000.hgt", "N00E008.hgt", "N01E000.hgt", "N00E000.hgt"],
             LayoutFault::RepeatedTile(here),
         ),
     ] {
-        let tiles = [
-            TileName::parse(names[0].as_bytes())?,
-            TileName::parse(names[1].as_bytes())?,
-            TileName::parse(names[2].as_bytes())?,
-            TileName::parse(names[3].as_bytes())?,
-        ];
-        assert_eq!(rt; fault_of(rt.alloc(), &tiles), Some(fault));
+        let given = fault_of_four(rt.alloc(), names)?;
+        same(&rt, case, given, Some(fault));
     }
     Ok(())
 }
@@ -114,11 +125,15 @@ fn a_full_box(rt: HostRuntime) -> Result<(), Fail> {
     let names = full_box(rt.alloc(), "", "")?;
     let layout = Layout::new(rt.alloc(), 2, &names)?;
     let shape = layout.shape();
-    assert_eq!(rt; (shape.rows(), shape.cols(), layout.len()), (9, 9, 64));
-    for (tile, row, col) in [(0, 7, 0), (7, 7, 7), (56, 0, 0), (63, 0, 7)] {
+    let sizes = (shape.rows(), shape.cols(), layout.len());
+    let mut places = [(0, 0); 4];
+    for (place, tile) in places.iter_mut().zip([0, 7, 56, 63]) {
         assert!(rt; tile < layout.len());
-        assert_eq!(rt; layout.place(tile), Cell { row, col }, "{tile}");
+        let cell = layout.place(tile);
+        *place = (cell.row, cell.col);
     }
+    let wanted = [(7, 0), (7, 7), (0, 0), (0, 7)];
+    same(&rt, "a full box", (sizes, places), ((9, 9, 64), wanted));
     Ok(())
 }
 
@@ -172,11 +187,8 @@ fn faults_of_many_tiles(rt: HostRuntime) -> Result<(), Fail> {
             LayoutFault::BoxTooLarge,
         ),
     ] {
-        assert_eq!(rt;
-            fault_of_box(rt.alloc(), front, back)?,
-            Some(wanted),
-            "{case}"
-        );
+        let given = fault_of_box(rt.alloc(), front, back)?;
+        same(&rt, case, given, Some(wanted));
     }
     Ok(())
 }

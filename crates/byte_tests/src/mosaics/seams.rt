@@ -3,6 +3,7 @@
 ghost use Rattle.std.specs.Prelude.{map};
 ghost use Rattle.drain_mosaic.specs.Mosaic.{AreTiles};
 
+use crate::agree::same;
 use drain_grid::{Cell, VOID};
 use drain_hgt::TileName;
 use drain_mosaic::first_seam::first_seam;
@@ -44,6 +45,20 @@ fn seam_of_pair(
     seam_of(alloc, &layout, &tiles)
 }
 
+/// The seam of two tiles of side 3, with the one named first and with the other named first.
+fn seams_both_ways(
+    alloc: Global,
+    names: [&str; 2],
+    first: [i16; 9],
+    last: [i16; 9],
+) -> Result<[Option<Cell>; 2], Fail> {
+    let [one, other] = names;
+    Ok([
+        seam_of_pair(alloc, [one, other], first, last)?,
+        seam_of_pair(alloc, [other, one], last, first)?,
+    ])
+}
+
 /// Two tiles that share column 2 of 3 rows and 5 columns.
 #[test]
 fn one_beside_the_other(rt: HostRuntime) -> Result<(), Fail> {
@@ -63,9 +78,8 @@ fn one_beside_the_other(rt: HostRuntime) -> Result<(), Fail> {
         ("extremes", [32767, 0, 0, -32767, 0, 0, 9, 0, 0], Some(0)),
     ] {
         let wanted = row.map(|row| Cell { row, col: 2 });
-        let from_west = seam_of_pair(rt.alloc(), ["N00E000.hgt", "N00E001.hgt"], west, east)?;
-        let from_east = seam_of_pair(rt.alloc(), ["N00E001.hgt", "N00E000.hgt"], east, west)?;
-        assert_eq!(rt; (from_west, from_east), (wanted, wanted), "{case}");
+        let seams = seams_both_ways(rt.alloc(), ["N00E000.hgt", "N00E001.hgt"], west, east)?;
+        same(&rt, case, seams, [wanted, wanted]);
     }
     Ok(())
 }
@@ -87,9 +101,8 @@ fn one_above_the_other(rt: HostRuntime) -> Result<(), Fail> {
         ("voids", [v, v, v, 0, 0, 0, 0, 0, 0], None),
     ] {
         let wanted = col.map(|col| Cell { row: 2, col });
-        let from_north = seam_of_pair(rt.alloc(), ["N01E000.hgt", "N00E000.hgt"], north, south)?;
-        let from_south = seam_of_pair(rt.alloc(), ["N00E000.hgt", "N01E000.hgt"], south, north)?;
-        assert_eq!(rt; (from_north, from_south), (wanted, wanted), "{case}");
+        let seams = seams_both_ways(rt.alloc(), ["N01E000.hgt", "N00E000.hgt"], north, south)?;
+        same(&rt, case, seams, [wanted, wanted]);
     }
     Ok(())
 }
@@ -159,7 +172,7 @@ fn corners_of_four_tiles(rt: HostRuntime) -> Result<(), Fail> {
         } else {
             None
         };
-        assert_eq!(rt; seam_of_square(rt.alloc(), tiles)?, wanted, "{case}");
+        same(&rt, case, seam_of_square(rt.alloc(), tiles)?, wanted);
     }
     Ok(())
 }
@@ -191,7 +204,7 @@ fn edges_of_four_tiles(rt: HostRuntime) -> Result<(), Fail> {
             }
         }
         let seam = seam_of_square(rt.alloc(), tiles)?;
-        assert_eq!(rt; seam, Some(Cell { row, col }), "{case}");
+        same(&rt, case, seam, Some(Cell { row, col }));
     }
     Ok(())
 }

@@ -1,0 +1,14 @@
+//! The assertion of these tests, in a function: a proof of a call of it costs less than that of an assertion in place.
+
+use std::fmt::Debug;
+use std::process::Abort;
+
+/// Ends the test where the two differ, and tells of which case they are.
+pub fn same<C: Debug + Drop, T: PartialEq + Debug + Drop>(
+    rt: &impl Abort,
+    case: C,
+    given: T,
+    wanted: T,
+) {
+    assert_eq!(rt; given, wanted, "{case:?}");
+}

@@ -1,0 +1,20 @@
+//! The assertion of these tests, in functions: a proof of a call of one costs less than that of an assertion in place.
+
+use drain_grid::Rule;
+use std::fmt::Debug;
+use std::process::Abort;
+
+/// Ends the test where the two differ, and tells of which case they are.
+pub fn same<C: Debug + Drop, T: PartialEq + Debug + Drop>(
+    rt: &impl Abort,
+    case: C,
+    given: T,
+    wanted: T,
+) {
+    assert_eq!(rt; given, wanted, "{case:?}");
+}
+
+/// The same of the rules that fail, none where all hold.
+pub fn same_rule(rt: &impl Abort, case: &str, given: Option<Rule>, wanted: Option<Rule>) {
+    assert_eq!(rt; given, wanted, "{case}");
+}
