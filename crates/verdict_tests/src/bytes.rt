@@ -3,7 +3,8 @@
 /// The most bytes of a header, of a tile or of a raster in these tests.
 const ROOM: usize = 400;
 
-/// Bytes that own no memory, so that a test that holds some is cheap to prove. Where there are more than there is room for, it has none.
+/// Bytes that own no memory and may be copied, so that a test that holds some is cheap to prove (arrayvec's vectors are dropped, and not copied).
+/// Where there are more than there is room for, it has none.
 #[derive(Clone, Copy)]
 pub struct Bytes {
     room: [u8; ROOM],
