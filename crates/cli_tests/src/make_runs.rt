@@ -12,7 +12,7 @@ use drain_grid::{PerProduct, Product};
 use drain_hgt::TileInput;
 use drain_maker::product_files::FILE_COUNT;
 use drain_verdict::{Products, RasterInput};
-use std::alloc::Global;
+use std::alloc::{AllocError, Global};
 use std::test::Fail;
 
 /// A tile of side 3 with border 5 and a pit of 1.
@@ -223,6 +223,14 @@ fn tells_why_nothing_is_made(rt: HostRuntime) -> Result<(), Fail> {
     Ok(())
 }
 
+/// A file that takes five bytes at a call.
+fn scripted_file<'a>(
+    alloc: Global,
+    script: &'a [Scripted<SinkAnswer>],
+) -> Result<ScriptSink<'a>, AllocError> {
+    Ok(ScriptSink::new(room(alloc)?, 5, script))
+}
+
 /// Files for the products; the one in this place has this script.
 fn scripted_files<'a>(
     alloc: Global,
@@ -234,7 +242,7 @@ fn scripted_files<'a>(
     let mut files = Vec::new(alloc);
     for k in 0..FILE_COUNT {
         let script = if k == place { script } else { &[] };
-        files.push(ScriptSink::new(room(alloc)?, 5, script))?;
+        files.push(scripted_file(alloc, script)?)?;
     }
     if files.len() != FILE_COUNT {
         return Err("twelve files".into());

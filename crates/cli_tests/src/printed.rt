@@ -33,13 +33,17 @@ pub fn slow_sink<'a>(
     Ok(ScriptSink::new(room(alloc)?, 1, script))
 }
 
+fn empty_file(alloc: Global, capacity: usize) -> Result<VecSink, AllocError> {
+    Ok(VecSink::new(Vec::with_capacity(alloc, capacity)?))
+}
+
 /// Files for the products of one mosaic, each with room for so many bytes.
 pub fn empty_files(alloc: Global, capacity: usize) -> Result<Vec<VecSink>, Fail>
     ensures { IfOk result (λ files. length files.items ≡ FILE_COUNT) }
 {
     let mut files = Vec::new(alloc);
     for _ in 0..FILE_COUNT {
-        files.push(VecSink::new(Vec::with_capacity(alloc, capacity)?))?;
+        files.push(empty_file(alloc, capacity)?)?;
     }
     if files.len() != FILE_COUNT {
         return Err("twelve files".into());
