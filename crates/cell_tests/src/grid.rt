@@ -229,6 +229,29 @@ fn one_thing_for_each_product(rt: HostRuntime) -> Result<(), Fail> {
     Ok(())
 }
 
+/// Rasters that keep their numbers in 8, 16 or 32 bits show them as they are.
+#[test]
+fn narrow_rasters(rt: HostRuntime) -> Result<(), Fail> {
+    let alloc = rt.alloc();
+    let shape = Shape::new(1, 2).ok_or("a shape")?;
+    let bytes = Raster::of_bytes(shape, 255, vec![in alloc; 0, 255]?);
+    same(&rt, "bytes", west_and_east(&bytes), (0, 255));
+    let heights = Raster::of_heights(shape, -1, vec![in alloc; -32768, 32767]?);
+    same(&rt, "heights", west_and_east(&heights), (-32768, 32767));
+    let counts = Raster::of_counts(shape, 0, vec![in alloc; 1, 4294967295]?);
+    same(&rt, "counts", west_and_east(&counts), (1, 4294967295));
+    Ok(())
+}
+
+/// The numbers of a raster of one row and two columns.
+fn west_and_east(raster: &Raster) -> (i64, i64)
+    requires { raster.now.extent ≡ record { rows = 1; cols = 2 } }
+{
+    let west = Cell { row: 0, col: 0 };
+    let east = Cell { row: 0, col: 1 };
+    (raster.value(west), raster.value(east))
+}
+
 /// A raster of two by two cells, none of which has the number for no data.
 fn two_by_two(alloc: Global, shape: Shape, numbers: [u16; 4]) -> Result<Raster, AllocError>
     requires { shape ≡ record { rows = 2; cols = 2 } }

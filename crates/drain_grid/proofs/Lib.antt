@@ -13,6 +13,7 @@ pub mod Inflows
 pub mod Least
 pub mod LeastFaults
 pub mod NamedNeighbors
+pub mod NarrowNumbers
 pub mod Neighbors
 pub mod OpenAmong
 pub mod OpenCells

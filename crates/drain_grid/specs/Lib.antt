@@ -5,6 +5,7 @@ pub mod Extent
 pub mod Grid
 pub mod GridRules
 pub mod Laws
+pub mod Numbers
 pub mod Open
 pub mod Patch
 pub mod PatchRules

@@ -1,5 +1,5 @@
 -- What holds of each product holds of all six.
-use Rattle.std.proofs.Common.{◌≡◌, ◌≢◌, rules}
+use Rattle.std.proofs.Common.{◌≡◌, rules}
 use Rattle.drain_grid.specs.declared.product.Product.TheVariants.{Con, Dir, Acc, Bas, Spl, Rnk}
 use Rattle.drain_grid.proofs.ByProduct.{by_product}
 use Rattle.drain_grid.proofs.values.CellValues.is_blank.Goals as goal

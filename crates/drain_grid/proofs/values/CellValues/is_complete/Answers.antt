@@ -1,5 +1,5 @@
 -- What holds of each product holds of all six.
-use Rattle.std.proofs.Common.{◌≡◌, ◌≢◌, IsTrue, rules}
+use Rattle.std.proofs.Common.{◌≢◌, IsTrue, rules}
 use Rattle.drain_grid.specs.declared.product.Product.TheVariants.{Con, Dir, Acc, Bas, Spl, Rnk}
 use Rattle.drain_grid.proofs.ByProduct.{by_product}
 use Rattle.drain_grid.proofs.values.CellValues.is_complete.Goals.{then-self-nodata, else-self-nodata, then-self-nodata-2, else-self-nodata-2, then-self-nodata-3, else-self-nodata-3, then-self-nodata-4, else-self-nodata-4}
