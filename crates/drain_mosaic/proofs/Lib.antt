@@ -15,6 +15,7 @@ pub mod Laying
 pub mod TileCalls
 pub mod Calls
 pub mod MosaicSteps
+pub mod Lent
 pub mod WholeRows
 pub mod StreamSteps
 pub mod RowValues

@@ -6,8 +6,6 @@ use Rattle.std.proofs.lemmas.List.Elements.{All-same, All-tail}
 use Rattle.drain_device.specs.declared.counts.FaultCounts.{FaultCounts}
 use Rattle.drain_grid.specs.declared.cell.Cell.{Cell}
 use Rattle.drain_hgt.specs.declared.input.TileInput.{TileInput}
-use Rattle.drain_mosaic.proofs.Placing.{}
-use Rattle.drain_mosaic.proofs.Rows.{written_over}
 use Rattle.drain_device.specs.ComingRows.{after_rows, ends_wrong}
 use Rattle.drain_mosaic.specs.Streams.{Frame, Stream, cell_at, end_stream, first_from, is_over, is_seam, mosaic_row, mosaic_rows, next_stream, seam_from, wrong_from}
 use Rattle.drain_mosaic.specs.PlacedRows.{HasEnded, HaveEnded, HaveRead, IsRowLaid, first_stopped, if_stopped, streams_of}
@@ -96,10 +94,6 @@ wrong-stopped bl (p ∷ tiles) (t ∷ from) k same ended =
     by_progress Done not c = refl
     by_progress Stopped not c = refl
 
--- what was written over all of a list holds what was written
-pub all_over : {X : Type 0} (P : X → Type 0) (new old : List X) (n : ℕ) → length new ≡ length old → n ≡ length old → All P new → All P (take n (new ++ drop (length new) old))
-all_over P new old n same whole h = All-same P (take n (new ++ drop (length new) old)) new (written_over new old n same whole) h
-
 -- the first tile that has stopped, by search
 pub stopped-skip : (tiles : List PlacedRows) (k i : ℕ) → ((j : ℕ) (p : PlacedRows) → j < i → (get_or tiles j p).rows.progress ≢ Stopped) → length tiles ≤ i → first_stopped k tiles ≡ None
 stopped-skip [] k i none whole = refl
@@ -120,22 +114,6 @@ stopped-here (p ∷ tiles) k (suc i) n d none inside is at = by_progress p.rows.
     by_progress Going not = refl
     by_progress Done not = refl
     by_progress Stopped not = absurd (not refl)
-
--- the same calls, of tiles that were lent and written back
-pub have-over : {R : Type 0} (bl : R → Option (List ℕ)) (ct : R → FaultCounts) (old held cur : List PlacedRows) (n : ℕ) (from now : List (TileInput R)) (F G : Type 0) → held ≡ old → length cur ≡ length old → n ≡ length old → (F → G) → (G → F) →
-    HaveRead bl ct held cur from now F → HaveRead bl ct old (take n (cur ++ drop (length cur) old)) from now G
-have-over bl ct old held cur n from now F G is same whole there back read =
-    have-so bl ct old cur (take n (cur ++ drop (length cur) old)) from now F G (written_over cur old n same whole) there back (subst (λ (x : List PlacedRows). HaveRead bl ct x cur from now F) is read)
-
--- and their streams
-pub streams-over : {R : Type 0} (bl : R → Option (List ℕ)) (f : Stream → Stream) (old held cur : List PlacedRows) (n : ℕ) (from now : List (TileInput R)) → held ≡ old → length cur ≡ length old → n ≡ length old →
-    streams_of bl cur now ≡ map f (streams_of bl held from) → streams_of bl (take n (cur ++ drop (length cur) old)) now ≡ map f (streams_of bl old from)
-streams-over bl f old held cur n from now is same whole next =
-    ap (λ (x : List PlacedRows). streams_of bl x now) (written_over cur old n same whole) ∙ next ∙ ap (λ (x : List PlacedRows). map f (streams_of bl x from)) is
-
-pub laid-over : {R : Type 0} (bl : R → Option (List ℕ)) (side row : ℕ) (old held : List PlacedRows) (from : List (TileInput R)) (out : List ℤ) (found : Option ℕ) → held ≡ old →
-    IsRowLaid side row (streams_of bl held from) out found → IsRowLaid side row (streams_of bl old from) out found
-laid-over bl side row old held from out found is laid = subst (λ (x : List PlacedRows). IsRowLaid side row (streams_of bl x from) out found) is laid
 
 -- a row was given
 pub mosaic-step : (progress : Progress) (f : Frame) (row : ℕ) (xs ys : List Stream) (out made : List ℤ) (found : Option ℕ) → progress ≡ Going → row < f.rows → ys ≡ map (next_stream f.side row) xs → made ≡ out → length out ≡ f.cols → IsRowLaid f.side row xs out found →

@@ -5,7 +5,6 @@ use Rattle.drain_mosaic.specs.declared.placed_rows.PlacedRows.{PlacedRows}
 use Rattle.drain_hgt.specs.Inputs.{names_of}
 use Rattle.drain_hgt.specs.declared.input.TileInput.{TileInput}
 use Rattle.drain_hgt.specs.declared.tile_rows.TileRows.{TileRows}
-use Rattle.drain_mosaic.proofs.Rows.{written_over}
 use Rattle.drain_mosaic.specs.PlacedRows.{AreWithin, IsWithin}
 
 -- no matter what stands for a missing element
@@ -27,8 +26,3 @@ kept tiles i d r side rows cols inside same within =
     let here = within i d inside in
     let moved : IsWithin side rows cols (record { place = (get_or tiles i d).place; rows = r }) = record { side_is = same ∙ here.side_is; above = here.above; inside = here.inside } in
     All-set (IsWithin side rows cols) tiles i _ moved within
-
--- tiles that were written back stay where they are
-pub kept_over : (new old : List PlacedRows) (n side rows cols : ℕ) → length new ≡ length old → n ≡ length old → AreWithin side rows cols new →
-    AreWithin side rows cols (take n (new ++ drop (length new) old))
-kept_over new old n side rows cols same whole within = All-same (IsWithin side rows cols) (take n (new ++ drop (length new) old)) new (written_over new old n same whole) within

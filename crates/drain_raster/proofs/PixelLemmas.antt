@@ -1,10 +1,10 @@
 -- Where the pixels of a row stand, and which kind of pixel a header has.
-use Rattle.std.proofs.Common.{◌≡◌, ◌≢◌, ℕ, ◌+◌, ◌-◌, ◌*◌, ◌/◌, ◌≤◌, inl, inr, ℤ, pos, Bool, true, false, Option, Some, IfSome, List, length, take, drop, refl, arith, rules, sym, ap, ◌∙◌}
+use Rattle.std.proofs.Common.{◌≡◌, ◌≢◌, ℕ, ◌+◌, ◌-◌, ◌*◌, ◌/◌, ◌<◌, ◌≤◌, inl, inr, ℤ, pos, Bool, true, false, Option, Some, IfSome, List, length, take, drop, refl, arith, rules, sym, ap, ◌∙◌}
 use Rattle.std.proofs.lemmas.Bool.{cases_lt}
-use Rattle.std.proofs.lemmas.List.{take_rest}
+use Rattle.std.proofs.lemmas.List.{length-drop, take_rest}
 use Rattle.std.proofs.lemmas.Grind.{not_there}
 use Rattle.std.proofs.lemmas.Int.{ints, to_z-of_z}
-use Rattle.std.proofs.Math.Nat.{mul-le-mul_left, div-mul-le_self, le-div_iff_mul-le}
+use Rattle.std.proofs.Math.Nat.{mul-le-mul_left, mul-le-mul_right, div-mul-le_self, le-div_iff_mul-le}
 use Rattle.std.proofs.Props.{props}
 use Rattle.byteorder.specs.Endian.{little_number, twos_complement}
 use Rattle.byteorder.specs.Numbers.{big_from-take, little_from-take}
@@ -15,7 +15,7 @@ use Rattle.drain_grid.specs.Values.{IsPixel, IsNoData}
 use Rattle.drain_header.specs.declared.header.ByteOrdering.{ByteOrdering}
 use Rattle.drain_header.specs.declared.header.ByteOrdering.TheVariants.{Least, Most}
 use Rattle.drain_header.specs.Fields.{Fields, IsPixelSize}
-use Rattle.drain_raster.specs.Pixels.{pixel_len, number_in, spelled_by, pixel_of, pixel_at, AreSpelled}
+use Rattle.drain_raster.specs.Pixels.{pixel_len, needed_len, number_in, spelled_by, pixel_of, pixel_at, AreSpelled}
 use Rattle.drain_raster.specs.Bytes.{least_number, greatest_number, complement_of, bytes_in, AreWritten}
 use Rattle.drain_raster.proofs.CellLists.{cell_of}
 
@@ -25,6 +25,29 @@ pub pixel-found : (h : Fields) (len : ℕ) (number : List ℕ → ℤ) (body : L
 pixel-found h len number body at row col spelled is_at =
     ap number (take_rest body at) ∙ spelled.number_is (drop at body)
     ∙ ap (λ k. pixel_of h (drop k body)) (is_at ∙ ap (λ l. h.skip + row * h.row_bytes + col * l) spelled.len_is)
+
+-- the place of a pixel, by what the code reads
+pub place-by : (h inside : Fields) (row col long len : ℕ) → inside ≡ h → long ≡ len → inside.skip + row * inside.row_bytes + col * long ≡ h.skip + row * h.row_bytes + col * len
+place-by h inside row col long len view is = ap (λ (f : Fields). f.skip + row * f.row_bytes + col * long) view ∙ ap (λ l. h.skip + row * h.row_bytes + col * l) is
+
+-- a pixel that is needed lies within the body
+pixel-ends : (h : Fields) (len : ℕ) (number : List ℕ → ℤ) (body : List ℕ) (at row col : ℕ) → AreSpelled h len number → row < h.rows → col < h.cols → needed_len h ≤ length body →
+    at ≡ h.skip + row * h.row_bytes + col * len → at + len ≤ length body
+pixel-ends h len number body at row col spelled row_in col_in enough is_at =
+    let rows : row * h.row_bytes ≤ (h.rows - 1) * h.row_bytes = mul-le-mul_right h.row_bytes (omega arith) in
+    let cols : (col + 1) * len ≤ h.cols * len = mul-le-mul_right len (omega arith) in
+    let wide : h.cols * len ≡ h.cols * pixel_len h = ap (λ l. h.cols * l) spelled.len_is in
+    omega (arith, is_at, rows, cols, wide, enough)
+
+pub pixel-starts : (h : Fields) (len : ℕ) (number : List ℕ → ℤ) (body : List ℕ) (at row col : ℕ) → AreSpelled h len number → row < h.rows → col < h.cols → needed_len h ≤ length body →
+    at ≡ h.skip + row * h.row_bytes + col * len → at ≤ length body
+pixel-starts h len number body at row col spelled row_in col_in enough is_at = let ends = pixel-ends h len number body at row col spelled row_in col_in enough is_at in omega arith
+
+pub pixel-room : (h : Fields) (len : ℕ) (number : List ℕ → ℤ) (body : List ℕ) (at row col : ℕ) → AreSpelled h len number → row < h.rows → col < h.cols → needed_len h ≤ length body →
+    at ≡ h.skip + row * h.row_bytes + col * len → len ≤ length (take (length body - at) (drop at body))
+pixel-room h len number body at row col spelled row_in col_in enough is_at =
+    let ends = pixel-ends h len number body at row col spelled row_in col_in enough is_at in
+    rw (take_rest body at) (omega (arith, ends, length-drop at body))
 
 -- a number of a pixel goes through 64 bits unchanged
 pub pixel-stored : (n : ℤ) → IsPixel n → to_z w64 (of_z w64 n) ≡ n
