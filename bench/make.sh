@@ -1,7 +1,10 @@
 #!/usr/bin/env bash
-# Shows how fast `drain make` is beside its twin, and beside a plainer form of that: builds them, compares the twelve files of all three
-# on small tiles and on tiles of sides 1201 and 3601, made-up terrain and real terrain enlarged by mirrored copies, then times all three on
-# the large ones. It exits with 1 where files differ; times never make it fail.
+# Shows how fast `drain make` is beside its twin, and beside a plainer form of that: builds them, compares the twelve files of program and twin, and
+# con of the plainer form, on small tiles and on tiles of sides 1201 and 3601, made-up terrain and real terrain enlarged by mirrored copies, then times all
+# three on the large ones. It exits with 1 where files differ; times never make it fail.
+#
+# Where perf is installed, it also tells the seconds that program and twin build, without reading, testing and writing: from samples in the functions
+# that build (medians of five interleaved runs).
 # Usage: bench/make.sh DRAIN
 set -euo pipefail
 drain=$(realpath "$1")
@@ -31,10 +34,34 @@ compare() {
         [ "$line" = "$wanted" ] || { echo "${program##*/} prints '$line', not '$wanted'"; differ=1; }
     done
     for name in {con,dir,acc,bas,spl,rnk}.{hdr,bil}; do
-        for other in "${twin##*/}" "${twin##*/}_plain"; do
-            cmp "$scratch/${drain##*/}/$name" "$scratch/$other/$name" || differ=1
-        done
+        cmp "$scratch/${drain##*/}/$name" "$scratch/${twin##*/}/$name" || differ=1
     done
+    cmp "$scratch/${drain##*/}/con.bil" "$scratch/${twin##*/}_plain/con.bil" || differ=1
+}
+
+# Tells the seconds in which a program builds, of one run.
+# Usage: built PROGRAM SIDE TILE
+samples_a_second=5000
+built() {
+    perf record -q -F "$samples_a_second" -o "$scratch/samples" "$1" make --side "$2" --out "$scratch/timed" "$3" >"$scratch/line" 2>&1
+    perf script -i "$scratch/samples" -F ip,sym 2>"$scratch/line" | awk -v rate="$samples_a_second" \
+        '/products_from|Flood::|twin_make::products|twin_flood/ { count++ } END { printf "%.3f\n", count / rate }'
+}
+
+# Prints the medians of five runs of program and twin, in turn.
+# Usage: compare_building SIDE TILE
+compare_building() {
+    local run of_drain of_twin
+    command -v perf >"$scratch/line" || return 0
+    : >"$scratch/of_drain"
+    : >"$scratch/of_twin"
+    for run in 1 2 3 4 5; do
+        built "$drain" "$1" "$2" >>"$scratch/of_drain"
+        built "$twin" "$1" "$2" >>"$scratch/of_twin"
+    done
+    of_drain=$(sort -n "$scratch/of_drain" | sed -n 3p)
+    of_twin=$(sort -n "$scratch/of_twin" | sed -n 3p)
+    echo "building alone: drain $of_drain s, twin_make $of_twin s, ratio $(awk "BEGIN { printf \"%.2f\", $of_drain / $of_twin }")"
 }
 
 for side in {2..40} 121; do
@@ -51,6 +78,7 @@ for side in 1201 3601; do
         echo "$([ "$input" = "$tile" ] && echo made-up || echo real) terrain of side $side"
         mkdir -p "$scratch/timed"
         "$out/measure" 5 $((side * side)) /dev/null "$drain" "$twin" "${twin}_plain" -- make --side "$side" --out "$scratch/timed" "$input"
+        compare_building "$side" "$input"
     done
 done
 exit "$differ"

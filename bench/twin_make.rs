@@ -1,20 +1,20 @@
 //! The twin of `drain make`, as one writes it in plain Rust: reads one tile, makes its six products and writes them with their
 //! headers. It tests nothing. Of equal choices it makes those of the program, so both write the same bytes.
 //!
-//! Built with `--cfg plain` it is the flood as one writes it first: three fields to a place in the heap, and every cell through the heap. It
-//! makes the same choices.
+//! Built with `--cfg plain` it floods as one writes it first: every cell through a heap, with three fields to a place. Then con is the same, and
+//! the others are as right, with other ways over flats.
 //!
 //! Numbers are kept as wide as their pixels. A frame of voids stands around the tile, so every cell has eight neighbours.
 //!
 //! Usage: make --side N --out FOLDER TILE
 
 mod headers;
-#[cfg_attr(plain, path = "queue_plain.rs")]
-#[cfg_attr(not(plain), path = "queue_packed.rs")]
-mod queue;
+#[cfg_attr(plain, path = "flood_by_heap.rs")]
+#[cfg_attr(not(plain), path = "flood_by_traces.rs")]
+mod twin_flood;
 
 use headers::{ACC, BAS, CON, Corner, DIR, Pixels, RNK, SPL};
-use queue::Queue;
+use twin_flood::spread;
 use std::fs::{File, read, write};
 use std::io::{self, BufWriter, Write};
 use std::path::{Path, PathBuf};
@@ -60,78 +60,39 @@ impl Terrain {
     }
 }
 
-/// What the flood finds, and the data cells in the order in which it leaves them.
+/// What the flood finds.
 struct Flood {
     con: Vec<i16>,
     spl: Vec<u8>,
     rnk: Vec<u32>,
-    order: Vec<u32>,
 }
 
 /// Priority-Flood (Barnes, Lehman and Mulla 2014) from the open cells.
-///
-/// A cell found at the level that is being flooded comes after all that wait at this level, so it needn't pass through the heap (but does in
-/// the plain form).
 fn flood(terrain: &Terrain) -> Flood {
-    let Terrain { side, ref z } = *terrain;
+    let z = &terrain.z;
     let steps = terrain.steps();
-    let mut queue = Queue::default();
     let mut found = Flood {
         con: z.clone(),
         spl: vec![NO_CODE; z.len()],
         rnk: vec![u32::MAX; z.len()],
-        order: Vec::with_capacity(side * side),
     };
+    let mut open = Vec::new();
     for cell in terrain.data_cells() {
         found.spl[cell] = UNREACHED;
         if steps.iter().any(|step| z[cell.wrapping_add(*step)] == VOID) {
             found.spl[cell] = 0;
             found.rnk[cell] = 0;
-            queue.push(z[cell], cell);
+            open.push(cell as u32);
         }
     }
-    let mut left = 0;
-    while let Some(level) = queue.pop_level(&mut found.order) {
-        while let Some(&cell) = found.order.get(left) {
-            left += 1;
-            found.reach_around(cell as usize, level, terrain, &steps, &mut queue);
-        }
-    }
+    spread(&mut found, open, &steps);
     found
 }
 
-impl Flood {
-    /// Reaches the neighbours of a cell that weren't reached.
-    #[inline(always)]
-    fn reach_around(
-        &mut self,
-        cell: usize,
-        level: i16,
-        terrain: &Terrain,
-        steps: &[usize; 8],
-        queue: &mut Queue,
-    ) {
-        let rank = self.rnk[cell] + 1;
-        for (direction, step) in steps.iter().enumerate() {
-            let beside = cell.wrapping_add(*step);
-            if self.spl[beside] != UNREACHED {
-                continue;
-            }
-            self.spl[beside] = 1 << ((direction + 4) % 8);
-            self.rnk[beside] = rank;
-            let height = terrain.z[beside];
-            if height > level {
-                queue.push(height, beside);
-            } else {
-                self.con[beside] = level;
-                if cfg!(plain) {
-                    queue.push(level, beside);
-                } else {
-                    self.order.push(beside as u32);
-                }
-            }
-        }
-    }
+/// The code of the way back from a neighbour in this direction.
+#[inline(always)]
+fn back(direction: usize) -> u8 {
+    1 << ((direction + 4) % 8)
 }
 
 /// The first of the steepest ways down; on flats and at voids what `spl` says.
@@ -194,33 +155,52 @@ fn next(steps: &[usize; 8], dir: &[u8], cell: usize) -> Option<usize> {
     (code != 0).then(|| cell.wrapping_add(steps[code.trailing_zeros() as usize & 7]))
 }
 
-/// How many cells drain through each cell: those that the flood left last are added first.
-fn accumulation(terrain: &Terrain, dir: &[u8], order: &[u32]) -> Vec<u32> {
+/// How many cells drain through each cell: a cell hands its count on once all that flow into it have.
+fn accumulation(terrain: &Terrain, dir: &[u8]) -> Vec<u32> {
+    const HANDED_ON: u8 = u8::MAX;
     let steps = terrain.steps();
-    let mut acc: Vec<u32> = terrain
-        .z
-        .iter()
-        .map(|&height| u32::from(height != VOID))
-        .collect();
-    for cell in order.iter().rev().map(|&cell| cell as usize) {
+    let mut inflows = vec![0u8; dir.len()];
+    for cell in terrain.data_cells() {
         if let Some(next) = next(&steps, dir, cell) {
+            inflows[next] += 1;
+        }
+    }
+    let counted = |&height| u32::from(height != VOID);
+    let mut acc: Vec<u32> = terrain.z.iter().map(counted).collect();
+    for from in terrain.data_cells() {
+        let mut cell = from;
+        while inflows[cell] == 0 {
+            inflows[cell] = HANDED_ON;
+            let Some(next) = next(&steps, dir, cell) else {
+                break;
+            };
             acc[next] += acc[cell];
+            inflows[next] -= 1;
+            cell = next;
         }
     }
     acc
 }
 
 /// The number of each cell's outlet, of which the first in row order has 1.
-fn labels(terrain: &Terrain, dir: &[u8], order: &[u32]) -> Vec<u32> {
+fn labels(terrain: &Terrain, dir: &[u8]) -> Vec<u32> {
     let steps = terrain.steps();
     let mut bas = vec![0; dir.len()];
     let outlets = terrain.data_cells().filter(|&cell| dir[cell] == 0);
     for (label, cell) in (1..).zip(outlets) {
         bas[cell] = label;
     }
-    for cell in order.iter().map(|&cell| cell as usize) {
-        if let Some(next) = next(&steps, dir, cell) {
-            bas[cell] = bas[next];
+    for from in terrain.data_cells() {
+        let way = |cell: &usize| next(&steps, dir, *cell);
+        let ahead = std::iter::successors(Some(from), way).find(|&cell| bas[cell] != 0);
+        let label = ahead.map_or(0, |cell| bas[cell]);
+        let mut cell = from;
+        while bas[cell] == 0 {
+            bas[cell] = label;
+            match next(&steps, dir, cell) {
+                Some(next) => cell = next,
+                None => break,
+            }
         }
     }
     bas
@@ -258,27 +238,40 @@ impl Output {
     }
 }
 
-/// Makes the products of this terrain and writes each as soon as it is no longer needed.
-fn make(terrain: Terrain, output: &Output) -> io::Result<()> {
-    let Flood {
+/// The products of a terrain, with its frame.
+struct Products {
+    con: Vec<i16>,
+    dir: Vec<u8>,
+    acc: Vec<u32>,
+    bas: Vec<u32>,
+    spl: Vec<u8>,
+    rnk: Vec<u32>,
+}
+
+/// Makes them. It isn't put into its caller, so that a profile tells making from reading and writing.
+#[inline(never)]
+fn products(terrain: &Terrain) -> Products {
+    let Flood { con, spl, rnk } = flood(terrain);
+    let dir = directions(terrain.side, &con, &spl);
+    Products {
+        acc: accumulation(terrain, &dir),
+        bas: labels(terrain, &dir),
         con,
+        dir,
         spl,
         rnk,
-        order,
-    } = flood(&terrain);
-    output.write(&RNK, &rnk, u32::to_le_bytes)?;
-    drop(rnk);
-    let dir = directions(terrain.side, &con, &spl);
-    output.write(&CON, &con, i16::to_le_bytes)?;
-    output.write(&SPL, &spl, u8::to_le_bytes)?;
-    drop((con, spl));
-    output.write(
-        &ACC,
-        &accumulation(&terrain, &dir, &order),
-        u32::to_le_bytes,
-    )?;
-    output.write(&BAS, &labels(&terrain, &dir, &order), u32::to_le_bytes)?;
-    output.write(&DIR, &dir, u8::to_le_bytes)
+    }
+}
+
+/// Makes the products of this terrain and writes them.
+fn make(terrain: &Terrain, output: &Output) -> io::Result<()> {
+    let made = products(terrain);
+    output.write(&CON, &made.con, i16::to_le_bytes)?;
+    output.write(&DIR, &made.dir, u8::to_le_bytes)?;
+    output.write(&ACC, &made.acc, u32::to_le_bytes)?;
+    output.write(&BAS, &made.bas, u32::to_le_bytes)?;
+    output.write(&SPL, &made.spl, u8::to_le_bytes)?;
+    output.write(&RNK, &made.rnk, u32::to_le_bytes)
 }
 
 /// The north-west corner of the tile of this name, which tells the south-west one.
@@ -322,7 +315,7 @@ fn main() -> ExitCode {
         if bytes.len() != 2 * side * side {
             return Err(io::Error::other("the tile has another length"));
         }
-        make(Terrain::of_bytes(side, &bytes), &output)
+        make(&Terrain::of_bytes(side, &bytes), &output)
     });
     if let Err(error) = made {
         eprintln!("{error}");

@@ -2,34 +2,65 @@
 
 ghost use Rattle.std.specs.Prelude.{◌≡◌, IfOk};
 
-use crate::blanks::blank_count;
+use crate::blanks::{NO_CODE, blank_count};
 use crate::layer::Layer;
-use crate::visits::Visits;
-use drain_grid::{Code, OutOfMemory, Product};
+use crate::place::{Place, Steps};
+use drain_grid::{OutOfMemory, Product};
 use std::alloc::Global;
 
-/// The counts, 0 at voids. A cell's direction names one that was visited before it, so from the last visit back each count is whole
-/// before it is handed on.
-pub fn accumulation(
-    alloc: Global,
-    dir: &Layer<Option<Code>>,
-    visits: &Visits,
-) -> Result<Layer<u32>, OutOfMemory>
-    requires { visits.now.shape ≡ dir.now.shape }
+/// Stands for the inflows of a cell that has handed its count on.
+const HANDED_ON: u8 = u8::MAX;
+
+/// The counts, 0 at voids. A cell hands its count on as soon as all that flow into it have.
+pub fn accumulation(alloc: Global, dir: &Layer<u8>) -> Result<Layer<u32>, OutOfMemory>
     ensures { IfOk result (λ acc. acc.shape ≡ dir.now.shape) }
 {
     let shape = dir.shape();
+    let steps = Steps::new(shape.cols());
+    let mut inflows = inflows(alloc, dir, &steps)?;
     let mut acc = Layer::new(alloc, shape, blank_count(Product::Acc))?;
-    for place in (0..visits.len()).rev() {
-        let cell = visits.cell(place);
-        let count = acc.at(cell);
-        let count = count.saturating_add(1);
-        acc.put(cell, count);
-        if let Some(Code::To(direction)) = dir.at(cell)
-            && let Some(next) = shape.step(cell, direction)
-        {
-            acc.put(next, acc.at(next).saturating_add(count));
-        }
+    for index in 0..shape.cells() {
+        hand_on(dir, &steps, &mut inflows, &mut acc, Place(index as u32));
     }
     Ok(acc)
+}
+
+/// How many cells lead to each cell.
+fn inflows(alloc: Global, dir: &Layer<u8>, steps: &Steps) -> Result<Layer<u8>, OutOfMemory> {
+    let mut inflows = Layer::new(alloc, dir.shape(), 0u8)?;
+    for index in 0..dir.shape().cells() {
+        if let Some(next) = steps.next(dir, Place(index as u32))
+            && let Some(count) = inflows.get(next)
+        {
+            inflows.put(next, count.saturating_add(1));
+        }
+    }
+    Ok(inflows)
+}
+
+/// Hands counts on from a place, as far as no more are waited for.
+fn hand_on(
+    dir: &Layer<u8>,
+    steps: &Steps,
+    inflows: &mut Layer<u8>,
+    acc: &mut Layer<u32>,
+    from: Place,
+)
+    ensures { acc.new.shape ≡ acc.old.shape }
+{
+    let mut place = from;
+    for _ in 0..dir.shape().cells() {
+        if dir.get(place) == Some(NO_CODE) || inflows.get(place) != Some(0) {
+            return;
+        }
+        inflows.put(place, HANDED_ON);
+        let count = acc.get(place).unwrap_or(0).saturating_add(1);
+        acc.put(place, count);
+        let Some(next) = steps.next(dir, place) else {
+            return;
+        };
+        acc.put(next, acc.get(next).unwrap_or(0).saturating_add(count));
+        inflows.put(next, inflows.get(next).unwrap_or(0).saturating_sub(1));
+        place = next;
+    }
 }

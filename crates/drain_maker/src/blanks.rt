@@ -2,6 +2,12 @@
 
 use drain_grid::{Product, VOID};
 
+/// The code of an outlet.
+pub const OUTLET: u8 = 0;
+
+/// Stands for the code of a cell without data.
+pub const NO_CODE: u8 = 255;
+
 /// The height of a cell without data.
 pub fn blank_height() -> i16 {
     i16::try_from(Product::Con.default_no_data()).unwrap_or(VOID)

@@ -1,77 +1,97 @@
 //! The direction of each data cell: down the steepest way where a neighbour is lower, else over the spill parent.
 
 ghost use Rattle.std.specs.Prelude.{◌≡◌, IfOk};
+ghost use Rattle.drain_grid.specs.Extent.{IsCellOf};
 
+use crate::blanks::{NO_CODE, blank_height};
 use crate::layer::Layer;
-use drain_grid::{Cell, CellSource, CellValues, Code, Elevation, OutOfMemory, Patch, Shape};
-use drain_slope::steepest;
+use crate::place::{Place, Step, Steps};
+use drain_grid::{Cell, Direction, OutOfMemory};
 use std::alloc::Global;
 
-/// The directions, none at voids. On a flat each cell leads to its spill parent, which stands nearer to an edge of the flat.
+/// The codes of directions, none at voids. On a flat each cell leads to its spill parent, over which the flood came to it.
 pub fn directions(
     alloc: Global,
-    elevation: &Elevation,
     con: &Layer<i16>,
-    spl: &Layer<Option<Code>>,
-) -> Result<Layer<Option<Code>>, OutOfMemory>
-    requires con_shape { con.now.shape ≡ elevation.now.extent }
-    requires spl_shape { spl.now.shape ≡ elevation.now.extent }
-    ensures { IfOk result (λ dir. dir.shape ≡ elevation.now.extent) }
+    spl: &Layer<u8>,
+) -> Result<Layer<u8>, OutOfMemory>
+    ensures { IfOk result (λ dir. dir.shape ≡ con.now.shape) }
 {
-    let shape = elevation.shape();
-    let surface = Surface { elevation, con };
-    let mut dir = Layer::new(alloc, shape, None)?;
-    for index in 0..shape.cells() {
-        let cell = shape.cell(index);
-        if elevation.z(cell).is_some() {
-            let code = match steepest(&Patch::at(&surface, cell)) {
-                Some(direction) => Some(Code::To(direction)),
-                None => spl.at(cell),
-            };
-            dir.put(cell, code);
+    let shape = con.shape();
+    let steps = Steps::new(shape.cols());
+    let mut dir = Layer::new(alloc, shape, NO_CODE)?;
+    for row in 0..shape.rows() {
+        for col in 0..shape.cols() {
+            let cell = Cell { row, col };
+            let place = Place::of(shape, cell);
+            let parent = spl.get(place).unwrap_or(NO_CODE);
+            if parent != NO_CODE {
+                let way = if col == 0 || col + 1 == shape.cols() {
+                    steepest_at_side(con, &steps, cell)
+                } else {
+                    steepest(con, &steps, place)
+                };
+                dir.put(place, way.unwrap_or(parent));
+            }
         }
     }
     Ok(dir)
 }
 
-/// The ground and the surface over it: all that slopes look at.
-#[derive(Clone, Copy)]
-struct Surface<'a> {
-    elevation: &'a Elevation,
-    con: &'a Layer<i16>,
-    ghost same_shape: { con.now.shape ≡ elevation.now.extent },
+/// The code of the first of the steepest ways down, none where no neighbour is lower, of a cell off the first and the last column.
+fn steepest(con: &Layer<i16>, steps: &Steps, place: Place) -> Option<u8> {
+    let mut way = Way::from(con, place);
+    for step in steps.all {
+        way.look(con, place.after(step), step);
+    }
+    way.code
 }
 
-impl<'a> CellSource for Surface<'a> {
-    ghost use Rattle.std.specs.Prelude.{pos, slice_get, unwrap_or};
-    ghost use Rattle.drain_grid.specs.Extent.{index_of};
-    ghost use Rattle.drain_grid.specs.Whole.{elevation_at};
+/// The same of any cell.
+fn steepest_at_side(con: &Layer<i16>, steps: &Steps, cell: Cell) -> Option<u8>
+    requires { IsCellOf con.now.shape cell }
+{
+    let shape = con.shape();
+    let mut way = Way::from(con, Place::of(shape, cell));
+    for (direction, step) in Direction::ALL.iter().zip(steps.all) {
+        if let Some(next) = shape.step(cell, *direction) {
+            way.look(con, Place::of(shape, next), step);
+        }
+    }
+    way.code
+}
 
-    ghost size = { λ s. s.elevation.now.extent };
+/// The steepest way down from a cell that was found so far.
+#[derive(Clone, Copy)]
+struct Way {
+    level: i16,
+    /// Twice the square of its slope: that of a drop d is d along a row or a column, and d / √2 across a corner. 0 where no way was found.
+    key: u64,
+    code: Option<u8>,
+}
 
-    ghost shown = { λ s c. record {
-      z = elevation_at s.elevation.now c;
-      con = unwrap_or (slice_get s.con.now.values.items (index_of s.con.now.shape c)) (pos 0);
-      dir = pos 0;
-      acc = pos 0;
-      bas = pos 0;
-      spl = pos 0;
-      rnk = pos 0;
-    } };
-
-    fn shape(&self) -> Shape {
-        self.elevation.shape()
+impl Way {
+    /// None yet, from this place.
+    fn from(con: &Layer<i16>, place: Place) -> Way {
+        Way {
+            level: con.get(place).unwrap_or(blank_height()),
+            key: 0,
+            code: None,
+        }
     }
 
-    fn values(&self, cell: Cell) -> CellValues {
-        CellValues {
-            z: self.elevation.z(cell),
-            con: i64::from(self.con.at(cell)),
-            dir: 0,
-            acc: 0,
-            bas: 0,
-            spl: 0,
-            rnk: 0,
+    /// Looks at a neighbour: the way to it is taken where it is steeper.
+    fn look(&mut self, con: &Layer<i16>, next: Place, step: Step) {
+        let there = con.get(next).unwrap_or(blank_height());
+        if there == blank_height() || there >= self.level {
+            return;
+        }
+        let drop = u64::from(self.level.abs_diff(there));
+        let square = drop * drop;
+        let key = if step.is_straight { 2 * square } else { square };
+        if key > self.key {
+            self.key = key;
+            self.code = Some(step.code);
         }
     }
 }

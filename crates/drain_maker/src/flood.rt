@@ -1,40 +1,44 @@
-//! The flood: from the open cells inwards, always at the lowest cell that was reached.
+//! The flood: from the open cells inwards, by traces.
 //!
-//! A cell is reached over the neighbour from which its water has the lowest way out, so the level at which it is reached is its
-//! conditioned elevation, and that neighbour is its spill parent. The cells of one level come in the order in which they were reached, so
-//! flats are crossed by the shortest way. Time goes with the cells.
+//! A trace goes over all that can be reached without going down, each cell at its own ground: first from all open cells at once. So whole slopes are
+//! reached without a queue. A cell beside which a lower one was left waits in the queue at its level; those that wait are taken lowest first, and what
+//! was left beside them is raised to their level, which is the lowest way out. So the level at which a cell is reached is its conditioned elevation,
+//! and the neighbour over which it was reached is its spill parent. Time goes with the cells.
 //!
-//! Source: Priority-Flood (Barnes, Lehman and Mulla 2014).
+//! Source: Priority-Flood (Barnes, Lehman and Mulla 2014), with traces as in Zhou, Sun and Fu (2016).
 
-ghost use Rattle.std.specs.Prelude.{◌≡◌, ◌*◌, IfOk};
+ghost use Rattle.std.specs.Prelude.{◌≡◌, IfOk};
 ghost use Rattle.drain_grid.specs.Extent.{IsCellOf};
 
-use crate::blanks::{blank_count, blank_height};
+use crate::blanks::{NO_CODE, OUTLET, blank_count, blank_height};
 use crate::layer::Layer;
 use crate::level_queue::LevelQueue;
-use crate::visits::{Visits, index_of};
-use drain_grid::{Cell, Code, Direction, Elevation, OutOfMemory, Product, Shape};
+use crate::place::{Place, Step, Steps};
+use drain_grid::{Cell, Elevation, OutOfMemory, Product, Shape};
 use std::alloc::Global;
 
-/// What a flood leaves. Cells that it didn't reach have the no-data numbers of con and rnk, and no spill parent.
+/// Stands for the spill parent of a data cell that wasn't reached.
+const UNREACHED: u8 = 254;
+
+/// What a flood leaves. Voids have the no-data numbers.
 #[derive(Drop)]
 pub struct Flooded {
     pub con: Layer<i16>,
-    pub spl: Layer<Option<Code>>,
+    /// The codes of spill parents.
+    pub spl: Layer<u8>,
     pub rnk: Layer<u32>,
-    /// The cells that it came to, from the lowest to the highest.
-    pub visits: Visits,
     ghost spl_shape: { spl.shape ≡ con.shape },
     ghost rnk_shape: { rnk.shape ≡ con.shape },
-    ghost visits_shape: { visits.shape ≡ con.shape },
 }
 
 /// A flood under way.
 #[derive(Drop)]
 struct Flood {
     done: Flooded,
+    steps: Steps,
+    /// The cells of the trace under way.
+    trail: Vec<Place>,
     queue: LevelQueue,
-    ghost queue_cells: { queue.cells ≡ done.con.shape.rows * done.con.shape.cols },
 }
 
 /// Floods a grid.
@@ -42,98 +46,166 @@ pub fn flood_grid(alloc: Global, elevation: &Elevation) -> Result<Flooded, OutOf
     ensures { IfOk result (λ flooded. flooded.con.shape ≡ elevation.now.extent) }
 {
     let mut flood = Flood::new(alloc, elevation.shape())?;
-    flood.enter(elevation);
-    flood.spread(elevation)?;
+    flood.lay_ground(elevation);
+    flood.open(elevation.shape())?;
+    flood.trace(None)?;
+    flood.spread()?;
     Ok(flood.done)
 }
 
 impl Flood {
-    /// A grid of which no cell was reached.
+    /// A grid of voids.
     fn new(alloc: Global, shape: Shape) -> Result<Flood, OutOfMemory>
         ensures { IfOk result (λ flood. flood.done.con.shape ≡ shape) }
     {
         let con = Layer::new(alloc, shape, blank_height())?;
-        let spl = Layer::new(alloc, shape, None)?;
+        let spl = Layer::new(alloc, shape, NO_CODE)?;
         let rnk = Layer::new(alloc, shape, blank_count(Product::Rnk))?;
-        let visits = Visits::new(alloc, shape)?;
         let queue = LevelQueue::new(alloc, shape.cells())?;
         Ok(Flood {
-            done: Flooded {
-                con,
-                spl,
-                rnk,
-                visits,
-            },
+            done: Flooded { con, spl, rnk },
+            steps: Steps::new(shape.cols()),
+            trail: Vec::new(alloc),
             queue,
         })
     }
 
-    /// Reaches the open cells, each at its elevation, and puts them in the queue.
-    fn enter(&mut self, elevation: &Elevation)
-        requires { self.old.done.con.shape ≡ elevation.now.extent }
-        ensures { self.new.done.con.shape ≡ elevation.now.extent }
+    /// Puts each data cell at its ground, unreached.
+    fn lay_ground(&mut self, elevation: &Elevation)
+        ensures { self.new.done.con.shape ≡ self.old.done.con.shape }
     {
         let shape = elevation.shape();
-        for index in 0..shape.cells() {
-            let cell = shape.cell(index);
-            if elevation.is_open(cell)
-                && let Some(ground) = elevation.z(cell)
-            {
-                self.reach(cell, ground, Code::Outlet, 0);
+        for row in 0..shape.rows() {
+            for col in 0..shape.cols() {
+                let cell = Cell { row, col };
+                if let Some(ground) = elevation.z(cell) {
+                    let place = Place::of(shape, cell);
+                    self.done.con.put(place, ground);
+                    self.done.spl.put(place, UNREACHED);
+                }
             }
         }
     }
 
-    /// Comes to the cells that were reached, lowest first, and reaches their neighbours. There is a turn for each cell of the grid.
-    fn spread(&mut self, elevation: &Elevation) -> Result<(), OutOfMemory>
-        requires { self.old.done.con.shape ≡ elevation.now.extent }
-        ensures { self.new.done.con.shape ≡ elevation.now.extent }
+    /// Reaches the open cells, those on the edge of the grid or beside a void, and begins a trace with them.
+    fn open(&mut self, shape: Shape) -> Result<(), OutOfMemory>
+        ensures { self.new.done.con.shape ≡ self.old.done.con.shape }
     {
-        for _ in 0..elevation.shape().cells() {
-            let Some((level, index)) = self.queue.pop() else {
-                return Ok(());
-            };
-            let cell = elevation.shape().cell(index as usize);
-            self.done.visits.push(cell)?;
-            for direction in Direction::ALL.iter() {
-                self.go_on(elevation, cell, level, *direction);
+        for row in 0..shape.rows() {
+            for col in 0..shape.cols() {
+                let cell = Cell { row, col };
+                let place = Place::of(shape, cell);
+                let is_data = self.unreached(place).is_some();
+                if is_data && (is_on_edge(shape, cell) || self.is_beside_void(place)) {
+                    self.reach(place, OUTLET, 0)?;
+                }
             }
         }
         Ok(())
     }
 
-    /// Reaches the neighbour in this direction, where it has data and wasn't reached yet.
-    fn go_on(&mut self, elevation: &Elevation, cell: Cell, level: i16, direction: Direction)
-        requires same_shape { self.old.done.con.shape ≡ elevation.now.extent }
-        requires inside { IsCellOf elevation.now.extent cell }
-        ensures { self.new.done.con.shape ≡ elevation.now.extent }
-    {
-        let Some(next) = elevation.shape().step(cell, direction) else {
-            return;
-        };
-        if self.done.spl.at(next).is_some() {
-            return;
-        }
-        let Some(ground) = elevation.z(next) else {
-            return;
-        };
-        let parent = Code::To(direction.opposite());
-        let rank = self.done.rnk.at(cell).saturating_add(1);
-        self.reach(next, ground.max(level), parent, rank);
-    }
-
-    /// Reaches a cell at a level, over a neighbour or as an open cell, and puts it in the queue.
-    fn reach(&mut self, cell: Cell, level: i16, parent: Code, rank: u32)
-        requires { IsCellOf self.old.done.con.shape cell }
+    /// Comes to the cells that wait, lowest first, and traces from each over what was left beside it. Each waits at most once.
+    fn spread(&mut self) -> Result<(), OutOfMemory>
         ensures { self.new.done.con.shape ≡ self.old.done.con.shape }
     {
-        self.done.con.put(cell, level);
-        self.done.spl.put(cell, Some(parent));
-        self.done.rnk.put(cell, rank);
-        let index = index_of(self.done.con.shape(), cell);
-        // A cell is reached once. That no proof has kept, so it is asked.
-        if !self.queue.holds(index) {
-            self.queue.push(level, index);
+        for _ in 0..self.done.con.shape().cells() {
+            let Some((level, item)) = self.queue.pop() else {
+                return Ok(());
+            };
+            self.trail.clear();
+            self.push(Place(item))?;
+            self.trace(Some(level))?;
+        }
+        Ok(())
+    }
+
+    /// Goes on from the cells of the trail: reaches all that can be reached without going down, and, where the flood stands at a cell's level, what is
+    /// lower beside it.
+    fn trace(&mut self, flooded: Option<i16>) -> Result<(), OutOfMemory>
+        ensures { self.new.done.con.shape ≡ self.old.done.con.shape }
+    {
+        for turn in 0..self.done.con.shape().cells() {
+            let Some(place) = self.trail.get(turn).copied() else {
+                return Ok(());
+            };
+            let Some(level) = self.done.con.get(place) else {
+                return Ok(());
+            };
+            if self.reach_around(place, level, flooded == Some(level))? {
+                self.wait(place, level);
+            }
+        }
+        Ok(())
+    }
+
+    /// Reaches the cells around one, but for lower ones where it doesn't raise them. Says whether such a one was left.
+    fn reach_around(&mut self, place: Place, level: i16, raises: bool) -> Result<bool, OutOfMemory>
+        ensures { self.new.done.con.shape ≡ self.old.done.con.shape }
+    {
+        let rank = self.done.rnk.get(place).unwrap_or(0).saturating_add(1);
+        let mut leaves = false;
+        for step in self.steps.all {
+            let next = place.after(step);
+            if let Some(ground) = self.unreached(next) {
+                if ground < level && !raises {
+                    leaves = true;
+                } else {
+                    self.done.con.put(next, ground.max(level));
+                    self.reach(next, step.back, rank)?;
+                }
+            }
+        }
+        Ok(leaves)
+    }
+
+    /// The ground of a data cell that wasn't reached. A step over a side of the grid is none: the cells at its sides are open.
+    fn unreached(&self, place: Place) -> Option<i16> {
+        if self.done.spl.get(place) == Some(UNREACHED) {
+            self.done.con.get(place)
+        } else {
+            None
         }
     }
+
+    /// Whether one of the eight cells around has no data.
+    fn is_beside_void(&self, place: Place) -> bool {
+        self.steps.all.iter().any(|step| self.done.spl.get(place.after(*step)) == Some(NO_CODE))
+    }
+
+    /// Reaches a cell over a neighbour, or as an open cell, and puts it at the end of the trail.
+    fn reach(&mut self, place: Place, parent: u8, rank: u32) -> Result<(), OutOfMemory>
+        ensures { self.new.done.con.shape ≡ self.old.done.con.shape }
+    {
+        self.done.spl.put(place, parent);
+        self.done.rnk.put(place, rank);
+        self.push(place)
+    }
+
+    /// Puts a cell at the end of the trail.
+    fn push(&mut self, place: Place) -> Result<(), OutOfMemory>
+        ensures { self.new.done.con.shape ≡ self.old.done.con.shape }
+    {
+        match self.trail.push(place) {
+            Ok(()) => Ok(()),
+            Err(_) => Err(OutOfMemory),
+        }
+    }
+
+    /// Puts a cell in the queue. That it is one, and doesn't wait yet, no proof has kept, so it is asked.
+    fn wait(&mut self, place: Place, level: i16)
+        ensures { self.new.done.con.shape ≡ self.old.done.con.shape }
+    {
+        let item = place.0;
+        if (item as usize) < self.queue.cells() && !self.queue.holds(item) {
+            self.queue.push(level, item);
+        }
+    }
+}
+
+/// Whether a cell is in the first or last row or column.
+fn is_on_edge(shape: Shape, cell: Cell) -> bool
+    requires { IsCellOf shape cell }
+{
+    let is_last = cell.row + 1 == shape.rows() || cell.col + 1 == shape.cols();
+    cell.row == 0 || cell.col == 0 || is_last
 }

@@ -2,48 +2,72 @@
 
 ghost use Rattle.std.specs.Prelude.{◌≡◌, IfOk};
 
-use crate::blanks::blank_count;
+use crate::blanks::{OUTLET, blank_count};
 use crate::layer::Layer;
-use crate::visits::Visits;
-use drain_grid::{Code, OutOfMemory, Product};
+use crate::place::{Place, Steps};
+use drain_grid::{OutOfMemory, Product};
 use std::alloc::Global;
 
-/// The labels, 0 at voids. Outlets have 1, 2, 3 and so on in row order; a cell's direction names one that was visited before it, so in the order
-/// of visits each cell finds the label that it takes.
-pub fn labels(
-    alloc: Global,
-    dir: &Layer<Option<Code>>,
-    visits: &Visits,
-) -> Result<Layer<u32>, OutOfMemory>
-    requires { visits.now.shape ≡ dir.now.shape }
+/// The labels, 0 at voids. Outlets have 1, 2, 3 and so on in row order, and each cell that of the outlet where its way ends.
+pub fn labels(alloc: Global, dir: &Layer<u8>) -> Result<Layer<u32>, OutOfMemory>
     ensures { IfOk result (λ bas. bas.shape ≡ dir.now.shape) }
 {
     let shape = dir.shape();
+    let steps = Steps::new(shape.cols());
     let mut bas = outlet_labels(alloc, dir)?;
-    for place in 0..visits.len() {
-        let cell = visits.cell(place);
-        if let Some(Code::To(direction)) = dir.at(cell)
-            && let Some(next) = shape.step(cell, direction)
-        {
-            bas.put(cell, bas.at(next));
-        }
+    for index in 0..shape.cells() {
+        let place = Place(index as u32);
+        let label = label_ahead(dir, &steps, &bas, place);
+        label_way(dir, &steps, &mut bas, place, label);
     }
     Ok(bas)
 }
 
 /// The labels of the outlets, 0 elsewhere.
-fn outlet_labels(alloc: Global, dir: &Layer<Option<Code>>) -> Result<Layer<u32>, OutOfMemory>
+fn outlet_labels(alloc: Global, dir: &Layer<u8>) -> Result<Layer<u32>, OutOfMemory>
     ensures { IfOk result (λ bas. bas.shape ≡ dir.now.shape) }
 {
-    let shape = dir.shape();
-    let mut bas = Layer::new(alloc, shape, blank_count(Product::Bas))?;
+    let mut bas = Layer::new(alloc, dir.shape(), blank_count(Product::Bas))?;
     let mut outlets: u32 = 0;
-    for index in 0..shape.cells() {
-        let cell = shape.cell(index);
-        if let Some(Code::Outlet) = dir.at(cell) {
+    for index in 0..dir.shape().cells() {
+        let outlet = Place(index as u32);
+        if dir.get(outlet) == Some(OUTLET) {
             outlets = outlets.saturating_add(1);
-            bas.put(cell, outlets);
+            bas.put(outlet, outlets);
         }
     }
     Ok(bas)
+}
+
+/// The first label on the way from a place, 0 where there is none.
+fn label_ahead(dir: &Layer<u8>, steps: &Steps, bas: &Layer<u32>, from: Place) -> u32 {
+    let mut place = from;
+    for _ in 0..dir.shape().cells() {
+        let label = bas.get(place).unwrap_or(0);
+        if label != 0 {
+            return label;
+        }
+        let Some(next) = steps.next(dir, place) else {
+            return 0;
+        };
+        place = next;
+    }
+    0
+}
+
+/// Gives a label to the cells on the way from a place, as far as they have none.
+fn label_way(dir: &Layer<u8>, steps: &Steps, bas: &mut Layer<u32>, from: Place, label: u32)
+    ensures { bas.new.shape ≡ bas.old.shape }
+{
+    let mut place = from;
+    for _ in 0..dir.shape().cells() {
+        if bas.get(place) != Some(0) {
+            return;
+        }
+        bas.put(place, label);
+        let Some(next) = steps.next(dir, place) else {
+            return;
+        };
+        place = next;
+    }
 }

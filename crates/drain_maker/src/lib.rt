@@ -13,9 +13,9 @@ pub mod laws;
 mod layer;
 pub mod level_queue;
 mod maker;
+mod place;
 pub mod product_files;
 mod rasters;
-mod visits;
 
 pub use header::product_header;
 pub use level_queue::LevelQueue;

@@ -60,7 +60,9 @@ pub fn make(
     }
 }
 
-/// Builds the products: a flood, then what follows from the order in which it came to the cells. They aren't tested yet.
+/// Builds the products: a flood, then directions, and what follows from these. They aren't tested yet. It isn't put into its caller, so that a profile
+/// tells what is built from what is tested.
+#[inline(never)]
 #[tactic(auto, using(crate::proofs::EachProduct::each_spelled))]
 fn products_from(alloc: Global, elevation: &Elevation) -> Result<ProductSet, OutOfMemory>
     ensures shape { IfOk result (λ products. products.con.extent ≡ elevation.now.extent) }
@@ -68,28 +70,16 @@ fn products_from(alloc: Global, elevation: &Elevation) -> Result<ProductSet, Out
     ensures written { IfOk result AreSpelled }
     ensures rasters { IfOk result AreRasters }
 {
-    let Flooded {
-        con,
-        spl,
-        rnk,
-        visits,
-    } = flood_grid(alloc, elevation)?;
-    let dir = directions(alloc, elevation, &con, &spl)?;
-    let acc = accumulation(alloc, &dir, &visits)?;
-    let bas = labels(alloc, &dir, &visits)?;
-    drop(visits);
-    let con = raster_of_heights(alloc, Product::Con, con)?;
-    let dir = raster_of_codes(alloc, Product::Dir, dir)?;
-    let acc = raster_of_counts(alloc, Product::Acc, acc)?;
-    let bas = raster_of_counts(alloc, Product::Bas, bas)?;
-    let spl = raster_of_codes(alloc, Product::Spl, spl)?;
-    let rnk = raster_of_counts(alloc, Product::Rnk, rnk)?;
+    let Flooded { con, spl, rnk } = flood_grid(alloc, elevation)?;
+    let dir = directions(alloc, &con, &spl)?;
+    let acc = accumulation(alloc, &dir)?;
+    let bas = labels(alloc, &dir)?;
     Ok(ProductSet {
-        con,
-        dir,
-        acc,
-        bas,
-        spl,
-        rnk,
+        con: raster_of_heights(Product::Con, con),
+        dir: raster_of_codes(Product::Dir, dir),
+        acc: raster_of_counts(Product::Acc, acc),
+        bas: raster_of_counts(Product::Bas, bas),
+        spl: raster_of_codes(Product::Spl, spl),
+        rnk: raster_of_counts(Product::Rnk, rnk),
     })
 }

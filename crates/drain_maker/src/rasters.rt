@@ -1,87 +1,78 @@
 //! Rasters from what was computed at each cell. Each type has its pixels: 16 bits signed for heights, 8 bits for codes, 32 for counts.
 
-ghost use Rattle.std.specs.Prelude.{◌≡◌, true, false, IfOk};
+ghost use Rattle.std.specs.Prelude.{◌≡◌, ◌*◌, true, false, All, vec_len};
 ghost use Rattle.drain_grid.specs.Product.{default_no_data};
 ghost use Rattle.drain_grid.specs.Rasters.{ArePixels};
 ghost use Rattle.drain_raster.specs.Bytes.{CanSpellIn, CanSpellAllIn};
 
 use crate::layer::Layer;
-use drain_grid::{Code, OutOfMemory, Product, Raster};
-use std::alloc::Global;
+use drain_grid::{Product, Raster, Shape};
 
 /// The raster of a product of heights.
-pub fn raster_of_heights(
-    alloc: Global,
-    product: Product,
-    heights: Layer<i16>,
-) -> Result<Raster, OutOfMemory>
-    ensures shape { IfOk result (λ raster. raster.extent ≡ heights.shape) }
-    ensures nodata { IfOk result (λ raster. raster.nodata ≡ default_no_data product) }
-    ensures pixels { IfOk result ArePixels }
-    ensures spelled { IfOk result (CanSpellAllIn true 16) }
+pub fn raster_of_heights(product: Product, heights: Layer<i16>) -> Raster
+    ensures shape { result.extent ≡ heights.shape }
+    ensures nodata { result.nodata ≡ default_no_data product }
+    ensures pixels { ArePixels result }
+    ensures spelled { CanSpellAllIn true 16 result }
 {
-    let numbers = heights
-        .values()
-        .iter()
-        .map(|height| i64::from(*height))
-        .collect(alloc);
-    match numbers {
-        Ok(numbers) => Ok(Raster::new(heights.shape(), product.default_no_data(), numbers)),
-        Err(_) => Err(OutOfMemory),
-    }
+    let shape = heights.shape();
+    let numbers = heights.into_values();
+    look_at_each(&numbers);
+    Raster::of_heights(shape, product.default_no_data(), numbers)
 }
 
-/// The raster of a product of codes. Where there is no code, it has the no-data number of codes.
-pub fn raster_of_codes(
-    alloc: Global,
-    product: Product,
-    codes: Layer<Option<Code>>,
-) -> Result<Raster, OutOfMemory>
-    ensures shape { IfOk result (λ raster. raster.extent ≡ codes.shape) }
-    ensures nodata { IfOk result (λ raster. raster.nodata ≡ default_no_data product) }
-    ensures pixels { IfOk result ArePixels }
-    ensures spelled { IfOk result (CanSpellAllIn false 8) }
+/// The raster of a product of codes.
+pub fn raster_of_codes(product: Product, codes: Layer<u8>) -> Raster
+    ensures shape { result.extent ≡ codes.shape }
+    ensures nodata { result.nodata ≡ default_no_data product }
+    ensures pixels { ArePixels result }
+    ensures spelled { CanSpellAllIn false 8 result }
 {
-    let numbers = codes
-        .values()
-        .iter()
-        .map(|code| number_of(*code))
-        .collect(alloc);
-    match numbers {
-        Ok(numbers) => Ok(Raster::new(codes.shape(), product.default_no_data(), numbers)),
-        Err(_) => Err(OutOfMemory),
-    }
+    bytes_raster(codes.shape(), product, codes.into_values())
 }
 
 /// The raster of a product of counts, labels or ranks.
-pub fn raster_of_counts(
-    alloc: Global,
-    product: Product,
-    counts: Layer<u32>,
-) -> Result<Raster, OutOfMemory>
-    ensures shape { IfOk result (λ raster. raster.extent ≡ counts.shape) }
-    ensures nodata { IfOk result (λ raster. raster.nodata ≡ default_no_data product) }
-    ensures pixels { IfOk result ArePixels }
-    ensures spelled { IfOk result (CanSpellAllIn false 32) }
+pub fn raster_of_counts(product: Product, counts: Layer<u32>) -> Raster
+    ensures shape { result.extent ≡ counts.shape }
+    ensures nodata { result.nodata ≡ default_no_data product }
+    ensures pixels { ArePixels result }
+    ensures spelled { CanSpellAllIn false 32 result }
 {
-    let numbers = counts
-        .values()
-        .iter()
-        .map(|count| i64::from(*count))
-        .collect(alloc);
-    match numbers {
-        Ok(numbers) => Ok(Raster::new(counts.shape(), product.default_no_data(), numbers)),
-        Err(_) => Err(OutOfMemory),
+    counts_raster(counts.shape(), product, counts.into_values())
+}
+
+/// Each height is a number of 16 bits. There is nothing to do, but to tell the proof, which knows it of a height at hand.
+fn look_at_each(heights: &[i16])
+    ensures { All (CanSpellIn true 16) heights.now }
+{
+    for place in 0..heights.len() {
+        look_at(heights[place]);
     }
 }
 
-/// The number that stands for a code, 255 where there is none.
-fn number_of(code: Option<Code>) -> i64
-    ensures { CanSpellIn false 8 result }
+/// The same of one height.
+fn look_at(_height: i16)
+    ensures { CanSpellIn true 16 _height }
+{}
+
+/// The raster of numbers of 8 bits.
+fn bytes_raster(shape: Shape, product: Product, numbers: Vec<u8>) -> Raster
+    requires { vec_len numbers ≡ shape.rows * shape.cols }
+    ensures shape { result.extent ≡ shape }
+    ensures nodata { result.nodata ≡ default_no_data product }
+    ensures pixels { ArePixels result }
+    ensures spelled { CanSpellAllIn false 8 result }
 {
-    match code {
-        Some(Code::To(direction)) => direction.code(),
-        Some(Code::Outlet) => 0,
-        None => Product::Dir.default_no_data(),
-    }
+    Raster::of_bytes(shape, product.default_no_data(), numbers)
+}
+
+/// The raster of numbers of 32 bits.
+fn counts_raster(shape: Shape, product: Product, numbers: Vec<u32>) -> Raster
+    requires { vec_len numbers ≡ shape.rows * shape.cols }
+    ensures shape { result.extent ≡ shape }
+    ensures nodata { result.nodata ≡ default_no_data product }
+    ensures pixels { ArePixels result }
+    ensures spelled { CanSpellAllIn false 32 result }
+{
+    Raster::of_counts(shape, product.default_no_data(), numbers)
 }

@@ -101,7 +101,7 @@ fn slope_to_the_east(rt: HostRuntime) -> Result<(), Fail> {
     Ok(())
 }
 
-/// A flat is crossed by the shortest way.
+/// A flat at the edge of the grid is crossed by the shortest way.
 #[test]
 fn ranks_on_a_flat(rt: HostRuntime) -> Result<(), Fail> {
     let given = made(rt.alloc(), 5, &[7; 25], Product::Rnk)?;
