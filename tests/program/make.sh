@@ -303,7 +303,7 @@ head -c $((2 * 1201 * 1201)) /dev/zero >"$work/N00E001.hgt"
 want 'failed OutOfMemory'
 (ulimit -v 20000 && exec "$drain" make --side 3601 --out "$made" "$ground") >"$scratch/out" 2>"$scratch/err"
 judge 'no memory for a tile to make products of' 3 "$scratch/want" $?
-(ulimit -v 60000 && exec "$drain" make --out "$made" "$work/N00E001.hgt") >"$scratch/out" 2>"$scratch/err"
+(ulimit -v 24000 && exec "$drain" make --out "$made" "$work/N00E001.hgt") >"$scratch/out" 2>"$scratch/err"
 judge 'no memory for the products of a tile' 3 "$scratch/want" $?
 want -
 ls -A "$made" >"$scratch/out" 2>"$scratch/err"
