@@ -6,7 +6,7 @@ mod seams;
 
 use crate::agree::same;
 use drain_grid::{Cell, Elevation, VOID};
-use drain_hgt::TileName;
+use drain_hgt::{NameFault, TileName};
 use drain_mosaic::{Layout, SeamFault, join};
 use std::alloc::Global;
 use std::test::Fail;
@@ -48,18 +48,25 @@ fn tiles_side_by_side(rt: HostRuntime) -> Result<(), Fail> {
     Ok(())
 }
 
-/// Four tiles of side 2 in a square, the last but one with this sample in its north-east corner.
-fn square(alloc: Global, sample: i16) -> Result<Result<Elevation, SeamFault>, Fail> {
-    let names = [
+/// The names of four tiles in a square: north-west, north-east, south-west, south-east.
+fn names_of_square() -> Result<[TileName; 4], NameFault> {
+    Ok([
         TileName::parse(b"N01E000.hgt")?,
         TileName::parse(b"N01E001.hgt")?,
         TileName::parse(b"N00E000.hgt")?,
         TileName::parse(b"N00E001.hgt")?,
-    ];
-    let layout = Layout::new(alloc, 2, &names)?;
-    if layout.north() != 2 || layout.len() != 4 {
-        return Err("another layout".into());
-    }
+    ])
+}
+
+/// The north of a square, and how many tiles it has.
+fn north_of_square(alloc: Global) -> Result<(i16, usize), Fail> {
+    let layout = Layout::new(alloc, 2, &names_of_square()?)?;
+    Ok((layout.north(), layout.len()))
+}
+
+/// Four tiles of side 2 in a square, the last but one with this sample in its north-east corner.
+fn square(alloc: Global, sample: i16) -> Result<Result<Elevation, SeamFault>, Fail> {
+    let layout = Layout::new(alloc, 2, &names_of_square()?)?;
     let tiles = [
         vec![in alloc; 1, 2, 4, VOID]?,
         vec![in alloc; 2, 3, VOID, 6]?,
@@ -69,15 +76,19 @@ fn square(alloc: Global, sample: i16) -> Result<Result<Elevation, SeamFault>, Fa
     Ok(join(alloc, &layout, &tiles))
 }
 
+/// The samples of the square whose tiles agree.
+fn samples_of_square(alloc: Global) -> Result<Vec<i16>, Fail> {
+    samples(alloc, &square(alloc, VOID)??)
+}
+
 #[test]
 fn tiles_in_a_square(rt: HostRuntime) -> Result<(), Fail> {
-    let elevation = square(rt.alloc(), VOID)??;
-    let given = samples(rt.alloc(), &elevation)?;
+    same(&rt, "its layout", north_of_square(rt.alloc())?, (2, 4));
+    let given = samples_of_square(rt.alloc())?;
     let wanted = [1, 2, 3, 4, 5, 6, 7, 8, 9];
     same(&rt, "samples", given.as_slice(), wanted.as_slice());
-    let answer = square(rt.alloc(), 0)?;
     let wanted = SeamFault::SeamMismatch(Cell { row: 1, col: 1 });
-    same(&rt, "a seam", answer.err(), Some(wanted));
+    same(&rt, "a seam", square(rt.alloc(), 0)?.err(), Some(wanted));
     Ok(())
 }
 

@@ -6,18 +6,14 @@ ghost use Rattle.drain_grid.specs.Tile.{IsSide};
 use super::samples;
 use crate::agree::same;
 use drain_grid::{Cell, Elevation};
-use drain_hgt::TileName;
+use drain_hgt::{NameFault, TileName};
 use drain_mosaic::{Layout, SeamFault, join};
 use std::alloc::{AllocError, Global};
 use std::test::Fail;
 
-/// What eight tiles of side 2 give together.
-fn eight(
-    alloc: Global,
-    names: [&str; 8],
-    tiles: [[i16; 4]; 8],
-) -> Result<Result<Elevation, SeamFault>, Fail> {
-    let names = [
+/// Eight names of tiles.
+fn names_of(names: [&str; 8]) -> Result<[TileName; 8], NameFault> {
+    Ok([
         TileName::parse(names[0].as_bytes())?,
         TileName::parse(names[1].as_bytes())?,
         TileName::parse(names[2].as_bytes())?,
@@ -26,8 +22,16 @@ fn eight(
         TileName::parse(names[5].as_bytes())?,
         TileName::parse(names[6].as_bytes())?,
         TileName::parse(names[7].as_bytes())?,
-    ];
-    let layout = Layout::new(alloc, 2, &names)?;
+    ])
+}
+
+/// What eight tiles of side 2 give together.
+fn eight(
+    alloc: Global,
+    names: [&str; 8],
+    tiles: [[i16; 4]; 8],
+) -> Result<Result<Elevation, SeamFault>, Fail> {
+    let layout = Layout::new(alloc, 2, &names_of(names)?)?;
     let tiles = [
         Vec::from_slice(alloc, &tiles[0])?,
         Vec::from_slice(alloc, &tiles[1])?,

@@ -3,6 +3,7 @@
 ghost use Rattle.std.specs.Prelude.{map};
 ghost use Rattle.drain_mosaic.specs.Mosaic.{AreTiles};
 
+use super::names_of_square;
 use crate::agree::same;
 use drain_grid::{Cell, VOID};
 use drain_hgt::TileName;
@@ -109,13 +110,7 @@ fn one_above_the_other(rt: HostRuntime) -> Result<(), Fail> {
 
 /// The seam of four tiles of side 3 in a square of 5 by 5 cells: north-west, north-east, south-west, south-east.
 fn seam_of_square(alloc: Global, tiles: [[i16; 9]; 4]) -> Result<Option<Cell>, Fail> {
-    let names = [
-        TileName::parse(b"N01E000.hgt")?,
-        TileName::parse(b"N01E001.hgt")?,
-        TileName::parse(b"N00E000.hgt")?,
-        TileName::parse(b"N00E001.hgt")?,
-    ];
-    let layout = Layout::new(alloc, 3, &names)?;
+    let layout = Layout::new(alloc, 3, &names_of_square()?)?;
     let tiles = [
         Vec::from_slice(alloc, &tiles[0])?,
         Vec::from_slice(alloc, &tiles[1])?,
@@ -133,6 +128,31 @@ fn square() -> [[i16; 9]; 4] {
         [11, 12, 13, 16, 17, 18, 21, 22, 23],
         [13, 14, 15, 18, 19, 20, 23, 24, 25],
     ]
+}
+
+/// The square with these samples where its four tiles meet.
+fn meeting(samples: [i16; 4]) -> [[i16; 9]; 4] {
+    let [
+        mut north_west,
+        mut north_east,
+        mut south_west,
+        mut south_east,
+    ] = square();
+    let [at_north_west, at_north_east, at_south_west, at_south_east] = samples;
+    north_west[8] = at_north_west;
+    north_east[6] = at_north_east;
+    south_west[2] = at_south_west;
+    south_east[0] = at_south_east;
+    [north_west, north_east, south_west, south_east]
+}
+
+/// The cell where four tiles meet, where they differ.
+fn centre(differ: bool) -> Option<Cell> {
+    if differ {
+        Some(Cell { row: 2, col: 2 })
+    } else {
+        None
+    }
 }
 
 /// The four tiles meet at one cell, each with a sample of its own there.
@@ -156,25 +176,23 @@ fn corners_of_four_tiles(rt: HostRuntime) -> Result<(), Fail> {
         ("south-east from the others", [13, 13, 13, 1], true),
         ("each from each", [1, 2, 3, 4], true),
     ] {
-        let [
-            mut north_west,
-            mut north_east,
-            mut south_west,
-            mut south_east,
-        ] = square();
-        north_west[8] = samples[0];
-        north_east[6] = samples[1];
-        south_west[2] = samples[2];
-        south_east[0] = samples[3];
-        let tiles = [north_west, north_east, south_west, south_east];
-        let wanted = if differ {
-            Some(Cell { row: 2, col: 2 })
-        } else {
-            None
-        };
-        same(&rt, case, seam_of_square(rt.alloc(), tiles)?, wanted);
+        let seam = seam_of_square(rt.alloc(), meeting(samples))?;
+        same(&rt, case, seam, centre(differ));
     }
     Ok(())
+}
+
+/// The square with the samples at one or two places turned to 0: a tile, and a place in it.
+fn with_zeros(places: [(usize, usize); 2]) -> [[i16; 9]; 4] {
+    let mut tiles = square();
+    for (tile, place) in places {
+        if let Some(tile) = tiles.get_mut(tile) {
+            if let Some(sample) = tile.get_mut(place) {
+                *sample = 0;
+            }
+        }
+    }
+    tiles
 }
 
 /// One or two samples of the two eastern or southern tiles are turned to 0.
@@ -195,15 +213,7 @@ fn edges_of_four_tiles(rt: HostRuntime) -> Result<(), Fail> {
         ("first row and first column", (2, 0), (1, 0), 0, 2),
         ("corners and last column", (3, 2), (3, 0), 2, 2),
     ] {
-        let mut tiles = square();
-        for (tile, place) in [one, other] {
-            if let Some(tile) = tiles.get_mut(tile) {
-                if let Some(sample) = tile.get_mut(place) {
-                    *sample = 0;
-                }
-            }
-        }
-        let seam = seam_of_square(rt.alloc(), tiles)?;
+        let seam = seam_of_square(rt.alloc(), with_zeros([one, other]))?;
         same(&rt, case, seam, Some(Cell { row, col }));
     }
     Ok(())
