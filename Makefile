@@ -49,6 +49,7 @@ bench: build/drain build/label_bench build/raster_bench build/mosaic_bench build
 	bench/check.sh build/drain
 	bench/memory.sh build/drain
 	bench/make.sh build/drain
+	bench/hard.sh build/drain
 	bench/labels.sh build/label_bench
 	bench/rasters.sh build/raster_bench
 	bench/mosaic.sh build/mosaic_bench

@@ -1,6 +1,6 @@
 #!/usr/bin/env bash
-# Runs the built program on the command lines of table.txt, and on standard streams that stay open, are closed, are full
-# or fail, and compares what it prints and its exit status.
+# Runs the built program on the command lines of table.txt, on standard streams that stay open, are closed, are full or fail, on inputs that are cut, and
+# with each of its calls failing in turn, and compares what it prints and its exit status.
 # Usage: tests/program/run.sh DRAIN LABEL_BENCH
 set -u
 drain=$(realpath "$1")
@@ -61,6 +61,32 @@ done < <(sed -E 's/ *\| */|/g; s/^ +| +$//g' "$here/table.txt")
 . "$here/headers.sh"
 . "$here/check.sh"
 . "$here/make.sh"
+
+# Adds the runs that another program judged: it prints those that failed, and in its last line 'NAME: N passed, M failed'.
+add_runs() {
+    "$@" >"$scratch/out" 2>"$scratch/err"
+    sed '$d' "$scratch/out"
+    cat "$scratch/err"
+    if [[ "$(tail -n 1 "$scratch/out")" =~ ([0-9]+)\ passed,\ ([0-9]+)\ failed$ ]]; then
+        passed=$((passed + BASH_REMATCH[1]))
+        failed=$((failed + BASH_REMATCH[2]))
+    else
+        tail -n 1 "$scratch/out"
+        failed=$((failed + 1))
+    fi
+}
+
+add_runs "$here/cut_inputs.py" "$drain"
+
+# Calls of the program are made to fail by a library that is loaded before the C library's, so it wants a compiler of C.
+compiler=$(dirname "$(readlink -f "$(command -v rt)")")/../toolchain/bin/clang
+[ -x "$compiler" ] || compiler=$(command -v cc)
+if [ -n "$compiler" ]; then
+    "$compiler" -O2 -Wall -shared -fPIC -nostdlib -o "$scratch/fail_calls.so" "$here/../fail_calls.c" || exit 1
+    add_runs "$here/faults.py" "$drain" "$scratch/fail_calls.so"
+else
+    echo "no compiler of C: no call of the program is made to fail"
+fi
 
 echo "$passed passed, $failed failed"
 [ "$failed" -eq 0 ]

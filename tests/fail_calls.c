@@ -1,0 +1,109 @@
+/* Is loaded before the C library into a run of the program, and lets one of its calls end otherwise. By variables of the environment:
+
+   FAIL_CALL  open, read, write or allocation: which calls are counted
+   FAIL_AT    the number of the call that is meant, from 1
+   FAIL_HOW   refused: it fails; later: it and each later one; interrupted: it is interrupted once; short: it moves one byte; killed: the
+              process is killed in place of it; cut: FAIL_FILE is cut to half its length before it; turned: FAIL_FILE is written over
+              with bytes of 255 before it
+   FAIL_MARK  a file that is made when the call comes, so that one sees that there are as many
+
+   It includes no header, and so needs none but the compiler. */
+
+typedef __SIZE_TYPE__ size_t;
+typedef __PTRDIFF_TYPE__ ssize_t;
+
+extern void *__libc_malloc(size_t);
+extern void *__libc_calloc(size_t, size_t);
+extern void *__libc_realloc(void *, size_t);
+extern void *__libc_memalign(size_t, size_t);
+extern int *__errno_location(void);
+extern char *getenv(const char *);
+extern long strtol(const char *, char **, int);
+extern int strcmp(const char *, const char *);
+extern long syscall(long, ...);
+
+enum { READ = 0, WRITE = 1, CLOSE = 3, LSEEK = 8, GETPID = 39, KILL = 62, TRUNCATE = 76, OPENAT = 257 };
+enum { HERE = -100, WRITE_ONLY = 1, READ_WRITE = 2, CREATE = 64, TO_END = 2, KILLED = 9 };
+enum { INTERRUPTED = 4, IO_ERROR = 5, NO_MEMORY = 12, NOT_PERMITTED = 13, NO_SPACE = 28 };
+
+static long count;
+
+static void mark(void) {
+    const char *path = getenv("FAIL_MARK");
+    if (path)
+        syscall(CLOSE, syscall(OPENAT, HERE, path, WRITE_ONLY | CREATE, 0600));
+}
+
+/* Changes the file under the program. */
+static void change(int cuts) {
+    const char *path = getenv("FAIL_FILE");
+    long file = syscall(OPENAT, HERE, path, READ_WRITE, 0);
+    long length = syscall(LSEEK, file, 0, TO_END);
+    if (cuts) {
+        syscall(TRUNCATE, path, length / 2);
+    } else {
+        syscall(LSEEK, file, 0, 0);
+        for (long k = 0; k < length; k++)
+            syscall(WRITE, file, "\377", 1);
+    }
+    syscall(CLOSE, file);
+}
+
+/* What becomes of a call of this kind: nothing else, fail, or move one byte. */
+enum { AS_EVER, FAILS, MOVES_A_BYTE };
+
+static int fate(const char *kind, int error) {
+    const char *call = getenv("FAIL_CALL"), *at = getenv("FAIL_AT"), *how = getenv("FAIL_HOW");
+    if (!call || !at || !how || strcmp(call, kind) != 0)
+        return AS_EVER;
+    long wanted = strtol(at, 0, 10);
+    count++;
+    if (count < wanted || (count > wanted && strcmp(how, "later") != 0))
+        return AS_EVER;
+    if (count == wanted)
+        mark();
+    if (strcmp(how, "killed") == 0)
+        syscall(KILL, syscall(GETPID), KILLED);
+    if (strcmp(how, "short") == 0)
+        return MOVES_A_BYTE;
+    if (strcmp(how, "cut") == 0 || strcmp(how, "turned") == 0) {
+        change(strcmp(how, "cut") == 0);
+        return AS_EVER;
+    }
+    *__errno_location() = strcmp(how, "interrupted") == 0 ? INTERRUPTED : error;
+    return FAILS;
+}
+
+/* What the kernel answered, as the C library tells it. */
+static long told(long answer) {
+    if (answer >= 0)
+        return answer;
+    *__errno_location() = (int)-answer;
+    return -1;
+}
+
+int open(const char *path, int flags, int mode) {
+    return fate("open", NOT_PERMITTED) == FAILS ? -1 : (int)told(syscall(OPENAT, HERE, path, flags, mode));
+}
+
+ssize_t read(int file, void *to, size_t length) {
+    int becomes = fate("read", IO_ERROR);
+    return becomes == FAILS ? -1 : told(syscall(READ, file, to, becomes == MOVES_A_BYTE && length ? 1 : length));
+}
+
+ssize_t write(int file, const void *from, size_t length) {
+    int becomes = fate("write", NO_SPACE);
+    return becomes == FAILS ? -1 : told(syscall(WRITE, file, from, becomes == MOVES_A_BYTE && length ? 1 : length));
+}
+
+ssize_t __write(int file, const void *from, size_t length) { return write(file, from, length); }
+
+void *malloc(size_t size) { return fate("allocation", NO_MEMORY) == FAILS ? 0 : __libc_malloc(size); }
+
+void *calloc(size_t items, size_t size) { return fate("allocation", NO_MEMORY) == FAILS ? 0 : __libc_calloc(items, size); }
+
+void *realloc(void *old, size_t size) { return fate("allocation", NO_MEMORY) == FAILS ? 0 : __libc_realloc(old, size); }
+
+void *aligned_alloc(size_t align, size_t size) {
+    return fate("allocation", NO_MEMORY) == FAILS ? 0 : __libc_memalign(align, size);
+}
