@@ -97,7 +97,7 @@ class Cuts:
 
     def judge(self, name, example, line):
         words = [self.drain, "check", "--side", str(example.side), "--products", self.scratch / "products", self.scratch / "N00E000.hgt"]
-        ended = subprocess.run(words, stdout=subprocess.PIPE, stderr=subprocess.PIPE, timeout=20, check=False)
+        ended = subprocess.run(words, stdout=subprocess.PIPE, stderr=subprocess.PIPE, timeout=120, check=False)
         status = ["accepted", "rejected", "refused"].index(line.split(" ")[0])
         if (ended.returncode, ended.stdout.decode()) == (status, line + "\n"):
             self.passed += 1

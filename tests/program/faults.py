@@ -18,7 +18,7 @@ from pathlib import Path
 PRODUCTS = ["con", "dir", "acc", "bas", "spl", "rnk"]
 FILES = [f"{product}.{part}" for product in PRODUCTS for part in ("hdr", "bil")]
 PIT = Path(__file__).resolve().parents[2] / "samples"
-MOST_SECONDS = 20
+MOST_SECONDS = 120
 FAILED = 3
 
 # What a failure of each kind of call prints; a line that can't be written isn't there.
