@@ -7,6 +7,13 @@ set -euo pipefail
 cd "$(dirname "$0")/.."
 TIMEFORMAT='took %0R s, of processors %0U s and %0S s of the system'
 
+# A check with two jobs loads every library twice. So each gets one: as many checks side by side as there are processors, and 5 GiB of memory for each.
+held=$(awk '/MemAvailable/ { print int($2 / 5242880) }' /proc/meminfo)
+RT_JOBS=$(nproc)
+[ "$held" -ge "$RT_JOBS" ] || RT_JOBS=$held
+[ "$RT_JOBS" -ge 1 ] || RT_JOBS=1
+export RT_JOBS
+
 mkdir -p build
 rm -f build/gate_passed
 tools/check_readmes.py

@@ -1,6 +1,6 @@
 //! Runs of `drain check` over sources and sinks in memory: one tile of side 2 at 0 degrees, level, with its products.
 
-use crate::printed::{Printed, slow_sink, whole_sink};
+use crate::printed::{Printed, same_line, slow_sink, whole_sink};
 use drain_cli::run_check::run_check;
 use drain_device::faults::{ScriptSink, Scripted, SinkAnswer};
 use drain_device::{BodyFault, ByteList, SliceSource};
@@ -120,12 +120,7 @@ fn prints_the_answer_to_products(rt: HostRuntime) -> Result<(), Fail> {
     for (name, side, tile, labels, status, line) in cases {
         let out = whole_sink(rt.alloc())?;
         let answered = printed(rt.alloc(), side, tile, labels, out)?;
-        let wanted = Printed::new(line.as_bytes(), status)?;
-        assert_eq!(rt;
-            (answered.text(), answered.status),
-            (wanted.text(), wanted.status),
-            "{name}"
-        );
+        same_line(&rt, name, &answered, line, status);
     }
     Ok(())
 }
@@ -141,9 +136,6 @@ fn ends_with_status_3_where_the_line_of_a_check_cannot_be_written(
     }];
     let out = slow_sink(rt.alloc(), &script)?;
     let answered = printed(rt.alloc(), 2, "N00E000.hgt", &[1, 2, 3, 4], out)?;
-    assert_eq!(rt;
-        (answered.text(), answered.status),
-        (b"accepted".as_slice(), 3)
-    );
+    same_line(&rt, "a sink that fails", &answered, "accepted", 3);
     Ok(())
 }

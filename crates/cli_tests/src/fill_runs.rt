@@ -1,7 +1,7 @@
 //! Runs of `drain fill` over sources and sinks in memory: worked inputs with their lines, and devices
 //! that are slow, interrupted or fail. The expected lines were worked out by hand from the rules.
 
-use crate::printed::{Printed, slow_sink, whole_sink};
+use crate::printed::{Printed, same_line, same_run, slow_sink, whole_sink};
 use drain_cli::run_fill::run_fill;
 use drain_device::faults::{ScriptSink, ScriptSource, Scripted, SinkAnswer};
 use drain_device::{BodyFault, ByteSource, DeviceFault, SliceSource};
@@ -104,12 +104,7 @@ fn tells_the_first_fault_of_a_changed_pit(rt: HostRuntime) -> Result<(), Fail> {
     ];
     for (name, changes, status, line) in cases {
         let answered = told(rt.alloc(), 3, &changed(changes))?;
-        let wanted = Printed::new(line.as_bytes(), status)?;
-        assert_eq!(rt;
-            (answered.text(), answered.status),
-            (wanted.text(), wanted.status),
-            "{name}"
-        );
+        same_line(&rt, name, &answered, line, status);
     }
     Ok(())
 }
@@ -194,12 +189,7 @@ fn tells_what_inputs_of_each_length_are(rt: HostRuntime) -> Result<(), Fail> {
     ];
     for (name, side, bytes, status, line) in cases {
         let answered = told(rt.alloc(), side, bytes)?;
-        let wanted = Printed::new(line.as_bytes(), status)?;
-        assert_eq!(rt;
-            (answered.text(), answered.status),
-            (wanted.text(), wanted.status),
-            "{name}"
-        );
+        same_line(&rt, name, &answered, line, status);
     }
     Ok(())
 }
@@ -255,12 +245,7 @@ fn bears_999_interruptions_of_its_input(rt: HostRuntime) -> Result<(), Fail> {
     ];
     for (name, most, script, status, line) in cases {
         let answered = told_slowly(rt.alloc(), most, &script)?;
-        let wanted = Printed::new(line.as_bytes(), status)?;
-        assert_eq!(rt;
-            (answered.text(), answered.status),
-            (wanted.text(), wanted.status),
-            "{name}"
-        );
+        same_line(&rt, name, &answered, line, status);
     }
     Ok(())
 }
@@ -270,11 +255,7 @@ fn never_takes_a_failed_input_for_its_end(rt: HostRuntime) -> Result<(), Fail> {
     for call in 1..=82 {
         let script = fault(call, call, DeviceFault::Failed);
         let answered = told_slowly(rt.alloc(), 1, &script)?;
-        assert_eq!(rt;
-            (answered.text(), answered.status),
-            (b"failed ReadFailed\n".as_slice(), 3),
-            "call {call}"
-        );
+        same_run(&rt, call, &answered, b"failed ReadFailed\n", 3);
     }
     Ok(())
 }
@@ -302,14 +283,9 @@ fn ends_with_status_3_where_the_line_cannot_be_written(rt: HostRuntime) -> Resul
             answer,
         }];
         let answered = told_into(rt.alloc(), &script)?;
-        let written = if status == 0 { 39 } else { first - 1 };
-        let text = answered.text();
-        let is_of_the_line = PIT_LINE.as_bytes().starts_with(text);
-        assert_eq!(rt;
-            (answered.status, text.len() as u64, is_of_the_line),
-            (status, written, true),
-            "{name}"
-        );
+        let written = if status == 0 { 39 } else { first as usize - 1 };
+        let wanted = PIT_LINE.get(..written).unwrap_or("");
+        same_line(&rt, name, &answered, wanted, status);
     }
     Ok(())
 }

@@ -1,7 +1,7 @@
 //! Runs of `drain header` over sources and sinks in memory: texts with what is printed of them, and devices that are
 //! slow, interrupted or fail.
 
-use crate::printed::{Printed, slow_sink, whole_sink};
+use crate::printed::{Printed, same_line, same_run, slow_sink, whole_sink};
 use drain_cli::run_header::run_header;
 use drain_device::faults::{ScriptSink, ScriptSource, Scripted, SinkAnswer};
 use drain_device::{BodyFault, ByteSource, DeviceFault, SliceSource};
@@ -114,12 +114,7 @@ fn prints_headers_and_faults(rt: HostRuntime) -> Result<(), Fail> {
     ];
     for (name, bytes, status, text) in cases {
         let (answered, _) = told(rt.alloc(), bytes)?;
-        let wanted = Printed::new(text.as_bytes(), status)?;
-        assert_eq!(rt;
-            (answered.text(), answered.status),
-            (wanted.text(), wanted.status),
-            "{name}"
-        );
+        same_line(&rt, name, &answered, text, status);
     }
     Ok(())
 }
@@ -135,12 +130,8 @@ fn reads_one_byte_past_the_longest_header(rt: HostRuntime) -> Result<(), Fail> {
     ];
     for (length, line, left) in cases {
         let (answered, rest) = told(rt.alloc(), &line_feeds[..length])?;
-        let wanted = Printed::new(line.as_bytes(), 2)?;
-        assert_eq!(rt;
-            (answered.text(), answered.status, rest),
-            (wanted.text(), wanted.status, Ok(left)),
-            "{length}"
-        );
+        same_run(&rt, length as u64, &answered, line.as_bytes(), 2);
+        assert_eq!(rt; rest, Ok(left), "{length}");
     }
     Ok(())
 }
@@ -159,21 +150,17 @@ fn bears_999_interruptions_of_its_file(rt: HostRuntime) -> Result<(), Fail> {
             answer,
         }];
         let answered = told_slowly(rt.alloc(), &script)?;
-        let wanted = Printed::new(text.as_bytes(), status)?;
-        assert_eq!(rt;
-            (answered.text(), answered.status),
-            (wanted.text(), wanted.status)
-        );
+        same_run(&rt, last, &answered, text.as_bytes(), status);
     }
     Ok(())
 }
 
 #[test]
 fn ends_with_status_3_where_the_header_cannot_be_written(rt: HostRuntime) -> Result<(), Fail> {
-    for answer in [
-        SinkAnswer::Failed,
-        SinkAnswer::TookNone,
-        SinkAnswer::Interrupted,
+    for (case, answer) in [
+        (0, SinkAnswer::Failed),
+        (1, SinkAnswer::TookNone),
+        (2, SinkAnswer::Interrupted),
     ] {
         let script = [Scripted {
             first: 100,
@@ -181,10 +168,7 @@ fn ends_with_status_3_where_the_header_cannot_be_written(rt: HostRuntime) -> Res
             answer,
         }];
         let answered = told_into(rt.alloc(), &script)?;
-        assert_eq!(rt;
-            (answered.text(), answered.status),
-            (&SMALL.as_bytes()[..99], 3)
-        );
+        same_run(&rt, case, &answered, &SMALL.as_bytes()[..99], 3);
     }
     Ok(())
 }

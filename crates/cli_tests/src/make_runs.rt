@@ -3,7 +3,7 @@
 ghost use Rattle.std.specs.Prelude.{◌≡◌, length, IfOk};
 
 use crate::making::{Tile, at_zero, inputs, make};
-use crate::printed::{Printed, ROOM, check_printed, files_of, room};
+use crate::printed::{Printed, ROOM, check_printed, files_of, room, same_run};
 use drain_cli::make_set::make_set;
 use drain_cli::write_set::write_set;
 use drain_device::faults::{ScriptSink, Scripted, SinkAnswer};
@@ -303,11 +303,8 @@ fn a_file_that_fails_ends_the_writing(rt: HostRuntime) -> Result<(), Fail> {
     assert_eq!(rt; whole.first(), Some(&230));
     for place in 0..FILE_COUNT {
         let (run, lengths) = lengths_where_one_fails(rt.alloc(), place)?;
-        assert_eq!(rt;
-            (run.text(), run.status, first_wrong(place, &lengths, &whole)),
-            (b"failed WriteFailed\n".as_slice(), 3, None),
-            "{place}"
-        );
+        same_run(&rt, place as u64, &run, b"failed WriteFailed\n", 3);
+        assert_eq!(rt; first_wrong(place, &lengths, &whole), None, "{place}");
     }
     Ok(())
 }

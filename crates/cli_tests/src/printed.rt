@@ -10,6 +10,7 @@ use drain_hgt::TileInput;
 use drain_maker::product_files::FILE_COUNT;
 use drain_verdict::Products;
 use std::alloc::{AllocError, Global};
+use std::process::Abort;
 use std::test::Fail;
 
 /// The most bytes that a run of a test prints.
@@ -96,6 +97,21 @@ impl Printed {
     pub fn text(&self) -> &[u8] {
         self.bytes.get(..self.length).unwrap_or(&[])
     }
+}
+
+/// Ends the test where a run printed other bytes or ended with another status, and tells of which case it is: by its number. A proof of a call of it costs
+/// less than that of an assertion in place.
+pub fn same_run(rt: &impl Abort, case: u64, run: &Printed, text: &[u8], status: u8) {
+    assert_eq!(rt; (run.text(), run.status), (text, status), "{case}");
+}
+
+/// Ends the test where a run printed another line or ended with another status, and tells of which case it is.
+pub fn same_line(rt: &impl Abort, case: &str, run: &Printed, line: &str, status: u8) {
+    assert_eq!(rt;
+        (run.text(), run.status),
+        (line.as_bytes(), status),
+        "{case}"
+    );
 }
 
 /// What a check prints.

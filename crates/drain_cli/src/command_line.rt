@@ -151,27 +151,50 @@ const SIDE_HELP: &str = "Samples along an edge of the tile, 2 to 3601";
 ///
 /// Help and the version come as an error of their kind, as in `clap`, and so does a fault of the words.
 pub fn parse<'a>(alloc: Global, words: &'a [String]) -> Result<Request<'a>, Error> {
-    let command = Command::new(alloc, "drain")
-        .version(VERSION)
-        .bin_name("drain")?
-        .about(ABOUT)
-        .subcommand_required(true)
-        .arg_required_else_help(true)
-        .subcommand(check(alloc)?)?
-        .subcommand(make(alloc)?)?
-        .subcommand(fill(alloc)?)?
-        .subcommand(header(alloc)?)?;
-    let matches = command.try_get_matches_from(words)?;
+    let matches = program(alloc)?.try_get_matches_from(words)?;
+    Ok(asked_for(alloc, &matches)?)
+}
+
+/// The program and its commands, in the order of its help.
+fn program<'a>(alloc: Global) -> Result<Command<'a>, AllocError> {
+    let program = with(described(alloc)?, check(alloc))?;
+    let program = with(program, make(alloc))?;
+    let program = with(program, fill(alloc))?;
+    with(program, header(alloc))
+}
+
+/// The program with one command more, where there was memory for it.
+fn with<'a>(
+    program: Command<'a>,
+    command: Result<Command<'a>, AllocError>,
+) -> Result<Command<'a>, AllocError> {
+    program.subcommand(command?)
+}
+
+/// The program without its commands.
+fn described<'a>(alloc: Global) -> Result<Command<'a>, AllocError> {
+    Ok(
+        Command::new(alloc, "drain")
+            .version(VERSION)
+            .bin_name("drain")?
+            .about(ABOUT)
+            .subcommand_required(true)
+            .arg_required_else_help(true),
+    )
+}
+
+/// What the words that were given ask for.
+fn asked_for<'a>(alloc: Global, matches: &ArgMatches<'a>) -> Result<Request<'a>, AllocError> {
     if let Some(header) = matches.subcommand_matches("header") {
         return Ok(Request::Header {
             path: header.get_str("file").unwrap_or(""),
         });
     }
     if let Some(check) = matches.subcommand_matches("check") {
-        return Ok(check_request(alloc, check)?);
+        return check_request(alloc, check);
     }
     if let Some(make) = matches.subcommand_matches("make") {
-        return Ok(make_request(alloc, make)?);
+        return make_request(alloc, make);
     }
     let side = match matches.subcommand_matches("fill") {
         Some(fill) => side_given(fill),
@@ -226,17 +249,20 @@ fn fill<'a>(alloc: Global) -> Result<Command<'a>, AllocError> {
         .arg(side(alloc))
 }
 
-fn header<'a>(alloc: Global) -> Result<Command<'a>, AllocError> {
-    let file = Arg::new(alloc, "file")
+fn file<'a>(alloc: Global) -> Arg<'a> {
+    Arg::new(alloc, "file")
         .value_name("FILE")
         .value_parser(ValueParser::NonEmptyString)
         .required(true)
-        .help(FILE_HELP);
+        .help(FILE_HELP)
+}
+
+fn header<'a>(alloc: Global) -> Result<Command<'a>, AllocError> {
     Command::new(alloc, "header")
         .about(HEADER_ABOUT)
         .long_about(HEADER_LONG_ABOUT)
         .after_long_help(HEADER_AFTER)
-        .arg(file)
+        .arg(file(alloc))
 }
 
 fn tiles<'a>(alloc: Global) -> Arg<'a> {
@@ -247,34 +273,40 @@ fn tiles<'a>(alloc: Global) -> Arg<'a> {
         .help(TILES_HELP)
 }
 
-fn check<'a>(alloc: Global) -> Result<Command<'a>, AllocError> {
-    let products = Arg::new(alloc, "products")
+fn products<'a>(alloc: Global) -> Arg<'a> {
+    Arg::new(alloc, "products")
         .long("products")
         .value_name("DIR")
         .value_parser(ValueParser::NonEmptyString)
         .required(true)
-        .help(PRODUCTS_HELP);
+        .help(PRODUCTS_HELP)
+}
+
+fn check<'a>(alloc: Global) -> Result<Command<'a>, AllocError> {
     Command::new(alloc, "check")
         .about(CHECK_ABOUT)
         .long_about(CHECK_LONG_ABOUT)
         .after_long_help(CHECK_AFTER)
         .arg(side(alloc))?
-        .arg(products)?
+        .arg(products(alloc))?
         .arg(tiles(alloc))
 }
 
-fn make<'a>(alloc: Global) -> Result<Command<'a>, AllocError> {
-    let out = Arg::new(alloc, "out")
+fn out<'a>(alloc: Global) -> Arg<'a> {
+    Arg::new(alloc, "out")
         .long("out")
         .value_name("DIR")
         .value_parser(ValueParser::NonEmptyString)
         .required(true)
-        .help(OUT_HELP);
+        .help(OUT_HELP)
+}
+
+fn make<'a>(alloc: Global) -> Result<Command<'a>, AllocError> {
     Command::new(alloc, "make")
         .about(MAKE_ABOUT)
         .long_about(MAKE_LONG_ABOUT)
         .after_long_help(MAKE_AFTER)
         .arg(side(alloc))?
-        .arg(out)?
+        .arg(out(alloc))?
         .arg(tiles(alloc))
 }
