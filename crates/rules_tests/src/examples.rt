@@ -1,6 +1,6 @@
 //! Examples: parts put together from numbers, and the verdict on them.
 
-ghost use Rattle.std.specs.Prelude.{◌≡◌, ◌↔◌, IsTrue, IfOk};
+ghost use Rattle.std.specs.Prelude.{◌≡◌, ◌↔◌, ◌*◌, IsTrue, IfOk, length};
 ghost use Rattle.drain_grid.specs.Values.{IsNoData, IsPixel};
 
 use drain_grid::values::{GREATEST_PIXEL, LEAST_PIXEL};
@@ -61,8 +61,59 @@ fn elevation(alloc: Global, shape: Shape, numbers: &[i64]) -> Result<Elevation, 
     Ok(Elevation::new(shape, samples))
 }
 
-/// The verdict on an example: its parts one after the other, each in row order. The number for no data of con is given; the others are
-/// the defaults.
+/// Three rasters whose numbers stand one after the other, with these numbers for no data.
+fn rasters(
+    alloc: Global,
+    shape: Shape,
+    nodata: (i64, i64, i64),
+    numbers: &[i64],
+) -> Result<(Raster, Raster, Raster), Fail>
+    requires nodata { IsNoData nodata.0 × IsNoData nodata.1 × IsNoData nodata.2 }
+    requires long { length numbers.now ≡ 3 * (shape.rows * shape.cols) }
+    ensures { IfOk result (λ rasters. (rasters.0.extent ≡ shape) × (rasters.1.extent ≡ shape) × (rasters.2.extent ≡ shape)) }
+{
+    let cells = shape.cells();
+    Ok((
+        raster(alloc, shape, nodata.0, &numbers[..cells])?,
+        raster(alloc, shape, nodata.1, &numbers[cells..2 * cells])?,
+        raster(alloc, shape, nodata.2, &numbers[2 * cells..])?,
+    ))
+}
+
+/// The products of an example: six rasters whose numbers stand one after the other. The number for no data of con is given; the others are the defaults.
+fn products(
+    alloc: Global,
+    shape: Shape,
+    con_nodata: i16,
+    numbers: &[i64],
+) -> Result<ProductSet, Fail>
+    requires long { length numbers.now ≡ 6 * (shape.rows * shape.cols) }
+    ensures { IfOk result (λ products. products.con.extent ≡ shape) }
+{
+    let half = 3 * shape.cells();
+    let codes = Product::Dir.default_no_data();
+    let counts = Product::Acc.default_no_data();
+    let labels = Product::Bas.default_no_data();
+    let spill = Product::Spl.default_no_data();
+    let ranks = Product::Rnk.default_no_data();
+    let (con, dir, acc) = rasters(
+        alloc,
+        shape,
+        (con_nodata.into(), codes, counts),
+        &numbers[..half],
+    )?;
+    let (bas, spl, rnk) = rasters(alloc, shape, (labels, spill, ranks), &numbers[half..])?;
+    Ok(ProductSet {
+        con,
+        dir,
+        acc,
+        bas,
+        spl,
+        rnk,
+    })
+}
+
+/// The verdict on an example: its parts one after the other, each in row order.
 pub fn verdict_with(
     alloc: Global,
     con_nodata: i16,
@@ -77,40 +128,8 @@ pub fn verdict_with(
     if numbers.len() != 7 * cells {
         return Err("seven parts".into());
     }
+    let products = products(alloc, shape, con_nodata, &numbers[cells..])?;
     let elevation = elevation(alloc, shape, &numbers[..cells])?;
-    let products = ProductSet {
-        con: raster(alloc, shape, con_nodata.into(), &numbers[cells..2 * cells])?,
-        dir: raster(
-            alloc,
-            shape,
-            Product::Dir.default_no_data(),
-            &numbers[2 * cells..3 * cells],
-        )?,
-        acc: raster(
-            alloc,
-            shape,
-            Product::Acc.default_no_data(),
-            &numbers[3 * cells..4 * cells],
-        )?,
-        bas: raster(
-            alloc,
-            shape,
-            Product::Bas.default_no_data(),
-            &numbers[4 * cells..5 * cells],
-        )?,
-        spl: raster(
-            alloc,
-            shape,
-            Product::Spl.default_no_data(),
-            &numbers[5 * cells..6 * cells],
-        )?,
-        rnk: raster(
-            alloc,
-            shape,
-            Product::Rnk.default_no_data(),
-            &numbers[6 * cells..],
-        )?,
-    };
     Ok(verdict_of(alloc, &elevation, &products)?)
 }
 
