@@ -131,7 +131,7 @@ fn main() -> ExitCode {
     let (rounds, of_first) = (task.rounds, name(&task.programs[0]));
     println!("medians of {rounds} runs each; the ratio is of user+sys, to {of_first}");
     println!(
-        "{:<16} {:>10} {:>10} {:>9} {:>8} {:>8}",
+        "{:<22} {:>10} {:>10} {:>9} {:>8} {:>8}",
         "program", "user+sys s", "wall s", "s/Mcells", "ratio", "MiB"
     );
     for (program, runs) in task.programs.iter().zip(&runs) {
@@ -140,7 +140,7 @@ fn main() -> ExitCode {
         let memory = runs.iter().map(|run| run.memory).fold(0.0, f64::max);
         let (each, ratio) = (processor / task.millions, processor / first);
         println!(
-            "{:<16} {processor:>10.3} {clock:>10.3} {each:>9.4} {ratio:>8.2} {memory:>8.1}",
+            "{:<22} {processor:>10.3} {clock:>10.3} {each:>9.4} {ratio:>8.2} {memory:>8.1}",
             name(program)
         );
     }
