@@ -18,11 +18,11 @@ mod headers;
 mod twin_flood;
 
 use headers::{ACC, BAS, CON, Corner, DIR, Pixels, RNK, SPL};
-use twin_flood::spread;
 use std::fs::{File, read, write};
 use std::io::{self, BufWriter, Write};
 use std::path::{Path, PathBuf};
 use std::process::ExitCode;
+use twin_flood::spread;
 
 const VOID: i16 = -32768;
 
