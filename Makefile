@@ -14,17 +14,8 @@ SOURCES := crates.txt HANDLES $(shell find crates -type f \( -name '*.rt' -o -na
 build/drain: $(SOURCES)
 	@tools/build_program.sh drain $@ --version
 
-build/label_bench: $(SOURCES)
-	@tools/build_program.sh label_bench $@
-
-build/raster_bench: $(SOURCES)
-	@tools/build_program.sh raster_bench $@ read 8 unsigned I 1 2
-
-build/mosaic_bench: $(SOURCES)
-	@tools/build_program.sh mosaic_bench $@ 2 1
-
-build/lanes_bench: $(SOURCES)
-	@tools/build_program.sh lanes_bench $@
+build/benches: $(SOURCES)
+	@tools/build_program.sh benches $@
 
 build/drain.1: build/drain tools/man_page.py
 	@tools/man_page.py build/drain >$@
@@ -44,16 +35,16 @@ edits:
 test:
 	tools/gate.sh
 
-bench: build/drain build/label_bench build/raster_bench build/mosaic_bench build/lanes_bench
+bench: build/drain build/benches
 	bench/run.sh build/drain
 	bench/check.sh build/drain
 	bench/memory.sh build/drain
 	bench/make.sh build/drain
 	bench/hard.sh build/drain
-	bench/labels.sh build/label_bench
-	bench/rasters.sh build/raster_bench
-	bench/mosaic.sh build/mosaic_bench
-	bench/lanes.sh build/lanes_bench
+	bench/labels.sh build/benches
+	bench/rasters.sh build/benches
+	bench/mosaic.sh build/benches
+	bench/lanes.sh build/benches
 
 clean:
 	rm -rf build crates/*/out

@@ -2,7 +2,7 @@
 # Times labels admitted by drain_basin's OutletLabels, and tells the memory that they take: labels in order, scattered, in the orders
 # that leave a tree's nodes half empty, and chosen so that a hash of fixed seed would put them side by side (colliding_labels.rs).
 # MiB is the program's greatest; the bytes of each label leave out what the program takes without a label, and a list of labels.
-# Usage: bench/labels.sh PROGRAM    (crates/label_bench, built)
+# Usage: bench/labels.sh BENCHES    (crates/benches, built)
 set -euo pipefail
 program=$(realpath "$1")
 bench=$(cd "$(dirname "${BASH_SOURCE[0]}")" && pwd)
@@ -21,7 +21,7 @@ run() {
     local count=$1 labels=$2 started line
     exec 3<>"$scratch/end"
     started=$(date +%s%N)
-    "$program" "$count" "$labels" <&3 >"$scratch/line" 3<&- &
+    "$program" labels "$count" "$labels" <&3 >"$scratch/line" 3<&- &
     read -r line <"$scratch/line"
     ns=$(($(date +%s%N) - started))
     [ "$line" = "admitted $count" ] || { echo "it printed '$line'" >&2; exit 1; }

@@ -2,7 +2,7 @@
 # Times the search for the first place where a row is below its ground, by drain_fill's `first_below` and by a plain loop, over rows
 # of 1201, 3601 and 28801 heights none of which is below. GB/s counts the four bytes of each place; times are those of so many
 # rounds less those of one, medians of five interleaved runs.
-# Usage: bench/lanes.sh PROGRAM    (crates/lanes_bench, built)
+# Usage: bench/lanes.sh BENCHES    (crates/benches, built)
 set -euo pipefail
 program=$(realpath "$1")
 places=1000000000
@@ -16,8 +16,8 @@ milliseconds() {
 # Prints the milliseconds of a billion places. Usage: all BODY LENGTH
 all() {
     local many one
-    many=$(milliseconds "$program" "$1" "$2" $((places / $2 + 1)))
-    one=$(milliseconds "$program" "$1" "$2" 1)
+    many=$(milliseconds "$program" lanes "$1" "$2" $((places / $2 + 1)))
+    one=$(milliseconds "$program" lanes "$1" "$2" 1)
     echo $((many - one))
 }
 

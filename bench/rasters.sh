@@ -3,7 +3,7 @@
 # same bytes first; a round's time is what ten rounds more take, by ten. Medians of five interleaved runs.
 # It exits with 1 where their lines differ; times never make it fail.
 #
-# Usage: bench/rasters.sh PROGRAM    (crates/raster_bench, built)
+# Usage: bench/rasters.sh BENCHES    (crates/benches, built)
 set -euo pipefail
 
 bench=$(cd "$(dirname "${BASH_SOURCE[0]}")" && pwd)
@@ -31,12 +31,12 @@ printf '%-26s %12s %12s %7s\n' '' 'drain ms' 'twin ms' ratio
 for what in read write; do
     for kind in '8 unsigned I' '8 signed I' '16 unsigned I' '16 signed I' '16 signed M' '32 unsigned I' '32 signed I' '32 signed M'; do
         read -r -a words <<<"$what $kind"
-        line=$("$program" "${words[@]}" 3 3601)
+        line=$("$program" rasters "${words[@]}" 3 3601)
         other=$("$out/twin_raster" "${words[@]}" 3 3601)
         [[ $line == "$other" ]] || { echo "$what $kind: '$line' and the twin's '$other'"; differ=1; }
         drains=() twins=()
         for _ in 1 2 3 4 5; do
-            drains+=("$(round "$program" "${words[@]}")")
+            drains+=("$(round "$program" rasters "${words[@]}")")
             twins+=("$(round "$out/twin_raster" "${words[@]}")")
         done
         drain=$(printf '%s\n' "${drains[@]}" | sort -n | sed -n 3p)

@@ -1,4 +1,4 @@
-// Reads four tiles and joins them in plain loops: the twin of crates/mosaic_bench.
+// Reads four tiles and joins them in plain loops: the twin of crates/benches (`mosaic`).
 // The words are the side of the tiles and how many rounds.
 
 const VOID: i16 = -32768;

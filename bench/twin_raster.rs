@@ -1,4 +1,4 @@
-//! Reads or writes a square raster over memory by plain loops, one for each kind of pixel: the twin of crates/raster_bench,
+//! Reads or writes a square raster over memory by plain loops, one for each kind of pixel: the twin of crates/benches (`rasters`),
 //! with the same words and the same line.
 
 use std::env;

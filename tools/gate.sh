@@ -20,7 +20,7 @@ tools/check_readmes.py
 rt version >build/gate_began
 time rt ci
 mv build/gate_began build/gate_passed
-time make --no-print-directory build/drain build/label_bench
-time tests/program/run.sh build/drain build/label_bench
+time make --no-print-directory build/drain build/benches
+time tests/program/run.sh build/drain build/benches
 time tests/refused_memory.sh byte_tests cell_tests rules_tests verdict_tests maker_tests cli_tests
 time tests/wrong_makers.sh

@@ -1,10 +1,10 @@
 #!/usr/bin/env bash
 # Runs the built program on the command lines of table.txt, on standard streams that stay open, are closed, are full or fail, on inputs that are cut, and
 # with each of its calls failing in turn, and compares what it prints and its exit status.
-# Usage: tests/program/run.sh DRAIN LABEL_BENCH
+# Usage: tests/program/run.sh DRAIN BENCHES
 set -u
 drain=$(realpath "$1")
-label_bench=$(realpath "$2")
+benches=$(realpath "$2")
 here=$(cd "$(dirname "$0")" && pwd)
 cd "$here/../.."
 scratch=$(mktemp -d)

@@ -102,7 +102,7 @@ judge 'no memory for the input' 3 "$scratch/want" $?
 # No memory for a label more: what was admitted is held, and the next call goes on.
 want 'refused memory, and the labels before are held'
 for limit in 20000 40000 80000; do
-    (ulimit -v $limit && exec "$label_bench" 100000000 2654435761) </dev/null >"$scratch/out" 2>"$scratch/err"
+    (ulimit -v $limit && exec "$benches" labels 100000000 2654435761) </dev/null >"$scratch/out" 2>"$scratch/err"
     judge "no memory for a label, in $limit KiB" 0 "$scratch/want" $?
 done
 

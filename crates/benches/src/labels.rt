@@ -2,14 +2,14 @@
 //!
 //! Where memory is refused it looks whether the labels before are held and further calls go on (tests/program).
 //!
-//! The words are how many labels, and the step from one to the next: 1 for labels that follow each other, as a maker that counts
+//! The words behind `labels` are how many labels, and the step from one to the next: 1 for labels that follow each other, as a maker that counts
 //! outlets gives them, and a large odd number for labels that lie anywhere. A word that is no number in place of the step is a
 //! file that lists the labels, one a line. When it is done it waits for the end of its standard input, so that its memory can be
 //! looked up.
-#![tactic(auto)]
 
 ghost use Rattle.std.specs.Prelude.{◌<◌, ◌≤◌, IfErr, IfOk};
 
+use crate::words::number;
 use drain_basin::OutletLabels;
 use std::fs::File;
 use std::io::{self, BufRead, BufReader, Read};
@@ -39,13 +39,13 @@ impl Asked {
     }
 }
 
-fn main(rt: HostRuntime) -> io::Result<()> {
-    let words: Vec<String> = std::env::args(&rt)?.collect(rt.alloc())?;
-    let count = number(&words, 1).unwrap_or(1000);
+/// Admits the labels that the words ask for.
+pub fn run(rt: &HostRuntime, words: &[String]) -> io::Result<()> {
+    let count = number(words, 1).unwrap_or(1000);
     let asked = Asked {
         count,
-        labels: match (number(&words, 2), words.get(2)) {
-            (None, Some(path)) => Labels::Listed(read_labels(&rt, path, count)?),
+        labels: match (number(words, 2), words.get(2)) {
+            (None, Some(path)) => Labels::Listed(read_labels(rt, path, count)?),
             (step, _) => Labels::Stepped(step.unwrap_or(1)),
         },
     };
@@ -59,10 +59,6 @@ fn main(rt: HostRuntime) -> io::Result<()> {
     }
     rt.stdin().read(&mut [0u8; 1])?;
     Ok(())
-}
-
-fn number(words: &[String], place: usize) -> Option<u32> {
-    words.get(place)?.as_str().parse::<u32>().ok()
 }
 
 /// The labels that the first lines of a file list; 0 for a line that is no number.

@@ -1,9 +1,9 @@
 //! Reads or writes a square raster over memory, to be timed from outside (bench/rasters.sh).
 //!
-//! The words are `read` or `write`, the bits of a pixel, `signed` or `unsigned`, the byte order `I` or `M`, how many
+//! The words behind `rasters` are `read` or `write`, the bits of a pixel, `signed` or `unsigned`, the byte order `I` or `M`, how many
 //! rounds, and the side. It prints the words' first three and a number that depends on each round.
-#![tactic(auto)]
 
+use crate::words::{is, number};
 use drain_device::VecSink;
 use drain_grid::{Cell, Product, Raster};
 use drain_header::{ByteOrdering, Header, Place};
@@ -22,21 +22,21 @@ struct Asked {
     side: u32,
 }
 
-fn main(rt: HostRuntime) -> io::Result<()> {
-    let words: Vec<String> = std::env::args(&rt)?.collect(rt.alloc())?;
+/// Reads or writes as the words ask.
+pub fn run(rt: &HostRuntime, words: &[String]) -> io::Result<()> {
     let asked = Asked {
-        writes: is(&words, 1, "write"),
-        bits: number(&words, 2)
+        writes: is(words, 1, "write"),
+        bits: number(words, 2)
             .and_then(|bits| u8::try_from(bits).ok())
             .unwrap_or(16),
-        signed: !is(&words, 3, "unsigned"),
-        order: if is(&words, 4, "M") {
+        signed: !is(words, 3, "unsigned"),
+        order: if is(words, 4, "M") {
             ByteOrdering::Most
         } else {
             ByteOrdering::Least
         },
-        rounds: number(&words, 5).unwrap_or(1),
-        side: number(&words, 6).unwrap_or(8),
+        rounds: number(words, 5).unwrap_or(1),
+        side: number(words, 6).unwrap_or(8),
     };
     let Some(header) = header(&asked) else {
         return Err(io::Error::new(io::ErrorKind::InvalidInput, "no such raster"));
@@ -49,14 +49,6 @@ fn main(rt: HostRuntime) -> io::Result<()> {
     };
     println!(rt; "{}", sum?)?;
     Ok(())
-}
-
-fn is(words: &[String], place: usize, word: &str) -> bool {
-    words.get(place).is_some_and(|given| given.as_str() == word)
-}
-
-fn number(words: &[String], place: usize) -> Option<u32> {
-    words.get(place)?.as_str().parse::<u32>().ok()
 }
 
 /// The header of a square raster without bytes between its pixels.

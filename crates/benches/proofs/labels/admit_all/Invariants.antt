@@ -1,5 +1,5 @@
 use Rattle.std.proofs.Common.{◌≤◌}
-use Rattle.label_bench.proofs.admit_all.Given as goal
+use Rattle.benches.proofs.labels.admit_all.Given as goal
 
 -- at most one label more in each turn
 abbrev pub invariant-loop-turn : goal.invariant-loop-turn

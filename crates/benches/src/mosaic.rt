@@ -1,27 +1,24 @@
 //! Reads four tiles and joins them, some rounds long, to be timed from outside (bench/mosaic.sh).
 //!
-//! The words are the side of the tiles and how many rounds. The tiles lie in a square and agree; one sample of 64 is a void.
-#![tactic(auto)]
+//! The words behind `mosaic` are the side of the tiles and how many rounds. The tiles lie in a square and agree; one sample of 64 is a void.
 
+use crate::words::number;
 use drain_grid::tile::is_side;
 use drain_grid::{Cell, Elevation};
 use drain_hgt::{TileName, read_tile};
 use drain_mosaic::{Layout, join};
 use std::alloc::{AllocError, Global};
+use std::io;
 
-fn main(rt: HostRuntime) -> std::io::Result<()> {
-    let words: Vec<String> = std::env::args(&rt)?.collect(rt.alloc())?;
-    let side = number(&words, 1).unwrap_or(121);
-    let rounds = number(&words, 2).unwrap_or(1);
+/// Joins as the words ask.
+pub fn run(rt: &HostRuntime, words: &[String]) -> io::Result<()> {
+    let side = number(words, 1).unwrap_or(121);
+    let rounds = number(words, 2).unwrap_or(1);
     match join_rounds(rt.alloc(), side, rounds) {
         Some(sum) => println!(rt; "joined {sum}")?,
         None => println!(rt; "refused")?,
     }
     Ok(())
-}
-
-fn number(words: &[String], place: usize) -> Option<u32> {
-    words.get(place)?.as_str().parse::<u32>().ok()
 }
 
 /// The sum of what the rounds gave, none where a call refused.

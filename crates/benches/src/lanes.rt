@@ -1,28 +1,24 @@
 //! Looks for the first place where one row is below another, by `first_below` or by a plain loop, to be timed from outside
 //! (bench/lanes.sh).
 //!
-//! The words are `lanes` or `plain`, the length of a row, and how many rounds. Each round raises one place of the upper
+//! The words behind `lanes` are `lanes` or `plain`, the length of a row, and how many rounds. Each round raises one place of the upper
 //! row, and none is below. It prints how many rounds found a place: 0.
-#![tactic(auto)]
 
 ghost use Rattle.std.specs.Prelude.{◌≡◌, length};
 
+use crate::words::number;
 use drain_fill::first_below;
 use std::alloc::{AllocError, Global};
 use std::io;
 
-fn main(rt: HostRuntime) -> io::Result<()> {
-    let words: Vec<String> = std::env::args(&rt)?.collect(rt.alloc())?;
+/// Looks as the words ask.
+pub fn run(rt: &HostRuntime, words: &[String]) -> io::Result<()> {
     let in_lanes = words.get(1).is_none_or(|word| word.as_str() != "plain");
-    let len = number(&words, 2).unwrap_or(67) as usize;
-    let rounds = number(&words, 3).unwrap_or(3);
+    let len = number(words, 2).unwrap_or(67) as usize;
+    let rounds = number(words, 3).unwrap_or(3);
     let found = search(rt.alloc(), in_lanes, len, rounds)?;
     println!(rt; "{found}")?;
     Ok(())
-}
-
-fn number(words: &[String], place: usize) -> Option<u32> {
-    words.get(place)?.as_str().parse::<u32>().ok()
 }
 
 /// How many rounds find a place.
