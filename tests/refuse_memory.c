@@ -3,7 +3,10 @@
    this and the next; and one that is refused this and every later one. A line on standard error tells how each ended, behind what
    the copy wrote; then the allocation is granted. So one run refuses each allocation of the test in every way, and no count of
    them is needed. A test that read a file or had a thread couldn't be copied so. It includes no header, and so needs none but the
-   compiler. */
+   compiler.
+
+   A test may ask whether its last allocation was refused, by an allocation of ASKED bytes (crates/refused_memory), which is refused
+   where it was. From there on each is granted, and no copy is made. */
 
 typedef __SIZE_TYPE__ size_t;
 
@@ -18,14 +21,17 @@ extern unsigned alarm(unsigned);
 extern void _exit(int);
 extern int dprintf(int, const char *, ...);
 
-enum { STANDARD_ERROR = 2, NO_MEMORY = 12, MOST_SECONDS = 60, ALARM = 14 };
+enum { STANDARD_ERROR = 2, NO_MEMORY = 12, MOST_SECONDS = 60, ALARM = 14, ASKED = 1000003 };
 
-static enum { COPIES, IS_COPY, IS_BUSY } state = COPIES;
+static enum { COPIES, IS_COPY, GRANTS } state = COPIES;
 
 /* How many allocations are still refused in a copy. */
 static long refusals;
 
 static long count;
+
+/* Whether the last allocation was refused. */
+static int was_refused;
 
 /* How a copy ends that is refused so many allocations from this one on. In the copy itself it is told that it is one. */
 static int copy_refused(const char *way, long many, int *is_copy) {
@@ -46,12 +52,12 @@ static int copy_refused(const char *way, long many, int *is_copy) {
 }
 
 /* Whether the allocation that now comes is refused. */
-static int is_refused(void) {
-    if (state == IS_BUSY)
+static int refuses(void) {
+    if (state == GRANTS)
         return 0;
     if (state == IS_COPY)
         return refusals > 0 && refusals--;
-    state = IS_BUSY;
+    state = GRANTS;
     count++;
     int is_copy = 0;
     if (copy_refused("alone", 1, &is_copy) == 0 && !is_copy)
@@ -63,21 +69,30 @@ static int is_refused(void) {
     return is_copy;
 }
 
+/* The same of one of so many bytes, which may be a question. */
+static int is_refused(size_t size) {
+    if (size == ASKED)
+        state = GRANTS;
+    else
+        was_refused = refuses();
+    return was_refused;
+}
+
 static void *refusal(void) {
     *__errno_location() = NO_MEMORY;
     return 0;
 }
 
-void *malloc(size_t size) { return is_refused() ? refusal() : __libc_malloc(size); }
+void *malloc(size_t size) { return is_refused(size) ? refusal() : __libc_malloc(size); }
 
-void *calloc(size_t items, size_t size) { return is_refused() ? refusal() : __libc_calloc(items, size); }
+void *calloc(size_t items, size_t size) { return is_refused(items * size) ? refusal() : __libc_calloc(items, size); }
 
-void *realloc(void *old, size_t size) { return is_refused() ? refusal() : __libc_realloc(old, size); }
+void *realloc(void *old, size_t size) { return is_refused(size) ? refusal() : __libc_realloc(old, size); }
 
-void *aligned_alloc(size_t align, size_t size) { return is_refused() ? refusal() : __libc_memalign(align, size); }
+void *aligned_alloc(size_t align, size_t size) { return is_refused(size) ? refusal() : __libc_memalign(align, size); }
 
 int posix_memalign(void **to, size_t align, size_t size) {
-    void *given = is_refused() ? 0 : __libc_memalign(align, size);
+    void *given = is_refused(size) ? 0 : __libc_memalign(align, size);
     if (!given)
         return NO_MEMORY;
     *to = given;

@@ -2,7 +2,8 @@
 # Refuses each allocation of each test of a crate: alone; where the test still passes, as one allocation may be tried again, together with
 # the next; and together with every later one. It looks that a test that doesn't pass tells of want of memory, and of nothing else: by its
 # error, or by the left side of an assertion. Only where an allocation is refused alone may a test pass; and those of seams_without_memory.txt
-# may where their last one is: it is room for a mosaic whose tiles differ, and that is told without the room. The tests are those that `rt ci` or
+# may where their last one is: it is room for a mosaic whose tiles differ, and that is told without the room. A test .._after_refused_memory
+# looks itself that its first call tells of it, and then calls again: it has to pass each time. The tests are those that `rt ci` or
 # `rt test` left in out/; tests/refuse_memory.c refuses.
 # Usage: tests/refused_memory.sh CRATE...
 set -u
@@ -26,11 +27,23 @@ judge() {
         }
         function forget() { told = 0; text = "" }
         /^== test / { test = $3; tests++; forget(); next }
-        /^== ended / { if ($3 != 0) fails("its own run ended with status " $3); forget(); next }
+        /^== ended / {
+            if ($3 != 0) fails("its own run ended with status " $3)
+            else if (test ~ /_after_refused_memory$/ && !again[test]) fails("nothing was refused")
+            forget()
+            next
+        }
         /^refused [0-9]+ (alone|and the next|and later): -?[0-9]+$/ {
             way = $3 == "alone:" ? "alone" : $4 == "later:" ? "with every later one" : "with the next"
             refused[way]++
             what = "allocation " $2 " refused " way
+            if (test ~ /_after_refused_memory$/) {
+                if ($NF != 0) fails(what ", it does not pass")
+                called_again++
+                again[test]++
+                forget()
+                next
+            }
             if ($NF == 0 && way != "alone" && !(test in tells_a_seam && !seams[test, way]++)) fails(what ", it passes")
             else if ($NF == 0 && way == "alone") passed++
             else if ($NF == 0) told_seams++
@@ -50,7 +63,8 @@ judge() {
             printf "%s: in %d tests %d allocations refused alone, %d with the next, %d with every later one; ", crate, tests, \
                 refused["alone"], refused["with the next"], refused["with every later one"]
             print "each time " (passed ? "but " passed " of the first, where the test passed, " : "") \
-                (told_seams ? "and " told_seams " whose answer is a seam, " : "") "it was told"
+                (told_seams ? "and " told_seams " whose answer is a seam, " : "") "it was told" \
+                (called_again ? "; " called_again " times the calls after it gave their answer" : "")
         }
     ' "$top/tests/seams_without_memory.txt" -
 }

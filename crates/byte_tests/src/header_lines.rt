@@ -101,25 +101,34 @@ fn texts_of_faults(rt: HostRuntime) -> Result<(), Fail> {
     Ok(())
 }
 
-/// The header of a conditioned raster of 3 by 3 pixels, and one without a no-data number that lies west of Greenwich.
+/// The header of a conditioned raster of 3 by 3 pixels.
+pub const CONDITIONED: Header = Header {
+    rows: 3,
+    cols: 3,
+    bits: 16,
+    order: ByteOrdering::Least,
+    signed: true,
+    skip: 0,
+    row_bytes: 6,
+    place: Place {
+        ulx: 0,
+        uly: 1_000_000_000_000_000,
+        xdim: 500_000_000_000_000,
+        ydim: 500_000_000_000_000,
+    },
+    nodata: Some(-32768),
+};
+
+/// Its text.
+pub const CONDITIONED_TEXT: &str =
+    "BYTEORDER I\nLAYOUT BIL\nNROWS 3\nNCOLS 3\nNBANDS 1\nNBITS 16\nBANDROWBYTES 6\n\
+     TOTALROWBYTES 6\nSKIPBYTES 0\nPIXELTYPE SIGNEDINT\nULXMAP 0.000000000000000\n\
+     ULYMAP 1.000000000000000\nXDIM 0.500000000000000\nYDIM 0.500000000000000\n\
+     NODATA -32768\n";
+
+/// That header, and one without a no-data number that lies west of Greenwich.
 #[test]
 fn headers_as_text(rt: HostRuntime) -> Result<(), Fail> {
-    let conditioned = Header {
-        rows: 3,
-        cols: 3,
-        bits: 16,
-        order: ByteOrdering::Least,
-        signed: true,
-        skip: 0,
-        row_bytes: 6,
-        place: Place {
-            ulx: 0,
-            uly: 1_000_000_000_000_000,
-            xdim: 500_000_000_000_000,
-            ydim: 500_000_000_000_000,
-        },
-        nodata: Some(-32768),
-    };
     let western = Header {
         rows: 1,
         cols: 28801,
@@ -137,13 +146,7 @@ fn headers_as_text(rt: HostRuntime) -> Result<(), Fail> {
         nodata: None,
     };
     for (header, wanted) in [
-        (
-            conditioned,
-            "BYTEORDER I\nLAYOUT BIL\nNROWS 3\nNCOLS 3\nNBANDS 1\nNBITS 16\nBANDROWBYTES 6\n\
-             TOTALROWBYTES 6\nSKIPBYTES 0\nPIXELTYPE SIGNEDINT\nULXMAP 0.000000000000000\n\
-             ULYMAP 1.000000000000000\nXDIM 0.500000000000000\nYDIM 0.500000000000000\n\
-             NODATA -32768\n",
-        ),
+        (CONDITIONED, CONDITIONED_TEXT),
         (
             western,
             "BYTEORDER M\nLAYOUT BIL\nNROWS 1\nNCOLS 28801\nNBANDS 1\nNBITS 8\nBANDROWBYTES 28801\n\

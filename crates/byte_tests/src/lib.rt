@@ -20,6 +20,8 @@ mod rasters;
 #[cfg(test)]
 mod row_sources;
 #[cfg(test)]
+mod second_calls;
+#[cfg(test)]
 mod texts;
 #[cfg(test)]
 mod tiles;

@@ -12,25 +12,25 @@ use std::alloc::{AllocError, Global};
 use std::test::Fail;
 
 /// The samples 1 2 and 3 4, and a byte behind them.
-const WEST: [u8; 9] = [0, 1, 0, 2, 0, 3, 0, 4, 0];
+pub const WEST: [u8; 9] = [0, 1, 0, 2, 0, 3, 0, 4, 0];
 
 /// The samples 2 5 and 4 6, which have the west tile's column 2 4.
-const EAST: [u8; 9] = [0, 2, 0, 5, 0, 4, 0, 6, 0];
+pub const EAST: [u8; 9] = [0, 2, 0, 5, 0, 4, 0, 6, 0];
 
 /// The same with a 9 in place of the first.
 const OTHER: [u8; 9] = [0, 9, 0, 5, 0, 4, 0, 6, 0];
 
 /// The names of a tile and of that east of it.
-const BESIDE: [&str; 2] = ["N00E000.hgt", "N00E001.hgt"];
+pub const BESIDE: [&str; 2] = ["N00E000.hgt", "N00E001.hgt"];
 
 /// What a call answers.
-type Answer = Result<RowStep, ReadFault>;
+pub type Answer = Result<RowStep, ReadFault>;
 
 /// What four calls gave: their answers; how many numbers, and the first six of them; the seam, and the tile of wrong length.
-type Given = ([Answer; 4], (usize, [i64; 6]), Option<Cell>, Option<usize>);
+pub type Given = ([Answer; 4], (usize, [i64; 6]), Option<Cell>, Option<usize>);
 
 /// A tile of this source.
-fn input<'a>(alloc: Global, body: ScriptSource<'a>) -> TileInput<ScriptSource<'a>> {
+pub fn input<'a>(alloc: Global, body: ScriptSource<'a>) -> TileInput<ScriptSource<'a>> {
     TileInput {
         name: ByteList::new(Vec::new(alloc)),
         body,
@@ -110,7 +110,7 @@ fn four_calls<'a>(
 }
 
 /// What four calls give where the sources never fail.
-fn of_bytes(
+pub fn of_bytes(
     alloc: Global,
     names: [&str; 2],
     first: &[u8],
@@ -133,7 +133,7 @@ const WHOLE: [Answer; 4] = [
 ];
 
 /// The numbers of whole tiles.
-const NUMBERS: [i64; 6] = [1, 2, 5, 3, 4, 6];
+pub const NUMBERS: [i64; 6] = [1, 2, 5, 3, 4, 6];
 
 #[test]
 fn rows_of_two_tiles(rt: HostRuntime) -> Result<(), Fail> {

@@ -13,13 +13,13 @@ use std::alloc::{AllocError, Global};
 use std::test::Fail;
 
 /// Two rows of two samples, and a byte behind them.
-const TILE: [u8; 9] = [0x00, 0x01, 0x80, 0x00, 0xff, 0xff, 0x7f, 0xff, 0x00];
+pub const TILE: [u8; 9] = [0x00, 0x01, 0x80, 0x00, 0xff, 0xff, 0x7f, 0xff, 0x00];
 
 /// The samples of the tile, in row order.
-const SAMPLES: [i64; 4] = [1, -32768, -1, 32767];
+pub const SAMPLES: [i64; 4] = [1, -32768, -1, 32767];
 
 /// What a row source answers.
-type Answer = Result<RowStep, ReadFault>;
+pub type Answer = Result<RowStep, ReadFault>;
 
 /// Two rows, and then the end.
 const WHOLE: [Answer; 4] = [
@@ -54,7 +54,7 @@ const FAILED: [Answer; 4] = [
 ];
 
 /// How many numbers there are, and the first four, with zeros where there are fewer.
-type Numbers = (usize, [i64; 4]);
+pub type Numbers = (usize, [i64; 4]);
 
 /// What these numbers are.
 fn numbers_of(numbers: &[i64]) -> Numbers {
@@ -82,7 +82,7 @@ fn four_calls<'a, S: RowSource<ScriptSource<'a>>>(
 }
 
 /// What four calls give of a tile of side 2 with these bytes.
-fn of_tile(
+pub fn of_tile(
     alloc: Global,
     bytes: &[u8],
     most: usize,
@@ -95,7 +95,7 @@ fn of_tile(
 }
 
 /// What four calls give of the padded raster with these bytes.
-fn of_raster(
+pub fn of_raster(
     alloc: Global,
     order: ByteOrdering,
     bytes: &[u8],

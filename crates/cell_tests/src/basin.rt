@@ -2,7 +2,8 @@
 
 use crate::agree::{same, same_rule};
 use drain_basin::{OutletLabels, fault};
-use drain_grid::{CellValues, Patch, Rule};
+use drain_grid::{CellValues, OutOfMemory, Patch, Rule};
+use refused_memory::gave_out;
 use std::test::Fail;
 
 /// The patch of a cell with this direction and label 5, whose east has label 7 and whose other neighbours have label 5.
@@ -85,17 +86,20 @@ fn far_apart(number: u8) -> i64 {
     i64::from(number) * 16
 }
 
-/// Enough labels that the tree of words grows. A call may find no memory.
+/// Enough labels that the tree of words grows. Where a call finds no memory, those admitted before are told without any, and it is made again.
 #[test]
-fn holds_its_labels_where_memory_is_refused(rt: HostRuntime) -> Result<(), Fail> {
+fn holds_its_labels_after_refused_memory(rt: HostRuntime) -> Result<(), Fail> {
     let mut labels = OutletLabels::new(rt.alloc());
     for number in 0..40u8 {
         let label = far_apart(number);
-        if labels.admit(label) != Ok(true) {
+        let answer = labels.admit(label);
+        if answer != Ok(true) {
+            same(&rt, (number, "refused"), answer, Err(OutOfMemory));
             for earlier in 0..number {
                 let admitted = labels.admit(far_apart(earlier));
                 same(&rt, (earlier, "before"), admitted, Ok(false));
             }
+            same(&rt, number, gave_out(rt.alloc()), true);
             same(&rt, (number, "again"), labels.admit(label), Ok(true));
         }
     }
