@@ -38,6 +38,14 @@ impl Bytes {
         }
     }
 
+    /// The first of these bytes, so many of them.
+    pub fn first(&self, length: usize) -> Bytes {
+        Bytes {
+            room: self.room,
+            length: self.length.min(length),
+        }
+    }
+
     /// Takes the last byte away.
     pub fn pop(&mut self) {
         self.length = self.length.saturating_sub(1);

@@ -4,11 +4,17 @@
 #[cfg(test)]
 mod accepted;
 #[cfg(test)]
+mod agree;
+#[cfg(test)]
 mod bytes;
+#[cfg(test)]
+mod cuts;
 #[cfg(test)]
 mod example;
 #[cfg(test)]
 mod headers;
+#[cfg(test)]
+mod huge_numbers;
 #[cfg(test)]
 mod mosaics;
 #[cfg(test)]
@@ -19,5 +25,7 @@ mod refused;
 mod rejected;
 #[cfg(test)]
 mod runs;
+#[cfg(test)]
+mod second_checks;
 #[cfg(test)]
 mod sources;

@@ -52,10 +52,11 @@ pub fn tiles_at_once<'a>(
 
 fn raster_at_once<'a>(
     alloc: Global,
+    header: &[u8],
     raster: &'a RasterBytes,
 ) -> Result<RasterInput<SliceSource<'a>>, AllocError> {
     Ok(RasterInput {
-        header: list(alloc, raster.header.as_slice())?,
+        header: list(alloc, header)?,
         body: SliceSource::new(raster.body.as_slice()),
     })
 }
@@ -66,9 +67,41 @@ pub fn products_at_once<'a>(
     example: &'a Example,
 ) -> Result<Products<SliceSource<'a>>, AllocError> {
     let input = |product: Product| -> Result<RasterInput<SliceSource<'_>>, AllocError> {
-        raster_at_once(alloc, example.raster(product))
+        let raster = example.raster(product);
+        raster_at_once(alloc, raster.header.as_slice(), raster)
     };
     PerProduct::from_each(&input)
+}
+
+/// An example with this header of con, which may have more bytes than the others.
+#[derive(Clone, Copy)]
+struct ConHeaded<'a> {
+    example: &'a Example,
+    header: &'a [u8],
+}
+
+fn raster_of_con_headed<'a>(
+    alloc: Global,
+    product: Product,
+    headed: ConHeaded<'a>,
+) -> Result<RasterInput<SliceSource<'a>>, AllocError> {
+    let raster = headed.example.raster(product);
+    match product {
+        Product::Con => raster_at_once(alloc, headed.header, raster),
+        _ => raster_at_once(alloc, raster.header.as_slice(), raster),
+    }
+}
+
+/// The line of a check whose sources give all bytes at once, with this header of con.
+pub fn told_of_header(alloc: Global, example: &Example, header: &[u8]) -> Result<Line, AllocError> {
+    let headed = ConHeaded { example, header };
+    let input = |product: Product| -> Result<RasterInput<SliceSource<'_>>, AllocError> {
+        raster_of_con_headed(alloc, product, headed)
+    };
+    let mut tiles = tiles_at_once(alloc, example.tiles())?;
+    let mut products = PerProduct::from_each(&input)?;
+    let answer = check(alloc, example.side, &mut tiles, &mut products);
+    Ok(report(&answer))
 }
 
 /// A source that gives one byte at a call.
@@ -146,7 +179,7 @@ pub fn told_slowly(alloc: Global, example: &Example, faulty: Faulty) -> Result<L
 }
 
 /// The line of a check whose sources give all bytes at once.
-fn told_at_once(alloc: Global, example: &Example) -> Result<Line, AllocError> {
+pub fn told_at_once(alloc: Global, example: &Example) -> Result<Line, AllocError> {
     let mut tiles = tiles_at_once(alloc, example.tiles())?;
     let mut products = products_at_once(alloc, example)?;
     let answer = check(alloc, example.side, &mut tiles, &mut products);

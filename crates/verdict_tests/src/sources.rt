@@ -1,5 +1,6 @@
 //! Sources that are interrupted or fail.
 
+use crate::agree::same_line;
 use crate::example::one_tile;
 use crate::runs::{Faulty, Owner, told_slowly};
 use drain_device::DeviceFault;
@@ -8,7 +9,7 @@ use drain_grid::Product;
 use drain_verdict::line::Line;
 use std::alloc::Global;
 use std::test::Fail;
-use worked_grids::{PIT_LINE, pit};
+use worked_grids::{PIT_LINE, SLOPE_LINE, pit, slope};
 
 const FAILED: &str = "failed ReadFailed";
 
@@ -74,6 +75,40 @@ fn never_takes_a_failed_source_for_its_end(rt: HostRuntime) -> Result<(), Fail> 
             };
             let told = pit_where(rt.alloc(), owner, call, last, DeviceFault::Failed)?;
             assert_eq!(rt; told.as_str(), line, "{owner:?} {call}");
+        }
+    }
+    Ok(())
+}
+
+/// Each body of the slope faults in its middle, and then goes on.
+#[test]
+fn bodies_that_go_on_after_a_fault(rt: HostRuntime) -> Result<(), Fail> {
+    let slope = one_tile(4, &slope())?;
+    for (owner, middle) in [
+        (Owner::Tile, 17u64),
+        (Owner::Raster(Product::Con), 17),
+        (Owner::Raster(Product::Dir), 9),
+        (Owner::Raster(Product::Acc), 33),
+        (Owner::Raster(Product::Bas), 33),
+        (Owner::Raster(Product::Spl), 9),
+        (Owner::Raster(Product::Rnk), 33),
+    ] {
+        for (times, answer, line) in [
+            (1u64, DeviceFault::Failed, FAILED),
+            (999, DeviceFault::Interrupted, SLOPE_LINE),
+            (1000, DeviceFault::Interrupted, FAILED),
+        ] {
+            let script = [Scripted {
+                first: middle,
+                last: middle.saturating_add(times).saturating_sub(1),
+                answer,
+            }];
+            let faulty = Faulty {
+                owner,
+                script: &script,
+            };
+            let given = told_slowly(rt.alloc(), &slope, faulty)?;
+            same_line(&rt, (owner, times), &given, line);
         }
     }
     Ok(())

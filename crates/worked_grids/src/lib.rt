@@ -31,6 +31,9 @@ pub fn level() -> [i64; 28] {
     ]
 }
 
+/// The line of their acceptance.
+pub const LEVEL_LINE: &str = "accepted rows=2 cols=2 data=4 raised=0 outlets=4";
+
 /// Four voids.
 pub fn voids() -> [i64; 28] {
     [
@@ -44,6 +47,9 @@ pub fn voids() -> [i64; 28] {
     ]
 }
 
+/// The line of their acceptance.
+pub const VOIDS_LINE: &str = "accepted rows=2 cols=2 data=0 raised=0 outlets=0";
+
 /// Rows that fall from west to east.
 pub fn slope() -> [i64; 112] {
     [
@@ -56,6 +62,9 @@ pub fn slope() -> [i64; 112] {
         3, 2, 1, 0, 3, 2, 1, 0, 3, 2, 1, 0, 3, 2, 1, 0, // rnk
     ]
 }
+
+/// The line of an acceptance of the slope.
+pub const SLOPE_LINE: &str = "accepted rows=4 cols=4 data=16 raised=0 outlets=4";
 
 /// A flat, on which two cells lead to each other.
 pub fn ring() -> [i64; 112] {

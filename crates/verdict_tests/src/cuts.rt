@@ -1,0 +1,160 @@
+//! The inputs of the slope, each cut to each shorter length.
+
+use crate::agree::same_line;
+use crate::bytes::Bytes;
+use crate::example::one_tile;
+use crate::runs::{told, told_at_once};
+use drain_grid::Product;
+use std::test::Fail;
+use worked_grids::{SLOPE_LINE, slope};
+
+#[test]
+fn a_tile_at_each_length(rt: HostRuntime) -> Result<(), Fail> {
+    let whole = one_tile(4, &slope())?;
+    for length in 0..=32usize {
+        let line = if length < 32 {
+            "refused BadTileLength N00E000.hgt"
+        } else {
+            SLOPE_LINE
+        };
+        let mut cut = whole;
+        cut.tiles[0].body = whole.tiles[0].body.first(length);
+        let given = told(rt.alloc(), &cut)?;
+        same_line(&rt, length, &given, line);
+    }
+    Ok(())
+}
+
+#[test]
+fn each_raster_at_each_length(rt: HostRuntime) -> Result<(), Fail> {
+    let whole = one_tile(4, &slope())?;
+    for (product, needed, short) in [
+        (Product::Con, 32usize, "refused RasterShort con"),
+        (Product::Dir, 16, "refused RasterShort dir"),
+        (Product::Acc, 64, "refused RasterShort acc"),
+        (Product::Bas, 64, "refused RasterShort bas"),
+        (Product::Spl, 16, "refused RasterShort spl"),
+        (Product::Rnk, 64, "refused RasterShort rnk"),
+    ] {
+        for length in 0..=needed {
+            let line = if length < needed { short } else { SLOPE_LINE };
+            let mut cut = whole;
+            cut.raster_mut(product).body = whole.raster(product).body.first(length);
+            let given = told(rt.alloc(), &cut)?;
+            same_line(&rt, (product, length), &given, line);
+        }
+    }
+    Ok(())
+}
+
+/// The lines of con's header on the slope.
+const LINES: [&str; 15] = [
+    "BYTEORDER I",
+    "LAYOUT BIL",
+    "NROWS 4",
+    "NCOLS 4",
+    "NBANDS 1",
+    "NBITS 16",
+    "BANDROWBYTES 8",
+    "TOTALROWBYTES 8",
+    "SKIPBYTES 0",
+    "PIXELTYPE SIGNEDINT",
+    "ULXMAP 0.000000000000000",
+    "ULYMAP 1.000000000000000",
+    "XDIM 0.333333333333333",
+    "YDIM 0.333333333333333",
+    "NODATA -32768",
+];
+
+const NO_ROWS: &str = "refused BadHeader con MissingKey NROWS";
+
+const NO_COLS: &str = "refused BadHeader con MissingKey NCOLS";
+
+const NO_WEST: &str = "refused BadHeader con MissingKey ULXMAP";
+
+const NO_NORTH: &str = "refused BadHeader con MissingKey ULYMAP";
+
+const NO_WIDTH: &str = "refused BadHeader con MissingKey XDIM";
+
+const NO_HEIGHT: &str = "refused BadHeader con MissingKey YDIM";
+
+/// What is told of a header that is cut in this line, counted from 1, with so many bytes of it or more. A keyword that is cut says nothing, one without
+/// a value is told, and what is left of a number is a number; that of YDIM is near enough to a third from nine digits on.
+const TOLD: [(usize, usize, &str); 32] = [
+    (1, 0, NO_ROWS),
+    (1, 9, "refused BadHeader con BadValue 1"),
+    (1, 11, NO_ROWS),
+    (2, 6, "refused BadHeader con BadValue 2"),
+    (2, 10, NO_ROWS),
+    (3, 5, "refused BadHeader con BadValue 3"),
+    (3, 7, NO_COLS),
+    (4, 5, "refused BadHeader con BadValue 4"),
+    (4, 7, NO_WEST),
+    (5, 6, "refused BadHeader con BadValue 5"),
+    (5, 8, NO_WEST),
+    (6, 5, "refused BadHeader con BadValue 6"),
+    (6, 7, NO_WEST),
+    (7, 12, "refused BadHeader con BadValue 7"),
+    (7, 14, NO_WEST),
+    (8, 13, "refused BadHeader con BadValue 8"),
+    (8, 15, NO_WEST),
+    (9, 9, "refused BadHeader con BadValue 9"),
+    (9, 11, NO_WEST),
+    (10, 9, "refused BadHeader con BadValue 10"),
+    (10, 11, NO_WEST),
+    (11, 6, "refused BadHeader con BadValue 11"),
+    (11, 8, NO_NORTH),
+    (12, 6, "refused BadHeader con BadValue 12"),
+    (12, 8, NO_WIDTH),
+    (13, 4, "refused BadHeader con BadValue 13"),
+    (13, 6, NO_HEIGHT),
+    (14, 4, "refused BadHeader con BadValue 14"),
+    (14, 6, "refused Misplaced con"),
+    (14, 16, SLOPE_LINE),
+    (15, 6, "refused BadHeader con BadValue 15"),
+    (15, 9, SLOPE_LINE),
+];
+
+/// Whether this row of the table begins at a cut in this line, with so many bytes of it.
+fn begins(row: usize, line: usize, bytes: usize) -> bool {
+    match TOLD.get(row) {
+        Some((from_line, from_bytes, _)) => *from_line == line && *from_bytes == bytes,
+        None => false,
+    }
+}
+
+/// What this row of the table tells.
+fn told_by(row: usize) -> &'static str {
+    match TOLD.get(row) {
+        Some((_, _, told)) => *told,
+        None => "",
+    }
+}
+
+#[test]
+fn a_header_at_each_length(rt: HostRuntime) -> Result<(), Fail> {
+    let whole = one_tile(4, &slope())?;
+    let mut before = Bytes::new();
+    let mut number: usize = 0;
+    let mut row: usize = 0;
+    for line in LINES {
+        number = number.saturating_add(1);
+        for bytes in 0..=line.len() {
+            if begins(row.saturating_add(1), number, bytes) {
+                row = row.saturating_add(1);
+            }
+            let mut cut = whole;
+            cut.con.header = before;
+            let left = Bytes::of(line.as_bytes()).first(bytes);
+            cut.con.header.extend(left.as_slice());
+            let given = told_at_once(rt.alloc(), &cut)?;
+            same_line(&rt, (number, bytes), &given, told_by(row));
+        }
+        before.extend(line.as_bytes());
+        before.push(b'\n');
+    }
+    if row.saturating_add(1) != TOLD.len() {
+        return Err("every row of the table".into());
+    }
+    Ok(())
+}

@@ -1,0 +1,52 @@
+//! Checks that come after one that found no memory: they tell what is right. Of itself memory is there; `tests/refuse_memory.c` refuses it.
+
+use crate::agree::same_line;
+use crate::example::{Example, one_tile};
+use crate::runs::told_at_once;
+use drain_verdict::line::Line;
+use drain_verdict::{Refusal, report};
+use refused_memory::owed;
+use std::alloc::Global;
+use std::process::Abort;
+use std::test::Fail;
+use worked_grids::{LEVEL_LINE, PIT_LINE, SLOPE_LINE, VOIDS_LINE, level, pit, slope, voids};
+
+/// The line of a check. Its inputs' want of memory is told as its own.
+fn line_of(alloc: Global, example: &Example) -> Line {
+    match told_at_once(alloc, example) {
+        Ok(line) => line,
+        Err(_) => report(&Err(Refusal::OutOfMemory)),
+    }
+}
+
+/// Ends the test where a check tells another line than is owed, or one after it, on fresh inputs, another than the right one.
+fn checked_twice(rt: &impl Abort, alloc: Global, example: &Example, right: &str) {
+    let first = line_of(alloc, example);
+    let line = owed(alloc, "failed OutOfMemory", right);
+    same_line(rt, "first", &first, line);
+    same_line(rt, "again", &line_of(alloc, example), right);
+}
+
+#[test]
+fn pit_after_refused_memory(rt: HostRuntime) -> Result<(), Fail> {
+    checked_twice(&rt, rt.alloc(), &one_tile(3, &pit())?, PIT_LINE);
+    Ok(())
+}
+
+#[test]
+fn level_tile_after_refused_memory(rt: HostRuntime) -> Result<(), Fail> {
+    checked_twice(&rt, rt.alloc(), &one_tile(2, &level())?, LEVEL_LINE);
+    Ok(())
+}
+
+#[test]
+fn voids_after_refused_memory(rt: HostRuntime) -> Result<(), Fail> {
+    checked_twice(&rt, rt.alloc(), &one_tile(2, &voids())?, VOIDS_LINE);
+    Ok(())
+}
+
+#[test]
+fn slope_after_refused_memory(rt: HostRuntime) -> Result<(), Fail> {
+    checked_twice(&rt, rt.alloc(), &one_tile(4, &slope())?, SLOPE_LINE);
+    Ok(())
+}
