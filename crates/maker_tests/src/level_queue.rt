@@ -1,24 +1,24 @@
 //! The order in which pairs come out of a queue of levels.
 
+use drain_grid::OutOfMemory;
 use drain_maker::LevelQueue;
+use refused_memory::owed;
 use std::alloc::Global;
 use std::test::Fail;
 
-/// The first five that come out of a queue of so many cells, once these pairs were put in.
-fn popped(
-    alloc: Global,
-    cells: u8,
-    pushed: &[(i16, u32)],
-) -> Result<[Option<(i16, u32)>; 5], Fail> {
-    let mut queue = LevelQueue::new(alloc, usize::from(cells))?;
+/// The first five that come out.
+type FirstFive = [Option<(i16, u32)>; 5];
+
+/// The first five that come out of an empty queue, once these pairs were put in; none where an item is put in twice, or is beyond the cells.
+fn come_out(mut queue: LevelQueue, pushed: &[(i16, u32)]) -> Option<FirstFive> {
     for (level, item) in pushed.iter() {
         if (*item as usize) < queue.cells() && !queue.holds(*item) {
             queue.push(*level, *item);
         } else {
-            return Err("an item twice, or beyond the cells".into());
+            return None;
         }
     }
-    Ok([
+    Some([
         queue.pop(),
         queue.pop(),
         queue.pop(),
@@ -27,13 +27,21 @@ fn popped(
     ])
 }
 
+/// The first five that come out of a queue of so many cells, once these pairs were put in.
+fn popped(alloc: Global, cells: u8, pushed: &[(i16, u32)]) -> Result<FirstFive, Fail> {
+    let queue = LevelQueue::new(alloc, usize::from(cells))?;
+    Ok(come_out(queue, pushed).ok_or("an item twice, or beyond the cells")?)
+}
+
+/// Four pairs, and in which order they come out.
+const FOUR: [(i16, u32); 4] = [(5, 0), (3, 1), (5, 2), (3, 3)];
+
+const IN_ORDER: FirstFive = [Some((3, 1)), Some((3, 3)), Some((5, 0)), Some((5, 2)), None];
+
 #[test]
 fn takes_out_by_level_and_then_by_time(rt: HostRuntime) -> Result<(), Fail> {
-    let four = popped(rt.alloc(), 4, &[(5, 0), (3, 1), (5, 2), (3, 3)])?;
-    assert_eq!(rt;
-        four,
-        [Some((3, 1)), Some((3, 3)), Some((5, 0)), Some((5, 2)), None]
-    );
+    let four = popped(rt.alloc(), 4, &FOUR)?;
+    assert_eq!(rt; four, IN_ORDER);
     let ends = popped(rt.alloc(), 2, &[(32767, 0), (-32768, 1)])?;
     assert_eq!(rt;
         ends,
@@ -57,5 +65,22 @@ fn takes_items_in_again(rt: HostRuntime) -> Result<(), Fail> {
         (queue.pop(), queue.pop(), queue.holds(2)),
         (Some((-7, 2)), None, false)
     );
+    Ok(())
+}
+
+/// What comes out of a queue of four cells.
+fn four_popped(alloc: Global) -> Result<Option<FirstFive>, OutOfMemory> {
+    let queue = LevelQueue::new(alloc, 4)?;
+    Ok(come_out(queue, &FOUR))
+}
+
+/// Of itself memory is there; `tests/refuse_memory.c` refuses it.
+#[test]
+fn a_queue_after_refused_memory(rt: HostRuntime) -> Result<(), Fail> {
+    let right = Ok(Some(IN_ORDER));
+    let first = four_popped(rt.alloc());
+    let wanted = owed(rt.alloc(), Err(OutOfMemory), right);
+    assert_eq!(rt; first, wanted, "first");
+    assert_eq!(rt; four_popped(rt.alloc()), right, "again");
     Ok(())
 }

@@ -1,8 +1,12 @@
 //! The numbers of small tiles' products.
 
-use crate::made::{elevation, one_tile};
-use drain_grid::{Cell, Product, Raster};
-use drain_maker::make;
+use crate::made::{accepted, elevation, one_tile};
+use drain_grid::{Cell, Elevation, Product, Raster};
+use drain_hgt::TileName;
+use drain_maker::{MakeRefusal, make};
+use drain_mosaic::Layout;
+use drain_rules::Counts;
+use refused_memory::owed;
 use std::alloc::Global;
 use std::test::Fail;
 
@@ -147,5 +151,52 @@ fn accumulation_at_a_pit(rt: HostRuntime) -> Result<(), Fail> {
     counts.list[..9].sort_unstable();
     let wanted = [1, 1, 1, 1, 1, 1, 1, 1, 2];
     assert_eq!(rt; (in_middle, counts.as_slice()), (1, wanted.as_slice()));
+    Ok(())
+}
+
+/// A pit in the middle, lower than the edge.
+const PIT: [i16; 9] = [5, 5, 5, 5, 1, 5, 5, 5, 5];
+
+/// The first nine numbers of con that is made of the pit. Its inputs' want of memory is told as the maker's own.
+fn con_of_pit(alloc: Global, name: TileName) -> Result<Option<[i64; 9]>, MakeRefusal> {
+    let Ok(layout) = Layout::new(alloc, 3, &[name]) else {
+        return Err(MakeRefusal::OutOfMemory);
+    };
+    let Ok(samples) = Vec::from_slice(alloc, &PIT) else {
+        return Err(MakeRefusal::OutOfMemory);
+    };
+    let shape = layout.shape();
+    if samples.len() != shape.cells() {
+        return Ok(None);
+    }
+    let elevation = Elevation::new(shape, samples);
+    let products = make(alloc, &layout, &elevation)?;
+    let con = Numbers::of(&products.con);
+    Ok(con.as_slice().try_into().ok())
+}
+
+/// What is counted of the products that are made of the pit.
+fn counts_of_pit(alloc: Global) -> Result<Counts, Fail> {
+    let layout = one_tile(alloc, 3)?;
+    accepted(alloc, &layout, Vec::from_slice(alloc, &PIT)?)
+}
+
+/// Of itself memory is there; `tests/refuse_memory.c` refuses it.
+#[test]
+fn pit_after_refused_memory(rt: HostRuntime) -> Result<(), Fail> {
+    let name = TileName::parse(b"N00E000.hgt")?;
+    let right = Ok(Some([5; 9]));
+    let first = con_of_pit(rt.alloc(), name);
+    let wanted = owed(rt.alloc(), Err(MakeRefusal::OutOfMemory), right);
+    assert_eq!(rt; first, wanted, "first");
+    assert_eq!(rt; con_of_pit(rt.alloc(), name), right, "again");
+    let counted = Counts {
+        rows: 3,
+        cols: 3,
+        data_cells: 9,
+        raised: 1,
+        outlets: 8,
+    };
+    assert_eq!(rt; counts_of_pit(rt.alloc())?, counted, "accepted");
     Ok(())
 }
