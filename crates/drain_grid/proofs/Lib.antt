@@ -28,6 +28,9 @@ pub mod RuleNumbers
 pub mod Runs
 pub mod Slopes
 pub mod SpillPaths
+pub mod SinkFaults
+pub mod SinkListings
+pub mod SinkSearch
 pub mod Steps
 pub mod Tallies
 pub mod Upstream

@@ -1,5 +1,5 @@
 -- The definitions worked on small grids: slopes and the first steepest, runs, what drains through a cell, open cells.
-use Rattle.std.proofs.Common.{◌≡◌, ℤ, pos, negsuc, ◌-ℤ◌, true, [], ◌∷◌, Some, refl}
+use Rattle.std.proofs.Common.{◌≡◌, ℤ, pos, negsuc, ◌-ℤ◌, true, false, [], ◌∷◌, Some, refl}
 use Rattle.drain_grid.specs.declared.direction.Direction.{Direction}
 use Rattle.drain_grid.specs.declared.direction.Direction.TheVariants.{East, SouthEast, South}
 use Rattle.drain_grid.specs.declared.patch.Patch.{Patch}
@@ -14,7 +14,7 @@ use Rattle.drain_grid.proofs.WorkedGrids.{cell, slope_grid, slope_products, ring
 
 -- a patch whose centre has con `here`, with con east, southeast and south, and `here` elsewhere
 abbrev level : ℤ → Values
-level con = record { z = Some (pos 0); con = con; dir = pos 0; acc = pos 0; bas = pos 0; spl = pos 0; rnk = pos 0 }
+level con = record { z = Some (pos 0); sink = false; con = con; dir = pos 0; acc = pos 0; bas = pos 0; spl = pos 0; rnk = pos 0 }
 
 abbrev hollow : (here east southeast south : ℤ) → Patch
 hollow here east southeast south = record {

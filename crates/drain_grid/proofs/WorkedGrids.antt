@@ -3,7 +3,7 @@ use Rattle.std.proofs.Common.{ℕ, ℤ, pos, ◌==◌, ◌&&◌, if◌then◌els
 use Rattle.drain_grid.specs.declared.cell.Cell.{Cell}
 use Rattle.drain_grid.specs.Values.{NoDataNumbers}
 use Rattle.drain_grid.specs.Product.{default_numbers}
-use Rattle.drain_grid.specs.Grid.{Grid, Products}
+use Rattle.drain_grid.specs.Grid.{Grid, Products, no_sink}
 
 abbrev pub cell : ℕ → ℕ → Cell
 cell r k = record { row = r; col = k }
@@ -18,7 +18,7 @@ changed f at n c = if (c.row == at.row) && (c.col == at.col) then pos n else f c
 
 -- a square grid without voids
 abbrev pub square : ℕ → (Cell → ℤ) → Grid
-square side heights = record { extent = record { rows = side; cols = side }; elevation = λ c. Some (heights c) }
+square side heights = record { extent = record { rows = side; cols = side }; elevation = λ c. Some (heights c); sink = no_sink }
 
 -- the default no-data numbers
 abbrev pub defaults : NoDataNumbers
@@ -68,7 +68,7 @@ flat_products = record {
 
 -- side 2, all void
 abbrev pub void_grid : Grid
-void_grid = record { extent = record { rows = 2; cols = 2 }; elevation = λ c. None }
+void_grid = record { extent = record { rows = 2; cols = 2 }; elevation = λ c. None; sink = no_sink }
 
 abbrev pub void_products : Products
 void_products = record {
@@ -148,7 +148,7 @@ ring_products = record {
 
 -- two tiles of side 3, all 0, with a column of voids between them
 abbrev pub gap_grid : Grid
-gap_grid = record { extent = record { rows = 3; cols = 7 }; elevation = λ c. if c.col == 3 then None else Some (pos 0) }
+gap_grid = record { extent = record { rows = 3; cols = 7 }; elevation = λ c. if c.col == 3 then None else Some (pos 0); sink = no_sink }
 
 abbrev pub gap_products : Products
 gap_products = record {

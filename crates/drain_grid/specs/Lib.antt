@@ -15,6 +15,8 @@ pub mod Product
 pub mod Rasters
 pub mod Rule
 pub mod Run
+pub mod SinkLines
+pub mod SinkTexts
 pub mod Size
 pub mod Slope
 pub mod Tile

@@ -1,0 +1,11 @@
+use Rattle.std.proofs.Common.{subst}
+use Rattle.std.specs.List.Sorted.{IsPermutation}
+use Rattle.std.proofs.lemmas.List.Sorted.{IsNonDecreasingBy-from_sort}
+use Rattle.drain_grid.proofs.sinks.Sinks.of.Goals as goal
+
+pub invariant_of-result : goal.invariant_of-result
+invariant_of-result c = record {
+  rising = IsNonDecreasingBy-from_sort (λ x. x) _ c.sort_unstable.ensures.sorted;
+  theirs = subst (λ places. IsPermutation places c.sort_unstable.new.self.items) c.in-Ok.ensures c.sort_unstable.ensures.permutation;
+  narrow = c.requires;
+}

@@ -1,0 +1,25 @@
+-- A list of sinks: the cells that a user lists as open, each with the number of its line. Inland sinks are this project's own.
+use Rattle.std.specs.Prelude.{◌+◌, ◌*◌, ◌^◌, ◌<◌, ℕ, Bool, List, map}
+use Rattle.std.specs.List.{All, list_any}
+use Rattle.std.specs.List.Sorted.{IsNonDecreasing, IsPermutation}
+use Rattle.drain_grid.specs.declared.cell.Cell.{Cell}
+use Rattle.drain_grid.specs.declared.sink_line.SinkLine.{SinkLine}
+use Rattle.drain_grid.specs.Extent.{same_cell}
+
+-- some line lists the cell
+abbrev pub is_listed : List SinkLine → Cell → Bool
+is_listed sinks c = list_any (λ s. same_cell c s.cell) sinks
+
+-- the cell's place in row order, were there 2^32 columns: so each cell has a place of its own, whatever the grid
+abbrev pub wide_place : Cell → ℕ
+wide_place c = c.row * 2 ^ 32 + c.col
+
+-- each listed column is below 2^32
+abbrev pub AreNarrow : List SinkLine → Type 0
+AreNarrow sinks = All (λ s. s.cell.col < 2 ^ 32) sinks
+
+-- the places of the listed cells, rising
+pub record ArePlaces (sinks : List SinkLine) (places : List ℕ) : Type 0 where
+  pub rising : IsNonDecreasing places
+  pub theirs : IsPermutation (map (λ s. wide_place s.cell) sinks) places
+  pub narrow : AreNarrow sinks

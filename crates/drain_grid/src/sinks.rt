@@ -1,0 +1,103 @@
+//! Cells that a user lists as sinks: inland places where water may leave the grid.
+//!
+//! A check asks of each cell whether it is one, so the list is kept twice: as its lines, for who tells a line by its number, and
+//! as the rising places of its cells, where a search by halves finds a cell. A place is one number of 64 bits, so the search
+//! compares no pairs, and an empty list is answered without any comparison.
+
+ghost use Rattle.std.specs.Prelude.{◌≡◌, ◌+◌, ◌*◌, ◌^◌, ◌<◌, [], length, map, slice_get, Some, IfOk};
+ghost use Rattle.drain_grid.specs.SinkLines.{is_listed, wide_place, AreNarrow, ArePlaces};
+
+use crate::cell::Cell;
+use crate::memory::OutOfMemory;
+use crate::sink_line::SinkLine;
+use std::alloc::Global;
+use std::marker::Model;
+
+/// The lines of a sink list that are not empty, in order.
+#[derive(Drop)]
+pub struct Sinks {
+    lines: Vec<SinkLine>,
+    places: Vec<u64>,
+}
+
+impl Model for Sinks {
+    ghost use Rattle.std.specs.Prelude.{List};
+    ghost use Rattle.drain_grid.specs.declared.sink_line.SinkLine.{SinkLine};
+    ghost use Rattle.drain_grid.specs.SinkLines.{ArePlaces};
+
+    ghost Value = { List SinkLine };
+
+    ghost view = { λ s. s.lines.items };
+
+    ghost invariant = { λ s. ArePlaces s.lines.items s.places.items };
+}
+
+impl Sinks {
+    /// No sink. This takes no memory.
+    pub fn none(alloc: Global) -> Sinks
+        ensures { result ≡ [] }
+    {
+        Sinks {
+            lines: Vec::new(alloc),
+            places: Vec::new(alloc),
+        }
+    }
+
+    /// The sinks that these lines list.
+    pub(crate) fn of(alloc: Global, lines: Vec<SinkLine>) -> Result<Sinks, OutOfMemory>
+        requires { AreNarrow lines.items }
+        ensures { IfOk result (λ sinks. sinks ≡ lines.items) }
+    {
+        let Ok(places) = places_of(alloc, &lines) else {
+            return Err(OutOfMemory);
+        };
+        let mut rising = places;
+        rising.sort_unstable();
+        Ok(Sinks {
+            lines,
+            places: rising,
+        })
+    }
+
+    /// Whether a line lists the cell.
+    pub fn has(&self, cell: Cell) -> bool
+        ensures { result ≡ is_listed self.now cell }
+    {
+        self.places.binary_search(&place_of(cell)).is_ok()
+    }
+
+    /// How many lines there are that are not empty.
+    pub fn count(&self) -> usize
+        ensures { result ≡ length self.now }
+    {
+        self.lines.len()
+    }
+
+    /// The number of such a line, counted from 1 with the empty ones, and the cell that it lists.
+    pub fn entry(&self, i: usize) -> (u64, Cell)
+        requires { i < length self.now }
+        ensures { slice_get self.now i ≡ Some (record { line = result.0; cell = result.1 }) }
+    {
+        (self.lines[i].line, self.lines[i].cell)
+    }
+}
+
+/// The place of a cell in row order, were there 2^32 columns.
+fn place_of(cell: Cell) -> u64
+    ensures { result ≡ wide_place cell }
+{
+    u64::from(cell.row) * 0x1_0000_0000 + u64::from(cell.col)
+}
+
+/// The places of the cells, line by line.
+fn places_of(alloc: Global, lines: &Vec<SinkLine>) -> Result<Vec<u64>, OutOfMemory>
+    ensures { IfOk result (λ places. places.items ≡ map (λ s. wide_place s.cell) lines.now.items) }
+{
+    let mut places = Vec::new(alloc);
+    for listed in lines {
+        let Ok(_) = places.push(place_of(listed.cell)) else {
+            return Err(OutOfMemory);
+        };
+    }
+    Ok(places)
+}
