@@ -8,7 +8,7 @@ use Rattle.drain_grid.specs.Size.{Extent}
 use Rattle.drain_grid.specs.Values.{Values}
 use Rattle.drain_grid.specs.Grid.{Grid, Products, patch_at, values_at}
 use Rattle.drain_rules.specs.declared.three_rows.ThreeRows.{ThreeRows}
-use Rattle.drain_rules.specs.RowNumbers.{AreNumbersOf, RowNumbers, beside, blank, values_in, west_of}
+use Rattle.drain_rules.specs.MarkedRows.{IsNoRow, IsRowOf, MarkedRow, beside, values_in, west_of}
 use Rattle.drain_rules.specs.Rows.{place}
 use Rattle.drain_rules.specs.ThreeRows.{AreRowsAround, ThreeRowsShowPatches, patch_in}
 
@@ -17,33 +17,34 @@ abbrev stepped : Extent → ℕ → ℕ → Option Cell
 stepped e row col =
     if nat_lt 0 row && (nat_lt (row - 1) e.rows && (nat_lt 0 col && nat_lt (col - 1) e.cols)) then Some (record { row = row - 1; col = col - 1 }) else None
 
-values-are : (g : Grid) (ps : Products) (row col : ℕ) (n : RowNumbers) → AreNumbersOf g ps row n → col < g.extent.cols → values_in n col ≡ values_at g ps (place row col)
+values-are : (g : Grid) (ps : Products) (row col : ℕ) (n : MarkedRow) → IsRowOf g ps row n → col < g.extent.cols → values_in n col ≡ values_at g ps (place row col)
 values-are g ps row col n are inside = λ i. record {
-  z = are.elevation col inside i;
-  con = are.products Con col inside i;
-  dir = are.products Dir col inside i;
-  acc = are.products Acc col inside i;
-  bas = are.products Bas col inside i;
-  spl = are.products Spl col inside i;
-  rnk = are.products Rnk col inside i;
+  z = are.numbers.elevation col inside i;
+  sink = are.sinks col inside i;
+  con = are.numbers.products Con col inside i;
+  dir = are.numbers.products Dir col inside i;
+  acc = are.numbers.products Acc col inside i;
+  bas = are.numbers.products Bas col inside i;
+  spl = are.numbers.products Spl col inside i;
+  rnk = are.numbers.products Rnk col inside i;
 }
 
-there : (g : Grid) (ps : Products) (n : RowNumbers) (r c rr cc : ℕ) → AreNumbersOf g ps r n → rr ≡ r + 1 → cc ≡ c + 1 →
+there : (g : Grid) (ps : Products) (n : MarkedRow) (r c rr cc : ℕ) → IsRowOf g ps r n → rr ≡ r + 1 → cc ≡ c + 1 →
     beside n c ≡ option_map (values_at g ps) (stepped g.extent rr cc)
 there g ps n r c rr cc are is_row is_col =
     let down : rr - 1 ≡ r = omega arith in
     let right : cc - 1 ≡ c = omega arith in
     elim (cases_lt c g.extent.cols) [
-      | inl inside ↦ rw (are.cols_are, lt-ltb 0 rr (omega arith), down, lt-ltb r g.extent.rows are.inside, lt-ltb 0 cc (omega arith), right, lt-ltb c g.extent.cols inside)
+      | inl inside ↦ rw (are.numbers.cols_are, lt-ltb 0 rr (omega arith), down, lt-ltb r g.extent.rows are.numbers.inside, lt-ltb 0 cc (omega arith), right, lt-ltb c g.extent.cols inside)
           (ap (λ (v : Values). Some v) (values-are g ps r c n are inside))
-      | inr outside ↦ rw (are.cols_are, lt-ltb 0 rr (omega arith), down, lt-ltb r g.extent.rows are.inside, lt-ltb 0 cc (omega arith), right, le-ltb c g.extent.cols (omega (arith, outside))) refl
+      | inr outside ↦ rw (are.numbers.cols_are, lt-ltb 0 rr (omega arith), down, lt-ltb r g.extent.rows are.numbers.inside, lt-ltb 0 cc (omega arith), right, le-ltb c g.extent.cols (omega (arith, outside))) refl
     ]
 
-to_west : (g : Grid) (ps : Products) (n : RowNumbers) (r c rr cc : ℕ) → AreNumbersOf g ps r n → rr ≡ r + 1 → cc ≡ c →
+to_west : (g : Grid) (ps : Products) (n : MarkedRow) (r c rr cc : ℕ) → IsRowOf g ps r n → rr ≡ r + 1 → cc ≡ c →
     west_of n c ≡ option_map (values_at g ps) (stepped g.extent rr cc)
 to_west g ps n r zero rr cc are is_row is_col =
     let down : rr - 1 ≡ r = omega arith in
-    rw (lt-ltb 0 rr (omega arith), down, lt-ltb r g.extent.rows are.inside, is_col) refl
+    rw (lt-ltb 0 rr (omega arith), down, lt-ltb r g.extent.rows are.numbers.inside, is_col) refl
 to_west g ps n r (suc c) rr cc are is_row is_col = there g ps n r c rr cc are is_row (omega arith)
 
 -- where there is no row
@@ -53,24 +54,24 @@ gone g ps rr cc past = elim (cases_lt 0 rr) [
   | inr none ↦ rw (le-ltb 0 rr (omega (arith, none))) refl
 ]
 
-gone-west : (n : RowNumbers) (c : ℕ) → n ≡ blank → west_of n c ≡ None
+gone-west : (n : MarkedRow) (c : ℕ) → IsNoRow n → west_of n c ≡ None
 gone-west n zero is = refl
 gone-west n (suc c) is = rw (is, le-ltb c 0 (omega arith)) refl
 
-gone-beside : (n : RowNumbers) (c : ℕ) → n ≡ blank → beside n c ≡ None
+gone-beside : (n : MarkedRow) (c : ℕ) → IsNoRow n → beside n c ≡ None
 gone-beside n c is = rw (is, le-ltb c 0 (omega arith)) refl
 
 -- a row above or below, or none
-level : (g : Grid) (ps : Products) (n : RowNumbers) (c rr cc : ℕ) → ((r : ℕ) → rr ≡ r + 1 → r < g.extent.rows → AreNumbersOf g ps r n) →
-    ((0 < rr → g.extent.rows ≤ rr - 1) → n ≡ blank) → cc ≡ c + 1 → beside n c ≡ option_map (values_at g ps) (stepped g.extent rr cc)
+level : (g : Grid) (ps : Products) (n : MarkedRow) (c rr cc : ℕ) → ((r : ℕ) → rr ≡ r + 1 → r < g.extent.rows → IsRowOf g ps r n) →
+    ((0 < rr → g.extent.rows ≤ rr - 1) → IsNoRow n) → cc ≡ c + 1 → beside n c ≡ option_map (values_at g ps) (stepped g.extent rr cc)
 level g ps n c zero cc are none is_col = gone-beside n c (none (λ h. absurd (omega arith))) ∙ gone g ps zero cc (λ h. absurd (omega arith))
 level g ps n c (suc r) cc are none is_col = elim (cases_lt r g.extent.rows) [
   | inl inside ↦ there g ps n r c (suc r) cc (are r (omega arith) inside) (omega arith) is_col
   | inr past ↦ (let out : 0 < suc r → g.extent.rows ≤ suc r - 1 = λ h. omega (arith, past) in gone-beside n c (none out) ∙ gone g ps (suc r) cc out)
 ]
 
-level-west : (g : Grid) (ps : Products) (n : RowNumbers) (c rr cc : ℕ) → ((r : ℕ) → rr ≡ r + 1 → r < g.extent.rows → AreNumbersOf g ps r n) →
-    ((0 < rr → g.extent.rows ≤ rr - 1) → n ≡ blank) → cc ≡ c → west_of n c ≡ option_map (values_at g ps) (stepped g.extent rr cc)
+level-west : (g : Grid) (ps : Products) (n : MarkedRow) (c rr cc : ℕ) → ((r : ℕ) → rr ≡ r + 1 → r < g.extent.rows → IsRowOf g ps r n) →
+    ((0 < rr → g.extent.rows ≤ rr - 1) → IsNoRow n) → cc ≡ c → west_of n c ≡ option_map (values_at g ps) (stepped g.extent rr cc)
 level-west g ps n c zero cc are none is_col = gone-west n c (none (λ h. absurd (omega arith))) ∙ gone g ps zero cc (λ h. absurd (omega arith))
 level-west g ps n c (suc r) cc are none is_col = elim (cases_lt r g.extent.rows) [
   | inl inside ↦ to_west g ps n r c (suc r) cc (are r (omega arith) inside) (omega arith) is_col
@@ -90,24 +91,24 @@ patch-is g ps row col rows are inside = λ i. record {
       ∷ level g ps rows.above (col + 1) (row + 0) (col + 2) above none_above (omega arith) i ∷ [];
 }
   where
-    below : (r : ℕ) → row + 2 ≡ r + 1 → r < g.extent.rows → AreNumbersOf g ps r rows.below
-    below r is less = let e : row + 1 ≡ r = omega arith in subst (λ k. AreNumbersOf g ps k rows.below) e (are.below (omega arith))
+    below : (r : ℕ) → row + 2 ≡ r + 1 → r < g.extent.rows → IsRowOf g ps r rows.below
+    below r is less = let e : row + 1 ≡ r = omega arith in subst (λ k. IsRowOf g ps k rows.below) e (are.below (omega arith))
 
-    none_below : (0 < row + 2 → g.extent.rows ≤ row + 2 - 1) → rows.below ≡ blank
-    none_below past = let last : g.extent.rows ≤ row + 2 - 1 = past (omega arith) in are.none_below (omega (arith, are.here.inside))
+    none_below : (0 < row + 2 → g.extent.rows ≤ row + 2 - 1) → IsNoRow rows.below
+    none_below past = let last : g.extent.rows ≤ row + 2 - 1 = past (omega arith) in are.none_below (omega (arith, are.here.numbers.inside))
 
-    above : (r : ℕ) → row + 0 ≡ r + 1 → r < g.extent.rows → AreNumbersOf g ps r rows.above
+    above : (r : ℕ) → row + 0 ≡ r + 1 → r < g.extent.rows → IsRowOf g ps r rows.above
     above r is less = are.above r (omega arith)
 
-    none_above : (0 < row + 0 → g.extent.rows ≤ row + 0 - 1) → rows.above ≡ blank
-    none_above past = are.none_above (let in_grid = are.here.inside in elim (cases_lt 0 row) [
+    none_above : (0 < row + 0 → g.extent.rows ≤ row + 0 - 1) → IsNoRow rows.above
+    none_above past = are.none_above (let in_grid = are.here.numbers.inside in elim (cases_lt 0 row) [
       | inl some ↦ absurd (let last : g.extent.rows ≤ row + 0 - 1 = past (omega (arith, some)) in omega (arith, in_grid))
       | inr none ↦ omega (arith, none)
     ])
 
 pub three_rows_show_patches : ThreeRowsShowPatches
 three_rows_show_patches g ps row rows are = record {
-  inside = are.here.inside;
-  cols_are = are.here.cols_are;
-  patches_are = λ col less. patch-is g ps row col rows are (omega (arith, less, are.here.cols_are));
+  inside = are.here.numbers.inside;
+  cols_are = are.here.numbers.cols_are;
+  patches_are = λ col less. patch-is g ps row col rows are (omega (arith, less, are.here.numbers.cols_are));
 }

@@ -6,7 +6,7 @@ use Rattle.byteorder.specs.Endian.{big_number}
 use Rattle.drain_grid.specs.Extent.{index_of}
 use Rattle.drain_grid.specs.Size.{Extent}
 use Rattle.drain_grid.specs.Tile.{height_from}
-use Rattle.drain_grid.specs.Grid.{Grid, Products}
+use Rattle.drain_grid.specs.Grid.{Grid, Products, no_sink}
 
 -- the number that n bytes spell, among numbers of n bytes that begin at start
 abbrev pub number_at : List ℕ → ℕ → ℕ → ℕ → ℕ
@@ -19,11 +19,12 @@ signed_at bytes start place = cast_signed w16 (number_at bytes start 2 place)
 abbrev pub square : ℕ → Extent
 square side = record { rows = side; cols = side }
 
--- the grid of the first part: two bytes for each cell
+-- the grid of the first part: two bytes for each cell, and no sinks
 abbrev pub fill_grid : ℕ → List ℕ → Grid
 fill_grid side bytes = record {
   extent = square side;
   elevation = λ c. height_from (signed_at bytes 0 (index_of (square side) c));
+  sink = no_sink;
 }
 
 -- the products of the other parts, of two, one and four bytes for each cell; those that are not there are 0

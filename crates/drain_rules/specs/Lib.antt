@@ -5,6 +5,7 @@ pub mod Findings
 pub mod GridWalks
 pub mod Labels
 pub mod Laws
+pub mod MarkedRows
 pub mod Parts
 pub mod PatchRows
 pub mod RowNumbers

@@ -4,7 +4,7 @@ use Rattle.drain_grid.specs.declared.patch.Patch.{Patch}
 use Rattle.drain_grid.specs.Grid.{Grid, Products}
 use Rattle.drain_rules.specs.declared.three_rows.ThreeRows.{ThreeRows}
 use Rattle.drain_rules.specs.PatchRows.{AreRowPatches}
-use Rattle.drain_rules.specs.RowNumbers.{AreNumbersOf, blank, values_in, beside, west_of}
+use Rattle.drain_rules.specs.MarkedRows.{IsNoRow, IsRowOf, values_in, beside, west_of}
 
 -- the patch, its neighbours in the order of the directions
 abbrev pub patch_in : ThreeRows → ℕ → Patch
@@ -16,13 +16,13 @@ patch_in rows col = record {
 
 -- they are a row of the grid and those above and below it, none where the grid ends
 pub record AreRowsAround (g : Grid) (ps : Products) (row : ℕ) (rows : ThreeRows) : Type 0 where
-  pub here : AreNumbersOf g ps row rows.here
-  pub below : row + 1 < g.extent.rows → AreNumbersOf g ps (row + 1) rows.below
-  pub none_below : g.extent.rows ≡ row + 1 → rows.below ≡ blank
-  pub above : (r : ℕ) → row ≡ r + 1 → AreNumbersOf g ps r rows.above
-  pub none_above : row ≡ 0 → rows.above ≡ blank
+  pub here : IsRowOf g ps row rows.here
+  pub below : row + 1 < g.extent.rows → IsRowOf g ps (row + 1) rows.below
+  pub none_below : g.extent.rows ≡ row + 1 → IsNoRow rows.below
+  pub above : (r : ℕ) → row ≡ r + 1 → IsRowOf g ps r rows.above
+  pub none_above : row ≡ 0 → IsNoRow rows.above
 
 -- three rows show the patches of the grid
 abbrev pub ThreeRowsShowPatches : Type 0
 ThreeRowsShowPatches =
-    (g : Grid) (ps : Products) (row : ℕ) (rows : ThreeRows) → AreRowsAround g ps row rows → AreRowPatches g ps row (length rows.here.z) (patch_in rows)
+    (g : Grid) (ps : Products) (row : ℕ) (rows : ThreeRows) → AreRowsAround g ps row rows → AreRowPatches g ps row (length rows.here.numbers.z) (patch_in rows)

@@ -109,6 +109,7 @@ impl<'a> CellSource for FillInput<'a> {
     fn values(&self, cell: Cell) -> CellValues {
         CellValues {
             z: self.ground(cell),
+            sink: false,
             con: self.conditioned(cell),
             dir: 0,
             acc: 0,

@@ -10,34 +10,40 @@ use crate::grid_walk::GridWalk;
 use crate::patch_row::PatchRow;
 use crate::verdict::Verdict;
 use drain_grid::laws::correct_from_rules;
-use drain_grid::{Cell, Elevation, OutOfMemory, Patch, ProductSet};
+use drain_grid::{Cell, Elevation, OutOfMemory, Patch, ProductSet, Sinks};
 use std::alloc::Global;
 
-/// The verdict on the products of a grid. `OutOfMemory` comes only at a data cell with code 0 whose label is new, where every rule
+/// The verdict on the products of a grid, whose data cells that are listed as sinks are open too. `OutOfMemory` comes only at a data cell with code 0 whose label is new, where every rule
 /// holds, as at each earlier cell: its label found no room. So want of memory never stands in place of a fault.
 pub fn verdict_of(
     alloc: Global,
     elevation: &Elevation,
+    sinks: &Sinks,
     products: &ProductSet,
 ) -> Result<Verdict, OutOfMemory>
     requires same_shape { elevation.now.extent ≡ products.now.con.extent }
-    ensures verdict { IfOk result (IsVerdict (grid_of elevation.now) (products_of products.now) (nodata_of products.now)) }
-    ensures err { OnErr result (HasNewLabel (nodata_of products.now) (grid_of elevation.now) (products_of products.now)) }
+    ensures verdict { IfOk result (IsVerdict (grid_of elevation.now sinks.now) (products_of products.now) (nodata_of products.now)) }
+    ensures err { OnErr result (HasNewLabel (nodata_of products.now) (grid_of elevation.now sinks.now) (products_of products.now)) }
 
     // What is accepted is correct, and every run is sound.
-    ensures correct { IfAccepted result (IsCorrect (grid_of elevation.now) (products_of products.now) (nodata_of products.now)) }
-    ensures runs { IfAccepted result (RunsAreSound (grid_of elevation.now) (products_of products.now)) }
+    ensures correct { IfAccepted result (IsCorrect (grid_of elevation.now sinks.now) (products_of products.now) (nodata_of products.now)) }
+    ensures runs { IfAccepted result (RunsAreSound (grid_of elevation.now sinks.now) (products_of products.now)) }
 {
     // The law that turns rules kept at every cell into correct products.
     correct_from_rules();
-    walk(alloc, elevation, products)
+    walk(alloc, elevation, sinks, products)
 }
 
 /// Goes over the rows, from north to south.
-fn walk(alloc: Global, elevation: &Elevation, products: &ProductSet) -> Result<Verdict, OutOfMemory>
+fn walk(
+    alloc: Global,
+    elevation: &Elevation,
+    sinks: &Sinks,
+    products: &ProductSet,
+) -> Result<Verdict, OutOfMemory>
     requires same_shape { elevation.now.extent ≡ products.now.con.extent }
-    ensures verdict { IfOk result (IsVerdict (grid_of elevation.now) (products_of products.now) (nodata_of products.now)) }
-    ensures err { OnErr result (HasNewLabel (nodata_of products.now) (grid_of elevation.now) (products_of products.now)) }
+    ensures verdict { IfOk result (IsVerdict (grid_of elevation.now sinks.now) (products_of products.now) (nodata_of products.now)) }
+    ensures err { OnErr result (HasNewLabel (nodata_of products.now) (grid_of elevation.now sinks.now) (products_of products.now)) }
 {
     let shape = elevation.shape();
     let nodata = products.nodata();
@@ -45,6 +51,7 @@ fn walk(alloc: Global, elevation: &Elevation, products: &ProductSet) -> Result<V
     for row in 0..shape.rows() {
         let patches = RasterRow {
             elevation,
+            sinks,
             products,
             row,
         };
@@ -57,6 +64,7 @@ fn walk(alloc: Global, elevation: &Elevation, products: &ProductSet) -> Result<V
 #[derive(Clone, Copy)]
 struct RasterRow<'a> {
     elevation: &'a Elevation,
+    sinks: &'a Sinks,
     products: &'a ProductSet,
     row: u32,
     ghost same_shape: { elevation.now.extent ≡ products.now.con.extent },
@@ -70,7 +78,7 @@ impl<'a> PatchRow for RasterRow<'a> {
 
     ghost len = { λ r. r.elevation.now.extent.cols };
 
-    ghost shown = { λ r col. patch_at (grid_of r.elevation.now) (products_of r.products.now) (place r.row col) };
+    ghost shown = { λ r col. patch_at (grid_of r.elevation.now r.sinks.now) (products_of r.products.now) (place r.row col) };
 
     fn cols(&self) -> u32 {
         self.elevation.shape().cols()
@@ -83,6 +91,6 @@ impl<'a> PatchRow for RasterRow<'a> {
 
     fn patch(&self, col: u32) -> Patch {
         self.products
-            .patch(self.elevation, Cell { row: self.row, col })
+            .patch(self.elevation, self.sinks, Cell { row: self.row, col })
     }
 }

@@ -1,49 +1,57 @@
-//! A row of a grid and its products, as slices of numbers.
+//! A row of a grid and its products, as slices of numbers and of marks.
 
-ghost use Rattle.std.specs.Prelude.{ℕ, ◌≡◌, ◌≢◌, ◌≤◌, ◌<◌, Some, length, pos, slice_index_or};
+ghost use Rattle.std.specs.Prelude.{ℕ, ◌≡◌, ◌≢◌, ◌≤◌, ◌<◌, false, Some, length, pos, slice_index_or};
 ghost use Rattle.drain_fill.specs.Below.{AreHeights, IsBelowAt};
 ghost use Rattle.drain_grid.specs.declared.cell.TheConstants.{MAX_LENGTH};
 ghost use Rattle.drain_grid.specs.declared.tile.TheConstants.{VOID};
 ghost use Rattle.drain_grid.specs.PerProduct.{of_product, per_product};
 ghost use Rattle.drain_grid.specs.Tile.{IsSample, height_from};
 ghost use Rattle.drain_grid.specs.Values.{IsPixel};
-ghost use Rattle.drain_rules.specs.RowNumbers.{AreRowNumbers, values_in, beside, west_of};
+ghost use Rattle.drain_rules.specs.MarkedRows.{values_in, beside, west_of};
+ghost use Rattle.drain_rules.specs.RowNumbers.{AreRowNumbers};
 
 use crate::screen::cells_above_ground;
 use drain_grid::tile::height_from;
 use drain_grid::{CellValues, PerProduct, Product};
 use std::marker::Model;
 
-/// One row: elevations, -32768 at a void, and each product's numbers, as many of each. It is empty where there is no row.
+/// One row: elevations, -32768 at a void, and each product's numbers, as many of each; and marks, true at a listed sink. It has no
+/// numbers where there is no row, and no mark stands for false.
 #[derive(Drop)]
 pub struct RowView<'a> {
     z: &'a [i64],
+    sinks: &'a [bool],
     products: PerProduct<&'a [i64]>,
 }
 
 impl<'a> Model for RowView<'a> {
     ghost use Rattle.drain_grid.specs.PerProduct.{of_product, per_product};
-    ghost use Rattle.drain_rules.specs.RowNumbers.{RowNumbers, AreRowNumbers};
+    ghost use Rattle.drain_rules.specs.MarkedRows.{MarkedRow};
+    ghost use Rattle.drain_rules.specs.RowNumbers.{AreRowNumbers};
 
-    ghost Value = { RowNumbers };
+    ghost Value = { MarkedRow };
 
-    ghost view = { λ row. record { z = row.z.now; products = per_product (λ p. (of_product row.products p).now) } };
+    ghost view = { λ row. record {
+        numbers = record { z = row.z.now; products = per_product (λ p. (of_product row.products p).now) };
+        sinks = row.sinks.now
+    } };
 
     ghost invariant = { λ row. AreRowNumbers (record { z = row.z.now; products = per_product (λ p. (of_product row.products p).now) }) };
 }
 
 impl<'a> RowView<'a> {
-    /// The row of these numbers.
-    pub fn new(z: &'a [i64], products: PerProduct<&'a [i64]>) -> RowView<'a>
+    /// The row of these numbers and marks.
+    pub fn new(z: &'a [i64], sinks: &'a [bool], products: PerProduct<&'a [i64]>) -> RowView<'a>
         requires { AreRowNumbers (record { z = z.now; products = per_product (λ p. (of_product products p).now) }) }
-        ensures { result ≡ record { z = z.entry.now; products = per_product (λ p. (of_product products.entry p).now) } }
+        ensures numbers { result.numbers ≡ record { z = z.entry.now; products = per_product (λ p. (of_product products.entry p).now) } }
+        ensures sinks { result.sinks ≡ sinks.entry.now }
     {
-        RowView { z, products }
+        RowView { z, sinks, products }
     }
 
     /// How many columns there are, at most 28,801.
     pub fn cols(&self) -> u32
-        ensures count { result ≡ length self.now.z }
+        ensures count { result ≡ length self.now.numbers.z }
         ensures narrow { result ≤ MAX_LENGTH }
     {
         self.z.len() as u32
@@ -52,20 +60,21 @@ impl<'a> RowView<'a> {
     /// The first column whose conditioned elevation is below its ground, the number of columns where there is none. Where a conditioned
     /// elevation doesn't fit 16 bits the answer may be a column before.
     pub fn cells_above_ground(&self) -> u32
-        ensures within { result ≤ length self.now.z }
-        ensures above { (col : ℕ) → col < result → ¬ IsBelowAt self.now.products.con self.now.z col }
-        ensures first { AreHeights self.now.products.con → result < length self.now.z → IsBelowAt self.now.products.con self.now.z result }
+        ensures within { result ≤ length self.now.numbers.z }
+        ensures above { (col : ℕ) → col < result → ¬ IsBelowAt self.now.numbers.products.con self.now.numbers.z col }
+        ensures first { AreHeights self.now.numbers.products.con → result < length self.now.numbers.z → IsBelowAt self.now.numbers.products.con self.now.numbers.z result }
     {
         cells_above_ground(self.products.con, self.z) as u32
     }
 
     /// What the row says at a column.
     pub fn values(&self, col: usize) -> CellValues
-        requires { col < length self.now.z }
+        requires { col < length self.now.numbers.z }
         ensures { result ≡ values_in self.now col }
     {
         CellValues {
             z: self.height(col),
+            sink: self.is_sink(col),
             con: self.number(Product::Con, col),
             dir: self.number(Product::Dir, col),
             acc: self.number(Product::Acc, col),
@@ -98,18 +107,25 @@ impl<'a> RowView<'a> {
 
     /// The elevation at a column, none at a void.
     fn height(&self, col: usize) -> Option<i16>
-        requires { col < length self.now.z }
-        ensures height { result ≡ height_from (slice_index_or self.now.z col VOID) }
+        requires { col < length self.now.numbers.z }
+        ensures height { result ≡ height_from (slice_index_or self.now.numbers.z col VOID) }
         ensures no_void { result ≢ Some VOID }
     {
         let samples = self.z;
         height_of(samples[col])
     }
 
+    /// Whether the column is marked.
+    fn is_sink(&self, col: usize) -> bool
+        ensures { result ≡ slice_index_or self.now.sinks col false }
+    {
+        self.sinks.get(col) == Some(&true)
+    }
+
     /// The product's number at a column.
     fn number(&self, product: Product, col: usize) -> i64
-        requires { col < length self.now.z }
-        ensures number { result ≡ slice_index_or (of_product self.now.products product) col (pos 0) }
+        requires { col < length self.now.numbers.z }
+        ensures number { result ≡ slice_index_or (of_product self.now.numbers.products product) col (pos 0) }
         ensures pixel { IsPixel result }
     {
         let numbers = *self.products.of(product);

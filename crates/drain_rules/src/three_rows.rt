@@ -16,7 +16,7 @@ impl PatchRow for ThreeRows<'_> {
     ghost use Rattle.std.specs.Prelude.{length};
     ghost use Rattle.drain_rules.specs.ThreeRows.{patch_in};
 
-    ghost len = { λ rows. length rows.here.z };
+    ghost len = { λ rows. length rows.here.numbers.z };
 
     ghost shown = { patch_in };
 

@@ -20,12 +20,12 @@ own-patches g ps row at inside same =
 pub loop-row-init : goal.loop-row-init
 loop-row-init c = record {
   counted = c.new-walk.ensures.rows;
-  right = c.new-walk.ensures.finding c.nodata-nodata.result (grid_of c.args.elevation.now) (products_of c.args.products.now);
+  right = c.new-walk.ensures.finding c.nodata-nodata.result (grid_of c.args.elevation.now c.args.sinks.now) (products_of c.args.products.now);
 }
 
 pub returns-in_err-check_row-clause-err : goal.returns-in_err-check_row-clause-err
 returns-in_err-check_row-clause-err c =
-    let g = grid_of c.args.elevation.now in
+    let g = grid_of c.args.elevation.now c.args.sinks.now in
     let ps = products_of c.args.products.now in
     let inv = c.loop-row.invariant in
     let rows : c.shape-shape.result.rows ≡ c.args.elevation.now.extent.rows = ap (λ (e : Extent). e.rows) c.shape-shape.ensures in
@@ -36,7 +36,7 @@ returns-in_err-check_row-clause-err c =
 
 pub loop-row-preserved : goal.loop-row-preserved
 loop-row-preserved c =
-    let g = grid_of c.args.elevation.now in
+    let g = grid_of c.args.elevation.now c.args.sinks.now in
     let ps = products_of c.args.products.now in
     let inv = c.loop-row.invariant in
     let rows : c.shape-shape.result.rows ≡ c.args.elevation.now.extent.rows = ap (λ (e : Extent). e.rows) c.shape-shape.ensures in
@@ -48,7 +48,7 @@ loop-row-preserved c =
 
 pub returns-clause-verdict : goal.returns-clause-verdict
 returns-clause-verdict c =
-    let g = grid_of c.args.elevation.now in
+    let g = grid_of c.args.elevation.now c.args.sinks.now in
     let ps = products_of c.args.products.now in
     let inv = c.loop-row.invariant in
     let rows : c.shape-shape.result.rows ≡ c.args.elevation.now.extent.rows = ap (λ (e : Extent). e.rows) c.shape-shape.ensures in

@@ -7,5 +7,5 @@ use Rattle.drain_rules.proofs.raster_walk.walk.Given as goal
 abbrev pub invariant-loop-row : goal.invariant-loop-row
 invariant-loop-row l = record {
   counted : l.walk.rows ≡ l.row;
-  right : IsRightOf l.nodata (grid_of l.elevation) (products_of l.products) l.walk;
+  right : IsRightOf l.nodata (grid_of l.elevation l.sinks) (products_of l.products) l.walk;
 }

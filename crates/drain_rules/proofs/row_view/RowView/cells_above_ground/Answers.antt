@@ -1,7 +1,7 @@
 use Rattle.std.proofs.Common.{◌≡◌, ◌<◌, length, ap, subst, arith}
 use Rattle.drain_fill.specs.Below.{AreHeights, IsBelowAt}
 use Rattle.drain_grid.specs.declared.product.Product.TheVariants.{Con}
-use Rattle.drain_rules.specs.RowNumbers.{RowNumbers}
+use Rattle.drain_rules.specs.MarkedRows.{MarkedRow}
 use Rattle.drain_rules.proofs.Screens.{samples_fit}
 use Rattle.drain_rules.proofs.row_view.RowView.cells_above_ground.Goals as goal
 
@@ -13,11 +13,11 @@ overflow_cast-result c = omega (arith, c.cells_above_ground.ensures.within, c.se
 
 pub returns-clause-within : goal.returns-clause-within
 returns-clause-within c =
-    let cols : length c.self.inside.z.now ≡ length c.args.self.now.z = ap (λ (row : RowNumbers). length row.z) c.self.view_is in
+    let cols : length c.self.inside.z.now ≡ length c.args.self.now.numbers.z = ap (λ (row : MarkedRow). length row.numbers.z) c.self.view_is in
     omega (arith, c.cells_above_ground.ensures.within, c.self.invariant.long Con, cols)
 
 pub returns-clause-first : goal.returns-clause-first
 returns-clause-first c =
-    subst (λ (row : RowNumbers). AreHeights row.products.con → c.cells_above_ground.result < length row.z → IsBelowAt row.products.con row.z c.cells_above_ground.result)
+    subst (λ (row : MarkedRow). AreHeights row.numbers.products.con → c.cells_above_ground.result < length row.numbers.z → IsBelowAt row.numbers.products.con row.numbers.z c.cells_above_ground.result)
     c.self.view_is
     (λ fit less. c.cells_above_ground.ensures.first fit (samples_fit c.self.inside.z.now c.self.invariant.samples) (omega (arith, less, c.self.invariant.long Con)))

@@ -1,7 +1,7 @@
 use Rattle.std.proofs.Common.{◌≡◌, ℤ, List, length, All, rules, ap, sym, ◌∙◌, subst, arith}
 use Rattle.drain_grid.specs.PerProduct.{of_product}
 use Rattle.drain_grid.specs.Values.{IsPixel}
-use Rattle.drain_rules.specs.RowNumbers.{RowNumbers}
+use Rattle.drain_rules.specs.MarkedRows.{MarkedRow}
 use Rattle.drain_rules.proofs.RowFields.{of_per}
 use Rattle.drain_rules.proofs.row_view.RowView.number.Goals as goal
 
@@ -9,7 +9,7 @@ pub bounds-numbers-col : goal.bounds-numbers-col
 bounds-numbers-col c =
     let own = of_per (λ p. (of_product c.self.inside.products p).now) c.args.product in
     let same : c.of-numbers.result.now.now ≡ (of_product c.self.inside.products c.args.product).now = ap (λ numbers. numbers.now) c.of-numbers.ensures in
-    let cols : length c.self.inside.z.now ≡ length c.args.self.now.z = ap (λ (row : RowNumbers). length row.z) c.self.view_is in
+    let cols : length c.self.inside.z.now ≡ length c.args.self.now.numbers.z = ap (λ (row : MarkedRow). length row.numbers.z) c.self.view_is in
     omega (arith, c.self.invariant.long c.args.product, ap length own, ap length same, cols)
 
 pub returns-clause-pixel : goal.returns-clause-pixel
