@@ -4,8 +4,7 @@ use Rattle.std.specs.Prelude.{◌+◌, ◌&&◌, ℤ, nat_le, nat_lt, List, [], 
 use Rattle.std.specs.Option.{option_or}
 use Rattle.drain_grid.specs.declared.cell.Cell.{Cell}
 use Rattle.drain_grid.specs.Tile.{height_from}
-use Rattle.drain_grid.specs.Grid.{Grid}
-use Rattle.drain_mosaic.specs.Tiling.{Tiling, extent_of, top_of, left_of}
+use Rattle.drain_mosaic.specs.Tiling.{Tiling, top_of, left_of}
 use Rattle.drain_mosaic.specs.Mosaic.{Tile, sample_over}
 
 -- the value that the tile gives the cell, none where it gives none
@@ -20,7 +19,3 @@ value_from t tile c =
 abbrev pub first_value : Tiling → List Tile → Cell → Option ℤ
 first_value t [] c = None
 first_value t (tile ∷ more) c = option_or (value_from t tile c) (first_value t more c)
-
--- the mosaic as a grid
-abbrev pub grid_of : Tiling → List Tile → Grid
-grid_of t tiles = record { extent = extent_of t; elevation = first_value t tiles }

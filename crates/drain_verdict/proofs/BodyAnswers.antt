@@ -18,9 +18,9 @@ use Rattle.drain_verdict.specs.declared.refusal.Refusal.TheVariants.{RepeatedTil
 use Rattle.drain_verdict.specs.Inputs.{Inputs}
 use Rattle.drain_verdict.specs.Meaning.{tiling_of, tiles_of, fields_of}
 use Rattle.drain_verdict.specs.Refusals.{HasBadLength, IsSeamFault, Stands, NoneStandsBefore, refusal_order, place_among}
-use Rattle.drain_verdict.specs.Answers.{IsRefusal, AreReadable}
+use Rattle.drain_verdict.specs.Answers.{IsRefusal}
 use Rattle.drain_verdict.specs.Stages.{IsTileRefusal}
-use Rattle.drain_verdict.proofs.Order.{at_tile, at_raster, at_seam, none_more, readable, first_of}
+use Rattle.drain_verdict.proofs.Order.{at_tile, at_raster, at_seam, none_more, first_of}
 use Rattle.drain_verdict.proofs.Places.{place_of_tile, earlier_by_index}
 
 -- a body in its place has the length that all have
@@ -65,8 +65,8 @@ raster_refused i p short before none =
 pub none_of_two_values : (i : Inputs) → TilesAgree (tiling_of i) (tiles_of i) → (c : Cell) → ¬ IsSeamFault i c
 none_of_two_values i agree c fault = fault.1.differ (agree c fault.1.one fault.1.other fault.0 fault.1.is_one fault.1.is_other)
 
-pub seams_none : (i : Inputs) → TilesAgree (tiling_of i) (tiles_of i) → NoneStandsBefore i 7 → AreReadable i
-seams_none i agree none = readable i (none_more i (Stands i) 7 none (at_seam i (λ b. ¬ Stands i b) (none_of_two_values i agree)))
+pub seams_none : (i : Inputs) → TilesAgree (tiling_of i) (tiles_of i) → NoneStandsBefore i 7 → NoneStandsBefore i 8
+seams_none i agree none = none_more i (Stands i) 7 none (at_seam i (λ b. ¬ Stands i b) (none_of_two_values i agree))
 
 -- the first cell where tiles differ has two values, and none before it
 pub first_of_two_values : (i : Inputs) (c : Cell) → IsFirstSeam (tiling_of i) (tiles_of i) c →

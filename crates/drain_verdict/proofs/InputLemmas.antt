@@ -10,7 +10,7 @@ use Rattle.drain_raster.specs.declared.raster_rows.RasterRows.{RasterRows}
 use Rattle.drain_verdict.specs.InputReads.{RasterHasRead, RastersHaveRead, gave_up, told_by}
 use Rattle.drain_verdict.specs.Inputs.{Products}
 use Rattle.drain_verdict.specs.declared.refusal.Refusal.{Refusal}
-use Rattle.drain_verdict.specs.declared.refusal.Refusal.TheVariants.{BadSide, BadName, NoTiles, RepeatedTile, BoxTooLarge, BadHeader, WrongShape, Misplaced, BadTileLength, RasterShort, SeamMismatch, OutOfMemory, ReadFailed}
+use Rattle.drain_verdict.specs.declared.refusal.Refusal.TheVariants.{BadSide, BadName, NoTiles, RepeatedTile, BoxTooLarge, BadHeader, WrongShape, Misplaced, BadTileLength, RasterShort, SeamMismatch, BadSinkLine, SinkNotData, OutOfMemory, ReadFailed}
 
 abbrev pub Answer : Type 0
 Answer = Result (Unit {0}) Refusal
@@ -42,6 +42,8 @@ only_failed (Misplaced p) up = absurd (let no = up in cc)
 only_failed (BadTileLength c) up = absurd (let no = up in cc)
 only_failed (RasterShort p) up = absurd (let no = up in cc)
 only_failed (SeamMismatch c) up = absurd (let no = up in cc)
+only_failed (BadSinkLine n) up = absurd (let no = up in cc)
+only_failed (SinkNotData n) up = absurd (let no = up in cc)
 only_failed OutOfMemory up = absurd (let no = up in cc)
 only_failed ReadFailed up = refl
 

@@ -1,26 +1,29 @@
 mod Acceptance
 mod BodyAnswers
+pub mod CellSets
 mod Devices
 mod FirstValues
 mod HeaderAnswers
+pub mod InputLemmas
 mod LayoutAnswers
 mod MosaicAnswers
+pub mod MosaicRowSteps
 mod Naming
 mod OneTile
 mod Order
 mod Places
+pub mod RasterSteps
+mod RowAnswers
+mod RowCheck
+mod RowDevices
+mod RowEnd
+pub mod RowGiven
+pub mod RowReads
+mod RowStart
 mod SeamAnswers
+pub mod SinkAnswers
 mod StartAnswers
 mod Telling
 mod TileLists
+pub mod VoidRows
 mod WindowLemmas
-pub mod RasterSteps
-pub mod InputLemmas
-pub mod MosaicRowSteps
-pub mod RowReads
-pub mod RowGiven
-mod RowStart
-mod RowDevices
-mod RowEnd
-mod RowAnswers
-mod RowCheck

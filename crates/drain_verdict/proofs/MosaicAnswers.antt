@@ -22,7 +22,7 @@ use Rattle.drain_verdict.specs.Refusals.{Stands, NoneStandsBefore, refusal_order
 use Rattle.drain_verdict.specs.Answers.{IsRefusal}
 use Rattle.drain_verdict.specs.Stages.{IsLayoutOf, IsLayoutRefusal, IsTileRefusal, AreSamplesOf, IsElevationOf, IsSeamRefusal}
 use Rattle.drain_verdict.specs.Mosaics.{TellTiles, IsOfTiles, StandsOfTiles, IsMosaicOf, IsMosaicRefusal}
-use Rattle.drain_verdict.proofs.Order.{at_header, at_tile, at_raster, at_seam, none_more, first_of}
+use Rattle.drain_verdict.proofs.Order.{at_header, at_tile, at_raster, at_seam, at_bad_line, at_off_data, none_more, first_of}
 use Rattle.drain_verdict.proofs.LayoutAnswers.{layout_is, layout_none, layout_refused}
 use Rattle.drain_verdict.proofs.StartAnswers.{told_of_inputs}
 use Rattle.drain_verdict.proofs.BodyAnswers.{none_of_another_length, first_of_another_length, none_of_two_values, first_of_two_values}
@@ -51,10 +51,11 @@ past_tiles i all none =
 
 past_seams : (i : Inputs) → mosaic.TilesAgree (tiling_of i) (tiles_of i) → NoneOfTilesBefore i 7 → (refusal : Refusal) → ¬ StandsOfTiles i refusal
 past_seams i agree none =
-    let before : NoneOfTilesBefore i 8 = none_more i (StandsOfTiles i) 7 none (at_seam i (λ b. ¬ StandsOfTiles i b) (λ c stands. none_of_two_values i agree c stands.1)) in
-    at_last before
+    let seams : NoneOfTilesBefore i 8 = none_more i (StandsOfTiles i) 7 none (at_seam i (λ b. ¬ StandsOfTiles i b) (λ c stands. none_of_two_values i agree c stands.1)) in
+    let lines : NoneOfTilesBefore i 9 = none_more i (StandsOfTiles i) 8 seams (at_bad_line i (λ b. ¬ StandsOfTiles i b) (λ n stands. stands.0)) in
+    at_last (none_more i (StandsOfTiles i) 9 lines (at_off_data i (λ b. ¬ StandsOfTiles i b) (λ n stands. stands.0)))
   where
-    at_last : NoneOfTilesBefore i 8 → (refusal : Refusal) → ¬ StandsOfTiles i refusal
+    at_last : NoneOfTilesBefore i 10 → (refusal : Refusal) → ¬ StandsOfTiles i refusal
     at_last before OutOfMemory stands = stands.1
     at_last before ReadFailed stands = stands.1
     at_last before b stands = before b (omega arith) stands

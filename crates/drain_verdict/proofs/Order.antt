@@ -6,7 +6,7 @@ use Rattle.drain_text.specs.First.{IsBefore, IsFirst}
 use Rattle.drain_hgt.specs.Corner.{Corner}
 use Rattle.drain_header.specs.declared.fault.HeaderFault.{HeaderFault}
 use Rattle.drain_verdict.specs.declared.refusal.Refusal.{Refusal}
-use Rattle.drain_verdict.specs.declared.refusal.Refusal.TheVariants.{BadSide, BadName, NoTiles, RepeatedTile, BoxTooLarge, BadHeader, WrongShape, Misplaced, BadTileLength, RasterShort, SeamMismatch, OutOfMemory, ReadFailed}
+use Rattle.drain_verdict.specs.declared.refusal.Refusal.TheVariants.{BadSide, BadName, NoTiles, RepeatedTile, BoxTooLarge, BadHeader, WrongShape, Misplaced, BadTileLength, RasterShort, SeamMismatch, BadSinkLine, SinkNotData, OutOfMemory, ReadFailed}
 use Rattle.drain_verdict.specs.Inputs.{Inputs}
 use Rattle.drain_verdict.specs.Refusals.{refusal_order, NoneStandsBefore}
 use Rattle.drain_verdict.specs.Answers.{AreReadable}
@@ -45,6 +45,14 @@ pub at_seam : (i : Inputs) (P : Refusal → Type 0) → ((c : Cell) → P (SeamM
 at_seam i P seam (SeamMismatch c) e = seam c
 at_seam i P seam b e = absurd (omega arith)
 
+pub at_bad_line : (i : Inputs) (P : Refusal → Type 0) → ((n : ℕ) → P (BadSinkLine n)) → (b : Refusal) → (refusal_order i b).0 ≡ 8 → P b
+at_bad_line i P line (BadSinkLine n) e = line n
+at_bad_line i P line b e = absurd (omega arith)
+
+pub at_off_data : (i : Inputs) (P : Refusal → Type 0) → ((n : ℕ) → P (SinkNotData n)) → (b : Refusal) → (refusal_order i b).0 ≡ 9 → P b
+at_off_data i P line (SinkNotData n) e = line n
+at_off_data i P line b e = absurd (omega arith)
+
 -- nothing stands before the first kind
 pub none_first : (i : Inputs) → NoneStandsBefore i 1
 none_first i BadSide less = omega arith
@@ -58,6 +66,8 @@ none_first i (Misplaced p) less = omega arith
 none_first i (BadTileLength c) less = omega arith
 none_first i (RasterShort p) less = omega arith
 none_first i (SeamMismatch c) less = omega arith
+none_first i (BadSinkLine n) less = omega arith
+none_first i (SinkNotData n) less = omega arith
 none_first i OutOfMemory less = omega arith
 none_first i ReadFailed less = omega arith
 
@@ -68,7 +78,7 @@ none_more i Holds kind before here b less =
     below_more (λ n. (refusal_order i b).0 ≡ n → ¬ Holds b) kind (λ n earlier e. before b (omega (arith, earlier, e))) (λ e. here b e) ((refusal_order i b).0) less refl
 
 -- where nothing of all the kinds stands, the bytes are readable
-pub readable : (i : Inputs) → NoneStandsBefore i 8 → AreReadable i
+pub readable : (i : Inputs) → NoneStandsBefore i 10 → AreReadable i
 readable i none OutOfMemory stands = stands
 readable i none ReadFailed stands = stands
 readable i none b stands = none b (omega arith) stands

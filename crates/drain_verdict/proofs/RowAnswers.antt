@@ -24,12 +24,14 @@ use Rattle.drain_rules.specs.RowNumbers.{AreNumbersOf, blank}
 use Rattle.drain_rules.specs.Rows.{place}
 use Rattle.drain_rules.specs.Verdicts.{IsVerdict}
 use Rattle.drain_rules.specs.declared.verdict.Verdict.{Verdict}
-use Rattle.drain_verdict.specs.Answers.{IsAnswer}
+use Rattle.drain_grid.specs.declared.sink_line.SinkLine.{SinkLine}
+use Rattle.drain_grid.specs.SinkLines.{is_listed}
+use Rattle.drain_verdict.specs.Answers.{AreReadable, IsAnswer}
 use Rattle.drain_verdict.specs.GridRows.{AreRowsOf}
 use Rattle.drain_verdict.specs.HeldRows.{IsEven}
 use Rattle.drain_verdict.specs.InputRows.{IsToldRefusal}
 use Rattle.drain_verdict.specs.Inputs.{Inputs}
-use Rattle.drain_verdict.specs.Meaning.{fields_of, grid_of, nodata_in, nodata_numbers, nodata_of, products_of, tiles_of, tiling_of}
+use Rattle.drain_verdict.specs.Meaning.{fields_of, grid_of, listed_in, nodata_in, nodata_numbers, nodata_of, products_of, tiles_of, tiling_of}
 use Rattle.drain_verdict.specs.Refusals.{NoneStandsBefore}
 use Rattle.drain_verdict.specs.ToGive.{ToGive, given}
 use Rattle.drain_verdict.specs.declared.refusal.Refusal.{Refusal}
@@ -147,10 +149,11 @@ module _ (laws : Laws) (i : Inputs) (hs : PerProduct Fields) (fields : (p : Prod
   blank_even = by_product (λ p. length (of_product blank.products p) ≡ length blank.z) refl refl refl refl refl refl
 
   -- the rows that were given are those of the grid and of the products
-  rows_of_bytes : wrong ≡ None → ((p : Product) → ¬ Short p) → AreRowsOf (grid_of i) (products_of i) (row_given rows_to_give)
-  rows_of_bytes none_wrong none = record {
+  pub rows_of_bytes : (sinks : List SinkLine) → sinks ≡ listed_in i → wrong ≡ None → ((p : Product) → ¬ Short p) → AreRowsOf (grid_of i) (products_of i) sinks (row_given rows_to_give)
+  rows_of_bytes sinks sinks_are none_wrong none = record {
     row = λ r inside. subst (AreNumbersOf (grid_of i) (products_of i) r) (sym ((is_row_given rows_to_give r).even (even none r inside))) (numbers_given none_wrong none r inside);
     last = (is_row_given rows_to_give (extent_of t).rows).even (subst IsEven (sym none_given) blank_even) ∙ none_given;
+    sinks_are = λ c inside. ap (λ (lines : List SinkLine). is_listed lines c) (sym sinks_are);
   }
 
   -- the numbers for no data are the headers'
@@ -167,10 +170,11 @@ module _ (laws : Laws) (i : Inputs) (hs : PerProduct Fields) (fields : (p : Prod
     rnk = nodata_at Rnk k;
   }
 
-  -- where nothing is told, nothing stands, and the verdict on the rows is the answer
-  pub told_none : (verdict : Verdict) → IsToldRefusal t wrong Short seam None → NoneStandsBefore i 5 →
-      (AreRowsOf (grid_of i) (products_of i) (row_given rows_to_give) → IsVerdict (grid_of i) (products_of i) (nodata_in hs) verdict) → IsAnswer i (Ok verdict)
-  told_none verdict (none_wrong, none, no_seam) before is = (
-    seams_none i (tiles_agree none_wrong no_seam) (rasters_none i (none_short none) (tiles_none i (whole_tiles none_wrong) before)),
-    subst (λ (n : NoDataNumbers). IsVerdict (grid_of i) (products_of i) n verdict) nodata_are (is (rows_of_bytes none_wrong none)),
-  )
+  -- where nothing is told, nothing stands before the list of sinks
+  pub told_none : IsToldRefusal t wrong Short seam None → NoneStandsBefore i 5 → NoneStandsBefore i 8
+  told_none (none_wrong, none, no_seam) before =
+      seams_none i (tiles_agree none_wrong no_seam) (rasters_none i (none_short none) (tiles_none i (whole_tiles none_wrong) before))
+
+  -- and the verdict on the rows is the answer
+  pub verdict_is : (verdict : Verdict) → AreReadable i → IsVerdict (grid_of i) (products_of i) (nodata_in hs) verdict → IsAnswer i (Ok verdict)
+  verdict_is verdict none is = (none, subst (λ (n : NoDataNumbers). IsVerdict (grid_of i) (products_of i) n verdict) nodata_are is)

@@ -1,10 +1,15 @@
 -- The answer of a check by rows, from new readers to their last row.
-use Rattle.std.proofs.Common.{◌≡◌, ◌⊎◌, ◌+◌, ℕ, inl, inr, List, length, Option, Some, None, Ok, Err, IsErrOf, arith, refl, sym, ap, subst}
+use Rattle.std.proofs.Common.{◌≡◌, ◌⊎◌, ◌+◌, ◌∙◌, ℕ, inl, inr, List, length, Option, Some, None, Ok, Err, IsErrOf, arith, refl, sym, ap, subst}
 use Rattle.drain_device.specs.declared.counts.FaultCounts.{FaultCounts}
 use Rattle.drain_device.specs.declared.row_source.Progress.TheVariants.{Stopped}
+use Rattle.drain_grid.specs.declared.cell.Cell.{Cell}
 use Rattle.drain_grid.specs.declared.per_product.PerProduct.{PerProduct}
 use Rattle.drain_grid.specs.declared.product.Product.{Product}
 use Rattle.drain_grid.specs.PerProduct.{of_product}
+use Rattle.drain_grid.specs.declared.sink_line.SinkLine.{SinkLine}
+use Rattle.drain_grid.specs.Grid.{Grid}
+use Rattle.drain_grid.specs.Grid as grid
+use Rattle.drain_grid.specs.SinkTexts.{sinks_of}
 use Rattle.drain_grid.specs.Size.{Extent}
 use Rattle.drain_grid.specs.Values.{NoDataNumbers}
 use Rattle.drain_header.specs.Fields.{Fields}
@@ -22,14 +27,18 @@ use Rattle.drain_verdict.specs.GridRows.{IsRowsRefusal, OfGrid, ReadsOn}
 use Rattle.drain_verdict.specs.InputReads.{HaveBeenRead}
 use Rattle.drain_verdict.specs.InputRows.{AreBegun, HasStopped, IsToldRefusal}
 use Rattle.drain_verdict.specs.Inputs.{Inputs, Products}
-use Rattle.drain_verdict.specs.Meaning.{fields_of, grid_of, nodata_in, products_of, tiling_of}
+use Rattle.drain_verdict.specs.ListedVoids.{AreListedVoids}
+use Rattle.drain_verdict.specs.SinkListings.{IsBadLine, IsToldOfSinks}
+use Rattle.drain_verdict.specs.declared.sink_listing.SinkListing.{SinkListing}
+use Rattle.drain_verdict.specs.Meaning.{fields_of, grid_of, listed_in, nodata_in, products_of, tiling_of}
 use Rattle.drain_verdict.specs.Refusals.{IsOfBodies, NoneStandsBefore}
 use Rattle.drain_verdict.specs.Stages.{AreRasterBodies}
 use Rattle.drain_verdict.specs.ToGive.{AreGiven, HaveCome, IsAfter}
 use Rattle.drain_verdict.specs.declared.input_rows.InputRows.{InputRows}
 use Rattle.drain_verdict.specs.declared.refusal.Refusal.{Refusal}
 use Rattle.drain_verdict.specs.declared.refusal.Refusal.TheVariants.{OutOfMemory, ReadFailed}
-use Rattle.drain_verdict.proofs.RowAnswers.{told_none, told_refusal}
+use Rattle.drain_verdict.proofs.RowAnswers.{rows_of_bytes, told_none, told_refusal, verdict_is}
+use Rattle.drain_verdict.proofs.SinkAnswers.{sinks_none, sinks_refused}
 use Rattle.drain_verdict.proofs.RowDevices.{come_none}
 use Rattle.drain_verdict.proofs.RowEnd.{AreAtEnd, Laws, at_end, mosaic_goes}
 use Rattle.drain_verdict.proofs.RowStart.{after_none, row_given, start_given, to_give}
@@ -70,16 +79,45 @@ module _ {R : Type 0} (bl : R → Option (List ℕ)) (ct : R → FaultCounts) (i
       let here = subst (Read bl ct i hs rows rows_then tiles tiles_then ps ps_then e (Some refusal)) is read in
       told_refusal here.laws i hs fields (ended (Some refusal) (tiling_of i) here) refusal (here.tells (goes (Some refusal) (tiling_of i) here)) none
 
-  -- where none was told, the verdict is
-  pub verdict_answers : (nodata : NoDataNumbers) (verdict : Verdict) (t : Tiling) → t ≡ tiling_of i → ((p : Product) → of_product hs p ≡ fields_of i p) → NoneStandsBefore i 5 → nodata ≡ nodata_in hs →
-      OfGrid (AreGiven bl (rows, tiles, ps)) e (λ g products. IsVerdict g products nodata verdict) →
-      Read bl ct i hs rows rows_then tiles tiles_then ps ps_then e None t → IsAnswer i (Ok verdict)
-  verdict_answers nodata verdict t is fields none nodata_is of_grid read =
+  -- where none was told, what holds of the grid that is given by rows holds of that of the inputs
+  pub given_holds : (sinks : List SinkLine) (P : Grid → grid.Products → Type 0) (t : Tiling) → t ≡ tiling_of i → ((p : Product) → of_product hs p ≡ fields_of i p) → sinks ≡ listed_in i →
+      OfGrid (AreGiven bl (rows, tiles, ps)) e sinks P → Read bl ct i hs rows rows_then tiles tiles_then ps ps_then e None t → P (grid_of i) (products_of i)
+  given_holds sinks P t is fields sinks_are of_grid read =
       let here = subst (Read bl ct i hs rows rows_then tiles tiles_then ps ps_then e None) is read in
-      told_none here.laws i hs fields (ended None (tiling_of i) here) verdict (here.tells (goes None (tiling_of i) here)) none
-      (λ are. subst (λ (n : NoDataNumbers). IsVerdict (grid_of i) (products_of i) n verdict) nodata_is
-      (of_grid (row_given (to_give (tiling_of i) hs i.tiles i.raster)) (grid_of i) (products_of i)
-      (start_given bl (tiling_of i) hs rows tiles ps i.tiles i.raster here.of_bodies here.begun here.bodies here.rasters) (sym here.extent_is) are))
+      let told = here.tells (goes None (tiling_of i) here) in
+      of_grid (row_given (to_give (tiling_of i) hs i.tiles i.raster)) (grid_of i) (products_of i)
+      (start_given bl (tiling_of i) hs rows tiles ps i.tiles i.raster here.of_bodies here.begun here.bodies here.rasters) (sym here.extent_is)
+      (rows_of_bytes here.laws i hs fields (ended None (tiling_of i) here) sinks sinks_are told.0 told.1)
+
+  -- and nothing stands before the list of sinks
+  none_before : (t : Tiling) → t ≡ tiling_of i → ((p : Product) → of_product hs p ≡ fields_of i p) → NoneStandsBefore i 5 →
+      Read bl ct i hs rows rows_then tiles tiles_then ps ps_then e None t → NoneStandsBefore i 8
+  none_before t is fields none read =
+      let here = subst (Read bl ct i hs rows rows_then tiles tiles_then ps ps_then e None) is read in
+      told_none here.laws i hs fields (ended None (tiling_of i) here) (here.tells (goes None (tiling_of i) here)) none
+
+  -- so the refusal of the list is the answer, or else the verdict
+  pub sinks_answer : (listing : SinkListing) (voids : List Cell) (refusal : Refusal) (t : Tiling) → t ≡ tiling_of i → ((p : Product) → of_product hs p ≡ fields_of i p) → NoneStandsBefore i 5 →
+      listing.sinks ≡ listed_in i → IsBadLine (sinks_of i.sinks) listing.bad → OfGrid (AreGiven bl (rows, tiles, ps)) e listing.sinks (λ g products. AreListedVoids g voids) →
+      IsToldOfSinks listing e voids (Some refusal) → Read bl ct i hs rows rows_then tiles tiles_then ps ps_then e None t → IsAnswer i (Err refusal)
+  sinks_answer listing voids refusal t is fields none sinks_are bad_is of_grid told read =
+      let voids_are = given_holds listing.sinks (λ g products. AreListedVoids g voids) t is fields sinks_are of_grid read in
+      let extent = read.extent_is ∙ ap extent_of is in
+      sinks_refused i listing e voids sinks_are bad_is extent voids_are refusal told (none_before t is fields none read)
+
+  pub verdict_answers : (listing : SinkListing) (voids : List Cell) (nodata : NoDataNumbers) (verdict : Verdict) (t : Tiling) → t ≡ tiling_of i → ((p : Product) → of_product hs p ≡ fields_of i p) →
+      NoneStandsBefore i 5 → nodata ≡ nodata_in hs → listing.sinks ≡ listed_in i → IsBadLine (sinks_of i.sinks) listing.bad →
+      OfGrid (AreGiven bl (rows, tiles, ps)) e listing.sinks (λ g products. AreListedVoids g voids) →
+      OfGrid (AreGiven bl (rows, tiles, ps)) e listing.sinks (λ g products. IsVerdict g products nodata verdict) →
+      IsToldOfSinks listing e voids None → Read bl ct i hs rows rows_then tiles tiles_then ps ps_then e None t → IsAnswer i (Ok verdict)
+  verdict_answers listing voids nodata verdict t is fields none nodata_is sinks_are bad_is of_voids of_grid told read =
+      let here = subst (Read bl ct i hs rows rows_then tiles tiles_then ps ps_then e None) is read in
+      let voids_are = given_holds listing.sinks (λ g products. AreListedVoids g voids) t is fields sinks_are of_voids read in
+      let extent = read.extent_is ∙ ap extent_of is in
+      let verdict_is_of = given_holds listing.sinks (λ g products. IsVerdict g products nodata verdict) t is fields sinks_are of_grid read in
+      verdict_is here.laws i hs fields (ended None (tiling_of i) here) verdict
+      (sinks_none i listing e voids sinks_are bad_is extent voids_are told (none_before t is fields none read))
+      (subst (λ (n : NoDataNumbers). IsVerdict (grid_of i) (products_of i) n verdict) nodata_is verdict_is_of)
 
 -- a refusal of reading
 module _ {R : Type 0} (bl : R → Option (List ℕ)) (ct : R → FaultCounts) (rows rows_then : InputRows) (tiles tiles_then : List (TileInput R)) (ps ps_then : Products R) where

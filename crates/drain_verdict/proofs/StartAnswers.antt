@@ -33,14 +33,14 @@ named_each tiles corners named = sym (AllZip-long Names (names_of tiles) corners
 pub told_of_inputs : (P : ℕ → List (List ℕ) → Type 0) (i : Inputs) (side : ℕ) (names : List (List ℕ)) → i.side ≡ side → i.names ≡ names → P side names → P i.side i.names
 told_of_inputs P i side names side_is names_are holds = subst (λ s. P s i.names) (sym side_is) (subst (P side) (sym names_are) holds)
 
-layout_told : {R : Type 0} (bytes_left : R → Option (List ℕ)) (side : ℕ) (tiles : List (TileInput R)) (ps : Products R) (i : Inputs) (t : Tiling) →
-    Tell bytes_left side tiles ps i → IsLayoutOf side (names_of tiles) t → IsLayoutOf i.side i.names t
-layout_told bytes_left side tiles ps i t tell is = told_of_inputs (λ side names. IsLayoutOf side names t) i side (names_of tiles) tell.side_is tell.names_are is
+layout_told : {R : Type 0} (bytes_left : R → Option (List ℕ)) (side : ℕ) (tiles : List (TileInput R)) (sinks : List ℕ) (ps : Products R) (i : Inputs) (t : Tiling) →
+    Tell bytes_left side tiles sinks ps i → IsLayoutOf side (names_of tiles) t → IsLayoutOf i.side i.names t
+layout_told bytes_left side tiles sinks ps i t tell is = told_of_inputs (λ side names. IsLayoutOf side names t) i side (names_of tiles) tell.side_is tell.names_are is
 
 -- the refusal of the layout is the answer
-pub layout_answer : OneName → {R : Type 0} (bytes_left : R → Option (List ℕ)) (side : ℕ) (tiles : List (TileInput R)) (ps : Products R) (i : Inputs) (refusal : Refusal) →
-    Tell bytes_left side tiles ps i → IsLayoutRefusal side (names_of tiles) refusal → IsAnswer i (Err refusal)
-layout_answer one bytes_left side tiles ps i refusal tell bad =
+pub layout_answer : OneName → {R : Type 0} (bytes_left : R → Option (List ℕ)) (side : ℕ) (tiles : List (TileInput R)) (sinks : List ℕ) (ps : Products R) (i : Inputs) (refusal : Refusal) →
+    Tell bytes_left side tiles sinks ps i → IsLayoutRefusal side (names_of tiles) refusal → IsAnswer i (Err refusal)
+layout_answer one bytes_left side tiles sinks ps i refusal tell bad =
     layout_refused one i tell.corners_are refusal
     (told_of_inputs (λ side names. IsLayoutRefusal side names refusal) i side (names_of tiles) tell.side_is tell.names_are bad)
 
@@ -51,10 +51,10 @@ layout_reads_none side names refusal bad is =
     subst (IsLayoutRefusal side names) same bad
 
 -- the refusal of a header is the answer
-pub header_answer : OneName → {R : Type 0} (bytes_left : R → Option (List ℕ)) (side : ℕ) (tiles : List (TileInput R)) (ps : Products R) (i : Inputs) (t : Tiling) (refusal : Refusal) →
-    Tell bytes_left side tiles ps i → IsLayoutOf side (names_of tiles) t → IsFirstHeaderRefusal t ps refusal → IsAnswer i (Err refusal)
-header_answer one bytes_left side tiles ps i t refusal tell is bad =
-    let there = layout_told bytes_left side tiles ps i t tell is in
+pub header_answer : OneName → {R : Type 0} (bytes_left : R → Option (List ℕ)) (side : ℕ) (tiles : List (TileInput R)) (sinks : List ℕ) (ps : Products R) (i : Inputs) (t : Tiling) (refusal : Refusal) →
+    Tell bytes_left side tiles sinks ps i → IsLayoutOf side (names_of tiles) t → IsFirstHeaderRefusal t ps refusal → IsAnswer i (Err refusal)
+header_answer one bytes_left side tiles sinks ps i t refusal tell is bad =
+    let there = layout_told bytes_left side tiles sinks ps i t tell is in
     header_refused i ps refusal tell.headers_are (subst (λ (u : Tiling). IsFirstHeaderRefusal u ps refusal) (layout_is one i tell.corners_are t there) bad)
     (layout_none one i tell.corners_are t there)
 
@@ -64,11 +64,11 @@ header_reads_none t ps refusal bad is =
     subst (IsHeaderRefusal t bad.product (of_product ps bad.product).header) same bad.refused
 
 -- the layout is that of the inputs, the headers are what theirs say, and nothing stands before the tiles
-pub started : OneName → {R : Type 0} (bytes_left : R → Option (List ℕ)) (side : ℕ) (tiles : List (TileInput R)) (ps : Products R) (i : Inputs) (t : Tiling) (hs : PerProduct Fields) →
-    Tell bytes_left side tiles ps i → IsLayoutOf side (names_of tiles) t → AreHeadersFor t ps hs →
+pub started : OneName → {R : Type 0} (bytes_left : R → Option (List ℕ)) (side : ℕ) (tiles : List (TileInput R)) (sinks : List ℕ) (ps : Products R) (i : Inputs) (t : Tiling) (hs : PerProduct Fields) →
+    Tell bytes_left side tiles sinks ps i → IsLayoutOf side (names_of tiles) t → AreHeadersFor t ps hs →
     (t ≡ tiling_of i) × ((p : Product) → of_product hs p ≡ fields_of i p) × NoneStandsBefore i 5
-started one bytes_left side tiles ps i t hs tell is headers =
-    let there = layout_told bytes_left side tiles ps i t tell is in
+started one bytes_left side tiles sinks ps i t hs tell is headers =
+    let there = layout_told bytes_left side tiles sinks ps i t tell is in
     let same = layout_is one i tell.corners_are t there in
     let right : AreHeadersFor (tiling_of i) ps hs = subst (λ (u : Tiling). AreHeadersFor u ps hs) same headers in
     (same, headers_are i ps hs tell.headers_are right, headers_none i ps hs tell.headers_are right (layout_none one i tell.corners_are t there))

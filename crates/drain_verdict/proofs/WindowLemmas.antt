@@ -9,8 +9,12 @@ use Rattle.drain_grid.specs.Grid.{Grid, Products}
 use Rattle.drain_rules.specs.declared.three_rows.ThreeRows.{ThreeRows}
 use Rattle.drain_rules.specs.PatchRows.{AreRowPatches}
 use Rattle.drain_rules.specs.RowNumbers.{AreNumbersOf, AreRowNumbers, RowNumbers, blank}
+use Rattle.drain_rules.specs.MarkedRows.{IsRowOf, MarkedRow}
+use Rattle.drain_rules.specs.Rows.{place}
 use Rattle.drain_rules.specs.ThreeRows.{AreRowsAround}
+use Rattle.drain_grid.specs.declared.sink_line.SinkLine.{SinkLine}
 use Rattle.drain_verdict.specs.GridRows.{AreRowsOf}
+use Rattle.drain_verdict.specs.HeldRows.{IsMarked}
 
 -- of these rows two are held: this one, and the one above it, where there is one
 pub record AreHeld (rows : ℕ → RowNumbers) (row : ℕ) (above here : RowNumbers) : Type 0 where
@@ -30,14 +34,27 @@ blank-whole = record {
   pixels = λ p. subst (λ (ns : List ℤ). All IsPixel ns) (sym (none-of p)) (λ k n less. absurd (omega (arith, less)));
 }
 
+-- a row that is marked is a row of the grid
+pub row-marked : (g : Grid) (ps : Products) (sinks : List SinkLine) (rows : ℕ → RowNumbers) (r : ℕ) (row : MarkedRow) → AreRowsOf g ps sinks rows → row.numbers ≡ rows r →
+    IsMarked sinks r row → r < g.extent.rows → IsRowOf g ps r row
+row-marked g ps sinks rows r row all is marked inside =
+    let numbers = subst (λ n. AreNumbersOf g ps r n) (sym is) (all.row r inside) in
+    record {
+      numbers = numbers;
+      sinks = λ col across.
+          (let wide = numbers.cols_are in marked col (omega (arith, across, wide)))
+          ∙ sym (all.sinks_are (place r col) (record { row = inside; col = across }));
+    }
+
 -- with the row below, three rows of the grid stand in the window
-pub rows-around : (g : Grid) (ps : Products) (rows : ℕ → RowNumbers) (row : ℕ) (three : ThreeRows) → AreRowsOf g ps rows → row < g.extent.rows →
-    AreHeld rows row three.above three.here → three.below ≡ rows (row + 1) → AreRowsAround g ps row three
-rows-around g ps rows row three all inside are below_is = record {
-  here = subst (λ n. AreNumbersOf g ps row n) (sym are.here_is) (all.row row inside);
-  below = λ more. subst (λ n. AreNumbersOf g ps (row + 1) n) (sym below_is) (all.row (row + 1) more);
+pub rows-around : (g : Grid) (ps : Products) (sinks : List SinkLine) (rows : ℕ → RowNumbers) (row : ℕ) (three : ThreeRows) → AreRowsOf g ps sinks rows → row < g.extent.rows →
+    AreHeld rows row three.above.numbers three.here.numbers → three.below.numbers ≡ rows (row + 1) →
+    ((r : ℕ) → row ≡ r + 1 → IsMarked sinks r three.above) → IsMarked sinks row three.here → IsMarked sinks (row + 1) three.below → AreRowsAround g ps row three
+rows-around g ps sinks rows row three all inside are below_is above_marked here_marked below_marked = record {
+  here = row-marked g ps sinks rows row three.here all are.here_is here_marked inside;
+  below = λ more. row-marked g ps sinks rows (row + 1) three.below all below_is below_marked more;
   none_below = λ last. below_is ∙ ap rows (sym last) ∙ all.last;
-  above = λ r is. subst (λ n. AreNumbersOf g ps r n) (sym (are.above_is r is)) (all.row r (omega (arith, is, inside)));
+  above = λ r is. row-marked g ps sinks rows r three.above all (are.above_is r is) (above_marked r is) (omega (arith, is, inside));
   none_above = are.none_above;
 }
 

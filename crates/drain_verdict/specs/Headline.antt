@@ -14,12 +14,12 @@ use Rattle.drain_verdict.specs.Inputs.{Inputs, Tell, Products}
 use Rattle.drain_verdict.specs.Meaning.{tiling_of, tiles_of, grid_of, products_of, nodata_numbers}
 
 -- the fact holds of the inputs that are handed in
-abbrev pub OfInputs : {R : Type 0} → (R → Option (List ℕ)) → ℕ → List (TileInput R) → Products R → (Inputs → Type 0) → Type 0
-OfInputs bytes_left side tiles ps Fact = (i : Inputs) → Tell bytes_left side tiles ps i → Fact i
+abbrev pub OfInputs : {R : Type 0} → (R → Option (List ℕ)) → ℕ → List (TileInput R) → List ℕ → Products R → (Inputs → Type 0) → Type 0
+OfInputs bytes_left side tiles sinks ps Fact = (i : Inputs) → Tell bytes_left side tiles sinks ps i → Fact i
 
 -- where the answer is an acceptance, the fact holds of the inputs that were handed in
-abbrev pub AcceptedMeans : {R : Type 0} → (Inputs → Type 0) → (R → Option (List ℕ)) → ℕ → List (TileInput R) → Products R → Result Verdict Refusal → Type 0
-AcceptedMeans Fact bytes_left side tiles ps answer = IfAccepted answer (OfInputs bytes_left side tiles ps Fact)
+abbrev pub AcceptedMeans : {R : Type 0} → (Inputs → Type 0) → (R → Option (List ℕ)) → ℕ → List (TileInput R) → List ℕ → Products R → Result Verdict Refusal → Type 0
+AcceptedMeans Fact bytes_left side tiles sinks ps answer = IfAccepted answer (OfInputs bytes_left side tiles sinks ps Fact)
 
 -- the tiles agree
 abbrev pub TilesAreOne : Inputs → Type 0
@@ -29,7 +29,7 @@ TilesAreOne i = TilesAgree (tiling_of i) (tiles_of i)
 abbrev pub ElevationIsTheirs : Inputs → Type 0
 ElevationIsTheirs i = IsElevation (tiling_of i) (tiles_of i) (grid_of i).elevation
 
--- con is the least surface above the elevation from which every cell reaches an edge or a void without climbing
+-- con is the least surface above the elevation from which every cell reaches an edge, void or listed sink without climbing
 abbrev pub ConIsLeast : Inputs → Type 0
 ConIsLeast i = IsLeastSurface (grid_of i) (products_of i).con
 

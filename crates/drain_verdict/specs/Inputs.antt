@@ -10,12 +10,13 @@ use Rattle.drain_hgt.specs.Name.{Names}
 use Rattle.drain_hgt.specs.Inputs.{names_of, AreBodies}
 use Rattle.drain_verdict.specs.declared.input.RasterInput.{RasterInput}
 
--- the side, the names of the tiles, which tiles they name, the tiles' bodies, and each product's header and body
+-- the side, the names of the tiles, which tiles they name, the tiles' bodies, the list of sinks, and each product's header and body
 pub record Inputs : Type 0 where
   pub side : ℕ
   pub names : List (List ℕ)
   pub corners : List Corner
   pub tiles : List (List ℕ)
+  pub sinks : List ℕ
   pub header : Product → List ℕ
   pub raster : Product → List ℕ
 
@@ -28,10 +29,11 @@ abbrev pub AreNames : List (List ℕ) → Type 0
 AreNames names = All (λ name. (c : Corner) × Names name c) names
 
 -- what is handed in spells these inputs, where the devices tell their bytes
-pub record Tell {R : Type 0} (bytes_left : R → Option (List ℕ)) (side : ℕ) (tiles : List (TileInput R)) (ps : Products R) (i : Inputs) : Type 0 where
+pub record Tell {R : Type 0} (bytes_left : R → Option (List ℕ)) (side : ℕ) (tiles : List (TileInput R)) (sinks : List ℕ) (ps : Products R) (i : Inputs) : Type 0 where
   pub side_is : i.side ≡ side
   pub names_are : i.names ≡ names_of tiles
   pub corners_are : AreNames i.names → AllZip Names i.names i.corners
   pub tiles_are : AreBodies bytes_left tiles i.tiles
+  pub sinks_are : i.sinks ≡ sinks
   pub headers_are : (p : Product) → i.header p ≡ (of_product ps p).header
   pub rasters_are : (p : Product) → bytes_left (of_product ps p).body ≡ Some (i.raster p)

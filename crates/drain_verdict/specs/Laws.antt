@@ -9,6 +9,6 @@ use Rattle.drain_verdict.specs.Inputs.{Inputs, Tell, Products}
 -- where each source tells its bytes, what is handed in tells some inputs
 abbrev pub InputsAreTold : {R : Type 0} → (R → Option (List ℕ)) → Type 0
 InputsAreTold {R} bytes_left =
-    (side : ℕ) (tiles : List (TileInput R)) (ps : Products R) →
+    (side : ℕ) (tiles : List (TileInput R)) (sinks : List ℕ) (ps : Products R) →
     All (λ tile. IsSome (bytes_left tile.body)) tiles → ((p : Product) → IsSome (bytes_left (of_product ps p).body)) →
-    (i : Inputs) × Tell bytes_left side tiles ps i
+    (i : Inputs) × Tell bytes_left side tiles sinks ps i

@@ -9,7 +9,7 @@ use Rattle.drain_rules.specs.declared.verdict.Counts.{Counts}
 use Rattle.drain_rules.specs.declared.verdict.Verdict.{Verdict}
 use Rattle.drain_rules.specs.declared.verdict.Verdict.TheVariants.{Accepted, Rejected}
 use Rattle.drain_verdict.specs.declared.refusal.Refusal.{Refusal}
-use Rattle.drain_verdict.specs.declared.refusal.Refusal.TheVariants.{BadSide, BadName, NoTiles, RepeatedTile, BoxTooLarge, BadHeader, WrongShape, Misplaced, BadTileLength, RasterShort, SeamMismatch, OutOfMemory, ReadFailed}
+use Rattle.drain_verdict.specs.declared.refusal.Refusal.TheVariants.{BadSide, BadName, NoTiles, RepeatedTile, BoxTooLarge, BadHeader, WrongShape, Misplaced, BadTileLength, RasterShort, SeamMismatch, BadSinkLine, SinkNotData, OutOfMemory, ReadFailed}
 
 -- accepted rows=R cols=C data=D raised=U outlets=O
 abbrev pub accepted_line : Counts → List ℕ
@@ -40,6 +40,8 @@ refusal_line (Misplaced p) = codes "refused Misplaced " ++ product_name p
 refusal_line (BadTileLength c) = codes "refused BadTileLength " ++ tile_name c
 refusal_line (RasterShort p) = codes "refused RasterShort " ++ product_name p
 refusal_line (SeamMismatch c) = codes "refused SeamMismatch row=" ++ decimal c.row ++ codes " col=" ++ decimal c.col
+refusal_line (BadSinkLine n) = codes "refused BadSinkLine " ++ decimal n
+refusal_line (SinkNotData n) = codes "refused SinkNotData " ++ decimal n
 refusal_line OutOfMemory = codes "failed OutOfMemory"
 refusal_line ReadFailed = codes "failed ReadFailed"
 

@@ -1,5 +1,5 @@
 -- What the bytes of a check mean: tiles, a grid, its products, and their no-data numbers.
-use Rattle.std.specs.Prelude.{ℤ, List, map, unwrap_or}
+use Rattle.std.specs.Prelude.{ℕ, ℤ, List, [], map, unwrap_or, Result, Ok, Err}
 use Rattle.drain_grid.specs.declared.cell.Cell.{Cell}
 use Rattle.drain_grid.specs.declared.product.Product.{Product}
 use Rattle.drain_grid.specs.declared.per_product.PerProduct.{PerProduct}
@@ -12,9 +12,12 @@ use Rattle.drain_hgt.specs.Samples.{samples_of}
 use Rattle.drain_header.specs.Fields.{Fields}
 use Rattle.drain_header.specs.Header.{header_of}
 use Rattle.drain_raster.specs.Pixels.{pixel_at}
-use Rattle.drain_mosaic.specs.Tiling.{Tiling}
+use Rattle.drain_grid.specs.declared.sink_line.SinkLine.{SinkLine}
+use Rattle.drain_grid.specs.SinkLines.{is_listed}
+use Rattle.drain_grid.specs.SinkTexts.{sinks_of}
+use Rattle.drain_mosaic.specs.Tiling.{Tiling, extent_of}
 use Rattle.drain_mosaic.specs.Mosaic as mosaic
-use Rattle.drain_mosaic.specs.Joined as joined
+use Rattle.drain_mosaic.specs.Joined.{first_value}
 use Rattle.drain_verdict.specs.Inputs.{Inputs}
 
 -- the tiles that are named, and their samples
@@ -24,9 +27,23 @@ tiling_of i = record { side = i.side; corners = i.corners }
 abbrev pub tiles_of : Inputs → List mosaic.Tile
 tiles_of i = mosaic.tiles_of i.corners (map samples_of i.tiles)
 
--- the grid of the elevations: a cell has the value of the first tile that gives one, which is its one value where the tiles agree
+-- the lines of a list of sinks, none where one of them is bad
+abbrev pub lines_in : Result (List SinkLine) ℕ → List SinkLine
+lines_in (Ok sinks) = sinks
+lines_in (Err bad) = []
+
+-- the lines that list a cell
+abbrev pub listed_in : Inputs → List SinkLine
+listed_in i = lines_in (sinks_of i.sinks)
+
+-- the grid of the elevations and the listed sinks: a cell has the value of the first tile that gives one, which is its one value where the
+-- tiles agree
 abbrev pub grid_of : Inputs → grid.Grid
-grid_of i = joined.grid_of (tiling_of i) (tiles_of i)
+grid_of i = record {
+  extent = extent_of (tiling_of i);
+  elevation = first_value (tiling_of i) (tiles_of i);
+  sink = is_listed (listed_in i);
+}
 
 -- what a product's header says
 abbrev pub fields_of : Inputs → Product → Fields

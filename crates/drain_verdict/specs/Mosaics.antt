@@ -11,7 +11,7 @@ use Rattle.drain_hgt.specs.Name.{Names}
 use Rattle.drain_hgt.specs.Inputs.{names_of}
 use Rattle.drain_mosaic.specs.Tiling.{Tiling, extent_of}
 use Rattle.drain_verdict.specs.declared.refusal.Refusal.{Refusal}
-use Rattle.drain_verdict.specs.declared.refusal.Refusal.TheVariants.{BadHeader, WrongShape, Misplaced, RasterShort, OutOfMemory, ReadFailed}
+use Rattle.drain_verdict.specs.declared.refusal.Refusal.TheVariants.{BadHeader, WrongShape, Misplaced, RasterShort, BadSinkLine, SinkNotData, OutOfMemory, ReadFailed}
 use Rattle.drain_verdict.specs.Inputs.{Inputs, AreNames}
 use Rattle.drain_verdict.specs.Meaning.{tiling_of, grid_of}
 use Rattle.drain_verdict.specs.Refusals.{Stands, refusal_order}
@@ -23,12 +23,14 @@ pub record TellTiles {R : Type 0} (bytes_left : R → Option (List ℕ)) (side :
   pub corners_are : AreNames i.names → AllZip Names i.names i.corners
   pub tiles_are : AllZip (λ t body. bytes_left t.body ≡ Some body) tiles i.tiles
 
--- the refusal is about side, names or tiles, and not about a product
+-- the refusal is about side, names or tiles, and not about a product or a list of sinks
 abbrev pub IsOfTiles : Refusal → Type 0
 IsOfTiles (BadHeader p fault) = ⊥
 IsOfTiles (WrongShape p) = ⊥
 IsOfTiles (Misplaced p) = ⊥
 IsOfTiles (RasterShort p) = ⊥
+IsOfTiles (BadSinkLine n) = ⊥
+IsOfTiles (SinkNotData n) = ⊥
 IsOfTiles refusal = Unit {0}
 
 -- such a refusal stands

@@ -7,6 +7,9 @@ use Rattle.drain_grid.specs.declared.product.Product.{Product}
 use Rattle.drain_grid.specs.PerProduct.{rank_of}
 use Rattle.drain_grid.specs.Extent.{IsCellOf, index_of}
 use Rattle.drain_grid.specs.Tile.{IsSide}
+use Rattle.drain_grid.specs.declared.sink_line.SinkLine.{SinkLine}
+use Rattle.drain_grid.specs.SinkTexts.{sinks_of}
+use Rattle.drain_grid.specs.Grid.{HasData}
 use Rattle.drain_hgt.specs.Corner.{Corner}
 use Rattle.drain_hgt.specs.Name.{Names}
 use Rattle.drain_hgt.specs.Samples.{IsTile}
@@ -18,9 +21,9 @@ use Rattle.drain_mosaic.specs.Tiling as tiling
 use Rattle.drain_mosaic.specs.LayoutFaults.{HasLayoutFault}
 use Rattle.drain_mosaic.specs.Mosaic.{HasTwoValues}
 use Rattle.drain_verdict.specs.declared.refusal.Refusal.{Refusal}
-use Rattle.drain_verdict.specs.declared.refusal.Refusal.TheVariants.{BadSide, BadName, NoTiles, RepeatedTile, BoxTooLarge, BadHeader, WrongShape, Misplaced, BadTileLength, RasterShort, SeamMismatch, OutOfMemory, ReadFailed}
+use Rattle.drain_verdict.specs.declared.refusal.Refusal.TheVariants.{BadSide, BadName, NoTiles, RepeatedTile, BoxTooLarge, BadHeader, WrongShape, Misplaced, BadTileLength, RasterShort, SeamMismatch, BadSinkLine, SinkNotData, OutOfMemory, ReadFailed}
 use Rattle.drain_verdict.specs.Inputs.{Inputs}
-use Rattle.drain_verdict.specs.Meaning.{tiling_of, tiles_of, fields_of}
+use Rattle.drain_verdict.specs.Meaning.{tiling_of, tiles_of, fields_of, listed_in, grid_of}
 
 -- the name in this place names no tile
 pub record IsBadName (names : List (List ℕ)) (place : ℕ) : Type 0 where
@@ -55,6 +58,14 @@ pub record HasBadLength (i : Inputs) (c : Corner) : Type 0 where
 abbrev pub IsSeamFault : Inputs → Cell → Type 0
 IsSeamFault i c = IsCellOf (tiling.extent_of (tiling_of i)) c × HasTwoValues (tiling_of i) (tiles_of i) c
 
+-- a line of this number lists a cell that is no data cell
+pub record IsOffData (i : Inputs) (line : ℕ) : Type 0 where
+  pub place : ℕ
+  pub listed : SinkLine
+  pub is_there : slice_get (listed_in i) place ≡ Some listed
+  pub line_is : listed.line ≡ line
+  pub no_data : ¬ HasData (grid_of i) listed.cell
+
 -- what each refusal says; want of memory and a failed read are no facts of the bytes
 abbrev pub Stands : Inputs → Refusal → Type 0
 Stands i BadSide = ¬ IsSide i.side
@@ -68,14 +79,18 @@ Stands i (Misplaced p) = ¬ IsPlaced (tiling_of i) (fields_of i p).place
 Stands i (BadTileLength c) = HasBadLength i c
 Stands i (RasterShort p) = IsShort (fields_of i p) (i.raster p)
 Stands i (SeamMismatch c) = IsSeamFault i c
+Stands i (BadSinkLine n) = sinks_of i.sinks ≡ Err n
+Stands i (SinkNotData n) = IsOffData i n
 Stands i OutOfMemory = ⊥
 Stands i ReadFailed = ⊥
 
--- a refusal that comes once bodies are read: of their bytes, of seams, for want of memory or for a failed read
+-- a refusal that comes once bodies are read: of their bytes, of seams, of the list of sinks, for want of memory or for a failed read
 abbrev pub IsOfBodies : Refusal → Type 0
 IsOfBodies (BadTileLength c) = Unit {0}
 IsOfBodies (RasterShort p) = Unit {0}
 IsOfBodies (SeamMismatch c) = Unit {0}
+IsOfBodies (BadSinkLine n) = Unit {0}
+IsOfBodies (SinkNotData n) = Unit {0}
 IsOfBodies OutOfMemory = Unit {0}
 IsOfBodies ReadFailed = Unit {0}
 IsOfBodies refusal = ⊥
@@ -98,8 +113,10 @@ refusal_order i (Misplaced p) = (4, 3 * rank_of p + 2)
 refusal_order i (BadTileLength c) = (5, place_among i.corners c)
 refusal_order i (RasterShort p) = (6, rank_of p)
 refusal_order i (SeamMismatch c) = (7, index_of (tiling.extent_of (tiling_of i)) c)
-refusal_order i OutOfMemory = (8, 0)
-refusal_order i ReadFailed = (9, 0)
+refusal_order i (BadSinkLine n) = (8, n)
+refusal_order i (SinkNotData n) = (9, n)
+refusal_order i OutOfMemory = (10, 0)
+refusal_order i ReadFailed = (11, 0)
 
 -- no refusal of a kind before this one stands
 abbrev pub NoneStandsBefore : Inputs → ℕ → Type 0

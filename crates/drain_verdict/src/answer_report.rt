@@ -41,6 +41,8 @@ fn refusal_line(refusal: Refusal) -> Line
         Refusal::BadTileLength(name) => of_tile("refused BadTileLength ", name),
         Refusal::RasterShort(product) => of_product("refused RasterShort ", product),
         Refusal::SeamMismatch(cell) => seam_mismatch(cell),
+        Refusal::BadSinkLine(line) => of_line("refused BadSinkLine ", line),
+        Refusal::SinkNotData(line) => of_line("refused SinkNotData ", line),
         Refusal::OutOfMemory => words("failed OutOfMemory"),
         Refusal::ReadFailed => words("failed ReadFailed"),
     }
@@ -63,6 +65,17 @@ fn of_product(text: &str, product: Product) -> Line
 {
     let mut line = words(text);
     line.push_str(product.name());
+    line
+}
+
+/// These words and the number of a line.
+fn of_line(text: &str, number: u64) -> Line
+    requires { length text.now ≤ 40 }
+    ensures { result.bytes ≡ text.now ++ decimal number }
+{
+    let mut line = words(text);
+    let mut digits = Buffer::new();
+    line.push_str(digits.format(number));
     line
 }
 

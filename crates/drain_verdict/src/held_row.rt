@@ -1,23 +1,27 @@
 //! A row of a grid and its products in vectors, which are kept for their memory.
 
-ghost use Rattle.std.specs.Prelude.{◌≡◌, ◌↔◌, IsTrue};
+ghost use Rattle.std.specs.Prelude.{◌≡◌, ◌↔◌, ◌||◌, [], IsTrue, OnOk, OnErr};
+ghost use Rattle.drain_grid.specs.declared.cell.Cell.{Cell};
 ghost use Rattle.drain_rules.specs.RowNumbers.{AreRowNumbers, blank};
+ghost use Rattle.drain_verdict.specs.ListedVoids.{is_among, is_listed_void};
 
-use drain_grid::PerProduct;
+use crate::listed_voids::ListedVoids;
+use drain_grid::{OutOfMemory, PerProduct, Sinks};
 use drain_rules::RowView;
 use std::alloc::Global;
 
-/// The elevations of one row, and each product's numbers; none of either where there is no row.
+/// The elevations of one row, and each product's numbers, none of either where there is no row; and marks at its listed sinks.
 ///
-/// It may be filled one vector after the other. Only a whole row can be viewed: as many numbers of each.
+/// It may be filled one vector after the other. Only a whole row can be viewed: as many numbers of each. No mark stands for no sink.
 #[derive(Drop)]
 pub struct HeldRow {
     pub z: Vec<i64>,
     pub products: PerProduct<Vec<i64>>,
+    pub sinks: Vec<bool>,
 }
 
 impl HeldRow {
-    ghost use Rattle.drain_verdict.specs.HeldRows.{IsEven, numbers_of};
+    ghost use Rattle.drain_verdict.specs.HeldRows.{IsEven, IsMarked, marked_of, numbers_of};
 
     /// No row. This takes no memory.
     pub fn new(alloc: Global) -> HeldRow
@@ -33,6 +37,7 @@ impl HeldRow {
                 spl: Vec::new(alloc),
                 rnk: Vec::new(alloc),
             },
+            sinks: Vec::new(alloc),
         }
     }
 
@@ -63,13 +68,38 @@ impl HeldRow {
             && products.rnk.len() == len
     }
 
+    /// Marks the listed sinks of the row, whose number this is, and notes those that are voids. With no sink it takes no memory.
+    pub fn mark(
+        &mut self,
+        row: u32,
+        sinks: &Sinks,
+        voids: &mut ListedVoids,
+    ) -> Result<(), OutOfMemory>
+        requires whole { AreRowNumbers (numbers_of self.old) }
+        ensures numbers { numbers_of self.new ≡ numbers_of self.old }
+        ensures marked { OnOk result (IsMarked sinks.now row (marked_of self.new)) }
+        ensures noted { OnOk result ((c : Cell) → is_among voids.new c ≡ (is_among voids.old c || is_listed_void row (numbers_of self.new).z self.new.sinks.items c)) }
+        ensures wants { OnErr result (¬ (sinks.now ≡ [])) }
+    {
+        if sinks.count() == 0 {
+            self.sinks.clear();
+            return Ok(());
+        }
+        let Ok(()) = self.sinks.resize(self.z.len(), false) else {
+            return Err(OutOfMemory);
+        };
+        sinks.mark_row(row, self.sinks.as_mut_slice());
+        voids.note_row(row, self.z.as_slice(), self.sinks.as_slice())
+    }
+
     /// The row as slices.
     pub fn view(&self) -> RowView<'_>
         requires { AreRowNumbers (numbers_of self.now) }
-        ensures { result ≡ numbers_of self.now }
+        ensures { result ≡ marked_of self.now }
     {
         RowView::new(
             self.z.as_slice(),
+            self.sinks.as_slice(),
             PerProduct {
                 con: self.products.con.as_slice(),
                 dir: self.products.dir.as_slice(),

@@ -41,6 +41,12 @@ pub enum Refusal {
     /// Two tiles give the cell different values.
     #[error("two tiles differ at a cell")]
     SeamMismatch(Cell),
+    /// This line of the list of sinks, counted from 1, is not a row and a column.
+    #[error("a line is not a row and a column")]
+    BadSinkLine(u64),
+    /// This line of the list of sinks, counted from 1, lists a cell without data: a void, or outside the mosaic.
+    #[error("a listed sink is no data cell")]
+    SinkNotData(u64),
     /// Memory was refused.
     #[error("out of memory")]
     OutOfMemory,

@@ -6,7 +6,7 @@ use Rattle.drain_verdict.proofs.checker.answer_of.Goals as goal
 pub returns-in_err-layout-clause-answer : goal.returns-in_err-layout-clause-answer
 returns-in_err-layout-clause-answer g c = λ inputs tell.
     let told = err_from_is_err_and c.from_residual.result c.from_residual.ensures.1 in
-    rw (told.1, told.2) (layout_answer c.one_name.ensures g.R.ByteSource.bytes_left c.args.side c.args.tiles.now c.args.products.now inputs _ tell c.in_err-layout.ensures.refusal)
+    rw (told.1, told.2) (layout_answer c.one_name.ensures g.R.ByteSource.bytes_left c.args.side c.args.tiles.now c.args.sinks.now c.args.products.now inputs _ tell c.in_err-layout.ensures.refusal)
 
 pub returns-in_err-layout-clause-tiles_within : goal.returns-in_err-layout-clause-tiles_within
 returns-in_err-layout-clause-tiles_within g c = tiles_take_none g.R.ByteSource.bytes_left c.args.side c.args.tiles.now
@@ -19,7 +19,7 @@ returns-in_err-layout-clause-faults g c =
 pub returns-in_err-headers-clause-answer : goal.returns-in_err-headers-clause-answer
 returns-in_err-headers-clause-answer g c = λ inputs tell.
     let told = err_from_is_err_and c.from_residual-in_err-headers.result c.from_residual-in_err-headers.ensures.1 in
-    rw (told.1, told.2) (header_answer c.one_name.ensures g.R.ByteSource.bytes_left c.args.side c.args.tiles.now c.args.products.now inputs _ _ tell c.in_ok-layout.ensures.layout c.in_err-headers.ensures.refusal)
+    rw (told.1, told.2) (header_answer c.one_name.ensures g.R.ByteSource.bytes_left c.args.side c.args.tiles.now c.args.sinks.now c.args.products.now inputs _ _ tell c.in_ok-layout.ensures.layout c.in_err-headers.ensures.refusal)
 
 pub returns-in_err-headers-clause-tiles_within : goal.returns-in_err-headers-clause-tiles_within
 returns-in_err-headers-clause-tiles_within g c = tiles_take_none g.R.ByteSource.bytes_left c.args.side c.args.tiles.now
@@ -34,9 +34,9 @@ check_bodies-requires-clause-named g c = named_each c.args.tiles.now _ c.in_ok-l
 
 pub returns-clause-answer : goal.returns-clause-answer
 returns-clause-answer g c = λ inputs tell.
-    let begun = started c.one_name.ensures g.R.ByteSource.bytes_left c.args.side c.args.tiles.now c.args.products.now inputs c.in_ok-layout.layout c.in_ok-headers.headers tell
+    let begun = started c.one_name.ensures g.R.ByteSource.bytes_left c.args.side c.args.tiles.now c.args.sinks.now c.args.products.now inputs c.in_ok-layout.layout c.in_ok-headers.headers tell
     c.in_ok-layout.ensures.layout c.in_ok-headers.ensures.headers in
-    c.check_bodies.ensures.answer inputs begun.0 begun.1 tell.tiles_are tell.rasters_are begun.2
+    c.check_bodies.ensures.answer inputs begun.0 begun.1 tell.tiles_are tell.rasters_are tell.sinks_are begun.2
 
 pub returns-clause-rasters_within : goal.returns-clause-rasters_within
 returns-clause-rasters_within g c = λ p.

@@ -1,5 +1,8 @@
-use Rattle.std.proofs.Common.{◌≡◌}
+use Rattle.std.proofs.Common.{◌≡◌, ℕ, List, ap, subst, sym, ◌∙◌}
 use Rattle.std.proofs.lemmas.Result.{err_from_is_err_and}
+use Rattle.drain_grid.specs.SinkTexts.{sinks_of}
+use Rattle.drain_verdict.specs.Meaning.{lines_in}
+use Rattle.drain_verdict.specs.SinkListings.{IsBadLine}
 use Rattle.drain_verdict.specs.declared.refusal.Refusal.TheVariants.{ReadFailed}
 use Rattle.drain_verdict.proofs.Devices.{devices_none, tiles_take_none}
 use Rattle.drain_verdict.proofs.RowDevices.{bodies_taken, devices_fail, tiles_taken}
@@ -15,8 +18,16 @@ returns-in_err-rows-clause-faults g c =
     (λ is. let wants = c.in_err-rows.ensures.no_memory in let other : c.in_err-rows.field-0.0 ≡ ReadFailed = cc in cc))
 
 pub returns-clause-answer : goal.returns-clause-answer
-returns-clause-answer g c = λ inputs is fields tiles rasters none.
-    c.check_rows.ensures.answer inputs c.args.headers c.in_ok-rows.ensures.begun c.nodata_of-nodata.ensures c.requires.shapes is fields tiles rasters none
+returns-clause-answer g c = λ inputs is fields tiles rasters sinks none.
+    let sinks_are = c.in-Ok.ensures.sinks ∙ ap (λ (text : List ℕ). lines_in (sinks_of text)) (sym sinks) in
+    let bad_is = subst (λ (text : List ℕ). IsBadLine (sinks_of text) c.in-Ok.listing.bad) (sym sinks) c.in-Ok.ensures.bad in
+    c.check_rows.ensures.answer inputs c.args.headers c.in_ok-rows.ensures.begun c.nodata_of-nodata.ensures c.requires.shapes is fields tiles rasters sinks_are bad_is none
+
+pub returns-in-Err-clause-tiles_within : goal.returns-in-Err-clause-tiles_within
+returns-in-Err-clause-tiles_within g c = tiles_take_none g.R.ByteSource.bytes_left c.args.layout.now.side c.args.tiles.now
+
+pub returns-in-Err-clause-faults : goal.returns-in-Err-clause-faults
+returns-in-Err-clause-faults g c = devices_none g.R.ByteSource.counts c.args.tiles.now c.args.products.now (λ is. cc)
 
 pub returns-clause-tiles_within : goal.returns-clause-tiles_within
 returns-clause-tiles_within g c =

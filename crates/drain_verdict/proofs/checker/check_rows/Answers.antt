@@ -6,44 +6,44 @@ use Rattle.drain_rules.specs.declared.verdict.Verdict.{Verdict}
 use Rattle.drain_verdict.specs.Refusals.{IsOfBodies}
 use Rattle.drain_verdict.specs.declared.refusal.Refusal.TheVariants.{ReadFailed}
 use Rattle.drain_verdict.proofs.InputLemmas.{told-of}
-use Rattle.drain_verdict.proofs.RowCheck.{all_read, of_reading_answers, of_reading_bodies, refusal_answers, refused, verdict_answers}
+use Rattle.drain_verdict.proofs.RowCheck.{all_read, of_reading_answers, of_reading_bodies, refusal_answers, refused, sinks_answer, verdict_answers}
 use Rattle.drain_verdict.proofs.RowDevices.{come_none}
 use Rattle.drain_verdict.proofs.checker.check_rows.Goals as goal
 
-pub returns-in_err-verdict-clause-answer : goal.returns-in_err-verdict-clause-answer
-returns-in_err-verdict-clause-answer g c = λ inputs hs begun nodata shapes is fields tiles rasters none.
+pub returns-in_err-found-clause-answer : goal.returns-in_err-found-clause-answer
+returns-in_err-found-clause-answer g c = λ inputs hs begun nodata shapes is fields tiles rasters sinks bad none.
     let told = err_from_is_err_and c.from_residual.result c.from_residual.ensures.1 in
     let new = c.verdict_by_rows.new in
-    rw (told.1, told.2) (of_reading_answers inputs c.in_err-verdict.field-0.0 (refused g.R.ByteSource.bytes_left g.R.ByteSource.counts c.args.rows.now new.source c.args.tiles.now new.tiles c.args.products.now new.products {T = Verdict}
-    c.in_err-verdict.field-0.0 c.in_err-verdict.ensures.refuses).0)
+    rw (told.1, told.2) (of_reading_answers inputs c.in_err-found.field-0.0 (refused g.R.ByteSource.bytes_left g.R.ByteSource.counts c.args.rows.now new.source c.args.tiles.now new.tiles c.args.products.now new.products {T = Verdict}
+    c.in_err-found.field-0.0 c.in_err-found.ensures.refuses).0)
 
-pub returns-in_err-verdict-clause-reads : goal.returns-in_err-verdict-clause-reads
-returns-in_err-verdict-clause-reads g c =
+pub returns-in_err-found-clause-reads : goal.returns-in_err-found-clause-reads
+returns-in_err-found-clause-reads g c =
     let told = err_from_is_err_and c.from_residual.result c.from_residual.ensures.1 in
     let new = c.verdict_by_rows.new in
     rw (told.1, told.2) (refused g.R.ByteSource.bytes_left g.R.ByteSource.counts c.args.rows.now new.source c.args.tiles.now new.tiles c.args.products.now new.products {T = Verdict}
-    c.in_err-verdict.field-0.0 c.in_err-verdict.ensures.refuses).1
+    c.in_err-found.field-0.0 c.in_err-found.ensures.refuses).1
 
-pub returns-in_err-verdict-clause-of_bodies : goal.returns-in_err-verdict-clause-of_bodies
-returns-in_err-verdict-clause-of_bodies g c =
+pub returns-in_err-found-clause-of_bodies : goal.returns-in_err-found-clause-of_bodies
+returns-in_err-found-clause-of_bodies g c =
     let new = c.verdict_by_rows.new in
-    told-of c.from_residual.result c.in_err-verdict.field-0.0 IsOfBodies c.from_residual.ensures.1 (of_reading_bodies c.in_err-verdict.field-0.0
-    (refused g.R.ByteSource.bytes_left g.R.ByteSource.counts c.args.rows.now new.source c.args.tiles.now new.tiles c.args.products.now new.products {T = Verdict} c.in_err-verdict.field-0.0 c.in_err-verdict.ensures.refuses).0)
+    told-of c.from_residual.result c.in_err-found.field-0.0 IsOfBodies c.from_residual.ensures.1 (of_reading_bodies c.in_err-found.field-0.0
+    (refused g.R.ByteSource.bytes_left g.R.ByteSource.counts c.args.rows.now new.source c.args.tiles.now new.tiles c.args.products.now new.products {T = Verdict} c.in_err-found.field-0.0 c.in_err-found.ensures.refuses).0)
 
 pub refusal-requires : goal.refusal-requires
 refusal-requires g c = record {
-  named = (c.in_ok-verdict.ensures.reads (c.args.rows.now, c.args.tiles.now, c.args.products.now) 0
+  named = (c.in_ok-found.ensures.reads (c.args.rows.now, c.args.tiles.now, c.args.products.now) 0
       (come_none g.R.ByteSource.bytes_left g.R.ByteSource.counts c.args.rows.now c.args.tiles.now c.args.products.now)).reads.counted ∙ c.requires.counted;
 }
 
 pub returns-in-Some-clause-answer : goal.returns-in-Some-clause-answer
-returns-in-Some-clause-answer g c = λ inputs hs begun nodata shapes is fields tiles rasters none.
+returns-in-Some-clause-answer g c = λ inputs hs begun nodata shapes is fields tiles rasters sinks bad none.
     let bl = g.R.ByteSource.bytes_left in
     let ct = g.R.ByteSource.counts in
     let new = c.verdict_by_rows.new in
     let layout : IsLayout c.args.layout.now = c.makes_a_mosaic.ensures in
-    refusal_answers bl ct inputs hs c.args.rows.now new.source c.args.tiles.now new.tiles c.args.products.now new.products c.shape.result c.in-Some.refusal c.args.layout.now is fields none (record {
-      extent_is = c.shape.ensures;
+    refusal_answers bl ct inputs hs c.args.rows.now new.source c.args.tiles.now new.tiles c.args.products.now new.products c.shape-shape.result c.in-Some.refusal c.args.layout.now is fields none (record {
+      extent_is = c.shape-shape.ensures;
       laws = record {
         rows_end = c.rows_end.ensures;
         rows_whole = c.rows_are_whole.ensures;
@@ -59,7 +59,7 @@ returns-in-Some-clause-answer g c = λ inputs hs begun nodata shapes is fields t
       shapes = shapes;
       counted = AllZip-long _ c.args.tiles.now inputs.tiles tiles ∙ c.requires.named;
       begun = begun;
-      come = c.in_ok-verdict.ensures.reads (c.args.rows.now, c.args.tiles.now, c.args.products.now) 0 (come_none bl ct c.args.rows.now c.args.tiles.now c.args.products.now);
+      come = c.in_ok-found.ensures.reads (c.args.rows.now, c.args.tiles.now, c.args.products.now) 0 (come_none bl ct c.args.rows.now c.args.tiles.now c.args.products.now);
       tells = c.in-Some.ensures.refusal;
       bodies = tiles;
       rasters = rasters;
@@ -68,18 +68,18 @@ returns-in-Some-clause-answer g c = λ inputs hs begun nodata shapes is fields t
 pub returns-in-Some-clause-reads : goal.returns-in-Some-clause-reads
 returns-in-Some-clause-reads g c =
     let new = c.verdict_by_rows.new in
-    all_read g.R.ByteSource.bytes_left g.R.ByteSource.counts c.args.rows.now new.source c.args.tiles.now new.tiles c.args.products.now new.products _ c.in_ok-verdict.ensures.reads
+    all_read g.R.ByteSource.bytes_left g.R.ByteSource.counts c.args.rows.now new.source c.args.tiles.now new.tiles c.args.products.now new.products _ c.in_ok-found.ensures.reads
     (λ is. c.in-Some.ensures.no_read (let same : c.in-Some.refusal ≡ ReadFailed = cc in ap Some same))
 
-pub returns-in-None-clause-answer : goal.returns-in-None-clause-answer
-returns-in-None-clause-answer g c = λ inputs hs begun nodata shapes is fields tiles rasters none.
+pub returns-in-Some-sink_refusal-clause-answer : goal.returns-in-Some-sink_refusal-clause-answer
+returns-in-Some-sink_refusal-clause-answer g c = λ inputs hs begun nodata shapes is fields tiles rasters sinks bad none.
     let bl = g.R.ByteSource.bytes_left in
     let ct = g.R.ByteSource.counts in
     let new = c.verdict_by_rows.new in
     let layout : IsLayout c.args.layout.now = c.makes_a_mosaic.ensures in
-    verdict_answers bl ct inputs hs c.args.rows.now new.source c.args.tiles.now new.tiles c.args.products.now new.products c.shape.result c.args.nodata.now c.in_ok-verdict.verdict c.args.layout.now is fields none nodata
-    c.in_ok-verdict.ensures.verdict (record {
-      extent_is = c.shape.ensures;
+    sinks_answer bl ct inputs hs c.args.rows.now new.source c.args.tiles.now new.tiles c.args.products.now new.products c.shape-shape.result c.args.listing.now c.in_ok-found.found.voids
+    c.in-Some-sink_refusal.refusal c.args.layout.now is fields none sinks bad c.in_ok-found.ensures.voids c.in-Some-sink_refusal.ensures.told (record {
+      extent_is = c.shape-shape.ensures;
       laws = record {
         rows_end = c.rows_end.ensures;
         rows_whole = c.rows_are_whole.ensures;
@@ -95,13 +95,49 @@ returns-in-None-clause-answer g c = λ inputs hs begun nodata shapes is fields t
       shapes = shapes;
       counted = AllZip-long _ c.args.tiles.now inputs.tiles tiles ∙ c.requires.named;
       begun = begun;
-      come = c.in_ok-verdict.ensures.reads (c.args.rows.now, c.args.tiles.now, c.args.products.now) 0 (come_none bl ct c.args.rows.now c.args.tiles.now c.args.products.now);
-      tells = c.in-None.ensures.refusal;
+      come = c.in_ok-found.ensures.reads (c.args.rows.now, c.args.tiles.now, c.args.products.now) 0 (come_none bl ct c.args.rows.now c.args.tiles.now c.args.products.now);
+      tells = c.in_default.ensures.refusal;
       bodies = tiles;
       rasters = rasters;
     })
 
-pub returns-in-None-clause-reads : goal.returns-in-None-clause-reads
-returns-in-None-clause-reads g c =
+pub returns-in-Some-sink_refusal-clause-reads : goal.returns-in-Some-sink_refusal-clause-reads
+returns-in-Some-sink_refusal-clause-reads g c =
     let new = c.verdict_by_rows.new in
-    all_read g.R.ByteSource.bytes_left g.R.ByteSource.counts c.args.rows.now new.source c.args.tiles.now new.tiles c.args.products.now new.products _ c.in_ok-verdict.ensures.reads (λ is. cc)
+    all_read g.R.ByteSource.bytes_left g.R.ByteSource.counts c.args.rows.now new.source c.args.tiles.now new.tiles c.args.products.now new.products _ c.in_ok-found.ensures.reads
+    (λ is. c.in-Some-sink_refusal.ensures.no_read (let same : c.in-Some-sink_refusal.refusal ≡ ReadFailed = cc in ap Some same))
+
+pub returns-clause-answer : goal.returns-clause-answer
+returns-clause-answer g c = λ inputs hs begun nodata shapes is fields tiles rasters sinks bad none.
+    let bl = g.R.ByteSource.bytes_left in
+    let ct = g.R.ByteSource.counts in
+    let new = c.verdict_by_rows.new in
+    let layout : IsLayout c.args.layout.now = c.makes_a_mosaic.ensures in
+    verdict_answers bl ct inputs hs c.args.rows.now new.source c.args.tiles.now new.tiles c.args.products.now new.products c.shape-shape.result c.args.listing.now c.in_ok-found.found.voids c.args.nodata.now
+    c.in_ok-found.found.verdict c.args.layout.now is fields none nodata sinks bad c.in_ok-found.ensures.voids c.in_ok-found.ensures.verdict c.in-None.ensures.told (record {
+      extent_is = c.shape-shape.ensures;
+      laws = record {
+        rows_end = c.rows_end.ensures;
+        rows_whole = c.rows_are_whole.ensures;
+        first_values = c.rows_are_first_values.ensures;
+        seams = c.rows_tell_seams.ensures;
+        lengths = c.rows_tell_lengths.ensures;
+        samples = c.whole_tiles_give_their_samples.ensures;
+        raster_end = c.raster_rows_end.ensures;
+        raster_pixels = c.raster_rows_are_pixels.ensures;
+      };
+      of_bodies = c.new_rows_are_of_bodies.ensures;
+      layout = layout;
+      shapes = shapes;
+      counted = AllZip-long _ c.args.tiles.now inputs.tiles tiles ∙ c.requires.named;
+      begun = begun;
+      come = c.in_ok-found.ensures.reads (c.args.rows.now, c.args.tiles.now, c.args.products.now) 0 (come_none bl ct c.args.rows.now c.args.tiles.now c.args.products.now);
+      tells = c.in_default.ensures.refusal;
+      bodies = tiles;
+      rasters = rasters;
+    })
+
+pub returns-clause-reads : goal.returns-clause-reads
+returns-clause-reads g c =
+    let new = c.verdict_by_rows.new in
+    all_read g.R.ByteSource.bytes_left g.R.ByteSource.counts c.args.rows.now new.source c.args.tiles.now new.tiles c.args.products.now new.products _ c.in_ok-found.ensures.reads (λ is. cc)

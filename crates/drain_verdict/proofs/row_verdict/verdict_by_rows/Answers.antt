@@ -1,14 +1,19 @@
-use Rattle.std.proofs.Common.{◌≡◌, Some, None, inl, ◌+◌, ◌<◌, inr, refl, sym, ap, subst, ◌∙◌, arith}
+use Rattle.std.proofs.Common.{◌≡◌, Option, Some, None, inl, ◌+◌, ◌<◌, inr, refl, sym, ap, subst, ◌∙◌, arith}
 use Rattle.drain_grid.specs.Size.{Extent}
 use Rattle.drain_rules.specs.RowNumbers.{AreRowNumbers}
-use Rattle.drain_verdict.specs.HeldRows.{numbers_of}
+use Rattle.drain_rules.specs.MarkedRows.{MarkedRow}
+use Rattle.drain_verdict.specs.GridRows.{ReadsOn}
+use Rattle.drain_verdict.specs.HeldRows.{IsMarked, marked_of, numbers_of}
+use Rattle.drain_verdict.specs.ListedVoids.{AreVoidsBefore}
+use Rattle.drain_verdict.specs.declared.refusal.Refusal.{Refusal}
 use Rattle.drain_verdict.proofs.InputLemmas.{told-of}
-use Rattle.drain_verdict.proofs.WindowLemmas.{blank-whole, held-more, held-turned, patches-at, rows-around}
+use Rattle.drain_verdict.proofs.VoidRows.{voids-all, voids-more, voids-none}
+use Rattle.drain_verdict.proofs.WindowLemmas.{blank-whole, held-more, held-turned, patches-at, row-marked, rows-around}
 use Rattle.drain_verdict.proofs.row_verdict.verdict_by_rows.Goals as goal
 
 pub loop-row-init : goal.loop-row-init
 loop-row-init g c =
-    let read = c.in_ok-read_row.ensures in
+    let read = c.in_ok-read_marked.ensures in
     record {
       counted = c.new-walk.ensures.rows;
       as_many = read.as_many ∙ c.requires.counted ∙ sym read.counted;
@@ -20,86 +25,124 @@ loop-row-init g c =
         above_is = λ r is. absurd (omega (arith, is));
         none_above = λ is. c.new-window.ensures.here;
       };
+      here_marked = λ r is. absurd (omega (arith, is));
+      below_marked = read.marked;
+      voids = λ rows grid ps gives extent all.
+          voids-more grid ps 0 _ _ (marked_of c.read_marked.new.held)
+          (row-marked grid ps c.args.sinks.now rows 0 (marked_of c.read_marked.new.held) all (read.next rows 0 gives).0 read.marked)
+          (subst (AreVoidsBefore grid 0) (sym c.new-voids.ensures) (voids-none grid)) read.noted;
       right = λ rows grid ps gives extent all. c.new-walk.ensures.finding c.args.nodata.now grid ps;
       reads = read.reads;
     }
 
 pub returns-in-Err-clause-refuses : goal.returns-in-Err-clause-refuses
 returns-in-Err-clause-refuses g c =
-    let row = c.loop-row._row in
+    let row = c.loop-row.row in
     let inv = c.loop-row.invariant in
-    let read = c.in_ok-read_row-2.ensures in (
+    let read = c.in_ok-read_marked-2.ensures in (
       row + 1 + 1,
       inr (
         refl,
-        λ start n before. let same : n + (row + 1) + 1 ≡ n + (row + 1 + 1) = omega arith in subst (λ k. g.S.GridRows.has_read start (c.read_row-in-loop-row.new.self, c.read_row-in-loop-row.new.tiles, c.read_row-in-loop-row.new.products) k None) same (read.reads start (n + (row + 1)) (inv.reads start n before)),
-        λ rows grid ps gives extent all.
+        λ start n before. let same : n + (row + 1) + 1 ≡ n + (row + 1 + 1) = omega arith in subst (λ k. g.S.GridRows.has_read start (c.read_marked-in-loop-row.new.source, c.read_marked-in-loop-row.new.tiles, c.read_marked-in-loop-row.new.products) k None) same (read.reads start (n + (row + 1)) (inv.reads start n before)),
+        inl (λ rows grid ps gives extent all.
             let count = ap (λ (e : Extent). e.rows) extent in
             let inside : row < grid.extent.rows = omega (arith, c.loop-row-test.true, c.rows-row-end.ensures, count) in
-            let held = held-turned rows row (numbers_of c.loop-row.window.here) (numbers_of c.loop-row.window.below) c.rows.result.above c.rows.result.here
-            (inv.held rows gives) (c.rows.ensures.above ∙ c.turn.ensures.above) (c.rows.ensures.here ∙ c.turn.ensures.here) in
-            let around = rows-around grid ps rows row c.rows.result all inside held (c.rows.ensures.below ∙ (read.next rows (row + 1) (inv.given rows gives)).0) in
+            let above_is = c.rows.ensures.above ∙ c.turn.ensures.above in
+            let here_is = c.rows.ensures.here ∙ c.turn.ensures.here in
+            let held = held-turned rows row (numbers_of c.loop-row.window.here) (numbers_of c.loop-row.window.below) c.rows.result.above.numbers c.rows.result.here.numbers
+            (inv.held rows gives) (ap (λ (m : MarkedRow). m.numbers) above_is) (ap (λ (m : MarkedRow). m.numbers) here_is) in
+            let around = rows-around grid ps c.args.sinks.now rows row c.rows.result all inside held
+            (ap (λ (m : MarkedRow). m.numbers) c.rows.ensures.below ∙ (read.next rows (row + 1) (inv.given rows gives)).0)
+            (λ r is. subst (IsMarked c.args.sinks.now r) (sym above_is) (inv.here_marked r is))
+            (subst (IsMarked c.args.sinks.now row) (sym here_is) inv.below_marked)
+            (subst (IsMarked c.args.sinks.now (row + 1)) (sym c.rows.ensures.below) read.marked) in
             c.in-Err.ensures.err grid ps
             (patches-at grid ps row c.loop-row.walk.rows _ _ (c.three_rows_show_patches.ensures grid ps row c.rows.result around) inv.counted)
-            (inv.right rows grid ps gives extent all),
+            (inv.right rows grid ps gives extent all)),
       ),
     )
 
 pub loop-row-preserved : goal.loop-row-preserved
 loop-row-preserved g c =
-    let row = c.loop-row._row in
+    let row = c.loop-row.row in
     let inv = c.loop-row.invariant in
-    let read = c.in_ok-read_row-2.ensures in
+    let read = c.in_ok-read_marked-2.ensures in
     record {
       counted = omega (arith, c.in-Ok.ensures.rows, inv.counted);
       as_many = read.as_many ∙ inv.as_many ∙ sym read.counted;
-      here_whole = subst (λ n. AreRowNumbers n) (sym c.turn.ensures.here) inv.below_whole;
+      here_whole = subst (λ n. AreRowNumbers n) (ap (λ (m : MarkedRow). m.numbers) (sym c.turn.ensures.here)) inv.below_whole;
       below_whole = read.whole;
       given = λ rows gives. (read.next rows (row + 1) (inv.given rows gives)).1;
       held = λ rows gives.
-          held-more rows row (numbers_of c.turn.new.self.here) (numbers_of c.read_row-in-loop-row.new.out) (c.turn.ensures.here ∙ (inv.held rows gives).here_is)
+          held-more rows row (numbers_of c.turn.new.self.here) (numbers_of c.read_marked-in-loop-row.new.held) (ap (λ (m : MarkedRow). m.numbers) c.turn.ensures.here ∙ (inv.held rows gives).here_is)
           (read.next rows (row + 1) (inv.given rows gives)).0;
+      here_marked = λ r is.
+          let same : row ≡ r = omega (arith, is) in
+          subst (λ k. IsMarked c.args.sinks.now k (marked_of c.turn.new.self.here)) same (subst (IsMarked c.args.sinks.now row) (sym c.turn.ensures.here) inv.below_marked);
+      below_marked = read.marked;
+      voids = λ rows grid ps gives extent all.
+          voids-more grid ps (row + 1) _ _ (marked_of c.read_marked-in-loop-row.new.held)
+          (row-marked grid ps c.args.sinks.now rows (row + 1) (marked_of c.read_marked-in-loop-row.new.held) all (read.next rows (row + 1) (inv.given rows gives)).0 read.marked)
+          (inv.voids rows grid ps gives extent all) read.noted;
       right = λ rows grid ps gives extent all.
           let count = ap (λ (e : Extent). e.rows) extent in
           let inside : row < grid.extent.rows = omega (arith, c.loop-row-test.true, c.rows-row-end.ensures, count) in
-          let held = held-turned rows row (numbers_of c.loop-row.window.here) (numbers_of c.loop-row.window.below) c.rows.result.above c.rows.result.here
-          (inv.held rows gives) (c.rows.ensures.above ∙ c.turn.ensures.above) (c.rows.ensures.here ∙ c.turn.ensures.here) in
-          let around = rows-around grid ps rows row c.rows.result all inside held (c.rows.ensures.below ∙ (read.next rows (row + 1) (inv.given rows gives)).0) in
+          let above_is = c.rows.ensures.above ∙ c.turn.ensures.above in
+          let here_is = c.rows.ensures.here ∙ c.turn.ensures.here in
+          let held = held-turned rows row (numbers_of c.loop-row.window.here) (numbers_of c.loop-row.window.below) c.rows.result.above.numbers c.rows.result.here.numbers
+          (inv.held rows gives) (ap (λ (m : MarkedRow). m.numbers) above_is) (ap (λ (m : MarkedRow). m.numbers) here_is) in
+          let around = rows-around grid ps c.args.sinks.now rows row c.rows.result all inside held
+          (ap (λ (m : MarkedRow). m.numbers) c.rows.ensures.below ∙ (read.next rows (row + 1) (inv.given rows gives)).0)
+          (λ r is. subst (IsMarked c.args.sinks.now r) (sym above_is) (inv.here_marked r is))
+          (subst (IsMarked c.args.sinks.now row) (sym here_is) inv.below_marked)
+          (subst (IsMarked c.args.sinks.now (row + 1)) (sym c.rows.ensures.below) read.marked) in
           c.in-Ok.ensures.finding grid ps
           (patches-at grid ps row c.loop-row.walk.rows _ _ (c.three_rows_show_patches.ensures grid ps row c.rows.result around) inv.counted)
           (inv.right rows grid ps gives extent all);
-      reads = λ start n before. let same : n + (row + 1) + 1 ≡ n + (row + 1 + 1) = omega arith in subst (λ k. g.S.GridRows.has_read start (c.read_row-in-loop-row.new.self, c.read_row-in-loop-row.new.tiles, c.read_row-in-loop-row.new.products) k None) same (read.reads start (n + (row + 1)) (inv.reads start n before));
+      reads = λ start n before. let same : n + (row + 1) + 1 ≡ n + (row + 1 + 1) = omega arith in subst (λ k. g.S.GridRows.has_read start (c.read_marked-in-loop-row.new.source, c.read_marked-in-loop-row.new.tiles, c.read_marked-in-loop-row.new.products) k None) same (read.reads start (n + (row + 1)) (inv.reads start n before));
     }
 
 pub returns-clause-verdict : goal.returns-clause-verdict
 returns-clause-verdict g c = λ rows grid ps gives extent all.
     let count = ap (λ (e : Extent). e.rows) extent in
-    c.verdict.ensures.verdict c.args.nodata.now grid ps extent
-    (omega (arith, c.loop-row.invariant.counted, c.loop-row-test.false, c.loop-row.auto._row-end, c.rows-row-end.ensures, count))
+    c.verdict-verdict.ensures.verdict c.args.nodata.now grid ps extent
+    (omega (arith, c.loop-row.invariant.counted, c.loop-row-test.false, c.loop-row.auto.row-end, c.rows-row-end.ensures, count))
     (c.loop-row.invariant.right rows grid ps gives extent all)
+
+pub returns-clause-voids : goal.returns-clause-voids
+returns-clause-voids g c = λ rows grid ps gives extent all.
+    let count = ap (λ (e : Extent). e.rows) extent in
+    voids-all grid (c.loop-row.row + 1) c.loop-row.voids
+    (omega (arith, c.loop-row-test.false, c.loop-row.auto.row-end, c.rows-row-end.ensures, count)) (c.loop-row.invariant.voids rows grid ps gives extent all)
 
 pub returns-clause-given : goal.returns-clause-given
 returns-clause-given g c = λ rows gives.
-    let last : c.loop-row._row ≡ c.args.shape.rows = omega (arith, c.loop-row-test.false, c.loop-row.auto._row-end, c.rows-row-end.ensures) in
+    let last : c.loop-row.row ≡ c.args.shape.rows = omega (arith, c.loop-row-test.false, c.loop-row.auto.row-end, c.rows-row-end.ensures) in
     subst (λ n. g.S.GridRows.gives (c.loop-row.source, c.loop-row.tiles, c.loop-row.products) rows (n + 1)) last (c.loop-row.invariant.given rows gives)
 
 pub returns-clause-reads : goal.returns-clause-reads
 returns-clause-reads g c = λ start n before.
-    let last : c.loop-row._row ≡ c.args.shape.rows = omega (arith, c.loop-row-test.false, c.loop-row.auto._row-end, c.rows-row-end.ensures) in
+    let last : c.loop-row.row ≡ c.args.shape.rows = omega (arith, c.loop-row-test.false, c.loop-row.auto.row-end, c.rows-row-end.ensures) in
     subst (λ k. g.S.GridRows.has_read start (c.loop-row.source, c.loop-row.tiles, c.loop-row.products) (n + (k + 1)) None) last (c.loop-row.invariant.reads start n before)
 
-pub returns-in_err-read_row-clause-refuses : goal.returns-in_err-read_row-clause-refuses
-returns-in_err-read_row-clause-refuses g c =
-    told-of c.from_residual.result c.in_err-read_row.field-0.0 _ c.from_residual.ensures.1 (1, inl c.in_err-read_row.ensures.refuses)
+pub returns-in_err-read_marked-clause-refuses : goal.returns-in_err-read_marked-clause-refuses
+returns-in_err-read_marked-clause-refuses g c =
+    told-of c.from_residual.result c.in_err-read_marked.field-0.0 _ c.from_residual.ensures.1 (1, elim c.in_err-read_marked.ensures.refuses [
+      | inl reads ↦ inl reads
+      | inr wants ↦ inr (wants.0, wants.1, inr wants.2)
+    ])
 
-pub returns-in_err-read_row-2-clause-refuses : goal.returns-in_err-read_row-2-clause-refuses
-returns-in_err-read_row-2-clause-refuses g c =
-    let row = c.loop-row._row in
-    let refusal = c.in_err-read_row-2.field-0.0 in
-    told-of c.from_residual-in_err-read_row-2.result refusal _ c.from_residual-in_err-read_row-2.ensures.1 (
-      row + 1 + 1,
-      inl (λ start n before.
-          let same : n + (row + 1) + 1 ≡ n + (row + 1 + 1) = omega arith in
-          subst (λ k. g.S.GridRows.has_read start (c.read_row-in-loop-row.new.self, c.read_row-in-loop-row.new.tiles, c.read_row-in-loop-row.new.products) k (Some refusal)) same
-          (c.in_err-read_row-2.ensures.refuses start (n + (row + 1)) (c.loop-row.invariant.reads start n before))),
-    )
+pub returns-in_err-read_marked-2-clause-refuses : goal.returns-in_err-read_marked-2-clause-refuses
+returns-in_err-read_marked-2-clause-refuses g c =
+    let row = c.loop-row.row in
+    let refusal = c.in_err-read_marked-2.field-0.0 in
+    let more : (told : Option Refusal) → ReadsOn g.S.GridRows.has_read (c.loop-row.source, c.loop-row.tiles, c.loop-row.products) (c.read_marked-in-loop-row.new.source, c.read_marked-in-loop-row.new.tiles, c.read_marked-in-loop-row.new.products) 1 told →
+        ReadsOn g.S.GridRows.has_read (c.args.source.now, c.args.tiles.now, c.args.products.now) (c.read_marked-in-loop-row.new.source, c.read_marked-in-loop-row.new.tiles, c.read_marked-in-loop-row.new.products) (row + 1 + 1) told =
+    λ told reads start n before.
+        (let same : n + (row + 1) + 1 ≡ n + (row + 1 + 1) = omega arith in
+        subst (λ k. g.S.GridRows.has_read start (c.read_marked-in-loop-row.new.source, c.read_marked-in-loop-row.new.tiles, c.read_marked-in-loop-row.new.products) k told) same
+        (reads start (n + (row + 1)) (c.loop-row.invariant.reads start n before))) in
+    told-of c.from_residual-in_err-read_marked-2.result refusal _ c.from_residual-in_err-read_marked-2.ensures.1 (row + 1 + 1, elim c.in_err-read_marked-2.ensures.refuses [
+      | inl reads ↦ inl (more (Some refusal) reads)
+      | inr wants ↦ inr (wants.0, more None wants.1, inr wants.2)
+    ])

@@ -3,7 +3,8 @@ use Rattle.drain_grid.specs.Grid.{Grid, Products}
 use Rattle.drain_rules.specs.GridWalks.{IsRightOf}
 use Rattle.drain_rules.specs.RowNumbers.{AreRowNumbers, RowNumbers}
 use Rattle.drain_verdict.specs.GridRows.{OfGrid, ReadsOn}
-use Rattle.drain_verdict.specs.HeldRows.{numbers_of}
+use Rattle.drain_verdict.specs.HeldRows.{IsMarked, marked_of, numbers_of}
+use Rattle.drain_verdict.specs.ListedVoids.{AreVoidsBefore}
 use Rattle.drain_verdict.proofs.WindowLemmas.{AreHeld}
 use Rattle.drain_verdict.proofs.row_verdict.verdict_by_rows.Given as goal
 
@@ -12,14 +13,17 @@ abbrev pub invariant-loop-row : goal.invariant-loop-row
 invariant-loop-row g l =
     let source = g.S.GridRows in
     record {
-      counted : l.walk.rows ≡ l._row;
+      counted : l.walk.rows ≡ l.row;
       as_many : length l.tiles ≡ source.count l.source;
       here_whole : AreRowNumbers (numbers_of l.window.here);
       below_whole : AreRowNumbers (numbers_of l.window.below);
       given : (rows : ℕ → RowNumbers) → source.gives (l.fn.source, l.fn.tiles, l.fn.products) rows 0 →
-          source.gives (l.source, l.tiles, l.products) rows (l._row + 1);
+          source.gives (l.source, l.tiles, l.products) rows (l.row + 1);
       held : (rows : ℕ → RowNumbers) → source.gives (l.fn.source, l.fn.tiles, l.fn.products) rows 0 →
-          AreHeld rows l._row (numbers_of l.window.here) (numbers_of l.window.below);
-      right : OfGrid (source.gives (l.fn.source, l.fn.tiles, l.fn.products)) l.shape (λ (grid : Grid) (ps : Products). IsRightOf l.nodata grid ps l.walk);
-      reads : ReadsOn source.has_read (l.fn.source, l.fn.tiles, l.fn.products) (l.source, l.tiles, l.products) (l._row + 1) None;
+          AreHeld rows l.row (numbers_of l.window.here) (numbers_of l.window.below);
+      here_marked : (r : ℕ) → l.row ≡ r + 1 → IsMarked l.sinks r (marked_of l.window.here);
+      below_marked : IsMarked l.sinks l.row (marked_of l.window.below);
+      voids : OfGrid (source.gives (l.fn.source, l.fn.tiles, l.fn.products)) l.shape l.sinks (λ (grid : Grid) (ps : Products). AreVoidsBefore grid (l.row + 1) l.voids);
+      right : OfGrid (source.gives (l.fn.source, l.fn.tiles, l.fn.products)) l.shape l.sinks (λ (grid : Grid) (ps : Products). IsRightOf l.nodata grid ps l.walk);
+      reads : ReadsOn source.has_read (l.fn.source, l.fn.tiles, l.fn.products) (l.source, l.tiles, l.products) (l.row + 1) None;
     }

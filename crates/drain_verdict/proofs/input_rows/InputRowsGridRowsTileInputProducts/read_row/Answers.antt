@@ -1,8 +1,9 @@
 use Rattle.std.proofs.Common.{◌+◌, Some, None, inl, inr, rules}
 use Rattle.std.specs.List.{All}
 use Rattle.drain_grid.specs.declared.product.Product.TheVariants.{Con, Dir, Acc, Bas, Spl, Rnk}
-use Rattle.drain_grid.specs.PerProduct.{of_product}
+use Rattle.drain_grid.specs.PerProduct.{of_product, per_product}
 use Rattle.drain_grid.specs.Values.{IsPixel}
+use Rattle.drain_rules.specs.RowNumbers.{RowNumbers}
 use Rattle.drain_verdict.specs.HeldRows.{numbers_of}
 use Rattle.drain_verdict.proofs.InputLemmas.{by_product, told-of}
 use Rattle.drain_verdict.proofs.RowGiven.{IsKept, come_more, come_refused, kept_numbers, next_given}
@@ -39,7 +40,7 @@ returns-clause-reads g c =
     let ct = g.R.ByteSource.counts in
     let one = c.in_ok-read_mosaic.ensures in
     let other = c.in_ok-read_rasters.ensures in
-    let row = numbers_of (record { z = c.read_mosaic.new.out; products = c.read_rasters.new.out }) in
+    let row : RowNumbers = record { z = c.read_mosaic.new.out.items; products = per_product (λ p. (of_product c.read_rasters.new.out p).items) } in
     λ start n before. come_more bl ct start c.args.self.now _ c.args.tiles.now c.read_mosaic.new.tiles c.args.products.now c.read_rasters.new.products row n before
     (reads_then bl ct start _ _ None before.reads
     (one_read bl ct c.args.self.now _ c.args.tiles.now c.read_mosaic.new.tiles c.args.products.now c.read_rasters.new.products None None None (by_rasters None)
@@ -48,7 +49,7 @@ returns-clause-reads g c =
 
 pub returns-clause-whole : goal.returns-clause-whole
 returns-clause-whole g c =
-    let row = numbers_of (record { z = c.read_mosaic.new.out; products = c.read_rasters.new.out }) in
+    let row : RowNumbers = record { z = c.read_mosaic.new.out.items; products = per_product (λ p. (of_product c.read_rasters.new.out p).items) } in
     let kept : IsKept row (numbers_of c.if-not-is_even.out) = elim c.if-not-is_even.branch [
       | then-not-is_even w ↦ inr (search rules, search rules)
       | else-not-is_even w ↦ inl (search rules, search rules)
@@ -58,7 +59,7 @@ returns-clause-whole g c =
 
 pub returns-clause-next : goal.returns-clause-next
 returns-clause-next g c =
-    let row = numbers_of (record { z = c.read_mosaic.new.out; products = c.read_rasters.new.out }) in
+    let row : RowNumbers = record { z = c.read_mosaic.new.out.items; products = per_product (λ p. (of_product c.read_rasters.new.out p).items) } in
     let kept : IsKept row (numbers_of c.if-not-is_even.out) = elim c.if-not-is_even.branch [
       | then-not-is_even w ↦ inr (search rules, search rules)
       | else-not-is_even w ↦ inl (search rules, search rules)

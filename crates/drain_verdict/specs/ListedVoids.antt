@@ -1,0 +1,25 @@
+-- Listed sinks that are voids.
+use Rattle.std.specs.Prelude.{◌≡◌, ℕ, ℤ, Bool, false, ◌&&◌, ◌==◌, nat_lt, is_none, List, length, slice_index_or}
+use Rattle.std.specs.List.{list_any}
+use Rattle.drain_grid.specs.declared.cell.Cell.{Cell}
+use Rattle.drain_grid.specs.declared.tile.TheConstants.{VOID}
+use Rattle.drain_grid.specs.Extent.{same_cell}
+use Rattle.drain_grid.specs.Grid.{Grid, IsInside}
+use Rattle.drain_grid.specs.Tile.{height_from}
+
+-- it is one of these cells
+abbrev pub is_among : List Cell → Cell → Bool
+is_among cells c = list_any (same_cell c) cells
+
+-- it is a cell of this row, marked as listed, and its sample is a void's
+abbrev pub is_listed_void : ℕ → List ℤ → List Bool → Cell → Bool
+is_listed_void row z marks c =
+    (c.row == row) && (nat_lt c.col (length z) && (slice_index_or marks c.col false && is_none (height_from (slice_index_or z c.col VOID))))
+
+-- of the rows before this one, these are the listed sinks that are voids
+abbrev pub AreVoidsBefore : Grid → ℕ → List Cell → Type 0
+AreVoidsBefore g row voids = (c : Cell) → IsInside g c → is_among voids c ≡ (nat_lt c.row row && (g.sink c && is_none (g.elevation c)))
+
+-- these are the listed sinks of the grid that are voids
+abbrev pub AreListedVoids : Grid → List Cell → Type 0
+AreListedVoids g voids = (c : Cell) → IsInside g c → is_among voids c ≡ (g.sink c && is_none (g.elevation c))

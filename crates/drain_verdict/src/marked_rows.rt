@@ -1,0 +1,42 @@
+//! The next row of a grid and its products, with its listed sinks marked.
+
+ghost use Rattle.std.specs.Prelude.{◌≡◌, ◌||◌, [], length, None, IfErr, OnOk};
+ghost use Rattle.drain_grid.specs.declared.cell.Cell.{Cell};
+ghost use Rattle.drain_rules.specs.RowNumbers.{AreRowNumbers};
+ghost use Rattle.drain_verdict.specs.GridRows.{IsNext, IsRowRefusal, ReadsOn};
+ghost use Rattle.drain_verdict.specs.HeldRows.{IsMarked, marked_of, numbers_of};
+ghost use Rattle.drain_verdict.specs.ListedVoids.{is_among, is_listed_void};
+
+use crate::grid_rows::GridRows;
+use crate::held_row::HeldRow;
+use crate::listed_voids::ListedVoids;
+use crate::refusal::Refusal;
+use drain_grid::{OutOfMemory, Sinks};
+
+/// Reads the next row, whose number this is, marks its listed sinks, and notes those that are voids. A refusal is the source's own; or it
+/// is `OutOfMemory`, where there are sinks.
+pub fn read_marked<T, P, S: GridRows<T, P>>(
+    source: &mut S,
+    tiles: &mut [T],
+    products: &mut P,
+    row: u32,
+    sinks: &Sinks,
+    held: &mut HeldRow,
+    voids: &mut ListedVoids,
+) -> Result<(), Refusal>
+    requires counted { length tiles.old ≡ S.count source.old }
+    ensures counted { S.count source.new ≡ S.count source.old }
+    ensures as_many { length tiles.new ≡ length tiles.old }
+    ensures next { OnOk result (IsNext (S.gives (source.old, tiles.old, products.old)) (S.gives (source.new, tiles.new, products.new)) (numbers_of held.new)) }
+    ensures whole { OnOk result (AreRowNumbers (numbers_of held.new)) }
+    ensures marked { OnOk result (IsMarked sinks.now row (marked_of held.new)) }
+    ensures noted { OnOk result ((c : Cell) → is_among voids.new c ≡ (is_among voids.old c || is_listed_void row (numbers_of held.new).z held.new.sinks.items c)) }
+    ensures reads { OnOk result (ReadsOn S.has_read (source.old, tiles.old, products.old) (source.new, tiles.new, products.new) 1 None) }
+    ensures refuses { IfErr result (IsRowRefusal S.has_read (source.old, tiles.old, products.old) (source.new, tiles.new, products.new) 1 (¬ (sinks.now ≡ []))) }
+{
+    source.read_row(tiles, products, held)?;
+    match held.mark(row, sinks, voids) {
+        Ok(()) => Ok(()),
+        Err(OutOfMemory) => Err(Refusal::OutOfMemory),
+    }
+}
