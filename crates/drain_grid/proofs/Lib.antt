@@ -30,6 +30,7 @@ pub mod Slopes
 pub mod SpillPaths
 pub mod SinkFaults
 pub mod SinkListings
+pub mod SinkMarks
 pub mod SinkSearch
 pub mod Steps
 pub mod Tallies

@@ -48,12 +48,15 @@ one_before number line more bad good later =
 at_line : (number : ℕ) (line : List ℕ) (more : List (List ℕ)) (bad : ℕ) (says : LineSays) → line_says line ≡ says →
     with_line number says (listing (number + 1) more) ≡ Err bad →
     (listing (number + 1) more ≡ Err bad → (k : ℕ) × IsFirstBad (number + 1) more bad k) → (k : ℕ) × IsFirstBad number (line ∷ more) bad k
-at_line number line more bad NoSink is h later = (0, record {
-  inside = omega arith;
-  counted = let same : number ≡ bad = ap told h in omega (arith, same);
-  bad_there = is;
-  first = λ j less. absurd (omega arith);
-})
+at_line number line more bad NoSink is h later = (
+  0,
+  record {
+    inside = omega arith;
+    counted = let same : number ≡ bad = ap told h in omega (arith, same);
+    bad_there = is;
+    first = λ j less. absurd (omega arith);
+  },
+)
 at_line number line more bad Nothing is h later = one_before number line more bad (λ e. (let same : Nothing ≡ NoSink = sym is ∙ e in cc)) (later h)
 at_line number line more bad (Sink c) is h later = one_before number line more bad (λ e. (let same : Sink c ≡ NoSink = sym is ∙ e in cc))
     (later (past_sink number c (listing (number + 1) more) bad h))

@@ -4,7 +4,7 @@
 //! as the rising places of its cells, where a search by halves finds a cell. A place is one number of 64 bits, so the search
 //! compares no pairs, and an empty list is answered without any comparison.
 
-ghost use Rattle.std.specs.Prelude.{◌≡◌, ◌+◌, ◌*◌, ◌^◌, ◌<◌, [], length, map, slice_get, Some, IfOk};
+ghost use Rattle.std.specs.Prelude.{◌≡◌, ℕ, ◌+◌, ◌*◌, ◌^◌, ◌<◌, ◌≤◌, [], false, length, map, slice_get, slice_index_or, Some, IfOk};
 ghost use Rattle.drain_grid.specs.SinkLines.{is_listed, wide_place, AreNarrow, ArePlaces};
 
 use crate::cell::Cell;
@@ -64,6 +64,24 @@ impl Sinks {
         ensures { result ≡ is_listed self.now cell }
     {
         self.places.binary_search(&place_of(cell)).is_ok()
+    }
+
+    /// Marks the columns of a row that are listed, and unmarks all others.
+    pub fn mark_row(&self, row: u32, marks: &mut [bool])
+        requires within { length marks.old ≤ 2 ^ 32 }
+        ensures counted { length marks.new ≡ length marks.old }
+        ensures listed { (col : ℕ) → col < length marks.new → slice_index_or marks.new col false ≡ is_listed self.now (record { row = row; col = col }) }
+    {
+        marks.fill(false);
+        let first = place_of(Cell { row, col: 0 });
+        let start = self.places.partition_point(|place| *place < first);
+        for place in &self.places[start..] {
+            let col = (*place - first) as usize;
+            if marks.len() <= col {
+                return;
+            }
+            marks[col] = true;
+        }
     }
 
     /// How many lines there are that are not empty.

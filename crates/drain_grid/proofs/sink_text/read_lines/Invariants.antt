@@ -9,7 +9,7 @@ abbrev pub invariant-loop-cell : goal.invariant-loop-cell
 invariant-loop-cell l = record {
   listed : after_these l.lines.items (listing l.number (lines_of l.rest)) ≡ sinks_of l.text;
   narrow : AreNarrow l.lines.items;
-  short : l.number + length l.rest ≤ length l.text + 1
+  short : l.number + length l.rest ≤ length l.text + 1;
 }
 
 abbrev pub decreases-loop-cell : goal.decreases-loop-cell
