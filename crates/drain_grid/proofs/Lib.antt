@@ -15,6 +15,7 @@ pub mod LeastFaults
 pub mod NamedNeighbors
 pub mod NarrowNumbers
 pub mod Neighbors
+pub mod OffLines
 pub mod OpenAmong
 pub mod OpenCells
 pub mod Options

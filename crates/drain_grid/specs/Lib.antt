@@ -6,6 +6,7 @@ pub mod Grid
 pub mod GridRules
 pub mod Laws
 pub mod Numbers
+pub mod OffData
 pub mod Open
 pub mod Patch
 pub mod PatchRules

@@ -3,6 +3,7 @@
 //! Each law is a function with nothing to do: its contract is the law, and a caller that calls it has the law at hand.
 
 ghost use Rattle.std.specs.Prelude.{◌≡◌, pos, neg_ℤ};
+ghost use Rattle.drain_grid.specs.OffData.{FoundOffDataIsRight};
 ghost use Rattle.drain_grid.specs.Laws.{CorrectFromRules, CountsUpstream, LabelsAreBasins, LeastFromRules, RunsEnd};
 
 use crate::cell::MAX_LENGTH;
@@ -56,4 +57,9 @@ pub fn labels_are_basins()
 /// and each ends at an outlet.
 pub fn correct_from_rules()
     ensures { CorrectFromRules }
+{}
+
+/// The least line that lists a cell without data, as it was asked cell by cell, is that of the grid whose cells were told.
+pub fn found_off_data_is_right()
+    ensures { FoundOffDataIsRight }
 {}

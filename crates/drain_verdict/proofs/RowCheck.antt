@@ -9,6 +9,7 @@ use Rattle.drain_grid.specs.PerProduct.{of_product}
 use Rattle.drain_grid.specs.declared.sink_line.SinkLine.{SinkLine}
 use Rattle.drain_grid.specs.Grid.{Grid}
 use Rattle.drain_grid.specs.Grid as grid
+use Rattle.drain_grid.specs.OffData.{FoundOffDataIsRight}
 use Rattle.drain_grid.specs.SinkTexts.{sinks_of}
 use Rattle.drain_grid.specs.Size.{Extent}
 use Rattle.drain_grid.specs.Values.{NoDataNumbers}
@@ -97,26 +98,26 @@ module _ {R : Type 0} (bl : R → Option (List ℕ)) (ct : R → FaultCounts) (i
       told_none here.laws i hs fields (ended None (tiling_of i) here) (here.tells (goes None (tiling_of i) here)) none
 
   -- so the refusal of the list is the answer, or else the verdict
-  pub sinks_answer : (listing : SinkListing) (voids : List Cell) (refusal : Refusal) (t : Tiling) → t ≡ tiling_of i → ((p : Product) → of_product hs p ≡ fields_of i p) → NoneStandsBefore i 5 →
+  pub sinks_answer : FoundOffDataIsRight → (listing : SinkListing) (voids : List Cell) (refusal : Refusal) (t : Tiling) → t ≡ tiling_of i → ((p : Product) → of_product hs p ≡ fields_of i p) → NoneStandsBefore i 5 →
       listing.sinks ≡ listed_in i → IsBadLine (sinks_of i.sinks) listing.bad → OfGrid (AreGiven bl (rows, tiles, ps)) e listing.sinks (λ g products. AreListedVoids g voids) →
       IsToldOfSinks listing e voids (Some refusal) → Read bl ct i hs rows rows_then tiles tiles_then ps ps_then e None t → IsAnswer i (Err refusal)
-  sinks_answer listing voids refusal t is fields none sinks_are bad_is of_grid told read =
+  sinks_answer law listing voids refusal t is fields none sinks_are bad_is of_grid told read =
       let voids_are = given_holds listing.sinks (λ g products. AreListedVoids g voids) t is fields sinks_are of_grid read in
       let extent = read.extent_is ∙ ap extent_of is in
-      sinks_refused i listing e voids sinks_are bad_is extent voids_are refusal told (none_before t is fields none read)
+      sinks_refused i listing e voids sinks_are bad_is extent voids_are law refusal told (none_before t is fields none read)
 
-  pub verdict_answers : (listing : SinkListing) (voids : List Cell) (nodata : NoDataNumbers) (verdict : Verdict) (t : Tiling) → t ≡ tiling_of i → ((p : Product) → of_product hs p ≡ fields_of i p) →
+  pub verdict_answers : FoundOffDataIsRight → (listing : SinkListing) (voids : List Cell) (nodata : NoDataNumbers) (verdict : Verdict) (t : Tiling) → t ≡ tiling_of i → ((p : Product) → of_product hs p ≡ fields_of i p) →
       NoneStandsBefore i 5 → nodata ≡ nodata_in hs → listing.sinks ≡ listed_in i → IsBadLine (sinks_of i.sinks) listing.bad →
       OfGrid (AreGiven bl (rows, tiles, ps)) e listing.sinks (λ g products. AreListedVoids g voids) →
       OfGrid (AreGiven bl (rows, tiles, ps)) e listing.sinks (λ g products. IsVerdict g products nodata verdict) →
       IsToldOfSinks listing e voids None → Read bl ct i hs rows rows_then tiles tiles_then ps ps_then e None t → IsAnswer i (Ok verdict)
-  verdict_answers listing voids nodata verdict t is fields none nodata_is sinks_are bad_is of_voids of_grid told read =
+  verdict_answers law listing voids nodata verdict t is fields none nodata_is sinks_are bad_is of_voids of_grid told read =
       let here = subst (Read bl ct i hs rows rows_then tiles tiles_then ps ps_then e None) is read in
       let voids_are = given_holds listing.sinks (λ g products. AreListedVoids g voids) t is fields sinks_are of_voids read in
       let extent = read.extent_is ∙ ap extent_of is in
       let verdict_is_of = given_holds listing.sinks (λ g products. IsVerdict g products nodata verdict) t is fields sinks_are of_grid read in
       verdict_is here.laws i hs fields (ended None (tiling_of i) here) verdict
-      (sinks_none i listing e voids sinks_are bad_is extent voids_are told (none_before t is fields none read))
+      (sinks_none i listing e voids sinks_are bad_is extent voids_are law told (none_before t is fields none read))
       (subst (λ (n : NoDataNumbers). IsVerdict (grid_of i) (products_of i) n verdict) nodata_is verdict_is_of)
 
 -- a refusal of reading

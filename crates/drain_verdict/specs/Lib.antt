@@ -12,7 +12,6 @@ pub mod Lines
 pub mod ListedVoids
 pub mod Meaning
 pub mod Mosaics
-pub mod OffData
 pub mod Refusals
 pub mod SinkListings
 pub mod Stages

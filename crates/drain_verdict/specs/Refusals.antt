@@ -7,9 +7,8 @@ use Rattle.drain_grid.specs.declared.product.Product.{Product}
 use Rattle.drain_grid.specs.PerProduct.{rank_of}
 use Rattle.drain_grid.specs.Extent.{IsCellOf, index_of}
 use Rattle.drain_grid.specs.Tile.{IsSide}
-use Rattle.drain_grid.specs.declared.sink_line.SinkLine.{SinkLine}
 use Rattle.drain_grid.specs.SinkTexts.{sinks_of}
-use Rattle.drain_grid.specs.Grid.{HasData}
+use Rattle.drain_grid.specs.OffData.{IsOffData}
 use Rattle.drain_hgt.specs.Corner.{Corner}
 use Rattle.drain_hgt.specs.Name.{Names}
 use Rattle.drain_hgt.specs.Samples.{IsTile}
@@ -58,14 +57,6 @@ pub record HasBadLength (i : Inputs) (c : Corner) : Type 0 where
 abbrev pub IsSeamFault : Inputs → Cell → Type 0
 IsSeamFault i c = IsCellOf (tiling.extent_of (tiling_of i)) c × HasTwoValues (tiling_of i) (tiles_of i) c
 
--- a line of this number lists a cell that is no data cell
-pub record IsOffData (i : Inputs) (line : ℕ) : Type 0 where
-  pub place : ℕ
-  pub listed : SinkLine
-  pub is_there : slice_get (listed_in i) place ≡ Some listed
-  pub line_is : listed.line ≡ line
-  pub no_data : ¬ HasData (grid_of i) listed.cell
-
 -- what each refusal says; want of memory and a failed read are no facts of the bytes
 abbrev pub Stands : Inputs → Refusal → Type 0
 Stands i BadSide = ¬ IsSide i.side
@@ -80,7 +71,7 @@ Stands i (BadTileLength c) = HasBadLength i c
 Stands i (RasterShort p) = IsShort (fields_of i p) (i.raster p)
 Stands i (SeamMismatch c) = IsSeamFault i c
 Stands i (BadSinkLine n) = sinks_of i.sinks ≡ Err n
-Stands i (SinkNotData n) = IsOffData i n
+Stands i (SinkNotData n) = IsOffData (grid_of i) (listed_in i) n
 Stands i OutOfMemory = ⊥
 Stands i ReadFailed = ⊥
 

@@ -34,7 +34,7 @@ use crate::row_verdict::verdict_by_rows;
 use crate::sink_listing::{SinkListing, sink_listing};
 use crate::sink_refusal::sink_refusal;
 use drain_device::ByteSource;
-use drain_grid::laws::correct_from_rules;
+use drain_grid::laws::{correct_from_rules, found_off_data_is_right};
 use drain_grid::{NoData, OutOfMemory, PerProduct};
 use drain_header::Header;
 use drain_hgt::TileInput;
@@ -201,6 +201,8 @@ fn check_rows<R: ByteSource>(
     whole_tiles_give_their_samples();
     raster_rows_end();
     raster_rows_are_pixels();
+    // The law that the first listed cell without data is the grid's.
+    found_off_data_is_right();
     let shape = layout.shape();
     let found = verdict_by_rows(
         alloc,

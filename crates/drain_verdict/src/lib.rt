@@ -16,7 +16,6 @@ mod listed_voids;
 mod marked_rows;
 pub mod mosaic;
 mod next_rows;
-mod off_data;
 mod placing;
 pub mod refusal;
 mod row_verdict;

@@ -5,10 +5,9 @@ ghost use Rattle.drain_verdict.specs.Refusals.{IsOfBodies};
 ghost use Rattle.drain_verdict.specs.SinkListings.{IsToldOfSinks};
 
 use crate::listed_voids::ListedVoids;
-use crate::off_data::first_off_data;
 use crate::refusal::Refusal;
 use crate::sink_listing::SinkListing;
-use drain_grid::Shape;
+use drain_grid::{Cell, Shape, SinkData, first_off_data};
 
 /// The first bad line; or else the first that lists a cell outside the grid, or one of these voids.
 pub fn sink_refusal(listing: &SinkListing, shape: Shape, voids: &ListedVoids) -> Option<Refusal>
@@ -19,8 +18,25 @@ pub fn sink_refusal(listing: &SinkListing, shape: Shape, voids: &ListedVoids) ->
     if let Some(line) = listing.bad {
         return Some(Refusal::BadSinkLine(line));
     }
-    match first_off_data(&listing.sinks, shape, voids) {
+    match first_off_data(&listing.sinks, &VoidedGrid { shape, voids }) {
         Some(line) => Some(Refusal::SinkNotData(line)),
         None => None,
+    }
+}
+
+/// A grid whose listed voids are known.
+#[derive(Clone, Copy)]
+struct VoidedGrid<'a> {
+    shape: Shape,
+    voids: &'a ListedVoids,
+}
+
+impl<'a> SinkData for VoidedGrid<'a> {
+    ghost use Rattle.drain_verdict.specs.ListedVoids.{has_data_but};
+
+    ghost has = { λ grid. has_data_but grid.shape grid.voids.now };
+
+    fn has_data(&self, cell: Cell) -> bool {
+        cell.row < self.shape.rows() && cell.col < self.shape.cols() && !self.voids.has(cell)
     }
 }

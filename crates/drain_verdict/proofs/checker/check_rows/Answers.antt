@@ -77,7 +77,7 @@ returns-in-Some-sink_refusal-clause-answer g c = λ inputs hs begun nodata shape
     let ct = g.R.ByteSource.counts in
     let new = c.verdict_by_rows.new in
     let layout : IsLayout c.args.layout.now = c.makes_a_mosaic.ensures in
-    sinks_answer bl ct inputs hs c.args.rows.now new.source c.args.tiles.now new.tiles c.args.products.now new.products c.shape-shape.result c.args.listing.now c.in_ok-found.found.voids
+    sinks_answer bl ct inputs hs c.args.rows.now new.source c.args.tiles.now new.tiles c.args.products.now new.products c.shape-shape.result c.found_off_data_is_right.ensures c.args.listing.now c.in_ok-found.found.voids
     c.in-Some-sink_refusal.refusal c.args.layout.now is fields none sinks bad c.in_ok-found.ensures.voids c.in-Some-sink_refusal.ensures.told (record {
       extent_is = c.shape-shape.ensures;
       laws = record {
@@ -113,7 +113,7 @@ returns-clause-answer g c = λ inputs hs begun nodata shapes is fields tiles ras
     let ct = g.R.ByteSource.counts in
     let new = c.verdict_by_rows.new in
     let layout : IsLayout c.args.layout.now = c.makes_a_mosaic.ensures in
-    verdict_answers bl ct inputs hs c.args.rows.now new.source c.args.tiles.now new.tiles c.args.products.now new.products c.shape-shape.result c.args.listing.now c.in_ok-found.found.voids c.args.nodata.now
+    verdict_answers bl ct inputs hs c.args.rows.now new.source c.args.tiles.now new.tiles c.args.products.now new.products c.shape-shape.result c.found_off_data_is_right.ensures c.args.listing.now c.in_ok-found.found.voids c.args.nodata.now
     c.in_ok-found.found.verdict c.args.layout.now is fields none nodata sinks bad c.in_ok-found.ensures.voids c.in_ok-found.ensures.verdict c.in-None.ensures.told (record {
       extent_is = c.shape-shape.ensures;
       laws = record {
