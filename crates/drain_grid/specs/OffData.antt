@@ -1,8 +1,14 @@
 -- Listed sinks that are no data cells.
-use Rattle.std.specs.Prelude.{◌≡◌, ℕ, ◌<◌, ◌≤◌, Bool, true, false, List, slice_get, Option, Some, None, MatchOption, length}
+use Rattle.std.specs.Prelude.{◌≡◌, ℕ, ◌<◌, ◌≤◌, ◌&&◌, nat_lt, is_some, Bool, true, false, List, slice_get, Option, Some, None, MatchOption, length}
 use Rattle.drain_grid.specs.declared.cell.Cell.{Cell}
 use Rattle.drain_grid.specs.declared.sink_line.SinkLine.{SinkLine}
 use Rattle.drain_grid.specs.Grid.{Grid, HasData}
+use Rattle.drain_grid.specs.Rasters.{Heights}
+use Rattle.drain_grid.specs.Whole.{elevation_at}
+
+-- the cell lies in the grid of these elevations, and has one
+abbrev pub has_data : Heights → Cell → Bool
+has_data e c = nat_lt c.row e.extent.rows && (nat_lt c.col e.extent.cols && is_some (elevation_at e c))
 
 -- a line of this number lists a cell that is no data cell: a void, or outside the grid
 pub record IsOffData (g : Grid) (sinks : List SinkLine) (line : ℕ) : Type 0 where

@@ -1,9 +1,12 @@
 -- The files of products that were made: no refusal stands of them, and they are accepted.
-use Rattle.std.proofs.Common.{◌≡◌, ℕ, ◌<◌, ℤ, pos, get_or, inl, inr, List, Result, Ok, Err, unwrap_or, refl, sym, ap, subst, ◌∙◌, arith}
+use Rattle.std.proofs.Common.{◌≡◌, ℕ, ◌<◌, ℤ, pos, get_or, slice_get, inl, inr, List, Option, Some, IsSome, Result, Ok, Err, unwrap_or, refl, sym, ap, subst, ◌∙◌, arith}
 use Rattle.drain_grid.specs.declared.cell.Cell.{Cell}
 use Rattle.drain_grid.specs.declared.product.Product.{Product}
 use Rattle.drain_grid.specs.declared.product.Product.TheVariants.{Con, Dir, Acc, Bas, Spl, Rnk}
 use Rattle.drain_grid.specs.declared.product_set.ProductSet.{ProductSet}
+use Rattle.drain_grid.specs.declared.sink_line.SinkLine.{SinkLine}
+use Rattle.drain_grid.specs.SinkLines.{is_listed}
+use Rattle.drain_grid.specs.SinkTexts.{sinks_of}
 use Rattle.drain_grid.specs.Extent.{IsCellOf, index_of}
 use Rattle.drain_grid.specs.Product.{default_no_data, default_numbers}
 use Rattle.drain_grid.specs.Rasters.{Heights, Pixels}
@@ -24,14 +27,14 @@ use Rattle.drain_rules.specs.declared.verdict.Verdict.TheVariants.{Accepted, Rej
 use Rattle.drain_rules.specs.Verdicts.{counts_of, IsVerdict}
 use Rattle.drain_rules.specs.Laws.{AreEqual, EqualGridsHaveOneVerdict}
 use Rattle.drain_verdict.specs.declared.refusal.Refusal.{Refusal}
-use Rattle.drain_verdict.specs.declared.refusal.Refusal.TheVariants.{BadSide, BadName, BoxTooLarge, BadHeader, WrongShape, Misplaced, RasterShort, OutOfMemory, ReadFailed}
+use Rattle.drain_verdict.specs.declared.refusal.Refusal.TheVariants.{BadSide, BadName, BoxTooLarge, BadHeader, WrongShape, Misplaced, RasterShort, BadSinkLine, SinkNotData, OutOfMemory, ReadFailed}
 use Rattle.drain_verdict.specs.Inputs.{Inputs}
-use Rattle.drain_verdict.specs.Meaning.{tiling_of, grid_of, fields_of, number_of, products_of, nodata_of, nodata_numbers}
+use Rattle.drain_verdict.specs.Meaning.{tiling_of, grid_of, listed_in, lines_in, fields_of, number_of, products_of, nodata_of, nodata_numbers}
 use Rattle.drain_verdict.specs.Refusals.{IsPlaced}
 use Rattle.drain_verdict.specs.Mosaics.{IsMosaicOf}
 use Rattle.drain_verdict.specs.Answers.{AreReadable, IsAnswer}
 use Rattle.drain_maker.specs.Headers.{header_of}
-use Rattle.drain_maker.specs.Made.{AreMade}
+use Rattle.drain_maker.specs.Made.{AreMade, AreOnData}
 use Rattle.drain_maker.specs.Accepted.{AreNamed, AreFilesOf, IsAcceptance, MadeIsAccepted}
 use Rattle.drain_maker.proofs.Placing.{near_by_names, side_by_readable}
 use Rattle.drain_maker.proofs.HeaderBounds.{IsSmall, within_bounds, placed}
@@ -65,9 +68,9 @@ one_shape ps Bas = ps.bas_shape
 one_shape ps Spl = ps.spl_shape
 one_shape ps Rnk = ps.rnk_shape
 
-read_back : (i : Inputs) (e : Heights) (ps : ProductSet) → TextReadsBack → BytesReadBack → AreNamed i → IsMosaicOf i (tiling_of i) e →
-    AreMade (tiling_of i) e ps → AreFilesOf i ps → AreReadBack i ps
-read_back i e ps text bytes named mosaic made files =
+read_back : (i : Inputs) (e : Heights) (sinks : List SinkLine) (ps : ProductSet) → TextReadsBack → BytesReadBack → AreNamed i → IsMosaicOf i (tiling_of i) e →
+    AreMade (tiling_of i) e sinks ps → AreFilesOf i ps → AreReadBack i ps
+read_back i e sinks ps text bytes named mosaic made files =
     let fits = small i e named mosaic in
     let shape = λ (p : Product). one_shape ps p ∙ made.shape ∙ mosaic.extent_is in
     record {
@@ -84,16 +87,32 @@ read_back i e ps text bytes named mosaic made files =
 says : (i : Inputs) (ps : ProductSet) → AreReadBack i ps → (p : Product) → header_of (tiling_of i) p ≡ fields_of i p
 says i ps read p = (read.described p).fields
 
+-- the lines that list a cell are those of the text
+lines_are : (i : Inputs) (sinks : List SinkLine) → sinks_of i.sinks ≡ Ok sinks → listed_in i ≡ sinks
+lines_are i sinks listed = ap lines_in listed
+
 -- no refusal stands
-none_stands : (i : Inputs) (e : Heights) (ps : ProductSet) → IsMosaicOf i (tiling_of i) e → AreReadBack i ps → AreReadable i
-none_stands i e ps mosaic read (BadHeader p fault) stands = (read.described p).sound fault stands.holds
-none_stands i e ps mosaic read (WrongShape p) stands = stands (ap (λ (h : Fields). pixels.extent_of h) (sym (says i ps read p)))
-none_stands i e ps mosaic read (Misplaced p) stands =
+none_stands : (i : Inputs) (e : Heights) (sinks : List SinkLine) (ps : ProductSet) → IsMosaicOf i (tiling_of i) e → sinks_of i.sinks ≡ Ok sinks → AreOnData e sinks → AreReadBack i ps → AreReadable i
+none_stands i e sinks ps mosaic listed on_data read (BadHeader p fault) stands = (read.described p).sound fault stands.holds
+none_stands i e sinks ps mosaic listed on_data read (WrongShape p) stands = stands (ap (λ (h : Fields). pixels.extent_of h) (sym (says i ps read p)))
+none_stands i e sinks ps mosaic listed on_data read (Misplaced p) stands =
     stands (subst (λ (h : Fields). IsPlaced (tiling_of i) h.place) (says i ps read p) (placed (tiling_of i) read.small.side))
-none_stands i e ps mosaic read (RasterShort p) stands =
+none_stands i e sinks ps mosaic listed on_data read (RasterShort p) stands =
     (read.back p).long (subst (λ (h : Fields). pixels.IsShort h (raster_bytes (header_of (tiling_of i) p) (raster_in ps p))) (sym (says i ps read p))
     (subst (λ (body : List ℕ). pixels.IsShort (fields_of i p) body) (read.rasters_are p) stands))
-none_stands i e ps mosaic read refusal stands = mosaic.readable refusal (tt, stands)
+none_stands i e sinks ps mosaic listed on_data read (BadSinkLine n) stands = let no : Ok sinks ≡ Err n = sym listed ∙ stands in cc
+none_stands i e sinks ps mosaic listed on_data read (SinkNotData n) stands =
+    on_data n (record {
+      place = stands.place;
+      listed = stands.listed;
+      is_there = subst (λ (lines : List SinkLine). slice_get lines stands.place ≡ Some stands.listed) (lines_are i sinks listed) stands.is_there;
+      line_is = stands.line_is;
+      no_data = λ has. stands.no_data (record {
+        inside = subst (λ (x : Extent). IsCellOf x stands.listed.cell) mosaic.extent_is has.inside;
+        is_data = subst (λ (z : Option ℤ). IsSome z) (mosaic.elevation_is stands.listed.cell has.inside) has.is_data;
+      });
+    })
+none_stands i e sinks ps mosaic listed on_data read refusal stands = mosaic.readable refusal (tt, stands)
 
 -- the number of a raster that is read back is that of its bytes
 number_in_bytes : NumbersArePixels → (h : Fields) (p : Pixels) (c : Cell) → p.extent ≡ pixels.extent_of h → ReadBack h p →
@@ -113,12 +132,13 @@ number_kept i e ps numbers mosaic read p c inside =
     ∙ ap (λ (body : List ℕ). pixels.pixel_at (fields_of i p) body c) (sym (read.rasters_are p))
 
 -- the grid and the products are those of the files
-grids_equal : (i : Inputs) (e : Heights) (ps : ProductSet) → NumbersArePixels → IsMosaicOf i (tiling_of i) e → AreReadBack i ps →
-    AreEqual (whole.grid_of e) (grid_of i) (whole.products_of ps) (products_of i)
-grids_equal i e ps numbers mosaic read = record {
+grids_equal : (i : Inputs) (e : Heights) (sinks : List SinkLine) (ps : ProductSet) → NumbersArePixels → IsMosaicOf i (tiling_of i) e → sinks_of i.sinks ≡ Ok sinks → AreReadBack i ps →
+    AreEqual (whole.grid_of e sinks) (grid_of i) (whole.products_of ps) (products_of i)
+grids_equal i e sinks ps numbers mosaic listed read = record {
   extent = mosaic.extent_is;
   values = λ c inside. λ k. record {
     z = mosaic.elevation_is c inside k;
+    sink = ap (λ (lines : List SinkLine). is_listed lines c) (sym (lines_are i sinks listed)) k;
     con = number_kept i e ps numbers mosaic read Con c inside k;
     dir = number_kept i e ps numbers mosaic read Dir c inside k;
     acc = number_kept i e ps numbers mosaic read Acc c inside k;
@@ -143,28 +163,28 @@ defaults_said i ps read = λ k. record {
 }
 
 -- so the verdict on what was made, an acceptance with its counts, is that on the files
-verdict_kept : (i : Inputs) (e : Heights) (ps : ProductSet) → NumbersArePixels → EqualGridsHaveOneVerdict → IsMosaicOf i (tiling_of i) e →
-    AreMade (tiling_of i) e ps → AreReadBack i ps →
-    IsVerdict (grid_of i) (products_of i) (nodata_numbers i) (Accepted (counts_of (whole.grid_of e) (whole.products_of ps)))
-verdict_kept i e ps numbers one_verdict mosaic made read =
-    let accepted : Verdict = Accepted (counts_of (whole.grid_of e) (whole.products_of ps)) in
+verdict_kept : (i : Inputs) (e : Heights) (sinks : List SinkLine) (ps : ProductSet) → NumbersArePixels → EqualGridsHaveOneVerdict → IsMosaicOf i (tiling_of i) e → sinks_of i.sinks ≡ Ok sinks →
+    AreMade (tiling_of i) e sinks ps → AreReadBack i ps →
+    IsVerdict (grid_of i) (products_of i) (nodata_numbers i) (Accepted (counts_of (whole.grid_of e sinks) (whole.products_of ps)))
+verdict_kept i e sinks ps numbers one_verdict mosaic listed made read =
+    let accepted : Verdict = Accepted (counts_of (whole.grid_of e sinks) (whole.products_of ps)) in
     subst (λ (n : NoDataNumbers). IsVerdict (grid_of i) (products_of i) n accepted) (defaults_said i ps read)
-    (one_verdict (whole.grid_of e) (grid_of i) (whole.products_of ps) (products_of i) default_numbers
-    (grids_equal i e ps numbers mosaic read) accepted (made.rules, refl))
+    (one_verdict (whole.grid_of e sinks) (grid_of i) (whole.products_of ps) (products_of i) default_numbers
+    (grids_equal i e sinks ps numbers mosaic listed read) accepted (made.rules, refl))
 
 -- and the answer is an acceptance
-answer_is : (i : Inputs) (e : Heights) (ps : ProductSet) → NumbersArePixels → EqualGridsHaveOneVerdict → IsMosaicOf i (tiling_of i) e →
-    AreMade (tiling_of i) e ps → AreReadBack i ps →
-    (answer : Result Verdict Refusal) → IsAnswer i answer → IsAcceptance (whole.grid_of e) (whole.products_of ps) answer
-answer_is i e ps numbers one_verdict mosaic made read (Ok (Accepted counts)) is =
-    is.1.1 ∙ sym (verdict_kept i e ps numbers one_verdict mosaic made read).1
-answer_is i e ps numbers one_verdict mosaic made read (Ok (Rejected rule row col)) is =
+answer_is : (i : Inputs) (e : Heights) (sinks : List SinkLine) (ps : ProductSet) → NumbersArePixels → EqualGridsHaveOneVerdict → IsMosaicOf i (tiling_of i) e → sinks_of i.sinks ≡ Ok sinks →
+    AreMade (tiling_of i) e sinks ps → AreReadBack i ps →
+    (answer : Result Verdict Refusal) → IsAnswer i answer → IsAcceptance (whole.grid_of e sinks) (whole.products_of ps) answer
+answer_is i e sinks ps numbers one_verdict mosaic listed made read (Ok (Accepted counts)) is =
+    is.1.1 ∙ sym (verdict_kept i e sinks ps numbers one_verdict mosaic listed made read).1
+answer_is i e sinks ps numbers one_verdict mosaic listed made read (Ok (Rejected rule row col)) is =
     let c : Cell = record { row = row; col = col } in
-    is.1.fails ((verdict_kept i e ps numbers one_verdict mosaic made read).0 c rule is.1.inside is.1.is_own)
-answer_is i e ps numbers one_verdict mosaic made read (Err OutOfMemory) is = tt
-answer_is i e ps numbers one_verdict mosaic made read (Err ReadFailed) is = tt
-answer_is i e ps numbers one_verdict mosaic made read (Err refusal) is = none_stands i e ps mosaic read refusal is.holds
+    is.1.fails ((verdict_kept i e sinks ps numbers one_verdict mosaic listed made read).0 c rule is.1.inside is.1.is_own)
+answer_is i e sinks ps numbers one_verdict mosaic listed made read (Err OutOfMemory) is = tt
+answer_is i e sinks ps numbers one_verdict mosaic listed made read (Err ReadFailed) is = tt
+answer_is i e sinks ps numbers one_verdict mosaic listed made read (Err refusal) is = none_stands i e sinks ps mosaic listed made.on_data read refusal is.holds
 
 pub made_is_accepted : TextReadsBack → BytesReadBack → NumbersArePixels → EqualGridsHaveOneVerdict → MadeIsAccepted
-made_is_accepted text bytes numbers one_verdict i e ps named mosaic made files =
-    answer_is i e ps numbers one_verdict mosaic made (read_back i e ps text bytes named mosaic made files)
+made_is_accepted text bytes numbers one_verdict i e sinks ps named mosaic listed made files =
+    answer_is i e sinks ps numbers one_verdict mosaic listed made (read_back i e sinks ps text bytes named mosaic made files)

@@ -1,8 +1,10 @@
 -- Products that were made for a mosaic are accepted: what the files are, and what the answer to them is.
-use Rattle.std.specs.Prelude.{◌≡◌, Result, Ok, Err}
+use Rattle.std.specs.Prelude.{◌≡◌, List, Result, Ok, Err}
 use Rattle.std.specs.List.{AllZip}
 use Rattle.drain_grid.specs.declared.product.Product.{Product}
 use Rattle.drain_grid.specs.declared.product_set.ProductSet.{ProductSet}
+use Rattle.drain_grid.specs.declared.sink_line.SinkLine.{SinkLine}
+use Rattle.drain_grid.specs.SinkTexts.{sinks_of}
 use Rattle.drain_grid.specs.Grid.{Grid, Products}
 use Rattle.drain_grid.specs.Rasters.{Heights}
 use Rattle.drain_grid.specs.WholeGrid.{grid_of, products_of, raster_in}
@@ -38,8 +40,9 @@ IsAcceptance g ps (Err OutOfMemory) = Unit {0}
 IsAcceptance g ps (Err ReadFailed) = Unit {0}
 IsAcceptance g ps (Err refusal) = ⊥
 
--- products that were made for a mosaic are accepted with its tiles
+-- products that were made for a mosaic and listed sinks are accepted with its tiles and that list
 abbrev pub MadeIsAccepted : Type 0
 MadeIsAccepted =
-    (i : Inputs) (e : Heights) (ps : ProductSet) → AreNamed i → IsMosaicOf i (tiling_of i) e → AreMade (tiling_of i) e ps → AreFilesOf i ps →
-    (answer : Result Verdict Refusal) → IsAnswer i answer → IsAcceptance (grid_of e) (products_of ps) answer
+    (i : Inputs) (e : Heights) (sinks : List SinkLine) (ps : ProductSet) → AreNamed i → IsMosaicOf i (tiling_of i) e → sinks_of i.sinks ≡ Ok sinks →
+    AreMade (tiling_of i) e sinks ps → AreFilesOf i ps →
+    (answer : Result Verdict Refusal) → IsAnswer i answer → IsAcceptance (grid_of e sinks) (products_of ps) answer

@@ -1,7 +1,9 @@
 -- What products that were made are: of the mosaic's shape, right by every rule, and fit to be written.
-use Rattle.std.specs.Prelude.{◌≡◌}
+use Rattle.std.specs.Prelude.{◌≡◌, ℕ, List, Result, Ok, Err}
 use Rattle.drain_grid.specs.declared.product.Product.{Product}
 use Rattle.drain_grid.specs.declared.product_set.ProductSet.{ProductSet}
+use Rattle.drain_grid.specs.declared.sink_line.SinkLine.{SinkLine}
+use Rattle.drain_grid.specs.OffData.{IsFirstOffData, IsOffData}
 use Rattle.drain_grid.specs.Product.{default_numbers}
 use Rattle.drain_grid.specs.Rasters.{Heights, ArePixels}
 use Rattle.drain_grid.specs.WholeGrid.{grid_of, products_of, nodata_of, raster_in}
@@ -10,11 +12,13 @@ use Rattle.drain_grid.specs.PatchRules.{check_rules}
 use Rattle.drain_grid.specs.GridRules.{RulesHold}
 use Rattle.drain_raster.specs.Bytes.{CanSpellAll, CanSpellAllIn}
 use Rattle.drain_mosaic.specs.Tiling.{Tiling}
+use Rattle.drain_maker.specs.declared.maker.MakeRefusal.{MakeRefusal}
+use Rattle.drain_maker.specs.declared.maker.MakeRefusal.TheVariants.{MakerFault, OutOfMemory, SinkNotData}
 use Rattle.drain_maker.specs.Headers.{header_of, bits_of, is_signed}
 
 -- all fifteen rules hold at every cell, with the default no-data numbers
-abbrev pub KeepsEveryRule : Heights → ProductSet → Type 0
-KeepsEveryRule e ps = RulesHold (check_rules default_numbers) IsAnyRule (grid_of e) (products_of ps)
+abbrev pub KeepsEveryRule : Heights → List SinkLine → ProductSet → Type 0
+KeepsEveryRule e sinks ps = RulesHold (check_rules default_numbers) IsAnyRule (grid_of e sinks) (products_of ps)
 
 -- the pixels of each product's header can spell each of its numbers
 abbrev pub CanBeWritten : Tiling → ProductSet → Type 0
@@ -28,10 +32,28 @@ AreSpelled ps = (p : Product) → CanSpellAllIn (is_signed p) (bits_of p) (raste
 abbrev pub AreRasters : ProductSet → Type 0
 AreRasters ps = (p : Product) → ArePixels (raster_in ps p)
 
--- products that were made for the elevations of a mosaic
-pub record AreMade (t : Tiling) (e : Heights) (ps : ProductSet) : Type 0 where
+-- each listed cell has data
+abbrev pub AreOnData : Heights → List SinkLine → Type 0
+AreOnData e sinks = (line : ℕ) → ¬ IsOffData (grid_of e sinks) sinks line
+
+-- products and a fault of the maker come only where each listed cell has data, and else the first line whose cell has none is told
+abbrev pub IsSinkAnswer : Heights → List SinkLine → Result ProductSet MakeRefusal → Type 0
+IsSinkAnswer e sinks (Ok ps) = AreOnData e sinks
+IsSinkAnswer e sinks (Err MakerFault) = AreOnData e sinks
+IsSinkAnswer e sinks (Err OutOfMemory) = Unit {0}
+IsSinkAnswer e sinks (Err (SinkNotData line)) = IsFirstOffData (grid_of e sinks) sinks line
+
+-- a refusal of products that were built: they break a rule, or memory was wanted
+abbrev pub IsTestRefusal : MakeRefusal → Type 0
+IsTestRefusal MakerFault = Unit {0}
+IsTestRefusal OutOfMemory = Unit {0}
+IsTestRefusal (SinkNotData line) = ⊥
+
+-- products that were made for the elevations of a mosaic and these sinks
+pub record AreMade (t : Tiling) (e : Heights) (sinks : List SinkLine) (ps : ProductSet) : Type 0 where
   pub shape : ps.con.extent ≡ e.extent
   pub nodata : nodata_of ps ≡ default_numbers
-  pub rules : KeepsEveryRule e ps
+  pub rules : KeepsEveryRule e sinks ps
   pub written : CanBeWritten t ps
   pub rasters : AreRasters ps
+  pub on_data : AreOnData e sinks

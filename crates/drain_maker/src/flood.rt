@@ -14,7 +14,7 @@ use crate::blanks::{NO_CODE, OUTLET, blank_count, blank_height};
 use crate::layer::Layer;
 use crate::level_queue::LevelQueue;
 use crate::place::{Place, Step, Steps};
-use drain_grid::{Cell, Elevation, OutOfMemory, Product, Shape};
+use drain_grid::{Cell, Elevation, OutOfMemory, Product, Shape, Sinks};
 use std::alloc::Global;
 
 /// Stands for the spill parent of a data cell that wasn't reached.
@@ -42,12 +42,16 @@ struct Flood {
 }
 
 /// Floods a grid.
-pub fn flood_grid(alloc: Global, elevation: &Elevation) -> Result<Flooded, OutOfMemory>
+pub fn flood_grid(
+    alloc: Global,
+    elevation: &Elevation,
+    sinks: &Sinks,
+) -> Result<Flooded, OutOfMemory>
     ensures { IfOk result (λ flooded. flooded.con.shape ≡ elevation.now.extent) }
 {
     let mut flood = Flood::new(alloc, elevation.shape())?;
     flood.lay_ground(elevation);
-    flood.open(elevation.shape())?;
+    flood.open(alloc, elevation.shape(), sinks)?;
     flood.trace(None)?;
     flood.spread()?;
     Ok(flood.done)
@@ -87,19 +91,33 @@ impl Flood {
         }
     }
 
-    /// Reaches the open cells, those on the edge of the grid or beside a void, and begins a trace with them.
-    fn open(&mut self, shape: Shape) -> Result<(), OutOfMemory>
+    /// Reaches the open cells, those that are listed, on the edge of the grid or beside a void, and begins a trace with them.
+    fn open(&mut self, alloc: Global, shape: Shape, sinks: &Sinks) -> Result<(), OutOfMemory>
         ensures { self.new.done.con.shape ≡ self.old.done.con.shape }
     {
+        let mut listed = Vec::new(alloc);
+        let Ok(()) = listed.resize(shape.cols() as usize, false) else {
+            return Err(OutOfMemory);
+        };
         for row in 0..shape.rows() {
+            sinks.mark_row(row, listed.as_mut_slice());
             for col in 0..shape.cols() {
-                let cell = Cell { row, col };
-                let place = Place::of(shape, cell);
-                let is_data = self.unreached(place).is_some();
-                if is_data && (is_on_edge(shape, cell) || self.is_beside_void(place)) {
-                    self.reach(place, OUTLET, 0)?;
-                }
+                let is_listed = listed.get(col as usize) == Some(&true);
+                self.open_cell(shape, Cell { row, col }, is_listed)?;
             }
+        }
+        Ok(())
+    }
+
+    /// Reaches a cell, if it is open.
+    fn open_cell(&mut self, shape: Shape, cell: Cell, is_listed: bool) -> Result<(), OutOfMemory>
+        requires { IsCellOf shape cell }
+        ensures { self.new.done.con.shape ≡ self.old.done.con.shape }
+    {
+        let place = Place::of(shape, cell);
+        let is_data = self.unreached(place).is_some();
+        if is_data && (is_listed || is_on_edge(shape, cell) || self.is_beside_void(place)) {
+            return self.reach(place, OUTLET, 0);
         }
         Ok(())
     }

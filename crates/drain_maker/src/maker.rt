@@ -1,18 +1,19 @@
 //! Making products, and testing them before they are handed out.
 
-ghost use Rattle.std.specs.Prelude.{◌≡◌, IfOk};
+ghost use Rattle.std.specs.Prelude.{◌≡◌, IfOk, OnOk};
 ghost use Rattle.drain_grid.specs.Correct.{IsCorrect, RunsAreSound};
 ghost use Rattle.drain_grid.specs.Product.{default_numbers};
 ghost use Rattle.drain_grid.specs.WholeGrid.{grid_of, products_of, nodata_of};
 ghost use Rattle.drain_mosaic.specs.Tiling.{extent_of};
-ghost use Rattle.drain_maker.specs.Made.{KeepsEveryRule, CanBeWritten, AreSpelled, AreRasters};
+ghost use Rattle.drain_maker.specs.Made.{KeepsEveryRule, CanBeWritten, AreSpelled, AreRasters, IsSinkAnswer, IsTestRefusal};
 
 use crate::accumulation::accumulation;
 use crate::directions::directions;
 use crate::flood::{Flooded, flood_grid};
 use crate::labels::labels;
 use crate::rasters::{raster_of_codes, raster_of_counts, raster_of_heights};
-use drain_grid::{Elevation, OutOfMemory, Product, ProductSet};
+use drain_grid::laws::found_off_data_is_right;
+use drain_grid::{Elevation, OutOfMemory, Product, ProductSet, Sinks, first_off_data};
 use drain_mosaic::Layout;
 use drain_rules::{Verdict, verdict_of};
 use std::alloc::Global;
@@ -27,36 +28,85 @@ pub enum MakeRefusal {
     /// Memory was refused.
     #[error("out of memory")]
     OutOfMemory,
+    /// This line of the list of sinks, counted from 1, lists a cell without data: a void, or outside the mosaic.
+    #[error("a listed sink is no data cell")]
+    SinkNotData(u64),
 }
 
-/// The products of a mosaic's elevations, with the default no-data numbers.
+/// The products of a mosaic's elevations with these sinks, with the default no-data numbers.
 ///
-/// All rules were tried at every cell of what it hands out, and every number can be spelled by the pixels of `product_header`; else the
+/// `SinkNotData` tells the least line that lists a cell without data, and comes before all else. /// All rules were tried at every cell of what it hands out, and every number can be spelled by the pixels of `product_header`; else the
 /// answer is `MakerFault`. `OutOfMemory` comes where memory was refused. Labels count the outlets in row order from 1; a rank is the number of
 /// steps to an open cell along spill parents; off flats the direction is the first steepest, on flats the spill parent's.
 pub fn make(
     alloc: Global,
     layout: &Layout,
     elevation: &Elevation,
+    sinks: &Sinks,
 ) -> Result<ProductSet, MakeRefusal>
     requires same_shape { elevation.now.extent ≡ extent_of layout.now }
     ensures shape { IfOk result (λ products. products.con.extent ≡ elevation.now.extent) }
     ensures nodata { IfOk result (λ products. nodata_of products ≡ default_numbers) }
-    ensures rules { IfOk result (KeepsEveryRule elevation.now) }
+    ensures rules { IfOk result (KeepsEveryRule elevation.now sinks.now) }
     ensures written { IfOk result (CanBeWritten layout.now) }
     ensures rasters { IfOk result AreRasters }
 
+    // Every listed cell has data, or the first line whose cell has none is told.
+    ensures sinks { IsSinkAnswer elevation.now sinks.now result }
+
     // What every rule at every cell means: the products are correct, and every run is sound.
-    ensures correct { IfOk result (λ products. IsCorrect (grid_of elevation.now) (products_of products) default_numbers) }
-    ensures runs { IfOk result (λ products. RunsAreSound (grid_of elevation.now) (products_of products)) }
+    ensures correct { IfOk result (λ products. IsCorrect (grid_of elevation.now sinks.now) (products_of products) default_numbers) }
+    ensures runs { IfOk result (λ products. RunsAreSound (grid_of elevation.now sinks.now) (products_of products)) }
 {
-    let Ok(products) = products_from(alloc, elevation) else {
-        return Err(MakeRefusal::OutOfMemory);
+    // The law that the first listed cell without data is the grid's.
+    found_off_data_is_right();
+    if let Some(line) = first_off_data(sinks, elevation) {
+        return Err(MakeRefusal::SinkNotData(line));
+    }
+    let products = match products_from(alloc, elevation, sinks) {
+        Ok(products) => products,
+        Err(OutOfMemory) => return Err(MakeRefusal::OutOfMemory),
     };
-    match verdict_of(alloc, elevation, &products) {
-        Ok(Verdict::Accepted(_)) => Ok(products),
-        Ok(Verdict::Rejected { .. }) => Err(MakeRefusal::MakerFault),
-        Err(OutOfMemory) => Err(MakeRefusal::OutOfMemory),
+    match test_products(alloc, elevation, sinks, &products) {
+        Ok(()) => Ok(products),
+        Err(fault) => Err(refusal_of(fault)),
+    }
+}
+
+/// Why products that were built aren't handed out.
+#[derive(Clone, Copy, PartialEq, Eq, Debug)]
+enum TestFault {
+    BreaksRule,
+    OutOfMemory,
+}
+
+/// The refusal that tells a fault of the test.
+fn refusal_of(fault: TestFault) -> MakeRefusal
+    ensures { IsTestRefusal result }
+{
+    match fault {
+        TestFault::BreaksRule => MakeRefusal::MakerFault,
+        TestFault::OutOfMemory => MakeRefusal::OutOfMemory,
+    }
+}
+
+/// Tries every rule at every cell of products with the default no-data numbers.
+fn test_products(
+    alloc: Global,
+    elevation: &Elevation,
+    sinks: &Sinks,
+    products: &ProductSet,
+) -> Result<(), TestFault>
+    requires same_shape { elevation.now.extent ≡ products.now.con.extent }
+    requires nodata { nodata_of products.now ≡ default_numbers }
+    ensures rules { OnOk result (KeepsEveryRule elevation.now sinks.now products.now) }
+    ensures correct { OnOk result (IsCorrect (grid_of elevation.now sinks.now) (products_of products.now) default_numbers) }
+    ensures runs { OnOk result (RunsAreSound (grid_of elevation.now sinks.now) (products_of products.now)) }
+{
+    match verdict_of(alloc, elevation, sinks, products) {
+        Ok(Verdict::Accepted(_)) => Ok(()),
+        Ok(Verdict::Rejected { .. }) => Err(TestFault::BreaksRule),
+        Err(OutOfMemory) => Err(TestFault::OutOfMemory),
     }
 }
 
@@ -64,13 +114,17 @@ pub fn make(
 /// tells what is built from what is tested.
 #[inline(never)]
 #[tactic(auto, using(crate::proofs::EachProduct::each_spelled))]
-fn products_from(alloc: Global, elevation: &Elevation) -> Result<ProductSet, OutOfMemory>
+fn products_from(
+    alloc: Global,
+    elevation: &Elevation,
+    sinks: &Sinks,
+) -> Result<ProductSet, OutOfMemory>
     ensures shape { IfOk result (λ products. products.con.extent ≡ elevation.now.extent) }
     ensures nodata { IfOk result (λ products. nodata_of products ≡ default_numbers) }
     ensures written { IfOk result AreSpelled }
     ensures rasters { IfOk result AreRasters }
 {
-    let Flooded { con, spl, rnk } = flood_grid(alloc, elevation)?;
+    let Flooded { con, spl, rnk } = flood_grid(alloc, elevation, sinks)?;
     let dir = directions(alloc, &con, &spl)?;
     let acc = accumulation(alloc, &dir)?;
     let bas = labels(alloc, &dir)?;
