@@ -5,7 +5,7 @@ use Rattle.drain_rules.specs.declared.verdict.Verdict.{Verdict}
 use Rattle.drain_rules.specs.declared.verdict.Verdict.TheVariants.{Accepted, Rejected}
 use Rattle.drain_rules.specs.Verdicts.{IfAccepted}
 use Rattle.drain_verdict.specs.declared.refusal.Refusal.{Refusal}
-use Rattle.drain_verdict.specs.declared.refusal.Refusal.TheVariants.{BadSide, BadName, NoTiles, RepeatedTile, BoxTooLarge, BadHeader, WrongShape, Misplaced, BadTileLength, RasterShort, SeamMismatch, OutOfMemory, ReadFailed}
+use Rattle.drain_verdict.specs.declared.refusal.Refusal.TheVariants.{BadSide, BadName, NoTiles, RepeatedTile, BoxTooLarge, BadHeader, WrongShape, Misplaced, BadTileLength, RasterShort, SeamMismatch, BadSinkLine, SinkNotData, OutOfMemory, ReadFailed}
 use Rattle.drain_cli.specs.declared.status.Status.{Status}
 use Rattle.drain_cli.specs.CheckRuns.{check_status}
 use Rattle.drain_cli.specs.Printing.{status_after}
@@ -24,6 +24,8 @@ refused_above_0 (Misplaced p) zero = omega (arith, zero)
 refused_above_0 (BadTileLength c) zero = omega (arith, zero)
 refused_above_0 (RasterShort p) zero = omega (arith, zero)
 refused_above_0 (SeamMismatch c) zero = omega (arith, zero)
+refused_above_0 (BadSinkLine n) zero = omega (arith, zero)
+refused_above_0 (SinkNotData n) zero = omega (arith, zero)
 refused_above_0 OutOfMemory zero = omega (arith, zero)
 refused_above_0 ReadFailed zero = omega (arith, zero)
 

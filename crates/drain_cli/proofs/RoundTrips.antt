@@ -3,6 +3,7 @@ use Rattle.std.proofs.Common.{◌≡◌, ℕ, suc, ◌<◌, List, [], ◌∷◌,
 use Rattle.std.specs.Io.KnownBytes.{Appends}
 use Rattle.drain_device.specs.Devices.{Sink}
 use Rattle.drain_grid.specs.declared.product.Product.{Product}
+use Rattle.drain_grid.specs.SinkTexts.{sinks_of}
 use Rattle.drain_grid.specs.declared.product.Product.TheVariants.{Con, Dir, Acc, Bas, Spl, Rnk}
 use Rattle.drain_grid.specs.declared.product_set.ProductSet.{ProductSet}
 use Rattle.drain_grid.specs.WholeGrid.{raster_in}
@@ -70,11 +71,12 @@ rasters-same t ps i same Rnk = sym (ap (λ l. slice_index_or l 11 []) same)
 
 pub accepted : {R F : Type 0} (bytes_left : R → Option (List ℕ)) (sink : Sink F) →
     MadeIsAccepted → WhatIsWrittenIsAccepted bytes_left sink
-accepted bytes_left sink law side tiles t ps empty written i made tell none wrote given answer is =
+accepted bytes_left sink law side tiles sinks t ps empty written i made tell sinks_are none wrote given answer is =
     let mosaic = made.mosaic i tell in
     let same = texts-same (set_bytes t ps) (files_given i) (sym (holds-what-was-written sink empty written (set_bytes t ps) none wrote) ∙ given) in
     let tiling = mosaic.tiling_is in
-    law i made.elevation ps tell.corners_are (subst (λ u. IsMosaicOf i u made.elevation) tiling mosaic) (subst (λ u. AreMade u made.elevation ps) tiling made.made)
+    law i made.elevation made.listed ps tell.corners_are (subst (λ u. IsMosaicOf i u made.elevation) tiling mosaic) (ap sinks_of sinks_are ∙ made.listed_are)
+    (subst (λ u. AreMade u made.elevation made.listed ps) tiling made.made)
     (record {
       headers_are = λ p. subst (λ u. i.header p ≡ text_of (header_of u p)) tiling (headers-same t ps i same p);
       rasters_are = λ p. subst (λ u. i.raster p ≡ raster_bytes (header_of u p) (raster_in ps p)) tiling (rasters-same t ps i same p);

@@ -25,9 +25,9 @@ check_status (Err refusal) = status.Refused
 
 -- the answer is that of the bytes that the devices had left, where they tell them, and says that a read failed exactly where one did; where it
 -- refuses side, names, layout or headers every device is as it was
-pub record IsCheckOutcome {R : Type 0} (source : Source R) (side : ℕ) (tiles_old tiles_new : List (TileInput R))
+pub record IsCheckOutcome {R : Type 0} (source : Source R) (side : ℕ) (tiles_old tiles_new : List (TileInput R)) (sinks : List ℕ)
     (products_old products_new : Products R) (outcome : Result Verdict Refusal) : Type 0 where
-  pub answer : (i : Inputs) → Tell source.bytes_left side tiles_old products_old i → IsAnswer i outcome
+  pub answer : (i : Inputs) → Tell source.bytes_left side tiles_old sinks products_old i → IsAnswer i outcome
   pub faults : SomeReadFails (map source.counts (devices_of tiles_old products_old)) (map source.counts (devices_of tiles_new products_new)) (IsErrOf outcome ReadFailed)
   pub untouched : IfErr outcome (λ refusal. ¬ IsOfBodies refusal → (tiles_new ≡ tiles_old) × (products_new ≡ products_old))
 

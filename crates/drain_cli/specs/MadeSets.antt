@@ -1,7 +1,9 @@
 -- What products made of tiles are, and why there are none.
-use Rattle.std.specs.Prelude.{◌≡◌, ℕ, List, map, Option}
+use Rattle.std.specs.Prelude.{◌≡◌, ℕ, List, map, Option, Ok, Err}
 use Rattle.drain_device.specs.Devices.{Source}
 use Rattle.drain_grid.specs.declared.product_set.ProductSet.{ProductSet}
+use Rattle.drain_grid.specs.declared.sink_line.SinkLine.{SinkLine}
+use Rattle.drain_grid.specs.SinkTexts.{IsSinkFault, sinks_of}
 use Rattle.drain_grid.specs.Rasters.{Heights}
 use Rattle.drain_hgt.specs.declared.input.TileInput.{TileInput}
 use Rattle.drain_hgt.specs.Inputs.{tile_devices}
@@ -11,22 +13,39 @@ use Rattle.drain_device.specs.FaultLists.{SomeReadFails}
 use Rattle.drain_verdict.specs.Inputs.{Inputs}
 use Rattle.drain_verdict.specs.Refusals.{IsOfBodies}
 use Rattle.drain_verdict.specs.Mosaics.{TellTiles, IsMosaicOf, IsMosaicRefusal}
-use Rattle.drain_maker.specs.Made.{AreMade}
+use Rattle.drain_maker.specs.declared.maker.MakeRefusal.{MakeRefusal}
+use Rattle.drain_maker.specs.Made.{AreMade, IsSinkAnswer}
 use Rattle.drain_cli.specs.declared.make_set.NoSet.{NoSet}
-use Rattle.drain_cli.specs.declared.make_set.NoSet.TheVariants.{Tiles, Maker}
+use Rattle.drain_cli.specs.declared.make_set.NoSet.TheVariants.{Tiles, Sinks, Maker}
 
--- products that were made for the mosaic of the tiles that the devices told
-pub record IsSetOf {R : Type 0} (bytes_left : R → Option (List ℕ)) (side : ℕ) (tiles : List (TileInput R)) (t : Tiling) (ps : ProductSet) : Type 0 where
+-- products that were made for the mosaic of the tiles that the devices told, and for the sinks that the text lists
+pub record IsSetOf {R : Type 0} (bytes_left : R → Option (List ℕ)) (side : ℕ) (tiles : List (TileInput R)) (sinks : List ℕ) (t : Tiling) (ps : ProductSet) : Type 0 where
   pub elevation : Heights
   pub extent_is : elevation.extent ≡ extent_of t
   pub mosaic : (i : Inputs) → TellTiles bytes_left side tiles i → IsMosaicOf i t elevation
-  pub made : AreMade t elevation ps
+  pub listed : List SinkLine
+  pub listed_are : sinks_of sinks ≡ Ok listed
+  pub made : AreMade t elevation listed ps
+
+-- the maker made none for that mosaic and those sinks: a sink without data is told exactly where there is one
+pub record IsRefusalOf {R : Type 0} (bytes_left : R → Option (List ℕ)) (side : ℕ) (tiles : List (TileInput R)) (sinks : List ℕ) (refusal : MakeRefusal) : Type 0 where
+  pub elevation : Heights
+  pub tiling : Tiling
+  pub mosaic : (i : Inputs) → TellTiles bytes_left side tiles i → IsMosaicOf i tiling elevation
+  pub listed : List SinkLine
+  pub listed_are : sinks_of sinks ≡ Ok listed
+  pub refused : IsSinkAnswer elevation listed (Err refusal)
+
+-- no read of a tile failed
+abbrev pub NoTileFails : {R : Type 0} → Source R → List (TileInput R) → List (TileInput R) → Type 0
+NoTileFails source old new = SomeReadFails (map source.counts (tile_devices old)) (map source.counts (tile_devices new)) ⊥
 
 -- the first refusal of the tiles, of which a failed read is told exactly where one failed, and which leaves every device as it was where it is of side,
--- names or layout; nothing is known where the maker made none
-abbrev pub IsNoSet : {R : Type 0} → Source R → ℕ → List (TileInput R) → List (TileInput R) → NoSet → Type 0
-IsNoSet source side old new (Tiles refusal) =
+-- names or layout; or else the fault of the list of sinks; or else the maker's refusal
+abbrev pub IsNoSet : {R : Type 0} → Source R → ℕ → List (TileInput R) → List (TileInput R) → List ℕ → NoSet → Type 0
+IsNoSet source side old new sinks (Tiles refusal) =
     ((i : Inputs) → TellTiles source.bytes_left side old i → IsMosaicRefusal i refusal)
     × SomeReadFails (map source.counts (tile_devices old)) (map source.counts (tile_devices new)) (refusal ≡ ReadFailed)
     × (¬ IsOfBodies refusal → new ≡ old)
-IsNoSet source side old new (Maker refusal) = SomeReadFails (map source.counts (tile_devices old)) (map source.counts (tile_devices new)) ⊥
+IsNoSet source side old new sinks (Sinks fault) = IsSinkFault sinks fault × NoTileFails source old new
+IsNoSet source side old new sinks (Maker refusal) = IsRefusalOf source.bytes_left side old sinks refusal × NoTileFails source old new

@@ -20,12 +20,12 @@ use Rattle.drain_cli.specs.MadeSets.{IsSetOf}
 unfoldable pub files_given : Inputs → List (List ℕ)
 files_given i = flat_map (λ p. i.header p ∷ i.raster p ∷ []) products
 
--- products that were made of tiles and written into empty files are accepted when they are checked with the same tiles; only want of
+-- products that were made of tiles and a list of sinks and written into empty files are accepted when they are checked with the same; only want of
 -- memory or a failed read keep that answer back
 abbrev pub WhatIsWrittenIsAccepted : {R F : Type 0} → (R → Option (List ℕ)) → Sink F → Type 0
 WhatIsWrittenIsAccepted {R} {F} bytes_left sink =
-    (side : ℕ) (tiles : List (TileInput R)) (t : Tiling) (ps : ProductSet) (empty written : List F) (i : Inputs) →
-    (made : IsSetOf bytes_left side tiles t ps) → TellTiles bytes_left side tiles i →
+    (side : ℕ) (tiles : List (TileInput R)) (sinks : List ℕ) (t : Tiling) (ps : ProductSet) (empty written : List F) (i : Inputs) →
+    (made : IsSetOf bytes_left side tiles sinks t ps) → TellTiles bytes_left side tiles i → i.sinks ≡ sinks →
     All (λ file. sink.bytes_taken file ≡ Some []) empty → WritesFiles sink empty written (set_bytes t ps) (Ok tt) →
     map sink.bytes_taken written ≡ map Some (files_given i) →
-    (answer : Result Verdict Refusal) → IsAnswer i answer → IsAcceptance (grid_of made.elevation) (products_of ps) answer
+    (answer : Result Verdict Refusal) → IsAnswer i answer → IsAcceptance (grid_of made.elevation made.listed) (products_of ps) answer

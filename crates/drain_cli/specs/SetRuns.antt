@@ -1,5 +1,6 @@
 -- How a run of `drain make` ends: with files that were written, or with the reason why there are none.
 use Rattle.std.specs.Prelude.{ℕ, ◌++◌, List, Result, Ok, Err, codes, decimal}
+use Rattle.drain_grid.specs.declared.sink_text.SinkFault.TheVariants as sink
 use Rattle.drain_mosaic.specs.Tiling.{Tiling, extent_of}
 use Rattle.drain_verdict.specs.declared.refusal.Refusal.TheVariants as refusal
 use Rattle.drain_verdict.specs.Lines.{refusal_line}
@@ -9,7 +10,7 @@ use Rattle.drain_cli.specs.declared.status.Status.TheVariants.{Done, Refused, Fa
 use Rattle.drain_maker.specs.declared.product_files.SetFault.{SetFault}
 use Rattle.drain_maker.specs.declared.product_files.SetFault.TheVariants.{WriteFailed, OutOfMemory}
 use Rattle.drain_cli.specs.declared.make_set.NoSet.{NoSet}
-use Rattle.drain_cli.specs.declared.make_set.NoSet.TheVariants.{Tiles, Maker}
+use Rattle.drain_cli.specs.declared.make_set.NoSet.TheVariants.{Tiles, Sinks, Maker}
 
 -- the line that tells what came of writing: made rows=R cols=C
 abbrev pub written_line : Tiling → Result (Unit {0}) SetFault → List ℕ
@@ -25,6 +26,9 @@ written_status (Err fault) = Failed
 -- the line that tells why there is no product set
 abbrev pub no_set_line : NoSet → List ℕ
 no_set_line (Tiles refusal) = refusal_line refusal
+no_set_line (Sinks (sink.BadSinkLine n)) = refusal_line (refusal.BadSinkLine n)
+no_set_line (Sinks sink.OutOfMemory) = codes "failed OutOfMemory"
+no_set_line (Maker (maker.SinkNotData n)) = refusal_line (refusal.SinkNotData n)
 no_set_line (Maker maker.MakerFault) = codes "refused MakerFault"
 no_set_line (Maker maker.OutOfMemory) = codes "failed OutOfMemory"
 
@@ -33,5 +37,8 @@ abbrev pub no_set_status : NoSet → Status
 no_set_status (Tiles refusal.OutOfMemory) = Failed
 no_set_status (Tiles refusal.ReadFailed) = Failed
 no_set_status (Tiles refusal) = Refused
+no_set_status (Sinks sink.OutOfMemory) = Failed
+no_set_status (Sinks (sink.BadSinkLine n)) = Refused
 no_set_status (Maker maker.OutOfMemory) = Failed
+no_set_status (Maker (maker.SinkNotData n)) = Refused
 no_set_status (Maker maker.MakerFault) = Refused

@@ -15,16 +15,18 @@ pub enum Request<'a> {
     Header {
         path: &'a str,
     },
-    /// `drain check`: check the products in this folder against the tiles at these paths.
+    /// `drain check`: check the products in this folder against the tiles at these paths, with the sinks that the file at this path lists.
     Check {
         side: u32,
         products: &'a str,
+        sinks: Option<&'a str>,
         tiles: Vec<&'a str>,
     },
-    /// `drain make`: make products of the tiles at these paths and write them into this folder.
+    /// `drain make`: make products of the tiles at these paths, with the sinks that the file at this path lists, and write them into this folder.
     Make {
         side: u32,
         folder: &'a str,
+        sinks: Option<&'a str>,
         tiles: Vec<&'a str>,
     },
 }
@@ -96,9 +98,12 @@ mosaic, each a BIL raster in the folder DIR: DIR/con.hdr and DIR/con.bil, and so
   rnk    ranks, which fall along spill parents and where directions cross flats
 
 Accepts products that are correct: con is the least surface over the tiles from which water gets to an
-edge or a void, no direction climbs, every run of directions ends at an outlet, acc counts exactly the
-cells upstream, and two cells share a label exactly where they share an outlet. All files are opened
-first. Prints one line.";
+edge, void or listed sink, no direction climbs, every run of directions ends at an outlet, acc counts
+exactly the cells upstream, and two cells share a label exactly where they share an outlet. All files are
+opened first. Prints one line.
+
+A listed sink is a data cell where water may end inside the land, as in a lake without an outlet. Its line
+gives its row and its column, counted from 0 at the north-west corner of the mosaic.";
 
 const CHECK_AFTER: &str = "Lines and exit statuses:
   0  accepted rows=R cols=C data=D raised=U outlets=O
@@ -106,7 +111,7 @@ const CHECK_AFTER: &str = "Lines and exit statuses:
   2  refused BadSide, refused BadName I, refused NoTiles, refused RepeatedTile TILE, refused BoxTooLarge,
      refused BadHeader PRODUCT FAULT (a fault of drain header), refused WrongShape PRODUCT,
      refused Misplaced PRODUCT, refused BadTileLength TILE, refused RasterShort PRODUCT,
-     refused SeamMismatch row=R col=C
+     refused SeamMismatch row=R col=C, refused BadSinkLine LINE, refused SinkNotData LINE
   3  failed Open PATH, failed ReadFailed, failed OutOfMemory, or standard output couldn't be written
 
 Example:
@@ -119,7 +124,7 @@ const MAKE_LONG_ABOUT: &str =
 their mosaic into the folder DIR, which must be there: DIR/con.hdr and DIR/con.bil, and so for dir, acc,
 bas, spl and rnk. What each product is: drain check --help.
 
-Depressions are filled by a flood from the edges and voids inwards (Priority-Flood). Off flats the
+Depressions are filled by a flood from the edges, voids and listed sinks inwards (Priority-Flood). Off flats the
 direction is the first of the steepest descents in the order E, SE, S, SW, W, NW, N, NE; on flats it is the
 shortest way out. Labels number the outlets from 1, row by row.
 
@@ -129,8 +134,9 @@ nothing is left to refuse; files that are there already are replaced. Prints one
 const MAKE_AFTER: &str = "Lines and exit statuses:
   0  made rows=R cols=C
   2  refused BadSide, refused BadName I, refused NoTiles, refused RepeatedTile TILE, refused BoxTooLarge,
-     refused BadTileLength TILE, refused SeamMismatch row=R col=C, or refused MakerFault, which means a
-     fault of this program: what it made failed its own test, and nothing was written
+     refused BadTileLength TILE, refused SeamMismatch row=R col=C, refused BadSinkLine LINE,
+     refused SinkNotData LINE, or refused MakerFault, which means a fault of this program: what it made
+     failed its own test, and nothing was written
   3  failed Open PATH, failed ReadFailed, failed WriteFailed, failed OutOfMemory, or standard output
      couldn't be written; once files were created, what stood in them before is lost
 
@@ -142,6 +148,8 @@ const OUT_HELP: &str = "The folder to write the products into";
 const PRODUCTS_HELP: &str = "The folder of the products";
 
 const TILES_HELP: &str = "The files of the tiles, each named after its south-west corner";
+
+const SINKS_HELP: &str = "A list of inland sinks, one a line: ROW COL";
 
 const FILE_HELP: &str = "The header file";
 
@@ -207,6 +215,7 @@ fn check_request<'a>(alloc: Global, given: &ArgMatches<'a>) -> Result<Request<'a
     Ok(Request::Check {
         side: side_given(given),
         products: given.get_str("products").unwrap_or(""),
+        sinks: given.get_str("sinks"),
         tiles: given_tiles(alloc, given)?,
     })
 }
@@ -215,6 +224,7 @@ fn make_request<'a>(alloc: Global, given: &ArgMatches<'a>) -> Result<Request<'a>
     Ok(Request::Make {
         side: side_given(given),
         folder: given.get_str("out").unwrap_or(""),
+        sinks: given.get_str("sinks"),
         tiles: given_tiles(alloc, given)?,
     })
 }
@@ -282,6 +292,14 @@ fn products<'a>(alloc: Global) -> Arg<'a> {
         .help(PRODUCTS_HELP)
 }
 
+fn sinks<'a>(alloc: Global) -> Arg<'a> {
+    Arg::new(alloc, "sinks")
+        .long("sinks")
+        .value_name("FILE")
+        .value_parser(ValueParser::NonEmptyString)
+        .help(SINKS_HELP)
+}
+
 fn check<'a>(alloc: Global) -> Result<Command<'a>, AllocError> {
     Command::new(alloc, "check")
         .about(CHECK_ABOUT)
@@ -289,6 +307,7 @@ fn check<'a>(alloc: Global) -> Result<Command<'a>, AllocError> {
         .after_long_help(CHECK_AFTER)
         .arg(side(alloc))?
         .arg(products(alloc))?
+        .arg(sinks(alloc))?
         .arg(tiles(alloc))
 }
 
@@ -308,5 +327,6 @@ fn make<'a>(alloc: Global) -> Result<Command<'a>, AllocError> {
         .after_long_help(MAKE_AFTER)
         .arg(side(alloc))?
         .arg(out(alloc))?
+        .arg(sinks(alloc))?
         .arg(tiles(alloc))
 }

@@ -7,8 +7,8 @@ ghost use Rattle.drain_cli.specs.RoundTrip.{WhatIsWrittenIsAccepted};
 use drain_device::{ByteSink, ByteSource};
 use drain_maker::laws::made_is_accepted;
 
-/// What `make_set` made and `write_set` wrote into empty files is accepted by `check` with the same tiles, but for want of memory or a failed
-/// read: for any sources that tell their bytes, and any sinks that tell what they took.
+/// What `make_set` made and `write_set` wrote into empty files is accepted by `check` with the same tiles and sinks, but for want of memory or
+/// a failed read: for any sources that tell their bytes, and any sinks that tell what they took.
 pub fn what_is_written_is_accepted<R: ByteSource, F: ByteSink>()
     ensures { WhatIsWrittenIsAccepted R.bytes_left F.ByteSink }
 {

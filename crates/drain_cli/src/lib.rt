@@ -13,5 +13,6 @@ pub mod program;
 pub mod run_check;
 pub mod run_fill;
 pub mod run_header;
+pub mod sink_file;
 pub mod status;
 pub mod write_set;

@@ -5,13 +5,14 @@ ghost use Rattle.drain_device.specs.FaultLists.{SomeReadFails};
 ghost use Rattle.drain_hgt.specs.Inputs.{names_of, tile_devices, TilesTakeAtMost};
 ghost use Rattle.drain_cli.specs.declared.make_set.NoSet.{NoSet};
 ghost use Rattle.drain_cli.specs.MadeSets.{IsSetOf, IsNoSet};
+ghost use Rattle.drain_verdict.specs.Lines.{refusal_line};
 ghost use Rattle.drain_cli.specs.Printing.{Prints};
 ghost use Rattle.drain_cli.specs.SetRuns.{no_set_line, no_set_status};
 
 use crate::print::print_line;
 use crate::status::Status;
 use drain_device::{ByteSink, ByteSource};
-use drain_grid::ProductSet;
+use drain_grid::{ProductSet, SinkFault, parse_sinks};
 use drain_hgt::TileInput;
 use drain_maker::{MakeRefusal, make};
 use drain_mosaic::Layout;
@@ -24,32 +25,35 @@ use std::alloc::Global;
 pub enum NoSet {
     /// Of the tiles.
     Tiles(Refusal),
+    /// Of the list of sinks.
+    Sinks(SinkFault),
     /// The maker made none.
     Maker(MakeRefusal),
 }
 
 /// Reads the tiles and makes the products of their mosaic. Where there are none, it prints why and answers the exit status: 2 for
-/// `refused BadSide`, `BadName`, `NoTiles`, `RepeatedTile`, `BoxTooLarge`, `BadTileLength`, `SeamMismatch` and `MakerFault`, in this order;
-/// 3 for `failed OutOfMemory` and `failed ReadFailed`, and where the line can't be written.
+/// `refused BadSide`, `BadName`, `NoTiles`, `RepeatedTile`, `BoxTooLarge`, `BadTileLength`, `SeamMismatch`, `BadSinkLine`, `SinkNotData` and
+/// `MakerFault`, in this order; 3 for `failed OutOfMemory` and `failed ReadFailed`, and where the line can't be written.
 ///
-/// `side` is the number of samples along an edge of each tile. Of a tile at most one byte past its end is read.
+/// `side` is the number of samples along an edge of each tile, and `sinks` a list of inland sinks, a line `ROW COL` each. Of a tile at most one byte past its end is read.
 pub fn make_set<R: ByteSource, W: ByteSink>(
     alloc: Global,
     side: u32,
     tiles: &mut [TileInput<R>],
+    sinks: &[u8],
     out: &mut W,
 ) -> Result<(Layout, ProductSet), u8>
-    ensures made { IfOk result (λ set. IsSetOf R.bytes_left side tiles.old set.0 set.1) }
+    ensures made { IfOk result (λ set. IsSetOf R.bytes_left side tiles.old sinks.now set.0 set.1) }
     ensures no_read_failed { OnOk result (SomeReadFails (map R.counts (tile_devices tiles.old)) (map R.counts (tile_devices tiles.new)) ⊥) }
     ensures quiet { OnOk result (out.new ≡ out.old) }
-    ensures refused { IfErr result (λ code. (why : NoSet) × IsNoSet R.ByteSource side tiles.old tiles.new why
+    ensures refused { IfErr result (λ code. (why : NoSet) × IsNoSet R.ByteSource side tiles.old tiles.new sinks.now why
         × Prints W.ByteSink out.old out.new (no_set_line why) (no_set_status why) code) }
 
     // How far it reads, and that names stay.
     ensures within { TilesTakeAtMost R.bytes_left side tiles.old tiles.new }
     ensures names { names_of tiles.new ≡ names_of tiles.old }
 {
-    match read_and_make(alloc, side, tiles) {
+    match read_and_make(alloc, side, tiles, sinks) {
         Ok(set) => Ok(set),
         Err(why) => Err(print_line(out, &line_of(&why), status_of(&why))),
     }
@@ -60,10 +64,11 @@ fn read_and_make<R: ByteSource>(
     alloc: Global,
     side: u32,
     tiles: &mut [TileInput<R>],
+    sinks: &[u8],
 ) -> Result<(Layout, ProductSet), NoSet>
-    ensures made { IfOk result (λ set. IsSetOf R.bytes_left side tiles.old set.0 set.1) }
+    ensures made { IfOk result (λ set. IsSetOf R.bytes_left side tiles.old sinks.now set.0 set.1) }
     ensures no_read_failed { OnOk result (SomeReadFails (map R.counts (tile_devices tiles.old)) (map R.counts (tile_devices tiles.new)) ⊥) }
-    ensures refused { IfErr result (IsNoSet R.ByteSource side tiles.old tiles.new) }
+    ensures refused { IfErr result (IsNoSet R.ByteSource side tiles.old tiles.new sinks.now) }
     ensures within { TilesTakeAtMost R.bytes_left side tiles.old tiles.new }
     ensures names { names_of tiles.new ≡ names_of tiles.old }
 {
@@ -71,7 +76,11 @@ fn read_and_make<R: ByteSource>(
         Ok(mosaic) => mosaic,
         Err(refusal) => return Err(NoSet::Tiles(refusal)),
     };
-    match make(alloc, &mosaic.layout, &mosaic.elevation) {
+    let listed = match parse_sinks(alloc, sinks) {
+        Ok(listed) => listed,
+        Err(fault) => return Err(NoSet::Sinks(fault)),
+    };
+    match make(alloc, &mosaic.layout, &mosaic.elevation, &listed) {
         Ok(products) => Ok((mosaic.layout, products)),
         Err(refusal) => Err(NoSet::Maker(refusal)),
     }
@@ -82,13 +91,21 @@ fn line_of(why: &NoSet) -> Line
     ensures { result.bytes ≡ no_set_line why.now }
 {
     match why {
-        NoSet::Tiles(refusal) => {
-            let answer: Result<Verdict, Refusal> = Err(*refusal);
-            report(&answer)
-        }
+        NoSet::Tiles(refusal) => refused(*refusal),
+        NoSet::Sinks(SinkFault::BadSinkLine(line)) => refused(Refusal::BadSinkLine(*line)),
+        NoSet::Sinks(SinkFault::OutOfMemory) => words("failed OutOfMemory"),
+        NoSet::Maker(MakeRefusal::SinkNotData(line)) => refused(Refusal::SinkNotData(*line)),
         NoSet::Maker(MakeRefusal::MakerFault) => words("refused MakerFault"),
         NoSet::Maker(MakeRefusal::OutOfMemory) => words("failed OutOfMemory"),
     }
+}
+
+/// The line of a refusal, as a check tells it.
+fn refused(refusal: Refusal) -> Line
+    ensures { result.bytes ≡ refusal_line refusal }
+{
+    let answer: Result<Verdict, Refusal> = Err(refusal);
+    report(&answer)
 }
 
 /// The exit status that it leaves.
@@ -98,7 +115,9 @@ fn status_of(why: &NoSet) -> Status
     match why {
         NoSet::Tiles(Refusal::OutOfMemory | Refusal::ReadFailed) => Status::Failed,
         NoSet::Tiles(_) => Status::Refused,
+        NoSet::Sinks(SinkFault::OutOfMemory) => Status::Failed,
+        NoSet::Sinks(SinkFault::BadSinkLine(_)) => Status::Refused,
         NoSet::Maker(MakeRefusal::OutOfMemory) => Status::Failed,
-        NoSet::Maker(MakeRefusal::MakerFault) => Status::Refused,
+        NoSet::Maker(_) => Status::Refused,
     }
 }

@@ -1,7 +1,8 @@
-//! Opening the files of a check: the tiles in the order given, then of each product its header, which is read whole, and its raster.
+//! Opening the files of a check: the tiles in the order given, then of each product its header, which is read whole, and its raster; then the
+//! list of sinks, which is read whole.
 
 use crate::file_paths::{header_path, raster_path};
-use crate::open_files::{OpenFault, open, open_tiles};
+use crate::open_files::{OpenFault, list_at, open, open_tiles};
 use drain_device::{ByteList, Reader, read_body};
 use drain_grid::{PerProduct, Product};
 use drain_header::MAX_HEADER_BYTES;
@@ -9,18 +10,29 @@ use drain_hgt::TileInput;
 use drain_verdict::{Products, RasterInput};
 use std::fs::File;
 
-/// The files of a check, of which nothing but the headers has been read.
+/// The files of a check, of which nothing but the headers and the list of sinks has been read.
 #[derive(Drop)]
 pub struct CheckFiles {
     pub tiles: Vec<TileInput<Reader<File>>>,
     pub products: Products<Reader<File>>,
+    pub sinks: Vec<u8>,
 }
 
-/// Opens the tiles at these paths and the products in this folder. The first fault ends it.
-pub fn open_check(rt: &HostRuntime, folder: &str, tiles: &[&str]) -> Result<CheckFiles, OpenFault> {
+/// Opens the tiles at these paths, the products in this folder, and the list of sinks, if there is one. The first fault ends it.
+pub fn open_check(
+    rt: &HostRuntime,
+    folder: &str,
+    sinks: Option<&str>,
+    tiles: &[&str],
+) -> Result<CheckFiles, OpenFault> {
     let tiles = open_tiles(rt, tiles)?;
     let products = open_products(rt, folder)?;
-    Ok(CheckFiles { tiles, products })
+    let sinks = list_at(rt, sinks)?;
+    Ok(CheckFiles {
+        tiles,
+        products,
+        sinks,
+    })
 }
 
 fn open_products(rt: &HostRuntime, folder: &str) -> Result<Products<Reader<File>>, OpenFault> {

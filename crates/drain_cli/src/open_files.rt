@@ -1,4 +1,4 @@
-//! Opening files to read, tiles among them, and creating files to write.
+//! Opening files to read, tiles and a list of sinks among them, and creating files to write.
 
 ghost use Rattle.std.specs.Prelude.{◌≡◌, IfOk, string_bytes, vec_len};
 ghost use Rattle.std.specs.List.{AllZip};
@@ -7,6 +7,7 @@ ghost use Rattle.drain_cli.specs.FilePaths.{IsLastPart, ending_of, product_path}
 ghost use Rattle.drain_maker.specs.declared.product_files.TheConstants.{FILE_COUNT};
 
 use crate::file_paths::{header_path, raster_path, tile_name};
+use crate::sink_file::read_list;
 use drain_device::{BodyFault, ByteList, Reader, Writer};
 use drain_hgt::TileInput;
 use drain_maker::product_files::{Part, SET_FILES, SetFile};
@@ -18,7 +19,7 @@ use std::fs::File;
 pub enum OpenFault {
     /// The file at this path can't be opened.
     Open(String),
-    /// A header can't be read, or memory was refused.
+    /// A header or a list of sinks can't be read, or memory was refused.
     Body(BodyFault),
 }
 
@@ -60,6 +61,18 @@ pub fn open(rt: &HostRuntime, path: &str) -> Result<Reader<File>, OpenFault> {
     match File::open(rt, path) {
         Ok(file) => Ok(Reader::new(file)),
         Err(_) => Err(OpenFault::Open(String::from_str(rt.alloc(), path)?)),
+    }
+}
+
+/// The bytes of the list of sinks at this path; none where no list is named.
+pub fn list_at(rt: &HostRuntime, path: Option<&str>) -> Result<Vec<u8>, OpenFault> {
+    let Some(path) = path else {
+        return Ok(Vec::new(rt.alloc()));
+    };
+    let mut file = open(rt, path)?;
+    match read_list(rt.alloc(), &mut file) {
+        Ok(list) => Ok(list),
+        Err(fault) => Err(OpenFault::Body(fault)),
     }
 }
 

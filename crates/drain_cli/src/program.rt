@@ -6,7 +6,7 @@ use crate::command_line::Request;
 use crate::make_set::make_set;
 use crate::open_check::{CheckFiles, open_check};
 use crate::open_failure::print_open_failure;
-use crate::open_files::{OpenFault, create_files, open_tiles};
+use crate::open_files::{OpenFault, create_files, list_at, open_tiles};
 use crate::print::{print_failure, print_text};
 use crate::run_check::run_check;
 use crate::run_fill::run_fill;
@@ -49,16 +49,18 @@ fn run(rt: &HostRuntime, asked: &[String], out: &mut impl ByteSink) -> u8 {
             Request::Check {
                 side,
                 products,
+                sinks,
                 tiles,
             },
-        ) => check_of_files(rt, side, products, tiles.as_slice(), out),
+        ) => check_of_files(rt, side, products, sinks, tiles.as_slice(), out),
         Ok(
             Request::Make {
                 side,
                 folder,
+                sinks,
                 tiles,
             },
-        ) => make_from_files(rt, side, folder, tiles.as_slice(), out),
+        ) => make_from_files(rt, side, folder, sinks, tiles.as_slice(), out),
         Err(error) if error.kind() == ErrorKind::OutOfMemory => print_failure(
             out,
             BodyFault::OutOfMemory,
@@ -80,16 +82,21 @@ fn check_of_files(
     rt: &HostRuntime,
     side: u32,
     folder: &str,
+    sinks: Option<&str>,
     tiles: &[&str],
     out: &mut impl ByteSink,
 ) -> u8 {
-    match open_check(rt, folder, tiles) {
+    match open_check(rt, folder, sinks, tiles) {
         Ok(
             CheckFiles {
                 mut tiles,
                 mut products,
+                sinks,
             },
-        ) => run_check(rt.alloc(), side, tiles.as_mut_slice(), &mut products, out),
+        ) => {
+            let tiles = tiles.as_mut_slice();
+            run_check(rt.alloc(), side, tiles, sinks.as_slice(), &mut products, out)
+        }
         Err(fault) => print_open_fault(rt, fault, out),
     }
 }
@@ -101,6 +108,7 @@ fn make_from_files(
     rt: &HostRuntime,
     side: u32,
     folder: &str,
+    sinks: Option<&str>,
     tiles: &[&str],
     out: &mut impl ByteSink,
 ) -> u8 {
@@ -111,7 +119,12 @@ fn make_from_files(
         Ok(tiles) => tiles,
         Err(fault) => return print_open_fault(rt, fault, out),
     };
-    let (layout, products) = match make_set(rt.alloc(), side, tiles.as_mut_slice(), out) {
+    let sinks = match list_at(rt, sinks) {
+        Ok(sinks) => sinks,
+        Err(fault) => return print_open_fault(rt, fault, out),
+    };
+    let made = make_set(rt.alloc(), side, tiles.as_mut_slice(), sinks.as_slice(), out);
+    let (layout, products) = match made {
         Ok(set) => set,
         Err(status) => return status,
     };

@@ -21,22 +21,23 @@ use std::alloc::Global;
 
 /// Checks products against their tiles, prints the line of the answer and answers the exit status.
 ///
-/// `side` is the number of samples along an edge of each tile. Of a tile at most one byte past its end is read, and of a raster nothing
+/// `side` is the number of samples along an edge of each tile, and `sinks` a list of inland sinks, a line `ROW COL` each. Of a tile at most one byte past its end is read, and of a raster nothing
 /// past its last needed byte. The statuses: 0 accepted, 1 rejected, 2 refused, 3 where memory was refused (`failed OutOfMemory`), a
 /// source gave up (`failed ReadFailed`), or the line couldn't be written.
 pub fn run_check<R: ByteSource, W: ByteSink>(
     alloc: Global,
     side: u32,
     tiles: &mut [TileInput<R>],
+    sinks: &[u8],
     products: &mut Products<R>,
     out: &mut W,
 ) -> u8
     ensures run { (answer : Result Verdict Refusal)
-        × IsCheckOutcome R.ByteSource side tiles.old tiles.new products.old products.new answer
+        × IsCheckOutcome R.ByteSource side tiles.old tiles.new sinks.now products.old products.new answer
         × Prints W.ByteSink out.old out.new (report_line answer) (check_status answer) result }
 
     // A run ends with 0 only where the tiles agree and the products are correct.
-    ensures correct { result ≡ 0 → OfInputs R.bytes_left side tiles.old products.old IsRight }
+    ensures correct { result ≡ 0 → OfInputs R.bytes_left side tiles.old sinks.now products.old IsRight }
 
     // How far it reads, and that names and headers stay.
     ensures tiles_within { TilesTakeAtMost R.bytes_left side tiles.old tiles.new }
@@ -44,7 +45,7 @@ pub fn run_check<R: ByteSource, W: ByteSink>(
     ensures names { names_of tiles.new ≡ names_of tiles.old }
     ensures headers { (p : Product) → (of_product products.new p).header ≡ (of_product products.old p).header }
 {
-    let answer = check(alloc, side, tiles, products);
+    let answer = check(alloc, side, tiles, sinks, products);
     print_line(out, &report(&answer), status_of(&answer))
 }
 

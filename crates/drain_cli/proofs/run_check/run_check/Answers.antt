@@ -5,7 +5,7 @@ use Rattle.drain_cli.proofs.run_check.run_check.Goals as goal
 pub returns-clause-correct : goal.returns-clause-correct
 returns-clause-correct g c zero i told =
     let accepted = when_zero c.check-answer.result c.print_line.ensures.done c.status_of.result c.print_line.result c.status_of.ensures c.print_line.ensures.code_is zero in
-    let of = OfInputs g.R.ByteSource.bytes_left c.args.side c.args.tiles.now c.args.products.now in
+    let of = OfInputs g.R.ByteSource.bytes_left c.args.side c.args.tiles.now c.args.sinks.now c.args.products.now in
     let facts = c.check-answer.ensures in
     record {
       tiles_agree = accepted (of TilesAreOne) facts.tiles_agree i told;
