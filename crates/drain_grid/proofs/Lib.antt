@@ -12,6 +12,7 @@ pub mod Directions
 pub mod Inflows
 pub mod Least
 pub mod LeastFaults
+pub mod LineRuns
 pub mod NamedNeighbors
 pub mod NarrowNumbers
 pub mod Neighbors

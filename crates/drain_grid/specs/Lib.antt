@@ -5,6 +5,7 @@ pub mod Extent
 pub mod Grid
 pub mod GridRules
 pub mod Laws
+pub mod LineNumbers
 pub mod Numbers
 pub mod OffData
 pub mod Open

@@ -5,7 +5,8 @@ ghost use Rattle.drain_grid.specs.SinkLines.{AreNarrow};
 ghost use Rattle.drain_grid.specs.SinkTexts.{sinks_of, IsSinkFault};
 
 use crate::memory::OutOfMemory;
-use crate::sink_line::{LineSays, SinkLine, read_line};
+use crate::numbered_cells::NumberedCells;
+use crate::sink_line::{LineSays, read_line};
 use crate::sinks::Sinks;
 use drain_text::first_line;
 use std::alloc::Global;
@@ -34,12 +35,12 @@ pub fn parse_sinks(alloc: Global, text: &[u8]) -> Result<Sinks, SinkFault>
 }
 
 /// The lines that list a cell, in order.
-fn read_lines(alloc: Global, text: &[u8]) -> Result<Vec<SinkLine>, SinkFault>
-    ensures listed { IfOk result (λ lines. sinks_of text.now ≡ Ok lines.items) }
-    ensures narrow { IfOk result (λ lines. AreNarrow lines.items) }
+fn read_lines(alloc: Global, text: &[u8]) -> Result<NumberedCells, SinkFault>
+    ensures listed { IfOk result (λ lines. sinks_of text.now ≡ Ok lines) }
+    ensures narrow { IfOk result (λ lines. AreNarrow lines) }
     ensures err { IfErr result (IsSinkFault text.now) }
 {
-    let mut lines = Vec::new(alloc);
+    let mut lines = NumberedCells::new(alloc);
     let mut number = 1u64;
     let mut rest = text;
     loop {
@@ -47,7 +48,7 @@ fn read_lines(alloc: Global, text: &[u8]) -> Result<Vec<SinkLine>, SinkFault>
         match read_line(line) {
             LineSays::Nothing => {}
             LineSays::Sink(cell) => {
-                let Ok(_) = lines.push(SinkLine { line: number, cell }) else {
+                let Ok(_) = lines.push(number, cell) else {
                     return Err(SinkFault::OutOfMemory);
                 };
             }

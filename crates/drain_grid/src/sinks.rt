@@ -1,7 +1,7 @@
 //! Cells that a user lists as sinks: inland places where water may leave the grid.
 //!
-//! A check asks of each cell whether it is one, so the list is kept twice: as its lines, for who tells a line by its number, and
-//! as the rising places of its cells, where a search by halves finds a cell. A place is one number of 64 bits, so the search
+//! A check asks of each cell whether it is one, so the list is kept twice: as its cells with the numbers of their lines, for who tells a
+//! line by its number, and as the rising places of the cells, where a search by halves finds a cell. A place is one number of 64 bits, so the search
 //! compares no pairs, and an empty list is answered without any comparison.
 
 ghost use Rattle.std.specs.Prelude.{◌≡◌, ℕ, ◌+◌, ◌*◌, ◌^◌, ◌<◌, ◌≤◌, [], false, length, map, slice_get, slice_index_or, Some, IfOk};
@@ -9,14 +9,17 @@ ghost use Rattle.drain_grid.specs.SinkLines.{is_listed, wide_place, AreNarrow, A
 
 use crate::cell::Cell;
 use crate::memory::OutOfMemory;
-use crate::sink_line::SinkLine;
+use crate::numbered_cells::NumberedCells;
 use std::alloc::Global;
 use std::marker::Model;
 
 /// The lines of a sink list that are not empty, in order.
+///
+/// A sink takes 16 bytes, 8 for its cell and 8 for its place. Each run of lines takes 16 more: one for the first sink, and one wherever
+/// empty lines stand between two sinks.
 #[derive(Drop)]
 pub struct Sinks {
-    lines: Vec<SinkLine>,
+    lines: NumberedCells,
     places: Vec<u64>,
 }
 
@@ -27,9 +30,9 @@ impl Model for Sinks {
 
     ghost Value = { List SinkLine };
 
-    ghost view = { λ s. s.lines.items };
+    ghost view = { λ s. s.lines };
 
-    ghost invariant = { λ s. ArePlaces s.lines.items s.places.items };
+    ghost invariant = { λ s. ArePlaces s.lines s.places.items };
 }
 
 impl Sinks {
@@ -38,17 +41,17 @@ impl Sinks {
         ensures { result ≡ [] }
     {
         Sinks {
-            lines: Vec::new(alloc),
+            lines: NumberedCells::new(alloc),
             places: Vec::new(alloc),
         }
     }
 
     /// The sinks that these lines list.
-    pub(crate) fn of(alloc: Global, lines: Vec<SinkLine>) -> Result<Sinks, OutOfMemory>
-        requires { AreNarrow lines.items }
-        ensures { IfOk result (λ sinks. sinks ≡ lines.items) }
+    pub(crate) fn of(alloc: Global, lines: NumberedCells) -> Result<Sinks, OutOfMemory>
+        requires { AreNarrow lines }
+        ensures { IfOk result (λ sinks. sinks ≡ lines) }
     {
-        let Ok(places) = places_of(alloc, &lines) else {
+        let Ok(places) = places_of(alloc, lines.cells()) else {
             return Err(OutOfMemory);
         };
         let mut rising = places;
@@ -96,7 +99,8 @@ impl Sinks {
         requires { i < length self.now }
         ensures { slice_get self.now i ≡ Some (record { line = result.0; cell = result.1 }) }
     {
-        (self.lines[i].line, self.lines[i].cell)
+        let listed = self.lines.get(i);
+        (listed.line, listed.cell)
     }
 }
 
@@ -107,13 +111,13 @@ fn place_of(cell: Cell) -> u64
     u64::from(cell.row) * 0x1_0000_0000 + u64::from(cell.col)
 }
 
-/// The places of the cells, line by line.
-fn places_of(alloc: Global, lines: &Vec<SinkLine>) -> Result<Vec<u64>, OutOfMemory>
-    ensures { IfOk result (λ places. places.items ≡ map (λ s. wide_place s.cell) lines.now.items) }
+/// The places of the cells, in order.
+fn places_of(alloc: Global, cells: &[Cell]) -> Result<Vec<u64>, OutOfMemory>
+    ensures { IfOk result (λ places. places.items ≡ map wide_place cells.now) }
 {
     let mut places = Vec::new(alloc);
-    for listed in lines {
-        let Ok(_) = places.push(place_of(listed.cell)) else {
+    for cell in cells {
+        let Ok(_) = places.push(place_of(*cell)) else {
             return Err(OutOfMemory);
         };
     }

@@ -7,8 +7,8 @@ use Rattle.drain_grid.proofs.sink_text.read_lines.Given as goal
 
 abbrev pub invariant-loop-cell : goal.invariant-loop-cell
 invariant-loop-cell l = record {
-  listed : after_these l.lines.items (listing l.number (lines_of l.rest)) ≡ sinks_of l.text;
-  narrow : AreNarrow l.lines.items;
+  listed : after_these l.lines (listing l.number (lines_of l.rest)) ≡ sinks_of l.text;
+  narrow : AreNarrow l.lines;
   short : l.number + length l.rest ≤ length l.text + 1;
 }
 

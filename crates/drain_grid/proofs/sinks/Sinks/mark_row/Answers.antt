@@ -10,7 +10,7 @@ loop-place-init c = record {
   from =
       let rising = IsPartitionedBy-ltb (λ x. x) c.deref.result.now c.place_of-first.result (subst IsNonDecreasing (sym c.deref.ensures.value) c.self.invariant.rising) in
       let point = IsPartitionPoint-from_clause (λ y. ltb y c.place_of-first.result) _ _ c.partition_point-start.ensures.partitioned rising (λ a r q k. search rules) in
-      from_row c.args.self.now c.self.inside.lines.items c.self.inside.places.items c.deref.result.now c.deref-2.result.now c.args.row
+      from_row c.args.self.now c.self.inside.lines c.self.inside.places.items c.deref.result.now c.deref-2.result.now c.args.row
       c.place_of-first.result c.partition_point-start.result c.self.invariant c.self.view_is c.deref.ensures.value c.deref-2.ensures.value
       (omega (arith, c.place_of-first.ensures)) point;
   marked = λ col less.
