@@ -1,8 +1,11 @@
 -- What the local rules say of the whole grid.
-use Rattle.std.specs.Prelude.{◌≡◌, pos, ◌↔◌}
+use Rattle.std.specs.Prelude.{◌≡◌, pos, ◌↔◌, IsTrue, option_map}
 use Rattle.drain_grid.specs.declared.cell.Cell.{Cell}
 use Rattle.drain_grid.specs.Values.{NoDataNumbers}
-use Rattle.drain_grid.specs.Grid.{Grid, Products, HasData}
+use Rattle.drain_grid.specs.declared.direction.Direction.{Direction}
+use Rattle.drain_grid.specs.Extent.{step}
+use Rattle.drain_grid.specs.Open.{IsGap}
+use Rattle.drain_grid.specs.Grid.{Grid, Products, HasData, IsOpenCell}
 use Rattle.drain_grid.specs.Path.{IsFilled}
 use Rattle.drain_grid.specs.Run.{upstream_count, ShareBasin}
 use Rattle.drain_grid.specs.Rule.{IsAnyRule, IsFillRule, IsWayRule, IsCountRule, IsLabelRule}
@@ -36,3 +39,9 @@ abbrev pub CorrectFromRules : Type 0
 CorrectFromRules =
     (g : Grid) (ps : Products) (nodata : NoDataNumbers) → RulesHold (profile1 nodata) IsAnyRule g ps →
     IsCorrect g ps nodata × RunsAreSound g ps
+
+-- a cell that isn't listed is open exactly where it has data and lies on the edge of the grid or beside a void
+abbrev pub OpenWithoutSinks : Type 0
+OpenWithoutSinks =
+    (g : Grid) (c : Cell) → ¬ IsTrue (g.sink c) →
+    IsOpenCell g c ↔ (HasData g c × ((d : Direction) × IsGap (option_map g.elevation (step g.extent c d))))

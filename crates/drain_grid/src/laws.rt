@@ -4,7 +4,7 @@
 
 ghost use Rattle.std.specs.Prelude.{◌≡◌, pos, neg_ℤ};
 ghost use Rattle.drain_grid.specs.OffData.{FoundOffDataIsRight};
-ghost use Rattle.drain_grid.specs.Laws.{CorrectFromRules, CountsUpstream, LabelsAreBasins, LeastFromRules, RunsEnd};
+ghost use Rattle.drain_grid.specs.Laws.{CorrectFromRules, CountsUpstream, LabelsAreBasins, LeastFromRules, OpenWithoutSinks, RunsEnd};
 
 use crate::cell::MAX_LENGTH;
 use crate::degree::UNITS_PER_DEGREE;
@@ -62,4 +62,9 @@ pub fn correct_from_rules()
 /// The least line that lists a cell without data, as it was asked cell by cell, is that of the grid whose cells were told.
 pub fn found_off_data_is_right()
     ensures { FoundOffDataIsRight }
+{}
+
+/// Which cells are open where none is listed as a sink: those with data on the edge of the grid or beside a void.
+pub fn open_without_sinks()
+    ensures { OpenWithoutSinks }
 {}

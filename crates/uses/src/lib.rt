@@ -2,14 +2,14 @@
 //! (`SliceSource`).
 #![tactic(auto)]
 
-ghost use Rattle.std.specs.Prelude.{IsTrue, IfOk};
+ghost use Rattle.std.specs.Prelude.{[], IsTrue, IfOk};
 ghost use Rattle.drain_grid.specs.Correct.{IsCorrect};
 ghost use Rattle.drain_grid.specs.Product.{default_numbers};
 ghost use Rattle.drain_grid.specs.WholeGrid.{grid_of, products_of};
 ghost use Rattle.drain_verdict.specs.Headline.{OfInputs, ConIsLeast, AccCountsUpstream};
 
 use drain_device::ByteSource;
-use drain_grid::ProductSet;
+use drain_grid::{ProductSet, Sinks};
 use drain_hgt::TileInput;
 use drain_maker::{MakeRefusal, make};
 use drain_verdict::{Mosaic, Products, Refusal, Verdict, check};
@@ -17,25 +17,25 @@ use std::alloc::Global;
 
 const SIDE: u32 = 1201;
 
-/// Whether rasters are right for these tiles, whoever made them.
+/// Whether rasters are right for these tiles without listed sinks, whoever made them.
 pub fn are_right<R: ByteSource>(
     alloc: Global,
     tiles: &mut [TileInput<R>],
     rasters: &mut Products<R>,
 ) -> Result<bool, Refusal>
-    ensures filled { IfOk result (λ right. IsTrue right → OfInputs R.bytes_left 1201 tiles.old rasters.old ConIsLeast) }
-    ensures counted { IfOk result (λ right. IsTrue right → OfInputs R.bytes_left 1201 tiles.old rasters.old AccCountsUpstream) }
+    ensures filled { IfOk result (λ right. IsTrue right → OfInputs R.bytes_left 1201 tiles.old [] rasters.old ConIsLeast) }
+    ensures counted { IfOk result (λ right. IsTrue right → OfInputs R.bytes_left 1201 tiles.old [] rasters.old AccCountsUpstream) }
 {
-    match check(alloc, SIDE, tiles, rasters) {
+    match check(alloc, SIDE, tiles, &[], rasters) {
         Ok(Verdict::Accepted(_)) => Ok(true),
         Ok(Verdict::Rejected { .. }) => Ok(false),
         Err(refusal) => Err(refusal),
     }
 }
 
-/// Rasters made of a mosaic that `read_mosaic` gave, which are right where they are handed out.
+/// Rasters made of a mosaic that `read_mosaic` gave, without listed sinks, which are right where they are handed out.
 pub fn rasters_of(alloc: Global, mosaic: &Mosaic) -> Result<ProductSet, MakeRefusal>
-    ensures right { IfOk result (λ set. IsCorrect (grid_of mosaic.now.elevation) (products_of set) default_numbers) }
+    ensures right { IfOk result (λ set. IsCorrect (grid_of mosaic.now.elevation []) (products_of set) default_numbers) }
 {
-    make(alloc, &mosaic.layout, &mosaic.elevation)
+    make(alloc, &mosaic.layout, &mosaic.elevation, &Sinks::none(alloc))
 }
