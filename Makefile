@@ -41,6 +41,7 @@ bench: build/drain build/benches
 	bench/memory.sh build/drain
 	bench/make.sh build/drain
 	bench/hard.sh build/drain
+	bench/sinks.sh build/drain
 	bench/labels.sh build/benches
 	bench/rasters.sh build/benches
 	bench/mosaic.sh build/benches

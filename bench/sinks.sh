@@ -1,0 +1,63 @@
+#!/usr/bin/env bash
+# Shows what a list of sinks costs `drain make` and `drain check` on a tile of side 3601: no list, 1,000 cells and 1,000,000 cells, taken at random from
+# the data cells, timed in turn. Each check has to accept what was made with its list. It exits with 1 where one doesn't; times never make it fail.
+# Usage: bench/sinks.sh DRAIN [SIDE]
+set -euo pipefail
+drain=$(realpath "$1")
+side=${2:-3601}
+bench=$(cd "$(dirname "${BASH_SOURCE[0]}")" && pwd)
+out=$(dirname "$bench")/build/bench
+scratch=$(mktemp -d)
+trap 'rm -rf "$scratch"' EXIT
+
+mkdir -p "$out"
+for name in make_check_input measure; do
+    rustc --edition 2024 -O -C target-cpu=x86-64-v2 -o "$out/$name" "$bench/$name.rs"
+done
+"$out/make_check_input" "$side" "$side" "$scratch/terrain"
+tile=$scratch/terrain/N00E000.hgt
+
+# Writes a list of so many data cells, in no order.
+# Usage: list COUNT
+list() {
+    python3 - "$tile" "$side" "$1" <<'PY'
+import random, struct, sys
+tile, side, count = open(sys.argv[1], "rb").read(), int(sys.argv[2]), int(sys.argv[3])
+heights = struct.unpack(f">{side * side}h", tile)
+data = [cell for cell, height in enumerate(heights) if height != -32768]
+random.seed(20261124)
+print("".join(f"{cell // side} {cell % side}\n" for cell in random.sample(data, min(count, len(data)))), end="")
+PY
+}
+
+# A command as a program of its own, so that all can be timed in turn.
+# Usage: command_as NAME WORD...
+command_as() {
+    printf '#!/bin/sh\nexec' >"$scratch/$1"
+    printf ' %q' "$drain" "${@:2}" >>"$scratch/$1"
+    chmod +x "$scratch/$1"
+}
+
+differ=0
+checks=()
+makes=()
+for count in 0 1000 1000000; do
+    words=()
+    if [ "$count" != 0 ]; then
+        list "$count" >"$scratch/list-$count"
+        words=(--sinks "$scratch/list-$count")
+    fi
+    mkdir -p "$scratch/made-$count"
+    command_as "make_$count" make --side "$side" --out "$scratch/made-$count" "${words[@]}" "$tile"
+    command_as "check_$count" check --side "$side" --products "$scratch/made-$count" "${words[@]}" "$tile"
+    makes+=("$scratch/make_$count")
+    checks+=("$scratch/check_$count")
+    "$scratch/make_$count"
+    line=$("$scratch/check_$count") || differ=1
+    echo "$count listed: $line"
+done
+for commands in makes checks; do
+    declare -n programs=$commands
+    "$out/measure" 5 $((side * side)) /dev/null "${programs[@]}" --
+done
+exit "$differ"
