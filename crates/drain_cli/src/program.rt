@@ -95,7 +95,14 @@ fn check_of_files(
             },
         ) => {
             let tiles = tiles.as_mut_slice();
-            run_check(rt.alloc(), side, tiles, sinks.as_slice(), &mut products, out)
+            run_check(
+                rt.alloc(),
+                side,
+                tiles,
+                sinks.as_slice(),
+                &mut products,
+                out,
+            )
         }
         Err(fault) => print_open_fault(rt, fault, out),
     }
@@ -123,7 +130,13 @@ fn make_from_files(
         Ok(sinks) => sinks,
         Err(fault) => return print_open_fault(rt, fault, out),
     };
-    let made = make_set(rt.alloc(), side, tiles.as_mut_slice(), sinks.as_slice(), out);
+    let made = make_set(
+        rt.alloc(),
+        side,
+        tiles.as_mut_slice(),
+        sinks.as_slice(),
+        out,
+    );
     let (layout, products) = match made {
         Ok(set) => set,
         Err(status) => return status,

@@ -1,11 +1,11 @@
 -- The least line that lists a cell without data, said of the grid.
-use Rattle.std.proofs.Common.{◌≡◌, ℕ, ◌<◌, Bool, true, false, List, slice_get, length, Option, Some, None, ◌⊎◌, inl, inr, arith, refl, sym, ◌∙◌}
+use Rattle.std.proofs.Common.{◌≡◌, Bool, true, false, Some, None, ◌⊎◌, inl, inr, arith, refl, sym, ◌∙◌}
 use Rattle.std.proofs.lemmas.Bool.{false≢true}
 use Rattle.std.proofs.lemmas.Option.{slice_get_within}
 use Rattle.drain_grid.specs.declared.cell.Cell.{Cell}
 use Rattle.drain_grid.specs.declared.sink_line.SinkLine.{SinkLine}
 use Rattle.drain_grid.specs.Grid.{Grid, HasData}
-use Rattle.drain_grid.specs.OffData.{FoundOffDataIsRight, IsLeastOff, IsOffAnswer, IsOffData}
+use Rattle.drain_grid.specs.OffData.{FoundOffDataIsRight}
 
 -- it is asked of a cell whether it has data
 abbrev IsTold : Grid → (Cell → Bool) → SinkLine → Type 0

@@ -1,5 +1,5 @@
 -- What elevations held whole say of listed sinks.
-use Rattle.std.proofs.Common.{◌≡◌, ◌&&◌, is_some, ℕ, Bool, true, false, List, length, Option, Some, None, Err, inl, inr, arith, refl, sym, ◌∙◌}
+use Rattle.std.proofs.Common.{◌≡◌, is_some, ℕ, true, false, List, length, Option, Err, inl, inr, arith, refl, sym, ◌∙◌}
 use Rattle.std.proofs.lemmas.Bool.{cases_lt, lt-ltb, le-ltb}
 use Rattle.drain_grid.specs.declared.cell.Cell.{Cell}
 use Rattle.drain_grid.specs.declared.sink_line.SinkLine.{SinkLine}

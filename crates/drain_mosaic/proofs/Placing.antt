@@ -1,6 +1,6 @@
 -- Tiles that go on keep their names and places.
-use Rattle.std.proofs.Common.{◌≡◌, ℕ, zero, suc, ◌<◌, List, [], ◌∷◌, ◌++◌, refl, ap, length, take, drop, get_or, set, arith, ◌∙◌}
-use Rattle.std.proofs.lemmas.List.Elements.{All-same, All-set}
+use Rattle.std.proofs.Common.{◌≡◌, ℕ, zero, suc, ◌<◌, List, [], ◌∷◌, refl, ap, length, get_or, set, arith, ◌∙◌}
+use Rattle.std.proofs.lemmas.List.Elements.{All-set}
 use Rattle.drain_mosaic.specs.declared.placed_rows.PlacedRows.{PlacedRows}
 use Rattle.drain_hgt.specs.Inputs.{names_of}
 use Rattle.drain_hgt.specs.declared.input.TileInput.{TileInput}

@@ -1,10 +1,9 @@
 -- The listed sinks that are voids, as they are noted row by row.
 use Rattle.std.proofs.Common.{◌≡◌, ℕ, ◌+◌, ◌<◌, ◌&&◌, ◌||◌, ◌==◌, nat_lt, is_none, Bool, true, false, List, [], length, inl, inr, arith, refl, sym, ap, subst, ◌∙◌}
-use Rattle.std.specs.Prelude.{slice_index_or}
 use Rattle.std.proofs.lemmas.Bool.{cases_eq, lt-ltb, le-ltb}
 use Rattle.std.proofs.lemmas.Bool.Decides.{nat_tests}
 use Rattle.drain_grid.specs.declared.cell.Cell.{Cell}
-use Rattle.drain_grid.specs.Grid.{Grid, Products, IsInside}
+use Rattle.drain_grid.specs.Grid.{Grid, Products}
 use Rattle.drain_rules.specs.MarkedRows.{IsRowOf, MarkedRow}
 use Rattle.drain_rules.specs.Rows.{place}
 use Rattle.drain_verdict.specs.ListedVoids.{AreListedVoids, AreVoidsBefore, is_among, is_listed_void}

@@ -204,15 +204,7 @@ fn check_rows<R: ByteSource>(
     // The law that the first listed cell without data is the grid's.
     found_off_data_is_right();
     let shape = layout.shape();
-    let found = verdict_by_rows(
-        alloc,
-        shape,
-        &listing.sinks,
-        nodata,
-        rows,
-        tiles,
-        products,
-    )?;
+    let found = verdict_by_rows(alloc, shape, &listing.sinks, nodata, rows, tiles, products)?;
     if let Some(refusal) = rows.refusal(layout) {
         return Err(refusal);
     }

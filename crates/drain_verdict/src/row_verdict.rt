@@ -50,10 +50,26 @@ pub fn verdict_by_rows<T, P, S: GridRows<T, P>>(
     let mut window = Window::new(alloc);
     let mut voids = ListedVoids::new(alloc);
     let mut walk = GridWalk::new(alloc);
-    read_marked(source, tiles, products, 0, sinks, &mut window.below, &mut voids)?;
+    read_marked(
+        source,
+        tiles,
+        products,
+        0,
+        sinks,
+        &mut window.below,
+        &mut voids,
+    )?;
     for row in 0..shape.rows() {
         window.turn();
-        read_marked(source, tiles, products, row + 1, sinks, &mut window.below, &mut voids)?;
+        read_marked(
+            source,
+            tiles,
+            products,
+            row + 1,
+            sinks,
+            &mut window.below,
+            &mut voids,
+        )?;
         match walk.check_row(&window.rows(), nodata) {
             Ok(()) => {}
             Err(OutOfMemory) => return Err(Refusal::OutOfMemory),

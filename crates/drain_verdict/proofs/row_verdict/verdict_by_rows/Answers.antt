@@ -127,22 +127,28 @@ returns-clause-reads g c = λ start n before.
 
 pub returns-in_err-read_marked-clause-refuses : goal.returns-in_err-read_marked-clause-refuses
 returns-in_err-read_marked-clause-refuses g c =
-    told-of c.from_residual.result c.in_err-read_marked.field-0.0 _ c.from_residual.ensures.1 (1, elim c.in_err-read_marked.ensures.refuses [
-      | inl reads ↦ inl reads
-      | inr wants ↦ inr (wants.0, wants.1, inr wants.2)
-    ])
+    told-of c.from_residual.result c.in_err-read_marked.field-0.0 _ c.from_residual.ensures.1 (
+      1,
+      elim c.in_err-read_marked.ensures.refuses [
+        | inl reads ↦ inl reads
+        | inr wants ↦ inr (wants.0, wants.1, inr wants.2)
+      ],
+    )
 
 pub returns-in_err-read_marked-2-clause-refuses : goal.returns-in_err-read_marked-2-clause-refuses
 returns-in_err-read_marked-2-clause-refuses g c =
     let row = c.loop-row.row in
     let refusal = c.in_err-read_marked-2.field-0.0 in
     let more : (told : Option Refusal) → ReadsOn g.S.GridRows.has_read (c.loop-row.source, c.loop-row.tiles, c.loop-row.products) (c.read_marked-in-loop-row.new.source, c.read_marked-in-loop-row.new.tiles, c.read_marked-in-loop-row.new.products) 1 told →
-        ReadsOn g.S.GridRows.has_read (c.args.source.now, c.args.tiles.now, c.args.products.now) (c.read_marked-in-loop-row.new.source, c.read_marked-in-loop-row.new.tiles, c.read_marked-in-loop-row.new.products) (row + 1 + 1) told =
+    ReadsOn g.S.GridRows.has_read (c.args.source.now, c.args.tiles.now, c.args.products.now) (c.read_marked-in-loop-row.new.source, c.read_marked-in-loop-row.new.tiles, c.read_marked-in-loop-row.new.products) (row + 1 + 1) told =
     λ told reads start n before.
-        (let same : n + (row + 1) + 1 ≡ n + (row + 1 + 1) = omega arith in
-        subst (λ k. g.S.GridRows.has_read start (c.read_marked-in-loop-row.new.source, c.read_marked-in-loop-row.new.tiles, c.read_marked-in-loop-row.new.products) k told) same
-        (reads start (n + (row + 1)) (c.loop-row.invariant.reads start n before))) in
-    told-of c.from_residual-in_err-read_marked-2.result refusal _ c.from_residual-in_err-read_marked-2.ensures.1 (row + 1 + 1, elim c.in_err-read_marked-2.ensures.refuses [
-      | inl reads ↦ inl (more (Some refusal) reads)
-      | inr wants ↦ inr (wants.0, more None wants.1, inr wants.2)
-    ])
+    (let same : n + (row + 1) + 1 ≡ n + (row + 1 + 1) = omega arith in
+    subst (λ k. g.S.GridRows.has_read start (c.read_marked-in-loop-row.new.source, c.read_marked-in-loop-row.new.tiles, c.read_marked-in-loop-row.new.products) k told) same
+    (reads start (n + (row + 1)) (c.loop-row.invariant.reads start n before))) in
+    told-of c.from_residual-in_err-read_marked-2.result refusal _ c.from_residual-in_err-read_marked-2.ensures.1 (
+      row + 1 + 1,
+      elim c.in_err-read_marked-2.ensures.refuses [
+        | inl reads ↦ inl (more (Some refusal) reads)
+        | inr wants ↦ inr (wants.0, more None wants.1, inr wants.2)
+      ],
+    )

@@ -1,5 +1,4 @@
-use Rattle.std.proofs.Common.{rules, ◌≡◌, ◌||◌, OnOk, refl, ap, ◌∙◌}
-use Rattle.drain_grid.specs.declared.cell.Cell.{Cell}
+use Rattle.std.proofs.Common.{rules, ◌||◌, ap, ◌∙◌}
 use Rattle.drain_verdict.specs.ListedVoids.{is_among}
 use Rattle.drain_grid.specs.Extent.{same_cell}
 use Rattle.drain_verdict.proofs.CellSets.{inserted}
@@ -8,7 +7,9 @@ use Rattle.drain_verdict.proofs.listed_voids.ListedVoids.note.Goals as goal
 
 pub returns : goal.returns
 returns c = elim c.match-insert.branch [
-  | in-Ok w ↦ rw w.result-is (record { noted = λ q.
-      inserted _ (λ a b. search rules) c.self.inside.cells c.insert.new.self c.args.cell w.in-Ok.ensures.updates q ∙ ap (λ keys. same_cell q c.args.cell || is_among keys q) c.self.view_is })
+  | in-Ok w ↦ rw w.result-is (record {
+    noted = λ q.
+        inserted _ (λ a b. search rules) c.self.inside.cells c.insert.new.self c.args.cell w.in-Ok.ensures.updates q ∙ ap (λ keys. same_cell q c.args.cell || is_among keys q) c.self.view_is;
+  })
   | in-Err w ↦ search rules
 ]

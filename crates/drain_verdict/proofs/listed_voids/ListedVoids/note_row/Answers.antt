@@ -1,7 +1,6 @@
-use Rattle.std.proofs.Common.{◌≡◌, ◌||◌, ◌&&◌, ◌==◌, nat_lt, is_none, false, length, inl, inr, refl, ap, ◌∙◌, arith}
+use Rattle.std.proofs.Common.{false, inl, inr, refl, ◌∙◌, arith}
 use Rattle.std.proofs.lemmas.Bool.{cases_lt, lt-ltb, le-ltb}
 use Rattle.std.proofs.lemmas.List.{get_or_past}
-use Rattle.drain_verdict.specs.ListedVoids.{is_among, is_listed_void}
 use Rattle.drain_verdict.proofs.listed_voids.ListedVoids.note_row.Goals as goal
 
 pub returns : goal.returns
