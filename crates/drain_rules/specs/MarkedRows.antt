@@ -1,5 +1,5 @@
 -- A row of a grid and its products as lists of numbers, and of marks at listed sinks; and what it says at a column.
-use Rattle.std.specs.Prelude.{◌≡◌, ℕ, zero, suc, ◌<◌, pos, nat_lt, Bool, false, List, [], length, slice_index_or, Option, Some, None, if◌then◌else◌}
+use Rattle.std.specs.Prelude.{◌≡◌, ℕ, zero, suc, ◌<◌, pos, nat_lt, Bool, false, List, length, slice_index_or, Option, Some, None, if◌then◌else◌}
 use Rattle.drain_grid.specs.declared.tile.TheConstants.{VOID}
 use Rattle.drain_grid.specs.Tile.{height_from}
 use Rattle.drain_grid.specs.Values.{Values}

@@ -32,8 +32,8 @@ impl<'a> Model for RowView<'a> {
     ghost Value = { MarkedRow };
 
     ghost view = { λ row. record {
-        numbers = record { z = row.z.now; products = per_product (λ p. (of_product row.products p).now) };
-        sinks = row.sinks.now
+      numbers = record { z = row.z.now; products = per_product (λ p. (of_product row.products p).now) };
+      sinks = row.sinks.now;
     } };
 
     ghost invariant = { λ row. AreRowNumbers (record { z = row.z.now; products = per_product (λ p. (of_product row.products p).now) }) };

@@ -37,5 +37,10 @@ pub fn are_right<R: ByteSource>(
 pub fn rasters_of(alloc: Global, mosaic: &Mosaic) -> Result<ProductSet, MakeRefusal>
     ensures right { IfOk result (λ set. IsCorrect (grid_of mosaic.now.elevation []) (products_of set) default_numbers) }
 {
-    make(alloc, &mosaic.layout, &mosaic.elevation, &Sinks::none(alloc))
+    make(
+        alloc,
+        &mosaic.layout,
+        &mosaic.elevation,
+        &Sinks::none(alloc),
+    )
 }
