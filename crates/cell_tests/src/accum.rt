@@ -7,7 +7,7 @@ use std::test::Fail;
 
 /// A data cell with this direction and accumulation.
 fn cell(dir: i64, acc: i64) -> Option<CellValues> {
-    CellValues::new(Some(0), 0, dir, acc, 0, 0, 0)
+    CellValues::new(Some(0), false, 0, dir, acc, 0, 0, 0)
 }
 
 /// The patch of a cell with this accumulation, whose eight neighbours lead to it.
@@ -34,7 +34,7 @@ fn counts_the_cell_and_what_its_neighbors_hand_on(rt: HostRuntime) -> Result<(),
     same_rule(&rt, "eight", fault(&meeting_place(8)?), too_few);
 
     let mut beside_a_void = meeting_place(8)?;
-    beside_a_void.around[0] = CellValues::new(None, 0, 16, 1, 0, 0, 0);
+    beside_a_void.around[0] = CellValues::new(None, false, 0, 16, 1, 0, 0, 0);
     same_rule(&rt, "a void hands on nothing", fault(&beside_a_void), None);
 
     let mut at_the_edge = meeting_place(8)?;

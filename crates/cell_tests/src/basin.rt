@@ -8,9 +8,9 @@ use std::test::Fail;
 
 /// The patch of a cell with this direction and label 5, whose east has label 7 and whose other neighbours have label 5.
 fn patch(dir: i64) -> Result<Patch, Fail> {
-    let here = CellValues::new(Some(0), 0, dir, 1, 5, 0, 0).ok_or("values")?;
+    let here = CellValues::new(Some(0), false, 0, dir, 1, 5, 0, 0).ok_or("values")?;
     let mut around = [Some(here); 8];
-    around[0] = CellValues::new(Some(0), 0, 0, 1, 7, 0, 0);
+    around[0] = CellValues::new(Some(0), false, 0, 0, 1, 7, 0, 0);
     Ok(Patch { here, around })
 }
 
@@ -26,7 +26,7 @@ fn hands_a_label_on_along_a_direction(rt: HostRuntime) -> Result<(), Fail> {
         same_rule(&rt, name, fault(&patch(dir)?), answer);
     }
     let mut to_a_void = patch(1)?;
-    to_a_void.around[0] = CellValues::new(None, 0, 0, 1, 7, 0, 0);
+    to_a_void.around[0] = CellValues::new(None, false, 0, 0, 1, 7, 0, 0);
     same_rule(
         &rt,
         "a void has no label to hand on",

@@ -23,7 +23,7 @@ enum Beside {
 use Beside::{Crest, Greatest, Least, Outside, Rim, Sunk, Void};
 
 fn cell(z: Option<i16>, con: i64, spl: i64, rnk: i64) -> Option<CellValues> {
-    CellValues::new(z, con, 0, 0, 0, spl, rnk)
+    CellValues::new(z, false, con, 0, 0, 0, spl, rnk)
 }
 
 fn neighbor(beside: Beside) -> Option<CellValues> {

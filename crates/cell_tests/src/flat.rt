@@ -6,7 +6,7 @@ use drain_grid::{CellValues, Patch, Rule};
 use std::test::Fail;
 
 fn cell(z: Option<i16>, con: i64, dir: i64, rnk: i64) -> Option<CellValues> {
-    CellValues::new(z, con, dir, 0, 0, 0, rnk)
+    CellValues::new(z, false, con, dir, 0, 0, 0, rnk)
 }
 
 /// A cell at height 5.

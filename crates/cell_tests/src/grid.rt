@@ -6,7 +6,7 @@ use crate::agree::{same, same_rule};
 use drain_grid::tile::{height_from, is_side};
 use drain_grid::{
     Cell, CellValues, Code, Direction, Elevation, NoData, Patch, PerProduct, Product, ProductSet,
-    Raster, Rule, Shape, VOID,
+    Raster, Rule, Shape, Sinks, VOID, parse_sinks,
 };
 use std::alloc::{AllocError, Global};
 use std::test::Fail;
@@ -118,13 +118,13 @@ fn samples_sides_and_rules(rt: HostRuntime) {
 
 /// A level cell: with data, and the same con as ground.
 fn level(height: i16) -> Option<CellValues> {
-    CellValues::new(Some(height), height as i64, 0, 0, 0, 0, 0)
+    CellValues::new(Some(height), false, height as i64, 0, 0, 0, 0, 0)
 }
 
 #[test]
 fn open_and_lower_cells(rt: HostRuntime) -> Result<(), Fail> {
     let here = level(5).ok_or("values")?;
-    let void = CellValues::new(None, -32768, 255, 0, 0, 255, 4294967295);
+    let void = CellValues::new(None, false, -32768, 255, 0, 0, 255, 4294967295);
     let mut patch = Patch {
         here,
         around: [level(5); 8],
@@ -142,9 +142,9 @@ fn open_and_lower_cells(rt: HostRuntime) -> Result<(), Fail> {
     same(&rt, "beside a lower cell", beside_a_lower, (false, true));
     let southwest = patch.neighbor(Direction::SouthWest);
     same(&rt, "a neighbor", southwest, level(4));
-    let void_as_data = CellValues::new(Some(-32768), 0, 0, 0, 0, 0, 0);
+    let void_as_data = CellValues::new(Some(-32768), false, 0, 0, 0, 0, 0, 0);
     same(&rt, "a void's number", void_as_data, None);
-    let no_pixel = CellValues::new(Some(0), 0, 0, 4294967296, 0, 0, 0);
+    let no_pixel = CellValues::new(Some(0), false, 0, 0, 4294967296, 0, 0, 0);
     same(&rt, "a number that no pixel spells", no_pixel, None);
     Ok(())
 }
@@ -154,7 +154,7 @@ fn values(
     z: Option<i16>,
     [con, dir, acc, bas, spl, rnk]: [i64; 6],
 ) -> Result<CellValues, &'static str> {
-    CellValues::new(z, con, dir, acc, bas, spl, rnk).ok_or("values")
+    CellValues::new(z, false, con, dir, acc, bas, spl, rnk).ok_or("values")
 }
 
 #[test]
@@ -278,18 +278,18 @@ fn numbered(alloc: Global, shape: Shape) -> Result<ProductSet, AllocError>
 }
 
 /// The patch of its second cell, with a void to the south-west.
-fn numbered_patch(alloc: Global) -> Result<Patch, AllocError> {
+fn numbered_patch(alloc: Global, sinks: &Sinks) -> Result<Patch, AllocError> {
     let Some(shape) = Shape::new(2, 2) else {
         unreachable!()
     };
     let elevation = Elevation::new(shape, vec![in alloc; 7, 8, VOID, 9]?);
     let products = numbered(alloc, shape)?;
-    Ok(products.patch(&elevation, Cell { row: 0, col: 1 }))
+    Ok(products.patch(&elevation, sinks, Cell { row: 0, col: 1 }))
 }
 
 #[test]
 fn what_whole_rasters_show(rt: HostRuntime) -> Result<(), Fail> {
-    let patch = numbered_patch(rt.alloc())?;
+    let patch = numbered_patch(rt.alloc(), &Sinks::none(rt.alloc()))?;
     let here = values(Some(8), [11, 21, 31, 41, 51, 61])?;
     same(&rt, "here", Some(patch.here), Some(here));
     for (direction, z, numbers) in [
@@ -302,6 +302,34 @@ fn what_whole_rasters_show(rt: HostRuntime) -> Result<(), Fail> {
     }
     for outside in [Direction::East, Direction::North] {
         same(&rt, outside, patch.neighbor(outside), None);
+    }
+    Ok(())
+}
+
+/// Whether that cell is shown as listed, and its neighbours in the west and the southwest.
+fn shown_as_listed(alloc: Global, text: &str) -> Result<[Option<bool>; 3], Fail> {
+    let sinks = parse_sinks(alloc, text.as_bytes())?;
+    let patch = numbered_patch(alloc, &sinks)?;
+    Ok([
+        Some(patch.here.sink),
+        patch.neighbor(Direction::West).map(|values| values.sink),
+        patch
+            .neighbor(Direction::SouthWest)
+            .map(|values| values.sink),
+    ])
+}
+
+#[test]
+fn listed_cells_of_whole_rasters(rt: HostRuntime) -> Result<(), Fail> {
+    for (text, wanted) in [
+        ("", [false, false, false]),
+        ("0 1\n", [true, false, false]),
+        ("0 0\n0 0", [false, true, false]),
+        ("1 0\n0 1", [true, false, true]),
+        ("0 2\n2 1\n1 1", [false, false, false]),
+    ] {
+        let given = shown_as_listed(rt.alloc(), text)?;
+        same(&rt, text, given, wanted.map(Some));
     }
     Ok(())
 }

@@ -14,4 +14,8 @@ mod flat;
 #[cfg(test)]
 mod grid;
 #[cfg(test)]
+mod open;
+#[cfg(test)]
+mod sinks;
+#[cfg(test)]
 mod slope;

@@ -7,7 +7,7 @@ use drain_slope::{fault, greatest_key, steepest};
 use std::test::Fail;
 
 fn cell(z: Option<i16>, con: i64, dir: i64) -> Option<CellValues> {
-    CellValues::new(z, con, dir, 0, 0, 0, 0)
+    CellValues::new(z, false, con, dir, 0, 0, 0, 0)
 }
 
 /// A data cell at this conditioned elevation.

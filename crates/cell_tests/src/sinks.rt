@@ -1,0 +1,321 @@
+//! Lists of sinks: which lines list which cells, and which line is bad.
+
+use crate::agree::same;
+use drain_grid::{Cell, SinkFault, Sinks, parse_sinks};
+use refused_memory::owed;
+use std::alloc::{AllocError, Global};
+use std::process::Abort;
+use std::test::Fail;
+
+/// How many lines list a cell, and of the first four the number, the row and the column; or the fault.
+type Listed = Result<(usize, [(u64, u32, u32); 4]), SinkFault>;
+
+/// What a text lists.
+fn listed(alloc: Global, text: &[u8]) -> Listed {
+    let sinks = parse_sinks(alloc, text)?;
+    let mut entries = [(0, 0, 0); 4];
+    for (i, entry) in entries.iter_mut().enumerate() {
+        if i < sinks.count() {
+            let (line, cell) = sinks.entry(i);
+            *entry = (line, cell.row, cell.col);
+        }
+    }
+    Ok((sinks.count(), entries))
+}
+
+/// That these lines list a cell, at most four.
+fn lines(entries: &[(u64, u32, u32)]) -> Listed {
+    let mut first = [(0, 0, 0); 4];
+    for (place, entry) in first.iter_mut().zip(entries) {
+        *place = *entry;
+    }
+    Ok((entries.len(), first))
+}
+
+/// Ends the test where the two differ, and tells of which case they are.
+fn same_list(rt: &impl Abort, case: &[u8], given: Listed, wanted: Listed) {
+    assert_eq!(rt; given, wanted, "{case:?}");
+}
+
+#[test]
+fn lines_that_list_cells(rt: HostRuntime) {
+    let cases: [(&str, &[(u64, u32, u32)]); 21] = [
+        ("", &[]),
+        ("\n", &[]),
+        ("\n \n\t\n \t \r\n\r\n\r", &[]),
+        ("1 1\n", &[(1, 1, 1)]),
+        ("1 1", &[(1, 1, 1)]),
+        ("1 1\r\n2 0\r\n", &[(1, 1, 1), (2, 2, 0)]),
+        ("1 1\r", &[(1, 1, 1)]),
+        (" \t1 \t 2\t ", &[(1, 1, 2)]),
+        ("1\t2", &[(1, 1, 2)]),
+        ("1 1\n\n \t\n2 0\n\n", &[(1, 1, 1), (4, 2, 0)]),
+        ("\r\n\n3 4", &[(3, 3, 4)]),
+        ("007 0000000000000000000001\n", &[(1, 7, 1)]),
+        ("0 0", &[(1, 0, 0)]),
+        ("00 000", &[(1, 0, 0)]),
+        ("4294967295 4294967295", &[(1, 4294967295, 4294967295)]),
+        ("00000000000000000004294967295 1", &[(1, 4294967295, 1)]),
+        ("1 1\n1 1\n", &[(1, 1, 1), (2, 1, 1)]),
+        ("1 1\n2 2\n01 001", &[(1, 1, 1), (2, 2, 2), (3, 1, 1)]),
+        ("28801 28801\n99999 0", &[(1, 28801, 28801), (2, 99999, 0)]),
+        ("9 9\n5 5\n7 7", &[(1, 9, 9), (2, 5, 5), (3, 7, 7)]),
+        (
+            "3 0\n2 1\n\n1 2\n0 3",
+            &[(1, 3, 0), (2, 2, 1), (4, 1, 2), (5, 0, 3)],
+        ),
+    ];
+    for (text, entries) in cases {
+        let given = listed(rt.alloc(), text.as_bytes());
+        same_list(&rt, text.as_bytes(), given, lines(entries));
+    }
+}
+
+#[test]
+fn lines_that_are_bad(rt: HostRuntime) {
+    let cases: [(&[u8], u64); 48] = [
+        (b"x", 1),
+        (b"1", 1),
+        (b"1 1 1", 1),
+        (b"1 1 x", 1),
+        (b"1 x", 1),
+        (b"x 1", 1),
+        (b"1\n1", 1),
+        (b"+1 1", 1),
+        (b"1 +1", 1),
+        (b"-1 1", 1),
+        (b"1 -1", 1),
+        (b"-0 0", 1),
+        (b"1 -", 1),
+        (b"1.0 1", 1),
+        (b"1 1.", 1),
+        (b"1e0 1", 1),
+        (b"0x1 1", 1),
+        (b"1_0 1", 1),
+        (b"1,1", 1),
+        (b"1, 1", 1),
+        (b"(1 1)", 1),
+        (b"# 1", 1),
+        (b"1 1 # a pit", 1),
+        (b"ROW COL\n1 1", 1),
+        (b"4294967296 1", 1),
+        (b"1 4294967296", 1),
+        (b"4294967297 1", 1),
+        (b"18446744073709551616 1", 1),
+        (b"1 18446744073709551617", 1),
+        (b"1 340282366920938463463374607431768211457", 1),
+        (b"1\x0b1", 1),
+        (b"1 1\x0b", 1),
+        (b"1 \x0b1", 1),
+        (b"1 1 \x0b", 1),
+        (b"\x0b", 1),
+        (b"1\x0c1", 1),
+        (b"1 1\x00", 1),
+        (b"1\xc2\xa01", 1),
+        (b"\xef\xbb\xbf1 1", 1),
+        (b"\xd9\xa1 1", 1),
+        (b"1 1\r\r\n", 1),
+        (b"\r\r\n", 1),
+        (b"1\r1", 1),
+        (b"\r1 1", 1),
+        (b"1 1\nx\n", 2),
+        (b"1 1\nx\ny\n-1 -1\n", 2),
+        (b"\n\r\n \t\nx", 4),
+        (b"0 0\n\n0 0\r\n\n1\n\n1 1 1", 5),
+    ];
+    for (text, line) in cases {
+        let given = listed(rt.alloc(), text);
+        let wanted = Err(SinkFault::BadSinkLine(line));
+        same_list(&rt, text, given, wanted);
+    }
+}
+
+/// What a text lists that begins so, goes on with 60,000 times a byte, and ends so.
+fn listed_long(alloc: Global, begin: &[u8], byte: u8, end: &[u8]) -> Result<Listed, AllocError> {
+    let mut text = Vec::new(alloc);
+    text.extend_from_slice(begin)?;
+    text.extend_from_slice(&[byte; 60000])?;
+    text.extend_from_slice(end)?;
+    Ok(listed(alloc, &text))
+}
+
+#[test]
+fn texts_of_60_000_bytes(rt: HostRuntime) -> Result<(), Fail> {
+    let bad = Err(SinkFault::BadSinkLine(1));
+    for (begin, byte, end, wanted) in [
+        ("", b'0', "7 1", lines(&[(1, 7, 1)])),
+        ("7 ", b'0', "1", lines(&[(1, 7, 1)])),
+        ("7 ", b'0', "", lines(&[(1, 7, 0)])),
+        ("", b'0', "4294967295 1", lines(&[(1, 4294967295, 1)])),
+        ("", b'0', "4294967296 1", bad),
+        ("1", b'0', " 1", bad),
+        ("1 1", b'0', "", bad),
+        ("", b'9', " 1", bad),
+        ("1 ", b'9', "", bad),
+        ("", b'0', "x 1", bad),
+        ("7", b' ', "1", lines(&[(1, 7, 1)])),
+        ("7 1", b'\t', "", lines(&[(1, 7, 1)])),
+        ("7 1", b' ', "x", bad),
+        ("", b'\n', "7 1", lines(&[(60001, 7, 1)])),
+        ("7 1", b'\n', "", lines(&[(1, 7, 1)])),
+        ("", b'\n', "x", Err(SinkFault::BadSinkLine(60001))),
+        ("7 1", b'\n', "\n1", Err(SinkFault::BadSinkLine(60002))),
+    ] {
+        let given = listed_long(rt.alloc(), begin.as_bytes(), byte, end.as_bytes())?;
+        same_list(&rt, end.as_bytes(), given, wanted);
+    }
+    Ok(())
+}
+
+/// Which cells of four rows and columns are listed; a bit for each column, the least for the first.
+type Places = [u8; 4];
+
+/// A row's bits.
+fn bits(row: &[bool; 4]) -> u8 {
+    let [first, second, third, fourth] = row.map(u8::from);
+    first | second << 1 | third << 2 | fourth << 3
+}
+
+/// The places that a list has, and those that it marks where every column was marked before.
+fn places(alloc: Global, text: &str) -> Result<(Places, Places), SinkFault> {
+    let sinks = parse_sinks(alloc, text.as_bytes())?;
+    Ok((places_had(&sinks), places_marked(&sinks)))
+}
+
+fn places_had(sinks: &Sinks) -> Places {
+    let mut places = [0; 4];
+    for (row, place) in (0..4).zip(places.iter_mut()) {
+        *place = bits(&[0, 1, 2, 3].map(|col| sinks.has(Cell { row, col })));
+    }
+    places
+}
+
+fn places_marked(sinks: &Sinks) -> Places {
+    let mut places = [0; 4];
+    for (row, place) in (0..4).zip(places.iter_mut()) {
+        let mut marks = [true; 4];
+        sinks.mark_row(row, &mut marks);
+        *place = bits(&marks);
+    }
+    places
+}
+
+#[test]
+fn places_of_listed_cells(rt: HostRuntime) {
+    for (text, wanted) in [
+        ("", [0, 0, 0, 0]),
+        ("\n\n", [0, 0, 0, 0]),
+        ("1 1\n", [0, 0b0010, 0, 0]),
+        ("1 1\n1 1\n01 01", [0, 0b0010, 0, 0]),
+        ("0 0\n3 3", [0b0001, 0, 0, 0b1000]),
+        ("0 3\n1 0", [0b1000, 0b0001, 0, 0]),
+        ("3 3\n0 3\n3 0\n0 0", [0b1001, 0, 0, 0b1001]),
+        ("2 3\n2 2\n2 1\n2 0", [0, 0, 0b1111, 0]),
+        ("0 1\n2 1\n0 2", [0b0110, 0, 0b0010, 0]),
+        // Past the last column, and below the last row.
+        ("0 4\n1 5\n2 4294967295", [0, 0, 0, 0]),
+        ("4 0\n5 1\n4294967295 2", [0, 0, 0, 0]),
+        ("1 2\n1 4\n1 4294967295\n2 0", [0, 0b0100, 0b0001, 0]),
+    ] {
+        same(&rt, text, places(rt.alloc(), text), Ok((wanted, wanted)));
+    }
+}
+
+/// What a list marks of a row whose columns were all marked before, and of one of no columns.
+fn marked(alloc: Global, text: &str, row: u32) -> Result<[bool; 3], SinkFault> {
+    let sinks = parse_sinks(alloc, text.as_bytes())?;
+    let mut marks = [true; 3];
+    sinks.mark_row(row, &mut []);
+    sinks.mark_row(row, &mut marks);
+    Ok(marks)
+}
+
+#[test]
+fn marks_of_one_row(rt: HostRuntime) {
+    let text = "7 2\n4294967295 0\n7 0\n8 1\n6 4294967295\n4294967294 4294967295";
+    for (row, wanted) in [
+        (0, [false, false, false]),
+        (6, [false, false, false]),
+        (7, [true, false, true]),
+        (8, [false, true, false]),
+        (9, [false, false, false]),
+        (4294967294, [false, false, false]),
+        (4294967295, [true, false, false]),
+    ] {
+        same(&rt, row, marked(rt.alloc(), text, row), Ok(wanted));
+    }
+}
+
+/// Whether a list has these cells: near the ends of what a row and a column can be.
+fn ends(alloc: Global, text: &str) -> Result<[bool; 5], SinkFault> {
+    let sinks = parse_sinks(alloc, text.as_bytes())?;
+    let last = u32::MAX;
+    Ok([(0, 0), (0, last), (1, 0), (last, 0), (last, last)].map(|(row, col)| sinks.has(Cell {
+        row,
+        col,
+    })))
+}
+
+/// The last column of a row is not the first of the next, nor a row a column.
+#[test]
+fn cells_at_the_ends_of_32_bits(rt: HostRuntime) {
+    for (text, wanted) in [
+        ("0 0", [true, false, false, false, false]),
+        ("0 4294967295", [false, true, false, false, false]),
+        ("1 0", [false, false, true, false, false]),
+        ("4294967295 0", [false, false, false, true, false]),
+        ("4294967295 4294967295", [false, false, false, false, true]),
+        ("", [false, false, false, false, false]),
+    ] {
+        same(&rt, text, ends(rt.alloc(), text), Ok(wanted));
+    }
+}
+
+#[test]
+fn no_sink(rt: HostRuntime) {
+    let none = Sinks::none(rt.alloc());
+    let given = (none.count(), places_had(&none), places_marked(&none));
+    same(&rt, "none", given, (0, [0; 4], [0; 4]));
+}
+
+#[test]
+fn faults_of_lists_as_texts(rt: HostRuntime) -> Result<(), Fail> {
+    for (fault, wanted) in [
+        (
+            SinkFault::BadSinkLine(1),
+            "line 1 is not a row and a column",
+        ),
+        (
+            SinkFault::BadSinkLine(u64::MAX),
+            "line 18446744073709551615 is not a row and a column",
+        ),
+        (SinkFault::OutOfMemory, "out of memory"),
+    ] {
+        let given = format!(in rt.alloc(); "{fault}")?;
+        same(&rt, wanted, given.as_str(), wanted);
+    }
+    Ok(())
+}
+
+/// Twelve lines that list a cell, with empty ones between: so what is held grows more than once.
+const TWELVE: &str = "0 0\n\n1 1\n2 2\n3 3\n4 4\n5 5\n\n6 6\n7 7\n8 8\n9 9\n10 10\n11 11\n";
+
+#[test]
+fn a_list_after_refused_memory(rt: HostRuntime) {
+    let right = Ok((12, [(1, 0, 0), (3, 1, 1), (4, 2, 2), (5, 3, 3)]));
+    let first = listed(rt.alloc(), TWELVE.as_bytes());
+    let wanted = owed(rt.alloc(), Err(SinkFault::OutOfMemory), right);
+    same_list(&rt, b"first", first, wanted);
+    same_list(&rt, b"again", listed(rt.alloc(), TWELVE.as_bytes()), right);
+}
+
+/// A bad line behind good ones: it is told, but where memory gave out before it.
+#[test]
+fn a_bad_line_after_refused_memory(rt: HostRuntime) {
+    let text = b"0 0\n1 1\n2 2\n3 3\n4 4\n5 5\n6 6\n7 7\n8 8\n9\n";
+    let right = Err(SinkFault::BadSinkLine(10));
+    let first = listed(rt.alloc(), text);
+    let wanted = owed(rt.alloc(), Err(SinkFault::OutOfMemory), right);
+    same_list(&rt, b"first", first, wanted);
+    same_list(&rt, b"again", listed(rt.alloc(), text), right);
+}
