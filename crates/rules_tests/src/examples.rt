@@ -4,7 +4,7 @@ ghost use Rattle.std.specs.Prelude.{◌≡◌, ◌↔◌, ◌*◌, IsTrue, IfOk,
 ghost use Rattle.drain_grid.specs.Values.{IsNoData, IsPixel};
 
 use drain_grid::values::{GREATEST_PIXEL, LEAST_PIXEL};
-use drain_grid::{Elevation, Product, ProductSet, Raster, Rule, Shape};
+use drain_grid::{Elevation, Product, ProductSet, Raster, Rule, Shape, Sinks, parse_sinks};
 use drain_rules::{Counts, Verdict, verdict_of};
 use std::alloc::Global;
 use std::process::Abort;
@@ -23,7 +23,7 @@ pub enum Part {
 }
 
 /// Whether some pixel of at most 32 bits spells the number.
-fn is_pixel(number: i64) -> bool
+pub fn is_pixel(number: i64) -> bool
     ensures { IsTrue result ↔ IsPixel number }
 {
     (LEAST_PIXEL..=GREATEST_PIXEL).contains(&number)
@@ -113,13 +113,13 @@ fn products(
     })
 }
 
-/// The verdict on an example: its parts one after the other, each in row order.
-pub fn verdict_with(
+/// The verdict on an example with these sinks: its parts one after the other, each in row order.
+fn verdict_with_sinks(
     alloc: Global,
     con_nodata: i16,
-    rows: u32,
-    cols: u32,
+    (rows, cols): (u32, u32),
     numbers: &[i64],
+    sinks: &Sinks,
 ) -> Result<Verdict, Fail> {
     let Some(shape) = Shape::new(rows, cols) else {
         return Err("a shape".into());
@@ -130,12 +130,36 @@ pub fn verdict_with(
     }
     let products = products(alloc, shape, con_nodata, &numbers[cells..])?;
     let elevation = elevation(alloc, shape, &numbers[..cells])?;
-    Ok(verdict_of(alloc, &elevation, &products)?)
+    Ok(verdict_of(alloc, &elevation, sinks, &products)?)
 }
 
-/// The verdict where the no-data numbers are the defaults.
+/// The verdict on an example without sinks.
+pub fn verdict_with(
+    alloc: Global,
+    con_nodata: i16,
+    rows: u32,
+    cols: u32,
+    numbers: &[i64],
+) -> Result<Verdict, Fail> {
+    let none = Sinks::none(alloc);
+    verdict_with_sinks(alloc, con_nodata, (rows, cols), numbers, &none)
+}
+
+/// The same where the no-data numbers are the defaults.
 pub fn verdict_on(alloc: Global, rows: u32, cols: u32, numbers: &[i64]) -> Result<Verdict, Fail> {
     verdict_with(alloc, -32768, rows, cols, numbers)
+}
+
+/// The same with the sinks that a text lists.
+pub fn verdict_listing(
+    alloc: Global,
+    text: &[u8],
+    rows: u32,
+    cols: u32,
+    numbers: &[i64],
+) -> Result<Verdict, Fail> {
+    let sinks = parse_sinks(alloc, text)?;
+    verdict_with_sinks(alloc, -32768, (rows, cols), numbers, &sinks)
 }
 
 /// The example of this side with one number changed.

@@ -4,9 +4,13 @@
 #[cfg(test)]
 mod examples;
 #[cfg(test)]
+mod listed_sinks;
+#[cfg(test)]
 mod long_rows;
 #[cfg(test)]
 mod raster_verdicts;
+#[cfg(test)]
+mod rows_of_numbers;
 #[cfg(test)]
 mod screened_rows;
 #[cfg(test)]

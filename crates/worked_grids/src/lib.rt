@@ -2,6 +2,8 @@
 //! spl and rnk, each in row order.
 #![tactic(auto)]
 
+pub mod shafts;
+
 /// A pit of elevation 1 in a border of elevation 5, filled.
 pub fn pit() -> [i64; 63] {
     [
@@ -106,3 +108,25 @@ pub fn parted() -> [i64; 147] {
         0, 0, 0, x, 0, 0, 0, 0, 1, 0, x, 0, 1, 0, 0, 0, 0, x, 0, 0, 0, // rnk
     ]
 }
+
+/// A pit of elevation 1 in a border of elevation 5, listed as a sink: it stays as it is, and all of it drains there.
+pub fn listed_pit() -> [i64; 63] {
+    [
+        5, 5, 5, 5, 1, 5, 5, 5, 5, // elevations
+        5, 5, 5, 5, 1, 5, 5, 5, 5, // con
+        2, 4, 8, 1, 0, 16, 128, 64, 32, // dir
+        1, 1, 1, 1, 9, 1, 1, 1, 1, // acc
+        1, 1, 1, 1, 1, 1, 1, 1, 1, // bas
+        0, 0, 0, 0, 0, 0, 0, 0, 0, // spl
+        0, 0, 0, 0, 0, 0, 0, 0, 0, // rnk
+    ]
+}
+
+/// The list of its sink.
+pub const LISTED_PIT_SINKS: &str = "1 1\n";
+
+/// The line of its acceptance with that list.
+pub const LISTED_PIT_LINE: &str = "accepted rows=3 cols=3 data=9 raised=0 outlets=1";
+
+/// The line of its rejection where no sink is listed.
+pub const UNLISTED_PIT_LINE: &str = "rejected rule=6 NoSpill row=1 col=1";

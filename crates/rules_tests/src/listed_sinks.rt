@@ -1,0 +1,169 @@
+//! Products with listed sinks. The verdicts were worked out by hand from the rules.
+
+use crate::examples::{accepted, rejected, same, verdict_listing};
+use crate::rows_of_numbers::{COLS, verdict_by_rows};
+use drain_grid::Rule;
+use drain_rules::Verdict;
+use std::alloc::Global;
+use std::test::Fail;
+use worked_grids::shafts::Shafts;
+use worked_grids::{LISTED_PIT_SINKS, listed_pit, parted, pit, voids};
+
+#[test]
+fn a_pit_that_is_listed_and_not(rt: HostRuntime) -> Result<(), Fail> {
+    let right = accepted(3, 3, 9, 0, 1);
+    let no_spill = rejected(Rule::NoSpill, 1, 1);
+    for (text, wanted) in [
+        (LISTED_PIT_SINKS, right),
+        ("1 1\n1 1\n01 1", right),
+        ("0 0\n\n9 9\n1 1\n0 4\n4 0\n2 2", right),
+        ("", no_spill),
+        // Cells beside it and outside the grid, one of which has its place were there no end of a row.
+        ("0 0\n0 1\n0 2\n1 0\n1 2\n2 0\n2 1\n2 2", no_spill),
+        ("0 4\n4 0\n3 3\n11 1\n1 11\n1 4294967295", no_spill),
+    ] {
+        let given = verdict_listing(rt.alloc(), text.as_bytes(), 3, 3, &listed_pit())?;
+        same(&rt, text, given, wanted);
+    }
+    Ok(())
+}
+
+/// Cells that are open of themselves, and cells outside the grid, change nothing.
+#[test]
+fn a_filled_pit_with_sinks(rt: HostRuntime) -> Result<(), Fail> {
+    let right = accepted(3, 3, 9, 1, 8);
+    for (text, wanted) in [
+        ("", right),
+        ("0 0", right),
+        ("0 0\n0 1\n0 2\n1 0\n1 2\n2 0\n2 1\n2 2", right),
+        ("3 0\n0 3\n3 3\n0 4\n4294967295 4294967295", right),
+        ("1 1", rejected(Rule::OpenRaised, 1, 1)),
+    ] {
+        let given = verdict_listing(rt.alloc(), text.as_bytes(), 3, 3, &pit())?;
+        same(&rt, text, given, wanted);
+    }
+    Ok(())
+}
+
+#[test]
+fn listed_voids(rt: HostRuntime) -> Result<(), Fail> {
+    let on_parted = accepted(3, 7, 18, 0, 16);
+    for text in ["0 3", "1 3", "2 3", "0 3\n1 3\n2 3\n7 3"] {
+        let given = verdict_listing(rt.alloc(), text.as_bytes(), 3, 7, &parted())?;
+        same(&rt, text, given, on_parted);
+    }
+    let beside = verdict_listing(rt.alloc(), b"1 3\n1 5", 3, 7, &parted())?;
+    let raised = rejected(Rule::OpenRaised, 1, 5);
+    same(&rt, "a flat's inner cell", beside, raised);
+    let on_voids = verdict_listing(rt.alloc(), b"0 0\n1 1", 2, 2, &voids())?;
+    same(&rt, "voids", on_voids, accepted(2, 2, 0, 0, 0));
+    Ok(())
+}
+
+/// The verdict on a level grid of five rows and columns that is right where this cell is listed, but where this is the list.
+fn level_verdict(
+    alloc: Global,
+    (row, col): (u8, u8),
+    (listed_row, listed_col): (u8, u8),
+) -> Result<Verdict, Fail> {
+    let shafts = Shafts {
+        rows: 5,
+        cols: 5,
+        listed: &[(row, col.into())],
+    };
+    let text = format!(in alloc; "{listed_row} {listed_col}\n")?;
+    verdict_listing(alloc, text.as_bytes(), 5, 5, &shafts.numbers(alloc)?)
+}
+
+/// What is owed of a cell inside where the list has its row for its column: it is no sink then, and another one is, which shows a spill code.
+fn turned(row: u8, col: u8) -> Verdict {
+    if row < col {
+        rejected(Rule::NoSpill, row, col)
+    } else {
+        rejected(Rule::OpenRaised, col, row)
+    }
+}
+
+#[test]
+fn each_cell_of_a_level_grid(rt: HostRuntime) -> Result<(), Fail> {
+    for row in 0..5 {
+        for col in 0..5 {
+            let is_inside = (1..4).contains(&row) && (1..4).contains(&col);
+            let (listed, unlisted) = if is_inside {
+                (accepted(5, 5, 25, 0, 17), rejected(Rule::NoSpill, row, col))
+            } else {
+                (accepted(5, 5, 25, 0, 16), accepted(5, 5, 25, 0, 16))
+            };
+            let given = level_verdict(rt.alloc(), (row, col), (row, col))?;
+            same(&rt, "listed", given, listed);
+            let given = level_verdict(rt.alloc(), (row, col), (5, 5))?;
+            same(&rt, "not listed", given, unlisted);
+            let given = level_verdict(rt.alloc(), (row, col), (col, row))?;
+            let owed = if is_inside && row != col {
+                turned(row, col)
+            } else {
+                listed
+            };
+            same(&rt, "turned", given, owed);
+        }
+    }
+    Ok(())
+}
+
+/// Columns of the middle one of three long rows.
+const LISTED: [u16; 7] = [1, 255, 256, 257, 511, 512, 598];
+
+/// The verdicts on three long rows that are right where these columns of the middle one are listed: by rasters and by rows. One of them
+/// is left out of the list, and these lines stand in front.
+fn long_verdicts(alloc: Global, left_out: u16, more: &str) -> Result<[Verdict; 2], Fail> {
+    let shafts = Shafts {
+        rows: 3,
+        cols: COLS,
+        listed: &LISTED.map(|col| (1, col)),
+    };
+    let numbers = shafts.numbers(alloc)?;
+    let mut text = Vec::new(alloc);
+    text.extend_from_slice(more.as_bytes())?;
+    for col in LISTED {
+        if col != left_out {
+            let line = format!(in alloc; "1 {col}\n")?;
+            text.extend_from_slice(line.as_bytes())?;
+        }
+    }
+    Ok([
+        verdict_listing(alloc, &text, 3, COLS.into(), &numbers)?,
+        verdict_by_rows(alloc, &text, &numbers)?,
+    ])
+}
+
+#[test]
+fn long_rows_by_rasters_and_by_rows(rt: HostRuntime) -> Result<(), Fail> {
+    let right = accepted(3, 600, 1800, 0, 1209);
+    for (left_out, more, wanted) in [
+        (0, "", right),
+        (
+            0,
+            "2 300\n1 599\n1 0\n0 256\n0 0\n2 599\n1 600\n3 1\n1 256\n",
+            right,
+        ),
+        (0, "1 300\n", rejected_far(Rule::OpenRaised, 300)),
+        (0, "1 258\n1 300\n", rejected_far(Rule::OpenRaised, 258)),
+        (1, "", rejected_far(Rule::NoSpill, 1)),
+        (255, "", rejected_far(Rule::NoSpill, 255)),
+        (256, "", rejected_far(Rule::NoSpill, 256)),
+        (257, "0 257\n2 257\n", rejected_far(Rule::NoSpill, 257)),
+        (511, "", rejected_far(Rule::NoSpill, 511)),
+        (512, "", rejected_far(Rule::NoSpill, 512)),
+        (598, "0 1198\n", rejected_far(Rule::NoSpill, 598)),
+    ] {
+        let [by_rasters, by_rows] = long_verdicts(rt.alloc(), left_out, more)?;
+        same(&rt, "by rasters", by_rasters, wanted);
+        same(&rt, "by rows", by_rows, wanted);
+    }
+    Ok(())
+}
+
+/// A rejection in the middle one of the long rows.
+fn rejected_far(rule: Rule, col: u32) -> Verdict {
+    Verdict::Rejected { rule, row: 1, col }
+}
