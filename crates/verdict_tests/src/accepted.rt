@@ -100,7 +100,13 @@ fn have_name<R>(tiles: &[TileInput<R>]) -> bool {
 fn checked(alloc: Global, example: &Example) -> Result<Leftovers, Fail> {
     let mut tiles = tiles_at_once(alloc, example.tiles())?;
     let mut products = products_at_once(alloc, example)?;
-    let answer = check(alloc, 3, &mut tiles, &mut products);
+    let answer = check(
+        alloc,
+        3,
+        &mut tiles,
+        example.sinks.as_slice(),
+        &mut products,
+    );
     Ok(Leftovers {
         line: report(&answer),
         of_rasters: left_of_rasters(&mut products),

@@ -18,12 +18,13 @@ pub struct RasterBytes {
     pub body: Bytes,
 }
 
-/// The first so many of these tiles, and their products.
+/// The first so many of these tiles, the list of sinks, and their products.
 #[derive(Clone, Copy)]
 pub struct Example {
     pub side: u32,
     pub tiles: [TileBytes; 3],
     pub tile_count: usize,
+    pub sinks: Bytes,
     pub con: RasterBytes,
     pub dir: RasterBytes,
     pub acc: RasterBytes,
@@ -35,6 +36,12 @@ pub struct Example {
 impl Example {
     pub fn tiles(&self) -> &[TileBytes] {
         self.tiles.get(..self.tile_count).unwrap_or(&[])
+    }
+
+    /// The same with this list of sinks.
+    pub fn listing(mut self, text: &str) -> Example {
+        self.sinks = Bytes::of(text.as_bytes());
+        self
     }
 
     /// Puts a tile behind the others.
@@ -139,6 +146,7 @@ pub fn products_on(side: u32, grid: &str, numbers: &[i64]) -> Example {
         side,
         tiles: [tile("", &[]); 3],
         tile_count: 0,
+        sinks: Bytes::new(),
         con: raster(Product::Con, grid, &numbers[..cells]),
         dir: raster(Product::Dir, grid, &numbers[cells..2 * cells]),
         acc: raster(Product::Acc, grid, &numbers[2 * cells..3 * cells]),
@@ -171,6 +179,7 @@ pub fn bare(side: u32, names: &[&str], header: &str) -> Result<Example, Fail> {
         side,
         tiles: [tile("", &[]); 3],
         tile_count: 0,
+        sinks: Bytes::new(),
         con: raster,
         dir: raster,
         acc: raster,

@@ -16,6 +16,10 @@ mod headers;
 #[cfg(test)]
 mod huge_numbers;
 #[cfg(test)]
+mod listed_sinks;
+#[cfg(test)]
+mod many_sinks;
+#[cfg(test)]
 mod mosaics;
 #[cfg(test)]
 mod orders;
@@ -27,5 +31,7 @@ mod rejected;
 mod runs;
 #[cfg(test)]
 mod second_checks;
+#[cfg(test)]
+mod sink_orders;
 #[cfg(test)]
 mod sources;

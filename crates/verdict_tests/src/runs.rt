@@ -100,7 +100,13 @@ pub fn told_of_header(alloc: Global, example: &Example, header: &[u8]) -> Result
     };
     let mut tiles = tiles_at_once(alloc, example.tiles())?;
     let mut products = PerProduct::from_each(&input)?;
-    let answer = check(alloc, example.side, &mut tiles, &mut products);
+    let answer = check(
+        alloc,
+        example.side,
+        &mut tiles,
+        example.sinks.as_slice(),
+        &mut products,
+    );
     Ok(report(&answer))
 }
 
@@ -174,7 +180,13 @@ fn slow_products<'a>(
 pub fn told_slowly(alloc: Global, example: &Example, faulty: Faulty) -> Result<Line, AllocError> {
     let mut tiles = slow_tiles(alloc, example.tiles(), faulty)?;
     let mut products = slow_products(alloc, SlowExample { example, faulty })?;
-    let answer = check(alloc, example.side, &mut tiles, &mut products);
+    let answer = check(
+        alloc,
+        example.side,
+        &mut tiles,
+        example.sinks.as_slice(),
+        &mut products,
+    );
     Ok(report(&answer))
 }
 
@@ -182,7 +194,13 @@ pub fn told_slowly(alloc: Global, example: &Example, faulty: Faulty) -> Result<L
 pub fn told_at_once(alloc: Global, example: &Example) -> Result<Line, AllocError> {
     let mut tiles = tiles_at_once(alloc, example.tiles())?;
     let mut products = products_at_once(alloc, example)?;
-    let answer = check(alloc, example.side, &mut tiles, &mut products);
+    let answer = check(
+        alloc,
+        example.side,
+        &mut tiles,
+        example.sinks.as_slice(),
+        &mut products,
+    );
     Ok(report(&answer))
 }
 

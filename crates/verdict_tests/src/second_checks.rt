@@ -2,6 +2,7 @@
 
 use crate::agree::same_line;
 use crate::example::{Example, one_tile};
+use crate::listed_sinks::{filled_pit_with, listed_pit_with};
 use crate::runs::told_at_once;
 use drain_verdict::line::Line;
 use drain_verdict::{Refusal, report};
@@ -9,7 +10,10 @@ use refused_memory::owed;
 use std::alloc::Global;
 use std::process::Abort;
 use std::test::Fail;
-use worked_grids::{LEVEL_LINE, PIT_LINE, SLOPE_LINE, VOIDS_LINE, level, pit, slope, voids};
+use worked_grids::{
+    LEVEL_LINE, LISTED_PIT_LINE, PIT_LINE, SLOPE_LINE, UNLISTED_PIT_LINE, VOIDS_LINE, level, pit,
+    slope, voids,
+};
 
 /// The line of a check. Its inputs' want of memory is told as its own.
 fn line_of(alloc: Global, example: &Example) -> Line {
@@ -48,5 +52,43 @@ fn voids_after_refused_memory(rt: HostRuntime) -> Result<(), Fail> {
 #[test]
 fn slope_after_refused_memory(rt: HostRuntime) -> Result<(), Fail> {
     checked_twice(&rt, rt.alloc(), &one_tile(4, &slope())?, SLOPE_LINE);
+    Ok(())
+}
+
+/// Enough sinks that what holds them grows.
+const SINKS: &str = "1 1\n0 0\n0 1\n0 2\n1 0\n1 2\n2 0\n2 1\n2 2\n1 1\n";
+
+#[test]
+fn listed_pit_after_refused_memory(rt: HostRuntime) -> Result<(), Fail> {
+    let example = listed_pit_with(SINKS)?;
+    checked_twice(&rt, rt.alloc(), &example, LISTED_PIT_LINE);
+    Ok(())
+}
+
+#[test]
+fn unlisted_pit_after_refused_memory(rt: HostRuntime) -> Result<(), Fail> {
+    let example = listed_pit_with("2 2\n0 0\n")?;
+    checked_twice(&rt, rt.alloc(), &example, UNLISTED_PIT_LINE);
+    Ok(())
+}
+
+#[test]
+fn bad_line_after_refused_memory(rt: HostRuntime) -> Result<(), Fail> {
+    let example = filled_pit_with("0 0\n0 1\n0 2\n1 0\n1 2\n\nx\n")?;
+    checked_twice(&rt, rt.alloc(), &example, "refused BadSinkLine 7");
+    Ok(())
+}
+
+#[test]
+fn cell_outside_after_refused_memory(rt: HostRuntime) -> Result<(), Fail> {
+    let example = filled_pit_with("0 0\n\n2 3\n0 1\n")?;
+    checked_twice(&rt, rt.alloc(), &example, "refused SinkNotData 3");
+    Ok(())
+}
+
+#[test]
+fn listed_voids_after_refused_memory(rt: HostRuntime) -> Result<(), Fail> {
+    let example = one_tile(2, &voids())?.listing("1 1\n0 1\n1 0\n0 0\n");
+    checked_twice(&rt, rt.alloc(), &example, "refused SinkNotData 1");
     Ok(())
 }

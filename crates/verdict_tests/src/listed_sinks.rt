@@ -1,0 +1,288 @@
+//! Lists of sinks: what they change, on one tile and on two. The lines were worked out by hand from the rules.
+
+use crate::agree::same_line;
+use crate::example::{Example, changed, one_tile, products_on, tile, tile_on};
+use crate::runs::{Faulty, Owner, told, told_slowly};
+use drain_device::DeviceFault;
+use drain_device::faults::Scripted;
+use drain_grid::Product;
+use drain_verdict::line::Line;
+use std::alloc::Global;
+use std::test::Fail;
+use worked_grids::shafts::Shafts;
+use worked_grids::{
+    LISTED_PIT_LINE, LISTED_PIT_SINKS, PIT_LINE, UNLISTED_PIT_LINE, listed_pit, pit,
+};
+
+/// The listed pit with a list.
+pub fn listed_pit_with(text: &str) -> Result<Example, Fail> {
+    Ok(one_tile(3, &listed_pit())?.listing(text))
+}
+
+/// The filled pit with a list.
+pub fn filled_pit_with(text: &str) -> Result<Example, Fail> {
+    Ok(one_tile(3, &pit())?.listing(text))
+}
+
+#[test]
+fn a_pit_that_is_listed_and_not(rt: HostRuntime) -> Result<(), Fail> {
+    for (text, line) in [
+        ("1 1\n1 1", LISTED_PIT_LINE),
+        ("1 1\n", LISTED_PIT_LINE),
+        ("\r\n \t1\t01 \r\n\n", LISTED_PIT_LINE),
+        ("2 2\n1 1\n0 0\n0 1", LISTED_PIT_LINE),
+        ("", UNLISTED_PIT_LINE),
+        ("\n \n\r\n", UNLISTED_PIT_LINE),
+        ("0 0\n0 1\n0 2\n1 0\n1 2\n2 0\n2 1\n2 2", UNLISTED_PIT_LINE),
+    ] {
+        let given = told(rt.alloc(), &listed_pit_with(text)?)?;
+        same_line(&rt, text, &given, line);
+    }
+    Ok(())
+}
+
+#[test]
+fn a_filled_pit_with_sinks(rt: HostRuntime) -> Result<(), Fail> {
+    for (text, line) in [
+        ("", PIT_LINE),
+        ("0 0", PIT_LINE),
+        ("0 0\n0 1\n0 2\n1 0\n1 2\n2 0\n2 1\n2 2", PIT_LINE),
+        ("1 1", "rejected rule=5 OpenRaised row=1 col=1"),
+    ] {
+        let given = told(rt.alloc(), &filled_pit_with(text)?)?;
+        same_line(&rt, text, &given, line);
+    }
+    Ok(())
+}
+
+/// A level tile of side 5 whose middle is a void: so each other cell is an outlet with a label of its own.
+fn land_round_a_void() -> [i64; 175] {
+    let mut numbers = [0; 175];
+    for (place, number) in numbers.iter_mut().enumerate() {
+        *number = match (place / 25, place % 25) {
+            (0 | 1, 12) => -32768,
+            (2 | 5, 12) => 255,
+            (6, 12) => 4294967295,
+            (3, cell) if cell != 12 => 1,
+            (4, cell) if cell != 12 => cell as i64 + 1,
+            _ => 0,
+        };
+    }
+    numbers
+}
+
+/// The line of the level tile round a void, with a list.
+fn round_a_void(alloc: Global, text: &str) -> Result<Line, Fail> {
+    let grid = "NROWS 5\nNCOLS 5\nULXMAP 0\nULYMAP 1\nXDIM 0.25\nYDIM 0.25\n";
+    let example = tile_on(5, "N00E000.hgt", grid, &land_round_a_void())?;
+    told(alloc, &example.listing(text))
+}
+
+#[test]
+fn a_void_inside_the_land(rt: HostRuntime) -> Result<(), Fail> {
+    let right = "accepted rows=5 cols=5 data=24 raised=0 outlets=24";
+    for (text, line) in [
+        ("", right),
+        ("1 1\n4 4", right),
+        ("2 2", "refused SinkNotData 1"),
+        ("1 1\n\n2 2\n3 3", "refused SinkNotData 3"),
+        ("5 0\n2 2", "refused SinkNotData 1"),
+        ("2 2\n5 0", "refused SinkNotData 1"),
+        ("0 0\n5 0\n2 2", "refused SinkNotData 2"),
+        ("0 0\n2 2\n0 5", "refused SinkNotData 2"),
+    ] {
+        let given = round_a_void(rt.alloc(), text)?;
+        same_line(&rt, text, &given, line);
+    }
+    Ok(())
+}
+
+/// How two tiles of side 3 lie, the second beside the first or below it.
+#[derive(Clone, Copy, Debug)]
+enum Lie {
+    Beside,
+    Below,
+}
+
+impl Lie {
+    /// Its rows, its columns, the first lines of its headers, and the names of its tiles.
+    fn mosaic(self) -> (u8, u16, &'static str, [&'static str; 2]) {
+        match self {
+            Lie::Beside => (
+                3,
+                5,
+                "NROWS 3\nNCOLS 5\nULXMAP 0\nULYMAP 1\nXDIM 0.5\nYDIM 0.5\n",
+                ["N00E000.hgt", "N00E001.hgt"],
+            ),
+            Lie::Below => (
+                5,
+                3,
+                "NROWS 5\nNCOLS 3\nULXMAP 0\nULYMAP 1\nXDIM 0.5\nYDIM 0.5\n",
+                ["N00E000.hgt", "S01E000.hgt"],
+            ),
+        }
+    }
+}
+
+/// The line of two level tiles whose products are right where this cell is listed, with this list.
+fn two_tiles(alloc: Global, lie: Lie, cell: (u8, u16), text: &str) -> Result<Line, Fail> {
+    let (rows, cols, grid, [first, second]) = lie.mosaic();
+    let shafts = Shafts {
+        rows,
+        cols,
+        listed: &[cell],
+    };
+    let numbers = shafts.numbers(alloc)?;
+    let products = numbers.get(15..).ok_or("products")?;
+    let mut example = products_on(3, grid, products);
+    example.push_tile(tile(first, &[0; 9]))?;
+    example.push_tile(tile(second, &[0; 9]))?;
+    told(alloc, &example.listing(text))
+}
+
+/// A cell of the first tile, one of the seam, of the second tile, and of the last row and column.
+#[test]
+fn sinks_of_two_tiles(rt: HostRuntime) -> Result<(), Fail> {
+    let beside = "accepted rows=3 cols=5 data=15 raised=0 outlets=13";
+    let below = "accepted rows=5 cols=3 data=15 raised=0 outlets=13";
+    let open_of_itself = "accepted rows=3 cols=5 data=15 raised=0 outlets=12";
+    for (lie, cell, text, line) in [
+        (Lie::Beside, (1, 1), "1 1", beside),
+        (Lie::Beside, (1, 2), "1 2", beside),
+        (Lie::Beside, (1, 3), "1 3\n", beside),
+        (Lie::Beside, (1, 3), "2 4\n0 2\n1 3\n2 2", beside),
+        (Lie::Beside, (2, 4), "2 4", open_of_itself),
+        (Lie::Beside, (0, 4), "0 4", open_of_itself),
+        (Lie::Beside, (2, 0), "2 0\n1 4", open_of_itself),
+        (
+            Lie::Beside,
+            (1, 2),
+            "",
+            "rejected rule=6 NoSpill row=1 col=2",
+        ),
+        (
+            Lie::Beside,
+            (1, 3),
+            "1 2",
+            "rejected rule=5 OpenRaised row=1 col=2",
+        ),
+        (
+            Lie::Beside,
+            (1, 2),
+            "1 3",
+            "rejected rule=6 NoSpill row=1 col=2",
+        ),
+        (Lie::Beside, (1, 2), "1 5", "refused SinkNotData 1"),
+        (Lie::Beside, (1, 2), "1 2\n3 2", "refused SinkNotData 2"),
+        (Lie::Below, (1, 1), "1 1", below),
+        (Lie::Below, (2, 1), "2 1", below),
+        (Lie::Below, (3, 1), "4 2\n3 1\n2 2", below),
+        (
+            Lie::Below,
+            (3, 1),
+            "2 1",
+            "rejected rule=5 OpenRaised row=2 col=1",
+        ),
+        (Lie::Below, (3, 1), "3 1\n5 1", "refused SinkNotData 2"),
+        (Lie::Below, (3, 1), "1 3\n3 1", "refused SinkNotData 1"),
+    ] {
+        let given = two_tiles(rt.alloc(), lie, cell, text)?;
+        same_line(&rt, (lie, cell, text), &given, line);
+    }
+    Ok(())
+}
+
+/// The line of the listed pit with a list where an owner's source answers a fault from one call to another.
+fn listed_pit_where(
+    alloc: Global,
+    text: &str,
+    owner: Owner,
+    script: Scripted<DeviceFault>,
+) -> Result<Line, Fail> {
+    let script = [script];
+    let faulty = Faulty {
+        owner,
+        script: &script,
+    };
+    Ok(told_slowly(alloc, &listed_pit_with(text)?, faulty)?)
+}
+
+/// The lists beside which a source fails, and the line that is told where it doesn't.
+const BESIDE_A_FAULT: [(&str, &str); 4] = [
+    (LISTED_PIT_SINKS, LISTED_PIT_LINE),
+    ("2 2\n", UNLISTED_PIT_LINE),
+    ("1 1\nx", "refused BadSinkLine 2"),
+    ("1 1\n\n3 3", "refused SinkNotData 3"),
+];
+
+#[test]
+fn sources_that_fail_beside_a_list(rt: HostRuntime) -> Result<(), Fail> {
+    for (text, line) in BESIDE_A_FAULT {
+        for (owner, calls) in [
+            (Owner::Tile, 19u64),
+            (Owner::Raster(Product::Con), 18),
+            (Owner::Raster(Product::Spl), 9),
+            (Owner::Raster(Product::Rnk), 36),
+        ] {
+            for before in 0..=calls {
+                let first = before.saturating_add(1);
+                let (last, owed) = if before < calls {
+                    (first, "failed ReadFailed")
+                } else {
+                    (u64::MAX, line)
+                };
+                let script = Scripted {
+                    first,
+                    last,
+                    answer: DeviceFault::Failed,
+                };
+                let given = listed_pit_where(rt.alloc(), text, owner, script)?;
+                same_line(&rt, (text, owner, first), &given, owed);
+            }
+        }
+    }
+    Ok(())
+}
+
+#[test]
+fn sources_that_are_interrupted_beside_a_list(rt: HostRuntime) -> Result<(), Fail> {
+    for (text, line) in BESIDE_A_FAULT {
+        for owner in [Owner::Tile, Owner::Raster(Product::Dir)] {
+            for (first, last, owed) in [
+                (1, 999, line),
+                (5, 1003, line),
+                (1, 1000, "failed ReadFailed"),
+                (5, 1004, "failed ReadFailed"),
+            ] {
+                let script = Scripted {
+                    first,
+                    last,
+                    answer: DeviceFault::Interrupted,
+                };
+                let given = listed_pit_where(rt.alloc(), text, owner, script)?;
+                same_line(&rt, (text, owner, first), &given, owed);
+            }
+        }
+    }
+    Ok(())
+}
+
+/// Rules that don't look at sinks, at the listed pit with one number changed; its samples and its products are 9 each.
+#[test]
+fn rules_beside_a_list(rt: HostRuntime) -> Result<(), Fail> {
+    for (place, number, line) in [
+        (13, 0, "rejected rule=4 BelowGround row=1 col=1"),
+        (13, 2, "rejected rule=5 OpenRaised row=1 col=1"),
+        (49, 1, "rejected rule=5 OpenRaised row=1 col=1"),
+        (18, 1, "rejected rule=10 Slope row=0 col=0"),
+        (22, 1, "rejected rule=11 OutletCode row=1 col=1"),
+        (31, 8, "rejected rule=13 Accumulation row=1 col=1"),
+        (36, 2, "rejected rule=14 Label row=0 col=0"),
+    ] {
+        let numbers = changed(&listed_pit(), place, number)?;
+        let example = one_tile(3, &numbers)?.listing(LISTED_PIT_SINKS);
+        let given = told(rt.alloc(), &example)?;
+        same_line(&rt, (place, number), &given, line);
+    }
+    Ok(())
+}

@@ -1,0 +1,186 @@
+//! Lists of sinks that are refused, and which of two faults is told.
+
+use crate::agree::same_line;
+use crate::bytes::Bytes;
+use crate::example::{Example, bare, changed, one_tile, products_on, tile};
+use crate::listed_sinks::{filled_pit_with, listed_pit_with};
+use crate::runs::told;
+use drain_verdict::{Refusal, report};
+use std::test::Fail;
+use worked_grids::{PIT_LINE, listed_pit, parted, voids};
+
+#[test]
+fn lines_that_are_bad(rt: HostRuntime) -> Result<(), Fail> {
+    for (text, line) in [
+        ("0 0", PIT_LINE),
+        ("1 1\nx", "refused BadSinkLine 2"),
+        ("+1 1", "refused BadSinkLine 1"),
+        ("1 1 1", "refused BadSinkLine 1"),
+        ("1", "refused BadSinkLine 1"),
+        ("-1 1", "refused BadSinkLine 1"),
+        ("0 4294967296", "refused BadSinkLine 1"),
+        ("0 0\r\r\n", "refused BadSinkLine 1"),
+        ("\n\n0 0\n\r\n0\x0b0\n0", "refused BadSinkLine 5"),
+        // Every line is judged before any cell.
+        ("9 9\nx", "refused BadSinkLine 2"),
+        ("9 9\n\n9 9\n0 0 0\nx", "refused BadSinkLine 4"),
+        ("4294967295 4294967295\n0,0", "refused BadSinkLine 2"),
+    ] {
+        let given = told(rt.alloc(), &filled_pit_with(text)?)?;
+        same_line(&rt, text, &given, line);
+    }
+    Ok(())
+}
+
+#[test]
+fn cells_that_are_outside(rt: HostRuntime) -> Result<(), Fail> {
+    for (text, line) in [
+        ("0 0\n3 0", "refused SinkNotData 2"),
+        ("0 3", "refused SinkNotData 1"),
+        ("3 3", "refused SinkNotData 1"),
+        ("2 2\n\n\r\n2 3\n3 2", "refused SinkNotData 4"),
+        ("0 0\n0 4294967295", "refused SinkNotData 2"),
+        ("4294967295 0", "refused SinkNotData 1"),
+        ("0 0\n0 0\n9 9\n9 9\n0 0", "refused SinkNotData 3"),
+        ("2 2\n9 9\n0 3", "refused SinkNotData 2"),
+    ] {
+        let given = told(rt.alloc(), &filled_pit_with(text)?)?;
+        same_line(&rt, text, &given, line);
+    }
+    Ok(())
+}
+
+#[test]
+fn voids_that_are_listed(rt: HostRuntime) -> Result<(), Fail> {
+    for (text, line) in [
+        ("0 0", "refused SinkNotData 1"),
+        ("1 1\n0 0", "refused SinkNotData 1"),
+        ("\n1 1\n\n0 0", "refused SinkNotData 2"),
+        ("\n2 2\n\n0 0", "refused SinkNotData 2"),
+        ("0 1\n0 1", "refused SinkNotData 1"),
+        ("0 0\nx", "refused BadSinkLine 2"),
+    ] {
+        let given = told(rt.alloc(), &one_tile(2, &voids())?.listing(text))?;
+        same_line(&rt, text, &given, line);
+    }
+    Ok(())
+}
+
+/// Two flats with a column of voids between them, which no tile covers; one number of the products may be another.
+fn with_a_gap(place: usize, number: i64, text: &str) -> Result<Example, Fail> {
+    let grid = "NROWS 3\nNCOLS 7\nULXMAP 0\nULYMAP 1\nXDIM 0.5\nYDIM 0.5\n";
+    let numbers = changed(&parted(), place, number)?;
+    let mut example = products_on(3, grid, &numbers[21..]);
+    for name in ["N00E000.hgt", "N00E002.hgt"] {
+        example.push_tile(tile(name, &[0; 9]))?;
+    }
+    Ok(example.listing(text))
+}
+
+/// The least line is told, wherever its cell lies, and before any rule.
+#[test]
+fn the_first_of_the_lines_off_the_data(rt: HostRuntime) -> Result<(), Fail> {
+    let right = "accepted rows=3 cols=7 data=18 raised=0 outlets=16";
+    for (text, line) in [
+        ("0 0\n2 6\n1 2", right),
+        ("0 3", "refused SinkNotData 1"),
+        ("1 3", "refused SinkNotData 1"),
+        ("2 3", "refused SinkNotData 1"),
+        ("2 3\n0 3", "refused SinkNotData 1"),
+        ("0 0\n\n2 3\n\n0 3\n9 9", "refused SinkNotData 3"),
+        ("0 0\n9 9\n0 3", "refused SinkNotData 2"),
+        ("0 0\n0 3\n9 9", "refused SinkNotData 2"),
+        ("\n0 7\n1 3", "refused SinkNotData 2"),
+    ] {
+        let given = told(rt.alloc(), &with_a_gap(21, 0, text)?)?;
+        same_line(&rt, text, &given, line);
+    }
+    for (text, line) in [
+        ("", "rejected rule=5 OpenRaised row=0 col=0"),
+        ("0 0\n2 6", "rejected rule=5 OpenRaised row=0 col=0"),
+        ("0 3", "refused SinkNotData 1"),
+        ("0 0\n2 3", "refused SinkNotData 2"),
+        ("3 0", "refused SinkNotData 1"),
+        ("0 0\n\n-", "refused BadSinkLine 3"),
+    ] {
+        let given = told(rt.alloc(), &with_a_gap(21, 1, text)?)?;
+        same_line(&rt, ("a raised corner", text), &given, line);
+    }
+    Ok(())
+}
+
+/// A rejection comes behind a list that is refused.
+#[test]
+fn tells_a_list_before_the_rules(rt: HostRuntime) -> Result<(), Fail> {
+    for (text, line) in [
+        ("2 2", "rejected rule=6 NoSpill row=1 col=1"),
+        ("2 2\nx", "refused BadSinkLine 2"),
+        ("2 2\n\n2 3", "refused SinkNotData 3"),
+    ] {
+        let given = told(rt.alloc(), &listed_pit_with(text)?)?;
+        same_line(&rt, text, &given, line);
+    }
+    Ok(())
+}
+
+/// Each other refusal comes before that of a list.
+#[test]
+fn tells_side_names_headers_and_bodies_before_a_list(rt: HostRuntime) -> Result<(), Fail> {
+    let right = one_tile(3, &listed_pit())?;
+    let mut bad_side = right;
+    bad_side.side = 1;
+    let mut no_header = right;
+    no_header.rnk.header = Bytes::new();
+    let mut short_tile = right;
+    short_tile.tiles[0].body.pop();
+    let mut long_tile = right;
+    long_tile.tiles[0].body.push(0);
+    let mut short_raster = right;
+    short_raster.rnk.body.pop();
+    for (example, line) in [
+        (bad_side, "refused BadSide"),
+        (bare(3, &["x"], "")?, "refused BadName 0"),
+        (bare(3, &[], "")?, "refused NoTiles"),
+        (no_header, "refused BadHeader rnk MissingKey NROWS"),
+        (short_tile, "refused BadTileLength N00E000.hgt"),
+        (long_tile, "refused BadTileLength N00E000.hgt"),
+        (short_raster, "refused RasterShort rnk"),
+    ] {
+        for text in ["x", "9 9", "1 1\n9 9\nx", "1 1"] {
+            let given = told(rt.alloc(), &example.listing(text))?;
+            same_line(&rt, text, &given, line);
+        }
+    }
+    Ok(())
+}
+
+/// Two tiles of side 2 that differ in the middle of the first row, with a list.
+#[test]
+fn tells_a_seam_before_a_list(rt: HostRuntime) -> Result<(), Fail> {
+    let grid = "NROWS 2\nNCOLS 3\nULXMAP 0\nULYMAP 1\nXDIM 1\nYDIM 1\n";
+    let mut torn = products_on(2, grid, &[0; 36]);
+    torn.push_tile(tile("N00E000.hgt", &[1, 2, 3, 4]))?;
+    torn.push_tile(tile("N00E001.hgt", &[9, 5, 4, 6]))?;
+    for text in ["x", "9 9", "0 1", "0 1\n0 0 0"] {
+        let given = told(rt.alloc(), &torn.listing(text))?;
+        same_line(&rt, text, &given, "refused SeamMismatch row=0 col=1");
+    }
+    Ok(())
+}
+
+#[test]
+fn lines_of_refused_lists(rt: HostRuntime) {
+    for (refusal, line) in [
+        (Refusal::BadSinkLine(1), "refused BadSinkLine 1"),
+        (
+            Refusal::BadSinkLine(u64::MAX),
+            "refused BadSinkLine 18446744073709551615",
+        ),
+        (
+            Refusal::SinkNotData(u64::MAX),
+            "refused SinkNotData 18446744073709551615",
+        ),
+    ] {
+        same_line(&rt, line, &report(&Err(refusal)), line);
+    }
+}
