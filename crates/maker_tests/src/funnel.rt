@@ -1,7 +1,7 @@
 //! A funnel: every cell drains through one outlet, over heights from below the sea to above it.
 
 use crate::made::{elevation, one_tile};
-use drain_grid::{Cell, Raster};
+use drain_grid::{Cell, Raster, Sinks};
 use drain_maker::make;
 use drain_rules::{Counts, Verdict, verdict_of};
 use std::alloc::Global;
@@ -39,8 +39,9 @@ fn greatest(raster: &Raster) -> i64 {
 fn verdict_and_greatest(alloc: Global) -> Result<(Verdict, i64), Fail> {
     let layout = one_tile(alloc, SIDE)?;
     let elevation = elevation(&layout, samples(alloc)?)?;
-    let products = make(alloc, &layout, &elevation)?;
-    let verdict = verdict_of(alloc, &elevation, &products)?;
+    let sinks = Sinks::none(alloc);
+    let products = make(alloc, &layout, &elevation, &sinks)?;
+    let verdict = verdict_of(alloc, &elevation, &sinks, &products)?;
     Ok((verdict, greatest(&products.acc)))
 }
 

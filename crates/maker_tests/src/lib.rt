@@ -8,8 +8,16 @@ mod headers;
 #[cfg(test)]
 mod level_queue;
 #[cfg(test)]
+mod listed_sinks;
+#[cfg(test)]
+mod listed_terrains;
+#[cfg(test)]
 mod made;
 #[cfg(test)]
 mod numbers;
+#[cfg(test)]
+mod raster_numbers;
+#[cfg(test)]
+mod terrain_samples;
 #[cfg(test)]
 mod terrains;

@@ -4,10 +4,11 @@ ghost use Rattle.std.specs.Prelude.{◌≡◌, IfOk};
 ghost use Rattle.drain_grid.specs.Tile.{IsSide};
 ghost use Rattle.drain_mosaic.specs.Tiling.{extent_of};
 
-use drain_grid::Elevation;
+use crate::raster_numbers::Numbers;
 use drain_grid::tile::is_side;
+use drain_grid::{Elevation, Sinks};
 use drain_hgt::TileName;
-use drain_maker::make;
+use drain_maker::{MakeRefusal, make};
 use drain_mosaic::Layout;
 use drain_rules::{Counts, Verdict, verdict_of};
 use std::alloc::Global;
@@ -33,12 +34,36 @@ pub fn elevation(layout: &Layout, samples: Vec<i16>) -> Result<Elevation, Fail>
     Ok(Elevation::new(shape, samples))
 }
 
-/// Makes products, and counts what the verdict on them counts. They must be accepted.
+/// Makes products without listed sinks, and counts what the verdict on them counts. They must be accepted.
 pub fn accepted(alloc: Global, layout: &Layout, samples: Vec<i16>) -> Result<Counts, Fail> {
     let elevation = elevation(layout, samples)?;
-    let products = make(alloc, layout, &elevation)?;
-    match verdict_of(alloc, &elevation, &products)? {
+    let sinks = Sinks::none(alloc);
+    let products = make(alloc, layout, &elevation, &sinks)?;
+    match verdict_of(alloc, &elevation, &sinks, &products)? {
         Verdict::Accepted(counts) => Ok(counts),
         Verdict::Rejected { .. } => Err("rejected".into()),
     }
+}
+
+/// The first nine numbers of con that is made of a tile of side 3 with these sinks. Its inputs' want of memory is told as the maker's own.
+pub fn con_of_nine(
+    alloc: Global,
+    name: TileName,
+    tile: &[i16; 9],
+    sinks: &Sinks,
+) -> Result<Option<[i64; 9]>, MakeRefusal> {
+    let Ok(layout) = Layout::new(alloc, 3, &[name]) else {
+        return Err(MakeRefusal::OutOfMemory);
+    };
+    let Ok(samples) = Vec::from_slice(alloc, tile) else {
+        return Err(MakeRefusal::OutOfMemory);
+    };
+    let shape = layout.shape();
+    if samples.len() != shape.cells() {
+        return Ok(None);
+    }
+    let elevation = Elevation::new(shape, samples);
+    let products = make(alloc, &layout, &elevation, sinks)?;
+    let con = Numbers::of(&products.con);
+    Ok(con.as_slice().try_into().ok())
 }

@@ -1,53 +1,20 @@
 //! The numbers of small tiles' products.
 
-use crate::made::{accepted, elevation, one_tile};
-use drain_grid::{Cell, Elevation, Product, Raster};
+use crate::made::{accepted, con_of_nine, elevation, one_tile};
+use crate::raster_numbers::Numbers;
+use drain_grid::{Product, Sinks};
 use drain_hgt::TileName;
 use drain_maker::{MakeRefusal, make};
-use drain_mosaic::Layout;
 use drain_rules::Counts;
 use refused_memory::owed;
 use std::alloc::Global;
 use std::test::Fail;
 
-/// The most numbers of a product here.
-const ROOM: usize = 25;
-
-/// The numbers of a product in row order. They own no memory, so that a test that holds some is cheap to prove.
-#[derive(Clone, Copy)]
-struct Numbers {
-    list: [i64; ROOM],
-    count: usize,
-}
-
-impl Numbers {
-    /// The numbers of a raster.
-    fn of(raster: &Raster) -> Numbers {
-        let shape = raster.shape();
-        let mut list = [0; ROOM];
-        let mut count: usize = 0;
-        for row in 0..shape.rows() {
-            for col in 0..shape.cols() {
-                if let Some(place) = list.get_mut(count) {
-                    *place = raster.value(Cell { row, col });
-                }
-                count = count.saturating_add(1);
-            }
-        }
-        Numbers { list, count }
-    }
-
-    /// The numbers; none where there are more than there is room for.
-    fn as_slice(&self) -> &[i64] {
-        self.list.get(..self.count).unwrap_or(&[])
-    }
-}
-
 /// The numbers of a product that is made of one tile.
 fn made(alloc: Global, side: u32, samples: &[i16], product: Product) -> Result<Numbers, Fail> {
     let layout = one_tile(alloc, side)?;
     let elevation = elevation(&layout, Vec::from_slice(alloc, samples)?)?;
-    let products = make(alloc, &layout, &elevation)?;
+    let products = make(alloc, &layout, &elevation, &Sinks::none(alloc))?;
     Ok(Numbers::of(products.raster(product)))
 }
 
@@ -157,22 +124,9 @@ fn accumulation_at_a_pit(rt: HostRuntime) -> Result<(), Fail> {
 /// A pit in the middle, lower than the edge.
 const PIT: [i16; 9] = [5, 5, 5, 5, 1, 5, 5, 5, 5];
 
-/// The first nine numbers of con that is made of the pit. Its inputs' want of memory is told as the maker's own.
-fn con_of_pit(alloc: Global, name: TileName) -> Result<Option<[i64; 9]>, MakeRefusal> {
-    let Ok(layout) = Layout::new(alloc, 3, &[name]) else {
-        return Err(MakeRefusal::OutOfMemory);
-    };
-    let Ok(samples) = Vec::from_slice(alloc, &PIT) else {
-        return Err(MakeRefusal::OutOfMemory);
-    };
-    let shape = layout.shape();
-    if samples.len() != shape.cells() {
-        return Ok(None);
-    }
-    let elevation = Elevation::new(shape, samples);
-    let products = make(alloc, &layout, &elevation)?;
-    let con = Numbers::of(&products.con);
-    Ok(con.as_slice().try_into().ok())
+/// The first nine numbers of con that is made of the pit without listed sinks.
+fn con_without_sinks(alloc: Global, name: TileName) -> Result<Option<[i64; 9]>, MakeRefusal> {
+    con_of_nine(alloc, name, &PIT, &Sinks::none(alloc))
 }
 
 /// What is counted of the products that are made of the pit.
@@ -186,10 +140,10 @@ fn counts_of_pit(alloc: Global) -> Result<Counts, Fail> {
 fn pit_after_refused_memory(rt: HostRuntime) -> Result<(), Fail> {
     let name = TileName::parse(b"N00E000.hgt")?;
     let right = Ok(Some([5; 9]));
-    let first = con_of_pit(rt.alloc(), name);
+    let first = con_without_sinks(rt.alloc(), name);
     let wanted = owed(rt.alloc(), Err(MakeRefusal::OutOfMemory), right);
     assert_eq!(rt; first, wanted, "first");
-    assert_eq!(rt; con_of_pit(rt.alloc(), name), right, "again");
+    assert_eq!(rt; con_without_sinks(rt.alloc(), name), right, "again");
     let counted = Counts {
         rows: 3,
         cols: 3,

@@ -1,0 +1,188 @@
+//! Products made with listed sinks: tiles worked out by hand, and lists that name cells without data.
+
+use crate::made::{con_of_nine, elevation, one_tile};
+use crate::raster_numbers::Numbers;
+use drain_grid::{Product, SinkFault, VOID, parse_sinks};
+use drain_hgt::TileName;
+use drain_maker::{MakeRefusal, make};
+use refused_memory::owed;
+use std::alloc::Global;
+use std::process::Abort;
+use std::test::Fail;
+
+/// The numbers of a product that is made of one tile with the sinks that the text lists.
+fn made(
+    alloc: Global,
+    side: u32,
+    samples: &[i16],
+    list: &str,
+    product: Product,
+) -> Result<Numbers, Fail> {
+    let layout = one_tile(alloc, side)?;
+    let elevation = elevation(&layout, Vec::from_slice(alloc, samples)?)?;
+    let sinks = parse_sinks(alloc, list.as_bytes())?;
+    let products = make(alloc, &layout, &elevation, &sinks)?;
+    Ok(Numbers::of(products.raster(product)))
+}
+
+/// Ends the test where a product has other numbers, and tells of which list and product it is.
+fn same_numbers(rt: &impl Abort, case: &str, product: Product, given: &Numbers, wanted: &[i64]) {
+    assert_eq!(rt; given.as_slice(), wanted, "{product:?} with {case}");
+}
+
+/// A pit in the middle, lower than the edge.
+const PIT: [i16; 9] = [5, 5, 5, 5, 1, 5, 5, 5, 5];
+
+#[test]
+fn a_listed_pit_is_the_one_outlet(rt: HostRuntime) -> Result<(), Fail> {
+    for (product, wanted) in [
+        (Product::Con, [5, 5, 5, 5, 1, 5, 5, 5, 5]),
+        (Product::Dir, [2, 4, 8, 1, 0, 16, 128, 64, 32]),
+        (Product::Acc, [1, 1, 1, 1, 9, 1, 1, 1, 1]),
+        (Product::Bas, [1; 9]),
+        (Product::Spl, [0; 9]),
+        (Product::Rnk, [0; 9]),
+    ] {
+        for list in ["1 1", "1 1\n1 1", "\n1 1\r\n\n0 2\n1 1\n"] {
+            let given = made(rt.alloc(), 3, &PIT, list, product)?;
+            same_numbers(&rt, list, product, &given, &wanted);
+        }
+    }
+    Ok(())
+}
+
+/// Three columns inside an edge of nines, of heights 3, 8 and 2. With a sink on the left one the right one fills up to the middle one.
+#[test]
+fn water_gets_to_a_listed_sink_over_the_lowest_way(rt: HostRuntime) -> Result<(), Fail> {
+    let tile = [
+        9, 9, 9, 9, 9, 9, 3, 8, 2, 9, 9, 3, 8, 2, 9, 9, 3, 8, 2, 9, 9, 9, 9, 9, 9,
+    ];
+    for (list, left, middle, right) in [
+        ("", 9, 9, 9),
+        ("2 1", 3, 8, 8),
+        ("2 2", 8, 8, 8),
+        ("3 3", 8, 8, 2),
+        ("2 1\n2 3", 3, 8, 2),
+    ] {
+        let given = made(rt.alloc(), 5, &tile, list, Product::Con)?;
+        let (l, m, r) = (left, middle, right);
+        let wanted = [
+            9, 9, 9, 9, 9, 9, l, m, r, 9, 9, l, m, r, 9, 9, l, m, r, 9, 9, 9, 9, 9, 9,
+        ];
+        same_numbers(&rt, list, Product::Con, &given, &wanted);
+    }
+    Ok(())
+}
+
+/// A sink on a flat is an outlet, and ranks are steps to it or to the edge.
+#[test]
+fn ranks_round_a_listed_cell_of_a_flat(rt: HostRuntime) -> Result<(), Fail> {
+    let given = made(rt.alloc(), 5, &[7; 25], "2 2", Product::Rnk)?;
+    let wanted = [
+        0, 0, 0, 0, 0, 0, 1, 1, 1, 0, 0, 1, 0, 1, 0, 0, 1, 1, 1, 0, 0, 0, 0, 0, 0,
+    ];
+    same_numbers(&rt, "2 2", Product::Rnk, &given, &wanted);
+    Ok(())
+}
+
+/// Cells of a slope that are listed drain on: they are open, and no outlets.
+#[test]
+fn listed_cells_of_a_slope_drain_on(rt: HostRuntime) -> Result<(), Fail> {
+    let tile = [4, 3, 2, 1, 4, 3, 2, 1, 4, 3, 2, 1, 4, 3, 2, 1];
+    for (product, row) in [
+        (Product::Con, [4, 3, 2, 1]),
+        (Product::Dir, [1, 1, 1, 0]),
+        (Product::Acc, [1, 2, 3, 4]),
+    ] {
+        let [a, b, c, d] = row;
+        let given = made(rt.alloc(), 4, &tile, "1 1\n2 2", product)?;
+        let wanted = [a, b, c, d, a, b, c, d, a, b, c, d, a, b, c, d];
+        same_numbers(&rt, "1 1 and 2 2", product, &given, &wanted);
+    }
+    Ok(())
+}
+
+/// What is open without a list stays as it is: cells of the edge, and a cell beside a void.
+#[test]
+fn listed_cells_that_are_open_change_nothing(rt: HostRuntime) -> Result<(), Fail> {
+    let holed = [
+        5, 4, 5, 6, 5, 4, 3, 6, 6, 5, 5, 6, 1, 6, 5, 5, 6, 6, 2, VOID, 5, 5, 5, 5, 5,
+    ];
+    for product in Product::ALL {
+        for list in ["0 0", "4 4\n\n0 3\n2 0\n0 3", "3 3", "2 3\n3 3\n1 0"] {
+            let given = made(rt.alloc(), 5, &holed, list, product)?;
+            let without = made(rt.alloc(), 5, &holed, "", product)?;
+            same_numbers(&rt, list, product, &given, without.as_slice());
+        }
+    }
+    Ok(())
+}
+
+/// Why nothing is made of one tile with the sinks that the text lists.
+fn refusal(
+    alloc: Global,
+    side: u32,
+    samples: &[i16],
+    list: &str,
+) -> Result<Option<MakeRefusal>, Fail> {
+    let layout = one_tile(alloc, side)?;
+    let elevation = elevation(&layout, Vec::from_slice(alloc, samples)?)?;
+    let sinks = parse_sinks(alloc, list.as_bytes())?;
+    Ok(make(alloc, &layout, &elevation, &sinks).err())
+}
+
+#[test]
+fn the_least_line_without_data_is_told(rt: HostRuntime) -> Result<(), Fail> {
+    let voids = [VOID; 4];
+    let holed = [5, 5, 5, 5, VOID, 5, 5, 5, 5];
+    let cases: [(u32, &[i16], &str, u64); 10] = [
+        (2, voids.as_slice(), "0 0", 1),
+        (2, voids.as_slice(), "\n \n0 0\n1 1", 3),
+        (3, PIT.as_slice(), "0 0\n3 0", 2),
+        (3, PIT.as_slice(), "0 3", 1),
+        (3, PIT.as_slice(), "1 1\n\n\n0 3\n9 9", 4),
+        (3, PIT.as_slice(), "2 2\r\n\r\n2 2\r\n3 3\r\n", 4),
+        (3, PIT.as_slice(), "4294967295 4294967295", 1),
+        (3, holed.as_slice(), "0 0\n\n1 1\n3 3\n1 1", 3),
+        (3, holed.as_slice(), "3 3\n1 1", 1),
+        (3, holed.as_slice(), "0 1\n0 1\n1 1\n1 1", 3),
+    ];
+    for (side, samples, list, line) in cases {
+        let told = refusal(rt.alloc(), side, samples, list)?;
+        assert_eq!(rt; told, Some(MakeRefusal::SinkNotData(line)), "{list}");
+    }
+    Ok(())
+}
+
+/// The first nine numbers of con that is made of the pit with these sinks. Its inputs' want of memory is told as the maker's own.
+fn con_with(alloc: Global, name: TileName, list: &str) -> Result<Option<[i64; 9]>, MakeRefusal> {
+    match parse_sinks(alloc, list.as_bytes()) {
+        Ok(sinks) => con_of_nine(alloc, name, &PIT, &sinks),
+        Err(SinkFault::OutOfMemory) => Err(MakeRefusal::OutOfMemory),
+        Err(SinkFault::BadSinkLine(_)) => Ok(None),
+    }
+}
+
+/// Of itself memory is there; `tests/refuse_memory.c` refuses it.
+#[test]
+fn a_listed_pit_after_refused_memory(rt: HostRuntime) -> Result<(), Fail> {
+    let name = TileName::parse(b"N00E000.hgt")?;
+    let right = Ok(Some([5, 5, 5, 5, 1, 5, 5, 5, 5]));
+    let first = con_with(rt.alloc(), name, "1 1");
+    let wanted = owed(rt.alloc(), Err(MakeRefusal::OutOfMemory), right);
+    assert_eq!(rt; first, wanted, "first");
+    assert_eq!(rt; con_with(rt.alloc(), name, "1 1"), right, "again");
+    Ok(())
+}
+
+/// The same with a list whose second line lies outside the tile.
+#[test]
+fn a_sink_outside_after_refused_memory(rt: HostRuntime) -> Result<(), Fail> {
+    let name = TileName::parse(b"N00E000.hgt")?;
+    let right = Err(MakeRefusal::SinkNotData(2));
+    let first = con_with(rt.alloc(), name, "1 1\n1 3");
+    let wanted = owed(rt.alloc(), Err(MakeRefusal::OutOfMemory), right);
+    assert_eq!(rt; first, wanted, "first");
+    assert_eq!(rt; con_with(rt.alloc(), name, "1 1\n1 3"), right, "again");
+    Ok(())
+}
