@@ -58,6 +58,11 @@ class Faults:
         self.check = Run(drain, ["check", "--side", "3", "--products", str(self.products), str(self.tile)],
                          "accepted rows=3 cols=3 data=9 raised=1 outlets=8\n")
         self.make = Run(drain, ["make", "--side", "3", "--out", str(self.made), str(self.tile)], "made rows=3 cols=3\n")
+        self.list = scratch / "sinks.txt"
+        self.list.write_text("0 0\n\n1 1\n")
+        self.listing = ["--sinks", str(self.list)]
+        self.check_listed = Run(drain, [*self.check.words, *self.listing], "rejected rule=5 OpenRaised row=1 col=1\n", status=1)
+        self.make_listed = Run(drain, [*self.make.words, *self.listing], self.make.line)
         self.fill = Run(drain, ["fill", "--side", "3"], "accepted rows=3 cols=3 data=9 raised=1\n", stdin=PIT / "pit-3.fill")
         header = subprocess.run([drain, "header", PIT / "pit-3/con.hdr"], stdout=subprocess.PIPE, check=True).stdout.decode()
         self.header = Run(drain, ["header", str(PIT / "pit-3/con.hdr")], header)
@@ -126,24 +131,27 @@ class Faults:
 
     def look_at_what_is_left(self, run, name, ended):
         """A set that is told as made is whole, and what a check accepts of another is whole too."""
-        if run is not self.make:
+        if run not in self.right:
             return
-        whole = all(self.same(file) for file in FILES)
+        whole = all(self.same(run, file) for file in FILES)
         words = ["check", "--side", "3", "--products", str(self.made), str(self.tile)]
+        if run is self.make_listed:
+            words += self.listing
         accepts = Run(self.drain, words, "").under()[0] == 0
         self.judge(f"{name}: what is left", whole if ended[0] == 0 else whole or not accepts, ended)
 
-    def same(self, file):
-        made, right = self.made / file, self.right / file
+    def same(self, run, file):
+        made, right = self.made / file, self.right[run] / file
         return made.exists() and made.read_bytes() == right.read_bytes()
 
     def all(self):
-        self.restore()
-        self.right = self.scratch / "right"
-        if not self.make.is_right(self.make.under()):
-            sys.exit("FAILED: nothing is made where no call fails")
-        shutil.copytree(self.made, self.right)
-        for run in (self.check, self.make, self.fill, self.header):
+        self.right = {self.make: self.scratch / "right", self.make_listed: self.scratch / "right-listed"}
+        for run, right in self.right.items():
+            self.restore()
+            if not run.is_right(run.under()):
+                sys.exit("FAILED: nothing is made where no call fails")
+            shutil.copytree(self.made, right)
+        for run in (self.check, self.make, self.fill, self.header, self.check_listed, self.make_listed):
             self.refused(run)
             self.harmless(run)
         self.killed()

@@ -1,8 +1,10 @@
 #!/usr/bin/env python3
 """Makes the six products of one tile, or judges such products: slow and plain, for sides up to about 400.
 
-make_products.py SIDE TILE FOLDER             writes con, dir, acc, bas, spl and rnk, each a .hdr and a .bil
-make_products.py --verify SIDE TILE FOLDER    prints the line that `drain check` owes to these rasters
+make_products.py [--sinks LIST] SIDE TILE FOLDER             writes con, dir, acc, bas, spl and rnk, each a .hdr and a .bil
+make_products.py --verify [--sinks LIST] SIDE TILE FOLDER    prints the line that `drain check` owes to these rasters
+
+LIST is a file of lines ROW COL, each a data cell that is open too.
 
 Conditioned elevations come from Priority-Flood (Barnes, Lehman and Mulla 2014), which starts at the open cells. Judging
 is written rule by rule from docs/RULES.md and knows nothing of floods; it reads rasters of the form written here alone.
@@ -35,12 +37,13 @@ def opposite(code):
 class Terrain:
     """A square of elevations in row order, None at voids."""
 
-    def __init__(self, side, path):
+    def __init__(self, side, path, sinks=()):
         with open(path, "rb") as file:
             samples = struct.unpack(f">{side * side}h", file.read())
         self.side = side
         self.z = [None if sample == VOID else sample for sample in samples]
         self.around = {}
+        self.sinks = {row * side + col for row, col in sinks}
 
     def data_cells(self):
         return [cell for cell, ground in enumerate(self.z) if ground is not None]
@@ -58,7 +61,7 @@ class Terrain:
         return self.around[cell]
 
     def is_open(self, cell):
-        return self.z[cell] is not None and len(self.data_neighbors(cell)) < 8
+        return self.z[cell] is not None and (cell in self.sinks or len(self.data_neighbors(cell)) < 8)
 
 
 # Making
@@ -302,13 +305,20 @@ def verify(terrain, products):
     return f"accepted rows={terrain.side} cols={terrain.side} data={len(data)} raised={raised} outlets={outlets}"
 
 
+def read_sinks(path):
+    """The row and the column of each line."""
+    with open(path, encoding="ascii") as file:
+        return [tuple(int(word) for word in line.split()) for line in file if line.split()]
+
+
 def main():
     words = sys.argv[1:]
     judging = words[:1] == ["--verify"]
-    if len(words) != 3 + judging:
+    listing = words[judging:judging + 1] == ["--sinks"]
+    if len(words) != 3 + judging + 2 * listing:
         sys.exit(__doc__)
     side, tile, folder = int(words[-3]), words[-2], words[-1]
-    terrain = Terrain(side, tile)
+    terrain = Terrain(side, tile, read_sinks(words[-4]) if listing else ())
     if judging:
         print(verify(terrain, read(side, folder)))
     else:

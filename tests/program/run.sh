@@ -61,6 +61,7 @@ done < <(sed -E 's/ *\| */|/g; s/^ +| +$//g' "$here/table.txt")
 . "$here/headers.sh"
 . "$here/check.sh"
 . "$here/make.sh"
+. "$here/sinks.sh"
 
 # Adds the runs that another program judged: it prints those that failed, and in its last line 'NAME: N passed, M failed'.
 add_runs() {

@@ -109,7 +109,8 @@ done
 # Words that are empty, as an unset variable of a shell gives them.
 want -
 mkdir "$scratch/root"
-for words in 'check --side 3 --products' 'check --side 3 --products=' 'check --products a' 'make --side 3 --out' 'make --out a' 'header'; do
+for words in 'check --side 3 --products' 'check --side 3 --products=' 'check --products a' 'make --side 3 --out' 'make --out a' 'header' \
+    'check --products a --sinks' 'make --out a --sinks'; do
     (cd "$scratch/root" && "$drain" $words '' >"$scratch/out" 2>"$scratch/err")
     judge "an empty word: $words" 2 "$scratch/want" $? words
 done
