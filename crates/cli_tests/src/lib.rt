@@ -10,6 +10,10 @@ mod fill_runs;
 #[cfg(test)]
 mod header_runs;
 #[cfg(test)]
+mod list_reads;
+#[cfg(test)]
+mod listed_sinks;
+#[cfg(test)]
 mod make_runs;
 #[cfg(test)]
 mod making;

@@ -1,0 +1,138 @@
+//! Lists of sinks that are read whole, from sources that are slow, interrupted or fail.
+
+use drain_cli::sink_file::read_list;
+use drain_device::faults::{ScriptSource, Scripted};
+use drain_device::{BodyFault, DeviceFault};
+use refused_memory::owed;
+use std::alloc::Global;
+use std::process::Abort;
+use std::test::Fail;
+
+/// The bytes of the longest list here.
+const LONGEST: usize = 40_000;
+
+/// A number that no part of a list repeats in the same place.
+fn byte_at(place: usize) -> u8 {
+    (place % 251) as u8
+}
+
+/// The longest list.
+fn bytes() -> [u8; LONGEST] {
+    let mut bytes = [0; LONGEST];
+    for (place, byte) in bytes.iter_mut().enumerate() {
+        *byte = byte_at(place);
+    }
+    bytes
+}
+
+/// How many bytes were read of a list of so many, if they are the list's own. The source gives at most so many bytes at a call, and faults by the script.
+fn came(
+    alloc: Global,
+    length: usize,
+    most: usize,
+    script: &[Scripted<DeviceFault>],
+) -> Result<Option<usize>, BodyFault> {
+    let bytes = bytes();
+    let Some(list) = bytes.get(..length) else {
+        return Ok(None);
+    };
+    if most == 0 {
+        return Ok(None);
+    }
+    let mut source = ScriptSource::new(list, most, script);
+    let came = read_list(alloc, &mut source)?;
+    Ok(if came.as_slice() == list {
+        Some(came.len())
+    } else {
+        None
+    })
+}
+
+/// Ends the test where something else came than has to.
+fn same_read(
+    rt: &impl Abort,
+    case: u64,
+    came: Result<Option<usize>, BodyFault>,
+    wanted: Result<Option<usize>, BodyFault>,
+) {
+    assert_eq!(rt; came, wanted, "{case}");
+}
+
+#[test]
+fn reads_lists_of_each_length_whole(rt: HostRuntime) -> Result<(), Fail> {
+    for length in [0, 1, 16_383, 16_384, 16_385, 32_768, LONGEST] {
+        for most in [1, 7, 16_384, 100_000] {
+            let read = came(rt.alloc(), length, most, &[]);
+            same_read(&rt, length as u64, read, Ok(Some(length)));
+        }
+    }
+    Ok(())
+}
+
+/// A fault at these calls of a source.
+fn fault(first: u64, last: u64, answer: DeviceFault) -> [Scripted<DeviceFault>; 1] {
+    [Scripted {
+        first,
+        last,
+        answer,
+    }]
+}
+
+#[test]
+fn bears_999_interruptions_of_a_list(rt: HostRuntime) -> Result<(), Fail> {
+    let whole = Ok(Some(LONGEST));
+    let failed = Err(BodyFault::ReadFailed);
+    let interrupted = DeviceFault::Interrupted;
+    for (case, script, wanted) in [
+        (1, fault(1, 999, interrupted), whole),
+        (2, fault(1, 1000, interrupted), failed),
+        (3, fault(20, 1018, interrupted), whole),
+        (4, fault(20, 1019, interrupted), failed),
+        (5, fault(1, u64::MAX, interrupted), failed),
+        (6, fault(1, 1, DeviceFault::Failed), failed),
+        (7, fault(20, 20, DeviceFault::Failed), failed),
+        (8, fault(42, 42, DeviceFault::Failed), failed),
+        (9, fault(43, 43, DeviceFault::Failed), failed),
+        (10, fault(44, 44, DeviceFault::Failed), whole),
+    ] {
+        // 42 calls give all, as the last of a chunk gives less, and the next finds the end.
+        same_read(&rt, case, came(rt.alloc(), LONGEST, 1000, &script), wanted);
+    }
+    Ok(())
+}
+
+/// Interruptions of one chunk after another are counted together.
+#[test]
+fn counts_interruptions_over_all_chunks(rt: HostRuntime) -> Result<(), Fail> {
+    for (case, last, wanted) in [
+        (1, 1000, Ok(Some(LONGEST))),
+        (2, 1001, Err(BodyFault::ReadFailed)),
+    ] {
+        let script = [
+            Scripted {
+                first: 1,
+                last: 500,
+                answer: DeviceFault::Interrupted,
+            },
+            Scripted {
+                first: 502,
+                last,
+                answer: DeviceFault::Interrupted,
+            },
+        ];
+        let read = came(rt.alloc(), LONGEST, 16_384, &script);
+        same_read(&rt, case, read, wanted);
+    }
+    Ok(())
+}
+
+/// Of itself memory is there; `tests/refuse_memory.c` refuses it.
+#[test]
+fn a_list_after_refused_memory(rt: HostRuntime) -> Result<(), Fail> {
+    let right = Ok(Some(LONGEST));
+    let first = came(rt.alloc(), LONGEST, 1000, &[]);
+    let wanted = owed(rt.alloc(), Err(BodyFault::OutOfMemory), right);
+    same_read(&rt, 1, first, wanted);
+    same_read(&rt, 2, came(rt.alloc(), LONGEST, 1000, &[]), right);
+    Ok(())
+}
