@@ -69,7 +69,7 @@ fn check_printed<'a>(
     mut out: ScriptSink<'_>,
 ) -> Result<Printed, BodyFault> {
     let mut tiles = [tile];
-    let status = run_check(alloc, side, &mut tiles, &mut products, &mut out);
+    let status = run_check(alloc, side, &mut tiles, &[], &mut products, &mut out);
     Printed::new(out.as_slice(), status)
 }
 

@@ -2,59 +2,20 @@
 
 ghost use Rattle.std.specs.Prelude.{◌≡◌, length, IfOk};
 
-use crate::making::{Tile, at_zero, inputs, make};
-use crate::printed::{Printed, ROOM, check_printed, files_of, room, same_run};
+use crate::making::{PIT, Tile, at_zero, check, inputs, make};
+use crate::printed::{Printed, ROOM, room, same_run};
 use drain_cli::make_set::make_set;
 use drain_cli::write_set::write_set;
+use drain_device::VecSink;
 use drain_device::faults::{ScriptSink, Scripted, SinkAnswer};
-use drain_device::{ByteList, SliceSource, VecSink};
-use drain_grid::{PerProduct, Product};
-use drain_hgt::TileInput;
 use drain_maker::product_files::FILE_COUNT;
-use drain_verdict::{Products, RasterInput};
 use std::alloc::{AllocError, Global};
 use std::test::Fail;
-
-/// A tile of side 3 with border 5 and a pit of 1.
-const PIT: [u8; 18] = [0, 5, 0, 5, 0, 5, 0, 5, 0, 1, 0, 5, 0, 5, 0, 5, 0, 5];
 
 /// A tile of side 4 that falls to the east, each row 4 3 2 1.
 const SLOPE: [u8; 32] = [
     0, 4, 0, 3, 0, 2, 0, 1, 0, 4, 0, 3, 0, 2, 0, 1, 0, 4, 0, 3, 0, 2, 0, 1, 0, 4, 0, 3, 0, 2, 0, 1,
 ];
-
-/// A product whose header and raster are among the files.
-fn product_of<'a>(
-    alloc: Global,
-    files: &'a [VecSink],
-    product: Product,
-) -> Result<RasterInput<SliceSource<'a>>, Fail> {
-    let (header, raster) = files_of(files, product)?;
-    Ok(RasterInput {
-        header: ByteList::new(Vec::from_slice(alloc, header)?),
-        body: SliceSource::new(raster),
-    })
-}
-
-/// The products whose headers and rasters are the files.
-fn products<'a>(alloc: Global, files: &'a [VecSink]) -> Result<Products<SliceSource<'a>>, Fail> {
-    let input = |product: Product| -> Result<RasterInput<SliceSource<'_>>, Fail> {
-        product_of(alloc, files, product)
-    };
-    PerProduct::from_each(&input)
-}
-
-/// Checks the files with the tiles.
-fn check<'a>(
-    alloc: Global,
-    side: u32,
-    tiles: &[Tile<'a>],
-    files: &'a [VecSink],
-) -> Result<Printed, Fail> {
-    let mut products = products(alloc, files)?;
-    let mut inputs = inputs(alloc, tiles)?;
-    check_printed(alloc, side, &mut inputs, &mut products)
-}
 
 /// Whether the run printed this line and ended with this status.
 fn is(run: &Printed, line: &str, status: u8) -> bool {
@@ -70,8 +31,8 @@ fn tells(
     accepted: &str,
 ) -> Result<bool, Fail> {
     let mut files = Vec::new(alloc);
-    let making = make(alloc, side, tiles, ROOM, &mut files)?;
-    let checking = check(alloc, side, tiles, files.as_slice())?;
+    let making = make(alloc, side, tiles, &[], ROOM, &mut files)?;
+    let checking = check(alloc, side, tiles, &[], files.as_slice())?;
     Ok(is(&making, made, 0) && is(&checking, accepted, 0))
 }
 
@@ -188,7 +149,7 @@ fn what_is_made_of_every_tile_of_nine_inner_samples_is_accepted(
 /// Whether nothing is made of the tiles, and the line tells why.
 fn refuses(alloc: Global, side: u32, tiles: &[Tile<'_>], line: &str) -> Result<bool, Fail> {
     let mut files = Vec::new(alloc);
-    let making = make(alloc, side, tiles, ROOM, &mut files)?;
+    let making = make(alloc, side, tiles, &[], ROOM, &mut files)?;
     Ok(is(&making, line, 2) && files.is_empty())
 }
 
@@ -272,7 +233,7 @@ fn lengths_where_one_fails(
     let mut out = VecSink::new(room(alloc)?);
     let mut files = scripted_files(alloc, place, &fails)?;
     let mut inputs = inputs(alloc, &at_zero(&PIT))?;
-    let Ok((layout, products)) = make_set(alloc, 3, inputs.as_mut_slice(), &mut out) else {
+    let Ok((layout, products)) = make_set(alloc, 3, inputs.as_mut_slice(), &[], &mut out) else {
         Printed::new(out.as_slice(), 0)?;
         return Err("nothing made".into());
     };

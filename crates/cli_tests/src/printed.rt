@@ -114,14 +114,15 @@ pub fn same_line(rt: &impl Abort, case: &str, run: &Printed, line: &str, status:
     );
 }
 
-/// What a check prints.
+/// What a check with this list of sinks prints.
 pub fn check_printed<R: ByteSource>(
     alloc: Global,
     side: u32,
     tiles: &mut [TileInput<R>],
+    sinks: &[u8],
     products: &mut Products<R>,
 ) -> Result<Printed, Fail> {
     let mut out = VecSink::new(room(alloc)?);
-    let status = run_check(alloc, side, tiles, products, &mut out);
+    let status = run_check(alloc, side, tiles, sinks, products, &mut out);
     Ok(Printed::new(out.as_slice(), status)?)
 }

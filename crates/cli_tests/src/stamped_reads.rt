@@ -92,7 +92,14 @@ impl ByteSource for Stamped<'_> {
 /// The files of the products that are made of the tile of zeros.
 fn made(alloc: Global) -> Result<Vec<VecSink>, Fail> {
     let mut files = Vec::new(alloc);
-    let run = make(alloc, 64, &at_zero(&ZEROS), 4 * SIDE * SIDE, &mut files)?;
+    let run = make(
+        alloc,
+        64,
+        &at_zero(&ZEROS),
+        &[],
+        4 * SIDE * SIDE,
+        &mut files,
+    )?;
     match run.status {
         0 => Ok(files),
         _ => Err("the files were not made and written".into()),
@@ -162,7 +169,7 @@ fn stamps(alloc: Global, files: &[VecSink]) -> Result<[(Stamps, Stamps); 7], Fai
     };
     let mut products = products(alloc, watched)?;
     let mut tiles = [tile(alloc, &clock)?];
-    let run = check_printed(alloc, 64, &mut tiles, &mut products)?;
+    let run = check_printed(alloc, 64, &mut tiles, &[], &mut products)?;
     if run.status != 0 {
         return Err("not accepted".into());
     }
