@@ -1,7 +1,7 @@
 //! Runs of `drain check` and `drain make` with lists of sinks: the pit of side 3, whose centre the list names. The expected lines and numbers were
 //! worked out by hand.
 
-use crate::making::{PIT, Tile, at_zero, check, inputs, make};
+use crate::making::{PIT, Tile, at_zero, inputs, make};
 use crate::printed::{Printed, ROOM, check_printed, files_of, same_line};
 use drain_device::{ByteList, SliceSource, VecSink};
 use drain_grid::{PerProduct, Product};
@@ -173,32 +173,6 @@ fn tells_why_nothing_is_made_with_a_list(rt: HostRuntime) -> Result<(), Fail> {
     for (side, tiles, count, list, line) in cases {
         let answered = made(rt.alloc(), side, &tiles[..count], list)?;
         same_line(&rt, list, &answered, line, 2);
-    }
-    Ok(())
-}
-
-/// What making the pit's products with a list prints, and checking them with another.
-fn made_and_checked(alloc: Global, list: &str, other: &str) -> Result<(Printed, Printed), Fail> {
-    let mut files = Vec::new(alloc);
-    let tiles = at_zero(&PIT);
-    let making = make(alloc, 3, &tiles, list.as_bytes(), ROOM, &mut files)?;
-    let checking = check(alloc, 3, &tiles, other.as_bytes(), files.as_slice())?;
-    Ok((making, checking))
-}
-
-#[test]
-fn what_is_made_with_a_list_is_accepted_with_it(rt: HostRuntime) -> Result<(), Fail> {
-    for (list, other, status, line) in [
-        ("1 1", "1 1", 0, LISTED_LINE),
-        ("1 1\n", "0 0\n\n1 1\n1 1", 0, LISTED_LINE),
-        ("1 1", "", 1, "rejected rule=6 NoSpill row=1 col=1\n"),
-        ("", "1 1", 1, "rejected rule=5 OpenRaised row=1 col=1\n"),
-        ("0 1", "", 0, FILLED_LINE),
-        ("", "2 2\n0 1", 0, FILLED_LINE),
-    ] {
-        let (making, checking) = made_and_checked(rt.alloc(), list, other)?;
-        same_line(&rt, list, &making, "made rows=3 cols=3\n", 0);
-        same_line(&rt, list, &checking, line, status);
     }
     Ok(())
 }
