@@ -35,9 +35,10 @@ pub enum MakeRefusal {
 
 /// The products of a mosaic's elevations with these sinks, with the default no-data numbers.
 ///
-/// `SinkNotData` tells the least line that lists a cell without data, and comes before all else. /// All rules were tried at every cell of what it hands out, and every number can be spelled by the pixels of `product_header`; else the
-/// answer is `MakerFault`. `OutOfMemory` comes where memory was refused. Labels count the outlets in row order from 1; a rank is the number of
-/// steps to an open cell along spill parents; off flats the direction is the first steepest, on flats the spill parent's.
+/// `SinkNotData` tells the least line that lists a cell without data, and comes before all else. All rules were tried at every cell of what it
+/// hands out, and every number can be spelled by the pixels of `product_header`; else the answer is `MakerFault`. `OutOfMemory` comes where
+/// memory was refused. Labels count the outlets in row order from 1; a rank is the number of steps to an open cell along spill parents; off
+/// flats the direction is the first steepest, on flats the spill parent's.
 pub fn make(
     alloc: Global,
     layout: &Layout,
