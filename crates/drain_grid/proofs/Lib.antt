@@ -25,8 +25,10 @@ pub mod Patches
 pub mod PresenceFaults
 pub mod Profiles
 pub mod WorkedGrids
+pub mod RowCopies
 pub mod RuleDecisions
 pub mod RuleNumbers
+pub mod RunPaths
 pub mod Runs
 pub mod Slopes
 pub mod SpillPaths

@@ -19,6 +19,7 @@ abbrev pub numbered_from : ℕ → List LineRun → List Cell → List SinkLine
 numbered_from i runs [] = []
 numbered_from i runs (c ∷ cells) = record { line = number_at runs i; cell = c } ∷ numbered_from (i + 1) runs cells
 
+-- the same from the first cell on
 abbrev pub numbered : List LineRun → List Cell → List SinkLine
 numbered runs cells = numbered_from 0 runs cells
 

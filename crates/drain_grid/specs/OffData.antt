@@ -32,11 +32,12 @@ pub record IsLeastLine (has : Cell → Bool) (sinks : List SinkLine) (n line : �
 abbrev pub IsLeastOff : (Cell → Bool) → List SinkLine → ℕ → Option ℕ → Type 0
 IsLeastOff has sinks n found = MatchOption found ((k : ℕ) (s : SinkLine) → k < n → slice_get sinks k ≡ Some s → has s.cell ≡ true) (IsLeastLine has sinks n)
 
--- this is the least line that lists a cell without data, none where each lists a data cell
+-- this is the least line that lists a cell without data
 pub record IsFirstOffData (g : Grid) (sinks : List SinkLine) (line : ℕ) : Type 0 where
   pub off : IsOffData g sinks line
   pub first : (n : ℕ) → n < line → ¬ IsOffData g sinks n
 
+-- it is found, and none where each line lists a data cell
 abbrev pub IsOffAnswer : Grid → List SinkLine → Option ℕ → Type 0
 IsOffAnswer g sinks None = (n : ℕ) → ¬ IsOffData g sinks n
 IsOffAnswer g sinks (Some line) = IsFirstOffData g sinks line

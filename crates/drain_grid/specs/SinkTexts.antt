@@ -19,6 +19,7 @@ words_say (row ∷ []) = NoSink
 words_say (row ∷ (col ∷ [])) = numbers_say (whole_number row) (whole_number col)
 words_say (row ∷ (col ∷ (more ∷ rest))) = NoSink
 
+-- a line says what its words say
 abbrev pub line_says : List ℕ → LineSays
 line_says line = words_say (words_of line)
 

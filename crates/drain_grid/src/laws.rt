@@ -4,7 +4,7 @@
 
 ghost use Rattle.std.specs.Prelude.{◌≡◌, pos, neg_ℤ};
 ghost use Rattle.drain_grid.specs.OffData.{FoundOffDataIsRight};
-ghost use Rattle.drain_grid.specs.Laws.{CorrectFromRules, CountsUpstream, LabelsAreBasins, LeastFromRules, OpenWithoutSinks, RunsEnd};
+ghost use Rattle.drain_grid.specs.Laws.{CorrectFromRules, CorrectFromRulesProfile2, CountsUpstream, LabelsAreBasins, LeastFromRules, LeastFromRulesProfile2, OpenWithoutSinks, Profile2FromProfile1, RunsEnd};
 
 use crate::cell::MAX_LENGTH;
 use crate::degree::UNITS_PER_DEGREE;
@@ -36,6 +36,16 @@ pub fn least_from_rules()
     ensures { LeastFromRules }
 {}
 
+/// Without spill parents rules 4, 5 and 9, with 10 to 12, do so.
+pub fn least_from_rules_profile2()
+    ensures { LeastFromRulesProfile2 }
+{}
+
+/// A rule that holds at a cell in the profile with spill parents holds there in the profile without.
+pub fn profile2_from_profile1()
+    ensures { Profile2FromProfile1 }
+{}
+
 /// Where rules 10 to 12 hold at every cell, no code climbs, each run visits a cell at most once and
 /// ends at an outlet, and the code is 0 exactly at the outlets.
 pub fn runs_end()
@@ -57,6 +67,11 @@ pub fn labels_are_basins()
 /// and each ends at an outlet.
 pub fn correct_from_rules()
     ensures { CorrectFromRules }
+{}
+
+/// Where all rules of the profile without spill parents hold at every cell, the same.
+pub fn correct_from_rules_profile2()
+    ensures { CorrectFromRulesProfile2 }
 {}
 
 /// The least line that lists a cell without data, as it was asked cell by cell, is that of the grid whose cells were told.
