@@ -10,6 +10,7 @@
 #![tactic(auto)]
 
 pub mod below;
+mod surface;
 
 ghost use Rattle.std.specs.Prelude.{◌≡◌, ◌↔◌, ◌<ℤ◌, IsTrue, Some};
 ghost use Rattle.std.specs.Int.{int_max};
@@ -19,6 +20,7 @@ ghost use Rattle.drain_grid.specs.Rule.{IsFillRule, IsAboveRule, IsLevelRule, Is
 
 pub use below::first_below;
 use drain_grid::{CellValues, Patch, Rule};
+pub use surface::{fault_above_profile2, fault_profile2};
 
 /// The first of the six rules that fails at the cell, none where they all hold. A void keeps them all.
 pub fn fault(patch: &Patch) -> Option<Rule>
