@@ -15,7 +15,8 @@ use crate::rasters::{raster_of_codes, raster_of_counts, raster_of_heights};
 use drain_grid::laws::found_off_data_is_right;
 use drain_grid::{Elevation, OutOfMemory, Product, ProductSet, Sinks, first_off_data};
 use drain_mosaic::Layout;
-use drain_rules::{Verdict, verdict_of};
+use drain_rules::Verdict;
+use drain_verdict::verdict_row_by_row;
 use std::alloc::Global;
 use thiserror::Error;
 
@@ -104,7 +105,7 @@ fn test_products(
     ensures correct { OnOk result (IsCorrect (grid_of elevation.now sinks.now) (products_of products.now) default_numbers) }
     ensures runs { OnOk result (RunsAreSound (grid_of elevation.now sinks.now) (products_of products.now)) }
 {
-    match verdict_of(alloc, elevation, sinks, products) {
+    match verdict_row_by_row(alloc, elevation, sinks, products) {
         Ok(Verdict::Accepted(_)) => Ok(()),
         Ok(Verdict::Rejected { .. }) => Err(TestFault::BreaksRule),
         Err(OutOfMemory) => Err(TestFault::OutOfMemory),

@@ -26,4 +26,5 @@ mod StartAnswers
 mod Telling
 mod TileLists
 pub mod VoidRows
+mod WholeRowLemmas
 mod WindowLemmas

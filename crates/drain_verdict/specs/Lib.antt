@@ -16,3 +16,4 @@ pub mod Refusals
 pub mod SinkListings
 pub mod Stages
 pub mod ToGive
+pub mod WholeRows

@@ -24,6 +24,7 @@ mod sink_listing;
 mod sink_refusal;
 mod tiles;
 pub mod verdict_report;
+mod whole_rows;
 mod window;
 
 pub use answer_report::report;
@@ -33,3 +34,4 @@ pub use fill_line::fill_report;
 pub use input::{Products, RasterInput};
 pub use mosaic::{Mosaic, read_mosaic};
 pub use refusal::Refusal;
+pub use whole_rows::verdict_row_by_row;

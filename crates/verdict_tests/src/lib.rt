@@ -35,3 +35,5 @@ mod second_checks;
 mod sink_orders;
 #[cfg(test)]
 mod sources;
+#[cfg(test)]
+mod whole_rows;
