@@ -1,6 +1,7 @@
 #!/usr/bin/env bash
 # Shows what a list of sinks costs `drain make` and `drain check` on a tile of side 3601: no list, 1,000 cells and 1,000,000 cells, taken at random from
-# the data cells, timed in turn. Each check has to accept what was made with its list. It exits with 1 where one doesn't; times never make it fail.
+# the data cells, timed in turn; on made-up terrain, where a list changes the products, and on the same terrain filled, where it makes outlets and little else.
+# Each check has to accept what was made with its list. It exits with 1 where one doesn't; times never make it fail.
 # Usage: bench/sinks.sh DRAIN [SIDE]
 set -euo pipefail
 drain=$(realpath "$1")
@@ -15,12 +16,11 @@ for name in make_check_input measure; do
     rustc --edition 2024 -O -C target-cpu=x86-64-v2 -o "$out/$name" "$bench/$name.rs"
 done
 "$out/make_check_input" "$side" "$side" "$scratch/terrain"
-tile=$scratch/terrain/N00E000.hgt
 
-# Writes a list of so many data cells, in no order.
-# Usage: list COUNT
+# Writes a list of so many data cells of a tile, in no order.
+# Usage: list TILE COUNT
 list() {
-    python3 - "$tile" "$side" "$1" <<'PY'
+    python3 - "$1" "$side" "$2" <<'PY'
 import random, struct, sys
 tile, side, count = open(sys.argv[1], "rb").read(), int(sys.argv[2]), int(sys.argv[3])
 heights = struct.unpack(f">{side * side}h", tile)
@@ -38,26 +38,45 @@ command_as() {
     chmod +x "$scratch/$1"
 }
 
+# Makes and checks with no list and with two, and then times them in turn.
+# Usage: time_lists TILE
 differ=0
-checks=()
-makes=()
-for count in 0 1000 1000000; do
-    words=()
-    if [ "$count" != 0 ]; then
-        list "$count" >"$scratch/list-$count"
-        words=(--sinks "$scratch/list-$count")
-    fi
-    mkdir -p "$scratch/made-$count"
-    command_as "make_$count" make --side "$side" --out "$scratch/made-$count" "${words[@]}" "$tile"
-    command_as "check_$count" check --side "$side" --products "$scratch/made-$count" "${words[@]}" "$tile"
-    makes+=("$scratch/make_$count")
-    checks+=("$scratch/check_$count")
-    "$scratch/make_$count"
-    line=$("$scratch/check_$count") || differ=1
-    echo "$count listed: $line"
-done
-for commands in makes checks; do
-    declare -n programs=$commands
-    "$out/measure" 5 $((side * side)) /dev/null "${programs[@]}" --
-done
+time_lists() {
+    local tile=$1 count words line
+    local checks=() makes=()
+    for count in 0 1000 1000000; do
+        words=()
+        if [ "$count" != 0 ]; then
+            list "$tile" "$count" >"$scratch/list-$count"
+            words=(--sinks "$scratch/list-$count")
+        fi
+        mkdir -p "$scratch/made-$count"
+        command_as "make_$count" make --side "$side" --out "$scratch/made-$count" "${words[@]}" "$tile"
+        command_as "check_$count" check --side "$side" --products "$scratch/made-$count" "${words[@]}" "$tile"
+        makes+=("$scratch/make_$count")
+        checks+=("$scratch/check_$count")
+        "$scratch/make_$count"
+        line=$("$scratch/check_$count") || differ=1
+        echo "$count listed: $line"
+    done
+    "$out/measure" 7 $((side * side)) /dev/null "${makes[@]}" --
+    "$out/measure" 7 $((side * side)) /dev/null "${checks[@]}" --
+}
+
+# Writes the conditioned elevation that was made as a tile, whose bytes stand the other way round.
+# Usage: filled_tile CON TILE
+filled_tile() {
+    python3 - "$1" "$2" <<'PY'
+import array, sys
+heights = array.array("h", open(sys.argv[1], "rb").read())
+heights.byteswap()
+open(sys.argv[2], "wb").write(heights.tobytes())
+PY
+}
+
+time_lists "$scratch/terrain/N00E000.hgt"
+mkdir "$scratch/filled"
+filled_tile "$scratch/made-0/con.bil" "$scratch/filled/N00E000.hgt"
+echo "the same terrain filled"
+time_lists "$scratch/filled/N00E000.hgt"
 exit "$differ"

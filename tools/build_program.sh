@@ -39,7 +39,7 @@ jobs=$(nproc)
 log=$(mktemp)
 trap 'rm -f "$log"' EXIT
 crates=$(grep -c '^[a-z]' ../../crates.txt)
-echo "Proving the $crates crates, $jobs at a time: about a quarter of an hour with 4 processors the first time, seconds after that ..."
+echo "Proving the $crates crates, $jobs at a time: a quarter to half an hour with 4 processors the first time, seconds after that ..."
 started=$SECONDS
 (cd ../.. && exec rt all check --jobs "$jobs") >"$log" 2>&1 </dev/null &
 prover=$!
