@@ -1,11 +1,13 @@
-//! Patches of which only what these rules read is given, each with the first rule that fails; and slices with
-//! their first place below the ground.
+//! Patches of which only what these rules read is given, each with the first rule that fails, with spill parents and without; and slices
+//! with their first place below the ground.
 
-ghost use Rattle.std.specs.Prelude.{◌<◌};
+ghost use Rattle.std.specs.Prelude.{◌↔◌, ◌<◌, IsTrue};
+ghost use Rattle.drain_grid.specs.PatchRules.{BelowGroundHolds};
 
 use crate::agree::{same, same_rule};
-use drain_fill::{fault, first_below};
+use drain_fill::{fault, fault_above_profile2, fault_profile2, first_below};
 use drain_grid::{CellValues, Patch, Rule};
+use std::process::Abort;
 use std::test::Fail;
 
 /// What stands beside the cell.
@@ -46,35 +48,78 @@ fn patch(here: CellValues, east: Beside, other: Beside) -> Patch {
     Patch { here, around }
 }
 
+/// Whether the cell is not below its ground. A void never is.
+fn is_above_ground(patch: &Patch) -> bool
+    ensures { IsTrue result ↔ BelowGroundHolds patch.now }
+{
+    match patch.here.z {
+        Some(ground) => i64::from(ground) <= patch.here.con,
+        None => true,
+    }
+}
+
+/// The first of the rules after BelowGround that fails, spill parents aside. Where the cell is below its ground, they aren't asked.
+fn fault_above(patch: &Patch) -> Option<Option<Rule>> {
+    if is_above_ground(patch) {
+        Some(fault_above_profile2(patch))
+    } else {
+        None
+    }
+}
+
+/// Ends the test where another rule fails first, spill parents aside; also among those after BelowGround.
+fn same_without_spill(rt: &impl Abort, name: &str, patch: &Patch, wanted: Option<Rule>) {
+    same_rule(rt, name, fault_profile2(patch), wanted);
+    let above = if wanted == Some(Rule::BelowGround) {
+        None
+    } else {
+        Some(wanted)
+    };
+    same(rt, name, fault_above(patch), above);
+}
+
+/// The code of the spill parent and the rank stand before the rule that fails with spill parents, and that which fails without.
 #[test]
 fn cells_in_a_pit(rt: HostRuntime) -> Result<(), Fail> {
-    for (name, east, con, spl, rnk, wanted) in [
-        ("a filled pit", Rim, 5, 1, 1, None),
-        ("under its ground", Sunk, 5, 1, 1, None),
-        ("below ground", Rim, 0, 1, 1, Some(Rule::BelowGround)),
-        ("no spill parent", Rim, 5, 0, 1, Some(Rule::NoSpill)),
-        ("no spill code", Rim, 5, 3, 1, Some(Rule::NoSpill)),
-        ("not raised", Rim, 1, 1, 1, Some(Rule::SpillHeight)),
-        ("too high", Rim, 6, 1, 1, Some(Rule::SpillHeight)),
-        ("equal ranks", Rim, 5, 1, 0, Some(Rule::SpillRank)),
-        ("smaller rank", Rim, 5, 1, -1, Some(Rule::SpillRank)),
-        ("past a crest", Crest, 5, 2, 1, None),
-        ("needless crest", Crest, 7, 1, 1, Some(Rule::NotLeast)),
-        ("not its crest", Crest, 7, 2, 1, Some(Rule::SpillHeight)),
-        ("open", Outside, 1, 0, 1, None),
-        ("open, raised", Outside, 5, 0, 1, Some(Rule::OpenRaised)),
-        ("open, spill", Outside, 1, 1, 1, Some(Rule::OpenRaised)),
-        ("beside a void", Void, 1, 0, 1, None),
-        ("to a void", Void, 1, 1, 1, Some(Rule::OpenRaised)),
-        ("as a void", Void, -32768, 1, 1, Some(Rule::BelowGround)),
+    let (below, raised) = (Some(Rule::BelowGround), Some(Rule::OpenRaised));
+    let (no_spill, height) = (Some(Rule::NoSpill), Some(Rule::SpillHeight));
+    let (rank, not_least) = (Some(Rule::SpillRank), Some(Rule::NotLeast));
+    for (name, east, con, spl, rnk, wanted, without_spill) in [
+        ("a filled pit", Rim, 5, 1, 1, None, None),
+        ("under its ground", Sunk, 5, 1, 1, None, None),
+        ("below ground", Rim, 0, 1, 1, below, below),
+        ("no spill parent", Rim, 5, 0, 1, no_spill, None),
+        ("no spill code", Rim, 5, 3, 1, no_spill, None),
+        ("no data for spill", Rim, 5, 255, 1, no_spill, None),
+        ("not raised", Rim, 1, 1, 1, height, None),
+        ("raised halfway", Rim, 3, 1, 1, height, None),
+        ("too high", Rim, 6, 1, 1, height, not_least),
+        ("too high, no spill", Rim, 6, 0, 1, no_spill, not_least),
+        ("equal ranks", Rim, 5, 1, 0, rank, None),
+        ("smaller rank", Rim, 5, 1, -1, rank, None),
+        ("past a crest", Crest, 5, 2, 1, None, None),
+        ("needless crest", Crest, 7, 1, 1, not_least, not_least),
+        ("not its crest", Crest, 7, 2, 1, height, not_least),
+        ("open", Outside, 1, 0, 1, None, None),
+        ("open, raised", Outside, 5, 0, 1, raised, raised),
+        ("open, not least", Outside, 6, 0, 1, raised, raised),
+        ("open, below", Outside, 0, 0, 1, below, below),
+        ("open, spill", Outside, 1, 1, 1, raised, None),
+        ("open, no code", Outside, 1, 3, 1, raised, None),
+        ("beside a void", Void, 1, 0, 1, None, None),
+        ("to a void", Void, 1, 1, 1, raised, None),
+        ("raised by a void", Void, 5, 0, 1, raised, raised),
+        ("as a void", Void, -32768, 1, 1, below, below),
     ] {
         let here = cell(Some(1), con, spl, rnk).ok_or(name)?;
-        let found = fault(&patch(here, east, Rim));
-        same_rule(&rt, name, found, wanted);
+        let shown = patch(here, east, Rim);
+        same_rule(&rt, name, fault(&shown), wanted);
+        same_without_spill(&rt, name, &shown, without_spill);
     }
     Ok(())
 }
 
+/// Without spill parents the same rules fail.
 #[test]
 fn voids_and_bounds(rt: HostRuntime) -> Result<(), Fail> {
     let below = Some(Rule::BelowGround);
@@ -94,8 +139,9 @@ fn voids_and_bounds(rt: HostRuntime) -> Result<(), Fail> {
         ("least", Some(1), -2147483648, 64, 0, Least, below),
     ] {
         let here = cell(z, con, spl, rnk).ok_or("a number that no pixel spells")?;
-        let found = fault(&patch(here, beside, beside));
-        same_rule(&rt, name, found, wanted);
+        let shown = patch(here, beside, beside);
+        same_rule(&rt, name, fault(&shown), wanted);
+        same_without_spill(&rt, name, &shown, wanted);
     }
     Ok(())
 }

@@ -2,11 +2,11 @@
 
 ghost use Rattle.std.specs.Prelude.{◌≡◌, IfOk};
 
-use crate::agree::{same, same_rule};
+use crate::agree::same;
 use drain_grid::tile::{height_from, is_side};
 use drain_grid::{
-    Cell, CellValues, Code, Direction, Elevation, NoData, Patch, PerProduct, Product, ProductSet,
-    Raster, Rule, Shape, Sinks, VOID, parse_sinks,
+    Cell, CellValues, Code, Direction, Elevation, Held, NoData, Patch, PerProduct, Product,
+    ProductSet, Raster, Rule, Shape, Sinks, VOID, parse_sinks,
 };
 use std::alloc::{AllocError, Global};
 use std::test::Fail;
@@ -150,46 +150,11 @@ fn open_and_lower_cells(rt: HostRuntime) -> Result<(), Fail> {
 }
 
 /// A cell's values in the order of `CellValues::new`.
-fn values(
+pub fn values(
     z: Option<i16>,
     [con, dir, acc, bas, spl, rnk]: [i64; 6],
 ) -> Result<CellValues, &'static str> {
     CellValues::new(z, false, con, dir, acc, bas, spl, rnk).ok_or("values")
-}
-
-#[test]
-fn voids_missing_numbers_and_codes(rt: HostRuntime) -> Result<(), Fail> {
-    let blank = [-32768, 255, 0, 0, 255, 4294967295];
-    for (name, z, numbers, fault) in [
-        ("a void with the six numbers", None, blank, None),
-        (
-            "a void with an accumulation",
-            None,
-            [-32768, 255, 1, 0, 255, 4294967295],
-            Some(Rule::VoidCell),
-        ),
-        (
-            "a data cell with a direction that is no code",
-            Some(5),
-            [5, 3, 1, 1, 0, 0],
-            Some(Rule::BadCode),
-        ),
-        (
-            "a data cell with no direction",
-            Some(5),
-            [5, 255, 1, 1, 0, 0],
-            Some(Rule::Missing),
-        ),
-        ("an outlet", Some(5), [5, 0, 1, 1, 0, 0], None),
-    ] {
-        let patch = Patch {
-            here: values(z, numbers)?,
-            around: [None; 8],
-        };
-        let found = patch.presence_fault(&NoData::defaults());
-        same_rule(&rt, name, found, fault);
-    }
-    Ok(())
 }
 
 #[test]
@@ -210,22 +175,30 @@ fn products_and_their_defaults(rt: HostRuntime) {
     }
 }
 
+/// A set holds all of them but spill parents, in their order.
+#[test]
+fn products_that_a_set_holds(rt: HostRuntime) {
+    let given = Held::ALL.map(|held| held.product().name());
+    same(&rt, "held", given, ["con", "dir", "acc", "bas", "rnk"]);
+}
+
 #[test]
 fn one_thing_for_each_product(rt: HostRuntime) -> Result<(), Fail> {
-    let defaults = |product: Product| -> Result<i64, Product> { Ok(product.default_no_data()) };
+    let defaults = |held: Held| -> Result<i64, Held> { Ok(held.product().default_no_data()) };
     let Ok(numbers) = PerProduct::from_each(&defaults) else {
         return Err("numbers".into());
     };
-    let given = (numbers.con, *numbers.of(Product::Spl));
-    same(&rt, "numbers", given, (-32768, 255));
-    let above_zero = |product: Product| -> Result<i64, Product> {
-        match product.default_no_data() {
-            0 => Err(product),
+    let given = (numbers.con, Held::ALL.map(|held| *numbers.of(held)));
+    let wanted = (-32768, [-32768, 255, 0, 0, 4294967295]);
+    same(&rt, "numbers", given, wanted);
+    let above_zero = |held: Held| -> Result<i64, Held> {
+        match held.product().default_no_data() {
+            0 => Err(held),
             number => Ok(number),
         }
     };
     let first = PerProduct::from_each(&above_zero).err();
-    same(&rt, "the first that fails", first, Some(Product::Acc));
+    same(&rt, "the first that fails", first, Some(Held::Acc));
     Ok(())
 }
 
@@ -272,8 +245,7 @@ fn numbered(alloc: Global, shape: Shape) -> Result<ProductSet, AllocError>
         dir: two_by_two(alloc, shape, [20, 21, 22, 23])?,
         acc: two_by_two(alloc, shape, [30, 31, 32, 33])?,
         bas: two_by_two(alloc, shape, [40, 41, 42, 43])?,
-        spl: two_by_two(alloc, shape, [50, 51, 52, 53])?,
-        rnk: two_by_two(alloc, shape, [60, 61, 62, 63])?,
+        rnk: two_by_two(alloc, shape, [50, 51, 52, 53])?,
     })
 }
 
@@ -287,15 +259,16 @@ fn numbered_patch(alloc: Global, sinks: &Sinks) -> Result<Patch, AllocError> {
     Ok(products.patch(&elevation, sinks, Cell { row: 0, col: 1 }))
 }
 
+/// Of spill parents, which no set holds, they show 0.
 #[test]
 fn what_whole_rasters_show(rt: HostRuntime) -> Result<(), Fail> {
     let patch = numbered_patch(rt.alloc(), &Sinks::none(rt.alloc()))?;
-    let here = values(Some(8), [11, 21, 31, 41, 51, 61])?;
+    let here = values(Some(8), [11, 21, 31, 41, 0, 51])?;
     same(&rt, "here", Some(patch.here), Some(here));
     for (direction, z, numbers) in [
-        (Direction::West, Some(7), [10, 20, 30, 40, 50, 60]),
-        (Direction::SouthWest, None, [12, 22, 32, 42, 52, 62]),
-        (Direction::South, Some(9), [13, 23, 33, 43, 53, 63]),
+        (Direction::West, Some(7), [10, 20, 30, 40, 0, 50]),
+        (Direction::SouthWest, None, [12, 22, 32, 42, 0, 52]),
+        (Direction::South, Some(9), [13, 23, 33, 43, 0, 53]),
     ] {
         let wanted = values(z, numbers)?;
         same(&rt, direction, patch.neighbor(direction), Some(wanted));
@@ -334,25 +307,31 @@ fn listed_cells_of_whole_rasters(rt: HostRuntime) -> Result<(), Fail> {
     Ok(())
 }
 
-/// What a product set tells at its second cell: con's shape, its number there, its no-data number, acc's number and spl's.
-fn numbers_told(alloc: Global) -> Result<(Shape, [i64; 4]), Fail> {
+/// What a product set tells: con's shape and its number at the second cell, the number there of each raster, and that for no data of each product.
+fn numbers_told(alloc: Global) -> Result<(Shape, i64, [i64; 5], NoData), Fail> {
     let shape = Shape::new(2, 2).ok_or("a shape")?;
     let products = numbered(alloc, shape)?;
     let cell = Cell { row: 0, col: 1 };
     let numbers = [
-        products.con.value(cell),
-        products.nodata().rnk,
-        products.raster(Product::Acc).value(cell),
-        products.raster(Product::Spl).value(cell),
+        products.raster(Held::Con).value(cell),
+        products.raster(Held::Dir).value(cell),
+        products.raster(Held::Acc).value(cell),
+        products.raster(Held::Bas).value(cell),
+        products.raster(Held::Rnk).value(cell),
     ];
-    Ok((products.con.shape(), numbers))
+    let con = (products.con.shape(), products.con.value(cell));
+    Ok((con.0, con.1, numbers, products.nodata()))
 }
 
+/// Of spill parents, which no set holds, the number for no data is the default one.
 #[test]
 fn what_a_product_set_tells(rt: HostRuntime) -> Result<(), Fail> {
-    let (shape, numbers) = numbers_told(rt.alloc())?;
-    let given = ((shape.rows(), shape.cols()), numbers);
-    same(&rt, "products", given, ((2, 2), [11, -1, 31, 51]));
+    let (shape, con, numbers, nodata) = numbers_told(rt.alloc())?;
+    let given = ((shape.rows(), shape.cols()), con, numbers);
+    same(&rt, "products", given, ((2, 2), 11, [11, 21, 31, 41, 51]));
+    let codes = [nodata.dir, nodata.spl];
+    let given = (nodata.con, codes, nodata.acc, nodata.bas, nodata.rnk);
+    same(&rt, "no data", given, (-1, [-1, 255], -1, -1, -1));
     Ok(())
 }
 

@@ -16,6 +16,8 @@ mod grid;
 #[cfg(test)]
 mod open;
 #[cfg(test)]
+mod presence;
+#[cfg(test)]
 mod sinks;
 #[cfg(test)]
 mod slope;

@@ -4,7 +4,7 @@ use crate::printed::{Printed, same_line, slow_sink, whole_sink};
 use drain_cli::run_check::run_check;
 use drain_device::faults::{ScriptSink, Scripted, SinkAnswer};
 use drain_device::{BodyFault, ByteList, SliceSource};
-use drain_grid::{PerProduct, Product};
+use drain_grid::{Held, PerProduct};
 use drain_hgt::TileInput;
 use drain_verdict::{Products, RasterInput};
 use std::alloc::{AllocError, Global};
@@ -18,11 +18,11 @@ const BYTES: &str = "NROWS 2\nNCOLS 2\nULXMAP 0\nULYMAP 1\nXDIM 1\nYDIM 1\n";
 const LINE: &str = "accepted rows=2 cols=2 data=4 raised=0 outlets=4\n";
 
 /// The bytes of a product's raster; those of bas are the labels.
-fn body_of<'a>(product: Product, labels: &'a [u8]) -> &'a [u8] {
+fn body_of<'a>(product: Held, labels: &'a [u8]) -> &'a [u8] {
     match product {
-        Product::Con => &[0; 8],
-        Product::Acc => &[1; 4],
-        Product::Bas => labels,
+        Held::Con => &[0; 8],
+        Held::Acc => &[1; 4],
+        Held::Bas => labels,
         _ => &[0; 4],
     }
 }
@@ -31,13 +31,9 @@ fn body_of<'a>(product: Product, labels: &'a [u8]) -> &'a [u8] {
 fn product_of<'a>(
     alloc: Global,
     labels: &'a [u8],
-    product: Product,
+    product: Held,
 ) -> Result<RasterInput<SliceSource<'a>>, AllocError> {
-    let header = if product == Product::Con {
-        WORDS
-    } else {
-        BYTES
-    };
+    let header = if product == Held::Con { WORDS } else { BYTES };
     Ok(RasterInput {
         header: ByteList::new(Vec::from_slice(alloc, header.as_bytes())?),
         body: SliceSource::new(body_of(product, labels)),
@@ -46,7 +42,7 @@ fn product_of<'a>(
 
 /// The products of the tile, with these labels.
 fn products<'a>(alloc: Global, labels: &'a [u8]) -> Result<Products<SliceSource<'a>>, AllocError> {
-    let input = |product: Product| -> Result<RasterInput<SliceSource<'_>>, AllocError> {
+    let input = |product: Held| -> Result<RasterInput<SliceSource<'_>>, AllocError> {
         product_of(alloc, labels, product)
     };
     PerProduct::from_each(&input)

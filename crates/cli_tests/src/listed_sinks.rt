@@ -4,7 +4,7 @@
 use crate::making::{PIT, Tile, at_zero, inputs, make};
 use crate::printed::{Printed, ROOM, check_printed, files_of, same_line};
 use drain_device::{ByteList, SliceSource, VecSink};
-use drain_grid::{PerProduct, Product};
+use drain_grid::{Held, PerProduct};
 use drain_verdict::{Products, RasterInput};
 use std::alloc::{AllocError, Global};
 use std::test::Fail;
@@ -20,7 +20,6 @@ struct Bodies {
     dir: [u8; 9],
     acc: [u8; 9],
     bas: [u8; 9],
-    spl: [u8; 9],
     rnk: [u8; 9],
 }
 
@@ -30,7 +29,6 @@ const LISTED: Bodies = Bodies {
     dir: [2, 4, 8, 1, 0, 16, 128, 64, 32],
     acc: [1, 1, 1, 1, 9, 1, 1, 1, 1],
     bas: [1; 9],
-    spl: [0; 9],
     rnk: [0; 9],
 };
 
@@ -40,31 +38,25 @@ const FILLED: Bodies = Bodies {
     dir: [0, 0, 0, 0, 1, 0, 0, 0, 0],
     acc: [1, 1, 1, 1, 1, 2, 1, 1, 1],
     bas: [1, 2, 3, 4, 5, 5, 6, 7, 8],
-    spl: [0, 0, 0, 0, 1, 0, 0, 0, 0],
     rnk: [0, 0, 0, 0, 1, 0, 0, 0, 0],
 };
 
-fn body_of<'a>(bodies: &'a Bodies, product: Product) -> &'a [u8] {
+fn body_of<'a>(bodies: &'a Bodies, product: Held) -> &'a [u8] {
     match product {
-        Product::Con => &bodies.con,
-        Product::Dir => &bodies.dir,
-        Product::Acc => &bodies.acc,
-        Product::Bas => &bodies.bas,
-        Product::Spl => &bodies.spl,
-        Product::Rnk => &bodies.rnk,
+        Held::Con => &bodies.con,
+        Held::Dir => &bodies.dir,
+        Held::Acc => &bodies.acc,
+        Held::Bas => &bodies.bas,
+        Held::Rnk => &bodies.rnk,
     }
 }
 
 fn product_of<'a>(
     alloc: Global,
     bodies: &'a Bodies,
-    product: Product,
+    product: Held,
 ) -> Result<RasterInput<SliceSource<'a>>, AllocError> {
-    let header = if product == Product::Con {
-        WORDS
-    } else {
-        BYTES
-    };
+    let header = if product == Held::Con { WORDS } else { BYTES };
     Ok(RasterInput {
         header: ByteList::new(Vec::from_slice(alloc, header.as_bytes())?),
         body: SliceSource::new(body_of(bodies, product)),
@@ -75,7 +67,7 @@ fn products<'a>(
     alloc: Global,
     bodies: &'a Bodies,
 ) -> Result<Products<SliceSource<'a>>, AllocError> {
-    let input = |product: Product| -> Result<RasterInput<SliceSource<'_>>, AllocError> {
+    let input = |product: Held| -> Result<RasterInput<SliceSource<'_>>, AllocError> {
         product_of(alloc, bodies, product)
     };
     PerProduct::from_each(&input)
@@ -97,12 +89,12 @@ fn prints_the_answer_to_products_and_a_list(rt: HostRuntime) -> Result<(), Fail>
     let cases: [(&Bodies, &str, u8, &str); 11] = [
         (&LISTED, "1 1\n1 1", 0, LISTED_LINE),
         (&LISTED, "\r\n1 1\r\n0 0\r\n", 0, LISTED_LINE),
-        (&LISTED, "", 1, "rejected rule=6 NoSpill row=1 col=1\n"),
+        (&LISTED, "", 1, "rejected rule=12 FlatStep row=1 col=1\n"),
         (
             &LISTED,
             "0 0\n2 1",
             1,
-            "rejected rule=6 NoSpill row=1 col=1\n",
+            "rejected rule=12 FlatStep row=1 col=1\n",
         ),
         (&FILLED, "", 0, FILLED_LINE),
         (&FILLED, "0 0\n2 1", 0, FILLED_LINE),
@@ -181,8 +173,8 @@ fn tells_why_nothing_is_made_with_a_list(rt: HostRuntime) -> Result<(), Fail> {
 fn has_right_files(alloc: Global) -> Result<bool, Fail> {
     let mut files: Vec<VecSink> = Vec::new(alloc);
     make(alloc, 3, &at_zero(&PIT), b"1 1", ROOM, &mut files)?;
-    let (_, con) = files_of(files.as_slice(), Product::Con)?;
-    let (_, dir) = files_of(files.as_slice(), Product::Dir)?;
+    let (_, con) = files_of(files.as_slice(), Held::Con)?;
+    let (_, dir) = files_of(files.as_slice(), Held::Dir)?;
     Ok(con == LISTED.con.as_slice() && dir == LISTED.dir.as_slice())
 }
 

@@ -206,7 +206,7 @@ fn scripted_files<'a>(
         files.push(scripted_file(alloc, script)?)?;
     }
     if files.len() != FILE_COUNT {
-        return Err("twelve files".into());
+        return Err("ten files".into());
     }
     Ok(files)
 }
@@ -261,7 +261,11 @@ fn first_wrong(
 #[test]
 fn a_file_that_fails_ends_the_writing(rt: HostRuntime) -> Result<(), Fail> {
     let whole = lengths_where_one_fails(rt.alloc(), FILE_COUNT)?.1;
-    assert_eq!(rt; whole.first(), Some(&230));
+    let [header, con, _, dir, _, acc, _, bas, _, rnk] = whole;
+    assert_eq!(rt;
+        (header, [con, dir, acc, bas, rnk]),
+        (230, [18, 9, 36, 36, 36])
+    );
     for place in 0..FILE_COUNT {
         let (run, lengths) = lengths_where_one_fails(rt.alloc(), place)?;
         same_run(&rt, place as u64, &run, b"failed WriteFailed\n", 3);

@@ -4,7 +4,7 @@ use crate::printed::{Printed, check_printed, empty_files, files_of, room};
 use drain_cli::make_set::make_set;
 use drain_cli::write_set::write_set;
 use drain_device::{ByteList, SliceSource, VecSink};
-use drain_grid::{PerProduct, Product};
+use drain_grid::{Held, PerProduct};
 use drain_hgt::TileInput;
 use drain_verdict::{Products, RasterInput};
 use std::alloc::{AllocError, Global};
@@ -85,7 +85,7 @@ pub fn make(
 fn product_of<'a>(
     alloc: Global,
     files: &'a [VecSink],
-    product: Product,
+    product: Held,
 ) -> Result<RasterInput<SliceSource<'a>>, Fail> {
     let (header, raster) = files_of(files, product)?;
     Ok(RasterInput {
@@ -96,7 +96,7 @@ fn product_of<'a>(
 
 /// The products whose headers and rasters are the files.
 fn products<'a>(alloc: Global, files: &'a [VecSink]) -> Result<Products<SliceSource<'a>>, Fail> {
-    let input = |product: Product| -> Result<RasterInput<SliceSource<'_>>, Fail> {
+    let input = |product: Held| -> Result<RasterInput<SliceSource<'_>>, Fail> {
         product_of(alloc, files, product)
     };
     PerProduct::from_each(&input)

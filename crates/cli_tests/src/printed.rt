@@ -5,7 +5,7 @@ ghost use Rattle.std.specs.Prelude.{◌≡◌, length, IfOk};
 use drain_cli::run_check::run_check;
 use drain_device::faults::{ScriptSink, Scripted, SinkAnswer};
 use drain_device::{BodyFault, ByteSource, VecSink};
-use drain_grid::Product;
+use drain_grid::Held;
 use drain_hgt::TileInput;
 use drain_maker::product_files::FILE_COUNT;
 use drain_verdict::Products;
@@ -47,20 +47,19 @@ pub fn empty_files(alloc: Global, capacity: usize) -> Result<Vec<VecSink>, Fail>
         files.push(empty_file(alloc, capacity)?)?;
     }
     if files.len() != FILE_COUNT {
-        return Err("twelve files".into());
+        return Err("ten files".into());
     }
     Ok(files)
 }
 
 /// The bytes of a product's header and of its raster, among the files.
-pub fn files_of<'a>(files: &'a [VecSink], product: Product) -> Result<(&'a [u8], &'a [u8]), Fail> {
+pub fn files_of<'a>(files: &'a [VecSink], product: Held) -> Result<(&'a [u8], &'a [u8]), Fail> {
     let place: usize = match product {
-        Product::Con => 0,
-        Product::Dir => 2,
-        Product::Acc => 4,
-        Product::Bas => 6,
-        Product::Spl => 8,
-        Product::Rnk => 10,
+        Held::Con => 0,
+        Held::Dir => 2,
+        Held::Acc => 4,
+        Held::Bas => 6,
+        Held::Rnk => 8,
     };
     let (Some(header), Some(raster)) = (files.get(place), files.get(place.saturating_add(1))) else {
         return Err("a file is missing".into());

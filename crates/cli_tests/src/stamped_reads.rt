@@ -6,7 +6,7 @@ ghost use Rattle.drain_device.specs.Counts.{no_faults};
 use crate::making::{at_zero, make};
 use crate::printed::{check_printed, files_of};
 use drain_device::{ByteList, ByteSource, DeviceFault, SliceSource, VecSink};
-use drain_grid::{PerProduct, Product};
+use drain_grid::{Held, PerProduct};
 use drain_hgt::TileInput;
 use drain_verdict::{Products, RasterInput};
 use std::alloc::{AllocError, Global};
@@ -117,7 +117,7 @@ struct Watched<'a> {
 fn product_of<'a>(
     alloc: Global,
     watched: Watched<'a>,
-    product: Product,
+    product: Held,
 ) -> Result<RasterInput<Stamped<'a>>, Fail> {
     let (header, raster) = files_of(watched.files, product)?;
     Ok(RasterInput {
@@ -128,7 +128,7 @@ fn product_of<'a>(
 
 /// The products whose headers and rasters are the files.
 fn products<'a>(alloc: Global, watched: Watched<'a>) -> Result<Products<Stamped<'a>>, Fail> {
-    let input = |product: Product| -> Result<RasterInput<Stamped<'_>>, Fail> {
+    let input = |product: Held| -> Result<RasterInput<Stamped<'_>>, Fail> {
         product_of(alloc, watched, product)
     };
     PerProduct::from_each(&input)
@@ -140,14 +140,13 @@ fn stamps_of(source: &Stamped<'_>) -> (Stamps, Stamps) {
 }
 
 /// For each source, the tile's first, the stamps of each row's first byte, and of its last.
-fn stamps_of_each(tile: &Stamped<'_>, products: &Products<Stamped<'_>>) -> [(Stamps, Stamps); 7] {
+fn stamps_of_each(tile: &Stamped<'_>, products: &Products<Stamped<'_>>) -> [(Stamps, Stamps); 6] {
     [
         stamps_of(tile),
         stamps_of(&products.con.body),
         stamps_of(&products.dir.body),
         stamps_of(&products.acc.body),
         stamps_of(&products.bas.body),
-        stamps_of(&products.spl.body),
         stamps_of(&products.rnk.body),
     ]
 }
@@ -161,7 +160,7 @@ fn tile<'a>(alloc: Global, clock: &'a Cell<u64>) -> Result<TileInput<Stamped<'a>
 }
 
 /// The stamps of the sources of a check of the tile of zeros with the files.
-fn stamps(alloc: Global, files: &[VecSink]) -> Result<[(Stamps, Stamps); 7], Fail> {
+fn stamps(alloc: Global, files: &[VecSink]) -> Result<[(Stamps, Stamps); 6], Fail> {
     let clock = Cell::new(0);
     let watched = Watched {
         files,
@@ -177,7 +176,7 @@ fn stamps(alloc: Global, files: &[VecSink]) -> Result<[(Stamps, Stamps); 7], Fai
 }
 
 /// The stamps of a check of the tile of zeros with the products that are made of it.
-fn stamps_of_a_check(alloc: Global) -> Result<[(Stamps, Stamps); 7], Fail> {
+fn stamps_of_a_check(alloc: Global) -> Result<[(Stamps, Stamps); 6], Fail> {
     let files = made(alloc)?;
     stamps(alloc, files.as_slice())
 }

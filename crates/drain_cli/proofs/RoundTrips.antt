@@ -2,9 +2,10 @@
 use Rattle.std.proofs.Common.{◌≡◌, ℕ, suc, ◌<◌, List, [], ◌∷◌, map, length, slice_index_or, Option, Some, None, Ok, inl, inr, arith, refl, sym, ap, ◌∙◌, subst}
 use Rattle.std.specs.Io.KnownBytes.{Appends}
 use Rattle.drain_device.specs.Devices.{Sink}
-use Rattle.drain_grid.specs.declared.product.Product.{Product}
+use Rattle.drain_grid.specs.declared.held.Held.{Held}
 use Rattle.drain_grid.specs.SinkTexts.{sinks_of}
-use Rattle.drain_grid.specs.declared.product.Product.TheVariants.{Con, Dir, Acc, Bas, Spl, Rnk}
+use Rattle.drain_grid.specs.declared.held.Held.TheVariants.{Con, Dir, Acc, Bas, Rnk}
+use Rattle.drain_grid.specs.Held.{product_of}
 use Rattle.drain_grid.specs.declared.product_set.ProductSet.{ProductSet}
 use Rattle.drain_grid.specs.WholeGrid.{raster_in}
 use Rattle.drain_header.specs.Text.{text_of}
@@ -51,23 +52,21 @@ texts-same (x ∷ xs) (y ∷ ys) same =
     rw (one, texts-same xs ys rest) refl
 
 -- file by file
-headers-same : (t : Tiling) (ps : ProductSet) (i : Inputs) → set_bytes t ps ≡ files_given i → (p : Product) → i.header p ≡ text_of (header_of t p)
+headers-same : (t : Tiling) (ps : ProductSet) (i : Inputs) → set_bytes t ps ≡ files_given i → (p : Held) → i.header p ≡ text_of (header_of t (product_of p))
 unfolding set_bytes files_given
 headers-same t ps i same Con = sym (ap (λ l. slice_index_or l 0 []) same)
 headers-same t ps i same Dir = sym (ap (λ l. slice_index_or l 2 []) same)
 headers-same t ps i same Acc = sym (ap (λ l. slice_index_or l 4 []) same)
 headers-same t ps i same Bas = sym (ap (λ l. slice_index_or l 6 []) same)
-headers-same t ps i same Spl = sym (ap (λ l. slice_index_or l 8 []) same)
-headers-same t ps i same Rnk = sym (ap (λ l. slice_index_or l 10 []) same)
+headers-same t ps i same Rnk = sym (ap (λ l. slice_index_or l 8 []) same)
 
-rasters-same : (t : Tiling) (ps : ProductSet) (i : Inputs) → set_bytes t ps ≡ files_given i → (p : Product) → i.raster p ≡ raster_bytes (header_of t p) (raster_in ps p)
+rasters-same : (t : Tiling) (ps : ProductSet) (i : Inputs) → set_bytes t ps ≡ files_given i → (p : Held) → i.raster p ≡ raster_bytes (header_of t (product_of p)) (raster_in ps p)
 unfolding set_bytes files_given
 rasters-same t ps i same Con = sym (ap (λ l. slice_index_or l 1 []) same)
 rasters-same t ps i same Dir = sym (ap (λ l. slice_index_or l 3 []) same)
 rasters-same t ps i same Acc = sym (ap (λ l. slice_index_or l 5 []) same)
 rasters-same t ps i same Bas = sym (ap (λ l. slice_index_or l 7 []) same)
-rasters-same t ps i same Spl = sym (ap (λ l. slice_index_or l 9 []) same)
-rasters-same t ps i same Rnk = sym (ap (λ l. slice_index_or l 11 []) same)
+rasters-same t ps i same Rnk = sym (ap (λ l. slice_index_or l 9 []) same)
 
 pub accepted : {R F : Type 0} (bytes_left : R → Option (List ℕ)) (sink : Sink F) →
     MadeIsAccepted → WhatIsWrittenIsAccepted bytes_left sink
@@ -78,6 +77,6 @@ accepted bytes_left sink law side tiles sinks t ps empty written i made tell sin
     law i made.elevation made.listed ps tell.corners_are (subst (λ u. IsMosaicOf i u made.elevation) tiling mosaic) (ap sinks_of sinks_are ∙ made.listed_are)
     (subst (λ u. AreMade u made.elevation made.listed ps) tiling made.made)
     (record {
-      headers_are = λ p. subst (λ u. i.header p ≡ text_of (header_of u p)) tiling (headers-same t ps i same p);
-      rasters_are = λ p. subst (λ u. i.raster p ≡ raster_bytes (header_of u p) (raster_in ps p)) tiling (rasters-same t ps i same p);
+      headers_are = λ p. subst (λ u. i.header p ≡ text_of (header_of u (product_of p))) tiling (headers-same t ps i same p);
+      rasters_are = λ p. subst (λ u. i.raster p ≡ raster_bytes (header_of u (product_of p)) (raster_in ps p)) tiling (rasters-same t ps i same p);
     }) answer is

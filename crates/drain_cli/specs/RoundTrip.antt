@@ -4,7 +4,7 @@ use Rattle.std.specs.List.{All, flat_map}
 use Rattle.drain_device.specs.Devices.{Sink}
 use Rattle.drain_grid.specs.declared.product_set.ProductSet.{ProductSet}
 use Rattle.drain_grid.specs.WholeGrid.{grid_of, products_of}
-use Rattle.drain_grid.specs.PerProduct.{products}
+use Rattle.drain_grid.specs.Held.{products}
 use Rattle.drain_hgt.specs.declared.input.TileInput.{TileInput}
 use Rattle.drain_mosaic.specs.Tiling.{Tiling}
 use Rattle.drain_rules.specs.declared.verdict.Verdict.{Verdict}

@@ -84,18 +84,17 @@ const HEADER_AFTER: &str = "Lines and exit statuses:
 Example:
   drain header rasters/con.hdr";
 
-const CHECK_ABOUT: &str = "Check the six products of a mosaic against its tiles";
+const CHECK_ABOUT: &str = "Check the five products of a mosaic against its tiles";
 
 const CHECK_LONG_ABOUT: &str =
-    "Reads elevation tiles (SRTM .hgt files of one side, named as N37W105.hgt) and the six products of their
+    "Reads elevation tiles (SRTM .hgt files of one side, named as N37W105.hgt) and the five products of their
 mosaic, each a BIL raster in the folder DIR: DIR/con.hdr and DIR/con.bil, and so on.
 
   con    conditioned elevations, in metres
   dir    directions, as codes: 0 at an outlet, else 1 E, 2 SE, 4 S, 8 SW, 16 W, 32 NW, 64 N, 128 NE
   acc    accumulation: how many cells drain through the cell, with the cell itself
   bas    labels of basins, one for each outlet
-  spl    spill parents, as direction codes (0 for none)
-  rnk    ranks, which fall along spill parents and where directions cross flats
+  rnk    ranks, which fall where directions cross flats
 
 Accepts products that are correct: con is the least surface over the tiles from which water gets to an
 edge, void or listed sink, no direction climbs, every run of directions ends at an outlet, acc counts
@@ -117,19 +116,19 @@ const CHECK_AFTER: &str = "Lines and exit statuses:
 Example:
   drain check --side 1201 --products rasters N37W105.hgt N37W106.hgt";
 
-const MAKE_ABOUT: &str = "Make the six products of a mosaic from its tiles";
+const MAKE_ABOUT: &str = "Make the five products of a mosaic from its tiles";
 
 const MAKE_LONG_ABOUT: &str =
-    "Reads elevation tiles (SRTM .hgt files of one side, named as N37W105.hgt) and writes the six products of
+    "Reads elevation tiles (SRTM .hgt files of one side, named as N37W105.hgt) and writes the five products of
 their mosaic into the folder DIR, which must be there: DIR/con.hdr and DIR/con.bil, and so for dir, acc,
-bas, spl and rnk. What each product is: drain check --help.
+bas and rnk. What each product is: drain check --help.
 
 Depressions are filled by a flood from the edges, voids and listed sinks inwards (Priority-Flood). Off flats the
 direction is the first of the steepest descents in the order E, SE, S, SW, W, NW, N, NE; on flats it is the
 shortest way out. Labels number the outlets from 1, row by row.
 
-Before anything is written all fifteen rules are tried at every cell, and the files are created once
-nothing is left to refuse; files that are there already are replaced. Prints one line.";
+Before anything is written all rules of drain check are tried at every cell, and the files are created
+once nothing is left to refuse; files that are there already are replaced. Prints one line.";
 
 const MAKE_AFTER: &str = "Lines and exit statuses:
   0  made rows=R cols=C

@@ -4,7 +4,7 @@
 use crate::file_paths::{header_path, raster_path};
 use crate::open_files::{OpenFault, list_at, open, open_tiles};
 use drain_device::{ByteList, Reader, read_body};
-use drain_grid::{PerProduct, Product};
+use drain_grid::{Held, PerProduct, Product};
 use drain_header::MAX_HEADER_BYTES;
 use drain_hgt::TileInput;
 use drain_verdict::{Products, RasterInput};
@@ -36,8 +36,8 @@ pub fn open_check(
 }
 
 fn open_products(rt: &HostRuntime, folder: &str) -> Result<Products<Reader<File>>, OpenFault> {
-    let open = |product: Product| -> Result<RasterInput<Reader<File>>, OpenFault> {
-        open_product(rt, folder, product)
+    let open = |product: Held| -> Result<RasterInput<Reader<File>>, OpenFault> {
+        open_product(rt, folder, product.product())
     };
     PerProduct::from_each(&open)
 }

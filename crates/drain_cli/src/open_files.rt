@@ -3,6 +3,7 @@
 ghost use Rattle.std.specs.Prelude.{◌≡◌, IfOk, string_bytes, vec_len};
 ghost use Rattle.std.specs.List.{AllZip};
 ghost use Rattle.drain_hgt.specs.Inputs.{names_of};
+ghost use Rattle.drain_grid.specs.Held.{product_of};
 ghost use Rattle.drain_cli.specs.FilePaths.{IsLastPart, ending_of, product_path};
 ghost use Rattle.drain_maker.specs.declared.product_files.TheConstants.{FILE_COUNT};
 
@@ -99,10 +100,11 @@ fn create(rt: &HostRuntime, folder: &str, file: SetFile) -> Result<Writer<File>,
 
 /// The path of a file of a product set in this folder.
 fn path_of(rt: &HostRuntime, folder: &str, file: SetFile) -> Result<String, AllocError>
-    ensures { IfOk result (λ path. string_bytes path ≡ product_path folder.now file.product (ending_of file.part)) }
+    ensures { IfOk result (λ path. string_bytes path ≡ product_path folder.now (product_of file.product) (ending_of file.part)) }
 {
+    let product = file.product.product();
     match file.part {
-        Part::Header => header_path(rt.alloc(), folder, file.product),
-        Part::Raster => raster_path(rt.alloc(), folder, file.product),
+        Part::Header => header_path(rt.alloc(), folder, product),
+        Part::Raster => raster_path(rt.alloc(), folder, product),
     }
 }

@@ -1,7 +1,7 @@
 //! A run of `drain check`: products are checked against the tiles that they were made from, and the answer printed.
 
 ghost use Rattle.std.specs.Prelude.{◌≡◌, Result, Err};
-ghost use Rattle.drain_grid.specs.declared.product.Product.{Product};
+ghost use Rattle.drain_grid.specs.declared.held.Held.{Held};
 ghost use Rattle.drain_rules.specs.declared.verdict.Verdict.{Verdict};
 ghost use Rattle.drain_grid.specs.PerProduct.{of_product};
 ghost use Rattle.drain_hgt.specs.Inputs.{names_of, TilesTakeAtMost};
@@ -41,9 +41,9 @@ pub fn run_check<R: ByteSource, W: ByteSink>(
 
     // How far it reads, and that names and headers stay.
     ensures tiles_within { TilesTakeAtMost R.bytes_left side tiles.old tiles.new }
-    ensures rasters_within { (p : Product) → RasterTakesAtMost R.bytes_left products.old products.new p }
+    ensures rasters_within { (p : Held) → RasterTakesAtMost R.bytes_left products.old products.new p }
     ensures names { names_of tiles.new ≡ names_of tiles.old }
-    ensures headers { (p : Product) → (of_product products.new p).header ≡ (of_product products.old p).header }
+    ensures headers { (p : Held) → (of_product products.new p).header ≡ (of_product products.old p).header }
 {
     let answer = check(alloc, side, tiles, sinks, products);
     print_line(out, &report(&answer), status_of(&answer))

@@ -1,7 +1,10 @@
--- What holds of each product holds of all.
+-- What holds of each product holds of all, and what holds of each that a set holds, of all these.
+use Rattle.std.proofs.Common.{◌↔◌}
 use Rattle.drain_grid.specs.declared.product.Product.{Product}
 use Rattle.drain_grid.specs.declared.product.Product.TheVariants.{Con, Dir, Acc, Bas, Spl, Rnk}
-use Rattle.drain_grid.specs.Values.{IsNotSpill}
+use Rattle.drain_grid.specs.declared.held.Held.{Held}
+use Rattle.drain_grid.specs.declared.held.Held.TheVariants as held
+use Rattle.drain_grid.specs.Held.{OfHeld, product_of}
 
 pub by_product : (P : Product → Type 0) → P Con → P Dir → P Acc → P Bas → P Spl → P Rnk → (p : Product) → P p
 by_product P con dir acc bas spl rnk Con = con
@@ -11,11 +14,30 @@ by_product P con dir acc bas spl rnk Bas = bas
 by_product P con dir acc bas spl rnk Spl = spl
 by_product P con dir acc bas spl rnk Rnk = rnk
 
--- and of each but spl, of all but spl
-pub by_other_product : (P : Product → Type 0) → P Con → P Dir → P Acc → P Bas → P Rnk → (p : Product) → IsNotSpill p → P p
-by_other_product P con dir acc bas rnk Con other = con
-by_other_product P con dir acc bas rnk Dir other = dir
-by_other_product P con dir acc bas rnk Acc other = acc
-by_other_product P con dir acc bas rnk Bas other = bas
-by_other_product P con dir acc bas rnk Spl other = absurd other
-by_other_product P con dir acc bas rnk Rnk other = rnk
+pub by_held : (P : Held → Type 0) → P held.Con → P held.Dir → P held.Acc → P held.Bas → P held.Rnk → (p : Held) → P p
+by_held P con dir acc bas rnk held.Con = con
+by_held P con dir acc bas rnk held.Dir = dir
+by_held P con dir acc bas rnk held.Acc = acc
+by_held P con dir acc bas rnk held.Bas = bas
+by_held P con dir acc bas rnk held.Rnk = rnk
+
+-- and of the other product
+pub by_held_or_spill : (P : Product → Type 0) → ((p : Held) → P (product_of p)) → P Spl → (p : Product) → P p
+by_held_or_spill P held_one spl Con = held_one held.Con
+by_held_or_spill P held_one spl Dir = held_one held.Dir
+by_held_or_spill P held_one spl Acc = held_one held.Acc
+by_held_or_spill P held_one spl Bas = held_one held.Bas
+by_held_or_spill P held_one spl Spl = spl
+by_held_or_spill P held_one spl Rnk = held_one held.Rnk
+
+-- a held product's fact is that of the product that it is
+pub of_held : (P : Held → Type 0) (p : Held) → OfHeld P (product_of p) ↔ P p
+of_held P held.Con = (λ h. h, λ h. h)
+of_held P held.Dir = (λ h. h, λ h. h)
+of_held P held.Acc = (λ h. h, λ h. h)
+of_held P held.Bas = (λ h. h, λ h. h)
+of_held P held.Rnk = (λ h. h, λ h. h)
+
+-- where it is the fact of no held product, it is that of none
+pub none_of_held : (P : Held → Type 0) → ((p : Held) → ¬ P p) → (p : Product) → ¬ OfHeld P p
+none_of_held P none = by_held_or_spill (λ p. ¬ OfHeld P p) (λ p holds. none p ((of_held P p).0 holds)) (λ holds. holds)

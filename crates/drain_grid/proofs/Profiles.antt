@@ -5,6 +5,7 @@ use Rattle.drain_grid.specs.declared.cell.Cell.{Cell}
 use Rattle.drain_grid.specs.declared.patch.Patch.{Patch}
 use Rattle.drain_grid.specs.declared.rule.Rule.{Rule}
 use Rattle.drain_grid.specs.declared.rule.Rule.TheVariants.{VoidCell, Missing, BadCode, BelowGround, OpenRaised, NoSpill, SpillHeight, SpillRank, NotLeast, Slope, OutletCode, FlatStep, Accumulation, Label, SharedLabel}
+use Rattle.drain_grid.specs.Held.{product_of}
 use Rattle.drain_grid.specs.Values.{NoDataNumbers}
 use Rattle.drain_grid.specs.Rule.{IsAnyRule, IsFillRule, IsFlowRule}
 use Rattle.drain_grid.specs.PatchRules.{Profile, fill_rules, flow_rules, profile1, profile2, surface_rules}
@@ -12,17 +13,7 @@ use Rattle.drain_grid.specs.Grid.{Grid, Products, patch_at}
 use Rattle.drain_grid.specs.GridRules.{HoldsAt, RulesHold}
 use Rattle.drain_grid.specs.Laws.{Profile2FromProfile1}
 
--- a rule on the conditioned elevation says what it says in the profile
-pub fill_same : (nodata : NoDataNumbers) (p : Patch) (r : Rule) → IsFillRule r → fill_rules p r ↔ profile1 nodata p r
-fill_same nodata p BelowGround own = (λ h. h, λ h. h)
-fill_same nodata p OpenRaised own = (λ h. h, λ h. h)
-fill_same nodata p NoSpill own = (λ h. h, λ h. h)
-fill_same nodata p SpillHeight own = (λ h. h, λ h. h)
-fill_same nodata p SpillRank own = (λ h. h, λ h. h)
-fill_same nodata p NotLeast own = (λ h. h, λ h. h)
-fill_same nodata p r own = absurd (omega (arith, own.0, own.1))
-
--- and so does one without spill parents in the profile without them
+-- a rule on the conditioned elevation says what it says in the profile without spill parents
 pub surface_same : (nodata : NoDataNumbers) (p : Patch) (r : Rule) → IsFillRule r → surface_rules p r ↔ profile2 nodata p r
 surface_same nodata p BelowGround own = (λ h. h, λ h. h)
 surface_same nodata p OpenRaised own = (λ h. h, λ h. h)
@@ -32,8 +23,8 @@ surface_same nodata p SpillRank own = (λ h. h, λ h. h)
 surface_same nodata p NotLeast own = (λ h. h, λ h. h)
 surface_same nodata p r own = absurd (omega (arith, own.0, own.1))
 
--- one on where water goes says what it says in either profile
-pub flow_same : (nodata : NoDataNumbers) (p : Patch) (r : Rule) → IsFlowRule r → flow_rules p r ↔ profile1 nodata p r
+-- and so does one on where water goes
+pub flow_same : (nodata : NoDataNumbers) (p : Patch) (r : Rule) → IsFlowRule r → flow_rules p r ↔ profile2 nodata p r
 flow_same nodata p Slope own = (λ h. h, λ h. h)
 flow_same nodata p OutletCode own = (λ h. h, λ h. h)
 flow_same nodata p FlatStep own = (λ h. h, λ h. h)
@@ -41,15 +32,6 @@ flow_same nodata p Accumulation own = (λ h. h, λ h. h)
 flow_same nodata p Label own = (λ h. h, λ h. h)
 flow_same nodata p SharedLabel own = (λ h. h, λ h. h)
 flow_same nodata p r own = absurd (omega (arith, own.0))
-
-pub flow_same2 : (nodata : NoDataNumbers) (p : Patch) (r : Rule) → IsFlowRule r → flow_rules p r ↔ profile2 nodata p r
-flow_same2 nodata p Slope own = (λ h. h, λ h. h)
-flow_same2 nodata p OutletCode own = (λ h. h, λ h. h)
-flow_same2 nodata p FlatStep own = (λ h. h, λ h. h)
-flow_same2 nodata p Accumulation own = (λ h. h, λ h. h)
-flow_same2 nodata p Label own = (λ h. h, λ h. h)
-flow_same2 nodata p SharedLabel own = (λ h. h, λ h. h)
-flow_same2 nodata p r own = absurd (omega (arith, own.0))
 
 -- a rule that says less on the patch holds at the cell
 HoldsAt-patch : (P Q : Profile) (g : Grid) (ps : Products) (c : Cell) (r : Rule) → (P (patch_at g ps c) r → Q (patch_at g ps c) r) →
@@ -72,7 +54,7 @@ RulesHold-surface nodata g ps rules c r inside own =
 pub RulesHold-flow : (nodata : NoDataNumbers) (g : Grid) (ps : Products) → RulesHold (profile2 nodata) IsAnyRule g ps →
     RulesHold flow_rules IsFlowRule g ps
 RulesHold-flow nodata g ps rules c r inside own =
-    HoldsAt-patch (profile2 nodata) flow_rules g ps c r (flow_same2 nodata (patch_at g ps c) r own).1
+    HoldsAt-patch (profile2 nodata) flow_rules g ps c r (flow_same nodata (patch_at g ps c) r own).1
     (rules c r inside (omega (arith, own.0), own.1))
 
 -- rules on the conditioned elevation with spill parents give those without
@@ -87,8 +69,8 @@ surface_from_fill g ps rules c r inside own = HoldsAt-patch fill_rules surface_r
 
 -- each rule without spill parents follows from the rule with them: 1, 2, 3 and 5 lose a part, and 6 to 8 all
 less_rule : (nodata : NoDataNumbers) (p : Patch) (r : Rule) → profile1 nodata p r → profile2 nodata p r
-less_rule nodata p VoidCell h = λ is_void q other. h is_void q
-less_rule nodata p Missing h = λ has_data q other. h has_data q
+less_rule nodata p VoidCell h = λ is_void q. h is_void (product_of q)
+less_rule nodata p Missing h = λ has_data q. h has_data (product_of q)
 less_rule nodata p BadCode h = λ has_data. (h has_data).0
 less_rule nodata p BelowGround h = h
 less_rule nodata p OpenRaised h = λ is_open. (h is_open).0

@@ -1,39 +1,39 @@
 -- The rules worked on small grids: products that keep them all, so that the laws speak of something, and for each rule
--- products of which it is the first fault.
+-- products of which it is the first fault; 6 to 8 are asked only with spill parents.
 use Rattle.std.proofs.Common.{pos, ◌==◌, if◌then◌else◌, refl}
 use Rattle.drain_grid.specs.declared.cell.Cell.{Cell}
 use Rattle.drain_grid.specs.declared.rule.Rule.{Rule}
 use Rattle.drain_grid.specs.declared.rule.Rule.TheVariants.{VoidCell, Missing, BadCode, BelowGround, OpenRaised, NoSpill, SpillHeight, SpillRank, NotLeast, Slope, OutletCode, FlatStep, Accumulation, Label, SharedLabel}
 use Rattle.drain_grid.specs.Rule.{IsAnyRule, IsFillRule}
-use Rattle.drain_grid.specs.PatchRules.{profile1}
+use Rattle.drain_grid.specs.PatchRules.{check_rules, fill_rules}
 use Rattle.drain_grid.specs.Grid.{Grid, Products}
 use Rattle.drain_grid.specs.Correct.{IsCorrect}
 use Rattle.drain_grid.specs.GridRules.{RulesHold, IsFirstFault}
 use Rattle.drain_grid.proofs.AllRules.{correct_from_rules}
 use Rattle.drain_grid.proofs.Decisions.{Decision}
-use Rattle.drain_grid.proofs.RuleDecisions.{rules_hold, first_fault}
+use Rattle.drain_grid.proofs.RuleDecisions.{fill_rule, patch_rule, rules_hold, first_fault}
 use Rattle.drain_grid.proofs.WorkedGrids.{cell, changed, defaults, pit_grid, pit_products, overfilled_grid, overfilled_products, flat_grid, flat_products, void_grid, void_products, slope_grid, slope_products, ring_grid, ring_products, gap_grid, gap_products}
 
--- every rule holds at every cell
+-- every rule that a check tries holds at every cell
 abbrev Accepted : Grid → Products → Type 0
-Accepted g ps = RulesHold (profile1 defaults) IsAnyRule g ps
+Accepted g ps = RulesHold (check_rules defaults) IsAnyRule g ps
 
 abbrev accepted : (g : Grid) (ps : Products) → Decision (Accepted g ps)
-accepted g ps = rules_hold 1 15 g ps defaults
+accepted g ps = rules_hold (patch_rule defaults) 1 15 g ps
 
 -- the rule is the first that fails
 abbrev Rejected : Grid → Products → Rule → Cell → Type 0
-Rejected g ps r c = IsFirstFault (profile1 defaults) IsAnyRule g ps c r
+Rejected g ps r c = IsFirstFault (check_rules defaults) IsAnyRule g ps c r
 
 abbrev rejected : (g : Grid) (ps : Products) (r : Rule) (c : Cell) → Decision (Rejected g ps r c)
-rejected g ps r c = first_fault 1 15 g ps defaults c r
+rejected g ps r c = first_fault (patch_rule defaults) 1 15 g ps c r
 
--- the same of the rules on the conditioned elevation alone
+-- the same of the rules on the conditioned elevation alone, with spill parents
 abbrev Unfilled : Grid → Products → Rule → Cell → Type 0
-Unfilled g ps r c = IsFirstFault (profile1 defaults) IsFillRule g ps c r
+Unfilled g ps r c = IsFirstFault fill_rules IsFillRule g ps c r
 
 abbrev unfilled : (g : Grid) (ps : Products) (r : Rule) (c : Cell) → Decision (Unfilled g ps r c)
-unfilled g ps r c = first_fault 4 9 g ps defaults c r
+unfilled g ps r c = first_fault fill_rule 4 9 g ps c r
 
 pit_holds : Accepted pit_grid pit_products
 pit_holds = (accepted pit_grid pit_products).sound refl
@@ -65,8 +65,8 @@ rejects_void_cell : Rejected void_grid (record void_products { acc = changed voi
 rejects_void_cell = (rejected void_grid _ VoidCell (cell 1 0)).sound refl
 
 -- 2: con has its no-data number, 0
-rejects_missing : IsFirstFault (profile1 (record defaults { con = pos 0 })) IsAnyRule flat_grid flat_products (cell 0 0) Missing
-rejects_missing = (first_fault 1 15 flat_grid flat_products (record defaults { con = pos 0 }) (cell 0 0) Missing).sound refl
+rejects_missing : IsFirstFault (check_rules (record defaults { con = pos 0 })) IsAnyRule flat_grid flat_products (cell 0 0) Missing
+rejects_missing = (first_fault (patch_rule (record defaults { con = pos 0 })) 1 15 flat_grid flat_products (cell 0 0) Missing).sound refl
 
 -- 3: dir 3
 rejects_bad_code : Rejected slope_grid (record slope_products { dir = changed slope_products.dir (cell 0 0) 3 }) BadCode (cell 0 0)
@@ -81,16 +81,16 @@ rejects_open_raised : Rejected slope_grid (record slope_products { con = changed
 rejects_open_raised = (rejected slope_grid _ OpenRaised (cell 0 0)).sound refl
 
 -- 6: spl 0 at the centre
-rejects_no_spill : Rejected pit_grid (record pit_products { spl = λ c. pos 0 }) NoSpill (cell 1 1)
-rejects_no_spill = (rejected pit_grid _ NoSpill (cell 1 1)).sound refl
+rejects_no_spill : Unfilled pit_grid (record pit_products { spl = λ c. pos 0 }) NoSpill (cell 1 1)
+rejects_no_spill = (unfilled pit_grid _ NoSpill (cell 1 1)).sound refl
 
 -- 7: con 6 at the centre, whose spill parent has 5
 rejects_spill_height : Unfilled pit_grid (record pit_products { con = changed pit_products.con (cell 1 1) 6 }) SpillHeight (cell 1 1)
 rejects_spill_height = (unfilled pit_grid _ SpillHeight (cell 1 1)).sound refl
 
 -- 8: rnk 0 at the centre
-rejects_spill_rank : Rejected pit_grid (record pit_products { rnk = λ c. pos 0 }) SpillRank (cell 1 1)
-rejects_spill_rank = (rejected pit_grid _ SpillRank (cell 1 1)).sound refl
+rejects_spill_rank : Unfilled pit_grid (record pit_products { rnk = λ c. pos 0 }) SpillRank (cell 1 1)
+rejects_spill_rank = (unfilled pit_grid _ SpillRank (cell 1 1)).sound refl
 
 -- 9: a needless crest
 rejects_not_least : Unfilled overfilled_grid overfilled_products NotLeast (cell 1 1)
@@ -103,6 +103,10 @@ rejects_slope = (rejected slope_grid _ Slope (cell 1 0)).sound refl
 -- 11: dir east at an outlet
 rejects_outlet_code : Rejected flat_grid (record flat_products { dir = changed flat_products.dir (cell 0 0) 1 }) OutletCode (cell 0 0)
 rejects_outlet_code = (rejected flat_grid _ OutletCode (cell 0 0)).sound refl
+
+-- 12: rnk 0 at the centre, which leads to a cell of rank 0
+rejects_level_rank : Rejected pit_grid (record pit_products { rnk = λ c. pos 0 }) FlatStep (cell 1 1)
+rejects_level_rank = (rejected pit_grid _ FlatStep (cell 1 1)).sound refl
 
 -- 12: a ring on the flat
 rejects_flat_step : Rejected ring_grid ring_products FlatStep (cell 1 1)

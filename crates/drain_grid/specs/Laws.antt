@@ -10,7 +10,7 @@ use Rattle.drain_grid.specs.Grid.{Grid, Products, HasData, IsOpenCell}
 use Rattle.drain_grid.specs.Path.{IsFilled}
 use Rattle.drain_grid.specs.Run.{upstream_count, ShareBasin}
 use Rattle.drain_grid.specs.Rule.{IsAnyRule, IsFillRule, IsWayRule, IsCountRule, IsLabelRule}
-use Rattle.drain_grid.specs.PatchRules.{fill_rules, flow_rules, profile1, profile2, surface_rules}
+use Rattle.drain_grid.specs.PatchRules.{check_rules, fill_rules, flow_rules, profile1, profile2, surface_rules}
 use Rattle.drain_grid.specs.GridRules.{HoldsAt, RulesHold}
 use Rattle.drain_grid.specs.Correct.{RunsAreSound, IsCorrect}
 
@@ -46,16 +46,10 @@ LabelsAreBasins =
     (g : Grid) (ps : Products) → RulesHold flow_rules IsWayRule g ps → RulesHold flow_rules IsLabelRule g ps →
     (a b : Cell) → HasData g a → HasData g b → (ps.bas a ≡ ps.bas b) ↔ ShareBasin g ps a b
 
--- where all fifteen rules hold at every cell, the products are correct, and every run is sound
+-- where all rules that a check tries hold at every cell, the products are correct, and every run is sound
 abbrev pub CorrectFromRules : Type 0
 CorrectFromRules =
-    (g : Grid) (ps : Products) (nodata : NoDataNumbers) → RulesHold (profile1 nodata) IsAnyRule g ps →
-    IsCorrect g ps nodata × RunsAreSound g ps
-
--- the same of the profile without spill parents
-abbrev pub CorrectFromRulesProfile2 : Type 0
-CorrectFromRulesProfile2 =
-    (g : Grid) (ps : Products) (nodata : NoDataNumbers) → RulesHold (profile2 nodata) IsAnyRule g ps →
+    (g : Grid) (ps : Products) (nodata : NoDataNumbers) → RulesHold (check_rules nodata) IsAnyRule g ps →
     IsCorrect g ps nodata × RunsAreSound g ps
 
 -- a cell that isn't listed is open exactly where it has data and lies on the edge of the grid or beside a void

@@ -4,7 +4,7 @@
 
 ghost use Rattle.std.specs.Prelude.{◌≡◌, pos, neg_ℤ};
 ghost use Rattle.drain_grid.specs.OffData.{FoundOffDataIsRight};
-ghost use Rattle.drain_grid.specs.Laws.{CorrectFromRules, CorrectFromRulesProfile2, CountsUpstream, LabelsAreBasins, LeastFromRules, LeastFromRulesProfile2, OpenWithoutSinks, Profile2FromProfile1, RunsEnd};
+ghost use Rattle.drain_grid.specs.Laws.{CorrectFromRules, CountsUpstream, LabelsAreBasins, LeastFromRules, LeastFromRulesProfile2, OpenWithoutSinks, Profile2FromProfile1, RunsEnd};
 
 use crate::cell::MAX_LENGTH;
 use crate::degree::UNITS_PER_DEGREE;
@@ -31,7 +31,7 @@ pub fn constants()
     ensures greatest_nodata { GREATEST_NODATA ≡ pos 10000000000 }
 {}
 
-/// Rules 4 to 9 make `con` the spill level of each data cell, and the least surface that drains.
+/// With spill parents rules 4 to 9 make `con` the spill level of each data cell, and the least surface that drains.
 pub fn least_from_rules()
     ensures { LeastFromRules }
 {}
@@ -63,15 +63,10 @@ pub fn labels_are_basins()
     ensures { LabelsAreBasins }
 {}
 
-/// Where all rules hold at every cell, the products are correct, and besides no run visits a cell twice
+/// Where all rules that a check tries hold at every cell, the products are correct, and besides no run visits a cell twice
 /// and each ends at an outlet.
 pub fn correct_from_rules()
     ensures { CorrectFromRules }
-{}
-
-/// Where all rules of the profile without spill parents hold at every cell, the same.
-pub fn correct_from_rules_profile2()
-    ensures { CorrectFromRulesProfile2 }
 {}
 
 /// The least line that lists a cell without data, as it was asked cell by cell, is that of the grid whose cells were told.

@@ -1,8 +1,11 @@
 -- The files of products that were made: no refusal stands of them, and they are accepted.
 use Rattle.std.proofs.Common.{◌≡◌, ℕ, ◌<◌, ℤ, pos, get_or, slice_get, inl, inr, List, Option, Some, IsSome, Result, Ok, Err, unwrap_or, refl, sym, ap, subst, ◌∙◌, arith}
 use Rattle.drain_grid.specs.declared.cell.Cell.{Cell}
+use Rattle.drain_grid.specs.declared.held.Held.{Held}
+use Rattle.drain_grid.specs.declared.held.Held.TheVariants.{Con, Dir, Acc, Bas, Rnk}
 use Rattle.drain_grid.specs.declared.product.Product.{Product}
-use Rattle.drain_grid.specs.declared.product.Product.TheVariants.{Con, Dir, Acc, Bas, Spl, Rnk}
+use Rattle.drain_grid.specs.declared.product.Product.TheVariants.{Spl}
+use Rattle.drain_grid.specs.Held.{product_of}
 use Rattle.drain_grid.specs.declared.product_set.ProductSet.{ProductSet}
 use Rattle.drain_grid.specs.declared.sink_line.SinkLine.{SinkLine}
 use Rattle.drain_grid.specs.SinkLines.{is_listed}
@@ -15,7 +18,8 @@ use Rattle.drain_grid.specs.Values.{NoDataNumbers}
 use Rattle.drain_grid.specs.Whole.{number_at}
 use Rattle.drain_grid.specs.WholeGrid as whole
 use Rattle.drain_grid.specs.WholeGrid.{raster_in}
-use Rattle.drain_header.specs.Faults.{Describes}
+use Rattle.drain_header.specs.declared.fault.HeaderFault.{HeaderFault}
+use Rattle.drain_header.specs.Faults.{Answers, Describes}
 use Rattle.drain_header.specs.Fields.{Fields}
 use Rattle.drain_header.specs.Laws.{TextReadsBack}
 use Rattle.drain_raster.specs.Bytes.{raster_bytes}
@@ -30,12 +34,13 @@ use Rattle.drain_verdict.specs.declared.refusal.Refusal.{Refusal}
 use Rattle.drain_verdict.specs.declared.refusal.Refusal.TheVariants.{BadSide, BadName, BoxTooLarge, BadHeader, WrongShape, Misplaced, RasterShort, BadSinkLine, SinkNotData, OutOfMemory, ReadFailed}
 use Rattle.drain_verdict.specs.Inputs.{Inputs}
 use Rattle.drain_verdict.specs.Meaning.{tiling_of, grid_of, listed_in, lines_in, fields_of, number_of, products_of, nodata_of, nodata_numbers}
-use Rattle.drain_verdict.specs.Refusals.{IsPlaced}
+use Rattle.drain_verdict.specs.Refusals.{HasShape, IsPlaced}
 use Rattle.drain_verdict.specs.Mosaics.{IsMosaicOf}
 use Rattle.drain_verdict.specs.Answers.{AreReadable, IsAnswer}
 use Rattle.drain_maker.specs.Headers.{header_of}
 use Rattle.drain_maker.specs.Made.{AreMade, AreOnData}
 use Rattle.drain_maker.specs.Accepted.{AreNamed, AreFilesOf, IsAcceptance, MadeIsAccepted}
+use Rattle.drain_grid.proofs.ByProduct.{none_of_held}
 use Rattle.drain_maker.proofs.Placing.{near_by_names, side_by_readable}
 use Rattle.drain_maker.proofs.HeaderBounds.{IsSmall, within_bounds, placed}
 
@@ -53,53 +58,65 @@ small i e named mosaic =
 
 -- each header is read back as what was to be written, and each raster as its numbers
 record AreReadBack (i : Inputs) (ps : ProductSet) : Type 0 where
-  described : (p : Product) → Describes (i.header p) (header_of (tiling_of i) p)
+  described : (p : Held) → Describes (i.header p) (header_of (tiling_of i) (product_of p))
   small : IsSmall (tiling_of i)
-  back : (p : Product) → ReadBack (header_of (tiling_of i) p) (raster_in ps p)
-  rasters_are : (p : Product) → i.raster p ≡ raster_bytes (header_of (tiling_of i) p) (raster_in ps p)
-  shapes : (p : Product) → (raster_in ps p).extent ≡ tiling.extent_of (tiling_of i)
+  back : (p : Held) → ReadBack (header_of (tiling_of i) (product_of p)) (raster_in ps p)
+  rasters_are : (p : Held) → i.raster p ≡ raster_bytes (header_of (tiling_of i) (product_of p)) (raster_in ps p)
+  shapes : (p : Held) → (raster_in ps p).extent ≡ tiling.extent_of (tiling_of i)
 
--- all six rasters have the shape of the first
-one_shape : (ps : ProductSet) (p : Product) → (raster_in ps p).extent ≡ ps.con.extent
+-- all rasters have the shape of the first
+one_shape : (ps : ProductSet) (p : Held) → (raster_in ps p).extent ≡ ps.con.extent
 one_shape ps Con = refl
 one_shape ps Dir = ps.dir_shape
 one_shape ps Acc = ps.acc_shape
 one_shape ps Bas = ps.bas_shape
-one_shape ps Spl = ps.spl_shape
 one_shape ps Rnk = ps.rnk_shape
 
 read_back : (i : Inputs) (e : Heights) (sinks : List SinkLine) (ps : ProductSet) → TextReadsBack → BytesReadBack → AreNamed i → IsMosaicOf i (tiling_of i) e →
     AreMade (tiling_of i) e sinks ps → AreFilesOf i ps → AreReadBack i ps
 read_back i e sinks ps text bytes named mosaic made files =
     let fits = small i e named mosaic in
-    let shape = λ (p : Product). one_shape ps p ∙ made.shape ∙ mosaic.extent_is in
+    let shape = λ (p : Held). one_shape ps p ∙ made.shape ∙ mosaic.extent_is in
     record {
       described = λ p.
-          subst (λ (t : List ℕ). Describes t (header_of (tiling_of i) p)) (sym (files.headers_are p))
-          (text (header_of (tiling_of i) p) (within_bounds (tiling_of i) p fits));
+          subst (λ (t : List ℕ). Describes t (header_of (tiling_of i) (product_of p))) (sym (files.headers_are p))
+          (text (header_of (tiling_of i) (product_of p)) (within_bounds (tiling_of i) (product_of p) fits));
       small = fits;
-      back = λ p. bytes (header_of (tiling_of i) p) (raster_in ps p) (within_bounds (tiling_of i) p fits) (made.rasters p) (shape p) (made.written p);
+      back = λ p. bytes (header_of (tiling_of i) (product_of p)) (raster_in ps p) (within_bounds (tiling_of i) (product_of p) fits) (made.rasters p) (shape p) (made.written p);
       rasters_are = files.rasters_are;
       shapes = shape;
     }
 
 -- what a header says is what was to be written
-says : (i : Inputs) (ps : ProductSet) → AreReadBack i ps → (p : Product) → header_of (tiling_of i) p ≡ fields_of i p
+says : (i : Inputs) (ps : ProductSet) → AreReadBack i ps → (p : Held) → header_of (tiling_of i) (product_of p) ≡ fields_of i p
 says i ps read p = (read.described p).fields
 
 -- the lines that list a cell are those of the text
 lines_are : (i : Inputs) (sinks : List SinkLine) → sinks_of i.sinks ≡ Ok sinks → listed_in i ≡ sinks
 lines_are i sinks listed = ap lines_in listed
 
+-- no refusal of a header or a raster
+module _ (i : Inputs) (ps : ProductSet) (read : AreReadBack i ps) where
+  no_fault : (p : Held) (fault : HeaderFault) → ¬ Answers (i.header p) (Err fault)
+  no_fault p fault stands = (read.described p).sound fault stands.holds
+
+  shaped : (p : Held) → ¬ ¬ HasShape i p
+  shaped p stands = stands (ap (λ (h : Fields). pixels.extent_of h) (sym (says i ps read p)))
+
+  placed_there : (p : Held) → ¬ ¬ IsPlaced (tiling_of i) (fields_of i p).place
+  placed_there p stands = stands (subst (λ (h : Fields). IsPlaced (tiling_of i) h.place) (says i ps read p) (placed (tiling_of i) read.small.side))
+
+  long : (p : Held) → ¬ pixels.IsShort (fields_of i p) (i.raster p)
+  long p stands =
+      (read.back p).long (subst (λ (h : Fields). pixels.IsShort h (raster_bytes (header_of (tiling_of i) (product_of p)) (raster_in ps p))) (sym (says i ps read p))
+      (subst (λ (body : List ℕ). pixels.IsShort (fields_of i p) body) (read.rasters_are p) stands))
+
 -- no refusal stands
 none_stands : (i : Inputs) (e : Heights) (sinks : List SinkLine) (ps : ProductSet) → IsMosaicOf i (tiling_of i) e → sinks_of i.sinks ≡ Ok sinks → AreOnData e sinks → AreReadBack i ps → AreReadable i
-none_stands i e sinks ps mosaic listed on_data read (BadHeader p fault) stands = (read.described p).sound fault stands.holds
-none_stands i e sinks ps mosaic listed on_data read (WrongShape p) stands = stands (ap (λ (h : Fields). pixels.extent_of h) (sym (says i ps read p)))
-none_stands i e sinks ps mosaic listed on_data read (Misplaced p) stands =
-    stands (subst (λ (h : Fields). IsPlaced (tiling_of i) h.place) (says i ps read p) (placed (tiling_of i) read.small.side))
-none_stands i e sinks ps mosaic listed on_data read (RasterShort p) stands =
-    (read.back p).long (subst (λ (h : Fields). pixels.IsShort h (raster_bytes (header_of (tiling_of i) p) (raster_in ps p))) (sym (says i ps read p))
-    (subst (λ (body : List ℕ). pixels.IsShort (fields_of i p) body) (read.rasters_are p) stands))
+none_stands i e sinks ps mosaic listed on_data read (BadHeader p fault) stands = none_of_held (λ h. Answers (i.header h) (Err fault)) (λ h. no_fault i ps read h fault) p stands
+none_stands i e sinks ps mosaic listed on_data read (WrongShape p) stands = none_of_held (λ h. ¬ HasShape i h) (shaped i ps read) p stands
+none_stands i e sinks ps mosaic listed on_data read (Misplaced p) stands = none_of_held (λ h. ¬ IsPlaced (tiling_of i) (fields_of i h).place) (placed_there i ps read) p stands
+none_stands i e sinks ps mosaic listed on_data read (RasterShort p) stands = none_of_held (λ h. pixels.IsShort (fields_of i h) (i.raster h)) (long i ps read) p stands
 none_stands i e sinks ps mosaic listed on_data read (BadSinkLine n) stands = let no : Ok sinks ≡ Err n = sym listed ∙ stands in cc
 none_stands i e sinks ps mosaic listed on_data read (SinkNotData n) stands =
     on_data n (record {
@@ -123,12 +140,12 @@ number_in_bytes numbers h p c shape back inside =
     ∙ numbers h p.nodata (raster_bytes h p) c inside
 
 -- so the number of a product at a cell is that of its file
-number_kept : (i : Inputs) (e : Heights) (ps : ProductSet) → NumbersArePixels → IsMosaicOf i (tiling_of i) e → AreReadBack i ps → (p : Product) (c : Cell) →
+number_kept : (i : Inputs) (e : Heights) (ps : ProductSet) → NumbersArePixels → IsMosaicOf i (tiling_of i) e → AreReadBack i ps → (p : Held) (c : Cell) →
     IsCellOf e.extent c → number_at (raster_in ps p) c ≡ number_of i p c
 number_kept i e ps numbers mosaic read p c inside =
-    number_in_bytes numbers (header_of (tiling_of i) p) (raster_in ps p) c (read.shapes p) (read.back p)
+    number_in_bytes numbers (header_of (tiling_of i) (product_of p)) (raster_in ps p) c (read.shapes p) (read.back p)
     (subst (λ (x : Extent). IsCellOf x c) mosaic.extent_is inside)
-    ∙ ap (λ (h : Fields). pixels.pixel_at h (raster_bytes (header_of (tiling_of i) p) (raster_in ps p)) c) (says i ps read p)
+    ∙ ap (λ (h : Fields). pixels.pixel_at h (raster_bytes (header_of (tiling_of i) (product_of p)) (raster_in ps p)) c) (says i ps read p)
     ∙ ap (λ (body : List ℕ). pixels.pixel_at (fields_of i p) body c) (sym (read.rasters_are p))
 
 -- the grid and the products are those of the files
@@ -143,14 +160,14 @@ grids_equal i e sinks ps numbers mosaic listed read = record {
     dir = number_kept i e ps numbers mosaic read Dir c inside k;
     acc = number_kept i e ps numbers mosaic read Acc c inside k;
     bas = number_kept i e ps numbers mosaic read Bas c inside k;
-    spl = number_kept i e ps numbers mosaic read Spl c inside k;
+    spl = pos 0;
     rnk = number_kept i e ps numbers mosaic read Rnk c inside k;
   };
 }
 
 -- the no-data numbers are the defaults
-default_said : (i : Inputs) (ps : ProductSet) → AreReadBack i ps → (p : Product) → default_no_data p ≡ nodata_of i p
-default_said i ps read p = ap (λ (h : Fields). unwrap_or h.nodata (default_no_data p)) (says i ps read p)
+default_said : (i : Inputs) (ps : ProductSet) → AreReadBack i ps → (p : Held) → default_no_data (product_of p) ≡ nodata_of i p
+default_said i ps read p = ap (λ (h : Fields). unwrap_or h.nodata (default_no_data (product_of p))) (says i ps read p)
 
 defaults_said : (i : Inputs) (ps : ProductSet) → AreReadBack i ps → default_numbers ≡ nodata_numbers i
 defaults_said i ps read = λ k. record {
@@ -158,7 +175,7 @@ defaults_said i ps read = λ k. record {
   dir = default_said i ps read Dir k;
   acc = default_said i ps read Acc k;
   bas = default_said i ps read Bas k;
-  spl = default_said i ps read Spl k;
+  spl = default_no_data Spl;
   rnk = default_said i ps read Rnk k;
 }
 

@@ -1,15 +1,14 @@
 -- What can be spelled of each product's raster can be of all.
 use Rattle.std.proofs.Common.{true, false}
 use Rattle.drain_grid.specs.declared.product_set.ProductSet.{ProductSet}
-use Rattle.drain_grid.specs.declared.product.Product.TheVariants.{Con, Dir, Acc, Bas, Spl, Rnk}
+use Rattle.drain_grid.specs.declared.held.Held.TheVariants.{Con, Dir, Acc, Bas, Rnk}
 use Rattle.drain_raster.specs.Bytes.{CanSpellAllIn}
 use Rattle.drain_maker.specs.Made.{AreSpelled}
 
 pub each_spelled : (ps : ProductSet) → CanSpellAllIn true 16 ps.con → CanSpellAllIn false 8 ps.dir → CanSpellAllIn false 32 ps.acc →
-    CanSpellAllIn false 32 ps.bas → CanSpellAllIn false 8 ps.spl → CanSpellAllIn false 32 ps.rnk → AreSpelled ps
-each_spelled ps con dir acc bas spl rnk Con = con
-each_spelled ps con dir acc bas spl rnk Dir = dir
-each_spelled ps con dir acc bas spl rnk Acc = acc
-each_spelled ps con dir acc bas spl rnk Bas = bas
-each_spelled ps con dir acc bas spl rnk Spl = spl
-each_spelled ps con dir acc bas spl rnk Rnk = rnk
+    CanSpellAllIn false 32 ps.bas → CanSpellAllIn false 32 ps.rnk → AreSpelled ps
+each_spelled ps con dir acc bas rnk Con = con
+each_spelled ps con dir acc bas rnk Dir = dir
+each_spelled ps con dir acc bas rnk Acc = acc
+each_spelled ps con dir acc bas rnk Bas = bas
+each_spelled ps con dir acc bas rnk Rnk = rnk

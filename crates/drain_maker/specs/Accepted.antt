@@ -1,7 +1,8 @@
 -- Products that were made for a mosaic are accepted: what the files are, and what the answer to them is.
 use Rattle.std.specs.Prelude.{◌≡◌, List, Result, Ok, Err}
 use Rattle.std.specs.List.{AllZip}
-use Rattle.drain_grid.specs.declared.product.Product.{Product}
+use Rattle.drain_grid.specs.declared.held.Held.{Held}
+use Rattle.drain_grid.specs.Held.{product_of}
 use Rattle.drain_grid.specs.declared.product_set.ProductSet.{ProductSet}
 use Rattle.drain_grid.specs.declared.sink_line.SinkLine.{SinkLine}
 use Rattle.drain_grid.specs.SinkTexts.{sinks_of}
@@ -29,8 +30,8 @@ AreNamed i = AreNames i.names → AllZip Names i.names i.corners
 
 -- the products of these inputs are the files of these rasters: the text of each product's header, and the bytes of its raster
 pub record AreFilesOf (i : Inputs) (ps : ProductSet) : Type 0 where
-  pub headers_are : (p : Product) → i.header p ≡ text_of (header_of (tiling_of i) p)
-  pub rasters_are : (p : Product) → i.raster p ≡ raster_bytes (header_of (tiling_of i) p) (raster_in ps p)
+  pub headers_are : (p : Held) → i.header p ≡ text_of (header_of (tiling_of i) (product_of p))
+  pub rasters_are : (p : Held) → i.raster p ≡ raster_bytes (header_of (tiling_of i) (product_of p)) (raster_in ps p)
 
 -- accepted with the counts of these products; only want of memory or a failed read keep that answer back
 abbrev pub IsAcceptance : Grid → Products → Result Verdict Refusal → Type 0

@@ -7,7 +7,7 @@ use Rattle.drain_device.specs.Writes.{HandsOver}
 use Rattle.drain_grid.specs.declared.product_set.ProductSet.{ProductSet}
 use Rattle.drain_grid.specs.Rasters.{Pixels}
 use Rattle.drain_grid.specs.WholeGrid.{raster_in}
-use Rattle.drain_grid.specs.PerProduct.{products}
+use Rattle.drain_grid.specs.Held.{product_of, products}
 use Rattle.drain_header.specs.Fields.{Fields}
 use Rattle.drain_header.specs.Text.{text_of}
 use Rattle.drain_mosaic.specs.Tiling.{Tiling}
@@ -25,11 +25,11 @@ part_bytes Header h p = text_of h
 part_bytes Raster h p = raster_bytes h p
 
 abbrev pub file_bytes : Tiling → ProductSet → SetFile → List ℕ
-file_bytes t ps file = part_bytes file.part (header_of t file.product) (raster_in ps file.product)
+file_bytes t ps file = part_bytes file.part (header_of t (product_of file.product)) (raster_in ps file.product)
 
 -- the bytes of all files: of each product its header, and then its raster
 unfoldable pub set_bytes : Tiling → ProductSet → List (List ℕ)
-set_bytes t ps = flat_map (λ p. text_of (header_of t p) ∷ raster_bytes (header_of t p) (raster_in ps p) ∷ []) products
+set_bytes t ps = flat_map (λ p. text_of (header_of t (product_of p)) ∷ raster_bytes (header_of t (product_of p)) (raster_in ps p) ∷ []) products
 
 -- the file took its bytes, or a proper part of them, from the first on; the write failed exactly where the file gave up
 pub record WritesFile {F : Type 0} (sink : Sink F) (old new : F) (bytes : List ℕ) (done : Result (Unit {0}) SetFault) : Type 0 where

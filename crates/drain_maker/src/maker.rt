@@ -135,7 +135,6 @@ fn products_from(
         dir: raster_of_codes(Product::Dir, dir),
         acc: raster_of_counts(Product::Acc, acc),
         bas: raster_of_counts(Product::Bas, bas),
-        spl: raster_of_codes(Product::Spl, spl),
         rnk: raster_of_counts(Product::Rnk, rnk),
     })
 }

@@ -10,7 +10,7 @@ ghost use Rattle.drain_maker.specs.ProductFiles.{WritesFile, WritesFiles, file_b
 
 use crate::header::product_header;
 use drain_device::{ByteSink, GaveUp, Patience, write_all};
-use drain_grid::{Product, ProductSet, Raster};
+use drain_grid::{Held, ProductSet, Raster};
 use drain_header::{Header, header_text};
 use drain_mosaic::Layout;
 use drain_raster::write_raster;
@@ -26,61 +26,53 @@ pub enum Part {
 /// A file of a product set.
 #[derive(Clone, Copy, PartialEq, Eq, Debug)]
 pub struct SetFile {
-    pub product: Product,
+    pub product: Held,
     pub part: Part,
 }
 
 /// How many files a product set has.
-pub const FILE_COUNT: usize = 12;
+pub const FILE_COUNT: usize = 10;
 
 /// The files of a product set in their order: of each product its header, and then its raster.
 pub const SET_FILES: [SetFile; FILE_COUNT] = [
     SetFile {
-        product: Product::Con,
+        product: Held::Con,
         part: Part::Header,
     },
     SetFile {
-        product: Product::Con,
+        product: Held::Con,
         part: Part::Raster,
     },
     SetFile {
-        product: Product::Dir,
+        product: Held::Dir,
         part: Part::Header,
     },
     SetFile {
-        product: Product::Dir,
+        product: Held::Dir,
         part: Part::Raster,
     },
     SetFile {
-        product: Product::Acc,
+        product: Held::Acc,
         part: Part::Header,
     },
     SetFile {
-        product: Product::Acc,
+        product: Held::Acc,
         part: Part::Raster,
     },
     SetFile {
-        product: Product::Bas,
+        product: Held::Bas,
         part: Part::Header,
     },
     SetFile {
-        product: Product::Bas,
+        product: Held::Bas,
         part: Part::Raster,
     },
     SetFile {
-        product: Product::Spl,
+        product: Held::Rnk,
         part: Part::Header,
     },
     SetFile {
-        product: Product::Spl,
-        part: Part::Raster,
-    },
-    SetFile {
-        product: Product::Rnk,
-        part: Part::Header,
-    },
-    SetFile {
-        product: Product::Rnk,
+        product: Held::Rnk,
         part: Part::Raster,
     },
 ];
@@ -124,7 +116,7 @@ fn write_file<F: ByteSink>(
     requires written { CanBeWritten layout.now products.now }
     ensures { WritesFile F.ByteSink to.old to.new (file_bytes layout.now products.now file) result }
 {
-    let header = product_header(layout, file.product);
+    let header = product_header(layout, file.product.product());
     match file.part {
         Part::Header => write_header(alloc, &header, to),
         Part::Raster => write_numbers(&header, products.raster(file.product), to),

@@ -5,18 +5,18 @@ use Rattle.drain_grid.specs.declared.rule.Rule.{Rule}
 use Rattle.drain_grid.specs.declared.rule.Rule.TheVariants.{VoidCell, BadCode, NotLeast, Label}
 use Rattle.drain_grid.specs.Values.{NoDataNumbers}
 use Rattle.drain_grid.specs.Rule.{number_of, IsPresenceRule, IsFillRule, IsPatchRule, IsLeastFault}
-use Rattle.drain_grid.specs.PatchRules.{fill_rules, flow_rules, check_rules}
+use Rattle.drain_grid.specs.PatchRules.{surface_rules, flow_rules, check_rules}
 use Rattle.drain_grid.proofs.LeastFaults.{IsFrom, IsAfter, found_first, found_next}
-use Rattle.drain_grid.proofs.Profiles.{fill_same, flow_same}
+use Rattle.drain_grid.proofs.Profiles.{surface_same, flow_same}
 use Rattle.drain_grid.proofs.RuleNumbers.{numbered}
 use Rattle.drain_rules.proofs.Faults.{IsLeastFault-same}
 
 -- where the rules before hold, the answer on the conditioned elevation is that of all rules so far
 pub fill_to : (nodata : NoDataNumbers) (p : Patch) (o : Option Rule) → IsLeastFault IsPresenceRule (check_rules nodata p) None →
-    IsLeastFault IsFillRule (fill_rules p) o → IsLeastFault (IsFrom VoidCell NotLeast) (check_rules nodata p) o
+    IsLeastFault IsFillRule (surface_rules p) o → IsLeastFault (IsFrom VoidCell NotLeast) (check_rules nodata p) o
 fill_to nodata p o hold answer =
     found_next (check_rules nodata p) VoidCell BadCode NotLeast o (omega arith) hold
-    (IsLeastFault-same IsFillRule (fill_rules p) (check_rules nodata p) o (fill_same nodata p) answer)
+    (IsLeastFault-same IsFillRule (surface_rules p) (check_rules nodata p) o (surface_same nodata p) answer)
 
 -- and so is the answer on where water goes
 pub flow_to : (nodata : NoDataNumbers) (p : Patch) (passed last : Rule) (o : Option Rule) → number_of NotLeast ≤ number_of passed →

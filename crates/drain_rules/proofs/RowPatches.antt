@@ -1,9 +1,9 @@
 -- The patch of three rows is that of the grid: a neighbour at a time.
-use Rattle.std.proofs.Common.{◌≡◌, ℕ, zero, suc, ◌+◌, ◌-◌, ◌<◌, ◌≤◌, [], ◌∷◌, Option, Some, None, inl, inr, arith, refl, ap, subst, ◌∙◌}
+use Rattle.std.proofs.Common.{◌≡◌, sym, ℕ, zero, suc, ◌+◌, ◌-◌, ◌<◌, ◌≤◌, [], ◌∷◌, Option, Some, None, inl, inr, arith, refl, ap, subst, ◌∙◌}
 use Rattle.std.specs.Prelude.{◌&&◌, nat_lt, option_map, if◌then◌else◌}
 use Rattle.std.proofs.lemmas.Bool.{cases_lt, lt-ltb, le-ltb}
 use Rattle.drain_grid.specs.declared.cell.Cell.{Cell}
-use Rattle.drain_grid.specs.declared.product.Product.TheVariants.{Con, Dir, Acc, Bas, Spl, Rnk}
+use Rattle.drain_grid.specs.declared.held.Held.TheVariants.{Con, Dir, Acc, Bas, Rnk}
 use Rattle.drain_grid.specs.Size.{Extent}
 use Rattle.drain_grid.specs.Values.{Values}
 use Rattle.drain_grid.specs.Grid.{Grid, Products, patch_at, values_at}
@@ -25,7 +25,7 @@ values-are g ps row col n are inside = λ i. record {
   dir = are.numbers.products Dir col inside i;
   acc = are.numbers.products Acc col inside i;
   bas = are.numbers.products Bas col inside i;
-  spl = are.numbers.products Spl col inside i;
+  spl = sym (are.numbers.no_spill col inside) i;
   rnk = are.numbers.products Rnk col inside i;
 }
 

@@ -12,7 +12,7 @@ pub record MarkedRow : Type 0 where
   pub numbers : RowNumbers
   pub sinks : List Bool
 
--- what the row says at a column
+-- what the row says at a column; of spill parents it says 0
 abbrev pub values_in : MarkedRow → ℕ → Values
 values_in row col = record {
   z = height_from (slice_index_or row.numbers.z col VOID);
@@ -21,7 +21,7 @@ values_in row col = record {
   dir = slice_index_or row.numbers.products.dir col (pos 0);
   acc = slice_index_or row.numbers.products.acc col (pos 0);
   bas = slice_index_or row.numbers.products.bas col (pos 0);
-  spl = slice_index_or row.numbers.products.spl col (pos 0);
+  spl = pos 0;
   rnk = slice_index_or row.numbers.products.rnk col (pos 0);
 }
 

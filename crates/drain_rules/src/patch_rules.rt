@@ -1,7 +1,7 @@
 //! The first rule that fails at a cell, of those that look at its patch alone.
 
 ghost use Rattle.std.specs.Prelude.{IsTrue};
-ghost use Rattle.drain_grid.specs.PatchRules.{check_rules, fill_rules, BelowGroundHolds};
+ghost use Rattle.drain_grid.specs.PatchRules.{check_rules, surface_rules, BelowGroundHolds};
 ghost use Rattle.drain_grid.specs.Rule.{IsFillRule, IsPatchRule, IsLeastFault};
 
 use drain_grid::{NoData, Patch, Rule};
@@ -20,7 +20,7 @@ pub fn screened_fault(patch: &Patch, nodata: &NoData, is_above: bool) -> Option<
     requires { IsTrue is_above → BelowGroundHolds patch.now }
     ensures least { IsLeastFault IsPatchRule (check_rules nodata.now patch.now) result }
 {
-    if let Some(rule) = patch.presence_fault(nodata) {
+    if let Some(rule) = patch.presence_fault_profile2(nodata) {
         return Some(rule);
     }
     if let Some(rule) = fill_fault(patch, is_above) {
@@ -41,11 +41,11 @@ pub fn screened_fault(patch: &Patch, nodata: &NoData, is_above: bool) -> Option<
 /// The first of the rules on the conditioned elevation that fails at such a cell, none where they all hold.
 fn fill_fault(patch: &Patch, is_above: bool) -> Option<Rule>
     requires { IsTrue is_above → BelowGroundHolds patch.now }
-    ensures least { IsLeastFault IsFillRule (fill_rules patch.now) result }
+    ensures least { IsLeastFault IsFillRule (surface_rules patch.now) result }
 {
     if is_above {
-        drain_fill::fault_above(patch)
+        drain_fill::fault_above_profile2(patch)
     } else {
-        drain_fill::fault(patch)
+        drain_fill::fault_profile2(patch)
     }
 }

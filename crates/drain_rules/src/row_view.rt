@@ -12,7 +12,7 @@ ghost use Rattle.drain_rules.specs.RowNumbers.{AreRowNumbers};
 
 use crate::screen::cells_above_ground;
 use drain_grid::tile::height_from;
-use drain_grid::{CellValues, PerProduct, Product};
+use drain_grid::{CellValues, Held, PerProduct};
 use std::marker::Model;
 
 /// One row: elevations, -32768 at a void, and each product's numbers, as many of each; and marks, true at a listed sink. It has no
@@ -67,7 +67,7 @@ impl<'a> RowView<'a> {
         cells_above_ground(self.products.con, self.z) as u32
     }
 
-    /// What the row says at a column.
+    /// What the row says at a column; of spill parents, which no set holds, it says 0.
     pub fn values(&self, col: usize) -> CellValues
         requires { col < length self.now.numbers.z }
         ensures { result ≡ values_in self.now col }
@@ -75,12 +75,12 @@ impl<'a> RowView<'a> {
         CellValues {
             z: self.height(col),
             sink: self.is_sink(col),
-            con: self.number(Product::Con, col),
-            dir: self.number(Product::Dir, col),
-            acc: self.number(Product::Acc, col),
-            bas: self.number(Product::Bas, col),
-            spl: self.number(Product::Spl, col),
-            rnk: self.number(Product::Rnk, col),
+            con: self.number(Held::Con, col),
+            dir: self.number(Held::Dir, col),
+            acc: self.number(Held::Acc, col),
+            bas: self.number(Held::Bas, col),
+            spl: 0,
+            rnk: self.number(Held::Rnk, col),
         }
     }
 
@@ -123,7 +123,7 @@ impl<'a> RowView<'a> {
     }
 
     /// The product's number at a column.
-    fn number(&self, product: Product, col: usize) -> i64
+    fn number(&self, product: Held, col: usize) -> i64
         requires { col < length self.now.numbers.z }
         ensures number { result ≡ slice_index_or (of_product self.now.numbers.products product) col (pos 0) }
         ensures pixel { IsPixel result }

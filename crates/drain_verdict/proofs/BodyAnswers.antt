@@ -3,9 +3,10 @@ use Rattle.std.proofs.Common.{◌≡◌, ℕ, ◌<◌, List, slice_get, Some, ar
 use Rattle.std.specs.List.{All}
 use Rattle.std.proofs.lemmas.Option.{get_or_from_slice_get, slice_get_within}
 use Rattle.drain_grid.specs.declared.cell.Cell.{Cell}
-use Rattle.drain_grid.specs.declared.product.Product.{Product}
+use Rattle.drain_grid.specs.declared.held.Held.{Held}
 use Rattle.drain_grid.specs.Extent.{index_of}
-use Rattle.drain_grid.specs.PerProduct.{rank_of}
+use Rattle.drain_grid.specs.Held.{product_of, rank_of}
+use Rattle.drain_grid.proofs.ByProduct.{of_held}
 use Rattle.drain_hgt.specs.Corner.{Corner}
 use Rattle.drain_hgt.specs.Samples.{IsTile}
 use Rattle.drain_hgt.specs.Inputs.{IsFirstBadLength}
@@ -52,14 +53,17 @@ tile_refused i OutOfMemory bad none = tt
 tile_refused i ReadFailed bad none = tt
 tile_refused i refusal bad none = absurd bad
 
-pub rasters_none : (i : Inputs) → ((p : Product) → ¬ IsShort (fields_of i p) (i.raster p)) → NoneStandsBefore i 6 → NoneStandsBefore i 7
-rasters_none i long none = none_more i (Stands i) 6 none (at_raster i (λ b. ¬ Stands i b) long)
+pub rasters_none : (i : Inputs) → ((p : Held) → ¬ IsShort (fields_of i p) (i.raster p)) → NoneStandsBefore i 6 → NoneStandsBefore i 7
+rasters_none i long none =
+    none_more i (Stands i) 6 none (at_raster i (λ b. ¬ Stands i b) (λ b no. no) (λ p stands. long p ((of_held (λ h. IsShort (fields_of i h) (i.raster h)) p).0 stands)))
 
 -- the refusal of a raster is the first
-pub raster_refused : (i : Inputs) (p : Product) → IsShort (fields_of i p) (i.raster p) → ((q : Product) → rank_of q < rank_of p → ¬ IsShort (fields_of i q) (i.raster q)) →
-    NoneStandsBefore i 6 → IsRefusal i (RasterShort p)
+pub raster_refused : (i : Inputs) (p : Held) → IsShort (fields_of i p) (i.raster p) → ((q : Held) → rank_of q < rank_of p → ¬ IsShort (fields_of i q) (i.raster q)) →
+    NoneStandsBefore i 6 → IsRefusal i (RasterShort (product_of p))
 raster_refused i p short before none =
-    first_of i (Stands i) 6 (rank_of p) (RasterShort p) refl short none (at_raster i (λ b. (refusal_order i b).1 < rank_of p → ¬ Stands i b) before)
+    let is_short = of_held (λ h. IsShort (fields_of i h) (i.raster h)) in
+    first_of i (Stands i) 6 (rank_of p) (RasterShort (product_of p)) refl ((is_short p).1 short) none
+    (at_raster i (λ b. (refusal_order i b).1 < rank_of p → ¬ Stands i b) (λ b no less. no) (λ q less stands. before q less ((is_short q).0 stands)))
 
 -- where tiles agree, no cell has two values
 pub none_of_two_values : (i : Inputs) → TilesAgree (tiling_of i) (tiles_of i) → (c : Cell) → ¬ IsSeamFault i c

@@ -4,8 +4,9 @@ use Rattle.std.specs.Result.{IsErrAnd}
 use Rattle.drain_device.specs.declared.counts.FaultCounts.{FaultCounts}
 use Rattle.drain_grid.specs.declared.per_product.PerProduct.{PerProduct}
 use Rattle.drain_grid.specs.PerProduct.{of_product}
-use Rattle.drain_grid.specs.declared.product.Product.{Product}
-use Rattle.drain_grid.specs.declared.product.Product.TheVariants.{Con, Dir, Acc, Bas, Spl, Rnk}
+use Rattle.drain_grid.specs.declared.held.Held.{Held}
+use Rattle.drain_grid.proofs.ByProduct.{by_held}
+use Rattle.drain_grid.specs.declared.held.Held.TheVariants.{Con, Dir, Acc, Bas, Rnk}
 use Rattle.drain_raster.specs.declared.raster_rows.RasterRows.{RasterRows}
 use Rattle.drain_verdict.specs.InputReads.{RasterHasRead, RastersHaveRead, gave_up, told_by}
 use Rattle.drain_verdict.specs.Inputs.{Products}
@@ -19,15 +20,6 @@ Answer = Result (Unit {0}) Refusal
 pub told-of : {T : Type 0} (r : Result T Refusal) (e : Refusal) (P : Refusal → Type 0) → IsErrAnd r (λ told. told ≡ e) → P e → IfErr r P
 told-of (Ok x) e P is holds = absurd is
 told-of (Err told) e P is holds = rw is holds
-
--- for all products at once
-pub by_product : (P : Product → Type 0) → P Con → P Dir → P Acc → P Bas → P Spl → P Rnk → (p : Product) → P p
-by_product P con dir acc bas spl rnk Con = con
-by_product P con dir acc bas spl rnk Dir = dir
-by_product P con dir acc bas spl rnk Acc = acc
-by_product P con dir acc bas spl rnk Bas = bas
-by_product P con dir acc bas spl rnk Spl = spl
-by_product P con dir acc bas spl rnk Rnk = rnk
 
 -- a refusal by which a device gave up
 pub only_failed : (refusal : Refusal) → IsTrue (gave_up None (Some refusal)) → refusal ≡ ReadFailed
@@ -63,72 +55,66 @@ fails_then (Err refusal) after stays = (
 )
 
 -- whether the product's device gave up
-abbrev pub failed_at : (con dir acc bas spl rnk : Answer) → Product → Bool
-failed_at con dir acc bas spl rnk Con = gave_up None (told_by con)
-failed_at con dir acc bas spl rnk Dir = gave_up (told_by con) (told_by dir)
-failed_at con dir acc bas spl rnk Acc = gave_up (told_by dir) (told_by acc)
-failed_at con dir acc bas spl rnk Bas = gave_up (told_by acc) (told_by bas)
-failed_at con dir acc bas spl rnk Spl = gave_up (told_by bas) (told_by spl)
-failed_at con dir acc bas spl rnk Rnk = gave_up (told_by spl) (told_by rnk)
+abbrev pub failed_at : (con dir acc bas rnk : Answer) → Held → Bool
+failed_at con dir acc bas rnk Con = gave_up None (told_by con)
+failed_at con dir acc bas rnk Dir = gave_up (told_by con) (told_by dir)
+failed_at con dir acc bas rnk Acc = gave_up (told_by dir) (told_by acc)
+failed_at con dir acc bas rnk Bas = gave_up (told_by acc) (told_by bas)
+failed_at con dir acc bas rnk Rnk = gave_up (told_by bas) (told_by rnk)
 
 -- what was told before stays the answer
-pub record Stay (con dir acc bas spl rnk : Answer) : Type 0 where
+pub record Stay (con dir acc bas rnk : Answer) : Type 0 where
   pub at_dir : IfErr con (λ refusal. dir ≡ Err refusal)
   pub at_acc : IfErr dir (λ refusal. acc ≡ Err refusal)
   pub at_bas : IfErr acc (λ refusal. bas ≡ Err refusal)
-  pub at_spl : IfErr bas (λ refusal. spl ≡ Err refusal)
-  pub at_rnk : IfErr spl (λ refusal. rnk ≡ Err refusal)
+  pub at_rnk : IfErr bas (λ refusal. rnk ≡ Err refusal)
 
 -- the last answer tells that a device gave up exactly where that of some product did
-pub some_failed : (con dir acc bas spl rnk : Answer) → Stay con dir acc bas spl rnk → HasFailed rnk ↔ ((p : Product) × IsTrue (failed_at con dir acc bas spl rnk p))
-some_failed con dir acc bas spl rnk stay =
+pub some_failed : (con dir acc bas rnk : Answer) → Stay con dir acc bas rnk → HasFailed rnk ↔ ((p : Held) × IsTrue (failed_at con dir acc bas rnk p))
+some_failed con dir acc bas rnk stay =
     let at_con = fails_then (Ok tt) con tt in
     let at_dir = fails_then con dir stay.at_dir in
     let at_acc = fails_then dir acc stay.at_acc in
     let at_bas = fails_then acc bas stay.at_bas in
-    let at_spl = fails_then bas spl stay.at_spl in
-    let at_rnk = fails_then spl rnk stay.at_rnk in
-    let from_con : HasFailed con → ((p : Product) × IsTrue (failed_at con dir acc bas spl rnk p)) = λ h. elim (at_con.0 h) [ inl none ↦ absurd (let no = none in cc) | inr up ↦ (Con, up) ] in
-    let from_dir : HasFailed dir → ((p : Product) × IsTrue (failed_at con dir acc bas spl rnk p)) = λ h. elim (at_dir.0 h) [ inl before ↦ from_con before | inr up ↦ (Dir, up) ] in
-    let from_acc : HasFailed acc → ((p : Product) × IsTrue (failed_at con dir acc bas spl rnk p)) = λ h. elim (at_acc.0 h) [ inl before ↦ from_dir before | inr up ↦ (Acc, up) ] in
-    let from_bas : HasFailed bas → ((p : Product) × IsTrue (failed_at con dir acc bas spl rnk p)) = λ h. elim (at_bas.0 h) [ inl before ↦ from_acc before | inr up ↦ (Bas, up) ] in
-    let from_spl : HasFailed spl → ((p : Product) × IsTrue (failed_at con dir acc bas spl rnk p)) = λ h. elim (at_spl.0 h) [ inl before ↦ from_bas before | inr up ↦ (Spl, up) ] in
-    let to_spl : HasFailed spl → HasFailed rnk = λ h. at_rnk.1 (inl h) in
-    let to_bas : HasFailed bas → HasFailed rnk = λ h. to_spl (at_spl.1 (inl h)) in
+    let at_rnk = fails_then bas rnk stay.at_rnk in
+    let from_con : HasFailed con → ((p : Held) × IsTrue (failed_at con dir acc bas rnk p)) = λ h. elim (at_con.0 h) [ inl none ↦ absurd (let no = none in cc) | inr up ↦ (Con, up) ] in
+    let from_dir : HasFailed dir → ((p : Held) × IsTrue (failed_at con dir acc bas rnk p)) = λ h. elim (at_dir.0 h) [ inl before ↦ from_con before | inr up ↦ (Dir, up) ] in
+    let from_acc : HasFailed acc → ((p : Held) × IsTrue (failed_at con dir acc bas rnk p)) = λ h. elim (at_acc.0 h) [ inl before ↦ from_dir before | inr up ↦ (Acc, up) ] in
+    let from_bas : HasFailed bas → ((p : Held) × IsTrue (failed_at con dir acc bas rnk p)) = λ h. elim (at_bas.0 h) [ inl before ↦ from_acc before | inr up ↦ (Bas, up) ] in
+    let to_bas : HasFailed bas → HasFailed rnk = λ h. at_rnk.1 (inl h) in
     let to_acc : HasFailed acc → HasFailed rnk = λ h. to_bas (at_bas.1 (inl h)) in
     let to_dir : HasFailed dir → HasFailed rnk = λ h. to_acc (at_acc.1 (inl h)) in
     let to_con : HasFailed con → HasFailed rnk = λ h. to_dir (at_dir.1 (inl h)) in (
-      λ h. elim (at_rnk.0 h) [ inl before ↦ from_spl before | inr up ↦ (Rnk, up) ],
-      λ some. by_product (λ p. IsTrue (failed_at con dir acc bas spl rnk p) → HasFailed rnk)
+      λ h. elim (at_rnk.0 h) [ inl before ↦ from_bas before | inr up ↦ (Rnk, up) ],
+      λ some. by_held (λ p. IsTrue (failed_at con dir acc bas rnk p) → HasFailed rnk)
           (λ up. to_con (at_con.1 (inr up))) (λ up. to_dir (at_dir.1 (inr up))) (λ up. to_acc (at_acc.1 (inr up)))
-          (λ up. to_bas (at_bas.1 (inr up))) (λ up. to_spl (at_spl.1 (inr up))) (λ up. at_rnk.1 (inr up)) some.0 some.1,
+          (λ up. to_bas (at_bas.1 (inr up))) (λ up. at_rnk.1 (inr up)) some.0 some.1,
     )
 
 -- the products with other bodies
-abbrev pub with_bodies : {R : Type 0} → Products R → R → R → R → R → R → R → Products R
-with_bodies ps con dir acc bas spl rnk = record {
+abbrev pub with_bodies : {R : Type 0} → Products R → R → R → R → R → R → Products R
+with_bodies ps con dir acc bas rnk = record {
   con = record { header = ps.con.header; body = con };
   dir = record { header = ps.dir.header; body = dir };
   acc = record { header = ps.acc.header; body = acc };
   bas = record { header = ps.bas.header; body = bas };
-  spl = record { header = ps.spl.header; body = spl };
   rnk = record { header = ps.rnk.header; body = rnk };
 }
 
 module _ {R : Type 0} (bytes_left : R → Option (List ℕ)) (counts : R → FaultCounts) (old new : PerProduct RasterRows) (lent : Products R) where
   -- one product's part: between these answers its device was called, or left alone
-  abbrev pub IsPart : Product → R → Bool → Type 0
+  abbrev pub IsPart : Held → R → Bool → Type 0
   IsPart p body failed = RasterHasRead (bytes_left (of_product lent p).body) (bytes_left body) (counts (of_product lent p).body) (counts body) (of_product old p) (of_product new p) (IsTrue failed)
 
-  pub all_read : (con dir acc bas spl rnk : R) (a b c d e f : Answer) → Stay a b c d e f →
-      IsPart Con con (failed_at a b c d e f Con) → IsPart Dir dir (failed_at a b c d e f Dir) → IsPart Acc acc (failed_at a b c d e f Acc) →
-      IsPart Bas bas (failed_at a b c d e f Bas) → IsPart Spl spl (failed_at a b c d e f Spl) → IsPart Rnk rnk (failed_at a b c d e f Rnk) →
-      RastersHaveRead bytes_left counts old new lent (with_bodies lent con dir acc bas spl rnk) (told_by f)
-  all_read con dir acc bas spl rnk a b c d e f stay at_con at_dir at_acc at_bas at_spl at_rnk =
-      let lent_then = with_bodies lent con dir acc bas spl rnk in
+  pub all_read : (con dir acc bas rnk : R) (a b c d e : Answer) → Stay a b c d e →
+      IsPart Con con (failed_at a b c d e Con) → IsPart Dir dir (failed_at a b c d e Dir) → IsPart Acc acc (failed_at a b c d e Acc) →
+      IsPart Bas bas (failed_at a b c d e Bas) → IsPart Rnk rnk (failed_at a b c d e Rnk) →
+      RastersHaveRead bytes_left counts old new lent (with_bodies lent con dir acc bas rnk) (told_by e)
+  all_read con dir acc bas rnk a b c d e stay at_con at_dir at_acc at_bas at_rnk =
+      let lent_then = with_bodies lent con dir acc bas rnk in
       record {
-        failed = failed_at a b c d e f;
-        exactly = some_failed a b c d e f stay;
-        each = by_product (λ p. IsPart p (of_product lent_then p).body (failed_at a b c d e f p)) at_con at_dir at_acc at_bas at_spl at_rnk;
-        headers = by_product (λ p. (of_product lent_then p).header ≡ (of_product lent p).header) refl refl refl refl refl refl;
+        failed = failed_at a b c d e;
+        exactly = some_failed a b c d e stay;
+        each = by_held (λ p. IsPart p (of_product lent_then p).body (failed_at a b c d e p)) at_con at_dir at_acc at_bas at_rnk;
+        headers = by_held (λ p. (of_product lent_then p).header ≡ (of_product lent p).header) refl refl refl refl refl;
       }

@@ -41,13 +41,13 @@ NoneOfTilesBefore i kind = (refusal : Refusal) → (refusal_order i refusal).0 <
 past_headers : (i : Inputs) → NoneStandsBefore i 4 → NoneOfTilesBefore i 5
 past_headers i none =
     none_more i (StandsOfTiles i) 4 (λ b less stands. none b less stands.1)
-    (at_header i (λ b. ¬ StandsOfTiles i b) (λ p fault stands. stands.0) (λ p stands. stands.0) (λ p stands. stands.0))
+    (at_header i (λ b. ¬ StandsOfTiles i b) (λ b no stands. no stands.1) (λ p fault stands. stands.0) (λ p stands. stands.0) (λ p stands. stands.0))
 
 past_tiles : (i : Inputs) → All (IsTile i.side) i.tiles → NoneOfTilesBefore i 5 → NoneOfTilesBefore i 7
 past_tiles i all none =
     none_more i (StandsOfTiles i) 6
     (none_more i (StandsOfTiles i) 5 none (at_tile i (λ b. ¬ StandsOfTiles i b) (λ c stands. none_of_another_length i all c stands.1)))
-    (at_raster i (λ b. ¬ StandsOfTiles i b) (λ p stands. stands.0))
+    (at_raster i (λ b. ¬ StandsOfTiles i b) (λ b no stands. no stands.1) (λ p stands. stands.0))
 
 past_seams : (i : Inputs) → mosaic.TilesAgree (tiling_of i) (tiles_of i) → NoneOfTilesBefore i 7 → (refusal : Refusal) → ¬ StandsOfTiles i refusal
 past_seams i agree none =

@@ -1,14 +1,17 @@
 -- The order of refusals, kind by kind.
 use Rattle.std.proofs.Common.{◌≡◌, ℕ, ◌+◌, ◌<◌, arith, inl, inr, refl, subst, below_more}
 use Rattle.drain_grid.specs.declared.cell.Cell.{Cell}
-use Rattle.drain_grid.specs.declared.product.Product.{Product}
+use Rattle.drain_grid.specs.declared.held.Held.{Held}
+use Rattle.drain_grid.specs.declared.product.Product.TheVariants.{Spl}
+use Rattle.drain_grid.specs.Held.{product_of}
+use Rattle.drain_grid.proofs.ByProduct.{by_held_or_spill}
 use Rattle.drain_text.specs.First.{IsBefore, IsFirst}
 use Rattle.drain_hgt.specs.Corner.{Corner}
 use Rattle.drain_header.specs.declared.fault.HeaderFault.{HeaderFault}
 use Rattle.drain_verdict.specs.declared.refusal.Refusal.{Refusal}
 use Rattle.drain_verdict.specs.declared.refusal.Refusal.TheVariants.{BadSide, BadName, NoTiles, RepeatedTile, BoxTooLarge, BadHeader, WrongShape, Misplaced, BadTileLength, RasterShort, SeamMismatch, BadSinkLine, SinkNotData, OutOfMemory, ReadFailed}
 use Rattle.drain_verdict.specs.Inputs.{Inputs}
-use Rattle.drain_verdict.specs.Refusals.{refusal_order, NoneStandsBefore}
+use Rattle.drain_verdict.specs.Refusals.{refusal_order, NoneStandsBefore, Stands}
 use Rattle.drain_verdict.specs.Answers.{AreReadable}
 
 -- a statement holds of every refusal of a kind where it holds of each that has the kind
@@ -26,20 +29,21 @@ at_layout i P none repeated large (RepeatedTile c) e = repeated c
 at_layout i P none repeated large BoxTooLarge e = large
 at_layout i P none repeated large b e = absurd (omega arith)
 
-pub at_header : (i : Inputs) (P : Refusal → Type 0) → ((p : Product) (fault : HeaderFault) → P (BadHeader p fault)) → ((p : Product) → P (WrongShape p))
-    → ((p : Product) → P (Misplaced p)) → (b : Refusal) → (refusal_order i b).0 ≡ 4 → P b
-at_header i P header shape place (BadHeader p fault) e = header p fault
-at_header i P header shape place (WrongShape p) e = shape p
-at_header i P header shape place (Misplaced p) e = place p
-at_header i P header shape place b e = absurd (omega arith)
+-- of those that name a product where it holds of each that names a held product, and of each that doesn't stand
+pub at_header : (i : Inputs) (P : Refusal → Type 0) → ((b : Refusal) → ¬ Stands i b → P b) → ((p : Held) (fault : HeaderFault) → P (BadHeader (product_of p) fault))
+    → ((p : Held) → P (WrongShape (product_of p))) → ((p : Held) → P (Misplaced (product_of p))) → (b : Refusal) → (refusal_order i b).0 ≡ 4 → P b
+at_header i P unless header shape place (BadHeader p fault) e = by_held_or_spill (λ p. P (BadHeader p fault)) (λ p. header p fault) (unless (BadHeader Spl fault) (λ h. h)) p
+at_header i P unless header shape place (WrongShape p) e = by_held_or_spill (λ p. P (WrongShape p)) shape (unless (WrongShape Spl) (λ h. h)) p
+at_header i P unless header shape place (Misplaced p) e = by_held_or_spill (λ p. P (Misplaced p)) place (unless (Misplaced Spl) (λ h. h)) p
+at_header i P unless header shape place b e = absurd (omega arith)
 
 pub at_tile : (i : Inputs) (P : Refusal → Type 0) → ((c : Corner) → P (BadTileLength c)) → (b : Refusal) → (refusal_order i b).0 ≡ 5 → P b
 at_tile i P tile (BadTileLength c) e = tile c
 at_tile i P tile b e = absurd (omega arith)
 
-pub at_raster : (i : Inputs) (P : Refusal → Type 0) → ((p : Product) → P (RasterShort p)) → (b : Refusal) → (refusal_order i b).0 ≡ 6 → P b
-at_raster i P raster (RasterShort p) e = raster p
-at_raster i P raster b e = absurd (omega arith)
+pub at_raster : (i : Inputs) (P : Refusal → Type 0) → ((b : Refusal) → ¬ Stands i b → P b) → ((p : Held) → P (RasterShort (product_of p))) → (b : Refusal) → (refusal_order i b).0 ≡ 6 → P b
+at_raster i P unless raster (RasterShort p) e = by_held_or_spill (λ p. P (RasterShort p)) raster (unless (RasterShort Spl) (λ h. h)) p
+at_raster i P unless raster b e = absurd (omega arith)
 
 pub at_seam : (i : Inputs) (P : Refusal → Type 0) → ((c : Cell) → P (SeamMismatch c)) → (b : Refusal) → (refusal_order i b).0 ≡ 7 → P b
 at_seam i P seam (SeamMismatch c) e = seam c

@@ -5,9 +5,12 @@ use Rattle.std.specs.List.{All}
 use Rattle.drain_device.specs.ComingRows.{nth_row}
 use Rattle.drain_grid.specs.declared.cell.Cell.{Cell}
 use Rattle.drain_grid.specs.declared.per_product.PerProduct.{PerProduct}
-use Rattle.drain_grid.specs.declared.product.Product.{Product}
-use Rattle.drain_grid.specs.declared.product.Product.TheVariants.{Con, Dir, Acc, Bas, Spl, Rnk}
+use Rattle.drain_grid.specs.declared.held.Held.{Held}
+use Rattle.drain_grid.specs.declared.held.Held.TheVariants.{Con, Dir, Acc, Bas, Rnk}
 use Rattle.drain_grid.specs.PerProduct.{of_product}
+use Rattle.drain_grid.specs.declared.product.Product.TheVariants.{Spl}
+use Rattle.drain_grid.specs.Grid.{held_in}
+use Rattle.drain_grid.specs.Held.{OfHeld, product_of}
 use Rattle.drain_grid.specs.Product.{default_no_data}
 use Rattle.drain_grid.specs.Size.{Extent}
 use Rattle.drain_grid.specs.Values.{NoDataNumbers}
@@ -29,7 +32,7 @@ use Rattle.drain_grid.specs.SinkLines.{is_listed}
 use Rattle.drain_verdict.specs.Answers.{AreReadable, IsAnswer}
 use Rattle.drain_verdict.specs.GridRows.{AreRowsOf}
 use Rattle.drain_verdict.specs.HeldRows.{IsEven}
-use Rattle.drain_verdict.specs.InputRows.{IsToldRefusal}
+use Rattle.drain_verdict.specs.InputRows.{IsFirstOf, IsToldRefusal}
 use Rattle.drain_verdict.specs.Inputs.{Inputs}
 use Rattle.drain_verdict.specs.Meaning.{fields_of, grid_of, listed_in, nodata_in, nodata_numbers, nodata_of, products_of, tiles_of, tiling_of}
 use Rattle.drain_verdict.specs.Refusals.{NoneStandsBefore}
@@ -37,7 +40,7 @@ use Rattle.drain_verdict.specs.ToGive.{ToGive, given}
 use Rattle.drain_verdict.specs.declared.refusal.Refusal.{Refusal}
 use Rattle.drain_verdict.specs.declared.refusal.Refusal.TheVariants.{BadTileLength, RasterShort, SeamMismatch}
 use Rattle.drain_verdict.proofs.BodyAnswers.{raster_refused, rasters_none, seam_refused, seams_none, tile_refused, tiles_none}
-use Rattle.drain_verdict.proofs.InputLemmas.{by_product}
+use Rattle.drain_grid.proofs.ByProduct.{by_held, by_held_or_spill, of_held}
 use Rattle.drain_verdict.proofs.RowEnd.{AreAtEnd, Laws}
 use Rattle.drain_verdict.proofs.RowGiven.{same_numbers}
 use Rattle.drain_verdict.proofs.RowStart.{is_row_given, row_given, to_give}
@@ -51,7 +54,7 @@ at_some : {A : Type 0} (o : Option A) (N : Type 0) (P : A → Type 0) (x : A) �
 at_some None N P x is m = absurd (let no : None ≡ Some x = is in cc)
 at_some (Some y) N P x is m = let same : y ≡ x = cc in subst P same m
 
-module _ (laws : Laws) (i : Inputs) (hs : PerProduct Fields) (fields : (p : Product) → of_product hs p ≡ fields_of i p) {wrong : Option ℕ} {Short : Product → Type 0} {seam : Option Cell}
+module _ (laws : Laws) (i : Inputs) (hs : PerProduct Fields) (fields : (p : Held) → of_product hs p ≡ fields_of i p) {wrong : Option ℕ} {Short : Held → Type 0} {seam : Option Cell}
     (at : AreAtEnd (tiling_of i) hs i wrong Short seam) where
   abbrev pub t : Tiling
   t = tiling_of i
@@ -77,16 +80,16 @@ module _ (laws : Laws) (i : Inputs) (hs : PerProduct Fields) (fields : (p : Prod
       subst (λ (tiles : List mosaic.Tile). mosaic.IsFirstSeam t tiles c) (all_given none)
       (at_some _ (mosaic.TilesAgree t (given_tiles t i.tiles)) (mosaic.IsFirstSeam t (given_tiles t i.tiles)) c (sym at.seam_is ∙ is) (laws.seams t i.tiles at.layout))
 
-  short_there : (p : Product) → Short p → IsShort (fields_of i p) (i.raster p)
+  short_there : (p : Held) → Short p → IsShort (fields_of i p) (i.raster p)
   short_there p short = subst (λ (h : Fields). IsShort h (i.raster p)) (fields p) ((at.short_is p).0 short)
 
-  short_back : (p : Product) → IsShort (fields_of i p) (i.raster p) → Short p
+  short_back : (p : Held) → IsShort (fields_of i p) (i.raster p) → Short p
   short_back p short = (at.short_is p).1 (subst (λ (h : Fields). IsShort h (i.raster p)) (sym (fields p)) short)
 
-  long_enough : ((p : Product) → ¬ Short p) → (p : Product) → ¬ IsShort (of_product hs p) (i.raster p)
+  long_enough : ((p : Held) → ¬ Short p) → (p : Held) → ¬ IsShort (of_product hs p) (i.raster p)
   long_enough none p short = none p ((at.short_is p).1 short)
 
-  none_short : ((p : Product) → ¬ Short p) → (p : Product) → ¬ IsShort (fields_of i p) (i.raster p)
+  none_short : ((p : Held) → ¬ Short p) → (p : Held) → ¬ IsShort (fields_of i p) (i.raster p)
   none_short none p short = none p (short_back p short)
 
   -- the refusal that is told stands first
@@ -95,61 +98,65 @@ module _ (laws : Laws) (i : Inputs) (hs : PerProduct Fields) (fields : (p : Prod
       tile_refused i (BadTileLength c)
       (k, named, at_some _ (All (IsTile i.side) i.tiles) (IsFirstBadLength i.side i.tiles) k (sym at.wrong_is ∙ is) (laws.lengths t i.tiles at.layout at.counted)) none
   told_refusal (RasterShort p) (none_wrong, first) none =
-      raster_refused i p (short_there p first.holds) (λ q less short. first.before q less (short_back q short)) (tiles_none i (whole_tiles none_wrong) none)
+      by_held_or_spill (λ p. OfHeld (IsFirstOf Short) p → IsAnswer i (Err (RasterShort p)))
+      (λ p is. let first = (of_held (IsFirstOf Short) p).0 is in
+      raster_refused i p (short_there p first.holds) (λ q less short. first.before q less (short_back q short)) (tiles_none i (whole_tiles none_wrong) none))
+      (λ no. absurd no) p first
   told_refusal (SeamMismatch c) (none_wrong, not_short, is) none =
       seam_refused i c (tiles_differ none_wrong c is) (rasters_none i (none_short not_short) (tiles_none i (whole_tiles none_wrong) none))
   told_refusal refusal bad none = absurd bad
 
   -- a row of the grid: as many numbers of each as there are columns
-  cols_are : (p : Product) → (of_product hs p).cols ≡ (extent_of t).cols
+  cols_are : (p : Held) → (of_product hs p).cols ≡ (extent_of t).cols
   cols_are p = ap (λ (e : Extent). e.cols) (at.shapes p)
 
-  rows_are : (p : Product) → (of_product hs p).rows ≡ (extent_of t).rows
+  rows_are : (p : Held) → (of_product hs p).rows ≡ (extent_of t).rows
   rows_are p = ap (λ (e : Extent). e.rows) (at.shapes p)
 
-  raster_long : ((p : Product) → ¬ Short p) → (r : ℕ) → r < (extent_of t).rows → (p : Product) → length (nth_row r (rows_to_give.product p)) ≡ (extent_of t).cols
+  raster_long : ((p : Held) → ¬ Short p) → (r : ℕ) → r < (extent_of t).rows → (p : Held) → length (nth_row r (rows_to_give.product p)) ≡ (extent_of t).cols
   raster_long none r inside p =
       let same = rows_are p in
       (laws.raster_end (of_product hs p) (i.raster p) (at.bounds p)).long r (omega (arith, inside, same)) (long_enough none p) ∙ cols_are p
 
-  even : ((p : Product) → ¬ Short p) → (r : ℕ) → r < (extent_of t).rows → IsEven (given rows_to_give r)
+  even : ((p : Held) → ¬ Short p) → (r : ℕ) → r < (extent_of t).rows → IsEven (given rows_to_give r)
   even none r inside =
       let wide = (laws.rows_whole t i.tiles).long r inside in
-      let each = λ (p : Product). raster_long none r inside p ∙ sym wide in
-      by_product (λ p. length (of_product (given rows_to_give r).products p) ≡ length (given rows_to_give r).z) (each Con) (each Dir) (each Acc) (each Bas) (each Spl) (each Rnk)
+      let each = λ (p : Held). raster_long none r inside p ∙ sym wide in
+      by_held (λ p. length (of_product (given rows_to_give r).products p) ≡ length (given rows_to_give r).z) (each Con) (each Dir) (each Acc) (each Bas) (each Rnk)
 
-  number_given : ((p : Product) → ¬ Short p) → (r col : ℕ) → r < (extent_of t).rows → col < (extent_of t).cols → (p : Product) →
-      slice_index_or (nth_row r (rows_to_give.product p)) col (pos 0) ≡ of_product (products_of i) p (place r col)
+  number_given : ((p : Held) → ¬ Short p) → (r col : ℕ) → r < (extent_of t).rows → col < (extent_of t).cols → (p : Held) →
+      slice_index_or (nth_row r (rows_to_give.product p)) col (pos 0) ≡ held_in (products_of i) p (place r col)
   number_given none r col inside across p =
       let down = rows_are p in
       let over = cols_are p in
       laws.raster_pixels (of_product hs p) (i.raster p) r col (at.bounds p) (long_enough none p) (omega (arith, inside, down)) (omega (arith, across, over))
       ∙ ap (λ (h : Fields). pixels.pixel_at h (i.raster p) (place r col)) (fields p) ∙ number_is p
     where
-      number_is : (p : Product) → pixels.pixel_at (fields_of i p) (i.raster p) (place r col) ≡ of_product (products_of i) p (place r col)
-      number_is = by_product (λ p. pixels.pixel_at (fields_of i p) (i.raster p) (place r col) ≡ of_product (products_of i) p (place r col)) refl refl refl refl refl refl
+      number_is : (p : Held) → pixels.pixel_at (fields_of i p) (i.raster p) (place r col) ≡ held_in (products_of i) p (place r col)
+      number_is = by_held (λ p. pixels.pixel_at (fields_of i p) (i.raster p) (place r col) ≡ held_in (products_of i) p (place r col)) refl refl refl refl refl
 
-  numbers_given : wrong ≡ None → ((p : Product) → ¬ Short p) → (r : ℕ) → r < (extent_of t).rows → AreNumbersOf (grid_of i) (products_of i) r (given rows_to_give r)
+  numbers_given : wrong ≡ None → ((p : Held) → ¬ Short p) → (r : ℕ) → r < (extent_of t).rows → AreNumbersOf (grid_of i) (products_of i) r (given rows_to_give r)
   numbers_given none_wrong none r inside = record {
     inside = inside;
     cols_are = (laws.rows_whole t i.tiles).long r inside;
     elevation = λ col across. laws.first_values t i.tiles r col at.layout inside across ∙ ap (λ (tiles : List mosaic.Tile). first_value t tiles (place r col)) (all_given none_wrong);
     products = λ p col across. (let each = number_given none r col inside across in
-        by_product (λ p. slice_index_or (of_product (given rows_to_give r).products p) col (pos 0) ≡ of_product (products_of i) p (place r col)) (each Con) (each Dir) (each Acc) (each Bas) (each Spl) (each Rnk) p);
+        by_held (λ p. slice_index_or (of_product (given rows_to_give r).products p) col (pos 0) ≡ held_in (products_of i) p (place r col)) (each Con) (each Dir) (each Acc) (each Bas) (each Rnk) p);
+    no_spill = λ col across. refl;
   }
 
   -- behind the last row there is none
   none_given : given rows_to_give (extent_of t).rows ≡ blank
   none_given =
-      let each = λ (p : Product). subst (λ n. nth_row n (rows_to_give.product p) ≡ []) (rows_are p) (laws.raster_end (of_product hs p) (i.raster p) (at.bounds p)).none_behind in
+      let each = λ (p : Held). subst (λ n. nth_row n (rows_to_give.product p) ≡ []) (rows_are p) (laws.raster_end (of_product hs p) (i.raster p) (at.bounds p)).none_behind in
       same_numbers (given rows_to_give (extent_of t).rows) blank (laws.rows_whole t i.tiles).none_behind
-      (by_product (λ p. of_product (given rows_to_give (extent_of t).rows).products p ≡ of_product blank.products p) (each Con) (each Dir) (each Acc) (each Bas) (each Spl) (each Rnk))
+      (by_held (λ p. of_product (given rows_to_give (extent_of t).rows).products p ≡ of_product blank.products p) (each Con) (each Dir) (each Acc) (each Bas) (each Rnk))
 
   blank_even : IsEven blank
-  blank_even = by_product (λ p. length (of_product blank.products p) ≡ length blank.z) refl refl refl refl refl refl
+  blank_even = by_held (λ p. length (of_product blank.products p) ≡ length blank.z) refl refl refl refl refl
 
   -- the rows that were given are those of the grid and of the products
-  pub rows_of_bytes : (sinks : List SinkLine) → sinks ≡ listed_in i → wrong ≡ None → ((p : Product) → ¬ Short p) → AreRowsOf (grid_of i) (products_of i) sinks (row_given rows_to_give)
+  pub rows_of_bytes : (sinks : List SinkLine) → sinks ≡ listed_in i → wrong ≡ None → ((p : Held) → ¬ Short p) → AreRowsOf (grid_of i) (products_of i) sinks (row_given rows_to_give)
   rows_of_bytes sinks sinks_are none_wrong none = record {
     row = λ r inside. subst (AreNumbersOf (grid_of i) (products_of i) r) (sym ((is_row_given rows_to_give r).even (even none r inside))) (numbers_given none_wrong none r inside);
     last = (is_row_given rows_to_give (extent_of t).rows).even (subst IsEven (sym none_given) blank_even) ∙ none_given;
@@ -157,8 +164,8 @@ module _ (laws : Laws) (i : Inputs) (hs : PerProduct Fields) (fields : (p : Prod
   }
 
   -- the numbers for no data are the headers'
-  nodata_at : (p : Product) → unwrap_or (of_product hs p).nodata (default_no_data p) ≡ nodata_of i p
-  nodata_at p = ap (λ (h : Fields). unwrap_or h.nodata (default_no_data p)) (fields p)
+  nodata_at : (p : Held) → unwrap_or (of_product hs p).nodata (default_no_data (product_of p)) ≡ nodata_of i p
+  nodata_at p = ap (λ (h : Fields). unwrap_or h.nodata (default_no_data (product_of p))) (fields p)
 
   nodata_are : nodata_in hs ≡ nodata_numbers i
   nodata_are = λ k. record {
@@ -166,7 +173,7 @@ module _ (laws : Laws) (i : Inputs) (hs : PerProduct Fields) (fields : (p : Prod
     dir = nodata_at Dir k;
     acc = nodata_at Acc k;
     bas = nodata_at Bas k;
-    spl = nodata_at Spl k;
+    spl = default_no_data Spl;
     rnk = nodata_at Rnk k;
   }
 

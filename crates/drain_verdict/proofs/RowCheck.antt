@@ -4,7 +4,7 @@ use Rattle.drain_device.specs.declared.counts.FaultCounts.{FaultCounts}
 use Rattle.drain_device.specs.declared.row_source.Progress.TheVariants.{Stopped}
 use Rattle.drain_grid.specs.declared.cell.Cell.{Cell}
 use Rattle.drain_grid.specs.declared.per_product.PerProduct.{PerProduct}
-use Rattle.drain_grid.specs.declared.product.Product.{Product}
+use Rattle.drain_grid.specs.declared.held.Held.{Held}
 use Rattle.drain_grid.specs.PerProduct.{of_product}
 use Rattle.drain_grid.specs.declared.sink_line.SinkLine.{SinkLine}
 use Rattle.drain_grid.specs.Grid.{Grid}
@@ -50,7 +50,7 @@ pub record Read {R : Type 0} (bl : R → Option (List ℕ)) (ct : R → FaultCou
   pub laws : Laws
   pub of_bodies : NewRowsAreOfBodies bl
   pub layout : IsLayout t
-  pub shapes : (p : Product) → pixels.extent_of (of_product hs p) ≡ extent_of t
+  pub shapes : (p : Held) → pixels.extent_of (of_product hs p) ≡ extent_of t
   pub counted : length i.tiles ≡ length t.corners
   pub begun : AreBegun t hs rows
   pub come : HaveCome bl ct (rows, tiles, ps) (rows_then, tiles_then, ps_then) (0 + (e.rows + 1)) None
@@ -74,14 +74,14 @@ module _ {R : Type 0} (bl : R → Option (List ℕ)) (ct : R → FaultCounts) (i
   goes told t read = mosaic_goes bl t hs i rows_then tiles_then ps_then (asked told t read) read.laws.rows_end
 
   -- the refusal that was told is the answer
-  pub refusal_answers : (refusal : Refusal) (t : Tiling) → t ≡ tiling_of i → ((p : Product) → of_product hs p ≡ fields_of i p) → NoneStandsBefore i 5 →
+  pub refusal_answers : (refusal : Refusal) (t : Tiling) → t ≡ tiling_of i → ((p : Held) → of_product hs p ≡ fields_of i p) → NoneStandsBefore i 5 →
       Read bl ct i hs rows rows_then tiles tiles_then ps ps_then e (Some refusal) t → IsAnswer i (Err refusal)
   refusal_answers refusal t is fields none read =
       let here = subst (Read bl ct i hs rows rows_then tiles tiles_then ps ps_then e (Some refusal)) is read in
       told_refusal here.laws i hs fields (ended (Some refusal) (tiling_of i) here) refusal (here.tells (goes (Some refusal) (tiling_of i) here)) none
 
   -- where none was told, what holds of the grid that is given by rows holds of that of the inputs
-  pub given_holds : (sinks : List SinkLine) (P : Grid → grid.Products → Type 0) (t : Tiling) → t ≡ tiling_of i → ((p : Product) → of_product hs p ≡ fields_of i p) → sinks ≡ listed_in i →
+  pub given_holds : (sinks : List SinkLine) (P : Grid → grid.Products → Type 0) (t : Tiling) → t ≡ tiling_of i → ((p : Held) → of_product hs p ≡ fields_of i p) → sinks ≡ listed_in i →
       OfGrid (AreGiven bl (rows, tiles, ps)) e sinks P → Read bl ct i hs rows rows_then tiles tiles_then ps ps_then e None t → P (grid_of i) (products_of i)
   given_holds sinks P t is fields sinks_are of_grid read =
       let here = subst (Read bl ct i hs rows rows_then tiles tiles_then ps ps_then e None) is read in
@@ -91,14 +91,14 @@ module _ {R : Type 0} (bl : R → Option (List ℕ)) (ct : R → FaultCounts) (i
       (rows_of_bytes here.laws i hs fields (ended None (tiling_of i) here) sinks sinks_are told.0 told.1)
 
   -- and nothing stands before the list of sinks
-  none_before : (t : Tiling) → t ≡ tiling_of i → ((p : Product) → of_product hs p ≡ fields_of i p) → NoneStandsBefore i 5 →
+  none_before : (t : Tiling) → t ≡ tiling_of i → ((p : Held) → of_product hs p ≡ fields_of i p) → NoneStandsBefore i 5 →
       Read bl ct i hs rows rows_then tiles tiles_then ps ps_then e None t → NoneStandsBefore i 8
   none_before t is fields none read =
       let here = subst (Read bl ct i hs rows rows_then tiles tiles_then ps ps_then e None) is read in
       told_none here.laws i hs fields (ended None (tiling_of i) here) (here.tells (goes None (tiling_of i) here)) none
 
   -- so the refusal of the list is the answer, or else the verdict
-  pub sinks_answer : FoundOffDataIsRight → (listing : SinkListing) (voids : List Cell) (refusal : Refusal) (t : Tiling) → t ≡ tiling_of i → ((p : Product) → of_product hs p ≡ fields_of i p) → NoneStandsBefore i 5 →
+  pub sinks_answer : FoundOffDataIsRight → (listing : SinkListing) (voids : List Cell) (refusal : Refusal) (t : Tiling) → t ≡ tiling_of i → ((p : Held) → of_product hs p ≡ fields_of i p) → NoneStandsBefore i 5 →
       listing.sinks ≡ listed_in i → IsBadLine (sinks_of i.sinks) listing.bad → OfGrid (AreGiven bl (rows, tiles, ps)) e listing.sinks (λ g products. AreListedVoids g voids) →
       IsToldOfSinks listing e voids (Some refusal) → Read bl ct i hs rows rows_then tiles tiles_then ps ps_then e None t → IsAnswer i (Err refusal)
   sinks_answer law listing voids refusal t is fields none sinks_are bad_is of_grid told read =
@@ -106,7 +106,7 @@ module _ {R : Type 0} (bl : R → Option (List ℕ)) (ct : R → FaultCounts) (i
       let extent = read.extent_is ∙ ap extent_of is in
       sinks_refused i listing e voids sinks_are bad_is extent voids_are law refusal told (none_before t is fields none read)
 
-  pub verdict_answers : FoundOffDataIsRight → (listing : SinkListing) (voids : List Cell) (nodata : NoDataNumbers) (verdict : Verdict) (t : Tiling) → t ≡ tiling_of i → ((p : Product) → of_product hs p ≡ fields_of i p) →
+  pub verdict_answers : FoundOffDataIsRight → (listing : SinkListing) (voids : List Cell) (nodata : NoDataNumbers) (verdict : Verdict) (t : Tiling) → t ≡ tiling_of i → ((p : Held) → of_product hs p ≡ fields_of i p) →
       NoneStandsBefore i 5 → nodata ≡ nodata_in hs → listing.sinks ≡ listed_in i → IsBadLine (sinks_of i.sinks) listing.bad →
       OfGrid (AreGiven bl (rows, tiles, ps)) e listing.sinks (λ g products. AreListedVoids g voids) →
       OfGrid (AreGiven bl (rows, tiles, ps)) e listing.sinks (λ g products. IsVerdict g products nodata verdict) →

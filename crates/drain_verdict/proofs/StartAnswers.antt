@@ -4,8 +4,9 @@ use Rattle.std.specs.Prelude.{Option}
 use Rattle.std.specs.List.{AllZip}
 use Rattle.std.proofs.lemmas.List.{length-map}
 use Rattle.std.proofs.lemmas.Slice.Zip.{AllZip-long}
-use Rattle.drain_grid.specs.declared.product.Product.{Product}
+use Rattle.drain_grid.specs.declared.held.Held.{Held}
 use Rattle.drain_grid.specs.declared.per_product.PerProduct.{PerProduct}
+use Rattle.drain_grid.specs.Held.{product_of}
 use Rattle.drain_grid.specs.PerProduct.{of_product}
 use Rattle.drain_hgt.specs.declared.input.TileInput.{TileInput}
 use Rattle.drain_hgt.specs.Corner.{Corner}
@@ -61,12 +62,12 @@ header_answer one bytes_left side tiles sinks ps i t refusal tell is bad =
 pub header_reads_none : {R T : Type 0} (t : Tiling) (ps : Products R) (refusal : Refusal) → IsFirstHeaderRefusal t ps refusal → ¬ IsErrOf {T = T} (Err refusal) ReadFailed
 header_reads_none t ps refusal bad is =
     let same : refusal ≡ ReadFailed = cc in
-    subst (IsHeaderRefusal t bad.product (of_product ps bad.product).header) same bad.refused
+    subst (IsHeaderRefusal t (product_of bad.product) (of_product ps bad.product).header) same bad.refused
 
 -- the layout is that of the inputs, the headers are what theirs say, and nothing stands before the tiles
 pub started : OneName → {R : Type 0} (bytes_left : R → Option (List ℕ)) (side : ℕ) (tiles : List (TileInput R)) (sinks : List ℕ) (ps : Products R) (i : Inputs) (t : Tiling) (hs : PerProduct Fields) →
     Tell bytes_left side tiles sinks ps i → IsLayoutOf side (names_of tiles) t → AreHeadersFor t ps hs →
-    (t ≡ tiling_of i) × ((p : Product) → of_product hs p ≡ fields_of i p) × NoneStandsBefore i 5
+    (t ≡ tiling_of i) × ((p : Held) → of_product hs p ≡ fields_of i p) × NoneStandsBefore i 5
 started one bytes_left side tiles sinks ps i t hs tell is headers =
     let there = layout_told bytes_left side tiles sinks ps i t tell is in
     let same = layout_is one i tell.corners_are t there in
@@ -74,6 +75,6 @@ started one bytes_left side tiles sinks ps i t hs tell is headers =
     (same, headers_are i ps hs tell.headers_are right, headers_none i ps hs tell.headers_are right (layout_none one i tell.corners_are t there))
 
 -- what a header needs is what its text says
-pub takes_as_told : {R : Type 0} (bytes_left : R → Option (List ℕ)) (t : Tiling) (old new : Products R) (hs : PerProduct Fields) → AreHeadersFor t old hs → (p : Product) →
+pub takes_as_told : {R : Type 0} (bytes_left : R → Option (List ℕ)) (t : Tiling) (old new : Products R) (hs : PerProduct Fields) → AreHeadersFor t old hs → (p : Held) →
     BodyTakesAtMost bytes_left (of_product hs p) old new p → RasterTakesAtMost bytes_left old new p
 takes_as_told bytes_left t old new hs headers p taken = subst (λ (h : Fields). BodyTakesAtMost bytes_left h old new p) (headers p).described.fields taken

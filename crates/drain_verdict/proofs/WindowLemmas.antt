@@ -1,9 +1,9 @@
 -- The window as it goes down the rows.
 use Rattle.std.proofs.Common.{◌≡◌, ℕ, ℤ, ◌+◌, ◌<◌, All, List, [], length, refl, sym, ap, subst, ◌∙◌, arith}
 use Rattle.drain_grid.specs.PerProduct.{of_product}
-use Rattle.drain_verdict.proofs.InputLemmas.{by_product}
+use Rattle.drain_grid.proofs.ByProduct.{by_held}
 use Rattle.drain_grid.specs.Values.{IsPixel}
-use Rattle.drain_grid.specs.declared.product.Product.{Product}
+use Rattle.drain_grid.specs.declared.held.Held.{Held}
 use Rattle.drain_grid.specs.declared.patch.Patch.{Patch}
 use Rattle.drain_grid.specs.Grid.{Grid, Products}
 use Rattle.drain_rules.specs.declared.three_rows.ThreeRows.{ThreeRows}
@@ -23,8 +23,8 @@ pub record AreHeld (rows : ℕ → RowNumbers) (row : ℕ) (above here : RowNumb
   pub none_above : row ≡ 0 → above ≡ blank
 
 -- no row is as many numbers of each
-none-of : (p : Product) → of_product blank.products p ≡ []
-none-of = by_product (λ p. of_product blank.products p ≡ []) refl refl refl refl refl refl
+none-of : (p : Held) → of_product blank.products p ≡ []
+none-of = by_held (λ p. of_product blank.products p ≡ []) refl refl refl refl refl
 
 pub blank-whole : AreRowNumbers blank
 blank-whole = record {

@@ -1,6 +1,6 @@
 -- What a row in vectors says.
 use Rattle.std.specs.Prelude.{◌≡◌, ℕ, ◌<◌, false, List, length, slice_index_or}
-use Rattle.drain_grid.specs.declared.product.Product.{Product}
+use Rattle.drain_grid.specs.declared.held.Held.{Held}
 use Rattle.drain_grid.specs.PerProduct.{of_product, per_product}
 use Rattle.drain_grid.specs.declared.sink_line.SinkLine.{SinkLine}
 use Rattle.drain_grid.specs.SinkLines.{is_listed}
@@ -22,4 +22,4 @@ IsMarked sinks r row = (col : ℕ) → col < length row.numbers.z → slice_inde
 
 -- each product has as many numbers as there are elevations
 abbrev pub IsEven : RowNumbers → Type 0
-IsEven row = (p : Product) → length (of_product row.products p) ≡ length row.z
+IsEven row = (p : Held) → length (of_product row.products p) ≡ length row.z

@@ -1,7 +1,7 @@
 -- The bytes that a check is about.
 use Rattle.std.specs.Prelude.{◌≡◌, ℕ, List, Option, Some}
 use Rattle.std.specs.List.{All, AllZip}
-use Rattle.drain_grid.specs.declared.product.Product.{Product}
+use Rattle.drain_grid.specs.declared.held.Held.{Held}
 use Rattle.drain_grid.specs.declared.per_product.PerProduct.{PerProduct}
 use Rattle.drain_grid.specs.PerProduct.{of_product}
 use Rattle.drain_hgt.specs.declared.input.TileInput.{TileInput}
@@ -17,8 +17,8 @@ pub record Inputs : Type 0 where
   pub corners : List Corner
   pub tiles : List (List ℕ)
   pub sinks : List ℕ
-  pub header : Product → List ℕ
-  pub raster : Product → List ℕ
+  pub header : Held → List ℕ
+  pub raster : Held → List ℕ
 
 -- the products of one mosaic
 abbrev pub Products : Type 0 → Type 0
@@ -35,5 +35,5 @@ pub record Tell {R : Type 0} (bytes_left : R → Option (List ℕ)) (side : ℕ)
   pub corners_are : AreNames i.names → AllZip Names i.names i.corners
   pub tiles_are : AreBodies bytes_left tiles i.tiles
   pub sinks_are : i.sinks ≡ sinks
-  pub headers_are : (p : Product) → i.header p ≡ (of_product ps p).header
-  pub rasters_are : (p : Product) → bytes_left (of_product ps p).body ≡ Some (i.raster p)
+  pub headers_are : (p : Held) → i.header p ≡ (of_product ps p).header
+  pub rasters_are : (p : Held) → bytes_left (of_product ps p).body ≡ Some (i.raster p)

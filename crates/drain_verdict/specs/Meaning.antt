@@ -1,10 +1,11 @@
 -- What the bytes of a check mean: tiles, a grid, its products, and their no-data numbers.
 use Rattle.std.specs.Prelude.{ℕ, ℤ, List, [], map, unwrap_or, Result, Ok, Err}
 use Rattle.drain_grid.specs.declared.cell.Cell.{Cell}
-use Rattle.drain_grid.specs.declared.product.Product.{Product}
+use Rattle.drain_grid.specs.declared.held.Held.{Held}
 use Rattle.drain_grid.specs.declared.per_product.PerProduct.{PerProduct}
-use Rattle.drain_grid.specs.PerProduct.{of_product, per_product}
-use Rattle.drain_grid.specs.Product.{default_no_data}
+use Rattle.drain_grid.specs.PerProduct.{of_product}
+use Rattle.drain_grid.specs.Held.{product_of}
+use Rattle.drain_grid.specs.Product.{default_no_data, held_numbers}
 use Rattle.drain_text.specs.Text.{lines_of}
 use Rattle.drain_grid.specs.Values.{NoDataNumbers}
 use Rattle.drain_grid.specs.Grid as grid
@@ -46,23 +47,23 @@ grid_of i = record {
 }
 
 -- what a product's header says
-abbrev pub fields_of : Inputs → Product → Fields
+abbrev pub fields_of : Inputs → Held → Fields
 fields_of i p = header_of (lines_of (i.header p))
 
 -- the number of a product at a cell
-abbrev pub number_of : Inputs → Product → Cell → ℤ
+abbrev pub number_of : Inputs → Held → Cell → ℤ
 number_of i p c = pixel_at (fields_of i p) (i.raster p) c
 
 abbrev pub products_of : Inputs → grid.Products
-products_of i = per_product (number_of i)
+products_of i = grid.held_products (number_of i)
 
 -- the number that stands for no data in a product: the header's, or else the product's default
-abbrev pub nodata_of : Inputs → Product → ℤ
-nodata_of i p = unwrap_or (fields_of i p).nodata (default_no_data p)
+abbrev pub nodata_of : Inputs → Held → ℤ
+nodata_of i p = unwrap_or (fields_of i p).nodata (default_no_data (product_of p))
 
--- the same of these headers
+-- the same of these headers, and the default one for spl
 abbrev pub nodata_in : PerProduct Fields → NoDataNumbers
-nodata_in hs = per_product (λ p. unwrap_or (of_product hs p).nodata (default_no_data p))
+nodata_in hs = held_numbers (λ p. unwrap_or (of_product hs p).nodata (default_no_data (product_of p)))
 
 abbrev pub nodata_numbers : Inputs → NoDataNumbers
-nodata_numbers i = per_product (nodata_of i)
+nodata_numbers i = held_numbers (nodata_of i)

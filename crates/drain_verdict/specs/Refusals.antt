@@ -3,8 +3,8 @@ use Rattle.std.specs.Prelude.{◌≡◌, ℕ, suc, ◌+◌, ◌-◌, ◌*◌, �
 use Rattle.std.specs.Ordering.{int_eq}
 use Rattle.drain_grid.specs.declared.cell.Cell.{Cell}
 use Rattle.drain_grid.specs.declared.degree.TheConstants.{UNITS_PER_DEGREE}
-use Rattle.drain_grid.specs.declared.product.Product.{Product}
-use Rattle.drain_grid.specs.PerProduct.{rank_of}
+use Rattle.drain_grid.specs.declared.held.Held.{Held}
+use Rattle.drain_grid.specs.Held.{OfHeld, place_of}
 use Rattle.drain_grid.specs.Extent.{IsCellOf, index_of}
 use Rattle.drain_grid.specs.Tile.{IsSide}
 use Rattle.drain_grid.specs.SinkTexts.{sinks_of}
@@ -42,7 +42,7 @@ pub record IsPlaced (t : tiling.Tiling) (place : Place) : Type 0 where
   pub ydim : AreWithin (10 ^ 6 * (t.side - 1)) (place.ydim *ℤ pos (t.side - 1)) (pos UNITS_PER_DEGREE)
 
 -- the product's header gives the rows and columns of the mosaic
-abbrev pub HasShape : Inputs → Product → Type 0
+abbrev pub HasShape : Inputs → Held → Type 0
 HasShape i p = extent_of (fields_of i p) ≡ tiling.extent_of (tiling_of i)
 
 -- a tile at the corner has a body of another length
@@ -57,18 +57,18 @@ pub record HasBadLength (i : Inputs) (c : Corner) : Type 0 where
 abbrev pub IsSeamFault : Inputs → Cell → Type 0
 IsSeamFault i c = IsCellOf (tiling.extent_of (tiling_of i)) c × HasTwoValues (tiling_of i) (tiles_of i) c
 
--- what each refusal says; want of memory and a failed read are no facts of the bytes
+-- what each refusal says, of a product only where a check reads it; want of memory and a failed read are no facts of the bytes
 abbrev pub Stands : Inputs → Refusal → Type 0
 Stands i BadSide = ¬ IsSide i.side
 Stands i (BadName k) = IsBadName i.names k
 Stands i NoTiles = HasLayoutFault (tiling_of i) LayoutFault.NoTiles
 Stands i (RepeatedTile c) = HasLayoutFault (tiling_of i) (LayoutFault.RepeatedTile c)
 Stands i BoxTooLarge = HasLayoutFault (tiling_of i) LayoutFault.BoxTooLarge
-Stands i (BadHeader p fault) = Answers (i.header p) (Err fault)
-Stands i (WrongShape p) = ¬ HasShape i p
-Stands i (Misplaced p) = ¬ IsPlaced (tiling_of i) (fields_of i p).place
+Stands i (BadHeader p fault) = OfHeld (λ h. Answers (i.header h) (Err fault)) p
+Stands i (WrongShape p) = OfHeld (λ h. ¬ HasShape i h) p
+Stands i (Misplaced p) = OfHeld (λ h. ¬ IsPlaced (tiling_of i) (fields_of i h).place) p
 Stands i (BadTileLength c) = HasBadLength i c
-Stands i (RasterShort p) = IsShort (fields_of i p) (i.raster p)
+Stands i (RasterShort p) = OfHeld (λ h. IsShort (fields_of i h) (i.raster h)) p
 Stands i (SeamMismatch c) = IsSeamFault i c
 Stands i (BadSinkLine n) = sinks_of i.sinks ≡ Err n
 Stands i (SinkNotData n) = IsOffData (grid_of i) (listed_in i) n
@@ -98,11 +98,11 @@ refusal_order i (BadName k) = (2, k)
 refusal_order i NoTiles = (3, 0)
 refusal_order i (RepeatedTile c) = (3, 1)
 refusal_order i BoxTooLarge = (3, 2)
-refusal_order i (BadHeader p fault) = (4, 3 * rank_of p)
-refusal_order i (WrongShape p) = (4, 3 * rank_of p + 1)
-refusal_order i (Misplaced p) = (4, 3 * rank_of p + 2)
+refusal_order i (BadHeader p fault) = (4, 3 * place_of p)
+refusal_order i (WrongShape p) = (4, 3 * place_of p + 1)
+refusal_order i (Misplaced p) = (4, 3 * place_of p + 2)
 refusal_order i (BadTileLength c) = (5, place_among i.corners c)
-refusal_order i (RasterShort p) = (6, rank_of p)
+refusal_order i (RasterShort p) = (6, place_of p)
 refusal_order i (SeamMismatch c) = (7, index_of (tiling.extent_of (tiling_of i)) c)
 refusal_order i (BadSinkLine n) = (8, n)
 refusal_order i (SinkNotData n) = (9, n)

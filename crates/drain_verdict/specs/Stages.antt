@@ -1,13 +1,15 @@
 -- What the stages of a check find, the layout, the headers and, where tiles are read alone, the tiles. Each is right, or the first refusal of its kind is told.
 use Rattle.std.specs.Prelude.{◌≡◌, ℕ, ◌<◌, ℤ, List, map, slice_get, Option, Some, Err}
 use Rattle.std.specs.List.{All, AllZip}
+use Rattle.drain_grid.specs.declared.held.Held.{Held}
 use Rattle.drain_grid.specs.declared.product.Product.{Product}
 use Rattle.drain_grid.specs.declared.per_product.PerProduct.{PerProduct}
 use Rattle.drain_text.specs.First.{IsFirst}
 use Rattle.drain_grid.specs.Rasters.{Heights}
 use Rattle.drain_grid.specs.Tile.{IsSide}
 use Rattle.drain_grid.specs.Whole.{elevation_at}
-use Rattle.drain_grid.specs.PerProduct.{of_product, rank_of}
+use Rattle.drain_grid.specs.PerProduct.{of_product}
+use Rattle.drain_grid.specs.Held.{product_of, rank_of}
 use Rattle.drain_hgt.specs.Corner.{Corner}
 use Rattle.drain_hgt.specs.Name.{Names}
 use Rattle.drain_hgt.specs.Samples.{IsTile, samples_of}
@@ -96,13 +98,13 @@ IsHeaderRefusal t p text refusal = ⊥
 
 -- the header of each product is right
 abbrev pub AreHeadersFor : {R : Type 0} → tiling.Tiling → Products R → PerProduct Fields → Type 0
-AreHeadersFor t ps hs = (p : Product) → IsHeaderFor t (of_product ps p).header (of_product hs p)
+AreHeadersFor t ps hs = (p : Held) → IsHeaderFor t (of_product ps p).header (of_product hs p)
 
 -- the first product whose header is refused, and why
 pub record IsFirstHeaderRefusal {R : Type 0} (t : tiling.Tiling) (ps : Products R) (refusal : Refusal) : Type 0 where
-  pub product : Product
-  pub refused : IsHeaderRefusal t product (of_product ps product).header refusal
-  pub before : (q : Product) → rank_of q < rank_of product → (h : Fields) × IsHeaderFor t (of_product ps q).header h
+  pub product : Held
+  pub refused : IsHeaderRefusal t (product_of product) (of_product ps product).header refusal
+  pub before : (q : Held) → rank_of q < rank_of product → (h : Fields) × IsHeaderFor t (of_product ps q).header h
 
 -- the bodies have the length of tiles, and these are their samples
 pub record AreSamplesOf (side : ℕ) (bodies : List (List ℕ)) (samples : List (List ℤ)) : Type 0 where
@@ -124,8 +126,8 @@ IsTileRefusal t bodies ReadFailed = Unit {0}
 IsTileRefusal t bodies refusal = ⊥
 
 -- the products have these bodies
-abbrev pub AreRasterBodies : {R : Type 0} → (R → Option (List ℕ)) → Products R → (Product → List ℕ) → Type 0
-AreRasterBodies bytes_left ps bodies = (p : Product) → bytes_left (of_product ps p).body ≡ Some (bodies p)
+abbrev pub AreRasterBodies : {R : Type 0} → (R → Option (List ℕ)) → Products R → (Held → List ℕ) → Type 0
+AreRasterBodies bytes_left ps bodies = (p : Held) → bytes_left (of_product ps p).body ≡ Some (bodies p)
 
 -- the tiles agree, and give this elevation together
 pub record IsElevationOf (t : tiling.Tiling) (samples : List (List ℤ)) (e : Heights) : Type 0 where

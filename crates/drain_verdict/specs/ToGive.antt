@@ -5,7 +5,7 @@ use Rattle.drain_device.specs.ComingRows.Coming.{End, Wrong}
 use Rattle.drain_device.specs.declared.counts.FaultCounts.{FaultCounts}
 use Rattle.drain_device.specs.declared.row_source.Progress.TheVariants.{Stopped}
 use Rattle.drain_grid.specs.declared.cell.Cell.{Cell}
-use Rattle.drain_grid.specs.declared.product.Product.{Product}
+use Rattle.drain_grid.specs.declared.held.Held.{Held}
 use Rattle.drain_grid.specs.PerProduct.{of_product, per_product}
 use Rattle.drain_hgt.specs.declared.input.TileInput.{TileInput}
 use Rattle.drain_raster.specs.declared.raster_rows.RasterRows.{RasterRows}
@@ -25,7 +25,7 @@ pub record ToGive : Type 0 where
   pub mosaic : Coming
   pub seam : Option Cell
   pub wrong : Option ℕ
-  pub product : Product → Coming
+  pub product : Held → Coming
 
 -- the rows of this number
 abbrev pub given : ToGive → ℕ → RowNumbers
@@ -66,7 +66,7 @@ pub record IsMosaicOneMore {R : Type 0} (bytes_left : R → Option (List ℕ)) (
 -- so many rows of all were asked for
 pub record IsAfter {R : Type 0} (bytes_left : R → Option (List ℕ)) (rows : InputRows) (tiles : List (TileInput R)) (ps : Products R) (t : ToGive) (n : ℕ) : Type 0 where
   pub mosaic : IsMosaicAfter bytes_left rows.mosaic tiles t n
-  pub product : (p : Product) → IsAfterTold (of_product rows.rasters p) (bytes_left (of_product ps p).body) (t.product p) n
+  pub product : (p : Held) → IsAfterTold (of_product rows.rasters p) (bytes_left (of_product ps p).body) (t.product p) n
 
 -- these are the rows to give, from this one on
 pub record AreGiven {R : Type 0} (bytes_left : R → Option (List ℕ)) (s : Reading R) (rows : ℕ → RowNumbers) (n : ℕ) : Type 0 where

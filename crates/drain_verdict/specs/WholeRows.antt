@@ -5,7 +5,7 @@ use Rattle.drain_grid.specs.Rasters.{Heights}
 use Rattle.drain_grid.specs.Size.{Extent}
 use Rattle.drain_grid.specs.Whole.{number_row, sample_row}
 use Rattle.drain_grid.specs.WholeGrid.{raster_in}
-use Rattle.drain_grid.specs.declared.product.Product.{Product}
+use Rattle.drain_grid.specs.declared.held.Held.{Held}
 use Rattle.drain_grid.specs.declared.product_set.ProductSet.{ProductSet}
 use Rattle.drain_rules.specs.RowNumbers.{RowNumbers, blank}
 use Rattle.drain_verdict.specs.declared.refusal.Refusal.{Refusal}
@@ -13,7 +13,7 @@ use Rattle.drain_verdict.specs.declared.refusal.Refusal.TheVariants.{OutOfMemory
 
 -- all products have these rows and columns
 abbrev pub AreOfShape : Extent → ProductSet → Type 0
-AreOfShape e ps = (p : Product) → (raster_in ps p).extent ≡ e
+AreOfShape e ps = (p : Held) → (raster_in ps p).extent ≡ e
 
 -- a row of them
 abbrev pub row_in : Heights → ProductSet → ℕ → RowNumbers

@@ -6,7 +6,7 @@
 
 ghost use Rattle.std.specs.Prelude.{◌≡◌, length, map, IfErr, IsErrOf};
 ghost use Rattle.drain_grid.specs.declared.per_product.PerProduct.{PerProduct};
-ghost use Rattle.drain_grid.specs.declared.product.Product.{Product};
+ghost use Rattle.drain_grid.specs.declared.held.Held.{Held};
 ghost use Rattle.drain_header.specs.Fields.{Fields};
 ghost use Rattle.drain_grid.specs.PerProduct.{of_product};
 ghost use Rattle.drain_mosaic.specs.Tiling as tiling;
@@ -100,10 +100,10 @@ pub fn check<R: ByteSource>(
 
     // How far it reads, when a read fails, and that names and headers stay.
     ensures tiles_within { TilesTakeAtMost R.bytes_left side tiles.old tiles.new }
-    ensures rasters_within { (p : Product) → RasterTakesAtMost R.bytes_left products.old products.new p }
+    ensures rasters_within { (p : Held) → RasterTakesAtMost R.bytes_left products.old products.new p }
     ensures faults { SomeReadFails (map R.counts (devices_of tiles.old products.old)) (map R.counts (devices_of tiles.new products.new)) (IsErrOf result Refusal.ReadFailed) }
     ensures names { names_of tiles.new ≡ names_of tiles.old }
-    ensures headers { (p : Product) → (of_product products.new p).header ≡ (of_product products.old p).header }
+    ensures headers { (p : Held) → (of_product products.new p).header ≡ (of_product products.old p).header }
 
     // A refusal of side, names, layout or headers leaves every device and every value as it was.
     ensures untouched { IfErr result (λ refusal. ¬ IsOfBodies refusal → (tiles.new ≡ tiles.old) × (products.new ≡ products.old)) }
@@ -124,10 +124,10 @@ fn answer_of<R: ByteSource>(
 ) -> Result<Verdict, Refusal>
     ensures answer { (inputs : Inputs) → Tell R.bytes_left side tiles.old sinks.now products.old inputs → IsAnswer inputs result }
     ensures tiles_within { TilesTakeAtMost R.bytes_left side tiles.old tiles.new }
-    ensures rasters_within { (p : Product) → RasterTakesAtMost R.bytes_left products.old products.new p }
+    ensures rasters_within { (p : Held) → RasterTakesAtMost R.bytes_left products.old products.new p }
     ensures faults { SomeReadFails (map R.counts (devices_of tiles.old products.old)) (map R.counts (devices_of tiles.new products.new)) (IsErrOf result Refusal.ReadFailed) }
     ensures names { names_of tiles.new ≡ names_of tiles.old }
-    ensures headers { (p : Product) → (of_product products.new p).header ≡ (of_product products.old p).header }
+    ensures headers { (p : Held) → (of_product products.new p).header ≡ (of_product products.old p).header }
     ensures untouched { IfErr result (λ refusal. ¬ IsOfBodies refusal → (tiles.new ≡ tiles.old) × (products.new ≡ products.old)) }
 {
     // The law that bytes name one tile.
@@ -147,15 +147,15 @@ fn check_bodies<R: ByteSource>(
     products: &mut Products<R>,
 ) -> Result<Verdict, Refusal>
     requires named { length tiles.old ≡ length layout.now.corners }
-    requires shapes { (p : Product) → extent_of (of_product headers p) ≡ tiling.extent_of layout.now }
-    ensures answer { (inputs : Inputs) → layout.now ≡ tiling_of inputs → ((p : Product) → of_product headers p ≡ fields_of inputs p)
+    requires shapes { (p : Held) → extent_of (of_product headers p) ≡ tiling.extent_of layout.now }
+    ensures answer { (inputs : Inputs) → layout.now ≡ tiling_of inputs → ((p : Held) → of_product headers p ≡ fields_of inputs p)
         → AreBodies R.bytes_left tiles.old inputs.tiles → AreRasterBodies R.bytes_left products.old inputs.raster
         → inputs.sinks ≡ sinks.now → NoneStandsBefore inputs 5 → IsAnswer inputs result }
     ensures tiles_within { TilesTakeAtMost R.bytes_left layout.now.side tiles.old tiles.new }
-    ensures rasters_within { (p : Product) → BodyTakesAtMost R.bytes_left (of_product headers p) products.old products.new p }
+    ensures rasters_within { (p : Held) → BodyTakesAtMost R.bytes_left (of_product headers p) products.old products.new p }
     ensures faults { SomeReadFails (map R.counts (devices_of tiles.old products.old)) (map R.counts (devices_of tiles.new products.new)) (IsErrOf result Refusal.ReadFailed) }
     ensures names { names_of tiles.new ≡ names_of tiles.old }
-    ensures headers { (p : Product) → (of_product products.new p).header ≡ (of_product products.old p).header }
+    ensures headers { (p : Held) → (of_product products.new p).header ≡ (of_product products.old p).header }
     ensures of_bodies { IfErr result IsOfBodies }
 {
     // The law that the rows of a raster take the bytes that it needs.
@@ -182,8 +182,8 @@ fn check_rows<R: ByteSource>(
     requires named { length tiles.old ≡ length layout.now.corners }
     requires counted { length rows.old.mosaic.tiles.items ≡ length layout.now.corners }
     ensures answer { (inputs : Inputs) (hs : PerProduct Fields) → AreBegun layout.now hs rows.old → nodata.now ≡ nodata_in hs
-        → ((p : Product) → extent_of (of_product hs p) ≡ tiling.extent_of layout.now)
-        → layout.now ≡ tiling_of inputs → ((p : Product) → of_product hs p ≡ fields_of inputs p)
+        → ((p : Held) → extent_of (of_product hs p) ≡ tiling.extent_of layout.now)
+        → layout.now ≡ tiling_of inputs → ((p : Held) → of_product hs p ≡ fields_of inputs p)
         → AreBodies R.bytes_left tiles.old inputs.tiles → AreRasterBodies R.bytes_left products.old inputs.raster
         → listing.now.sinks ≡ listed_in inputs → IsBadLine (sinks_of inputs.sinks) listing.now.bad
         → NoneStandsBefore inputs 5 → IsAnswer inputs result }

@@ -3,6 +3,7 @@
 ghost use Rattle.std.specs.Prelude.{◌≡◌, ◌↔◌, IsTrue, IfOk, IfErr};
 ghost use Rattle.drain_raster.specs.Pixels.{extent_of};
 ghost use Rattle.drain_mosaic.specs.Tiling as tiling;
+ghost use Rattle.drain_grid.specs.Held.{product_of};
 ghost use Rattle.drain_grid.specs.PerProduct.{of_product};
 ghost use Rattle.drain_verdict.specs.Meaning.{nodata_in};
 ghost use Rattle.drain_verdict.specs.Stages.{IsHeaderFor, IsHeaderRefusal, AreHeadersFor, IsFirstHeaderRefusal};
@@ -10,7 +11,7 @@ ghost use Rattle.drain_verdict.specs.Stages.{IsHeaderFor, IsHeaderRefusal, AreHe
 use crate::input::Products;
 use crate::placing::is_placed;
 use crate::refusal::Refusal;
-use drain_grid::{NoData, PerProduct, Product};
+use drain_grid::{Held, NoData, PerProduct, Product};
 use drain_header::{Header, parse_header};
 use drain_mosaic::Layout;
 use drain_raster::nodata;
@@ -54,14 +55,20 @@ pub fn read_headers<R>(
     ensures headers { IfOk result (AreHeadersFor layout.now products.now) }
     ensures refusal { IfErr result (IsFirstHeaderRefusal layout.now products.now) }
 {
-    let read = |product: Product| -> Result<Header, Refusal>
+    let read = |product: Held| -> Result<Header, Refusal>
         ensures header { IfOk result (IsHeaderFor layout.entry.now (of_product products.entry.now product).header) }
-        ensures refusal { IfErr result (IsHeaderRefusal layout.entry.now product (of_product products.entry.now product).header) }
-    { read_header(layout, product, products.of(product).header.as_slice()) };
+        ensures refusal { IfErr result (IsHeaderRefusal layout.entry.now (product_of product) (of_product products.entry.now product).header) }
+    {
+        read_header(
+            layout,
+            product.product(),
+            products.of(product).header.as_slice(),
+        )
+    };
     PerProduct::from_each(&read)
 }
 
-/// The numbers that stand for no data in the products with these headers.
+/// The numbers that stand for no data in the products with these headers; for spl, which no set holds, the default one.
 pub fn nodata_of(headers: &PerProduct<Header>) -> NoData
     ensures { result ≡ nodata_in headers.now }
 {
@@ -70,7 +77,7 @@ pub fn nodata_of(headers: &PerProduct<Header>) -> NoData
         dir: nodata(&headers.dir, Product::Dir),
         acc: nodata(&headers.acc, Product::Acc),
         bas: nodata(&headers.bas, Product::Bas),
-        spl: nodata(&headers.spl, Product::Spl),
+        spl: Product::Spl.default_no_data(),
         rnk: nodata(&headers.rnk, Product::Rnk),
     }
 }

@@ -34,7 +34,6 @@ impl HeldRow {
                 dir: Vec::new(alloc),
                 acc: Vec::new(alloc),
                 bas: Vec::new(alloc),
-                spl: Vec::new(alloc),
                 rnk: Vec::new(alloc),
             },
             sinks: Vec::new(alloc),
@@ -50,7 +49,6 @@ impl HeldRow {
         self.products.dir.clear();
         self.products.acc.clear();
         self.products.bas.clear();
-        self.products.spl.clear();
         self.products.rnk.clear();
     }
 
@@ -64,7 +62,6 @@ impl HeldRow {
             && products.dir.len() == len
             && products.acc.len() == len
             && products.bas.len() == len
-            && products.spl.len() == len
             && products.rnk.len() == len
     }
 
@@ -105,7 +102,6 @@ impl HeldRow {
                 dir: self.products.dir.as_slice(),
                 acc: self.products.acc.as_slice(),
                 bas: self.products.bas.as_slice(),
-                spl: self.products.spl.as_slice(),
                 rnk: self.products.rnk.as_slice(),
             },
         )

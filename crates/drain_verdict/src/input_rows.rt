@@ -12,7 +12,7 @@ use crate::input::Products;
 use crate::next_rows::{read_mosaic, read_rasters};
 use crate::refusal::Refusal;
 use drain_device::ByteSource;
-use drain_grid::{OutOfMemory, PerProduct, Product};
+use drain_grid::{Held, OutOfMemory, PerProduct};
 use drain_header::Header;
 use drain_hgt::TileInput;
 use drain_mosaic::{Layout, MosaicRows};
@@ -48,7 +48,6 @@ impl InputRows {
             dir: RasterRows::new(headers.dir),
             acc: RasterRows::new(headers.acc),
             bas: RasterRows::new(headers.bas),
-            spl: RasterRows::new(headers.spl),
             rnk: RasterRows::new(headers.rnk),
         };
         Ok(InputRows { mosaic, rasters })
@@ -66,7 +65,7 @@ impl InputRows {
             return Some(Refusal::BadTileLength(layout.name(place)));
         }
         if let Some(product) = self.first_short() {
-            return Some(Refusal::RasterShort(product));
+            return Some(Refusal::RasterShort(product.product()));
         }
         match self.mosaic.seam() {
             Some(cell) => Some(Refusal::SeamMismatch(cell)),
@@ -75,10 +74,10 @@ impl InputRows {
     }
 
     /// The first product whose rows have stopped.
-    fn first_short(&self) -> Option<Product>
+    fn first_short(&self) -> Option<Held>
         ensures { IsFirstProduct (HasStopped self.now) result }
     {
-        for product in Product::ALL {
+        for product in Held::ALL {
             if self.rasters.of(product).is_stopped() {
                 return Some(product);
             }

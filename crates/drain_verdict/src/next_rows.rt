@@ -4,7 +4,7 @@ ghost use Rattle.std.specs.Prelude.{◌≡◌, ◌≤◌, ℕ, None, Err, length
 ghost use Rattle.std.specs.List.{All};
 ghost use Rattle.drain_device.specs.ComingRows.{Coming};
 ghost use Rattle.drain_grid.specs.declared.cell.TheConstants.{MAX_LENGTH};
-ghost use Rattle.drain_grid.specs.declared.product.Product.{Product};
+ghost use Rattle.drain_grid.specs.declared.held.Held.{Held};
 ghost use Rattle.drain_grid.specs.PerProduct.{of_product};
 ghost use Rattle.drain_grid.specs.Tile.{IsSample};
 ghost use Rattle.drain_grid.specs.Values.{IsPixel};
@@ -51,8 +51,8 @@ pub fn read_rasters<R: ByteSource>(
     products: &mut Products<R>,
     out: &mut PerProduct<Vec<i64>>,
 ) -> Result<(), Refusal>
-    ensures rows { OnOk result ((p : Product) (start : Coming) (n : ℕ) → IsAfterTold (of_product rasters.old p) (R.bytes_left (of_product products.old p).body) start n → IsOneMore (of_product rasters.new p) (R.bytes_left (of_product products.new p).body) start n (of_product out.new p).items) }
-    ensures pixels { OnOk result ((p : Product) → All IsPixel (of_product out.new p).items) }
+    ensures rows { OnOk result ((p : Held) (start : Coming) (n : ℕ) → IsAfterTold (of_product rasters.old p) (R.bytes_left (of_product products.old p).body) start n → IsOneMore (of_product rasters.new p) (R.bytes_left (of_product products.new p).body) start n (of_product out.new p).items) }
+    ensures pixels { OnOk result ((p : Held) → All IsPixel (of_product out.new p).items) }
     ensures read { RastersHaveRead R.bytes_left R.counts rasters.old rasters.new products.old products.new (told_by result) }
     ensures of_reading { IsOfReading (told_by result) }
 {
@@ -65,7 +65,6 @@ pub fn read_rasters<R: ByteSource>(
     let told = read_raster(told, &mut rasters.dir, &mut products.dir.body, &mut out.dir);
     let told = read_raster(told, &mut rasters.acc, &mut products.acc.body, &mut out.acc);
     let told = read_raster(told, &mut rasters.bas, &mut products.bas.body, &mut out.bas);
-    let told = read_raster(told, &mut rasters.spl, &mut products.spl.body, &mut out.spl);
     read_raster(told, &mut rasters.rnk, &mut products.rnk.body, &mut out.rnk)
 }
 

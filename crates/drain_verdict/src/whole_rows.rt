@@ -127,7 +127,6 @@ fn read_whole(
     products.dir.read_row(row, &mut out.products.dir)?;
     products.acc.read_row(row, &mut out.products.acc)?;
     products.bas.read_row(row, &mut out.products.bas)?;
-    products.spl.read_row(row, &mut out.products.spl)?;
     products.rnk.read_row(row, &mut out.products.rnk)?;
     Ok(())
 }

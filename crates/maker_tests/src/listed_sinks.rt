@@ -2,7 +2,7 @@
 
 use crate::made::{con_of_nine, elevation, one_tile};
 use crate::raster_numbers::Numbers;
-use drain_grid::{Product, SinkFault, VOID, parse_sinks};
+use drain_grid::{Held, SinkFault, VOID, parse_sinks};
 use drain_hgt::TileName;
 use drain_maker::{MakeRefusal, make};
 use refused_memory::owed;
@@ -16,7 +16,7 @@ fn made(
     side: u32,
     samples: &[i16],
     list: &str,
-    product: Product,
+    product: Held,
 ) -> Result<Numbers, Fail> {
     let layout = one_tile(alloc, side)?;
     let elevation = elevation(&layout, Vec::from_slice(alloc, samples)?)?;
@@ -26,7 +26,7 @@ fn made(
 }
 
 /// Ends the test where a product has other numbers, and tells of which list and product it is.
-fn same_numbers(rt: &impl Abort, case: &str, product: Product, given: &Numbers, wanted: &[i64]) {
+fn same_numbers(rt: &impl Abort, case: &str, product: Held, given: &Numbers, wanted: &[i64]) {
     assert_eq!(rt; given.as_slice(), wanted, "{product:?} with {case}");
 }
 
@@ -36,12 +36,11 @@ const PIT: [i16; 9] = [5, 5, 5, 5, 1, 5, 5, 5, 5];
 #[test]
 fn a_listed_pit_is_the_one_outlet(rt: HostRuntime) -> Result<(), Fail> {
     for (product, wanted) in [
-        (Product::Con, [5, 5, 5, 5, 1, 5, 5, 5, 5]),
-        (Product::Dir, [2, 4, 8, 1, 0, 16, 128, 64, 32]),
-        (Product::Acc, [1, 1, 1, 1, 9, 1, 1, 1, 1]),
-        (Product::Bas, [1; 9]),
-        (Product::Spl, [0; 9]),
-        (Product::Rnk, [0; 9]),
+        (Held::Con, [5, 5, 5, 5, 1, 5, 5, 5, 5]),
+        (Held::Dir, [2, 4, 8, 1, 0, 16, 128, 64, 32]),
+        (Held::Acc, [1, 1, 1, 1, 9, 1, 1, 1, 1]),
+        (Held::Bas, [1; 9]),
+        (Held::Rnk, [0; 9]),
     ] {
         for list in ["1 1", "1 1\n1 1", "\n1 1\r\n\n0 2\n1 1\n"] {
             let given = made(rt.alloc(), 3, &PIT, list, product)?;
@@ -64,12 +63,12 @@ fn water_gets_to_a_listed_sink_over_the_lowest_way(rt: HostRuntime) -> Result<()
         ("3 3", 8, 8, 2),
         ("2 1\n2 3", 3, 8, 2),
     ] {
-        let given = made(rt.alloc(), 5, &tile, list, Product::Con)?;
+        let given = made(rt.alloc(), 5, &tile, list, Held::Con)?;
         let (l, m, r) = (left, middle, right);
         let wanted = [
             9, 9, 9, 9, 9, 9, l, m, r, 9, 9, l, m, r, 9, 9, l, m, r, 9, 9, 9, 9, 9, 9,
         ];
-        same_numbers(&rt, list, Product::Con, &given, &wanted);
+        same_numbers(&rt, list, Held::Con, &given, &wanted);
     }
     Ok(())
 }
@@ -77,11 +76,11 @@ fn water_gets_to_a_listed_sink_over_the_lowest_way(rt: HostRuntime) -> Result<()
 /// A sink on a flat is an outlet, and ranks are steps to it or to the edge.
 #[test]
 fn ranks_round_a_listed_cell_of_a_flat(rt: HostRuntime) -> Result<(), Fail> {
-    let given = made(rt.alloc(), 5, &[7; 25], "2 2", Product::Rnk)?;
+    let given = made(rt.alloc(), 5, &[7; 25], "2 2", Held::Rnk)?;
     let wanted = [
         0, 0, 0, 0, 0, 0, 1, 1, 1, 0, 0, 1, 0, 1, 0, 0, 1, 1, 1, 0, 0, 0, 0, 0, 0,
     ];
-    same_numbers(&rt, "2 2", Product::Rnk, &given, &wanted);
+    same_numbers(&rt, "2 2", Held::Rnk, &given, &wanted);
     Ok(())
 }
 
@@ -90,9 +89,9 @@ fn ranks_round_a_listed_cell_of_a_flat(rt: HostRuntime) -> Result<(), Fail> {
 fn listed_cells_of_a_slope_drain_on(rt: HostRuntime) -> Result<(), Fail> {
     let tile = [4, 3, 2, 1, 4, 3, 2, 1, 4, 3, 2, 1, 4, 3, 2, 1];
     for (product, row) in [
-        (Product::Con, [4, 3, 2, 1]),
-        (Product::Dir, [1, 1, 1, 0]),
-        (Product::Acc, [1, 2, 3, 4]),
+        (Held::Con, [4, 3, 2, 1]),
+        (Held::Dir, [1, 1, 1, 0]),
+        (Held::Acc, [1, 2, 3, 4]),
     ] {
         let [a, b, c, d] = row;
         let given = made(rt.alloc(), 4, &tile, "1 1\n2 2", product)?;
@@ -108,7 +107,7 @@ fn listed_cells_that_are_open_change_nothing(rt: HostRuntime) -> Result<(), Fail
     let holed = [
         5, 4, 5, 6, 5, 4, 3, 6, 6, 5, 5, 6, 1, 6, 5, 5, 6, 6, 2, VOID, 5, 5, 5, 5, 5,
     ];
-    for product in Product::ALL {
+    for product in Held::ALL {
         for list in ["0 0", "4 4\n\n0 3\n2 0\n0 3", "3 3", "2 3\n3 3\n1 0"] {
             let given = made(rt.alloc(), 5, &holed, list, product)?;
             let without = made(rt.alloc(), 5, &holed, "", product)?;

@@ -73,7 +73,7 @@ fn is_local_minimum(elevation: &Elevation, cell: Cell) -> bool {
 struct Tally {
     /// How many are local minima.
     minima: u32,
-    /// How many are not at their own ground, or have a spill parent.
+    /// How many are not at their own ground.
     raised: u32,
     /// How many local minima are no outlets.
     draining: u32,
@@ -93,9 +93,8 @@ fn found(elevation: &Elevation, products: &ProductSet, side: u32) -> Tally {
                 let is_minimum = is_local_minimum(elevation, cell);
                 let is_outlet = number(&products.dir, cell) == Some(0);
                 let is_level = number(&products.con, cell) == ground(elevation, cell);
-                let is_raised = !is_level || number(&products.spl, cell) != Some(0);
                 found.minima = found.minima.saturating_add(u32::from(is_minimum));
-                found.raised = found.raised.saturating_add(u32::from(is_raised));
+                found.raised = found.raised.saturating_add(u32::from(!is_level));
                 found.draining = found
                     .draining
                     .saturating_add(u32::from(is_minimum && !is_outlet));

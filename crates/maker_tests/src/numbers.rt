@@ -2,7 +2,7 @@
 
 use crate::made::{accepted, con_of_nine, elevation, one_tile};
 use crate::raster_numbers::Numbers;
-use drain_grid::{Product, Sinks};
+use drain_grid::{Held, Sinks};
 use drain_hgt::TileName;
 use drain_maker::{MakeRefusal, make};
 use drain_rules::Counts;
@@ -11,7 +11,7 @@ use std::alloc::Global;
 use std::test::Fail;
 
 /// The numbers of a product that is made of one tile.
-fn made(alloc: Global, side: u32, samples: &[i16], product: Product) -> Result<Numbers, Fail> {
+fn made(alloc: Global, side: u32, samples: &[i16], product: Held) -> Result<Numbers, Fail> {
     let layout = one_tile(alloc, side)?;
     let elevation = elevation(&layout, Vec::from_slice(alloc, samples)?)?;
     let products = make(alloc, &layout, &elevation, &Sinks::none(alloc))?;
@@ -22,20 +22,18 @@ fn made(alloc: Global, side: u32, samples: &[i16], product: Product) -> Result<N
 fn tiles_of_four_samples(rt: HostRuntime) -> Result<(), Fail> {
     let void = -32768;
     for (sample, product, wanted) in [
-        (0, Product::Con, [0, 0, 0, 0]),
-        (0, Product::Dir, [0, 0, 0, 0]),
-        (0, Product::Acc, [1, 1, 1, 1]),
-        (0, Product::Bas, [1, 2, 3, 4]),
-        (0, Product::Spl, [0, 0, 0, 0]),
-        (0, Product::Rnk, [0, 0, 0, 0]),
-        (void, Product::Con, [-32768, -32768, -32768, -32768]),
-        (void, Product::Dir, [255, 255, 255, 255]),
-        (void, Product::Acc, [0, 0, 0, 0]),
-        (void, Product::Bas, [0, 0, 0, 0]),
-        (void, Product::Spl, [255, 255, 255, 255]),
+        (0, Held::Con, [0, 0, 0, 0]),
+        (0, Held::Dir, [0, 0, 0, 0]),
+        (0, Held::Acc, [1, 1, 1, 1]),
+        (0, Held::Bas, [1, 2, 3, 4]),
+        (0, Held::Rnk, [0, 0, 0, 0]),
+        (void, Held::Con, [-32768, -32768, -32768, -32768]),
+        (void, Held::Dir, [255, 255, 255, 255]),
+        (void, Held::Acc, [0, 0, 0, 0]),
+        (void, Held::Bas, [0, 0, 0, 0]),
         (
             void,
-            Product::Rnk,
+            Held::Rnk,
             [4294967295, 4294967295, 4294967295, 4294967295],
         ),
     ] {
@@ -49,22 +47,10 @@ fn tiles_of_four_samples(rt: HostRuntime) -> Result<(), Fail> {
 fn slope_to_the_east(rt: HostRuntime) -> Result<(), Fail> {
     let tile = [4, 3, 2, 1, 4, 3, 2, 1, 4, 3, 2, 1, 4, 3, 2, 1];
     for (product, wanted) in [
-        (
-            Product::Con,
-            [4, 3, 2, 1, 4, 3, 2, 1, 4, 3, 2, 1, 4, 3, 2, 1],
-        ),
-        (
-            Product::Dir,
-            [1, 1, 1, 0, 1, 1, 1, 0, 1, 1, 1, 0, 1, 1, 1, 0],
-        ),
-        (
-            Product::Acc,
-            [1, 2, 3, 4, 1, 2, 3, 4, 1, 2, 3, 4, 1, 2, 3, 4],
-        ),
-        (
-            Product::Bas,
-            [1, 1, 1, 1, 2, 2, 2, 2, 3, 3, 3, 3, 4, 4, 4, 4],
-        ),
+        (Held::Con, [4, 3, 2, 1, 4, 3, 2, 1, 4, 3, 2, 1, 4, 3, 2, 1]),
+        (Held::Dir, [1, 1, 1, 0, 1, 1, 1, 0, 1, 1, 1, 0, 1, 1, 1, 0]),
+        (Held::Acc, [1, 2, 3, 4, 1, 2, 3, 4, 1, 2, 3, 4, 1, 2, 3, 4]),
+        (Held::Bas, [1, 1, 1, 1, 2, 2, 2, 2, 3, 3, 3, 3, 4, 4, 4, 4]),
     ] {
         let given = made(rt.alloc(), 4, &tile, product)?;
         assert_eq!(rt; given.as_slice(), wanted.as_slice(), "{product:?}");
@@ -75,7 +61,7 @@ fn slope_to_the_east(rt: HostRuntime) -> Result<(), Fail> {
 /// A flat at the edge of the grid is crossed by the shortest way.
 #[test]
 fn ranks_on_a_flat(rt: HostRuntime) -> Result<(), Fail> {
-    let given = made(rt.alloc(), 5, &[7; 25], Product::Rnk)?;
+    let given = made(rt.alloc(), 5, &[7; 25], Held::Rnk)?;
     let wanted = [
         0, 0, 0, 0, 0, 0, 1, 1, 1, 0, 0, 1, 2, 1, 0, 0, 1, 1, 1, 0, 0, 0, 0, 0, 0,
     ];
@@ -88,10 +74,9 @@ fn ranks_on_a_flat(rt: HostRuntime) -> Result<(), Fail> {
 fn pit_in_the_middle(rt: HostRuntime) -> Result<(), Fail> {
     let tile = [5, 5, 5, 5, 1, 5, 5, 5, 5];
     for (product, edge, middle) in [
-        (Product::Con, 5, Some(5)),
-        (Product::Dir, 0, None),
-        (Product::Spl, 0, None),
-        (Product::Rnk, 0, Some(1)),
+        (Held::Con, 5, Some(5)),
+        (Held::Dir, 0, None),
+        (Held::Rnk, 0, Some(1)),
     ] {
         let mut given = made(rt.alloc(), 3, &tile, product)?;
         let in_middle = given.list[4];
@@ -113,7 +98,7 @@ fn pit_in_the_middle(rt: HostRuntime) -> Result<(), Fail> {
 #[test]
 fn accumulation_at_a_pit(rt: HostRuntime) -> Result<(), Fail> {
     let tile = [5, 5, 5, 5, 1, 5, 5, 5, 5];
-    let mut counts = made(rt.alloc(), 3, &tile, Product::Acc)?;
+    let mut counts = made(rt.alloc(), 3, &tile, Held::Acc)?;
     let in_middle = counts.list[4];
     counts.list[..9].sort_unstable();
     let wanted = [1, 1, 1, 1, 1, 1, 1, 1, 2];

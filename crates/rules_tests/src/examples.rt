@@ -10,7 +10,7 @@ use std::alloc::Global;
 use std::process::Abort;
 use std::test::Fail;
 
-/// The parts of an example, in their order: the elevations and the six products.
+/// The parts of an example, in their order: the elevations and the five products.
 #[derive(Clone, Copy, Debug)]
 pub enum Part {
     Elevations,
@@ -18,7 +18,6 @@ pub enum Part {
     Dir,
     Acc,
     Bas,
-    Spl,
     Rnk,
 }
 
@@ -61,55 +60,27 @@ fn elevation(alloc: Global, shape: Shape, numbers: &[i64]) -> Result<Elevation, 
     Ok(Elevation::new(shape, samples))
 }
 
-/// Three rasters whose numbers stand one after the other, with these numbers for no data.
-fn rasters(
-    alloc: Global,
-    shape: Shape,
-    nodata: (i64, i64, i64),
-    numbers: &[i64],
-) -> Result<(Raster, Raster, Raster), Fail>
-    requires nodata { IsNoData nodata.0 × IsNoData nodata.1 × IsNoData nodata.2 }
-    requires long { length numbers.now ≡ 3 * (shape.rows * shape.cols) }
-    ensures { IfOk result (λ rasters. (rasters.0.extent ≡ shape) × (rasters.1.extent ≡ shape) × (rasters.2.extent ≡ shape)) }
-{
-    let cells = shape.cells();
-    Ok((
-        raster(alloc, shape, nodata.0, &numbers[..cells])?,
-        raster(alloc, shape, nodata.1, &numbers[cells..2 * cells])?,
-        raster(alloc, shape, nodata.2, &numbers[2 * cells..])?,
-    ))
-}
-
-/// The products of an example: six rasters whose numbers stand one after the other. The number for no data of con is given; the others are the defaults.
+/// The products of an example: five rasters whose numbers stand one after the other. The number for no data of con is given; the others are the defaults.
 fn products(
     alloc: Global,
     shape: Shape,
     con_nodata: i16,
     numbers: &[i64],
 ) -> Result<ProductSet, Fail>
-    requires long { length numbers.now ≡ 6 * (shape.rows * shape.cols) }
+    requires long { length numbers.now ≡ 5 * (shape.rows * shape.cols) }
     ensures { IfOk result (λ products. products.con.extent ≡ shape) }
 {
-    let half = 3 * shape.cells();
+    let cells = shape.cells();
     let codes = Product::Dir.default_no_data();
     let counts = Product::Acc.default_no_data();
     let labels = Product::Bas.default_no_data();
-    let spill = Product::Spl.default_no_data();
     let ranks = Product::Rnk.default_no_data();
-    let (con, dir, acc) = rasters(
-        alloc,
-        shape,
-        (con_nodata.into(), codes, counts),
-        &numbers[..half],
-    )?;
-    let (bas, spl, rnk) = rasters(alloc, shape, (labels, spill, ranks), &numbers[half..])?;
     Ok(ProductSet {
-        con,
-        dir,
-        acc,
-        bas,
-        spl,
-        rnk,
+        con: raster(alloc, shape, con_nodata.into(), &numbers[..cells])?,
+        dir: raster(alloc, shape, codes, &numbers[cells..2 * cells])?,
+        acc: raster(alloc, shape, counts, &numbers[2 * cells..3 * cells])?,
+        bas: raster(alloc, shape, labels, &numbers[3 * cells..4 * cells])?,
+        rnk: raster(alloc, shape, ranks, &numbers[4 * cells..])?,
     })
 }
 
@@ -125,8 +96,8 @@ fn verdict_with_sinks(
         return Err("a shape".into());
     };
     let cells = shape.cells();
-    if numbers.len() != 7 * cells {
-        return Err("seven parts".into());
+    if numbers.len() != 6 * cells {
+        return Err("six parts".into());
     }
     let products = products(alloc, shape, con_nodata, &numbers[cells..])?;
     let elevation = elevation(alloc, shape, &numbers[..cells])?;

@@ -12,15 +12,15 @@ use worked_grids::{LISTED_PIT_SINKS, listed_pit, parted, pit, voids};
 #[test]
 fn a_pit_that_is_listed_and_not(rt: HostRuntime) -> Result<(), Fail> {
     let right = accepted(3, 3, 9, 0, 1);
-    let no_spill = rejected(Rule::NoSpill, 1, 1);
+    let no_step = rejected(Rule::FlatStep, 1, 1);
     for (text, wanted) in [
         (LISTED_PIT_SINKS, right),
         ("1 1\n1 1\n01 1", right),
         ("0 0\n\n9 9\n1 1\n0 4\n4 0\n2 2", right),
-        ("", no_spill),
+        ("", no_step),
         // Cells beside it and outside the grid, one of which has its place were there no end of a row.
-        ("0 0\n0 1\n0 2\n1 0\n1 2\n2 0\n2 1\n2 2", no_spill),
-        ("0 4\n4 0\n3 3\n11 1\n1 11\n1 4294967295", no_spill),
+        ("0 0\n0 1\n0 2\n1 0\n1 2\n2 0\n2 1\n2 2", no_step),
+        ("0 4\n4 0\n3 3\n11 1\n1 11\n1 4294967295", no_step),
     ] {
         let given = verdict_listing(rt.alloc(), text.as_bytes(), 3, 3, &listed_pit())?;
         same(&rt, text, given, wanted);
@@ -53,8 +53,8 @@ fn listed_voids(rt: HostRuntime) -> Result<(), Fail> {
         same(&rt, text, given, on_parted);
     }
     let beside = verdict_listing(rt.alloc(), b"1 3\n1 5", 3, 7, &parted())?;
-    let raised = rejected(Rule::OpenRaised, 1, 5);
-    same(&rt, "a flat's inner cell", beside, raised);
+    let no_outlet = rejected(Rule::OutletCode, 1, 5);
+    same(&rt, "a flat's inner cell", beside, no_outlet);
     let on_voids = verdict_listing(rt.alloc(), b"0 0\n1 1", 2, 2, &voids())?;
     same(&rt, "voids", on_voids, accepted(2, 2, 0, 0, 0));
     Ok(())
@@ -75,12 +75,12 @@ fn level_verdict(
     verdict_listing(alloc, text.as_bytes(), 5, 5, &shafts.numbers(alloc)?)
 }
 
-/// What is owed of a cell inside where the list has its row for its column: it is no sink then, and another one is, which shows a spill code.
+/// What is owed of a cell inside where the list has its row for its column: it is no sink then, and another one is, which shows a direction.
 fn turned(row: u8, col: u8) -> Verdict {
     if row < col {
-        rejected(Rule::NoSpill, row, col)
+        rejected(Rule::FlatStep, row, col)
     } else {
-        rejected(Rule::OpenRaised, col, row)
+        rejected(Rule::OutletCode, col, row)
     }
 }
 
@@ -90,7 +90,10 @@ fn each_cell_of_a_level_grid(rt: HostRuntime) -> Result<(), Fail> {
         for col in 0..5 {
             let is_inside = (1..4).contains(&row) && (1..4).contains(&col);
             let (listed, unlisted) = if is_inside {
-                (accepted(5, 5, 25, 0, 17), rejected(Rule::NoSpill, row, col))
+                (
+                    accepted(5, 5, 25, 0, 17),
+                    rejected(Rule::FlatStep, row, col),
+                )
             } else {
                 (accepted(5, 5, 25, 0, 16), accepted(5, 5, 25, 0, 16))
             };
@@ -146,15 +149,15 @@ fn long_rows_by_rasters_and_by_rows(rt: HostRuntime) -> Result<(), Fail> {
             "2 300\n1 599\n1 0\n0 256\n0 0\n2 599\n1 600\n3 1\n1 256\n",
             right,
         ),
-        (0, "1 300\n", rejected_far(Rule::OpenRaised, 300)),
-        (0, "1 258\n1 300\n", rejected_far(Rule::OpenRaised, 258)),
-        (1, "", rejected_far(Rule::NoSpill, 1)),
-        (255, "", rejected_far(Rule::NoSpill, 255)),
-        (256, "", rejected_far(Rule::NoSpill, 256)),
-        (257, "0 257\n2 257\n", rejected_far(Rule::NoSpill, 257)),
-        (511, "", rejected_far(Rule::NoSpill, 511)),
-        (512, "", rejected_far(Rule::NoSpill, 512)),
-        (598, "0 1198\n", rejected_far(Rule::NoSpill, 598)),
+        (0, "1 300\n", rejected_far(Rule::OutletCode, 300)),
+        (0, "1 258\n1 300\n", rejected_far(Rule::OutletCode, 258)),
+        (1, "", rejected_far(Rule::FlatStep, 1)),
+        (255, "", rejected_far(Rule::FlatStep, 255)),
+        (256, "", rejected_far(Rule::FlatStep, 256)),
+        (257, "0 257\n2 257\n", rejected_far(Rule::FlatStep, 257)),
+        (511, "", rejected_far(Rule::FlatStep, 511)),
+        (512, "", rejected_far(Rule::FlatStep, 512)),
+        (598, "0 1198\n", rejected_far(Rule::FlatStep, 598)),
     ] {
         let [by_rasters, by_rows] = long_verdicts(rt.alloc(), left_out, more)?;
         same(&rt, "by rasters", by_rasters, wanted);

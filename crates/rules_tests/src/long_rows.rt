@@ -7,7 +7,7 @@ use std::test::Fail;
 #[test]
 fn accepts_the_longest_rows(rt: HostRuntime) -> Result<(), Fail> {
     let mut numbers = Vec::new(rt.alloc());
-    for part in 0..7 {
+    for part in 0..6 {
         for cell in 0..28801 {
             let number = match part {
                 3 => 1, // acc

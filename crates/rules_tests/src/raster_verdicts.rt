@@ -54,13 +54,14 @@ fn rejects_a_changed_slope(rt: HostRuntime) -> Result<(), Fail> {
 
 #[test]
 fn rejects_a_changed_pit(rt: HostRuntime) -> Result<(), Fail> {
-    for (part, number, rule) in [
-        (Part::Spl, 0, Rule::NoSpill),
-        (Part::Con, 6, Rule::SpillHeight),
-        (Part::Rnk, 0, Rule::SpillRank),
+    for (name, part, number, rule, row, col) in [
+        ("too high", Part::Con, 6, Rule::NotLeast, 1, 1),
+        ("filled halfway", Part::Con, 3, Rule::Slope, 0, 0),
+        ("no direction", Part::Dir, 0, Rule::FlatStep, 1, 1),
+        ("the rank of the next", Part::Rnk, 0, Rule::FlatStep, 1, 1),
     ] {
         let verdict = verdict_changed(rt.alloc(), 3, &pit(), part, (1, 1), number)?;
-        same(&rt, rule.name(), verdict, rejected(rule, 1, 1));
+        same(&rt, name, verdict, rejected(rule, row, col));
     }
     Ok(())
 }

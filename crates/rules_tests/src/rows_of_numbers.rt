@@ -57,7 +57,6 @@ fn are_row_numbers(z: &[i64], products: &PerProduct<&[i64]>) -> bool
         && are_pixels(products.dir, count)
         && are_pixels(products.acc, count)
         && are_pixels(products.bas, count)
-        && are_pixels(products.spl, count)
         && are_pixels(products.rnk, count)
 }
 
@@ -80,14 +79,13 @@ fn view<'a>(
     }
 }
 
-/// A row of the seven parts, one after the other.
+/// A row of the six parts, one after the other.
 fn row_view<'a>(numbers: &'a [i64], marks: &'a Marks, row: u8) -> Option<RowView<'a>> {
     let products = PerProduct {
         con: row_of(numbers, Part::Con, row)?,
         dir: row_of(numbers, Part::Dir, row)?,
         acc: row_of(numbers, Part::Acc, row)?,
         bas: row_of(numbers, Part::Bas, row)?,
-        spl: row_of(numbers, Part::Spl, row)?,
         rnk: row_of(numbers, Part::Rnk, row)?,
     };
     let z = row_of(numbers, Part::Elevations, row)?;
@@ -102,7 +100,6 @@ fn no_row<'a>() -> Option<RowView<'a>> {
         dir: [].as_slice(),
         acc: [].as_slice(),
         bas: [].as_slice(),
-        spl: [].as_slice(),
         rnk: [].as_slice(),
     };
     view(&[], &[], products)
@@ -135,7 +132,7 @@ fn check_row(walk: &mut GridWalk, numbers: &[i64], marks: &Marks, row: u8) -> Re
     Ok(walk.check_row(&rows, &NoData::defaults())?)
 }
 
-/// The verdict on the numbers of the seven parts, with the sinks that a text lists.
+/// The verdict on the numbers of the six parts, with the sinks that a text lists.
 pub fn verdict_by_rows(alloc: Global, text: &[u8], numbers: &[i64]) -> Result<Verdict, Fail> {
     let sinks = parse_sinks(alloc, text)?;
     let marks = marks_of(&sinks);

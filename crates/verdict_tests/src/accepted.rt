@@ -3,7 +3,7 @@
 use crate::example::{Example, one_tile, products_on, tile};
 use crate::runs::{products_at_once, tiles_at_once, told};
 use drain_device::ByteSource;
-use drain_grid::Product;
+use drain_grid::Held;
 use drain_hgt::TileInput;
 use drain_verdict::line::Line;
 use drain_verdict::{Products, check, report};
@@ -68,14 +68,14 @@ struct Leftovers {
     /// How many bytes the last tile's source still gives.
     of_tile: Option<usize>,
     /// Whether each product has the header that it was made with.
-    headers: [bool; 6],
+    headers: [bool; 5],
     /// Whether each tile has the name N00E000.hgt.
     names: bool,
 }
 
 /// Whether each product has the header that it was made with.
-fn have_headers<R>(products: &Products<R>, made: &Example) -> [bool; 6] {
-    Product::ALL.map(|product| {
+fn have_headers<R>(products: &Products<R>, made: &Example) -> [bool; 5] {
+    Held::ALL.map(|product| {
         products.of(product).header.as_slice() == made.raster(product).header.as_slice()
     })
 }
@@ -130,7 +130,7 @@ fn leaves_the_bytes_behind_a_raster(rt: HostRuntime) -> Result<(), Fail> {
             left.headers,
             left.names
         ),
-        (PIT_LINE, [Some(6), Some(0), Some(3)], [true; 6], true)
+        (PIT_LINE, [Some(6), Some(0), Some(3)], [true; 5], true)
     );
     Ok(())
 }

@@ -4,7 +4,7 @@ use crate::agree::same_line;
 use crate::bytes::Bytes;
 use crate::example::one_tile;
 use crate::runs::{told, told_at_once};
-use drain_grid::Product;
+use drain_grid::Held;
 use std::test::Fail;
 use worked_grids::{SLOPE_LINE, slope};
 
@@ -29,12 +29,11 @@ fn a_tile_at_each_length(rt: HostRuntime) -> Result<(), Fail> {
 fn each_raster_at_each_length(rt: HostRuntime) -> Result<(), Fail> {
     let whole = one_tile(4, &slope())?;
     for (product, needed, short) in [
-        (Product::Con, 32usize, "refused RasterShort con"),
-        (Product::Dir, 16, "refused RasterShort dir"),
-        (Product::Acc, 64, "refused RasterShort acc"),
-        (Product::Bas, 64, "refused RasterShort bas"),
-        (Product::Spl, 16, "refused RasterShort spl"),
-        (Product::Rnk, 64, "refused RasterShort rnk"),
+        (Held::Con, 32usize, "refused RasterShort con"),
+        (Held::Dir, 16, "refused RasterShort dir"),
+        (Held::Acc, 64, "refused RasterShort acc"),
+        (Held::Bas, 64, "refused RasterShort bas"),
+        (Held::Rnk, 64, "refused RasterShort rnk"),
     ] {
         for length in 0..=needed {
             let line = if length < needed { short } else { SLOPE_LINE };

@@ -1,7 +1,7 @@
 //! What a check reads, made from small arrays of numbers.
 
 use crate::bytes::Bytes;
-use drain_grid::Product;
+use drain_grid::Held;
 use std::test::Fail;
 
 /// A tile's name and its bytes.
@@ -29,7 +29,6 @@ pub struct Example {
     pub dir: RasterBytes,
     pub acc: RasterBytes,
     pub bas: RasterBytes,
-    pub spl: RasterBytes,
     pub rnk: RasterBytes,
 }
 
@@ -54,25 +53,23 @@ impl Example {
         Ok(())
     }
 
-    pub fn raster(&self, product: Product) -> &RasterBytes {
+    pub fn raster(&self, product: Held) -> &RasterBytes {
         match product {
-            Product::Con => &self.con,
-            Product::Dir => &self.dir,
-            Product::Acc => &self.acc,
-            Product::Bas => &self.bas,
-            Product::Spl => &self.spl,
-            Product::Rnk => &self.rnk,
+            Held::Con => &self.con,
+            Held::Dir => &self.dir,
+            Held::Acc => &self.acc,
+            Held::Bas => &self.bas,
+            Held::Rnk => &self.rnk,
         }
     }
 
-    pub fn raster_mut(&mut self, product: Product) -> &mut RasterBytes {
+    pub fn raster_mut(&mut self, product: Held) -> &mut RasterBytes {
         match product {
-            Product::Con => &mut self.con,
-            Product::Dir => &mut self.dir,
-            Product::Acc => &mut self.acc,
-            Product::Bas => &mut self.bas,
-            Product::Spl => &mut self.spl,
-            Product::Rnk => &mut self.rnk,
+            Held::Con => &mut self.con,
+            Held::Dir => &mut self.dir,
+            Held::Acc => &mut self.acc,
+            Held::Bas => &mut self.bas,
+            Held::Rnk => &mut self.rnk,
         }
     }
 }
@@ -88,17 +85,16 @@ pub fn grid_of(side: u32) -> &'static str {
 }
 
 /// The lines of a header on a product's pixels.
-fn pixels_of(product: Product) -> &'static str {
+fn pixels_of(product: Held) -> &'static str {
     match product {
-        Product::Con => "BYTEORDER I\nNBITS 16\nPIXELTYPE SIGNEDINT\n",
-        Product::Dir => "BYTEORDER I\nNBITS 8\n",
-        Product::Spl => "BYTEORDER I\nNBITS 8\n",
+        Held::Con => "BYTEORDER I\nNBITS 16\nPIXELTYPE SIGNEDINT\n",
+        Held::Dir => "BYTEORDER I\nNBITS 8\n",
         _ => "BYTEORDER I\nNBITS 32\nPIXELTYPE UNSIGNEDINT\n",
     }
 }
 
 /// A product's header with these lines on its grid.
-pub fn header_on(product: Product, grid: &str) -> Bytes {
+pub fn header_on(product: Held, grid: &str) -> Bytes {
     let mut header = Bytes::of(grid.as_bytes());
     header.extend(pixels_of(product).as_bytes());
     header
@@ -118,17 +114,16 @@ pub fn tile(name: &str, samples: &[i64]) -> TileBytes {
 }
 
 /// A number as a product's pixel, its least significant byte first.
-fn push_pixel(body: &mut Bytes, product: Product, number: i64) {
+fn push_pixel(body: &mut Bytes, product: Held, number: i64) {
     let bytes = number.to_le_bytes();
     match product {
-        Product::Con => body.extend(&bytes[..2]),
-        Product::Dir => body.extend(&bytes[..1]),
-        Product::Spl => body.extend(&bytes[..1]),
+        Held::Con => body.extend(&bytes[..2]),
+        Held::Dir => body.extend(&bytes[..1]),
         _ => body.extend(&bytes[..4]),
     }
 }
 
-fn raster(product: Product, grid: &str, numbers: &[i64]) -> RasterBytes {
+fn raster(product: Held, grid: &str, numbers: &[i64]) -> RasterBytes {
     let mut body = Bytes::new();
     for number in numbers {
         push_pixel(&mut body, product, *number);
@@ -141,24 +136,23 @@ fn raster(product: Product, grid: &str, numbers: &[i64]) -> RasterBytes {
 
 /// Products of these numbers, one product after the other, and no tile yet.
 pub fn products_on(side: u32, grid: &str, numbers: &[i64]) -> Example {
-    let cells = numbers.len() / 6;
+    let cells = numbers.len() / 5;
     Example {
         side,
         tiles: [tile("", &[]); 3],
         tile_count: 0,
         sinks: Bytes::new(),
-        con: raster(Product::Con, grid, &numbers[..cells]),
-        dir: raster(Product::Dir, grid, &numbers[cells..2 * cells]),
-        acc: raster(Product::Acc, grid, &numbers[2 * cells..3 * cells]),
-        bas: raster(Product::Bas, grid, &numbers[3 * cells..4 * cells]),
-        spl: raster(Product::Spl, grid, &numbers[4 * cells..5 * cells]),
-        rnk: raster(Product::Rnk, grid, &numbers[5 * cells..]),
+        con: raster(Held::Con, grid, &numbers[..cells]),
+        dir: raster(Held::Dir, grid, &numbers[cells..2 * cells]),
+        acc: raster(Held::Acc, grid, &numbers[2 * cells..3 * cells]),
+        bas: raster(Held::Bas, grid, &numbers[3 * cells..4 * cells]),
+        rnk: raster(Held::Rnk, grid, &numbers[4 * cells..]),
     }
 }
 
 /// A tile and its products with these lines of a header on their grid: the samples, then the numbers of one product after the other.
 pub fn tile_on(side: u32, name: &str, grid: &str, numbers: &[i64]) -> Result<Example, Fail> {
-    let cells = numbers.len() / 7;
+    let cells = numbers.len() / 6;
     let mut example = products_on(side, grid, &numbers[cells..]);
     example.push_tile(tile(name, &numbers[..cells]))?;
     Ok(example)
@@ -184,7 +178,6 @@ pub fn bare(side: u32, names: &[&str], header: &str) -> Result<Example, Fail> {
         dir: raster,
         acc: raster,
         bas: raster,
-        spl: raster,
         rnk: raster,
     };
     for name in names {

@@ -2,7 +2,7 @@
 
 use crate::example::{header_on, tile_on};
 use crate::runs::told;
-use drain_grid::Product;
+use drain_grid::Held;
 use drain_verdict::line::Line;
 use std::alloc::Global;
 use std::test::Fail;
@@ -26,8 +26,8 @@ const TOO_NARROW: &str = "NROWS 3\nNCOLS 3\nULXMAP 7\nULYMAP 0\nXDIM 0.499999998
 /// The line of the pit whose con and acc have headers with these lines on their grid, where the others are right.
 fn line_of(alloc: Global, con: &str, acc: &str) -> Result<Line, Fail> {
     let mut example = tile_on(3, "S01E007.hgt", RIGHT, &pit())?;
-    example.con.header = header_on(Product::Con, con);
-    example.acc.header = header_on(Product::Acc, acc);
+    example.con.header = header_on(Held::Con, con);
+    example.acc.header = header_on(Held::Acc, acc);
     told(alloc, &example)
 }
 

@@ -3,7 +3,7 @@
 use crate::agree::same_line;
 use crate::example::header_on;
 use drain_device::{ByteList, SliceSource};
-use drain_grid::{PerProduct, Product};
+use drain_grid::{Held, PerProduct};
 use drain_hgt::TileInput;
 use drain_verdict::line::Line;
 use drain_verdict::{Products, RasterInput, check, report};
@@ -17,12 +17,12 @@ const GRID: &str =
 const CELLS: u32 = 1156;
 
 /// The numbers of a product in 32 bits each, the least significant byte first. Of one whose numbers are all 0 they do for fewer bits too.
-fn pixels(alloc: Global, product: Product) -> Result<Vec<u8>, AllocError> {
+fn pixels(alloc: Global, product: Held) -> Result<Vec<u8>, AllocError> {
     let mut bytes = Vec::new(alloc);
     for cell in 0..CELLS {
         let number = match product {
-            Product::Acc => 1,
-            Product::Bas => cell + 1,
+            Held::Acc => 1,
+            Held::Bas => cell + 1,
             _ => 0,
         };
         bytes.extend_from_slice(&number.to_le_bytes())?;
@@ -40,12 +40,12 @@ struct Bodies<'a> {
 
 fn raster<'a>(
     alloc: Global,
-    product: Product,
+    product: Held,
     bodies: Bodies<'a>,
 ) -> Result<RasterInput<SliceSource<'a>>, AllocError> {
     let body = match product {
-        Product::Acc => bodies.acc,
-        Product::Bas => bodies.bas,
+        Held::Acc => bodies.acc,
+        Held::Bas => bodies.bas,
         _ => bodies.others,
     };
     Ok(RasterInput {
@@ -58,7 +58,7 @@ fn products<'a>(
     alloc: Global,
     bodies: Bodies<'a>,
 ) -> Result<Products<SliceSource<'a>>, AllocError> {
-    let input = |product: Product| -> Result<RasterInput<SliceSource<'_>>, AllocError> {
+    let input = |product: Held| -> Result<RasterInput<SliceSource<'_>>, AllocError> {
         raster(alloc, product, bodies)
     };
     PerProduct::from_each(&input)
@@ -66,9 +66,9 @@ fn products<'a>(
 
 /// The line of the level tile with a list.
 fn level_told(alloc: Global, text: &[u8]) -> Result<Line, AllocError> {
-    let acc = pixels(alloc, Product::Acc)?;
-    let bas = pixels(alloc, Product::Bas)?;
-    let others = pixels(alloc, Product::Con)?;
+    let acc = pixels(alloc, Held::Acc)?;
+    let bas = pixels(alloc, Held::Bas)?;
+    let others = pixels(alloc, Held::Con)?;
     let mut products = products(
         alloc,
         Bodies {
@@ -118,11 +118,11 @@ fn a_thousand_sinks(rt: HostRuntime) -> Result<(), Fail> {
     for (left_out, last, line) in [
         ((0, 0), "", right),
         ((0, 0), "33 33\n0 33\n17 20", right),
-        ((1, 1), "", "rejected rule=6 NoSpill row=1 col=1"),
-        ((1, 32), "", "rejected rule=6 NoSpill row=1 col=32"),
-        ((17, 20), "", "rejected rule=6 NoSpill row=17 col=20"),
+        ((1, 1), "", "rejected rule=12 FlatStep row=1 col=1"),
+        ((1, 32), "", "rejected rule=12 FlatStep row=1 col=32"),
+        ((17, 20), "", "rejected rule=12 FlatStep row=17 col=20"),
         ((17, 20), "17 20", right),
-        ((32, 32), "", "rejected rule=6 NoSpill row=32 col=32"),
+        ((32, 32), "", "rejected rule=12 FlatStep row=32 col=32"),
         ((0, 0), "x", "refused BadSinkLine 1025"),
         ((0, 0), "\n33 34", "refused SinkNotData 1026"),
         ((17, 20), "34 0", "refused SinkNotData 1024"),

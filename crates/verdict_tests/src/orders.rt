@@ -73,7 +73,7 @@ fn tells_a_product_before_the_next_and_the_tiles(rt: HostRuntime) -> Result<(), 
 fn torn() -> Result<Example, Fail> {
     let grid = "NROWS 2\nNCOLS 3\nULXMAP 0\nULYMAP 1\nXDIM 1\nYDIM 1\n";
     let v = -32768;
-    let mut example = products_on(2, grid, &[7; 36]);
+    let mut example = products_on(2, grid, &[7; 30]);
     example.push_tile(tile("N00E000.hgt", &[v, 2, v, v]))?;
     example.push_tile(tile("N00E001.hgt", &[9, v, v, v]))?;
     Ok(example)

@@ -2,13 +2,13 @@
 
 use crate::example::{Example, bare, header_on, one_tile, products_on, tile};
 use crate::runs::told;
-use drain_grid::Product;
+use drain_grid::Held;
 use drain_verdict::{Refusal, report};
 use std::test::Fail;
 use worked_grids::{PIT_LINE, pit, ring};
 
 /// The pit, with these lines on the grid in a product's header.
-fn pit_on(product: Product, grid: &str) -> Result<Example, Fail> {
+fn pit_on(product: Held, grid: &str) -> Result<Example, Fail> {
     let mut example = one_tile(3, &pit())?;
     example.raster_mut(product).header = header_on(product, grid);
     Ok(example)
@@ -18,32 +18,32 @@ fn pit_on(product: Product, grid: &str) -> Result<Example, Fail> {
 fn refuses_other_places_and_shapes(rt: HostRuntime) -> Result<(), Fail> {
     for (product, grid, line) in [
         (
-            Product::Con,
+            Held::Con,
             "NROWS 3\nNCOLS 3\nULXMAP 0.000001\nULYMAP 1\nXDIM 0.5\nYDIM 0.5\n",
             PIT_LINE,
         ),
         (
-            Product::Con,
+            Held::Con,
             "NROWS 3\nNCOLS 3\nULXMAP 0.000001000000001\nULYMAP 1\nXDIM 0.5\nYDIM 0.5\n",
             "refused Misplaced con",
         ),
         (
-            Product::Con,
+            Held::Con,
             "NROWS 3\nNCOLS 3\nULXMAP 0\nULYMAP 1\nXDIM 0.500000001\nYDIM 0.5\n",
             PIT_LINE,
         ),
         (
-            Product::Con,
+            Held::Con,
             "NROWS 3\nNCOLS 3\nULXMAP 0\nULYMAP 1\nXDIM 0.500000001000001\nYDIM 0.5\n",
             "refused Misplaced con",
         ),
         (
-            Product::Dir,
+            Held::Dir,
             "NROWS 4\nNCOLS 3\nULXMAP 0\nULYMAP 1\nXDIM 0.5\nYDIM 0.5\n",
             "refused WrongShape dir",
         ),
         (
-            Product::Dir,
+            Held::Dir,
             "NROWS 3\nNCOLS 3\nULYMAP 1\nXDIM 0.5\nYDIM 0.5\n",
             "refused BadHeader dir MissingKey ULXMAP",
         ),
@@ -78,7 +78,7 @@ fn refuses_bodies_of_another_length(rt: HostRuntime) -> Result<(), Fail> {
 #[test]
 fn refuses_tiles_that_differ(rt: HostRuntime) -> Result<(), Fail> {
     let grid = "NROWS 2\nNCOLS 3\nULXMAP 0\nULYMAP 1\nXDIM 1\nYDIM 1\n";
-    let mut example = products_on(2, grid, &[0; 36]);
+    let mut example = products_on(2, grid, &[0; 30]);
     example.push_tile(tile("N00E000.hgt", &[1, 2, 3, 4]))?;
     example.push_tile(tile("N00E001.hgt", &[9, 5, 4, 6]))?;
     assert_eq!(rt;

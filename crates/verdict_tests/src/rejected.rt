@@ -2,7 +2,7 @@
 
 use crate::example::{changed, header_on, one_tile};
 use crate::runs::told;
-use drain_grid::Product;
+use drain_grid::Held;
 use drain_verdict::line::Line;
 use std::alloc::Global;
 use std::test::Fail;
@@ -44,9 +44,10 @@ fn pit_with(alloc: Global, place: usize, number: i64) -> Result<Line, Fail> {
 #[test]
 fn rejects_a_changed_pit(rt: HostRuntime) -> Result<(), Fail> {
     for (place, number, line) in [
-        (49, 0, "rejected rule=6 NoSpill row=1 col=1"),
-        (13, 6, "rejected rule=7 SpillHeight row=1 col=1"),
-        (58, 0, "rejected rule=8 SpillRank row=1 col=1"),
+        (13, 6, "rejected rule=9 NotLeast row=1 col=1"),
+        (13, 3, "rejected rule=10 Slope row=0 col=0"),
+        (22, 0, "rejected rule=12 FlatStep row=1 col=1"),
+        (49, 0, "rejected rule=12 FlatStep row=1 col=1"),
     ] {
         assert_eq!(rt;
             pit_with(rt.alloc(), place, number)?.as_str(),
@@ -80,7 +81,7 @@ fn rejects_by_the_other_rules(rt: HostRuntime) -> Result<(), Fail> {
 fn rejects_the_number_of_nodata(rt: HostRuntime) -> Result<(), Fail> {
     let mut example = one_tile(2, &level())?;
     let grid = "NODATA 0\nNROWS 2\nNCOLS 2\nULXMAP 0\nULYMAP 1\nXDIM 1\nYDIM 1\n";
-    example.con.header = header_on(Product::Con, grid);
+    example.con.header = header_on(Held::Con, grid);
     assert_eq!(rt;
         told(rt.alloc(), &example)?.as_str(),
         "rejected rule=2 Missing row=0 col=0"

@@ -3,7 +3,7 @@
 use crate::example::{Example, RasterBytes, TileBytes};
 use drain_device::faults::{ScriptSource, Scripted};
 use drain_device::{ByteList, DeviceFault, SliceSource};
-use drain_grid::{PerProduct, Product};
+use drain_grid::{Held, PerProduct};
 use drain_hgt::TileInput;
 use drain_verdict::line::Line;
 use drain_verdict::{Products, RasterInput, check, report};
@@ -14,7 +14,7 @@ use std::test::Fail;
 #[derive(Clone, Copy, PartialEq, Eq, Debug)]
 pub enum Owner {
     Tile,
-    Raster(Product),
+    Raster(Held),
 }
 
 /// When the sources of an owner fault; the others never do.
@@ -66,7 +66,7 @@ pub fn products_at_once<'a>(
     alloc: Global,
     example: &'a Example,
 ) -> Result<Products<SliceSource<'a>>, AllocError> {
-    let input = |product: Product| -> Result<RasterInput<SliceSource<'_>>, AllocError> {
+    let input = |product: Held| -> Result<RasterInput<SliceSource<'_>>, AllocError> {
         let raster = example.raster(product);
         raster_at_once(alloc, raster.header.as_slice(), raster)
     };
@@ -82,12 +82,12 @@ struct ConHeaded<'a> {
 
 fn raster_of_con_headed<'a>(
     alloc: Global,
-    product: Product,
+    product: Held,
     headed: ConHeaded<'a>,
 ) -> Result<RasterInput<SliceSource<'a>>, AllocError> {
     let raster = headed.example.raster(product);
     match product {
-        Product::Con => raster_at_once(alloc, headed.header, raster),
+        Held::Con => raster_at_once(alloc, headed.header, raster),
         _ => raster_at_once(alloc, raster.header.as_slice(), raster),
     }
 }
@@ -95,7 +95,7 @@ fn raster_of_con_headed<'a>(
 /// The line of a check whose sources give all bytes at once, with this header of con.
 pub fn told_of_header(alloc: Global, example: &Example, header: &[u8]) -> Result<Line, AllocError> {
     let headed = ConHeaded { example, header };
-    let input = |product: Product| -> Result<RasterInput<SliceSource<'_>>, AllocError> {
+    let input = |product: Held| -> Result<RasterInput<SliceSource<'_>>, AllocError> {
         raster_of_con_headed(alloc, product, headed)
     };
     let mut tiles = tiles_at_once(alloc, example.tiles())?;
@@ -152,7 +152,7 @@ struct SlowExample<'a> {
 
 fn slow_raster<'a>(
     alloc: Global,
-    product: Product,
+    product: Held,
     slowly: SlowExample<'a>,
 ) -> Result<RasterInput<ScriptSource<'a>>, AllocError> {
     let raster = slowly.example.raster(product);
@@ -170,7 +170,7 @@ fn slow_products<'a>(
     alloc: Global,
     slowly: SlowExample<'a>,
 ) -> Result<Products<ScriptSource<'a>>, AllocError> {
-    let input = |product: Product| -> Result<RasterInput<ScriptSource<'_>>, AllocError> {
+    let input = |product: Held| -> Result<RasterInput<ScriptSource<'_>>, AllocError> {
         slow_raster(alloc, product, slowly)
     };
     PerProduct::from_each(&input)

@@ -7,7 +7,7 @@ use crate::listed_sinks::{filled_pit_with, listed_pit_with};
 use crate::runs::told;
 use drain_verdict::{Refusal, report};
 use std::test::Fail;
-use worked_grids::{PIT_LINE, listed_pit, parted, voids};
+use worked_grids::{PIT_LINE, UNLISTED_PIT_LINE, listed_pit, parted, voids};
 
 #[test]
 fn lines_that_are_bad(rt: HostRuntime) -> Result<(), Fail> {
@@ -113,7 +113,7 @@ fn the_first_of_the_lines_off_the_data(rt: HostRuntime) -> Result<(), Fail> {
 #[test]
 fn tells_a_list_before_the_rules(rt: HostRuntime) -> Result<(), Fail> {
     for (text, line) in [
-        ("2 2", "rejected rule=6 NoSpill row=1 col=1"),
+        ("2 2", UNLISTED_PIT_LINE),
         ("2 2\nx", "refused BadSinkLine 2"),
         ("2 2\n\n2 3", "refused SinkNotData 3"),
     ] {
@@ -158,7 +158,7 @@ fn tells_side_names_headers_and_bodies_before_a_list(rt: HostRuntime) -> Result<
 #[test]
 fn tells_a_seam_before_a_list(rt: HostRuntime) -> Result<(), Fail> {
     let grid = "NROWS 2\nNCOLS 3\nULXMAP 0\nULYMAP 1\nXDIM 1\nYDIM 1\n";
-    let mut torn = products_on(2, grid, &[0; 36]);
+    let mut torn = products_on(2, grid, &[0; 30]);
     torn.push_tile(tile("N00E000.hgt", &[1, 2, 3, 4]))?;
     torn.push_tile(tile("N00E001.hgt", &[9, 5, 4, 6]))?;
     for text in ["x", "9 9", "0 1", "0 1\n0 0 0"] {

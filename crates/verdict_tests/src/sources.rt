@@ -5,7 +5,7 @@ use crate::example::one_tile;
 use crate::runs::{Faulty, Owner, told_slowly};
 use drain_device::DeviceFault;
 use drain_device::faults::Scripted;
-use drain_grid::Product;
+use drain_grid::Held;
 use drain_verdict::line::Line;
 use std::alloc::Global;
 use std::test::Fail;
@@ -37,8 +37,8 @@ fn pit_where(
 fn bears_999_interruptions_of_each_source(rt: HostRuntime) -> Result<(), Fail> {
     for owner in [
         Owner::Tile,
-        Owner::Raster(Product::Con),
-        Owner::Raster(Product::Rnk),
+        Owner::Raster(Held::Con),
+        Owner::Raster(Held::Rnk),
     ] {
         for (first, last, line) in [
             (1, 999, PIT_LINE),
@@ -59,12 +59,11 @@ fn bears_999_interruptions_of_each_source(rt: HostRuntime) -> Result<(), Fail> {
 fn never_takes_a_failed_source_for_its_end(rt: HostRuntime) -> Result<(), Fail> {
     for (owner, calls) in [
         (Owner::Tile, 19u64),
-        (Owner::Raster(Product::Con), 18),
-        (Owner::Raster(Product::Dir), 9),
-        (Owner::Raster(Product::Acc), 36),
-        (Owner::Raster(Product::Bas), 36),
-        (Owner::Raster(Product::Spl), 9),
-        (Owner::Raster(Product::Rnk), 36),
+        (Owner::Raster(Held::Con), 18),
+        (Owner::Raster(Held::Dir), 9),
+        (Owner::Raster(Held::Acc), 36),
+        (Owner::Raster(Held::Bas), 36),
+        (Owner::Raster(Held::Rnk), 36),
     ] {
         for before in 0..=calls {
             let call = before.saturating_add(1);
@@ -86,12 +85,11 @@ fn bodies_that_go_on_after_a_fault(rt: HostRuntime) -> Result<(), Fail> {
     let slope = one_tile(4, &slope())?;
     for (owner, middle) in [
         (Owner::Tile, 17u64),
-        (Owner::Raster(Product::Con), 17),
-        (Owner::Raster(Product::Dir), 9),
-        (Owner::Raster(Product::Acc), 33),
-        (Owner::Raster(Product::Bas), 33),
-        (Owner::Raster(Product::Spl), 9),
-        (Owner::Raster(Product::Rnk), 33),
+        (Owner::Raster(Held::Con), 17),
+        (Owner::Raster(Held::Dir), 9),
+        (Owner::Raster(Held::Acc), 33),
+        (Owner::Raster(Held::Bas), 33),
+        (Owner::Raster(Held::Rnk), 33),
     ] {
         for (times, answer, line) in [
             (1u64, DeviceFault::Failed, FAILED),

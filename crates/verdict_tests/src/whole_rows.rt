@@ -36,7 +36,6 @@ fn line_of_level(alloc: Global, acc: [u8; 4]) -> Result<Line, Fail> {
         dir: raster(alloc, shape, Product::Dir, [0; 4])?,
         acc: raster(alloc, shape, Product::Acc, acc)?,
         bas: raster(alloc, shape, Product::Bas, [1, 2, 3, 4])?,
-        spl: raster(alloc, shape, Product::Spl, [0; 4])?,
         rnk: raster(alloc, shape, Product::Rnk, [0; 4])?,
     };
     let verdict = verdict_row_by_row(alloc, &elevation, &Sinks::none(alloc), &products);

@@ -47,15 +47,13 @@ impl<'a> Shafts<'a> {
         i64::from(outlet) * i64::from(self.cols) + i64::from(col) + 1
     }
 
-    /// The number of a cell in a part: of the elevations, con, dir, acc, bas, spl and rnk.
+    /// The number of a cell in a part: of the elevations, con, dir, acc, bas and rnk.
     fn number(&self, part: u8, row: u8, col: u16) -> i64 {
-        let north = if self.drains_north(row, col) { 64 } else { 0 };
         match part {
-            2 => north,
+            2 if self.drains_north(row, col) => 64,
             3 => self.upstream(row, col).into(),
             4 => self.label(row, col),
-            5 => north,
-            6 => self.steps(row, col).into(),
+            5 => self.steps(row, col).into(),
             _ => 0,
         }
     }
@@ -63,7 +61,7 @@ impl<'a> Shafts<'a> {
     /// The parts one after the other, each in row order.
     pub fn numbers(&self, alloc: Global) -> Result<Vec<i64>, AllocError> {
         let mut numbers = Vec::new(alloc);
-        for part in 0..7 {
+        for part in 0..6 {
             for row in 0..self.rows {
                 for col in 0..self.cols {
                     numbers.push(self.number(part, row, col))?;

@@ -1,6 +1,6 @@
 use Rattle.std.proofs.Common.{◌≡◌, ◌≤◌, refl, sym, ap, subst, ◌∙◌, arith, rules}
 use Rattle.drain_grid.specs.declared.cell.TheConstants.{MAX_LENGTH}
-use Rattle.drain_grid.specs.declared.product.Product.TheVariants.{Con}
+use Rattle.drain_grid.specs.declared.held.Held.TheVariants.{Con}
 use Rattle.drain_grid.specs.Size.{Extent}
 use Rattle.drain_grid.specs.Values.{NoDataNumbers}
 use Rattle.drain_grid.specs.WholeGrid.{grid_of, products_of}

@@ -1,6 +1,6 @@
 use Rattle.std.proofs.Common.{◌≡◌, ◌<◌, length, ap, subst, arith}
 use Rattle.drain_fill.specs.Below.{AreHeights, IsBelowAt}
-use Rattle.drain_grid.specs.declared.product.Product.TheVariants.{Con}
+use Rattle.drain_grid.specs.declared.held.Held.TheVariants.{Con}
 use Rattle.drain_rules.specs.MarkedRows.{MarkedRow}
 use Rattle.drain_rules.proofs.Screens.{samples_fit}
 use Rattle.drain_rules.proofs.row_view.RowView.cells_above_ground.Goals as goal

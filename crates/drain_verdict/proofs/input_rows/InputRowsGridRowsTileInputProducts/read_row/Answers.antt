@@ -1,11 +1,12 @@
 use Rattle.std.proofs.Common.{◌+◌, Some, None, inl, inr, rules}
 use Rattle.std.specs.List.{All}
-use Rattle.drain_grid.specs.declared.product.Product.TheVariants.{Con, Dir, Acc, Bas, Spl, Rnk}
+use Rattle.drain_grid.specs.declared.held.Held.TheVariants.{Con, Dir, Acc, Bas, Rnk}
 use Rattle.drain_grid.specs.PerProduct.{of_product, per_product}
 use Rattle.drain_grid.specs.Values.{IsPixel}
 use Rattle.drain_rules.specs.RowNumbers.{RowNumbers}
 use Rattle.drain_verdict.specs.HeldRows.{numbers_of}
-use Rattle.drain_verdict.proofs.InputLemmas.{by_product, told-of}
+use Rattle.drain_grid.proofs.ByProduct.{by_held}
+use Rattle.drain_verdict.proofs.InputLemmas.{told-of}
 use Rattle.drain_verdict.proofs.RowGiven.{IsKept, come_more, come_refused, kept_numbers, next_given}
 use Rattle.drain_verdict.proofs.RowReads.{by_mosaic, by_rasters, one_read, rasters_none, reads_then}
 use Rattle.drain_verdict.proofs.input_rows.InputRowsGridRowsTileInputProducts.read_row.Goals.{then-not-is_even, else-not-is_even}
@@ -45,7 +46,7 @@ returns-clause-reads g c =
     (reads_then bl ct start _ _ None before.reads
     (one_read bl ct c.args.self.now _ c.args.tiles.now c.read_mosaic.new.tiles c.args.products.now c.read_rasters.new.products None None None (by_rasters None)
     other.of_reading one.counted (search rules) one.names one.read other.read))
-    one.rows (let each = other.rows in by_product _ (each Con) (each Dir) (each Acc) (each Bas) (each Spl) (each Rnk))
+    one.rows (let each = other.rows in by_held _ (each Con) (each Dir) (each Acc) (each Bas) (each Rnk))
 
 pub returns-clause-whole : goal.returns-clause-whole
 returns-clause-whole g c =
@@ -55,7 +56,7 @@ returns-clause-whole g c =
       | else-not-is_even w ↦ inl (search rules, search rules)
     ] in
     kept_numbers row (numbers_of c.if-not-is_even.out) c.in_ok-read_mosaic.ensures.narrow c.in_ok-read_mosaic.ensures.samples
-    (let each = c.in_ok-read_rasters.ensures.pixels in by_product (λ p. All IsPixel (of_product row.products p)) (each Con) (each Dir) (each Acc) (each Bas) (each Spl) (each Rnk)) kept
+    (let each = c.in_ok-read_rasters.ensures.pixels in by_held (λ p. All IsPixel (of_product row.products p)) (each Con) (each Dir) (each Acc) (each Bas) (each Rnk)) kept
 
 pub returns-clause-next : goal.returns-clause-next
 returns-clause-next g c =
@@ -65,4 +66,4 @@ returns-clause-next g c =
       | else-not-is_even w ↦ inl (search rules, search rules)
     ] in
     next_given g.R.ByteSource.bytes_left c.args.self.now _ c.args.tiles.now c.read_mosaic.new.tiles c.args.products.now c.read_rasters.new.products row (numbers_of c.if-not-is_even.out) kept
-    c.in_ok-read_mosaic.ensures.rows (let each = c.in_ok-read_rasters.ensures.rows in by_product _ (each Con) (each Dir) (each Acc) (each Bas) (each Spl) (each Rnk))
+    c.in_ok-read_mosaic.ensures.rows (let each = c.in_ok-read_rasters.ensures.rows in by_held _ (each Con) (each Dir) (each Acc) (each Bas) (each Rnk))
