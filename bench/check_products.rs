@@ -1,7 +1,7 @@
-//! The six products of a tile as `drain check` takes them: made from its elevations, and written with their headers.
+//! The five products of a tile as `drain check` takes them: made from its elevations, and written with their headers.
 
 use crate::flood::{Flood, VOID, flood, neighbors};
-use crate::headers::{ACC, BAS, CON, Corner, DIR, Pixels, RNK, SPL};
+use crate::headers::{ACC, BAS, CON, Corner, DIR, Pixels, RNK};
 use std::fs::{create_dir_all, write};
 use std::io;
 use std::path::Path;
@@ -15,7 +15,6 @@ pub struct Products {
     pub dir: Vec<u8>,
     pub acc: Vec<u32>,
     pub bas: Vec<u32>,
-    pub spl: Vec<u8>,
     pub rnk: Vec<u32>,
 }
 
@@ -33,15 +32,13 @@ impl Products {
             bas: vec![0; z.len()],
             z,
             con,
-            spl,
             rnk,
         };
         for cell in 0..products.z.len() {
             if products.z[cell] == VOID {
-                products.spl[cell] = 255;
                 products.rnk[cell] = u32::MAX;
             } else {
-                products.dir[cell] = products.direction(cell);
+                products.dir[cell] = products.direction(cell, spl[cell]);
             }
         }
         products.follow_directions();
@@ -49,9 +46,9 @@ impl Products {
     }
 
     /// The first of the steepest ways down; on a flat the code of the spill parent, which is 0 at open cells.
-    fn direction(&self, cell: usize) -> u8 {
+    fn direction(&self, cell: usize, parent: u8) -> u8 {
         let mut steepest = 0;
-        let mut code = self.spl[cell];
+        let mut code = parent;
         for (direction, beside) in neighbors(self.side, cell) {
             if self.z[beside] != VOID && self.con[beside] < self.con[cell] {
                 let drop = u64::from(self.con[cell].abs_diff(self.con[beside]));
@@ -112,7 +109,6 @@ impl Products {
         self.write_one(folder, &DIR, self.dir.clone())?;
         self.write_one(folder, &ACC, bytes_of_32(&self.acc))?;
         self.write_one(folder, &BAS, bytes_of_32(&self.bas))?;
-        self.write_one(folder, &SPL, self.spl.clone())?;
         self.write_one(folder, &RNK, bytes_of_32(&self.rnk))
     }
 

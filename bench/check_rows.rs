@@ -25,7 +25,6 @@ pub struct Row {
     pub dir: Vec<u32>,
     pub acc: Vec<u32>,
     pub bas: Vec<u32>,
-    pub spl: Vec<u32>,
     pub rnk: Vec<u32>,
     /// Whether one of rules 1 to 3 fails in the row, or an accumulation is large.
     pub is_odd: bool,
@@ -44,7 +43,6 @@ impl Row {
             dir: vec![0; width],
             acc: vec![0; width],
             bas: vec![0; width],
-            spl: vec![0; width],
             rnk: vec![0; width],
             is_odd: false,
             oddity: None,
@@ -72,19 +70,18 @@ impl Row {
         let side = self.side;
         let (z, con, dir) = (&self.z[1..=side], &self.con[1..=side], &self.dir[1..=side]);
         let (acc, bas) = (&self.acc[1..=side], &self.bas[1..=side]);
-        let (spl, rnk) = (&self.spl[1..=side], &self.rnk[1..=side]);
-        let [no_con, no_dir, no_acc, no_bas, no_spl, no_rnk] = NO_DATA;
+        let rnk = &self.rnk[1..=side];
+        let [no_con, no_dir, no_acc, no_bas, no_rnk] = NO_DATA;
         let mut odd = false;
         for c in 0..side {
             let blanks = u32::from(con[c] == no_con as i32)
                 + u32::from(dir[c] == no_dir as u32)
                 + u32::from(acc[c] == no_acc as u32)
                 + u32::from(bas[c] == no_bas as u32)
-                + u32::from(spl[c] == no_spl as u32)
                 + u32::from(rnk[c] == no_rnk as u32);
             let is_void = z[c] == VOID;
-            let two_bits = (dir[c] & dir[c].wrapping_sub(1)) | (spl[c] & spl[c].wrapping_sub(1));
-            odd |= blanks != if is_void { 6 } else { 0 };
+            let two_bits = dir[c] & dir[c].wrapping_sub(1);
+            odd |= blanks != if is_void { 5 } else { 0 };
             odd |= !is_void & (two_bits != 0);
             odd |= acc[c] > LARGE;
         }
@@ -93,8 +90,8 @@ impl Row {
 
     /// The first of rules 1 to 3 that fails at a place of the row.
     fn presence_fault(&self, place: usize) -> Option<Rule> {
-        let (dir, spl) = (self.dir[place], self.spl[place]);
-        let numbers = [dir, self.acc[place], self.bas[place], spl, self.rnk[place]].map(i64::from);
+        let dir = self.dir[place];
+        let numbers = [dir, self.acc[place], self.bas[place], self.rnk[place]].map(i64::from);
         let is_blank = |(number, nodata): (&i64, &i64)| number == nodata;
         let con_is_blank = i64::from(self.con[place]) == NO_DATA[0];
         let mut others = numbers.iter().zip(&NO_DATA[1..]);
@@ -104,14 +101,13 @@ impl Row {
         if con_is_blank || others.any(is_blank) {
             return Some(Rule::Missing);
         }
-        let is_code = |code: u32| code == 0 || code.is_power_of_two();
-        (!is_code(dir) || !is_code(spl)).then_some(Rule::BadCode)
+        (dir != 0 && !dir.is_power_of_two()).then_some(Rule::BadCode)
     }
 }
 
-/// The seven files, of which each call reads a row.
+/// The six files, of which each call reads a row.
 pub struct Source {
-    files: [File; 7],
+    files: [File; 6],
     bytes: Vec<u8>,
     side: usize,
 }
@@ -127,7 +123,6 @@ impl Source {
                 raster("dir")?,
                 raster("acc")?,
                 raster("bas")?,
-                raster("spl")?,
                 raster("rnk")?,
             ],
             bytes: vec![0; 4 * side],
@@ -144,8 +139,7 @@ impl Source {
         self.decode(2, &mut row.dir, byte)?;
         self.decode(3, &mut row.acc, u32::from_le_bytes)?;
         self.decode(4, &mut row.bas, u32::from_le_bytes)?;
-        self.decode(5, &mut row.spl, byte)?;
-        self.decode(6, &mut row.rnk, u32::from_le_bytes)?;
+        self.decode(5, &mut row.rnk, u32::from_le_bytes)?;
         row.settle();
         Ok(())
     }

@@ -12,7 +12,6 @@ pub const CON: Pixels = pixels("con", 16, true, -32768);
 pub const DIR: Pixels = pixels("dir", 8, false, 255);
 pub const ACC: Pixels = pixels("acc", 32, false, 0);
 pub const BAS: Pixels = pixels("bas", 32, false, 0);
-pub const SPL: Pixels = pixels("spl", 8, false, 255);
 pub const RNK: Pixels = pixels("rnk", 32, false, 4294967295);
 
 const fn pixels(name: &'static str, bits: usize, signed: bool, nodata: i64) -> Pixels {

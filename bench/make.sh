@@ -3,7 +3,7 @@
 # tiles and on tiles of sides 1201 and 3601, made-up terrain and real terrain enlarged by mirrored copies, then times all of them in turn on the large ones.
 # It exits with 1 where files differ; times never make it fail.
 #
-# All twelve files of the twin by traces are to be the program's, and those of the others each other's, with the program's con; the program's check has to
+# All ten files of the twin by traces are to be the program's, and those of the others each other's, with the program's con; the program's check has to
 # accept both kinds, with the same counts. make_and_check.sh is a twin that tests what it made, as the program does.
 #
 # Where perf is installed, it also tells the seconds that each builds, without reading, testing and writing: from samples in the functions that build
@@ -41,7 +41,7 @@ same() {
 # Usage: compare SIDE TILE
 differ=0
 compare() {
-    local program line accepted wanted="made rows=$1 cols=$1" files=({con,dir,acc,bas,spl,rnk}.{hdr,bil})
+    local program line accepted wanted="made rows=$1 cols=$1" files=({con,dir,acc,bas,rnk}.{hdr,bil})
     for program in "$drain" "${twins[@]}"; do
         mkdir -p "$scratch/${program##*/}"
         line=$("$program" make --side "$1" --out "$scratch/${program##*/}" "$2") || true

@@ -36,7 +36,6 @@ product con 16 SIGNEDINT
 product dir 8 UNSIGNEDINT
 product acc 32 UNSIGNEDINT
 product bas 32 UNSIGNEDINT
-product spl 8 UNSIGNEDINT
 product rnk 32 UNSIGNEDINT
 
 words=(check --side "$side" --products "$scratch" "${tiles[@]}")

@@ -2,8 +2,6 @@
 //! tells the values at a cell. What makes a patch and reads it is inlined by force: left to itself, rustc makes calls of it,
 //! and the twins far slower.
 
-use crate::rules::Rule;
-
 /// The sample of a void.
 pub const VOID: i16 = -32768;
 
@@ -181,34 +179,4 @@ pub trait Values {
             None
         }
     }
-}
-
-/// The first of rules 4 to 9 that fails at the cell, none where they all hold. A void keeps them all.
-#[inline(always)]
-pub fn surface_fault(patch: &Patch) -> Option<Rule> {
-    let here = &patch.here;
-    let ground = i64::from(here.z?);
-    if here.con < ground {
-        return Some(Rule::BelowGround);
-    }
-    if patch.is_open() {
-        if here.con != ground || here.spl != 0 {
-            return Some(Rule::OpenRaised);
-        }
-    } else {
-        let Some(direction) = Direction::from_code(here.spl) else {
-            return Some(Rule::NoSpill);
-        };
-        let parent = patch.neighbor(direction)?;
-        if here.con != ground.max(parent.con) {
-            return Some(Rule::SpillHeight);
-        }
-        if parent.rnk >= here.rnk {
-            return Some(Rule::SpillRank);
-        }
-    }
-    if here.con > ground && patch.has_lower() {
-        return Some(Rule::NotLeast);
-    }
-    None
 }

@@ -6,8 +6,8 @@ use std::io;
 use std::path::{Path, PathBuf};
 use std::process::ExitCode;
 
-/// The numbers that stand for no data, in the order con, dir, acc, bas, spl, rnk.
-pub const NO_DATA: [i64; 6] = [-32768, 255, 0, 0, 255, 4294967295];
+/// The numbers that stand for no data, in the order con, dir, acc, bas, rnk.
+pub const NO_DATA: [i64; 5] = [-32768, 255, 0, 0, 4294967295];
 
 /// How many cells have data, are raised, and are outlets.
 #[derive(Clone, Copy, Default)]

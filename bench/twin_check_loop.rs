@@ -1,5 +1,5 @@
 //! A twin of `drain check` as a fast plain loop: no patches, and no raster in memory. Three decoded rows of each file roll
-//! over the tile, with voids around them for what is outside. Rules 1 to 14 are tested for a block of cells without a branch,
+//! over the tile, with voids around them for what is outside. All rules but the last are tested for a block of cells without a branch,
 //! in numbers of 32 bits that the compiler takes four at a time. Only a row with a fault is looked at again, cell by cell.
 
 mod check_rows;
@@ -62,7 +62,7 @@ struct Window {
 }
 
 impl Window {
-    /// Whether rules 1 to 14 hold along the row; false also where it must be looked at cell by cell.
+    /// Whether all rules but SharedLabel hold along the row; false also where it must be looked at cell by cell.
     fn holds(&self) -> bool {
         let mut blocks = (0..self.side).step_by(BLOCK);
         !self.rows.iter().any(|row| row.is_odd)
@@ -71,37 +71,24 @@ impl Window {
             })
     }
 
-    /// Rules 4 to 9, at the cells of a block.
+    /// Rules 4, 5 and 9, at the cells of a block.
     fn surface_holds(&self, start: usize) -> bool {
         let here = &self.rows[1];
         let (z, con) = (block(&here.z, start + 1), block(&here.con, start + 1));
-        let (spl, rnk) = (block(&here.spl, start + 1), block(&here.rnk, start + 1));
         let (mut least_z, mut least_con) = ([i32::MAX; BLOCK], [i32::MAX; BLOCK]);
-        let (mut parent_con, mut parent_rank) = ([0; BLOCK], [0; BLOCK]);
-        for (bit, (down, right)) in STEPS.into_iter().enumerate() {
+        for (down, right) in STEPS {
             let row = &self.rows[down];
             let (zs, cons) = (block(&row.z, start + right), block(&row.con, start + right));
-            let ranks = block(&row.rnk, start + right);
             for c in 0..BLOCK {
-                let named = mask(spl[c] == 1 << bit);
                 least_z[c] = least_z[c].min(zs[c]);
                 least_con[c] = least_con[c].min(cons[c]);
-                parent_con[c] |= named as i32 & cons[c];
-                parent_rank[c] |= named & ranks[c];
             }
         }
         let mut bad = false;
         for c in 0..BLOCK {
-            let open_holds = (con[c] == z[c]) & (spl[c] == 0);
-            let to_parent = con[c] == z[c].max(parent_con[c]);
-            let closed_holds = (spl[c] != 0) & to_parent & (parent_rank[c] < rnk[c]);
-            let holds = if least_z[c] == VOID {
-                open_holds
-            } else {
-                closed_holds
-            };
+            let open_holds = (least_z[c] != VOID) | (con[c] == z[c]);
             let is_least = (con[c] >= z[c]) & (con[c] <= z[c].max(least_con[c]));
-            bad |= (z[c] != VOID) & !(holds & is_least);
+            bad |= (z[c] != VOID) & !(open_holds & is_least);
         }
         !bad
     }
@@ -201,7 +188,7 @@ impl Window {
         }
     }
 
-    /// The first of rules 1 to 14 that fails at a cell of the row.
+    /// The first rule that fails at a cell of the row, SharedLabel left out.
     fn fault(&self, col: usize) -> Option<Rule> {
         let here = &self.rows[1];
         match here.oddity {
@@ -218,23 +205,12 @@ impl Window {
 
     fn surface_fault(&self, col: usize, is_open: bool) -> Option<Rule> {
         let here = &self.rows[1];
-        let (z, con, spl) = (here.z[col + 1], here.con[col + 1], here.spl[col + 1]);
+        let (z, con) = (here.z[col + 1], here.con[col + 1]);
         if con < z {
             return Some(Rule::BelowGround);
         }
-        if is_open && (con != z || spl != 0) {
+        if is_open && con != z {
             return Some(Rule::OpenRaised);
-        }
-        if !is_open {
-            let Some((row, place)) = self.named(col, spl) else {
-                return Some(Rule::NoSpill);
-            };
-            if con != z.max(row.con[place]) {
-                return Some(Rule::SpillHeight);
-            }
-            if row.rnk[place] >= here.rnk[col + 1] {
-                return Some(Rule::SpillRank);
-            }
         }
         let is_lower = |(row, place): (&Row, usize)| con > z.max(row.con[place]);
         let not_least = (0..8)

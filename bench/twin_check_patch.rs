@@ -1,12 +1,12 @@
 //! A twin of `drain check` in plain Rust and in the same shape: each raster is read whole and decoded into a vector of i64,
-//! each cell's patch (its values and those of its eight neighbours) is made by value, and the fifteen rules are tested on it,
+//! each cell's patch (its values and those of its eight neighbours) is made by value, and the rules are tested on it,
 //! with a set of labels for the last. It shows what the shape costs where nothing is proved.
 
 mod patches;
 mod rules;
 mod twin_check_io;
 
-use patches::{Cell, CellValues, Direction, Patch, VOID, Values, surface_fault};
+use patches::{Cell, CellValues, Direction, Patch, VOID, Values};
 use rules::Rule;
 use std::collections::HashSet;
 use std::fs::read;
@@ -23,7 +23,6 @@ struct Products {
     dir: Vec<i64>,
     acc: Vec<i64>,
     bas: Vec<i64>,
-    spl: Vec<i64>,
     rnk: Vec<i64>,
 }
 
@@ -39,7 +38,6 @@ impl Products {
             dir: decode(&files.raster("dir"), byte)?,
             acc: decode(&files.raster("acc"), unsigned)?,
             bas: decode(&files.raster("bas"), unsigned)?,
-            spl: decode(&files.raster("spl"), byte)?,
             rnk: decode(&files.raster("rnk"), unsigned)?,
         };
         let cells = files.side as usize * files.side as usize;
@@ -49,7 +47,6 @@ impl Products {
             products.dir.len(),
             products.acc.len(),
             products.bas.len(),
-            products.spl.len(),
             products.rnk.len(),
         ];
         if lengths.iter().any(|&length| length != cells) {
@@ -77,6 +74,7 @@ impl Values for Products {
         self.side
     }
 
+    /// A check has no spill parents: they are 0.
     #[inline(always)]
     fn values(&self, cell: Cell) -> CellValues {
         let index = cell.row as usize * self.side as usize + cell.col as usize;
@@ -87,13 +85,13 @@ impl Values for Products {
             dir: self.dir[index],
             acc: self.acc[index],
             bas: self.bas[index],
-            spl: self.spl[index],
+            spl: 0,
             rnk: self.rnk[index],
         }
     }
 }
 
-/// The first of rules 1 to 14 that fails at the cell, none where they all hold.
+/// The first rule that fails at the cell, none where they all hold; SharedLabel is left out.
 #[inline(always)]
 fn fault(patch: &Patch) -> Option<Rule> {
     presence_fault(&patch.here)
@@ -106,7 +104,7 @@ fn fault(patch: &Patch) -> Option<Rule> {
 
 #[inline(always)]
 fn presence_fault(here: &CellValues) -> Option<Rule> {
-    let numbers = [here.con, here.dir, here.acc, here.bas, here.spl, here.rnk];
+    let numbers = [here.con, here.dir, here.acc, here.bas, here.rnk];
     let mut pairs = numbers.iter().zip(&NO_DATA);
     if here.z.is_none() {
         return (!pairs.all(|(number, nodata)| number == nodata)).then_some(Rule::VoidCell);
@@ -114,8 +112,22 @@ fn presence_fault(here: &CellValues) -> Option<Rule> {
     if pairs.any(|(number, nodata)| number == nodata) {
         return Some(Rule::Missing);
     }
-    let is_code = |number: i64| number == 0 || Direction::from_code(number).is_some();
-    (!is_code(here.dir) || !is_code(here.spl)).then_some(Rule::BadCode)
+    let is_code = here.dir == 0 || Direction::from_code(here.dir).is_some();
+    (!is_code).then_some(Rule::BadCode)
+}
+
+/// The first of rules 4, 5 and 9 that fails at the cell.
+#[inline(always)]
+fn surface_fault(patch: &Patch) -> Option<Rule> {
+    let con = patch.here.con;
+    let ground = i64::from(patch.here.z?);
+    if con < ground {
+        return Some(Rule::BelowGround);
+    }
+    if con > ground && patch.is_open() {
+        return Some(Rule::OpenRaised);
+    }
+    (con > ground && patch.has_lower()).then_some(Rule::NotLeast)
 }
 
 /// The key of the way down in this direction, 0 where no neighbour there is lower.

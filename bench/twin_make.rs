@@ -1,4 +1,4 @@
-//! The twin of `drain make`, as one writes it in plain Rust: reads one tile, makes its six products and writes them with their
+//! The twin of `drain make`, as one writes it in plain Rust: reads one tile, makes its five products and writes them with their
 //! headers. It tests nothing.
 //!
 //! It is built once for each shape of the flood, by `--cfg flood="NAME"`: `flood_by_NAME.rs`. Traces are the program's own shape, and with them both write
@@ -17,7 +17,7 @@ mod headers;
 #[cfg_attr(flood = "heap", path = "flood_by_heap.rs")]
 mod twin_flood;
 
-use headers::{ACC, BAS, CON, Corner, DIR, Pixels, RNK, SPL};
+use headers::{ACC, BAS, CON, Corner, DIR, Pixels, RNK};
 use std::fs::{File, read, write};
 use std::io::{self, BufWriter, Write};
 use std::path::{Path, PathBuf};
@@ -64,7 +64,7 @@ impl Terrain {
     }
 }
 
-/// What the flood finds.
+/// What the flood finds: conditioned elevations, codes of spill parents, and the steps along these to an open cell.
 struct Flood {
     con: Vec<i16>,
     spl: Vec<u8>,
@@ -248,7 +248,6 @@ struct Products {
     dir: Vec<u8>,
     acc: Vec<u32>,
     bas: Vec<u32>,
-    spl: Vec<u8>,
     rnk: Vec<u32>,
 }
 
@@ -262,7 +261,6 @@ fn products(terrain: &Terrain) -> Products {
         bas: labels(terrain, &dir),
         con,
         dir,
-        spl,
         rnk,
     }
 }
@@ -274,7 +272,6 @@ fn make(terrain: &Terrain, output: &Output) -> io::Result<()> {
     output.write(&DIR, &made.dir, u8::to_le_bytes)?;
     output.write(&ACC, &made.acc, u32::to_le_bytes)?;
     output.write(&BAS, &made.bas, u32::to_le_bytes)?;
-    output.write(&SPL, &made.spl, u8::to_le_bytes)?;
     output.write(&RNK, &made.rnk, u32::to_le_bytes)
 }
 

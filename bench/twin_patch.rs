@@ -6,7 +6,8 @@ mod patches;
 mod rules;
 mod twin_io;
 
-use patches::{Cell, CellValues, VOID, Values, surface_fault};
+use patches::{Cell, CellValues, Direction, Patch, VOID, Values};
+use rules::Rule;
 use std::process::ExitCode;
 use twin_io::Verdict;
 
@@ -54,6 +55,36 @@ impl Values for FillInput<'_> {
             rnk: i64::from(u32::from_be_bytes(self.at(5 * self.cells + 4 * index))),
         }
     }
+}
+
+/// The first of rules 4 to 9 that fails at the cell, none where they all hold. A void keeps them all.
+#[inline(always)]
+fn surface_fault(patch: &Patch) -> Option<Rule> {
+    let here = &patch.here;
+    let ground = i64::from(here.z?);
+    if here.con < ground {
+        return Some(Rule::BelowGround);
+    }
+    if patch.is_open() {
+        if here.con != ground || here.spl != 0 {
+            return Some(Rule::OpenRaised);
+        }
+    } else {
+        let Some(direction) = Direction::from_code(here.spl) else {
+            return Some(Rule::NoSpill);
+        };
+        let parent = patch.neighbor(direction)?;
+        if here.con != ground.max(parent.con) {
+            return Some(Rule::SpillHeight);
+        }
+        if parent.rnk >= here.rnk {
+            return Some(Rule::SpillRank);
+        }
+    }
+    if here.con > ground && patch.has_lower() {
+        return Some(Rule::NotLeast);
+    }
+    None
 }
 
 /// Tests the rules at each cell in row order, one patch at a time.

@@ -29,7 +29,7 @@ show() {
 
 tile=samples/N36W085.hgt
 mkdir products
-show 'Real terrain, the Jacksboro fault in Tennessee: six products are made of its tile' \
+show 'Real terrain, the Jacksboro fault in Tennessee: five products are made of its tile' \
     'made rows=344 cols=344' /dev/null make --side 344 --out products $tile
 show 'They are checked against the tile: all rules hold' \
     'accepted rows=344 cols=344 data=118336 raised=5200 outlets=115' /dev/null check --side 344 --products products $tile

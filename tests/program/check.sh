@@ -28,8 +28,8 @@ make_pit() {
     printf '\0\5\0\5\0\5\0\5\0\1\0\5\0\5\0\5\0\5' >"$tile"
     header_of 16 SIGNEDINT >"$check/out/con.hdr"
     numbers 2 5 5 5 5 5 5 5 5 5 >"$check/out/con.bil"
-    header_of 8 '' | tee "$check/out/dir.hdr" >"$check/out/spl.hdr"
-    numbers 1 0 0 0 0 1 0 0 0 0 | tee "$check/out/dir.bil" >"$check/out/spl.bil"
+    header_of 8 '' >"$check/out/dir.hdr"
+    numbers 1 0 0 0 0 1 0 0 0 0 >"$check/out/dir.bil"
     header_of 32 '' | tee "$check/out/acc.hdr" "$check/out/bas.hdr" >"$check/out/rnk.hdr"
     numbers 4 1 1 1 1 1 2 1 1 1 >"$check/out/acc.bil"
     numbers 4 1 2 3 4 5 5 6 7 8 >"$check/out/bas.bil"
@@ -66,7 +66,49 @@ judge_check 'a short tile named in small letters' 2 'refused BadTileLength N00E0
 # Rejections.
 make_pit
 numbers 4 0 0 0 0 0 0 0 0 0 >"$check/out/rnk.bil"
-judge_pit 'rank 0 in the pit' 1 'rejected rule=8 SpillRank row=1 col=1'
+judge_pit 'rank 0 in the pit' 1 'rejected rule=12 FlatStep row=1 col=1'
+make_pit
+numbers 1 0 0 0 0 0 0 0 0 0 >"$check/out/dir.bil"
+judge_pit 'no way out of the pit' 1 'rejected rule=12 FlatStep row=1 col=1'
+
+# A basin raised to the highest of the cells around it, with directions, sums and labels that are right for that surface.
+make_pit
+printf '\0\5\0\5\0\5\0\5\0\1\0\7\0\5\0\5\0\5' >"$tile"
+numbers 2 5 5 5 5 7 7 5 5 5 >"$check/out/con.bil"
+numbers 1 0 0 0 0 4 4 0 0 0 >"$check/out/dir.bil"
+numbers 4 1 1 1 1 1 1 1 2 2 >"$check/out/acc.bil"
+numbers 4 1 2 3 4 6 7 5 6 7 >"$check/out/bas.bil"
+numbers 4 0 0 0 0 0 0 0 0 0 >"$check/out/rnk.bil"
+judge_pit 'a pit raised too high' 1 'rejected rule=9 NotLeast row=1 col=1'
+
+# Spill parents, which `drain fill` alone asks for, may lie in the folder: whatever stands there isn't opened.
+put_spill_parents() {
+    local hdr=$check/out/spl.hdr bil=$check/out/spl.bil
+    case $1 in
+        'as they should be') header_of 8 '' >"$hdr" && numbers 1 0 0 0 0 1 0 0 0 0 >"$bil" ;;
+        'that are no codes') header_of 8 '' >"$hdr" && numbers 1 3 3 3 3 3 3 3 3 3 >"$bil" ;;
+        'that are all no data') header_of 8 '' >"$hdr" && printf '\xff%.0s' 1 2 3 4 5 6 7 8 9 >"$bil" ;;
+        'without a raster') header_of 8 '' >"$hdr" ;;
+        'without a header') numbers 1 0 0 0 0 1 0 0 0 0 >"$bil" ;;
+        'in a short raster') header_of 8 '' >"$hdr" && numbers 1 0 0 0 0 >"$bil" ;;
+        'of another place') header_of 8 '' 9 >"$hdr" && numbers 1 0 0 0 0 1 0 0 0 0 >"$bil" ;;
+        'in empty files') : >"$hdr" && : >"$bil" ;;
+        'in words that are no header') echo 'NROWS none' >"$hdr" && echo none >"$bil" ;;
+        'in folders') mkdir "$hdr" "$bil" ;;
+        'in links to nothing') ln -s none "$hdr" && ln -s none "$bil" ;;
+        'in pipes that nobody writes') mkfifo "$hdr" "$bil" ;;
+    esac
+}
+for what in 'as they should be' 'that are no codes' 'that are all no data' 'without a raster' 'without a header' 'in a short raster' \
+    'of another place' 'in empty files' 'in words that are no header' 'in folders' 'in links to nothing' 'in pipes that nobody writes'; do
+    make_pit
+    put_spill_parents "$what"
+    judge_pit "spill parents $what" 0 "$pit_checked"
+    numbers 4 0 0 0 0 0 0 0 0 0 >"$check/out/rnk.bil"
+    judge_pit "spill parents $what, and rank 0 in the pit" 1 'rejected rule=12 FlatStep row=1 col=1'
+    rm "$check/out/rnk.bil"
+    judge_pit "spill parents $what, and no ranks" 3 "failed Open $check/out/rnk.bil"
+done
 
 # Headers.
 make_pit
@@ -117,7 +159,7 @@ judge_check 'two tiles that differ at a cell' 2 'refused SeamMismatch row=0 col=
 judge_check 'tiles too far apart' 2 'refused BoxTooLarge' --side 2 --products "$check/out" "$tile" "$check/N00E008.hgt"
 
 # Files that are not there: each is opened before anything is refused, the tiles first, and of each product its header first.
-for name in N00E000.hgt out/{con,dir,acc,bas,spl,rnk}.{hdr,bil}; do
+for name in N00E000.hgt out/{con,dir,acc,bas,rnk}.{hdr,bil}; do
     make_pit
     rm "$check/$name"
     judge_pit "without $name" 3 "failed Open $check/$name"
@@ -137,7 +179,7 @@ judge_check 'no folder of products' 3 "failed Open $check/none/con.hdr" --side 3
 # The files of products are opened one after the other: each is the first that is told as long as it isn't there.
 make_pit
 mkdir "$check/filling"
-for name in {con,dir,acc,bas,spl,rnk}.{hdr,bil}; do
+for name in {con,dir,acc,bas,rnk}.{hdr,bil}; do
     judge_check "a folder filled up to $name" 3 "failed Open $check/filling/$name" --side 3 --products "$check/filling" "$tile"
     cp "$check/out/$name" "$check/filling/$name"
 done

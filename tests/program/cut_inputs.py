@@ -15,8 +15,8 @@ import tempfile
 from fractions import Fraction
 from pathlib import Path
 
-FORMS = {"con": "h", "dir": "B", "acc": "I", "bas": "I", "spl": "B", "rnk": "I"}
-NO_DATA = {"con": -32768, "dir": 255, "acc": 0, "bas": 0, "spl": 255, "rnk": 4294967295}
+FORMS = {"con": "h", "dir": "B", "acc": "I", "bas": "I", "rnk": "I"}
+NO_DATA = {"con": -32768, "dir": 255, "acc": 0, "bas": 0, "rnk": 4294967295}
 NEEDED = ["NROWS", "NCOLS", "ULXMAP", "ULYMAP", "XDIM", "YDIM"]
 DECIMALS = NEEDED[2:] + ["NODATA"]
 NUMBERS = ["NROWS", "NCOLS", "NBANDS", "NBITS", "SKIPBYTES", "BANDROWBYTES", "TOTALROWBYTES"]
@@ -46,9 +46,9 @@ class Example:
 
 VOIDS = Example(2, "accepted rows=2 cols=2 data=0 raised=0 outlets=0", [-32768] * 4, **{product: [NO_DATA[product]] * 4 for product in FORMS})
 PIT = Example(3, "accepted rows=3 cols=3 data=9 raised=1 outlets=8", [5, 5, 5, 5, 1, 5, 5, 5, 5], con=[5] * 9, dir=[0, 0, 0, 0, 1, 0, 0, 0, 0],
-              acc=[1, 1, 1, 1, 1, 2, 1, 1, 1], bas=[1, 2, 3, 4, 5, 5, 6, 7, 8], spl=[0, 0, 0, 0, 1, 0, 0, 0, 0], rnk=[0, 0, 0, 0, 1, 0, 0, 0, 0])
+              acc=[1, 1, 1, 1, 1, 2, 1, 1, 1], bas=[1, 2, 3, 4, 5, 5, 6, 7, 8], rnk=[0, 0, 0, 0, 1, 0, 0, 0, 0])
 SLOPE = Example(4, "accepted rows=4 cols=4 data=16 raised=0 outlets=4", [4, 3, 2, 1] * 4, con=[4, 3, 2, 1] * 4, dir=[1, 1, 1, 0] * 4,
-                acc=[1, 2, 3, 4] * 4, bas=[1] * 4 + [2] * 4 + [3] * 4 + [4] * 4, spl=[0] * 4 + [0, 1, 1, 0] * 2 + [0] * 4, rnk=[3, 2, 1, 0] * 4)
+                acc=[1, 2, 3, 4] * 4, bas=[1] * 4 + [2] * 4 + [3] * 4 + [4] * 4, rnk=[3, 2, 1, 0] * 4)
 
 
 def is_bad(keyword, value):

@@ -15,7 +15,7 @@ import sys
 import tempfile
 from pathlib import Path
 
-PRODUCTS = ["con", "dir", "acc", "bas", "spl", "rnk"]
+PRODUCTS = ["con", "dir", "acc", "bas", "rnk"]
 FILES = [f"{product}.{part}" for product in PRODUCTS for part in ("hdr", "bil")]
 PIT = Path(__file__).resolve().parents[2] / "samples"
 MOST_SECONDS = 120

@@ -3,7 +3,7 @@
 work=$scratch/make
 made=$work/out
 ground=$work/N00E000.hgt
-files=$(echo {con,dir,acc,bas,spl,rnk}.{hdr,bil})
+files=$(echo {con,dir,acc,bas,rnk}.{hdr,bil})
 
 # A tile's bytes of these heights from 0 to 255, each - a void.
 heights() {
@@ -61,7 +61,7 @@ judge_pit_files 'a pit' "$made"
 numbers 2 5 5 5 5 5 5 5 5 5 | judge_file 'a pit, number by number' "$made/con.bil"
 ls -A "$made" >"$scratch/out"
 printf '%s\n' $files | LC_ALL=C sort >"$scratch/want"
-judge 'twelve files and no other' 0 "$scratch/want" 0
+judge 'ten files and no other' 0 "$scratch/want" 0
 judge_check 'the products made of a pit' 0 "$pit_checked" --side 3 --products "$made" "$ground"
 
 # The words in any order, and names in any letter case.
@@ -95,6 +95,19 @@ done
 judge_make 'made over longer files' 0 "$pit_made" --side 3 --out "$made" "$ground"
 judge_pit_files 'made over longer files' "$made"
 
+# Files of spill parents that were there before stay as they are: the maker writes none.
+make_ground
+echo 'of before' | tee "$made/spl.hdr" >"$made/spl.bil"
+judge_make 'made beside spill parents' 0 "$pit_made" --side 3 --out "$made" "$ground"
+judge_pit_files 'made beside spill parents' "$made"
+for name in spl.hdr spl.bil; do
+    echo 'of before' | judge_file 'made beside spill parents' "$made/$name"
+done
+make_ground
+mkfifo "$made/spl.hdr" "$made/spl.bil"
+judge_make 'made beside pipes for spill parents' 0 "$pit_made" --side 3 --out "$made" "$ground"
+judge_check 'the products made beside pipes for spill parents' 0 "$pit_checked" --side 3 --products "$made" "$ground"
+
 # Real terrain, judged by another program too, with the counts that another maker's products of it have.
 real=samples/N36W085.hgt
 make_ground
@@ -123,7 +136,7 @@ PYTHON
 judge_make 'real terrain, lowered to the sea' 0 'made rows=344 cols=344' --side 344 --out "$made" "$work/lowered/N36W085.hgt"
 judge_check 'products made of lowered terrain' 0 "$real_checked" --side 344 --products "$made" "$work/lowered/N36W085.hgt"
 "$drain" make --side 344 --out "$work/lowered" "$real" >"$scratch/out" 2>"$scratch/err"
-for name in dir acc bas spl rnk; do
+for name in dir acc bas rnk; do
     judge_file 'lowered terrain' "$made/$name.bil" <"$work/lowered/$name.bil"
 done
 
@@ -181,7 +194,7 @@ heights - - - - >"$ground"
 judge_make 'voids alone' 0 'made rows=2 cols=2' --side 2 --out "$made" "$ground"
 judge_check 'products of voids alone' 0 'accepted rows=2 cols=2 data=0 raised=0 outlets=0' --side 2 --products "$made" "$ground"
 printf '\0\x80\0\x80\0\x80\0\x80' | judge_file 'voids alone' "$made/con.bil"
-for name in dir spl; do printf '\xff\xff\xff\xff' | judge_file 'voids alone' "$made/$name.bil"; done
+printf '\xff\xff\xff\xff' | judge_file 'voids alone' "$made/dir.bil"
 for name in acc bas; do numbers 4 0 0 0 0 | judge_file 'voids alone' "$made/$name.bil"; done
 head -c 16 /dev/zero | tr '\0' '\377' | judge_file 'voids alone' "$made/rnk.bil"
 

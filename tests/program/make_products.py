@@ -1,7 +1,7 @@
 #!/usr/bin/env python3
-"""Makes the six products of one tile, or judges such products: slow and plain, for sides up to about 400.
+"""Makes the five products of one tile, or judges such products: slow and plain, for sides up to about 400.
 
-make_products.py [--sinks LIST] SIDE TILE FOLDER             writes con, dir, acc, bas, spl and rnk, each a .hdr and a .bil
+make_products.py [--sinks LIST] SIDE TILE FOLDER             writes con, dir, acc, bas and rnk, each a .hdr and a .bil
 make_products.py --verify [--sinks LIST] SIDE TILE FOLDER    prints the line that `drain check` owes to these rasters
 
 LIST is a file of lines ROW COL, each a data cell that is open too.
@@ -25,7 +25,6 @@ PRODUCTS = [
     ("dir", 8, False, "B", 255),
     ("acc", 32, False, "I", 0),
     ("bas", 32, False, "I", 0),
-    ("spl", 8, False, "B", 255),
     ("rnk", 32, False, "I", 4294967295),
 ]
 
@@ -73,13 +72,13 @@ def key(code, drop):
 
 
 def flood(terrain):
-    """con, spl and rnk: a cell's rank is how many cells the flood visited before it."""
+    """con, the code of the way back over which the flood came (0 at open cells), and rnk: how many cells the flood visited before."""
     cells = terrain.side * terrain.side
-    con, spl, rnk = list(terrain.z), [None] * cells, [None] * cells
+    con, back, rnk = list(terrain.z), [None] * cells, [None] * cells
     queue = []
     for cell in terrain.data_cells():
         if terrain.is_open(cell):
-            spl[cell] = 0
+            back[cell] = 0
             queue.append((con[cell], len(queue), cell))
     heapq.heapify(queue)
     found = len(queue)
@@ -89,30 +88,30 @@ def flood(terrain):
         rnk[cell] = visited
         visited += 1
         for code, other in terrain.data_neighbors(cell):
-            if spl[other] is None:
-                spl[other] = opposite(code)
+            if back[other] is None:
+                back[other] = opposite(code)
                 con[other] = max(terrain.z[other], level)
                 heapq.heappush(queue, (con[other], found, other))
                 found += 1
-    return con, spl, rnk
+    return con, back, rnk
 
 
-def direct(terrain, con, spl):
-    """dir: the first of the steepest ways down; on flats 0 at open cells, and else the way that the flood came."""
+def direct(terrain, con, back):
+    """dir: the first of the steepest ways down; on flats 0 at open cells, and else the way back over which the flood came."""
     dir_ = [None] * len(con)
     for cell in terrain.data_cells():
         ways = [(key(code, con[cell] - con[other]), code) for code, other in terrain.data_neighbors(cell) if con[other] < con[cell]]
         if ways:
             dir_[cell] = max(ways, key=lambda way: way[0])[1]
         else:
-            dir_[cell] = 0 if terrain.is_open(cell) else spl[cell]
+            dir_[cell] = back[cell]
     return dir_
 
 
 def make(terrain):
     """All products, None at voids. Each direction leads to a smaller rank, so ranks order both sums and labels."""
-    con, spl, rnk = flood(terrain)
-    dir_ = direct(terrain, con, spl)
+    con, back, rnk = flood(terrain)
+    dir_ = direct(terrain, con, back)
     acc, bas = [None] * len(con), [None] * len(con)
     visits = sorted(terrain.data_cells(), key=lambda cell: rnk[cell])
     outlets = [cell for cell in terrain.data_cells() if dir_[cell] == 0]
@@ -125,7 +124,7 @@ def make(terrain):
     for cell in reversed(visits):
         if dir_[cell] != 0:
             acc[terrain.beside(cell, dir_[cell])] += acc[cell]
-    return {"con": con, "dir": dir_, "acc": acc, "bas": bas, "spl": spl, "rnk": rnk}
+    return {"con": con, "dir": dir_, "acc": acc, "bas": bas, "rnk": rnk}
 
 
 # Files
@@ -186,13 +185,13 @@ def read(side, folder):
 
 
 class Rules:
-    """The fifteen rules, each a method that answers whether it holds at a cell."""
+    """The rules of a check, each a method that answers whether it holds at a cell."""
 
     def __init__(self, terrain, products):
         self.terrain = terrain
         self.products = products
         self.z = terrain.z
-        self.con, self.dir, self.acc, self.bas, self.spl, self.rnk = (products[name] for name, *_ in PRODUCTS)
+        self.con, self.dir, self.acc, self.bas, self.rnk = (products[name] for name, *_ in PRODUCTS)
         self.first_with_label = {}
         for cell in terrain.data_cells():
             if self.dir[cell] == 0:
@@ -219,25 +218,13 @@ class Rules:
         return self.z[cell] is None or not any(self.blanks(cell))
 
     def bad_code(self, cell):
-        codes = (self.dir[cell], self.spl[cell])
-        return self.z[cell] is None or all(code == 0 or code in STEPS for code in codes)
+        return self.z[cell] is None or self.dir[cell] == 0 or self.dir[cell] in STEPS
 
     def below_ground(self, cell):
         return self.z[cell] is None or self.con[cell] >= self.z[cell]
 
     def open_raised(self, cell):
-        return not self.terrain.is_open(cell) or (self.con[cell] == self.z[cell] and self.spl[cell] == 0)
-
-    def no_spill(self, cell):
-        return not self.is_closed(cell) or self.spl[cell] in STEPS
-
-    def spill_height(self, cell):
-        parent = self.named(cell, self.spl[cell]) if self.is_closed(cell) else None
-        return parent is None or self.con[cell] == max(self.z[cell], self.con[parent])
-
-    def spill_rank(self, cell):
-        parent = self.named(cell, self.spl[cell]) if self.is_closed(cell) else None
-        return parent is None or self.rnk[parent] < self.rnk[cell]
+        return not self.terrain.is_open(cell) or self.con[cell] == self.z[cell]
 
     def not_least(self, cell):
         return self.z[cell] is None or all(
@@ -273,22 +260,20 @@ class Rules:
         return self.z[cell] is None or self.dir[cell] != 0 or self.first_with_label[self.bas[cell]] == cell
 
 
+# Rules 6 to 8 are those of `drain fill` alone.
 RULES = [
-    (Rules.void_cell, "VoidCell"),
-    (Rules.missing, "Missing"),
-    (Rules.bad_code, "BadCode"),
-    (Rules.below_ground, "BelowGround"),
-    (Rules.open_raised, "OpenRaised"),
-    (Rules.no_spill, "NoSpill"),
-    (Rules.spill_height, "SpillHeight"),
-    (Rules.spill_rank, "SpillRank"),
-    (Rules.not_least, "NotLeast"),
-    (Rules.slope, "Slope"),
-    (Rules.outlet_code, "OutletCode"),
-    (Rules.flat_step, "FlatStep"),
-    (Rules.accumulation, "Accumulation"),
-    (Rules.label, "Label"),
-    (Rules.shared_label, "SharedLabel"),
+    (1, Rules.void_cell, "VoidCell"),
+    (2, Rules.missing, "Missing"),
+    (3, Rules.bad_code, "BadCode"),
+    (4, Rules.below_ground, "BelowGround"),
+    (5, Rules.open_raised, "OpenRaised"),
+    (9, Rules.not_least, "NotLeast"),
+    (10, Rules.slope, "Slope"),
+    (11, Rules.outlet_code, "OutletCode"),
+    (12, Rules.flat_step, "FlatStep"),
+    (13, Rules.accumulation, "Accumulation"),
+    (14, Rules.label, "Label"),
+    (15, Rules.shared_label, "SharedLabel"),
 ]
 
 
@@ -296,7 +281,7 @@ def verify(terrain, products):
     """The line of the verdict: the first cell in row order at which a rule fails, and the first such rule."""
     rules = Rules(terrain, products)
     for cell in range(terrain.side * terrain.side):
-        for number, (holds, name) in enumerate(RULES, 1):
+        for number, holds, name in RULES:
             if not holds(rules, cell):
                 return f"rejected rule={number} {name} row={cell // terrain.side} col={cell % terrain.side}"
     data = terrain.data_cells()

@@ -21,7 +21,6 @@ numbers 2 5 5 5 5 1 5 5 5 5 | judge_file 'a listed pit' "$made/con.bil"
 numbers 1 2 4 8 1 0 16 128 64 32 | judge_file 'a listed pit' "$made/dir.bil"
 numbers 4 1 1 1 1 9 1 1 1 1 | judge_file 'a listed pit' "$made/acc.bil"
 numbers 4 1 1 1 1 1 1 1 1 1 | judge_file 'a listed pit' "$made/bas.bil"
-numbers 1 0 0 0 0 0 0 0 0 0 | judge_file 'a listed pit' "$made/spl.bil"
 numbers 4 0 0 0 0 0 0 0 0 0 | judge_file 'a listed pit' "$made/rnk.bil"
 for name in $files; do
     case $name in *.hdr) judge_file 'a listed pit' "$made/$name" <"samples/pit-3/$name" ;; esac
@@ -29,7 +28,7 @@ done
 judge_listed 'a listed pit with its list' 0 "$sunk_checked" --sinks "$list"
 judge_listed 'a listed pit, the list behind an equals sign' 0 "$sunk_checked" --sinks="$list"
 judge_check 'a listed pit, the list behind the tile' 0 "$sunk_checked" --side 3 --products "$made" "$ground" --sinks "$list"
-judge_listed 'a listed pit without its list' 1 'rejected rule=6 NoSpill row=1 col=1'
+judge_listed 'a listed pit without its list' 1 'rejected rule=12 FlatStep row=1 col=1'
 cp -r "$made" "$scratch/listed"
 
 # Lists in other words, and what they make of the pit.
@@ -161,8 +160,8 @@ esac
 judge_check 'real terrain with its sinks' 0 "$line" --side 121 --products "$made" --sinks "$list" "$tile"
 line=$("$maker" --verify 121 "$tile" "$made")
 case $line in
-    'rejected rule=6 '*) ;;
-    *) line='rejected rule=6, and not what the other program told' ;;
+    'rejected rule=12 '*) ;;
+    *) line='rejected rule=12, and not what the other program told' ;;
 esac
 judge_check 'real terrain without its sinks' 1 "$line" --side 121 --products "$made" "$tile"
 judge_check 'real terrain filled, and sinks listed' 1 "$("$maker" --verify --sinks "$list" 121 "$tile" samples/jacksboro)" \

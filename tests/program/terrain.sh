@@ -40,28 +40,35 @@ want 'accepted rows=344 cols=344 data=118336 raised=5200 outlets=115'
 timeout 60 "$drain" check --side 344 --products "$scratch/wide" samples/N36W085.hgt </dev/null >"$scratch/out" 2>"$scratch/err"
 judge 'real terrain of side 344' 0 "$scratch/want" $?
 
+# Directions give spill parents and ranks: con is accepted with them by itself, and a metre higher at one cell it isn't.
+tools/fill_input.py 121 "$tile" "$terrain" >"$scratch/input" 2>"$scratch/err"
+want 'accepted rows=121 cols=121 data=14641 raised=690'
+timeout 20 "$drain" fill --side 121 <"$scratch/input" >"$scratch/out" 2>>"$scratch/err"
+judge 'a fill input made of directions' 0 "$scratch/want" $?
+printf '\x02\x7b' | dd of="$scratch/input" bs=1 seek=$((2 * (121 * 121 + 121 * 94 + 63))) conv=notrunc status=none
+want 'rejected rule=7 SpillHeight row=94 col=63'
+timeout 20 "$drain" fill --side 121 <"$scratch/input" >"$scratch/out" 2>"$scratch/err"
+judge 'a fill input made of directions, a metre too high' 1 "$scratch/want" $?
+
 # One number changed: the rule that is to fail first, the file, its bytes a number, the cell, and the bytes put there.
 changes='
 1  N36W085.hgt 2   0   0 \x80\x00
 2  dir.bil     1  55  84 \xff
 2  acc.bil     4  55  84 \x00\x00\x00\x00
 2  bas.bil     4  94  63 \x00\x00\x00\x00
+2  rnk.bil     4  94  63 \xff\xff\xff\xff
 3  dir.bil     1  55  84 \x03
-3  spl.bil     1  94  63 \x05
 4  con.bil     2  94  63 \x79\x02
 5  con.bil     2   0  73 \x1c\x02
-5  spl.bil     1   0  73 \x01
-6  spl.bil     1  94  63 \x00
-7  con.bil     2  94  63 \x7b\x02
-7  spl.bil     1  94  63 \x01
-8  rnk.bil     4  94  63 \x00\x00\x00\x00
-8  spl.bil     1  65   1 \x01
+9  con.bil     2  94  63 \x7b\x02
 9  con.bil     2  74  89 \x43\x01
 10 con.bil     2  55  84 \x47\x01
 10 dir.bil     1  55  84 \x00
 11 dir.bil     1   0  80 \x01
 11 con.bil     2   0 116 \xce\x01
 12 dir.bil     1  62  93 \x00
+12 dir.bil     1  62  93 \x08
+12 rnk.bil     4  62  93 \x00\x00\x00\x00
 13 acc.bil     4  94  63 \x05\x00\x00\x00
 13 dir.bil     1  94  63 \x00
 14 bas.bil     4  94  63 \x11\x00\x00\x00
@@ -79,3 +86,12 @@ while read -r rule file size row col bytes; do
         *) cp "$scratch/want" "$scratch/out" && want "rejected rule=$rule" && judge "$name, by the other program" 0 "$scratch/want" 0 ;;
     esac
 done <<<"$changes"
+
+# A rank off flats is compared with no other where no flat leads to its cell: any number but that for no data will do.
+changed=$scratch/changed
+rm -rf "$changed" && cp -r "$terrain" "$changed" && chmod -R u+w "$changed"
+head -c 4 /dev/zero | dd of="$changed/rnk.bil" bs=1 seek=$((4 * (121 * 94 + 63))) conv=notrunc status=none
+want 'accepted rows=121 cols=121 data=14641 raised=690 outlets=32'
+"$maker" --verify 121 "$tile" "$changed" >"$scratch/out" 2>"$scratch/err"
+judge 'a rank off flats, by the other program' 0 "$scratch/want" $?
+check_terrain 'a rank off flats' 0 "$tile" "$changed"
