@@ -1,5 +1,6 @@
 mod WorkedDefinitions
 mod WorkedRules
+pub mod Alike
 pub mod AllRules
 pub mod Basins
 pub mod Bounds
@@ -9,10 +10,14 @@ pub mod Chains
 pub mod Codes
 pub mod Decisions
 pub mod Directions
+pub mod EndedRuns
+pub mod Exactly
+pub mod FromCorrect
 pub mod Inflows
 pub mod Least
 pub mod LeastFaults
 pub mod LineRuns
+pub mod Lowered
 pub mod NamedNeighbors
 pub mod NarrowNumbers
 pub mod Neighbors
@@ -25,6 +30,7 @@ pub mod Patches
 pub mod PresenceFaults
 pub mod Profiles
 pub mod WorkedGrids
+pub mod Ranks
 pub mod RowCopies
 pub mod RuleDecisions
 pub mod RuleNumbers
@@ -39,3 +45,5 @@ pub mod SinkSearch
 pub mod Steps
 pub mod Tallies
 pub mod Upstream
+pub mod Walks
+pub mod WithoutRanks

@@ -114,7 +114,7 @@ handed_sum g ps c f xs =
     (λ d. share_sum g ps (step g.extent c d) d f xs)
 
 -- the sum that rule 13 takes
-handed_total : (g : Grid) (ps : Products) (c : Cell) (f : Cell → ℕ) →
+pub handed_total : (g : Grid) (ps : Products) (c : Cell) (f : Cell → ℕ) →
     ((d : Direction) (m : Cell) → FlowsFrom g ps c d m → ps.acc m ≡ pos (f m)) →
     total (map (λ d. inflow (neighbor (patch_at g ps c) d) d) directions) ≡ pos (handed_on g ps c f)
 unfolding handed_on

@@ -1,15 +1,17 @@
 -- What the local rules say of the whole grid.
-use Rattle.std.specs.Prelude.{◌≡◌, pos, ◌↔◌, IsTrue, option_map}
+use Rattle.std.specs.Prelude.{◌≡◌, ℤ, pos, ◌↔◌, IsTrue, option_map}
 use Rattle.drain_grid.specs.declared.cell.Cell.{Cell}
 use Rattle.drain_grid.specs.Values.{NoDataNumbers}
 use Rattle.drain_grid.specs.declared.direction.Direction.{Direction}
 use Rattle.drain_grid.specs.declared.rule.Rule.{Rule}
 use Rattle.drain_grid.specs.Extent.{step}
 use Rattle.drain_grid.specs.Open.{IsGap}
-use Rattle.drain_grid.specs.Grid.{Grid, Products, HasData, IsOpenCell}
+use Rattle.drain_grid.specs.Grid.{Grid, Products, IsInside, HasData, IsOpenCell}
 use Rattle.drain_grid.specs.Path.{IsFilled}
-use Rattle.drain_grid.specs.Run.{upstream_count, ShareBasin}
+use Rattle.drain_grid.specs.Run.{RunEnds, upstream_count, ShareBasin}
 use Rattle.drain_grid.specs.Rule.{IsAnyRule, IsFillRule, IsWayRule, IsCountRule, IsLabelRule}
+use Rattle.drain_grid.specs.Unranked.{unranked}
+use Rattle.drain_grid.specs.Certificate.{RanksAreSteps, with_ranks, with_rank_nodata}
 use Rattle.drain_grid.specs.PatchRules.{check_rules, fill_rules, flow_rules, profile1, profile2, surface_rules}
 use Rattle.drain_grid.specs.GridRules.{HoldsAt, RulesHold}
 use Rattle.drain_grid.specs.Correct.{RunsAreSound, IsCorrect}
@@ -51,6 +53,32 @@ abbrev pub CorrectFromRules : Type 0
 CorrectFromRules =
     (g : Grid) (ps : Products) (nodata : NoDataNumbers) → RulesHold (check_rules nodata) IsAnyRule g ps →
     IsCorrect g ps nodata × RunsAreSound g ps
+
+-- the converse: where the products are correct and each rank is the number of steps of the cell's run, every rule holds at every cell
+abbrev pub RulesFromCorrect : Type 0
+RulesFromCorrect =
+    (g : Grid) (ps : Products) (nodata : NoDataNumbers) → IsCorrect g ps nodata → RanksAreSteps g ps nodata →
+    RulesHold (check_rules nodata) IsAnyRule g ps
+
+-- where every run ends and each rank is the number of its cell's steps, a rule holds at a cell exactly where it holds without ranks
+abbrev pub RanksPlayNoPart : Type 0
+RanksPlayNoPart =
+    (g : Grid) (ps : Products) (nodata : NoDataNumbers) → ((c : Cell) → HasData g c → RunEnds g ps c) → RanksAreSteps g ps nodata →
+    (c : Cell) (r : Rule) → IsInside g c → HoldsAt (check_rules nodata) g ps c r ↔ HoldsAt (unranked nodata) g ps c r
+
+-- with the numbers of steps for ranks, in place of whatever ranks the products have, every rule holds at every cell exactly where
+-- the products are correct
+abbrev pub RulesAreCorrect : Type 0
+RulesAreCorrect =
+    (g : Grid) (ps : Products) (nodata : NoDataNumbers) (ranks : Cell → ℤ) (rank_nodata : ℤ) →
+    RanksAreSteps g (with_ranks ps ranks) (with_rank_nodata nodata rank_nodata) →
+    RulesHold (check_rules (with_rank_nodata nodata rank_nodata)) IsAnyRule g (with_ranks ps ranks) ↔ IsCorrect g ps nodata
+
+-- products are correct exactly where every run ends and every rule without ranks holds at every cell
+abbrev pub CorrectIsLocal : Type 0
+CorrectIsLocal =
+    (g : Grid) (ps : Products) (nodata : NoDataNumbers) →
+    IsCorrect g ps nodata ↔ (((c : Cell) → HasData g c → RunEnds g ps c) × RulesHold (unranked nodata) IsAnyRule g ps)
 
 -- a cell that isn't listed is open exactly where it has data and lies on the edge of the grid or beside a void
 abbrev pub OpenWithoutSinks : Type 0

@@ -1,3 +1,4 @@
+pub mod Certificate
 pub mod Correct
 pub mod Counts
 pub mod Direction
@@ -23,6 +24,7 @@ pub mod SinkTexts
 pub mod Size
 pub mod Slope
 pub mod Tile
+pub mod Unranked
 pub mod Values
 pub mod Whole
 pub mod WholeGrid

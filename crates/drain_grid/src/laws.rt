@@ -4,7 +4,7 @@
 
 ghost use Rattle.std.specs.Prelude.{◌≡◌, pos, neg_ℤ};
 ghost use Rattle.drain_grid.specs.OffData.{FoundOffDataIsRight};
-ghost use Rattle.drain_grid.specs.Laws.{CorrectFromRules, CountsUpstream, LabelsAreBasins, LeastFromRules, LeastFromRulesProfile2, OpenWithoutSinks, Profile2FromProfile1, RunsEnd};
+ghost use Rattle.drain_grid.specs.Laws.{CorrectFromRules, CorrectIsLocal, CountsUpstream, LabelsAreBasins, LeastFromRules, LeastFromRulesProfile2, OpenWithoutSinks, Profile2FromProfile1, RanksPlayNoPart, RulesAreCorrect, RulesFromCorrect, RunsEnd};
 
 use crate::cell::MAX_LENGTH;
 use crate::degree::UNITS_PER_DEGREE;
@@ -67,6 +67,28 @@ pub fn labels_are_basins()
 /// and each ends at an outlet.
 pub fn correct_from_rules()
     ensures { CorrectFromRules }
+{}
+
+/// Where the products are correct and each rank is the number of steps of the cell's run, every rule that a check tries holds at every
+/// cell: with such ranks a rejection means wrong products.
+pub fn rules_from_correct()
+    ensures { RulesFromCorrect }
+{}
+
+/// Where every run ends and each rank is the number of its cell's steps, a rule that a check tries holds at a cell exactly where it holds
+/// without ranks.
+pub fn ranks_play_no_part()
+    ensures { RanksPlayNoPart }
+{}
+
+/// With the numbers of steps for ranks, every rule that a check tries holds at every cell exactly where the products are correct.
+pub fn rules_are_correct()
+    ensures { RulesAreCorrect }
+{}
+
+/// Products are correct exactly where every run ends and every rule without ranks holds at every cell.
+pub fn correct_is_local()
+    ensures { CorrectIsLocal }
 {}
 
 /// The least line that lists a cell without data, as it was asked cell by cell, is that of the grid whose cells were told.

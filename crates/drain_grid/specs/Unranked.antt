@@ -1,0 +1,48 @@
+-- The rules without ranks: what an audit asks of each cell, while it finds out by itself which runs end. Rules 1 and 2 speak of con, dir, acc
+-- and bas, and rule 12 says nothing of ranks. They are this project's own, as the rules are.
+use Rattle.std.specs.Prelude.{◌≡◌, ◌≢◌, IsNone}
+use Rattle.drain_grid.specs.declared.direction.Direction.{Direction}
+use Rattle.drain_grid.specs.declared.patch.Patch.{Patch}
+use Rattle.drain_grid.specs.declared.rule.Rule.TheVariants.{VoidCell, Missing, FlatStep}
+use Rattle.drain_grid.specs.Direction.{Names}
+use Rattle.drain_grid.specs.Values.{Values, NoDataNumbers}
+use Rattle.drain_grid.specs.Patch.{IsDataCell, IsDataNeighbor, IsClosed, HasLower}
+use Rattle.drain_grid.specs.PatchRules.{Profile, check_rules}
+
+-- con, dir, acc and bas have their no-data numbers
+pub record IsBlankWithoutRank (nodata : NoDataNumbers) (v : Values) : Type 0 where
+  pub con_is : v.con ≡ nodata.con
+  pub dir_is : v.dir ≡ nodata.dir
+  pub acc_is : v.acc ≡ nodata.acc
+  pub bas_is : v.bas ≡ nodata.bas
+
+-- none of con, dir, acc and bas has its no-data number
+pub record IsCompleteWithoutRank (nodata : NoDataNumbers) (v : Values) : Type 0 where
+  pub con_differs : v.con ≢ nodata.con
+  pub dir_differs : v.dir ≢ nodata.dir
+  pub acc_differs : v.acc ≢ nodata.acc
+  pub bas_differs : v.bas ≢ nodata.bas
+
+-- 1: at a void each of the four has its no-data number
+abbrev pub VoidCellWithoutRank : NoDataNumbers → Patch → Type 0
+VoidCellWithoutRank nodata p = IsNone p.here.z → IsBlankWithoutRank nodata p.here
+
+-- 2: at a data cell none of the four has its no-data number
+abbrev pub MissingWithoutRank : NoDataNumbers → Patch → Type 0
+MissingWithoutRank nodata p = IsDataCell p → IsCompleteWithoutRank nodata p.here
+
+-- 12: a closed cell with no lower neighbour leads to one of its height
+pub record IsLevelStep (p : Patch) (d : Direction) (n : Values) : Type 0 where
+  pub named : Names p.here.dir d
+  pub beside : IsDataNeighbor p d n
+  pub level : n.con ≡ p.here.con
+
+abbrev pub LevelStepHolds : Patch → Type 0
+LevelStepHolds p = IsClosed p → ¬ HasLower p → (d : Direction) × (n : Values) × IsLevelStep p d n
+
+-- the rules of a check without ranks
+abbrev pub unranked : NoDataNumbers → Profile
+unranked nodata p VoidCell = VoidCellWithoutRank nodata p
+unranked nodata p Missing = MissingWithoutRank nodata p
+unranked nodata p FlatStep = LevelStepHolds p
+unranked nodata p r = check_rules nodata p r
