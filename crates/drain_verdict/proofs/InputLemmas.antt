@@ -1,5 +1,5 @@
 -- Which product's device gave up, where each is read only while nothing was refused before.
-use Rattle.std.proofs.Common.{◌≡◌, ℕ, List, ◌↔◌, ◌⊎◌, inl, inr, Bool, IsTrue, Option, Some, None, Result, Ok, Err, IfErr, refl, ap, ◌∙◌, sym, subst}
+use Rattle.std.proofs.Common.{◌≡◌, ℕ, List, ◌↔◌, ◌⊎◌, inl, inr, Bool, IsTrue, Option, Some, None, Result, Ok, Err, IfErr, OnOk, refl, ap, ◌∙◌, sym, subst}
 use Rattle.std.specs.Result.{IsErrAnd}
 use Rattle.drain_device.specs.declared.counts.FaultCounts.{FaultCounts}
 use Rattle.drain_grid.specs.declared.per_product.PerProduct.{PerProduct}
@@ -20,6 +20,11 @@ Answer = Result (Unit {0}) Refusal
 pub told-of : {T : Type 0} (r : Result T Refusal) (e : Refusal) (P : Refusal → Type 0) → IsErrAnd r (λ told. told ≡ e) → P e → IfErr r P
 told-of (Ok x) e P is holds = absurd is
 told-of (Err told) e P is holds = rw is holds
+
+-- what follows from a fact of an answer that isn't a refusal is one
+pub on-ok : {T : Type 0} (r : Result T Refusal) {P Q : Type 0} → (P → Q) → OnOk r P → OnOk r Q
+on-ok (Ok x) follows holds = follows holds
+on-ok (Err told) follows holds = tt
 
 -- a refusal by which a device gave up
 pub only_failed : (refusal : Refusal) → IsTrue (gave_up None (Some refusal)) → refusal ≡ ReadFailed

@@ -25,7 +25,7 @@ use Rattle.drain_rules.specs.Verdicts.{IsVerdict}
 use Rattle.drain_rules.specs.declared.verdict.Verdict.{Verdict}
 use Rattle.drain_verdict.specs.Answers.{IsAnswer, IsRefusal}
 use Rattle.drain_verdict.specs.GridRows.{IsRowsRefusal, OfGrid, ReadsOn}
-use Rattle.drain_verdict.specs.InputReads.{HaveBeenRead}
+use Rattle.drain_verdict.specs.InputReads.{HaveBeenRead, Reading, products_lent, readers, tiles_lent}
 use Rattle.drain_verdict.specs.InputRows.{AreBegun, HasStopped, IsToldRefusal}
 use Rattle.drain_verdict.specs.Inputs.{Inputs, Products}
 use Rattle.drain_verdict.specs.ListedVoids.{AreListedVoids}
@@ -120,20 +120,27 @@ module _ {R : Type 0} (bl : R → Option (List ℕ)) (ct : R → FaultCounts) (i
       (sinks_none i listing e voids sinks_are bad_is extent voids_are law told (none_before t is fields none read))
       (subst (λ (n : NoDataNumbers). IsVerdict (grid_of i) (products_of i) n verdict) nodata_is verdict_is_of)
 
--- a refusal of reading
-module _ {R : Type 0} (bl : R → Option (List ℕ)) (ct : R → FaultCounts) (rows rows_then : InputRows) (tiles tiles_then : List (TileInput R)) (ps ps_then : Products R) where
+-- a refusal of reading, by readers of five products, whichever are handed in
+module _ {R S : Type 0} (bl : R → Option (List ℕ)) (ct : R → FaultCounts) (view : S → Reading R) (before after : S) where
+  abbrev HasCome : S → S → ℕ → Option Refusal → Type 0
+  HasCome a b calls told = HaveCome bl ct (view a) (view b) calls told
+
+  -- so many rows came
+  pub came : (n : ℕ) (told : Option Refusal) → ReadsOn HasCome before after n told → HaveCome bl ct (view before) (view after) (0 + n) told
+  came n told reads = reads before 0 (come_none bl ct (readers (view before)) (tiles_lent (view before)) (products_lent (view before)))
+
   -- all rows were read, and no device gave up
-  pub all_read : {H : Type 0} (n : ℕ) → ReadsOn (HaveCome bl ct) (rows, tiles, ps) (rows_then, tiles_then, ps_then) n None → (H → ⊥) → HaveBeenRead bl ct (rows, tiles, ps) (rows_then, tiles_then, ps_then) H
+  pub all_read : {H : Type 0} (n : ℕ) → ReadsOn HasCome before after n None → (H → ⊥) → HaveBeenRead bl ct (view before) (view after) H
   all_read n reads never = record {
     told = None;
     exactly = (λ wrong. absurd (let no = wrong in cc), λ h. absurd (never h));
-    reads = (reads (rows, tiles, ps) 0 (come_none bl ct rows tiles ps)).reads;
+    reads = (came n None reads).reads;
   }
 
-  pub refused : {T N : Type 0} (refusal : Refusal) → IsRowsRefusal (HaveCome bl ct) (rows, tiles, ps) (rows_then, tiles_then, ps_then) N refusal →
-      ((refusal ≡ OutOfMemory) ⊎ (refusal ≡ ReadFailed)) × HaveBeenRead bl ct (rows, tiles, ps) (rows_then, tiles_then, ps_then) (IsErrOf {T = T} (Err refusal) ReadFailed)
+  pub refused : {T N : Type 0} (refusal : Refusal) → IsRowsRefusal HasCome before after N refusal →
+      ((refusal ≡ OutOfMemory) ⊎ (refusal ≡ ReadFailed)) × HaveBeenRead bl ct (view before) (view after) (IsErrOf {T = T} (Err refusal) ReadFailed)
   refused {T} refusal (calls, why) = elim why [
-    | inl reads ↦ (let now = (reads (rows, tiles, ps) 0 (come_none bl ct rows tiles ps)).reads in (
+    | inl reads ↦ (let now = (came calls (Some refusal) reads).reads in (
       now.of_reading,
       record {
         told = Some refusal;
@@ -146,7 +153,7 @@ module _ {R : Type 0} (bl : R → Option (List ℕ)) (ct : R → FaultCounts) (r
       record {
         told = None;
         exactly = (λ wrong. absurd (let no = wrong in cc), λ is. absurd (let other : refusal ≡ ReadFailed = cc in let same = wants.0 in cc));
-        reads = (wants.1 (rows, tiles, ps) 0 (come_none bl ct rows tiles ps)).reads;
+        reads = (came calls None wants.1).reads;
       },
     )
   ]

@@ -1,5 +1,6 @@
 -- The answer to the bytes: the first refusal that stands, else the verdict; and what an acceptance means.
-use Rattle.std.specs.Prelude.{Result, Ok, Err}
+use Rattle.std.specs.Prelude.{ℕ, Result, Ok, Err}
+use Rattle.drain_grid.specs.Grid.{Grid, Products}
 use Rattle.drain_text.specs.First.{IsFirst}
 use Rattle.drain_rules.specs.declared.verdict.Verdict.{Verdict}
 use Rattle.drain_rules.specs.Verdicts.{IsVerdict}
@@ -23,3 +24,7 @@ IsRefusal i refusal = IsFirst (refusal_order i) (Stands i) refusal
 abbrev pub IsAnswer : Inputs → Result Verdict Refusal → Type 0
 IsAnswer i (Ok verdict) = AreReadable i × IsVerdict (grid_of i) (products_of i) (nodata_numbers i) verdict
 IsAnswer i (Err refusal) = IsRefusal i refusal
+
+-- notes of a grid's rows that are of all rows of the inputs' grid
+abbrev pub AreNotesOf : {K : Type 0} → (Grid → Products → ℕ → K → Type 0) → Inputs → K → Type 0
+AreNotesOf are_of i notes = are_of (grid_of i) (products_of i) (grid_of i).extent.rows notes

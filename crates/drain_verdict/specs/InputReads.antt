@@ -45,6 +45,14 @@ tiles_lent s = s.1
 abbrev pub products_lent : {R : Type 0} → Reading R → Products R
 products_lent s = s.2
 
+-- these readers with others of the rasters
+abbrev pub with_rasters : (PerProduct RasterRows → PerProduct RasterRows) → InputRows → InputRows
+with_rasters readers_of rows = record { mosaic = rows.mosaic; rasters = readers_of rows.rasters; narrow = rows.narrow }
+
+-- readers, and the tiles and products that they are lent, as five products are read whichever are handed in
+abbrev pub as_read : {R P : Type 0} → (PerProduct RasterRows → PerProduct RasterRows) → (P → Products R) → InputRows × List (TileInput R) × P → Reading R
+as_read readers_of inputs_of s = (with_rasters readers_of s.0, s.1, inputs_of s.2)
+
 -- the body of a product
 abbrev pub product_body : {R : Type 0} → Reading R → Held → R
 product_body s p = (of_product (products_lent s) p).body

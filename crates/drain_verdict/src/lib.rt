@@ -1,7 +1,9 @@
 //! The verdict on rasters that were made from tiles: from the bytes that readers give to an acceptance, a rejection or a refusal.
 #![tactic(auto)]
 
+mod answer;
 pub mod answer_report;
+mod check_products;
 pub mod checker;
 pub mod fill_line;
 mod grid_rows;
@@ -17,7 +19,9 @@ mod marked_rows;
 pub mod mosaic;
 mod next_rows;
 mod placing;
+mod product_inputs;
 pub mod refusal;
+mod row_notes;
 mod row_verdict;
 mod seams;
 mod sink_listing;

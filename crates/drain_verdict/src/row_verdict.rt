@@ -1,16 +1,21 @@
 //! The verdict on a grid and its products whose rows come one after another.
 
 ghost use Rattle.std.specs.Prelude.{◌≡◌, ◌+◌, ◌⊎◌, ℕ, [], length, None, IfOk, IfErr, OnOk};
+ghost use Rattle.drain_grid.specs.Grid.{Grid, Products};
 ghost use Rattle.drain_rules.specs.Labels.{HasNewLabel};
-ghost use Rattle.drain_rules.specs.RowNumbers.{RowNumbers};
+ghost use Rattle.drain_rules.specs.RowNumbers.{AreNumbersOf, AreRowNumbers, RowNumbers};
 ghost use Rattle.drain_rules.specs.Verdicts.{IsVerdict};
 ghost use Rattle.drain_verdict.specs.GridRows.{OfGrid, ReadsOn, IsRowsRefusal};
+ghost use Rattle.drain_verdict.specs.HeldRows.{numbers_of};
 ghost use Rattle.drain_verdict.specs.ListedVoids.{AreListedVoids};
+ghost use Rattle.drain_verdict.specs.declared.refusal.Refusal.{Refusal};
 
 use crate::grid_rows::GridRows;
+use crate::held_row::HeldRow;
 use crate::listed_voids::ListedVoids;
 use crate::marked_rows::read_marked;
 use crate::refusal::Refusal;
+use crate::row_notes::RowNotes;
 use crate::window::Window;
 use drain_grid::{NoData, OutOfMemory, Shape, Sinks};
 use drain_rules::laws::three_rows_show_patches;
@@ -24,11 +29,11 @@ pub struct RowVerdict {
     pub voids: ListedVoids,
 }
 
-/// The verdict on the grid of this shape and with these sinks, whose rows the source gives.
+/// The verdict on the grid of this shape and with these sinks, whose rows the source gives, each of which is noted.
 ///
 /// One row more is asked for than there are, and behind the last comes none. A refusal is the source's own; or it is `OutOfMemory`, where a
-/// label has to be admitted that is new, or where there are sinks.
-pub fn verdict_by_rows<T, P, S: GridRows<T, P>>(
+/// label has to be admitted that is new, where there are sinks, or where the notes want memory.
+pub fn verdict_by_rows<T, P, S: GridRows<T, P>, K: RowNotes>(
     alloc: Global,
     shape: Shape,
     sinks: &Sinks,
@@ -36,14 +41,17 @@ pub fn verdict_by_rows<T, P, S: GridRows<T, P>>(
     source: &mut S,
     tiles: &mut [T],
     products: &mut P,
+    notes: &mut K,
 ) -> Result<RowVerdict, Refusal>
     requires counted { length tiles.old ≡ S.count source.old }
+    requires unnoted { (g : Grid) (ps : Products) → K.are_of g ps 0 notes.old }
     ensures verdict { IfOk result (λ found. OfGrid (S.gives (source.old, tiles.old, products.old)) shape sinks.now (λ g ps. IsVerdict g ps nodata.now found.verdict)) }
     ensures voids { IfOk result (λ found. OfGrid (S.gives (source.old, tiles.old, products.old)) shape sinks.now (λ g ps. AreListedVoids g found.voids)) }
+    ensures noted { OnOk result (OfGrid (S.gives (source.old, tiles.old, products.old)) shape sinks.now (λ g ps. K.are_of g ps g.extent.rows notes.new)) }
     ensures given { OnOk result ((rows : ℕ → RowNumbers) → S.gives (source.old, tiles.old, products.old) rows 0 → S.gives (source.new, tiles.new, products.new) rows (shape.rows + 1)) }
     ensures reads { OnOk result (ReadsOn S.has_read (source.old, tiles.old, products.old) (source.new, tiles.new, products.new) (shape.rows + 1) None) }
     ensures refuses { IfErr result (IsRowsRefusal S.has_read (source.old, tiles.old, products.old) (source.new, tiles.new, products.new)
-        (OfGrid (S.gives (source.old, tiles.old, products.old)) shape sinks.now (HasNewLabel nodata.now) ⊎ ¬ (sinks.now ≡ []))) }
+        (OfGrid (S.gives (source.old, tiles.old, products.old)) shape sinks.now (HasNewLabel nodata.now) ⊎ (¬ (sinks.now ≡ []) ⊎ K.wants))) }
 {
     // The law that makes a row's patches of three rows.
     three_rows_show_patches();
@@ -70,6 +78,7 @@ pub fn verdict_by_rows<T, P, S: GridRows<T, P>>(
             &mut window.below,
             &mut voids,
         )?;
+        note_row(notes, &window.here)?;
         match walk.check_row(&window.rows(), nodata) {
             Ok(()) => {}
             Err(OutOfMemory) => return Err(Refusal::OutOfMemory),
@@ -77,4 +86,16 @@ pub fn verdict_by_rows<T, P, S: GridRows<T, P>>(
     }
     let verdict = walk.verdict(shape);
     Ok(RowVerdict { verdict, voids })
+}
+
+/// Notes a row of the grid.
+fn note_row<K: RowNotes>(notes: &mut K, row: &HeldRow) -> Result<(), Refusal>
+    requires whole { AreRowNumbers (numbers_of row.now) }
+    ensures noted { OnOk result ((g : Grid) (ps : Products) (r : ℕ) → AreNumbersOf g ps r (numbers_of row.now) → K.are_of g ps r notes.old → K.are_of g ps (r + 1) notes.new) }
+    ensures err { IfErr result (λ refusal. (refusal ≡ Refusal.OutOfMemory) × K.wants) }
+{
+    match notes.note(row) {
+        Ok(()) => Ok(()),
+        Err(OutOfMemory) => Err(Refusal::OutOfMemory),
+    }
 }

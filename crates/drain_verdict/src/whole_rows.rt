@@ -12,6 +12,7 @@ ghost use Rattle.drain_verdict.specs.WholeRows.{AreOfShape, row_in};
 use crate::grid_rows::GridRows;
 use crate::held_row::HeldRow;
 use crate::refusal::Refusal;
+use crate::row_notes::NoNotes;
 use crate::row_verdict::verdict_by_rows;
 use drain_grid::laws::correct_from_rules;
 use drain_grid::{Elevation, OutOfMemory, ProductSet, Shape, Sinks};
@@ -55,7 +56,16 @@ fn walk(
         products,
         row: 0,
     };
-    match verdict_by_rows(alloc, shape, sinks, &nodata, &mut rows, &mut [], &mut ()) {
+    match verdict_by_rows(
+        alloc,
+        shape,
+        sinks,
+        &nodata,
+        &mut rows,
+        &mut [],
+        &mut (),
+        &mut NoNotes,
+    ) {
         Ok(found) => Ok(found.verdict),
         Err(_) => Err(OutOfMemory),
     }

@@ -1,6 +1,6 @@
 use Rattle.std.proofs.Common.{◌≡◌, Option, Some, None, inl, ◌+◌, ◌<◌, inr, refl, sym, ap, subst, ◌∙◌, arith}
 use Rattle.drain_grid.specs.Size.{Extent}
-use Rattle.drain_rules.specs.RowNumbers.{AreRowNumbers}
+use Rattle.drain_rules.specs.RowNumbers.{AreNumbersOf, AreRowNumbers}
 use Rattle.drain_rules.specs.MarkedRows.{MarkedRow}
 use Rattle.drain_verdict.specs.GridRows.{ReadsOn}
 use Rattle.drain_verdict.specs.HeldRows.{IsMarked, marked_of, numbers_of}
@@ -32,6 +32,7 @@ loop-row-init g c =
           (row-marked grid ps c.args.sinks.now rows 0 (marked_of c.read_marked.new.held) all (read.next rows 0 gives).0 read.marked)
           (subst (AreVoidsBefore grid 0) (sym c.new-voids.ensures) (voids-none grid)) read.noted;
       right = λ rows grid ps gives extent all. c.new-walk.ensures.finding c.args.nodata.now grid ps;
+      noted = λ rows grid ps gives extent all. c.requires.unnoted grid ps;
       reads = read.reads;
     }
 
@@ -59,6 +60,19 @@ returns-in-Err-clause-refuses g c =
             c.in-Err.ensures.err grid ps
             (patches-at grid ps row c.loop-row.walk.rows _ _ (c.three_rows_show_patches.ensures grid ps row c.rows.result around) inv.counted)
             (inv.right rows grid ps gives extent all)),
+      ),
+    )
+
+pub returns-in_err-note_row-clause-refuses : goal.returns-in_err-note_row-clause-refuses
+returns-in_err-note_row-clause-refuses g c =
+    let row = c.loop-row.row in
+    let read = c.in_ok-read_marked-2.ensures in
+    told-of c.from_residual-in_err-note_row.result c.in_err-note_row.field-0.0 _ c.from_residual-in_err-note_row.ensures.1 (
+      row + 1 + 1,
+      inr (
+        c.in_err-note_row.ensures.err.0,
+        λ start n before. let same : n + (row + 1) + 1 ≡ n + (row + 1 + 1) = omega arith in subst (λ k. g.S.GridRows.has_read start (c.read_marked-in-loop-row.new.source, c.read_marked-in-loop-row.new.tiles, c.read_marked-in-loop-row.new.products) k None) same (read.reads start (n + (row + 1)) (c.loop-row.invariant.reads start n before)),
+        inr (inr c.in_err-note_row.ensures.err.1),
       ),
     )
 
@@ -99,6 +113,12 @@ loop-row-preserved g c =
           c.in-Ok.ensures.finding grid ps
           (patches-at grid ps row c.loop-row.walk.rows _ _ (c.three_rows_show_patches.ensures grid ps row c.rows.result around) inv.counted)
           (inv.right rows grid ps gives extent all);
+      noted = λ rows grid ps gives extent all.
+          let count = ap (λ (e : Extent). e.rows) extent in
+          let inside : row < grid.extent.rows = omega (arith, c.loop-row-test.true, c.rows-row-end.ensures, count) in
+          c.in_ok-note_row.ensures.noted grid ps row
+          (subst (AreNumbersOf grid ps row) (sym (ap (λ (m : MarkedRow). m.numbers) c.turn.ensures.here ∙ (inv.held rows gives).here_is)) (all.row row inside))
+          (inv.noted rows grid ps gives extent all);
       reads = λ start n before. let same : n + (row + 1) + 1 ≡ n + (row + 1 + 1) = omega arith in subst (λ k. g.S.GridRows.has_read start (c.read_marked-in-loop-row.new.source, c.read_marked-in-loop-row.new.tiles, c.read_marked-in-loop-row.new.products) k None) same (read.reads start (n + (row + 1)) (inv.reads start n before));
     }
 
@@ -114,6 +134,12 @@ returns-clause-voids g c = λ rows grid ps gives extent all.
     let count = ap (λ (e : Extent). e.rows) extent in
     voids-all grid (c.loop-row.row + 1) c.loop-row.voids
     (omega (arith, c.loop-row-test.false, c.loop-row.auto.row-end, c.rows-row-end.ensures, count)) (c.loop-row.invariant.voids rows grid ps gives extent all)
+
+pub returns-clause-noted : goal.returns-clause-noted
+returns-clause-noted g c = λ rows grid ps gives extent all.
+    let count = ap (λ (e : Extent). e.rows) extent in
+    let last : c.loop-row.row ≡ grid.extent.rows = omega (arith, c.loop-row-test.false, c.loop-row.auto.row-end, c.rows-row-end.ensures, count) in
+    subst (λ n. g.K.RowNotes.are_of grid ps n c.loop-row.notes) last (c.loop-row.invariant.noted rows grid ps gives extent all)
 
 pub returns-clause-given : goal.returns-clause-given
 returns-clause-given g c = λ rows gives.
@@ -131,7 +157,7 @@ returns-in_err-read_marked-clause-refuses g c =
       1,
       elim c.in_err-read_marked.ensures.refuses [
         | inl reads ↦ inl reads
-        | inr wants ↦ inr (wants.0, wants.1, inr wants.2)
+        | inr wants ↦ inr (wants.0, wants.1, inr (inl wants.2))
       ],
     )
 
@@ -149,6 +175,6 @@ returns-in_err-read_marked-2-clause-refuses g c =
       row + 1 + 1,
       elim c.in_err-read_marked-2.ensures.refuses [
         | inl reads ↦ inl (more (Some refusal) reads)
-        | inr wants ↦ inr (wants.0, more None wants.1, inr wants.2)
+        | inr wants ↦ inr (wants.0, more None wants.1, inr (inl wants.2))
       ],
     )

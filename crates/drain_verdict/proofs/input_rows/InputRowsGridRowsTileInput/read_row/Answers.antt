@@ -5,12 +5,13 @@ use Rattle.drain_grid.specs.PerProduct.{of_product, per_product}
 use Rattle.drain_grid.specs.Values.{IsPixel}
 use Rattle.drain_rules.specs.RowNumbers.{RowNumbers}
 use Rattle.drain_verdict.specs.HeldRows.{numbers_of}
+use Rattle.drain_verdict.specs.InputReads.{as_read, with_rasters}
 use Rattle.drain_grid.proofs.ByProduct.{by_held}
 use Rattle.drain_verdict.proofs.InputLemmas.{told-of}
 use Rattle.drain_verdict.proofs.RowGiven.{IsKept, come_more, come_refused, kept_numbers, next_given}
 use Rattle.drain_verdict.proofs.RowReads.{by_mosaic, by_rasters, one_read, rasters_none, reads_then}
-use Rattle.drain_verdict.proofs.input_rows.InputRowsGridRowsTileInputProducts.read_row.Goals.{then-not-is_even, else-not-is_even}
-use Rattle.drain_verdict.proofs.input_rows.InputRowsGridRowsTileInputProducts.read_row.Goals as goal
+use Rattle.drain_verdict.proofs.input_rows.InputRowsGridRowsTileInput.read_row.Goals.{then-not-is_even, else-not-is_even}
+use Rattle.drain_verdict.proofs.input_rows.InputRowsGridRowsTileInput.read_row.Goals as goal
 
 pub returns-in_err-read_mosaic-clause-refuses : goal.returns-in_err-read_mosaic-clause-refuses
 returns-in_err-read_mosaic-clause-refuses g c =
@@ -19,9 +20,9 @@ returns-in_err-read_mosaic-clause-refuses g c =
     let one = c.in_err-read_mosaic.ensures in
     let refusal = c.in_err-read_mosaic.field-0.0 in
     told-of c.from_residual.result refusal _ c.from_residual.ensures.1
-    (λ start n before. come_refused bl ct start _ (n + 1) refusal (reads_then bl ct start _ _ (Some refusal) before.reads
-    (one_read bl ct c.args.self.now _ c.args.tiles.now c.read_mosaic.new.tiles c.args.products.now c.args.products.now (Some refusal) None (Some refusal) (by_mosaic refusal)
-    one.of_reading one.counted (search rules) one.names one.read (rasters_none bl ct c.args.self.now.rasters c.args.products.now))))
+    (λ start n before. come_refused bl ct (as_read g.P.ProductInputs.readers g.P.ProductInputs.inputs start) _ (n + 1) refusal (reads_then bl ct (as_read g.P.ProductInputs.readers g.P.ProductInputs.inputs start) _ _ (Some refusal) before.reads
+    (one_read bl ct (with_rasters g.P.ProductInputs.readers c.args.self.now) _ c.args.tiles.now c.read_mosaic.new.tiles (g.P.ProductInputs.inputs c.args.products.now) (g.P.ProductInputs.inputs c.args.products.now) (Some refusal) None (Some refusal) (by_mosaic refusal)
+    one.of_reading one.counted (search rules) one.names one.read (rasters_none bl ct (g.P.ProductInputs.readers c.args.self.now.rasters) (g.P.ProductInputs.inputs c.args.products.now)))))
 
 pub returns-in_err-read_rasters-clause-refuses : goal.returns-in_err-read_rasters-clause-refuses
 returns-in_err-read_rasters-clause-refuses g c =
@@ -31,8 +32,8 @@ returns-in_err-read_rasters-clause-refuses g c =
     let other = c.in_err-read_rasters.ensures in
     let refusal = c.in_err-read_rasters.field-0.0 in
     told-of c.from_residual-in_err-read_rasters.result refusal _ c.from_residual-in_err-read_rasters.ensures.1
-    (λ start n before. come_refused bl ct start _ (n + 1) refusal (reads_then bl ct start _ _ (Some refusal) before.reads
-    (one_read bl ct c.args.self.now _ c.args.tiles.now c.read_mosaic.new.tiles c.args.products.now c.read_rasters.new.products None (Some refusal) (Some refusal) (by_rasters (Some refusal))
+    (λ start n before. come_refused bl ct (as_read g.P.ProductInputs.readers g.P.ProductInputs.inputs start) _ (n + 1) refusal (reads_then bl ct (as_read g.P.ProductInputs.readers g.P.ProductInputs.inputs start) _ _ (Some refusal) before.reads
+    (one_read bl ct (with_rasters g.P.ProductInputs.readers c.args.self.now) _ c.args.tiles.now c.read_mosaic.new.tiles (g.P.ProductInputs.inputs c.args.products.now) (g.P.ProductInputs.inputs c.read_rasters.new.self) None (Some refusal) (Some refusal) (by_rasters (Some refusal))
     other.of_reading one.counted (search rules) one.names one.read other.read)))
 
 pub returns-clause-reads : goal.returns-clause-reads
@@ -42,9 +43,9 @@ returns-clause-reads g c =
     let one = c.in_ok-read_mosaic.ensures in
     let other = c.in_ok-read_rasters.ensures in
     let row : RowNumbers = record { z = c.read_mosaic.new.out.items; products = per_product (λ p. (of_product c.read_rasters.new.out p).items) } in
-    λ start n before. come_more bl ct start c.args.self.now _ c.args.tiles.now c.read_mosaic.new.tiles c.args.products.now c.read_rasters.new.products row n before
-    (reads_then bl ct start _ _ None before.reads
-    (one_read bl ct c.args.self.now _ c.args.tiles.now c.read_mosaic.new.tiles c.args.products.now c.read_rasters.new.products None None None (by_rasters None)
+    λ start n before. come_more bl ct (as_read g.P.ProductInputs.readers g.P.ProductInputs.inputs start) (with_rasters g.P.ProductInputs.readers c.args.self.now) _ c.args.tiles.now c.read_mosaic.new.tiles (g.P.ProductInputs.inputs c.args.products.now) (g.P.ProductInputs.inputs c.read_rasters.new.self) row n before
+    (reads_then bl ct (as_read g.P.ProductInputs.readers g.P.ProductInputs.inputs start) _ _ None before.reads
+    (one_read bl ct (with_rasters g.P.ProductInputs.readers c.args.self.now) _ c.args.tiles.now c.read_mosaic.new.tiles (g.P.ProductInputs.inputs c.args.products.now) (g.P.ProductInputs.inputs c.read_rasters.new.self) None None None (by_rasters None)
     other.of_reading one.counted (search rules) one.names one.read other.read))
     one.rows (let each = other.rows in by_held _ (each Con) (each Dir) (each Acc) (each Bas) (each Rnk))
 
@@ -65,5 +66,5 @@ returns-clause-next g c =
       | then-not-is_even w ↦ inr (search rules, search rules)
       | else-not-is_even w ↦ inl (search rules, search rules)
     ] in
-    next_given g.R.ByteSource.bytes_left c.args.self.now _ c.args.tiles.now c.read_mosaic.new.tiles c.args.products.now c.read_rasters.new.products row (numbers_of c.if-not-is_even.out) kept
+    next_given g.R.ByteSource.bytes_left (with_rasters g.P.ProductInputs.readers c.args.self.now) _ c.args.tiles.now c.read_mosaic.new.tiles (g.P.ProductInputs.inputs c.args.products.now) (g.P.ProductInputs.inputs c.read_rasters.new.self) row (numbers_of c.if-not-is_even.out) kept
     c.in_ok-read_mosaic.ensures.rows (let each = c.in_ok-read_rasters.ensures.rows in by_held _ (each Con) (each Dir) (each Acc) (each Bas) (each Rnk))

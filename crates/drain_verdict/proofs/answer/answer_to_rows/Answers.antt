@@ -1,39 +1,39 @@
-use Rattle.std.proofs.Common.{◌≡◌, ap, Some, ◌∙◌}
+use Rattle.std.proofs.Common.{◌≡◌, ap, None, Some, ◌∙◌}
 use Rattle.std.proofs.lemmas.Result.{err_from_is_err_and}
 use Rattle.std.proofs.lemmas.Slice.Zip.{AllZip-long}
+use Rattle.drain_grid.specs.Grid.{Grid, Products}
 use Rattle.drain_mosaic.specs.LayoutFaults.{IsLayout}
 use Rattle.drain_rules.specs.declared.verdict.Verdict.{Verdict}
 use Rattle.drain_verdict.specs.Refusals.{IsOfBodies}
 use Rattle.drain_verdict.specs.declared.refusal.Refusal.TheVariants.{ReadFailed}
 use Rattle.drain_verdict.proofs.InputLemmas.{told-of}
-use Rattle.drain_verdict.proofs.RowCheck.{all_read, of_reading_answers, of_reading_bodies, refusal_answers, refused, sinks_answer, verdict_answers}
-use Rattle.drain_verdict.proofs.RowDevices.{come_none}
-use Rattle.drain_verdict.proofs.checker.check_rows.Goals as goal
+use Rattle.drain_verdict.specs.InputReads.{as_read, with_rasters}
+use Rattle.drain_verdict.proofs.RowCheck.{all_read, came, given_holds, of_reading_answers, of_reading_bodies, refusal_answers, refused, sinks_answer, verdict_answers}
+use Rattle.drain_verdict.proofs.answer.answer_to_rows.Goals as goal
 
 pub returns-in_err-found-clause-answer : goal.returns-in_err-found-clause-answer
 returns-in_err-found-clause-answer g c = λ inputs hs begun nodata shapes is fields tiles rasters sinks bad none.
     let told = err_from_is_err_and c.from_residual.result c.from_residual.ensures.1 in
     let new = c.verdict_by_rows.new in
-    rw (told.1, told.2) (of_reading_answers inputs c.in_err-found.field-0.0 (refused g.R.ByteSource.bytes_left g.R.ByteSource.counts c.args.rows.now new.source c.args.tiles.now new.tiles c.args.products.now new.products {T = Verdict}
+    rw (told.1, told.2) (of_reading_answers inputs c.in_err-found.field-0.0 (refused g.R.ByteSource.bytes_left g.R.ByteSource.counts (as_read g.P.ProductInputs.readers g.P.ProductInputs.inputs) (c.args.rows.now, c.args.tiles.now, c.args.products.now) (new.source, new.tiles, new.products) {T = Verdict}
     c.in_err-found.field-0.0 c.in_err-found.ensures.refuses).0)
 
 pub returns-in_err-found-clause-reads : goal.returns-in_err-found-clause-reads
 returns-in_err-found-clause-reads g c =
     let told = err_from_is_err_and c.from_residual.result c.from_residual.ensures.1 in
     let new = c.verdict_by_rows.new in
-    rw (told.1, told.2) (refused g.R.ByteSource.bytes_left g.R.ByteSource.counts c.args.rows.now new.source c.args.tiles.now new.tiles c.args.products.now new.products {T = Verdict}
+    rw (told.1, told.2) (refused g.R.ByteSource.bytes_left g.R.ByteSource.counts (as_read g.P.ProductInputs.readers g.P.ProductInputs.inputs) (c.args.rows.now, c.args.tiles.now, c.args.products.now) (new.source, new.tiles, new.products) {T = Verdict}
     c.in_err-found.field-0.0 c.in_err-found.ensures.refuses).1
 
 pub returns-in_err-found-clause-of_bodies : goal.returns-in_err-found-clause-of_bodies
 returns-in_err-found-clause-of_bodies g c =
     let new = c.verdict_by_rows.new in
     told-of c.from_residual.result c.in_err-found.field-0.0 IsOfBodies c.from_residual.ensures.1 (of_reading_bodies c.in_err-found.field-0.0
-    (refused g.R.ByteSource.bytes_left g.R.ByteSource.counts c.args.rows.now new.source c.args.tiles.now new.tiles c.args.products.now new.products {T = Verdict} c.in_err-found.field-0.0 c.in_err-found.ensures.refuses).0)
+    (refused g.R.ByteSource.bytes_left g.R.ByteSource.counts (as_read g.P.ProductInputs.readers g.P.ProductInputs.inputs) (c.args.rows.now, c.args.tiles.now, c.args.products.now) (new.source, new.tiles, new.products) {T = Verdict} c.in_err-found.field-0.0 c.in_err-found.ensures.refuses).0)
 
 pub refusal-requires : goal.refusal-requires
 refusal-requires g c = record {
-  named = (c.in_ok-found.ensures.reads (c.args.rows.now, c.args.tiles.now, c.args.products.now) 0
-      (come_none g.R.ByteSource.bytes_left g.R.ByteSource.counts c.args.rows.now c.args.tiles.now c.args.products.now)).reads.counted ∙ c.requires.counted;
+  named = (let new = c.verdict_by_rows.new in came g.R.ByteSource.bytes_left g.R.ByteSource.counts (as_read g.P.ProductInputs.readers g.P.ProductInputs.inputs) (c.args.rows.now, c.args.tiles.now, c.args.products.now) (new.source, new.tiles, new.products) _ None c.in_ok-found.ensures.reads).reads.counted ∙ c.requires.counted;
 }
 
 pub returns-in-Some-clause-answer : goal.returns-in-Some-clause-answer
@@ -42,7 +42,7 @@ returns-in-Some-clause-answer g c = λ inputs hs begun nodata shapes is fields t
     let ct = g.R.ByteSource.counts in
     let new = c.verdict_by_rows.new in
     let layout : IsLayout c.args.layout.now = c.makes_a_mosaic.ensures in
-    refusal_answers bl ct inputs hs c.args.rows.now new.source c.args.tiles.now new.tiles c.args.products.now new.products c.shape-shape.result c.in-Some.refusal c.args.layout.now is fields none (record {
+    refusal_answers bl ct inputs hs (with_rasters g.P.ProductInputs.readers c.args.rows.now) (with_rasters g.P.ProductInputs.readers new.source) c.args.tiles.now new.tiles (g.P.ProductInputs.inputs c.args.products.now) (g.P.ProductInputs.inputs new.products) c.shape-shape.result c.in-Some.refusal c.args.layout.now is fields none (record {
       extent_is = c.shape-shape.ensures;
       laws = record {
         rows_end = c.rows_end.ensures;
@@ -59,7 +59,7 @@ returns-in-Some-clause-answer g c = λ inputs hs begun nodata shapes is fields t
       shapes = shapes;
       counted = AllZip-long _ c.args.tiles.now inputs.tiles tiles ∙ c.requires.named;
       begun = begun;
-      come = c.in_ok-found.ensures.reads (c.args.rows.now, c.args.tiles.now, c.args.products.now) 0 (come_none bl ct c.args.rows.now c.args.tiles.now c.args.products.now);
+      come = came bl ct (as_read g.P.ProductInputs.readers g.P.ProductInputs.inputs) (c.args.rows.now, c.args.tiles.now, c.args.products.now) (new.source, new.tiles, new.products) _ None c.in_ok-found.ensures.reads;
       tells = c.in-Some.ensures.refusal;
       bodies = tiles;
       rasters = rasters;
@@ -68,7 +68,7 @@ returns-in-Some-clause-answer g c = λ inputs hs begun nodata shapes is fields t
 pub returns-in-Some-clause-reads : goal.returns-in-Some-clause-reads
 returns-in-Some-clause-reads g c =
     let new = c.verdict_by_rows.new in
-    all_read g.R.ByteSource.bytes_left g.R.ByteSource.counts c.args.rows.now new.source c.args.tiles.now new.tiles c.args.products.now new.products _ c.in_ok-found.ensures.reads
+    all_read g.R.ByteSource.bytes_left g.R.ByteSource.counts (as_read g.P.ProductInputs.readers g.P.ProductInputs.inputs) (c.args.rows.now, c.args.tiles.now, c.args.products.now) (new.source, new.tiles, new.products) _ c.in_ok-found.ensures.reads
     (λ is. c.in-Some.ensures.no_read (let same : c.in-Some.refusal ≡ ReadFailed = cc in ap Some same))
 
 pub returns-in-Some-sink_refusal-clause-answer : goal.returns-in-Some-sink_refusal-clause-answer
@@ -77,7 +77,7 @@ returns-in-Some-sink_refusal-clause-answer g c = λ inputs hs begun nodata shape
     let ct = g.R.ByteSource.counts in
     let new = c.verdict_by_rows.new in
     let layout : IsLayout c.args.layout.now = c.makes_a_mosaic.ensures in
-    sinks_answer bl ct inputs hs c.args.rows.now new.source c.args.tiles.now new.tiles c.args.products.now new.products c.shape-shape.result c.found_off_data_is_right.ensures c.args.listing.now c.in_ok-found.found.voids
+    sinks_answer bl ct inputs hs (with_rasters g.P.ProductInputs.readers c.args.rows.now) (with_rasters g.P.ProductInputs.readers new.source) c.args.tiles.now new.tiles (g.P.ProductInputs.inputs c.args.products.now) (g.P.ProductInputs.inputs new.products) c.shape-shape.result c.found_off_data_is_right.ensures c.args.listing.now c.in_ok-found.found.voids
     c.in-Some-sink_refusal.refusal c.args.layout.now is fields none sinks bad c.in_ok-found.ensures.voids c.in-Some-sink_refusal.ensures.told (record {
       extent_is = c.shape-shape.ensures;
       laws = record {
@@ -95,7 +95,7 @@ returns-in-Some-sink_refusal-clause-answer g c = λ inputs hs begun nodata shape
       shapes = shapes;
       counted = AllZip-long _ c.args.tiles.now inputs.tiles tiles ∙ c.requires.named;
       begun = begun;
-      come = c.in_ok-found.ensures.reads (c.args.rows.now, c.args.tiles.now, c.args.products.now) 0 (come_none bl ct c.args.rows.now c.args.tiles.now c.args.products.now);
+      come = came bl ct (as_read g.P.ProductInputs.readers g.P.ProductInputs.inputs) (c.args.rows.now, c.args.tiles.now, c.args.products.now) (new.source, new.tiles, new.products) _ None c.in_ok-found.ensures.reads;
       tells = c.in_default.ensures.refusal;
       bodies = tiles;
       rasters = rasters;
@@ -104,7 +104,7 @@ returns-in-Some-sink_refusal-clause-answer g c = λ inputs hs begun nodata shape
 pub returns-in-Some-sink_refusal-clause-reads : goal.returns-in-Some-sink_refusal-clause-reads
 returns-in-Some-sink_refusal-clause-reads g c =
     let new = c.verdict_by_rows.new in
-    all_read g.R.ByteSource.bytes_left g.R.ByteSource.counts c.args.rows.now new.source c.args.tiles.now new.tiles c.args.products.now new.products _ c.in_ok-found.ensures.reads
+    all_read g.R.ByteSource.bytes_left g.R.ByteSource.counts (as_read g.P.ProductInputs.readers g.P.ProductInputs.inputs) (c.args.rows.now, c.args.tiles.now, c.args.products.now) (new.source, new.tiles, new.products) _ c.in_ok-found.ensures.reads
     (λ is. c.in-Some-sink_refusal.ensures.no_read (let same : c.in-Some-sink_refusal.refusal ≡ ReadFailed = cc in ap Some same))
 
 pub returns-clause-answer : goal.returns-clause-answer
@@ -113,7 +113,7 @@ returns-clause-answer g c = λ inputs hs begun nodata shapes is fields tiles ras
     let ct = g.R.ByteSource.counts in
     let new = c.verdict_by_rows.new in
     let layout : IsLayout c.args.layout.now = c.makes_a_mosaic.ensures in
-    verdict_answers bl ct inputs hs c.args.rows.now new.source c.args.tiles.now new.tiles c.args.products.now new.products c.shape-shape.result c.found_off_data_is_right.ensures c.args.listing.now c.in_ok-found.found.voids c.args.nodata.now
+    verdict_answers bl ct inputs hs (with_rasters g.P.ProductInputs.readers c.args.rows.now) (with_rasters g.P.ProductInputs.readers new.source) c.args.tiles.now new.tiles (g.P.ProductInputs.inputs c.args.products.now) (g.P.ProductInputs.inputs new.products) c.shape-shape.result c.found_off_data_is_right.ensures c.args.listing.now c.in_ok-found.found.voids c.args.nodata.now
     c.in_ok-found.found.verdict c.args.layout.now is fields none nodata sinks bad c.in_ok-found.ensures.voids c.in_ok-found.ensures.verdict c.in-None.ensures.told (record {
       extent_is = c.shape-shape.ensures;
       laws = record {
@@ -131,7 +131,37 @@ returns-clause-answer g c = λ inputs hs begun nodata shapes is fields tiles ras
       shapes = shapes;
       counted = AllZip-long _ c.args.tiles.now inputs.tiles tiles ∙ c.requires.named;
       begun = begun;
-      come = c.in_ok-found.ensures.reads (c.args.rows.now, c.args.tiles.now, c.args.products.now) 0 (come_none bl ct c.args.rows.now c.args.tiles.now c.args.products.now);
+      come = came bl ct (as_read g.P.ProductInputs.readers g.P.ProductInputs.inputs) (c.args.rows.now, c.args.tiles.now, c.args.products.now) (new.source, new.tiles, new.products) _ None c.in_ok-found.ensures.reads;
+      tells = c.in_default.ensures.refusal;
+      bodies = tiles;
+      rasters = rasters;
+    })
+
+pub returns-clause-noted : goal.returns-clause-noted
+returns-clause-noted g c = λ inputs hs begun shapes is fields tiles rasters sinks.
+    let bl = g.R.ByteSource.bytes_left in
+    let ct = g.R.ByteSource.counts in
+    let new = c.verdict_by_rows.new in
+    let layout : IsLayout c.args.layout.now = c.makes_a_mosaic.ensures in
+    given_holds bl ct inputs hs (with_rasters g.P.ProductInputs.readers c.args.rows.now) (with_rasters g.P.ProductInputs.readers new.source) c.args.tiles.now new.tiles (g.P.ProductInputs.inputs c.args.products.now) (g.P.ProductInputs.inputs new.products) c.shape-shape.result
+    c.args.listing.now.sinks (λ (grid : Grid) (ps : Products). g.K.RowNotes.are_of grid ps grid.extent.rows new.notes) c.args.layout.now is fields sinks c.in_ok-found.ensures.noted (record {
+      extent_is = c.shape-shape.ensures;
+      laws = record {
+        rows_end = c.rows_end.ensures;
+        rows_whole = c.rows_are_whole.ensures;
+        first_values = c.rows_are_first_values.ensures;
+        seams = c.rows_tell_seams.ensures;
+        lengths = c.rows_tell_lengths.ensures;
+        samples = c.whole_tiles_give_their_samples.ensures;
+        raster_end = c.raster_rows_end.ensures;
+        raster_pixels = c.raster_rows_are_pixels.ensures;
+      };
+      of_bodies = c.new_rows_are_of_bodies.ensures;
+      layout = layout;
+      shapes = shapes;
+      counted = AllZip-long _ c.args.tiles.now inputs.tiles tiles ∙ c.requires.named;
+      begun = begun;
+      come = came bl ct (as_read g.P.ProductInputs.readers g.P.ProductInputs.inputs) (c.args.rows.now, c.args.tiles.now, c.args.products.now) (new.source, new.tiles, new.products) _ None c.in_ok-found.ensures.reads;
       tells = c.in_default.ensures.refusal;
       bodies = tiles;
       rasters = rasters;
@@ -140,4 +170,4 @@ returns-clause-answer g c = λ inputs hs begun nodata shapes is fields tiles ras
 pub returns-clause-reads : goal.returns-clause-reads
 returns-clause-reads g c =
     let new = c.verdict_by_rows.new in
-    all_read g.R.ByteSource.bytes_left g.R.ByteSource.counts c.args.rows.now new.source c.args.tiles.now new.tiles c.args.products.now new.products _ c.in_ok-found.ensures.reads (λ is. cc)
+    all_read g.R.ByteSource.bytes_left g.R.ByteSource.counts (as_read g.P.ProductInputs.readers g.P.ProductInputs.inputs) (c.args.rows.now, c.args.tiles.now, c.args.products.now) (new.source, new.tiles, new.products) _ c.in_ok-found.ensures.reads (λ is. cc)

@@ -1,0 +1,182 @@
+//! The answer to the bytes of products as they are handed in: the five of a check, or the four of an audit.
+//!
+//! It goes in stages, in the order of their refusals: side, names and layout; the headers, product by product; then the rows of all tiles and
+//! rasters together. Behind the last row the tiles, the rasters, the seams and the list of sinks are refused, in this order, and else the rules
+//! have the verdict. No device is called before every header is right.
+
+ghost use Rattle.std.specs.Prelude.{◌≡◌, length, map, IfErr, IsErrOf, OnOk};
+ghost use Rattle.drain_grid.specs.declared.per_product.PerProduct.{PerProduct};
+ghost use Rattle.drain_grid.specs.declared.held.Held.{Held};
+ghost use Rattle.drain_grid.specs.Grid as grid;
+ghost use Rattle.drain_grid.specs.Grid.{Grid};
+ghost use Rattle.drain_header.specs.Fields.{Fields};
+ghost use Rattle.drain_grid.specs.PerProduct.{of_product};
+ghost use Rattle.drain_mosaic.specs.Tiling as tiling;
+ghost use Rattle.drain_raster.specs.Pixels.{extent_of};
+ghost use Rattle.drain_verdict.specs.Inputs.{Inputs, Tell};
+ghost use Rattle.drain_verdict.specs.InputReads.{HaveBeenRead, as_read, with_rasters};
+ghost use Rattle.drain_verdict.specs.InputRows.{AreBegun};
+ghost use Rattle.drain_grid.specs.SinkTexts.{sinks_of};
+ghost use Rattle.drain_verdict.specs.Meaning.{tiling_of, fields_of, listed_in, nodata_in};
+ghost use Rattle.drain_verdict.specs.SinkListings.{IsBadLine};
+ghost use Rattle.drain_verdict.specs.Refusals.{IsOfBodies, NoneStandsBefore};
+ghost use Rattle.drain_verdict.specs.Answers.{AreNotesOf, IsAnswer};
+ghost use Rattle.drain_verdict.specs.Stages.{AreRasterBodies};
+ghost use Rattle.drain_device.specs.FaultLists.{SomeReadFails};
+ghost use Rattle.drain_hgt.specs.Inputs.{names_of, AreBodies, TilesTakeAtMost};
+ghost use Rattle.drain_verdict.specs.Devices.{devices_of, RasterTakesAtMost, BodyTakesAtMost};
+
+use crate::headers::nodata_of;
+use crate::input_rows::InputRows;
+use crate::layout::layout_of;
+use crate::product_inputs::ProductInputs;
+use crate::refusal::Refusal;
+use crate::row_notes::RowNotes;
+use crate::row_verdict::verdict_by_rows;
+use crate::sink_listing::{SinkListing, sink_listing};
+use crate::sink_refusal::sink_refusal;
+use drain_device::ByteSource;
+use drain_grid::laws::found_off_data_is_right;
+use drain_grid::{NoData, OutOfMemory, PerProduct};
+use drain_header::Header;
+use drain_hgt::TileInput;
+use drain_hgt::laws::one_name;
+use drain_mosaic::Layout;
+use drain_mosaic::laws::{
+    new_rows_are_of_bodies, rows_are_first_values, rows_are_whole, rows_end, rows_tell_lengths,
+    rows_tell_seams, whole_tiles_give_their_samples,
+};
+use drain_raster::laws::{
+    raster_rows_are_pixels, raster_rows_end, raster_rows_take_what_is_needed,
+};
+use drain_rules::Verdict;
+use std::alloc::Global;
+
+/// The answer to the bytes of tiles, of a list of sinks and of products; each row of the grid is noted.
+///
+/// See `check` for the order of refusals, and for how far it reads.
+pub fn answer_of<R: ByteSource, P: ProductInputs<R>, K: RowNotes>(
+    alloc: Global,
+    side: u32,
+    tiles: &mut [TileInput<R>],
+    sinks: &[u8],
+    products: &mut P,
+    notes: &mut K,
+) -> Result<Verdict, Refusal>
+    requires unnoted { (g : Grid) (ps : grid.Products) → K.are_of g ps 0 notes.old }
+    ensures answer { (inputs : Inputs) → Tell R.bytes_left side tiles.old sinks.now (P.inputs products.old) inputs → IsAnswer inputs result }
+    ensures noted { OnOk result ((inputs : Inputs) → Tell R.bytes_left side tiles.old sinks.now (P.inputs products.old) inputs → AreNotesOf K.are_of inputs notes.new) }
+    ensures tiles_within { TilesTakeAtMost R.bytes_left side tiles.old tiles.new }
+    ensures rasters_within { (p : Held) → RasterTakesAtMost R.bytes_left (P.inputs products.old) (P.inputs products.new) p }
+    ensures faults { SomeReadFails (map R.counts (devices_of tiles.old (P.inputs products.old))) (map R.counts (devices_of tiles.new (P.inputs products.new))) (IsErrOf result Refusal.ReadFailed) }
+    ensures names { names_of tiles.new ≡ names_of tiles.old }
+    ensures headers { (p : Held) → (of_product (P.inputs products.new) p).header ≡ (of_product (P.inputs products.old) p).header }
+    ensures untouched { IfErr result (λ refusal. ¬ IsOfBodies refusal → (tiles.new ≡ tiles.old) × (products.new ≡ products.old)) }
+{
+    // The law that bytes name one tile.
+    one_name();
+    let layout = layout_of(alloc, side, tiles)?;
+    let headers = products.read_headers(&layout)?;
+    answer_to_bodies(alloc, &layout, headers, sinks, tiles, products, notes)
+}
+
+/// The answer to the bodies, where the layout and the headers are right: the verdict on their rows, unless they are refused.
+fn answer_to_bodies<R: ByteSource, P: ProductInputs<R>, K: RowNotes>(
+    alloc: Global,
+    layout: &Layout,
+    headers: PerProduct<Header>,
+    sinks: &[u8],
+    tiles: &mut [TileInput<R>],
+    products: &mut P,
+    notes: &mut K,
+) -> Result<Verdict, Refusal>
+    requires named { length tiles.old ≡ length layout.now.corners }
+    requires shapes { (p : Held) → extent_of (of_product headers p) ≡ tiling.extent_of layout.now }
+    requires alike { P.are_alike headers }
+    requires unnoted { (g : Grid) (ps : grid.Products) → K.are_of g ps 0 notes.old }
+    ensures answer { (inputs : Inputs) → layout.now ≡ tiling_of inputs → ((p : Held) → of_product headers p ≡ fields_of inputs p)
+        → AreBodies R.bytes_left tiles.old inputs.tiles → AreRasterBodies R.bytes_left (P.inputs products.old) inputs.raster
+        → inputs.sinks ≡ sinks.now → NoneStandsBefore inputs 5 → IsAnswer inputs result }
+    ensures noted { OnOk result ((inputs : Inputs) → layout.now ≡ tiling_of inputs → ((p : Held) → of_product headers p ≡ fields_of inputs p)
+        → AreBodies R.bytes_left tiles.old inputs.tiles → AreRasterBodies R.bytes_left (P.inputs products.old) inputs.raster
+        → inputs.sinks ≡ sinks.now → AreNotesOf K.are_of inputs notes.new) }
+    ensures tiles_within { TilesTakeAtMost R.bytes_left layout.now.side tiles.old tiles.new }
+    ensures rasters_within { (p : Held) → BodyTakesAtMost R.bytes_left (of_product headers p) (P.inputs products.old) (P.inputs products.new) p }
+    ensures faults { SomeReadFails (map R.counts (devices_of tiles.old (P.inputs products.old))) (map R.counts (devices_of tiles.new (P.inputs products.new))) (IsErrOf result Refusal.ReadFailed) }
+    ensures names { names_of tiles.new ≡ names_of tiles.old }
+    ensures headers { (p : Held) → (of_product (P.inputs products.new) p).header ≡ (of_product (P.inputs products.old) p).header }
+    ensures of_bodies { IfErr result IsOfBodies }
+{
+    // The law that the rows of a raster take the bytes that it needs.
+    raster_rows_take_what_is_needed();
+    let listing = match sink_listing(alloc, sinks) {
+        Ok(listing) => listing,
+        Err(OutOfMemory) => return Err(Refusal::OutOfMemory),
+    };
+    let nodata = nodata_of(&headers);
+    let mut rows = InputRows::new::<R, P>(alloc, layout, headers, products)?;
+    answer_to_rows(
+        alloc, layout, &listing, &nodata, &mut rows, tiles, products, notes,
+    )
+}
+
+/// The verdict on the rows that new readers give, or the refusal that they tell behind the last, or that of the list of sinks.
+fn answer_to_rows<R: ByteSource, P: ProductInputs<R>, K: RowNotes>(
+    alloc: Global,
+    layout: &Layout,
+    listing: &SinkListing,
+    nodata: &NoData,
+    rows: &mut InputRows,
+    tiles: &mut [TileInput<R>],
+    products: &mut P,
+    notes: &mut K,
+) -> Result<Verdict, Refusal>
+    requires named { length tiles.old ≡ length layout.now.corners }
+    requires counted { length rows.old.mosaic.tiles.items ≡ length layout.now.corners }
+    requires unnoted { (g : Grid) (ps : grid.Products) → K.are_of g ps 0 notes.old }
+    ensures answer { (inputs : Inputs) (hs : PerProduct Fields) → AreBegun layout.now hs (with_rasters P.readers rows.old) → nodata.now ≡ nodata_in hs
+        → ((p : Held) → extent_of (of_product hs p) ≡ tiling.extent_of layout.now)
+        → layout.now ≡ tiling_of inputs → ((p : Held) → of_product hs p ≡ fields_of inputs p)
+        → AreBodies R.bytes_left tiles.old inputs.tiles → AreRasterBodies R.bytes_left (P.inputs products.old) inputs.raster
+        → listing.now.sinks ≡ listed_in inputs → IsBadLine (sinks_of inputs.sinks) listing.now.bad
+        → NoneStandsBefore inputs 5 → IsAnswer inputs result }
+    ensures noted { OnOk result ((inputs : Inputs) (hs : PerProduct Fields) → AreBegun layout.now hs (with_rasters P.readers rows.old)
+        → ((p : Held) → extent_of (of_product hs p) ≡ tiling.extent_of layout.now)
+        → layout.now ≡ tiling_of inputs → ((p : Held) → of_product hs p ≡ fields_of inputs p)
+        → AreBodies R.bytes_left tiles.old inputs.tiles → AreRasterBodies R.bytes_left (P.inputs products.old) inputs.raster
+        → listing.now.sinks ≡ listed_in inputs → AreNotesOf K.are_of inputs notes.new) }
+    ensures reads { HaveBeenRead R.bytes_left R.counts (as_read P.readers P.inputs (rows.old, tiles.old, products.old)) (as_read P.readers P.inputs (rows.new, tiles.new, products.new)) (IsErrOf result Refusal.ReadFailed) }
+    ensures of_bodies { IfErr result IsOfBodies }
+{
+    // The laws that say which rows the bytes of tiles and rasters give, and what these tell of them.
+    layout.makes_a_mosaic();
+    new_rows_are_of_bodies::<R>();
+    rows_end();
+    rows_are_whole();
+    rows_are_first_values();
+    rows_tell_seams();
+    rows_tell_lengths();
+    whole_tiles_give_their_samples();
+    raster_rows_end();
+    raster_rows_are_pixels();
+    // The law that the first listed cell without data is the grid's.
+    found_off_data_is_right();
+    let shape = layout.shape();
+    let found = verdict_by_rows(
+        alloc,
+        shape,
+        &listing.sinks,
+        nodata,
+        rows,
+        tiles,
+        products,
+        notes,
+    )?;
+    if let Some(refusal) = rows.refusal::<R, P>(layout, products) {
+        return Err(refusal);
+    }
+    match sink_refusal(listing, shape, &found.voids) {
+        Some(refusal) => Err(refusal),
+        None => Ok(found.verdict),
+    }
+}

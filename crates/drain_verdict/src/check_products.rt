@@ -1,0 +1,64 @@
+//! The five products of a check: each is read by itself.
+
+ghost use Rattle.std.specs.Prelude.{◌≡◌, IfOk, IfErr};
+ghost use Rattle.drain_device.specs.declared.row_source.Progress.{Progress};
+ghost use Rattle.drain_grid.specs.PerProduct.{of_product};
+ghost use Rattle.drain_verdict.specs.InputRows.{IsFirstProduct};
+ghost use Rattle.drain_verdict.specs.Stages.{AreHeadersFor, IsFirstHeaderRefusal};
+
+use crate::headers::read_headers;
+use crate::input::{Products, RasterInput};
+use crate::next_rows::read_rasters;
+use crate::product_inputs::ProductInputs;
+use crate::refusal::Refusal;
+use drain_device::ByteSource;
+use drain_grid::{Held, PerProduct};
+use drain_header::Header;
+use drain_mosaic::Layout;
+use drain_raster::RasterRows;
+
+impl<R: ByteSource> ProductInputs<R> for PerProduct<RasterInput<R>> {
+    ghost inputs = { λ products. products };
+
+    ghost readers = { λ readers. readers };
+
+    ghost are_alike = { λ headers. Unit {0} };
+
+    fn read_headers(&self, layout: &Layout) -> Result<PerProduct<Header>, Refusal> {
+        read_headers(layout, self)
+    }
+
+    fn begin(&self, headers: PerProduct<Header>) -> PerProduct<RasterRows> {
+        PerProduct {
+            con: RasterRows::new(headers.con),
+            dir: RasterRows::new(headers.dir),
+            acc: RasterRows::new(headers.acc),
+            bas: RasterRows::new(headers.bas),
+            rnk: RasterRows::new(headers.rnk),
+        }
+    }
+
+    fn read_rasters(
+        &mut self,
+        rasters: &mut PerProduct<RasterRows>,
+        out: &mut PerProduct<Vec<i64>>,
+    ) -> Result<(), Refusal> {
+        read_rasters(rasters, self, out)
+    }
+
+    fn first_short(&self, rasters: &PerProduct<RasterRows>) -> Option<Held> {
+        first_stopped(rasters)
+    }
+}
+
+/// The first product whose rows have stopped.
+fn first_stopped(rasters: &PerProduct<RasterRows>) -> Option<Held>
+    ensures { IsFirstProduct (λ p. (of_product rasters.now p).progress ≡ Progress.Stopped) result }
+{
+    for product in Held::ALL {
+        if rasters.of(product).is_stopped() {
+            return Some(product);
+        }
+    }
+    None
+}

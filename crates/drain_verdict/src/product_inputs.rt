@@ -1,0 +1,63 @@
+//! Products as they are handed in, and how the rows of their rasters are read: the five of a check, or the four of an audit.
+
+ghost use Rattle.std.specs.Prelude.{◌≡◌, ℕ, List, OnOk, IfOk, IfErr};
+ghost use Rattle.std.specs.List.{All};
+ghost use Rattle.drain_device.specs.ComingRows.{Coming};
+ghost use Rattle.drain_device.specs.declared.row_source.Progress.{Progress};
+ghost use Rattle.drain_grid.specs.declared.held.Held.{Held};
+ghost use Rattle.drain_grid.specs.declared.per_product.PerProduct.{PerProduct};
+ghost use Rattle.drain_grid.specs.PerProduct.{of_product};
+ghost use Rattle.drain_grid.specs.Values.{IsPixel};
+ghost use Rattle.drain_header.specs.Fields.{Fields};
+ghost use Rattle.drain_raster.specs.declared.raster_rows.RasterRows.{RasterRows};
+ghost use Rattle.drain_verdict.specs.InputReads.{IsOfReading, RastersHaveRead, told_by};
+ghost use Rattle.drain_verdict.specs.InputRows.{IsFirstProduct, IsRasterBegun};
+ghost use Rattle.drain_verdict.specs.Inputs.{Products};
+ghost use Rattle.drain_verdict.specs.Stages.{AreHeadersFor, IsFirstHeaderRefusal};
+ghost use Rattle.drain_verdict.specs.ToGive.{IsAfterTold, IsOneMore};
+
+use crate::refusal::Refusal;
+use drain_device::ByteSource;
+use drain_grid::{Held, PerProduct};
+use drain_header::Header;
+use drain_mosaic::Layout;
+use drain_raster::RasterRows;
+
+/// Products that are handed in. They are read as five, whichever of them they are: where one isn't handed in, of which the rules that are
+/// tried ask nothing, another stands in its place.
+pub trait ProductInputs<R: ByteSource> {
+    /// The five, each or what stands in its place.
+    ghost inputs: { Self → Products R };
+
+    /// The readers of the five, each or what stands in its place.
+    ghost readers: { PerProduct RasterRows → PerProduct RasterRows };
+
+    /// A product has the header of what stands in its place.
+    ghost are_alike: { PerProduct Fields → Type 0 };
+
+    /// The header of each product, or the first that is refused.
+    fn read_headers(&self, layout: &Layout) -> Result<PerProduct<Header>, Refusal>
+        ensures headers { IfOk result (AreHeadersFor layout.now (inputs self.now)) }
+        ensures alike { IfOk result (λ headers. are_alike headers) }
+        ensures refusal { IfErr result (IsFirstHeaderRefusal layout.now (inputs self.now)) };
+
+    /// Readers of rasters with these headers, from the first byte of each on.
+    fn begin(&self, headers: PerProduct<Header>) -> PerProduct<RasterRows>
+        requires alike { are_alike headers }
+        ensures begun { (p : Held) → IsRasterBegun (of_product headers p) (of_product (readers result) p) };
+
+    /// Reads the next row of each product. The first refusal ends it.
+    fn read_rasters(
+        &mut self,
+        rasters: &mut PerProduct<RasterRows>,
+        out: &mut PerProduct<Vec<i64>>,
+    ) -> Result<(), Refusal>
+        ensures rows { OnOk result ((p : Held) (start : Coming) (n : ℕ) → IsAfterTold (of_product (readers rasters.old) p) (R.bytes_left (of_product (inputs self.old) p).body) start n → IsOneMore (of_product (readers rasters.new) p) (R.bytes_left (of_product (inputs self.new) p).body) start n (of_product out.new p).items) }
+        ensures pixels { OnOk result ((p : Held) → All IsPixel (of_product out.new p).items) }
+        ensures read { RastersHaveRead R.bytes_left R.counts (readers rasters.old) (readers rasters.new) (inputs self.old) (inputs self.new) (told_by result) }
+        ensures of_reading { IsOfReading (told_by result) };
+
+    /// The first product whose rows have stopped.
+    fn first_short(&self, rasters: &PerProduct<RasterRows>) -> Option<Held>
+        ensures { IsFirstProduct (λ p. (of_product (readers rasters.now) p).progress ≡ Progress.Stopped) result };
+}
