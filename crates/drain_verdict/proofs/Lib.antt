@@ -1,4 +1,5 @@
 mod Acceptance
+mod AuditReads
 mod BodyAnswers
 pub mod CellSets
 mod Devices

@@ -1,4 +1,5 @@
 pub mod Answers
+pub mod AuditInputs
 pub mod Devices
 pub mod FillLines
 pub mod GridRows

@@ -96,15 +96,23 @@ IsHeaderRefusal t p text (WrongShape q) = (q ≡ p) × HasWrongShape t text
 IsHeaderRefusal t p text (Misplaced q) = (q ≡ p) × IsElsewhere t text
 IsHeaderRefusal t p text refusal = ⊥
 
+-- each text is a header that is right, and these are they
+abbrev pub AreHeadersOf : tiling.Tiling → (Held → List ℕ) → PerProduct Fields → Type 0
+AreHeadersOf t text hs = (p : Held) → IsHeaderFor t (text p) (of_product hs p)
+
+-- the first product whose text is refused, and why
+pub record IsFirstRefusalOf (t : tiling.Tiling) (text : Held → List ℕ) (refusal : Refusal) : Type 0 where
+  pub product : Held
+  pub refused : IsHeaderRefusal t (product_of product) (text product) refusal
+  pub before : (q : Held) → rank_of q < rank_of product → (h : Fields) × IsHeaderFor t (text q) h
+
 -- the header of each product is right
 abbrev pub AreHeadersFor : {R : Type 0} → tiling.Tiling → Products R → PerProduct Fields → Type 0
-AreHeadersFor t ps hs = (p : Held) → IsHeaderFor t (of_product ps p).header (of_product hs p)
+AreHeadersFor t ps hs = AreHeadersOf t (λ p. (of_product ps p).header) hs
 
 -- the first product whose header is refused, and why
-pub record IsFirstHeaderRefusal {R : Type 0} (t : tiling.Tiling) (ps : Products R) (refusal : Refusal) : Type 0 where
-  pub product : Held
-  pub refused : IsHeaderRefusal t (product_of product) (of_product ps product).header refusal
-  pub before : (q : Held) → rank_of q < rank_of product → (h : Fields) × IsHeaderFor t (of_product ps q).header h
+abbrev pub IsFirstHeaderRefusal : {R : Type 0} → tiling.Tiling → Products R → Refusal → Type 0
+IsFirstHeaderRefusal t ps refusal = IsFirstRefusalOf t (λ p. (of_product ps p).header) refusal
 
 -- the bodies have the length of tiles, and these are their samples
 pub record AreSamplesOf (side : ℕ) (bodies : List (List ℕ)) (samples : List (List ℤ)) : Type 0 where

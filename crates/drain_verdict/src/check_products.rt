@@ -25,7 +25,14 @@ impl<R: ByteSource> ProductInputs<R> for PerProduct<RasterInput<R>> {
     ghost are_alike = { λ headers. Unit {0} };
 
     fn read_headers(&self, layout: &Layout) -> Result<PerProduct<Header>, Refusal> {
-        read_headers(layout, self)
+        let texts = PerProduct {
+            con: self.con.header.as_slice(),
+            dir: self.dir.header.as_slice(),
+            acc: self.acc.header.as_slice(),
+            bas: self.bas.header.as_slice(),
+            rnk: self.rnk.header.as_slice(),
+        };
+        read_headers(layout, &texts)
     }
 
     fn begin(&self, headers: PerProduct<Header>) -> PerProduct<RasterRows> {

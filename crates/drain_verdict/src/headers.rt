@@ -6,9 +6,8 @@ ghost use Rattle.drain_mosaic.specs.Tiling as tiling;
 ghost use Rattle.drain_grid.specs.Held.{product_of};
 ghost use Rattle.drain_grid.specs.PerProduct.{of_product};
 ghost use Rattle.drain_verdict.specs.Meaning.{nodata_in};
-ghost use Rattle.drain_verdict.specs.Stages.{IsHeaderFor, IsHeaderRefusal, AreHeadersFor, IsFirstHeaderRefusal};
+ghost use Rattle.drain_verdict.specs.Stages.{IsHeaderFor, IsHeaderRefusal, AreHeadersOf, IsFirstRefusalOf};
 
-use crate::input::Products;
 use crate::placing::is_placed;
 use crate::refusal::Refusal;
 use drain_grid::{Held, NoData, PerProduct, Product};
@@ -48,22 +47,18 @@ fn read_header(layout: &Layout, product: Product, text: &[u8]) -> Result<Header,
 /// A header is refused for its own first fault (`BadHeader`), then where its rows or columns aren't those of the mosaic (`WrongShape`),
 /// then where its corner lies more than 10^-6 degree from the mosaic's or its pixels differ from samples by more than 10^-9 degree
 /// (`Misplaced`).
-pub fn read_headers<R>(
+pub fn read_headers(
     layout: &Layout,
-    products: &Products<R>,
+    texts: &PerProduct<&[u8]>,
 ) -> Result<PerProduct<Header>, Refusal>
-    ensures headers { IfOk result (AreHeadersFor layout.now products.now) }
-    ensures refusal { IfErr result (IsFirstHeaderRefusal layout.now products.now) }
+    ensures headers { IfOk result (AreHeadersOf layout.now (λ p. (of_product texts.now p).now)) }
+    ensures refusal { IfErr result (IsFirstRefusalOf layout.now (λ p. (of_product texts.now p).now)) }
 {
     let read = |product: Held| -> Result<Header, Refusal>
-        ensures header { IfOk result (IsHeaderFor layout.entry.now (of_product products.entry.now product).header) }
-        ensures refusal { IfErr result (IsHeaderRefusal layout.entry.now (product_of product) (of_product products.entry.now product).header) }
+        ensures header { IfOk result (IsHeaderFor layout.entry.now (of_product texts.entry.now product).now) }
+        ensures refusal { IfErr result (IsHeaderRefusal layout.entry.now (product_of product) (of_product texts.entry.now product).now) }
     {
-        read_header(
-            layout,
-            product.product(),
-            products.of(product).header.as_slice(),
-        )
+        read_header(layout, product.product(), texts.of(product))
     };
     PerProduct::from_each(&read)
 }

@@ -3,6 +3,7 @@
 
 mod answer;
 pub mod answer_report;
+pub mod audit_products;
 mod check_products;
 pub mod checker;
 pub mod fill_line;
@@ -32,6 +33,7 @@ mod whole_rows;
 mod window;
 
 pub use answer_report::report;
+pub use audit_products::AuditProducts;
 pub use checker::check;
 pub use drain_rules::{Counts, FillCounts, FillRefusal, FillVerdict, Verdict, check_fill};
 pub use fill_line::fill_report;

@@ -69,7 +69,7 @@ pub fn read_rasters<R: ByteSource>(
 }
 
 /// Reads the next row of a product, where nothing was refused before: none where its raster has ended, or is short.
-fn read_raster<R: ByteSource>(
+pub fn read_raster<R: ByteSource>(
     told: Result<(), Refusal>,
     raster: &mut RasterRows,
     body: &mut R,
