@@ -2,18 +2,20 @@
 //!
 //! A closed cell with no lower neighbour has nowhere to fall to, so its direction leads along the flat, to a cell of
 //! its own height that is nearer to the way out. The rank says which is nearer: it falls at each such step, so no walk
-//! along a flat comes round to where it was. Any step of that kind keeps the rule. One call looks at one cell and
-//! takes no memory.
+//! along a flat comes round to where it was. Any step of that kind keeps the rule. Whoever knows by other means that walks
+//! end asks for no ranks: then any step to a cell of the same height keeps it. One call looks at one cell and takes no memory.
 //!
 //! Source: directions on a flat go from cell to cell back to where Priority-Flood reached it (Barnes, Lehman and
 //! Mulla 2014). That a rank shows this at each cell, and the rule's wording, are this project's own.
 #![tactic(auto)]
 
-ghost use Rattle.std.specs.Prelude.{◌≡◌, ◌↔◌, ◌<ℤ◌, IsSome, IsTrue};
+ghost use Rattle.std.specs.Prelude.{◌≡◌, ◌↔◌, ◌<ℤ◌, IfSome, IsNone, IsSome, IsTrue};
 ghost use Rattle.drain_grid.specs.declared.direction.Direction.{Direction};
-ghost use Rattle.drain_grid.specs.Patch.{IsClosed, HasLower};
+ghost use Rattle.drain_grid.specs.Direction.{Names};
+ghost use Rattle.drain_grid.specs.Patch.{IsClosed, HasLower, neighbor};
 ghost use Rattle.drain_grid.specs.PatchRules.{flow_rules, IsFlatStep};
 ghost use Rattle.drain_grid.specs.Rule.{IsOnly, IsLeastFault};
+ghost use Rattle.drain_grid.specs.Unranked.{level_rules, IsLevelStep};
 ghost use Rattle.drain_grid.specs.Values.{Values};
 
 use drain_grid::{CellValues, Patch, Rule};
@@ -29,24 +31,58 @@ pub fn fault(patch: &Patch) -> Option<Rule>
     }
 }
 
+/// The same without ranks: a step to any cell of the same height keeps the rule.
+pub fn fault_without_ranks(patch: &Patch) -> Option<Rule>
+    ensures least { IsLeastFault (IsOnly Rule.FlatStep) (level_rules patch.now) result }
+{
+    if steps_level(patch) || !is_inner_flat(patch) {
+        None
+    } else {
+        Some(Rule::FlatStep)
+    }
+}
+
 /// Whether the direction leads to a data neighbour of the same height and a smaller rank.
 fn steps_along(patch: &Patch) -> bool
     ensures { IsTrue result ↔ ((d : Direction) × (n : Values) × IsFlatStep patch.now d n) }
 {
-    let Some(direction) = patch.here.direction() else {
-        return false;
-    };
-    match patch.neighbor(direction) {
+    match named_neighbor(patch) {
         Some(next) => is_nearer(patch, &next),
         None => false,
     }
+}
+
+/// Whether the direction leads to a data neighbour of the same height.
+fn steps_level(patch: &Patch) -> bool
+    ensures { IsTrue result ↔ ((d : Direction) × (n : Values) × IsLevelStep patch.now d n) }
+{
+    match named_neighbor(patch) {
+        Some(next) => is_level(patch, &next),
+        None => false,
+    }
+}
+
+/// The neighbour that the direction names, none where it names none in the grid.
+fn named_neighbor(patch: &Patch) -> Option<CellValues>
+    ensures there { IfSome result (λ n. (d : Direction) × Names patch.now.here.dir d × (neighbor patch.now d ≡ Some n)) }
+    ensures nowhere { IsNone result → (d : Direction) → Names patch.now.here.dir d → neighbor patch.now d ≡ None }
+{
+    let direction = patch.here.direction()?;
+    patch.neighbor(direction)
 }
 
 /// Whether these values are those of a data cell of the same height and a smaller rank.
 fn is_nearer(patch: &Patch, next: &CellValues) -> bool
     ensures { IsTrue result ↔ (IsSome next.now.z × (next.now.con ≡ patch.now.here.con) × (next.now.rnk <ℤ patch.now.here.rnk)) }
 {
-    next.z.is_some() && next.con == patch.here.con && next.rnk < patch.here.rnk
+    is_level(patch, next) && next.rnk < patch.here.rnk
+}
+
+/// Whether these values are those of a data cell of the same height.
+fn is_level(patch: &Patch, next: &CellValues) -> bool
+    ensures { IsTrue result ↔ (IsSome next.now.z × (next.now.con ≡ patch.now.here.con)) }
+{
+    next.z.is_some() && next.con == patch.here.con
 }
 
 /// Whether the cell is closed and has no lower neighbour.

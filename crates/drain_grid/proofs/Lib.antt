@@ -12,6 +12,7 @@ pub mod Decisions
 pub mod Directions
 pub mod EndedRuns
 pub mod Exactly
+pub mod FourAndRank
 pub mod FromCorrect
 pub mod Inflows
 pub mod Least

@@ -1,14 +1,15 @@
 -- The rules of a part of a profile are those of the profile, and where all of them hold, those of the part do; the profile without spill parents
 -- follows from the one with them, rule by rule.
-use Rattle.std.proofs.Common.{◌↔◌, arith}
+use Rattle.std.proofs.Common.{◌≢◌, ◌↔◌, refl, arith}
 use Rattle.drain_grid.specs.declared.cell.Cell.{Cell}
 use Rattle.drain_grid.specs.declared.patch.Patch.{Patch}
 use Rattle.drain_grid.specs.declared.rule.Rule.{Rule}
 use Rattle.drain_grid.specs.declared.rule.Rule.TheVariants.{VoidCell, Missing, BadCode, BelowGround, OpenRaised, NoSpill, SpillHeight, SpillRank, NotLeast, Slope, OutletCode, FlatStep, Accumulation, Label, SharedLabel}
 use Rattle.drain_grid.specs.Held.{product_of}
 use Rattle.drain_grid.specs.Values.{NoDataNumbers}
-use Rattle.drain_grid.specs.Rule.{IsAnyRule, IsFillRule, IsFlowRule}
+use Rattle.drain_grid.specs.Rule.{number_of, IsAnyRule, IsFillRule, IsFlowRule}
 use Rattle.drain_grid.specs.PatchRules.{Profile, fill_rules, flow_rules, profile1, profile2, surface_rules}
+use Rattle.drain_grid.specs.Unranked.{level_rules, unranked}
 use Rattle.drain_grid.specs.Grid.{Grid, Products, patch_at}
 use Rattle.drain_grid.specs.GridRules.{HoldsAt, RulesHold}
 use Rattle.drain_grid.specs.Laws.{Profile2FromProfile1}
@@ -32,6 +33,24 @@ flow_same nodata p Accumulation own = (λ h. h, λ h. h)
 flow_same nodata p Label own = (λ h. h, λ h. h)
 flow_same nodata p SharedLabel own = (λ h. h, λ h. h)
 flow_same nodata p r own = absurd (omega (arith, own.0))
+
+-- without ranks both say what they say in the profile without ranks
+pub surface_same_unranked : (nodata : NoDataNumbers) (p : Patch) (r : Rule) → IsFillRule r → surface_rules p r ↔ unranked nodata p r
+surface_same_unranked nodata p VoidCell own = absurd (omega (arith, own.0))
+surface_same_unranked nodata p Missing own = absurd (omega (arith, own.0))
+surface_same_unranked nodata p FlatStep own = absurd (omega (arith, own.1))
+surface_same_unranked nodata p r own = surface_same nodata p r own
+
+pub level_same : (nodata : NoDataNumbers) (p : Patch) (r : Rule) → IsFlowRule r → level_rules p r ↔ unranked nodata p r
+level_same nodata p VoidCell own = absurd (omega (arith, own.0))
+level_same nodata p Missing own = absurd (omega (arith, own.0))
+level_same nodata p FlatStep own = (λ h. h, λ h. h)
+level_same nodata p r own = flow_same nodata p r own
+
+-- and of the rules on where water goes only the one on flats looks at ranks
+pub flow_level : (p : Patch) (r : Rule) → number_of r ≢ number_of FlatStep → flow_rules p r ↔ level_rules p r
+flow_level p FlatStep other = absurd (other refl)
+flow_level p r other = (λ h. h, λ h. h)
 
 -- a rule that says less on the patch holds at the cell
 HoldsAt-patch : (P Q : Profile) (g : Grid) (ps : Products) (c : Cell) (r : Rule) → (P (patch_at g ps c) r → Q (patch_at g ps c) r) →

@@ -5,7 +5,7 @@
 -- the ground is no higher (rule 4). Either way con here is the greater of the ground here and con there: what a spill parent
 -- shows. At an outlet, which is open, con is the ground (rule 5), and the cell alone is the path. So the paths are built along
 -- runs, by the induction of Runs.
-use Rattle.std.proofs.Common.{◌≡◌, ◌≤ℤ◌, ◌<ℤ◌, ◌⊎◌, inl, inr, ℤ, arith}
+use Rattle.std.proofs.Common.{◌≡◌, ◌≤ℤ◌, inl, inr, ℤ, arith}
 use Rattle.std.specs.Int.{int_max}
 use Rattle.std.proofs.lemmas.Int.{ints, clamps}
 use Rattle.drain_grid.specs.declared.cell.Cell.{Cell}

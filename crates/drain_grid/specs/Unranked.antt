@@ -7,7 +7,7 @@ use Rattle.drain_grid.specs.declared.rule.Rule.TheVariants.{VoidCell, Missing, F
 use Rattle.drain_grid.specs.Direction.{Names}
 use Rattle.drain_grid.specs.Values.{Values, NoDataNumbers}
 use Rattle.drain_grid.specs.Patch.{IsDataCell, IsDataNeighbor, IsClosed, HasLower}
-use Rattle.drain_grid.specs.PatchRules.{Profile, check_rules}
+use Rattle.drain_grid.specs.PatchRules.{Profile, flow_rules, check_rules}
 
 -- con, dir, acc and bas have their no-data numbers
 pub record IsBlankWithoutRank (nodata : NoDataNumbers) (v : Values) : Type 0 where
@@ -40,9 +40,14 @@ pub record IsLevelStep (p : Patch) (d : Direction) (n : Values) : Type 0 where
 abbrev pub LevelStepHolds : Patch → Type 0
 LevelStepHolds p = IsClosed p → ¬ HasLower p → (d : Direction) × (n : Values) × IsLevelStep p d n
 
+-- the rules on where water goes from a cell, without ranks
+abbrev pub level_rules : Profile
+level_rules p FlatStep = LevelStepHolds p
+level_rules p r = flow_rules p r
+
 -- the rules of a check without ranks
 abbrev pub unranked : NoDataNumbers → Profile
 unranked nodata p VoidCell = VoidCellWithoutRank nodata p
 unranked nodata p Missing = MissingWithoutRank nodata p
-unranked nodata p FlatStep = LevelStepHolds p
+unranked nodata p FlatStep = level_rules p FlatStep
 unranked nodata p r = check_rules nodata p r

@@ -17,8 +17,9 @@ use Rattle.drain_grid.specs.PatchRules.{Profile, check_rules}
 use Rattle.drain_grid.specs.GridRules.{SharedLabelHolds, HoldsAt}
 use Rattle.drain_grid.proofs.CellSums.{sum_by_cells_same}
 use Rattle.drain_grid.proofs.Neighbors.{step_lies}
+use Rattle.drain_rules.specs.declared.verdict.Verdict.{Verdict}
 use Rattle.drain_rules.specs.declared.verdict.Verdict.TheVariants.{Accepted, Rejected}
-use Rattle.drain_rules.specs.Verdicts.{has_outlet_code, counts_of}
+use Rattle.drain_rules.specs.Verdicts.{has_outlet_code, counts_of, IsVerdictOf}
 use Rattle.drain_rules.specs.Laws.{AreEqual, EqualGridsHaveOneVerdict}
 
 -- two functions that are equal at the cell of a step make the same of it
@@ -86,21 +87,26 @@ module _ (g h : Grid) (ps qs : Products) (same : AreEqual g h ps qs) where
         outlets = outlets i;
       }
 
-pub equal_grids_have_one_verdict : EqualGridsHaveOneVerdict
-equal_grids_have_one_verdict g h ps qs nodata same (Accepted counts) is = (
+-- whatever the rules, a verdict on the one is a verdict on the other
+verdict_same : (profile : Profile) (g h : Grid) (ps qs : Products) → AreEqual g h ps qs → (verdict : Verdict) →
+    IsVerdictOf profile g ps verdict → IsVerdictOf profile h qs verdict
+verdict_same profile g h ps qs same (Accepted counts) is = (
   (λ c r inside own.
       let here = back g h ps qs same c inside in
-      rule_same g h ps qs same (check_rules nodata) c r here (is.0 c r here own)),
+      rule_same g h ps qs same profile c r here (is.0 c r here own)),
   is.1 ∙ counts_same g h ps qs same,
 )
-equal_grids_have_one_verdict g h ps qs nodata same (Rejected rule row col) is =
+verdict_same profile g h ps qs same (Rejected rule row col) is =
     let place : Cell = record { row = row; col = col } in
     let inside = there g h ps qs same place is.inside in
     record {
       inside = inside;
       is_own = is.is_own;
-      fails = λ holds. is.fails (rule_same h g qs ps (turned g h ps qs same) (check_rules nodata) place rule inside holds);
+      fails = λ holds. is.fails (rule_same h g qs ps (turned g h ps qs same) profile place rule inside holds);
       first = λ b q at_b own earlier.
           (let here = back g h ps qs same b at_b in
-          rule_same g h ps qs same (check_rules nodata) b q here (is.first b q here own earlier));
+          rule_same g h ps qs same profile b q here (is.first b q here own earlier));
     }
+
+pub equal_grids_have_one_verdict : EqualGridsHaveOneVerdict
+equal_grids_have_one_verdict g h ps qs nodata same verdict is = verdict_same (check_rules nodata) g h ps qs same verdict is

@@ -5,9 +5,8 @@ use Rattle.drain_grid.specs.declared.rule.Rule.{Rule}
 use Rattle.drain_grid.specs.declared.rule.Rule.TheVariants.{SharedLabel}
 use Rattle.drain_grid.specs.declared.patch.Patch.{Patch}
 use Rattle.drain_grid.specs.Rule.{IsAnyRule, IsPatchRule, IsLeastFault}
-use Rattle.drain_grid.specs.Values.{NoDataNumbers}
 use Rattle.drain_grid.specs.Grid.{Grid, Products, IsInside, patch_at}
-use Rattle.drain_grid.specs.PatchRules.{Profile, check_rules}
+use Rattle.drain_grid.specs.PatchRules.{Profile}
 use Rattle.drain_grid.specs.GridRules.{HoldsAt, SharedLabelHolds}
 use Rattle.drain_rules.specs.Labels.{AreLabelsBefore, labelled_profile}
 
@@ -32,15 +31,15 @@ IsLeastFault-patch profile IsOwn g ps c o of_patch =
     (λ r own. patch-HoldsAt profile g ps c r (of_patch r own))
 
 -- the labels play no part in the rules of a patch
-pub labelled-patch : (nodata : NoDataNumbers) (labels : List (ℕ × ℕ)) (p : Patch) (r : Rule) → IsPatchRule r →
-    check_rules nodata p r ↔ labelled_profile nodata labels p r
-labelled-patch nodata labels p SharedLabel own = absurd (omega (arith, own.1))
-labelled-patch nodata labels p r own = (λ h. h, λ h. h)
+pub labelled-patch : (profile : Profile) (labels : List (ℕ × ℕ)) (p : Patch) (r : Rule) → IsPatchRule r →
+    profile p r ↔ labelled_profile profile labels p r
+labelled-patch profile labels p SharedLabel own = absurd (omega (arith, own.1))
+labelled-patch profile labels p r own = (λ h. h, λ h. h)
 
 -- with the labels of the outlets before the cell, SharedLabel is that of the grid
-shared-labelled : (g : Grid) (ps : Products) (nodata : NoDataNumbers) (labels : List (ℕ × ℕ)) (c : Cell) → IsInside g c →
-    AreLabelsBefore g ps c labels → labelled_profile nodata labels (patch_at g ps c) SharedLabel ↔ SharedLabelHolds g ps c
-shared-labelled g ps nodata labels c inside before = (
+shared-labelled : (profile : Profile) (g : Grid) (ps : Products) (labels : List (ℕ × ℕ)) (c : Cell) → IsInside g c →
+    AreLabelsBefore g ps c labels → labelled_profile profile labels (patch_at g ps c) SharedLabel ↔ SharedLabelHolds g ps c
+shared-labelled profile g ps labels c inside before = (
   (λ fresh here code b at_b earlier code_b same.
       fresh (record { has_data = here.is_data; code = code })
       ((before (ps.bas c)).1 (record { cell = b; earlier = earlier; has_data = at_b; code = code_b; label_is = sym same }))),
@@ -50,17 +49,17 @@ shared-labelled g ps nodata labels c inside before = (
 )
 
 -- and so is every rule
-pub labelled-HoldsAt : (g : Grid) (ps : Products) (nodata : NoDataNumbers) (labels : List (ℕ × ℕ)) (c : Cell) (r : Rule) → IsInside g c →
-    AreLabelsBefore g ps c labels → labelled_profile nodata labels (patch_at g ps c) r ↔ HoldsAt (check_rules nodata) g ps c r
-labelled-HoldsAt g ps nodata labels c SharedLabel inside before = shared-labelled g ps nodata labels c inside before
-labelled-HoldsAt g ps nodata labels c r inside before = (λ h. h, λ h. h)
+pub labelled-HoldsAt : (profile : Profile) (g : Grid) (ps : Products) (labels : List (ℕ × ℕ)) (c : Cell) (r : Rule) → IsInside g c →
+    AreLabelsBefore g ps c labels → labelled_profile profile labels (patch_at g ps c) r ↔ HoldsAt profile g ps c r
+labelled-HoldsAt profile g ps labels c SharedLabel inside before = shared-labelled profile g ps labels c inside before
+labelled-HoldsAt profile g ps labels c r inside before = (λ h. h, λ h. h)
 
 -- the least fault of the cell's patch is that of the cell
-pub IsLeastFault-cell : (g : Grid) (ps : Products) (nodata : NoDataNumbers) (labels : List (ℕ × ℕ)) (c : Cell) (p : Patch) (o : Option Rule) →
+pub IsLeastFault-cell : (profile : Profile) (g : Grid) (ps : Products) (labels : List (ℕ × ℕ)) (c : Cell) (p : Patch) (o : Option Rule) →
     IsInside g c → AreLabelsBefore g ps c labels → p ≡ patch_at g ps c →
-    IsLeastFault IsAnyRule (labelled_profile nodata labels p) o →
-    IsLeastFault IsAnyRule (HoldsAt (check_rules nodata) g ps c) o
-IsLeastFault-cell g ps nodata labels c p o inside before is least =
-    IsLeastFault-same IsAnyRule (labelled_profile nodata labels (patch_at g ps c)) (HoldsAt (check_rules nodata) g ps c) o
-    (λ r own. labelled-HoldsAt g ps nodata labels c r inside before)
-    (subst (λ p. IsLeastFault IsAnyRule (labelled_profile nodata labels p) o) is least)
+    IsLeastFault IsAnyRule (labelled_profile profile labels p) o →
+    IsLeastFault IsAnyRule (HoldsAt profile g ps c) o
+IsLeastFault-cell profile g ps labels c p o inside before is least =
+    IsLeastFault-same IsAnyRule (labelled_profile profile labels (patch_at g ps c)) (HoldsAt profile g ps c) o
+    (λ r own. labelled-HoldsAt profile g ps labels c r inside before)
+    (subst (λ p. IsLeastFault IsAnyRule (labelled_profile profile labels p) o) is least)

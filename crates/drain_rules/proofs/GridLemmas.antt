@@ -9,10 +9,9 @@ use Rattle.drain_grid.specs.declared.cell.Cell.{Cell}
 use Rattle.drain_grid.specs.declared.rule.Rule.{Rule}
 use Rattle.drain_grid.specs.Rule.{IsAnyRule, IsFillRule}
 use Rattle.drain_grid.specs.Extent.{row_cells, IsEarlier}
-use Rattle.drain_grid.specs.Values.{NoDataNumbers}
 use Rattle.drain_grid.specs.Grid.{Grid, Products, IsInside}
 use Rattle.drain_grid.specs.Counts.{is_data, is_raised}
-use Rattle.drain_grid.specs.PatchRules.{Profile, fill_rules, check_rules}
+use Rattle.drain_grid.specs.PatchRules.{Profile, fill_rules}
 use Rattle.drain_grid.specs.GridRules.{HoldsAt, RulesHold, IsEarlierPair, IsFirstFault}
 use Rattle.drain_rules.specs.declared.fill_walk.FillVerdict.TheVariants as fill
 use Rattle.drain_rules.specs.declared.tally.Tally.{Tally}
@@ -105,9 +104,9 @@ IsFirstFault-row profile IsOwn g ps row col rule inside above here = record {
     first b q in_grid own (inr same) = subst (λ c. HoldsAt profile g ps c q) (sym same.0) (here.smaller q own same.1)
 
 -- where the rows above keep every rule, a new label of the row is one of the grid
-pub HasNewLabel-row : (nodata : NoDataNumbers) (g : Grid) (ps : Products) (row col : ℕ) →
-    ((r : ℕ) → r < row → HoldAlong (check_rules nodata) IsAnyRule g ps r g.extent.cols) → IsNewLabelAlong nodata g ps row col → HasNewLabel nodata g ps
-HasNewLabel-row nodata g ps row col above along = (
+pub HasNewLabel-row : (profile : Profile) (g : Grid) (ps : Products) (row col : ℕ) →
+    ((r : ℕ) → r < row → HoldAlong profile IsAnyRule g ps r g.extent.cols) → IsNewLabelAlong profile g ps row col → HasNewLabel profile g ps
+HasNewLabel-row profile g ps row col above along = (
   place row col,
   record {
     has_data = along.has_data;
@@ -117,11 +116,11 @@ HasNewLabel-row nodata g ps row col above along = (
   },
 )
   where
-    before : (b : Cell) (rule : Rule) → IsInside g b → IsEarlier b (place row col) → IsAnyRule rule → HoldsAt (check_rules nodata) g ps b rule
+    before : (b : Cell) (rule : Rule) → IsInside g b → IsEarlier b (place row col) → IsAnyRule rule → HoldsAt profile g ps b rule
     before b rule in_grid (inl north) own = above b.row north b.col rule in_grid.col own
     before b rule in_grid (inr west) own =
-        let back : HoldsAt (check_rules nodata) g ps (place row b.col) rule = along.holds b.col rule (omega (arith, west.1)) own in
-        subst (λ r. HoldsAt (check_rules nodata) g ps (place r b.col) rule) (sym west.0) back
+        let back : HoldsAt profile g ps (place row b.col) rule = along.holds b.col rule (omega (arith, west.1)) own in
+        subst (λ r. HoldsAt profile g ps (place r b.col) rule) (sym west.0) back
 
 -- rules that hold along every row hold at every cell
 RulesHold-rows : (profile : Profile) (IsOwn : Rule → Type 0) (g : Grid) (ps : Products) →

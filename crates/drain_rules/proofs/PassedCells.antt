@@ -4,9 +4,8 @@ use Rattle.std.specs.Ordering.{int_eq}
 use Rattle.drain_basin.specs.Admitted.{IsAdmitted}
 use Rattle.drain_grid.specs.declared.patch.Patch.{Patch}
 use Rattle.drain_grid.specs.Rule.{IsAnyRule, IsLeastFault}
-use Rattle.drain_grid.specs.Values.{NoDataNumbers}
 use Rattle.drain_grid.specs.Grid.{Grid, Products, IsInside, patch_at}
-use Rattle.drain_grid.specs.PatchRules.{check_rules}
+use Rattle.drain_grid.specs.PatchRules.{Profile}
 use Rattle.drain_rules.specs.declared.cell_rules.Stop.{Stop}
 use Rattle.drain_rules.specs.declared.tally.Tally.{Tally}
 use Rattle.drain_rules.specs.Labels.{AreLabelsBefore, IsLabelOf, labelled_profile}
@@ -18,8 +17,8 @@ use Rattle.drain_rules.proofs.LabelsBefore.{AreLabelsBefore-more, AreLabelsBefor
 use Rattle.drain_rules.proofs.RowLemmas.{HoldAlong-more, CountsAlong-more, IsStopAt-cell}
 
 -- the cells before this column keep the rules, are counted, and their outlets' labels are admitted
-pub record IsPassed (nodata : NoDataNumbers) (g : Grid) (ps : Products) (row col : ℕ) (tally : Tally) (labels : List (ℕ × ℕ)) : Type 0 where
-  pub holds : HoldAlong (check_rules nodata) IsAnyRule g ps row col
+pub record IsPassed (profile : Profile) (g : Grid) (ps : Products) (row col : ℕ) (tally : Tally) (labels : List (ℕ × ℕ)) : Type 0 where
+  pub holds : HoldAlong profile IsAnyRule g ps row col
   pub counted : CountsAlong g ps row col tally
   pub before : AreLabelsBefore g ps (place row col) labels
 
@@ -27,42 +26,42 @@ inside-row : (g : Grid) (ps : Products) (row col cols : ℕ) (shown : ℕ → Pa
 inside-row g ps row col cols shown are less = record { row = are.inside; col = omega (arith, less, are.cols_are) }
 
 -- where all rules hold at the next cell, it is passed too
-pub passed-more : (nodata : NoDataNumbers) (g : Grid) (ps : Products) (row col cols : ℕ) (shown : ℕ → Patch) (p : Patch) (old new : Tally) (before after : List (ℕ × ℕ)) →
-    AreRowPatches g ps row cols shown → col < cols → p ≡ shown col → IsPassed nodata g ps row col old before →
-    IsLeastFault IsAnyRule (labelled_profile nodata before p) None →
+pub passed-more : (profile : Profile) (g : Grid) (ps : Products) (row col cols : ℕ) (shown : ℕ → Patch) (p : Patch) (old new : Tally) (before after : List (ℕ × ℕ)) →
+    AreRowPatches g ps row cols shown → col < cols → p ≡ shown col → IsPassed profile g ps row col old before →
+    IsLeastFault IsAnyRule (labelled_profile profile before p) None →
     new.data_cells ≡ old.data_cells + cond (is_some p.here.z) 1 0 →
     new.raised ≡ old.raised + cond (is_some p.here.z && int_lt (unwrap_or p.here.z (pos 0)) p.here.con) 1 0 →
     new.outlets ≡ old.outlets + cond (is_some p.here.z && int_eq p.here.dir (pos 0)) 1 0 →
-    ((label : ℤ) → IsAdmitted after label ↔ (IsLabelOf p.here label ⊎ IsAdmitted before label)) → IsPassed nodata g ps row (col + 1) new after
-passed-more nodata g ps row col cols shown p old new before after are less is passed least data_cells raised outlets admits =
+    ((label : ℤ) → IsAdmitted after label ↔ (IsLabelOf p.here label ⊎ IsAdmitted before label)) → IsPassed profile g ps row (col + 1) new after
+passed-more profile g ps row col cols shown p old new before after are less is passed least data_cells raised outlets admits =
     let inside = inside-row g ps row col cols shown are less in
     let same : p ≡ patch_at g ps (place row col) = is ∙ are.patches_are col less in
     let here = ap (λ (q : Patch). q.here) same in
     record {
-      holds = HoldAlong-more (check_rules nodata) IsAnyRule g ps row col passed.holds
-          (IsLeastFault-cell g ps nodata before (place row col) p None inside passed.before same least);
+      holds = HoldAlong-more profile IsAnyRule g ps row col passed.holds
+          (IsLeastFault-cell profile g ps before (place row col) p None inside passed.before same least);
       counted = CountsAlong-more g ps row col p.here old new here passed.counted data_cells raised outlets;
       before = AreLabelsBefore-more g ps row col p.here before after inside here passed.before admits;
     }
 
 -- what stops a walk at the next cell stops it in the row
-pub stops-row : (nodata : NoDataNumbers) (g : Grid) (ps : Products) (row col cols : ℕ) (shown : ℕ → Patch) (p : Patch) (tally : Tally) (before : List (ℕ × ℕ)) (stop : Stop) →
-    AreRowPatches g ps row cols shown → col < cols → p ≡ shown col → IsPassed nodata g ps row col tally before →
-    IsCellStop nodata before p stop → IsStopAt nodata g ps row col stop
-stops-row nodata g ps row col cols shown p tally before stop are less is passed stopped =
-    IsStopAt-cell nodata g ps row col before p stop (inside-row g ps row col cols shown are less) passed.holds passed.before
+pub stops-row : (profile : Profile) (g : Grid) (ps : Products) (row col cols : ℕ) (shown : ℕ → Patch) (p : Patch) (tally : Tally) (before : List (ℕ × ℕ)) (stop : Stop) →
+    AreRowPatches g ps row cols shown → col < cols → p ≡ shown col → IsPassed profile g ps row col tally before →
+    IsCellStop profile before p stop → IsStopAt profile g ps row col stop
+stops-row profile g ps row col cols shown p tally before stop are less is passed stopped =
+    IsStopAt-cell profile g ps row col before p stop (inside-row g ps row col cols shown are less) passed.holds passed.before
     (is ∙ are.patches_are col less) stopped
 
 -- a row that was passed to its end keeps the rules, and is counted
-pub passed-row : (nodata : NoDataNumbers) (g : Grid) (ps : Products) (row col cols : ℕ) (shown : ℕ → Patch) (tally : Tally) (labels : List (ℕ × ℕ)) →
-    AreRowPatches g ps row cols shown → col ≡ cols → IsPassed nodata g ps row col tally labels → IsRowTally (check_rules nodata) IsAnyRule g ps row tally
-passed-row nodata g ps row col cols shown tally labels are last passed =
-    let whole : IsPassed nodata g ps row g.extent.cols tally labels = subst (λ n. IsPassed nodata g ps row n tally labels) (last ∙ are.cols_are) passed in
+pub passed-row : (profile : Profile) (g : Grid) (ps : Products) (row col cols : ℕ) (shown : ℕ → Patch) (tally : Tally) (labels : List (ℕ × ℕ)) →
+    AreRowPatches g ps row cols shown → col ≡ cols → IsPassed profile g ps row col tally labels → IsRowTally profile IsAnyRule g ps row tally
+passed-row profile g ps row col cols shown tally labels are last passed =
+    let whole : IsPassed profile g ps row g.extent.cols tally labels = subst (λ n. IsPassed profile g ps row n tally labels) (last ∙ are.cols_are) passed in
     record { holds = whole.holds; counted = whole.counted }
 
 -- and the labels are those before the next row
-pub passed-labels : (nodata : NoDataNumbers) (g : Grid) (ps : Products) (row col cols : ℕ) (shown : ℕ → Patch) (tally : Tally) (labels : List (ℕ × ℕ)) →
-    AreRowPatches g ps row cols shown → col ≡ cols → IsPassed nodata g ps row col tally labels → AreLabelsBefore g ps (place (row + 1) 0) labels
-passed-labels nodata g ps row col cols shown tally labels are last passed =
-    let whole : IsPassed nodata g ps row g.extent.cols tally labels = subst (λ n. IsPassed nodata g ps row n tally labels) (last ∙ are.cols_are) passed in
+pub passed-labels : (profile : Profile) (g : Grid) (ps : Products) (row col cols : ℕ) (shown : ℕ → Patch) (tally : Tally) (labels : List (ℕ × ℕ)) →
+    AreRowPatches g ps row cols shown → col ≡ cols → IsPassed profile g ps row col tally labels → AreLabelsBefore g ps (place (row + 1) 0) labels
+passed-labels profile g ps row col cols shown tally labels are last passed =
+    let whole : IsPassed profile g ps row g.extent.cols tally labels = subst (λ n. IsPassed profile g ps row n tally labels) (last ∙ are.cols_are) passed in
     AreLabelsBefore-row g ps row labels whole.before

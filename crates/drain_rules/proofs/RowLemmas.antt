@@ -8,10 +8,10 @@ use Rattle.drain_grid.specs.declared.patch.Patch.{Patch}
 use Rattle.drain_grid.specs.declared.rule.Rule.{Rule}
 use Rattle.drain_grid.specs.Rule.{IsAnyRule, IsLeastFault}
 use Rattle.drain_grid.specs.Extent.{row_cells}
-use Rattle.drain_grid.specs.Values.{Values, NoDataNumbers}
+use Rattle.drain_grid.specs.Values.{Values}
 use Rattle.drain_grid.specs.Grid.{Grid, Products, IsInside, values_at, patch_at}
 use Rattle.drain_grid.specs.Counts.{is_data, is_raised}
-use Rattle.drain_grid.specs.PatchRules.{Profile, check_rules}
+use Rattle.drain_grid.specs.PatchRules.{Profile}
 use Rattle.drain_grid.specs.GridRules.{HoldsAt}
 use Rattle.drain_rules.specs.declared.cell_rules.Stop.{Stop}
 use Rattle.drain_rules.specs.declared.cell_rules.Stop.TheVariants.{Fault, OutOfMemory}
@@ -67,17 +67,17 @@ CountsAlong-more g ps row col here old new is so_far data_cells raised outlets =
     }
 
 -- where the rules hold along the row, what stops a walk at the next cell stops it in the row
-pub IsStopAt-cell : (nodata : NoDataNumbers) (g : Grid) (ps : Products) (row col : ℕ) (labels : List (ℕ × ℕ)) (p : Patch) (stop : Stop) →
-    IsInside g (place row col) → HoldAlong (check_rules nodata) IsAnyRule g ps row col → AreLabelsBefore g ps (place row col) labels →
-    p ≡ patch_at g ps (place row col) → IsCellStop nodata labels p stop → IsStopAt nodata g ps row col stop
-IsStopAt-cell nodata g ps row col labels p (Fault rule) inside holds before is least =
-    IsRowFault-cell (check_rules nodata) IsAnyRule g ps row col rule inside.col holds
-    (IsLeastFault-cell g ps nodata labels (place row col) p (Some rule) inside before is least)
-IsStopAt-cell nodata g ps row col labels p OutOfMemory inside holds before is want =
+pub IsStopAt-cell : (profile : Profile) (g : Grid) (ps : Products) (row col : ℕ) (labels : List (ℕ × ℕ)) (p : Patch) (stop : Stop) →
+    IsInside g (place row col) → HoldAlong profile IsAnyRule g ps row col → AreLabelsBefore g ps (place row col) labels →
+    p ≡ patch_at g ps (place row col) → IsCellStop profile labels p stop → IsStopAt profile g ps row col stop
+IsStopAt-cell profile g ps row col labels p (Fault rule) inside holds before is least =
+    IsRowFault-cell profile IsAnyRule g ps row col rule inside.col holds
+    (IsLeastFault-cell profile g ps labels (place row col) p (Some rule) inside before is least)
+IsStopAt-cell profile g ps row col labels p OutOfMemory inside holds before is want =
     let here : IsOutletByCode (values_at g ps (place row col)) = subst (λ (q : Patch). IsOutletByCode q.here) is want.0 in
     record {
       has_data = record { inside = inside; is_data = here.has_data };
       code = here.code;
-      holds = HoldAlong-more (check_rules nodata) IsAnyRule g ps row col holds
-          (IsLeastFault-cell g ps nodata labels (place row col) p None inside before is want.1);
+      holds = HoldAlong-more profile IsAnyRule g ps row col holds
+          (IsLeastFault-cell profile g ps labels (place row col) p None inside before is want.1);
     }

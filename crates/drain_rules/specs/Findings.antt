@@ -5,11 +5,10 @@ use Rattle.drain_grid.specs.declared.cell.Cell.{Cell}
 use Rattle.drain_grid.specs.declared.cell.TheConstants.{MAX_LENGTH}
 use Rattle.drain_grid.specs.declared.patch.Patch.{Patch}
 use Rattle.drain_grid.specs.Extent.{row_cells}
-use Rattle.drain_grid.specs.Values.{NoDataNumbers}
 use Rattle.drain_grid.specs.Grid.{Grid, Products}
 use Rattle.drain_grid.specs.Counts.{is_data, is_raised}
 use Rattle.drain_grid.specs.GridRules.{IsFirstFault}
-use Rattle.drain_grid.specs.PatchRules.{check_rules}
+use Rattle.drain_grid.specs.PatchRules.{Profile}
 use Rattle.drain_grid.specs.Rule.{IsAnyRule}
 use Rattle.drain_rules.specs.declared.finding.Finding.{Finding}
 use Rattle.drain_rules.specs.declared.finding.Finding.TheVariants.{Sound, Faulty}
@@ -30,20 +29,20 @@ pub record CountsAbove (g : Grid) (ps : Products) (rows : ℕ) (tally : Tally) :
   pub outlets : tally.outlets ≡ count_by (has_outlet_code g ps) (cells_above g rows)
 
 -- the rows above keep every rule, are counted, and their outlets' labels are admitted
-pub record AreSound (nodata : NoDataNumbers) (g : Grid) (ps : Products) (row : ℕ) (labels : List (ℕ × ℕ)) (tally : Tally) : Type 0 where
-  pub holds : (r : ℕ) → r < row → HoldAlong (check_rules nodata) IsAnyRule g ps r g.extent.cols
+pub record AreSound (profile : Profile) (g : Grid) (ps : Products) (row : ℕ) (labels : List (ℕ × ℕ)) (tally : Tally) : Type 0 where
+  pub holds : (r : ℕ) → r < row → HoldAlong profile IsAnyRule g ps r g.extent.cols
   pub counted : CountsAbove g ps row tally
   pub before : AreLabelsBefore g ps (place row 0) labels
 
 -- this is what the rows above came to
-abbrev pub IsFinding : NoDataNumbers → Grid → Products → ℕ → List (ℕ × ℕ) → Finding → Type 0
-IsFinding nodata g ps row labels (Sound tally) = AreSound nodata g ps row labels tally
-IsFinding nodata g ps row labels (Faulty cell rule) = IsFirstFault (check_rules nodata) IsAnyRule g ps cell rule
+abbrev pub IsFinding : Profile → Grid → Products → ℕ → List (ℕ × ℕ) → Finding → Type 0
+IsFinding profile g ps row labels (Sound tally) = AreSound profile g ps row labels tally
+IsFinding profile g ps row labels (Faulty cell rule) = IsFirstFault profile IsAnyRule g ps cell rule
 
 -- this holds of each grid of which these are the row's patches, where the rows above it are sound
-abbrev pub OfRowBelow : NoDataNumbers → ℕ → ℕ → (ℕ → Patch) → List (ℕ × ℕ) → Tally → (Grid → Products → Type 0) → Type 0
-OfRowBelow nodata row cols shown labels total P =
-    (g : Grid) (ps : Products) → AreRowPatches g ps row cols shown → AreSound nodata g ps row labels total → P g ps
+abbrev pub OfRowBelow : Profile → ℕ → ℕ → (ℕ → Patch) → List (ℕ × ℕ) → Tally → (Grid → Products → Type 0) → Type 0
+OfRowBelow profile row cols shown labels total P =
+    (g : Grid) (ps : Products) → AreRowPatches g ps row cols shown → AreSound profile g ps row labels total → P g ps
 
 -- the counts of the rows above, where they are sound
 abbrev pub tally_of : Finding → Tally

@@ -7,9 +7,9 @@ use Rattle.drain_grid.specs.declared.rule.Rule.{Rule}
 use Rattle.drain_grid.specs.declared.rule.Rule.TheVariants.{SharedLabel}
 use Rattle.drain_grid.specs.Rule.{IsAnyRule}
 use Rattle.drain_grid.specs.Extent.{IsEarlier}
-use Rattle.drain_grid.specs.Values.{Values, NoDataNumbers}
+use Rattle.drain_grid.specs.Values.{Values}
 use Rattle.drain_grid.specs.Grid.{Grid, Products, IsInside, HasData}
-use Rattle.drain_grid.specs.PatchRules.{Profile, check_rules}
+use Rattle.drain_grid.specs.PatchRules.{Profile}
 use Rattle.drain_grid.specs.GridRules.{HoldsAt}
 
 -- the values of a data cell with code 0
@@ -22,17 +22,17 @@ pub record IsLabelOf (v : Values) (label : ℤ) : Type 0 where
   pub outlet : IsOutletByCode v
   pub label_is : label ≡ v.bas
 
--- a new label has to be admitted at the cell: it is a data cell with code 0, and every rule holds there and at each earlier cell. So by
+-- a new label has to be admitted at the cell: it is a data cell with code 0, and every rule that is tried holds there and at each earlier cell. So by
 -- SharedLabel no earlier one has its label
-pub record IsNewLabelAt (nodata : NoDataNumbers) (g : Grid) (ps : Products) (c : Cell) : Type 0 where
+pub record IsNewLabelAt (profile : Profile) (g : Grid) (ps : Products) (c : Cell) : Type 0 where
   pub has_data : HasData g c
   pub code : ps.dir c ≡ pos 0
-  pub here : (rule : Rule) → IsAnyRule rule → HoldsAt (check_rules nodata) g ps c rule
-  pub before : (b : Cell) (rule : Rule) → IsInside g b → IsEarlier b c → IsAnyRule rule → HoldsAt (check_rules nodata) g ps b rule
+  pub here : (rule : Rule) → IsAnyRule rule → HoldsAt profile g ps c rule
+  pub before : (b : Cell) (rule : Rule) → IsInside g b → IsEarlier b c → IsAnyRule rule → HoldsAt profile g ps b rule
 
 -- there is such a cell
-abbrev pub HasNewLabel : NoDataNumbers → Grid → Products → Type 0
-HasNewLabel nodata g ps = (c : Cell) × IsNewLabelAt nodata g ps c
+abbrev pub HasNewLabel : Profile → Grid → Products → Type 0
+HasNewLabel profile g ps = (c : Cell) × IsNewLabelAt profile g ps c
 
 -- a data cell with code 0 before this place in row order has the label
 pub record IsLabelBefore (g : Grid) (ps : Products) (place : Cell) (label : ℤ) : Type 0 where
@@ -46,7 +46,7 @@ pub record IsLabelBefore (g : Grid) (ps : Products) (place : Cell) (label : ℤ)
 abbrev pub AreLabelsBefore : Grid → Products → Cell → List (ℕ × ℕ) → Type 0
 AreLabelsBefore g ps place labels = (label : ℤ) → IsAdmitted labels label ↔ IsLabelBefore g ps place label
 
--- the rules of a patch, and SharedLabel against the labels that were admitted
-abbrev pub labelled_profile : NoDataNumbers → List (ℕ × ℕ) → Profile
-labelled_profile nodata labels p SharedLabel = IsOutletByCode p.here → ¬ IsAdmitted labels p.here.bas
-labelled_profile nodata labels p r = check_rules nodata p r
+-- these rules of a patch, and SharedLabel against the labels that were admitted
+abbrev pub labelled_profile : Profile → List (ℕ × ℕ) → Profile
+labelled_profile profile labels p SharedLabel = IsOutletByCode p.here → ¬ IsAdmitted labels p.here.bas
+labelled_profile profile labels p r = profile p r

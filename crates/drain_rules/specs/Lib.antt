@@ -10,6 +10,7 @@ pub mod Parts
 pub mod PatchRows
 pub mod RowNumbers
 pub mod Rows
+pub mod Rules
 pub mod Stops
 pub mod ThreeRows
 pub mod Verdicts

@@ -9,7 +9,7 @@ use Rattle.drain_grid.specs.Values.{NoDataNumbers}
 use Rattle.drain_grid.specs.Grid.{Grid, Products}
 use Rattle.drain_grid.specs.Counts.{is_data, data_count, raised_count}
 use Rattle.drain_grid.specs.Rule.{IsAnyRule}
-use Rattle.drain_grid.specs.PatchRules.{check_rules}
+use Rattle.drain_grid.specs.PatchRules.{Profile, check_rules}
 use Rattle.drain_grid.specs.GridRules.{RulesHold, IsFirstFault}
 use Rattle.drain_rules.specs.declared.verdict.Counts.{Counts}
 use Rattle.drain_rules.specs.declared.verdict.Verdict.{Verdict}
@@ -33,10 +33,14 @@ counts_of g ps = record {
   outlets = outlet_count g ps;
 }
 
--- accepted where every rule holds at every cell, else rejected with the first fault
+-- accepted where every rule of the profile holds at every cell, else rejected with the first fault
+abbrev pub IsVerdictOf : Profile → Grid → Products → Verdict → Type 0
+IsVerdictOf profile g ps (Accepted counts) = RulesHold profile IsAnyRule g ps × (counts ≡ counts_of g ps)
+IsVerdictOf profile g ps (Rejected rule row col) = IsFirstFault profile IsAnyRule g ps (record { row = row; col = col }) rule
+
+-- the same of the rules of a check
 abbrev pub IsVerdict : Grid → Products → NoDataNumbers → Verdict → Type 0
-IsVerdict g ps nodata (Accepted counts) = RulesHold (check_rules nodata) IsAnyRule g ps × (counts ≡ counts_of g ps)
-IsVerdict g ps nodata (Rejected rule row col) = IsFirstFault (check_rules nodata) IsAnyRule g ps (record { row = row; col = col }) rule
+IsVerdict g ps nodata = IsVerdictOf (check_rules nodata) g ps
 
 -- the fact holds where the verdict is an acceptance
 abbrev pub IfAccepted : {E : Type 0} → Result Verdict E → Type 0 → Type 0

@@ -5,12 +5,14 @@ ghost use Rattle.drain_basin.specs.Admitted.{IsAdmitted};
 ghost use Rattle.drain_grid.specs.PatchRules.{BelowGroundHolds};
 ghost use Rattle.drain_grid.specs.Rule.{IsAnyRule, IsLeastFault};
 ghost use Rattle.drain_rules.specs.Labels.{IsOutletByCode, IsLabelOf, labelled_profile};
+ghost use Rattle.drain_rules.specs.Rules.{tried};
 ghost use Rattle.drain_rules.specs.Stops.{IsCellStop};
 
 use crate::outlet::is_outlet_by_code;
 use crate::patch_rules::screened_fault;
+use crate::rules::Rules;
 use drain_basin::OutletLabels;
-use drain_grid::{CellValues, NoData, OutOfMemory, Patch, Rule};
+use drain_grid::{CellValues, OutOfMemory, Patch, Rule};
 
 /// Why a walk goes no further.
 #[derive(Clone, Copy, PartialEq, Eq, Debug)]
@@ -20,22 +22,22 @@ pub enum Stop {
     OutOfMemory,
 }
 
-/// Tests every rule at a cell, and admits its label if it is an outlet by its code.
+/// Tries every rule at a cell, and admits its label if it is an outlet by its code.
 ///
 /// Where the cell is known not to be below its ground (`is_above`), that isn't asked again. `labels` are those of the outlets before the cell. A label is admitted only where the other rules hold; an answer
 /// `OutOfMemory` comes only from that, at an outlet whose label is new.
 pub fn check_cell(
     patch: &Patch,
-    nodata: &NoData,
+    rules: &Rules,
     is_above: bool,
     labels: &mut OutletLabels,
 ) -> Result<(), Stop>
     requires { IsTrue is_above → BelowGroundHolds patch.now }
-    ensures passed { OnOk result (IsLeastFault IsAnyRule (labelled_profile nodata.now labels.old patch.now) None) }
+    ensures passed { OnOk result (IsLeastFault IsAnyRule (labelled_profile (tried rules.now) labels.old patch.now) None) }
     ensures labels { OnOk result ((label : ℤ) → IsAdmitted labels.new label ↔ (IsLabelOf patch.now.here label ⊎ IsAdmitted labels.old label)) }
-    ensures stopped { IfErr result (IsCellStop nodata.now labels.old patch.now) }
+    ensures stopped { IfErr result (IsCellStop (tried rules.now) labels.old patch.now) }
 {
-    if let Some(rule) = screened_fault(patch, nodata, is_above) {
+    if let Some(rule) = screened_fault(patch, rules, is_above) {
         return Err(Stop::Fault(rule));
     }
     match admits_label(labels, &patch.here) {

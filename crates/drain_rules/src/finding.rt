@@ -5,13 +5,15 @@ ghost use Rattle.drain_grid.specs.declared.cell.TheConstants.{MAX_LENGTH};
 ghost use Rattle.drain_rules.specs.Findings.{IsBounded, IsFinding, OfRowBelow};
 ghost use Rattle.drain_rules.specs.Labels.{HasNewLabel};
 ghost use Rattle.drain_rules.specs.PatchRows.{IsAtMost};
+ghost use Rattle.drain_rules.specs.Rules.{tried};
 
 use crate::cell_rules::Stop;
 use crate::patch_row::PatchRow;
 use crate::row_walk::check_row;
+use crate::rules::Rules;
 use crate::tally::Tally;
 use drain_basin::OutletLabels;
-use drain_grid::{Cell, NoData, OutOfMemory, Rule};
+use drain_grid::{Cell, OutOfMemory, Rule};
 
 /// What the rows so far came to.
 #[derive(Clone, Copy, PartialEq, Eq, Debug)]
@@ -27,16 +29,16 @@ pub fn find_in_row<R: PatchRow>(
     total: Tally,
     row: u32,
     patches: &R,
-    nodata: &NoData,
+    rules: &Rules,
     labels: &mut OutletLabels,
 ) -> Result<Finding, OutOfMemory>
     requires row { row < MAX_LENGTH }
     requires bounded { IsAtMost (row * MAX_LENGTH) total }
-    ensures finding { IfOk result (λ finding. OfRowBelow nodata.now row (R.len patches.now) (R.shown patches.now) labels.old total (λ g ps. IsFinding nodata.now g ps (row + 1) labels.new finding)) }
+    ensures finding { IfOk result (λ finding. OfRowBelow (tried rules.now) row (R.len patches.now) (R.shown patches.now) labels.old total (λ g ps. IsFinding (tried rules.now) g ps (row + 1) labels.new finding)) }
     ensures bounded { IfOk result (IsBounded (row + 1)) }
-    ensures err { OnErr result (OfRowBelow nodata.now row (R.len patches.now) (R.shown patches.now) labels.old total (HasNewLabel nodata.now)) }
+    ensures err { OnErr result (OfRowBelow (tried rules.now) row (R.len patches.now) (R.shown patches.now) labels.old total (HasNewLabel (tried rules.now))) }
 {
-    match check_row(patches, nodata, labels) {
+    match check_row(patches, rules, labels) {
         Ok(tally) => {
             let mut sum = total;
             sum.join(tally);

@@ -4,10 +4,11 @@ ghost use Rattle.drain_rules.specs.Findings.{IsBounded};
 
 use crate::finding::{Finding, find_in_row};
 use crate::patch_row::PatchRow;
+use crate::rules::Rules;
 use crate::tally::Tally;
 use crate::verdict::{Counts, Verdict};
 use drain_basin::OutletLabels;
-use drain_grid::{NoData, OutOfMemory, Shape};
+use drain_grid::{OutOfMemory, Shape};
 use std::alloc::Global;
 
 /// How many rows were checked, the labels of their outlets, and what they came to.
@@ -23,15 +24,16 @@ impl GridWalk {
     ghost use Rattle.std.specs.Prelude.{◌≡◌, ◌<◌, ◌+◌, OnErr, OnOk};
     ghost use Rattle.drain_grid.specs.declared.cell.TheConstants.{MAX_LENGTH};
     ghost use Rattle.drain_grid.specs.Grid.{Grid, Products};
-    ghost use Rattle.drain_grid.specs.Values.{NoDataNumbers};
     ghost use Rattle.drain_rules.specs.GridWalks.{IsRightOf, OfNextRow};
     ghost use Rattle.drain_rules.specs.Labels.{HasNewLabel};
-    ghost use Rattle.drain_rules.specs.Verdicts.{IsVerdict};
+    ghost use Rattle.drain_rules.specs.Rules.{tried};
+    ghost use Rattle.drain_rules.specs.Verdicts.{IsVerdictOf};
+    ghost use Rattle.drain_rules.specs.declared.rules.Rules.{Rules};
 
     /// No row was checked. This takes no memory.
     pub fn new(alloc: Global) -> GridWalk
         ensures rows { result.rows ≡ 0 }
-        ensures finding { (nodata : NoDataNumbers) (g : Grid) (ps : Products) → IsRightOf nodata g ps result }
+        ensures finding { (rules : Rules) (g : Grid) (ps : Products) → IsRightOf (tried rules) g ps result }
     {
         GridWalk {
             rows: 0,
@@ -40,22 +42,19 @@ impl GridWalk {
         }
     }
 
-    /// Checks the next row. Once a fault was found it looks at no row more.
+    /// Checks the next row. Once a fault was found it looks at no row more. What the rows came to is right of these rules where the rows above were
+    /// tried by them too.
     ///
     /// `OutOfMemory` comes only at a data cell with code 0 whose label is new, where every rule holds, as at each earlier cell: its label
     /// found no room. Then the walk is over.
-    pub fn check_row<R: PatchRow>(
-        &mut self,
-        patches: &R,
-        nodata: &NoData,
-    ) -> Result<(), OutOfMemory>
+    pub fn check_row<R: PatchRow>(&mut self, patches: &R, rules: &Rules) -> Result<(), OutOfMemory>
         requires row { self.old.rows < MAX_LENGTH }
         ensures rows { OnOk result (self.new.rows ≡ self.old.rows + 1) }
-        ensures finding { OnOk result (OfNextRow nodata.now self.old (R.len patches.now) (R.shown patches.now) (λ g ps. IsRightOf nodata.now g ps self.new)) }
-        ensures err { OnErr result (OfNextRow nodata.now self.old (R.len patches.now) (R.shown patches.now) (HasNewLabel nodata.now)) }
+        ensures finding { OnOk result (OfNextRow (tried rules.now) self.old (R.len patches.now) (R.shown patches.now) (λ g ps. IsRightOf (tried rules.now) g ps self.new)) }
+        ensures err { OnErr result (OfNextRow (tried rules.now) self.old (R.len patches.now) (R.shown patches.now) (HasNewLabel (tried rules.now))) }
     {
         if let Finding::Sound(total) = self.finding {
-            match find_in_row(total, self.rows, patches, nodata, &mut self.labels) {
+            match find_in_row(total, self.rows, patches, rules, &mut self.labels) {
                 Ok(finding) => self.finding = finding,
                 Err(OutOfMemory) => return Err(OutOfMemory),
             }
@@ -66,7 +65,7 @@ impl GridWalk {
 
     /// The verdict on the grid of this shape whose rows all were checked.
     pub fn verdict(&self, shape: Shape) -> Verdict
-        ensures verdict { (nodata : NoDataNumbers) (g : Grid) (ps : Products) → g.extent ≡ shape → self.now.rows ≡ g.extent.rows → IsRightOf nodata g ps self.now → IsVerdict g ps nodata result }
+        ensures verdict { (rules : Rules) (g : Grid) (ps : Products) → g.extent ≡ shape → self.now.rows ≡ g.extent.rows → IsRightOf (tried rules) g ps self.now → IsVerdictOf (tried rules) g ps result }
     {
         match self.finding {
             Finding::Sound(total) => Verdict::Accepted(Counts {

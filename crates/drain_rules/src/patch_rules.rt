@@ -1,26 +1,28 @@
 //! The first rule that fails at a cell, of those that look at its patch alone.
 
 ghost use Rattle.std.specs.Prelude.{IsTrue};
-ghost use Rattle.drain_grid.specs.PatchRules.{check_rules, surface_rules, BelowGroundHolds};
-ghost use Rattle.drain_grid.specs.Rule.{IsFillRule, IsPatchRule, IsLeastFault};
+ghost use Rattle.drain_grid.specs.PatchRules.{surface_rules, BelowGroundHolds};
+ghost use Rattle.drain_grid.specs.Rule.{IsFillRule, IsOnly, IsPatchRule, IsPresenceRule, IsLeastFault};
+ghost use Rattle.drain_rules.specs.Rules.{tried};
 
-use drain_grid::{NoData, Patch, Rule};
+use crate::rules::{Ranks, Rules};
+use drain_grid::{Patch, Rule};
 
-/// The first of the rules from VoidCell to Label that fails at the cell, none where they all hold.
+/// The first of the rules from VoidCell to Label that fails at the cell, as they are tried, none where they all hold.
 ///
 /// SharedLabel is the one rule that is left: it is about the labels of other cells, wherever they lie.
-pub fn patch_fault(patch: &Patch, nodata: &NoData) -> Option<Rule>
-    ensures least { IsLeastFault IsPatchRule (check_rules nodata.now patch.now) result }
+pub fn patch_fault(patch: &Patch, rules: &Rules) -> Option<Rule>
+    ensures least { IsLeastFault IsPatchRule (tried rules.now patch.now) result }
 {
-    screened_fault(patch, nodata, false)
+    screened_fault(patch, rules, false)
 }
 
 /// The same, of a cell that may be known not to be below its ground (`is_above`): then that isn't asked again.
-pub fn screened_fault(patch: &Patch, nodata: &NoData, is_above: bool) -> Option<Rule>
+pub fn screened_fault(patch: &Patch, rules: &Rules, is_above: bool) -> Option<Rule>
     requires { IsTrue is_above → BelowGroundHolds patch.now }
-    ensures least { IsLeastFault IsPatchRule (check_rules nodata.now patch.now) result }
+    ensures least { IsLeastFault IsPatchRule (tried rules.now patch.now) result }
 {
-    if let Some(rule) = patch.presence_fault_profile2(nodata) {
+    if let Some(rule) = presence_fault(patch, rules) {
         return Some(rule);
     }
     if let Some(rule) = fill_fault(patch, is_above) {
@@ -29,13 +31,33 @@ pub fn screened_fault(patch: &Patch, nodata: &NoData, is_above: bool) -> Option<
     if let Some(rule) = drain_slope::fault(patch) {
         return Some(rule);
     }
-    if let Some(rule) = drain_flat::fault(patch) {
+    if let Some(rule) = flat_fault(patch, rules) {
         return Some(rule);
     }
     if let Some(rule) = drain_accum::fault(patch) {
         return Some(rule);
     }
     drain_basin::fault(patch)
+}
+
+/// The first of the rules on which numbers are there that fails at the cell, none where they all hold.
+fn presence_fault(patch: &Patch, rules: &Rules) -> Option<Rule>
+    ensures least { IsLeastFault IsPresenceRule (tried rules.now patch.now) result }
+{
+    match rules.ranks {
+        Ranks::Asked => patch.presence_fault_profile2(&rules.nodata),
+        Ranks::Unasked => patch.presence_fault_without_ranks(&rules.nodata),
+    }
+}
+
+/// FlatStep where it fails at the cell, none where it holds.
+fn flat_fault(patch: &Patch, rules: &Rules) -> Option<Rule>
+    ensures least { IsLeastFault (IsOnly Rule.FlatStep) (tried rules.now patch.now) result }
+{
+    match rules.ranks {
+        Ranks::Asked => drain_flat::fault(patch),
+        Ranks::Unasked => drain_flat::fault_without_ranks(patch),
+    }
 }
 
 /// The first of the rules on the conditioned elevation that fails at such a cell, none where they all hold.

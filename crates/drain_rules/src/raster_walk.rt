@@ -2,12 +2,14 @@
 
 ghost use Rattle.std.specs.Prelude.{◌≡◌, ◌<◌, IfOk, OnErr};
 ghost use Rattle.drain_grid.specs.Correct.{IsCorrect, RunsAreSound};
+ghost use Rattle.drain_grid.specs.PatchRules.{check_rules};
 ghost use Rattle.drain_grid.specs.WholeGrid.{grid_of, products_of, nodata_of};
 ghost use Rattle.drain_rules.specs.Labels.{HasNewLabel};
 ghost use Rattle.drain_rules.specs.Verdicts.{IsVerdict, IfAccepted};
 
 use crate::grid_walk::GridWalk;
 use crate::patch_row::PatchRow;
+use crate::rules::{Ranks, Rules};
 use crate::verdict::Verdict;
 use drain_grid::laws::correct_from_rules;
 use drain_grid::{Cell, Elevation, OutOfMemory, Patch, ProductSet, Sinks};
@@ -23,7 +25,7 @@ pub fn verdict_of(
 ) -> Result<Verdict, OutOfMemory>
     requires same_shape { elevation.now.extent ≡ products.now.con.extent }
     ensures verdict { IfOk result (IsVerdict (grid_of elevation.now sinks.now) (products_of products.now) (nodata_of products.now)) }
-    ensures err { OnErr result (HasNewLabel (nodata_of products.now) (grid_of elevation.now sinks.now) (products_of products.now)) }
+    ensures err { OnErr result (HasNewLabel (check_rules (nodata_of products.now)) (grid_of elevation.now sinks.now) (products_of products.now)) }
 
     // What is accepted is correct, and every run is sound.
     ensures correct { IfAccepted result (IsCorrect (grid_of elevation.now sinks.now) (products_of products.now) (nodata_of products.now)) }
@@ -43,10 +45,13 @@ fn walk(
 ) -> Result<Verdict, OutOfMemory>
     requires same_shape { elevation.now.extent ≡ products.now.con.extent }
     ensures verdict { IfOk result (IsVerdict (grid_of elevation.now sinks.now) (products_of products.now) (nodata_of products.now)) }
-    ensures err { OnErr result (HasNewLabel (nodata_of products.now) (grid_of elevation.now sinks.now) (products_of products.now)) }
+    ensures err { OnErr result (HasNewLabel (check_rules (nodata_of products.now)) (grid_of elevation.now sinks.now) (products_of products.now)) }
 {
     let shape = elevation.shape();
-    let nodata = products.nodata();
+    let rules = Rules {
+        nodata: products.nodata(),
+        ranks: Ranks::Asked,
+    };
     let mut walk = GridWalk::new(alloc);
     for row in 0..shape.rows() {
         let patches = RasterRow {
@@ -55,7 +60,7 @@ fn walk(
             products,
             row,
         };
-        walk.check_row(&patches, &nodata)?;
+        walk.check_row(&patches, &rules)?;
     }
     Ok(walk.verdict(shape))
 }

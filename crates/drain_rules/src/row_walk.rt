@@ -2,17 +2,17 @@
 
 ghost use Rattle.std.specs.Prelude.{◌+◌, IfOk, IfErr, OnOk};
 ghost use Rattle.drain_grid.specs.declared.cell.TheConstants.{MAX_LENGTH};
-ghost use Rattle.drain_grid.specs.PatchRules.{check_rules};
 ghost use Rattle.drain_grid.specs.Rule.{IsAnyRule};
 ghost use Rattle.drain_rules.specs.Labels.{AreLabelsBefore};
 ghost use Rattle.drain_rules.specs.Rows.{place, IsRowTally, IsRowStop};
 ghost use Rattle.drain_rules.specs.PatchRows.{OfRow, IsAtMost};
+ghost use Rattle.drain_rules.specs.Rules.{tried};
 
 use crate::cell_rules::{Stop, check_cell};
 use crate::patch_row::PatchRow;
+use crate::rules::Rules;
 use crate::tally::Tally;
 use drain_basin::OutletLabels;
-use drain_grid::NoData;
 
 /// Where a walk along a row stops, and why.
 #[derive(Clone, Copy, PartialEq, Eq, Debug)]
@@ -21,24 +21,24 @@ pub struct RowStop {
     pub col: u32,
 }
 
-/// Tests every rule at the cells of a row, from west to east. `labels` are those of the outlets in the rows above.
+/// Tries every rule at the cells of a row, from west to east. `labels` are those of the outlets in the rows above.
 ///
 /// What it answers holds of every grid whose row this is. `OutOfMemory` comes only at an outlet whose label is new.
 pub fn check_row<R: PatchRow>(
     row: &R,
-    nodata: &NoData,
+    rules: &Rules,
     labels: &mut OutletLabels,
 ) -> Result<Tally, RowStop>
-    ensures tally { IfOk result (λ tally. OfRow (R.len row.now) (R.shown row.now) labels.old (λ g ps r. IsRowTally (check_rules nodata.now) IsAnyRule g ps r tally)) }
+    ensures tally { IfOk result (λ tally. OfRow (R.len row.now) (R.shown row.now) labels.old (λ g ps r. IsRowTally (tried rules.now) IsAnyRule g ps r tally)) }
     ensures labels { OnOk result (OfRow (R.len row.now) (R.shown row.now) labels.old (λ g ps r. AreLabelsBefore g ps (place (r + 1) 0) labels.new)) }
-    ensures stopped { IfErr result (λ end. OfRow (R.len row.now) (R.shown row.now) labels.old (λ g ps r. IsRowStop nodata.now g ps r end)) }
+    ensures stopped { IfErr result (λ end. OfRow (R.len row.now) (R.shown row.now) labels.old (λ g ps r. IsRowStop (tried rules.now) g ps r end)) }
     ensures bounds { IfOk result (IsAtMost MAX_LENGTH) }
 {
     let above = row.cells_above_ground();
     let mut tally = Tally::new();
     for col in 0..row.cols() {
         let patch = row.patch(col);
-        match check_cell(&patch, nodata, col < above, labels) {
+        match check_cell(&patch, rules, col < above, labels) {
             Ok(()) => tally.add(&patch.here),
             Err(stop) => return Err(RowStop { stop, col }),
         }

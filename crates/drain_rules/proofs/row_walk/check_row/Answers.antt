@@ -1,10 +1,11 @@
 use Rattle.std.proofs.Common.{arith}
+use Rattle.drain_rules.specs.Rules.{tried}
 use Rattle.drain_rules.proofs.PassedCells.{passed-more, passed-row, passed-labels, stops-row}
 use Rattle.drain_rules.proofs.row_walk.check_row.Goals as goal
 
 pub returns-in-Err-clause-stopped : goal.returns-in-Err-clause-stopped
 returns-in-Err-clause-stopped g c = λ grid ps row are before.
-    stops-row c.args.nodata.now grid ps row c.loop-col.col (g.R.PatchRow.len c.args.row.now) (g.R.PatchRow.shown c.args.row.now) c.patch-patch.result
+    stops-row (tried c.args.rules.now) grid ps row c.loop-col.col (g.R.PatchRow.len c.args.row.now) (g.R.PatchRow.shown c.args.row.now) c.patch-patch.result
     c.loop-col.tally c.loop-col.labels c.in-Err.stop are (omega (arith, c.loop-col-test.true, c.cols-col-end.ensures.count)) c.patch-patch.ensures
     (c.loop-col.invariant.passed grid ps row are before) c.in-Err.ensures.stopped
 
@@ -14,7 +15,7 @@ loop-col-preserved g c =
     let add = c.add.ensures in
     record {
       passed = λ grid ps row are before.
-          passed-more c.args.nodata.now grid ps row c.loop-col.col (g.R.PatchRow.len c.args.row.now) (g.R.PatchRow.shown c.args.row.now) c.patch-patch.result
+          passed-more (tried c.args.rules.now) grid ps row c.loop-col.col (g.R.PatchRow.len c.args.row.now) (g.R.PatchRow.shown c.args.row.now) c.patch-patch.result
           c.loop-col.tally c.add.new.self c.loop-col.labels c.check_cell.new.labels are (omega (arith, c.loop-col-test.true, c.cols-col-end.ensures.count))
           c.patch-patch.ensures (c.loop-col.invariant.passed grid ps row are before) c.in-Ok.ensures.passed add.data_cells add.raised add.outlets
           c.in-Ok.ensures.labels;
@@ -27,10 +28,10 @@ loop-col-preserved g c =
 
 pub returns-clause-tally : goal.returns-clause-tally
 returns-clause-tally g c = λ grid ps row are before.
-    passed-row c.args.nodata.now grid ps row c.loop-col.col (g.R.PatchRow.len c.args.row.now) (g.R.PatchRow.shown c.args.row.now) c.loop-col.tally c.loop-col.labels
+    passed-row (tried c.args.rules.now) grid ps row c.loop-col.col (g.R.PatchRow.len c.args.row.now) (g.R.PatchRow.shown c.args.row.now) c.loop-col.tally c.loop-col.labels
     are (omega (arith, c.loop-col-test.false, c.loop-col.auto.col-end, c.cols-col-end.ensures.count)) (c.loop-col.invariant.passed grid ps row are before)
 
 pub returns-clause-labels : goal.returns-clause-labels
 returns-clause-labels g c = λ grid ps row are before.
-    passed-labels c.args.nodata.now grid ps row c.loop-col.col (g.R.PatchRow.len c.args.row.now) (g.R.PatchRow.shown c.args.row.now) c.loop-col.tally c.loop-col.labels
+    passed-labels (tried c.args.rules.now) grid ps row c.loop-col.col (g.R.PatchRow.len c.args.row.now) (g.R.PatchRow.shown c.args.row.now) c.loop-col.tally c.loop-col.labels
     are (omega (arith, c.loop-col-test.false, c.loop-col.auto.col-end, c.cols-col-end.ensures.count)) (c.loop-col.invariant.passed grid ps row are before)

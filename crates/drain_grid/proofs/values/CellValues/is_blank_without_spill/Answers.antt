@@ -1,29 +1,20 @@
--- What holds of each product that a set holds holds of all of them.
-use Rattle.std.proofs.Common.{◌≡◌, rules}
-use Rattle.drain_grid.specs.declared.held.Held.TheVariants.{Con, Dir, Acc, Bas, Rnk}
-use Rattle.drain_grid.proofs.ByProduct.{by_held}
+use Rattle.std.proofs.Common.{◌≡◌, rules, refl, sym, ◌∙◌}
+use Rattle.std.proofs.lemmas.Bool.{false≢true}
+use Rattle.drain_grid.proofs.FourAndRank.{blank_and_rank}
 use Rattle.drain_grid.proofs.values.CellValues.is_blank_without_spill.Goals as goal
 
-pub returns-then-self-nodata-4 : goal.returns-then-self-nodata-4
-returns-then-self-nodata-4 c = (
-  λ h. by_held _ (search rules) (search rules) (search rules) (search rules) (search rules),
+pub returns-then-is_blank_without_rank : goal.returns-then-is_blank_without_rank
+returns-then-is_blank_without_rank c = (
+  λ e.
+      let rank : c.args.self.now.rnk ≡ c.args.nodata.now.rnk = search rules in
+      (blank_and_rank _ _).0 (c.if-is_blank_without_rank.ensures.0 refl, rank),
   λ each.
-      let con : c.args.self.now.con ≡ c.args.nodata.now.con = each Con in
-      let dir : c.args.self.now.dir ≡ c.args.nodata.now.dir = each Dir in
-      let acc : c.args.self.now.acc ≡ c.args.nodata.now.acc = each Acc in
-      let bas : c.args.self.now.bas ≡ c.args.nodata.now.bas = each Bas in
-      let rnk : c.args.self.now.rnk ≡ c.args.nodata.now.rnk = each Rnk in
+      let rank : c.args.self.now.rnk ≡ c.args.nodata.now.rnk = ((blank_and_rank c.args.nodata.now c.args.self.now).1 each).1 in
       search rules,
 )
 
-pub returns-else-self-nodata-4 : goal.returns-else-self-nodata-4
-returns-else-self-nodata-4 c = (
-  λ h. by_held _ (search rules) (search rules) (search rules) (search rules) (search rules),
-  λ each.
-      let con : c.args.self.now.con ≡ c.args.nodata.now.con = each Con in
-      let dir : c.args.self.now.dir ≡ c.args.nodata.now.dir = each Dir in
-      let acc : c.args.self.now.acc ≡ c.args.nodata.now.acc = each Acc in
-      let bas : c.args.self.now.bas ≡ c.args.nodata.now.bas = each Bas in
-      let rnk : c.args.self.now.rnk ≡ c.args.nodata.now.rnk = each Rnk in
-      search rules,
+pub returns-else-is_blank_without_rank : goal.returns-else-is_blank_without_rank
+returns-else-is_blank_without_rank c = (
+  λ yes. absurd (false≢true (sym c.if-is_blank_without_rank.false ∙ yes)),
+  λ each. c.is_blank_without_rank.ensures.1 ((blank_and_rank c.args.nodata.now c.args.self.now).1 each).0,
 )
