@@ -1,0 +1,113 @@
+-- Flows that are known, one after another: those of a grid are, and so they are once a cell whose run ends is put down as such. And
+-- what they tell of the way from a cell.
+use Rattle.std.proofs.Common.{◌≡◌, ◌≢◌, ◌<◌, ℕ, ◌∙◌, inl, inr, ℤ, List, length, Option, Some, None, IsSome, IsNone, get_or, set, get_or-set_other, get_or-set_same, refl, sym, ap, subst}
+use Rattle.std.proofs.lemmas.Bool.{cases_eq}
+use Rattle.drain_grid.specs.declared.cell.Cell.{Cell}
+use Rattle.drain_grid.specs.declared.direction.Direction.{Direction}
+use Rattle.drain_grid.specs.Extent.{index_of, step}
+use Rattle.drain_grid.specs.Grid.{Grid, Products, IsInside, HasData}
+use Rattle.drain_grid.specs.Run.{next, RunEnds}
+use Rattle.drain_grid.specs.Size.{Extent}
+use Rattle.drain_grid.proofs.Codes.{code-not_zero, next-named}
+use Rattle.drain_grid.proofs.Options.{none_some}
+use Rattle.drain_grid.proofs.Walks.{EndsAfter-zero, endless-stuck}
+use Rattle.drain_runs.specs.declared.flow.Flow.{Flow}
+use Rattle.drain_runs.specs.declared.flow.Flow.TheVariants.{Void, Lost, Ends}
+use Rattle.drain_runs.specs.Flows.{direction_of, cell_flow, flow_at, AreFlowsOf}
+use Rattle.drain_runs.specs.KnownFlows.{IsKnownFlow, AreKnownFlows}
+use Rattle.drain_runs.proofs.Cells.{in_grid, same_index}
+use Rattle.drain_runs.proofs.NextCells.{next-unnamed, next-outside, next-void}
+use Rattle.drain_runs.proofs.FlowCodes.{code_flow-says}
+
+-- what a cell's elevation and code say is known
+known_of_code : (g : Grid) (ps : Products) (c : Cell) (z : Option ℤ) → g.elevation c ≡ z →
+    IsKnownFlow g ps c (cell_flow z (ps.dir c))
+known_of_code g ps c None is = record {
+  void = λ h. subst IsNone (sym is) refl;
+  has_data = λ h. absurd (h refl);
+  ends = λ h. absurd (void_ends h);
+  lost = λ h. absurd (void_lost h);
+  leads = λ d h. absurd (none_some d h);
+}
+  where
+    void_ends : Void ≡ Ends → ⊥
+    void_ends h = cc
+    void_lost : Void ≡ Lost → ⊥
+    void_lost h = cc
+known_of_code g ps c (Some z) is =
+    let says = code_flow-says (ps.dir c) in
+    record {
+      void = λ h. absurd (says.not_void h);
+      has_data = λ h. subst IsSome (sym is) refl;
+      ends = λ h. (EndsAfter-zero g ps c (says.ends h)).ends;
+      lost = λ h. (next-unnamed g ps c (says.lost h).0, (says.lost h).1);
+      leads = says.leads;
+    }
+
+-- the flows of a grid are known
+pub AreKnownFlows-grid : (g : Grid) (ps : Products) (e : Extent) (flows : List Flow) → AreFlowsOf g ps e flows →
+    AreKnownFlows g ps e flows
+AreKnownFlows-grid g ps e flows are = record {
+  extent = are.extent;
+  each = λ c inside. subst (IsKnownFlow g ps c) (sym (are.each c inside)) (known_of_code g ps c (g.elevation c) refl);
+}
+
+-- that a run ends may be put down
+known_end : (g : Grid) (ps : Products) (c : Cell) → HasData g c → RunEnds g ps c → IsKnownFlow g ps c Ends
+known_end g ps c here ends = record {
+  void = λ h. absurd (ends_void h);
+  has_data = λ h. here.is_data;
+  ends = λ h. ends;
+  lost = λ h. absurd (ends_lost h);
+  leads = λ d h. absurd (none_some d h);
+}
+  where
+    ends_void : Ends ≡ Void → ⊥
+    ends_void h = cc
+    ends_lost : Ends ≡ Lost → ⊥
+    ends_lost h = cc
+
+pub AreKnownFlows-put : (g : Grid) (ps : Products) (e : Extent) (flows : List Flow) (c : Cell) (index : ℕ) →
+    index ≡ index_of e c → index < length flows → HasData g c → RunEnds g ps c → AreKnownFlows g ps e flows →
+    AreKnownFlows g ps e (set flows index Ends)
+AreKnownFlows-put g ps e flows c index at below here ends known = record {
+  extent = known.extent;
+  each = λ d inside. elim (cases_eq (index_of e d) index) [
+    | inl same ↦
+        (let one : c ≡ d = sym (same_index e d c (in_grid g e d known.extent inside) (in_grid g e c known.extent here.inside) (same ∙ at)) in
+        let put : flow_at e (set flows index Ends) d ≡ Ends =
+        ap (λ k. get_or (set flows index Ends) k Void) same ∙ get_or-set_same flows index Ends Void below in
+        subst (IsKnownFlow g ps d) (sym put) (subst (λ x. IsKnownFlow g ps x Ends) one (known_end g ps c here ends)))
+    | inr other ↦
+        subst (IsKnownFlow g ps d) (sym (get_or-set_other flows index (index_of e d) Ends Void other)) (known.each d inside)
+  ];
+}
+
+-- a flow at a cell's place is the cell's
+pub known_at : (g : Grid) (ps : Products) (e : Extent) (flows : List Flow) (c : Cell) (index : ℕ) (f : Flow) →
+    AreKnownFlows g ps e flows → IsInside g c → index ≡ index_of e c → f ≡ get_or flows index Void → IsKnownFlow g ps c f
+known_at g ps e flows c index f known inside at is =
+    subst (IsKnownFlow g ps c) (sym (is ∙ ap (λ k. get_or flows k Void) at)) (known.each c inside)
+
+module _ (g : Grid) (ps : Products) (e : Extent) (extent : g.extent ≡ e) (c : Cell) (f : Flow) (known : IsKnownFlow g ps c f) where
+  pub endless_outside : (d : Direction) → direction_of f ≡ Some d → step e c d ≡ None → ¬ RunEnds g ps c
+  endless_outside d leads outside =
+      let named = known.leads d leads in
+      endless-stuck g ps c (next-outside g ps c d named (ap (λ (x : Extent). step x c d) extent ∙ outside))
+      (code-not_zero (ps.dir c) d named)
+
+  pub endless_void : (d : Direction) (n : Cell) (there : Flow) → direction_of f ≡ Some d → step e c d ≡ Some n →
+      IsKnownFlow g ps n there → there ≡ Void → ¬ RunEnds g ps c
+  endless_void d n there leads to_n known_there void =
+      let named = known.leads d leads in
+      endless-stuck g ps c (next-void g ps c n d named (ap (λ (x : Extent). step x c d) extent ∙ to_n) (known_there.void void))
+      (code-not_zero (ps.dir c) d named)
+
+  pub leads_on : (d : Direction) (n : Cell) (there : Flow) → direction_of f ≡ Some d → step e c d ≡ Some n →
+      IsKnownFlow g ps n there → there ≢ Void → next g ps c ≡ Some n
+  leads_on d n there leads to_n known_there has_data =
+      next-named g ps c n d (record {
+        named = known.leads d leads;
+        there = ap (λ (x : Extent). step x c d) extent ∙ to_n;
+        is_data = known_there.has_data has_data;
+      })

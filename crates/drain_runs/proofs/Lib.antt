@@ -1,0 +1,9 @@
+pub mod Cells
+pub mod FlowCodes
+pub mod FlowWalks
+pub mod KnownWays
+pub mod NextCells
+pub mod RankLemmas
+pub mod RowFlows
+pub mod Shorter
+pub mod StepLemmas

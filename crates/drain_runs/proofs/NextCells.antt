@@ -1,0 +1,62 @@
+-- Codes that lead nowhere: such as are no codes, and such as lead outside or to a void.
+use Rattle.std.proofs.Common.{◌≡◌, ◌≢◌, ◌∙◌, inl, inr, ℤ, pos, Bool, true, if◌then◌else◌, List, [], ◌∷◌, Option, Some, None, IsSome, IsNone, is_some, option_and_then, refl, sym, ap}
+use Rattle.std.specs.List.{find}
+use Rattle.std.proofs.lemmas.Bool.{cases_Bool, false≢true}
+use Rattle.drain_grid.specs.declared.cell.Cell.{Cell}
+use Rattle.drain_grid.specs.declared.direction.Direction.{Direction}
+use Rattle.drain_grid.specs.Direction.{directions, Names, names, named_direction, MeansCode}
+use Rattle.drain_grid.specs.Extent.{step}
+use Rattle.drain_grid.specs.Grid.{Grid, Products}
+use Rattle.drain_grid.specs.Run.{only_data, next}
+use Rattle.drain_grid.proofs.Codes.{names_fact, named_direction-code}
+use Rattle.drain_grid.proofs.Options.{none_some, same_some}
+
+-- no cell has an elevation and none
+pub no_void : (z : Option ℤ) → IsNone z → IsSome z → ⊥
+no_void None none some = absurd (false≢true some)
+no_void (Some z) none some = absurd (false≢true (sym none))
+
+find_passes : (p : Direction → Bool) (ds : List Direction) (d : Direction) → find p ds ≡ Some d → p d ≡ true
+find_passes p [] d h = absurd (none_some d h)
+find_passes p (e ∷ ds) d h =
+    elim (cases_Bool (p e)) [
+      | inl passed ↦ (let same : e ≡ d = same_some e d (rw passed at h) in ap p (sym same) ∙ passed)
+      | inr failed ↦ find_passes p ds d (rw failed at h)
+    ]
+
+-- the direction that a number names is named by it
+pub named_direction-names : (n : ℤ) (d : Direction) → named_direction n ≡ Some d → Names n d
+named_direction-names n d h = (names_fact n d).0 (find_passes (names n) directions d h)
+
+-- a code that names no direction leads nowhere
+pub next-unnamed : (g : Grid) (ps : Products) (c : Cell) → named_direction (ps.dir c) ≡ None → next g ps c ≡ None
+next-unnamed g ps c named = ap (λ o. option_and_then (only_data g) (option_and_then (step g.extent c) o)) named
+
+-- nor does one that leads outside
+pub next-outside : (g : Grid) (ps : Products) (c : Cell) (d : Direction) → Names (ps.dir c) d → step g.extent c d ≡ None →
+    next g ps c ≡ None
+next-outside g ps c d named outside =
+    ap (λ o. option_and_then (only_data g) (option_and_then (step g.extent c) o)) (named_direction-code (ps.dir c) d named)
+    ∙ ap (option_and_then (only_data g)) outside
+
+-- or to a void
+pub next-void : (g : Grid) (ps : Products) (c n : Cell) (d : Direction) → Names (ps.dir c) d → step g.extent c d ≡ Some n →
+    IsNone (g.elevation n) → next g ps c ≡ None
+next-void g ps c n d named there void =
+    ap (λ o. option_and_then (only_data g) (option_and_then (step g.extent c) o)) (named_direction-code (ps.dir c) d named)
+    ∙ ap (option_and_then (only_data g)) there
+    ∙ nothing (g.elevation n) void
+  where
+    nothing : (z : Option ℤ) → IsNone z → (if is_some z then Some n else None) ≡ None
+    nothing None h = refl
+    nothing (Some z) h = absurd (false≢true (sym h))
+
+-- a number that is no code leads nowhere, and isn't 0
+pub next-no_code : (g : Grid) (ps : Products) (c : Cell) (number : ℤ) → number ≡ ps.dir c → MeansCode number None →
+    (next g ps c ≡ None) × (ps.dir c ≢ pos 0)
+next-no_code g ps c number is no_code =
+    (next-unnamed g ps c (unnamed (named_direction (ps.dir c)) refl), λ is_zero. no_code.0 (is ∙ is_zero))
+  where
+    unnamed : (o : Option Direction) → named_direction (ps.dir c) ≡ o → named_direction (ps.dir c) ≡ None
+    unnamed None named = named
+    unnamed (Some d) named = absurd (no_code.1 d (is ∙ named_direction-names (ps.dir c) d named))

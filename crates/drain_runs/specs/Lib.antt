@@ -1,0 +1,5 @@
+pub mod Flows
+pub mod KnownFlows
+pub mod Ranks
+pub mod Steps
+pub mod Ways

@@ -1,0 +1,85 @@
+//! Which way each cell of a grid leads, a byte a cell, taken row by row.
+
+ghost use Rattle.std.specs.Prelude.{◌≡◌, ◌≢◌, ◌<◌, ◌++◌, [], length, All, OnOk, OnErr, slice_index_or};
+ghost use Rattle.drain_grid.specs.Tile.{IsSample};
+ghost use Rattle.drain_grid.specs.Values.{IsPixel};
+ghost use Rattle.drain_runs.specs.Flows.{flows_of};
+
+use crate::flow::{Flow, flow_of};
+use drain_grid::OutOfMemory;
+use std::alloc::Global;
+use std::marker::Model;
+
+/// The flows of the cells that were taken so far, in row order.
+#[derive(Drop)]
+pub struct CellFlows {
+    flows: Vec<Flow>,
+}
+
+impl Model for CellFlows {
+    ghost use Rattle.std.specs.Prelude.{List};
+    ghost use Rattle.drain_runs.specs.declared.flow.Flow.{Flow};
+
+    ghost Value = { List Flow };
+
+    ghost view = { λ f. f.flows.items };
+}
+
+impl CellFlows {
+    ghost use Rattle.std.specs.Prelude.{slice_set};
+    ghost use Rattle.drain_runs.specs.declared.flow.Flow.TheVariants.{Void};
+
+    /// No cell. This takes no memory.
+    pub fn new(alloc: Global) -> CellFlows
+        ensures { result ≡ [] }
+    {
+        CellFlows {
+            flows: Vec::new(alloc),
+        }
+    }
+
+    /// Takes the next row: of each cell its sample, where -32768 is a void, and its direction number. Where memory is refused nothing is changed.
+    pub fn push_row(&mut self, samples: &[i64], dir: &[i64]) -> Result<(), OutOfMemory>
+        requires cells { length samples.now ≡ length dir.now }
+        requires samples { All IsSample samples.now }
+        requires pixels { All IsPixel dir.now }
+        ensures ok { OnOk result (self.new ≡ self.old ++ flows_of samples.now dir.now) }
+        ensures err { OnErr result (self.new ≡ self.old) }
+    {
+        let before = self.flows.len();
+        if self.flows.resize(before + samples.len(), Flow::Void).is_err() {
+            return Err(OutOfMemory);
+        }
+        fill(&mut self.flows[before..], samples, dir);
+        Ok(())
+    }
+
+    /// The flow of the cell that so many come before.
+    pub fn at(&self, index: usize) -> Flow
+        requires { index < length self.now }
+        ensures { result ≡ slice_index_or self.now index Void }
+    {
+        self.flows[index]
+    }
+
+    /// Puts down that the run of the cell that so many come before is known to end.
+    pub(crate) fn put_ends(&mut self, index: usize)
+        requires { index < length self.old }
+        ensures { self.new ≡ slice_set self.old index Flow.Ends }
+    {
+        self.flows[index] = Flow::Ends;
+    }
+}
+
+/// The flows of a row, one to each place.
+fn fill(out: &mut [Flow], samples: &[i64], dir: &[i64])
+    requires cells { length out.old ≡ length samples.now }
+    requires numbers { length samples.now ≡ length dir.now }
+    requires samples { All IsSample samples.now }
+    requires pixels { All IsPixel dir.now }
+    ensures { out.new ≡ flows_of samples.now dir.now }
+{
+    for k in 0..samples.len() {
+        out[k] = flow_of(samples[k], dir[k]);
+    }
+}

@@ -1,0 +1,39 @@
+//! The first cell whose run doesn't end, of flows.
+
+ghost use Rattle.std.specs.Prelude.{◌≡◌, ◌*◌, length, MatchOption};
+ghost use Rattle.drain_grid.specs.declared.cell.Cell.{Cell};
+ghost use Rattle.drain_grid.specs.Certificate.{IsFirstEndless};
+ghost use Rattle.drain_grid.specs.Grid.{Grid, Products, HasData};
+ghost use Rattle.drain_grid.specs.Run.{RunEnds};
+ghost use Rattle.drain_runs.specs.Flows.{AreFlowsOf};
+
+use crate::cell_flows::CellFlows;
+use crate::flow::Flow;
+use crate::flow_walk::{put_ends, steps_to_end};
+use drain_grid::{Cell, Shape};
+
+impl CellFlows {
+    /// The first data cell in row order whose run doesn't come to a code 0, of the flows of all cells of a grid; none where every run ends.
+    ///
+    /// Each walk goes on to a cell whose run is known to end, and then puts that down for all cells that it passed: so a cell is
+    /// passed at most twice, and no other memory is taken. Afterwards the flows no longer tell the codes.
+    pub fn first_endless(&mut self, shape: Shape) -> Option<Cell>
+        requires { length self.old ≡ shape.rows * shape.cols }
+        ensures { (g : Grid) → (ps : Products) → AreFlowsOf g ps shape self.old →
+            MatchOption result ((c : Cell) → HasData g c → RunEnds g ps c) (IsFirstEndless g ps) }
+    {
+        for index in 0..shape.cells() {
+            match self.at(index) {
+                Flow::Void | Flow::Ends => {}
+                _ => {
+                    let cell = shape.cell(index);
+                    match steps_to_end(self, shape, cell) {
+                        Some(steps) => put_ends(self, shape, cell, steps),
+                        None => return Some(cell),
+                    }
+                }
+            }
+        }
+        None
+    }
+}

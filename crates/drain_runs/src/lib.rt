@@ -1,0 +1,15 @@
+//! Which runs end, of elevations and directions alone: with a byte a cell, and with the number of steps of each run.
+#![tactic(auto)]
+
+pub mod cell_flows;
+mod endless;
+pub mod flow;
+mod flow_walk;
+pub mod ranks;
+pub mod steps;
+mod walk;
+pub mod way;
+
+pub use cell_flows::CellFlows;
+pub use flow::Flow;
+pub use ranks::{CertifyRefusal, certify};
