@@ -31,7 +31,7 @@ use Rattle.drain_grid.proofs.Runs.{run_end-zero}
 use Rattle.drain_grid.proofs.Inflows.{HasData-flow}
 use Rattle.drain_grid.proofs.Upstream.{handed_on, handed_total, upstream_count-parts}
 use Rattle.drain_grid.proofs.EndedRuns.{ended-run_end, ended_chains}
-use Rattle.drain_grid.proofs.Ranks.{ranks_play_no_part}
+use Rattle.drain_grid.proofs.Ranks.{own_ranks_play_no_part}
 use Rattle.drain_grid.proofs.Lowered.{least_at_open, least_beside}
 use Rattle.drain_grid.proofs.Least.{HasData-path}
 
@@ -171,4 +171,4 @@ unranked_from_correct g ps nodata correct c r inside between = holds_at g ps nod
 
 pub rules_from_correct : RulesFromCorrect
 rules_from_correct g ps nodata correct ranks c r inside between =
-    (ranks_play_no_part g ps nodata correct.runs_end ranks c r inside).1 (holds_at g ps nodata correct c inside r)
+    (own_ranks_play_no_part g ps nodata correct.runs_end ranks c r inside).1 (holds_at g ps nodata correct c inside r)

@@ -16,7 +16,6 @@ use Rattle.drain_grid.specs.PatchRules.{check_rules, VoidCellWithoutSpill, Missi
 use Rattle.drain_grid.specs.Unranked.{unranked, VoidCellWithoutRank, MissingWithoutRank, LevelStepHolds}
 use Rattle.drain_grid.specs.Run.{next, RunEnds}
 use Rattle.drain_grid.specs.Certificate.{RanksAreSteps}
-use Rattle.drain_grid.specs.Laws.{RanksPlayNoPart}
 use Rattle.drain_grid.proofs.Patches.{cell_shown}
 use Rattle.drain_grid.proofs.Codes.{next-named}
 use Rattle.drain_grid.proofs.EndedRuns.{ended-run_steps}
@@ -86,5 +85,6 @@ module _ (g : Grid) (ps : Products) (nodata : NoDataNumbers) (ends : (c : Cell) 
   alike Label = ((λ h. h), (λ h. h))
   alike SharedLabel = ((λ h. h), (λ h. h))
 
-pub ranks_play_no_part : RanksPlayNoPart
-ranks_play_no_part g ps nodata ends ranks c r inside = alike g ps nodata ends ranks c inside r
+pub own_ranks_play_no_part : (g : Grid) (ps : Products) (nodata : NoDataNumbers) → ((c : Cell) → HasData g c → RunEnds g ps c) → RanksAreSteps g ps nodata →
+    (c : Cell) (r : Rule) → IsInside g c → HoldsAt (check_rules nodata) g ps c r ↔ HoldsAt (unranked nodata) g ps c r
+own_ranks_play_no_part g ps nodata ends ranks c r inside = alike g ps nodata ends ranks c inside r

@@ -60,11 +60,14 @@ RulesFromCorrect =
     (g : Grid) (ps : Products) (nodata : NoDataNumbers) → IsCorrect g ps nodata → RanksAreSteps g ps nodata →
     RulesHold (check_rules nodata) IsAnyRule g ps
 
--- where every run ends and each rank is the number of its cell's steps, a rule holds at a cell exactly where it holds without ranks
+-- where every run ends, a rule holds at a cell with the numbers of steps for ranks, in place of whatever ranks the products have, exactly
+-- where it holds without ranks
 abbrev pub RanksPlayNoPart : Type 0
 RanksPlayNoPart =
-    (g : Grid) (ps : Products) (nodata : NoDataNumbers) → ((c : Cell) → HasData g c → RunEnds g ps c) → RanksAreSteps g ps nodata →
-    (c : Cell) (r : Rule) → IsInside g c → HoldsAt (check_rules nodata) g ps c r ↔ HoldsAt (unranked nodata) g ps c r
+    (g : Grid) (ps : Products) (nodata : NoDataNumbers) (ranks : Cell → ℤ) (rank_nodata : ℤ) →
+    ((c : Cell) → HasData g c → RunEnds g ps c) → RanksAreSteps g (with_ranks ps ranks) (with_rank_nodata nodata rank_nodata) →
+    (c : Cell) (r : Rule) → IsInside g c →
+    HoldsAt (check_rules (with_rank_nodata nodata rank_nodata)) g (with_ranks ps ranks) c r ↔ HoldsAt (unranked nodata) g ps c r
 
 -- with the numbers of steps for ranks, in place of whatever ranks the products have, every rule holds at every cell exactly where
 -- the products are correct
@@ -79,6 +82,10 @@ abbrev pub CorrectIsLocal : Type 0
 CorrectIsLocal =
     (g : Grid) (ps : Products) (nodata : NoDataNumbers) →
     IsCorrect g ps nodata ↔ (((c : Cell) → HasData g c → RunEnds g ps c) × RulesHold (unranked nodata) IsAnyRule g ps)
+
+-- where products are correct, every run is sound
+abbrev pub SoundFromCorrect : Type 0
+SoundFromCorrect = (g : Grid) (ps : Products) (nodata : NoDataNumbers) → IsCorrect g ps nodata → RunsAreSound g ps
 
 -- a cell that isn't listed is open exactly where it has data and lies on the edge of the grid or beside a void
 abbrev pub OpenWithoutSinks : Type 0

@@ -4,7 +4,7 @@
 
 ghost use Rattle.std.specs.Prelude.{◌≡◌, pos, neg_ℤ};
 ghost use Rattle.drain_grid.specs.OffData.{FoundOffDataIsRight};
-ghost use Rattle.drain_grid.specs.Laws.{CorrectFromRules, CorrectIsLocal, CountsUpstream, LabelsAreBasins, LeastFromRules, LeastFromRulesProfile2, OpenWithoutSinks, Profile2FromProfile1, RanksPlayNoPart, RulesAreCorrect, RulesFromCorrect, RunsEnd};
+ghost use Rattle.drain_grid.specs.Laws.{CorrectFromRules, CorrectIsLocal, CountsUpstream, LabelsAreBasins, LeastFromRules, LeastFromRulesProfile2, OpenWithoutSinks, Profile2FromProfile1, RanksPlayNoPart, RulesAreCorrect, RulesFromCorrect, RunsEnd, SoundFromCorrect};
 
 use crate::cell::MAX_LENGTH;
 use crate::degree::UNITS_PER_DEGREE;
@@ -75,8 +75,7 @@ pub fn rules_from_correct()
     ensures { RulesFromCorrect }
 {}
 
-/// Where every run ends and each rank is the number of its cell's steps, a rule that a check tries holds at a cell exactly where it holds
-/// without ranks.
+/// Where every run ends, a rule that a check tries holds at a cell with the numbers of steps for ranks exactly where it holds without ranks.
 pub fn ranks_play_no_part()
     ensures { RanksPlayNoPart }
 {}
@@ -89,6 +88,11 @@ pub fn rules_are_correct()
 /// Products are correct exactly where every run ends and every rule without ranks holds at every cell.
 pub fn correct_is_local()
     ensures { CorrectIsLocal }
+{}
+
+/// Where products are correct no run visits a cell twice, and each ends at an outlet.
+pub fn sound_from_correct()
+    ensures { SoundFromCorrect }
 {}
 
 /// The least line that lists a cell without data, as it was asked cell by cell, is that of the grid whose cells were told.

@@ -52,7 +52,7 @@ module _ {R : Type 0} (bl : R → Option (List ℕ)) (ct : R → FaultCounts) (o
         failed = failed;
         exactly = (
           λ is. let found = some.0 is in
-          by_held (λ p. IsTrue (failed_at a b c d e p) → (q : Held) × IsTrue (failed q)) (λ up. (Con, up)) (λ up. (Dir, up)) (λ up. (Acc, up)) (λ up. (Bas, up)) (λ up. absurd (none up)) found.0 found.1,
+              by_held (λ p. IsTrue (failed_at a b c d e p) → (q : Held) × IsTrue (failed q)) (λ up. (Con, up)) (λ up. (Dir, up)) (λ up. (Acc, up)) (λ up. (Bas, up)) (λ up. absurd (none up)) found.0 found.1,
           λ found. some.1 (by_held (λ p. IsTrue (failed p) → (q : Held) × IsTrue (failed_at a b c d e q)) (λ up. (Con, up)) (λ up. (Dir, up)) (λ up. (Acc, up)) (λ up. (Bas, up)) (λ up. (Con, up)) found.0 found.1),
         );
         each = by_held (λ p. IsPart (of_product (with_con_for_ranks lent) p).body (of_product (with_con_for_ranks then) p).body (of_product (with_con_read_twice old) p) (of_product (with_con_read_twice new) p) (failed p))

@@ -5,6 +5,7 @@ pub mod CellSets
 mod Devices
 mod FirstValues
 mod HeaderAnswers
+mod HeaderTexts
 pub mod InputLemmas
 mod LayoutAnswers
 mod MosaicAnswers

@@ -25,11 +25,13 @@ use Rattle.drain_raster.specs.Pixels as pixels
 use Rattle.drain_raster.specs.Pixels.{IsShort}
 use Rattle.drain_rules.specs.RowNumbers.{AreNumbersOf, blank}
 use Rattle.drain_rules.specs.Rows.{place}
-use Rattle.drain_rules.specs.Verdicts.{IsVerdict}
+use Rattle.drain_rules.specs.Rules.{rules_with}
+use Rattle.drain_rules.specs.Verdicts.{IsVerdictOf}
+use Rattle.drain_rules.specs.declared.rules.Ranks.{Ranks}
 use Rattle.drain_rules.specs.declared.verdict.Verdict.{Verdict}
 use Rattle.drain_grid.specs.declared.sink_line.SinkLine.{SinkLine}
 use Rattle.drain_grid.specs.SinkLines.{is_listed}
-use Rattle.drain_verdict.specs.Answers.{AreReadable, IsAnswer}
+use Rattle.drain_verdict.specs.Answers.{AreReadable, IsAnswer, IsAnswerWith}
 use Rattle.drain_verdict.specs.GridRows.{AreRowsOf}
 use Rattle.drain_verdict.specs.HeldRows.{IsEven}
 use Rattle.drain_verdict.specs.InputRows.{IsFirstOf, IsToldRefusal}
@@ -183,5 +185,5 @@ module _ (laws : Laws) (i : Inputs) (hs : PerProduct Fields) (fields : (p : Held
       seams_none i (tiles_agree none_wrong no_seam) (rasters_none i (none_short none) (tiles_none i (whole_tiles none_wrong) before))
 
   -- and the verdict on the rows is the answer
-  pub verdict_is : (verdict : Verdict) → AreReadable i → IsVerdict (grid_of i) (products_of i) (nodata_in hs) verdict → IsAnswer i (Ok verdict)
-  verdict_is verdict none is = (none, subst (λ (n : NoDataNumbers). IsVerdict (grid_of i) (products_of i) n verdict) nodata_are is)
+  pub verdict_is : (ranks : Ranks) (verdict : Verdict) → AreReadable i → IsVerdictOf (rules_with ranks (nodata_in hs)) (grid_of i) (products_of i) verdict → IsAnswerWith ranks i (Ok verdict)
+  verdict_is ranks verdict none is = (none, subst (λ (n : NoDataNumbers). IsVerdictOf (rules_with ranks n) (grid_of i) (products_of i) verdict) nodata_are is)

@@ -21,9 +21,11 @@ use Rattle.drain_mosaic.specs.PlacedRows.{first_stopped}
 use Rattle.drain_mosaic.specs.RowLaws.{NewRowsAreOfBodies}
 use Rattle.drain_mosaic.specs.Tiling.{Tiling, extent_of}
 use Rattle.drain_raster.specs.Pixels as pixels
-use Rattle.drain_rules.specs.Verdicts.{IsVerdict}
+use Rattle.drain_rules.specs.Rules.{rules_with}
+use Rattle.drain_rules.specs.Verdicts.{IsVerdictOf}
+use Rattle.drain_rules.specs.declared.rules.Ranks.{Ranks}
 use Rattle.drain_rules.specs.declared.verdict.Verdict.{Verdict}
-use Rattle.drain_verdict.specs.Answers.{IsAnswer, IsRefusal}
+use Rattle.drain_verdict.specs.Answers.{IsAnswer, IsAnswerWith, IsRefusal}
 use Rattle.drain_verdict.specs.GridRows.{IsRowsRefusal, OfGrid, ReadsOn}
 use Rattle.drain_verdict.specs.InputReads.{HaveBeenRead, Reading, products_lent, readers, tiles_lent}
 use Rattle.drain_verdict.specs.InputRows.{AreBegun, HasStopped, IsToldRefusal}
@@ -106,19 +108,19 @@ module _ {R : Type 0} (bl : R → Option (List ℕ)) (ct : R → FaultCounts) (i
       let extent = read.extent_is ∙ ap extent_of is in
       sinks_refused i listing e voids sinks_are bad_is extent voids_are law refusal told (none_before t is fields none read)
 
-  pub verdict_answers : FoundOffDataIsRight → (listing : SinkListing) (voids : List Cell) (nodata : NoDataNumbers) (verdict : Verdict) (t : Tiling) → t ≡ tiling_of i → ((p : Held) → of_product hs p ≡ fields_of i p) →
+  pub verdict_answers : FoundOffDataIsRight → (listing : SinkListing) (voids : List Cell) (ranks : Ranks) (nodata : NoDataNumbers) (verdict : Verdict) (t : Tiling) → t ≡ tiling_of i → ((p : Held) → of_product hs p ≡ fields_of i p) →
       NoneStandsBefore i 5 → nodata ≡ nodata_in hs → listing.sinks ≡ listed_in i → IsBadLine (sinks_of i.sinks) listing.bad →
       OfGrid (AreGiven bl (rows, tiles, ps)) e listing.sinks (λ g products. AreListedVoids g voids) →
-      OfGrid (AreGiven bl (rows, tiles, ps)) e listing.sinks (λ g products. IsVerdict g products nodata verdict) →
-      IsToldOfSinks listing e voids None → Read bl ct i hs rows rows_then tiles tiles_then ps ps_then e None t → IsAnswer i (Ok verdict)
-  verdict_answers law listing voids nodata verdict t is fields none nodata_is sinks_are bad_is of_voids of_grid told read =
+      OfGrid (AreGiven bl (rows, tiles, ps)) e listing.sinks (λ g products. IsVerdictOf (rules_with ranks nodata) g products verdict) →
+      IsToldOfSinks listing e voids None → Read bl ct i hs rows rows_then tiles tiles_then ps ps_then e None t → IsAnswerWith ranks i (Ok verdict)
+  verdict_answers law listing voids ranks nodata verdict t is fields none nodata_is sinks_are bad_is of_voids of_grid told read =
       let here = subst (Read bl ct i hs rows rows_then tiles tiles_then ps ps_then e None) is read in
       let voids_are = given_holds listing.sinks (λ g products. AreListedVoids g voids) t is fields sinks_are of_voids read in
       let extent = read.extent_is ∙ ap extent_of is in
-      let verdict_is_of = given_holds listing.sinks (λ g products. IsVerdict g products nodata verdict) t is fields sinks_are of_grid read in
-      verdict_is here.laws i hs fields (ended None (tiling_of i) here) verdict
+      let verdict_is_of = given_holds listing.sinks (λ g products. IsVerdictOf (rules_with ranks nodata) g products verdict) t is fields sinks_are of_grid read in
+      verdict_is here.laws i hs fields (ended None (tiling_of i) here) ranks verdict
       (sinks_none i listing e voids sinks_are bad_is extent voids_are law told (none_before t is fields none read))
-      (subst (λ (n : NoDataNumbers). IsVerdict (grid_of i) (products_of i) n verdict) nodata_is verdict_is_of)
+      (subst (λ (n : NoDataNumbers). IsVerdictOf (rules_with ranks n) (grid_of i) (products_of i) verdict) nodata_is verdict_is_of)
 
 -- a refusal of reading, by readers of five products, whichever are handed in
 module _ {R S : Type 0} (bl : R → Option (List ℕ)) (ct : R → FaultCounts) (view : S → Reading R) (before after : S) where

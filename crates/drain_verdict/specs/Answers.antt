@@ -3,7 +3,10 @@ use Rattle.std.specs.Prelude.{ℕ, Result, Ok, Err}
 use Rattle.drain_grid.specs.Grid.{Grid, Products}
 use Rattle.drain_text.specs.First.{IsFirst}
 use Rattle.drain_rules.specs.declared.verdict.Verdict.{Verdict}
-use Rattle.drain_rules.specs.Verdicts.{IsVerdict}
+use Rattle.drain_rules.specs.Rules.{rules_with}
+use Rattle.drain_rules.specs.Verdicts.{IsVerdictOf}
+use Rattle.drain_rules.specs.declared.rules.Ranks.{Ranks}
+use Rattle.drain_rules.specs.declared.rules.Ranks.TheVariants.{Asked}
 use Rattle.drain_verdict.specs.declared.refusal.Refusal.{Refusal}
 use Rattle.drain_verdict.specs.declared.refusal.Refusal.TheVariants.{OutOfMemory, ReadFailed}
 use Rattle.drain_verdict.specs.Inputs.{Inputs}
@@ -20,10 +23,14 @@ IsRefusal i OutOfMemory = Unit {0}
 IsRefusal i ReadFailed = Unit {0}
 IsRefusal i refusal = IsFirst (refusal_order i) (Stands i) refusal
 
--- the answer to the inputs
+-- the answer to the inputs, where ranks are asked for or not
+abbrev pub IsAnswerWith : Ranks → Inputs → Result Verdict Refusal → Type 0
+IsAnswerWith ranks i (Ok verdict) = AreReadable i × IsVerdictOf (rules_with ranks (nodata_numbers i)) (grid_of i) (products_of i) verdict
+IsAnswerWith ranks i (Err refusal) = IsRefusal i refusal
+
+-- the answer of a check, which asks for ranks
 abbrev pub IsAnswer : Inputs → Result Verdict Refusal → Type 0
-IsAnswer i (Ok verdict) = AreReadable i × IsVerdict (grid_of i) (products_of i) (nodata_numbers i) verdict
-IsAnswer i (Err refusal) = IsRefusal i refusal
+IsAnswer = IsAnswerWith Asked
 
 -- notes of a grid's rows that are of all rows of the inputs' grid
 abbrev pub AreNotesOf : {K : Type 0} → (Grid → Products → ℕ → K → Type 0) → Inputs → K → Type 0

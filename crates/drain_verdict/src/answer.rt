@@ -20,7 +20,7 @@ ghost use Rattle.drain_grid.specs.SinkTexts.{sinks_of};
 ghost use Rattle.drain_verdict.specs.Meaning.{tiling_of, fields_of, listed_in, nodata_in};
 ghost use Rattle.drain_verdict.specs.SinkListings.{IsBadLine};
 ghost use Rattle.drain_verdict.specs.Refusals.{IsOfBodies, NoneStandsBefore};
-ghost use Rattle.drain_verdict.specs.Answers.{AreNotesOf, IsAnswer};
+ghost use Rattle.drain_verdict.specs.Answers.{AreNotesOf, IsAnswerWith};
 ghost use Rattle.drain_verdict.specs.Stages.{AreRasterBodies};
 ghost use Rattle.drain_device.specs.FaultLists.{SomeReadFails};
 ghost use Rattle.drain_hgt.specs.Inputs.{names_of, AreBodies, TilesTakeAtMost};
@@ -37,7 +37,7 @@ use crate::sink_listing::{SinkListing, sink_listing};
 use crate::sink_refusal::sink_refusal;
 use drain_device::ByteSource;
 use drain_grid::laws::found_off_data_is_right;
-use drain_grid::{NoData, OutOfMemory, PerProduct};
+use drain_grid::{OutOfMemory, PerProduct};
 use drain_header::Header;
 use drain_hgt::TileInput;
 use drain_hgt::laws::one_name;
@@ -49,22 +49,23 @@ use drain_mosaic::laws::{
 use drain_raster::laws::{
     raster_rows_are_pixels, raster_rows_end, raster_rows_take_what_is_needed,
 };
-use drain_rules::Verdict;
+use drain_rules::{Ranks, Rules, Verdict};
 use std::alloc::Global;
 
 /// The answer to the bytes of tiles, of a list of sinks and of products; each row of the grid is noted.
 ///
-/// See `check` for the order of refusals, and for how far it reads.
+/// Rules are tried with ranks or without. See `check` for the order of refusals, and for how far it reads.
 pub fn answer_of<R: ByteSource, P: ProductInputs<R>, K: RowNotes>(
     alloc: Global,
     side: u32,
     tiles: &mut [TileInput<R>],
     sinks: &[u8],
     products: &mut P,
+    ranks: Ranks,
     notes: &mut K,
 ) -> Result<Verdict, Refusal>
     requires unnoted { (g : Grid) (ps : grid.Products) → K.are_of g ps 0 notes.old }
-    ensures answer { (inputs : Inputs) → Tell R.bytes_left side tiles.old sinks.now (P.inputs products.old) inputs → IsAnswer inputs result }
+    ensures answer { (inputs : Inputs) → Tell R.bytes_left side tiles.old sinks.now (P.inputs products.old) inputs → IsAnswerWith ranks inputs result }
     ensures noted { OnOk result ((inputs : Inputs) → Tell R.bytes_left side tiles.old sinks.now (P.inputs products.old) inputs → AreNotesOf K.are_of inputs notes.new) }
     ensures tiles_within { TilesTakeAtMost R.bytes_left side tiles.old tiles.new }
     ensures rasters_within { (p : Held) → RasterTakesAtMost R.bytes_left (P.inputs products.old) (P.inputs products.new) p }
@@ -77,7 +78,9 @@ pub fn answer_of<R: ByteSource, P: ProductInputs<R>, K: RowNotes>(
     one_name();
     let layout = layout_of(alloc, side, tiles)?;
     let headers = products.read_headers(&layout)?;
-    answer_to_bodies(alloc, &layout, headers, sinks, tiles, products, notes)
+    answer_to_bodies(
+        alloc, &layout, headers, sinks, tiles, products, ranks, notes,
+    )
 }
 
 /// The answer to the bodies, where the layout and the headers are right: the verdict on their rows, unless they are refused.
@@ -88,6 +91,7 @@ fn answer_to_bodies<R: ByteSource, P: ProductInputs<R>, K: RowNotes>(
     sinks: &[u8],
     tiles: &mut [TileInput<R>],
     products: &mut P,
+    ranks: Ranks,
     notes: &mut K,
 ) -> Result<Verdict, Refusal>
     requires named { length tiles.old ≡ length layout.now.corners }
@@ -96,7 +100,7 @@ fn answer_to_bodies<R: ByteSource, P: ProductInputs<R>, K: RowNotes>(
     requires unnoted { (g : Grid) (ps : grid.Products) → K.are_of g ps 0 notes.old }
     ensures answer { (inputs : Inputs) → layout.now ≡ tiling_of inputs → ((p : Held) → of_product headers p ≡ fields_of inputs p)
         → AreBodies R.bytes_left tiles.old inputs.tiles → AreRasterBodies R.bytes_left (P.inputs products.old) inputs.raster
-        → inputs.sinks ≡ sinks.now → NoneStandsBefore inputs 5 → IsAnswer inputs result }
+        → inputs.sinks ≡ sinks.now → NoneStandsBefore inputs 5 → IsAnswerWith ranks inputs result }
     ensures noted { OnOk result ((inputs : Inputs) → layout.now ≡ tiling_of inputs → ((p : Held) → of_product headers p ≡ fields_of inputs p)
         → AreBodies R.bytes_left tiles.old inputs.tiles → AreRasterBodies R.bytes_left (P.inputs products.old) inputs.raster
         → inputs.sinks ≡ sinks.now → AreNotesOf K.are_of inputs notes.new) }
@@ -114,9 +118,10 @@ fn answer_to_bodies<R: ByteSource, P: ProductInputs<R>, K: RowNotes>(
         Err(OutOfMemory) => return Err(Refusal::OutOfMemory),
     };
     let nodata = nodata_of(&headers);
+    let rules = Rules { nodata, ranks };
     let mut rows = InputRows::new::<R, P>(alloc, layout, headers, products)?;
     answer_to_rows(
-        alloc, layout, &listing, &nodata, &mut rows, tiles, products, notes,
+        alloc, layout, &listing, &rules, &mut rows, tiles, products, notes,
     )
 }
 
@@ -125,7 +130,7 @@ fn answer_to_rows<R: ByteSource, P: ProductInputs<R>, K: RowNotes>(
     alloc: Global,
     layout: &Layout,
     listing: &SinkListing,
-    nodata: &NoData,
+    rules: &Rules,
     rows: &mut InputRows,
     tiles: &mut [TileInput<R>],
     products: &mut P,
@@ -134,12 +139,12 @@ fn answer_to_rows<R: ByteSource, P: ProductInputs<R>, K: RowNotes>(
     requires named { length tiles.old ≡ length layout.now.corners }
     requires counted { length rows.old.mosaic.tiles.items ≡ length layout.now.corners }
     requires unnoted { (g : Grid) (ps : grid.Products) → K.are_of g ps 0 notes.old }
-    ensures answer { (inputs : Inputs) (hs : PerProduct Fields) → AreBegun layout.now hs (with_rasters P.readers rows.old) → nodata.now ≡ nodata_in hs
+    ensures answer { (inputs : Inputs) (hs : PerProduct Fields) → AreBegun layout.now hs (with_rasters P.readers rows.old) → rules.now.nodata ≡ nodata_in hs
         → ((p : Held) → extent_of (of_product hs p) ≡ tiling.extent_of layout.now)
         → layout.now ≡ tiling_of inputs → ((p : Held) → of_product hs p ≡ fields_of inputs p)
         → AreBodies R.bytes_left tiles.old inputs.tiles → AreRasterBodies R.bytes_left (P.inputs products.old) inputs.raster
         → listing.now.sinks ≡ listed_in inputs → IsBadLine (sinks_of inputs.sinks) listing.now.bad
-        → NoneStandsBefore inputs 5 → IsAnswer inputs result }
+        → NoneStandsBefore inputs 5 → IsAnswerWith rules.now.ranks inputs result }
     ensures noted { OnOk result ((inputs : Inputs) (hs : PerProduct Fields) → AreBegun layout.now hs (with_rasters P.readers rows.old)
         → ((p : Held) → extent_of (of_product hs p) ≡ tiling.extent_of layout.now)
         → layout.now ≡ tiling_of inputs → ((p : Held) → of_product hs p ≡ fields_of inputs p)
@@ -166,7 +171,7 @@ fn answer_to_rows<R: ByteSource, P: ProductInputs<R>, K: RowNotes>(
         alloc,
         shape,
         &listing.sinks,
-        nodata,
+        rules,
         rows,
         tiles,
         products,

@@ -21,7 +21,7 @@ use drain_device::ByteSource;
 use drain_grid::laws::correct_from_rules;
 use drain_hgt::TileInput;
 use drain_mosaic::laws::agreement_gives_elevation;
-use drain_rules::Verdict;
+use drain_rules::{Ranks, Verdict};
 use std::alloc::Global;
 
 /// The verdict on products of the tiles, or the first refusal.
@@ -85,5 +85,13 @@ pub fn check<R: ByteSource>(
     // The laws that turn rules kept at every cell into correct products, and first values into the one elevation.
     correct_from_rules();
     agreement_gives_elevation();
-    answer_of(alloc, side, tiles, sinks, products, &mut NoNotes)
+    answer_of(
+        alloc,
+        side,
+        tiles,
+        sinks,
+        products,
+        Ranks::Asked,
+        &mut NoNotes,
+    )
 }

@@ -57,9 +57,7 @@ pub fn read_headers(
     let read = |product: Held| -> Result<Header, Refusal>
         ensures header { IfOk result (IsHeaderFor layout.entry.now (of_product texts.entry.now product).now) }
         ensures refusal { IfErr result (IsHeaderRefusal layout.entry.now (product_of product) (of_product texts.entry.now product).now) }
-    {
-        read_header(layout, product.product(), texts.of(product))
-    };
+    { read_header(layout, product.product(), texts.of(product)) };
     PerProduct::from_each(&read)
 }
 

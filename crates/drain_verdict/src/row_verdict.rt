@@ -4,7 +4,8 @@ ghost use Rattle.std.specs.Prelude.{◌≡◌, ◌+◌, ◌⊎◌, ℕ, [], leng
 ghost use Rattle.drain_grid.specs.Grid.{Grid, Products};
 ghost use Rattle.drain_rules.specs.Labels.{HasNewLabel};
 ghost use Rattle.drain_rules.specs.RowNumbers.{AreNumbersOf, AreRowNumbers, RowNumbers};
-ghost use Rattle.drain_rules.specs.Verdicts.{IsVerdict};
+ghost use Rattle.drain_rules.specs.Rules.{tried};
+ghost use Rattle.drain_rules.specs.Verdicts.{IsVerdictOf};
 ghost use Rattle.drain_verdict.specs.GridRows.{OfGrid, ReadsOn, IsRowsRefusal};
 ghost use Rattle.drain_verdict.specs.HeldRows.{numbers_of};
 ghost use Rattle.drain_verdict.specs.ListedVoids.{AreListedVoids};
@@ -17,9 +18,9 @@ use crate::marked_rows::read_marked;
 use crate::refusal::Refusal;
 use crate::row_notes::RowNotes;
 use crate::window::Window;
-use drain_grid::{NoData, OutOfMemory, Shape, Sinks};
+use drain_grid::{OutOfMemory, Shape, Sinks};
 use drain_rules::laws::three_rows_show_patches;
-use drain_rules::{GridWalk, Verdict};
+use drain_rules::{GridWalk, Rules, Verdict};
 use std::alloc::Global;
 
 /// The verdict on a grid, and its listed sinks that are voids.
@@ -37,7 +38,7 @@ pub fn verdict_by_rows<T, P, S: GridRows<T, P>, K: RowNotes>(
     alloc: Global,
     shape: Shape,
     sinks: &Sinks,
-    nodata: &NoData,
+    rules: &Rules,
     source: &mut S,
     tiles: &mut [T],
     products: &mut P,
@@ -45,13 +46,13 @@ pub fn verdict_by_rows<T, P, S: GridRows<T, P>, K: RowNotes>(
 ) -> Result<RowVerdict, Refusal>
     requires counted { length tiles.old ≡ S.count source.old }
     requires unnoted { (g : Grid) (ps : Products) → K.are_of g ps 0 notes.old }
-    ensures verdict { IfOk result (λ found. OfGrid (S.gives (source.old, tiles.old, products.old)) shape sinks.now (λ g ps. IsVerdict g ps nodata.now found.verdict)) }
+    ensures verdict { IfOk result (λ found. OfGrid (S.gives (source.old, tiles.old, products.old)) shape sinks.now (λ g ps. IsVerdictOf (tried rules.now) g ps found.verdict)) }
     ensures voids { IfOk result (λ found. OfGrid (S.gives (source.old, tiles.old, products.old)) shape sinks.now (λ g ps. AreListedVoids g found.voids)) }
     ensures noted { OnOk result (OfGrid (S.gives (source.old, tiles.old, products.old)) shape sinks.now (λ g ps. K.are_of g ps g.extent.rows notes.new)) }
     ensures given { OnOk result ((rows : ℕ → RowNumbers) → S.gives (source.old, tiles.old, products.old) rows 0 → S.gives (source.new, tiles.new, products.new) rows (shape.rows + 1)) }
     ensures reads { OnOk result (ReadsOn S.has_read (source.old, tiles.old, products.old) (source.new, tiles.new, products.new) (shape.rows + 1) None) }
     ensures refuses { IfErr result (IsRowsRefusal S.has_read (source.old, tiles.old, products.old) (source.new, tiles.new, products.new)
-        (OfGrid (S.gives (source.old, tiles.old, products.old)) shape sinks.now (HasNewLabel nodata.now) ⊎ (¬ (sinks.now ≡ []) ⊎ K.wants))) }
+        (OfGrid (S.gives (source.old, tiles.old, products.old)) shape sinks.now (HasNewLabel (tried rules.now)) ⊎ (¬ (sinks.now ≡ []) ⊎ K.wants))) }
 {
     // The law that makes a row's patches of three rows.
     three_rows_show_patches();
@@ -79,7 +80,7 @@ pub fn verdict_by_rows<T, P, S: GridRows<T, P>, K: RowNotes>(
             &mut voids,
         )?;
         note_row(notes, &window.here)?;
-        match walk.check_row(&window.rows(), nodata) {
+        match walk.check_row(&window.rows(), rules) {
             Ok(()) => {}
             Err(OutOfMemory) => return Err(Refusal::OutOfMemory),
         }

@@ -16,7 +16,7 @@ use crate::row_notes::NoNotes;
 use crate::row_verdict::verdict_by_rows;
 use drain_grid::laws::correct_from_rules;
 use drain_grid::{Elevation, OutOfMemory, ProductSet, Shape, Sinks};
-use drain_rules::Verdict;
+use drain_rules::{Ranks, Rules, Verdict};
 use std::alloc::Global;
 
 /// The verdict of `drain_rules::verdict_of`, by three rows at a time, which takes a fraction of its time. `OutOfMemory` comes where there is
@@ -50,7 +50,10 @@ fn walk(
     ensures verdict { IfOk result (IsVerdict (grid_of elevation.now sinks.now) (products_of products.now) (nodata_of products.now)) }
 {
     let shape = shape_of(products);
-    let nodata = products.nodata();
+    let rules = Rules {
+        nodata: products.nodata(),
+        ranks: Ranks::Asked,
+    };
     let mut rows = WholeRows {
         elevation,
         products,
@@ -60,7 +63,7 @@ fn walk(
         alloc,
         shape,
         sinks,
-        &nodata,
+        &rules,
         &mut rows,
         &mut [],
         &mut (),

@@ -43,9 +43,9 @@ pub returns-clause-noted : goal.returns-clause-noted
 returns-clause-noted g c =
     on-ok c.answer_to_bodies.result
     (λ noted inputs tell.
-        let begun = started c.one_name.ensures g.R.ByteSource.bytes_left c.args.side c.args.tiles.now c.args.sinks.now (g.P.ProductInputs.inputs c.args.products.now) inputs c.in_ok-layout.layout c.in_ok-headers.headers tell
-        c.in_ok-layout.ensures.layout c.in_ok-headers.ensures.headers in
-        noted inputs begun.0 begun.1 tell.tiles_are tell.rasters_are tell.sinks_are)
+    let begun = started c.one_name.ensures g.R.ByteSource.bytes_left c.args.side c.args.tiles.now c.args.sinks.now (g.P.ProductInputs.inputs c.args.products.now) inputs c.in_ok-layout.layout c.in_ok-headers.headers tell
+    c.in_ok-layout.ensures.layout c.in_ok-headers.ensures.headers in
+    noted inputs begun.0 begun.1 tell.tiles_are tell.rasters_are tell.sinks_are)
     c.answer_to_bodies.ensures.noted
 
 pub returns-clause-rasters_within : goal.returns-clause-rasters_within

@@ -113,7 +113,7 @@ returns-clause-answer g c = λ inputs hs begun nodata shapes is fields tiles ras
     let ct = g.R.ByteSource.counts in
     let new = c.verdict_by_rows.new in
     let layout : IsLayout c.args.layout.now = c.makes_a_mosaic.ensures in
-    verdict_answers bl ct inputs hs (with_rasters g.P.ProductInputs.readers c.args.rows.now) (with_rasters g.P.ProductInputs.readers new.source) c.args.tiles.now new.tiles (g.P.ProductInputs.inputs c.args.products.now) (g.P.ProductInputs.inputs new.products) c.shape-shape.result c.found_off_data_is_right.ensures c.args.listing.now c.in_ok-found.found.voids c.args.nodata.now
+    verdict_answers bl ct inputs hs (with_rasters g.P.ProductInputs.readers c.args.rows.now) (with_rasters g.P.ProductInputs.readers new.source) c.args.tiles.now new.tiles (g.P.ProductInputs.inputs c.args.products.now) (g.P.ProductInputs.inputs new.products) c.shape-shape.result c.found_off_data_is_right.ensures c.args.listing.now c.in_ok-found.found.voids c.args.rules.now.ranks c.args.rules.now.nodata
     c.in_ok-found.found.verdict c.args.layout.now is fields none nodata sinks bad c.in_ok-found.ensures.voids c.in_ok-found.ensures.verdict c.in-None.ensures.told (record {
       extent_is = c.shape-shape.ensures;
       laws = record {

@@ -31,7 +31,7 @@ loop-row-init g c =
           voids-more grid ps 0 _ _ (marked_of c.read_marked.new.held)
           (row-marked grid ps c.args.sinks.now rows 0 (marked_of c.read_marked.new.held) all (read.next rows 0 gives).0 read.marked)
           (subst (AreVoidsBefore grid 0) (sym c.new-voids.ensures) (voids-none grid)) read.noted;
-      right = λ rows grid ps gives extent all. c.new-walk.ensures.finding c.args.nodata.now grid ps;
+      right = λ rows grid ps gives extent all. c.new-walk.ensures.finding c.args.rules.now grid ps;
       noted = λ rows grid ps gives extent all. c.requires.unnoted grid ps;
       reads = read.reads;
     }
@@ -125,7 +125,7 @@ loop-row-preserved g c =
 pub returns-clause-verdict : goal.returns-clause-verdict
 returns-clause-verdict g c = λ rows grid ps gives extent all.
     let count = ap (λ (e : Extent). e.rows) extent in
-    c.verdict-verdict.ensures.verdict c.args.nodata.now grid ps extent
+    c.verdict-verdict.ensures.verdict c.args.rules.now grid ps extent
     (omega (arith, c.loop-row.invariant.counted, c.loop-row-test.false, c.loop-row.auto.row-end, c.rows-row-end.ensures, count))
     (c.loop-row.invariant.right rows grid ps gives extent all)
 

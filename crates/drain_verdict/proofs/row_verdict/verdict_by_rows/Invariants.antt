@@ -2,6 +2,7 @@ use Rattle.std.proofs.Common.{◌≡◌, ◌+◌, ℕ, None, length}
 use Rattle.drain_grid.specs.Grid.{Grid, Products}
 use Rattle.drain_rules.specs.GridWalks.{IsRightOf}
 use Rattle.drain_rules.specs.RowNumbers.{AreRowNumbers, RowNumbers}
+use Rattle.drain_rules.specs.Rules.{tried}
 use Rattle.drain_verdict.specs.GridRows.{OfGrid, ReadsOn}
 use Rattle.drain_verdict.specs.HeldRows.{IsMarked, marked_of, numbers_of}
 use Rattle.drain_verdict.specs.ListedVoids.{AreVoidsBefore}
@@ -24,7 +25,7 @@ invariant-loop-row g l =
       here_marked : (r : ℕ) → l.row ≡ r + 1 → IsMarked l.sinks r (marked_of l.window.here);
       below_marked : IsMarked l.sinks l.row (marked_of l.window.below);
       voids : OfGrid (source.gives (l.fn.source, l.fn.tiles, l.fn.products)) l.shape l.sinks (λ (grid : Grid) (ps : Products). AreVoidsBefore grid (l.row + 1) l.voids);
-      right : OfGrid (source.gives (l.fn.source, l.fn.tiles, l.fn.products)) l.shape l.sinks (λ (grid : Grid) (ps : Products). IsRightOf l.nodata grid ps l.walk);
+      right : OfGrid (source.gives (l.fn.source, l.fn.tiles, l.fn.products)) l.shape l.sinks (λ (grid : Grid) (ps : Products). IsRightOf (tried l.rules) grid ps l.walk);
       noted : OfGrid (source.gives (l.fn.source, l.fn.tiles, l.fn.products)) l.shape l.sinks (λ (grid : Grid) (ps : Products). g.K.RowNotes.are_of grid ps l.row l.notes);
       reads : ReadsOn source.has_read (l.fn.source, l.fn.tiles, l.fn.products) (l.source, l.tiles, l.products) (l.row + 1) None;
     }

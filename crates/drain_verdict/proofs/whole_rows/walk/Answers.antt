@@ -27,4 +27,4 @@ returns-in-Ok c =
     let g = grid_of e c.args.sinks.now in
     let found = c.in-Ok.ensures.verdict (row_or_blank e ps) g (products_of ps) (record { row_is = λ r. refl; next = omega arith }) same
     (whole_rows e ps c.args.sinks.now (λ p. c.shape_of-shape.ensures p ∙ sym same)) in
-    record { verdict = subst (λ (nodata : NoDataNumbers). IsVerdict g (products_of ps) nodata c.in-Ok.found.verdict) c.nodata-nodata.ensures found }
+    record { verdict = subst (λ (nodata : NoDataNumbers). IsVerdict g (products_of ps) nodata c.in-Ok.found.verdict) c.nodata.ensures found }

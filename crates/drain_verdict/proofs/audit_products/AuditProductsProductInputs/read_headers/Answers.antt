@@ -12,6 +12,7 @@ use Rattle.drain_mosaic.specs.Tiling.{Tiling}
 use Rattle.drain_verdict.specs.Stages.{AreHeadersOf, IsFirstRefusalOf, IsHeaderFor, IsHeaderRefusal}
 use Rattle.drain_verdict.specs.AuditInputs.{with_con_for_ranks}
 use Rattle.drain_verdict.specs.declared.refusal.Refusal.{Refusal}
+use Rattle.drain_verdict.proofs.HeaderTexts.{told_of_same}
 use Rattle.drain_verdict.proofs.InputLemmas.{over_err}
 use Rattle.drain_verdict.proofs.audit_products.AuditProductsProductInputs.read_headers.Goals as goal
 
@@ -20,14 +21,6 @@ alike : {E : Type 0} (r : Result (PerProduct Fields) E) (t : Tiling) (text : Hel
 alike (Ok hs) t text are same = (are Rnk).described.fields ∙ ap (λ (x : List ℕ). header_of (lines_of x)) same ∙ sym (are Con).described.fields
 alike (Err e) t text are same = tt
 
--- what is told of texts is told of the same texts by other names
-told_of_same : (t : Tiling) (text other : Held → List ℕ) (e : Refusal) → IsFirstRefusalOf t text e → ((p : Held) → text p ≡ other p) → IsFirstRefusalOf t other e
-told_of_same t text other e found same = record {
-  product = found.product;
-  refused = subst (λ x. IsHeaderRefusal t (product_of found.product) x e) (same found.product) found.refused;
-  before = λ q less. let right = found.before q less in (right.0, subst (λ x. IsHeaderFor t x right.0) (same q) right.1);
-}
-
 pub returns-clause-alike : goal.returns-clause-alike
 returns-clause-alike g c = alike c.read_headers.result c.args.layout.now _ c.read_headers.ensures.headers (search rules)
 
@@ -35,5 +28,5 @@ pub returns-clause-refusal : goal.returns-clause-refusal
 returns-clause-refusal g c =
     over_err c.read_headers.result _ _
     (λ e found. told_of_same c.args.layout.now _ (λ p. (of_product (with_con_for_ranks c.args.self.now) p).header) e found
-        (by_held _ (search rules) (search rules) (search rules) (search rules) (search rules)))
+    (by_held _ (search rules) (search rules) (search rules) (search rules) (search rules)))
     c.read_headers.ensures.refusal

@@ -1,0 +1,68 @@
+-- What an audit answers: whether four products are correct, with ranks of its own in place of a certificate.
+-- Source: correct products are in the words of the literature; that runs without an end are told first is this project's own.
+use Rattle.std.specs.Prelude.{◌≡◌, ℕ, ℤ, pos, is_some, List, Option, if◌then◌else◌, Result, Ok, Err}
+use Rattle.drain_grid.specs.declared.cell.Cell.{Cell}
+use Rattle.drain_grid.specs.Grid.{Grid, Products, HasData}
+use Rattle.drain_grid.specs.Run.{RunEnds}
+use Rattle.drain_grid.specs.Certificate.{run_steps, with_ranks, with_rank_nodata, IsFirstEndless}
+use Rattle.drain_grid.specs.Correct.{IsCorrect}
+use Rattle.drain_grid.specs.Values.{NoDataNumbers}
+use Rattle.drain_hgt.specs.declared.input.TileInput.{TileInput}
+use Rattle.drain_rules.specs.Verdicts.{IsVerdict}
+use Rattle.drain_rules.specs.declared.verdict.Verdict.TheVariants as checked
+use Rattle.drain_runs.specs.declared.steps.TheConstants.{UNKNOWN}
+use Rattle.drain_verdict.specs.declared.audit_products.AuditProducts.{AuditProducts}
+use Rattle.drain_verdict.specs.declared.audit_verdict.AuditVerdict.{AuditVerdict}
+use Rattle.drain_verdict.specs.declared.audit_verdict.AuditVerdict.TheVariants.{Accepted, Rejected, NoEnd}
+use Rattle.drain_verdict.specs.declared.refusal.Refusal.{Refusal}
+use Rattle.drain_verdict.specs.AuditInputs.{with_con_for_ranks}
+use Rattle.drain_verdict.specs.Answers.{AreReadable, IsRefusal}
+use Rattle.drain_verdict.specs.Inputs.{Inputs, Tell}
+use Rattle.drain_verdict.specs.Meaning.{grid_of, products_of, nodata_numbers}
+
+-- the run of every data cell ends
+abbrev pub AllRunsEnd : Grid → Products → Type 0
+AllRunsEnd g ps = (c : Cell) → HasData g c → RunEnds g ps c
+
+-- ranks as `certify` gives them: the number of steps of each data cell's run, and 4294967295 at voids
+abbrev pub certified_ranks : Grid → Products → Cell → ℤ
+certified_ranks g ps c = if is_some (g.elevation c) then pos (run_steps g ps c) else pos UNKNOWN
+
+-- the products with these ranks, and the no-data numbers with that of these ranks
+abbrev pub certified : Grid → Products → Products
+certified g ps = with_ranks ps (certified_ranks g ps)
+
+abbrev pub certified_nodata : NoDataNumbers → NoDataNumbers
+certified_nodata nodata = with_rank_nodata nodata (pos UNKNOWN)
+
+-- the first run without an end; else, with certified ranks, the verdict of a check
+abbrev pub IsAuditVerdict : Grid → Products → NoDataNumbers → AuditVerdict → Type 0
+IsAuditVerdict g ps nodata (NoEnd row col) = IsFirstEndless g ps (record { row = row; col = col })
+IsAuditVerdict g ps nodata (Accepted counts) = AllRunsEnd g ps × IsVerdict g (certified g ps) (certified_nodata nodata) (checked.Accepted counts)
+IsAuditVerdict g ps nodata (Rejected rule row col) = AllRunsEnd g ps × IsVerdict g (certified g ps) (certified_nodata nodata) (checked.Rejected rule row col)
+
+-- the answer to the inputs: the first refusal that stands, else the verdict
+abbrev pub IsAuditAnswer : Inputs → Result AuditVerdict Refusal → Type 0
+IsAuditAnswer i (Ok verdict) = AreReadable i × IsAuditVerdict (grid_of i) (products_of i) (nodata_numbers i) verdict
+IsAuditAnswer i (Err refusal) = IsRefusal i refusal
+
+-- it is an acceptance
+abbrev pub IsAcceptance : AuditVerdict → Type 0
+IsAcceptance (Accepted counts) = Unit {0}
+IsAcceptance (Rejected rule row col) = ⊥
+IsAcceptance (NoEnd row col) = ⊥
+
+-- the fact holds of the inputs that are handed in, where con's bytes stand for those of ranks, of which no fact says anything
+abbrev pub OfFour : {R : Type 0} → (R → Option (List ℕ)) → ℕ → List (TileInput R) → List ℕ → AuditProducts R → (Inputs → Type 0) → Type 0
+OfFour bytes_left side tiles sinks ps Fact = (i : Inputs) → Tell bytes_left side tiles sinks (with_con_for_ranks ps) i → Fact i
+
+-- where the answer is an acceptance, the fact holds of the inputs that were handed in
+abbrev pub AuditMeans : {R : Type 0} → (Inputs → Type 0) → (R → Option (List ℕ)) → ℕ → List (TileInput R) → List ℕ → AuditProducts R → Result AuditVerdict Refusal → Type 0
+AuditMeans Fact bytes_left side tiles sinks ps (Ok (Accepted counts)) = OfFour bytes_left side tiles sinks ps Fact
+AuditMeans Fact bytes_left side tiles sinks ps (Ok (Rejected rule row col)) = Unit {0}
+AuditMeans Fact bytes_left side tiles sinks ps (Ok (NoEnd row col)) = Unit {0}
+AuditMeans Fact bytes_left side tiles sinks ps (Err refusal) = Unit {0}
+
+-- the products of the inputs are correct
+abbrev pub AreCorrect : Inputs → Type 0
+AreCorrect i = IsCorrect (grid_of i) (products_of i) (nodata_numbers i)
