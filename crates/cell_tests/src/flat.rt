@@ -1,9 +1,25 @@
-//! Cells on and off flats, each with what the rule says of it. Only what the rule reads is given.
+//! Cells on and off flats, each with what the rule says of it, with ranks and without. Only what the rule reads is given.
 
-use crate::agree::same_rule;
-use drain_flat::fault;
+use crate::agree::same;
+use drain_flat::{fault, fault_without_ranks};
 use drain_grid::{CellValues, Patch, Rule};
 use std::test::Fail;
+
+/// The rule where it fails with ranks, and where it fails without.
+type Told = [Option<Rule>; 2];
+
+/// It fails with ranks and without.
+const FAILS: Told = [Some(Rule::FlatStep); 2];
+
+/// It fails with ranks alone.
+const BY_RANK: Told = [Some(Rule::FlatStep), None];
+
+/// It holds.
+const HOLDS: Told = [None; 2];
+
+fn told(patch: &Patch) -> Told {
+    [fault(patch), fault_without_ranks(patch)]
+}
 
 fn cell(z: Option<i16>, con: i64, dir: i64, rnk: i64) -> Option<CellValues> {
     CellValues::new(z, false, con, dir, 0, 0, 0, rnk)
@@ -35,10 +51,11 @@ fn cells_of_a_flat(rt: HostRuntime) -> Result<(), Fail> {
     let second = [2, 1, 1, 0, 0, 0, 0, 0];
     let third = [0, 0, 1, 1, 1, 0, 0, 0];
     for (name, dir, rnk, ranks, wanted) in [
-        ("to a greater rank", 1, 1, second, Some(Rule::FlatStep)),
-        ("to an equal rank", 4, 1, second, Some(Rule::FlatStep)),
-        ("to the edge", 16, 1, second, None),
-        ("to a smaller rank", 16, 2, third, None),
+        ("to a greater rank", 1, 1, second, BY_RANK),
+        ("to an equal rank", 4, 1, second, BY_RANK),
+        ("to the edge", 16, 1, second, HOLDS),
+        ("to a smaller rank", 16, 2, third, HOLDS),
+        ("no direction", 0, 1, second, FAILS),
     ] {
         let patch = Patch {
             here: here(dir, rnk)?,
@@ -53,14 +70,14 @@ fn cells_of_a_flat(rt: HostRuntime) -> Result<(), Fail> {
                 level(ranks[7]),
             ],
         };
-        same_rule(&rt, name, fault(&patch), wanted);
+        same(&rt, name, told(&patch), wanted);
     }
     // Its first cell, which lies in a corner.
     let corner = Patch {
         here: here(0, 0)?,
         around: [level(0), level(1), level(0), None, None, None, None, None],
     };
-    same_rule(&rt, "in a corner", fault(&corner), None);
+    same(&rt, "in a corner", told(&corner), HOLDS);
     Ok(())
 }
 
@@ -95,28 +112,28 @@ fn east_values(east: East) -> Option<CellValues> {
 #[test]
 fn what_a_direction_leads_to(rt: HostRuntime) -> Result<(), Fail> {
     for (name, dir, east, wanted) in [
-        ("nearer", 1, East::Near, None),
-        ("equal rank", 1, East::Equal, Some(Rule::FlatStep)),
-        ("greater rank", 1, East::Far, Some(Rule::FlatStep)),
-        ("higher", 1, East::Higher, Some(Rule::FlatStep)),
-        ("lower", 1, East::Lower, None),
-        ("beside a lower", 16, East::Lower, None),
-        ("code 0 beside a lower", 0, East::Lower, None),
-        ("no direction", 0, East::Near, Some(Rule::FlatStep)),
-        ("no code", 3, East::Near, Some(Rule::FlatStep)),
-        ("no code, negative", -1, East::Near, Some(Rule::FlatStep)),
-        ("past the nearer", 2, East::Near, Some(Rule::FlatStep)),
-        ("to a void, so open", 1, East::Void, None),
-        ("beside a void, so open", 16, East::Void, None),
-        ("off the edge, so open", 1, East::Outside, None),
-        ("the least rank", 1, East::Least, None),
-        ("the greatest rank", 1, East::Greatest, Some(Rule::FlatStep)),
+        ("nearer", 1, East::Near, HOLDS),
+        ("equal rank", 1, East::Equal, BY_RANK),
+        ("greater rank", 1, East::Far, BY_RANK),
+        ("higher", 1, East::Higher, FAILS),
+        ("lower", 1, East::Lower, HOLDS),
+        ("beside a lower", 16, East::Lower, HOLDS),
+        ("code 0 beside a lower", 0, East::Lower, HOLDS),
+        ("no direction", 0, East::Near, FAILS),
+        ("no code", 3, East::Near, FAILS),
+        ("no code, negative", -1, East::Near, FAILS),
+        ("past the nearer", 2, East::Near, BY_RANK),
+        ("to a void, so open", 1, East::Void, HOLDS),
+        ("beside a void, so open", 16, East::Void, HOLDS),
+        ("off the edge, so open", 1, East::Outside, HOLDS),
+        ("the least rank", 1, East::Least, HOLDS),
+        ("the greatest rank", 1, East::Greatest, BY_RANK),
     ] {
         let mut around = [level(3); 8];
         around[0] = east_values(east);
         let here = here(dir, 3)?;
         let patch = Patch { here, around };
-        same_rule(&rt, name, fault(&patch), wanted);
+        same(&rt, name, told(&patch), wanted);
     }
     Ok(())
 }
@@ -127,6 +144,6 @@ fn a_void(rt: HostRuntime) -> Result<(), Fail> {
         here: cell(None, -32768, 255, 4294967295).ok_or("a void")?,
         around: [level(0); 8],
     };
-    same_rule(&rt, "a void", fault(&patch), None);
+    same(&rt, "a void", told(&patch), HOLDS);
     Ok(())
 }

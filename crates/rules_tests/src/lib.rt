@@ -15,3 +15,5 @@ mod rows_of_numbers;
 mod screened_rows;
 #[cfg(test)]
 mod spill_levels;
+#[cfg(test)]
+mod unasked_ranks;

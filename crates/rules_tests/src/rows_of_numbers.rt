@@ -9,7 +9,7 @@ ghost use Rattle.drain_rules.specs.RowNumbers.{AreRowNumbers};
 
 use crate::examples::{Part, is_pixel};
 use drain_grid::{NoData, PerProduct, Shape, Sinks, parse_sinks};
-use drain_rules::{GridWalk, RowView, ThreeRows, Verdict};
+use drain_rules::{GridWalk, Ranks, RowView, Rules, ThreeRows, Verdict};
 use std::alloc::Global;
 use std::test::Fail;
 
@@ -123,23 +123,35 @@ fn three_rows<'a>(numbers: &'a [i64], marks: &'a Marks, row: u8) -> Option<Three
     })
 }
 
-/// Checks the next row.
-fn check_row(walk: &mut GridWalk, numbers: &[i64], marks: &Marks, row: u8) -> Result<(), Fail>
+/// Checks the next row, by the rules of a check with the default no-data numbers.
+fn check_row(
+    walk: &mut GridWalk,
+    numbers: &[i64],
+    marks: &Marks,
+    row: u8,
+    ranks: Ranks,
+) -> Result<(), Fail>
     requires { walk.old.rows < 3 }
     ensures { OnOk result (walk.new.rows ≡ walk.old.rows + 1) }
 {
     let rows = three_rows(numbers, marks, row).ok_or("rows of numbers")?;
-    Ok(walk.check_row(&rows, &NoData::defaults())?)
+    let nodata = NoData::defaults();
+    Ok(walk.check_row(&rows, &Rules { nodata, ranks })?)
 }
 
-/// The verdict on the numbers of the six parts, with the sinks that a text lists.
-pub fn verdict_by_rows(alloc: Global, text: &[u8], numbers: &[i64]) -> Result<Verdict, Fail> {
+/// The verdict on the numbers of the six parts, with the sinks that a text lists; ranks are asked for or not.
+pub fn verdict_by_rows(
+    alloc: Global,
+    text: &[u8],
+    numbers: &[i64],
+    ranks: Ranks,
+) -> Result<Verdict, Fail> {
     let sinks = parse_sinks(alloc, text)?;
     let marks = marks_of(&sinks);
     let shape = Shape::new(3, COLS.into()).ok_or("a shape")?;
     let mut walk = GridWalk::new(alloc);
-    check_row(&mut walk, numbers, &marks, 0)?;
-    check_row(&mut walk, numbers, &marks, 1)?;
-    check_row(&mut walk, numbers, &marks, 2)?;
+    check_row(&mut walk, numbers, &marks, 0, ranks)?;
+    check_row(&mut walk, numbers, &marks, 1, ranks)?;
+    check_row(&mut walk, numbers, &marks, 2, ranks)?;
     Ok(walk.verdict(shape))
 }

@@ -1,0 +1,119 @@
+//! Three long rows with ranks that keep no rule, gone over by rows: ranks are asked for, and they aren't. The verdicts were worked out by hand from the rules.
+
+use crate::examples::{Part, accepted, rejected, same};
+use crate::rows_of_numbers::{COLS, verdict_by_rows};
+use drain_grid::Rule;
+use drain_rules::{Ranks, Verdict};
+use std::alloc::{AllocError, Global};
+use std::test::Fail;
+use worked_grids::shafts::Shafts;
+
+/// Three level rows, whose cells inside drain north; each cell has this rank.
+fn long_rows(alloc: Global, rank: i64) -> Result<Vec<i64>, AllocError> {
+    let shafts = Shafts {
+        rows: 3,
+        cols: COLS,
+        listed: &[],
+    };
+    let mut numbers = shafts.numbers(alloc)?;
+    let cells = 3 * COLS as usize;
+    for place in 0..numbers.len() {
+        if place >= Part::Rnk as usize * cells {
+            numbers[place] = rank;
+        }
+    }
+    Ok(numbers)
+}
+
+/// A number of a part, by its row and column.
+type Change = (Part, (u8, u16), i64);
+
+/// Puts a number in its place.
+fn put(numbers: &mut Vec<i64>, (part, (row, col), number): Change) -> Result<(), Fail> {
+    let place = (part as usize * 3 + row as usize) * COLS as usize + col as usize;
+    match numbers.get_mut(place) {
+        Some(found) => *found = number,
+        None => return Err("a place".into()),
+    }
+    Ok(())
+}
+
+/// The verdict without ranks on these rows with two numbers changed.
+fn verdict_changed(alloc: Global, one: Change, other: Change) -> Result<Verdict, Fail> {
+    let mut numbers = long_rows(alloc, 4294967295)?;
+    put(&mut numbers, one)?;
+    put(&mut numbers, other)?;
+    verdict_by_rows(alloc, b"", &numbers, Ranks::Unasked)
+}
+
+#[test]
+fn ranks_that_keep_no_rule(rt: HostRuntime) -> Result<(), Fail> {
+    let nodata = 4294967295;
+    let right = accepted(3, 600, 1800, 0, 1202);
+    let first_flat = rejected(Rule::FlatStep, 1, 1);
+    let missing = rejected(Rule::Missing, 0, 0);
+    for (name, rank, ranks, wanted) in [
+        ("equal ranks, asked for", 0, Ranks::Asked, first_flat),
+        ("equal ranks", 0, Ranks::Unasked, right),
+        ("no ranks, asked for", nodata, Ranks::Asked, missing),
+        ("no ranks", nodata, Ranks::Unasked, right),
+    ] {
+        let numbers = long_rows(rt.alloc(), rank)?;
+        let given = verdict_by_rows(rt.alloc(), b"", &numbers, ranks)?;
+        same(&rt, name, given, wanted);
+    }
+    Ok(())
+}
+
+#[test]
+fn the_other_rules_without_ranks(rt: HostRuntime) -> Result<(), Fail> {
+    let (corner, inside) = ((0, 0), (1, 7));
+    let same_height = (Part::Con, inside, 0);
+    for (rule, change, other, row, col) in [
+        (
+            Rule::Missing,
+            (Part::Con, corner, -32768),
+            same_height,
+            0,
+            0,
+        ),
+        (Rule::BadCode, (Part::Dir, corner, 3), same_height, 0, 0),
+        (
+            Rule::BelowGround,
+            (Part::Con, corner, -1),
+            same_height,
+            0,
+            0,
+        ),
+        (Rule::OpenRaised, (Part::Con, corner, 1), same_height, 0, 0),
+        (Rule::OutletCode, (Part::Dir, corner, 1), same_height, 0, 0),
+        (
+            Rule::Accumulation,
+            (Part::Acc, corner, 2),
+            same_height,
+            0,
+            0,
+        ),
+        (Rule::SharedLabel, (Part::Bas, (0, 1), 1), same_height, 0, 1),
+        (
+            Rule::NotLeast,
+            (Part::Con, inside, 1),
+            (Part::Con, inside, 1),
+            1,
+            7,
+        ),
+        (Rule::Label, (Part::Bas, inside, 9), same_height, 1, 7),
+        // It leads nowhere, and its outlet counts no cell but itself.
+        (
+            Rule::FlatStep,
+            (Part::Dir, inside, 0),
+            (Part::Acc, (0, 7), 1),
+            1,
+            7,
+        ),
+    ] {
+        let given = verdict_changed(rt.alloc(), change, other)?;
+        same(&rt, rule.name(), given, rejected(rule, row, col));
+    }
+    Ok(())
+}
