@@ -18,6 +18,10 @@ mod open;
 #[cfg(test)]
 mod presence;
 #[cfg(test)]
+mod run_grids;
+#[cfg(test)]
+mod runs;
+#[cfg(test)]
 mod sinks;
 #[cfg(test)]
 mod slope;

@@ -2,7 +2,7 @@
 use Rattle.std.proofs.Common.{◌≡◌, ℕ, ◌*◌, ◌+◌, ◌<◌, ◌≤◌, ◌∙◌, inl, inr, sym, ap, subst, arith}
 use Rattle.std.proofs.Math.Nat.{mul-le-mul_right}
 use Rattle.drain_grid.specs.declared.cell.Cell.{Cell}
-use Rattle.drain_grid.specs.Size.{Extent, IsExtent}
+use Rattle.drain_grid.specs.Size.{Extent}
 use Rattle.drain_grid.specs.Extent.{IsCellOf, IsEarlier, index_of}
 use Rattle.drain_grid.specs.Grid.{Grid, IsInside}
 use Rattle.drain_grid.proofs.Runs.{cell_at, cell_at-index_of}
@@ -28,10 +28,3 @@ earlier_index e b c inside (inr beside) =
     let row : b.row * e.cols ≡ c.row * e.cols = ap (λ r. r * e.cols) beside.0 in
     let col : b.col < c.col = beside.1 in
     omega (arith, row, col)
-
--- 28,801 by 28,801 at most
-pub few_cells : (e : Extent) → IsExtent e → e.rows * e.cols ≤ 829497601
-few_cells e h =
-    let cols : e.cols ≤ 28801 = h.cols_fit in
-    let rows : e.rows * e.cols ≤ 28801 * e.cols = mul-le-mul_right e.cols h.rows_fit in
-    omega (arith, rows, cols)

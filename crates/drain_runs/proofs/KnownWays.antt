@@ -32,6 +32,7 @@ known_of_code g ps c None is = record {
   where
     void_ends : Void ≡ Ends → ⊥
     void_ends h = cc
+
     void_lost : Void ≡ Lost → ⊥
     void_lost h = cc
 known_of_code g ps c (Some z) is =
@@ -64,6 +65,7 @@ known_end g ps c here ends = record {
   where
     ends_void : Ends ≡ Void → ⊥
     ends_void h = cc
+
     ends_lost : Ends ≡ Lost → ⊥
     ends_lost h = cc
 

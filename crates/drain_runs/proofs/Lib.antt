@@ -1,6 +1,7 @@
 pub mod Cells
 pub mod FlowCodes
 pub mod FlowWalks
+pub mod GridFlows
 pub mod KnownWays
 pub mod NextCells
 pub mod RankLemmas

@@ -38,11 +38,14 @@ ended_are_chains g ps c ended = by_next (next g ps c) refl
     by_next : (o : Option Cell) → next g ps c ≡ o →
         IsAlone (next g ps) (run g ps) c ⊎ GoesOn (IsEnded g ps) (next g ps) (run g ps) c
     by_next None stops = inl (record { stops = stops; alone = ap (λ xs. c ∷ xs) (over (cell_count g) stops) })
-    by_next (Some n) leads = inr (n, record {
-      leads = leads;
-      to_data = IsEnded-next g ps c n leads ended;
-      follows = ended-run g ps c n ended.ends leads;
-    })
+    by_next (Some n) leads = inr (
+      n,
+      record {
+        leads = leads;
+        to_data = IsEnded-next g ps c n leads ended;
+        follows = ended-run g ps c n ended.ends leads;
+      },
+    )
 
 -- whether the cell at a place stands in the run
 stands_at : (g : Grid) (ps : Products) (c : Cell) → ℕ → Bool
@@ -67,10 +70,10 @@ module _ (g : Grid) (ps : Products) where
       let place = cell_at-index_of g.extent c ended.here.inside in
       let longer : run_steps g ps c ≡ run_steps g ps n + 1 = ended-run_steps g ps c n ended.ends leads in
       false_from_ne_true (stands_at g ps n (index_of g.extent c)) (λ there.
-          (let no_longer : length (run g ps c) ≤ length (run g ps n) =
-          stands_no_longer (IsEnded g ps) (next g ps) (run g ps) (ended_are_chains g ps) c n (IsEnded-next g ps c n leads ended)
-          (subst (λ x. stands x (run g ps n) ≡ true) place there) in
-          absurd (omega (arith, longer, no_longer))))
+      (let no_longer : length (run g ps c) ≤ length (run g ps n) =
+      stands_no_longer (IsEnded g ps) (next g ps) (run g ps) (ended_are_chains g ps) c n (IsEnded-next g ps c n leads ended)
+      (subst (λ x. stands x (run g ps n) ≡ true) place there) in
+      absurd (omega (arith, longer, no_longer))))
 
   -- what stands in the run of the next cell stands in this one's
   stands_later : (c n : Cell) → next g ps c ≡ Some n → IsEnded g ps c → (k : ℕ) → stands_at g ps n k ≡ true →

@@ -1,15 +1,12 @@
 -- Numbers of steps that are put, one after the other: what was right stays right, and what was known stays known.
-use Rattle.std.proofs.Common.{◌≡◌, ◌≢◌, ℕ, ◌+◌, ◌*◌, ◌≤◌, ◌⊎◌, ◌∙◌, inl, inr, sym, subst, arith}
-use Rattle.std.proofs.lemmas.Bool.{cases_order}
+use Rattle.std.proofs.Common.{◌≡◌, ◌≢◌, ℕ, ◌*◌, ◌≤◌, ◌⊎◌, ◌∙◌, inl, inr, sym, subst, arith}
 use Rattle.drain_grid.specs.declared.cell.Cell.{Cell}
-use Rattle.drain_grid.specs.Extent.{index_of}
 use Rattle.drain_grid.specs.Grid.{Grid, Products, IsInside, HasData}
 use Rattle.drain_runs.specs.declared.steps.TheConstants.{UNKNOWN}
-use Rattle.drain_runs.specs.Steps.{Numbers, steps_at, IsRight, AreRight, KnowsMore, KnowsBefore}
+use Rattle.drain_runs.specs.Steps.{Numbers, steps_at, IsRight, AreRight, KnowsMore}
 use Rattle.drain_grid.specs.Certificate.{EndsAfter}
 use Rattle.drain_grid.proofs.Lowered.{same_or_not}
 use Rattle.drain_grid.proofs.Walks.{run_steps-le}
-use Rattle.drain_runs.proofs.Cells.{same_index}
 
 -- after is before with this number put at c
 pub record IsPut (g : Grid) (before after : Numbers) (c : Cell) (number : ℕ) : Type 0 where
@@ -38,19 +35,6 @@ KnowsMore-put g start before after c number put is_number more = record {
 
 pub KnowsMore-same : (g : Grid) (s : Numbers) → KnowsMore g s s
 KnowsMore-same g s = record { kept = λ c inside known. known }
-
--- one cell further
-pub KnowsBefore-more : (g : Grid) (before after : Numbers) (k : ℕ) (c : Cell) → IsInside g c → index_of g.extent c ≡ k →
-    KnowsBefore g before k → KnowsMore g before after → (HasData g c → steps_at after c ≢ UNKNOWN) → KnowsBefore g after (k + 1)
-KnowsBefore-more g before after k c inside at known more here = record {
-  known = λ d there less. elim (cases_order (index_of g.extent d) k) [
-    | inl same ↦
-        (let one : d ≡ c = same_index g.extent d c there.inside inside (same ∙ sym at) in
-        subst (λ x. steps_at after x ≢ UNKNOWN) (sym one) (here (subst (HasData g) one there)))
-    | inr (inl before_k) ↦ more.kept d there.inside (known.known d there before_k)
-    | inr (inr after_k) ↦ absurd (omega arith)
-  ];
-}
 
 -- a number that is known is that of the run's steps
 pub known_ends : (g : Grid) (ps : Products) (s : Numbers) (c : Cell) (number : ℕ) → AreRight g ps s → HasData g c →

@@ -1,10 +1,11 @@
 -- What is kept of each cell to ask which runs end: whether it has data, and where its code leads.
-use Rattle.std.specs.Prelude.{◌≡◌, ℤ, pos, List, [], ◌∷◌, Option, Some, None, slice_index_or, if◌then◌else◌}
+use Rattle.std.specs.Prelude.{◌≡◌, ℕ, ◌*◌, ◌<◌, ℤ, pos, List, length, [], ◌∷◌, Option, Some, None, slice_index_or, if◌then◌else◌}
 use Rattle.std.specs.Option.{option_map_or}
 use Rattle.std.specs.Ordering.{int_eq}
 use Rattle.drain_grid.specs.declared.cell.Cell.{Cell}
 use Rattle.drain_grid.specs.declared.direction.Direction.{Direction}
 use Rattle.drain_grid.specs.declared.direction.Direction.TheVariants.{East, SouthEast, South, SouthWest, West, NorthWest, North, NorthEast}
+use Rattle.drain_grid.specs.declared.tile.TheConstants.{VOID}
 use Rattle.drain_grid.specs.Direction.{named_direction}
 use Rattle.drain_grid.specs.Extent.{index_of}
 use Rattle.drain_grid.specs.Grid.{Grid, Products, IsInside}
@@ -61,3 +62,17 @@ flow_at e flows c = slice_index_or flows (index_of e c) Void
 pub record AreFlowsOf (g : Grid) (ps : Products) (e : Extent) (flows : List Flow) : Type 0 where
   pub extent : g.extent ≡ e
   pub each : (c : Cell) → IsInside g c → flow_at e flows c ≡ cell_flow (g.elevation c) (ps.dir c)
+
+-- the flows in row order are those of the first rows of a grid of this size
+pub record AreFirstFlows (g : Grid) (ps : Products) (e : Extent) (rows : ℕ) (flows : List Flow) : Type 0 where
+  pub extent : g.extent ≡ e
+  pub counted : length flows ≡ rows * e.cols
+  pub each : (c : Cell) → IsInside g c → c.row < rows → flow_at e flows c ≡ cell_flow (g.elevation c) (ps.dir c)
+
+-- samples and numbers are those of a row of the grid
+pub record AreRowOf (g : Grid) (ps : Products) (row : ℕ) (samples numbers : List ℤ) : Type 0 where
+  pub samples_are : length samples ≡ g.extent.cols
+  pub numbers_are : length numbers ≡ g.extent.cols
+  pub elevation : (col : ℕ) → col < g.extent.cols →
+      height_from (slice_index_or samples col VOID) ≡ g.elevation (record { row = row; col = col })
+  pub code : (col : ℕ) → col < g.extent.cols → slice_index_or numbers col (pos 0) ≡ ps.dir (record { row = row; col = col })

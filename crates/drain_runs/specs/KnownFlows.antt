@@ -10,7 +10,7 @@ use Rattle.drain_grid.specs.Size.{Extent}
 use Rattle.drain_runs.specs.declared.flow.Flow.{Flow}
 use Rattle.drain_runs.specs.declared.flow.Flow.TheVariants.{Void, Lost, Ends}
 use Rattle.drain_runs.specs.declared.way.Way.{Way}
-use Rattle.drain_runs.specs.declared.way.Way.TheVariants.{On} 
+use Rattle.drain_runs.specs.declared.way.Way.TheVariants.{On}
 use Rattle.drain_runs.specs.declared.way.Way.TheVariants as way
 use Rattle.drain_runs.specs.Flows.{direction_of, flow_at}
 

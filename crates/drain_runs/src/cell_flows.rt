@@ -46,16 +46,27 @@ impl CellFlows {
         ensures ok { OnOk result (self.new ≡ self.old ++ flows_of samples.now dir.now) }
         ensures err { OnErr result (self.new ≡ self.old) }
     {
-        let before = self.flows.len();
-        if self.flows.resize(before + samples.len(), Flow::Void).is_err() {
+        let before = self.len();
+        if self
+            .flows
+            .resize(before + samples.len(), Flow::Void)
+            .is_err()
+        {
             return Err(OutOfMemory);
         }
         fill(&mut self.flows[before..], samples, dir);
         Ok(())
     }
 
+    /// How many cells were taken.
+    pub fn len(&self) -> usize
+        ensures { result ≡ length self.now }
+    {
+        self.flows.len()
+    }
+
     /// The flow of the cell that so many come before.
-    pub fn at(&self, index: usize) -> Flow
+    pub(crate) fn at(&self, index: usize) -> Flow
         requires { index < length self.now }
         ensures { result ≡ slice_index_or self.now index Void }
     {
@@ -63,7 +74,7 @@ impl CellFlows {
     }
 
     /// Puts down that the run of the cell that so many come before is known to end.
-    pub(crate) fn put_ends(&mut self, index: usize)
+    pub(crate) fn set_ended(&mut self, index: usize)
         requires { index < length self.old }
         ensures { self.new ≡ slice_set self.old index Flow.Ends }
     {

@@ -5,6 +5,7 @@ ghost use Rattle.drain_grid.specs.Tile.{height_from};
 ghost use Rattle.drain_runs.specs.Flows.{cell_flow, code_flow, direction_of};
 
 use drain_grid::{Direction, VOID};
+use std::mem::size_of;
 
 /// What is kept of a cell: whether it has data, and where its code leads.
 #[repr(u8)]
@@ -44,6 +45,9 @@ impl Flow {
         }
     }
 }
+
+/// One byte: there are up to 829,497,601 of them.
+const _: () = prove!(size_of::<Flow>() == 1);
 
 /// The flow of a cell, of its sample, where -32768 is a void, and its direction number, whatever number that is.
 pub fn flow_of(sample: i64, number: i64) -> Flow

@@ -42,7 +42,7 @@ pub fn put_ends(flows: &mut CellFlows, shape: Shape, start: Cell, steps: usize)
     for _ in 0..steps {
         match way_of(flows, shape, here) {
             Way::On(next) => {
-                flows.put_ends(shape.index(here));
+                flows.set_ended(shape.index(here));
                 here = next;
             }
             _ => return,

@@ -11,7 +11,7 @@ loop-preserved c = record {
   ends = λ g ps known here ends.
       (let so_far = c.loop.invariant.ends g ps known here ends in
       record {
-        known = subst (λ flows. AreKnownFlows g ps c.args.shape flows) (sym c.put_ends.ensures)
+        known = subst (λ flows. AreKnownFlows g ps c.args.shape flows) (sym c.set_ended.ensures)
             (AreKnownFlows-put g ps c.args.shape c.loop.flows c.loop.here c.index.result c.index.ensures.place (search rules)
             so_far.ended.here so_far.ended.ends so_far.known);
         ended = IsEnded-next g ps c.loop.here c.in-On.next (c.in-On.ensures.way g ps so_far.known so_far.ended.here) so_far.ended;

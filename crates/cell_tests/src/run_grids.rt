@@ -1,0 +1,141 @@
+//! Grids of worked directions, and what is asked of their runs.
+
+ghost use Rattle.std.specs.Prelude.{◌≡◌, IfOk};
+
+use drain_grid::{Cell, Elevation, OutOfMemory, Raster, Shape, VOID};
+use drain_runs::{CellFlows, CertifyRefusal, certify};
+use std::alloc::Global;
+use std::test::Fail;
+
+/// What stands for no rank.
+pub const NONE: i64 = 4_294_967_295;
+
+/// The directions of a grid.
+fn directions(alloc: Global, shape: Shape, codes: &[u8]) -> Result<Raster, Fail>
+    ensures { IfOk result (λ dir. dir.extent ≡ shape) }
+{
+    let numbers = codes.to_vec(alloc)?;
+    if numbers.len() != shape.cells() {
+        return Err("a code for each cell".into());
+    }
+    Ok(Raster::of_bytes(shape, 255, numbers))
+}
+
+/// The elevations of a grid: 0, and a void where `voids` has a 1.
+fn elevations(alloc: Global, shape: Shape, voids: &[u8]) -> Result<Elevation, Fail>
+    ensures { IfOk result (λ elevation. elevation.extent ≡ shape) }
+{
+    let samples: Vec<i16> = voids
+        .iter()
+        .map(|void| if *void == 1 { VOID } else { 0 })
+        .collect(alloc)?;
+    if samples.len() != shape.cells() {
+        return Err("a sample for each cell".into());
+    }
+    Ok(Elevation::new(shape, samples))
+}
+
+/// The ranks for these directions, on a grid with these voids.
+pub fn certified(
+    alloc: Global,
+    rows: u32,
+    cols: u32,
+    voids: &[u8],
+    codes: &[u8],
+) -> Result<Result<Raster, CertifyRefusal>, Fail> {
+    let Some(shape) = Shape::new(rows, cols) else {
+        return Err("a shape".into());
+    };
+    let elevation = elevations(alloc, shape, voids)?;
+    let dir = directions(alloc, shape, codes)?;
+    Ok(certify(alloc, &elevation, &dir))
+}
+
+/// Whether the ranks are these, row by row.
+pub fn are_ranks(answer: &Result<Raster, CertifyRefusal>, ranks: &[i64]) -> bool {
+    let Ok(raster) = answer else {
+        return false;
+    };
+    let shape = raster.shape();
+    if ranks.len() != shape.cells() || raster.nodata() != NONE {
+        return false;
+    }
+    for (index, rank) in ranks.iter().enumerate() {
+        if index < shape.cells() && raster.value(shape.cell(index)) != *rank {
+            return false;
+        }
+    }
+    true
+}
+
+/// The first cell whose run doesn't end, on the same grid.
+pub fn first_endless(
+    alloc: Global,
+    rows: u32,
+    cols: u32,
+    voids: &[u8],
+    codes: &[u8],
+) -> Result<Option<Cell>, Fail> {
+    let Some(shape) = Shape::new(rows, cols) else {
+        return Err("a shape".into());
+    };
+    let elevation = elevations(alloc, shape, voids)?;
+    let dir = directions(alloc, shape, codes)?;
+    let Ok(mut flows) = taken(alloc, shape, &elevation, &dir) else {
+        return Err("memory".into());
+    };
+    if flows.len() != shape.cells() {
+        return Err("a flow for each cell".into());
+    }
+    Ok(flows.first_endless(shape))
+}
+
+/// The flows of a grid, row by row.
+fn taken(
+    alloc: Global,
+    shape: Shape,
+    elevation: &Elevation,
+    dir: &Raster,
+) -> Result<CellFlows, OutOfMemory>
+    requires elevation { elevation.now.extent ≡ shape }
+    requires dir { dir.now.extent ≡ shape }
+{
+    let mut flows = CellFlows::new(alloc);
+    let mut samples = Vec::new(alloc);
+    let mut numbers = Vec::new(alloc);
+    for row in 0..shape.rows() {
+        elevation.read_row(row, &mut samples)?;
+        dir.read_row(row, &mut numbers)?;
+        if samples.len() == numbers.len() {
+            flows.push_row(&samples, &numbers)?;
+        }
+    }
+    Ok(flows)
+}
+
+/// One run through all cells, to and fro from the first cell on; or, where it goes round, from its last cell to the one above.
+pub fn to_and_fro(alloc: Global, side: u32, goes_round: bool) -> Result<Vec<u8>, Fail> {
+    let mut codes = Vec::new(alloc);
+    for row in 0..side {
+        for col in 0..side {
+            codes.push(code_to_and_fro(side, row, col, goes_round))?;
+        }
+    }
+    Ok(codes)
+}
+
+fn code_to_and_fro(side: u32, row: u32, col: u32, goes_round: bool) -> u8
+    requires { row < side }
+{
+    let goes_east = row % 2 == 0;
+    let turns = if goes_east { col == side - 1 } else { col == 0 };
+    if !turns {
+        if goes_east { 1 } else { 16 }
+    } else if row < side - 1 {
+        4
+    } else if goes_round {
+        64
+    } else {
+        0
+    }
+}
