@@ -31,7 +31,7 @@ over_err (Ok x) P Q step h = tt
 over_err (Err e) P Q step h = step e h
 
 -- what follows from a fact of an answer that isn't a refusal is one
-pub on-ok : {T : Type 0} (r : Result T Refusal) {P Q : Type 0} → (P → Q) → OnOk r P → OnOk r Q
+pub on-ok : {T E : Type 0} (r : Result T E) {P Q : Type 0} → (P → Q) → OnOk r P → OnOk r Q
 on-ok (Ok x) follows holds = follows holds
 on-ok (Err told) follows holds = tt
 

@@ -1,4 +1,6 @@
 mod Acceptance
+mod AuditAnswers
+mod AuditDevices
 mod AuditReads
 mod BodyAnswers
 pub mod CellSets

@@ -38,6 +38,20 @@ layout_told : {R : Type 0} (bytes_left : R → Option (List ℕ)) (side : ℕ) (
     Tell bytes_left side tiles sinks ps i → IsLayoutOf side (names_of tiles) t → IsLayoutOf i.side i.names t
 layout_told bytes_left side tiles sinks ps i t tell is = told_of_inputs (λ side names. IsLayoutOf side names t) i side (names_of tiles) tell.side_is tell.names_are is
 
+-- the layout of a side and names is one of its own side
+pub laid : (side : ℕ) (names : List (List ℕ)) (t : Tiling) → IsLayoutOf side names t → IsLayoutOf t.side names t
+laid side names t is = subst (λ s. IsLayoutOf s names t) (sym is.side_is) is
+
+-- and what is told of the side is told of that
+pub at_side : {R : Type 0} (bytes_left : R → Option (List ℕ)) (side : ℕ) (tiles : List (TileInput R)) (sinks : List ℕ) (ps : Products R) (i : Inputs) (t : Tiling) →
+    IsLayoutOf side (names_of tiles) t → Tell bytes_left side tiles sinks ps i → Tell bytes_left t.side tiles sinks ps i
+at_side bytes_left side tiles sinks ps i t is tell = subst (λ s. Tell bytes_left s tiles sinks ps i) (sym is.side_is) tell
+
+-- it is that of the inputs
+pub layout_of_inputs : OneName → {R : Type 0} (bytes_left : R → Option (List ℕ)) (side : ℕ) (tiles : List (TileInput R)) (sinks : List ℕ) (ps : Products R) (i : Inputs) (t : Tiling) →
+    Tell bytes_left side tiles sinks ps i → IsLayoutOf side (names_of tiles) t → t ≡ tiling_of i
+layout_of_inputs one bytes_left side tiles sinks ps i t tell is = layout_is one i tell.corners_are t (layout_told bytes_left side tiles sinks ps i t tell is)
+
 -- the refusal of the layout is the answer
 pub layout_answer : OneName → {R : Type 0} (bytes_left : R → Option (List ℕ)) (side : ℕ) (tiles : List (TileInput R)) (sinks : List ℕ) (ps : Products R) (i : Inputs) (refusal : Refusal) →
     Tell bytes_left side tiles sinks ps i → IsLayoutRefusal side (names_of tiles) refusal → IsAnswer i (Err refusal)

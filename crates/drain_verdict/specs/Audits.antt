@@ -1,14 +1,17 @@
 -- What an audit answers: whether four products are correct, with ranks of its own in place of a certificate.
 -- Source: correct products are in the words of the literature; that runs without an end are told first is this project's own.
-use Rattle.std.specs.Prelude.{◌≡◌, ℕ, ℤ, pos, is_some, List, Option, if◌then◌else◌, Result, Ok, Err}
+use Rattle.std.specs.Prelude.{◌≡◌, ℕ, ℤ, pos, is_some, List, Option, Some, None, if◌then◌else◌, Result, Ok, Err}
 use Rattle.drain_grid.specs.declared.cell.Cell.{Cell}
 use Rattle.drain_grid.specs.Grid.{Grid, Products, HasData}
 use Rattle.drain_grid.specs.Run.{RunEnds}
 use Rattle.drain_grid.specs.Certificate.{run_steps, with_ranks, with_rank_nodata, IsFirstEndless}
 use Rattle.drain_grid.specs.Correct.{IsCorrect}
+use Rattle.drain_grid.specs.Size.{IsExtent}
+use Rattle.drain_grid.specs.Unranked.{unranked}
 use Rattle.drain_grid.specs.Values.{NoDataNumbers}
 use Rattle.drain_hgt.specs.declared.input.TileInput.{TileInput}
-use Rattle.drain_rules.specs.Verdicts.{IsVerdict}
+use Rattle.drain_rules.specs.Verdicts.{IsVerdict, IsVerdictOf}
+use Rattle.drain_rules.specs.declared.verdict.Verdict.{Verdict}
 use Rattle.drain_rules.specs.declared.verdict.Verdict.TheVariants as checked
 use Rattle.drain_runs.specs.declared.steps.TheConstants.{UNKNOWN}
 use Rattle.drain_verdict.specs.declared.audit_products.AuditProducts.{AuditProducts}
@@ -46,6 +49,22 @@ abbrev pub IsAuditAnswer : Inputs → Result AuditVerdict Refusal → Type 0
 IsAuditAnswer i (Ok verdict) = AreReadable i × IsAuditVerdict (grid_of i) (products_of i) (nodata_numbers i) verdict
 IsAuditAnswer i (Err refusal) = IsRefusal i refusal
 
+-- the same without a word on ranks: the first run without an end; else the verdict of the rules that ask nothing of them
+abbrev pub IsPlainVerdict : Grid → Products → NoDataNumbers → AuditVerdict → Type 0
+IsPlainVerdict g ps nodata (NoEnd row col) = IsFirstEndless g ps (record { row = row; col = col })
+IsPlainVerdict g ps nodata (Accepted counts) = AllRunsEnd g ps × IsVerdictOf (unranked nodata) g ps (checked.Accepted counts)
+IsPlainVerdict g ps nodata (Rejected rule row col) = AllRunsEnd g ps × IsVerdictOf (unranked nodata) g ps (checked.Rejected rule row col)
+
+abbrev pub IsPlainAnswer : Inputs → Result AuditVerdict Refusal → Type 0
+IsPlainAnswer i (Ok verdict) = AreReadable i × IsExtent (grid_of i).extent × IsPlainVerdict (grid_of i) (products_of i) (nodata_numbers i) verdict
+IsPlainAnswer i (Err refusal) = IsRefusal i refusal
+
+-- the verdict of the rules, and the first run without an end, if there is one, make this one
+abbrev pub IsOfBoth : Verdict → Option Cell → AuditVerdict → Type 0
+IsOfBoth verdict (Some c) both = both ≡ NoEnd c.row c.col
+IsOfBoth (checked.Accepted counts) None both = both ≡ Accepted counts
+IsOfBoth (checked.Rejected rule row col) None both = both ≡ Rejected rule row col
+
 -- it is an acceptance
 abbrev pub IsAcceptance : AuditVerdict → Type 0
 IsAcceptance (Accepted counts) = Unit {0}
@@ -56,12 +75,16 @@ IsAcceptance (NoEnd row col) = ⊥
 abbrev pub OfFour : {R : Type 0} → (R → Option (List ℕ)) → ℕ → List (TileInput R) → List ℕ → AuditProducts R → (Inputs → Type 0) → Type 0
 OfFour bytes_left side tiles sinks ps Fact = (i : Inputs) → Tell bytes_left side tiles sinks (with_con_for_ranks ps) i → Fact i
 
+-- the fact holds where the answer is an acceptance
+abbrev pub IfAccepts : Result AuditVerdict Refusal → Type 0 → Type 0
+IfAccepts (Ok (Accepted counts)) P = P
+IfAccepts (Ok (Rejected rule row col)) P = Unit {0}
+IfAccepts (Ok (NoEnd row col)) P = Unit {0}
+IfAccepts (Err refusal) P = Unit {0}
+
 -- where the answer is an acceptance, the fact holds of the inputs that were handed in
 abbrev pub AuditMeans : {R : Type 0} → (Inputs → Type 0) → (R → Option (List ℕ)) → ℕ → List (TileInput R) → List ℕ → AuditProducts R → Result AuditVerdict Refusal → Type 0
-AuditMeans Fact bytes_left side tiles sinks ps (Ok (Accepted counts)) = OfFour bytes_left side tiles sinks ps Fact
-AuditMeans Fact bytes_left side tiles sinks ps (Ok (Rejected rule row col)) = Unit {0}
-AuditMeans Fact bytes_left side tiles sinks ps (Ok (NoEnd row col)) = Unit {0}
-AuditMeans Fact bytes_left side tiles sinks ps (Err refusal) = Unit {0}
+AuditMeans Fact bytes_left side tiles sinks ps answer = IfAccepts answer (OfFour bytes_left side tiles sinks ps Fact)
 
 -- the products of the inputs are correct
 abbrev pub AreCorrect : Inputs → Type 0

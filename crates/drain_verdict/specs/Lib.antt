@@ -1,5 +1,7 @@
 pub mod Answers
 pub mod AuditInputs
+pub mod AuditLines
+pub mod Audits
 pub mod Devices
 pub mod FillLines
 pub mod GridRows

@@ -1,7 +1,7 @@
 //! The answer to the bytes of products as they are handed in: the five of a check, or the four of an audit.
 //!
-//! It goes in stages, in the order of their refusals: side, names and layout; the headers, product by product; then the rows of all tiles and
-//! rasters together. Behind the last row the tiles, the rasters, the seams and the list of sinks are refused, in this order, and else the rules
+//! Behind the stage of side, names and layout it goes in stages, in the order of their refusals: the headers, product by product; then the rows of
+//! all tiles and rasters together. Behind the last row the tiles, the rasters, the seams and the list of sinks are refused, in this order, and else the rules
 //! have the verdict. No device is called before every header is right.
 
 ghost use Rattle.std.specs.Prelude.{◌≡◌, length, map, IfErr, IsErrOf, OnOk};
@@ -21,14 +21,13 @@ ghost use Rattle.drain_verdict.specs.Meaning.{tiling_of, fields_of, listed_in, n
 ghost use Rattle.drain_verdict.specs.SinkListings.{IsBadLine};
 ghost use Rattle.drain_verdict.specs.Refusals.{IsOfBodies, NoneStandsBefore};
 ghost use Rattle.drain_verdict.specs.Answers.{AreNotesOf, IsAnswerWith};
-ghost use Rattle.drain_verdict.specs.Stages.{AreRasterBodies};
+ghost use Rattle.drain_verdict.specs.Stages.{AreRasterBodies, IsLayoutOf};
 ghost use Rattle.drain_device.specs.FaultLists.{SomeReadFails};
 ghost use Rattle.drain_hgt.specs.Inputs.{names_of, AreBodies, TilesTakeAtMost};
 ghost use Rattle.drain_verdict.specs.Devices.{devices_of, RasterTakesAtMost, BodyTakesAtMost};
 
 use crate::headers::nodata_of;
 use crate::input_rows::InputRows;
-use crate::layout::layout_of;
 use crate::product_inputs::ProductInputs;
 use crate::refusal::Refusal;
 use crate::row_notes::RowNotes;
@@ -52,22 +51,24 @@ use drain_raster::laws::{
 use drain_rules::{Ranks, Rules, Verdict};
 use std::alloc::Global;
 
-/// The answer to the bytes of tiles, of a list of sinks and of products; each row of the grid is noted.
+/// The answer to inputs of this mosaic: to the headers of its products, to the bytes of its tiles and rasters, and to a list of sinks. Each
+/// row of the grid is noted, and rules are tried with ranks or without.
 ///
-/// Rules are tried with ranks or without. See `check` for the order of refusals, and for how far it reads.
-pub fn answer_of<R: ByteSource, P: ProductInputs<R>, K: RowNotes>(
+/// See `check` for the order of refusals, and for how far it reads.
+pub fn answer_on<R: ByteSource, P: ProductInputs<R>, K: RowNotes>(
     alloc: Global,
-    side: u32,
-    tiles: &mut [TileInput<R>],
+    layout: &Layout,
     sinks: &[u8],
+    tiles: &mut [TileInput<R>],
     products: &mut P,
     ranks: Ranks,
     notes: &mut K,
 ) -> Result<Verdict, Refusal>
+    requires laid { IsLayoutOf layout.now.side (names_of tiles.old) layout.now }
     requires unnoted { (g : Grid) (ps : grid.Products) → K.are_of g ps 0 notes.old }
-    ensures answer { (inputs : Inputs) → Tell R.bytes_left side tiles.old sinks.now (P.inputs products.old) inputs → IsAnswerWith ranks inputs result }
-    ensures noted { OnOk result ((inputs : Inputs) → Tell R.bytes_left side tiles.old sinks.now (P.inputs products.old) inputs → AreNotesOf K.are_of inputs notes.new) }
-    ensures tiles_within { TilesTakeAtMost R.bytes_left side tiles.old tiles.new }
+    ensures answer { (inputs : Inputs) → Tell R.bytes_left layout.now.side tiles.old sinks.now (P.inputs products.old) inputs → IsAnswerWith ranks inputs result }
+    ensures noted { OnOk result ((inputs : Inputs) → Tell R.bytes_left layout.now.side tiles.old sinks.now (P.inputs products.old) inputs → AreNotesOf K.are_of inputs notes.new) }
+    ensures tiles_within { TilesTakeAtMost R.bytes_left layout.now.side tiles.old tiles.new }
     ensures rasters_within { (p : Held) → RasterTakesAtMost R.bytes_left (P.inputs products.old) (P.inputs products.new) p }
     ensures faults { SomeReadFails (map R.counts (devices_of tiles.old (P.inputs products.old))) (map R.counts (devices_of tiles.new (P.inputs products.new))) (IsErrOf result Refusal.ReadFailed) }
     ensures names { names_of tiles.new ≡ names_of tiles.old }
@@ -76,11 +77,8 @@ pub fn answer_of<R: ByteSource, P: ProductInputs<R>, K: RowNotes>(
 {
     // The law that bytes name one tile.
     one_name();
-    let layout = layout_of(alloc, side, tiles)?;
-    let headers = products.read_headers(&layout)?;
-    answer_to_bodies(
-        alloc, &layout, headers, sinks, tiles, products, ranks, notes,
-    )
+    let headers = products.read_headers(layout)?;
+    answer_to_bodies(alloc, layout, headers, sinks, tiles, products, ranks, notes)
 }
 
 /// The answer to the bodies, where the layout and the headers are right: the verdict on their rows, unless they are refused.

@@ -26,7 +26,7 @@ pub fn report(answer: &Result<Verdict, Refusal>) -> ArrayString<LINE_LENGTH>
 }
 
 /// The line of a refusal, or of a failure.
-fn refusal_line(refusal: Refusal) -> Line
+pub fn refusal_line(refusal: Refusal) -> Line
     ensures { result.bytes ≡ refusal_line refusal }
 {
     match refusal {

@@ -13,13 +13,15 @@ ghost use Rattle.drain_hgt.specs.Inputs.{names_of, TilesTakeAtMost};
 ghost use Rattle.drain_verdict.specs.Devices.{devices_of, RasterTakesAtMost};
 ghost use Rattle.drain_verdict.specs.Headline.{AcceptedMeans, TilesAreOne, ElevationIsTheirs, ConIsLeast, NoDirectionClimbs, DirectionsAreSteepest, CodesTellOutlets, RunsEnd, RunsEndAtOutlets, RunsVisitOnce, AccCountsUpstream, LabelsTellBasins, VoidsAreBlank, DataIsComplete};
 
-use crate::answer::answer_of;
+use crate::answer::answer_on;
 use crate::input::Products;
+use crate::layout::layout_of;
 use crate::refusal::Refusal;
 use crate::row_notes::NoNotes;
 use drain_device::ByteSource;
 use drain_grid::laws::correct_from_rules;
 use drain_hgt::TileInput;
+use drain_hgt::laws::one_name;
 use drain_mosaic::laws::agreement_gives_elevation;
 use drain_rules::{Ranks, Verdict};
 use std::alloc::Global;
@@ -85,11 +87,33 @@ pub fn check<R: ByteSource>(
     // The laws that turn rules kept at every cell into correct products, and first values into the one elevation.
     correct_from_rules();
     agreement_gives_elevation();
-    answer_of(
+    answer_of(alloc, side, tiles, sinks, products)
+}
+
+/// The answer to the bytes.
+fn answer_of<R: ByteSource>(
+    alloc: Global,
+    side: u32,
+    tiles: &mut [TileInput<R>],
+    sinks: &[u8],
+    products: &mut Products<R>,
+) -> Result<Verdict, Refusal>
+    ensures answer { (inputs : Inputs) → Tell R.bytes_left side tiles.old sinks.now products.old inputs → IsAnswer inputs result }
+    ensures tiles_within { TilesTakeAtMost R.bytes_left side tiles.old tiles.new }
+    ensures rasters_within { (p : Held) → RasterTakesAtMost R.bytes_left products.old products.new p }
+    ensures faults { SomeReadFails (map R.counts (devices_of tiles.old products.old)) (map R.counts (devices_of tiles.new products.new)) (IsErrOf result Refusal.ReadFailed) }
+    ensures names { names_of tiles.new ≡ names_of tiles.old }
+    ensures headers { (p : Held) → (of_product products.new p).header ≡ (of_product products.old p).header }
+    ensures untouched { IfErr result (λ refusal. ¬ IsOfBodies refusal → (tiles.new ≡ tiles.old) × (products.new ≡ products.old)) }
+{
+    // The law that bytes name one tile.
+    one_name();
+    let layout = layout_of(alloc, side, tiles)?;
+    answer_on(
         alloc,
-        side,
-        tiles,
+        &layout,
         sinks,
+        tiles,
         products,
         Ranks::Asked,
         &mut NoNotes,

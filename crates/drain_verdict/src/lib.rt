@@ -4,6 +4,9 @@
 mod answer;
 pub mod answer_report;
 pub mod audit_products;
+pub mod audit_report;
+pub mod audit_verdict;
+pub mod auditor;
 mod check_products;
 pub mod checker;
 pub mod fill_line;
@@ -22,6 +25,7 @@ mod next_rows;
 mod placing;
 mod product_inputs;
 pub mod refusal;
+mod row_flows;
 mod row_notes;
 mod row_verdict;
 mod seams;
@@ -34,6 +38,9 @@ mod window;
 
 pub use answer_report::report;
 pub use audit_products::AuditProducts;
+pub use audit_report::audit_report;
+pub use audit_verdict::AuditVerdict;
+pub use auditor::audit;
 pub use checker::check;
 pub use drain_rules::{Counts, FillCounts, FillRefusal, FillVerdict, Verdict, check_fill};
 pub use fill_line::fill_report;

@@ -17,7 +17,8 @@ pub fn verdict_line(verdict: &Verdict) -> Line
     }
 }
 
-fn accepted(counts: &Counts) -> Line
+/// The line of an acceptance, with its counts.
+pub fn accepted(counts: &Counts) -> Line
     ensures { result.bytes ≡ accepted_line counts.now }
 {
     let mut line = words("accepted rows=");

@@ -1,7 +1,6 @@
-use Rattle.std.proofs.Common.{◌≡◌, ◌∙◌, ℕ, List, ap, subst, sym, rules, Result, Ok, Err, IfOk}
+use Rattle.std.proofs.Common.{◌≡◌, ◌∙◌, ℕ, List, ap, sym, rules, Result, Ok, Err, IfOk}
 use Rattle.drain_text.specs.Text.{lines_of}
 use Rattle.drain_header.specs.Header.{header_of}
-use Rattle.drain_grid.specs.Held.{product_of}
 use Rattle.drain_grid.specs.PerProduct.{of_product}
 use Rattle.drain_grid.proofs.ByProduct.{by_held}
 use Rattle.drain_grid.specs.declared.held.Held.{Held}
@@ -9,9 +8,8 @@ use Rattle.drain_grid.specs.declared.held.Held.TheVariants.{Con, Rnk}
 use Rattle.drain_grid.specs.declared.per_product.PerProduct.{PerProduct}
 use Rattle.drain_header.specs.Fields.{Fields}
 use Rattle.drain_mosaic.specs.Tiling.{Tiling}
-use Rattle.drain_verdict.specs.Stages.{AreHeadersOf, IsFirstRefusalOf, IsHeaderFor, IsHeaderRefusal}
+use Rattle.drain_verdict.specs.Stages.{AreHeadersOf}
 use Rattle.drain_verdict.specs.AuditInputs.{with_con_for_ranks}
-use Rattle.drain_verdict.specs.declared.refusal.Refusal.{Refusal}
 use Rattle.drain_verdict.proofs.HeaderTexts.{told_of_same}
 use Rattle.drain_verdict.proofs.InputLemmas.{over_err}
 use Rattle.drain_verdict.proofs.audit_products.AuditProductsProductInputs.read_headers.Goals as goal

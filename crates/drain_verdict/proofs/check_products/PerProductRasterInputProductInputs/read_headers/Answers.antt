@@ -9,5 +9,5 @@ pub returns-clause-refusal : goal.returns-clause-refusal
 returns-clause-refusal g c =
     over_err c.read_headers.result _ _
     (λ e found. told_of_same c.args.layout.now _ (λ p. (of_product c.args.self.now p).header) e found
-        (by_held _ (search rules) (search rules) (search rules) (search rules) (search rules)))
+    (by_held _ (search rules) (search rules) (search rules) (search rules) (search rules)))
     c.read_headers.ensures.refusal

@@ -1,0 +1,120 @@
+-- What an audit finds, and what its verdict means.
+use Rattle.std.proofs.Common.{◌≡◌, ◌≢◌, ◌≤◌, ◌*◌, ◌↔◌, ◌∙◌, ℕ, ℤ, pos, IsNone, IsSome, Option, Some, None, MatchOption, Ok, Err, IfOk, is_some, arith, cond, refl, sym, ap, subst}
+use Rattle.std.specs.Prelude.{Result}
+use Rattle.std.proofs.Math.Nat.{mul-le-mul_right}
+use Rattle.std.proofs.lemmas.Bool.{false≢true}
+use Rattle.drain_grid.specs.declared.cell.Cell.{Cell}
+use Rattle.drain_grid.specs.declared.rule.Rule.{Rule}
+use Rattle.drain_grid.specs.Certificate.{RanksAreSteps, IsFirstEndless, run_steps, with_ranks, with_rank_nodata}
+use Rattle.drain_grid.specs.Correct.{IsCorrect, RunsAreSound}
+use Rattle.drain_grid.specs.Grid.{Grid, Products, HasData, IsInside}
+use Rattle.drain_grid.specs.GridRules.{HoldsAt}
+use Rattle.drain_grid.specs.Laws.{CorrectIsLocal, RanksPlayNoPart, SoundFromCorrect}
+use Rattle.drain_grid.specs.PatchRules.{check_rules}
+use Rattle.drain_grid.specs.Size.{Extent, IsExtent}
+use Rattle.drain_grid.specs.Unranked.{unranked}
+use Rattle.drain_grid.specs.Values.{NoDataNumbers}
+use Rattle.drain_grid.proofs.Walks.{run_steps-le}
+use Rattle.drain_grid.proofs.Alike.{run_steps-alike}
+use Rattle.drain_runs.specs.declared.steps.TheConstants.{UNKNOWN}
+use Rattle.drain_rules.specs.Verdicts.{IsVerdictOf}
+use Rattle.drain_rules.specs.declared.verdict.Verdict.{Verdict}
+use Rattle.drain_rules.specs.declared.verdict.Verdict.TheVariants as checked
+use Rattle.drain_verdict.specs.Answers.{AreReadable}
+use Rattle.drain_verdict.specs.Audits.{AllRunsEnd, AreCorrect, IfAccepts, IsAcceptance, IsAuditAnswer, IsAuditVerdict, IsOfBoth, IsPlainAnswer, IsPlainVerdict, certified_nodata, certified_ranks}
+use Rattle.drain_verdict.specs.Inputs.{Inputs}
+use Rattle.drain_verdict.specs.Meaning.{grid_of, products_of, nodata_numbers}
+use Rattle.drain_verdict.specs.declared.audit_verdict.AuditVerdict.{AuditVerdict}
+use Rattle.drain_verdict.specs.declared.audit_verdict.AuditVerdict.TheVariants.{Accepted, Rejected, NoEnd}
+use Rattle.drain_verdict.specs.declared.refusal.Refusal.{Refusal}
+
+-- the verdict of the rules that ask nothing of ranks, and the first run without an end
+pub both_are : (g : Grid) (ps : Products) (nodata : NoDataNumbers) (verdict : Verdict) (endless : Option Cell) (audit : AuditVerdict) →
+    IsOfBoth verdict endless audit → MatchOption endless (AllRunsEnd g ps) (IsFirstEndless g ps) → IsVerdictOf (unranked nodata) g ps verdict → IsPlainVerdict g ps nodata audit
+both_are g ps nodata verdict (Some c) audit both first is = subst (IsPlainVerdict g ps nodata) (sym both) first
+both_are g ps nodata (checked.Accepted counts) None audit both ends is = subst (IsPlainVerdict g ps nodata) (sym both) (ends, is)
+both_are g ps nodata (checked.Rejected rule row col) None audit both ends is = subst (IsPlainVerdict g ps nodata) (sym both) (ends, is)
+
+-- it accepts exactly where the products are correct
+pub exactly : CorrectIsLocal → (g : Grid) (ps : Products) (nodata : NoDataNumbers) (audit : AuditVerdict) → IsPlainVerdict g ps nodata audit → IsAcceptance audit ↔ IsCorrect g ps nodata
+exactly law g ps nodata (Accepted counts) is = (λ accepted. (law g ps nodata).1 (is.0, is.1.0), λ correct. tt)
+exactly law g ps nodata (Rejected rule row col) is = (
+  λ accepted. absurd accepted,
+  λ correct. absurd (is.1.fails (((law g ps nodata).0 correct).1 (record { row = row; col = col }) rule is.1.inside is.1.is_own)),
+)
+exactly law g ps nodata (NoEnd row col) is = (λ accepted. absurd accepted, λ correct. absurd (is.endless (correct.runs_end (record { row = row; col = col }) is.here)))
+
+-- 28,801 by 28,801 at most
+few_cells : (e : Extent) → IsExtent e → e.rows * e.cols ≤ 829497601
+few_cells e h =
+    let cols : e.cols ≤ 28801 = h.cols_fit in
+    let rows : e.rows * e.cols ≤ 28801 * e.cols = mul-le-mul_right e.cols h.rows_fit in
+    omega (arith, rows, cols)
+
+at_data : (z : Option ℤ) (a b : ℤ) → IsSome z → cond (is_some z) a b ≡ a
+at_data None a b h = absurd (false≢true h)
+at_data (Some z) a b h = refl
+
+at_void : (z : Option ℤ) (a b : ℤ) → IsNone z → cond (is_some z) a b ≡ b
+at_void None a b h = refl
+at_void (Some z) a b h = absurd (false≢true (sym h))
+
+-- certified ranks are the numbers of steps
+certified_are_steps : (g : Grid) (ps : Products) (nodata : NoDataNumbers) → IsExtent g.extent → RanksAreSteps g (with_ranks ps (certified_ranks g ps)) (with_rank_nodata nodata (pos UNKNOWN))
+certified_are_steps g ps nodata extent =
+    let qs = with_ranks ps (certified_ranks g ps) in
+    let same : (c : Cell) → ps.dir c ≡ qs.dir c = λ c. refl in
+    record {
+      steps = λ c here. at_data (g.elevation c) (pos (run_steps g ps c)) (pos UNKNOWN) here.is_data ∙ ap pos (run_steps-alike g ps qs same c);
+      voids = λ c inside void. at_void (g.elevation c) (pos (run_steps g ps c)) (pos UNKNOWN) void;
+      complete = λ c here none. few (run_steps g ps c) (g.extent.rows * g.extent.cols) (run_steps-le g ps c) (few_cells g.extent extent)
+          (sym (at_data (g.elevation c) (pos (run_steps g ps c)) (pos UNKNOWN) here.is_data) ∙ none);
+    }
+  where
+    few : (n cells : ℕ) → n ≤ cells → cells ≤ 829497601 → pos n ≡ pos UNKNOWN → ⊥
+    few n cells less most same = let is : n ≡ UNKNOWN = cc in omega (arith, less, most, is)
+
+-- and the verdict is that of a check with them
+pub as_certified : RanksPlayNoPart → (g : Grid) (ps : Products) (nodata : NoDataNumbers) (audit : AuditVerdict) → IsExtent g.extent → IsPlainVerdict g ps nodata audit → IsAuditVerdict g ps nodata audit
+as_certified law g ps nodata audit extent is = by_kind audit is
+  where
+    same : AllRunsEnd g ps → (c : Cell) (r : Rule) → IsInside g c →
+        HoldsAt (check_rules (certified_nodata nodata)) g (with_ranks ps (certified_ranks g ps)) c r ↔ HoldsAt (unranked nodata) g ps c r
+    same ends = law g ps nodata (certified_ranks g ps) (pos UNKNOWN) ends (certified_are_steps g ps nodata extent)
+
+    by_kind : (audit : AuditVerdict) → IsPlainVerdict g ps nodata audit → IsAuditVerdict g ps nodata audit
+    by_kind (Accepted counts) is = (is.0, (λ c r inside own. (same is.0 c r inside).1 (is.1.0 c r inside own), is.1.1))
+    by_kind (Rejected rule row col) is = (
+      is.0,
+      record {
+        inside = is.1.inside;
+        is_own = is.1.is_own;
+        fails = λ holds. is.1.fails ((same is.0 (record { row = row; col = col }) rule is.1.inside).0 holds);
+        first = λ b q inside own earlier. (same is.0 b q inside).1 (is.1.first b q inside own earlier);
+      },
+    )
+    by_kind (NoEnd row col) is = is
+
+-- the same of answers
+pub answer_certified : RanksPlayNoPart → (i : Inputs) (answer : Result AuditVerdict Refusal) → IsPlainAnswer i answer → IsAuditAnswer i answer
+answer_certified law i (Ok verdict) is = (is.0, as_certified law (grid_of i) (products_of i) (nodata_numbers i) verdict is.1 is.2)
+answer_certified law i (Err refusal) is = is
+
+-- a fact of the inputs that follows from an answer that is a verdict
+pub when_given : (Told : Inputs → Type 0) (Fact : AuditVerdict → Inputs → Type 0) → ((verdict : AuditVerdict) (i : Inputs) → IsPlainAnswer i (Ok verdict) → Fact verdict i) →
+    (result : Result AuditVerdict Refusal) → ((i : Inputs) → Told i → IsPlainAnswer i result) → IfOk result (λ verdict. (i : Inputs) → Told i → Fact verdict i)
+when_given Told Fact follows (Ok verdict) answer = λ i told. follows verdict i (answer i told)
+when_given Told Fact follows (Err refusal) answer = tt
+
+-- a fact that follows from correct products holds where the answer accepts
+pub when_audited : (Told Fact : Inputs → Type 0) → CorrectIsLocal → ((i : Inputs) → AreCorrect i → Fact i) →
+    (result : Result AuditVerdict Refusal) → ((i : Inputs) → Told i → IsPlainAnswer i result) → IfAccepts result ((i : Inputs) → Told i → Fact i)
+when_audited Told Fact law follows (Ok (Accepted counts)) answer =
+    λ i told. follows i ((exactly law (grid_of i) (products_of i) (nodata_numbers i) (Accepted counts) (answer i told).2).0 tt)
+when_audited Told Fact law follows (Ok (Rejected rule row col)) answer = tt
+when_audited Told Fact law follows (Ok (NoEnd row col)) answer = tt
+when_audited Told Fact law follows (Err refusal) answer = tt
+
+-- the runs of correct products are sound
+pub sound_of : SoundFromCorrect → (i : Inputs) → AreCorrect i → RunsAreSound (grid_of i) (products_of i)
+sound_of law i correct = law (grid_of i) (products_of i) (nodata_numbers i) correct

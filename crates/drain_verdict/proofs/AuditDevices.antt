@@ -1,0 +1,155 @@
+-- The devices of an audit: con's, which is read for the ranks too, counts once.
+use Rattle.std.proofs.Common.{◌≡◌, ◌↔◌, ◌⊎◌, ℕ, inl, inr, List, [], ◌∷◌, ◌++◌, length, map, Ok, Err, IsErrOf, refl, ap, sym, subst, arith}
+use Rattle.std.specs.List.{Any}
+use Rattle.std.proofs.lemmas.Bool.{cases_order}
+use Rattle.std.proofs.lemmas.List.{map-append, length-map}
+use Rattle.drain_device.specs.declared.counts.FaultCounts.{FaultCounts}
+use Rattle.drain_device.specs.Counts.{Answered}
+use Rattle.drain_device.specs.FaultLists.{AnsweredEach, Faults, SomeReadFails}
+use Rattle.drain_device.specs.Patience.{GivesUp, full_patience}
+use Rattle.drain_device.proofs.FaultLists.{SomeReadFails-none, SomeReadFails-then, any-cases, any-either, any-first, any-later, any-left, any-none, any-right, gave_up}
+use Rattle.drain_hgt.specs.declared.input.TileInput.{TileInput}
+use Rattle.drain_hgt.specs.Inputs.{names_of, tile_devices}
+use Rattle.drain_verdict.specs.AuditInputs.{audit_devices, with_con_for_ranks}
+use Rattle.drain_verdict.specs.Devices.{devices_of}
+use Rattle.drain_verdict.specs.declared.audit_products.AuditProducts.{AuditProducts}
+use Rattle.drain_verdict.specs.declared.refusal.Refusal.{Refusal}
+use Rattle.drain_verdict.specs.declared.refusal.Refusal.TheVariants.{ReadFailed}
+
+gave_up_or_not : (f : Faults) → gave_up f ⊎ ¬ gave_up f
+gave_up_or_not f = elim (cases_order 0 f.failures) [
+  | inl none ↦ elim (cases_order full_patience f.interruptions) [
+    | inl same ↦ inr (λ up. elim up [ inl failed ↦ omega (arith, none, failed) | inr ran_out ↦ omega (arith, same, ran_out) ])
+    | inr (inl ran_out) ↦ inl (inr ran_out)
+    | inr (inr borne) ↦ inr (λ up. elim up [ inl failed ↦ omega (arith, none, failed) | inr ran_out ↦ omega (arith, borne, ran_out) ])
+  ]
+  | inr (inl failed) ↦ inl (inl failed)
+  | inr (inr less) ↦ absurd (omega (arith, less))
+]
+
+-- faults of one device, told twice, are told once
+pub record AreOf (old new : FaultCounts) (one other f : Faults) : Type 0 where
+  pub answered : Answered old new f.failures f.interruptions
+  pub gives_up : gave_up f ↔ (gave_up one ⊎ gave_up other)
+
+told_once : (old new : FaultCounts) (one other : Faults) → Answered old new one.failures one.interruptions → Answered old new other.failures other.interruptions →
+    (f : Faults) × AreOf old new one other f
+told_once old new one other first last = elim (gave_up_or_not other) [
+  | inl up ↦ (other, record { answered = last; gives_up = (λ h. inr h, λ h. up) })
+  | inr borne ↦ (one, record { answered = first; gives_up = (λ h. inl h, λ h. elim h [ inl is ↦ is | inr is ↦ absurd (borne is) ]) })
+]
+
+-- faults of a list of devices are those of its parts
+split : (xs us ys vs : List FaultCounts) (fs : List Faults) → length xs ≡ length us → AnsweredEach (xs ++ ys) (us ++ vs) fs →
+    (gs : List Faults) × (hs : List Faults) × (fs ≡ gs ++ hs) × AnsweredEach xs us gs × AnsweredEach ys vs hs
+split [] [] ys vs fs same each = ([], fs, refl, tt, each)
+split [] (u ∷ us) ys vs fs same each = absurd (omega (arith, same))
+split (x ∷ xs) [] ys vs fs same each = absurd (omega (arith, same))
+split (x ∷ xs) (u ∷ us) ys vs [] same each = absurd each
+split (x ∷ xs) (u ∷ us) ys vs (f ∷ fs) same (here, each) =
+    let rest = split xs us ys vs fs (omega (arith, same)) each in
+    (f ∷ rest.0, rest.1, ap (λ ks. f ∷ ks) rest.2, (here, rest.3), rest.4)
+
+module _ (a b c d at bt ct dt : FaultCounts) where
+  abbrev Five : List Faults → Type 0
+  Five fs = AnsweredEach (a ∷ b ∷ c ∷ d ∷ a ∷ []) (at ∷ bt ∷ ct ∷ dt ∷ at ∷ []) fs
+
+  abbrev Four : List Faults → Type 0
+  Four fs = AnsweredEach (a ∷ b ∷ c ∷ d ∷ []) (at ∷ bt ∷ ct ∷ dt ∷ []) fs
+
+  -- five of which the last is the first are four
+  four_of_five : (fs : List Faults) → Five fs → (gs : List Faults) × Four gs × (Any gave_up fs ↔ Any gave_up gs)
+  four_of_five [] each = absurd each
+  four_of_five (f ∷ []) (one, each) = absurd each
+  four_of_five (f ∷ g ∷ []) (one, (two, each)) = absurd each
+  four_of_five (f ∷ g ∷ h ∷ []) (one, (two, (three, each))) = absurd each
+  four_of_five (f ∷ g ∷ h ∷ i ∷ []) (one, (two, (three, (four, each)))) = absurd each
+  four_of_five (f ∷ g ∷ h ∷ i ∷ j ∷ k ∷ fs) (one, (two, (three, (four, (five, each))))) = absurd each
+  four_of_five (f ∷ g ∷ h ∷ i ∷ j ∷ []) (one, (two, (three, (four, (five, each))))) =
+      let once = told_once a at f j one five in
+      let rest = g ∷ h ∷ i ∷ [] in (
+        once.0 ∷ rest,
+        (once.1.answered, (two, (three, (four, tt)))),
+        (
+          λ some. elim (any-either gave_up (f ∷ rest) (j ∷ []) some) [
+            | inl early ↦ elim (any-cases gave_up f rest early) [
+              | inl is ↦ any-first gave_up once.0 rest (once.1.gives_up.1 (inl is))
+              | inr later ↦ any-later gave_up once.0 rest later
+            ]
+            | inr last ↦ elim (any-cases gave_up j [] last) [
+              | inl is ↦ any-first gave_up once.0 rest (once.1.gives_up.1 (inr is))
+              | inr none ↦ absurd (any-none gave_up none)
+            ]
+          ],
+          λ some. elim (any-cases gave_up once.0 rest some) [
+            | inl is ↦ elim (once.1.gives_up.0 is) [
+              | inl first ↦ any-first gave_up f (rest ++ (j ∷ [])) first
+              | inr last ↦ any-right gave_up (f ∷ rest) (j ∷ []) (any-first gave_up j [] last)
+            ]
+            | inr later ↦ any-left gave_up (f ∷ rest) (j ∷ []) (any-later gave_up f rest later)
+          ],
+        ),
+      )
+
+  -- so a read of the four fails where one of the five does
+  fails_of_four : (xs us : List FaultCounts) {F : Type 0} → length xs ≡ length us →
+      SomeReadFails (xs ++ (a ∷ b ∷ c ∷ d ∷ a ∷ [])) (us ++ (at ∷ bt ∷ ct ∷ dt ∷ at ∷ [])) F → SomeReadFails (xs ++ (a ∷ b ∷ c ∷ d ∷ [])) (us ++ (at ∷ bt ∷ ct ∷ dt ∷ [])) F
+  fails_of_four xs us {F} same fails =
+      let parts = split xs us (a ∷ b ∷ c ∷ d ∷ a ∷ []) (at ∷ bt ∷ ct ∷ dt ∷ at ∷ []) fails.faults same fails.answered in
+      let four = four_of_five parts.1 parts.4 in
+      let left : SomeReadFails xs us (Any gave_up parts.0) = record { faults = parts.0; answered = parts.3; exactly = (λ h. h, λ h. h) } in
+      let right : SomeReadFails (a ∷ b ∷ c ∷ d ∷ []) (at ∷ bt ∷ ct ∷ dt ∷ []) (Any gave_up four.0) = record { faults = four.0; answered = four.1; exactly = (λ h. h, λ h. h) } in
+      SomeReadFails-then (
+        λ either. fails.exactly.1 (subst (Any gave_up) (sym parts.2) (elim either [
+          | inl early ↦ any-left gave_up parts.0 parts.1 early
+          | inr late ↦ any-right gave_up parts.0 parts.1 (four.2.1 late)
+        ])),
+        λ failed. elim (any-either gave_up parts.0 parts.1 (subst (Any gave_up) parts.2 (fails.exactly.0 failed))) [
+          | inl early ↦ inl early
+          | inr late ↦ inr (four.2.0 late)
+        ],
+      ) left right
+
+-- whether a read failed is told alike by answers of any two kinds
+pub failed_alike : {A B : Type 0} (refusal : Refusal) → IsErrOf {T = A} (Err refusal) ReadFailed ↔ IsErrOf {T = B} (Err refusal) ReadFailed
+failed_alike refusal = (λ is. (let same : refusal ≡ ReadFailed = cc in ap Err same), λ is. (let same : refusal ≡ ReadFailed = cc in ap Err same))
+
+pub none_alike : {A B : Type 0} (a : A) (b : B) → IsErrOf (Ok a) ReadFailed ↔ IsErrOf (Ok b) ReadFailed
+none_alike a b = (λ is. absurd (let no = is in cc), λ is. absurd (let no = is in cc))
+
+module _ {R : Type 0} (counts : R → FaultCounts) where
+  pub devices_of_four : (tiles tiles_then : List (TileInput R)) (ps ps_then : AuditProducts R) {F : Type 0} → names_of tiles_then ≡ names_of tiles →
+      SomeReadFails (map counts (devices_of tiles (with_con_for_ranks ps))) (map counts (devices_of tiles_then (with_con_for_ranks ps_then))) F →
+      SomeReadFails (map counts (audit_devices tiles ps)) (map counts (audit_devices tiles_then ps_then)) F
+  devices_of_four tiles tiles_then ps ps_then {F} names fails =
+      let xs = map counts (tile_devices tiles) in
+      let us = map counts (tile_devices tiles_then) in
+      let as_many : length xs ≡ length us = lengths tiles tiles_then names in
+      let four = fails_of_four (counts ps.con.body) (counts ps.dir.body) (counts ps.acc.body) (counts ps.bas.body)
+      (counts ps_then.con.body) (counts ps_then.dir.body) (counts ps_then.acc.body) (counts ps_then.bas.body) xs us as_many
+      (rw (
+        sym (map-append counts (tile_devices tiles) (ps.con.body ∷ ps.dir.body ∷ ps.acc.body ∷ ps.bas.body ∷ ps.con.body ∷ [])),
+        sym (map-append counts (tile_devices tiles_then) (ps_then.con.body ∷ ps_then.dir.body ∷ ps_then.acc.body ∷ ps_then.bas.body ∷ ps_then.con.body ∷ [])),
+      ) fails) in
+      rw (
+        map-append counts (tile_devices tiles) (ps.con.body ∷ ps.dir.body ∷ ps.acc.body ∷ ps.bas.body ∷ []),
+        map-append counts (tile_devices tiles_then) (ps_then.con.body ∷ ps_then.dir.body ∷ ps_then.acc.body ∷ ps_then.bas.body ∷ []),
+      ) four
+    where
+      lengths : (tiles tiles_then : List (TileInput R)) → names_of tiles_then ≡ names_of tiles → length (map counts (tile_devices tiles)) ≡ length (map counts (tile_devices tiles_then))
+      lengths tiles tiles_then names =
+          let many = ap length names in
+          omega (
+            arith,
+            many,
+            length-map (tile_devices tiles) counts,
+            length-map (tile_devices tiles_then) counts,
+            length-map tiles (λ t. t.body),
+            length-map tiles_then (λ t. t.body),
+            length-map tiles (λ t. t.name),
+            length-map tiles_then (λ t. t.name),
+          )
+
+  -- no device was called
+  pub four_none : (tiles : List (TileInput R)) (ps : AuditProducts R) {F : Type 0} → ¬ F → SomeReadFails (map counts (audit_devices tiles ps)) (map counts (audit_devices tiles ps)) F
+  four_none tiles ps not = SomeReadFails-none (map counts (audit_devices tiles ps)) not

@@ -1,0 +1,41 @@
+use Rattle.std.proofs.lemmas.Result.{err_from_is_err_and}
+use Rattle.drain_verdict.proofs.InputLemmas.{on-ok}
+use Rattle.drain_verdict.proofs.Devices.{tiles_take_none, devices_none}
+use Rattle.drain_verdict.proofs.StartAnswers.{named_each, header_answer, header_reads_none, started, takes_as_told}
+use Rattle.drain_verdict.proofs.answer.answer_on.Goals as goal
+
+pub returns-in_err-headers-clause-answer : goal.returns-in_err-headers-clause-answer
+returns-in_err-headers-clause-answer g c = λ inputs tell.
+    let told = err_from_is_err_and c.from_residual.result c.from_residual.ensures.1 in
+    rw (told.1, told.2) (header_answer c.one_name.ensures g.R.ByteSource.bytes_left c.args.layout.now.side c.args.tiles.now c.args.sinks.now (g.P.ProductInputs.inputs c.args.products.now) inputs _ _ tell c.requires.laid c.in_err-headers.ensures.refusal)
+
+pub returns-in_err-headers-clause-tiles_within : goal.returns-in_err-headers-clause-tiles_within
+returns-in_err-headers-clause-tiles_within g c = tiles_take_none g.R.ByteSource.bytes_left c.args.layout.now.side c.args.tiles.now
+
+pub returns-in_err-headers-clause-faults : goal.returns-in_err-headers-clause-faults
+returns-in_err-headers-clause-faults g c =
+    let told = err_from_is_err_and c.from_residual.result c.from_residual.ensures.1 in
+    rw (told.1, told.2) (devices_none g.R.ByteSource.counts c.args.tiles.now (g.P.ProductInputs.inputs c.args.products.now) (header_reads_none _ _ _ c.in_err-headers.ensures.refusal))
+
+pub answer_to_bodies-requires-clause-named : goal.answer_to_bodies-requires-clause-named
+answer_to_bodies-requires-clause-named g c = named_each c.args.tiles.now _ c.requires.laid.named
+
+pub returns-clause-answer : goal.returns-clause-answer
+returns-clause-answer g c = λ inputs tell.
+    let begun = started c.one_name.ensures g.R.ByteSource.bytes_left c.args.layout.now.side c.args.tiles.now c.args.sinks.now (g.P.ProductInputs.inputs c.args.products.now) inputs c.args.layout.now c.in_ok-headers.headers tell
+    c.requires.laid c.in_ok-headers.ensures.headers in
+    c.answer_to_bodies.ensures.answer inputs begun.0 begun.1 tell.tiles_are tell.rasters_are tell.sinks_are begun.2
+
+pub returns-clause-noted : goal.returns-clause-noted
+returns-clause-noted g c =
+    on-ok c.answer_to_bodies.result
+    (λ noted inputs tell.
+    let begun = started c.one_name.ensures g.R.ByteSource.bytes_left c.args.layout.now.side c.args.tiles.now c.args.sinks.now (g.P.ProductInputs.inputs c.args.products.now) inputs c.args.layout.now c.in_ok-headers.headers tell
+    c.requires.laid c.in_ok-headers.ensures.headers in
+    noted inputs begun.0 begun.1 tell.tiles_are tell.rasters_are tell.sinks_are)
+    c.answer_to_bodies.ensures.noted
+
+pub returns-clause-rasters_within : goal.returns-clause-rasters_within
+returns-clause-rasters_within g c = λ p.
+    takes_as_told g.R.ByteSource.bytes_left c.args.layout.now (g.P.ProductInputs.inputs c.args.products.now) (g.P.ProductInputs.inputs c.answer_to_bodies.new.products) c.in_ok-headers.headers c.in_ok-headers.ensures.headers p
+    (c.answer_to_bodies.ensures.rasters_within p)

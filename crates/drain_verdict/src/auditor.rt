@@ -1,0 +1,128 @@
+//! The audit of products that come without a certificate, against the tiles that they were made from.
+//!
+//! It goes once over the rows of all inputs, with the rules that ask nothing of ranks, and keeps of each cell which way its code leads, in a byte.
+//! Behind the last row it asks which runs end. That this tells correct products from all others is a law of `drain_grid`.
+
+ghost use Rattle.std.specs.Prelude.{◌≡◌, ◌↔◌, map, IfErr, IfOk, IsErrOf};
+ghost use Rattle.drain_device.specs.FaultLists.{SomeReadFails};
+ghost use Rattle.drain_grid.specs.declared.held.Held.{Held};
+ghost use Rattle.drain_grid.specs.PerProduct.{of_product};
+ghost use Rattle.drain_hgt.specs.Inputs.{names_of, TilesTakeAtMost};
+ghost use Rattle.drain_verdict.specs.AuditInputs.{audit_devices, with_con_for_ranks};
+ghost use Rattle.drain_verdict.specs.Audits.{AreCorrect, AuditMeans, IsAcceptance, IsAuditAnswer, IsPlainAnswer, OfFour};
+ghost use Rattle.drain_verdict.specs.Devices.{RasterTakesAtMost};
+ghost use Rattle.drain_verdict.specs.Headline.{TilesAreOne, ElevationIsTheirs, ConIsLeast, NoDirectionClimbs, DirectionsAreSteepest, CodesTellOutlets, RunsEnd, RunsEndAtOutlets, RunsVisitOnce, AccCountsUpstream, LabelsTellBasins, VoidsAreBlank, DataIsComplete};
+ghost use Rattle.drain_verdict.specs.Refusals.{IsOfBodies};
+
+use crate::answer::answer_on;
+use crate::audit_products::AuditProducts;
+use crate::audit_verdict::{AuditVerdict, verdict_of_both};
+use crate::layout::layout_of;
+use crate::refusal::Refusal;
+use crate::row_flows::first_endless;
+use drain_device::ByteSource;
+use drain_grid::laws::{correct_is_local, ranks_play_no_part, sound_from_correct};
+use drain_hgt::TileInput;
+use drain_hgt::laws::one_name;
+use drain_mosaic::laws::agreement_gives_elevation;
+use drain_rules::Ranks;
+use drain_runs::CellFlows;
+use std::alloc::Global;
+
+/// Whether the four products of the tiles are correct, or the first refusal.
+///
+/// `side`, `tiles` and `sinks` are those of `check`, and so are the refusals, of con, dir, acc and bas in this order. Where none stands: `NoEnd` with the first
+/// data cell in row order whose run of directions doesn't come to a code 0, since it comes to a number that is no code, goes round, off the grid
+/// or into a void; else `Rejected` with the first fault of the rules, where ranks are the numbers of steps of runs; else `Accepted`. Nothing is asked of
+/// whoever made the products: a rejection means that they aren't correct. One byte is held for each cell of the mosaic, beside the labels
+/// of outlets and three rows.
+pub fn audit<R: ByteSource>(
+    alloc: Global,
+    side: u32,
+    tiles: &mut [TileInput<R>],
+    sinks: &[u8],
+    products: &mut AuditProducts<R>,
+) -> Result<AuditVerdict, Refusal>
+    // Apart from want of memory and a failed read, the answer is that of the bytes.
+    ensures answer { OfFour R.bytes_left side tiles.old sinks.now products.old (λ inputs. IsAuditAnswer inputs result) }
+
+    // Where it gives a verdict, it accepts exactly where the products are correct.
+    ensures exactly { IfOk result (λ verdict. OfFour R.bytes_left side tiles.old sinks.now products.old (λ inputs. IsAcceptance verdict ↔ AreCorrect inputs)) }
+
+    // And then the tiles agree on one elevation raster.
+    ensures tiles_agree { IfOk result (λ verdict. OfFour R.bytes_left side tiles.old sinks.now products.old TilesAreOne) }
+    ensures elevation { IfOk result (λ verdict. OfFour R.bytes_left side tiles.old sinks.now products.old ElevationIsTheirs) }
+
+    // Whenever it accepts: the conditioned raster is the least surface above it from which every cell reaches an edge, void or listed sink without climbing.
+    ensures least_surface { AuditMeans ConIsLeast R.bytes_left side tiles.old sinks.now products.old result }
+
+    // No direction climbs, and off flats it is the steepest descent.
+    ensures never_climbs { AuditMeans NoDirectionClimbs R.bytes_left side tiles.old sinks.now products.old result }
+    ensures steepest { AuditMeans DirectionsAreSteepest R.bytes_left side tiles.old sinks.now products.old result }
+
+    // Every run of directions ends at an outlet, and visits no cell twice.
+    ensures outlets { AuditMeans CodesTellOutlets R.bytes_left side tiles.old sinks.now products.old result }
+    ensures runs_end { AuditMeans RunsEnd R.bytes_left side tiles.old sinks.now products.old result }
+    ensures runs_end_at_outlets { AuditMeans RunsEndAtOutlets R.bytes_left side tiles.old sinks.now products.old result }
+    ensures runs_visit_once { AuditMeans RunsVisitOnce R.bytes_left side tiles.old sinks.now products.old result }
+
+    // Accumulation counts exactly the cells draining through each cell.
+    ensures accumulation { AuditMeans AccCountsUpstream R.bytes_left side tiles.old sinks.now products.old result }
+
+    // Two cells share a label exactly when they share an outlet.
+    ensures labels { AuditMeans LabelsTellBasins R.bytes_left side tiles.old sinks.now products.old result }
+
+    // Voids have the no-data numbers, and no data cell has one.
+    ensures voids { AuditMeans VoidsAreBlank R.bytes_left side tiles.old sinks.now products.old result }
+    ensures complete { AuditMeans DataIsComplete R.bytes_left side tiles.old sinks.now products.old result }
+
+    // How far it reads, when a read fails, and that names and headers stay.
+    ensures tiles_within { TilesTakeAtMost R.bytes_left side tiles.old tiles.new }
+    ensures rasters_within { (p : Held) → RasterTakesAtMost R.bytes_left (with_con_for_ranks products.old) (with_con_for_ranks products.new) p }
+    ensures faults { SomeReadFails (map R.counts (audit_devices tiles.old products.old)) (map R.counts (audit_devices tiles.new products.new)) (IsErrOf result Refusal.ReadFailed) }
+    ensures names { names_of tiles.new ≡ names_of tiles.old }
+    ensures headers { (p : Held) → (of_product (with_con_for_ranks products.new) p).header ≡ (of_product (with_con_for_ranks products.old) p).header }
+
+    // A refusal of side, names, layout or headers leaves every device and every value as it was.
+    ensures untouched { IfErr result (λ refusal. ¬ IsOfBodies refusal → (tiles.new ≡ tiles.old) × (products.new ≡ products.old)) }
+{
+    // The laws that an audit rests on, and that first values are the one elevation.
+    correct_is_local();
+    ranks_play_no_part();
+    sound_from_correct();
+    agreement_gives_elevation();
+    audit_of(alloc, side, tiles, sinks, products)
+}
+
+/// The answer to the bytes, without a word on ranks.
+fn audit_of<R: ByteSource>(
+    alloc: Global,
+    side: u32,
+    tiles: &mut [TileInput<R>],
+    sinks: &[u8],
+    products: &mut AuditProducts<R>,
+) -> Result<AuditVerdict, Refusal>
+    ensures answer { OfFour R.bytes_left side tiles.old sinks.now products.old (λ inputs. IsPlainAnswer inputs result) }
+    ensures tiles_within { TilesTakeAtMost R.bytes_left side tiles.old tiles.new }
+    ensures rasters_within { (p : Held) → RasterTakesAtMost R.bytes_left (with_con_for_ranks products.old) (with_con_for_ranks products.new) p }
+    ensures faults { SomeReadFails (map R.counts (audit_devices tiles.old products.old)) (map R.counts (audit_devices tiles.new products.new)) (IsErrOf result Refusal.ReadFailed) }
+    ensures names { names_of tiles.new ≡ names_of tiles.old }
+    ensures headers { (p : Held) → (of_product (with_con_for_ranks products.new) p).header ≡ (of_product (with_con_for_ranks products.old) p).header }
+    ensures untouched { IfErr result (λ refusal. ¬ IsOfBodies refusal → (tiles.new ≡ tiles.old) × (products.new ≡ products.old)) }
+{
+    // The law that bytes name one tile.
+    one_name();
+    let layout = layout_of(alloc, side, tiles)?;
+    let mut flows = CellFlows::new(alloc);
+    let verdict = answer_on(
+        alloc,
+        &layout,
+        sinks,
+        tiles,
+        products,
+        Ranks::Unasked,
+        &mut flows,
+    )?;
+    let endless = first_endless(&mut flows, layout.shape());
+    Ok(verdict_of_both(&verdict, endless))
+}
