@@ -1,6 +1,6 @@
 //! Grids of worked directions, and what is asked of their runs.
 
-ghost use Rattle.std.specs.Prelude.{◌≡◌, IfOk};
+ghost use Rattle.std.specs.Prelude.{◌≡◌, ◌<◌, IfOk};
 
 use drain_grid::{Cell, Elevation, OutOfMemory, Raster, Shape, VOID};
 use drain_runs::{CellFlows, CertifyRefusal, certify};
@@ -35,24 +35,28 @@ fn elevations(alloc: Global, shape: Shape, voids: &[u8]) -> Result<Elevation, Fa
     Ok(Elevation::new(shape, samples))
 }
 
-/// The ranks for these directions, on a grid with these voids.
+/// The ranks for these directions, on a grid with these voids; or the first cell whose run doesn't end.
 pub fn certified(
     alloc: Global,
     rows: u32,
     cols: u32,
     voids: &[u8],
     codes: &[u8],
-) -> Result<Result<Raster, CertifyRefusal>, Fail> {
+) -> Result<Result<Raster, Cell>, Fail> {
     let Some(shape) = Shape::new(rows, cols) else {
         return Err("a shape".into());
     };
     let elevation = elevations(alloc, shape, voids)?;
     let dir = directions(alloc, shape, codes)?;
-    Ok(certify(alloc, &elevation, &dir))
+    match certify(alloc, &elevation, &dir) {
+        Ok(ranks) => Ok(Ok(ranks)),
+        Err(CertifyRefusal::NoEnd(cell)) => Ok(Err(cell)),
+        Err(CertifyRefusal::OutOfMemory) => Err(OutOfMemory.into()),
+    }
 }
 
 /// Whether the ranks are these, row by row.
-pub fn are_ranks(answer: &Result<Raster, CertifyRefusal>, ranks: &[i64]) -> bool {
+pub fn are_ranks(answer: &Result<Raster, Cell>, ranks: &[i64]) -> bool {
     let Ok(raster) = answer else {
         return false;
     };
@@ -81,9 +85,7 @@ pub fn first_endless(
     };
     let elevation = elevations(alloc, shape, voids)?;
     let dir = directions(alloc, shape, codes)?;
-    let Ok(mut flows) = taken(alloc, shape, &elevation, &dir) else {
-        return Err("memory".into());
-    };
+    let mut flows = taken(alloc, shape, &elevation, &dir)?;
     if flows.len() != shape.cells() {
         return Err("a flow for each cell".into());
     }

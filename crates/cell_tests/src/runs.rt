@@ -3,7 +3,6 @@
 use crate::agree::same;
 use crate::run_grids::{NONE, are_ranks, certified, first_endless, to_and_fro};
 use drain_grid::Cell;
-use drain_runs::CertifyRefusal;
 use std::alloc::Global;
 use std::process::Abort;
 use std::test::Fail;
@@ -190,7 +189,7 @@ fn finds_the_first_run_without_an_end(rt: HostRuntime) -> Result<(), Fail> {
     ] {
         let cell = Cell { row, col };
         let ranks = certified(alloc, 4, 4, &voids, &codes)?;
-        same(&rt, name, ranks.err(), Some(CertifyRefusal::NoEnd(cell)));
+        same(&rt, name, ranks.err(), Some(cell));
         let first = first_endless(alloc, 4, 4, &voids, &codes)?;
         same(&rt, name, first, Some(cell));
     }

@@ -5,11 +5,13 @@ pub mod cell_flows;
 mod endless;
 pub mod flow;
 mod flow_walk;
+pub mod laws;
 pub mod ranks;
 pub mod steps;
 mod walk;
-pub mod way;
+mod way;
 
 pub use cell_flows::CellFlows;
 pub use flow::Flow;
-pub use ranks::{CertifyRefusal, certify};
+pub use ranks::{CertifyRefusal, certify, steps_of};
+pub use steps::Steps;
