@@ -3,7 +3,7 @@
 ghost use Rattle.std.specs.Prelude.{◌≡◌, ◌<◌, IfOk};
 
 use drain_grid::{Cell, Elevation, OutOfMemory, Raster, Shape, VOID};
-use drain_runs::{CellFlows, CertifyRefusal, certify};
+use drain_runs::{CellFlows, CertifyRefusal, steps_of};
 use std::alloc::Global;
 use std::test::Fail;
 
@@ -48,8 +48,8 @@ pub fn certified(
     };
     let elevation = elevations(alloc, shape, voids)?;
     let dir = directions(alloc, shape, codes)?;
-    match certify(alloc, &elevation, &dir) {
-        Ok(ranks) => Ok(Ok(ranks)),
+    match steps_of(alloc, &elevation, &dir) {
+        Ok(steps) => Ok(Ok(steps.raster(alloc)?)),
         Err(CertifyRefusal::NoEnd(cell)) => Ok(Err(cell)),
         Err(CertifyRefusal::OutOfMemory) => Err(OutOfMemory.into()),
     }

@@ -13,5 +13,5 @@ mod way;
 
 pub use cell_flows::CellFlows;
 pub use flow::Flow;
-pub use ranks::{CertifyRefusal, certify, steps_of};
+pub use ranks::{CertifyRefusal, steps_of};
 pub use steps::Steps;

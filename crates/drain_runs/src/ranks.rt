@@ -1,8 +1,8 @@
-//! Ranks for directions: how many steps each cell's run makes.
+//! How many steps each cell's run makes.
 
 ghost use Rattle.std.specs.Prelude.{◌≡◌, ◌*◌, IfOk, IfErr};
 ghost use Rattle.drain_runs.specs.Ways.{ground_of, directions_of};
-ghost use Rattle.drain_runs.specs.Ranks.{AreRanks, IsRefusal};
+ghost use Rattle.drain_runs.specs.Ranks.{IsRefusal};
 ghost use Rattle.drain_runs.specs.Steps.{AreRight, KnowsBefore};
 
 use crate::steps::{Steps, UNKNOWN};
@@ -19,19 +19,6 @@ pub enum CertifyRefusal {
     NoEnd(Cell),
     #[error("out of memory")]
     OutOfMemory,
-}
-
-/// Ranks by which each step along the codes goes down: each data cell's number of steps to its run's end, and 4294967295 at voids.
-pub fn certify(alloc: Global, elevation: &Elevation, dir: &Raster) -> Result<Raster, CertifyRefusal>
-    requires same_shape { elevation.now.extent ≡ dir.now.extent }
-    ensures ranks { IfOk result (AreRanks (ground_of elevation.now) (directions_of dir.now)) }
-    ensures err { IfErr result (IsRefusal (ground_of elevation.now) (directions_of dir.now)) }
-{
-    let steps = steps_of(alloc, elevation, dir)?;
-    match steps.raster(alloc) {
-        Ok(ranks) => Ok(ranks),
-        Err(OutOfMemory) => Err(CertifyRefusal::OutOfMemory),
-    }
 }
 
 /// The number of steps of each data cell's run. In row order, so that the first cell whose walk comes to no end is the first of all.

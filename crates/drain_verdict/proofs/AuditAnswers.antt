@@ -1,5 +1,5 @@
 -- What an audit finds, and what its verdict means.
-use Rattle.std.proofs.Common.{◌≡◌, ◌≢◌, ◌≤◌, ◌*◌, ◌↔◌, ◌∙◌, ℕ, ℤ, pos, IsNone, IsSome, Option, Some, None, MatchOption, Ok, Err, IfOk, is_some, arith, cond, refl, sym, ap, subst}
+use Rattle.std.proofs.Common.{◌≡◌, ◌≤◌, ◌*◌, ◌↔◌, ◌∙◌, ℕ, ℤ, pos, IsNone, IsSome, Option, Some, None, MatchOption, Ok, Err, IfOk, is_some, arith, cond, refl, sym, ap, subst}
 use Rattle.std.specs.Prelude.{Result}
 use Rattle.std.proofs.Math.Nat.{mul-le-mul_right}
 use Rattle.std.proofs.lemmas.Bool.{false≢true}
@@ -7,7 +7,7 @@ use Rattle.drain_grid.specs.declared.cell.Cell.{Cell}
 use Rattle.drain_grid.specs.declared.rule.Rule.{Rule}
 use Rattle.drain_grid.specs.Certificate.{RanksAreSteps, IsFirstEndless, run_steps, with_ranks, with_rank_nodata}
 use Rattle.drain_grid.specs.Correct.{IsCorrect, RunsAreSound}
-use Rattle.drain_grid.specs.Grid.{Grid, Products, HasData, IsInside}
+use Rattle.drain_grid.specs.Grid.{Grid, Products, IsInside}
 use Rattle.drain_grid.specs.GridRules.{HoldsAt}
 use Rattle.drain_grid.specs.Laws.{CorrectIsLocal, RanksPlayNoPart, SoundFromCorrect}
 use Rattle.drain_grid.specs.PatchRules.{check_rules}
@@ -20,7 +20,6 @@ use Rattle.drain_runs.specs.declared.steps.TheConstants.{UNKNOWN}
 use Rattle.drain_rules.specs.Verdicts.{IsVerdictOf}
 use Rattle.drain_rules.specs.declared.verdict.Verdict.{Verdict}
 use Rattle.drain_rules.specs.declared.verdict.Verdict.TheVariants as checked
-use Rattle.drain_verdict.specs.Answers.{AreReadable}
 use Rattle.drain_verdict.specs.Audits.{AllRunsEnd, AreCorrect, IfAccepts, IsAcceptance, IsAuditAnswer, IsAuditVerdict, IsOfBoth, IsPlainAnswer, IsPlainVerdict, certified_nodata, certified_ranks}
 use Rattle.drain_verdict.specs.Inputs.{Inputs}
 use Rattle.drain_verdict.specs.Meaning.{grid_of, products_of, nodata_numbers}

@@ -1,12 +1,12 @@
 -- The devices of an audit: con's, which is read for the ranks too, counts once.
-use Rattle.std.proofs.Common.{◌≡◌, ◌↔◌, ◌⊎◌, ℕ, inl, inr, List, [], ◌∷◌, ◌++◌, length, map, Ok, Err, IsErrOf, refl, ap, sym, subst, arith}
+use Rattle.std.proofs.Common.{◌≡◌, ◌↔◌, ◌⊎◌, inl, inr, List, [], ◌∷◌, ◌++◌, length, map, Ok, Err, IsErrOf, refl, ap, sym, subst, arith}
 use Rattle.std.specs.List.{Any}
 use Rattle.std.proofs.lemmas.Bool.{cases_order}
 use Rattle.std.proofs.lemmas.List.{map-append, length-map}
 use Rattle.drain_device.specs.declared.counts.FaultCounts.{FaultCounts}
 use Rattle.drain_device.specs.Counts.{Answered}
 use Rattle.drain_device.specs.FaultLists.{AnsweredEach, Faults, SomeReadFails}
-use Rattle.drain_device.specs.Patience.{GivesUp, full_patience}
+use Rattle.drain_device.specs.Patience.{full_patience}
 use Rattle.drain_device.proofs.FaultLists.{SomeReadFails-none, SomeReadFails-then, any-cases, any-either, any-first, any-later, any-left, any-none, any-right, gave_up}
 use Rattle.drain_hgt.specs.declared.input.TileInput.{TileInput}
 use Rattle.drain_hgt.specs.Inputs.{names_of, tile_devices}

@@ -3,10 +3,11 @@
 
 mod answer;
 pub mod answer_report;
+pub mod audit_line;
 pub mod audit_products;
-pub mod audit_report;
 pub mod audit_verdict;
 pub mod auditor;
+pub mod certifier;
 mod check_products;
 pub mod checker;
 pub mod fill_line;
@@ -37,12 +38,14 @@ mod whole_rows;
 mod window;
 
 pub use answer_report::report;
+pub use audit_line::audit_report;
 pub use audit_products::AuditProducts;
-pub use audit_report::audit_report;
 pub use audit_verdict::AuditVerdict;
 pub use auditor::audit;
+pub use certifier::certify;
 pub use checker::check;
 pub use drain_rules::{Counts, FillCounts, FillRefusal, FillVerdict, Verdict, check_fill};
+pub use drain_runs::CertifyRefusal;
 pub use fill_line::fill_report;
 pub use input::{Products, RasterInput};
 pub use mosaic::{Mosaic, read_mosaic};

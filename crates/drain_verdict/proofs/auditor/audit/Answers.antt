@@ -2,7 +2,7 @@ use Rattle.std.proofs.Common.{◌↔◌}
 use Rattle.drain_verdict.specs.AuditInputs.{with_con_for_ranks}
 use Rattle.drain_verdict.specs.Audits.{AreCorrect, IsAcceptance}
 use Rattle.drain_verdict.specs.Headline.{TilesAreOne, ElevationIsTheirs, ConIsLeast, NoDirectionClimbs, DirectionsAreSteepest, CodesTellOutlets, RunsEnd, RunsEndAtOutlets, RunsVisitOnce, AccCountsUpstream, LabelsTellBasins, VoidsAreBlank, DataIsComplete}
-use Rattle.drain_verdict.specs.Inputs.{Inputs, Tell}
+use Rattle.drain_verdict.specs.Inputs.{Tell}
 use Rattle.drain_verdict.specs.Meaning.{grid_of, nodata_numbers, products_of, tiles_of, tiling_of}
 use Rattle.drain_verdict.proofs.Acceptance.{tiles_agree}
 use Rattle.drain_verdict.proofs.AuditAnswers.{answer_certified, exactly, sound_of, when_audited, when_given}

@@ -6,7 +6,7 @@ use Rattle.drain_mosaic.specs.Tiling.{extent_of}
 use Rattle.drain_runs.specs.Flows.{AreFirstFlows}
 use Rattle.drain_runs.proofs.GridFlows.{AreFirstFlows-none, AreFlowsOf-all}
 use Rattle.drain_verdict.specs.AuditInputs.{with_con_for_ranks}
-use Rattle.drain_verdict.specs.Meaning.{grid_of, nodata_numbers, products_of, tiling_of}
+use Rattle.drain_verdict.specs.Meaning.{grid_of, nodata_numbers, products_of}
 use Rattle.drain_verdict.proofs.AuditAnswers.{both_are}
 use Rattle.drain_verdict.proofs.AuditDevices.{devices_of_four, failed_alike, four_none, none_alike}
 use Rattle.drain_verdict.proofs.Devices.{tiles_take_none}
