@@ -17,6 +17,7 @@ mod place;
 pub mod product_files;
 mod rasters;
 
+pub use drain_verdict::{CertifyRefusal, certify};
 pub use header::product_header;
 pub use level_queue::LevelQueue;
 pub use maker::{MakeRefusal, make};
