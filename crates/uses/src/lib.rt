@@ -2,23 +2,41 @@
 //! (`SliceSource`).
 #![tactic(auto)]
 
-ghost use Rattle.std.specs.Prelude.{[], IsTrue, IfOk};
+ghost use Rattle.std.specs.Prelude.{[], ◌↔◌, IsTrue, IfOk};
 ghost use Rattle.drain_grid.specs.Correct.{IsCorrect};
 ghost use Rattle.drain_grid.specs.Product.{default_numbers};
 ghost use Rattle.drain_grid.specs.WholeGrid.{grid_of, products_of};
+ghost use Rattle.drain_verdict.specs.Audits.{AreCorrect, OfFour};
 ghost use Rattle.drain_verdict.specs.Headline.{OfInputs, ConIsLeast, AccCountsUpstream};
 
 use drain_device::ByteSource;
 use drain_grid::{ProductSet, Sinks};
 use drain_hgt::TileInput;
 use drain_maker::{MakeRefusal, make};
-use drain_verdict::{Mosaic, Products, Refusal, Verdict, check};
+use drain_verdict::{
+    AuditProducts, AuditVerdict, Mosaic, Products, Refusal, Verdict, audit, check,
+};
 use std::alloc::Global;
 
 const SIDE: u32 = 1201;
 
 /// Whether rasters are right for these tiles without listed sinks, whoever made them.
 pub fn are_right<R: ByteSource>(
+    alloc: Global,
+    tiles: &mut [TileInput<R>],
+    rasters: &mut AuditProducts<R>,
+) -> Result<bool, Refusal>
+    ensures exactly { IfOk result (λ right. OfFour R.bytes_left 1201 tiles.old [] rasters.old (λ inputs. IsTrue right ↔ AreCorrect inputs)) }
+{
+    match audit(alloc, SIDE, tiles, &[], rasters) {
+        Ok(AuditVerdict::Accepted(_)) => Ok(true),
+        Ok(_) => Ok(false),
+        Err(refusal) => Err(refusal),
+    }
+}
+
+/// Whether their ranks show that rasters are right.
+pub fn are_shown_right<R: ByteSource>(
     alloc: Global,
     tiles: &mut [TileInput<R>],
     rasters: &mut Products<R>,
