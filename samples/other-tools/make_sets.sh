@@ -75,10 +75,12 @@ r.in.gdal input="$work/tile.bil" output=ground
 g.region raster=ground
 r.terraflow -s elevation=ground filled=filled direction=tdir swatershed=tbas accumulation=tacc tci=tci directory="$work" stats="$work/stats"
 r.mapcalc expression="con=int(filled)"
+r.mapcalc expression="tcodes=int(if(tdir<0,null(),tdir))"
 r.mapcalc expression="tcells=int(tacc)"
-r.mapcalc expression="off=int((row()==1 && (tdir==32 || tdir==64 || tdir==128)) || (row()==nrows() && (tdir==2 || tdir==4 || tdir==8)) || (col()==1 && (tdir==8 || tdir==16 || tdir==32)) || (col()==ncols() && (tdir==1 || tdir==2 || tdir==128)))"
-r.mapcalc expression="tends=int(if(off,0,tdir))"
-r.mapcalc expression="tlabels=int(tbas+1)"
+nowhere="tcodes==1 && isnull(ground[0,1]) || tcodes==2 && isnull(ground[1,1]) || tcodes==4 && isnull(ground[1,0]) || tcodes==8 && isnull(ground[1,-1])"
+nowhere="$nowhere || tcodes==16 && isnull(ground[0,-1]) || tcodes==32 && isnull(ground[-1,-1]) || tcodes==64 && isnull(ground[-1,0]) || tcodes==128 && isnull(ground[-1,1])"
+r.mapcalc expression="tends=int(if($nowhere,0,tcodes))"
+r.mapcalc expression="tlabels=int(if(tbas<0,null(),tbas+1))"
 r.watershed -a -s elevation=ground drainage=wdir accumulation=wacc basin=wbas threshold=50
 r.mapcalc expression="wcodes=int(if(wdir<0,0,2^(8-wdir)))"
 r.mapcalc expression="wcells=int(abs(wacc))"
@@ -98,9 +100,9 @@ out() {
     esac
 }
 for set in terraflow terraflow-ends watershed watershed-counted; do out con $set/con; done
-out tdir terraflow/dir
+out tcodes terraflow/dir
 out tcells terraflow/acc
-out tbas terraflow/bas
+out tlabels terraflow/bas
 out tends terraflow-ends/dir
 out tcells terraflow-ends/acc
 out tlabels terraflow-ends/bas
