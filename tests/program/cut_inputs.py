@@ -1,5 +1,5 @@
 #!/usr/bin/env python3
-"""Cuts each input of a check to each shorter length, and replaces lines of a header, and looks at what the program answers.
+"""Cuts each input of a check and an audit to each shorter length, and replaces lines of a header, and looks at what the program answers.
 
 cut_inputs.py DRAIN
 
@@ -96,14 +96,19 @@ class Cuts:
         (self.scratch / ("N00E000.hgt" if name == "tile" else f"products/{name}")).write_bytes(contents)
 
     def judge(self, name, example, line):
-        words = [self.drain, "check", "--side", str(example.side), "--products", self.scratch / "products", self.scratch / "N00E000.hgt"]
+        """A check owes this line, and so does an audit, unless it is about ranks: then it owes that of the whole files."""
+        self.judge_command("check", name, example, line)
+        self.judge_command("audit", name, example, example.line if line.endswith(" rnk") else line)
+
+    def judge_command(self, command, name, example, line):
+        words = [self.drain, command, "--side", str(example.side), "--products", self.scratch / "products", self.scratch / "N00E000.hgt"]
         ended = subprocess.run(words, stdout=subprocess.PIPE, stderr=subprocess.PIPE, timeout=120, check=False)
         status = ["accepted", "rejected", "refused"].index(line.split(" ")[0])
         if (ended.returncode, ended.stdout.decode()) == (status, line + "\n"):
             self.passed += 1
         else:
             self.failed += 1
-            print(f"FAILED {name}: status {ended.returncode}, {ended.stdout!r}, not {line!r}")
+            print(f"FAILED {command}, {name}: status {ended.returncode}, {ended.stdout!r}, not {line!r}")
 
     def cut(self, name, whole, line_of):
         """Cuts a file of the slope to each shorter length."""

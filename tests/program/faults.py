@@ -57,11 +57,13 @@ class Faults:
         self.made = scratch / "made"
         self.check = Run(drain, ["check", "--side", "3", "--products", str(self.products), str(self.tile)],
                          "accepted rows=3 cols=3 data=9 raised=1 outlets=8\n")
+        self.audit = Run(drain, ["audit", *self.check.words[1:]], self.check.line)
         self.make = Run(drain, ["make", "--side", "3", "--out", str(self.made), str(self.tile)], "made rows=3 cols=3\n")
         self.list = scratch / "sinks.txt"
         self.list.write_text("0 0\n\n1 1\n")
         self.listing = ["--sinks", str(self.list)]
         self.check_listed = Run(drain, [*self.check.words, *self.listing], "rejected rule=5 OpenRaised row=1 col=1\n", status=1)
+        self.audit_listed = Run(drain, [*self.audit.words, *self.listing], self.check_listed.line, status=1)
         self.make_listed = Run(drain, [*self.make.words, *self.listing], self.make.line)
         self.fill = Run(drain, ["fill", "--side", "3"], "accepted rows=3 cols=3 data=9 raised=1\n", stdin=PIT / "pit-3.fill")
         header = subprocess.run([drain, "header", PIT / "pit-3/con.hdr"], stdout=subprocess.PIPE, check=True).stdout.decode()
@@ -122,12 +124,14 @@ class Faults:
                 self.look_at_what_is_left(self.make, name, ended)
 
     def changed(self):
-        """A tile or raster is cut or written over between two reads of a check: it answers some line of its own."""
+        """A tile or raster is cut or written over between two reads of a check or an audit: it answers some line of its own."""
         begins = ("accepted ", "rejected ", "refused RasterShort ", "refused BadTileLength ", "failed ReadFailed")
-        for file in [self.tile, *(self.products / f"{product}.bil" for product in PRODUCTS)]:
-            for how in ("cut", "turned"):
-                for name, ended in self.each_call(self.check, "read", how, FAIL_FILE=str(file)):
-                    self.judge(f"{name} ({file.name})", 0 <= ended[0] <= FAILED and ended[1].startswith(begins), ended)
+        rasters = [self.products / f"{product}.bil" for product in PRODUCTS]
+        for run, files in ((self.check, [self.tile, *rasters]), (self.audit, [self.tile, *rasters[:-1]])):
+            for file in files:
+                for how in ("cut", "turned"):
+                    for name, ended in self.each_call(run, "read", how, FAIL_FILE=str(file)):
+                        self.judge(f"{name} ({file.name})", 0 <= ended[0] <= FAILED and ended[1].startswith(begins), ended)
 
     def look_at_what_is_left(self, run, name, ended):
         """A set that is told as made is whole, and what a check accepts of another is whole too."""
@@ -151,7 +155,7 @@ class Faults:
             if not run.is_right(run.under()):
                 sys.exit("FAILED: nothing is made where no call fails")
             shutil.copytree(self.made, right)
-        for run in (self.check, self.make, self.fill, self.header, self.check_listed, self.make_listed):
+        for run in (self.check, self.audit, self.make, self.fill, self.header, self.check_listed, self.audit_listed, self.make_listed):
             self.refused(run)
             self.harmless(run)
         self.killed()

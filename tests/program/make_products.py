@@ -34,23 +34,26 @@ def opposite(code):
 
 
 class Terrain:
-    """A square of elevations in row order, None at voids."""
+    """Elevations in row order, None at voids."""
 
-    def __init__(self, side, path, sinks=()):
+    def __init__(self, rows, cols, z, sinks=()):
+        self.rows, self.cols, self.z = rows, cols, z
+        self.around = {}
+        self.sinks = {row * cols + col for row, col in sinks}
+
+    @classmethod
+    def of_tile(cls, side, path, sinks=()):
         with open(path, "rb") as file:
             samples = struct.unpack(f">{side * side}h", file.read())
-        self.side = side
-        self.z = [None if sample == VOID else sample for sample in samples]
-        self.around = {}
-        self.sinks = {row * side + col for row, col in sinks}
+        return cls(side, side, [None if sample == VOID else sample for sample in samples], sinks)
 
     def data_cells(self):
         return [cell for cell, ground in enumerate(self.z) if ground is not None]
 
     def beside(self, cell, code):
         """The cell one step away, None outside the grid."""
-        row, col = cell // self.side + STEPS[code][0], cell % self.side + STEPS[code][1]
-        return row * self.side + col if 0 <= row < self.side and 0 <= col < self.side else None
+        row, col = cell // self.cols + STEPS[code][0], cell % self.cols + STEPS[code][1]
+        return row * self.cols + col if 0 <= row < self.rows and 0 <= col < self.cols else None
 
     def data_neighbors(self, cell):
         """The neighbours with data, each after the code that leads to it; kept, since every rule asks for them."""
@@ -73,8 +76,7 @@ def key(code, drop):
 
 def flood(terrain):
     """con, the code of the way back over which the flood came (0 at open cells), and rnk: how many cells the flood visited before."""
-    cells = terrain.side * terrain.side
-    con, back, rnk = list(terrain.z), [None] * cells, [None] * cells
+    con, back, rnk = list(terrain.z), [None] * len(terrain.z), [None] * len(terrain.z)
     queue = []
     for cell in terrain.data_cells():
         if terrain.is_open(cell):
@@ -191,7 +193,8 @@ class Rules:
         self.terrain = terrain
         self.products = products
         self.z = terrain.z
-        self.con, self.dir, self.acc, self.bas, self.rnk = (products[name] for name, *_ in PRODUCTS)
+        self.nodata = {name: nodata for name, _, _, _, nodata in PRODUCTS}
+        self.con, self.dir, self.acc, self.bas, self.rnk = (products.get(name) for name, *_ in PRODUCTS)
         self.first_with_label = {}
         for cell in terrain.data_cells():
             if self.dir[cell] == 0:
@@ -209,7 +212,7 @@ class Rules:
         return other if other is not None and self.z[other] is not None else None
 
     def blanks(self, cell):
-        return [self.products[name][cell] == nodata for name, _, _, _, nodata in PRODUCTS]
+        return [self.products[name][cell] == nodata for name, nodata in self.nodata.items()]
 
     def void_cell(self, cell):
         return self.z[cell] is not None or all(self.blanks(cell))
@@ -262,32 +265,32 @@ class Rules:
 
 # Rules 6 to 8 are those of `drain fill` alone.
 RULES = [
-    (1, Rules.void_cell, "VoidCell"),
-    (2, Rules.missing, "Missing"),
-    (3, Rules.bad_code, "BadCode"),
-    (4, Rules.below_ground, "BelowGround"),
-    (5, Rules.open_raised, "OpenRaised"),
-    (9, Rules.not_least, "NotLeast"),
-    (10, Rules.slope, "Slope"),
-    (11, Rules.outlet_code, "OutletCode"),
-    (12, Rules.flat_step, "FlatStep"),
-    (13, Rules.accumulation, "Accumulation"),
-    (14, Rules.label, "Label"),
-    (15, Rules.shared_label, "SharedLabel"),
+    (1, "VoidCell", "void_cell"),
+    (2, "Missing", "missing"),
+    (3, "BadCode", "bad_code"),
+    (4, "BelowGround", "below_ground"),
+    (5, "OpenRaised", "open_raised"),
+    (9, "NotLeast", "not_least"),
+    (10, "Slope", "slope"),
+    (11, "OutletCode", "outlet_code"),
+    (12, "FlatStep", "flat_step"),
+    (13, "Accumulation", "accumulation"),
+    (14, "Label", "label"),
+    (15, "SharedLabel", "shared_label"),
 ]
 
 
-def verify(terrain, products):
+def verdict(rules):
     """The line of the verdict: the first cell in row order at which a rule fails, and the first such rule."""
-    rules = Rules(terrain, products)
-    for cell in range(terrain.side * terrain.side):
-        for number, holds, name in RULES:
-            if not holds(rules, cell):
-                return f"rejected rule={number} {name} row={cell // terrain.side} col={cell % terrain.side}"
+    terrain = rules.terrain
+    for cell in range(len(terrain.z)):
+        for number, name, holds in RULES:
+            if not getattr(rules, holds)(cell):
+                return f"rejected rule={number} {name} row={cell // terrain.cols} col={cell % terrain.cols}"
     data = terrain.data_cells()
     raised = sum(rules.con[cell] > rules.z[cell] for cell in data)
     outlets = sum(rules.dir[cell] == 0 for cell in data)
-    return f"accepted rows={terrain.side} cols={terrain.side} data={len(data)} raised={raised} outlets={outlets}"
+    return f"accepted rows={terrain.rows} cols={terrain.cols} data={len(data)} raised={raised} outlets={outlets}"
 
 
 def read_sinks(path):
@@ -303,9 +306,9 @@ def main():
     if len(words) != 3 + judging + 2 * listing:
         sys.exit(__doc__)
     side, tile, folder = int(words[-3]), words[-2], words[-1]
-    terrain = Terrain(side, tile, read_sinks(words[-4]) if listing else ())
+    terrain = Terrain.of_tile(side, tile, read_sinks(words[-4]) if listing else ())
     if judging:
-        print(verify(terrain, read(side, folder)))
+        print(verdict(Rules(terrain, read(side, folder))))
     else:
         write(side, tile, make(terrain), folder)
 

@@ -62,6 +62,7 @@ done < <(sed -E 's/ *\| */|/g; s/^ +| +$//g' "$here/table.txt")
 . "$here/check.sh"
 . "$here/make.sh"
 . "$here/sinks.sh"
+. "$here/audit.sh"
 
 # Adds the runs that another program judged: it prints those that failed, and in its last line 'NAME: N passed, M failed'.
 add_runs() {
@@ -78,6 +79,7 @@ add_runs() {
 }
 
 add_runs "$here/cut_inputs.py" "$drain"
+add_runs "$here/random_audits.py" "$drain"
 
 # Calls of the program are made to fail by a library that is loaded before the C library's, so it wants a compiler of C.
 compiler=$(dirname "$(readlink -f "$(command -v rt)")")/../toolchain/bin/clang

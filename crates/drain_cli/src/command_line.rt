@@ -1,5 +1,6 @@
-//! The words of the command line: which command is asked for, and the texts of help.
+//! The words of the command line: which command is asked for.
 
+use crate::help_texts;
 use clap::builder::ValueParser;
 use clap::{Arg, ArgAction, ArgMatches, Command, Error};
 use std::alloc::{AllocError, Global};
@@ -7,6 +8,17 @@ use std::alloc::{AllocError, Global};
 /// What the words ask for.
 #[derive(PartialEq, Eq, Debug, Drop)]
 pub enum Request<'a> {
+    /// `drain audit`: check the four products in this folder, without ranks.
+    Audit(Judged<'a>),
+    /// `drain check`: check the five products in this folder.
+    Check(Judged<'a>),
+    /// `drain make`: make products of the tiles at these paths, with the sinks that the file at this path lists, and write them into this folder.
+    Make {
+        side: u32,
+        folder: &'a str,
+        sinks: Option<&'a str>,
+        tiles: Vec<&'a str>,
+    },
     /// `drain fill`: check a conditioned surface from standard input.
     Fill {
         side: u32,
@@ -15,20 +27,15 @@ pub enum Request<'a> {
     Header {
         path: &'a str,
     },
-    /// `drain check`: check the products in this folder against the tiles at these paths, with the sinks that the file at this path lists.
-    Check {
-        side: u32,
-        products: &'a str,
-        sinks: Option<&'a str>,
-        tiles: Vec<&'a str>,
-    },
-    /// `drain make`: make products of the tiles at these paths, with the sinks that the file at this path lists, and write them into this folder.
-    Make {
-        side: u32,
-        folder: &'a str,
-        sinks: Option<&'a str>,
-        tiles: Vec<&'a str>,
-    },
+}
+
+/// What is to be judged: the products in this folder against the tiles at these paths, with the sinks that the file at this path lists.
+#[derive(PartialEq, Eq, Debug, Drop)]
+pub struct Judged<'a> {
+    pub side: u32,
+    pub products: &'a str,
+    pub sinks: Option<&'a str>,
+    pub tiles: Vec<&'a str>,
 }
 
 /// The side of a tile where none is given: that of 3 arc seconds, as a number and as it is written in the help.
@@ -36,123 +43,9 @@ const DEFAULT_SIDE: u32 = 1201;
 
 const DEFAULT_SIDE_WORD: &str = "1201";
 
-const ABOUT: &str =
-    "Checks drainage rasters computed from SRTM elevation tiles, and makes them. An acceptance is \
-    proved to mean what it says, whoever made the rasters.";
-
 /// The program's version, and the toolchain whose logic proved it.
 const VERSION: &str = "0.1.0
-proved with rattle-kit-13b logic dac8208d650f15bf";
-
-const FILL_ABOUT: &str =
-    "Check a conditioned elevation raster, its spill parents and its ranks against their tile";
-
-const FILL_LONG_ABOUT: &str =
-    "Reads 9 bytes for each cell of one square tile from standard input, each part row after row from
-the north, most significant byte first:
-
-  tile   2 bytes, signed    elevations in metres, -32768 for a void (an SRTM .hgt file)
-  con    2 bytes, signed    conditioned elevations
-  spl    1 byte             spill parents, as direction codes (0 for none)
-  rnk    4 bytes            ranks
-
-Accepts a conditioned surface that is filled, and no higher than it has to be: each cell at the least
-height over which water gets from there to an edge or a void. Prints one line.";
-
-const FILL_AFTER: &str = "Lines and exit statuses:
-  0  accepted rows=R cols=C data=D raised=U
-  1  rejected rule=N NAME row=R col=C        the first rule that fails, at the first cell
-  2  refused BadSide, refused BadLength
-  3  failed ReadFailed, failed OutOfMemory, or standard output couldn't be written
-
-Example:
-  drain fill --side 1201 < surface.fill";
-
-const HEADER_ABOUT: &str = "Print what the header of a BIL raster says, or why it is refused";
-
-const HEADER_LONG_ABOUT: &str =
-    "Reads the header file of a BIL raster (.hdr) and prints it as this program writes headers: each
-keyword with its value or the value that holds where the keyword is absent, coordinates of the centre
-of the upper left pixel and pixel sizes in degrees with 15 places. At most 65537 bytes are read.";
-
-const HEADER_AFTER: &str = "Lines and exit statuses:
-  0  the header, fifteen lines (fourteen without a NODATA line)
-  2  refused TooLong, refused RepeatedKey LINE, refused BadValue LINE, refused MissingKey KEYWORD,
-     refused NotOneBand, refused BadBits, refused BadPixelType, refused RowTooShort
-  3  failed Open PATH, failed ReadFailed, failed OutOfMemory, or standard output couldn't be written
-
-Example:
-  drain header rasters/con.hdr";
-
-const CHECK_ABOUT: &str = "Check the five products of a mosaic against its tiles";
-
-const CHECK_LONG_ABOUT: &str =
-    "Reads elevation tiles (SRTM .hgt files of one side, named as N37W105.hgt) and the five products of their
-mosaic, each a BIL raster in the folder DIR: DIR/con.hdr and DIR/con.bil, and so on.
-
-  con    conditioned elevations, in metres
-  dir    directions, as codes: 0 at an outlet, else 1 E, 2 SE, 4 S, 8 SW, 16 W, 32 NW, 64 N, 128 NE
-  acc    accumulation: how many cells drain through the cell, with the cell itself
-  bas    labels of basins, one for each outlet
-  rnk    ranks, which fall where directions cross flats
-
-Accepts products that are correct: con is the least surface over the tiles from which water gets to an
-edge, void or listed sink, no direction climbs, every run of directions ends at an outlet, acc counts
-exactly the cells upstream, and two cells share a label exactly where they share an outlet. All files are
-opened first. Prints one line.
-
-A listed sink is a data cell where water may end inside the land, as in a lake without an outlet. Its line
-gives its row and its column, counted from 0 at the north-west corner of the mosaic.";
-
-const CHECK_AFTER: &str = "Lines and exit statuses:
-  0  accepted rows=R cols=C data=D raised=U outlets=O
-  1  rejected rule=N NAME row=R col=C        the first rule that fails, at the first cell
-  2  refused BadSide, refused BadName I, refused NoTiles, refused RepeatedTile TILE, refused BoxTooLarge,
-     refused BadHeader PRODUCT FAULT (a fault of drain header), refused WrongShape PRODUCT,
-     refused Misplaced PRODUCT, refused BadTileLength TILE, refused RasterShort PRODUCT,
-     refused SeamMismatch row=R col=C, refused BadSinkLine LINE, refused SinkNotData LINE
-  3  failed Open PATH, failed ReadFailed, failed OutOfMemory, or standard output couldn't be written
-
-Example:
-  drain check --side 1201 --products rasters N37W105.hgt N37W106.hgt";
-
-const MAKE_ABOUT: &str = "Make the five products of a mosaic from its tiles";
-
-const MAKE_LONG_ABOUT: &str =
-    "Reads elevation tiles (SRTM .hgt files of one side, named as N37W105.hgt) and writes the five products of
-their mosaic into the folder DIR, which must be there: DIR/con.hdr and DIR/con.bil, and so for dir, acc,
-bas and rnk. What each product is: drain check --help.
-
-Depressions are filled by a flood from the edges, voids and listed sinks inwards (Priority-Flood). Off flats the
-direction is the first of the steepest descents in the order E, SE, S, SW, W, NW, N, NE; on flats it is the
-shortest way out. Labels number the outlets from 1, row by row.
-
-Before anything is written all rules of drain check are tried at every cell, and the files are created
-once nothing is left to refuse; files that are there already are replaced. Prints one line.";
-
-const MAKE_AFTER: &str = "Lines and exit statuses:
-  0  made rows=R cols=C
-  2  refused BadSide, refused BadName I, refused NoTiles, refused RepeatedTile TILE, refused BoxTooLarge,
-     refused BadTileLength TILE, refused SeamMismatch row=R col=C, refused BadSinkLine LINE,
-     refused SinkNotData LINE, or refused MakerFault, which means a fault of this program: what it made
-     failed its own test, and nothing was written
-  3  failed Open PATH, failed ReadFailed, failed WriteFailed, failed OutOfMemory, or standard output
-     couldn't be written; once files were created, what stood in them before is lost
-
-Example:
-  drain make --side 1201 --out rasters N37W105.hgt N37W106.hgt";
-
-const OUT_HELP: &str = "The folder to write the products into";
-
-const PRODUCTS_HELP: &str = "The folder of the products";
-
-const TILES_HELP: &str = "The files of the tiles, each named after its south-west corner";
-
-const SINKS_HELP: &str = "A list of inland sinks, one a line: ROW COL";
-
-const FILE_HELP: &str = "The header file";
-
-const SIDE_HELP: &str = "Samples along an edge of the tile, 2 to 3601";
+proved with rattle-kit-13f logic dac8208d650f15bf";
 
 /// What the words ask for. The first word is the program's own name.
 ///
@@ -164,7 +57,8 @@ pub fn parse<'a>(alloc: Global, words: &'a [String]) -> Result<Request<'a>, Erro
 
 /// The program and its commands, in the order of its help.
 fn program<'a>(alloc: Global) -> Result<Command<'a>, AllocError> {
-    let program = with(described(alloc)?, check(alloc))?;
+    let program = with(described(alloc)?, audit(alloc))?;
+    let program = with(program, check(alloc))?;
     let program = with(program, make(alloc))?;
     let program = with(program, fill(alloc))?;
     with(program, header(alloc))
@@ -184,7 +78,7 @@ fn described<'a>(alloc: Global) -> Result<Command<'a>, AllocError> {
         Command::new(alloc, "drain")
             .version(VERSION)
             .bin_name("drain")?
-            .about(ABOUT)
+            .about(help_texts::ABOUT)
             .subcommand_required(true)
             .arg_required_else_help(true),
     )
@@ -197,8 +91,11 @@ fn asked_for<'a>(alloc: Global, matches: &ArgMatches<'a>) -> Result<Request<'a>,
             path: header.get_str("file").unwrap_or(""),
         });
     }
+    if let Some(audit) = matches.subcommand_matches("audit") {
+        return Ok(Request::Audit(judged(alloc, audit)?));
+    }
     if let Some(check) = matches.subcommand_matches("check") {
-        return check_request(alloc, check);
+        return Ok(Request::Check(judged(alloc, check)?));
     }
     if let Some(make) = matches.subcommand_matches("make") {
         return make_request(alloc, make);
@@ -210,8 +107,8 @@ fn asked_for<'a>(alloc: Global, matches: &ArgMatches<'a>) -> Result<Request<'a>,
     Ok(Request::Fill { side })
 }
 
-fn check_request<'a>(alloc: Global, given: &ArgMatches<'a>) -> Result<Request<'a>, AllocError> {
-    Ok(Request::Check {
+fn judged<'a>(alloc: Global, given: &ArgMatches<'a>) -> Result<Judged<'a>, AllocError> {
+    Ok(Judged {
         side: side_given(given),
         products: given.get_str("products").unwrap_or(""),
         sinks: given.get_str("sinks"),
@@ -247,14 +144,14 @@ fn side<'a>(alloc: Global) -> Arg<'a> {
         .value_name("N")
         .value_parser(clap::value_parser!(u32))
         .default_value(DEFAULT_SIDE_WORD)
-        .help(SIDE_HELP)
+        .help(help_texts::SIDE_HELP)
 }
 
 fn fill<'a>(alloc: Global) -> Result<Command<'a>, AllocError> {
     Command::new(alloc, "fill")
-        .about(FILL_ABOUT)
-        .long_about(FILL_LONG_ABOUT)
-        .after_long_help(FILL_AFTER)
+        .about(help_texts::FILL_ABOUT)
+        .long_about(help_texts::FILL_LONG_ABOUT)
+        .after_long_help(help_texts::FILL_AFTER)
         .arg(side(alloc))
 }
 
@@ -263,14 +160,14 @@ fn file<'a>(alloc: Global) -> Arg<'a> {
         .value_name("FILE")
         .value_parser(ValueParser::NonEmptyString)
         .required(true)
-        .help(FILE_HELP)
+        .help(help_texts::FILE_HELP)
 }
 
 fn header<'a>(alloc: Global) -> Result<Command<'a>, AllocError> {
     Command::new(alloc, "header")
-        .about(HEADER_ABOUT)
-        .long_about(HEADER_LONG_ABOUT)
-        .after_long_help(HEADER_AFTER)
+        .about(help_texts::HEADER_ABOUT)
+        .long_about(help_texts::HEADER_LONG_ABOUT)
+        .after_long_help(help_texts::HEADER_AFTER)
         .arg(file(alloc))
 }
 
@@ -279,7 +176,7 @@ fn tiles<'a>(alloc: Global) -> Arg<'a> {
         .value_name("TILE")
         .value_parser(ValueParser::NonEmptyString)
         .action(ArgAction::Append)
-        .help(TILES_HELP)
+        .help(help_texts::TILES_HELP)
 }
 
 fn products<'a>(alloc: Global) -> Arg<'a> {
@@ -288,7 +185,7 @@ fn products<'a>(alloc: Global) -> Arg<'a> {
         .value_name("DIR")
         .value_parser(ValueParser::NonEmptyString)
         .required(true)
-        .help(PRODUCTS_HELP)
+        .help(help_texts::PRODUCTS_HELP)
 }
 
 fn sinks<'a>(alloc: Global) -> Arg<'a> {
@@ -296,14 +193,28 @@ fn sinks<'a>(alloc: Global) -> Arg<'a> {
         .long("sinks")
         .value_name("FILE")
         .value_parser(ValueParser::NonEmptyString)
-        .help(SINKS_HELP)
+        .help(help_texts::SINKS_HELP)
+}
+
+fn audit<'a>(alloc: Global) -> Result<Command<'a>, AllocError> {
+    let command = Command::new(alloc, "audit")
+        .about(help_texts::AUDIT_ABOUT)
+        .long_about(help_texts::AUDIT_LONG_ABOUT)
+        .after_long_help(help_texts::AUDIT_AFTER);
+    judging(alloc, command)
 }
 
 fn check<'a>(alloc: Global) -> Result<Command<'a>, AllocError> {
-    Command::new(alloc, "check")
-        .about(CHECK_ABOUT)
-        .long_about(CHECK_LONG_ABOUT)
-        .after_long_help(CHECK_AFTER)
+    let command = Command::new(alloc, "check")
+        .about(help_texts::CHECK_ABOUT)
+        .long_about(help_texts::CHECK_LONG_ABOUT)
+        .after_long_help(help_texts::CHECK_AFTER);
+    judging(alloc, command)
+}
+
+/// The command with the words that tell what is to be judged.
+fn judging<'a>(alloc: Global, command: Command<'a>) -> Result<Command<'a>, AllocError> {
+    command
         .arg(side(alloc))?
         .arg(products(alloc))?
         .arg(sinks(alloc))?
@@ -316,14 +227,14 @@ fn out<'a>(alloc: Global) -> Arg<'a> {
         .value_name("DIR")
         .value_parser(ValueParser::NonEmptyString)
         .required(true)
-        .help(OUT_HELP)
+        .help(help_texts::OUT_HELP)
 }
 
 fn make<'a>(alloc: Global) -> Result<Command<'a>, AllocError> {
     Command::new(alloc, "make")
-        .about(MAKE_ABOUT)
-        .long_about(MAKE_LONG_ABOUT)
-        .after_long_help(MAKE_AFTER)
+        .about(help_texts::MAKE_ABOUT)
+        .long_about(help_texts::MAKE_LONG_ABOUT)
+        .after_long_help(help_texts::MAKE_AFTER)
         .arg(side(alloc))?
         .arg(out(alloc))?
         .arg(sinks(alloc))?

@@ -2,12 +2,13 @@
 //! run, and its status answered. What a run does is in the other modules, each with its contract.
 
 use crate::command_line;
-use crate::command_line::Request;
+use crate::command_line::{Judged, Request};
 use crate::make_set::make_set;
-use crate::open_check::{CheckFiles, open_check};
 use crate::open_failure::print_open_failure;
 use crate::open_files::{OpenFault, create_files, list_at, open_tiles};
+use crate::open_judged::{open_audit, open_check};
 use crate::print::{print_failure, print_text};
+use crate::run_audit::run_audit;
 use crate::run_check::run_check;
 use crate::run_fill::run_fill;
 use crate::run_header::run_header;
@@ -43,16 +44,8 @@ fn asked_words(rt: &HostRuntime) -> io::Result<Vec<String>> {
 /// Does what the words ask for, and answers the exit status.
 fn run(rt: &HostRuntime, asked: &[String], out: &mut impl ByteSink) -> u8 {
     match command_line::parse(rt.alloc(), asked) {
-        Ok(Request::Fill { side }) => run_fill(rt.alloc(), side, &mut Reader::new(rt.stdin()), out),
-        Ok(Request::Header { path }) => header_of_file(rt, path, out),
-        Ok(
-            Request::Check {
-                side,
-                products,
-                sinks,
-                tiles,
-            },
-        ) => check_of_files(rt, side, products, sinks, tiles.as_slice(), out),
+        Ok(Request::Audit(judged)) => audit_of_files(rt, &judged, out),
+        Ok(Request::Check(judged)) => check_of_files(rt, &judged, out),
         Ok(
             Request::Make {
                 side,
@@ -61,6 +54,8 @@ fn run(rt: &HostRuntime, asked: &[String], out: &mut impl ByteSink) -> u8 {
                 tiles,
             },
         ) => make_from_files(rt, side, folder, sinks, tiles.as_slice(), out),
+        Ok(Request::Fill { side }) => run_fill(rt.alloc(), side, &mut Reader::new(rt.stdin()), out),
+        Ok(Request::Header { path }) => header_of_file(rt, path, out),
         Err(error) if error.kind() == ErrorKind::OutOfMemory => print_failure(
             out,
             BodyFault::OutOfMemory,
@@ -77,33 +72,32 @@ fn header_of_file(rt: &HostRuntime, path: &str, out: &mut impl ByteSink) -> u8 {
     }
 }
 
-/// Opens the tiles and the products of a folder, checks them, and answers the exit status.
-fn check_of_files(
-    rt: &HostRuntime,
-    side: u32,
-    folder: &str,
-    sinks: Option<&str>,
-    tiles: &[&str],
-    out: &mut impl ByteSink,
-) -> u8 {
-    match open_check(rt, folder, sinks, tiles) {
-        Ok(
-            CheckFiles {
-                mut tiles,
-                mut products,
-                sinks,
-            },
-        ) => {
-            let tiles = tiles.as_mut_slice();
-            run_check(
-                rt.alloc(),
-                side,
-                tiles,
-                sinks.as_slice(),
-                &mut products,
-                out,
-            )
-        }
+/// Opens the tiles and the four products of a folder, audits them, and answers the exit status.
+fn audit_of_files(rt: &HostRuntime, judged: &Judged<'_>, out: &mut impl ByteSink) -> u8 {
+    match open_audit(rt, judged) {
+        Ok(mut files) => run_audit(
+            rt.alloc(),
+            judged.side,
+            files.tiles.as_mut_slice(),
+            files.sinks.as_slice(),
+            &mut files.products,
+            out,
+        ),
+        Err(fault) => print_open_fault(rt, fault, out),
+    }
+}
+
+/// Opens the tiles and the five products of a folder, checks them, and answers the exit status.
+fn check_of_files(rt: &HostRuntime, judged: &Judged<'_>, out: &mut impl ByteSink) -> u8 {
+    match open_check(rt, judged) {
+        Ok(mut files) => run_check(
+            rt.alloc(),
+            judged.side,
+            files.tiles.as_mut_slice(),
+            files.sinks.as_slice(),
+            &mut files.products,
+            out,
+        ),
         Err(fault) => print_open_fault(rt, fault, out),
     }
 }

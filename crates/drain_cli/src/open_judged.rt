@@ -1,34 +1,54 @@
-//! Opening the files of a check: the tiles in the order given, then of each product its header, which is read whole, and its raster; then the
-//! list of sinks, which is read whole.
+//! Opening the files that are judged: the tiles in the order given, then of each product its header, which is read whole, and its raster; then
+//! the list of sinks, which is read whole.
 
+use crate::command_line::Judged;
 use crate::file_paths::{header_path, raster_path};
 use crate::open_files::{OpenFault, list_at, open, open_tiles};
 use drain_device::{ByteList, Reader, read_body};
 use drain_grid::{Held, PerProduct, Product};
 use drain_header::MAX_HEADER_BYTES;
 use drain_hgt::TileInput;
-use drain_verdict::{Products, RasterInput};
+use drain_verdict::{AuditProducts, Products, RasterInput};
 use std::fs::File;
 
-/// The files of a check, of which nothing but the headers and the list of sinks has been read.
+/// The files of a check or an audit, of which nothing but the headers and the list of sinks has been read.
 #[derive(Drop)]
-pub struct CheckFiles {
+pub struct OpenFiles<P> {
     pub tiles: Vec<TileInput<Reader<File>>>,
-    pub products: Products<Reader<File>>,
+    pub products: P,
     pub sinks: Vec<u8>,
 }
 
-/// Opens the tiles at these paths, the products in this folder, and the list of sinks, if there is one. The first fault ends it.
+/// Opens the files of an audit: those of no ranks. The first fault ends it.
+pub fn open_audit(
+    rt: &HostRuntime,
+    judged: &Judged<'_>,
+) -> Result<OpenFiles<AuditProducts<Reader<File>>>, OpenFault> {
+    let tiles = open_tiles(rt, judged.tiles.as_slice())?;
+    let folder = judged.products;
+    let products = AuditProducts {
+        con: open_product(rt, folder, Product::Con)?,
+        dir: open_product(rt, folder, Product::Dir)?,
+        acc: open_product(rt, folder, Product::Acc)?,
+        bas: open_product(rt, folder, Product::Bas)?,
+    };
+    let sinks = list_at(rt, judged.sinks)?;
+    Ok(OpenFiles {
+        tiles,
+        products,
+        sinks,
+    })
+}
+
+/// Opens the files of a check: those of all five products. The first fault ends it.
 pub fn open_check(
     rt: &HostRuntime,
-    folder: &str,
-    sinks: Option<&str>,
-    tiles: &[&str],
-) -> Result<CheckFiles, OpenFault> {
-    let tiles = open_tiles(rt, tiles)?;
-    let products = open_products(rt, folder)?;
-    let sinks = list_at(rt, sinks)?;
-    Ok(CheckFiles {
+    judged: &Judged<'_>,
+) -> Result<OpenFiles<Products<Reader<File>>>, OpenFault> {
+    let tiles = open_tiles(rt, judged.tiles.as_slice())?;
+    let products = open_products(rt, judged.products)?;
+    let sinks = list_at(rt, judged.sinks)?;
+    Ok(OpenFiles {
         tiles,
         products,
         sinks,

@@ -1,0 +1,203 @@
+"""Reads tiles, headers, rasters and lists of sinks as docs/FORMATS.md tells their forms: slow and plain.
+
+What can't be read is raised as Refused, with the words that stand behind `refused`.
+"""
+
+import re
+import struct
+import sys
+from fractions import Fraction
+
+VOID = -32768
+MOST_SIDE = 3601
+MOST_BOX = 8
+MOST_HEADER_BYTES = 65536
+MOST_ROWS = 28801
+WHOLE_KEYS = ["NROWS", "NCOLS", "NBANDS", "NBITS", "SKIPBYTES", "BANDROWBYTES", "TOTALROWBYTES"]
+PLACE_KEYS = ["ULXMAP", "ULYMAP", "XDIM", "YDIM"]
+NEEDED_KEYS = ["NROWS", "NCOLS", *PLACE_KEYS]
+WORD_KEYS = {"BYTEORDER": ["I", "M"], "LAYOUT": ["BIL", "BIP", "BSQ"]}
+
+# Decimals of a header may have more digits than Python reads by itself.
+getattr(sys, "set_int_max_str_digits", int)(0)
+
+
+class Refused(Exception):
+    """The words of a refusal."""
+
+
+# Tiles
+
+
+def corner_of(name):
+    """The latitude and longitude of the corner that a tile's name tells, None where it names no tile."""
+    found = re.fullmatch(rb"([NS])([0-9]{2})([EW])([0-9]{3})\.HGT", name.upper())
+    if not found:
+        return None
+    lat, lon = int(found[2]), int(found[4])
+    if found[1] == b"S":
+        lat = -lat
+    if found[3] == b"W":
+        lon = -lon
+    signed_zero = (found[1] == b"S" and lat == 0) or (found[3] == b"W" and lon == 0)
+    return None if signed_zero or not -90 <= lat <= 89 or not -180 <= lon <= 179 else (lat, lon)
+
+
+def name_of(corner):
+    """The name of the tile at this corner."""
+    lat, lon = corner
+    return f"{'NS'[lat < 0]}{abs(lat):02d}{'EW'[lon < 0]}{abs(lon):03d}.hgt"
+
+
+class Mosaic:
+    """The box of the tiles with these names, and its elevations once their bytes are put in."""
+
+    def __init__(self, side, names):
+        self.side, self.corners, self.z = side, [], {}
+        if not 2 <= side <= MOST_SIDE:
+            raise Refused("BadSide")
+        for place, name in enumerate(names):
+            corner = corner_of(name)
+            if corner is None:
+                raise Refused(f"BadName {place}")
+            self.corners.append(corner)
+        if not names:
+            raise Refused("NoTiles")
+        for place, corner in enumerate(self.corners):
+            if corner in self.corners[:place]:
+                raise Refused(f"RepeatedTile {name_of(corner)}")
+        lats, lons = zip(*self.corners)
+        self.west, self.north = min(lons), max(lats) + 1
+        down, across = self.north - min(lats), max(lons) + 1 - self.west
+        if max(down, across) > MOST_BOX:
+            raise Refused("BoxTooLarge")
+        self.rows, self.cols = down * (side - 1) + 1, across * (side - 1) + 1
+
+    def values_at(self, tiles):
+        """The data values that tiles give to each cell, as a set in each place."""
+        found = [set() for _ in range(self.rows * self.cols)]
+        for (lat, lon), tile in zip(self.corners, tiles):
+            samples = struct.unpack(f">{self.side**2}h", tile)
+            top, left = (self.north - lat - 1) * (self.side - 1), (lon - self.west) * (self.side - 1)
+            for place, sample in enumerate(samples):
+                if sample != VOID:
+                    found[(top + place // self.side) * self.cols + left + place % self.side].add(sample)
+        return found
+
+    def elevations(self, tiles):
+        """The elevation of each cell in row order, None at voids."""
+        z = []
+        for cell, values in enumerate(self.values_at(tiles)):
+            if len(values) > 1:
+                raise Refused(f"SeamMismatch row={cell // self.cols} col={cell % self.cols}")
+            z.append(min(values) if values else None)
+        return z
+
+
+# Headers
+
+
+def decimal_of(word):
+    """The number that a decimal tells, None where it is none."""
+    found = re.fullmatch(r"([+-]?)([0-9]*)\.?([0-9]*)(?:[eE]([+-]?[0-9]{1,3}))?", word)
+    if not found or not found[2] + found[3]:
+        return None
+    number = Fraction(int(found[2] + found[3]), 10 ** len(found[3])) * Fraction(10) ** int(found[4] or 0)
+    return None if number > 10**10 else -number if found[1] == "-" else number
+
+
+def kept(number):
+    """A decimal without its places past the fifteenth."""
+    units = abs(number) * 10**15 // 1
+    return Fraction(units if number > 0 else -units, 10**15)
+
+
+def value_of(key, word):
+    """What a keyword's value means, None where the keyword has no such value."""
+    if key == "PIXELTYPE":
+        return word.upper()
+    if key in WORD_KEYS:
+        return word.upper() if word.upper() in WORD_KEYS[key] else None
+    if key in WHOLE_KEYS:
+        number = int(word) if re.fullmatch("[0-9]+", word) else None
+        most, least = (MOST_ROWS, 1) if key in ("NROWS", "NCOLS") else (2**32 - 1, 0)
+        return number if number is not None and least <= number <= most else None
+    number = decimal_of(word)
+    if number is None or key == "NODATA":
+        return int(number) if number is not None and number.denominator == 1 else None
+    return kept(number)
+
+
+def header_fields(text):
+    """What each line of a header says, by its keyword."""
+    if len(text) > MOST_HEADER_BYTES:
+        raise Refused("TooLong")
+    fields = {}
+    for number, line in enumerate(text.decode("latin-1").split("\n"), 1):
+        words = [word for word in re.split("[ \t]+", line[:-1] if line.endswith("\r") else line) if word]
+        key = re.sub("[a-z]", lambda letter: letter[0].upper(), words[0]) if words else None
+        if key not in ["PIXELTYPE", "NODATA", *WORD_KEYS, *WHOLE_KEYS, *PLACE_KEYS]:
+            continue
+        if key in fields:
+            raise Refused(f"RepeatedKey {number}")
+        fields[key] = value_of(key, words[1]) if len(words) > 1 else None
+        if fields[key] is None:
+            raise Refused(f"BadValue {number}")
+    return fields
+
+
+class Header:
+    """What a header says, with the values that hold where a keyword is absent."""
+
+    def __init__(self, text):
+        fields = header_fields(text)
+        for key in NEEDED_KEYS:
+            if key not in fields:
+                raise Refused(f"MissingKey {key}")
+        self.rows, self.cols, self.ulx, self.uly, self.xdim, self.ydim = (fields[key] for key in NEEDED_KEYS)
+        if fields.get("NBANDS", 1) != 1:
+            raise Refused("NotOneBand")
+        self.bits = fields.get("NBITS", 8)
+        if self.bits not in (8, 16, 32):
+            raise Refused("BadBits")
+        signed = fields.get("PIXELTYPE", "SIGNEDINT" if self.bits == 16 else "UNSIGNEDINT")
+        if signed not in ("SIGNEDINT", "UNSIGNEDINT"):
+            raise Refused("BadPixelType")
+        least = self.cols * self.bits // 8
+        self.skip = fields.get("SKIPBYTES", 0)
+        self.stride = fields.get("TOTALROWBYTES", fields.get("BANDROWBYTES", least))
+        if self.stride < least:
+            raise Refused("RowTooShort")
+        form = {8: "b", 16: "h", 32: "i"}[self.bits]
+        self.form = ("<" if fields.get("BYTEORDER", "I") == "I" else ">") + (form if signed == "SIGNEDINT" else form.upper())
+        self.nodata = fields.get("NODATA")
+
+    def is_placed(self, mosaic):
+        """Whether the raster lies where the mosaic does."""
+        step = Fraction(1, mosaic.side - 1)
+        corner = max(abs(self.ulx - mosaic.west), abs(self.uly - mosaic.north))
+        return corner <= Fraction(1, 10**6) and max(abs(self.xdim - step), abs(self.ydim - step)) <= Fraction(1, 10**9)
+
+    def pixels(self, body):
+        """The numbers of a raster in row order, None where a byte of some pixel is missing."""
+        size = self.bits // 8
+        if len(body) < self.skip + (self.rows - 1) * self.stride + self.cols * size:
+            return None
+        starts = (self.skip + row * self.stride for row in range(self.rows))
+        return [number for start in starts for (number,) in struct.iter_unpack(self.form, body[start:start + self.cols * size])]
+
+
+# Lists of sinks
+
+
+def listed_sinks(text):
+    """The cells that a list of sinks names, each a row and a column behind the number of its line."""
+    listed = []
+    for number, line in enumerate(text.decode("latin-1").split("\n"), 1):
+        words = [word for word in re.split("[ \t]+", line[:-1] if line.endswith("\r") else line) if word]
+        if not words:
+            continue
+        if len(words) != 2 or not all(re.fullmatch("[0-9]+", word) and int(word) < 2**32 for word in words):
+            raise Refused(f"BadSinkLine {number}")
+        listed.append((number, int(words[0]), int(words[1])))
+    return listed
