@@ -5,13 +5,14 @@ use Rattle.drain_hgt.specs.declared.input.TileInput.{TileInput}
 use Rattle.drain_rules.specs.declared.verdict.Verdict.{Verdict}
 use Rattle.drain_rules.specs.declared.verdict.Verdict.TheVariants.{Accepted, Rejected}
 use Rattle.drain_verdict.specs.declared.refusal.Refusal.{Refusal}
-use Rattle.drain_verdict.specs.declared.refusal.Refusal.TheVariants.{OutOfMemory, ReadFailed}
+use Rattle.drain_verdict.specs.declared.refusal.Refusal.TheVariants.{ReadFailed}
 use Rattle.drain_verdict.specs.Inputs.{Inputs, Tell, Products}
 use Rattle.drain_verdict.specs.Answers.{IsAnswer}
 use Rattle.drain_verdict.specs.Refusals.{IsOfBodies}
 use Rattle.drain_device.specs.FaultLists.{SomeReadFails}
 use Rattle.drain_verdict.specs.Devices.{devices_of}
 use Rattle.drain_verdict.specs.Headline.{TilesAreOne, ElevationIsTheirs, ConIsLeast, NoDirectionClimbs, DirectionsAreSteepest, CodesTellOutlets, RunsEnd, RunsEndAtOutlets, RunsVisitOnce, AccCountsUpstream, LabelsTellBasins, VoidsAreBlank, DataIsComplete}
+use Rattle.drain_cli.specs.Statuses.{refusal_status}
 use Rattle.drain_cli.specs.declared.status.Status.{Status}
 use Rattle.drain_cli.specs.declared.status.Status.TheVariants as status
 
@@ -19,9 +20,7 @@ use Rattle.drain_cli.specs.declared.status.Status.TheVariants as status
 abbrev pub check_status : Result Verdict Refusal → Status
 check_status (Ok (Accepted counts)) = status.Done
 check_status (Ok (Rejected rule row col)) = status.Rejected
-check_status (Err OutOfMemory) = status.Failed
-check_status (Err ReadFailed) = status.Failed
-check_status (Err refusal) = status.Refused
+check_status (Err refusal) = refusal_status refusal
 
 -- the answer is that of the bytes that the devices had left, where they tell them, and says that a read failed exactly where one did; where it
 -- refuses side, names, layout or headers every device is as it was

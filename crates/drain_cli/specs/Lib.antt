@@ -1,3 +1,4 @@
+pub mod AuditRuns
 pub mod CheckRuns
 pub mod Failures
 pub mod FilePaths

@@ -5,6 +5,7 @@ use Rattle.drain_mosaic.specs.Tiling.{Tiling, extent_of}
 use Rattle.drain_verdict.specs.declared.refusal.Refusal.TheVariants as refusal
 use Rattle.drain_verdict.specs.Lines.{refusal_line}
 use Rattle.drain_maker.specs.declared.maker.MakeRefusal.TheVariants as maker
+use Rattle.drain_cli.specs.Statuses.{refusal_status}
 use Rattle.drain_cli.specs.declared.status.Status.{Status}
 use Rattle.drain_cli.specs.declared.status.Status.TheVariants.{Done, Refused, Failed}
 use Rattle.drain_maker.specs.declared.product_files.SetFault.{SetFault}
@@ -34,9 +35,7 @@ no_set_line (Maker maker.OutOfMemory) = codes "failed OutOfMemory"
 
 -- the status that it leaves: failed for want of memory or by a device, else refused
 abbrev pub no_set_status : NoSet → Status
-no_set_status (Tiles refusal.OutOfMemory) = Failed
-no_set_status (Tiles refusal.ReadFailed) = Failed
-no_set_status (Tiles refusal) = Refused
+no_set_status (Tiles refusal) = refusal_status refusal
 no_set_status (Sinks sink.OutOfMemory) = Failed
 no_set_status (Sinks (sink.BadSinkLine n)) = Refused
 no_set_status (Maker maker.OutOfMemory) = Failed

@@ -1,5 +1,7 @@
--- The numbers that the program ends with. They are this project's own.
+-- The numbers that the program ends with, and the status that a refusal leaves. They are this project's own.
 use Rattle.std.specs.Prelude.{ℕ}
+use Rattle.drain_verdict.specs.declared.refusal.Refusal.{Refusal}
+use Rattle.drain_verdict.specs.declared.refusal.Refusal.TheVariants.{OutOfMemory, ReadFailed}
 use Rattle.drain_cli.specs.declared.status.Status.{Status}
 use Rattle.drain_cli.specs.declared.status.Status.TheVariants.{Done, Rejected, Refused, Failed}
 
@@ -8,3 +10,9 @@ code_of Done = 0
 code_of Rejected = 1
 code_of Refused = 2
 code_of Failed = 3
+
+-- failed for want of memory or by a device, else refused
+abbrev pub refusal_status : Refusal → Status
+refusal_status OutOfMemory = Failed
+refusal_status ReadFailed = Failed
+refusal_status refusal = Refused

@@ -92,10 +92,10 @@ fn asked_for<'a>(alloc: Global, matches: &ArgMatches<'a>) -> Result<Request<'a>,
         });
     }
     if let Some(audit) = matches.subcommand_matches("audit") {
-        return Ok(Request::Audit(judged(alloc, audit)?));
+        return Ok(Request::Audit(to_judge(alloc, audit)?));
     }
     if let Some(check) = matches.subcommand_matches("check") {
-        return Ok(Request::Check(judged(alloc, check)?));
+        return Ok(Request::Check(to_judge(alloc, check)?));
     }
     if let Some(make) = matches.subcommand_matches("make") {
         return make_request(alloc, make);
@@ -107,7 +107,8 @@ fn asked_for<'a>(alloc: Global, matches: &ArgMatches<'a>) -> Result<Request<'a>,
     Ok(Request::Fill { side })
 }
 
-fn judged<'a>(alloc: Global, given: &ArgMatches<'a>) -> Result<Judged<'a>, AllocError> {
+/// What is to be judged, by the words of an audit or a check.
+fn to_judge<'a>(alloc: Global, given: &ArgMatches<'a>) -> Result<Judged<'a>, AllocError> {
     Ok(Judged {
         side: side_given(given),
         products: given.get_str("products").unwrap_or(""),

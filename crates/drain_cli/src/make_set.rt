@@ -113,8 +113,7 @@ fn status_of(why: &NoSet) -> Status
     ensures { result ≡ no_set_status why.now }
 {
     match why {
-        NoSet::Tiles(Refusal::OutOfMemory | Refusal::ReadFailed) => Status::Failed,
-        NoSet::Tiles(_) => Status::Refused,
+        NoSet::Tiles(refusal) => Status::of_refusal(*refusal),
         NoSet::Sinks(SinkFault::OutOfMemory) => Status::Failed,
         NoSet::Sinks(SinkFault::BadSinkLine(_)) => Status::Refused,
         NoSet::Maker(MakeRefusal::OutOfMemory) => Status::Failed,

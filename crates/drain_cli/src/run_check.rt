@@ -1,6 +1,6 @@
 //! A run of `drain check`: products are checked against the tiles that they were made from, and the answer printed.
 
-ghost use Rattle.std.specs.Prelude.{◌≡◌, Result, Err};
+ghost use Rattle.std.specs.Prelude.{◌≡◌, Result};
 ghost use Rattle.drain_grid.specs.declared.held.Held.{Held};
 ghost use Rattle.drain_rules.specs.declared.verdict.Verdict.{Verdict};
 ghost use Rattle.drain_grid.specs.PerProduct.{of_product};
@@ -56,15 +56,6 @@ fn status_of(answer: &Result<Verdict, Refusal>) -> Status
     match answer {
         Ok(Verdict::Accepted(_)) => Status::Done,
         Ok(Verdict::Rejected { .. }) => Status::Rejected,
-        Err(refusal) => status_of_refusal(*refusal),
-    }
-}
-
-fn status_of_refusal(refusal: Refusal) -> Status
-    ensures { result ≡ check_status (Err refusal) }
-{
-    match refusal {
-        Refusal::OutOfMemory | Refusal::ReadFailed => Status::Failed,
-        _ => Status::Refused,
+        Err(refusal) => Status::of_refusal(*refusal),
     }
 }

@@ -1,7 +1,9 @@
-//! The exit statuses of the program.
+//! The exit statuses of the program, and which of them a refusal leaves.
 
 ghost use Rattle.std.specs.Prelude.{◌≡◌};
-ghost use Rattle.drain_cli.specs.Statuses.{code_of};
+ghost use Rattle.drain_cli.specs.Statuses.{code_of, refusal_status};
+
+use drain_verdict::Refusal;
 
 /// How a run of the program ended.
 #[derive(Clone, Copy, PartialEq, Eq, Debug)]
@@ -22,5 +24,15 @@ impl Status {
         ensures { result ≡ code_of self }
     {
         self as u8
+    }
+
+    /// The status that a refusal leaves.
+    pub fn of_refusal(refusal: Refusal) -> Status
+        ensures { result ≡ refusal_status refusal }
+    {
+        match refusal {
+            Refusal::OutOfMemory | Refusal::ReadFailed => Status::Failed,
+            _ => Status::Refused,
+        }
     }
 }

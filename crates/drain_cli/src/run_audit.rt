@@ -1,0 +1,64 @@
+//! A run of `drain audit`: four products are checked against the tiles that they were made from, and the answer printed.
+
+ghost use Rattle.std.specs.Prelude.{◌≡◌, Result};
+ghost use Rattle.drain_grid.specs.declared.held.Held.{Held};
+ghost use Rattle.drain_grid.specs.PerProduct.{of_product};
+ghost use Rattle.drain_hgt.specs.Inputs.{names_of, TilesTakeAtMost};
+ghost use Rattle.drain_verdict.specs.AuditInputs.{with_con_for_ranks};
+ghost use Rattle.drain_verdict.specs.AuditLines.{audit_report_line};
+ghost use Rattle.drain_verdict.specs.Audits.{AreCorrect, OfFour};
+ghost use Rattle.drain_verdict.specs.declared.audit_verdict.AuditVerdict.{AuditVerdict};
+ghost use Rattle.drain_verdict.specs.declared.refusal.Refusal.{Refusal};
+ghost use Rattle.drain_verdict.specs.Devices.{RasterTakesAtMost};
+ghost use Rattle.drain_cli.specs.AuditRuns.{IsAuditOutcome, audit_status};
+ghost use Rattle.drain_cli.specs.CheckRuns.{IsRight};
+ghost use Rattle.drain_cli.specs.Printing.{Prints};
+
+use crate::print::print_line;
+use crate::status::Status;
+use drain_device::{ByteSink, ByteSource};
+use drain_hgt::TileInput;
+use drain_verdict::{AuditProducts, AuditVerdict, Refusal, audit, audit_report};
+use std::alloc::Global;
+
+/// Audits products against their tiles, prints the line of the answer and answers the exit status.
+///
+/// `side` is the number of samples along an edge of each tile, and `sinks` a list of inland sinks, a line `ROW COL` each. Of a tile at most one byte past its end is read, and of a raster nothing
+/// past its last needed byte. The statuses: 0 accepted, 1 rejected, 2 refused, 3 where memory was refused (`failed OutOfMemory`), a
+/// source gave up (`failed ReadFailed`), or the line couldn't be written.
+pub fn run_audit<R: ByteSource, W: ByteSink>(
+    alloc: Global,
+    side: u32,
+    tiles: &mut [TileInput<R>],
+    sinks: &[u8],
+    products: &mut AuditProducts<R>,
+    out: &mut W,
+) -> u8
+    ensures run { (answer : Result AuditVerdict Refusal)
+        × IsAuditOutcome R.ByteSource side tiles.old tiles.new sinks.now products.old products.new answer
+        × Prints W.ByteSink out.old out.new (audit_report_line answer) (audit_status answer) result }
+
+    // A run ends with 0 only where the tiles agree and the products are correct, and with 1 only where the products aren't.
+    ensures correct { result ≡ 0 → OfFour R.bytes_left side tiles.old sinks.now products.old IsRight }
+    ensures not_correct { result ≡ 1 → OfFour R.bytes_left side tiles.old sinks.now products.old (λ inputs. ¬ AreCorrect inputs) }
+
+    // How far it reads, and that names and headers stay.
+    ensures tiles_within { TilesTakeAtMost R.bytes_left side tiles.old tiles.new }
+    ensures rasters_within { (p : Held) → RasterTakesAtMost R.bytes_left (with_con_for_ranks products.old) (with_con_for_ranks products.new) p }
+    ensures names { names_of tiles.new ≡ names_of tiles.old }
+    ensures headers { (p : Held) → (of_product (with_con_for_ranks products.new) p).header ≡ (of_product (with_con_for_ranks products.old) p).header }
+{
+    let answer = audit(alloc, side, tiles, sinks, products);
+    print_line(out, &audit_report(&answer), status_of(&answer))
+}
+
+/// The exit status of an answer.
+fn status_of(answer: &Result<AuditVerdict, Refusal>) -> Status
+    ensures { result ≡ audit_status answer.now }
+{
+    match answer {
+        Ok(AuditVerdict::Accepted(_)) => Status::Done,
+        Ok(AuditVerdict::Rejected { .. } | AuditVerdict::NoEnd { .. }) => Status::Rejected,
+        Err(refusal) => Status::of_refusal(*refusal),
+    }
+}
