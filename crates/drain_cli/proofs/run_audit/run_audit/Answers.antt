@@ -34,4 +34,4 @@ returns-clause-not_correct g c one i told =
     let answer = c.audit-answer.result in
     let status_is = told_by answer c.print_line.ensures.done c.status_of.result c.print_line.result c.status_of.ensures c.print_line.ensures.code_is (omega (arith, one)) ∙ one in
     not_of_rejected answer status_is (Tell g.R.ByteSource.bytes_left c.args.side c.args.tiles.now c.args.sinks.now (with_con_for_ranks c.args.products.now)) AreCorrect
-      c.audit-answer.ensures.exactly i told
+    c.audit-answer.ensures.exactly i told
