@@ -2,6 +2,8 @@
 #![tactic(auto)]
 
 #[cfg(test)]
+mod audit_runs;
+#[cfg(test)]
 mod check_runs;
 #[cfg(test)]
 mod file_paths;

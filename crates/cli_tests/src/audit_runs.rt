@@ -1,0 +1,145 @@
+//! Runs of `drain audit` over sources and sinks in memory: one tile of side 2 at 0 degrees, level, with its four products.
+
+use crate::printed::{Printed, same_line, slow_sink, whole_sink};
+use drain_cli::run_audit::run_audit;
+use drain_device::faults::{ScriptSink, Scripted, SinkAnswer};
+use drain_device::{BodyFault, ByteList, SliceSource};
+use drain_hgt::TileInput;
+use drain_verdict::{AuditProducts, RasterInput};
+use std::alloc::{AllocError, Global};
+use std::test::Fail;
+
+const WORDS: &str =
+    "BYTEORDER I\nNROWS 2\nNCOLS 2\nNBITS 16\nPIXELTYPE SIGNEDINT\nULXMAP 0\nULYMAP 1\nXDIM 1\nYDIM 1\n";
+
+const BYTES: &str = "NROWS 2\nNCOLS 2\nULXMAP 0\nULYMAP 1\nXDIM 1\nYDIM 1\n";
+
+const LINE: &str = "accepted rows=2 cols=2 data=4 raised=0 outlets=4\n";
+
+/// A raster with this header.
+fn raster<'a>(
+    alloc: Global,
+    header: &str,
+    body: &'a [u8],
+) -> Result<RasterInput<SliceSource<'a>>, AllocError> {
+    Ok(RasterInput {
+        header: ByteList::new(Vec::from_slice(alloc, header.as_bytes())?),
+        body: SliceSource::new(body),
+    })
+}
+
+/// The products of the tile, with these codes and labels.
+fn products<'a>(
+    alloc: Global,
+    codes: &'a [u8],
+    labels: &'a [u8],
+) -> Result<AuditProducts<SliceSource<'a>>, AllocError> {
+    Ok(AuditProducts {
+        con: raster(alloc, WORDS, &[0; 8])?,
+        dir: raster(alloc, BYTES, codes)?,
+        acc: raster(alloc, BYTES, &[1; 4])?,
+        bas: raster(alloc, BYTES, labels)?,
+    })
+}
+
+/// What an audit of the tile of this name and side prints.
+fn printed(
+    alloc: Global,
+    side: u32,
+    name: &str,
+    codes: &[u8],
+    labels: &[u8],
+    mut out: ScriptSink<'_>,
+) -> Result<Printed, Fail> {
+    let mut products = products(alloc, codes, labels)?;
+    let mut tiles = [TileInput {
+        name: ByteList::new(Vec::from_slice(alloc, name.as_bytes())?),
+        body: SliceSource::new(&[0; 8]),
+    }];
+    let status = run_audit(alloc, side, &mut tiles, &[], &mut products, &mut out);
+    Ok(Printed::new(out.as_slice(), status)?)
+}
+
+#[test]
+fn prints_the_answer_to_an_audit(rt: HostRuntime) -> Result<(), Fail> {
+    let tile = "N00E000.hgt";
+    let cases: [(&str, u32, &str, &[u8], &[u8], u8, &str); 7] = [
+        ("correct products", 2, tile, &[0; 4], &[1, 2, 3, 4], 0, LINE),
+        (
+            "a label for two outlets",
+            2,
+            tile,
+            &[0; 4],
+            &[1, 2, 2, 4],
+            1,
+            "rejected rule=15 SharedLabel row=1 col=0\n",
+        ),
+        (
+            "a ring of two",
+            2,
+            tile,
+            &[0, 0, 1, 16],
+            &[1, 2, 3, 4],
+            1,
+            "rejected NoEnd row=1 col=0\n",
+        ),
+        (
+            "a number that is no code, behind a label for two outlets",
+            2,
+            tile,
+            &[0, 0, 0, 3],
+            &[1, 1, 3, 4],
+            1,
+            "rejected NoEnd row=1 col=1\n",
+        ),
+        (
+            "side 1",
+            1,
+            "x",
+            &[0; 4],
+            &[1, 2, 3, 4],
+            2,
+            "refused BadSide\n",
+        ),
+        (
+            "no tile's name",
+            2,
+            "x",
+            &[0; 4],
+            &[1, 2, 3, 4],
+            2,
+            "refused BadName 0\n",
+        ),
+        (
+            "a label too few",
+            2,
+            tile,
+            &[0; 4],
+            &[1, 2, 3],
+            2,
+            "refused RasterShort bas\n",
+        ),
+    ];
+    for (name, side, tile, codes, labels, status, line) in cases {
+        let out = whole_sink(rt.alloc())?;
+        let answered = printed(rt.alloc(), side, tile, codes, labels, out)?;
+        same_line(&rt, name, &answered, line, status);
+    }
+    Ok(())
+}
+
+#[test]
+fn ends_with_status_3_where_the_line_of_an_audit_cannot_be_written(
+    rt: HostRuntime,
+) -> Result<(), Fail> {
+    let script = [Scripted {
+        first: 9,
+        last: 9,
+        answer: SinkAnswer::Failed,
+    }];
+    let out = slow_sink(rt.alloc(), &script)?;
+    let codes = [0; 4];
+    let answered = printed(rt.alloc(), 2, "N00E000.hgt", &codes, &[1, 2, 3, 4], out)?;
+    same_line(&rt, "a sink that fails", &answered, "accepted", 3);
+    Ok(())
+}
