@@ -1,4 +1,4 @@
-//! Runs of an audit over sources in memory: those that give all bytes at once, and those that give one at a call. The ranks aren't handed in.
+//! Runs of an audit over sources in memory: those that give all bytes at once, and those that give one at a call. Ranks aren't handed in.
 
 use crate::example::Example;
 use crate::runs::{

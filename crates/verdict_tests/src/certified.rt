@@ -10,44 +10,28 @@ use std::process::Abort;
 use std::test::Fail;
 use worked_grids::{parted, pit, ring, slope};
 
-/// The most cells of a grid here.
-const ROOM: usize = 21;
-
-/// The number for no data of ranks, and the ranks in row order, with -1 behind them.
-#[derive(Clone, Copy, PartialEq, Eq, Debug)]
-struct Ranks {
-    nodata: i64,
-    numbers: [i64; ROOM],
-}
-
-type Told = Result<Ranks, CertifyRefusal>;
+/// The ranks of a grid in row order, with -1 behind them, or why there are none.
+type Told = Result<[i64; 21], CertifyRefusal>;
 
 /// The ranks of a worked grid, which are the last sixth of its numbers.
-fn worked_ranks(numbers: &[i64]) -> Ranks {
+fn worked_ranks(numbers: &[i64]) -> Told {
     let cells = numbers.len() / 6;
-    let mut ranks = [-1; ROOM];
+    let mut ranks = [-1; 21];
     for (place, number) in ranks.iter_mut().zip(&numbers[5 * cells..]) {
         *place = *number;
     }
-    Ranks {
-        nodata: 4294967295,
-        numbers: ranks,
-    }
+    Ok(ranks)
 }
 
-/// The ranks of a raster.
-fn ranks_of(raster: &Raster) -> Ranks {
+fn ranks_of(raster: &Raster) -> [i64; 21] {
     let shape = raster.shape();
-    let mut numbers = [-1; ROOM];
-    for (index, number) in numbers.iter_mut().enumerate() {
+    let mut ranks = [-1; 21];
+    for (index, place) in ranks.iter_mut().enumerate() {
         if index < shape.cells() {
-            *number = raster.value(shape.cell(index));
+            *place = raster.value(shape.cell(index));
         }
     }
-    Ranks {
-        nodata: raster.nodata(),
-        numbers,
-    }
+    ranks
 }
 
 /// The elevations of a worked grid: the first of its numbers.
@@ -68,9 +52,9 @@ fn dir_of(alloc: Global, shape: Shape, numbers: &[i64]) -> Result<Raster, AllocE
 {
     let mut codes = Vec::new(alloc);
     for number in numbers.iter().skip(2 * shape.cells()) {
-        codes.push(u8::try_from(*number).unwrap_or(u8::MAX))?;
+        codes.push(u8::try_from(*number).unwrap_or(255))?;
     }
-    codes.resize(shape.cells(), u8::MAX)?;
+    codes.resize(shape.cells(), 255)?;
     Ok(Raster::of_bytes(shape, 255, codes))
 }
 
@@ -101,17 +85,14 @@ fn same_ranks(rt: &impl Abort, case: &str, given: &Told, owed: &Told) {
     assert_eq!(rt; given, owed, "{case}");
 }
 
-/// Each worked grid's ranks count the steps of runs, but those of the ring.
+/// The ranks of these grids count the steps of runs.
 #[test]
 fn ranks_of_worked_grids(rt: HostRuntime) -> Result<(), Fail> {
     let (pit, slope, parted) = (pit(), slope(), parted());
-    for (name, rows, cols, numbers) in [
-        ("pit", 3, 3, pit.as_slice()),
-        ("slope", 4, 4, slope.as_slice()),
-        ("parted", 3, 7, parted.as_slice()),
-    ] {
+    let cases: [(u32, u32, &[i64]); 3] = [(3, 3, &pit), (4, 4, &slope), (3, 7, &parted)];
+    for (rows, cols, numbers) in cases {
         let given = certified(rt.alloc(), rows, cols, numbers)?;
-        same_ranks(&rt, name, &given, &Ok(worked_ranks(numbers)));
+        same_ranks(&rt, "worked", &given, &worked_ranks(numbers));
     }
     Ok(())
 }
@@ -128,7 +109,7 @@ fn no_ranks_of_the_ring(rt: HostRuntime) -> Result<(), Fail> {
     Ok(())
 }
 
-/// Ends the test where another thing is told than is owed, or afterwards, on fresh inputs, another than is right.
+/// Ends the test where another thing is told of a grid of 4 by 4 cells than is owed, or afterwards, on fresh inputs, another than is right.
 fn certified_twice(
     rt: &impl Abort,
     alloc: Global,
@@ -141,15 +122,13 @@ fn certified_twice(
     } else {
         same_ranks(rt, "first", &first, right);
     }
-    let again = certified(alloc, 4, 4, numbers)?;
-    same_ranks(rt, "again", &again, right);
+    same_ranks(rt, "again", &certified(alloc, 4, 4, numbers)?, right);
     Ok(())
 }
 
 #[test]
 fn slope_after_refused_memory(rt: HostRuntime) -> Result<(), Fail> {
-    let slope = slope();
-    certified_twice(&rt, rt.alloc(), &slope, &Ok(worked_ranks(&slope)))
+    certified_twice(&rt, rt.alloc(), &slope(), &worked_ranks(&slope()))
 }
 
 #[test]
