@@ -1,4 +1,4 @@
-//! Tests of checks of small products, from their bytes to the line that tells the answer. The lines were worked out by hand from the rules.
+//! Tests of checks and audits of small products, from their bytes to the line that tells the answer. The lines were worked out by hand from the rules.
 #![tactic(auto)]
 
 #[cfg(test)]
@@ -6,7 +6,13 @@ mod accepted;
 #[cfg(test)]
 mod agree;
 #[cfg(test)]
+mod audit_runs;
+#[cfg(test)]
+mod audits;
+#[cfg(test)]
 mod bytes;
+#[cfg(test)]
+mod certified;
 #[cfg(test)]
 mod cuts;
 #[cfg(test)]

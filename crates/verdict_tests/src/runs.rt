@@ -24,6 +24,16 @@ pub struct Faulty<'a> {
     pub script: &'a [Scripted<DeviceFault>],
 }
 
+impl<'a> Faulty<'a> {
+    /// No source faults.
+    pub fn never() -> Faulty<'a> {
+        Faulty {
+            owner: Owner::Tile,
+            script: &[],
+        }
+    }
+}
+
 fn list(alloc: Global, bytes: &[u8]) -> Result<ByteList, AllocError> {
     Ok(ByteList::new(bytes.to_vec(alloc)?))
 }
@@ -145,9 +155,9 @@ pub fn slow_tiles<'a>(
 
 /// An example whose sources give one byte at a call, and fault as it says.
 #[derive(Clone, Copy)]
-struct SlowExample<'a> {
-    example: &'a Example,
-    faulty: Faulty<'a>,
+pub struct SlowExample<'a> {
+    pub example: &'a Example,
+    pub faulty: Faulty<'a>,
 }
 
 fn slow_raster<'a>(
@@ -166,7 +176,8 @@ fn slow_raster<'a>(
     })
 }
 
-fn slow_products<'a>(
+/// The products, whose sources give one byte at a call, and fault as it says.
+pub fn slow_products<'a>(
     alloc: Global,
     slowly: SlowExample<'a>,
 ) -> Result<Products<ScriptSource<'a>>, AllocError> {
@@ -207,12 +218,13 @@ pub fn told_at_once(alloc: Global, example: &Example) -> Result<Line, AllocError
 /// The line of a check whose sources never fault: the same whether they give all bytes at once or one at a call.
 pub fn told(alloc: Global, example: &Example) -> Result<Line, Fail> {
     let line = told_at_once(alloc, example)?;
-    let faultless = Faulty {
-        owner: Owner::Tile,
-        script: &[],
-    };
-    let slow = told_slowly(alloc, example, faultless)?;
-    if wants_memory(&line) || wants_memory(&slow) {
+    let slow = told_slowly(alloc, example, Faulty::never())?;
+    agreed(line, &slow)
+}
+
+/// The line that was told where bytes come at once, if it is the same where they come one at a call, and doesn't tell of want of memory.
+pub fn agreed(line: Line, slow: &Line) -> Result<Line, Fail> {
+    if wants_memory(&line) || wants_memory(slow) {
         return Err("failed OutOfMemory".into());
     }
     if slow.as_str() != line.as_str() {

@@ -67,7 +67,7 @@ fn voids_that_are_listed(rt: HostRuntime) -> Result<(), Fail> {
 }
 
 /// Two flats with a column of voids between them, which no tile covers; one number of the products may be another.
-fn with_a_gap(place: usize, number: i64, text: &str) -> Result<Example, Fail> {
+pub fn with_a_gap(place: usize, number: i64, text: &str) -> Result<Example, Fail> {
     let grid = "NROWS 3\nNCOLS 7\nULXMAP 0\nULYMAP 1\nXDIM 0.5\nYDIM 0.5\n";
     let numbers = changed(&parted(), place, number)?;
     let mut example = products_on(3, grid, &numbers[21..]);

@@ -1,0 +1,231 @@
+//! Audits of worked products. The lines were worked out by hand from the rules.
+
+use crate::agree::same_line;
+use crate::audit_runs::{audited, audited_at_once, audited_slowly};
+use crate::bytes::Bytes;
+use crate::example::{Example, changed, grid_of, header_on, one_tile};
+use crate::listed_sinks::{Lie, listed_pit_with, round_a_void, two_tiles};
+use crate::runs::{Faulty, Owner};
+use crate::sink_orders::with_a_gap;
+use drain_device::DeviceFault;
+use drain_device::faults::Scripted;
+use drain_grid::Held;
+use drain_verdict::line::Line;
+use drain_verdict::{Refusal, audit_report};
+use refused_memory::owed;
+use std::alloc::Global;
+use std::process::Abort;
+use std::test::Fail;
+use worked_grids::{
+    LEVEL_LINE, LISTED_PIT_LINE, LISTED_PIT_SINKS, PIT_LINE, SLOPE_LINE, UNLISTED_PIT_LINE,
+    VOIDS_LINE, level, pit, ring, slope, voids,
+};
+
+const RING_LINE: &str = "rejected NoEnd row=1 col=1";
+
+/// Ends the test where the audit of an example tells another line than stands beside it.
+fn each_tells(rt: &impl Abort, alloc: Global, cases: &[(Example, &str)]) -> Result<(), Fail> {
+    for (place, (example, line)) in cases.iter().enumerate() {
+        same_line(rt, place, &audited(alloc, example)?, line);
+    }
+    Ok(())
+}
+
+/// A check accepts these with the same lines.
+#[test]
+fn accepts_right_products_of_one_tile(rt: HostRuntime) -> Result<(), Fail> {
+    let void_inside = "accepted rows=5 cols=5 data=24 raised=0 outlets=24";
+    let cases = [
+        (one_tile(3, &pit())?, PIT_LINE),
+        (one_tile(2, &level())?, LEVEL_LINE),
+        (one_tile(2, &voids())?, VOIDS_LINE),
+        (one_tile(4, &slope())?, SLOPE_LINE),
+        (round_a_void("")?, void_inside),
+        (listed_pit_with(LISTED_PIT_SINKS)?, LISTED_PIT_LINE),
+    ];
+    each_tells(&rt, rt.alloc(), &cases)
+}
+
+#[test]
+fn accepts_right_products_of_two_tiles(rt: HostRuntime) -> Result<(), Fail> {
+    let beside = "accepted rows=3 cols=5 data=15 raised=0 outlets=13";
+    let below = "accepted rows=5 cols=3 data=15 raised=0 outlets=13";
+    let parted = "accepted rows=3 cols=7 data=18 raised=0 outlets=16";
+    let alloc = rt.alloc();
+    let cases = [
+        (two_tiles(alloc, Lie::Beside, (1, 3), "1 3")?, beside),
+        (two_tiles(alloc, Lie::Below, (3, 1), "3 1")?, below),
+        (with_a_gap(21, 0, "")?, parted),
+    ];
+    each_tells(&rt, alloc, &cases)
+}
+
+/// The slope with these numbers changed. Its places are counted through its samples and its products, 16 of each.
+fn slope_with(changes: &[(usize, i64)]) -> Result<Example, Fail> {
+    let mut numbers = slope();
+    for (place, number) in changes {
+        numbers = changed(&numbers, *place, *number)?;
+    }
+    one_tile(4, &numbers)
+}
+
+#[test]
+fn rejects_a_changed_slope(rt: HostRuntime) -> Result<(), Fail> {
+    let con_first = "rejected rule=5 OpenRaised row=0 col=0";
+    let shared = [(68, 1), (69, 1), (70, 1), (71, 1)];
+    let cases: [(&[(usize, i64)], &str); 6] = [
+        (&[(32, 3)], "rejected NoEnd row=0 col=0"),
+        (&[(32, 255)], "rejected NoEnd row=0 col=0"),
+        // The last cell of a row leads off the grid, and the others lead to it.
+        (&[(39, 1)], "rejected NoEnd row=1 col=0"),
+        (&[(55, 5)], "rejected rule=13 Accumulation row=1 col=3"),
+        (&[(16, 5), (55, 5)], con_first),
+        (&shared, "rejected rule=15 SharedLabel row=1 col=3"),
+    ];
+    for (place, (changes, line)) in cases.iter().enumerate() {
+        let given = audited(rt.alloc(), &slope_with(changes)?)?;
+        same_line(&rt, place, &given, line);
+    }
+    Ok(())
+}
+
+/// A run without an end is told before the rules: con is too high in the second of these.
+#[test]
+fn rejects_flats_that_lead_nowhere(rt: HostRuntime) -> Result<(), Fail> {
+    let mut short_ring = one_tile(4, &ring())?;
+    short_ring.dir.body.pop();
+    let cases = [
+        (one_tile(4, &ring())?, RING_LINE),
+        (one_tile(4, &changed(&ring(), 16, 6)?)?, RING_LINE),
+        (short_ring, "refused RasterShort dir"),
+        (one_tile(3, &changed(&pit(), 22, 0)?)?, UNLISTED_PIT_LINE),
+        (listed_pit_with("")?, UNLISTED_PIT_LINE),
+    ];
+    each_tells(&rt, rt.alloc(), &cases)
+}
+
+/// Puts this line before those of a product's header.
+fn put_first(example: &mut Example, product: Held, line: &str) {
+    let mut header = Bytes::of(line.as_bytes());
+    header.extend(header_on(product, grid_of(example.side)).as_slice());
+    example.raster_mut(product).header = header;
+}
+
+/// A number for no data that isn't a direction's own, and one that is the elevation everywhere.
+#[test]
+fn rejects_beside_other_numbers_of_nodata(rt: HostRuntime) -> Result<(), Fail> {
+    let mut wrong_code = slope_with(&[(32, 255)])?;
+    put_first(&mut wrong_code, Held::Dir, "NODATA 9\n");
+    let mut missing = one_tile(2, &level())?;
+    put_first(&mut missing, Held::Con, "NODATA 0\n");
+    let cases = [
+        (wrong_code, "rejected NoEnd row=0 col=0"),
+        (missing, "rejected rule=2 Missing row=0 col=0"),
+    ];
+    each_tells(&rt, rt.alloc(), &cases)
+}
+
+/// Puts one of the faults of the test below into the filled pit.
+fn put_fault(example: &mut Example, fault: usize) {
+    let no_west = "NROWS 3\nNCOLS 3\nULYMAP 1\nXDIM 0.5\nYDIM 0.5\n";
+    let too_high = "NROWS 4\nNCOLS 3\nULXMAP 0\nULYMAP 1\nXDIM 0.5\nYDIM 0.5\n";
+    match fault {
+        0 => example.side = 1,
+        1 => example.tiles[0].name = Bytes::of(b"x"),
+        2 => example.con.header = header_on(Held::Con, no_west),
+        3 => example.bas.header = header_on(Held::Bas, too_high),
+        4 => {
+            example.tiles[0].body.pop();
+            example.con.body.pop();
+        }
+        5 => example.sinks = Bytes::of(b"1 1\nx"),
+        _ => example.sinks = Bytes::of(b"0 0\n3 0"),
+    }
+}
+
+/// Each fault by itself, and with all that come behind it.
+#[test]
+fn refuses_by_the_first_fault(rt: HostRuntime) -> Result<(), Fail> {
+    let mut together = one_tile(3, &pit())?;
+    for (fault, line) in [
+        (6, "refused SinkNotData 2"),
+        (5, "refused BadSinkLine 2"),
+        (4, "refused BadTileLength N00E000.hgt"),
+        (3, "refused WrongShape bas"),
+        (2, "refused BadHeader con MissingKey ULXMAP"),
+        (1, "refused BadName 0"),
+        (0, "refused BadSide"),
+    ] {
+        let mut alone = one_tile(3, &pit())?;
+        put_fault(&mut alone, fault);
+        put_fault(&mut together, fault);
+        each_tells(&rt, rt.alloc(), &[(alone, line), (together, line)])?;
+    }
+    Ok(())
+}
+
+/// Each body of the slope faults in its middle, and then goes on.
+#[test]
+fn bodies_that_go_on_after_a_fault(rt: HostRuntime) -> Result<(), Fail> {
+    let slope = one_tile(4, &slope())?;
+    for (owner, first) in [
+        (Owner::Tile, 17u64),
+        (Owner::Raster(Held::Con), 17),
+        (Owner::Raster(Held::Dir), 9),
+        (Owner::Raster(Held::Acc), 33),
+        (Owner::Raster(Held::Bas), 33),
+    ] {
+        for (times, answer, line) in [
+            (1u64, DeviceFault::Failed, "failed ReadFailed"),
+            (999, DeviceFault::Interrupted, SLOPE_LINE),
+        ] {
+            let script = [Scripted {
+                first,
+                last: first.saturating_add(times).saturating_sub(1),
+                answer,
+            }];
+            let faulty = Faulty {
+                owner,
+                script: &script,
+            };
+            let given = audited_slowly(rt.alloc(), &slope, faulty)?;
+            same_line(&rt, (owner, times), &given, line);
+        }
+    }
+    Ok(())
+}
+
+/// The line of an audit. Its inputs' want of memory is told as its own.
+fn line_of(alloc: Global, example: &Example) -> Line {
+    match audited_at_once(alloc, example) {
+        Ok(line) => line,
+        Err(_) => audit_report(&Err(Refusal::OutOfMemory)),
+    }
+}
+
+/// Ends the test where an audit tells another line than is owed, or one after it, on fresh inputs, another than the right one.
+fn audited_twice(rt: &impl Abort, alloc: Global, example: &Example, right: &str) {
+    let first = line_of(alloc, example);
+    let line = owed(alloc, "failed OutOfMemory", right);
+    same_line(rt, "first", &first, line);
+    same_line(rt, "again", &line_of(alloc, example), right);
+}
+
+#[test]
+fn pit_after_refused_memory(rt: HostRuntime) -> Result<(), Fail> {
+    audited_twice(&rt, rt.alloc(), &one_tile(3, &pit())?, PIT_LINE);
+    Ok(())
+}
+
+#[test]
+fn ring_after_refused_memory(rt: HostRuntime) -> Result<(), Fail> {
+    audited_twice(&rt, rt.alloc(), &one_tile(4, &ring())?, RING_LINE);
+    Ok(())
+}
+
+#[test]
+fn listed_pit_after_refused_memory(rt: HostRuntime) -> Result<(), Fail> {
+    let example = listed_pit_with(LISTED_PIT_SINKS)?;
+    audited_twice(&rt, rt.alloc(), &example, LISTED_PIT_LINE);
+    Ok(())
+}
