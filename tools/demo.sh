@@ -30,7 +30,7 @@ show() {
 other=samples/other-tools
 show 'What SAGA made of a tile, its surface and directions, with counts and labels that fit them: right, and nobody had to hand over a certificate' \
     'accepted rows=51 cols=51 data=2601 raised=59 outlets=10' /dev/null audit --side 51 --products $other/saga-counted $other/N36W085.hgt
-show "SAGA's own accumulation loses the water of 226 cells on a flat" \
+show "SAGA's own accumulation loses the water of 213 cells on a flat" \
     'rejected rule=13 Accumulation row=7 col=25' /dev/null audit --side 51 --products $other/saga-linear $other/N36W085.hgt
 show "GRASS's r.fill.dir filled a depression a metre too high" \
     'rejected rule=9 NotLeast row=29 col=5' /dev/null audit --side 51 --products $other/fill-dir $other/N36W085.hgt
