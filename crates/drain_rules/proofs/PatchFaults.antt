@@ -9,10 +9,10 @@ use Rattle.drain_grid.specs.PatchRules.{surface_rules, flow_rules}
 use Rattle.drain_grid.proofs.LeastFaults.{IsFrom, IsAfter, found_first, found_next}
 use Rattle.drain_grid.proofs.Profiles.{surface_same, flow_same, surface_same_unranked, level_same, flow_level}
 use Rattle.drain_grid.proofs.RuleNumbers.{numbered}
-use Rattle.drain_rules.specs.declared.rules.Ranks.{Ranks}
-use Rattle.drain_rules.specs.declared.rules.Ranks.TheVariants.{Asked, Unasked}
-use Rattle.drain_rules.specs.declared.rules.Rules.{Rules}
-use Rattle.drain_rules.specs.Rules.{rules_with, tried}
+use Rattle.drain_kernel.specs.declared.rules.Ranks.{Ranks}
+use Rattle.drain_kernel.specs.declared.rules.Ranks.TheVariants.{Asked, Unasked}
+use Rattle.drain_kernel.specs.declared.rules.Rules.{Rules}
+use Rattle.drain_kernel.specs.Rules.{rules_with, tried}
 use Rattle.drain_rules.proofs.Faults.{IsLeastFault-same}
 
 -- a rule on the conditioned elevation says what it says among those that are tried

@@ -10,7 +10,6 @@ pub mod Parts
 pub mod PatchRows
 pub mod RowNumbers
 pub mod Rows
-pub mod Rules
 pub mod Stops
 pub mod ThreeRows
 pub mod Verdicts

@@ -5,12 +5,12 @@ ghost use Rattle.drain_basin.specs.Admitted.{IsAdmitted};
 ghost use Rattle.drain_grid.specs.PatchRules.{BelowGroundHolds};
 ghost use Rattle.drain_grid.specs.Rule.{IsAnyRule, IsLeastFault};
 ghost use Rattle.drain_rules.specs.Labels.{IsOutletByCode, IsLabelOf, labelled_profile};
-ghost use Rattle.drain_rules.specs.Rules.{tried};
+ghost use Rattle.drain_kernel.specs.Rules.{tried};
 ghost use Rattle.drain_rules.specs.Stops.{IsCellStop};
 
 use crate::outlet::is_outlet_by_code;
 use crate::patch_rules::screened_fault;
-use crate::rules::Rules;
+use drain_kernel::Rules;
 use drain_basin::OutletLabels;
 use drain_grid::{CellValues, OutOfMemory, Patch, Rule};
 

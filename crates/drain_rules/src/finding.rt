@@ -5,12 +5,12 @@ ghost use Rattle.drain_grid.specs.declared.cell.TheConstants.{MAX_LENGTH};
 ghost use Rattle.drain_rules.specs.Findings.{IsBounded, IsFinding, OfRowBelow};
 ghost use Rattle.drain_rules.specs.Labels.{HasNewLabel};
 ghost use Rattle.drain_rules.specs.PatchRows.{IsAtMost};
-ghost use Rattle.drain_rules.specs.Rules.{tried};
+ghost use Rattle.drain_kernel.specs.Rules.{tried};
 
 use crate::cell_rules::Stop;
 use crate::patch_row::PatchRow;
 use crate::row_walk::check_row;
-use crate::rules::Rules;
+use drain_kernel::Rules;
 use crate::tally::Tally;
 use drain_basin::OutletLabels;
 use drain_grid::{Cell, OutOfMemory, Rule};

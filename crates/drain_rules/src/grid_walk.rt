@@ -4,7 +4,7 @@ ghost use Rattle.drain_rules.specs.Findings.{IsBounded};
 
 use crate::finding::{Finding, find_in_row};
 use crate::patch_row::PatchRow;
-use crate::rules::Rules;
+use drain_kernel::Rules;
 use crate::tally::Tally;
 use crate::verdict::{Counts, Verdict};
 use drain_basin::OutletLabels;
@@ -26,9 +26,9 @@ impl GridWalk {
     ghost use Rattle.drain_grid.specs.Grid.{Grid, Products};
     ghost use Rattle.drain_rules.specs.GridWalks.{IsRightOf, OfNextRow};
     ghost use Rattle.drain_rules.specs.Labels.{HasNewLabel};
-    ghost use Rattle.drain_rules.specs.Rules.{tried};
+    ghost use Rattle.drain_kernel.specs.Rules.{tried};
     ghost use Rattle.drain_rules.specs.Verdicts.{IsVerdictOf};
-    ghost use Rattle.drain_rules.specs.declared.rules.Rules.{Rules};
+    ghost use Rattle.drain_kernel.specs.declared.rules.Rules.{Rules};
 
     /// No row was checked. This takes no memory.
     pub fn new(alloc: Global) -> GridWalk

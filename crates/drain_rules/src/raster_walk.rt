@@ -9,7 +9,7 @@ ghost use Rattle.drain_rules.specs.Verdicts.{IsVerdict, IfAccepted};
 
 use crate::grid_walk::GridWalk;
 use crate::patch_row::PatchRow;
-use crate::rules::{Ranks, Rules};
+use drain_kernel::{Ranks, Rules};
 use crate::verdict::Verdict;
 use drain_grid::laws::correct_from_rules;
 use drain_grid::{Cell, Elevation, OutOfMemory, Patch, ProductSet, Sinks};

@@ -6,11 +6,11 @@ ghost use Rattle.drain_grid.specs.Rule.{IsAnyRule};
 ghost use Rattle.drain_rules.specs.Labels.{AreLabelsBefore};
 ghost use Rattle.drain_rules.specs.Rows.{place, IsRowTally, IsRowStop};
 ghost use Rattle.drain_rules.specs.PatchRows.{OfRow, IsAtMost};
-ghost use Rattle.drain_rules.specs.Rules.{tried};
+ghost use Rattle.drain_kernel.specs.Rules.{tried};
 
 use crate::cell_rules::{Stop, check_cell};
 use crate::patch_row::PatchRow;
-use crate::rules::Rules;
+use drain_kernel::Rules;
 use crate::tally::Tally;
 use drain_basin::OutletLabels;
 

@@ -25,9 +25,9 @@ use Rattle.drain_raster.specs.Pixels as pixels
 use Rattle.drain_raster.specs.Pixels.{IsShort}
 use Rattle.drain_rules.specs.RowNumbers.{AreNumbersOf, blank}
 use Rattle.drain_rules.specs.Rows.{place}
-use Rattle.drain_rules.specs.Rules.{rules_with}
+use Rattle.drain_kernel.specs.Rules.{rules_with}
 use Rattle.drain_rules.specs.Verdicts.{IsVerdictOf}
-use Rattle.drain_rules.specs.declared.rules.Ranks.{Ranks}
+use Rattle.drain_kernel.specs.declared.rules.Ranks.{Ranks}
 use Rattle.drain_rules.specs.declared.verdict.Verdict.{Verdict}
 use Rattle.drain_grid.specs.declared.sink_line.SinkLine.{SinkLine}
 use Rattle.drain_grid.specs.SinkLines.{is_listed}

@@ -21,9 +21,9 @@ use Rattle.drain_mosaic.specs.PlacedRows.{first_stopped}
 use Rattle.drain_mosaic.specs.RowLaws.{NewRowsAreOfBodies}
 use Rattle.drain_mosaic.specs.Tiling.{Tiling, extent_of}
 use Rattle.drain_raster.specs.Pixels as pixels
-use Rattle.drain_rules.specs.Rules.{rules_with}
+use Rattle.drain_kernel.specs.Rules.{rules_with}
 use Rattle.drain_rules.specs.Verdicts.{IsVerdictOf}
-use Rattle.drain_rules.specs.declared.rules.Ranks.{Ranks}
+use Rattle.drain_kernel.specs.declared.rules.Ranks.{Ranks}
 use Rattle.drain_rules.specs.declared.verdict.Verdict.{Verdict}
 use Rattle.drain_verdict.specs.Answers.{IsAnswer, IsAnswerWith, IsRefusal}
 use Rattle.drain_verdict.specs.GridRows.{IsRowsRefusal, OfGrid, ReadsOn}

@@ -3,10 +3,10 @@ use Rattle.std.specs.Prelude.{ℕ, Result, Ok, Err}
 use Rattle.drain_grid.specs.Grid.{Grid, Products}
 use Rattle.drain_text.specs.First.{IsFirst}
 use Rattle.drain_rules.specs.declared.verdict.Verdict.{Verdict}
-use Rattle.drain_rules.specs.Rules.{rules_with}
+use Rattle.drain_kernel.specs.Rules.{rules_with}
 use Rattle.drain_rules.specs.Verdicts.{IsVerdictOf}
-use Rattle.drain_rules.specs.declared.rules.Ranks.{Ranks}
-use Rattle.drain_rules.specs.declared.rules.Ranks.TheVariants.{Asked}
+use Rattle.drain_kernel.specs.declared.rules.Ranks.{Ranks}
+use Rattle.drain_kernel.specs.declared.rules.Ranks.TheVariants.{Asked}
 use Rattle.drain_verdict.specs.declared.refusal.Refusal.{Refusal}
 use Rattle.drain_verdict.specs.declared.refusal.Refusal.TheVariants.{OutOfMemory, ReadFailed}
 use Rattle.drain_verdict.specs.Inputs.{Inputs}

@@ -1,5 +1,5 @@
 use Rattle.drain_grid.specs.Rule.{IsAnyRule}
-use Rattle.drain_rules.specs.Rules.{tried}
+use Rattle.drain_kernel.specs.Rules.{tried}
 use Rattle.drain_rules.proofs.FindingLemmas.{sound-more}
 use Rattle.drain_rules.proofs.GridLemmas.{HasNewLabel-row, IsFirstFault-row}
 use Rattle.drain_rules.proofs.finding.find_in_row.Goals as goal

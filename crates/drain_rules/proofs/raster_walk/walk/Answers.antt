@@ -5,7 +5,7 @@ use Rattle.drain_grid.specs.Grid.{Grid, Products, patch_at}
 use Rattle.drain_grid.specs.PatchRules.{check_rules}
 use Rattle.drain_grid.specs.Values.{NoDataNumbers}
 use Rattle.drain_grid.specs.WholeGrid.{grid_of, products_of}
-use Rattle.drain_rules.specs.declared.rules.Ranks.TheVariants.{Asked}
+use Rattle.drain_kernel.specs.declared.rules.Ranks.TheVariants.{Asked}
 use Rattle.drain_rules.specs.Labels.{HasNewLabel}
 use Rattle.drain_rules.specs.PatchRows.{AreRowPatches}
 use Rattle.drain_rules.specs.Rows.{place}

@@ -1,7 +1,7 @@
 use Rattle.std.proofs.Common.{◌≡◌}
 use Rattle.drain_grid.specs.WholeGrid.{grid_of, products_of}
 use Rattle.drain_rules.specs.GridWalks.{IsRightOf}
-use Rattle.drain_rules.specs.Rules.{tried}
+use Rattle.drain_kernel.specs.Rules.{tried}
 use Rattle.drain_rules.proofs.raster_walk.walk.Given as goal
 
 -- the rows that were passed were checked, and what was found is right of them

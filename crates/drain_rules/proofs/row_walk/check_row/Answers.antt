@@ -1,5 +1,5 @@
 use Rattle.std.proofs.Common.{arith}
-use Rattle.drain_rules.specs.Rules.{tried}
+use Rattle.drain_kernel.specs.Rules.{tried}
 use Rattle.drain_rules.proofs.PassedCells.{passed-more, passed-row, passed-labels, stops-row}
 use Rattle.drain_rules.proofs.row_walk.check_row.Goals as goal
 

@@ -1,7 +1,7 @@
 use Rattle.std.proofs.Common.{ℕ}
 use Rattle.drain_grid.specs.Grid.{Grid, Products}
 use Rattle.drain_rules.specs.PatchRows.{IsAtMost, OfRow}
-use Rattle.drain_rules.specs.Rules.{tried}
+use Rattle.drain_kernel.specs.Rules.{tried}
 use Rattle.drain_rules.proofs.PassedCells.{IsPassed}
 use Rattle.drain_rules.proofs.row_walk.check_row.Given as goal
 

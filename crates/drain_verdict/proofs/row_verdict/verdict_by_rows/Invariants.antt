@@ -2,7 +2,7 @@ use Rattle.std.proofs.Common.{◌≡◌, ◌+◌, ℕ, None, length}
 use Rattle.drain_grid.specs.Grid.{Grid, Products}
 use Rattle.drain_rules.specs.GridWalks.{IsRightOf}
 use Rattle.drain_rules.specs.RowNumbers.{AreRowNumbers, RowNumbers}
-use Rattle.drain_rules.specs.Rules.{tried}
+use Rattle.drain_kernel.specs.Rules.{tried}
 use Rattle.drain_verdict.specs.GridRows.{OfGrid, ReadsOn}
 use Rattle.drain_verdict.specs.HeldRows.{IsMarked, marked_of, numbers_of}
 use Rattle.drain_verdict.specs.ListedVoids.{AreVoidsBefore}

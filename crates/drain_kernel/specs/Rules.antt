@@ -2,9 +2,9 @@
 use Rattle.drain_grid.specs.Values.{NoDataNumbers}
 use Rattle.drain_grid.specs.PatchRules.{Profile, check_rules}
 use Rattle.drain_grid.specs.Unranked.{unranked}
-use Rattle.drain_rules.specs.declared.rules.Ranks.{Ranks}
-use Rattle.drain_rules.specs.declared.rules.Ranks.TheVariants.{Asked, Unasked}
-use Rattle.drain_rules.specs.declared.rules.Rules.{Rules}
+use Rattle.drain_kernel.specs.declared.rules.Ranks.{Ranks}
+use Rattle.drain_kernel.specs.declared.rules.Ranks.TheVariants.{Asked, Unasked}
+use Rattle.drain_kernel.specs.declared.rules.Rules.{Rules}
 
 -- the rules of a check where ranks are asked for, else the same without ranks
 abbrev pub rules_with : Ranks → NoDataNumbers → Profile
