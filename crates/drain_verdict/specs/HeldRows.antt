@@ -1,9 +1,10 @@
 -- What a row in vectors says.
-use Rattle.std.specs.Prelude.{◌≡◌, ℕ, ◌<◌, false, List, length, slice_index_or}
+use Rattle.std.specs.Prelude.{◌≡◌, ℕ, ◌<◌, false, IsTrue, List, length, slice_index_or}
 use Rattle.drain_grid.specs.declared.held.Held.{Held}
 use Rattle.drain_grid.specs.PerProduct.{of_product, per_product}
 use Rattle.drain_grid.specs.declared.sink_line.SinkLine.{SinkLine}
 use Rattle.drain_grid.specs.SinkLines.{is_listed}
+use Rattle.drain_kernel.specs.Lanes.{AreLanesOf}
 use Rattle.drain_rules.specs.MarkedRows.{MarkedRow}
 use Rattle.drain_rules.specs.RowNumbers.{RowNumbers}
 use Rattle.drain_verdict.specs.declared.held_row.HeldRow.{HeldRow}
@@ -23,3 +24,7 @@ IsMarked sinks r row = (col : ℕ) → col < length row.numbers.z → slice_inde
 -- each product has as many numbers as there are elevations
 abbrev pub IsEven : RowNumbers → Type 0
 IsEven row = (p : Held) → length (of_product row.products p) ≡ length row.z
+
+-- where its numbers fit lanes, these are its lanes
+abbrev pub HasItsLanes : HeldRow → Type 0
+HasItsLanes row = IsTrue row.fit → AreLanesOf row.lanes row.z.items (numbers_of row).products

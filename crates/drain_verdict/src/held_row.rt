@@ -3,21 +3,27 @@
 ghost use Rattle.std.specs.Prelude.{◌≡◌, ◌↔◌, ◌||◌, [], IsTrue, OnOk, OnErr};
 ghost use Rattle.drain_grid.specs.declared.cell.Cell.{Cell};
 ghost use Rattle.drain_rules.specs.RowNumbers.{AreRowNumbers, blank};
+ghost use Rattle.drain_verdict.specs.HeldRows.{HasItsLanes};
 ghost use Rattle.drain_verdict.specs.ListedVoids.{is_among, is_listed_void};
 
 use crate::listed_voids::ListedVoids;
 use drain_grid::{OutOfMemory, PerProduct, Sinks};
-use drain_rules::RowView;
+use drain_kernel::Lanes;
+use drain_rules::{Ranks, RowView};
 use std::alloc::Global;
 
-/// The elevations of one row, and each product's numbers, none of either where there is no row; and marks at its listed sinks.
+/// The elevations of one row, and each product's numbers, none of either where there is no row; marks at its listed sinks; and the numbers
+/// once more in lanes.
 ///
-/// It may be filled one vector after the other. Only a whole row can be viewed: as many numbers of each. No mark stands for no sink.
+/// It may be filled one vector after the other. Only a whole row can be viewed: as many numbers of each. No mark stands for no sink. Lanes are
+/// of use where the numbers fit them, and have to be taken anew for each row.
 #[derive(Drop)]
 pub struct HeldRow {
     pub z: Vec<i64>,
     pub products: PerProduct<Vec<i64>>,
     pub sinks: Vec<bool>,
+    lanes: Lanes,
+    fit: bool,
 }
 
 impl HeldRow {
@@ -25,7 +31,8 @@ impl HeldRow {
 
     /// No row. This takes no memory.
     pub fn new(alloc: Global) -> HeldRow
-        ensures { numbers_of result ≡ blank }
+        ensures numbers { numbers_of result ≡ blank }
+        ensures lanes { HasItsLanes result }
     {
         HeldRow {
             z: Vec::new(alloc),
@@ -37,6 +44,8 @@ impl HeldRow {
                 rnk: Vec::new(alloc),
             },
             sinks: Vec::new(alloc),
+            lanes: Lanes::new(alloc),
+            fit: false,
         }
     }
 
@@ -89,11 +98,29 @@ impl HeldRow {
         voids.note_row(row, self.z.as_slice(), self.sinks.as_slice())
     }
 
-    /// The row as slices.
+    /// Takes the lanes of the row, for rules with these ranks.
+    pub fn take_lanes(&mut self, ranks: Ranks)
+        requires whole { AreRowNumbers (numbers_of self.old) }
+        ensures marked { marked_of self.new ≡ marked_of self.old }
+        ensures lanes { HasItsLanes self.new }
+    {
+        let products = PerProduct {
+            con: self.products.con.as_slice(),
+            dir: self.products.dir.as_slice(),
+            acc: self.products.acc.as_slice(),
+            bas: self.products.bas.as_slice(),
+            rnk: self.products.rnk.as_slice(),
+        };
+        self.fit = self.lanes.take(self.z.as_slice(), &products, ranks);
+    }
+
+    /// The row as slices, with its lanes where they fit.
     pub fn view(&self) -> RowView<'_>
-        requires { AreRowNumbers (numbers_of self.now) }
+        requires numbers { AreRowNumbers (numbers_of self.now) }
+        requires lanes { HasItsLanes self.now }
         ensures { result ≡ marked_of self.now }
     {
+        let lanes = if self.fit { Some(&self.lanes) } else { None };
         RowView::new(
             self.z.as_slice(),
             self.sinks.as_slice(),
@@ -104,6 +131,7 @@ impl HeldRow {
                 bas: self.products.bas.as_slice(),
                 rnk: self.products.rnk.as_slice(),
             },
+            lanes,
         )
     }
 }

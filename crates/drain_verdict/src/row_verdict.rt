@@ -65,6 +65,7 @@ pub fn verdict_by_rows<T, P, S: GridRows<T, P>, K: RowNotes>(
         products,
         0,
         sinks,
+        rules.ranks,
         &mut window.below,
         &mut voids,
     )?;
@@ -76,6 +77,7 @@ pub fn verdict_by_rows<T, P, S: GridRows<T, P>, K: RowNotes>(
             products,
             row + 1,
             sinks,
+            rules.ranks,
             &mut window.below,
             &mut voids,
         )?;

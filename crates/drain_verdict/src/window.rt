@@ -2,7 +2,7 @@
 
 ghost use Rattle.std.specs.Prelude.{◌≡◌};
 ghost use Rattle.drain_rules.specs.RowNumbers.{AreRowNumbers, blank};
-ghost use Rattle.drain_verdict.specs.HeldRows.{marked_of, numbers_of};
+ghost use Rattle.drain_verdict.specs.HeldRows.{HasItsLanes, marked_of, numbers_of};
 
 use crate::held_row::HeldRow;
 use drain_rules::ThreeRows;
@@ -22,6 +22,7 @@ impl Window {
     pub fn new(alloc: Global) -> Window
         ensures above { numbers_of result.above ≡ blank }
         ensures here { numbers_of result.here ≡ blank }
+        ensures here_lanes { HasItsLanes result.here }
     {
         Window {
             above: HeldRow::new(alloc),
@@ -32,8 +33,8 @@ impl Window {
 
     /// Moves the window one row down. What stands below afterwards is of no use but for its memory.
     pub fn turn(&mut self)
-        ensures above { marked_of self.new.above ≡ marked_of self.old.here }
-        ensures here { marked_of self.new.here ≡ marked_of self.old.below }
+        ensures above { self.new.above ≡ self.old.here }
+        ensures here { self.new.here ≡ self.old.below }
     {
         swap(&mut self.above, &mut self.here);
         swap(&mut self.here, &mut self.below);
@@ -44,6 +45,9 @@ impl Window {
         requires above { AreRowNumbers (numbers_of self.now.above) }
         requires here { AreRowNumbers (numbers_of self.now.here) }
         requires below { AreRowNumbers (numbers_of self.now.below) }
+        requires above_lanes { HasItsLanes self.now.above }
+        requires here_lanes { HasItsLanes self.now.here }
+        requires below_lanes { HasItsLanes self.now.below }
         ensures above { result.above ≡ marked_of self.now.above }
         ensures here { result.here ≡ marked_of self.now.here }
         ensures below { result.below ≡ marked_of self.now.below }

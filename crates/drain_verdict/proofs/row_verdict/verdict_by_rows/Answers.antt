@@ -3,7 +3,7 @@ use Rattle.drain_grid.specs.Size.{Extent}
 use Rattle.drain_rules.specs.RowNumbers.{AreNumbersOf, AreRowNumbers}
 use Rattle.drain_rules.specs.MarkedRows.{MarkedRow}
 use Rattle.drain_verdict.specs.GridRows.{ReadsOn}
-use Rattle.drain_verdict.specs.HeldRows.{IsMarked, marked_of, numbers_of}
+use Rattle.drain_verdict.specs.HeldRows.{HasItsLanes, IsMarked, marked_of, numbers_of}
 use Rattle.drain_verdict.specs.ListedVoids.{AreVoidsBefore}
 use Rattle.drain_verdict.specs.declared.refusal.Refusal.{Refusal}
 use Rattle.drain_verdict.proofs.InputLemmas.{told-of}
@@ -19,6 +19,8 @@ loop-row-init g c =
       as_many = read.as_many ∙ c.requires.counted ∙ sym read.counted;
       here_whole = subst (λ n. AreRowNumbers n) (sym c.new-window.ensures.here) blank-whole;
       below_whole = read.whole;
+      here_lanes = c.new-window.ensures.here_lanes;
+      below_lanes = read.lanes;
       given = λ rows gives. (read.next rows 0 gives).1;
       held = λ rows gives. record {
         here_is = (read.next rows 0 gives).0;
@@ -48,8 +50,8 @@ returns-in-Err-clause-refuses g c =
         inl (λ rows grid ps gives extent all.
             let count = ap (λ (e : Extent). e.rows) extent in
             let inside : row < grid.extent.rows = omega (arith, c.loop-row-test.true, c.rows-row-end.ensures, count) in
-            let above_is = c.rows.ensures.above ∙ c.turn.ensures.above in
-            let here_is = c.rows.ensures.here ∙ c.turn.ensures.here in
+            let above_is = c.rows.ensures.above ∙ ap marked_of c.turn.ensures.above in
+            let here_is = c.rows.ensures.here ∙ ap marked_of c.turn.ensures.here in
             let held = held-turned rows row (numbers_of c.loop-row.window.here) (numbers_of c.loop-row.window.below) c.rows.result.above.numbers c.rows.result.here.numbers
             (inv.held rows gives) (ap (λ (m : MarkedRow). m.numbers) above_is) (ap (λ (m : MarkedRow). m.numbers) here_is) in
             let around = rows-around grid ps c.args.sinks.now rows row c.rows.result all inside held
@@ -84,15 +86,17 @@ loop-row-preserved g c =
     record {
       counted = omega (arith, c.in-Ok.ensures.rows, inv.counted);
       as_many = read.as_many ∙ inv.as_many ∙ sym read.counted;
-      here_whole = subst (λ n. AreRowNumbers n) (ap (λ (m : MarkedRow). m.numbers) (sym c.turn.ensures.here)) inv.below_whole;
+      here_whole = subst (λ n. AreRowNumbers n) (ap numbers_of (sym c.turn.ensures.here)) inv.below_whole;
       below_whole = read.whole;
+      here_lanes = subst HasItsLanes (sym c.turn.ensures.here) inv.below_lanes;
+      below_lanes = read.lanes;
       given = λ rows gives. (read.next rows (row + 1) (inv.given rows gives)).1;
       held = λ rows gives.
-          held-more rows row (numbers_of c.turn.new.self.here) (numbers_of c.read_marked-in-loop-row.new.held) (ap (λ (m : MarkedRow). m.numbers) c.turn.ensures.here ∙ (inv.held rows gives).here_is)
+          held-more rows row (numbers_of c.turn.new.self.here) (numbers_of c.read_marked-in-loop-row.new.held) (ap numbers_of c.turn.ensures.here ∙ (inv.held rows gives).here_is)
           (read.next rows (row + 1) (inv.given rows gives)).0;
       here_marked = λ r is.
           let same : row ≡ r = omega (arith, is) in
-          subst (λ k. IsMarked c.args.sinks.now k (marked_of c.turn.new.self.here)) same (subst (IsMarked c.args.sinks.now row) (sym c.turn.ensures.here) inv.below_marked);
+          subst (λ k. IsMarked c.args.sinks.now k (marked_of c.turn.new.self.here)) same (subst (IsMarked c.args.sinks.now row) (ap marked_of (sym c.turn.ensures.here)) inv.below_marked);
       below_marked = read.marked;
       voids = λ rows grid ps gives extent all.
           voids-more grid ps (row + 1) _ _ (marked_of c.read_marked-in-loop-row.new.held)
@@ -101,8 +105,8 @@ loop-row-preserved g c =
       right = λ rows grid ps gives extent all.
           let count = ap (λ (e : Extent). e.rows) extent in
           let inside : row < grid.extent.rows = omega (arith, c.loop-row-test.true, c.rows-row-end.ensures, count) in
-          let above_is = c.rows.ensures.above ∙ c.turn.ensures.above in
-          let here_is = c.rows.ensures.here ∙ c.turn.ensures.here in
+          let above_is = c.rows.ensures.above ∙ ap marked_of c.turn.ensures.above in
+          let here_is = c.rows.ensures.here ∙ ap marked_of c.turn.ensures.here in
           let held = held-turned rows row (numbers_of c.loop-row.window.here) (numbers_of c.loop-row.window.below) c.rows.result.above.numbers c.rows.result.here.numbers
           (inv.held rows gives) (ap (λ (m : MarkedRow). m.numbers) above_is) (ap (λ (m : MarkedRow). m.numbers) here_is) in
           let around = rows-around grid ps c.args.sinks.now rows row c.rows.result all inside held
@@ -117,7 +121,7 @@ loop-row-preserved g c =
           let count = ap (λ (e : Extent). e.rows) extent in
           let inside : row < grid.extent.rows = omega (arith, c.loop-row-test.true, c.rows-row-end.ensures, count) in
           c.in_ok-note_row.ensures.noted grid ps row
-          (subst (AreNumbersOf grid ps row) (sym (ap (λ (m : MarkedRow). m.numbers) c.turn.ensures.here ∙ (inv.held rows gives).here_is)) (all.row row inside))
+          (subst (AreNumbersOf grid ps row) (sym (ap numbers_of c.turn.ensures.here ∙ (inv.held rows gives).here_is)) (all.row row inside))
           (inv.noted rows grid ps gives extent all);
       reads = λ start n before. let same : n + (row + 1) + 1 ≡ n + (row + 1 + 1) = omega arith in subst (λ k. g.S.GridRows.has_read start (c.read_marked-in-loop-row.new.source, c.read_marked-in-loop-row.new.tiles, c.read_marked-in-loop-row.new.products) k None) same (read.reads start (n + (row + 1)) (inv.reads start n before));
     }

@@ -4,7 +4,7 @@ use Rattle.drain_rules.specs.GridWalks.{IsRightOf}
 use Rattle.drain_rules.specs.RowNumbers.{AreRowNumbers, RowNumbers}
 use Rattle.drain_kernel.specs.Rules.{tried}
 use Rattle.drain_verdict.specs.GridRows.{OfGrid, ReadsOn}
-use Rattle.drain_verdict.specs.HeldRows.{IsMarked, marked_of, numbers_of}
+use Rattle.drain_verdict.specs.HeldRows.{HasItsLanes, IsMarked, marked_of, numbers_of}
 use Rattle.drain_verdict.specs.ListedVoids.{AreVoidsBefore}
 use Rattle.drain_verdict.proofs.WindowLemmas.{AreHeld}
 use Rattle.drain_verdict.proofs.row_verdict.verdict_by_rows.Given as goal
@@ -18,6 +18,8 @@ invariant-loop-row g l =
       as_many : length l.tiles ≡ source.count l.source;
       here_whole : AreRowNumbers (numbers_of l.window.here);
       below_whole : AreRowNumbers (numbers_of l.window.below);
+      here_lanes : HasItsLanes l.window.here;
+      below_lanes : HasItsLanes l.window.below;
       given : (rows : ℕ → RowNumbers) → source.gives (l.fn.source, l.fn.tiles, l.fn.products) rows 0 →
           source.gives (l.source, l.tiles, l.products) rows (l.row + 1);
       held : (rows : ℕ → RowNumbers) → source.gives (l.fn.source, l.fn.tiles, l.fn.products) rows 0 →
