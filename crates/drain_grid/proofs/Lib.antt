@@ -14,6 +14,7 @@ pub mod EndedRuns
 pub mod Exactly
 pub mod FourAndRank
 pub mod FromCorrect
+pub mod HandedOn
 pub mod Inflows
 pub mod Least
 pub mod LeastFaults
