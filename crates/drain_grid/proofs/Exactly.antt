@@ -1,19 +1,23 @@
 -- What an audit rests on: products are correct exactly where every rule holds with the numbers of steps for ranks, and exactly
 -- where every run ends and every rule without ranks holds. One way is that rules make products correct (AllRules), the other that
--- correct products keep the rules (FromCorrect); between them stand products that differ in ranks alone (Alike, WithoutRanks).
-use Rattle.std.proofs.Common.{◌≡◌, ◌*◌, ◌∷◌, ℤ, negsuc, refl, subst}
+-- correct products keep the rules (FromCorrect); between them stand products that differ in ranks alone (Alike, WithoutRanks). Where the
+-- rules without ranks hold every run ends anyway (RunsByCounts), so these rules alone say it.
+use Rattle.std.proofs.Common.{◌≡◌, ◌*◌, ◌∷◌, ℤ, negsuc, refl, subst, arith}
 use Rattle.drain_grid.specs.declared.cell.Cell.{Cell}
 use Rattle.drain_grid.specs.PatchRules.{check_rules}
+use Rattle.drain_grid.specs.Unranked.{level_rules}
 use Rattle.drain_grid.specs.GridRules.{RulesHold}
-use Rattle.drain_grid.specs.Rule.{IsAnyRule}
+use Rattle.drain_grid.specs.Rule.{IsAnyRule, IsCountRule, IsFlowRule}
 use Rattle.drain_grid.specs.Certificate.{with_ranks, with_rank_nodata}
-use Rattle.drain_grid.specs.Laws.{RulesAreCorrect, CorrectIsLocal, RanksPlayNoPart, SoundFromCorrect}
+use Rattle.drain_grid.specs.Laws.{RulesAreCorrect, CorrectIsLocal, CorrectByRulesAlone, RanksPlayNoPart, SoundFromCorrect}
 use Rattle.drain_grid.specs.Grid.{Grid, Products}
 use Rattle.drain_grid.specs.Run.{IsOutlet, VisitsOnce, run_end}
 use Rattle.drain_grid.specs.Correct.{RunsAreSound}
 use Rattle.drain_grid.proofs.AllRules.{correct_from_rules}
 use Rattle.drain_grid.proofs.FromCorrect.{rules_from_correct, unranked_from_correct}
+use Rattle.drain_grid.proofs.Profiles.{RulesHold-level, RulesHold-within}
 use Rattle.drain_grid.proofs.Ranks.{own_ranks_play_no_part}
+use Rattle.drain_grid.proofs.RunsByCounts.{runs_end_by_counts}
 use Rattle.drain_grid.proofs.Alike.{RunEnds-alike, IsCorrect-ranks, climbs_there, outlet_back, outlet_there, run_end-alike, steps-alike}
 use Rattle.drain_grid.proofs.WithoutRanks.{unranked-ranks, step_ranks, step_ranks-right}
 
@@ -67,4 +71,13 @@ correct_is_local g ps nodata = (
       (step_ranks-right g ps nodata) c r inside).1 (unranked-ranks g ps nodata ranks (negsuc 0) c inside r (h.1 c r inside between)) in
       IsCorrect-ranks g qs (with_rank_nodata nodata (negsuc 0)) ps.rnk nodata.rnk
       (correct_from_rules g qs (with_rank_nodata nodata (negsuc 0)) rules).0)),
+)
+
+pub correct_by_rules_alone : CorrectByRulesAlone
+correct_by_rules_alone g ps nodata = (
+  (λ correct. unranked_from_correct g ps nodata correct),
+  (λ rules.
+      (let counted = RulesHold-within level_rules IsCountRule IsFlowRule g ps (λ r own. (own.0, omega (arith, own.1)))
+      (RulesHold-level nodata g ps rules) in
+      (correct_is_local g ps nodata).1 (runs_end_by_counts g ps counted, rules))),
 )

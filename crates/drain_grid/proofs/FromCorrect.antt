@@ -29,7 +29,8 @@ use Rattle.drain_grid.proofs.Codes.{named-next, next-named}
 use Rattle.drain_grid.proofs.Slopes.{lower_shown, HasLower-lower_cell, IsSteepest-cell}
 use Rattle.drain_grid.proofs.Runs.{run_end-zero}
 use Rattle.drain_grid.proofs.Inflows.{HasData-flow}
-use Rattle.drain_grid.proofs.Upstream.{handed_on, handed_total, upstream_count-parts}
+use Rattle.drain_grid.proofs.HandedOn.{handed_on, handed_total}
+use Rattle.drain_grid.proofs.Upstream.{upstream_count-parts}
 use Rattle.drain_grid.proofs.EndedRuns.{ended-run_end, ended_chains}
 use Rattle.drain_grid.proofs.Ranks.{own_ranks_play_no_part}
 use Rattle.drain_grid.proofs.Lowered.{least_at_open, least_beside}

@@ -14,6 +14,8 @@ pub mod EndedRuns
 pub mod Exactly
 pub mod FourAndRank
 pub mod FromCorrect
+pub mod GoingOn
+pub mod HandedOn
 pub mod Inflows
 pub mod Least
 pub mod LeastFaults
@@ -37,6 +39,7 @@ pub mod RuleDecisions
 pub mod RuleNumbers
 pub mod RunPaths
 pub mod Runs
+pub mod RunsByCounts
 pub mod Slopes
 pub mod SpillPaths
 pub mod SinkFaults
@@ -44,6 +47,7 @@ pub mod SinkListings
 pub mod SinkMarks
 pub mod SinkSearch
 pub mod Steps
+pub mod Taken
 pub mod Tallies
 pub mod Upstream
 pub mod Walks

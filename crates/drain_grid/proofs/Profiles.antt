@@ -76,6 +76,13 @@ RulesHold-flow nodata g ps rules c r inside own =
     HoldsAt-patch (profile2 nodata) flow_rules g ps c r (flow_same nodata (patch_at g ps c) r own).1
     (rules c r inside (omega (arith, own.0), own.1))
 
+-- where all rules without ranks hold, those on where water goes do
+pub RulesHold-level : (nodata : NoDataNumbers) (g : Grid) (ps : Products) → RulesHold (unranked nodata) IsAnyRule g ps →
+    RulesHold level_rules IsFlowRule g ps
+RulesHold-level nodata g ps rules c r inside own =
+    HoldsAt-patch (unranked nodata) level_rules g ps c r (level_same nodata (patch_at g ps c) r own).1
+    (rules c r inside (omega (arith, own.0), own.1))
+
 -- rules on the conditioned elevation with spill parents give those without
 less_fill : (p : Patch) (r : Rule) → fill_rules p r → surface_rules p r
 less_fill p BelowGround h = h

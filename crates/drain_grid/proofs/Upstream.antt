@@ -5,29 +5,26 @@
 -- numbers: counted at c is self and what the cells that flow in hand on of it (counted_parts). Summed over all x, with the sum
 -- over cells and the sum over directions exchanged (CellSums), the number for c is one more than the sum of the numbers for the
 -- cells that flow in, and that is rule 13's sum. The induction is on the number itself: what flows into c has a smaller one.
-use Rattle.std.proofs.Common.{◌≡◌, ℕ, zero, suc, ◌+◌, ◌<◌, ◌≤◌, ◌∙◌, inl, inr, ℤ, pos, ◌+ℤ◌, true, false, cond, ◌&&◌, ◌==◌, List, [], ◌∷◌, map, length, IsSome, is_some, refl, sym, ap, subst, arith}
+use Rattle.std.proofs.Common.{◌≡◌, ℕ, zero, suc, ◌+◌, ◌<◌, ◌≤◌, ◌∙◌, inl, inr, pos, ◌+ℤ◌, true, false, cond, ◌&&◌, length, IsSome, is_some, refl, sym, ap, subst, arith}
 use Rattle.std.specs.List.{sum_by}
 use Rattle.std.proofs.Math.IntN.{pos-+ℤ-pos}
-use Rattle.std.proofs.lemmas.Bool.{cases_Bool, false≢true, eqb-true, eq-eqb, false_from_ne_true, and_from, and_left, and_right}
-use Rattle.std.proofs.lemmas.List.Sums.{sum_by-cons}
+use Rattle.std.proofs.lemmas.Bool.{cases_Bool, false≢true, false_from_ne_true, and_from, and_left, and_right}
 use Rattle.drain_grid.specs.declared.cell.Cell.{Cell}
 use Rattle.drain_grid.specs.declared.direction.Direction.{Direction}
 use Rattle.drain_grid.specs.declared.rule.Rule.TheVariants.{Accumulation}
-use Rattle.drain_grid.specs.Direction.{directions, order_of}
-use Rattle.drain_grid.specs.Extent.{same_cell, cells, step}
-use Rattle.drain_grid.specs.Patch.{neighbor}
+use Rattle.drain_grid.specs.Extent.{same_cell, cells}
 use Rattle.drain_grid.specs.Rule.{IsWayRule, IsCountRule}
-use Rattle.drain_grid.specs.PatchRules.{flow_rules, inflow, total}
-use Rattle.drain_grid.specs.Grid.{Grid, Products, IsInside, HasData, patch_at}
+use Rattle.drain_grid.specs.PatchRules.{flow_rules}
+use Rattle.drain_grid.specs.Grid.{Grid, Products, IsInside, HasData}
 use Rattle.drain_grid.specs.GridRules.{RulesHold}
 use Rattle.drain_grid.specs.Run.{next, run, drains_through, upstream_count}
 use Rattle.drain_grid.specs.Laws.{CountsUpstream}
-use Rattle.drain_grid.proofs.Patches.{neighbor-patch_at}
-use Rattle.drain_grid.proofs.CellSums.{sum_by_same, sum_by_zero, sum_by_add, sum_by_swap, sum_by_cells_same, sum_by_cells_one, sum_by_directions_one, directions_at_most, same_cell_true, same_cell_self, same_place_same}
+use Rattle.drain_grid.proofs.CellSums.{sum_by_add, sum_by_cells_same, sum_by_cells_one, same_cell_true, same_cell_self}
 use Rattle.drain_grid.proofs.Chains.{AreChains, stands_self, one_longer, stands_no_longer, stands_unique, stands_next, stands_before}
 use Rattle.drain_grid.proofs.Profiles.{RulesHold-within}
 use Rattle.drain_grid.proofs.Runs.{runs_are_chains}
-use Rattle.drain_grid.proofs.Inflows.{FlowsFrom, HasData-flow, next-flow, flow-next, flow_unique, share, share_cases, share_flow, share_sum, inflow_share}
+use Rattle.drain_grid.proofs.Inflows.{FlowsFrom, HasData-flow, next-flow, flow-next, flow_unique}
+use Rattle.drain_grid.proofs.HandedOn.{handed_on, handed_none, handed_one, handed_at_least, handed_sum, handed_total}
 
 -- 1 where x has data and drains through c
 pub counted : Grid → Products → Cell → Cell → ℕ
@@ -68,64 +65,6 @@ self_no c x other = ap (λ b. cond b 1 0) other
 
 self_other : (c x : Cell) → (c ≡ x → ⊥) → self c x ≡ 0
 self_other c x differ = self_no c x (false_from_ne_true (same_cell c x) (λ same. differ (same_cell_true c x same)))
-
--- what the cells that flow into c hand on
-pub handed_on : Grid → Products → Cell → (Cell → ℕ) → ℕ
-handed_on g ps c f = sum_by (λ d. share g ps (step g.extent c d) d f) directions
-
--- nothing, where each cell that flows in has 0
-handed_none : (g : Grid) (ps : Products) (c : Cell) (f : Cell → ℕ) →
-    ((d : Direction) (m : Cell) → FlowsFrom g ps c d m → f m ≡ 0) → handed_on g ps c f ≡ 0
-unfolding handed_on
-handed_none g ps c f none =
-    sum_by_zero (λ d. share g ps (step g.extent c d) d f) directions
-    (λ d. elim (share_cases g ps c d) [ inl h ↦ h.2 f ∙ none d h.0 h.1 | inr h ↦ h f ])
-
--- 1, where one cell that flows in has 1, and each other one 0
-handed_one : (g : Grid) (ps : Products) (c : Cell) (f : Cell → ℕ) (d : Direction) (m : Cell) → FlowsFrom g ps c d m → f m ≡ 1 →
-    ((e : Direction) (n : Cell) → FlowsFrom g ps c e n → (e ≡ d → ⊥) → f n ≡ 0) → handed_on g ps c f ≡ 1
-unfolding handed_on
-handed_one g ps c f d m from_m one others =
-    sum_by_directions_one (λ e. share g ps (step g.extent c e) e f) d
-    (λ e. elim (cases_Bool (order_of e == order_of d)) [
-      | inl here ↦
-          (let same : e ≡ d = same_place_same e d (eqb-true (order_of e) (order_of d) here) in
-          ap (λ y. share g ps (step g.extent c y) y f) same ∙ (share_flow g ps c d m f from_m ∙ (one ∙ sym (ap (λ b. cond b 1 0) here))))
-      | inr apart ↦
-          (let differ : e ≡ d → ⊥ = λ same. false≢true (sym apart ∙ eq-eqb (order_of e) (order_of d) (ap order_of same)) in
-          elim (share_cases g ps c e) [ inl h ↦ h.2 f ∙ others e h.0 h.1 differ | inr h ↦ h f ] ∙ sym (ap (λ b. cond b 1 0) apart))
-    ])
-
-handed_at_least : (g : Grid) (ps : Products) (c : Cell) (f : Cell → ℕ) (d : Direction) (m : Cell) → FlowsFrom g ps c d m →
-    f m ≤ handed_on g ps c f
-unfolding handed_on
-handed_at_least g ps c f d m from_m =
-    subst (λ n. n ≤ sum_by (λ e. share g ps (step g.extent c e) e f) directions) (share_flow g ps c d m f from_m)
-    (directions_at_most (λ e. share g ps (step g.extent c e) e f) d)
-
--- sums that are handed on are the sum of what is handed on
-handed_sum : (g : Grid) (ps : Products) (c : Cell) (f : Cell → Cell → ℕ) (xs : List Cell) →
-    sum_by (λ x. handed_on g ps c (λ m. f m x)) xs ≡ handed_on g ps c (λ m. sum_by (f m) xs)
-unfolding handed_on
-handed_sum g ps c f xs =
-    sum_by_swap (λ x d. share g ps (step g.extent c d) d (λ m. f m x)) xs directions ∙
-    sum_by_same (λ d. sum_by (λ x. share g ps (step g.extent c d) d (λ m. f m x)) xs)
-    (λ d. share g ps (step g.extent c d) d (λ m. sum_by (f m) xs)) directions
-    (λ d. share_sum g ps (step g.extent c d) d f xs)
-
--- the sum that rule 13 takes
-pub handed_total : (g : Grid) (ps : Products) (c : Cell) (f : Cell → ℕ) →
-    ((d : Direction) (m : Cell) → FlowsFrom g ps c d m → ps.acc m ≡ pos (f m)) →
-    total (map (λ d. inflow (neighbor (patch_at g ps c) d) d) directions) ≡ pos (handed_on g ps c f)
-unfolding handed_on
-handed_total g ps c f right =
-    total_is (λ d. inflow (neighbor (patch_at g ps c) d) d) (λ d. share g ps (step g.extent c d) d f)
-    (λ d. ap (λ o. inflow o d) (neighbor-patch_at g ps c d) ∙ inflow_share g ps c d f (right d)) directions
-  where
-    total_is : (f : Direction → ℤ) (h : Direction → ℕ) → ((d : Direction) → f d ≡ pos (h d)) → (ds : List Direction) →
-        total (map f ds) ≡ pos (sum_by h ds)
-    total_is f h same [] = refl
-    total_is f h same (d ∷ ds) = rw (same d, total_is f h same ds) (pos-+ℤ-pos (h d) (sum_by h ds) ∙ ap pos (sym (sum_by-cons h d ds)))
 
 join : (a b s n : ℕ) → n ≡ a → b ≡ a → s ≡ 0 → n ≡ b + s
 join a b s n whole first rest = omega arith
@@ -173,13 +112,14 @@ module _ (g : Grid) (ps : Products) (chains : AreChains (HasData g) (next g ps) 
       join_rest (self c x) (handed_on g ps c (λ m. counted g ps m x)) (counted g ps c x)
       (counted_yes g ps c x has.is_data through)
       (self_no c x other)
-      (handed_one g ps c (λ m. counted g ps m x) way.0 m way.1 (counted_yes g ps m x has.is_data before.1.stands_there)
+      (handed_one g ps c (λ m. counted g ps m x) way.0 m way.1
       (λ e n from_n differ. counted_no g ps n x (false_from_ne_true (drains_through g ps n x) (λ reaches.
       (let far_n = (one_longer (HasData g) (next g ps) (run g ps) chains n c (HasData-flow g ps c e n from_n)
       (next-flow g ps c e n here from_n)).1 in
       let same : n ≡ m = stands_unique (HasData g) (next g ps) (run g ps) chains n m x has reaches before.1.stands_there
       (far_n ∙ sym far_m) in
-      differ (flow_unique g ps c m e way.0 (subst (λ y. FlowsFrom g ps c e y) same from_n) way.1))))))
+      differ (flow_unique g ps c m e way.0 (subst (λ y. FlowsFrom g ps c e y) same from_n) way.1)))))
+      ∙ counted_yes g ps m x has.is_data before.1.stands_there)
 
   at_elsewhere : (c x : Cell) → HasData g c → HasData g x → drains_through g ps c x ≡ false →
       counted g ps c x ≡ self c x + handed_on g ps c (λ m. counted g ps m x)

@@ -10,7 +10,7 @@ use Rattle.drain_grid.specs.Grid.{Grid, Products, IsInside, HasData, IsOpenCell}
 use Rattle.drain_grid.specs.Path.{IsFilled}
 use Rattle.drain_grid.specs.Run.{RunEnds, upstream_count, ShareBasin}
 use Rattle.drain_grid.specs.Rule.{IsAnyRule, IsFillRule, IsWayRule, IsCountRule, IsLabelRule}
-use Rattle.drain_grid.specs.Unranked.{unranked}
+use Rattle.drain_grid.specs.Unranked.{level_rules, unranked}
 use Rattle.drain_grid.specs.Certificate.{RanksAreSteps, with_ranks, with_rank_nodata}
 use Rattle.drain_grid.specs.PatchRules.{check_rules, fill_rules, flow_rules, profile1, profile2, surface_rules}
 use Rattle.drain_grid.specs.GridRules.{HoldsAt, RulesHold}
@@ -82,6 +82,16 @@ abbrev pub CorrectIsLocal : Type 0
 CorrectIsLocal =
     (g : Grid) (ps : Products) (nodata : NoDataNumbers) →
     IsCorrect g ps nodata ↔ (((c : Cell) → HasData g c → RunEnds g ps c) × RulesHold (unranked nodata) IsAnyRule g ps)
+
+-- where rules 10 to 13 hold without ranks at every cell, the run of every data cell ends: acc can't grow by one at each cell of a ring
+abbrev pub RunsEndByCounts : Type 0
+RunsEndByCounts =
+    (g : Grid) (ps : Products) → RulesHold level_rules IsCountRule g ps → (c : Cell) → HasData g c → RunEnds g ps c
+
+-- products are correct exactly where every rule without ranks holds at every cell: no run has to be followed
+abbrev pub CorrectByRulesAlone : Type 0
+CorrectByRulesAlone =
+    (g : Grid) (ps : Products) (nodata : NoDataNumbers) → IsCorrect g ps nodata ↔ RulesHold (unranked nodata) IsAnyRule g ps
 
 -- where products are correct, every run is sound
 abbrev pub SoundFromCorrect : Type 0

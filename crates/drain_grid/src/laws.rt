@@ -4,7 +4,7 @@
 
 ghost use Rattle.std.specs.Prelude.{◌≡◌, pos, neg_ℤ};
 ghost use Rattle.drain_grid.specs.OffData.{FoundOffDataIsRight};
-ghost use Rattle.drain_grid.specs.Laws.{CorrectFromRules, CorrectIsLocal, CountsUpstream, LabelsAreBasins, LeastFromRules, LeastFromRulesProfile2, OpenWithoutSinks, Profile2FromProfile1, RanksPlayNoPart, RulesAreCorrect, RulesFromCorrect, RunsEnd, SoundFromCorrect};
+ghost use Rattle.drain_grid.specs.Laws.{CorrectByRulesAlone, CorrectFromRules, CorrectIsLocal, CountsUpstream, LabelsAreBasins, LeastFromRules, LeastFromRulesProfile2, OpenWithoutSinks, Profile2FromProfile1, RanksPlayNoPart, RulesAreCorrect, RulesFromCorrect, RunsEnd, RunsEndByCounts, SoundFromCorrect};
 
 use crate::cell::MAX_LENGTH;
 use crate::degree::UNITS_PER_DEGREE;
@@ -88,6 +88,17 @@ pub fn rules_are_correct()
 /// Products are correct exactly where every run ends and every rule without ranks holds at every cell.
 pub fn correct_is_local()
     ensures { CorrectIsLocal }
+{}
+
+/// Where rules 10 to 13 hold without ranks at every cell, the run of every data cell ends, since `acc` can't grow by one at each cell of a
+/// ring.
+pub fn runs_end_by_counts()
+    ensures { RunsEndByCounts }
+{}
+
+/// Products are correct exactly where every rule without ranks holds at every cell: no run has to be followed.
+pub fn correct_by_rules_alone()
+    ensures { CorrectByRulesAlone }
 {}
 
 /// Where products are correct no run visits a cell twice, and each ends at an outlet.
