@@ -1,7 +1,8 @@
 //! The audit of products that come without a certificate, against the tiles that they were made from.
 //!
 //! It goes once over the rows of all inputs, with the rules that ask nothing of ranks, and keeps of each cell which way its code leads, in a byte.
-//! Behind the last row it asks which runs end. That this tells correct products from all others is a law of `drain_grid`.
+//! Behind the last row it asks which runs end, but only where a rule failed: where none did, all do. That this tells correct products from all others is a
+//! law of `drain_grid`.
 
 ghost use Rattle.std.specs.Prelude.{◌≡◌, ◌↔◌, map, IfErr, IfOk, IsErrOf};
 ghost use Rattle.drain_device.specs.FaultLists.{SomeReadFails};
@@ -123,6 +124,6 @@ fn audit_of<R: ByteSource>(
         Ranks::Unasked,
         &mut flows,
     )?;
-    let endless = first_endless(&mut flows, layout.shape());
+    let endless = first_endless(&mut flows, layout.shape(), &verdict);
     Ok(verdict_of_both(&verdict, endless))
 }

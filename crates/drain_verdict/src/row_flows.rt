@@ -3,12 +3,17 @@
 ghost use Rattle.std.specs.Prelude.{◌≡◌, ◌*◌, length, MatchOption};
 ghost use Rattle.drain_grid.specs.Certificate.{IsFirstEndless};
 ghost use Rattle.drain_grid.specs.Grid.{Grid, Products};
+ghost use Rattle.drain_grid.specs.Unranked.{unranked};
+ghost use Rattle.drain_grid.specs.Values.{NoDataNumbers};
+ghost use Rattle.drain_rules.specs.Verdicts.{IsVerdictOf};
 ghost use Rattle.drain_runs.specs.Flows.{AreFlowsOf};
 ghost use Rattle.drain_verdict.specs.Audits.{AllRunsEnd};
 
 use crate::held_row::HeldRow;
 use crate::row_notes::RowNotes;
+use drain_grid::laws::correct_by_rules_alone;
 use drain_grid::{Cell, OutOfMemory, Shape};
+use drain_rules::Verdict;
 use drain_runs::CellFlows;
 
 impl RowNotes for CellFlows {
@@ -23,11 +28,17 @@ impl RowNotes for CellFlows {
     }
 }
 
-/// The first data cell whose run doesn't end, of the flows of all cells of a grid. Where there aren't as many flows as cells, as never where the sources
-/// of the rows tell their bytes, it is none.
-pub fn first_endless(flows: &mut CellFlows, shape: Shape) -> Option<Cell>
-    ensures { (g : Grid) (ps : Products) → length flows.old ≡ shape.rows * shape.cols → AreFlowsOf g ps shape flows.old → MatchOption result (AllRunsEnd g ps) (IsFirstEndless g ps) }
+/// The first data cell whose run doesn't end, of the flows of all cells of a grid, where this is the verdict of the rules without ranks. Runs are followed only
+/// where it is a rejection: where every rule holds every run ends, since accumulations can't grow along a ring. Where there aren't as many flows as
+/// cells, as never where the sources of the rows tell their bytes, it is none.
+pub fn first_endless(flows: &mut CellFlows, shape: Shape, verdict: &Verdict) -> Option<Cell>
+    ensures { (g : Grid) (ps : Products) (nodata : NoDataNumbers) → IsVerdictOf (unranked nodata) g ps verdict.now → length flows.old ≡ shape.rows * shape.cols → AreFlowsOf g ps shape flows.old → MatchOption result (AllRunsEnd g ps) (IsFirstEndless g ps) }
 {
+    // The law that where every rule holds without ranks, the products are correct.
+    correct_by_rules_alone();
+    if let Verdict::Accepted(_) = verdict {
+        return None;
+    }
     if flows.len() == shape.cells() {
         flows.first_endless(shape)
     } else {

@@ -66,5 +66,5 @@ returns-clause-answer g c = λ inputs tell.
       answer.0,
       subst IsExtent extent (search rules),
       both_are (grid_of inputs) (products_of inputs) (nodata_numbers inputs) c.in_ok-verdict.verdict c.first_endless-endless.result c.verdict_of_both.result c.verdict_of_both.ensures
-          (c.first_endless-endless.ensures (grid_of inputs) (products_of inputs) flows.counted (AreFlowsOf-all (grid_of inputs) (products_of inputs) c.shape.result c.answer_on.new.notes flows)) answer.1,
+          (c.first_endless-endless.ensures (grid_of inputs) (products_of inputs) (nodata_numbers inputs) answer.1 flows.counted (AreFlowsOf-all (grid_of inputs) (products_of inputs) c.shape.result c.answer_on.new.notes flows)) answer.1,
     )
