@@ -2,6 +2,7 @@ mod EqualGrids
 pub mod Faults
 pub mod FindingLemmas
 pub mod GridLemmas
+pub mod KeptCells
 pub mod LabelsBefore
 pub mod PassedCells
 pub mod PatchFaults

@@ -3,6 +3,7 @@ pub mod FillVerdicts
 pub mod Filled
 pub mod Findings
 pub mod GridWalks
+pub mod KeptRuns
 pub mod Labels
 pub mod Laws
 pub mod MarkedRows

@@ -1,8 +1,10 @@
 //! A row of a grid and its products, with the rows above and below it; and the patch round a column.
 
+use crate::kept::Kept;
 use crate::patch_row::PatchRow;
 use crate::row_view::RowView;
 use drain_grid::Patch;
+use drain_kernel::Rules;
 
 /// A row, and those above and below it; empty where the grid ends.
 #[derive(Drop)]
@@ -26,6 +28,10 @@ impl PatchRow for ThreeRows<'_> {
 
     fn cells_above_ground(&self) -> u32 {
         self.here.cells_above_ground()
+    }
+
+    fn kept_from(&self, _rules: &Rules, from: u32) -> Kept {
+        Kept::none(from)
     }
 
     fn patch(&self, col: u32) -> Patch {
