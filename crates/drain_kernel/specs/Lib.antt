@@ -1,2 +1,10 @@
 pub mod Kept
 pub mod Rules
+pub mod Lanes
+pub mod Shown
+pub mod Taken
+pub mod Asked
+pub mod Around
+pub mod Tests
+pub mod Columns
+pub mod Counts

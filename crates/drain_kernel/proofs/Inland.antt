@@ -1,0 +1,116 @@
+-- A cell and eight neighbours that all have data, the cell not listed as a sink: what its patch shows, and what the test of the surface gives.
+use Rattle.std.proofs.Common.{◌≡◌, ℕ, ◌≤◌, ◌<◌, ℤ, pos, ◌≤ℤ◌, ◌<ℤ◌, Bool, true, false, not, ◌==◌, nat_le, max, map, List, Option, Some, None, is_some, option_map, unwrap_or, inl, inr, refl, sym, ◌∙◌, ap, subst, arith, if◌then◌else◌}
+use Rattle.std.specs.Int.{int_max}
+use Rattle.std.proofs.lemmas.Bool.{false≢true, and_parts}
+use Rattle.std.proofs.lemmas.Bool.Decides.{leb_tells}
+use Rattle.std.proofs.lemmas.Int.{ints, clamps}
+use Rattle.drain_grid.specs.declared.direction.Direction.{Direction}
+use Rattle.drain_grid.specs.declared.direction.Direction.TheVariants.{East, SouthEast, South, SouthWest, West, NorthWest, North, NorthEast}
+use Rattle.drain_grid.specs.Direction.{directions}
+use Rattle.drain_grid.specs.Values.{Values}
+use Rattle.drain_grid.specs.Open.{IsGap}
+use Rattle.drain_grid.specs.Patch.{neighbor, height, IsDataNeighbor, IsOpen}
+use Rattle.drain_grid.specs.PatchRules.{BelowGroundHolds, NotLeastHolds}
+use Rattle.drain_grid.proofs.Options.{same_some}
+use Rattle.drain_kernel.specs.Shown.{lowered, height_of}
+use Rattle.drain_kernel.specs.Tests.{have_data, keeps_surface}
+use Rattle.drain_kernel.proofs.Numbers.{Numbers, values_of, patch_of}
+use Rattle.drain_kernel.proofs.NamedNumbers.{least_bound}
+
+pub le_from : (a b : ℕ) → nat_le a b ≡ true → a ≤ b
+le_from a b h = elim (leb_tells a b) [ inl told ↦ told.1 | inr told ↦ absurd (false≢true (sym told.0 ∙ h)) ]
+
+-- the neighbours are these, they and the cell have data, and the cell isn't listed
+pub record IsInland (here : Numbers) (n : Direction → Numbers) (around : List (Option Values)) : Type 0 where
+  pub neighbor_is : (d : Direction) → neighbor (patch_of here around) d ≡ Some (values_of (n d))
+  pub not_listed : here.sink ≡ false
+  pub here_is : height_of here.z ≡ Some (lowered here.z)
+  pub beside_is : (d : Direction) → height_of (n d).z ≡ Some (lowered (n d).z)
+
+pub of_each : (P : Direction → Type 0) → P East → P SouthEast → P South → P SouthWest → P West → P NorthWest → P North → P NorthEast → (d : Direction) → P d
+of_each P e se s sw w nw nth ne East = e
+of_each P e se s sw w nw nth ne SouthEast = se
+of_each P e se s sw w nw nth ne South = s
+of_each P e se s sw w nw nth ne SouthWest = sw
+of_each P e se s sw w nw nth ne West = w
+of_each P e se s sw w nw nth ne NorthWest = nw
+of_each P e se s sw w nw nth ne North = nth
+of_each P e se s sw w nw nth ne NorthEast = ne
+
+some_height : (z : ℕ) → not (z == 0) ≡ true → height_of z ≡ Some (lowered z)
+some_height z h = by_test (z == 0) h
+  where
+    by_test : (b : Bool) → not b ≡ true → (if b then None else Some (lowered z)) ≡ Some (lowered z)
+    by_test true e = absurd (false≢true e)
+    by_test false e = refl
+
+pub inland_from : (here : Numbers) (n : Direction → Numbers) (around : List (Option Values)) →
+    ((d : Direction) → neighbor (patch_of here around) d ≡ Some (values_of (n d))) → here.sink ≡ false →
+    have_data here.z (map (λ d. (n d).z) directions) ≡ true → IsInland here n around
+unfolding have_data
+inland_from here n around neighbors not_listed h =
+    let ne = and_parts _ _ h in
+    let nth = and_parts _ _ ne.0 in
+    let nw = and_parts _ _ nth.0 in
+    let w = and_parts _ _ nw.0 in
+    let sw = and_parts _ _ w.0 in
+    let s = and_parts _ _ sw.0 in
+    let se = and_parts _ _ s.0 in
+    let e = and_parts _ _ se.0 in
+    record {
+      neighbor_is = neighbors;
+      not_listed = not_listed;
+      here_is = some_height here.z e.0;
+      beside_is = λ d. some_height (n d).z
+          (of_each (λ d. not ((n d).z == 0) ≡ true) e.1 se.1 s.1 sw.1 w.1 nw.1 nth.1 ne.1 d);
+    }
+
+-- each neighbour is a data neighbour
+pub is_beside : (here : Numbers) (n : Direction → Numbers) (around : List (Option Values)) → IsInland here n around → (d : Direction) →
+    IsDataNeighbor (patch_of here around) d (values_of (n d))
+is_beside here n around known d = record { is = known.neighbor_is d; has_data = ap is_some (known.beside_is d) }
+
+-- and there is no other
+pub of_beside : (here : Numbers) (n : Direction → Numbers) (around : List (Option Values)) → IsInland here n around → (d : Direction) (m : Values)
+    (P : Values → Type 0) → P (values_of (n d)) → IsDataNeighbor (patch_of here around) d m → P m
+of_beside here n around known d m P has beside = subst P (same_some (values_of (n d)) m (sym (known.neighbor_is d) ∙ beside.is)) has
+
+pub not_open : (here : Numbers) (n : Direction → Numbers) (around : List (Option Values)) → IsInland here n around → ¬ IsOpen (patch_of here around)
+not_open here n around known opened = elim opened.1 [
+    | inl listed ↦ absurd (false≢true (sym known.not_listed ∙ listed))
+    | inr beside ↦ (
+        let d = beside.0 in
+        let gap = subst (λ o. IsGap (option_map (λ (v : Values). v.z) o)) (known.neighbor_is d) beside.1 in
+        subst (λ o. IsGap (Some o)) (known.beside_is d) gap)
+  ]
+
+height_is : (here : Numbers) (n : Direction → Numbers) (around : List (Option Values)) → IsInland here n around →
+    height (patch_of here around) ≡ lowered here.z
+height_is here n around known = ap (λ o. unwrap_or o (pos 0)) known.here_is
+
+le_lowered : (a b : ℕ) → a ≤ b → lowered a ≤ℤ lowered b
+le_lowered a b h = omega (arith, ints)
+
+at_most_max : (con z l x : ℕ) → con ≤ max z l → l ≤ x → lowered con ≤ℤ int_max (lowered z) (lowered x)
+at_most_max con z l x h k = omega (arith, ints, clamps)
+
+-- what the test of the surface gives
+pub record OfSurface (here : Numbers) (around : List (Option Values)) : Type 0 where
+  pub below_ground : BelowGroundHolds (patch_of here around)
+  pub not_least : NotLeastHolds (patch_of here around)
+
+pub of_surface : (here : Numbers) (n : Direction → Numbers) (around : List (Option Values)) → IsInland here n around →
+    keeps_surface here.z here.con (map (λ d. (n d).con) directions) ≡ true → OfSurface here around
+unfolding keeps_surface
+of_surface here n around known h =
+    let p = patch_of here around in
+    let parts = and_parts _ _ h in
+    let ground_is : height p ≡ lowered here.z = height_is here n around known in
+    record {
+      below_ground = λ _. subst (λ x. x ≤ℤ lowered here.con) (sym ground_is) (le_lowered here.z here.con (le_from here.z here.con parts.0));
+      not_least = λ _ d m beside.
+          let most = le_from _ _ parts.1 in
+          of_beside here n around known d m (λ v. lowered here.con ≤ℤ int_max (height p) v.con)
+          (subst (λ x. lowered here.con ≤ℤ int_max x (lowered (n d).con)) (sym ground_is)
+          (at_most_max here.con here.z _ (n d).con most (least_bound (λ d. (n d).con) d))) beside;
+    }

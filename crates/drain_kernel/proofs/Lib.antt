@@ -1,0 +1,9 @@
+pub mod Alongs
+pub mod NamedNumbers
+pub mod Keys
+pub mod Sums
+pub mod Counting
+pub mod Numbers
+pub mod Inland
+pub mod Ways
+pub mod Meaning

@@ -1,0 +1,162 @@
+-- A cell whose numbers pass every test is kept.
+use Rattle.std.proofs.Common.{◌≡◌, ◌≢◌, ◌≤◌, ◌<◌, ℕ, ℤ, pos, true, false, ◌==◌, max, map, List, Option, slice_index, IsNone, is_some, inr, sym, ◌∙◌, ap, subst, arith}
+use Rattle.std.proofs.lemmas.Bool.{false≢true, and_parts}
+use Rattle.std.proofs.lemmas.Bool.Decides.{Decides-eqb, Decides-ltb}
+use Rattle.drain_grid.specs.declared.direction.Direction.{Direction}
+use Rattle.drain_grid.specs.declared.direction.Direction.TheVariants.{East, SouthEast, South, SouthWest, West, NorthWest, North, NorthEast}
+use Rattle.drain_grid.specs.declared.held.Held.{Held}
+use Rattle.drain_grid.specs.declared.held.Held.TheVariants.{Con, Dir, Acc, Bas, Rnk}
+use Rattle.drain_grid.specs.declared.patch.Patch.{Patch}
+use Rattle.drain_grid.specs.declared.rule.Rule.{Rule}
+use Rattle.drain_grid.specs.declared.rule.Rule.TheVariants.{VoidCell, Missing, BadCode, BelowGround, OpenRaised, NoSpill, SpillHeight, SpillRank, NotLeast, Slope, OutletCode, FlatStep, Accumulation, Label, SharedLabel}
+use Rattle.drain_grid.specs.Direction.{directions, code_of, opposite}
+use Rattle.drain_grid.specs.Held.{product_of}
+use Rattle.drain_grid.specs.Values.{Values, NoDataNumbers, value_of, number_for}
+use Rattle.drain_grid.specs.Patch.{neighbor}
+use Rattle.drain_grid.specs.PatchRules.{AccumulationHolds, inflow, check_rules}
+use Rattle.drain_grid.specs.Unranked.{unranked}
+use Rattle.drain_kernel.specs.declared.lanes.Lanes.{Lanes}
+use Rattle.drain_kernel.specs.declared.rules.Ranks.{Ranks}
+use Rattle.drain_kernel.specs.declared.rules.Ranks.TheVariants.{Asked, Unasked}
+use Rattle.drain_kernel.specs.declared.rules.Rules.{Rules}
+use Rattle.drain_kernel.specs.Asked.{IfAsked}
+use Rattle.drain_kernel.specs.Columns.{PassesAt, RanksPassAt}
+use Rattle.drain_kernel.specs.Kept.{IsKept}
+use Rattle.drain_kernel.specs.Rules.{rules_with, tried}
+use Rattle.drain_kernel.specs.Shown.{height_of, HaveRanks, IsShown, HasRanks, row_beside, col_beside}
+use Rattle.drain_kernel.specs.Tests.{AreComplete, keeps_accumulation}
+use Rattle.drain_kernel.proofs.Inland.{IsInland, inland_from, of_each, not_open, OfSurface, of_surface}
+use Rattle.drain_kernel.proofs.Numbers.{Numbers, values_of, patch_of, numbers_in, numbers_beside, patch_is, neighbor_is}
+use Rattle.drain_kernel.proofs.Sums.{inflow_is, total_is}
+use Rattle.drain_kernel.proofs.Ways.{OfDirection, of_direction, FallsOrNears, falls_or_nears_from, flat_step_from}
+
+-- what the test of the accumulation gives
+of_accumulation : (here : Numbers) (n : Direction → Numbers) (around : List (Option Values)) → IsInland here n around →
+    keeps_accumulation here.acc (map (λ d. (n d).dir) directions) (map (λ d. (n d).acc) directions) ≡ true → AccumulationHolds (patch_of here around)
+unfolding keeps_accumulation
+of_accumulation here n around known h =
+    let parts = and_parts _ _ h in
+    let most : max (max (max (n East).acc (n SouthEast).acc) (max (n South).acc (n SouthWest).acc))
+    (max (max (n West).acc (n NorthWest).acc) (max (n North).acc (n NorthEast).acc)) < 268435456 = (Decides-ltb _ _).0 parts.0 in
+    let small = of_each (λ d. (n d).acc < 268435456) (omega arith) (omega arith) (omega arith) (omega arith) (omega arith) (omega arith) (omega arith) (omega arith) in
+    let from = λ (d : Direction). ap (λ o. inflow o d) (known.neighbor_is d) ∙
+    inflow_is (is_some (height_of (n d).z)) ((n d).dir == code_of (opposite d)) (n d).acc (ap is_some (known.beside_is d)) (small d) in
+    λ _. total_is here.acc _ _ _ _ _ _ _ _ _ _ _ _ _ _ _ _ (from East) (from SouthEast) (from South) (from SouthWest) (from West) (from NorthWest)
+    (from North) (from NorthEast) ((Decides-eqb _ _).0 parts.1)
+
+-- what the tests without ranks give together
+record Passed (nodata : NoDataNumbers) (here : Numbers) (n : Direction → Numbers) (around : List (Option Values)) : Type 0 where
+  inland : IsInland here n around
+  surface : OfSurface here around
+  direction : OfDirection here around
+  sum : AccumulationHolds (patch_of here around)
+  complete : AreComplete nodata here.con here.dir here.acc here.bas
+
+-- no rule without ranks fails
+of_unranked : (nodata : NoDataNumbers) (here : Numbers) (n : Direction → Numbers) (around : List (Option Values)) → Passed nodata here n around →
+    (r : Rule) → unranked nodata (patch_of here around) r
+of_unranked nodata here n around passed VoidCell = λ void. absurd (false≢true (sym (subst IsNone passed.inland.here_is void)))
+of_unranked nodata here n around passed Missing = λ _. record {
+  con_differs = passed.complete.con_differs;
+  dir_differs = passed.complete.dir_differs;
+  acc_differs = passed.complete.acc_differs;
+  bas_differs = passed.complete.bas_differs;
+}
+of_unranked nodata here n around passed BadCode = λ _. inr passed.direction.named
+of_unranked nodata here n around passed BelowGround = passed.surface.below_ground
+of_unranked nodata here n around passed OpenRaised = λ opened. absurd (not_open here n around passed.inland opened)
+of_unranked nodata here n around passed NoSpill = tt
+of_unranked nodata here n around passed SpillHeight = tt
+of_unranked nodata here n around passed SpillRank = tt
+of_unranked nodata here n around passed NotLeast = passed.surface.not_least
+of_unranked nodata here n around passed Slope = passed.direction.slope
+of_unranked nodata here n around passed OutletCode = λ opened. absurd (not_open here n around passed.inland opened)
+of_unranked nodata here n around passed FlatStep = passed.direction.level_step
+of_unranked nodata here n around passed Accumulation = passed.sum
+of_unranked nodata here n around passed Label = passed.direction.label
+of_unranked nodata here n around passed SharedLabel = tt
+
+-- what the tests of ranks give beside it
+record Ranked (nodata : NoDataNumbers) (here : Numbers) (n : Direction → Numbers) : Type 0 where
+  nears : FallsOrNears here n
+  differs : here.rnk ≢ nodata.rnk
+
+is_complete : (nodata : NoDataNumbers) (here : Numbers) → AreComplete nodata here.con here.dir here.acc here.bas → here.rnk ≢ nodata.rnk →
+    (p : Held) → value_of (values_of here) (product_of p) ≢ number_for nodata (product_of p)
+is_complete nodata here complete differs Con = complete.con_differs
+is_complete nodata here complete differs Dir = complete.dir_differs
+is_complete nodata here complete differs Acc = complete.acc_differs
+is_complete nodata here complete differs Bas = complete.bas_differs
+is_complete nodata here complete differs Rnk = differs
+
+-- no rule of a check fails
+of_check : (nodata : NoDataNumbers) (here : Numbers) (n : Direction → Numbers) (around : List (Option Values)) → Passed nodata here n around →
+    Ranked nodata here n → (r : Rule) → check_rules nodata (patch_of here around) r
+of_check nodata here n around passed ranked VoidCell = λ void. absurd (false≢true (sym (subst IsNone passed.inland.here_is void)))
+of_check nodata here n around passed ranked Missing = λ _. is_complete nodata here passed.complete ranked.differs
+of_check nodata here n around passed ranked BadCode = λ _. inr passed.direction.named
+of_check nodata here n around passed ranked BelowGround = passed.surface.below_ground
+of_check nodata here n around passed ranked OpenRaised = λ opened. absurd (not_open here n around passed.inland opened)
+of_check nodata here n around passed ranked NoSpill = tt
+of_check nodata here n around passed ranked SpillHeight = tt
+of_check nodata here n around passed ranked SpillRank = tt
+of_check nodata here n around passed ranked NotLeast = passed.surface.not_least
+of_check nodata here n around passed ranked Slope = passed.direction.slope
+of_check nodata here n around passed ranked OutletCode = λ opened. absurd (not_open here n around passed.inland opened)
+of_check nodata here n around passed ranked FlatStep = flat_step_from here n around passed.inland passed.direction.level_step ranked.nears
+of_check nodata here n around passed ranked Accumulation = passed.sum
+of_check nodata here n around passed ranked Label = passed.direction.label
+of_check nodata here n around passed ranked SharedLabel = tt
+
+of_rules : (ranks : Ranks) (nodata : NoDataNumbers) (here : Numbers) (n : Direction → Numbers) (around : List (Option Values)) →
+    Passed nodata here n around → IfAsked ranks (Ranked nodata here n) → (r : Rule) → rules_with ranks nodata (patch_of here around) r
+of_rules Asked nodata here n around passed ranked = of_check nodata here n around passed ranked
+of_rules Unasked nodata here n around passed ranked = of_unranked nodata here n around passed
+
+-- no direction's code is that of an outlet
+no_outlet : (d : Direction) → code_of d ≢ 0
+no_outlet = of_each (λ d. code_of d ≢ 0) (λ e. cc) (λ e. cc) (λ e. cc) (λ e. cc) (λ e. cc) (λ e. cc) (λ e. cc) (λ e. cc)
+
+not_zero : (code d : ℕ) → pos code ≡ pos d → d ≢ 0 → pos code ≢ pos 0
+not_zero code d is differs h = differs (same_natural d 0 (sym is ∙ h))
+  where
+    same_natural : (a b : ℕ) → pos a ≡ pos b → a ≡ b
+    same_natural a b e = cc
+
+-- where ranks are asked for, they were taken, and the tests of them give what is wanted of the numbers
+ranked_from : (ranks : Ranks) (nodata : NoDataNumbers) (above here below : Lanes) (k : ℕ) (p : Patch) (shown : IsShown above here below k p) →
+    IfAsked ranks (HaveRanks above here below) → IfAsked ranks (RanksPassAt nodata above here below k) →
+    IfAsked ranks (Ranked nodata (numbers_in here k p.here) (numbers_beside above here below k p shown))
+ranked_from Unasked nodata above here below k p shown have passes = tt
+ranked_from Asked nodata above here below k p shown have passes =
+    let own = shown.cell.rnk_is have.here_has in
+    let has : (d : Direction) → HasRanks (row_beside above here below d) = of_each (λ d. HasRanks (row_beside above here below d))
+        have.here_has have.below_has have.below_has have.below_has have.here_has have.above_has have.above_has have.above_has in
+    record {
+      nears = falls_or_nears_from (numbers_in here k p.here) (numbers_beside above here below k p shown) (slice_index here.rnk.items k)
+          (λ d. slice_index (row_beside above here below d).rnk.items (col_beside k d)) own
+          (λ d. (shown.around_is d).1.shown.rnk_is (has d)) passes.ranked;
+      differs = subst (λ r. r ≢ nodata.rnk) (sym own) passes.has_rank;
+    }
+
+-- so at a column of three rows where all tests pass
+pub is_kept : (rules : Rules) (above here below : Lanes) (k : ℕ) (p : Patch) → IsShown above here below k p →
+    IfAsked rules.ranks (HaveRanks above here below) → PassesAt rules above here below k → IsKept (tried rules) p
+is_kept rules above here below k p shown have passes =
+    let at = numbers_in here k p.here in
+    let n = numbers_beside above here below k p shown in
+    let known = inland_from at n p.around (neighbor_is above here below k p shown) shown.not_listed passes.inland in
+    let direction = of_direction at n p.around known passes.direction in
+    let passed : Passed rules.nodata at n p.around = record {
+      inland = known;
+      surface = of_surface at n p.around known passes.surface;
+      direction = direction;
+      sum = of_accumulation at n p.around known passes.accumulation;
+      complete = passes.complete;
+    } in
+    let ranked = ranked_from rules.ranks rules.nodata above here below k p shown have passes.ranks in
+    subst (IsKept (tried rules)) (sym (patch_is above here below k p shown)) (record {
+      holds = λ r own. of_rules rules.ranks rules.nodata at n p.around passed ranked r;
+      has_data = ap is_some known.here_is;
+      no_outlet = not_zero at.dir (code_of direction.named.0) direction.named.1 (no_outlet direction.named.0);
+    })

@@ -1,0 +1,65 @@
+-- The numbers of a cell as lanes hold them, and what three rows of lanes show, made of such cells.
+use Rattle.std.proofs.Common.{◌≡◌, ℕ, ℤ, pos, Bool, List, Option, Some, slice_index, ◌∙◌, ap}
+use Rattle.drain_grid.specs.declared.direction.Direction.{Direction}
+use Rattle.drain_grid.specs.declared.patch.Patch.{Patch}
+use Rattle.drain_grid.specs.Patch.{neighbor}
+use Rattle.drain_grid.specs.Values.{Values}
+use Rattle.drain_kernel.specs.declared.lanes.Lanes.{Lanes}
+use Rattle.drain_kernel.specs.Shown.{lowered, height_of, Shows, IsShown, row_beside, col_beside}
+
+-- what lanes say of a cell, and beside it what they needn't say
+pub record Numbers : Type 0 where
+  pub z : ℕ
+  pub con : ℕ
+  pub dir : ℕ
+  pub acc : ℕ
+  pub bas : ℕ
+  pub sink : Bool
+  pub spl : ℤ
+  pub rnk : ℤ
+
+abbrev pub values_of : Numbers → Values
+values_of n = record { z = height_of n.z; sink = n.sink; con = lowered n.con; dir = pos n.dir; acc = pos n.acc; bas = pos n.bas; spl = n.spl; rnk = n.rnk }
+
+abbrev pub patch_of : Numbers → List (Option Values) → Patch
+patch_of here around = record { here = values_of here; around = around }
+
+-- the numbers of a cell whose values a row shows
+abbrev pub numbers_in : Lanes → ℕ → Values → Numbers
+numbers_in row k v = record {
+  z = slice_index row.z.items k;
+  con = slice_index row.con.items k;
+  dir = slice_index row.dir.items k;
+  acc = slice_index row.acc.items k;
+  bas = slice_index row.bas.items k;
+  sink = v.sink;
+  spl = v.spl;
+  rnk = v.rnk;
+}
+
+pub values_are : (row : Lanes) (k : ℕ) (v : Values) → Shows row k v → v ≡ values_of (numbers_in row k v)
+values_are row k v s = λ i. record {
+  z = s.z_is i;
+  sink = v.sink;
+  con = s.con_is i;
+  dir = s.dir_is i;
+  acc = s.acc_is i;
+  bas = s.bas_is i;
+  spl = v.spl;
+  rnk = v.rnk;
+}
+
+-- and those of its neighbours
+abbrev pub numbers_beside : (above here below : Lanes) (k : ℕ) (p : Patch) → IsShown above here below k p → Direction → Numbers
+numbers_beside above here below k p shown d =
+    numbers_in (row_beside above here below d) (col_beside k d) (shown.around_is d).0
+
+pub patch_is : (above here below : Lanes) (k : ℕ) (p : Patch) → IsShown above here below k p → p ≡ patch_of (numbers_in here k p.here) p.around
+patch_is above here below k p shown = λ i. record { here = values_are here k p.here shown.cell i; around = p.around }
+
+pub neighbor_is : (above here below : Lanes) (k : ℕ) (p : Patch) (shown : IsShown above here below k p) (d : Direction) →
+    neighbor p d ≡ Some (values_of (numbers_beside above here below k p shown d))
+neighbor_is above here below k p shown d =
+    let v = (shown.around_is d).0 in
+    let at = (shown.around_is d).1 in
+    at.is ∙ ap Some (values_are (row_beside above here below d) (col_beside k d) v at.shown)

@@ -1,0 +1,184 @@
+-- What the tests of the direction and of ranks give at an inland cell.
+use Rattle.std.proofs.Common.{◌≡◌, ◌⊎◌, ℕ, ◌-◌, ◌*◌, ◌≤◌, ◌<◌, ℤ, pos, ◌-ℤ◌, ◌≤ℤ◌, ◌<ℤ◌, Bool, true, false, not, map, List, Option, Some, inl, inr, refl, sym, ◌∙◌, ap, subst, arith}
+use Rattle.std.proofs.lemmas.Bool.{false≢true, and_parts, or_cases}
+use Rattle.std.proofs.lemmas.Bool.Decides.{Decides-eqb, Decides-ltb}
+use Rattle.std.proofs.lemmas.Int.{ints}
+use Rattle.drain_grid.specs.declared.direction.Direction.{Direction}
+use Rattle.drain_grid.specs.Direction.{directions, Names, NamesSome, is_straight}
+use Rattle.drain_grid.specs.Values.{Values}
+use Rattle.drain_grid.specs.Patch.{IsLower, HasLower}
+use Rattle.drain_grid.specs.Slope.{slope_key, IsSteepest}
+use Rattle.drain_grid.specs.PatchRules.{SlopeHolds, FlatStepHolds, LabelHolds}
+use Rattle.drain_grid.specs.Unranked.{IsLevelStep, LevelStepHolds}
+use Rattle.drain_grid.proofs.Options.{same_some}
+use Rattle.drain_kernel.specs.Around.{named_in, least_straight_in, least_across_in}
+use Rattle.drain_kernel.specs.Shown.{lowered}
+use Rattle.drain_kernel.specs.Tests.{keeps_direction, falls_steepest, steps_along, falls_or_nears}
+use Rattle.drain_kernel.proofs.Inland.{IsInland, is_beside, of_beside, le_from}
+use Rattle.drain_kernel.proofs.Keys.{weight, key_is, straight_is_greatest, across_is_greatest}
+use Rattle.drain_kernel.proofs.NamedNumbers.{named_is, names_some, straight_is, least_straight_bound, least_across_bound, least_bound}
+use Rattle.drain_kernel.proofs.Numbers.{Numbers, values_of, patch_of}
+
+lt_lowered : (a b : ℕ) → a < b → lowered a <ℤ lowered b
+lt_lowered a b h = omega (arith, ints)
+
+lt_from_lowered : (a b : ℕ) → lowered a <ℤ lowered b → a < b
+lt_from_lowered a b h = omega (arith, ints)
+
+-- a neighbour with a smaller number is lower
+lower_beside : (here : Numbers) (n : Direction → Numbers) (around : List (Option Values)) → IsInland here n around → (d : Direction) →
+    (n d).con < here.con → IsLower (patch_of here around) d (values_of (n d))
+lower_beside here n around known d less = record { beside = is_beside here n around known d; below = lt_lowered (n d).con here.con less }
+
+-- and a lower one has a smaller number
+number_of_lower : (here : Numbers) (n : Direction → Numbers) (around : List (Option Values)) → IsInland here n around → (d : Direction) (m : Values) →
+    IsLower (patch_of here around) d m → (n d).con < here.con
+number_of_lower here n around known d m lower =
+    lt_from_lowered (n d).con here.con
+    (subst (λ (v : Values). v.con <ℤ lowered here.con) (sym (same_some (values_of (n d)) m (sym (known.neighbor_is d) ∙ lower.beside.is))) lower.below)
+
+-- the keys of lower neighbours, and that of a steepest
+is_steepest : (here : Numbers) (n : Direction → Numbers) (around : List (Option Values)) → IsInland here n around → (d : Direction) → (n d).con < here.con →
+    ((e : Direction) → weight (is_straight e) ((here.con - (n e).con) * (here.con - (n e).con)) ≤
+    weight (is_straight d) ((here.con - (n d).con) * (here.con - (n d).con))) → IsSteepest (patch_of here around) d
+is_steepest here n around known d less most = (
+  values_of (n d),
+  record {
+    lower = lower_beside here n around known d less;
+    greatest = λ e m lower.
+        let below = number_of_lower here n around known e m lower in
+        let there : (n e).con ≤ here.con = omega arith in
+        let own : (n d).con ≤ here.con = omega arith in
+        of_beside here n around known e m (λ v. slope_key (is_straight e) (lowered here.con -ℤ v.con) ≤ℤ slope_key (is_straight d) (lowered here.con -ℤ lowered (n d).con))
+        (le_of_keys _ _ _ _ (key_is (is_straight e) here.con (n e).con there) (key_is (is_straight d) here.con (n d).con own) (most e)) lower.beside;
+  },
+)
+  where
+    le_of_keys : (a b : ℤ) (x y : ℕ) → a ≡ pos x → b ≡ pos y → x ≤ y → a ≤ℤ b
+    le_of_keys a b x y is_x is_y h = omega (arith, ints)
+
+-- the code leads down the steepest way
+steepest_from : (here : Numbers) (n : Direction → Numbers) (around : List (Option Values)) → IsInland here n around → (d : Direction) →
+    Names (pos here.dir) d → here.con ≤ 65535 → falls_steepest here.con here.dir (map (λ d. (n d).con) directions) ≡ true →
+    IsSteepest (patch_of here around) d
+unfolding falls_steepest
+steepest_from here n around known d named fits h =
+    let cons = λ (e : Direction). (n e).con in
+    let parts = and_parts _ _ h in
+    let next = named_is cons here.dir d named in
+    let less : (n d).con < here.con = subst (λ x. x < here.con) next ((Decides-ltb _ _).0 parts.0) in
+    let way = straight_is here.dir d named in
+    is_steepest here n around known d less (λ e. elim (or_cases _ _ parts.1) [
+      | inl straight ↦ (
+          let bound = and_parts _ _ straight in
+          let goes = and_parts _ _ bound.0 in
+          let at : (n d).con ≡ least_straight_in (map cons directions) = sym next ∙ (Decides-eqb _ _).0 goes.1 in
+          subst (λ s. weight (is_straight e) ((here.con - (n e).con) * (here.con - (n e).con)) ≤ weight s ((here.con - (n d).con) * (here.con - (n d).con))) (sym (sym way ∙ goes.0))
+          (subst (λ x. weight (is_straight e) ((here.con - (n e).con) * (here.con - (n e).con)) ≤ weight true ((here.con - x) * (here.con - x))) (sym at)
+          (straight_is_greatest here.con _ _ (n e).con (is_straight e) fits (least_straight_bound cons e) (least_across_bound cons e) (le_from _ _ bound.1))))
+      | inr across ↦ (
+          let bound = and_parts _ _ across in
+          let goes = and_parts _ _ bound.0 in
+          let at : (n d).con ≡ least_across_in (map cons directions) = sym next ∙ (Decides-eqb _ _).0 goes.1 in
+          subst (λ s. weight (is_straight e) ((here.con - (n e).con) * (here.con - (n e).con)) ≤ weight s ((here.con - (n d).con) * (here.con - (n d).con))) (sym (sym way ∙ false_from _ goes.0))
+          (subst (λ x. weight (is_straight e) ((here.con - (n e).con) * (here.con - (n e).con)) ≤ weight false ((here.con - x) * (here.con - x))) (sym at)
+          (across_is_greatest here.con _ _ (n e).con (is_straight e) fits (least_straight_bound cons e) (least_across_bound cons e) (le_from _ _ bound.1))))
+    ])
+  where
+    false_from : (b : Bool) → not b ≡ true → b ≡ false
+    false_from true e = absurd (false≢true e)
+    false_from false e = refl
+
+-- a step along the flat, at a cell with no lower neighbour
+step_from : (here : Numbers) (n : Direction → Numbers) (around : List (Option Values)) → IsInland here n around → (d : Direction) → Names (pos here.dir) d →
+    steps_along here.con here.dir (map (λ d. (n d).con) directions) ≡ true →
+    (¬ HasLower (patch_of here around)) × IsLevelStep (patch_of here around) d (values_of (n d))
+unfolding steps_along
+step_from here n around known d named h =
+    let level = and_parts _ _ h in
+    let least = le_from _ _ level.1 in (
+      (λ lower. let e = lower.1.0 in
+          let below = number_of_lower here n around known e lower.1.1.0 lower.1.1.1 in
+          let bound = least_bound (λ d. (n d).con) e in
+          absurd (omega arith)),
+      record {
+        named = named;
+        beside = is_beside here n around known d;
+        level = ap lowered (sym (named_is (λ d. (n d).con) here.dir d named) ∙ (Decides-eqb _ _).0 level.0);
+      },
+    )
+
+-- what the test of the direction gives
+pub record OfDirection (here : Numbers) (around : List (Option Values)) : Type 0 where
+  pub named : NamesSome (pos here.dir)
+  pub slope : SlopeHolds (patch_of here around)
+  pub level_step : LevelStepHolds (patch_of here around)
+  pub label : LabelHolds (patch_of here around)
+
+pub of_direction : (here : Numbers) (n : Direction → Numbers) (around : List (Option Values)) → IsInland here n around →
+    keeps_direction here.con here.dir (map (λ d. (n d).con) directions) here.bas (map (λ d. (n d).bas) directions) ≡ true → OfDirection here around
+unfolding keeps_direction
+of_direction here n around known h =
+    let labelled = and_parts _ _ h in
+    let goes = and_parts _ _ labelled.0 in
+    let fits = and_parts _ _ goes.0 in
+    let code = names_some here.dir fits.0 in
+    let d = code.0 in
+    let most = le_from _ _ fits.1 in
+    let label : LabelHolds (patch_of here around) = λ _ e m named beside.
+    of_beside here n around known e m (λ v. pos here.bas ≡ v.bas)
+    (ap pos (sym ((Decides-eqb _ _).0 labelled.1) ∙ named_is (λ d. (n d).bas) here.dir e named)) beside in
+    elim (or_cases _ _ goes.1) [
+      | inl falls ↦ (
+          let steepest = steepest_from here n around known d code.1 most falls in
+          record {
+            named = code;
+            slope = λ _. (d, code.1, steepest);
+            level_step = λ closed none. absurd (none (closed.0, (d, (steepest.0, steepest.1.lower))));
+            label = label;
+          })
+      | inr along ↦ (
+          let step = step_from here n around known d code.1 along in
+          record {
+            named = code;
+            slope = λ lower. absurd (step.0 lower);
+            level_step = λ _ _. (d, values_of (n d), step.1);
+            label = label;
+          })
+    ]
+
+-- the code leads to a smaller conditioned elevation, or to a smaller rank
+abbrev pub FallsOrNears : Numbers → (Direction → Numbers) → Type 0
+FallsOrNears here n = (d : Direction) → Names (pos here.dir) d → ((n d).con < here.con) ⊎ ((n d).rnk <ℤ here.rnk)
+
+lt_of_ranks : (r s : ℤ) (a b : ℕ) → r ≡ pos a → s ≡ pos b → a < b → r <ℤ s
+lt_of_ranks r s a b is_a is_b h = omega (arith, ints)
+
+pub falls_or_nears_from : (here : Numbers) (n : Direction → Numbers) (rank : ℕ) (ranks : Direction → ℕ) → here.rnk ≡ pos rank →
+    ((d : Direction) → (n d).rnk ≡ pos (ranks d)) →
+    falls_or_nears here.con here.dir (map (λ d. (n d).con) directions) rank (map ranks directions) ≡ true → FallsOrNears here n
+unfolding falls_or_nears
+falls_or_nears_from here n rank ranks own others h = λ d named. elim (or_cases _ _ h) [
+    | inl falls ↦ inl (subst (λ x. x < here.con) (named_is (λ e. (n e).con) here.dir d named) ((Decides-ltb _ _).0 falls))
+    | inr nears ↦ inr (lt_of_ranks (n d).rnk here.rnk (ranks d) rank (others d) own
+        (subst (λ x. x < rank) (named_is ranks here.dir d named) ((Decides-ltb _ _).0 nears)))
+  ]
+
+-- so a step along the flat leads to a smaller rank
+pub flat_step_from : (here : Numbers) (n : Direction → Numbers) (around : List (Option Values)) → IsInland here n around →
+    LevelStepHolds (patch_of here around) → FallsOrNears here n → FlatStepHolds (patch_of here around)
+flat_step_from here n around known holds nears = λ closed none.
+    let found = holds closed none in
+    let d = found.0 in
+    let v = found.1 in
+    let step = found.2 in
+    let nearer : v.con ≡ lowered here.con → v.rnk <ℤ here.rnk =
+        of_beside here n around known d v (λ m. m.con ≡ lowered here.con → m.rnk <ℤ here.rnk)
+        (λ level. elim (nears d step.named) [
+          | inl less ↦ absurd (not_less (n d).con here.con level less)
+          | inr less ↦ less
+        ]) step.beside in
+    (d, v, record { named = step.named; beside = step.beside; level = step.level; nearer = nearer step.level })
+  where
+    not_less : (a b : ℕ) → lowered a ≡ lowered b → a < b → ⊥
+    not_less a b same h = omega (arith, ints)

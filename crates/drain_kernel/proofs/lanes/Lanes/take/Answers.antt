@@ -1,0 +1,67 @@
+use Rattle.std.proofs.Common.{◌≡◌, ℕ, ◌<◌, ℤ, List, Bool, true, false, ◌&&◌, IsTrue, length, vec_len, refl, sym, ◌∙◌, subst}
+use Rattle.std.proofs.lemmas.Bool.{and_parts, false≢true}
+use Rattle.drain_grid.specs.declared.held.Held.TheVariants.{Con, Dir, Acc, Bas, Rnk}
+use Rattle.drain_kernel.specs.Asked.{IfAsked}
+use Rattle.drain_kernel.specs.declared.rules.Ranks.{Ranks}
+use Rattle.drain_kernel.specs.declared.rules.Ranks.TheVariants.{Asked, Unasked}
+use Rattle.drain_kernel.specs.Lanes.{AreLanes, AreHeightLanes}
+use Rattle.drain_kernel.proofs.lanes.Lanes.take.Goals as goal
+
+-- all six fit
+record AllFit (z con dir acc bas rnk : Bool) : Type 0 where
+  z_fits : z ≡ true
+  con_fits : con ≡ true
+  dir_fits : dir ≡ true
+  acc_fits : acc ≡ true
+  bas_fits : bas ≡ true
+  rnk_fits : rnk ≡ true
+
+all_fit : (z con dir acc bas rnk : Bool) → (((((z && con) && dir) && acc) && bas) && rnk) ≡ true → AllFit z con dir acc bas rnk
+all_fit z con dir acc bas rnk h =
+    let five = and_parts _ rnk h in
+    let four = and_parts _ bas five.0 in
+    let three = and_parts _ acc four.0 in
+    let two = and_parts _ dir three.0 in
+    let one = and_parts z con two.0 in
+    record { z_fits = one.0; con_fits = one.1; dir_fits = two.1; acc_fits = three.1; bas_fits = four.1; rnk_fits = five.1 }
+
+same_len : (lanes numbers cols z : ℕ) → lanes ≡ numbers → numbers ≡ cols → z ≡ cols → lanes ≡ z
+same_len lanes numbers cols z own long here = own ∙ long ∙ sym here
+
+pub invariant_of-self-else-not-fit : goal.invariant_of-self-else-not-fit
+invariant_of-self-else-not-fit c =
+    let fit = all_fit c.take_heights.result c.take_heights-2.result c.take_numbers.result c.take_numbers-2.result c.take_numbers-3.result
+    c.take_ranks.result c.if-not-fit.false in
+    let cols = c.take_heights.ensures.len fit.z_fits in
+    record {
+      con_len = same_len _ _ _ _ (c.take_heights-2.ensures.len fit.con_fits) (c.requires Con) cols;
+      dir_len = same_len _ _ _ _ (c.take_numbers.ensures.len fit.dir_fits) (c.requires Dir) cols;
+      acc_len = same_len _ _ _ _ (c.take_numbers-2.ensures.len fit.acc_fits) (c.requires Acc) cols;
+      bas_len = same_len _ _ _ _ (c.take_numbers-3.ensures.len fit.bas_fits) (c.requires Bas) cols;
+    }
+
+asked_len : (ranks : Ranks) (lanes numbers cols z : ℕ) → IfAsked ranks (lanes ≡ numbers) → numbers ≡ cols → z ≡ cols → IfAsked ranks (lanes ≡ z)
+asked_len Asked lanes numbers cols z own long here = same_len lanes numbers cols z own long here
+asked_len Unasked lanes numbers cols z own long here = tt
+
+pub returns-else-not-fit-clause-lanes : goal.returns-else-not-fit-clause-lanes
+returns-else-not-fit-clause-lanes c = λ all.
+    let fit = all_fit c.take_heights.result c.take_heights-2.result c.take_numbers.result c.take_numbers-2.result c.take_numbers-3.result
+    c.take_ranks.result all in
+    let cols = c.take_heights.ensures.len fit.z_fits in
+    record {
+      len = cols;
+      heights = c.take_heights.ensures.lanes fit.z_fits;
+      con = λ k less. c.take_heights-2.ensures.lanes fit.con_fits k (subst (λ n. k < n) (sym (c.requires Con)) less);
+      dir = λ k less. c.take_numbers.ensures.lanes fit.dir_fits k (subst (λ n. k < n) (sym (c.requires Dir)) less);
+      acc = λ k less. c.take_numbers-2.ensures.lanes fit.acc_fits k (subst (λ n. k < n) (sym (c.requires Acc)) less);
+      bas = λ k less. c.take_numbers-3.ensures.lanes fit.bas_fits k (subst (λ n. k < n) (sym (c.requires Bas)) less);
+      rnk = λ has k less. c.take_ranks.ensures.lanes fit.rnk_fits (has ∙ cols ∙ sym (c.requires Rnk)) k
+          (subst (λ n. k < n) (sym (c.requires Rnk)) less);
+    }
+
+pub returns-else-not-fit-clause-ranked : goal.returns-else-not-fit-clause-ranked
+returns-else-not-fit-clause-ranked c = λ all.
+    let fit = all_fit c.take_heights.result c.take_heights-2.result c.take_numbers.result c.take_numbers-2.result c.take_numbers-3.result
+    c.take_ranks.result all in
+    asked_len c.args.ranks _ _ _ _ (c.take_ranks.ensures.len fit.rnk_fits) (c.requires Rnk) (c.take_heights.ensures.len fit.z_fits)

@@ -1,0 +1,14 @@
+use Rattle.std.proofs.Common.{◌-◌, ◌≤◌}
+use Rattle.drain_kernel.specs.Columns.{Along, PassesAt}
+use Rattle.drain_kernel.proofs.strides.passed_strides.Given as goal
+
+-- the columns that were passed pass all tests
+abbrev pub invariant-loop-k : goal.invariant-loop-k
+invariant-loop-k l = record {
+  forward : l.from ≤ l.k;
+  within : l.k ≤ l.end;
+  passed : Along l.from l.k (PassesAt l.rules l.above l.here l.below);
+}
+
+abbrev pub decreases-loop-k : goal.decreases-loop-k
+decreases-loop-k l = l.end - l.k

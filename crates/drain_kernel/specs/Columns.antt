@@ -1,0 +1,57 @@
+-- The tests at a column of three rows of lanes.
+use Rattle.std.specs.Prelude.{◌≢◌, ℕ, ◌≤◌, ◌<◌, pos, Bool, IsTrue, slice_index}
+use Rattle.drain_grid.specs.Values.{NoDataNumbers}
+use Rattle.drain_kernel.specs.declared.lanes.Lanes.{Lanes}
+use Rattle.drain_kernel.specs.declared.rules.Rules.{Rules}
+use Rattle.drain_kernel.specs.Around.{around_in}
+use Rattle.drain_kernel.specs.Asked.{IfAsked}
+use Rattle.drain_kernel.specs.Tests.{AreComplete, have_data, keeps_surface, keeps_direction, keeps_accumulation, falls_or_nears}
+
+abbrev pub is_inland_at : Lanes → Lanes → Lanes → ℕ → Bool
+is_inland_at a h b k = have_data (slice_index h.z.items k) (around_in a.z.items h.z.items b.z.items k)
+
+abbrev pub keeps_surface_at : Lanes → Lanes → Lanes → ℕ → Bool
+keeps_surface_at a h b k =
+    keeps_surface (slice_index h.z.items k) (slice_index h.con.items k) (around_in a.con.items h.con.items b.con.items k)
+
+abbrev pub keeps_direction_at : Lanes → Lanes → Lanes → ℕ → Bool
+keeps_direction_at a h b k =
+    keeps_direction (slice_index h.con.items k) (slice_index h.dir.items k) (around_in a.con.items h.con.items b.con.items k)
+    (slice_index h.bas.items k) (around_in a.bas.items h.bas.items b.bas.items k)
+
+abbrev pub keeps_accumulation_at : Lanes → Lanes → Lanes → ℕ → Bool
+keeps_accumulation_at a h b k =
+    keeps_accumulation (slice_index h.acc.items k) (around_in a.dir.items h.dir.items b.dir.items k)
+    (around_in a.acc.items h.acc.items b.acc.items k)
+
+abbrev pub is_ranked_at : Lanes → Lanes → Lanes → ℕ → Bool
+is_ranked_at a h b k =
+    falls_or_nears (slice_index h.con.items k) (slice_index h.dir.items k) (around_in a.con.items h.con.items b.con.items k)
+    (slice_index h.rnk.items k) (around_in a.rnk.items h.rnk.items b.rnk.items k)
+
+-- no number of a column but its rank is its product's no-data number
+abbrev pub IsCompleteAt : NoDataNumbers → Lanes → ℕ → Type 0
+IsCompleteAt nodata h k =
+    AreComplete nodata (slice_index h.con.items k) (slice_index h.dir.items k) (slice_index h.acc.items k) (slice_index h.bas.items k)
+
+-- nor is its rank
+abbrev pub HasRankAt : NoDataNumbers → Lanes → ℕ → Type 0
+HasRankAt nodata h k = pos (slice_index h.rnk.items k) ≢ nodata.rnk
+
+-- the tests of ranks pass at a column
+pub record RanksPassAt (nodata : NoDataNumbers) (a h b : Lanes) (k : ℕ) : Type 0 where
+  pub ranked : IsTrue (is_ranked_at a h b k)
+  pub has_rank : HasRankAt nodata h k
+
+-- all tests pass at a column
+pub record PassesAt (rules : Rules) (a h b : Lanes) (k : ℕ) : Type 0 where
+  pub inland : IsTrue (is_inland_at a h b k)
+  pub surface : IsTrue (keeps_surface_at a h b k)
+  pub direction : IsTrue (keeps_direction_at a h b k)
+  pub accumulation : IsTrue (keeps_accumulation_at a h b k)
+  pub complete : IsCompleteAt rules.nodata h k
+  pub ranks : IfAsked rules.ranks (RanksPassAt rules.nodata a h b k)
+
+-- the columns from one up to another
+abbrev pub Along : ℕ → ℕ → (ℕ → Type 0) → Type 0
+Along from end P = (k : ℕ) → from ≤ k → k < end → P k

@@ -1,0 +1,68 @@
+-- What lanes show at a column, and the patch that three rows of lanes show round it.
+use Rattle.std.specs.Prelude.{◌≡◌, ℕ, ◌+◌, ◌-◌, ℤ, pos, ◌-ℤ◌, ◌==◌, false, Option, Some, None, slice_index, vec_len, if◌then◌else◌}
+use Rattle.drain_grid.specs.declared.direction.Direction.{Direction}
+use Rattle.drain_grid.specs.declared.direction.Direction.TheVariants.{East, SouthEast, South, SouthWest, West, NorthWest, North, NorthEast}
+use Rattle.drain_grid.specs.declared.patch.Patch.{Patch}
+use Rattle.drain_grid.specs.Patch.{neighbor}
+use Rattle.drain_grid.specs.Values.{Values}
+use Rattle.drain_kernel.specs.declared.lanes.Lanes.{Lanes}
+
+-- the height that a lane holds: 32768 less than the lane
+abbrev pub lowered : ℕ → ℤ
+lowered n = pos n -ℤ pos 32768
+
+-- the elevation that a lane holds: none where the lane is 0
+abbrev pub height_of : ℕ → Option ℤ
+height_of n = if n == 0 then None else Some (lowered n)
+
+-- ranks were taken
+abbrev pub HasRanks : Lanes → Type 0
+HasRanks row = vec_len row.rnk ≡ vec_len row.z
+
+-- they were taken of three rows
+pub record HaveRanks (above here below : Lanes) : Type 0 where
+  pub above_has : HasRanks above
+  pub here_has : HasRanks here
+  pub below_has : HasRanks below
+
+-- the row has these values at a column, of the rank only where ranks were taken; of spill parents and of lists of sinks it says nothing
+pub record Shows (row : Lanes) (k : ℕ) (v : Values) : Type 0 where
+  pub z_is : v.z ≡ height_of (slice_index row.z.items k)
+  pub con_is : v.con ≡ lowered (slice_index row.con.items k)
+  pub dir_is : v.dir ≡ pos (slice_index row.dir.items k)
+  pub acc_is : v.acc ≡ pos (slice_index row.acc.items k)
+  pub bas_is : v.bas ≡ pos (slice_index row.bas.items k)
+  pub rnk_is : HasRanks row → v.rnk ≡ pos (slice_index row.rnk.items k)
+
+-- the row where the neighbour in a direction lies
+abbrev pub row_beside : Lanes → Lanes → Lanes → Direction → Lanes
+row_beside above here below East = here
+row_beside above here below SouthEast = below
+row_beside above here below South = below
+row_beside above here below SouthWest = below
+row_beside above here below West = here
+row_beside above here below NorthWest = above
+row_beside above here below North = above
+row_beside above here below NorthEast = above
+
+-- and its column
+abbrev pub col_beside : ℕ → Direction → ℕ
+col_beside k East = k + 1
+col_beside k SouthEast = k + 1
+col_beside k South = k
+col_beside k SouthWest = k - 1
+col_beside k West = k - 1
+col_beside k NorthWest = k - 1
+col_beside k North = k
+col_beside k NorthEast = k + 1
+
+-- the values in a direction, of a neighbour that is there
+pub record IsShownAt (above here below : Lanes) (k : ℕ) (p : Patch) (d : Direction) (v : Values) : Type 0 where
+  pub is : neighbor p d ≡ Some v
+  pub shown : Shows (row_beside above here below d) (col_beside k d) v
+
+-- the patch round a column with eight neighbours, of a cell that is not listed as a sink
+pub record IsShown (above here below : Lanes) (k : ℕ) (p : Patch) : Type 0 where
+  pub cell : Shows here k p.here
+  pub not_listed : p.here.sink ≡ false
+  pub around_is : (d : Direction) → (v : Values) × IsShownAt above here below k p d v

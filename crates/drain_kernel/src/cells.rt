@@ -1,0 +1,157 @@
+//! The tests at one cell, without a branch, so that a loop of them can go many cells at a time.
+
+ghost use Rattle.std.specs.Prelude.{◌≡◌, ◌≢◌, ◌≤◌, IsTrue, pos, ◌-ℤ◌};
+ghost use Rattle.drain_kernel.specs.Tests.{AreComplete, have_data, keeps_surface, keeps_direction, keeps_accumulation, falls_steepest, steps_along, square_of_drop, handed_on};
+
+use crate::around::{is_direction, is_straight, least_across, least_straight, named};
+use drain_grid::NoData;
+
+/// Accumulations below this add up, eight of them, within 32 bits.
+const LARGE: u32 = 268435456;
+
+/// The greatest height, 32768 more than it is.
+const HIGHEST: u32 = 65535;
+
+/// Whether a cell and its neighbours have data.
+#[inline(always)]
+#[tactic(auto, unfolding(crate::specs::Tests::have_data))]
+pub fn have_data(z: u32, zs: [u32; 8]) -> bool
+    ensures { result ≡ have_data z zs }
+{
+    (z != 0)
+        & (zs[0] != 0)
+        & (zs[1] != 0)
+        & (zs[2] != 0)
+        & (zs[3] != 0)
+        & (zs[4] != 0)
+        & (zs[5] != 0)
+        & (zs[6] != 0)
+        & (zs[7] != 0)
+}
+
+/// The rules of the conditioned elevation, at a cell where all have data.
+#[inline(always)]
+#[tactic(auto, unfolding(crate::specs::Tests::keeps_surface))]
+pub fn keeps_surface(height: u32, con: u32, cons: [u32; 8]) -> bool
+    ensures { result ≡ keeps_surface height con cons }
+{
+    let least = least_straight(cons).min(least_across(cons));
+    (height <= con) & (con <= height.max(least))
+}
+
+/// The square of a drop, 0 where there is none.
+#[inline(always)]
+fn square_of_drop(con: u32, low: u32) -> u32
+    ensures { result ≡ square_of_drop con low }
+{
+    let drop = con.saturating_sub(low).min(HIGHEST);
+    drop * drop
+}
+
+/// Whether the code leads down the steepest way.
+#[inline(always)]
+#[tactic(auto, unfolding(crate::specs::Tests::falls_steepest))]
+fn falls_steepest(con: u32, code: u32, cons: [u32; 8]) -> bool
+    ensures { result ≡ falls_steepest con code cons }
+{
+    let next = named(code, cons);
+    let straight = least_straight(cons);
+    let across = least_across(cons);
+    let along = square_of_drop(con, straight);
+    let aslant = square_of_drop(con, across);
+    let goes_straight = is_straight(code) & (next == straight) & (aslant / 2 + aslant % 2 <= along);
+    let goes_across = !is_straight(code) & (next == across) & (along <= aslant / 2);
+    (next < con) & (goes_straight | goes_across)
+}
+
+/// Whether no neighbour is lower, and the code leads along the flat.
+#[inline(always)]
+#[tactic(auto, unfolding(crate::specs::Tests::steps_along))]
+fn steps_along(con: u32, code: u32, cons: [u32; 8]) -> bool
+    ensures { result ≡ steps_along con code cons }
+{
+    let least = least_straight(cons).min(least_across(cons));
+    (named(code, cons) == con) & (con <= least)
+}
+
+/// The rules of the direction, without ranks, and of the label, at a cell where all have data.
+#[inline(always)]
+#[tactic(auto, unfolding(crate::specs::Tests::keeps_direction))]
+pub fn keeps_direction(con: u32, code: u32, cons: [u32; 8], label: u32, labels: [u32; 8]) -> bool
+    ensures { result ≡ keeps_direction con code cons label labels }
+{
+    let goes = falls_steepest(con, code, cons) | steps_along(con, code, cons);
+    is_direction(code) & (con <= HIGHEST) & goes & (named(code, labels) == label)
+}
+
+/// What a neighbour hands on.
+#[inline(always)]
+fn handed_on(code: u32, back: u32, acc: u32) -> u32
+    ensures number { result ≡ handed_on code back acc }
+    ensures small { result ≤ 268435456 }
+{
+    let capped = acc.min(LARGE);
+    if code == back { capped } else { 0 }
+}
+
+/// The rule of the accumulation, at a cell where all have data.
+#[inline(always)]
+#[tactic(auto, unfolding(crate::specs::Tests::keeps_accumulation))]
+pub fn keeps_accumulation(acc: u32, codes: [u32; 8], accs: [u32; 8]) -> bool
+    ensures { result ≡ keeps_accumulation acc codes accs }
+{
+    let first = handed_on(codes[0], 16, accs[0])
+        + handed_on(codes[1], 32, accs[1])
+        + handed_on(codes[2], 64, accs[2])
+        + handed_on(codes[3], 128, accs[3]);
+    let second = handed_on(codes[4], 1, accs[4])
+        + handed_on(codes[5], 2, accs[5])
+        + handed_on(codes[6], 4, accs[6])
+        + handed_on(codes[7], 8, accs[7]);
+    let low = accs[0].max(accs[1]).max(accs[2].max(accs[3]));
+    let high = accs[4].max(accs[5]).max(accs[6].max(accs[7]));
+    (low.max(high) < LARGE) & (acc == first + second + 1)
+}
+
+/// Whether a conditioned elevation isn't the number that stands for no data.
+#[inline(always)]
+fn con_differs(con: u32, nodata: &NoData) -> bool
+    ensures { IsTrue result → pos con -ℤ pos 32768 ≢ nodata.now.con }
+{
+    i64::from(con) - 32768 != nodata.con
+}
+
+/// Whether a direction isn't.
+#[inline(always)]
+fn dir_differs(dir: u32, nodata: &NoData) -> bool
+    ensures { IsTrue result → pos dir ≢ nodata.now.dir }
+{
+    i64::from(dir) != nodata.dir
+}
+
+/// Whether an accumulation isn't.
+#[inline(always)]
+fn acc_differs(acc: u32, nodata: &NoData) -> bool
+    ensures { IsTrue result → pos acc ≢ nodata.now.acc }
+{
+    i64::from(acc) != nodata.acc
+}
+
+/// Whether a label isn't.
+#[inline(always)]
+fn bas_differs(bas: u32, nodata: &NoData) -> bool
+    ensures { IsTrue result → pos bas ≢ nodata.now.bas }
+{
+    i64::from(bas) != nodata.bas
+}
+
+/// Whether none of the four numbers is its product's no-data number.
+#[inline(always)]
+pub fn are_complete(con: u32, dir: u32, acc: u32, bas: u32, nodata: &NoData) -> bool
+    ensures { IsTrue result → AreComplete nodata.now con dir acc bas }
+{
+    con_differs(con, nodata)
+        & dir_differs(dir, nodata)
+        & acc_differs(acc, nodata)
+        & bas_differs(bas, nodata)
+}

@@ -1,0 +1,87 @@
+//! How far along a row every rule of a patch holds.
+
+ghost use Rattle.std.specs.Prelude.{◌≡◌, ◌≤◌, ◌<◌, IsTrue, vec_len};
+ghost use Rattle.drain_grid.specs.declared.patch.Patch.{Patch};
+ghost use Rattle.drain_kernel.specs.Asked.{IfAsked};
+ghost use Rattle.drain_kernel.specs.Columns.{Along, PassesAt};
+ghost use Rattle.drain_kernel.specs.Kept.{IsKept};
+ghost use Rattle.drain_kernel.specs.Rules.{tried};
+ghost use Rattle.drain_kernel.specs.Shown.{HaveRanks, IsShown};
+
+use crate::columns::is_inland;
+use crate::lanes::Lanes;
+use crate::rules::{Ranks, Rules};
+use crate::strides::passed_strides;
+
+/// How many columns are tested at once. Long enough that loops of four or eight lanes pay, short enough that a stretch with
+/// an outlet or a void in it is not often met.
+const BLOCK: usize = 64;
+
+/// How many are tested at once where a block has been given up.
+const GROUP: usize = 8;
+
+/// Whether ranks were taken of all three rows, where they are asked for.
+fn ranks_are_there(above: &Lanes, here: &Lanes, below: &Lanes, ranks: Ranks) -> bool
+    ensures { IsTrue result → IfAsked ranks (HaveRanks above.now here.now below.now) }
+{
+    match ranks {
+        Ranks::Unasked => true,
+        Ranks::Asked => above.has_ranks() && here.has_ranks() && below.has_ranks(),
+    }
+}
+
+/// The columns from one up to another, before the last, in strides: of 64, then of 8, then one by one.
+fn passed_until(
+    above: &Lanes,
+    here: &Lanes,
+    below: &Lanes,
+    rules: &Rules,
+    from: usize,
+    end: usize,
+) -> usize
+    requires inner { 1 ≤ from }
+    requires ordered { from ≤ end }
+    requires inside { end < vec_len here.now.z }
+    requires above_len { vec_len above.now.z ≡ vec_len here.now.z }
+    requires below_len { vec_len below.now.z ≡ vec_len here.now.z }
+    requires ranks { IfAsked rules.now.ranks (HaveRanks above.now here.now below.now) }
+    ensures forward { from ≤ result }
+    ensures within { result ≤ end }
+    ensures passed { Along from result (PassesAt rules.now above.now here.now below.now) }
+{
+    let by_blocks = passed_strides(above, here, below, rules, from, end, BLOCK);
+    let by_groups = passed_strides(above, here, below, rules, by_blocks, end, GROUP);
+    passed_strides(above, here, below, rules, by_groups, end, 1)
+}
+
+/// The first column from this on for which nothing is vouched, at most `until`: at each column before it the patch that the three rows
+/// show, of a cell that isn't listed as a sink, keeps every rule from VoidCell to Label. It may be any such column, also `from` itself; so it tells of no
+/// fault. It is `from` at the first column and at the last, where the rows aren't equally long, and where ranks are asked for and one of them has none.
+pub fn kept_until(
+    above: &Lanes,
+    here: &Lanes,
+    below: &Lanes,
+    rules: &Rules,
+    from: usize,
+    until: usize,
+) -> usize
+    requires ordered { from ≤ until }
+    requires inside { until ≤ vec_len here.now.z }
+    ensures forward { from ≤ result }
+    ensures within { result ≤ until }
+    ensures kept { Along from result (λ k. (p : Patch) → IsShown above.now here.now below.now k p → IsKept (tried rules.now) p) }
+{
+    let len = here.len();
+    if above.len() != len || below.len() != len || !ranks_are_there(above, here, below, rules.ranks) {
+        return from;
+    }
+    if from == 0 || from == len {
+        return from;
+    }
+    // A row of voids is given up here.
+    let end = until.min(len - 1);
+    if from >= end || !is_inland(above, here, below, from) {
+        return from;
+    }
+    passed_until(above, here, below, rules, from, end)
+}

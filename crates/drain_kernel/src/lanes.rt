@@ -1,0 +1,126 @@
+//! A row of a grid and its products, in numbers of 32 bits.
+
+ghost use Rattle.std.specs.Prelude.{◌≡◌, IsTrue, length, vec_len};
+ghost use Rattle.drain_kernel.specs.Asked.{IfAsked};
+ghost use Rattle.drain_kernel.specs.Lanes.{AreLanes};
+
+use crate::narrowing::{take_heights, take_numbers};
+use crate::rules::Ranks;
+use drain_grid::PerProduct;
+use std::alloc::Global;
+
+/// The numbers of a row, side by side for each column. Heights, z and con, are 32768 more than they are, and z is 0 at a void.
+/// Ranks are held where they were asked for.
+#[derive(Drop)]
+pub struct Lanes {
+    pub(crate) z: Vec<u32>,
+    pub(crate) con: Vec<u32>,
+    pub(crate) dir: Vec<u32>,
+    pub(crate) acc: Vec<u32>,
+    pub(crate) bas: Vec<u32>,
+    pub(crate) rnk: Vec<u32>,
+    ghost con_len: { vec_len con ≡ vec_len z },
+    ghost dir_len: { vec_len dir ≡ vec_len z },
+    ghost acc_len: { vec_len acc ≡ vec_len z },
+    ghost bas_len: { vec_len bas ≡ vec_len z },
+}
+
+impl Lanes {
+    ghost use Rattle.std.specs.Prelude.{◌≤◌, ◌<◌, ◌^◌, cond};
+    ghost use Rattle.drain_grid.specs.declared.held.Held.{Held};
+    ghost use Rattle.drain_grid.specs.PerProduct.{of_product, per_product};
+    ghost use Rattle.drain_kernel.specs.Counts.{is_raised_at, raised_count};
+    ghost use Rattle.drain_kernel.specs.Shown.{HasRanks};
+    ghost use Rattle.drain_kernel.specs.Taken.{AreLanesOf};
+
+    /// No row. It takes no memory.
+    pub fn new(alloc: Global) -> Lanes
+        ensures { vec_len result.z ≡ 0 }
+    {
+        Lanes {
+            z: Vec::new(alloc),
+            con: Vec::new(alloc),
+            dir: Vec::new(alloc),
+            acc: Vec::new(alloc),
+            bas: Vec::new(alloc),
+            rnk: Vec::new(alloc),
+        }
+    }
+
+    /// Takes a row's numbers in place of what is held, ranks where they are asked for, and tells whether it holds them now: z and con have
+    /// to fit 16 bits with a sign, the others 32 without, and memory is wanted where there is room for fewer. Else nothing is held.
+    pub fn take(&mut self, z: &[i64], products: &PerProduct<&[i64]>, ranks: Ranks) -> bool
+        requires { (p : Held) → length (of_product products.now p).now ≡ length z.now }
+        ensures lanes { IsTrue result → AreLanesOf self.new z.now (per_product (λ p. (of_product products.now p).now)) }
+        ensures ranked { IsTrue result → IfAsked ranks (HasRanks self.new) }
+    {
+        let fit = take_heights(z, &mut self.z)
+            & take_heights(products.con, &mut self.con)
+            & take_numbers(products.dir, &mut self.dir)
+            & take_numbers(products.acc, &mut self.acc)
+            & take_numbers(products.bas, &mut self.bas)
+            & take_ranks(products.rnk, ranks, &mut self.rnk);
+        if !fit {
+            self.z.clear();
+            self.con.clear();
+            self.dir.clear();
+            self.acc.clear();
+            self.bas.clear();
+        }
+        fit
+    }
+
+    /// How many columns there are.
+    pub(crate) fn len(&self) -> usize
+        ensures { result ≡ vec_len self.now.z }
+    {
+        self.z.len()
+    }
+
+    /// Whether ranks are held.
+    pub(crate) fn has_ranks(&self) -> bool
+        ensures { IsTrue result → HasRanks self.now }
+    {
+        self.rnk.len() == self.z.len()
+    }
+
+    /// 1 where con is above the ground, else 0.
+    #[inline(always)]
+    fn raised(&self, k: usize) -> u32
+        requires { k < vec_len self.now.z }
+        ensures number { result ≡ cond (is_raised_at self.now k) 1 0 }
+        ensures small { result ≤ 1 }
+    {
+        if self.z[k] < self.con[k] { 1 } else { 0 }
+    }
+
+    /// How many columns from one up to another have con above the ground.
+    #[inline(never)]
+    #[tactic(auto, using(crate::proofs::Counting::one_more))]
+    pub fn raised_between(&self, from: usize, end: usize) -> u32
+        requires ordered { from ≤ end }
+        requires inside { end ≤ vec_len self.now.z }
+        requires fits { vec_len self.now.z < 2 ^ 32 }
+        ensures { result ≡ raised_count self.now from end }
+    {
+        let mut count = 0u32;
+        for k in from..end {
+            count += self.raised(k);
+        }
+        count
+    }
+}
+
+/// Takes ranks where they are asked for, else none.
+fn take_ranks(numbers: &[i64], ranks: Ranks, out: &mut Vec<u32>) -> bool
+    ensures len { IsTrue result → IfAsked ranks (vec_len out.new ≡ length numbers.now) }
+    ensures lanes { IsTrue result → vec_len out.new ≡ length numbers.now → AreLanes numbers.now out.new.items (length numbers.now) }
+{
+    match ranks {
+        Ranks::Asked => take_numbers(numbers, out),
+        Ranks::Unasked => {
+            out.clear();
+            true
+        }
+    }
+}

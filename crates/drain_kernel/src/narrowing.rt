@@ -1,0 +1,94 @@
+//! Numbers of 64 bits, brought into lanes of 32.
+
+ghost use Rattle.std.specs.Prelude.{◌≡◌, ◌+ℤ◌, IsTrue, pos, length, vec_len};
+ghost use Rattle.drain_kernel.specs.Lanes.{AreLanes, AreHeightLanes, is_lane, is_height};
+
+/// The number, where 32 bits hold it; else 0.
+#[inline(always)]
+fn lane(number: i64) -> u32
+    ensures { IsTrue (is_lane number) → pos result ≡ number }
+{
+    if is_lane(number) { number as u32 } else { 0 }
+}
+
+/// Whether 32 bits without a sign hold the number.
+#[inline(always)]
+fn is_lane(number: i64) -> bool
+    ensures { result ≡ is_lane number }
+{
+    number >= 0 && number <= 4294967295
+}
+
+/// Puts the numbers of a row into lanes, and tells whether all fit.
+#[inline(never)]
+fn put_numbers(numbers: &[i64], out: &mut [u32]) -> bool
+    requires { length out.old ≡ length numbers.now }
+    ensures len { length out.new ≡ length out.old }
+    ensures lanes { IsTrue result → AreLanes numbers.now out.new (length numbers.now) }
+{
+    let mut all = true;
+    for k in 0..numbers.len() {
+        let number = numbers[k];
+        all &= is_lane(number);
+        out[k] = lane(number);
+    }
+    all
+}
+
+/// 32768 more than a height, where it is one of 16 bits; else 0.
+#[inline(always)]
+fn height_lane(number: i64) -> u32
+    ensures { IsTrue (is_height number) → pos result ≡ number +ℤ pos 32768 }
+{
+    if is_height(number) {
+        (number + 32768) as u32
+    } else {
+        0
+    }
+}
+
+/// Whether 16 bits with a sign hold the number.
+#[inline(always)]
+fn is_height(number: i64) -> bool
+    ensures { result ≡ is_height number }
+{
+    number >= -32768 && number <= 32767
+}
+
+/// Puts the heights of a row into lanes, 32768 more than they are, and tells whether all are heights of 16 bits.
+#[inline(never)]
+fn put_heights(numbers: &[i64], out: &mut [u32]) -> bool
+    requires { length out.old ≡ length numbers.now }
+    ensures len { length out.new ≡ length out.old }
+    ensures lanes { IsTrue result → AreHeightLanes numbers.now out.new (length numbers.now) }
+{
+    let mut all = true;
+    for k in 0..numbers.len() {
+        let number = numbers[k];
+        all &= is_height(number);
+        out[k] = height_lane(number);
+    }
+    all
+}
+
+/// Takes the numbers of a row in place of what is held, and tells whether all fit and there was memory for them.
+pub fn take_numbers(numbers: &[i64], out: &mut Vec<u32>) -> bool
+    ensures len { IsTrue result → vec_len out.new ≡ length numbers.now }
+    ensures lanes { IsTrue result → AreLanes numbers.now out.new.items (length numbers.now) }
+{
+    if out.resize(numbers.len(), 0).is_err() {
+        return false;
+    }
+    put_numbers(numbers, out)
+}
+
+/// The same of heights.
+pub fn take_heights(numbers: &[i64], out: &mut Vec<u32>) -> bool
+    ensures len { IsTrue result → vec_len out.new ≡ length numbers.now }
+    ensures lanes { IsTrue result → AreHeightLanes numbers.now out.new.items (length numbers.now) }
+{
+    if out.resize(numbers.len(), 0).is_err() {
+        return false;
+    }
+    put_heights(numbers, out)
+}
