@@ -4,6 +4,8 @@ pub mod FindingLemmas
 pub mod GridLemmas
 pub mod KeptCells
 pub mod LabelsBefore
+pub mod LanedCounts
+pub mod LanedPatches
 pub mod PassedCells
 pub mod PatchFaults
 pub mod RowFields

@@ -14,6 +14,7 @@ pub mod finding;
 pub mod grid_walk;
 pub mod kept;
 pub mod laws;
+pub mod marks;
 pub mod outlet;
 pub mod patch_row;
 pub mod patch_rules;
