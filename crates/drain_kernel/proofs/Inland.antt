@@ -1,5 +1,5 @@
 -- A cell and eight neighbours that all have data, the cell not listed as a sink: what its patch shows, and what the test of the surface gives.
-use Rattle.std.proofs.Common.{◌≡◌, ℕ, ◌≤◌, ◌<◌, ℤ, pos, ◌≤ℤ◌, ◌<ℤ◌, Bool, true, false, not, ◌==◌, nat_le, max, map, List, Option, Some, None, is_some, option_map, unwrap_or, inl, inr, refl, sym, ◌∙◌, ap, subst, arith, if◌then◌else◌}
+use Rattle.std.proofs.Common.{◌≡◌, ℕ, ◌≤◌, pos, ◌≤ℤ◌, Bool, true, false, not, ◌==◌, nat_le, max, map, List, Option, Some, None, is_some, option_map, unwrap_or, inl, inr, refl, sym, ◌∙◌, ap, subst, arith, if◌then◌else◌}
 use Rattle.std.specs.Int.{int_max}
 use Rattle.std.proofs.lemmas.Bool.{false≢true, and_parts}
 use Rattle.std.proofs.lemmas.Bool.Decides.{leb_tells}
@@ -77,12 +77,12 @@ of_beside here n around known d m P has beside = subst P (same_some (values_of (
 
 pub not_open : (here : Numbers) (n : Direction → Numbers) (around : List (Option Values)) → IsInland here n around → ¬ IsOpen (patch_of here around)
 not_open here n around known opened = elim opened.1 [
-    | inl listed ↦ absurd (false≢true (sym known.not_listed ∙ listed))
-    | inr beside ↦ (
-        let d = beside.0 in
-        let gap = subst (λ o. IsGap (option_map (λ (v : Values). v.z) o)) (known.neighbor_is d) beside.1 in
-        subst (λ o. IsGap (Some o)) (known.beside_is d) gap)
-  ]
+  | inl listed ↦ absurd (false≢true (sym known.not_listed ∙ listed))
+  | inr beside ↦ (
+      let d = beside.0 in
+      let gap = subst (λ o. IsGap (option_map (λ (v : Values). v.z) o)) (known.neighbor_is d) beside.1 in
+      subst (λ o. IsGap (Some o)) (known.beside_is d) gap)
+]
 
 height_is : (here : Numbers) (n : Direction → Numbers) (around : List (Option Values)) → IsInland here n around →
     height (patch_of here around) ≡ lowered here.z

@@ -7,3 +7,5 @@ pub mod Numbers
 pub mod Inland
 pub mod Ways
 pub mod Meaning
+pub mod Readings
+pub mod Raised

@@ -1,5 +1,5 @@
 -- A cell whose numbers pass every test is kept.
-use Rattle.std.proofs.Common.{◌≡◌, ◌≢◌, ◌≤◌, ◌<◌, ℕ, ℤ, pos, true, false, ◌==◌, max, map, List, Option, slice_index, IsNone, is_some, inr, sym, ◌∙◌, ap, subst, arith}
+use Rattle.std.proofs.Common.{◌≡◌, ◌≢◌, ◌<◌, ℕ, pos, true, ◌==◌, max, map, List, Option, slice_index, IsNone, is_some, inr, sym, ◌∙◌, ap, subst, arith}
 use Rattle.std.proofs.lemmas.Bool.{false≢true, and_parts}
 use Rattle.std.proofs.lemmas.Bool.Decides.{Decides-eqb, Decides-ltb}
 use Rattle.drain_grid.specs.declared.direction.Direction.{Direction}
@@ -12,7 +12,6 @@ use Rattle.drain_grid.specs.declared.rule.Rule.TheVariants.{VoidCell, Missing, B
 use Rattle.drain_grid.specs.Direction.{directions, code_of, opposite}
 use Rattle.drain_grid.specs.Held.{product_of}
 use Rattle.drain_grid.specs.Values.{Values, NoDataNumbers, value_of, number_for}
-use Rattle.drain_grid.specs.Patch.{neighbor}
 use Rattle.drain_grid.specs.PatchRules.{AccumulationHolds, inflow, check_rules}
 use Rattle.drain_grid.specs.Unranked.{unranked}
 use Rattle.drain_kernel.specs.declared.lanes.Lanes.{Lanes}
@@ -131,7 +130,7 @@ ranked_from Unasked nodata above here below k p shown have passes = tt
 ranked_from Asked nodata above here below k p shown have passes =
     let own = shown.cell.rnk_is have.here_has in
     let has : (d : Direction) → HasRanks (row_beside above here below d) = of_each (λ d. HasRanks (row_beside above here below d))
-        have.here_has have.below_has have.below_has have.below_has have.here_has have.above_has have.above_has have.above_has in
+    have.here_has have.below_has have.below_has have.below_has have.here_has have.above_has have.above_has have.above_has in
     record {
       nears = falls_or_nears_from (numbers_in here k p.here) (numbers_beside above here below k p shown) (slice_index here.rnk.items k)
           (λ d. slice_index (row_beside above here below d).rnk.items (col_beside k d)) own

@@ -1,5 +1,5 @@
 -- What the tests of the direction and of ranks give at an inland cell.
-use Rattle.std.proofs.Common.{◌≡◌, ◌⊎◌, ℕ, ◌-◌, ◌*◌, ◌≤◌, ◌<◌, ℤ, pos, ◌-ℤ◌, ◌≤ℤ◌, ◌<ℤ◌, Bool, true, false, not, map, List, Option, Some, inl, inr, refl, sym, ◌∙◌, ap, subst, arith}
+use Rattle.std.proofs.Common.{◌≡◌, ◌⊎◌, ℕ, ◌-◌, ◌*◌, ◌≤◌, ◌<◌, ℤ, pos, ◌-ℤ◌, ◌≤ℤ◌, ◌<ℤ◌, Bool, true, false, not, map, List, Option, inl, inr, refl, sym, ◌∙◌, ap, subst, arith}
 use Rattle.std.proofs.lemmas.Bool.{false≢true, and_parts, or_cases}
 use Rattle.std.proofs.lemmas.Bool.Decides.{Decides-eqb, Decides-ltb}
 use Rattle.std.proofs.lemmas.Int.{ints}
@@ -11,7 +11,7 @@ use Rattle.drain_grid.specs.Slope.{slope_key, IsSteepest}
 use Rattle.drain_grid.specs.PatchRules.{SlopeHolds, FlatStepHolds, LabelHolds}
 use Rattle.drain_grid.specs.Unranked.{IsLevelStep, LevelStepHolds}
 use Rattle.drain_grid.proofs.Options.{same_some}
-use Rattle.drain_kernel.specs.Around.{named_in, least_straight_in, least_across_in}
+use Rattle.drain_kernel.specs.Around.{least_straight_in, least_across_in}
 use Rattle.drain_kernel.specs.Shown.{lowered}
 use Rattle.drain_kernel.specs.Tests.{keeps_direction, falls_steepest, steps_along, falls_or_nears}
 use Rattle.drain_kernel.proofs.Inland.{IsInland, is_beside, of_beside, le_from}
@@ -159,10 +159,10 @@ pub falls_or_nears_from : (here : Numbers) (n : Direction → Numbers) (rank : �
     falls_or_nears here.con here.dir (map (λ d. (n d).con) directions) rank (map ranks directions) ≡ true → FallsOrNears here n
 unfolding falls_or_nears
 falls_or_nears_from here n rank ranks own others h = λ d named. elim (or_cases _ _ h) [
-    | inl falls ↦ inl (subst (λ x. x < here.con) (named_is (λ e. (n e).con) here.dir d named) ((Decides-ltb _ _).0 falls))
-    | inr nears ↦ inr (lt_of_ranks (n d).rnk here.rnk (ranks d) rank (others d) own
-        (subst (λ x. x < rank) (named_is ranks here.dir d named) ((Decides-ltb _ _).0 nears)))
-  ]
+  | inl falls ↦ inl (subst (λ x. x < here.con) (named_is (λ e. (n e).con) here.dir d named) ((Decides-ltb _ _).0 falls))
+  | inr nears ↦ inr (lt_of_ranks (n d).rnk here.rnk (ranks d) rank (others d) own
+      (subst (λ x. x < rank) (named_is ranks here.dir d named) ((Decides-ltb _ _).0 nears)))
+]
 
 -- so a step along the flat leads to a smaller rank
 pub flat_step_from : (here : Numbers) (n : Direction → Numbers) (around : List (Option Values)) → IsInland here n around →
@@ -173,11 +173,11 @@ flat_step_from here n around known holds nears = λ closed none.
     let v = found.1 in
     let step = found.2 in
     let nearer : v.con ≡ lowered here.con → v.rnk <ℤ here.rnk =
-        of_beside here n around known d v (λ m. m.con ≡ lowered here.con → m.rnk <ℤ here.rnk)
-        (λ level. elim (nears d step.named) [
-          | inl less ↦ absurd (not_less (n d).con here.con level less)
-          | inr less ↦ less
-        ]) step.beside in
+    of_beside here n around known d v (λ m. m.con ≡ lowered here.con → m.rnk <ℤ here.rnk)
+    (λ level. elim (nears d step.named) [
+      | inl less ↦ absurd (not_less (n d).con here.con level less)
+      | inr less ↦ less
+    ]) step.beside in
     (d, v, record { named = step.named; beside = step.beside; level = step.level; nearer = nearer step.level })
   where
     not_less : (a b : ℕ) → lowered a ≡ lowered b → a < b → ⊥

@@ -8,3 +8,4 @@ pub mod Around
 pub mod Tests
 pub mod Columns
 pub mod Counts
+pub mod Laws

@@ -1,5 +1,5 @@
 -- What lanes show at a column, and the patch that three rows of lanes show round it.
-use Rattle.std.specs.Prelude.{◌≡◌, ℕ, ◌+◌, ◌-◌, ℤ, pos, ◌-ℤ◌, ◌==◌, false, Option, Some, None, slice_index, vec_len, if◌then◌else◌}
+use Rattle.std.specs.Prelude.{◌≡◌, ℕ, ◌≤◌, ◌<◌, ◌+◌, ◌-◌, ℤ, pos, ◌-ℤ◌, ◌==◌, false, Option, Some, None, slice_index, vec_len, if◌then◌else◌}
 use Rattle.drain_grid.specs.declared.direction.Direction.{Direction}
 use Rattle.drain_grid.specs.declared.direction.Direction.TheVariants.{East, SouthEast, South, SouthWest, West, NorthWest, North, NorthEast}
 use Rattle.drain_grid.specs.declared.patch.Patch.{Patch}
@@ -55,6 +55,13 @@ col_beside k West = k - 1
 col_beside k NorthWest = k - 1
 col_beside k North = k
 col_beside k NorthEast = k + 1
+
+-- the column is not the first, nor the last of any of the three rows
+pub record IsInner (above here below : Lanes) (k : ℕ) : Type 0 where
+  pub left : 1 ≤ k
+  pub above_right : k + 1 < vec_len above.z
+  pub here_right : k + 1 < vec_len here.z
+  pub below_right : k + 1 < vec_len below.z
 
 -- the values in a direction, of a neighbour that is there
 pub record IsShownAt (above here below : Lanes) (k : ℕ) (p : Patch) (d : Direction) (v : Values) : Type 0 where

@@ -6,7 +6,7 @@ ghost use Rattle.drain_kernel.specs.Asked.{IfAsked};
 ghost use Rattle.drain_kernel.specs.Columns.{Along, PassesAt};
 ghost use Rattle.drain_kernel.specs.Kept.{IsKept};
 ghost use Rattle.drain_kernel.specs.Rules.{tried};
-ghost use Rattle.drain_kernel.specs.Shown.{HaveRanks, IsShown};
+ghost use Rattle.drain_kernel.specs.Shown.{HaveRanks, IsInner, IsShown};
 
 use crate::columns::is_inland;
 use crate::lanes::Lanes;
@@ -69,10 +69,14 @@ pub fn kept_until(
     requires inside { until ≤ vec_len here.now.z }
     ensures forward { from ≤ result }
     ensures within { result ≤ until }
+    ensures inner { Along from result (IsInner above.now here.now below.now) }
     ensures kept { Along from result (λ k. (p : Patch) → IsShown above.now here.now below.now k p → IsKept (tried rules.now) p) }
 {
     let len = here.len();
-    if above.len() != len || below.len() != len || !ranks_are_there(above, here, below, rules.ranks) {
+    if above.len() != len
+        || below.len() != len
+        || !ranks_are_there(above, here, below, rules.ranks)
+    {
         return from;
     }
     if from == 0 || from == len {

@@ -6,7 +6,7 @@ mod cells;
 mod columns;
 pub mod kept;
 pub mod lanes;
-
+pub mod laws;
 mod narrowing;
 mod ranked;
 pub mod rules;

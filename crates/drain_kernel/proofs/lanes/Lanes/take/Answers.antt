@@ -1,10 +1,9 @@
-use Rattle.std.proofs.Common.{◌≡◌, ℕ, ◌<◌, ℤ, List, Bool, true, false, ◌&&◌, IsTrue, length, vec_len, refl, sym, ◌∙◌, subst}
-use Rattle.std.proofs.lemmas.Bool.{and_parts, false≢true}
+use Rattle.std.proofs.Common.{◌≡◌, ℕ, ◌<◌, Bool, true, ◌&&◌, sym, ◌∙◌, subst}
+use Rattle.std.proofs.lemmas.Bool.{and_parts}
 use Rattle.drain_grid.specs.declared.held.Held.TheVariants.{Con, Dir, Acc, Bas, Rnk}
 use Rattle.drain_kernel.specs.Asked.{IfAsked}
 use Rattle.drain_kernel.specs.declared.rules.Ranks.{Ranks}
 use Rattle.drain_kernel.specs.declared.rules.Ranks.TheVariants.{Asked, Unasked}
-use Rattle.drain_kernel.specs.Lanes.{AreLanes, AreHeightLanes}
 use Rattle.drain_kernel.proofs.lanes.Lanes.take.Goals as goal
 
 -- all six fit

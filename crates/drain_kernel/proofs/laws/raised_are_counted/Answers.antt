@@ -1,0 +1,5 @@
+use Rattle.drain_kernel.proofs.Raised as lemmas
+use Rattle.drain_kernel.proofs.laws.raised_are_counted.Goals as goal
+
+pub returns : goal.returns
+returns c = lemmas.raised_are_counted
