@@ -4,7 +4,7 @@ use Rattle.drain_grid.specs.declared.held.Held.{Held}
 use Rattle.drain_grid.specs.PerProduct.{of_product, per_product}
 use Rattle.drain_grid.specs.declared.sink_line.SinkLine.{SinkLine}
 use Rattle.drain_grid.specs.SinkLines.{is_listed}
-use Rattle.drain_kernel.specs.Lanes.{AreLanesOf}
+use Rattle.drain_kernel.specs.Taken.{AreLanesOf}
 use Rattle.drain_rules.specs.MarkedRows.{MarkedRow}
 use Rattle.drain_rules.specs.RowNumbers.{RowNumbers}
 use Rattle.drain_verdict.specs.declared.held_row.HeldRow.{HeldRow}

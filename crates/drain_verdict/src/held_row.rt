@@ -104,14 +104,15 @@ impl HeldRow {
         ensures marked { marked_of self.new ≡ marked_of self.old }
         ensures lanes { HasItsLanes self.new }
     {
-        let products = PerProduct {
-            con: self.products.con.as_slice(),
-            dir: self.products.dir.as_slice(),
-            acc: self.products.acc.as_slice(),
-            bas: self.products.bas.as_slice(),
-            rnk: self.products.rnk.as_slice(),
+        let products = &self.products;
+        let slices = PerProduct {
+            con: products.con.as_slice(),
+            dir: products.dir.as_slice(),
+            acc: products.acc.as_slice(),
+            bas: products.bas.as_slice(),
+            rnk: products.rnk.as_slice(),
         };
-        self.fit = self.lanes.take(self.z.as_slice(), &products, ranks);
+        self.fit = self.lanes.take(self.z.as_slice(), &slices, ranks);
     }
 
     /// The row as slices, with its lanes where they fit.

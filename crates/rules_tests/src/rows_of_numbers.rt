@@ -1,4 +1,4 @@
-//! The verdict on three rows of 600 columns, gone over by rows.
+//! The verdict on three rows of 600 columns, gone over by rows, with lanes beside them and without.
 
 ghost use Rattle.std.specs.Prelude.{◌≡◌, ◌↔◌, ◌<◌, ◌+◌, IsTrue, OnOk, length};
 ghost use Rattle.std.specs.List.{All};
@@ -9,6 +9,7 @@ ghost use Rattle.drain_rules.specs.RowNumbers.{AreRowNumbers};
 
 use crate::examples::{Part, is_pixel};
 use drain_grid::{NoData, PerProduct, Shape, Sinks, parse_sinks};
+use drain_kernel::Lanes;
 use drain_rules::{GridWalk, Ranks, RowView, Rules, ThreeRows, Verdict};
 use std::alloc::Global;
 use std::test::Fail;
@@ -66,21 +67,40 @@ fn row_of(numbers: &[i64], part: Part, row: u8) -> Option<&[i64]> {
     numbers.get(start..start + COLS as usize)
 }
 
-/// The row of these numbers and marks.
+/// Whether lanes are taken, and for which rules.
+#[derive(Clone, Copy)]
+struct Laning {
+    taken: bool,
+    ranks: Ranks,
+}
+
+/// The row of these numbers and marks, with lanes where they are taken.
 fn view<'a>(
     z: &'a [i64],
     marks: &'a [bool],
     products: PerProduct<&'a [i64]>,
+    lanes: &'a mut Lanes,
+    laning: Laning,
 ) -> Option<RowView<'a>> {
-    if are_row_numbers(z, &products) {
-        Some(RowView::new(z, marks, products))
+    if !are_row_numbers(z, &products) {
+        return None;
+    }
+    let lanes = if laning.taken && lanes.take(z, &products, laning.ranks) {
+        Some(&*lanes)
     } else {
         None
-    }
+    };
+    Some(RowView::new(z, marks, products, lanes))
 }
 
 /// A row of the six parts, one after the other.
-fn row_view<'a>(numbers: &'a [i64], marks: &'a Marks, row: u8) -> Option<RowView<'a>> {
+fn row_view<'a>(
+    numbers: &'a [i64],
+    marks: &'a Marks,
+    row: u8,
+    lanes: &'a mut Lanes,
+    laning: Laning,
+) -> Option<RowView<'a>> {
     let products = PerProduct {
         con: row_of(numbers, Part::Con, row)?,
         dir: row_of(numbers, Part::Dir, row)?,
@@ -90,11 +110,11 @@ fn row_view<'a>(numbers: &'a [i64], marks: &'a Marks, row: u8) -> Option<RowView
     };
     let z = row_of(numbers, Part::Elevations, row)?;
     let marks = marks.get(row as usize)?;
-    view(z, marks, products)
+    view(z, marks, products, lanes, laning)
 }
 
 /// No row.
-fn no_row<'a>() -> Option<RowView<'a>> {
+fn no_row<'a>(lanes: &'a mut Lanes, laning: Laning) -> Option<RowView<'a>> {
     let products = PerProduct {
         con: [].as_slice(),
         dir: [].as_slice(),
@@ -102,23 +122,30 @@ fn no_row<'a>() -> Option<RowView<'a>> {
         bas: [].as_slice(),
         rnk: [].as_slice(),
     };
-    view(&[], &[], products)
+    view(&[], &[], products, lanes, laning)
 }
 
 /// A row with those above and below it.
-fn three_rows<'a>(numbers: &'a [i64], marks: &'a Marks, row: u8) -> Option<ThreeRows<'a>> {
+fn three_rows<'a>(
+    numbers: &'a [i64],
+    marks: &'a Marks,
+    row: u8,
+    lanes: &'a mut [Lanes; 3],
+    laning: Laning,
+) -> Option<ThreeRows<'a>> {
+    let [first, second, third] = lanes;
     let above = match row.checked_sub(1) {
-        Some(above) => row_view(numbers, marks, above)?,
-        None => no_row()?,
+        Some(above) => row_view(numbers, marks, above, first, laning)?,
+        None => no_row(first, laning)?,
     };
     let below = if row < 2 {
-        row_view(numbers, marks, row + 1)?
+        row_view(numbers, marks, row + 1, third, laning)?
     } else {
-        no_row()?
+        no_row(third, laning)?
     };
     Some(ThreeRows {
         above,
-        here: row_view(numbers, marks, row)?,
+        here: row_view(numbers, marks, row, second, laning)?,
         below,
     })
 }
@@ -129,17 +156,37 @@ fn check_row(
     numbers: &[i64],
     marks: &Marks,
     row: u8,
-    ranks: Ranks,
+    lanes: &mut [Lanes; 3],
+    laning: Laning,
 ) -> Result<(), Fail>
     requires { walk.old.rows < 3 }
     ensures { OnOk result (walk.new.rows ≡ walk.old.rows + 1) }
 {
-    let rows = three_rows(numbers, marks, row).ok_or("rows of numbers")?;
-    let nodata = NoData::defaults();
-    Ok(walk.check_row(&rows, &Rules { nodata, ranks })?)
+    let rows = three_rows(numbers, marks, row, lanes, laning).ok_or("rows of numbers")?;
+    let rules = Rules {
+        nodata: NoData::defaults(),
+        ranks: laning.ranks,
+    };
+    Ok(walk.check_row(&rows, &rules)?)
 }
 
-/// The verdict on the numbers of the six parts, with the sinks that a text lists; ranks are asked for or not.
+/// The verdict on the numbers of the six parts, with lanes or without.
+fn verdict_on(
+    alloc: Global,
+    numbers: &[i64],
+    marks: &Marks,
+    laning: Laning,
+) -> Result<Verdict, Fail> {
+    let shape = Shape::new(3, COLS.into()).ok_or("a shape")?;
+    let mut lanes = [Lanes::new(alloc), Lanes::new(alloc), Lanes::new(alloc)];
+    let mut walk = GridWalk::new(alloc);
+    check_row(&mut walk, numbers, marks, 0, &mut lanes, laning)?;
+    check_row(&mut walk, numbers, marks, 1, &mut lanes, laning)?;
+    check_row(&mut walk, numbers, marks, 2, &mut lanes, laning)?;
+    Ok(walk.verdict(shape))
+}
+
+/// The verdict on the numbers of the six parts, with the sinks that a text lists; ranks are asked for or not. It is one with lanes and without.
 pub fn verdict_by_rows(
     alloc: Global,
     text: &[u8],
@@ -148,10 +195,19 @@ pub fn verdict_by_rows(
 ) -> Result<Verdict, Fail> {
     let sinks = parse_sinks(alloc, text)?;
     let marks = marks_of(&sinks);
-    let shape = Shape::new(3, COLS.into()).ok_or("a shape")?;
-    let mut walk = GridWalk::new(alloc);
-    check_row(&mut walk, numbers, &marks, 0, ranks)?;
-    check_row(&mut walk, numbers, &marks, 1, ranks)?;
-    check_row(&mut walk, numbers, &marks, 2, ranks)?;
-    Ok(walk.verdict(shape))
+    let plain = verdict_on(
+        alloc,
+        numbers,
+        &marks,
+        Laning {
+            taken: false,
+            ranks,
+        },
+    )?;
+    let laned = verdict_on(alloc, numbers, &marks, Laning { taken: true, ranks })?;
+    if plain == laned {
+        Ok(plain)
+    } else {
+        Err("another verdict with lanes")?
+    }
 }

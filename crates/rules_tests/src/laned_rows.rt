@@ -1,0 +1,63 @@
+//! Three long rows with one number changed, at the first and the last column of a stride: the fault is told where it is, with lanes beside the rows and without.
+
+use crate::examples::{Part, accepted, rejected, same};
+use crate::rows_of_numbers::{COLS, verdict_by_rows};
+use crate::unasked_ranks::put;
+use drain_grid::Rule;
+use drain_rules::{Ranks, Verdict};
+use std::alloc::Global;
+use std::test::Fail;
+use worked_grids::shafts::Shafts;
+
+/// The columns at which strides of 64, of 8 and of 1 begin and end.
+const COLUMNS: [u16; 14] = [
+    1, 64, 65, 128, 129, 512, 513, 576, 577, 584, 585, 592, 593, 598,
+];
+
+/// The verdict on three level rows, whose cells inside drain north, with this number of a part at a column of the second.
+fn verdict_at(
+    alloc: Global,
+    part: Part,
+    col: u16,
+    number: i64,
+    ranks: Ranks,
+) -> Result<Verdict, Fail> {
+    let shafts = Shafts {
+        rows: 3,
+        cols: COLS,
+        listed: &[],
+    };
+    let mut numbers = shafts.numbers(alloc)?;
+    put(&mut numbers, (part, (1, col), number))?;
+    verdict_by_rows(alloc, b"", &numbers, ranks)
+}
+
+/// A label that is no other cell's.
+#[test]
+fn a_label_at_the_ends_of_strides(rt: HostRuntime) -> Result<(), Fail> {
+    for col in COLUMNS {
+        let given = verdict_at(rt.alloc(), Part::Bas, col, 5000, Ranks::Asked)?;
+        same(&rt, "a label", given, rejected(Rule::Label, 1, col.into()));
+    }
+    Ok(())
+}
+
+/// Water that goes nowhere, where the cell above counts it: that is told first.
+#[test]
+fn a_code_at_the_ends_of_strides(rt: HostRuntime) -> Result<(), Fail> {
+    for col in COLUMNS {
+        let given = verdict_at(rt.alloc(), Part::Dir, col, 0, Ranks::Unasked)?;
+        same(&rt, "a code", given, rejected(Rule::Accumulation, 0, col.into()));
+    }
+    Ok(())
+}
+
+/// Ranks of 33 bits and less than 0 fit no lane: then each cell is tried by itself, and where ranks aren't asked for nothing is changed.
+#[test]
+fn ranks_that_fit_no_lane(rt: HostRuntime) -> Result<(), Fail> {
+    for (name, rank) in [("less than 0", -1), ("the least pixel", -2147483648)] {
+        let given = verdict_at(rt.alloc(), Part::Rnk, 300, rank, Ranks::Unasked)?;
+        same(&rt, name, given, accepted(3, 600, 1800, 0, 1202));
+    }
+    Ok(())
+}
