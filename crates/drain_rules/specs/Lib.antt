@@ -3,7 +3,6 @@ pub mod FillVerdicts
 pub mod Filled
 pub mod Findings
 pub mod GridWalks
-pub mod InnerColumns
 pub mod KeptRuns
 pub mod Labels
 pub mod LanedRows

@@ -4,6 +4,7 @@ use crate::kept::Kept;
 use crate::patch_row::PatchRow;
 use crate::row_view::RowView;
 use drain_grid::Patch;
+use drain_kernel::laws::{lanes_show_numbers, raised_are_counted};
 use drain_kernel::{Rules, kept_until};
 
 /// A row, and those above and below it; empty where the grid ends.
@@ -12,26 +13,6 @@ pub struct ThreeRows<'a> {
     pub above: RowView<'a>,
     pub here: RowView<'a>,
     pub below: RowView<'a>,
-}
-
-impl ThreeRows<'_> {
-    ghost use Rattle.std.specs.Prelude.{◌<◌, ◌≤◌, ℕ, length};
-    ghost use Rattle.drain_rules.specs.InnerColumns.{IsInner};
-
-    /// A column up to which each cell from this one on has eight neighbours and isn't marked.
-    fn inner_until(&self, from: usize) -> usize
-        requires { from ≤ length self.now.here.numbers.z }
-        ensures forward { from ≤ result }
-        ensures within { result ≤ length self.now.here.numbers.z }
-        ensures inner { (col : ℕ) → from ≤ col → col < result → IsInner self.now col }
-    {
-        let cols = self.here.cols();
-        if from == 0 || self.above.cols() != cols || self.below.cols() != cols {
-            return from;
-        }
-        let last = cols as usize - 1;
-        self.here.unmarked_until(from).min(last).max(from)
-    }
 }
 
 impl PatchRow for ThreeRows<'_> {
@@ -50,15 +31,21 @@ impl PatchRow for ThreeRows<'_> {
         self.here.cells_above_ground()
     }
 
-    /// None where a row has no lanes, nor at the edge of the grid and at a marked cell.
+    /// Those for which the lanes of the three rows vouch, up to a marked cell; none where a row has no lanes.
     fn kept_from(&self, rules: &Rules, from: u32) -> Kept {
-        let (Some(above), Some(here), Some(below)) =
-            (self.above.lanes(), self.here.lanes(), self.below.lanes())
-        else {
+        let (Some(above), Some(here), Some(below)) = (
+            self.above.lanes(),
+            self.here.lanes(),
+            self.below.lanes(),
+        ) else {
             return Kept::none(from);
         };
+        // The laws that tell what lanes show, and of what they count those that are raised.
+        lanes_show_numbers();
+        raised_are_counted();
         let first = from as usize;
-        let end = kept_until(above, here, below, rules, first, self.inner_until(first));
+        let until = self.here.unmarked_until(first);
+        let end = kept_until(above, here, below, rules, first, until);
         Kept {
             end: end as u32,
             raised: here.raised_between(first, end),
