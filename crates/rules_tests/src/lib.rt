@@ -4,7 +4,7 @@
 #[cfg(test)]
 mod examples;
 #[cfg(test)]
-mod laned_rows;
+mod kept_runs;
 #[cfg(test)]
 mod listed_sinks;
 #[cfg(test)]

@@ -1,4 +1,5 @@
 -- Each product has as many numbers as there are elevations.
+use Rattle.std.proofs.Common.{◌≡◌, length, rules}
 use Rattle.drain_grid.specs.declared.held.Held.TheVariants.{Con, Dir, Acc, Bas, Rnk}
 use Rattle.drain_grid.proofs.ByProduct.{by_held}
 use Rattle.drain_verdict.proofs.held_row.HeldRow.take_lanes.Goals as goal
@@ -6,4 +7,9 @@ use Rattle.drain_verdict.proofs.held_row.HeldRow.take_lanes.Goals as goal
 pub take-self-requires : goal.take-self-requires
 take-self-requires c =
     let long = c.requires.whole.long in
-    by_held _ (long Con) (long Dir) (long Acc) (long Bas) (long Rnk)
+    let con : length c.args.self.now.products.con.items ≡ length c.args.self.now.z.items = long Con in
+    let dir : length c.args.self.now.products.dir.items ≡ length c.args.self.now.z.items = long Dir in
+    let acc : length c.args.self.now.products.acc.items ≡ length c.args.self.now.z.items = long Acc in
+    let bas : length c.args.self.now.products.bas.items ≡ length c.args.self.now.z.items = long Bas in
+    let rnk : length c.args.self.now.products.rnk.items ≡ length c.args.self.now.z.items = long Rnk in
+    by_held _ (search rules) (search rules) (search rules) (search rules) (search rules)
