@@ -15,9 +15,13 @@ lowered n = pos n -ℤ pos 32768
 abbrev pub height_of : ℕ → Option ℤ
 height_of n = if n == 0 then None else Some (lowered n)
 
+-- how many columns the row has
+abbrev pub cols : Lanes → ℕ
+cols row = vec_len row.z
+
 -- ranks were taken
 abbrev pub HasRanks : Lanes → Type 0
-HasRanks row = vec_len row.rnk ≡ vec_len row.z
+HasRanks row = vec_len row.rnk ≡ cols row
 
 -- they were taken of three rows
 pub record HaveRanks (above here below : Lanes) : Type 0 where
@@ -59,9 +63,9 @@ col_beside k NorthEast = k + 1
 -- the column is not the first, nor the last of any of the three rows
 pub record IsInner (above here below : Lanes) (k : ℕ) : Type 0 where
   pub left : 1 ≤ k
-  pub above_right : k + 1 < vec_len above.z
-  pub here_right : k + 1 < vec_len here.z
-  pub below_right : k + 1 < vec_len below.z
+  pub above_right : k + 1 < cols above
+  pub here_right : k + 1 < cols here
+  pub below_right : k + 1 < cols below
 
 -- the values in a direction, of a neighbour that is there
 pub record IsShownAt (above here below : Lanes) (k : ℕ) (p : Patch) (d : Direction) (v : Values) : Type 0 where

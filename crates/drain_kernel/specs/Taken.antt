@@ -1,13 +1,13 @@
 -- The lanes of a row's numbers.
-use Rattle.std.specs.Prelude.{◌≡◌, ℤ, List, length, vec_len}
+use Rattle.std.specs.Prelude.{◌≡◌, ℤ, List, length}
 use Rattle.drain_grid.specs.declared.per_product.PerProduct.{PerProduct}
 use Rattle.drain_kernel.specs.declared.lanes.Lanes.{Lanes}
 use Rattle.drain_kernel.specs.Lanes.{AreLanes, AreHeightLanes}
-use Rattle.drain_kernel.specs.Shown.{HasRanks}
+use Rattle.drain_kernel.specs.Shown.{cols, HasRanks}
 
 -- as many as there are numbers, and each lane holds the number of its column; ranks where they were taken
 pub record AreLanesOf (lanes : Lanes) (z : List ℤ) (products : PerProduct (List ℤ)) : Type 0 where
-  pub len : vec_len lanes.z ≡ length z
+  pub len : cols lanes ≡ length z
   pub heights : AreHeightLanes z lanes.z.items (length z)
   pub con : AreHeightLanes products.con lanes.con.items (length z)
   pub dir : AreLanes products.dir lanes.dir.items (length z)

@@ -6,7 +6,7 @@ ghost use Rattle.drain_kernel.specs.Asked.{IfAsked};
 ghost use Rattle.drain_kernel.specs.Columns.{Along, PassesAt};
 ghost use Rattle.drain_kernel.specs.Kept.{IsKept};
 ghost use Rattle.drain_kernel.specs.Rules.{tried};
-ghost use Rattle.drain_kernel.specs.Shown.{HaveRanks, IsInner, IsShown};
+ghost use Rattle.drain_kernel.specs.Shown.{cols, HaveRanks, IsInner, IsShown};
 
 use crate::columns::is_inland;
 use crate::lanes::Lanes;
@@ -66,24 +66,24 @@ pub fn kept_until(
     until: usize,
 ) -> usize
     requires ordered { from ≤ until }
-    requires inside { until ≤ vec_len here.now.z }
+    requires inside { until ≤ cols here.now }
     ensures forward { from ≤ result }
     ensures within { result ≤ until }
     ensures inner { Along from result (IsInner above.now here.now below.now) }
     ensures kept { Along from result (λ k. (p : Patch) → IsShown above.now here.now below.now k p → IsKept (tried rules.now) p) }
 {
-    let len = here.len();
-    if above.len() != len
-        || below.len() != len
+    let cols = here.cols();
+    if above.cols() != cols
+        || below.cols() != cols
         || !ranks_are_there(above, here, below, rules.ranks)
     {
         return from;
     }
-    if from == 0 || from == len {
+    if from == 0 || from == cols {
         return from;
     }
     // A row of voids is given up here.
-    let end = until.min(len - 1);
+    let end = until.min(cols - 1);
     if from >= end || !is_inland(above, here, below, from) {
         return from;
     }

@@ -26,16 +26,16 @@ pub struct Lanes {
 }
 
 impl Lanes {
-    ghost use Rattle.std.specs.Prelude.{◌≤◌, ◌<◌, ◌^◌, cond};
+    ghost use Rattle.std.specs.Prelude.{◌≤◌, ◌<◌, ◌^◌, cond, false};
     ghost use Rattle.drain_grid.specs.declared.held.Held.{Held};
     ghost use Rattle.drain_grid.specs.PerProduct.{of_product, per_product};
     ghost use Rattle.drain_kernel.specs.Counts.{is_raised_at, raised_count};
-    ghost use Rattle.drain_kernel.specs.Shown.{HasRanks};
+    ghost use Rattle.drain_kernel.specs.Shown.{cols, HasRanks};
     ghost use Rattle.drain_kernel.specs.Taken.{AreLanesOf};
 
     /// No row. It takes no memory.
     pub fn new(alloc: Global) -> Lanes
-        ensures { vec_len result.z ≡ 0 }
+        ensures { cols result ≡ 0 }
     {
         Lanes {
             z: Vec::new(alloc),
@@ -53,6 +53,7 @@ impl Lanes {
         requires { (p : Held) → length (of_product products.now p).now ≡ length z.now }
         ensures lanes { IsTrue result → AreLanesOf self.new z.now (per_product (λ p. (of_product products.now p).now)) }
         ensures ranked { IsTrue result → IfAsked ranks (HasRanks self.new) }
+        ensures nothing { result ≡ false → cols self.new ≡ 0 }
     {
         let fit = take_heights(z, &mut self.z)
             & take_heights(products.con, &mut self.con)
@@ -71,8 +72,8 @@ impl Lanes {
     }
 
     /// How many columns there are.
-    pub(crate) fn len(&self) -> usize
-        ensures { result ≡ vec_len self.now.z }
+    pub fn cols(&self) -> usize
+        ensures { result ≡ cols self.now }
     {
         self.z.len()
     }
@@ -87,7 +88,7 @@ impl Lanes {
     /// 1 where con is above the ground, else 0.
     #[inline(always)]
     fn raised(&self, k: usize) -> u32
-        requires { k < vec_len self.now.z }
+        requires { k < cols self.now }
         ensures number { result ≡ cond (is_raised_at self.now k) 1 0 }
         ensures small { result ≤ 1 }
     {
@@ -99,8 +100,8 @@ impl Lanes {
     #[tactic(auto, using(crate::proofs::Counting::one_more))]
     pub fn raised_between(&self, from: usize, end: usize) -> u32
         requires ordered { from ≤ end }
-        requires inside { end ≤ vec_len self.now.z }
-        requires fits { vec_len self.now.z < 2 ^ 32 }
+        requires inside { end ≤ cols self.now }
+        requires fits { cols self.now < 2 ^ 32 }
         ensures { result ≡ raised_count self.now from end }
     {
         let mut count = 0u32;
