@@ -1,6 +1,7 @@
 //! How many of a row's first cells are not below their ground, seen sixteen cells at a time.
 
-ghost use Rattle.std.specs.Prelude.{◌≡◌, ◌<◌, ◌≤◌, ◌↔◌, ℕ, IsTrue, length};
+ghost use Rattle.std.specs.Prelude.{◌≡◌, ◌<◌, ◌≤◌, ◌↔◌, ℕ, FitsSigned, IsTrue, length};
+ghost use Rattle.std.specs.Int.{w16};
 ghost use Rattle.drain_fill.specs.Below.{AreHeights, IsBelowAt};
 
 use drain_fill::first_below;
@@ -48,17 +49,33 @@ fn cells_of_block(con: &[i64], ground: &[i64]) -> usize
     }
 }
 
-/// Puts the numbers in their places in 16 bits each, and answers whether all of them fit.
+/// Puts the numbers in their places in 16 bits each, and answers whether all of them fit. It has no branch, so that many are put at a time.
 fn narrow(out: &mut [i16], numbers: &[i64]) -> bool
     requires { length numbers.now ≡ length out.old }
     ensures all { IsTrue result ↔ AreHeights numbers.now }
     ensures same { IsTrue result → out.new ≡ numbers.now }
 {
+    let mut all = true;
     for place in 0..numbers.len() {
-        let Ok(height) = i16::try_from(numbers[place]) else {
-            return false;
-        };
-        out[place] = height;
+        let number = numbers[place];
+        all &= fits(number);
+        out[place] = narrowed(number);
     }
-    true
+    all
+}
+
+/// Whether 16 bits with a sign hold the number.
+#[inline(always)]
+fn fits(number: i64) -> bool
+    ensures { IsTrue result ↔ FitsSigned w16 number }
+{
+    number >= -32768 && number <= 32767
+}
+
+/// The number, where 16 bits hold it; else 0.
+#[inline(always)]
+fn narrowed(number: i64) -> i16
+    ensures { FitsSigned w16 number → result ≡ number }
+{
+    if fits(number) { number as i16 } else { 0 }
 }

@@ -1,6 +1,12 @@
+use Rattle.std.proofs.Common.{◌≡◌, IsTrue, length}
+use Rattle.drain_fill.specs.Below.{AreHeights}
 use Rattle.drain_rules.proofs.Screens.{ArePut}
 use Rattle.drain_rules.proofs.screen.narrow.Given as goal
 
--- the numbers that were passed fit, and are in their places
+-- the numbers that were passed are in their places if all of them fit, and else not all numbers do
 abbrev pub invariant-loop-place : goal.invariant-loop-place
-invariant-loop-place l = ArePut l.numbers l.out l.place
+invariant-loop-place l = record {
+  long : length l.out ≡ length l.numbers;
+  put : IsTrue l.all → ArePut l.numbers l.out l.place;
+  misfit : ¬ IsTrue l.all → ¬ AreHeights l.numbers;
+}
