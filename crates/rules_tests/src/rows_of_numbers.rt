@@ -123,7 +123,8 @@ fn row_view<'a>(given: Given<'a>, row: u8, lanes: &'a mut Lanes) -> Option<RowVi
         rnk: row_of(numbers, Part::Rnk, row)?,
     };
     let z = row_of(numbers, Part::Elevations, row)?;
-    let marks = given.marks.get(row as usize)?;
+    let marks = given.marks;
+    let marks = marks.get(row as usize)?;
     if !are_row_numbers(z, &products) {
         return None;
     }
@@ -150,21 +151,21 @@ fn no_row<'a>() -> Option<RowView<'a>> {
     }
 }
 
+/// A row of the six parts where there is one, else no row.
+fn row_or_none<'a>(given: Given<'a>, row: Option<u8>, lanes: &'a mut Lanes) -> Option<RowView<'a>> {
+    match row {
+        Some(row) => row_view(given, row, lanes),
+        None => no_row(),
+    }
+}
+
 /// A row with those above and below it.
 fn three_rows<'a>(given: Given<'a>, row: u8, room: &'a mut Room) -> Option<ThreeRows<'a>> {
-    let above = match row.checked_sub(1) {
-        Some(above) => row_view(given, above, &mut room.above)?,
-        None => no_row()?,
-    };
-    let below = if row < 2 {
-        row_view(given, row + 1, &mut room.below)?
-    } else {
-        no_row()?
-    };
+    let next = if row < 2 { Some(row + 1) } else { None };
     Some(ThreeRows {
-        above,
+        above: row_or_none(given, row.checked_sub(1), &mut room.above)?,
         here: row_view(given, row, &mut room.here)?,
-        below,
+        below: row_or_none(given, next, &mut room.below)?,
     })
 }
 
