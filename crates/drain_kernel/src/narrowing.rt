@@ -19,7 +19,7 @@ fn is_lane(number: i64) -> bool
     number >= 0 && number <= 4294967295
 }
 
-/// Whether they do, or the elevation's lane is that of a void.
+/// Whether 32 bits without a sign hold the number, or it stands at a void, where the elevation's lane is 0.
 #[inline(always)]
 fn is_lane_at(z: u32, number: i64) -> bool
     ensures { IsTrue result → z ≢ 0 → IsTrue (is_lane number) }
@@ -64,7 +64,7 @@ fn is_height(number: i64) -> bool
     number >= -32768 && number <= 32767
 }
 
-/// Whether they do, or the elevation's lane is that of a void.
+/// Whether 16 bits with a sign hold the number, or it stands at a void.
 #[inline(always)]
 fn is_height_at(z: u32, number: i64) -> bool
     ensures { IsTrue result → z ≢ 0 → IsTrue (is_height number) }
