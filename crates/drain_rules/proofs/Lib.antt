@@ -2,7 +2,10 @@ mod EqualGrids
 pub mod Faults
 pub mod FindingLemmas
 pub mod GridLemmas
+pub mod KeptCells
 pub mod LabelsBefore
+pub mod LanedCounts
+pub mod LanedPatches
 pub mod PassedCells
 pub mod PatchFaults
 pub mod RowFields

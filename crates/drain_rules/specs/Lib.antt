@@ -3,7 +3,9 @@ pub mod FillVerdicts
 pub mod Filled
 pub mod Findings
 pub mod GridWalks
+pub mod KeptRuns
 pub mod Labels
+pub mod LanedRows
 pub mod Laws
 pub mod MarkedRows
 pub mod Parts

@@ -10,9 +10,9 @@ ghost use Rattle.drain_rules.specs.Stops.{IsCellStop};
 
 use crate::outlet::is_outlet_by_code;
 use crate::patch_rules::screened_fault;
-use drain_kernel::Rules;
 use drain_basin::OutletLabels;
 use drain_grid::{CellValues, OutOfMemory, Patch, Rule};
+use drain_kernel::Rules;
 
 /// Why a walk goes no further.
 #[derive(Clone, Copy, PartialEq, Eq, Debug)]

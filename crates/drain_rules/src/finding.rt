@@ -10,10 +10,10 @@ ghost use Rattle.drain_kernel.specs.Rules.{tried};
 use crate::cell_rules::Stop;
 use crate::patch_row::PatchRow;
 use crate::row_walk::check_row;
-use drain_kernel::Rules;
 use crate::tally::Tally;
 use drain_basin::OutletLabels;
 use drain_grid::{Cell, OutOfMemory, Rule};
+use drain_kernel::Rules;
 
 /// What the rows so far came to.
 #[derive(Clone, Copy, PartialEq, Eq, Debug)]

@@ -4,11 +4,11 @@ ghost use Rattle.drain_rules.specs.Findings.{IsBounded};
 
 use crate::finding::{Finding, find_in_row};
 use crate::patch_row::PatchRow;
-use drain_kernel::Rules;
 use crate::tally::Tally;
 use crate::verdict::{Counts, Verdict};
 use drain_basin::OutletLabels;
 use drain_grid::{OutOfMemory, Shape};
+use drain_kernel::Rules;
 use std::alloc::Global;
 
 /// How many rows were checked, the labels of their outlets, and what they came to.

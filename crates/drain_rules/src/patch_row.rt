@@ -6,8 +6,13 @@ ghost use Rattle.std.specs.Prelude.{◌≡◌, ◌<◌, ◌≤◌, ℕ};
 ghost use Rattle.drain_grid.specs.declared.cell.TheConstants.{MAX_LENGTH};
 ghost use Rattle.drain_grid.specs.declared.patch.Patch.{Patch};
 ghost use Rattle.drain_grid.specs.PatchRules.{BelowGroundHolds};
+ghost use Rattle.drain_kernel.specs.Kept.{IsKept};
+ghost use Rattle.drain_kernel.specs.Rules.{tried};
+ghost use Rattle.drain_rules.specs.KeptRuns.{raised_between};
 
+use crate::kept::Kept;
 use drain_grid::Patch;
+use drain_kernel::Rules;
 
 /// A row of a grid that shows the patch round each of its cells.
 pub trait PatchRow {
@@ -25,6 +30,15 @@ pub trait PatchRow {
     /// How many of its first cells are seen together not to be below their ground. It may answer less than there are.
     fn cells_above_ground(&self) -> u32
         ensures { (col : ℕ) → col < result → col < len self.now → BelowGroundHolds (shown self.now col) };
+
+    /// How far from a column on every rule but SharedLabel is seen to hold at data cells that are no outlets, and how many of them are
+    /// raised. It may answer fewer cells than there are, and none.
+    fn kept_from(&self, rules: &Rules, from: u32) -> Kept
+        requires { from ≤ len self.now }
+        ensures forward { from ≤ result.end }
+        ensures within { result.end ≤ len self.now }
+        ensures kept { (col : ℕ) → from ≤ col → col < result.end → IsKept (tried rules.now) (shown self.now col) }
+        ensures raised { result.raised ≡ raised_between (shown self.now) from result.end };
 
     /// The values at a column and those of its neighbours.
     fn patch(&self, col: u32) -> Patch

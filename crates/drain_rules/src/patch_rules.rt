@@ -5,8 +5,8 @@ ghost use Rattle.drain_grid.specs.PatchRules.{surface_rules, BelowGroundHolds};
 ghost use Rattle.drain_grid.specs.Rule.{IsFillRule, IsOnly, IsPatchRule, IsPresenceRule, IsLeastFault};
 ghost use Rattle.drain_kernel.specs.Rules.{tried};
 
-use drain_kernel::{Ranks, Rules};
 use drain_grid::{Patch, Rule};
+use drain_kernel::{Ranks, Rules};
 
 /// The first of the rules from VoidCell to Label that fails at the cell, as they are tried, none where they all hold.
 ///

@@ -8,11 +8,12 @@ ghost use Rattle.drain_rules.specs.Labels.{HasNewLabel};
 ghost use Rattle.drain_rules.specs.Verdicts.{IsVerdict, IfAccepted};
 
 use crate::grid_walk::GridWalk;
+use crate::kept::Kept;
 use crate::patch_row::PatchRow;
-use drain_kernel::{Ranks, Rules};
 use crate::verdict::Verdict;
 use drain_grid::laws::correct_from_rules;
 use drain_grid::{Cell, Elevation, OutOfMemory, Patch, ProductSet, Sinks};
+use drain_kernel::{Ranks, Rules};
 use std::alloc::Global;
 
 /// The verdict on the products of a grid, whose data cells that are listed as sinks are open too. `OutOfMemory` comes only at a data cell with code 0 whose label is new, where every rule
@@ -92,6 +93,11 @@ impl<'a> PatchRow for RasterRow<'a> {
     /// None: each cell of rasters held whole is asked by itself.
     fn cells_above_ground(&self) -> u32 {
         0
+    }
+
+    /// None, likewise.
+    fn kept_from(&self, _rules: &Rules, from: u32) -> Kept {
+        Kept::none(from)
     }
 
     fn patch(&self, col: u32) -> Patch {

@@ -1,6 +1,6 @@
 //! A row of a grid and its products, as slices of numbers and of marks.
 
-ghost use Rattle.std.specs.Prelude.{ℕ, ◌≡◌, ◌≢◌, ◌≤◌, ◌<◌, false, Some, length, pos, slice_index_or};
+ghost use Rattle.std.specs.Prelude.{ℕ, ◌≡◌, ◌≢◌, ◌≤◌, ◌<◌, false, Some, option_copied, length, pos, slice_index_or};
 ghost use Rattle.drain_fill.specs.Below.{AreHeights, IsBelowAt};
 ghost use Rattle.drain_grid.specs.declared.cell.TheConstants.{MAX_LENGTH};
 ghost use Rattle.drain_grid.specs.declared.tile.TheConstants.{VOID};
@@ -8,26 +8,31 @@ ghost use Rattle.drain_grid.specs.PerProduct.{of_product, per_product};
 ghost use Rattle.drain_grid.specs.Tile.{IsSample, height_from};
 ghost use Rattle.drain_grid.specs.Values.{IsPixel};
 ghost use Rattle.drain_rules.specs.MarkedRows.{values_in, beside, west_of};
+ghost use Rattle.drain_rules.specs.LanedRows.{AreLanesIfAny};
 ghost use Rattle.drain_rules.specs.RowNumbers.{AreRowNumbers};
 
+use crate::marks::unmarked_until;
 use crate::screen::cells_above_ground;
 use drain_grid::tile::height_from;
 use drain_grid::{CellValues, Held, PerProduct};
+use drain_kernel::Lanes;
 use std::marker::Model;
 
-/// One row: elevations, -32768 at a void, and each product's numbers, as many of each; and marks, true at a listed sink. It has no
-/// numbers where there is no row, and no mark stands for false.
+/// One row: elevations, -32768 at a void, and each product's numbers, as many of each; marks, true at a listed sink; and the lanes of its
+/// numbers where they were taken. It has no numbers where there is no row, and no mark stands for false.
 #[derive(Drop)]
 pub struct RowView<'a> {
     z: &'a [i64],
     sinks: &'a [bool],
     products: PerProduct<&'a [i64]>,
+    lanes: Option<&'a Lanes>,
 }
 
 impl<'a> Model for RowView<'a> {
+    ghost use Rattle.std.specs.Prelude.{option_copied};
     ghost use Rattle.drain_grid.specs.PerProduct.{of_product, per_product};
+    ghost use Rattle.drain_rules.specs.LanedRows.{IsLanedRow};
     ghost use Rattle.drain_rules.specs.MarkedRows.{MarkedRow};
-    ghost use Rattle.drain_rules.specs.RowNumbers.{AreRowNumbers};
 
     ghost Value = { MarkedRow };
 
@@ -36,17 +41,28 @@ impl<'a> Model for RowView<'a> {
       sinks = row.sinks.now;
     } };
 
-    ghost invariant = { λ row. AreRowNumbers (record { z = row.z.now; products = per_product (λ p. (of_product row.products p).now) }) };
+    ghost invariant = { λ row. IsLanedRow (record { z = row.z.now; products = per_product (λ p. (of_product row.products p).now) }) (option_copied row.lanes) };
 }
 
 impl<'a> RowView<'a> {
-    /// The row of these numbers and marks.
-    pub fn new(z: &'a [i64], sinks: &'a [bool], products: PerProduct<&'a [i64]>) -> RowView<'a>
-        requires { AreRowNumbers (record { z = z.now; products = per_product (λ p. (of_product products p).now) }) }
+    /// The row of these numbers and marks, with the lanes of the numbers, or none.
+    pub fn new(
+        z: &'a [i64],
+        sinks: &'a [bool],
+        products: PerProduct<&'a [i64]>,
+        lanes: Option<&'a Lanes>,
+    ) -> RowView<'a>
+        requires numbers { AreRowNumbers (record { z = z.now; products = per_product (λ p. (of_product products p).now) }) }
+        requires laned { AreLanesIfAny (record { z = z.now; products = per_product (λ p. (of_product products p).now) }) (option_copied lanes) }
         ensures numbers { result.numbers ≡ record { z = z.entry.now; products = per_product (λ p. (of_product products.entry p).now) } }
         ensures sinks { result.sinks ≡ sinks.entry.now }
     {
-        RowView { z, sinks, products }
+        RowView {
+            z,
+            sinks,
+            products,
+            lanes,
+        }
     }
 
     /// How many columns there are, at most 28,801.
@@ -65,6 +81,25 @@ impl<'a> RowView<'a> {
         ensures first { AreHeights self.now.numbers.products.con → result < length self.now.numbers.z → IsBelowAt self.now.numbers.products.con self.now.numbers.z result }
     {
         cells_above_ground(self.products.con, self.z) as u32
+    }
+
+    /// A column up to which no cell is marked from this one on: that of the next mark, where it is among the next 128; of a row without
+    /// marks the number of columns.
+    pub fn unmarked_until(&self, from: usize) -> usize
+        requires { from ≤ length self.now.numbers.z }
+        ensures forward { from ≤ result }
+        ensures within { result ≤ length self.now.numbers.z }
+        ensures unmarked { (col : ℕ) → from ≤ col → col < result → slice_index_or self.now.sinks col false ≡ false }
+    {
+        unmarked_until(self.sinks, from, self.z.len())
+    }
+
+    /// The lanes of its numbers, at most 28,801 of each, where they were taken.
+    pub fn lanes(&self) -> Option<&'a Lanes>
+        ensures laned { AreLanesIfAny self.now.numbers (option_copied result) }
+        ensures narrow { length self.now.numbers.z ≤ MAX_LENGTH }
+    {
+        self.lanes
     }
 
     /// What the row says at a column; of spill parents, which no set holds, it says 0.

@@ -10,9 +10,9 @@ ghost use Rattle.drain_kernel.specs.Rules.{tried};
 
 use crate::cell_rules::{Stop, check_cell};
 use crate::patch_row::PatchRow;
-use drain_kernel::Rules;
 use crate::tally::Tally;
 use drain_basin::OutletLabels;
+use drain_kernel::Rules;
 
 /// Where a walk along a row stops, and why.
 #[derive(Clone, Copy, PartialEq, Eq, Debug)]
@@ -34,13 +34,21 @@ pub fn check_row<R: PatchRow>(
     ensures stopped { IfErr result (λ end. OfRow (R.len row.now) (R.shown row.now) labels.old (λ g ps r. IsRowStop (tried rules.now) g ps r end)) }
     ensures bounds { IfOk result (IsAtMost MAX_LENGTH) }
 {
+    let cols = row.cols();
     let above = row.cells_above_ground();
     let mut tally = Tally::new();
-    for col in 0..row.cols() {
-        let patch = row.patch(col);
-        match check_cell(&patch, rules, col < above, labels) {
-            Ok(()) => tally.add(&patch.here),
-            Err(stop) => return Err(RowStop { stop, col }),
+    let mut col = 0;
+    while col < cols {
+        let kept = row.kept_from(rules, col);
+        tally.add_kept(kept.end - col, kept.raised);
+        col = kept.end;
+        if col < cols {
+            let patch = row.patch(col);
+            match check_cell(&patch, rules, col < above, labels) {
+                Ok(()) => tally.add(&patch.here),
+                Err(stop) => return Err(RowStop { stop, col }),
+            }
+            col += 1;
         }
     }
     Ok(tally)

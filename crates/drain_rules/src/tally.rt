@@ -46,6 +46,18 @@ impl Tally {
         }
     }
 
+    /// Counts so many data cells more, of which so many are raised and none is an outlet.
+    pub fn add_kept(&mut self, cells: u32, raised: u32)
+        requires data_fit { self.old.data_cells + cells < 2 ^ 32 }
+        requires raised_fit { self.old.raised + raised < 2 ^ 32 }
+        ensures data_cells { self.new.data_cells ≡ self.old.data_cells + cells }
+        ensures raised { self.new.raised ≡ self.old.raised + raised }
+        ensures outlets { self.new.outlets ≡ self.old.outlets }
+    {
+        self.data_cells += cells;
+        self.raised += raised;
+    }
+
     /// Counts the cells of a row more.
     pub fn join(&mut self, row: Tally)
         requires data_fit { self.old.data_cells + row.data_cells < 2 ^ 32 }

@@ -1,8 +1,11 @@
 //! A row of a grid and its products, with the rows above and below it; and the patch round a column.
 
+use crate::kept::Kept;
 use crate::patch_row::PatchRow;
 use crate::row_view::RowView;
 use drain_grid::Patch;
+use drain_kernel::laws::{lanes_show_numbers, raised_are_counted};
+use drain_kernel::{Rules, kept_until};
 
 /// A row, and those above and below it; empty where the grid ends.
 #[derive(Drop)]
@@ -26,6 +29,27 @@ impl PatchRow for ThreeRows<'_> {
 
     fn cells_above_ground(&self) -> u32 {
         self.here.cells_above_ground()
+    }
+
+    /// Those for which the lanes of the three rows vouch, up to a marked cell; none where a row has no lanes.
+    fn kept_from(&self, rules: &Rules, from: u32) -> Kept {
+        let (Some(above), Some(here), Some(below)) = (
+            self.above.lanes(),
+            self.here.lanes(),
+            self.below.lanes(),
+        ) else {
+            return Kept::none(from);
+        };
+        // The laws that tell what lanes show, and of what they count those that are raised.
+        lanes_show_numbers();
+        raised_are_counted();
+        let first = from as usize;
+        let until = self.here.unmarked_until(first);
+        let end = kept_until(above, here, below, rules, first, until);
+        Kept {
+            end: end as u32,
+            raised: here.raised_between(first, end),
+        }
     }
 
     fn patch(&self, col: u32) -> Patch {

@@ -4,6 +4,8 @@
 #[cfg(test)]
 mod examples;
 #[cfg(test)]
+mod kept_runs;
+#[cfg(test)]
 mod listed_sinks;
 #[cfg(test)]
 mod long_rows;

@@ -1,4 +1,4 @@
-//! The verdict on three rows of 600 columns, gone over by rows.
+//! The verdict on three rows of 600 columns, gone over by rows: with lanes of their numbers, and without.
 
 ghost use Rattle.std.specs.Prelude.{◌≡◌, ◌↔◌, ◌<◌, ◌+◌, IsTrue, OnOk, length};
 ghost use Rattle.std.specs.List.{All};
@@ -9,7 +9,8 @@ ghost use Rattle.drain_rules.specs.RowNumbers.{AreRowNumbers};
 
 use crate::examples::{Part, is_pixel};
 use drain_grid::{NoData, PerProduct, Shape, Sinks, parse_sinks};
-use drain_rules::{GridWalk, Ranks, RowView, Rules, ThreeRows, Verdict};
+use drain_kernel::Lanes;
+use drain_rules::{GridWalk, Kept, PatchRow, Ranks, RowView, Rules, ThreeRows, Verdict};
 use std::alloc::Global;
 use std::test::Fail;
 
@@ -66,21 +67,54 @@ fn row_of(numbers: &[i64], part: Part, row: u8) -> Option<&[i64]> {
     numbers.get(start..start + COLS as usize)
 }
 
-/// The row of these numbers and marks.
-fn view<'a>(
+/// What the rows are made of. The lanes of their numbers are taken, or they aren't.
+#[derive(Clone, Copy)]
+struct Given<'a> {
+    numbers: &'a [i64],
+    marks: &'a Marks,
+    ranks: Ranks,
+    is_laned: bool,
+}
+
+/// Room for the lanes of three rows.
+#[derive(Drop)]
+struct Room {
+    above: Lanes,
+    here: Lanes,
+    below: Lanes,
+}
+
+impl Room {
+    /// No row. This takes no memory.
+    fn new(alloc: Global) -> Room {
+        Room {
+            above: Lanes::new(alloc),
+            here: Lanes::new(alloc),
+            below: Lanes::new(alloc),
+        }
+    }
+}
+
+/// The row of these numbers and marks, with the lanes of its numbers where they fit.
+fn laned_view<'a>(
     z: &'a [i64],
     marks: &'a [bool],
     products: PerProduct<&'a [i64]>,
-) -> Option<RowView<'a>> {
-    if are_row_numbers(z, &products) {
-        Some(RowView::new(z, marks, products))
+    ranks: Ranks,
+    lanes: &'a mut Lanes,
+) -> RowView<'a>
+    requires { AreRowNumbers (record { z = z.now; products = per_product (λ p. (of_product products p).now) }) }
+{
+    if lanes.take(z, &products, ranks) {
+        RowView::new(z, marks, products, Some(lanes))
     } else {
-        None
+        RowView::new(z, marks, products, None)
     }
 }
 
 /// A row of the six parts, one after the other.
-fn row_view<'a>(numbers: &'a [i64], marks: &'a Marks, row: u8) -> Option<RowView<'a>> {
+fn row_view<'a>(given: Given<'a>, row: u8, lanes: &'a mut Lanes) -> Option<RowView<'a>> {
+    let numbers = given.numbers;
     let products = PerProduct {
         con: row_of(numbers, Part::Con, row)?,
         dir: row_of(numbers, Part::Dir, row)?,
@@ -89,8 +123,16 @@ fn row_view<'a>(numbers: &'a [i64], marks: &'a Marks, row: u8) -> Option<RowView
         rnk: row_of(numbers, Part::Rnk, row)?,
     };
     let z = row_of(numbers, Part::Elevations, row)?;
+    let marks = given.marks;
     let marks = marks.get(row as usize)?;
-    view(z, marks, products)
+    if !are_row_numbers(z, &products) {
+        return None;
+    }
+    if given.is_laned {
+        Some(laned_view(z, marks, products, given.ranks, lanes))
+    } else {
+        Some(RowView::new(z, marks, products, None))
+    }
 }
 
 /// No row.
@@ -102,44 +144,82 @@ fn no_row<'a>() -> Option<RowView<'a>> {
         bas: [].as_slice(),
         rnk: [].as_slice(),
     };
-    view(&[], &[], products)
+    if are_row_numbers(&[], &products) {
+        Some(RowView::new(&[], &[], products, None))
+    } else {
+        None
+    }
+}
+
+/// A row of the six parts where there is one, else no row.
+fn row_or_none<'a>(given: Given<'a>, row: Option<u8>, lanes: &'a mut Lanes) -> Option<RowView<'a>> {
+    match row {
+        Some(row) => row_view(given, row, lanes),
+        None => no_row(),
+    }
 }
 
 /// A row with those above and below it.
-fn three_rows<'a>(numbers: &'a [i64], marks: &'a Marks, row: u8) -> Option<ThreeRows<'a>> {
-    let above = match row.checked_sub(1) {
-        Some(above) => row_view(numbers, marks, above)?,
-        None => no_row()?,
-    };
-    let below = if row < 2 {
-        row_view(numbers, marks, row + 1)?
-    } else {
-        no_row()?
-    };
+fn three_rows<'a>(given: Given<'a>, row: u8, room: &'a mut Room) -> Option<ThreeRows<'a>> {
+    let next = if row < 2 { Some(row + 1) } else { None };
     Some(ThreeRows {
-        above,
-        here: row_view(numbers, marks, row)?,
-        below,
+        above: row_or_none(given, row.checked_sub(1), &mut room.above)?,
+        here: row_view(given, row, &mut room.here)?,
+        below: row_or_none(given, next, &mut room.below)?,
     })
 }
 
-/// Checks the next row, by the rules of a check with the default no-data numbers.
-fn check_row(
-    walk: &mut GridWalk,
-    numbers: &[i64],
-    marks: &Marks,
-    row: u8,
-    ranks: Ranks,
-) -> Result<(), Fail>
+/// The rules of a check with the default no-data numbers.
+fn rules_with(ranks: Ranks) -> Rules {
+    let nodata = NoData::defaults();
+    Rules { nodata, ranks }
+}
+
+/// Checks the next row.
+fn check_row(walk: &mut GridWalk, given: Given<'_>, row: u8, room: &mut Room) -> Result<(), Fail>
     requires { walk.old.rows < 3 }
     ensures { OnOk result (walk.new.rows ≡ walk.old.rows + 1) }
 {
-    let rows = three_rows(numbers, marks, row).ok_or("rows of numbers")?;
-    let nodata = NoData::defaults();
-    Ok(walk.check_row(&rows, &Rules { nodata, ranks })?)
+    let rows = three_rows(given, row, room).ok_or("rows of numbers")?;
+    Ok(walk.check_row(&rows, &rules_with(given.ranks))?)
 }
 
-/// The verdict on the numbers of the six parts, with the sinks that a text lists; ranks are asked for or not.
+/// The verdict on these rows.
+fn verdict_of(alloc: Global, given: Given<'_>) -> Result<Verdict, Fail> {
+    let shape = Shape::new(3, COLS.into()).ok_or("a shape")?;
+    let mut room = Room::new(alloc);
+    let mut walk = GridWalk::new(alloc);
+    check_row(&mut walk, given, 0, &mut room)?;
+    check_row(&mut walk, given, 1, &mut room)?;
+    check_row(&mut walk, given, 2, &mut room)?;
+    Ok(walk.verdict(shape))
+}
+
+/// The cells of a row for which lanes vouch from a column on.
+pub fn kept_by_lanes(
+    alloc: Global,
+    text: &[u8],
+    numbers: &[i64],
+    row: u8,
+    from: u32,
+) -> Result<Kept, Fail> {
+    let sinks = parse_sinks(alloc, text)?;
+    let marks = marks_of(&sinks);
+    let given = Given {
+        numbers,
+        marks: &marks,
+        ranks: Ranks::Asked,
+        is_laned: true,
+    };
+    let mut room = Room::new(alloc);
+    let rows = three_rows(given, row, &mut room).ok_or("rows of numbers")?;
+    if from > rows.cols() {
+        return Err("a column".into());
+    }
+    Ok(rows.kept_from(&rules_with(Ranks::Asked), from))
+}
+
+/// The verdict on the numbers of the six parts, with the sinks that a text lists, the same with lanes and without; ranks are asked for or not.
 pub fn verdict_by_rows(
     alloc: Global,
     text: &[u8],
@@ -148,10 +228,19 @@ pub fn verdict_by_rows(
 ) -> Result<Verdict, Fail> {
     let sinks = parse_sinks(alloc, text)?;
     let marks = marks_of(&sinks);
-    let shape = Shape::new(3, COLS.into()).ok_or("a shape")?;
-    let mut walk = GridWalk::new(alloc);
-    check_row(&mut walk, numbers, &marks, 0, ranks)?;
-    check_row(&mut walk, numbers, &marks, 1, ranks)?;
-    check_row(&mut walk, numbers, &marks, 2, ranks)?;
-    Ok(walk.verdict(shape))
+    let laned = Given {
+        numbers,
+        marks: &marks,
+        ranks,
+        is_laned: true,
+    };
+    let plain = Given {
+        is_laned: false,
+        ..laned
+    };
+    let verdict = verdict_of(alloc, laned)?;
+    if verdict_of(alloc, plain)? != verdict {
+        return Err("lanes change the verdict".into());
+    }
+    Ok(verdict)
 }

@@ -1,24 +1,56 @@
 use Rattle.std.proofs.Common.{arith}
 use Rattle.drain_kernel.specs.Rules.{tried}
+use Rattle.drain_rules.proofs.KeptCells.{passed-kept, bounds-kept, raised_between-fits}
 use Rattle.drain_rules.proofs.PassedCells.{passed-more, passed-row, passed-labels, stops-row}
 use Rattle.drain_rules.proofs.row_walk.check_row.Goals as goal
 
+pub add_kept-requires-clause-raised_fit : goal.add_kept-requires-clause-raised_fit
+add_kept-requires-clause-raised_fit g c =
+    omega (
+      arith,
+      c.loop-col.invariant.bounds.data_cells,
+      c.loop-col.invariant.bounds.raised,
+      c.kept_from-kept.ensures.raised,
+      raised_between-fits (g.R.PatchRow.shown c.args.row.now) c.loop-col.col c.kept_from-kept.result.end,
+      c.kept_from-kept.ensures.within,
+      c.cols-cols.ensures.count,
+      c.cols-cols.ensures.narrow,
+    )
+
+pub add-requires-clause-raised_within : goal.add-requires-clause-raised_within
+add-requires-clause-raised_within g c =
+    let kept = c.kept_from-kept.ensures in
+    let add = c.add_kept.ensures in
+    (bounds-kept (g.R.PatchRow.shown c.args.row.now) c.loop-col.col c.kept_from-kept.result c.loop-col.tally c.add_kept.new.self kept.forward
+    c.loop-col.invariant.bounds kept.raised add.data_cells add.raised add.outlets).raised
+
 pub returns-in-Err-clause-stopped : goal.returns-in-Err-clause-stopped
 returns-in-Err-clause-stopped g c = λ grid ps row are before.
-    stops-row (tried c.args.rules.now) grid ps row c.loop-col.col (g.R.PatchRow.len c.args.row.now) (g.R.PatchRow.shown c.args.row.now) c.patch-patch.result
-    c.loop-col.tally c.loop-col.labels c.in-Err.stop are (omega (arith, c.loop-col-test.true, c.cols-col-end.ensures.count)) c.patch-patch.ensures
-    (c.loop-col.invariant.passed grid ps row are before) c.in-Err.ensures.stopped
+    let kept = c.kept_from-kept.ensures in
+    let add = c.add_kept.ensures in
+    stops-row (tried c.args.rules.now) grid ps row c.kept_from-kept.result.end (g.R.PatchRow.len c.args.row.now) (g.R.PatchRow.shown c.args.row.now) c.patch-patch.result
+    c.add_kept.new.self c.loop-col.labels c.in-Err.stop are (omega (arith, c.if-col-cols.true, c.cols-cols.ensures.count)) c.patch-patch.ensures
+    (passed-kept (tried c.args.rules.now) grid ps row (g.R.PatchRow.len c.args.row.now) (g.R.PatchRow.shown c.args.row.now) c.loop-col.labels c.loop-col.col c.kept_from-kept.result
+    c.loop-col.tally c.add_kept.new.self are kept.forward kept.within (c.loop-col.invariant.passed grid ps row are before) kept.kept kept.raised add.data_cells add.raised
+    add.outlets) c.in-Err.ensures.stopped
 
-pub loop-col-preserved : goal.loop-col-preserved
-loop-col-preserved g c =
-    let bounds = c.loop-col.invariant.bounds in
+-- the cells that are vouched for, and the one behind them
+pub loop-col-preserved-then-col-cols : goal.loop-col-preserved-then-col-cols
+loop-col-preserved-then-col-cols g c =
+    let kept = c.kept_from-kept.ensures in
+    let run = c.add_kept.ensures in
     let add = c.add.ensures in
+    let bounds = bounds-kept (g.R.PatchRow.shown c.args.row.now) c.loop-col.col c.kept_from-kept.result c.loop-col.tally c.add_kept.new.self kept.forward
+    c.loop-col.invariant.bounds kept.raised run.data_cells run.raised run.outlets in
     record {
+      within = omega (arith, c.if-col-cols.true, c.cols-cols.ensures.count);
       passed = λ grid ps row are before.
-          passed-more (tried c.args.rules.now) grid ps row c.loop-col.col (g.R.PatchRow.len c.args.row.now) (g.R.PatchRow.shown c.args.row.now) c.patch-patch.result
-          c.loop-col.tally c.add.new.self c.loop-col.labels c.check_cell.new.labels are (omega (arith, c.loop-col-test.true, c.cols-col-end.ensures.count))
-          c.patch-patch.ensures (c.loop-col.invariant.passed grid ps row are before) c.in-Ok.ensures.passed add.data_cells add.raised add.outlets
-          c.in-Ok.ensures.labels;
+          passed-more (tried c.args.rules.now) grid ps row c.kept_from-kept.result.end (g.R.PatchRow.len c.args.row.now) (g.R.PatchRow.shown c.args.row.now) c.patch-patch.result
+          c.add_kept.new.self c.add.new.self c.loop-col.labels c.check_cell.new.labels are (omega (arith, c.if-col-cols.true, c.cols-cols.ensures.count))
+          c.patch-patch.ensures
+          (passed-kept (tried c.args.rules.now) grid ps row (g.R.PatchRow.len c.args.row.now) (g.R.PatchRow.shown c.args.row.now) c.loop-col.labels c.loop-col.col c.kept_from-kept.result
+          c.loop-col.tally c.add_kept.new.self are kept.forward kept.within (c.loop-col.invariant.passed grid ps row are before) kept.kept kept.raised run.data_cells run.raised
+          run.outlets) c.in-Ok.ensures.passed add.data_cells add.raised add.outlets c.in-Ok.ensures.labels;
       bounds = record {
         data_cells = grind (arith, add.data_cells, bounds.data_cells);
         raised = grind (arith, add.raised, add.data_cells, bounds.raised);
@@ -26,12 +58,27 @@ loop-col-preserved g c =
       };
     }
 
+-- the cells that are vouched for, up to the end of the row
+pub loop-col-preserved : goal.loop-col-preserved
+loop-col-preserved g c =
+    let kept = c.kept_from-kept.ensures in
+    let run = c.add_kept.ensures in
+    record {
+      within = kept.within;
+      passed = λ grid ps row are before.
+          passed-kept (tried c.args.rules.now) grid ps row (g.R.PatchRow.len c.args.row.now) (g.R.PatchRow.shown c.args.row.now) c.loop-col.labels c.loop-col.col c.kept_from-kept.result
+          c.loop-col.tally c.add_kept.new.self are kept.forward kept.within (c.loop-col.invariant.passed grid ps row are before) kept.kept kept.raised run.data_cells run.raised
+          run.outlets;
+      bounds = bounds-kept (g.R.PatchRow.shown c.args.row.now) c.loop-col.col c.kept_from-kept.result c.loop-col.tally c.add_kept.new.self kept.forward
+          c.loop-col.invariant.bounds kept.raised run.data_cells run.raised run.outlets;
+    }
+
 pub returns-clause-tally : goal.returns-clause-tally
 returns-clause-tally g c = λ grid ps row are before.
     passed-row (tried c.args.rules.now) grid ps row c.loop-col.col (g.R.PatchRow.len c.args.row.now) (g.R.PatchRow.shown c.args.row.now) c.loop-col.tally c.loop-col.labels
-    are (omega (arith, c.loop-col-test.false, c.loop-col.auto.col-end, c.cols-col-end.ensures.count)) (c.loop-col.invariant.passed grid ps row are before)
+    are (omega (arith, c.loop-col-test.false, c.loop-col.invariant.within, c.cols-cols.ensures.count)) (c.loop-col.invariant.passed grid ps row are before)
 
 pub returns-clause-labels : goal.returns-clause-labels
 returns-clause-labels g c = λ grid ps row are before.
     passed-labels (tried c.args.rules.now) grid ps row c.loop-col.col (g.R.PatchRow.len c.args.row.now) (g.R.PatchRow.shown c.args.row.now) c.loop-col.tally c.loop-col.labels
-    are (omega (arith, c.loop-col-test.false, c.loop-col.auto.col-end, c.cols-col-end.ensures.count)) (c.loop-col.invariant.passed grid ps row are before)
+    are (omega (arith, c.loop-col-test.false, c.loop-col.invariant.within, c.cols-cols.ensures.count)) (c.loop-col.invariant.passed grid ps row are before)

@@ -6,18 +6,18 @@ use Rattle.drain_rules.proofs.Screens.{samples_fit}
 use Rattle.drain_rules.proofs.row_view.RowView.cells_above_ground.Goals as goal
 
 pub cells_above_ground-requires : goal.cells_above_ground-requires
-cells_above_ground-requires c = c.self.invariant.long Con
+cells_above_ground-requires c = c.self.invariant.numbers.long Con
 
 pub overflow_cast-result : goal.overflow_cast-result
-overflow_cast-result c = omega (arith, c.cells_above_ground.ensures.within, c.self.invariant.long Con, c.self.invariant.narrow)
+overflow_cast-result c = omega (arith, c.cells_above_ground.ensures.within, c.self.invariant.numbers.long Con, c.self.invariant.numbers.narrow)
 
 pub returns-clause-within : goal.returns-clause-within
 returns-clause-within c =
     let cols : length c.self.inside.z.now ≡ length c.args.self.now.numbers.z = ap (λ (row : MarkedRow). length row.numbers.z) c.self.view_is in
-    omega (arith, c.cells_above_ground.ensures.within, c.self.invariant.long Con, cols)
+    omega (arith, c.cells_above_ground.ensures.within, c.self.invariant.numbers.long Con, cols)
 
 pub returns-clause-first : goal.returns-clause-first
 returns-clause-first c =
     subst (λ (row : MarkedRow). AreHeights row.numbers.products.con → c.cells_above_ground.result < length row.numbers.z → IsBelowAt row.numbers.products.con row.numbers.z c.cells_above_ground.result)
     c.self.view_is
-    (λ fit less. c.cells_above_ground.ensures.first fit (samples_fit c.self.inside.z.now c.self.invariant.samples) (omega (arith, less, c.self.invariant.long Con)))
+    (λ fit less. c.cells_above_ground.ensures.first fit (samples_fit c.self.inside.z.now c.self.invariant.numbers.samples) (omega (arith, less, c.self.invariant.numbers.long Con)))

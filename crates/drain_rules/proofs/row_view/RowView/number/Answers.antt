@@ -10,11 +10,11 @@ bounds-numbers-col c =
     let own = of_per (λ p. (of_product c.self.inside.products p).now) c.args.product in
     let same : c.of-numbers.result.now.now ≡ (of_product c.self.inside.products c.args.product).now = ap (λ numbers. numbers.now) c.of-numbers.ensures in
     let cols : length c.self.inside.z.now ≡ length c.args.self.now.numbers.z = ap (λ (row : MarkedRow). length row.numbers.z) c.self.view_is in
-    omega (arith, c.self.invariant.long c.args.product, ap length own, ap length same, cols)
+    omega (arith, c.self.invariant.numbers.long c.args.product, ap length own, ap length same, cols)
 
 pub returns-clause-pixel : goal.returns-clause-pixel
 returns-clause-pixel c =
     let own = of_per (λ p. (of_product c.self.inside.products p).now) c.args.product in
     let same : c.of-numbers.result.now.now ≡ (of_product c.self.inside.products c.args.product).now = ap (λ numbers. numbers.now) c.of-numbers.ensures in
-    let pixels : All IsPixel c.of-numbers.result.now.now = subst (λ (numbers : List ℤ). All IsPixel numbers) (own ∙ sym same) (c.self.invariant.pixels c.args.product) in
+    let pixels : All IsPixel c.of-numbers.result.now.now = subst (λ (numbers : List ℤ). All IsPixel numbers) (own ∙ sym same) (c.self.invariant.numbers.pixels c.args.product) in
     search rules

@@ -1,0 +1,67 @@
+-- Three rows with their lanes: the patch that the lanes show round an inner column is that of the rows.
+use Rattle.std.proofs.Common.{◌≡◌, ℕ, zero, suc, ◌+◌, ◌-◌, ◌≤◌, ◌<◌, false, length, slice_index_or, Some, refl, arith}
+use Rattle.std.proofs.lemmas.Bool.{lt-ltb}
+use Rattle.drain_grid.specs.declared.direction.Direction.{Direction}
+use Rattle.drain_grid.specs.declared.direction.Direction.TheVariants.{East, SouthEast, South, SouthWest, West, NorthWest, North, NorthEast}
+use Rattle.drain_grid.specs.Values.{Values}
+use Rattle.drain_kernel.specs.declared.lanes.Lanes.{Lanes}
+use Rattle.drain_kernel.specs.Laws.{LanesShowNumbers}
+use Rattle.drain_kernel.specs.Shown.{IsInner, IsShown, IsShownAt, Shows}
+use Rattle.drain_kernel.specs.Taken.{AreLanesOf}
+use Rattle.drain_rules.specs.declared.three_rows.ThreeRows.{ThreeRows}
+use Rattle.drain_rules.specs.MarkedRows.{MarkedRow, beside, values_in, west_of}
+use Rattle.drain_rules.specs.ThreeRows.{patch_in}
+
+-- the lanes are those of a row's numbers
+abbrev pub AreTaken : Lanes → MarkedRow → Type 0
+AreTaken lanes row = AreLanesOf lanes row.numbers.z row.numbers.products
+
+-- a neighbour that is there
+beside_is : (row : MarkedRow) (col : ℕ) → col < length row.numbers.z → beside row col ≡ Some (values_in row col)
+beside_is row col less = rw (lt-ltb col (length row.numbers.z) less) refl
+
+west_is : (row : MarkedRow) (col : ℕ) → 1 ≤ col → col < length row.numbers.z → west_of row col ≡ Some (values_in row (col - 1))
+west_is row zero some less = absurd (omega (arith, some))
+west_is row (suc c) some less =
+    let back : suc c - 1 ≡ c = omega arith in
+    rw back (beside_is row c (omega (arith, less)))
+
+-- the lanes show what the row says
+pub row_shown : LanesShowNumbers → (lanes : Lanes) (row : MarkedRow) → AreTaken lanes row → (col : ℕ) → col < length row.numbers.z → Shows lanes col (values_in row col)
+row_shown show lanes row taken col less = show lanes row.numbers.z row.numbers.products taken col less (slice_index_or row.sinks col false)
+
+module _ (show : LanesShowNumbers) (rows : ThreeRows) (above here below : Lanes) (over : AreTaken above rows.above) (at : AreTaken here rows.here) (under : AreTaken below rows.below) (col : ℕ) (inner : IsInner above here below col) where
+  -- each neighbour is what its lanes show
+  around : (d : Direction) → (v : Values) × IsShownAt above here below col (patch_in rows col) d v
+  around East =
+      let less : col + 1 < length rows.here.numbers.z = omega (arith, inner.here_right, at.len) in
+      (values_in rows.here (col + 1), record { is = beside_is rows.here (col + 1) less; shown = row_shown show here rows.here at (col + 1) less })
+  around SouthEast =
+      let less : col + 1 < length rows.below.numbers.z = omega (arith, inner.below_right, under.len) in
+      (values_in rows.below (col + 1), record { is = beside_is rows.below (col + 1) less; shown = row_shown show below rows.below under (col + 1) less })
+  around South =
+      let less : col < length rows.below.numbers.z = omega (arith, inner.below_right, under.len) in
+      (values_in rows.below col, record { is = beside_is rows.below col less; shown = row_shown show below rows.below under col less })
+  around SouthWest =
+      let less : col < length rows.below.numbers.z = omega (arith, inner.below_right, under.len) in
+      (values_in rows.below (col - 1), record { is = west_is rows.below col inner.left less; shown = row_shown show below rows.below under (col - 1) (omega (arith, less)) })
+  around West =
+      let less : col < length rows.here.numbers.z = omega (arith, inner.here_right, at.len) in
+      (values_in rows.here (col - 1), record { is = west_is rows.here col inner.left less; shown = row_shown show here rows.here at (col - 1) (omega (arith, less)) })
+  around NorthWest =
+      let less : col < length rows.above.numbers.z = omega (arith, inner.above_right, over.len) in
+      (values_in rows.above (col - 1), record { is = west_is rows.above col inner.left less; shown = row_shown show above rows.above over (col - 1) (omega (arith, less)) })
+  around North =
+      let less : col < length rows.above.numbers.z = omega (arith, inner.above_right, over.len) in
+      (values_in rows.above col, record { is = beside_is rows.above col less; shown = row_shown show above rows.above over col less })
+  around NorthEast =
+      let less : col + 1 < length rows.above.numbers.z = omega (arith, inner.above_right, over.len) in
+      (values_in rows.above (col + 1), record { is = beside_is rows.above (col + 1) less; shown = row_shown show above rows.above over (col + 1) less })
+
+  -- so the patch is, of a cell that isn't marked
+  pub patch_shown : slice_index_or rows.here.sinks col false ≡ false → IsShown above here below col (patch_in rows col)
+  patch_shown unmarked = record {
+    cell = row_shown show here rows.here at col (omega (arith, inner.here_right, at.len));
+    not_listed = unmarked;
+    around_is = around;
+  }
