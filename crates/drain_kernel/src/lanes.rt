@@ -26,7 +26,7 @@ pub struct Lanes {
 }
 
 impl Lanes {
-    ghost use Rattle.std.specs.Prelude.{◌≤◌, ◌<◌, ◌^◌, cond, false};
+    ghost use Rattle.std.specs.Prelude.{◌≤◌, ◌<◌, ◌-◌, ◌^◌, cond, false};
     ghost use Rattle.drain_grid.specs.declared.held.Held.{Held};
     ghost use Rattle.drain_grid.specs.PerProduct.{of_product, per_product};
     ghost use Rattle.drain_kernel.specs.Counts.{is_raised_at, raised_count};
@@ -104,7 +104,7 @@ impl Lanes {
     pub fn raised_between(&self, from: usize, end: usize) -> u32
         requires ordered { from ≤ end }
         requires inside { end ≤ cols self.now }
-        requires fits { cols self.now < 2 ^ 32 }
+        requires fits { end - from < 2 ^ 32 }
         ensures { result ≡ raised_count self.now from end }
     {
         let mut count = 0u32;
