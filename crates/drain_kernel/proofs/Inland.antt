@@ -1,8 +1,8 @@
 -- A cell and eight neighbours that all have data, the cell not listed as a sink: what its patch shows, and what the test of the surface gives.
-use Rattle.std.proofs.Common.{◌≡◌, ℕ, ◌≤◌, pos, ◌≤ℤ◌, Bool, true, false, not, ◌==◌, nat_le, max, map, List, Option, Some, None, is_some, option_map, unwrap_or, inl, inr, refl, sym, ◌∙◌, ap, subst, arith, if◌then◌else◌}
+use Rattle.std.proofs.Common.{◌≡◌, ◌≢◌, ℕ, ◌≤◌, pos, ◌≤ℤ◌, Bool, true, false, not, ◌==◌, nat_le, max, map, List, Option, Some, None, is_some, option_map, unwrap_or, inl, inr, refl, sym, ◌∙◌, ap, subst, arith, if◌then◌else◌}
 use Rattle.std.specs.Int.{int_max}
 use Rattle.std.proofs.lemmas.Bool.{false≢true, and_parts}
-use Rattle.std.proofs.lemmas.Bool.Decides.{leb_tells}
+use Rattle.std.proofs.lemmas.Bool.Decides.{Decides-eqb, leb_tells}
 use Rattle.std.proofs.lemmas.Int.{ints, clamps}
 use Rattle.drain_grid.specs.declared.direction.Direction.{Direction}
 use Rattle.drain_grid.specs.declared.direction.Direction.TheVariants.{East, SouthEast, South, SouthWest, West, NorthWest, North, NorthEast}
@@ -37,18 +37,17 @@ of_each P e se s sw w nw nth ne NorthWest = nw
 of_each P e se s sw w nw nth ne North = nth
 of_each P e se s sw w nw nth ne NorthEast = ne
 
-some_height : (z : ℕ) → not (z == 0) ≡ true → height_of z ≡ Some (lowered z)
-some_height z h = by_test (z == 0) h
+no_void : (z : ℕ) → not (z == 0) ≡ true → z ≢ 0
+no_void z h void = by_test (z == 0) h ((Decides-eqb z 0).1 void)
   where
-    by_test : (b : Bool) → not b ≡ true → (if b then None else Some (lowered z)) ≡ Some (lowered z)
-    by_test true e = absurd (false≢true e)
-    by_test false e = refl
+    by_test : (b : Bool) → not b ≡ true → b ≢ true
+    by_test true e same = false≢true e
+    by_test false e same = false≢true same
 
-pub inland_from : (here : Numbers) (n : Direction → Numbers) (around : List (Option Values)) →
-    ((d : Direction) → neighbor (patch_of here around) d ≡ Some (values_of (n d))) → here.sink ≡ false →
-    have_data here.z (map (λ d. (n d).z) directions) ≡ true → IsInland here n around
+-- what the test of voids gives
+pub all_have_data : (z : ℕ) (zs : Direction → ℕ) → have_data z (map zs directions) ≡ true → (z ≢ 0) × ((d : Direction) → zs d ≢ 0)
 unfolding have_data
-inland_from here n around neighbors not_listed h =
+all_have_data z zs h =
     let ne = and_parts _ _ h in
     let nth = and_parts _ _ ne.0 in
     let nw = and_parts _ _ nth.0 in
@@ -57,13 +56,24 @@ inland_from here n around neighbors not_listed h =
     let s = and_parts _ _ sw.0 in
     let se = and_parts _ _ s.0 in
     let e = and_parts _ _ se.0 in
-    record {
-      neighbor_is = neighbors;
-      not_listed = not_listed;
-      here_is = some_height here.z e.0;
-      beside_is = λ d. some_height (n d).z
-          (of_each (λ d. not ((n d).z == 0) ≡ true) e.1 se.1 s.1 sw.1 w.1 nw.1 nth.1 ne.1 d);
-    }
+    (no_void z e.0, λ d. no_void (zs d) (of_each (λ d. not (zs d == 0) ≡ true) e.1 se.1 s.1 sw.1 w.1 nw.1 nth.1 ne.1 d))
+
+some_height : (z : ℕ) → z ≢ 0 → height_of z ≡ Some (lowered z)
+some_height z there = by_test (z == 0) (Decides-eqb z 0).0
+  where
+    by_test : (b : Bool) → (b ≡ true → z ≡ 0) → (if b then None else Some (lowered z)) ≡ Some (lowered z)
+    by_test true is = absurd (there (is refl))
+    by_test false is = refl
+
+pub inland_from : (here : Numbers) (n : Direction → Numbers) (around : List (Option Values)) →
+    ((d : Direction) → neighbor (patch_of here around) d ≡ Some (values_of (n d))) → here.sink ≡ false → here.z ≢ 0 →
+    ((d : Direction) → (n d).z ≢ 0) → IsInland here n around
+inland_from here n around neighbors not_listed here_has beside_has = record {
+  neighbor_is = neighbors;
+  not_listed = not_listed;
+  here_is = some_height here.z here_has;
+  beside_is = λ d. some_height (n d).z (beside_has d);
+}
 
 -- each neighbour is a data neighbour
 pub is_beside : (here : Numbers) (n : Direction → Numbers) (around : List (Option Values)) → IsInland here n around → (d : Direction) →

@@ -19,13 +19,13 @@ use Rattle.drain_kernel.specs.declared.rules.Ranks.{Ranks}
 use Rattle.drain_kernel.specs.declared.rules.Ranks.TheVariants.{Asked, Unasked}
 use Rattle.drain_kernel.specs.declared.rules.Rules.{Rules}
 use Rattle.drain_kernel.specs.Asked.{IfAsked}
-use Rattle.drain_kernel.specs.Columns.{PassesAt, RanksPassAt}
+use Rattle.drain_kernel.specs.Columns.{is_inland_at, PassesAt, RanksPassAt}
 use Rattle.drain_kernel.specs.Kept.{IsKept}
 use Rattle.drain_kernel.specs.Rules.{rules_with, tried}
 use Rattle.drain_kernel.specs.Shown.{height_of, HaveRanks, IsShown, HasRanks, row_beside, col_beside}
 use Rattle.drain_kernel.specs.Tests.{AreComplete, keeps_accumulation}
-use Rattle.drain_kernel.proofs.Inland.{IsInland, inland_from, of_each, not_open, OfSurface, of_surface}
-use Rattle.drain_kernel.proofs.Numbers.{Numbers, values_of, patch_of, numbers_in, numbers_beside, patch_is, neighbor_is}
+use Rattle.drain_kernel.proofs.Inland.{IsInland, all_have_data, inland_from, of_each, not_open, OfSurface, of_surface}
+use Rattle.drain_kernel.proofs.Numbers.{Numbers, HaveDataAt, values_of, patch_of, numbers_in, numbers_beside, patch_is, neighbor_is}
 use Rattle.drain_kernel.proofs.Sums.{inflow_is, total_is}
 use Rattle.drain_kernel.proofs.Ways.{OfDirection, of_direction, FallsOrNears, falls_or_nears_from, flat_step_from}
 
@@ -116,6 +116,12 @@ of_rules Unasked nodata here n around passed ranked = of_unranked nodata here n 
 no_outlet : (d : Direction) → code_of d ≢ 0
 no_outlet = of_each (λ d. code_of d ≢ 0) (λ e. cc) (λ e. cc) (λ e. cc) (λ e. cc) (λ e. cc) (λ e. cc) (λ e. cc) (λ e. cc)
 
+-- the test of voids, of the nine columns
+have_data_from : (above here below : Lanes) (k : ℕ) → is_inland_at above here below k ≡ true → HaveDataAt above here below k
+have_data_from above here below k h =
+    let known = all_have_data (slice_index here.z.items k) (λ d. slice_index (row_beside above here below d).z.items (col_beside k d)) h in
+    record { here_has = known.0; beside_has = known.1 }
+
 not_zero : (code d : ℕ) → pos code ≡ pos d → d ≢ 0 → pos code ≢ pos 0
 not_zero code d is differs h = differs (same_natural d 0 (sym is ∙ h))
   where
@@ -124,17 +130,17 @@ not_zero code d is differs h = differs (same_natural d 0 (sym is ∙ h))
 
 -- where ranks are asked for, they were taken, and the tests of them give what is wanted of the numbers
 ranked_from : (ranks : Ranks) (nodata : NoDataNumbers) (above here below : Lanes) (k : ℕ) (p : Patch) (shown : IsShown above here below k p) →
-    IfAsked ranks (HaveRanks above here below) → IfAsked ranks (RanksPassAt nodata above here below k) →
+    HaveDataAt above here below k → IfAsked ranks (HaveRanks above here below) → IfAsked ranks (RanksPassAt nodata above here below k) →
     IfAsked ranks (Ranked nodata (numbers_in here k p.here) (numbers_beside above here below k p shown))
-ranked_from Unasked nodata above here below k p shown have passes = tt
-ranked_from Asked nodata above here below k p shown have passes =
-    let own = shown.cell.rnk_is have.here_has in
+ranked_from Unasked nodata above here below k p shown known have passes = tt
+ranked_from Asked nodata above here below k p shown known have passes =
+    let own = shown.cell.rnk_is have.here_has known.here_has in
     let has : (d : Direction) → HasRanks (row_beside above here below d) = of_each (λ d. HasRanks (row_beside above here below d))
     have.here_has have.below_has have.below_has have.below_has have.here_has have.above_has have.above_has have.above_has in
     record {
       nears = falls_or_nears_from (numbers_in here k p.here) (numbers_beside above here below k p shown) (slice_index here.rnk.items k)
           (λ d. slice_index (row_beside above here below d).rnk.items (col_beside k d)) own
-          (λ d. (shown.around_is d).1.shown.rnk_is (has d)) passes.ranked;
+          (λ d. (shown.around_is d).1.shown.rnk_is (has d) (known.beside_has d)) passes.ranked;
       differs = subst (λ r. r ≢ nodata.rnk) (sym own) passes.has_rank;
     }
 
@@ -144,7 +150,9 @@ pub is_kept : (rules : Rules) (above here below : Lanes) (k : ℕ) (p : Patch) �
 is_kept rules above here below k p shown have passes =
     let at = numbers_in here k p.here in
     let n = numbers_beside above here below k p shown in
-    let known = inland_from at n p.around (neighbor_is above here below k p shown) shown.not_listed passes.inland in
+    let nine = have_data_from above here below k passes.inland in
+    let known = inland_from at n p.around (λ d. neighbor_is above here below k p shown d (nine.beside_has d)) shown.not_listed
+    nine.here_has nine.beside_has in
     let direction = of_direction at n p.around known passes.direction in
     let passed : Passed rules.nodata at n p.around = record {
       inland = known;
@@ -153,8 +161,8 @@ is_kept rules above here below k p shown have passes =
       sum = of_accumulation at n p.around known passes.accumulation;
       complete = passes.complete;
     } in
-    let ranked = ranked_from rules.ranks rules.nodata above here below k p shown have passes.ranks in
-    subst (IsKept (tried rules)) (sym (patch_is above here below k p shown)) (record {
+    let ranked = ranked_from rules.ranks rules.nodata above here below k p shown nine have passes.ranks in
+    subst (IsKept (tried rules)) (sym (patch_is above here below k p shown nine.here_has)) (record {
       holds = λ r own. of_rules rules.ranks rules.nodata at n p.around passed ranked r;
       has_data = ap is_some known.here_is;
       no_outlet = not_zero at.dir (code_of direction.named.0) direction.named.1 (no_outlet direction.named.0);

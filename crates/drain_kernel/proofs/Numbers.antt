@@ -5,7 +5,7 @@ use Rattle.drain_grid.specs.declared.patch.Patch.{Patch}
 use Rattle.drain_grid.specs.Patch.{neighbor}
 use Rattle.drain_grid.specs.Values.{Values}
 use Rattle.drain_kernel.specs.declared.lanes.Lanes.{Lanes}
-use Rattle.drain_kernel.specs.Shown.{lowered, height_of, Shows, IsShown, row_beside, col_beside}
+use Rattle.drain_kernel.specs.Shown.{lowered, height_of, HasDataAt, Shows, IsShown, row_beside, col_beside}
 
 -- what lanes say of a cell, and beside it what they needn't say
 pub record Numbers : Type 0 where
@@ -37,14 +37,14 @@ numbers_in row k v = record {
   rnk = v.rnk;
 }
 
-pub values_are : (row : Lanes) (k : ℕ) (v : Values) → Shows row k v → v ≡ values_of (numbers_in row k v)
-values_are row k v s = λ i. record {
+pub values_are : (row : Lanes) (k : ℕ) (v : Values) → Shows row k v → HasDataAt row k → v ≡ values_of (numbers_in row k v)
+values_are row k v s there = λ i. record {
   z = s.z_is i;
   sink = v.sink;
-  con = s.con_is i;
-  dir = s.dir_is i;
-  acc = s.acc_is i;
-  bas = s.bas_is i;
+  con = s.con_is there i;
+  dir = s.dir_is there i;
+  acc = s.acc_is there i;
+  bas = s.bas_is there i;
   spl = v.spl;
   rnk = v.rnk;
 }
@@ -54,12 +54,19 @@ abbrev pub numbers_beside : (above here below : Lanes) (k : ℕ) (p : Patch) →
 numbers_beside above here below k p shown d =
     numbers_in (row_beside above here below d) (col_beside k d) (shown.around_is d).0
 
-pub patch_is : (above here below : Lanes) (k : ℕ) (p : Patch) → IsShown above here below k p → p ≡ patch_of (numbers_in here k p.here) p.around
-patch_is above here below k p shown = λ i. record { here = values_are here k p.here shown.cell i; around = p.around }
+-- none of the nine columns is a void
+pub record HaveDataAt (above here below : Lanes) (k : ℕ) : Type 0 where
+  pub here_has : HasDataAt here k
+  pub beside_has : (d : Direction) → HasDataAt (row_beside above here below d) (col_beside k d)
+
+-- so the patch is made of their numbers
+pub patch_is : (above here below : Lanes) (k : ℕ) (p : Patch) → IsShown above here below k p → HasDataAt here k →
+    p ≡ patch_of (numbers_in here k p.here) p.around
+patch_is above here below k p shown there = λ i. record { here = values_are here k p.here shown.cell there i; around = p.around }
 
 pub neighbor_is : (above here below : Lanes) (k : ℕ) (p : Patch) (shown : IsShown above here below k p) (d : Direction) →
-    neighbor p d ≡ Some (values_of (numbers_beside above here below k p shown d))
-neighbor_is above here below k p shown d =
+    HasDataAt (row_beside above here below d) (col_beside k d) → neighbor p d ≡ Some (values_of (numbers_beside above here below k p shown d))
+neighbor_is above here below k p shown d there =
     let v = (shown.around_is d).0 in
     let at = (shown.around_is d).1 in
-    at.is ∙ ap Some (values_are (row_beside above here below d) (col_beside k d) v at.shown)
+    at.is ∙ ap Some (values_are (row_beside above here below d) (col_beside k d) v at.shown there)

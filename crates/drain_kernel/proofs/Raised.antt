@@ -1,5 +1,5 @@
 -- The columns that lanes count as raised are those whose shown values are.
-use Rattle.std.proofs.Common.{◌≡◌, ℕ, ◌-◌, ◌<◌, pos, ◌<ℤ◌, ◌==◌, Bool, true, false, nat_lt, int_lt, Some, None, IsSome, is_some, unwrap_or, slice_index, refl, sym, ◌∙◌, ap, arith, if◌then◌else◌}
+use Rattle.std.proofs.Common.{◌≡◌, ◌≢◌, ℕ, ◌-◌, ◌<◌, pos, ◌<ℤ◌, ◌==◌, Bool, true, false, nat_lt, int_lt, Some, None, IsSome, is_some, unwrap_or, slice_index, refl, sym, ◌∙◌, ap, arith, if◌then◌else◌}
 use Rattle.std.proofs.lemmas.Bool.{false≢true}
 use Rattle.std.proofs.lemmas.Bool.Decides.{Decides-ltb}
 use Rattle.std.proofs.lemmas.Int.{ints}
@@ -33,11 +33,15 @@ height_there n h = by_test (n == 0) h
     by_test true e = absurd (false≢true e)
     by_test false e = refl
 
+data_there : (n : ℕ) → is_some (height_of n) ≡ true → n ≢ 0
+data_there n h void = false≢true (sym (ap (λ m. is_some (height_of m)) void) ∙ h)
+
 same_at : (lanes : Lanes) (k : ℕ) (v : Values) → Shows lanes k v → IsSome v.z → is_raised_at lanes k ≡ is_above_ground v
 same_at lanes k v shows has =
+    let there = ap is_some (sym shows.z_is) ∙ has in
     let ground : unwrap_or v.z (pos 0) ≡ lowered (slice_index lanes.z.items k) =
-    ap (λ o. unwrap_or o (pos 0)) shows.z_is ∙ height_there _ (ap is_some (sym shows.z_is) ∙ has) in
-    same_order _ _ ∙ ap (λ z. int_lt z (lowered (slice_index lanes.con.items k))) (sym ground) ∙ ap (int_lt (unwrap_or v.z (pos 0))) (sym shows.con_is)
+    ap (λ o. unwrap_or o (pos 0)) shows.z_is ∙ height_there _ there in
+    same_order _ _ ∙ ap (λ z. int_lt z (lowered (slice_index lanes.con.items k))) (sym ground) ∙ ap (int_lt (unwrap_or v.z (pos 0))) (sym (shows.con_is (data_there _ there)))
 
 pub raised_are_counted : RaisedAreCounted
 raised_are_counted lanes from end shown shows has =

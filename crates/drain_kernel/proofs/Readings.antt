@@ -36,10 +36,10 @@ height_by_lane z y n same h = ap height_from (same ∙ lowered_is y n h) ∙ hei
 
 pub lanes_show_numbers : LanesShowNumbers
 lanes_show_numbers lanes z products are k less sink = record {
-  z_is = height_by_lane _ _ _ (get_or_default z k VOID (pos 0) less) (are.heights k less);
-  con_is = lowered_is _ _ (are.con k less);
-  dir_is = sym (are.dir k less);
-  acc_is = sym (are.acc k less);
-  bas_is = sym (are.bas k less);
-  rnk_is = λ has. sym (are.rnk has k less);
+  z_is = height_by_lane _ _ _ (get_or_default z k VOID (pos 0) less) (are.elevations k less);
+  con_is = λ there. lowered_is _ _ (are.con k less there);
+  dir_is = λ there. sym (are.dir k less there);
+  acc_is = λ there. sym (are.acc k less there);
+  bas_is = λ there. sym (are.bas k less there);
+  rnk_is = λ has there. sym (are.rnk has k less there);
 }

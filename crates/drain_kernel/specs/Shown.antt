@@ -1,5 +1,5 @@
 -- What lanes show at a column, and the patch that three rows of lanes show round it.
-use Rattle.std.specs.Prelude.{◌≡◌, ℕ, ◌≤◌, ◌<◌, ◌+◌, ◌-◌, ℤ, pos, ◌-ℤ◌, ◌==◌, false, Option, Some, None, slice_index, vec_len, if◌then◌else◌}
+use Rattle.std.specs.Prelude.{◌≡◌, ◌≢◌, ℕ, ◌≤◌, ◌<◌, ◌+◌, ◌-◌, ℤ, pos, ◌-ℤ◌, ◌==◌, false, Option, Some, None, slice_index, vec_len, if◌then◌else◌}
 use Rattle.drain_grid.specs.declared.direction.Direction.{Direction}
 use Rattle.drain_grid.specs.declared.direction.Direction.TheVariants.{East, SouthEast, South, SouthWest, West, NorthWest, North, NorthEast}
 use Rattle.drain_grid.specs.declared.patch.Patch.{Patch}
@@ -29,14 +29,19 @@ pub record HaveRanks (above here below : Lanes) : Type 0 where
   pub here_has : HasRanks here
   pub below_has : HasRanks below
 
--- the row has these values at a column, of the rank only where ranks were taken; of spill parents and of lists of sinks it says nothing
+-- the column is no void
+abbrev pub HasDataAt : Lanes → ℕ → Type 0
+HasDataAt row k = slice_index row.z.items k ≢ 0
+
+-- the row has these values at a column: of products only where it is no void, of the rank only where ranks were taken; of spill parents and
+-- of lists of sinks it says nothing
 pub record Shows (row : Lanes) (k : ℕ) (v : Values) : Type 0 where
   pub z_is : v.z ≡ height_of (slice_index row.z.items k)
-  pub con_is : v.con ≡ lowered (slice_index row.con.items k)
-  pub dir_is : v.dir ≡ pos (slice_index row.dir.items k)
-  pub acc_is : v.acc ≡ pos (slice_index row.acc.items k)
-  pub bas_is : v.bas ≡ pos (slice_index row.bas.items k)
-  pub rnk_is : HasRanks row → v.rnk ≡ pos (slice_index row.rnk.items k)
+  pub con_is : HasDataAt row k → v.con ≡ lowered (slice_index row.con.items k)
+  pub dir_is : HasDataAt row k → v.dir ≡ pos (slice_index row.dir.items k)
+  pub acc_is : HasDataAt row k → v.acc ≡ pos (slice_index row.acc.items k)
+  pub bas_is : HasDataAt row k → v.bas ≡ pos (slice_index row.bas.items k)
+  pub rnk_is : HasRanks row → HasDataAt row k → v.rnk ≡ pos (slice_index row.rnk.items k)
 
 -- the row where the neighbour in a direction lies
 abbrev pub row_beside : Lanes → Lanes → Lanes → Direction → Lanes

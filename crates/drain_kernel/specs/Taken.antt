@@ -2,15 +2,15 @@
 use Rattle.std.specs.Prelude.{◌≡◌, ℤ, List, length}
 use Rattle.drain_grid.specs.declared.per_product.PerProduct.{PerProduct}
 use Rattle.drain_kernel.specs.declared.lanes.Lanes.{Lanes}
-use Rattle.drain_kernel.specs.Lanes.{AreLanes, AreHeightLanes}
+use Rattle.drain_kernel.specs.Lanes.{AreLanes, AreElevationLanes, AreHeightLanes}
 use Rattle.drain_kernel.specs.Shown.{cols, HasRanks}
 
--- as many as there are numbers, and each lane holds the number of its column; ranks where they were taken
+-- as many as there are numbers, and each lane holds the number of its column, at a void that of the elevation alone; ranks where they were taken
 pub record AreLanesOf (lanes : Lanes) (z : List ℤ) (products : PerProduct (List ℤ)) : Type 0 where
   pub len : cols lanes ≡ length z
-  pub heights : AreHeightLanes z lanes.z.items (length z)
-  pub con : AreHeightLanes products.con lanes.con.items (length z)
-  pub dir : AreLanes products.dir lanes.dir.items (length z)
-  pub acc : AreLanes products.acc lanes.acc.items (length z)
-  pub bas : AreLanes products.bas lanes.bas.items (length z)
-  pub rnk : HasRanks lanes → AreLanes products.rnk lanes.rnk.items (length z)
+  pub elevations : AreElevationLanes z lanes.z.items (length z)
+  pub con : AreHeightLanes lanes.z.items products.con lanes.con.items (length z)
+  pub dir : AreLanes lanes.z.items products.dir lanes.dir.items (length z)
+  pub acc : AreLanes lanes.z.items products.acc lanes.acc.items (length z)
+  pub bas : AreLanes lanes.z.items products.bas lanes.bas.items (length z)
+  pub rnk : HasRanks lanes → AreLanes lanes.z.items products.rnk lanes.rnk.items (length z)

@@ -4,13 +4,13 @@ ghost use Rattle.std.specs.Prelude.{◌≡◌, IsTrue, length, vec_len};
 ghost use Rattle.drain_kernel.specs.Asked.{IfAsked};
 ghost use Rattle.drain_kernel.specs.Lanes.{AreLanes};
 
-use crate::narrowing::{take_heights, take_numbers};
+use crate::narrowing::{take_elevations, take_heights, take_numbers};
 use crate::rules::Ranks;
 use drain_grid::PerProduct;
 use std::alloc::Global;
 
 /// The numbers of a row, side by side for each column. Heights, z and con, are 32768 more than they are, and z is 0 at a void.
-/// Ranks are held where they were asked for.
+/// Ranks are held where they were asked for. At a void a product's lane is 0 where its number doesn't fit, and nothing is made of it.
 #[derive(Drop)]
 pub struct Lanes {
     pub(crate) z: Vec<u32>,
@@ -47,20 +47,23 @@ impl Lanes {
         }
     }
 
-    /// Takes a row's numbers in place of what is held, ranks where they are asked for, and tells whether it holds them now: z and con have
-    /// to fit 16 bits with a sign, the others 32 without, and memory is wanted where there is room for fewer. Else nothing is held.
+    /// Takes a row's numbers in place of what is held, ranks where they are asked for, and tells whether it holds them now: z has to fit
+    /// 16 bits with a sign, and at each column that is no void con as well, the others 32 without; memory is wanted where there is room for
+    /// fewer. Else nothing is held.
     pub fn take(&mut self, z: &[i64], products: &PerProduct<&[i64]>, ranks: Ranks) -> bool
         requires { (p : Held) → length (of_product products.now p).now ≡ length z.now }
         ensures lanes { IsTrue result → AreLanesOf self.new z.now (per_product (λ p. (of_product products.now p).now)) }
         ensures ranked { IsTrue result → IfAsked ranks (HasRanks self.new) }
         ensures nothing { result ≡ false → cols self.new ≡ 0 }
     {
-        let fit = take_heights(z, &mut self.z)
-            & take_heights(products.con, &mut self.con)
-            & take_numbers(products.dir, &mut self.dir)
-            & take_numbers(products.acc, &mut self.acc)
-            & take_numbers(products.bas, &mut self.bas)
-            & take_ranks(products.rnk, ranks, &mut self.rnk);
+        let z_fits = take_elevations(z, &mut self.z);
+        let elevations: &[u32] = &self.z;
+        let fit = z_fits
+            & take_heights(elevations, products.con, &mut self.con)
+            & take_numbers(elevations, products.dir, &mut self.dir)
+            & take_numbers(elevations, products.acc, &mut self.acc)
+            & take_numbers(elevations, products.bas, &mut self.bas)
+            & take_ranks(elevations, products.rnk, ranks, &mut self.rnk);
         if !fit {
             self.z.clear();
             self.con.clear();
@@ -113,12 +116,12 @@ impl Lanes {
 }
 
 /// Takes ranks where they are asked for, else none.
-fn take_ranks(numbers: &[i64], ranks: Ranks, out: &mut Vec<u32>) -> bool
+fn take_ranks(z: &[u32], numbers: &[i64], ranks: Ranks, out: &mut Vec<u32>) -> bool
     ensures len { IsTrue result → IfAsked ranks (vec_len out.new ≡ length numbers.now) }
-    ensures lanes { IsTrue result → vec_len out.new ≡ length numbers.now → AreLanes numbers.now out.new.items (length numbers.now) }
+    ensures lanes { IsTrue result → vec_len out.new ≡ length numbers.now → AreLanes z.now numbers.now out.new.items (length numbers.now) }
 {
     match ranks {
-        Ranks::Asked => take_numbers(numbers, out),
+        Ranks::Asked => take_numbers(z, numbers, out),
         Ranks::Unasked => {
             out.clear();
             true

@@ -1,7 +1,7 @@
-//! Numbers of 64 bits, brought into lanes of 32.
+//! Numbers of 64 bits, brought into lanes of 32. At a void, where the lane of the elevation is 0, a product's number need not fit.
 
-ghost use Rattle.std.specs.Prelude.{◌≡◌, ◌+ℤ◌, IsTrue, pos, length, vec_len};
-ghost use Rattle.drain_kernel.specs.Lanes.{AreLanes, AreHeightLanes, is_lane, is_height};
+ghost use Rattle.std.specs.Prelude.{◌≡◌, ◌≢◌, ◌+ℤ◌, IsTrue, pos, length, vec_len};
+ghost use Rattle.drain_kernel.specs.Lanes.{AreLanes, AreElevationLanes, AreHeightLanes, is_lane, is_height};
 
 /// The number, where 32 bits hold it; else 0.
 #[inline(always)]
@@ -19,17 +19,26 @@ fn is_lane(number: i64) -> bool
     number >= 0 && number <= 4294967295
 }
 
-/// Puts the numbers of a row into lanes, and tells whether all fit.
+/// Whether 32 bits without a sign hold the number, or it stands at a void, where the elevation's lane is 0.
+#[inline(always)]
+fn is_lane_at(z: u32, number: i64) -> bool
+    ensures { IsTrue result → z ≢ 0 → IsTrue (is_lane number) }
+{
+    is_lane(number) | (z == 0)
+}
+
+/// Puts the numbers of a row into lanes, and tells whether all fit that don't stand at a void.
 #[inline(never)]
-fn put_numbers(numbers: &[i64], out: &mut [u32]) -> bool
-    requires { length out.old ≡ length numbers.now }
+fn put_numbers(z: &[u32], numbers: &[i64], out: &mut [u32]) -> bool
+    requires z_len { length z.now ≡ length numbers.now }
+    requires out_len { length out.old ≡ length numbers.now }
     ensures len { length out.new ≡ length out.old }
-    ensures lanes { IsTrue result → AreLanes numbers.now out.new (length numbers.now) }
+    ensures lanes { IsTrue result → AreLanes z.now numbers.now out.new (length numbers.now) }
 {
     let mut all = true;
     for k in 0..numbers.len() {
         let number = numbers[k];
-        all &= is_lane(number);
+        all &= is_lane_at(z[k], number);
         out[k] = lane(number);
     }
     all
@@ -55,12 +64,37 @@ fn is_height(number: i64) -> bool
     number >= -32768 && number <= 32767
 }
 
-/// Puts the heights of a row into lanes, 32768 more than they are, and tells whether all are heights of 16 bits.
+/// Whether 16 bits with a sign hold the number, or it stands at a void.
+#[inline(always)]
+fn is_height_at(z: u32, number: i64) -> bool
+    ensures { IsTrue result → z ≢ 0 → IsTrue (is_height number) }
+{
+    is_height(number) | (z == 0)
+}
+
+/// Puts the heights of a row into lanes, 32768 more than they are, and tells whether all are heights of 16 bits that don't stand at a void.
 #[inline(never)]
-fn put_heights(numbers: &[i64], out: &mut [u32]) -> bool
+fn put_heights(z: &[u32], numbers: &[i64], out: &mut [u32]) -> bool
+    requires z_len { length z.now ≡ length numbers.now }
+    requires out_len { length out.old ≡ length numbers.now }
+    ensures len { length out.new ≡ length out.old }
+    ensures lanes { IsTrue result → AreHeightLanes z.now numbers.now out.new (length numbers.now) }
+{
+    let mut all = true;
+    for k in 0..numbers.len() {
+        let number = numbers[k];
+        all &= is_height_at(z[k], number);
+        out[k] = height_lane(number);
+    }
+    all
+}
+
+/// Puts the elevations of a row into lanes, 32768 more than they are, and tells whether all are heights of 16 bits.
+#[inline(never)]
+fn put_elevations(numbers: &[i64], out: &mut [u32]) -> bool
     requires { length out.old ≡ length numbers.now }
     ensures len { length out.new ≡ length out.old }
-    ensures lanes { IsTrue result → AreHeightLanes numbers.now out.new (length numbers.now) }
+    ensures lanes { IsTrue result → AreElevationLanes numbers.now out.new (length numbers.now) }
 {
     let mut all = true;
     for k in 0..numbers.len() {
@@ -71,24 +105,35 @@ fn put_heights(numbers: &[i64], out: &mut [u32]) -> bool
     all
 }
 
-/// Takes the numbers of a row in place of what is held, and tells whether all fit and there was memory for them.
-pub fn take_numbers(numbers: &[i64], out: &mut Vec<u32>) -> bool
+/// Takes the elevations of a row in place of what is held, and tells whether all fit and there was memory for them.
+pub fn take_elevations(numbers: &[i64], out: &mut Vec<u32>) -> bool
     ensures len { IsTrue result → vec_len out.new ≡ length numbers.now }
-    ensures lanes { IsTrue result → AreLanes numbers.now out.new.items (length numbers.now) }
+    ensures lanes { IsTrue result → AreElevationLanes numbers.now out.new.items (length numbers.now) }
 {
     if out.resize(numbers.len(), 0).is_err() {
         return false;
     }
-    put_numbers(numbers, out)
+    put_elevations(numbers, out)
 }
 
-/// The same of heights.
-pub fn take_heights(numbers: &[i64], out: &mut Vec<u32>) -> bool
+/// The same of a product's numbers, of which those at voids need not fit. It takes none where there aren't as many lanes of elevations.
+pub fn take_numbers(z: &[u32], numbers: &[i64], out: &mut Vec<u32>) -> bool
     ensures len { IsTrue result → vec_len out.new ≡ length numbers.now }
-    ensures lanes { IsTrue result → AreHeightLanes numbers.now out.new.items (length numbers.now) }
+    ensures lanes { IsTrue result → AreLanes z.now numbers.now out.new.items (length numbers.now) }
 {
-    if out.resize(numbers.len(), 0).is_err() {
+    if z.len() != numbers.len() || out.resize(numbers.len(), 0).is_err() {
         return false;
     }
-    put_heights(numbers, out)
+    put_numbers(z, numbers, out)
+}
+
+/// The same of a product's heights.
+pub fn take_heights(z: &[u32], numbers: &[i64], out: &mut Vec<u32>) -> bool
+    ensures len { IsTrue result → vec_len out.new ≡ length numbers.now }
+    ensures lanes { IsTrue result → AreHeightLanes z.now numbers.now out.new.items (length numbers.now) }
+{
+    if z.len() != numbers.len() || out.resize(numbers.len(), 0).is_err() {
+        return false;
+    }
+    put_heights(z, numbers, out)
 }

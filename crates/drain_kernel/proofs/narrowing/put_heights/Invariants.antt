@@ -2,9 +2,9 @@ use Rattle.std.proofs.Common.{◌≡◌, IsTrue, length}
 use Rattle.drain_kernel.specs.Lanes.{AreHeightLanes}
 use Rattle.drain_kernel.proofs.narrowing.put_heights.Given as goal
 
--- the numbers that were passed are there, if all of them fit
+-- the numbers that were passed are there, if all of them fit that stand at no void
 abbrev pub invariant-loop-k : goal.invariant-loop-k
 invariant-loop-k l = record {
   len : length l.out ≡ length l.numbers;
-  lanes : IsTrue l.all → AreHeightLanes l.numbers l.out l.k;
+  lanes : IsTrue l.all → AreHeightLanes l.z l.numbers l.out l.k;
 }

@@ -1,4 +1,4 @@
-use Rattle.std.proofs.Common.{◌≡◌, ℕ, ◌<◌, Bool, true, ◌&&◌, sym, ◌∙◌, subst}
+use Rattle.std.proofs.Common.{◌≡◌, ◌≢◌, ℕ, ◌<◌, Bool, true, ◌&&◌, List, slice_index, sym, ◌∙◌, subst}
 use Rattle.std.proofs.lemmas.Bool.{and_parts}
 use Rattle.drain_grid.specs.declared.held.Held.TheVariants.{Con, Dir, Acc, Bas, Rnk}
 use Rattle.drain_kernel.specs.Asked.{IfAsked}
@@ -29,11 +29,11 @@ same_len lanes numbers cols z own long here = own ∙ long ∙ sym here
 
 pub invariant_of-self-else-not-fit : goal.invariant_of-self-else-not-fit
 invariant_of-self-else-not-fit c =
-    let fit = all_fit c.take_heights.result c.take_heights-2.result c.take_numbers.result c.take_numbers-2.result c.take_numbers-3.result
+    let fit = all_fit c.take_elevations-z_fits.result c.take_heights.result c.take_numbers.result c.take_numbers-2.result c.take_numbers-3.result
     c.take_ranks.result c.if-not-fit.false in
-    let cols = c.take_heights.ensures.len fit.z_fits in
+    let cols = c.take_elevations-z_fits.ensures.len fit.z_fits in
     record {
-      con_len = same_len _ _ _ _ (c.take_heights-2.ensures.len fit.con_fits) (c.requires Con) cols;
+      con_len = same_len _ _ _ _ (c.take_heights.ensures.len fit.con_fits) (c.requires Con) cols;
       dir_len = same_len _ _ _ _ (c.take_numbers.ensures.len fit.dir_fits) (c.requires Dir) cols;
       acc_len = same_len _ _ _ _ (c.take_numbers-2.ensures.len fit.acc_fits) (c.requires Acc) cols;
       bas_len = same_len _ _ _ _ (c.take_numbers-3.ensures.len fit.bas_fits) (c.requires Bas) cols;
@@ -43,24 +43,29 @@ asked_len : (ranks : Ranks) (lanes numbers cols z : ℕ) → IfAsked ranks (lane
 asked_len Asked lanes numbers cols z own long here = same_len lanes numbers cols z own long here
 asked_len Unasked lanes numbers cols z own long here = tt
 
+-- the elevations that the others are taken beside are those that are held
+no_void : (z held : List ℕ) → z ≡ held → (k : ℕ) → slice_index held k ≢ 0 → slice_index z k ≢ 0
+no_void z held same k there = subst (λ zs. slice_index zs k ≢ 0) (sym same) there
+
 pub returns-else-not-fit-clause-lanes : goal.returns-else-not-fit-clause-lanes
 returns-else-not-fit-clause-lanes c = λ all.
-    let fit = all_fit c.take_heights.result c.take_heights-2.result c.take_numbers.result c.take_numbers-2.result c.take_numbers-3.result
+    let fit = all_fit c.take_elevations-z_fits.result c.take_heights.result c.take_numbers.result c.take_numbers-2.result c.take_numbers-3.result
     c.take_ranks.result all in
-    let cols = c.take_heights.ensures.len fit.z_fits in
+    let cols = c.take_elevations-z_fits.ensures.len fit.z_fits in
+    let beside = no_void _ _ c.deref-elevations.ensures.value in
     record {
       len = cols;
-      heights = c.take_heights.ensures.lanes fit.z_fits;
-      con = λ k less. c.take_heights-2.ensures.lanes fit.con_fits k (subst (λ n. k < n) (sym (c.requires Con)) less);
-      dir = λ k less. c.take_numbers.ensures.lanes fit.dir_fits k (subst (λ n. k < n) (sym (c.requires Dir)) less);
-      acc = λ k less. c.take_numbers-2.ensures.lanes fit.acc_fits k (subst (λ n. k < n) (sym (c.requires Acc)) less);
-      bas = λ k less. c.take_numbers-3.ensures.lanes fit.bas_fits k (subst (λ n. k < n) (sym (c.requires Bas)) less);
-      rnk = λ has k less. c.take_ranks.ensures.lanes fit.rnk_fits (has ∙ cols ∙ sym (c.requires Rnk)) k
-          (subst (λ n. k < n) (sym (c.requires Rnk)) less);
+      elevations = c.take_elevations-z_fits.ensures.lanes fit.z_fits;
+      con = λ k less there. c.take_heights.ensures.lanes fit.con_fits k (subst (λ n. k < n) (sym (c.requires Con)) less) (beside k there);
+      dir = λ k less there. c.take_numbers.ensures.lanes fit.dir_fits k (subst (λ n. k < n) (sym (c.requires Dir)) less) (beside k there);
+      acc = λ k less there. c.take_numbers-2.ensures.lanes fit.acc_fits k (subst (λ n. k < n) (sym (c.requires Acc)) less) (beside k there);
+      bas = λ k less there. c.take_numbers-3.ensures.lanes fit.bas_fits k (subst (λ n. k < n) (sym (c.requires Bas)) less) (beside k there);
+      rnk = λ has k less there. c.take_ranks.ensures.lanes fit.rnk_fits (has ∙ cols ∙ sym (c.requires Rnk)) k
+          (subst (λ n. k < n) (sym (c.requires Rnk)) less) (beside k there);
     }
 
 pub returns-else-not-fit-clause-ranked : goal.returns-else-not-fit-clause-ranked
 returns-else-not-fit-clause-ranked c = λ all.
-    let fit = all_fit c.take_heights.result c.take_heights-2.result c.take_numbers.result c.take_numbers-2.result c.take_numbers-3.result
+    let fit = all_fit c.take_elevations-z_fits.result c.take_heights.result c.take_numbers.result c.take_numbers-2.result c.take_numbers-3.result
     c.take_ranks.result all in
-    asked_len c.args.ranks _ _ _ _ (c.take_ranks.ensures.len fit.rnk_fits) (c.requires Rnk) (c.take_heights.ensures.len fit.z_fits)
+    asked_len c.args.ranks _ _ _ _ (c.take_ranks.ensures.len fit.rnk_fits) (c.requires Rnk) (c.take_elevations-z_fits.ensures.len fit.z_fits)
