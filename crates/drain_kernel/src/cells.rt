@@ -4,6 +4,7 @@ ghost use Rattle.std.specs.Prelude.{◌≡◌, ◌≢◌, ◌≤◌, IsTrue, pos
 ghost use Rattle.drain_kernel.specs.Tests.{AreComplete, have_data, keeps_surface, keeps_direction, keeps_accumulation, falls_steepest, steps_along, square_of_drop, handed_on};
 
 use crate::around::{is_direction, is_straight, least_across, least_straight, named};
+use crate::narrowing::{is_lane, lane};
 use drain_grid::NoData;
 
 /// Accumulations below this add up, eight of them, within 32 bits.
@@ -113,12 +114,20 @@ pub fn keeps_accumulation(acc: u32, codes: [u32; 8], accs: [u32; 8]) -> bool
     (low.max(high) < LARGE) & (acc == first + second + 1)
 }
 
+/// Whether a lane isn't this number, which is brought into a lane first: so lanes are compared with lanes, and in a loop that is done once.
+#[inline(always)]
+pub fn differs(here: u32, number: i64) -> bool
+    ensures { IsTrue result → pos here ≢ number }
+{
+    !is_lane(number) | (here != lane(number))
+}
+
 /// Whether a conditioned elevation isn't the number that stands for no data.
 #[inline(always)]
 fn con_differs(con: u32, nodata: &NoData) -> bool
     ensures { IsTrue result → pos con -ℤ pos 32768 ≢ nodata.now.con }
 {
-    i64::from(con) - 32768 != nodata.con
+    differs(con, nodata.con + 32768)
 }
 
 /// Whether a direction isn't.
@@ -126,7 +135,7 @@ fn con_differs(con: u32, nodata: &NoData) -> bool
 fn dir_differs(dir: u32, nodata: &NoData) -> bool
     ensures { IsTrue result → pos dir ≢ nodata.now.dir }
 {
-    i64::from(dir) != nodata.dir
+    differs(dir, nodata.dir)
 }
 
 /// Whether an accumulation isn't.
@@ -134,7 +143,7 @@ fn dir_differs(dir: u32, nodata: &NoData) -> bool
 fn acc_differs(acc: u32, nodata: &NoData) -> bool
     ensures { IsTrue result → pos acc ≢ nodata.now.acc }
 {
-    i64::from(acc) != nodata.acc
+    differs(acc, nodata.acc)
 }
 
 /// Whether a label isn't.
@@ -142,7 +151,7 @@ fn acc_differs(acc: u32, nodata: &NoData) -> bool
 fn bas_differs(bas: u32, nodata: &NoData) -> bool
     ensures { IsTrue result → pos bas ≢ nodata.now.bas }
 {
-    i64::from(bas) != nodata.bas
+    differs(bas, nodata.bas)
 }
 
 /// Whether none of the four numbers is its product's no-data number.

@@ -5,7 +5,7 @@ ghost use Rattle.drain_kernel.specs.Lanes.{AreLanes, AreElevationLanes, AreHeigh
 
 /// The number, where 32 bits hold it; else 0.
 #[inline(always)]
-fn lane(number: i64) -> u32
+pub fn lane(number: i64) -> u32
     ensures { IsTrue (is_lane number) → pos result ≡ number }
 {
     if is_lane(number) { number as u32 } else { 0 }
@@ -13,7 +13,7 @@ fn lane(number: i64) -> u32
 
 /// Whether 32 bits without a sign hold the number.
 #[inline(always)]
-fn is_lane(number: i64) -> bool
+pub fn is_lane(number: i64) -> bool
     ensures { result ≡ is_lane number }
 {
     number >= 0 && number <= 4294967295

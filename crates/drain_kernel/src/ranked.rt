@@ -6,6 +6,7 @@ ghost use Rattle.drain_kernel.specs.Columns.{Along, HasRankAt, RanksPassAt, is_r
 ghost use Rattle.drain_kernel.specs.Tests.{falls_or_nears};
 
 use crate::around::{around, named};
+use crate::cells::differs;
 use crate::lanes::Lanes;
 use drain_grid::NoData;
 
@@ -40,7 +41,7 @@ fn is_ranked(above: &Lanes, here: &Lanes, below: &Lanes, k: usize) -> bool
 fn rnk_differs(rnk: u32, nodata: &NoData) -> bool
     ensures { IsTrue result → pos rnk ≢ nodata.now.rnk }
 {
-    i64::from(rnk) != nodata.rnk
+    differs(rnk, nodata.rnk)
 }
 
 /// Whether the rank at a column isn't.

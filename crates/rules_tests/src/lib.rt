@@ -6,6 +6,8 @@ mod examples;
 #[cfg(test)]
 mod kept_runs;
 #[cfg(test)]
+mod laned_rows;
+#[cfg(test)]
 mod listed_sinks;
 #[cfg(test)]
 mod long_rows;

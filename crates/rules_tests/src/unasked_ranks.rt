@@ -26,10 +26,10 @@ fn long_rows(alloc: Global, rank: i64) -> Result<Vec<i64>, AllocError> {
 }
 
 /// A number of a part, by its row and column.
-type Change = (Part, (u8, u16), i64);
+pub type Change = (Part, (u8, u16), i64);
 
 /// Puts a number in its place.
-fn put(numbers: &mut Vec<i64>, (part, (row, col), number): Change) -> Result<(), Fail> {
+pub fn put(numbers: &mut Vec<i64>, (part, (row, col), number): Change) -> Result<(), Fail> {
     let place = (part as usize * 3 + row as usize) * COLS as usize + col as usize;
     match numbers.get_mut(place) {
         Some(found) => *found = number,
