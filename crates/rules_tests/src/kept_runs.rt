@@ -40,3 +40,31 @@ fn cells_of_level_rows(rt: HostRuntime) -> Result<(), Fail> {
     }
     Ok(())
 }
+
+/// Puts a void into the middle row, at column 50, with this number in place of each product's.
+fn put_void(numbers: &mut [i64], number: i64) {
+    for part in 0..6usize {
+        if let Some(slot) = numbers.get_mut((part * 3 + 1) * COLS as usize + 50) {
+            *slot = if part == 0 { -32768 } else { number };
+        }
+    }
+}
+
+#[test]
+fn cells_beside_a_void(rt: HostRuntime) -> Result<(), Fail> {
+    let shafts = Shafts {
+        rows: 3,
+        cols: COLS,
+        listed: &[],
+    };
+    let mut numbers = shafts.numbers(rt.alloc())?;
+    // Numbers that stand for no data, whether they fit 16 bits or 32, with a sign or without.
+    for nodata in [-32768, -9999, -1, 0, 255, 65535, -2147483648, 4294967295] {
+        put_void(&mut numbers, nodata);
+        for (from, wanted) in [(1, level(49)), (49, level(49)), (52, level(180))] {
+            let kept = kept_by_lanes(rt.alloc(), &[], &numbers, 1, from)?;
+            assert_eq!(&rt; kept, wanted);
+        }
+    }
+    Ok(())
+}
