@@ -1,8 +1,9 @@
 #!/usr/bin/env bash
 # Refuses each allocation of each test of a crate: alone; where the test still passes, as one allocation may be tried again, together with
 # the next; and together with every later one. It looks that a test that doesn't pass tells of want of memory, and of nothing else: by its
-# error, or by the left side of an assertion. Only where an allocation is refused alone may a test pass; and those of seams_without_memory.txt
-# may where their last one is: it is room for a mosaic whose tiles differ, and that is told without the room. A test .._after_refused_memory
+# error, or by the left side of an assertion. Only where an allocation is refused alone may a test pass; those of seams_without_memory.txt
+# may where their last one is: it is room for a mosaic whose tiles differ, and that is told without the room; and those of the crates that go over
+# rows may, since rows do without lanes: there only some have to tell of want of memory. A test .._after_refused_memory
 # looks itself that its first call tells of it, and then calls again: it has to pass each time. The tests are those that `rt ci` or
 # `rt test` left in out/; tests/refuse_memory.c refuses.
 # Usage: tests/refused_memory.sh CRATE...
@@ -26,6 +27,7 @@ judge() {
             if (!shown[test]++) printf "FAILED %s: %s: %s\n%s", crate, test, why, text
         }
         function forget() { told = 0; text = "" }
+        BEGIN { goes_by_lanes = crate ~ /^(rules|verdict|maker|cli)_tests$/ }
         /^== test / { test = $3; tests++; forget(); next }
         /^== ended / {
             if ($3 != 0) fails("its own run ended with status " $3)
@@ -44,12 +46,14 @@ judge() {
                 forget()
                 next
             }
-            if ($NF == 0 && way != "alone" && !(test in tells_a_seam && !seams[test, way]++)) fails(what ", it passes")
+            if ($NF == 0 && way != "alone" && goes_by_lanes) without_lanes++
+            else if ($NF == 0 && way != "alone" && !(test in tells_a_seam && !seams[test, way]++)) fails(what ", it passes")
             else if ($NF == 0 && way == "alone") passed++
             else if ($NF == 0) told_seams++
             else if ($NF == 14) fails(what ", it does not end")
             else if ($NF != 101 * 256 && $NF != 6) fails(what ", it crashes, with status " $NF)
             else if (!told) fails(what ", it does not tell of want of memory")
+            else wants++
             forget()
             next
         }
@@ -59,11 +63,13 @@ judge() {
             test = "its tests"
             forget()
             if (!refused["alone"]) fails("no allocation was refused")
+            if (!wants) fails("none tells of want of memory")
             if (failed) { printf "FAILED %s: %d\n", crate, failed; exit 1 }
             printf "%s: in %d tests %d allocations refused alone, %d with the next, %d with every later one; ", crate, tests, \
                 refused["alone"], refused["with the next"], refused["with every later one"]
             print "each time " (passed ? "but " passed " of the first, where the test passed, " : "") \
-                (told_seams ? "and " told_seams " whose answer is a seam, " : "") "it was told" \
+                (told_seams ? "and " told_seams " whose answer is a seam, " : "") \
+                (without_lanes ? "and " without_lanes " that passed without lanes, " : "") "it was told" \
                 (called_again ? "; " called_again " times the calls after it gave their answer" : "")
         }
     ' "$top/tests/seams_without_memory.txt" -

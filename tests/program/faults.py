@@ -98,14 +98,15 @@ class Faults:
             yield f"{run.words[0]}: {call} {number} {how}", ended
 
     def refused(self, run):
-        """Each call fails, alone and with every later one. Only what is refused alone may be asked for again in another way."""
+        """Each call fails, alone and with every later one. What is refused alone may be asked for again in another way; and without memory for lanes
+        a check, an audit and a make try each cell by itself."""
         for call, tells in TELLS.items():
             for how in ("refused", "later"):
                 if call == "open" and run is self.fill:
                     continue
                 for name, ended in self.each_call(run, call, how):
-                    again = call == "allocation" and how == "refused" and run.is_right(ended)
-                    self.judge(name, again or (ended[0] == FAILED and tells(ended[1])), ended)
+                    does_without = call == "allocation" and (how == "refused" or run is not self.fill) and run.is_right(ended)
+                    self.judge(name, does_without or (ended[0] == FAILED and tells(ended[1])), ended)
                     self.look_at_what_is_left(run, name, ended)
 
     def harmless(self, run):

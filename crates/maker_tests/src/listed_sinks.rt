@@ -5,7 +5,7 @@ use crate::raster_numbers::Numbers;
 use drain_grid::{Held, SinkFault, VOID, parse_sinks};
 use drain_hgt::TileName;
 use drain_maker::{MakeRefusal, make};
-use refused_memory::owed;
+use refused_memory::owed_unless_right;
 use std::alloc::Global;
 use std::process::Abort;
 use std::test::Fail;
@@ -168,7 +168,7 @@ fn a_listed_pit_after_refused_memory(rt: HostRuntime) -> Result<(), Fail> {
     let name = TileName::parse(b"N00E000.hgt")?;
     let right = Ok(Some([5, 5, 5, 5, 1, 5, 5, 5, 5]));
     let first = con_with(rt.alloc(), name, "1 1");
-    let wanted = owed(rt.alloc(), Err(MakeRefusal::OutOfMemory), right);
+    let wanted = owed_unless_right(rt.alloc(), first, Err(MakeRefusal::OutOfMemory), right);
     assert_eq!(rt; first, wanted, "first");
     assert_eq!(rt; con_with(rt.alloc(), name, "1 1"), right, "again");
     Ok(())
@@ -180,7 +180,7 @@ fn a_sink_outside_after_refused_memory(rt: HostRuntime) -> Result<(), Fail> {
     let name = TileName::parse(b"N00E000.hgt")?;
     let right = Err(MakeRefusal::SinkNotData(2));
     let first = con_with(rt.alloc(), name, "1 1\n1 3");
-    let wanted = owed(rt.alloc(), Err(MakeRefusal::OutOfMemory), right);
+    let wanted = owed_unless_right(rt.alloc(), first, Err(MakeRefusal::OutOfMemory), right);
     assert_eq!(rt; first, wanted, "first");
     assert_eq!(rt; con_with(rt.alloc(), name, "1 1\n1 3"), right, "again");
     Ok(())

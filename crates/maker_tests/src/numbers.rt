@@ -6,7 +6,7 @@ use drain_grid::{Held, Sinks};
 use drain_hgt::TileName;
 use drain_maker::{MakeRefusal, make};
 use drain_rules::Counts;
-use refused_memory::owed;
+use refused_memory::owed_unless_right;
 use std::alloc::Global;
 use std::test::Fail;
 
@@ -126,7 +126,7 @@ fn pit_after_refused_memory(rt: HostRuntime) -> Result<(), Fail> {
     let name = TileName::parse(b"N00E000.hgt")?;
     let right = Ok(Some([5; 9]));
     let first = con_without_sinks(rt.alloc(), name);
-    let wanted = owed(rt.alloc(), Err(MakeRefusal::OutOfMemory), right);
+    let wanted = owed_unless_right(rt.alloc(), first, Err(MakeRefusal::OutOfMemory), right);
     assert_eq!(rt; first, wanted, "first");
     assert_eq!(rt; con_without_sinks(rt.alloc(), name), right, "again");
     let counted = Counts {

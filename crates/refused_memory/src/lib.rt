@@ -15,3 +15,12 @@ pub fn gave_out(alloc: Global) -> bool {
 pub fn owed<T: Copy>(alloc: Global, refusal: T, right: T) -> T {
     if gave_out(alloc) { refusal } else { right }
 }
+
+/// The same of a call that does without some of the memory that it asks for, and has given this: what is right, where that was given.
+pub fn owed_unless_right<T: Copy + PartialEq>(alloc: Global, given: T, refusal: T, right: T) -> T {
+    if gave_out(alloc) && given != right {
+        refusal
+    } else {
+        right
+    }
+}

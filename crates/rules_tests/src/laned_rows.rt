@@ -47,7 +47,12 @@ fn a_label_at_the_ends_of_strides(rt: HostRuntime) -> Result<(), Fail> {
 fn a_code_at_the_ends_of_strides(rt: HostRuntime) -> Result<(), Fail> {
     for col in COLUMNS {
         let given = verdict_at(rt.alloc(), Part::Dir, col, 0, Ranks::Unasked)?;
-        same(&rt, "a code", given, rejected(Rule::Accumulation, 0, col.into()));
+        same(
+            &rt,
+            "a code",
+            given,
+            rejected(Rule::Accumulation, 0, col.into()),
+        );
     }
     Ok(())
 }

@@ -6,7 +6,7 @@ use crate::listed_sinks::{filled_pit_with, listed_pit_with};
 use crate::runs::told_at_once;
 use drain_verdict::line::Line;
 use drain_verdict::{Refusal, report};
-use refused_memory::owed;
+use refused_memory::owed_unless_right;
 use std::alloc::Global;
 use std::process::Abort;
 use std::test::Fail;
@@ -26,7 +26,7 @@ fn line_of(alloc: Global, example: &Example) -> Line {
 /// Ends the test where a check tells another line than is owed, or one after it, on fresh inputs, another than the right one.
 fn checked_twice(rt: &impl Abort, alloc: Global, example: &Example, right: &str) {
     let first = line_of(alloc, example);
-    let line = owed(alloc, "failed OutOfMemory", right);
+    let line = owed_unless_right(alloc, first.as_str(), "failed OutOfMemory", right);
     same_line(rt, "first", &first, line);
     same_line(rt, "again", &line_of(alloc, example), right);
 }
