@@ -1,35 +1,53 @@
 #!/usr/bin/env bash
-# Shows how fast `drain check` is beside its two twins: builds the twins, compares all programs on small random tiles with right
-# and changed products, then times them on tiles of sides 1201 and 3601. It exits with 1 where lines differ; times never make it fail.
+# Shows how fast `drain check` and `drain audit` are beside their twins: builds the twins, compares all programs on small random tiles with right
+# and changed products, then times them on tiles of sides 1201 and 3601, made-up terrain and real terrain enlarged by mirrored copies. It exits with 1
+# where lines differ; times never make it fail.
 # Usage: bench/check.sh DRAIN
 set -euo pipefail
 drain=$(realpath "$1")
 bench=$(cd "$(dirname "${BASH_SOURCE[0]}")" && pwd)
-out=$(dirname "$bench")/build/bench
-programs=("$drain" "$out/twin_check_patch" "$out/twin_check_loop")
+top=$(dirname "$bench")
+out=$top/build/bench
+checks=("$drain" "$out/twin_check_patch" "$out/twin_check_loop")
+audits=("$drain" "$out/twin_audit_loop")
 scratch=$(mktemp -d)
 trap 'rm -rf "$scratch"' EXIT
 
 mkdir -p "$out"
-for name in make_check_input twin_check_patch twin_check_loop compare_check measure; do
+for name in make_check_input mirror_tile twin_check_patch twin_check_loop compare_check measure; do
     rustc --edition 2024 -O -C target-cpu=x86-64-v2 -o "$out/$name" "$bench/$name.rs"
 done
+rustc --edition 2024 -O -C target-cpu=x86-64-v2 --cfg audit -o "$out/twin_audit_loop" "$bench/twin_check_loop.rs"
 
 differ=0
-"$out/compare_check" 1500 "$scratch" "${programs[@]}" || differ=1
+"$out/compare_check" check 2000 "$scratch" "${checks[@]}" || differ=1
+"$out/compare_check" audit 2000 "$scratch" "${audits[@]}" || differ=1
 
-for side in 1201 3601; do
-    echo
-    input=$scratch/$side
-    "$out/make_check_input" "$side" 1 "$input"
-    words=(check --side "$side" --products "$input" "$input/N00E000.hgt")
+# Compares the lines of programs on a large tile, and times them in turn.
+# Usage: time_all COMMAND SIDE FOLDER TILE PROGRAM...
+time_all() {
+    local words=("$1" --side "$2" --products "$3" "$4") line other program
     line=$("$drain" "${words[@]}") || differ=1
     echo "$line"
-    for program in "${programs[@]:1}"; do
+    for program in "${@:6}"; do
         other=$("$program" "${words[@]}") || differ=1
         [ "$other" = "$line" ] || { echo "${program##*/} prints '$other'"; differ=1; }
     done
-    "$out/measure" 5 $((side * side)) /dev/null "${programs[@]}" -- "${words[@]}"
-    rm -rf "$input"
+    "$out/measure" 5 $(($2 * $2)) /dev/null "${@:5}" -- "${words[@]}"
+}
+
+for side in 1201 3601; do
+    "$out/make_check_input" "$side" 1 "$scratch/made-up"
+    mkdir -p "$scratch/real"
+    "$out/mirror_tile" 344 "$top/samples/N36W085.hgt" "$side" "$scratch/real/N36W085.hgt"
+    "$drain" make --side "$side" --out "$scratch/real" "$scratch/real/N36W085.hgt"
+    for tile in "$scratch/made-up/N00E000.hgt" "$scratch/real/N36W085.hgt"; do
+        folder=$(dirname "$tile")
+        echo
+        echo "${folder##*/} terrain of side $side, at a load of $(cut -d ' ' -f 1 /proc/loadavg)"
+        time_all check "$side" "$folder" "$tile" "${checks[@]}"
+        time_all audit "$side" "$folder" "$tile" "${audits[@]}"
+    done
+    rm -rf "$scratch/made-up" "$scratch/real"
 done
 exit "$differ"

@@ -1,7 +1,7 @@
 //! The decoded rows that the plain loop rolls over a tile, and where they come from.
 
 use crate::rules::Rule;
-use crate::twin_check_io::{Files, NO_DATA};
+use crate::twin_check_io::{Files, NO_DATA, RANKED};
 use std::fs::File;
 use std::io::{self, Read};
 
@@ -78,10 +78,10 @@ impl Row {
                 + u32::from(dir[c] == no_dir as u32)
                 + u32::from(acc[c] == no_acc as u32)
                 + u32::from(bas[c] == no_bas as u32)
-                + u32::from(rnk[c] == no_rnk as u32);
+                + u32::from(RANKED & (rnk[c] == no_rnk as u32));
             let is_void = z[c] == VOID;
             let two_bits = dir[c] & dir[c].wrapping_sub(1);
-            odd |= blanks != if is_void { 5 } else { 0 };
+            odd |= blanks != if is_void { 4 + u32::from(RANKED) } else { 0 };
             odd |= !is_void & (two_bits != 0);
             odd |= acc[c] > LARGE;
         }
@@ -94,7 +94,8 @@ impl Row {
         let numbers = [dir, self.acc[place], self.bas[place], self.rnk[place]].map(i64::from);
         let is_blank = |(number, nodata): (&i64, &i64)| number == nodata;
         let con_is_blank = i64::from(self.con[place]) == NO_DATA[0];
-        let mut others = numbers.iter().zip(&NO_DATA[1..]);
+        let count = if RANKED { 4 } else { 3 };
+        let mut others = numbers[..count].iter().zip(&NO_DATA[1..]);
         if self.z[place] == VOID {
             return (!con_is_blank || !others.all(is_blank)).then_some(Rule::VoidCell);
         }
@@ -105,26 +106,25 @@ impl Row {
     }
 }
 
-/// The six files, of which each call reads a row.
+/// The files, of which each call reads a row.
 pub struct Source {
-    files: [File; 6],
+    files: Vec<File>,
     bytes: Vec<u8>,
     side: usize,
 }
 
 impl Source {
     pub fn open(files: &Files) -> io::Result<Source> {
-        let raster = |product: &str| File::open(files.raster(product));
         let side = files.side as usize;
+        let mut opened = vec![File::open(&files.tile)?];
+        for product in ["con", "dir", "acc", "bas"]
+            .into_iter()
+            .chain(RANKED.then_some("rnk"))
+        {
+            opened.push(File::open(files.raster(product))?);
+        }
         Ok(Source {
-            files: [
-                File::open(&files.tile)?,
-                raster("con")?,
-                raster("dir")?,
-                raster("acc")?,
-                raster("bas")?,
-                raster("rnk")?,
-            ],
+            files: opened,
             bytes: vec![0; 4 * side],
             side,
         })
@@ -139,7 +139,9 @@ impl Source {
         self.decode(2, &mut row.dir, byte)?;
         self.decode(3, &mut row.acc, u32::from_le_bytes)?;
         self.decode(4, &mut row.bas, u32::from_le_bytes)?;
-        self.decode(5, &mut row.rnk, u32::from_le_bytes)?;
+        if RANKED {
+            self.decode(5, &mut row.rnk, u32::from_le_bytes)?;
+        }
         row.settle();
         Ok(())
     }

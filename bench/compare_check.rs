@@ -1,8 +1,8 @@
-//! Compares programs that answer `check --side N --products FOLDER TILE`, on small random tiles with right products, as they
-//! are or with a number changed. All must print one line, right products must be accepted, and each rule must have failed
+//! Compares programs that answer `check --side N --products FOLDER TILE`, or the same of `audit`, on small random tiles with right products, as they
+//! are or with a number changed. All must print one line, right products must be accepted, and each answer must have been given
 //! somewhere; else the exit status is 1. The cases are the same in each run.
 //!
-//! Usage: compare_check CASES FOLDER PROGRAM...    (each case is for a while a folder in this one)
+//! Usage: compare_check COMMAND CASES FOLDER PROGRAM...    (each case is for a while a folder in this one)
 
 mod check_products;
 mod flood;
@@ -102,9 +102,9 @@ fn raise_a_lake(products: &mut Products) {
 }
 
 /// The line and the exit status of a program.
-fn run(program: &str, side: usize, folder: &Path) -> io::Result<(String, i32)> {
+fn run(program: &str, command: &str, side: usize, folder: &Path) -> io::Result<(String, i32)> {
     let output = Command::new(program)
-        .args(["check", "--side", &side.to_string(), "--products"])
+        .args([command, "--side", &side.to_string(), "--products"])
         .arg(folder)
         .arg(folder.join(TILE))
         .output()?;
@@ -122,9 +122,9 @@ fn kind(line: &str) -> String {
 
 fn main() -> io::Result<ExitCode> {
     let words: Vec<String> = std::env::args().skip(1).collect();
-    let cases = words.first().and_then(|word| word.parse::<usize>().ok());
-    let (Some(cases), [_, folder, programs @ ..]) = (cases, &words[..]) else {
-        eprintln!("usage: compare_check CASES FOLDER PROGRAM...");
+    let cases = words.get(1).and_then(|word| word.parse::<usize>().ok());
+    let (Some(cases), [command, _, folder, programs @ ..]) = (cases, &words[..]) else {
+        eprintln!("usage: compare_check COMMAND CASES FOLDER PROGRAM...");
         return Ok(ExitCode::from(2));
     };
     let folder = Path::new(folder);
@@ -139,7 +139,7 @@ fn main() -> io::Result<ExitCode> {
         products.write(&folder)?;
         let answers = programs
             .iter()
-            .map(|program| run(program, products.side, &folder));
+            .map(|program| run(program, command, products.side, &folder));
         let answers = answers.collect::<io::Result<Vec<_>>>()?;
         remove_dir_all(&folder)?;
         let is_right = |answer: &(String, i32)| {
@@ -155,7 +155,7 @@ fn main() -> io::Result<ExitCode> {
         *kinds.entry(kind(&answers[0].0)).or_default() += 1;
     }
     println!("{cases} small cases, {differences} differences: {kinds:?}");
-    // Twelve rules and an acceptance.
+    // Twelve rules and an acceptance; of an audit a run without an end in place of BadCode, since no run leads on from a number that is no code.
     Ok(ExitCode::from(u8::from(
         differences > 0 || kinds.len() < 13,
     )))

@@ -1,5 +1,6 @@
-//! What the two twins of `drain check` share: the words of the command line, the rules' names, and the one line and exit
+//! What the twins of `drain check` and `drain audit` share: the words of the command line, the rules' names, and the one line and exit
 //! status of the answer. They take one tile, and rasters in the form that this program writes; headers they don't read.
+//! With `--cfg audit` the command is `audit`.
 
 use crate::rules::Rule;
 use std::io;
@@ -8,6 +9,13 @@ use std::process::ExitCode;
 
 /// The numbers that stand for no data, in the order con, dir, acc, bas, rnk.
 pub const NO_DATA: [i64; 5] = [-32768, 255, 0, 0, 4294967295];
+
+/// The command that the twin is of.
+pub const COMMAND: &str = if cfg!(audit) { "audit" } else { "check" };
+
+/// Whether ranks are asked for.
+#[allow(dead_code)]
+pub const RANKED: bool = !cfg!(audit);
 
 /// How many cells have data, are raised, and are outlets.
 #[derive(Clone, Copy, Default)]
@@ -19,7 +27,17 @@ pub struct Counts {
 
 pub enum Verdict {
     Accepted(Counts),
-    Rejected { rule: Rule, row: u32, col: u32 },
+    Rejected {
+        rule: Rule,
+        row: u32,
+        col: u32,
+    },
+    /// The first run without an end; of an audit alone.
+    #[allow(dead_code)]
+    NoEnd {
+        row: u32,
+        col: u32,
+    },
 }
 
 /// The files of a check.
@@ -39,11 +57,13 @@ impl Files {
         let words: Vec<String> = std::env::args().skip(1).collect();
         let words: Vec<&str> = words.iter().map(String::as_str).collect();
         match words[..] {
-            ["check", "--side", side, "--products", folder, tile] => Some(Files {
-                side: side.parse().ok()?,
-                tile: Path::new(tile).to_path_buf(),
-                folder: Path::new(folder).to_path_buf(),
-            }),
+            [command, "--side", side, "--products", folder, tile] if command == COMMAND => {
+                Some(Files {
+                    side: side.parse().ok()?,
+                    tile: Path::new(tile).to_path_buf(),
+                    folder: Path::new(folder).to_path_buf(),
+                })
+            }
             _ => None,
         }
     }
@@ -52,7 +72,7 @@ impl Files {
 /// Runs a twin: has the files judged, prints the line and gives the exit status.
 pub fn run(judge: impl FnOnce(&Files) -> io::Result<Verdict>) -> ExitCode {
     let Some(files) = Files::from_words() else {
-        eprintln!("usage: check --side N --products FOLDER TILE");
+        eprintln!("usage: {COMMAND} --side N --products FOLDER TILE");
         return ExitCode::from(2);
     };
     let side = files.side;
@@ -70,6 +90,10 @@ pub fn run(judge: impl FnOnce(&Files) -> io::Result<Verdict>) -> ExitCode {
         }
         Ok(Verdict::Rejected { rule, row, col }) => {
             println!("rejected rule={} {rule:?} row={row} col={col}", rule as u8);
+            ExitCode::from(1)
+        }
+        Ok(Verdict::NoEnd { row, col }) => {
+            println!("rejected NoEnd row={row} col={col}");
             ExitCode::from(1)
         }
         Err(error) => {

@@ -1,17 +1,19 @@
-//! A twin of `drain check` as a fast plain loop: no patches, and no raster in memory. Three decoded rows of each file roll
+//! A twin of `drain check`, with `--cfg audit` of `drain audit`, as a fast plain loop: no patches, and no raster in memory. Three decoded rows of each file roll
 //! over the tile, with voids around them for what is outside. All rules but the last are tested for a block of cells without a branch,
 //! in numbers of 32 bits that the compiler takes four at a time. Only a row with a fault is looked at again, cell by cell.
 
 mod check_rows;
+mod plain_runs;
 mod rules;
 mod twin_check_io;
 
 use check_rows::{BLOCK, Row, Source, VOID, block};
+use plain_runs::Flows;
 use rules::Rule;
 use std::collections::HashSet;
 use std::io;
 use std::process::ExitCode;
-use twin_check_io::{Counts, Files, Verdict};
+use twin_check_io::{Counts, Files, RANKED, Verdict};
 
 /// One more than the rows down and the columns right to the neighbours, in the order of their codes.
 const STEPS: [(usize, usize); 8] = [
@@ -119,7 +121,8 @@ impl Window {
             let squares = [least[0][c], least[1][c]].map(|least| square_of_drop(con[c], least));
             let reached = [least[0][c], least[1][c]].map(|least| next_con[c] == least);
             let leads = is_steepest(squares, dir[c], reached);
-            let steps = (dir[c] != 0) & (next_con[c] == con[c]) & (next_rank[c] < rnk[c]);
+            let is_nearer = !RANKED | (next_rank[c] < rnk[c]);
+            let steps = (dir[c] != 0) & (next_con[c] == con[c]) & is_nearer;
             let flat_holds = if least_z[c] == VOID {
                 dir[c] == 0
             } else {
@@ -232,7 +235,8 @@ impl Window {
             return (dir != 0).then_some(Rule::OutletCode);
         }
         let steps = self.named(col, dir).is_some_and(|(row, place)| {
-            row.con[place] == here.con[col + 1] && row.rnk[place] < here.rnk[col + 1]
+            let is_nearer = !RANKED || row.rnk[place] < here.rnk[col + 1];
+            row.con[place] == here.con[col + 1] && is_nearer
         });
         (!steps).then_some(Rule::FlatStep)
     }
@@ -282,7 +286,8 @@ impl Window {
     }
 }
 
-/// Tests the rules row by row.
+/// Tests the rules row by row. An audit notes which way each cell leads, and asks which runs end where a rule fails; where none fails every run
+/// ends, since accumulations add up.
 fn judge(files: &Files) -> io::Result<Verdict> {
     let side = files.side as usize;
     let mut source = Source::open(files)?;
@@ -292,6 +297,8 @@ fn judge(files: &Files) -> io::Result<Verdict> {
     };
     let mut labels = HashSet::new();
     let mut counts = Counts::default();
+    let mut flows = Flows::new(side);
+    let mut fault = None;
     source.read_row(&mut window.rows[2])?;
     for row in 0..side {
         window.rows.rotate_left(1);
@@ -300,16 +307,30 @@ fn judge(files: &Files) -> io::Result<Verdict> {
         } else {
             window.rows[2] = Row::outside(side);
         }
+        if !RANKED {
+            flows.push(&window.rows[1]);
+        }
+        if fault.is_some() {
+            continue;
+        }
         if let Some((rule, col)) = window.row_fault(&mut labels) {
-            return Ok(Verdict::Rejected {
-                rule,
-                row: row as u32,
-                col: col as u32,
-            });
+            let (row, col) = (row as u32, col as u32);
+            fault = Some(Verdict::Rejected { rule, row, col });
+            if RANKED {
+                break;
+            }
         }
         window.count(&mut counts);
     }
-    Ok(Verdict::Accepted(counts))
+    let Some(rejected) = fault else {
+        return Ok(Verdict::Accepted(counts));
+    };
+    Ok(flows
+        .first_endless()
+        .map_or(rejected, |cell| Verdict::NoEnd {
+            row: (cell / side) as u32,
+            col: (cell % side) as u32,
+        }))
 }
 
 fn main() -> ExitCode {
