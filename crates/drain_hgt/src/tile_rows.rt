@@ -1,6 +1,6 @@
 //! The rows of a tile, one at a time.
 
-ghost use Rattle.std.specs.Prelude.{◌≡◌, ◌≢◌, ◌↔◌, ◌≤◌, ◌*◌, ◌+◌, ℕ, List, [], length, All, Ok, IsErrOf, IsTrue, OnOk};
+ghost use Rattle.std.specs.Prelude.{◌≡◌, ◌≢◌, ◌↔◌, ◌≤◌, ◌*◌, ◌+◌, ℕ, List, length, All, Ok, IsErrOf, IsTrue, OnOk};
 ghost use Rattle.std.specs.Int.{cast_signed, w16};
 ghost use Rattle.byteorder.specs.Endian.{big_number};
 ghost use Rattle.drain_device.specs.PartFailing.{PartFails};
@@ -90,13 +90,19 @@ impl<R: ByteSource> RowSource<R> for TileRows {
         ensures samples { All IsSample out.new.items }
         ensures no_memory { IsErrOf result ReadFault.OutOfMemory → from.new ≡ from.old }
     {
-        out.clear();
         match self.progress {
-            Progress::Done => return Ok(RowStep::Ended),
-            Progress::Stopped => return Err(ReadFault::AlreadyFailed),
+            Progress::Done => {
+                out.clear();
+                return Ok(RowStep::Ended);
+            }
+            Progress::Stopped => {
+                out.clear();
+                return Err(ReadFault::AlreadyFailed);
+            }
             Progress::Going => {}
         }
         if self.left == 0 {
+            out.clear();
             match read_end(from, &mut self.patience) {
                 Ok(()) => {
                     self.progress = Progress::Done;
@@ -130,14 +136,15 @@ fn read_samples<R: ByteSource>(
     out: &mut Vec<i64>,
 ) -> Result<(), ReadFault>
     requires side { IsSide count }
-    requires empty { out.old.items ≡ [] }
     ensures row { (bytes : List ℕ) × RowComes samples_of (2 * count) (R.bytes_left from.old) (R.bytes_left from.new) result out.new.items bytes }
     ensures counted { OnOk result (length out.new.items ≡ count) }
     ensures faults { PartFails (R.counts from.old) (R.counts from.new) patience.old patience.new (IsErrOf result ReadFault.ReadFailed) }
     ensures samples { All IsSample out.new.items }
     ensures no_memory { IsErrOf result ReadFault.OutOfMemory → from.new ≡ from.old }
 {
+    // A row as long as the one before is written over as it stands.
     if out.resize(count as usize, 0).is_err() {
+        out.clear();
         return Err(ReadFault::OutOfMemory);
     }
     let mut bytes = [0; MAX_ROW_BYTES];

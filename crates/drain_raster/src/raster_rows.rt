@@ -1,6 +1,6 @@
 //! The rows of a raster, one at a time.
 
-ghost use Rattle.std.specs.Prelude.{◌≡◌, ◌≢◌, ◌↔◌, ◌≤◌, ◌*◌, ◌+◌, ◌-◌, ℕ, List, [], length, All, IsErrOf, IsTrue, OnOk};
+ghost use Rattle.std.specs.Prelude.{◌≡◌, ◌≢◌, ◌↔◌, ◌≤◌, ◌*◌, ◌+◌, ◌-◌, ℕ, List, length, All, IsErrOf, IsTrue, OnOk};
 ghost use Rattle.drain_device.specs.PartFailing.{PartFails};
 ghost use Rattle.drain_device.specs.Patience.{full_patience};
 ghost use Rattle.drain_device.specs.RowBytes.{PartComes, RowComes};
@@ -96,14 +96,20 @@ impl<R: ByteSource> RowSource<R> for RasterRows {
         ensures pixels { All IsPixel out.new.items }
         ensures no_memory { IsErrOf result ReadFault.OutOfMemory → from.new ≡ from.old }
     {
-        out.clear();
         match self.progress {
-            Progress::Done => return Ok(RowStep::Ended),
-            Progress::Stopped => return Err(ReadFault::AlreadyFailed),
+            Progress::Done => {
+                out.clear();
+                return Ok(RowStep::Ended);
+            }
+            Progress::Stopped => {
+                out.clear();
+                return Err(ReadFault::AlreadyFailed);
+            }
             Progress::Going => {}
         }
         if self.left == 0 {
             self.progress = Progress::Done;
+            out.clear();
             return Ok(RowStep::Ended);
         }
         match read_row(from, &self.header, self.gap, &mut self.patience, out) {
@@ -135,14 +141,15 @@ fn read_row<R: ByteSource>(
     patience: &mut Patience,
     out: &mut Vec<i64>,
 ) -> Result<(), ReadFault>
-    requires empty { out.old.items ≡ [] }
     ensures row { (bytes : List ℕ) × RowComes (pixels_behind header.now gap) (gap + packed_len header.now) (R.bytes_left from.old) (R.bytes_left from.new) result out.new.items bytes }
     ensures counted { OnOk result (length out.new.items ≡ header.now.cols) }
     ensures faults { PartFails (R.counts from.old) (R.counts from.new) patience.old patience.new (IsErrOf result ReadFault.ReadFailed) }
     ensures pixels { All IsPixel out.new.items }
     ensures no_memory { IsErrOf result ReadFault.OutOfMemory → from.new ≡ from.old }
 {
+    // A row as long as the one before is written over as it stands.
     if out.resize(header.cols as usize, 0).is_err() {
+        out.clear();
         return Err(ReadFault::OutOfMemory);
     }
     if let Err(fault) = pass_part(from, gap as usize, patience) {

@@ -4,7 +4,7 @@ use Rattle.drain_hgt.proofs.tile_rows.TileRowsRowSource.next_row.Goals as goal
 pub returns-in-Err-clause-rows : goal.returns-in-Err-clause-rows
 returns-in-Err-clause-rows g c =
     let s = c.args.self.now in
-    tile-gives-no_end s.progress c.in-Going.is s.side s.left _ _ c.in-Err.fault c.clear.new.self.items c.if-self-eq0.true c.in-Err.ensures.bytes
+    tile-gives-no_end s.progress c.in-Going.is s.side s.left _ _ c.in-Err.fault c.clear-then-self-eq0.new.self.items c.if-self-eq0.true c.in-Err.ensures.bytes
 
 pub returns-in-Ok-read_samples-clause-rows : goal.returns-in-Ok-read_samples-clause-rows
 returns-in-Ok-read_samples-clause-rows g c =
