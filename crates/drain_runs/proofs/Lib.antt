@@ -1,5 +1,6 @@
 pub mod Cells
 pub mod FlowCodes
+pub mod FlowTable
 pub mod FlowWalks
 pub mod GridFlows
 pub mod KnownWays

@@ -1,3 +1,4 @@
+pub mod FlowTable
 pub mod Flows
 pub mod KnownFlows
 pub mod Ranks

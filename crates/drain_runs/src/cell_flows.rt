@@ -5,7 +5,7 @@ ghost use Rattle.drain_grid.specs.Tile.{IsSample};
 ghost use Rattle.drain_grid.specs.Values.{IsPixel};
 ghost use Rattle.drain_runs.specs.Flows.{flows_of};
 
-use crate::flow::{Flow, flow_of};
+use crate::flow::{Flow, flow_of, flow_table};
 use drain_grid::OutOfMemory;
 use std::alloc::Global;
 use std::marker::Model;
@@ -90,7 +90,8 @@ fn fill(out: &mut [Flow], samples: &[i64], dir: &[i64])
     requires pixels { All IsPixel dir.now }
     ensures { out.new ≡ flows_of samples.now dir.now }
 {
+    let table = flow_table();
     for k in 0..samples.len() {
-        out[k] = flow_of(samples[k], dir[k]);
+        out[k] = flow_of(&table, samples[k], dir[k]);
     }
 }

@@ -1,7 +1,8 @@
 //! Which way a cell's code leads, in one byte.
 
-ghost use Rattle.std.specs.Prelude.{◌≡◌};
+ghost use Rattle.std.specs.Prelude.{◌≡◌, ◌<◌, pos};
 ghost use Rattle.drain_grid.specs.Tile.{height_from};
+ghost use Rattle.drain_runs.specs.FlowTable.{IsFlowTable};
 ghost use Rattle.drain_runs.specs.Flows.{cell_flow, code_flow, direction_of};
 
 use drain_grid::{Direction, VOID};
@@ -49,31 +50,48 @@ impl Flow {
 /// One byte: there are up to 829,497,601 of them.
 const _: () = prove!(size_of::<Flow>() == 1);
 
-/// The flow of a cell, of its sample, where -32768 is a void, and its direction number, whatever number that is.
-pub fn flow_of(sample: i64, number: i64) -> Flow
+/// The flows of data cells with the numbers from 0 to 129, each at its number's place.
+pub(crate) fn flow_table() -> [Flow; 130]
+    ensures { IsFlowTable result }
+{
+    let mut table = [Flow::Lost; 130];
+    table[0] = Flow::Ends;
+    table[1] = Flow::ToEast;
+    table[2] = Flow::ToSouthEast;
+    table[4] = Flow::ToSouth;
+    table[8] = Flow::ToSouthWest;
+    table[16] = Flow::ToWest;
+    table[32] = Flow::ToNorthWest;
+    table[64] = Flow::ToNorth;
+    table[128] = Flow::ToNorthEast;
+    table
+}
+
+/// The flow of a cell, of its sample, where -32768 is a void, and its direction number, whatever number that is. Which way a cell leads can't be foretold,
+/// so there is no jump by it: it is looked up in the table.
+#[inline(always)]
+pub(crate) fn flow_of(table: &[Flow; 130], sample: i64, number: i64) -> Flow
+    requires { IsFlowTable table.now }
     ensures { result ≡ cell_flow (height_from sample) number }
 {
+    // looked up at a void too, so that the test makes no jump either
+    let with_data = table[place_of(number)];
     if sample == i64::from(VOID) {
         Flow::Void
     } else {
-        flow_of_code(number)
+        with_data
     }
 }
 
-/// The flow of a data cell.
-fn flow_of_code(number: i64) -> Flow
-    ensures { result ≡ code_flow number }
+/// The place in the table for a number: 129 is no code, as no number past it or below 0 is.
+#[inline(always)]
+fn place_of(number: i64) -> usize
+    ensures place { result < 130 }
+    ensures flow { code_flow (pos result) ≡ code_flow number }
 {
-    match number {
-        0 => Flow::Ends,
-        1 => Flow::ToEast,
-        2 => Flow::ToSouthEast,
-        4 => Flow::ToSouth,
-        8 => Flow::ToSouthWest,
-        16 => Flow::ToWest,
-        32 => Flow::ToNorthWest,
-        64 => Flow::ToNorth,
-        128 => Flow::ToNorthEast,
-        _ => Flow::Lost,
+    if number < 0 || number > 128 {
+        129
+    } else {
+        number as usize
     }
 }
