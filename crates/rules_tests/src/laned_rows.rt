@@ -1,6 +1,6 @@
 //! Three long rows with one number changed, at the first and the last column of a stride: the fault is told where it is, with lanes beside the rows and without.
 
-use crate::examples::{Part, accepted, rejected, same};
+use crate::examples::{Part, accepted, same};
 use crate::rows_of_numbers::{COLS, verdict_by_rows};
 use crate::unasked_ranks::put;
 use drain_grid::Rule;
@@ -13,6 +13,15 @@ use worked_grids::shafts::Shafts;
 const COLUMNS: [u16; 14] = [
     1, 64, 65, 128, 129, 512, 513, 576, 577, 584, 585, 592, 593, 598,
 ];
+
+/// The rule fails first at this row and column.
+fn rejected(rule: Rule, row: u32, col: u16) -> Verdict {
+    Verdict::Rejected {
+        rule,
+        row,
+        col: col.into(),
+    }
+}
 
 /// The verdict on three level rows, whose cells inside drain north, with this number of a part at a column of the second.
 fn verdict_at(
@@ -37,7 +46,7 @@ fn verdict_at(
 fn a_label_at_the_ends_of_strides(rt: HostRuntime) -> Result<(), Fail> {
     for col in COLUMNS {
         let given = verdict_at(rt.alloc(), Part::Bas, col, 5000, Ranks::Asked)?;
-        same(&rt, "a label", given, rejected(Rule::Label, 1, col.into()));
+        same(&rt, "a label", given, rejected(Rule::Label, 1, col));
     }
     Ok(())
 }
@@ -47,12 +56,7 @@ fn a_label_at_the_ends_of_strides(rt: HostRuntime) -> Result<(), Fail> {
 fn a_code_at_the_ends_of_strides(rt: HostRuntime) -> Result<(), Fail> {
     for col in COLUMNS {
         let given = verdict_at(rt.alloc(), Part::Dir, col, 0, Ranks::Unasked)?;
-        same(
-            &rt,
-            "a code",
-            given,
-            rejected(Rule::Accumulation, 0, col.into()),
-        );
+        same(&rt, "a code", given, rejected(Rule::Accumulation, 0, col));
     }
     Ok(())
 }
