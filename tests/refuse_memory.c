@@ -2,7 +2,8 @@
    refused this allocation alone; where that passes, as a growth does that is tried again with the exact size, one that is refused
    this and the next; and one that is refused this and every later one. A line on standard error tells how each ended, behind what
    the copy wrote; then the allocation is granted. So one run refuses each allocation of the test in every way, and no count of
-   them is needed. A test that read a file or had a thread couldn't be copied so. It includes no header, and so needs none but the
+   them is needed. Behind the first 2,000 of a test each 31st is refused: a test of so many does the same thing again and again, and a copy that does
+   without the memory, as rows do without lanes, goes on to the end of the test. A test that read a file or had a thread couldn't be copied so. It includes no header, and so needs none but the
    compiler.
 
    A test may ask whether its last allocation was refused, by an allocation of ASKED bytes (crates/refused_memory), which is refused
@@ -21,7 +22,7 @@ extern unsigned alarm(unsigned);
 extern void _exit(int);
 extern int dprintf(int, const char *, ...);
 
-enum { STANDARD_ERROR = 2, NO_MEMORY = 12, MOST_SECONDS = 60, ALARM = 14, ASKED = 1000003 };
+enum { STANDARD_ERROR = 2, NO_MEMORY = 12, MOST_SECONDS = 60, ALARM = 14, ASKED = 1000003, EACH_OF = 2000, THEN_EACH = 31 };
 
 static enum { COPIES, IS_COPY, GRANTS } state = COPIES;
 
@@ -57,8 +58,10 @@ static int refuses(void) {
         return 0;
     if (state == IS_COPY)
         return refusals > 0 && refusals--;
-    state = GRANTS;
     count++;
+    if (count > EACH_OF && count % THEN_EACH != 0)
+        return 0;
+    state = GRANTS;
     int is_copy = 0;
     if (copy_refused("alone", 1, &is_copy) == 0 && !is_copy)
         copy_refused("and the next", 2, &is_copy);
