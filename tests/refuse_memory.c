@@ -2,8 +2,8 @@
    refused this allocation alone; where that passes, as a growth does that is tried again with the exact size, one that is refused
    this and the next; and one that is refused this and every later one. A line on standard error tells how each ended, behind what
    the copy wrote; then the allocation is granted. So one run refuses each allocation of the test in every way, and no count of
-   them is needed. Behind the first 2,000 of a test each 31st is refused: a test of so many does the same thing again and again, and a copy that does
-   without the memory, as rows do without lanes, goes on to the end of the test. A test that read a file or had a thread couldn't be copied so. It includes no header, and so needs none but the
+   them is needed. Behind the first 1,000 of a test each 127th is refused: a test of so many does the same thing again and again. A copy that does
+   without the memory, as rows do without lanes, ends well where 3,000 more were granted. A test that read a file or had a thread couldn't be copied so. It includes no header, and so needs none but the
    compiler.
 
    A test may ask whether its last allocation was refused, by an allocation of ASKED bytes (crates/refused_memory), which is refused
@@ -22,7 +22,7 @@ extern unsigned alarm(unsigned);
 extern void _exit(int);
 extern int dprintf(int, const char *, ...);
 
-enum { STANDARD_ERROR = 2, NO_MEMORY = 12, MOST_SECONDS = 60, ALARM = 14, ASKED = 1000003, EACH_OF = 2000, THEN_EACH = 31 };
+enum { STANDARD_ERROR = 2, NO_MEMORY = 12, MOST_SECONDS = 60, ALARM = 14, ASKED = 1000003, EACH_OF = 1000, THEN_EACH = 127, ENOUGH = 3000 };
 
 static enum { COPIES, IS_COPY, GRANTS } state = COPIES;
 
@@ -30,6 +30,9 @@ static enum { COPIES, IS_COPY, GRANTS } state = COPIES;
 static long refusals;
 
 static long count;
+
+/* How many were granted to a copy since. */
+static long granted;
 
 /* Whether the last allocation was refused. */
 static int was_refused;
@@ -56,8 +59,13 @@ static int copy_refused(const char *way, long many, int *is_copy) {
 static int refuses(void) {
     if (state == GRANTS)
         return 0;
-    if (state == IS_COPY)
-        return refusals > 0 && refusals--;
+    if (state == IS_COPY) {
+        if (refusals > 0 && refusals--)
+            return 1;
+        if (++granted > ENOUGH)
+            _exit(0);
+        return 0;
+    }
     count++;
     if (count > EACH_OF && count % THEN_EACH != 0)
         return 0;
