@@ -30,7 +30,25 @@ fn ranks_are_there(above: &Lanes, here: &Lanes, below: &Lanes, ranks: Ranks) -> 
     }
 }
 
-/// The columns from one up to another, before the last, in strides: of 64, then of 8, then one by one.
+/// A column up to which every cell and its neighbours have data from this one on: the first without, where there is one before `end`.
+fn inland_until(above: &Lanes, here: &Lanes, below: &Lanes, from: usize, end: usize) -> usize
+    requires inner { 1 ≤ from }
+    requires ordered { from ≤ end }
+    requires above_len { end < vec_len above.now.z }
+    requires here_len { end < vec_len here.now.z }
+    requires below_len { end < vec_len below.now.z }
+    ensures forward { from ≤ result }
+    ensures within { result ≤ end }
+{
+    let mut k = from;
+    while k < end && is_inland(above, here, below, k) {
+        k += 1;
+    }
+    k
+}
+
+/// The columns from one up to another, before the last, in strides: of 64; where one is given up, of what lies before the next void, then of 8 of that,
+/// and then one by one.
 fn passed_until(
     above: &Lanes,
     here: &Lanes,
@@ -50,8 +68,11 @@ fn passed_until(
     ensures passed { Along from result (PassesAt rules.now above.now here.now below.now) }
 {
     let by_blocks = passed_strides(above, here, below, rules, from, end, BLOCK);
-    let by_groups = passed_strides(above, here, below, rules, by_blocks, end, GROUP);
-    passed_strides(above, here, below, rules, by_groups, end, 1)
+    let reach = by_blocks + BLOCK.min(end - by_blocks);
+    let shore = inland_until(above, here, below, by_blocks, reach);
+    let ashore = passed_strides(above, here, below, rules, by_blocks, shore, BLOCK);
+    let by_groups = passed_strides(above, here, below, rules, ashore, shore, GROUP);
+    passed_strides(above, here, below, rules, by_groups, shore, 1)
 }
 
 /// The first column from this on for which nothing is vouched, at most `until`: at each column before it the patch that the three rows

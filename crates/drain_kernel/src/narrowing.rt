@@ -1,22 +1,38 @@
 //! Numbers of 64 bits, brought into lanes of 32. At a void, where the lane of the elevation is 0, a product's number need not fit.
 
-ghost use Rattle.std.specs.Prelude.{◌≡◌, ◌≢◌, ◌+ℤ◌, IsTrue, pos, length, vec_len};
+ghost use Rattle.std.specs.Prelude.{◌≡◌, ◌≢◌, ◌↔◌, ◌<◌, ◌^◌, ◌+ℤ◌, IsTrue, pos, length, vec_len};
 ghost use Rattle.drain_kernel.specs.Lanes.{AreLanes, AreElevationLanes, AreHeightLanes, is_lane, is_height};
 
-/// The number, where 32 bits hold it; else 0.
+/// The lower 32 of these bits.
+#[inline(always)]
+fn low_half(bits: u64) -> u32
+    ensures { bits < 2 ^ 32 → result ≡ bits }
+{
+    (bits & 0xFFFF_FFFF) as u32
+}
+
+/// The upper 32.
+#[inline(always)]
+fn high_half(bits: u64) -> u32
+    ensures { (result ≡ 0) ↔ (bits < 2 ^ 32) }
+{
+    (bits >> 32) as u32
+}
+
+/// The number, where 32 bits hold it; else its lower 32 bits.
 #[inline(always)]
 pub fn lane(number: i64) -> u32
     ensures { IsTrue (is_lane number) → pos result ≡ number }
 {
-    if is_lane(number) { number as u32 } else { 0 }
+    low_half(number.cast_unsigned())
 }
 
-/// Whether 32 bits without a sign hold the number.
+/// Whether 32 bits without a sign hold the number. Halves are compared, and no numbers of 64 bits, so that four numbers are looked at together.
 #[inline(always)]
 pub fn is_lane(number: i64) -> bool
     ensures { result ≡ is_lane number }
 {
-    number >= 0 && number <= 4294967295
+    high_half(number.cast_unsigned()) == 0
 }
 
 /// Whether 32 bits without a sign hold the number, or it stands at a void, where the elevation's lane is 0.
@@ -44,16 +60,21 @@ fn put_numbers(z: &[u32], numbers: &[i64], out: &mut [u32]) -> bool
     all
 }
 
-/// 32768 more than a height, where it is one of 16 bits; else 0.
+/// 32768 more than the number, in 64 bits.
+#[inline(always)]
+fn lifted(number: i64) -> u64
+    ensures fits { IsTrue (is_height number) ↔ (result < 2 ^ 16) }
+    ensures lifted { IsTrue (is_height number) → pos result ≡ number +ℤ pos 32768 }
+{
+    number.cast_unsigned().wrapping_add(32768)
+}
+
+/// 32768 more than a height, where it is one of 16 bits.
 #[inline(always)]
 fn height_lane(number: i64) -> u32
     ensures { IsTrue (is_height number) → pos result ≡ number +ℤ pos 32768 }
 {
-    if is_height(number) {
-        (number + 32768) as u32
-    } else {
-        0
-    }
+    low_half(lifted(number))
 }
 
 /// Whether 16 bits with a sign hold the number.
@@ -61,7 +82,8 @@ fn height_lane(number: i64) -> u32
 fn is_height(number: i64) -> bool
     ensures { result ≡ is_height number }
 {
-    number >= -32768 && number <= 32767
+    let bits = lifted(number);
+    (high_half(bits) == 0) & (low_half(bits) <= 65535)
 }
 
 /// Whether 16 bits with a sign hold the number, or it stands at a void.

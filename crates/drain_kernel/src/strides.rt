@@ -61,7 +61,7 @@ fn all_pass(
         && ranks_pass(above, here, below, rules, from, end)
 }
 
-/// Goes on from a column in strides of so many columns, as long as all tests pass along a whole stride that ends in time.
+/// Goes on from a column in strides of so many columns, the last of which may be shorter, as long as all tests pass along a whole one.
 pub fn passed_strides(
     above: &Lanes,
     here: &Lanes,
@@ -83,8 +83,12 @@ pub fn passed_strides(
     ensures passed { Along from result (PassesAt rules.now above.now here.now below.now) }
 {
     let mut k = from;
-    while end - k >= stride && all_pass(above, here, below, rules, k, k + stride) {
-        k += stride;
+    while k < end {
+        let next = k + stride.min(end - k);
+        if !all_pass(above, here, below, rules, k, next) {
+            return k;
+        }
+        k = next;
     }
     k
 }

@@ -27,8 +27,12 @@ impl PatchRow for ThreeRows<'_> {
         self.here.cols()
     }
 
+    /// Those that the screen of the row sees; of a row with lanes none, since the pass along them compares each cell with its ground.
     fn cells_above_ground(&self) -> u32 {
-        self.here.cells_above_ground()
+        match self.here.lanes() {
+            Some(_) => 0,
+            None => self.here.cells_above_ground(),
+        }
     }
 
     /// Those for which the lanes of the three rows vouch, up to a marked cell; none where a row has no lanes.

@@ -1,6 +1,6 @@
 //! A row of a grid and its products in vectors, which are kept for their memory.
 
-ghost use Rattle.std.specs.Prelude.{◌≡◌, ◌↔◌, ◌||◌, [], IsTrue, OnOk, OnErr};
+ghost use Rattle.std.specs.Prelude.{◌≡◌, ◌↔◌, ◌||◌, ℕ, [], false, slice_index_or, IsTrue, OnOk, OnErr};
 ghost use Rattle.drain_grid.specs.declared.cell.Cell.{Cell};
 ghost use Rattle.drain_rules.specs.RowNumbers.{AreRowNumbers, blank};
 ghost use Rattle.drain_verdict.specs.HeldRows.{HasItsLanes};
@@ -95,6 +95,10 @@ impl HeldRow {
             return Err(OutOfMemory);
         };
         sinks.mark_row(row, self.sinks.as_mut_slice());
+        if !is_any_marked(self.sinks.as_slice()) {
+            self.sinks.clear();
+            return Ok(());
+        }
         voids.note_row(row, self.z.as_slice(), self.sinks.as_slice())
     }
 
@@ -135,4 +139,15 @@ impl HeldRow {
             lanes,
         )
     }
+}
+
+/// Whether anything is marked. It has no branch, so that many marks are looked at together.
+fn is_any_marked(marks: &[bool]) -> bool
+    ensures { result ≡ false → (place : ℕ) → slice_index_or marks.now place false ≡ false }
+{
+    let mut is_any = false;
+    for mark in marks {
+        is_any |= *mark;
+    }
+    is_any
 }
