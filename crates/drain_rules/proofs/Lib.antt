@@ -8,6 +8,7 @@ pub mod LanedCounts
 pub mod LanedPatches
 pub mod PassedCells
 pub mod PatchFaults
+pub mod RightVoids
 pub mod RowFields
 pub mod RowLemmas
 pub mod RowPatches

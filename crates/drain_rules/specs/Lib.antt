@@ -1,3 +1,4 @@
+pub mod BlankVoids
 pub mod Fill
 pub mod FillVerdicts
 pub mod Filled

@@ -7,6 +7,7 @@
 //! for rules 4 to 9 alone; that these make the filled surface is the law `least_from_rules`.
 #![tactic(auto)]
 
+pub mod blank_void;
 pub mod cell_rules;
 pub mod fill_input;
 pub mod fill_walk;

@@ -8,6 +8,7 @@ ghost use Rattle.drain_grid.specs.declared.patch.Patch.{Patch};
 ghost use Rattle.drain_grid.specs.PatchRules.{BelowGroundHolds};
 ghost use Rattle.drain_kernel.specs.Kept.{IsKept};
 ghost use Rattle.drain_kernel.specs.Rules.{tried};
+ghost use Rattle.drain_rules.specs.BlankVoids.{IsRightVoid};
 ghost use Rattle.drain_rules.specs.KeptRuns.{raised_between};
 
 use crate::kept::Kept;
@@ -39,6 +40,13 @@ pub trait PatchRow {
         ensures within { result.end ≤ len self.now }
         ensures kept { (col : ℕ) → from ≤ col → col < result.end → IsKept (tried rules.now) (shown self.now col) }
         ensures raised { result.raised ≡ raised_between (shown self.now) from result.end };
+
+    /// A column up to which from one on all cells are seen to be voids at which no rule fails. It may answer an earlier one, and the column itself.
+    fn voids_until(&self, rules: &Rules, from: u32) -> u32
+        requires { from ≤ len self.now }
+        ensures forward { from ≤ result }
+        ensures within { result ≤ len self.now }
+        ensures right { (col : ℕ) → from ≤ col → col < result → IsRightVoid (tried rules.now) (shown self.now col) };
 
     /// The values at a column and those of its neighbours.
     fn patch(&self, col: u32) -> Patch

@@ -100,6 +100,11 @@ impl<'a> PatchRow for RasterRow<'a> {
         Kept::none(from)
     }
 
+    /// Likewise.
+    fn voids_until(&self, _rules: &Rules, from: u32) -> u32 {
+        from
+    }
+
     fn patch(&self, col: u32) -> Patch {
         self.products
             .patch(self.elevation, self.sinks, Cell { row: self.row, col })

@@ -41,7 +41,7 @@ pub fn check_row<R: PatchRow>(
     while col < cols {
         let kept = row.kept_from(rules, col);
         tally.add_kept(kept.end - col, kept.raised);
-        col = kept.end;
+        col = row.voids_until(rules, kept.end);
         if col < cols {
             let patch = row.patch(col);
             match check_cell(&patch, rules, col < above, labels) {

@@ -1,5 +1,6 @@
 //! A row of a grid and its products, with the rows above and below it; and the patch round a column.
 
+use crate::blank_void::is_blank_void;
 use crate::kept::Kept;
 use crate::patch_row::PatchRow;
 use crate::row_view::RowView;
@@ -54,6 +55,16 @@ impl PatchRow for ThreeRows<'_> {
             end: end as u32,
             raised: here.raised_between(first, end),
         }
+    }
+
+    /// As far as products that the rules look at have their no-data numbers at voids.
+    fn voids_until(&self, rules: &Rules, from: u32) -> u32 {
+        let cols = self.here.cols();
+        let mut col = from;
+        while col < cols && is_blank_void(&self.here.values(col as usize), rules) {
+            col += 1;
+        }
+        col
     }
 
     fn patch(&self, col: u32) -> Patch {
