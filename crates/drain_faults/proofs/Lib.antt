@@ -1,0 +1,6 @@
+pub mod ByRule
+pub mod CellsBefore
+pub mod FaultSteps
+pub mod Flags
+pub mod NumbersWithout
+pub mod PatchFlags

@@ -1,0 +1,5 @@
+pub mod CellFaults
+pub mod FaultWalks
+pub mod Faults
+pub mod Flags
+pub mod PerRule

@@ -1,0 +1,18 @@
+//! Every rule that fails at each cell, and not the first alone: of each rule at how many cells it fails, and where first.
+//!
+//! The verdict (`drain_rules`) stops at the first fault. Whoever has to repair products wants to see more, so here nothing stops at a
+//! fault. The rules are asked one by one, since of each group of rules the crates below tell the first that fails, and it may hide another.
+//! The walk looks at a row as the verdict's does: cells that a row vouches for keep every rule, and are passed at once.
+#![tactic(auto)]
+
+pub mod cell_faults;
+pub mod fault_walk;
+pub mod found;
+pub mod patch_faults;
+pub mod per_rule;
+pub mod row_faults;
+pub mod rule_faults;
+
+pub use fault_walk::FaultWalk;
+pub use per_rule::PerRule;
+pub use rule_faults::RuleFaults;
