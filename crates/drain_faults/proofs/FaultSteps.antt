@@ -18,10 +18,11 @@ use Rattle.drain_rules.proofs.KeptCells.{no_label}
 use Rattle.drain_rules.proofs.LabelsBefore.{AreLabelsBefore-more, AreLabelsBefore-row}
 use Rattle.drain_faults.specs.declared.found.Found.{Found}
 use Rattle.drain_faults.specs.CellFaults.{IsNoted, IsNotedAt}
-use Rattle.drain_faults.specs.Faults.{AreCellsWithout}
+use Rattle.drain_faults.specs.Faults.{AreCellsWithout, IsFirstPatch}
 use Rattle.drain_faults.specs.FaultWalks.{IsFoundAbove, IsFoundBefore, IsNewOutletAt, cells_before}
 use Rattle.drain_faults.specs.PerRule.{of_rule}
 use Rattle.drain_faults.proofs.CellsBefore.{cells_before-all, cells_before-few, cells_before-more, cells_before-none}
+use Rattle.drain_faults.proofs.FirstPatches.{first_noted_same, patch_noted, patch_past}
 use Rattle.drain_faults.proofs.Flags.{noted_same}
 use Rattle.drain_faults.proofs.NumbersWithout.{holding_more, noted_more}
 
@@ -38,6 +39,7 @@ module _ (profile : Profile) (g : Grid) (ps : Products) (row cols : ℕ) (shown 
   pub found_begins : (found : Found) → IsFoundAbove profile g ps row found → IsFoundBefore profile g ps row 0 found
   found_begins found above = record {
     faults = λ r. subst (λ cs. AreCellsWithout (λ c. HoldsAt profile g ps c r) cs (of_rule found.by_rule r)) (sym (cells_before-none g row)) (above.faults r);
+    first_patch = subst (λ cs. IsFirstPatch profile g ps cs found.first) (sym (cells_before-none g row)) above.first_patch;
     before = above.before;
   }
 
@@ -47,6 +49,7 @@ module _ (profile : Profile) (g : Grid) (ps : Products) (row cols : ℕ) (shown 
       let whole : IsFoundBefore profile g ps row g.extent.cols found = subst (λ n. IsFoundBefore profile g ps row n found) (last ∙ are.cols_are) so_far in
       record {
         faults = λ r. subst (λ cs. AreCellsWithout (λ c. HoldsAt profile g ps c r) cs (of_rule found.by_rule r)) (cells_before-all g row) (whole.faults r);
+        first_patch = subst (λ cs. IsFirstPatch profile g ps cs found.first) (cells_before-all g row) whole.first_patch;
         before = AreLabelsBefore-row g ps row found.labels whole.before;
       }
 
@@ -59,6 +62,8 @@ module _ (profile : Profile) (g : Grid) (ps : Products) (row cols : ℕ) (shown 
         faults = λ r. subst (λ cs. AreCellsWithout (λ c. HoldsAt profile g ps c r) cs (of_rule found.by_rule r)) (sym (cells_before-more g row col))
             (holding_more (λ c. HoldsAt profile g ps c r) (cells_before g row col) (place row col) (of_rule found.by_rule r)
             (kept_holds profile g ps (place row col) at r) (so_far.faults r));
+        first_patch = subst (λ cs. IsFirstPatch profile g ps cs found.first) (sym (cells_before-more g row col))
+            (patch_past profile g ps (cells_before g row col) (place row col) found.first (kept_holds profile g ps (place row col) at) so_far.first_patch);
         before = AreLabelsBefore-more g ps row col (values_at g ps (place row col)) found.labels found.labels (inside_row col less) refl so_far.before
             (no_label profile found.labels (patch_at g ps (place row col)) at);
       }
@@ -98,6 +103,10 @@ module _ (profile : Profile) (g : Grid) (ps : Products) (row cols : ℕ) (shown 
             (cells_before-few g row col few (omega (arith, narrow, are.cols_are)) inside.col)
             (noted_same (labelled_profile profile old.labels (patch_at g ps cell) r) (HoldsAt profile g ps cell r) cell (of_rule old.by_rule r) (of_rule new.by_rule r)
             (labelled-HoldsAt profile g ps old.labels cell r inside so_far.before) (at.each r)) (so_far.faults r));
+        first_patch = subst (λ cs. IsFirstPatch profile g ps cs new.first) (sym (cells_before-more g row col))
+            (patch_noted profile g ps (cells_before g row col) cell (patch_at g ps cell) old.first new.first refl
+            (first_noted_same (labelled_profile profile old.labels (patch_at g ps cell)) (HoldsAt profile g ps cell) cell (patch_at g ps cell) old.first new.first
+            (λ r. labelled-HoldsAt profile g ps old.labels cell r inside so_far.before) at.first_is) so_far.first_patch);
         before = AreLabelsBefore-more g ps row col p.here old.labels new.labels inside here so_far.before noted.admitted;
       }
 

@@ -1,6 +1,6 @@
 -- What tests and least faults tell of whether a rule fails.
 use Rattle.std.proofs.Common.{◌≡◌, ◌↔◌, ◌<◌, Bool, true, false, not, IsTrue, Option, Some, None, inl, inr, refl, sym, ap, subst, arith}
-use Rattle.std.proofs.lemmas.Bool.{false≢true, cases_lt}
+use Rattle.std.proofs.lemmas.Bool.{false≢true, true≢false, cases_lt}
 use Rattle.drain_grid.specs.declared.cell.Cell.{Cell}
 use Rattle.drain_grid.specs.declared.rule.Rule.{Rule}
 use Rattle.drain_grid.specs.Rule.{number_of, IsLeastFault}
@@ -18,6 +18,11 @@ tells_not false P test = λ holds. false≢true (test.1 holds)
 pub tells_same : (b : Bool) (P Q : Type 0) → P ↔ Q → TellsFault b P → TellsFault b Q
 tells_same true P Q same fails = λ holds. fails (same.1 holds)
 tells_same false P Q same holds = same.0 holds
+
+-- so it isn't set exactly where the fact holds
+pub tells_iff : (b : Bool) (P : Type 0) → TellsFault b P → (b ≡ false) ↔ P
+tells_iff true P fails = (λ e. absurd (true≢false e), λ holds. absurd (fails holds))
+tells_iff false P holds = (λ e. holds, λ h. refl)
 
 -- whether the least fault is this rule tells whether it fails, where no lesser one's fault hides that it fails
 pub tells_least : (IsOwn P : Rule → Type 0) (r : Rule) (o : Option Rule) (b : Bool) → IsOwn r →

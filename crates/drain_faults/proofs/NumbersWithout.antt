@@ -25,7 +25,7 @@ module _ (P : Cell → Type 0) where
       omega (arith, number_fits cs fails.1.0 fails.1.2, less)
 
   -- the first of a list is the first of a longer one
-  first_stays : (cs ds : List Cell) (b : Cell) → IsFirstWithout P cs (Some b) → IsFirstWithout P (cs ++ ds) (Some b)
+  pub first_stays : (cs ds : List Cell) (b : Cell) → IsFirstWithout P cs (Some b) → IsFirstWithout P (cs ++ ds) (Some b)
   first_stays [] ds b is = absurd (let e : Some b ≡ None = is in cc)
   first_stays (c ∷ cs) ds b (inl holds) = inl (holds.0, first_stays cs ds b holds.1)
   first_stays (c ∷ cs) ds b (inr fails) = inr fails

@@ -12,20 +12,22 @@ use Rattle.drain_rules.specs.PatchRows.{AreRowPatches}
 use Rattle.drain_rules.specs.Rows.{place}
 use Rattle.drain_faults.specs.declared.fault_walk.FaultWalk.{FaultWalk}
 use Rattle.drain_faults.specs.declared.found.Found.{Found}
-use Rattle.drain_faults.specs.Faults.{AreFaultsOf}
+use Rattle.drain_faults.specs.Faults.{AreFaultsOf, IsFirstPatch}
 
 -- the cells before a place in row order
 abbrev pub cells_before : Grid → ℕ → ℕ → List Cell
 cells_before g row col = cells_above g row ++ row_cells col row
 
--- of the cells before a place: each rule's faults, and the labels of their outlets
+-- of the cells before a place: each rule's faults, the first cell with a fault, and the labels of their outlets
 pub record IsFoundBefore (profile : Profile) (g : Grid) (ps : Products) (row col : ℕ) (found : Found) : Type 0 where
   pub faults : AreFaultsOf profile g ps (cells_before g row col) found.by_rule
+  pub first_patch : IsFirstPatch profile g ps (cells_before g row col) found.first
   pub before : AreLabelsBefore g ps (place row col) found.labels
 
 -- of the rows above a row
 pub record IsFoundAbove (profile : Profile) (g : Grid) (ps : Products) (row : ℕ) (found : Found) : Type 0 where
   pub faults : AreFaultsOf profile g ps (cells_above g row) found.by_rule
+  pub first_patch : IsFirstPatch profile g ps (cells_above g row) found.first
   pub before : AreLabelsBefore g ps (place row 0) found.labels
 
 -- the cell is a data cell with code 0, and no earlier one has its label

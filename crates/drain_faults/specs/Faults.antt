@@ -2,9 +2,10 @@
 use Rattle.std.specs.Prelude.{◌≡◌, ℕ, ◌+◌, ◌⊎◌, List, [], ◌∷◌, Option, Some, None}
 use Rattle.drain_grid.specs.declared.cell.Cell.{Cell}
 use Rattle.drain_grid.specs.declared.rule.Rule.{Rule}
-use Rattle.drain_grid.specs.Grid.{Grid, Products}
+use Rattle.drain_grid.specs.Grid.{Grid, Products, patch_at}
 use Rattle.drain_grid.specs.GridRules.{HoldsAt}
 use Rattle.drain_grid.specs.PatchRules.{Profile}
+use Rattle.drain_faults.specs.declared.faulty_patch.FaultyPatch.{FaultyPatch}
 use Rattle.drain_faults.specs.declared.per_rule.PerRule.{PerRule}
 use Rattle.drain_faults.specs.declared.rule_faults.RuleFaults.{RuleFaults}
 use Rattle.drain_faults.specs.PerRule.{of_rule}
@@ -27,3 +28,14 @@ pub record AreCellsWithout (P : Cell → Type 0) (cs : List Cell) (faults : Rule
 -- for each rule, at how many of the list's cells it doesn't hold, and at which first
 abbrev pub AreFaultsOf : Profile → Grid → Products → List Cell → PerRule RuleFaults → Type 0
 AreFaultsOf profile g ps cs faults = (r : Rule) → AreCellsWithout (λ c. HoldsAt profile g ps c r) cs (of_rule faults r)
+
+-- the first of the list's cells at which some rule fails, and its patch
+pub record IsFirstFaulty (profile : Profile) (g : Grid) (ps : Products) (cs : List Cell) (found : FaultyPatch) : Type 0 where
+  pub first_is : IsFirstWithout (λ c. (r : Rule) → HoldsAt profile g ps c r) cs (Some found.cell)
+  pub patch_is : found.patch ≡ patch_at g ps found.cell
+  pub fails : (r : Rule) × ¬ HoldsAt profile g ps found.cell r
+
+-- it is that, or none where every rule holds at each of them
+abbrev pub IsFirstPatch : Profile → Grid → Products → List Cell → Option FaultyPatch → Type 0
+IsFirstPatch profile g ps cs (Some found) = IsFirstFaulty profile g ps cs found
+IsFirstPatch profile g ps cs None = IsFirstWithout (λ c. (r : Rule) → HoldsAt profile g ps c r) cs None

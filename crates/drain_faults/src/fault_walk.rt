@@ -6,9 +6,10 @@ ghost use Rattle.drain_grid.specs.Grid.{Grid, Products};
 ghost use Rattle.drain_kernel.specs.declared.rules.Rules.{Rules};
 ghost use Rattle.drain_kernel.specs.Rules.{tried};
 ghost use Rattle.drain_rules.specs.Findings.{cells_above};
-ghost use Rattle.drain_faults.specs.Faults.{AreFaultsOf};
+ghost use Rattle.drain_faults.specs.Faults.{AreFaultsOf, IsFirstPatch};
 ghost use Rattle.drain_faults.specs.FaultWalks.{HasNewOutlet, IsRightOf, OfNextRow};
 
+use crate::faulty_patch::FaultyPatch;
 use crate::found::Found;
 use crate::per_rule::PerRule;
 use crate::row_faults::note_row_of;
@@ -37,6 +38,7 @@ impl FaultWalk {
             found: Found {
                 labels: OutletLabels::new(alloc),
                 by_rule: PerRule::same(RuleFaults::none()),
+                first: None,
             },
         }
     }
@@ -71,5 +73,12 @@ impl FaultWalk {
         ensures of_grids { (rules : Rules) (g : Grid) (ps : Products) → IsRightOf (tried rules) g ps self.now → AreFaultsOf (tried rules) g ps (cells_above g self.now.rows) result.now }
     {
         &self.found.by_rule
+    }
+
+    /// The first cell of these rows at which any rule fails, and its patch; none where every rule holds at each of them. The same grids are meant.
+    pub fn first_patch(&self) -> Option<FaultyPatch>
+        ensures of_grids { (rules : Rules) (g : Grid) (ps : Products) → IsRightOf (tried rules) g ps self.now → IsFirstPatch (tried rules) g ps (cells_above g self.now.rows) result }
+    {
+        self.found.first
     }
 }

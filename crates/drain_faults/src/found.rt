@@ -7,17 +7,19 @@ ghost use Rattle.drain_rules.specs.Labels.{IsOutletByCode};
 ghost use Rattle.drain_faults.specs.CellFaults.{IsNoted};
 
 use crate::cell_faults::cell_faults;
+use crate::faulty_patch::{FaultyPatch, with_patch};
 use crate::per_rule::PerRule;
 use crate::rule_faults::{RuleFaults, with_cell};
 use drain_basin::OutletLabels;
 use drain_grid::{Cell, OutOfMemory, Patch};
 use drain_kernel::Rules;
 
-/// The labels of the outlets among the cells that were passed, and the cells at which each rule fails.
+/// The labels of the outlets among the cells that were passed, the cells at which each rule fails, and the first at which any does.
 #[derive(Drop)]
 pub struct Found {
     pub labels: OutletLabels,
     pub by_rule: PerRule<RuleFaults>,
+    pub first: Option<FaultyPatch>,
 }
 
 impl Found {
@@ -34,6 +36,7 @@ impl Found {
         match cell_faults(patch, rules, &mut self.labels) {
             Ok(fails) => {
                 self.by_rule = with_cell(&self.by_rule, cell, &fails);
+                self.first = with_patch(self.first, cell, patch, &fails);
                 Ok(())
             }
             Err(OutOfMemory) => Err(OutOfMemory),

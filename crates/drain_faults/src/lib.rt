@@ -1,4 +1,4 @@
-//! Every rule that fails at each cell, and not the first alone: of each rule at how many cells it fails, and where first.
+//! Every rule that fails at each cell, and not the first alone: of each rule at how many cells it fails, and where first; and the first faulty cell.
 //!
 //! The verdict (`drain_rules`) stops at the first fault. Whoever has to repair products wants to see more, so here nothing stops at a
 //! fault. The rules are asked one by one, since of each group of rules the crates below tell the first that fails, and it may hide another.
@@ -7,6 +7,7 @@
 
 pub mod cell_faults;
 pub mod fault_walk;
+pub mod faulty_patch;
 pub mod found;
 pub mod patch_faults;
 pub mod per_rule;
@@ -14,5 +15,6 @@ pub mod row_faults;
 pub mod rule_faults;
 
 pub use fault_walk::FaultWalk;
+pub use faulty_patch::FaultyPatch;
 pub use per_rule::PerRule;
 pub use rule_faults::RuleFaults;

@@ -1,7 +1,8 @@
 //! Fifteen things, one for each rule.
 
-ghost use Rattle.std.specs.Prelude.{◌≡◌};
+ghost use Rattle.std.specs.Prelude.{◌≡◌, false};
 ghost use Rattle.drain_grid.specs.declared.rule.Rule.{Rule};
+ghost use Rattle.drain_grid.specs.Rule.{IsAnyRule, IsLeastFault};
 ghost use Rattle.drain_faults.specs.PerRule.{of_rule};
 
 use drain_grid::Rule;
@@ -73,5 +74,38 @@ impl<T: Copy> PerRule<T> {
             label: thing,
             shared_label: thing,
         }
+    }
+}
+
+/// The rules in their order.
+const RULES: [Rule; 15] = [
+    Rule::VoidCell,
+    Rule::Missing,
+    Rule::BadCode,
+    Rule::BelowGround,
+    Rule::OpenRaised,
+    Rule::NoSpill,
+    Rule::SpillHeight,
+    Rule::SpillRank,
+    Rule::NotLeast,
+    Rule::Slope,
+    Rule::OutletCode,
+    Rule::FlatStep,
+    Rule::Accumulation,
+    Rule::Label,
+    Rule::SharedLabel,
+];
+
+impl PerRule<bool> {
+    /// The least rule whose flag is set, none where none is.
+    pub fn least(&self) -> Option<Rule>
+        ensures { IsLeastFault IsAnyRule (λ r. of_rule self.now r ≡ false) result }
+    {
+        for rule in RULES {
+            if *self.of(rule) {
+                return Some(rule);
+            }
+        }
+        None
     }
 }
