@@ -1,4 +1,5 @@
 pub mod CellFaults
+pub mod FaultMaps
 pub mod FaultWalks
 pub mod Faults
 pub mod Flags

@@ -6,14 +6,18 @@
 #![tactic(auto)]
 
 pub mod cell_faults;
+pub mod drawn;
+pub mod fault_map;
 pub mod fault_walk;
 pub mod faulty_patch;
 pub mod found;
+pub mod map_row;
 pub mod patch_faults;
 pub mod per_rule;
 pub mod row_faults;
 pub mod rule_faults;
 
+pub use fault_map::FaultMap;
 pub use fault_walk::FaultWalk;
 pub use faulty_patch::FaultyPatch;
 pub use per_rule::PerRule;
