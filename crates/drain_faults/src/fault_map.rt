@@ -2,7 +2,7 @@
 //!
 //! It is a walk of its own beside that of the counts, since it takes a byte for each cell, and is seldom wanted.
 
-ghost use Rattle.std.specs.Prelude.{◌≡◌, ◌<◌, ◌+◌, OnOk};
+ghost use Rattle.std.specs.Prelude.{◌≡◌, ◌<◌, ◌+◌, IfOk, OnOk};
 ghost use Rattle.drain_grid.specs.declared.cell.TheConstants.{MAX_LENGTH};
 ghost use Rattle.drain_grid.specs.Grid.{Grid, Products};
 ghost use Rattle.drain_kernel.specs.declared.rules.Rules.{Rules};
@@ -13,7 +13,7 @@ ghost use Rattle.drain_faults.specs.FaultMaps.{AreMapPixels, IsMapOf, OfNextMapR
 use crate::drawn::Drawn;
 use crate::map_row::draw_row;
 use drain_basin::OutletLabels;
-use drain_grid::OutOfMemory;
+use drain_grid::{OutOfMemory, Shape};
 use drain_kernel::Rules;
 use drain_rules::PatchRow;
 use std::alloc::Global;
@@ -26,17 +26,20 @@ pub struct FaultMap {
 }
 
 impl FaultMap {
-    /// No row was passed. This takes no memory.
-    pub fn new(alloc: Global) -> FaultMap
-        ensures rows { result.rows ≡ 0 }
-        ensures drawn { (rules : Rules) (g : Grid) (ps : Products) → IsMapOf (tried rules) g ps result }
+    /// No row was passed. There is room for a byte for each cell of a grid of this shape.
+    pub fn new(alloc: Global, shape: Shape) -> Result<FaultMap, OutOfMemory>
+        ensures rows { IfOk result (λ map. map.rows ≡ 0) }
+        ensures drawn { IfOk result (λ map. (rules : Rules) (g : Grid) (ps : Products) → IsMapOf (tried rules) g ps map) }
     {
-        FaultMap {
-            rows: 0,
-            drawn: Drawn {
-                labels: OutletLabels::new(alloc),
-                pixels: Vec::new(alloc),
-            },
+        match Vec::with_capacity(alloc, shape.cells()) {
+            Ok(pixels) => Ok(FaultMap {
+                rows: 0,
+                drawn: Drawn {
+                    labels: OutletLabels::new(alloc),
+                    pixels,
+                },
+            }),
+            Err(_) => Err(OutOfMemory),
         }
     }
 
