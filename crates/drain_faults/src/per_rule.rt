@@ -78,7 +78,7 @@ impl<T: Copy> PerRule<T> {
 }
 
 /// The rules in their order.
-const RULES: [Rule; 15] = [
+pub const RULES: [Rule; 15] = [
     Rule::VoidCell,
     Rule::Missing,
     Rule::BadCode,
