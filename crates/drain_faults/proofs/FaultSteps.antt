@@ -1,5 +1,5 @@
 -- What was found, with one cell more or a run of cells that a row vouches for; and from row to row.
-use Rattle.std.proofs.Common.{◌≡◌, ℕ, zero, suc, ◌+◌, ◌-◌, ◌<◌, ◌≤◌, List, refl, sym, ◌∙◌, ap, subst, arith, add-one}
+use Rattle.std.proofs.Common.{◌≡◌, ℕ, zero, suc, ◌+◌, ◌-◌, ◌<◌, ◌≤◌, refl, sym, ◌∙◌, ap, subst, arith}
 use Rattle.drain_basin.specs.Admitted.{IsAdmitted}
 use Rattle.drain_grid.specs.declared.cell.Cell.{Cell}
 use Rattle.drain_grid.specs.declared.patch.Patch.{Patch}
@@ -9,7 +9,6 @@ use Rattle.drain_grid.specs.Grid.{Grid, Products, IsInside, patch_at, values_at}
 use Rattle.drain_grid.specs.GridRules.{HoldsAt}
 use Rattle.drain_grid.specs.PatchRules.{Profile}
 use Rattle.drain_kernel.specs.Kept.{IsKept}
-use Rattle.drain_rules.specs.Findings.{cells_above}
 use Rattle.drain_rules.specs.Labels.{IsOutletByCode, labelled_profile}
 use Rattle.drain_rules.specs.PatchRows.{AreRowPatches}
 use Rattle.drain_rules.specs.Rows.{place}
@@ -17,7 +16,7 @@ use Rattle.drain_rules.proofs.Faults.{labelled-HoldsAt}
 use Rattle.drain_rules.proofs.KeptCells.{no_label}
 use Rattle.drain_rules.proofs.LabelsBefore.{AreLabelsBefore-more, AreLabelsBefore-row}
 use Rattle.drain_faults.specs.declared.found.Found.{Found}
-use Rattle.drain_faults.specs.CellFaults.{IsNoted, IsNotedAt}
+use Rattle.drain_faults.specs.CellFaults.{IsNoted}
 use Rattle.drain_faults.specs.Faults.{AreCellsWithout, IsFirstPatch}
 use Rattle.drain_faults.specs.FaultWalks.{IsFoundAbove, IsFoundBefore, IsNewOutletAt, cells_before}
 use Rattle.drain_faults.specs.PerRule.{of_rule}

@@ -1,11 +1,11 @@
 -- Which of the rules of a patch fail, as they are tried: which faults hide others, and that those on spill parents never fail.
-use Rattle.std.proofs.Common.{◌≡◌, ◌↔◌, ◌<◌, Bool, IsTrue, Option, Some, refl, sym, ◌∙◌, subst, arith}
+use Rattle.std.proofs.Common.{◌≡◌, ◌↔◌, Bool, IsTrue, Option, Some, sym, ◌∙◌, subst, arith}
 use Rattle.std.proofs.lemmas.Bool.{false≢true}
 use Rattle.drain_grid.specs.declared.patch.Patch.{Patch}
 use Rattle.drain_grid.specs.declared.rule.Rule.{Rule}
 use Rattle.drain_grid.specs.declared.rule.Rule.TheVariants.{VoidCell, Missing, BadCode, NoSpill, SpillHeight, SpillRank, Slope, OutletCode, Accumulation, Label, FlatStep}
 use Rattle.drain_grid.specs.Values.{NoDataNumbers}
-use Rattle.drain_grid.specs.Rule.{number_of, IsFillRule, IsPresenceRule, IsSlopeRule, IsOnly, IsLeastFault}
+use Rattle.drain_grid.specs.Rule.{IsFillRule, IsPresenceRule, IsSlopeRule, IsOnly, IsLeastFault}
 use Rattle.drain_grid.specs.PatchRules.{BadCodeWithoutSpill, flow_rules, surface_rules}
 use Rattle.drain_grid.proofs.RuleNumbers.{same_rule}
 use Rattle.drain_kernel.specs.declared.rules.Ranks.{Ranks}

@@ -1,8 +1,8 @@
 -- The rules by their places in their order: a search that has passed a place has passed each lesser rule.
-use Rattle.std.proofs.Common.{◌≡◌, ℕ, ◌+◌, ◌-◌, ◌<◌, get_or, refl, subst, arith}
+use Rattle.std.proofs.Common.{◌≡◌, ℕ, ◌+◌, ◌-◌, ◌<◌, get_or, refl, subst}
 use Rattle.drain_grid.specs.declared.rule.Rule.{Rule}
 use Rattle.drain_grid.specs.declared.rule.Rule.TheVariants.{VoidCell}
-use Rattle.drain_grid.specs.Rule.{IsAnyRule, number_of}
+use Rattle.drain_grid.specs.Rule.{number_of}
 use Rattle.drain_grid.proofs.Decisions.{each_below, same_number}
 use Rattle.drain_grid.proofs.RuleNumbers.{numbered, rules}
 

@@ -1,5 +1,5 @@
 -- What one cell more adds to what was found.
-use Rattle.std.specs.Prelude.{◌≡◌, ℕ, ◌+◌, ◌^◌, ◌<◌, ℤ, ◌↔◌, ◌⊎◌, Bool, true, false, Option, Some, None, unwrap_or}
+use Rattle.std.specs.Prelude.{◌≡◌, ◌+◌, ◌^◌, ◌<◌, ℤ, ◌↔◌, ◌⊎◌, Bool, true, false, Option, Some, None, unwrap_or}
 use Rattle.drain_basin.specs.Admitted.{IsAdmitted}
 use Rattle.drain_grid.specs.declared.cell.Cell.{Cell}
 use Rattle.drain_grid.specs.declared.patch.Patch.{Patch}

@@ -64,4 +64,11 @@ impl FaultMap {
     {
         &self.drawn.pixels
     }
+
+    /// The same, for whoever needs the walk no more.
+    pub fn into_pixels(self) -> Vec<u8>
+        ensures of_grids { (rules : Rules) (g : Grid) (ps : Products) → IsMapOf (tried rules) g ps self → AreMapPixels (tried rules) g ps (cells_above g self.rows) result.items }
+    {
+        self.drawn.pixels
+    }
 }

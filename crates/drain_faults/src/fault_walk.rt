@@ -75,6 +75,13 @@ impl FaultWalk {
         &self.found.by_rule
     }
 
+    /// The same, for whoever needs the walk no more.
+    pub fn into_faults(self) -> PerRule<RuleFaults>
+        ensures of_grids { (rules : Rules) (g : Grid) (ps : Products) → IsRightOf (tried rules) g ps self → AreFaultsOf (tried rules) g ps (cells_above g self.rows) result }
+    {
+        self.found.by_rule
+    }
+
     /// The first cell of these rows at which any rule fails, and its patch; none where every rule holds at each of them. The same grids are meant.
     pub fn first_patch(&self) -> Option<FaultyPatch>
         ensures of_grids { (rules : Rules) (g : Grid) (ps : Products) → IsRightOf (tried rules) g ps self.now → IsFirstPatch (tried rules) g ps (cells_above g self.now.rows) result }

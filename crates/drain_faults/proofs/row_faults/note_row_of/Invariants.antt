@@ -1,4 +1,4 @@
-use Rattle.std.proofs.Common.{ℕ, ◌-◌, ◌≤◌}
+use Rattle.std.proofs.Common.{◌-◌, ◌≤◌}
 use Rattle.drain_grid.specs.Grid.{Grid, Products}
 use Rattle.drain_kernel.specs.Rules.{tried}
 use Rattle.drain_faults.specs.FaultWalks.{IsFoundBefore, OfRowFound}
