@@ -4,12 +4,15 @@
 ghost use Rattle.std.specs.Prelude.{◌≡◌};
 
 use crate::examples::{Part, changed, elevation, products};
+use crate::rows_of_numbers::{COLS, faults_by_rows};
+use crate::unasked_ranks::put;
 use drain_faults::{FaultMap, FaultWalk, RULES, RuleFaults};
 use drain_grid::{Cell, Elevation, OutOfMemory, ProductSet, Rule, Shape, Sinks};
 use drain_rules::{Ranks, RasterRow, Rules};
 use std::alloc::Global;
 use std::process::Abort;
 use std::test::Fail;
+use worked_grids::shafts::Shafts;
 use worked_grids::{slope, voids};
 
 /// A grid and its products.
@@ -115,6 +118,19 @@ fn first_cell(walk: &FaultWalk) -> Option<(u32, u32)> {
     }
 }
 
+/// Looks that the walk found these faults and no others, and this cell first.
+fn expect_found(rt: &impl Abort, walk: &FaultWalk, wanted: &[Told], first: Option<(u32, u32)>) {
+    for rule in RULES {
+        same(
+            rt,
+            rule.name(),
+            found_of(walk, rule),
+            wanted_of(wanted, rule),
+        );
+    }
+    assert_eq!(rt; first_cell(walk), first);
+}
+
 /// Looks that the walk finds these faults and no others, this cell first, and that the map has these numbers.
 fn expect(
     rt: &impl Abort,
@@ -125,15 +141,7 @@ fn expect(
     pixels: &[u8],
 ) -> Result<(), Fail> {
     let walk = walk_over(alloc, example)?;
-    for rule in RULES {
-        same(
-            rt,
-            rule.name(),
-            found_of(&walk, rule),
-            wanted_of(wanted, rule),
-        );
-    }
-    assert_eq!(rt; first_cell(&walk), first);
+    expect_found(rt, &walk, wanted, first);
     let map = map_over(alloc, example)?;
     assert_eq!(rt; map.pixels(), pixels);
     Ok(())
@@ -196,4 +204,26 @@ fn a_number_at_a_void(rt: HostRuntime) -> Result<(), Fail> {
     let wanted = [(Rule::VoidCell, 1, (0, 1))];
     let pixels = [255, 1, 255, 255];
     expect(&rt, rt.alloc(), &voids, &wanted, Some((0, 1)), &pixels)
+}
+
+#[test]
+fn an_outlet_inside_long_rows(rt: HostRuntime) -> Result<(), Fail> {
+    let shafts = Shafts {
+        rows: 3,
+        cols: COLS,
+        listed: &[],
+    };
+    let mut numbers = shafts.numbers(rt.alloc())?;
+    // The cell leads nowhere and no longer north, so the cell there counts too many, and both are outlets of one label. Lanes vouch for the cells beside it.
+    put(&mut numbers, (Part::Dir, (1, 300), 0))?;
+    let wanted = [
+        (Rule::FlatStep, 1, (1, 300)),
+        (Rule::Accumulation, 1, (0, 300)),
+        (Rule::SharedLabel, 1, (1, 300)),
+    ];
+    let laned = faults_by_rows(rt.alloc(), &numbers, true)?;
+    expect_found(&rt, &laned, &wanted, Some((0, 300)));
+    let plain = faults_by_rows(rt.alloc(), &numbers, false)?;
+    expect_found(&rt, &plain, &wanted, Some((0, 300)));
+    Ok(())
 }
