@@ -20,7 +20,7 @@ ghost use Rattle.drain_grid.specs.Rule.{IsFillRule, IsAboveRule, IsLevelRule, Is
 
 pub use below::first_below;
 use drain_grid::{CellValues, Patch, Rule};
-pub use surface::{fault_above_profile2, fault_profile2};
+pub use surface::{fault_above_profile2, fault_profile2, is_unraised_where_open};
 
 /// The first of the six rules that fails at the cell, none where they all hold. A void keeps them all.
 pub fn fault(patch: &Patch) -> Option<Rule>
@@ -55,7 +55,7 @@ pub fn fault_above(patch: &Patch) -> Option<Rule>
 }
 
 /// Whether the cell is not below its ground. A void never is.
-fn is_above_ground(patch: &Patch) -> bool
+pub fn is_above_ground(patch: &Patch) -> bool
     ensures { IsTrue result ↔ BelowGroundHolds patch.now }
 {
     match patch.here.z {
@@ -126,7 +126,7 @@ fn is_after(patch: &Patch, parent: &CellValues) -> bool
 }
 
 /// Whether no neighbour shows a lower way out: only a cell above its ground can have one.
-fn is_least(patch: &Patch, ground: i16) -> bool
+pub fn is_least(patch: &Patch, ground: i16) -> bool
     requires { patch.now.here.z ≡ Some ground }
     ensures { IsTrue result ↔ NotLeastHolds patch.now }
 {

@@ -27,7 +27,8 @@ range_with_len-more a (suc n) =
     let e : a + suc n ≡ a + 1 + n = omega arith in
     rw e (ap (λ xs. a ∷ xs) (range_with_len-more (a + 1) n))
 
-cells_above-more : (g : Grid) (row : ℕ) → cells_above g (row + 1) ≡ cells_above g row ++ row_cells g.extent.cols row
+-- the cells of one row more
+pub cells_above-more : (g : Grid) (row : ℕ) → cells_above g (row + 1) ≡ cells_above g row ++ row_cells g.extent.cols row
 cells_above-more g row =
     let e : 0 + row ≡ row = omega arith in
     let one_more : range_with_len 0 (row + 1) ≡ range_with_len 0 row ++ row ∷ [] = rw add-one (range_with_len-more 0 row ∙ ap (λ n. range_with_len 0 row ++ n ∷ []) e) in

@@ -53,7 +53,7 @@ kept_holds profile labels p kept SharedLabel own = λ outlet. absurd (kept.no_ou
 kept_holds profile labels p kept r own = kept.holds r (omega arith, omega arith)
 
 -- and it has no label to admit
-no_label : (profile : Profile) (labels : List (ℕ × ℕ)) (p : Patch) → IsKept profile p → (label : ℤ) →
+pub no_label : (profile : Profile) (labels : List (ℕ × ℕ)) (p : Patch) → IsKept profile p → (label : ℤ) →
     IsAdmitted labels label ↔ (IsLabelOf p.here label ⊎ IsAdmitted labels label)
 no_label profile labels p kept label = (
   (λ admitted. inr admitted),

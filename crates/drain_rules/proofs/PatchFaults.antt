@@ -16,12 +16,12 @@ use Rattle.drain_kernel.specs.Rules.{rules_with, tried}
 use Rattle.drain_rules.proofs.Faults.{IsLeastFault-same}
 
 -- a rule on the conditioned elevation says what it says among those that are tried
-surface_with : (ranks : Ranks) (nodata : NoDataNumbers) (p : Patch) (r : Rule) → IsFillRule r → surface_rules p r ↔ rules_with ranks nodata p r
+pub surface_with : (ranks : Ranks) (nodata : NoDataNumbers) (p : Patch) (r : Rule) → IsFillRule r → surface_rules p r ↔ rules_with ranks nodata p r
 surface_with Asked nodata p r own = surface_same nodata p r own
 surface_with Unasked nodata p r own = surface_same_unranked nodata p r own
 
 -- and so does one on where water goes that isn't the one on flats
-flow_with : (ranks : Ranks) (nodata : NoDataNumbers) (p : Patch) (r : Rule) → IsFlowRule r → number_of r ≢ number_of FlatStep →
+pub flow_with : (ranks : Ranks) (nodata : NoDataNumbers) (p : Patch) (r : Rule) → IsFlowRule r → number_of r ≢ number_of FlatStep →
     flow_rules p r ↔ rules_with ranks nodata p r
 flow_with Asked nodata p r own other = flow_same nodata p r own
 flow_with Unasked nodata p r own other =

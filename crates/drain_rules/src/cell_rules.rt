@@ -48,7 +48,7 @@ pub fn check_cell(
 }
 
 /// Admits the label of an outlet, and answers whether it is new. Another cell has no label to admit, and none that is known.
-fn admits_label(labels: &mut OutletLabels, here: &CellValues) -> Result<bool, OutOfMemory>
+pub fn admits_label(labels: &mut OutletLabels, here: &CellValues) -> Result<bool, OutOfMemory>
     ensures is_new { IfOk result (λ is_new. IsTrue is_new ↔ (IsOutletByCode here.now → ¬ IsAdmitted labels.old here.now.bas)) }
     ensures labels { OnOk result ((label : ℤ) → IsAdmitted labels.new label ↔ (IsLabelOf here.now label ⊎ IsAdmitted labels.old label)) }
     ensures err { OnErr result (IsOutletByCode here.now × ¬ IsAdmitted labels.old here.now.bas) }

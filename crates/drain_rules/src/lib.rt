@@ -34,7 +34,7 @@ pub use grid_walk::GridWalk;
 pub use kept::Kept;
 pub use patch_row::PatchRow;
 pub use patch_rules::patch_fault;
-pub use raster_walk::verdict_of;
+pub use raster_walk::{RasterRow, verdict_of};
 pub use row_view::RowView;
 pub use three_rows::ThreeRows;
 pub use verdict::{Counts, Verdict};

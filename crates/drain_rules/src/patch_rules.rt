@@ -41,7 +41,7 @@ pub fn screened_fault(patch: &Patch, rules: &Rules, is_above: bool) -> Option<Ru
 }
 
 /// The first of the rules on which numbers are there that fails at the cell, none where they all hold.
-fn presence_fault(patch: &Patch, rules: &Rules) -> Option<Rule>
+pub fn presence_fault(patch: &Patch, rules: &Rules) -> Option<Rule>
     ensures least { IsLeastFault IsPresenceRule (tried rules.now patch.now) result }
 {
     match rules.ranks {
@@ -51,7 +51,7 @@ fn presence_fault(patch: &Patch, rules: &Rules) -> Option<Rule>
 }
 
 /// FlatStep where it fails at the cell, none where it holds.
-fn flat_fault(patch: &Patch, rules: &Rules) -> Option<Rule>
+pub fn flat_fault(patch: &Patch, rules: &Rules) -> Option<Rule>
     ensures least { IsLeastFault (IsOnly Rule.FlatStep) (tried rules.now patch.now) result }
 {
     match rules.ranks {

@@ -68,11 +68,11 @@ fn walk(
 
 /// A row of a grid's rasters.
 #[derive(Clone, Copy)]
-struct RasterRow<'a> {
-    elevation: &'a Elevation,
-    sinks: &'a Sinks,
-    products: &'a ProductSet,
-    row: u32,
+pub struct RasterRow<'a> {
+    pub elevation: &'a Elevation,
+    pub sinks: &'a Sinks,
+    pub products: &'a ProductSet,
+    pub row: u32,
     ghost same_shape: { elevation.now.extent ≡ products.now.con.extent },
     ghost inside: { row < elevation.now.extent.rows },
 }

@@ -47,7 +47,7 @@ fn raster(alloc: Global, shape: Shape, nodata: i64, numbers: &[i64]) -> Result<R
 }
 
 /// The elevations of the numbers; -32768 is a void.
-fn elevation(alloc: Global, shape: Shape, numbers: &[i64]) -> Result<Elevation, Fail>
+pub fn elevation(alloc: Global, shape: Shape, numbers: &[i64]) -> Result<Elevation, Fail>
     ensures { IfOk result (λ elevation. elevation.extent ≡ shape) }
 {
     let mut samples = Vec::new(alloc);
@@ -61,7 +61,7 @@ fn elevation(alloc: Global, shape: Shape, numbers: &[i64]) -> Result<Elevation, 
 }
 
 /// The products of an example: five rasters whose numbers stand one after the other. The number for no data of con is given; the others are the defaults.
-fn products(
+pub fn products(
     alloc: Global,
     shape: Shape,
     con_nodata: i16,

@@ -1,4 +1,4 @@
-//! The verdict on three rows of 600 columns, gone over by rows: with lanes of their numbers, and without.
+//! The verdict on three rows of 600 columns, gone over by rows, and their faults: with lanes of their numbers, and without.
 
 ghost use Rattle.std.specs.Prelude.{◌≡◌, ◌↔◌, ◌<◌, ◌+◌, IsTrue, OnOk, length};
 ghost use Rattle.std.specs.List.{All};
@@ -8,6 +8,7 @@ ghost use Rattle.drain_grid.specs.Values.{IsPixel};
 ghost use Rattle.drain_rules.specs.RowNumbers.{AreRowNumbers};
 
 use crate::examples::{Part, is_pixel};
+use drain_faults::FaultWalk;
 use drain_grid::{NoData, PerProduct, Shape, Sinks, parse_sinks};
 use drain_kernel::Lanes;
 use drain_rules::{GridWalk, Kept, PatchRow, Ranks, RowView, Rules, ThreeRows, Verdict};
@@ -193,6 +194,32 @@ fn verdict_of(alloc: Global, given: Given<'_>) -> Result<Verdict, Fail> {
     check_row(&mut walk, given, 1, &mut room)?;
     check_row(&mut walk, given, 2, &mut room)?;
     Ok(walk.verdict(shape))
+}
+
+/// Looks for faults in the next row.
+fn note_row(walk: &mut FaultWalk, given: Given<'_>, row: u8, room: &mut Room) -> Result<(), Fail>
+    requires { walk.old.rows < 3 }
+    ensures { OnOk result (walk.new.rows ≡ walk.old.rows + 1) }
+{
+    let rows = three_rows(given, row, room).ok_or("rows of numbers")?;
+    Ok(walk.note_row(&rows, &rules_with(given.ranks))?)
+}
+
+/// The faults of the numbers of the six parts, where ranks are asked for, with lanes or without.
+pub fn faults_by_rows(alloc: Global, numbers: &[i64], is_laned: bool) -> Result<FaultWalk, Fail> {
+    let marks = marks_of(&Sinks::none(alloc));
+    let given = Given {
+        numbers,
+        marks: &marks,
+        ranks: Ranks::Asked,
+        is_laned,
+    };
+    let mut room = Room::new(alloc);
+    let mut walk = FaultWalk::new(alloc);
+    note_row(&mut walk, given, 0, &mut room)?;
+    note_row(&mut walk, given, 1, &mut room)?;
+    note_row(&mut walk, given, 2, &mut room)?;
+    Ok(walk)
 }
 
 /// The cells of a row for which lanes vouch from a column on.

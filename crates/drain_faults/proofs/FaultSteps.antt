@@ -1,0 +1,125 @@
+-- What was found, with one cell more or a run of cells that a row vouches for; and from row to row.
+use Rattle.std.proofs.Common.{◌≡◌, ℕ, zero, suc, ◌+◌, ◌-◌, ◌<◌, ◌≤◌, refl, sym, ◌∙◌, ap, subst, arith}
+use Rattle.drain_basin.specs.Admitted.{IsAdmitted}
+use Rattle.drain_grid.specs.declared.cell.Cell.{Cell}
+use Rattle.drain_grid.specs.declared.patch.Patch.{Patch}
+use Rattle.drain_grid.specs.declared.rule.Rule.{Rule}
+use Rattle.drain_grid.specs.declared.rule.Rule.TheVariants.{SharedLabel}
+use Rattle.drain_grid.specs.Grid.{Grid, Products, IsInside, patch_at, values_at}
+use Rattle.drain_grid.specs.GridRules.{HoldsAt}
+use Rattle.drain_grid.specs.PatchRules.{Profile}
+use Rattle.drain_kernel.specs.Kept.{IsKept}
+use Rattle.drain_rules.specs.Labels.{IsOutletByCode, labelled_profile}
+use Rattle.drain_rules.specs.PatchRows.{AreRowPatches}
+use Rattle.drain_rules.specs.Rows.{place}
+use Rattle.drain_rules.proofs.Faults.{labelled-HoldsAt}
+use Rattle.drain_rules.proofs.KeptCells.{no_label}
+use Rattle.drain_rules.proofs.LabelsBefore.{AreLabelsBefore-more, AreLabelsBefore-row}
+use Rattle.drain_faults.specs.declared.found.Found.{Found}
+use Rattle.drain_faults.specs.CellFaults.{IsNoted}
+use Rattle.drain_faults.specs.Faults.{AreCellsWithout, IsFirstPatch}
+use Rattle.drain_faults.specs.FaultWalks.{IsFoundAbove, IsFoundBefore, IsNewOutletAt, cells_before}
+use Rattle.drain_faults.specs.PerRule.{of_rule}
+use Rattle.drain_faults.proofs.CellsBefore.{cells_before-all, cells_before-few, cells_before-more, cells_before-none}
+use Rattle.drain_faults.proofs.FirstPatches.{first_noted_same, patch_noted, patch_past}
+use Rattle.drain_faults.proofs.Flags.{noted_same}
+use Rattle.drain_faults.proofs.NumbersWithout.{holding_more, noted_more}
+
+-- every rule holds at a cell that is vouched for
+pub kept_holds : (profile : Profile) (g : Grid) (ps : Products) (c : Cell) → IsKept profile (patch_at g ps c) → (r : Rule) → HoldsAt profile g ps c r
+kept_holds profile g ps c kept SharedLabel = λ here code. absurd (kept.no_outlet code)
+kept_holds profile g ps c kept r = kept.holds r (omega arith, omega arith)
+
+module _ (profile : Profile) (g : Grid) (ps : Products) (row cols : ℕ) (shown : ℕ → Patch) (are : AreRowPatches g ps row cols shown) where
+  pub inside_row : (col : ℕ) → col < cols → IsInside g (place row col)
+  inside_row col less = record { row = are.inside; col = omega (arith, less, are.cols_are) }
+
+  -- above a row is before its first place
+  pub found_begins : (found : Found) → IsFoundAbove profile g ps row found → IsFoundBefore profile g ps row 0 found
+  found_begins found above = record {
+    faults = λ r. subst (λ cs. AreCellsWithout (λ c. HoldsAt profile g ps c r) cs (of_rule found.by_rule r)) (sym (cells_before-none g row)) (above.faults r);
+    first_patch = subst (λ cs. IsFirstPatch profile g ps cs found.first) (sym (cells_before-none g row)) above.first_patch;
+    before = above.before;
+  }
+
+  -- before its end is above the next row
+  pub found_ends : (found : Found) (col : ℕ) → col ≡ cols → IsFoundBefore profile g ps row col found → IsFoundAbove profile g ps (row + 1) found
+  found_ends found col last so_far =
+      let whole : IsFoundBefore profile g ps row g.extent.cols found = subst (λ n. IsFoundBefore profile g ps row n found) (last ∙ are.cols_are) so_far in
+      record {
+        faults = λ r. subst (λ cs. AreCellsWithout (λ c. HoldsAt profile g ps c r) cs (of_rule found.by_rule r)) (cells_before-all g row) (whole.faults r);
+        first_patch = subst (λ cs. IsFirstPatch profile g ps cs found.first) (cells_before-all g row) whole.first_patch;
+        before = AreLabelsBefore-row g ps row found.labels whole.before;
+      }
+
+  -- one cell more that is vouched for
+  kept_one : (found : Found) (col : ℕ) → col < cols → IsKept profile (shown col) → IsFoundBefore profile g ps row col found →
+      IsFoundBefore profile g ps row (col + 1) found
+  kept_one found col less kept so_far =
+      let at : IsKept profile (patch_at g ps (place row col)) = subst (IsKept profile) (are.patches_are col less) kept in
+      record {
+        faults = λ r. subst (λ cs. AreCellsWithout (λ c. HoldsAt profile g ps c r) cs (of_rule found.by_rule r)) (sym (cells_before-more g row col))
+            (holding_more (λ c. HoldsAt profile g ps c r) (cells_before g row col) (place row col) (of_rule found.by_rule r)
+            (kept_holds profile g ps (place row col) at r) (so_far.faults r));
+        first_patch = subst (λ cs. IsFirstPatch profile g ps cs found.first) (sym (cells_before-more g row col))
+            (patch_past profile g ps (cells_before g row col) (place row col) found.first (kept_holds profile g ps (place row col) at) so_far.first_patch);
+        before = AreLabelsBefore-more g ps row col (values_at g ps (place row col)) found.labels found.labels (inside_row col less) refl so_far.before
+            (no_label profile found.labels (patch_at g ps (place row col)) at);
+      }
+
+  kept_some : (found : Found) (from n : ℕ) → from + n ≤ cols → ((col : ℕ) → from ≤ col → col < from + n → IsKept profile (shown col)) →
+      IsFoundBefore profile g ps row from found → IsFoundBefore profile g ps row (from + n) found
+  kept_some found from zero within kept so_far =
+      let here : from + 0 ≡ from = omega arith in
+      subst (λ col. IsFoundBefore profile g ps row col found) (sym here) so_far
+  kept_some found from (suc n) within kept so_far =
+      let before = kept_some found from n (omega (arith, within)) (λ col past less. kept col past (omega (arith, less))) so_far in
+      let next : from + n + 1 ≡ from + suc n = omega arith in
+      subst (λ col. IsFoundBefore profile g ps row col found) next (kept_one found (from + n) (omega (arith, within)) (kept (from + n) (omega arith) (omega arith)) before)
+
+  -- the cells that a row vouches for
+  pub found_kept : (found : Found) (from end : ℕ) → from ≤ end → end ≤ cols → ((col : ℕ) → from ≤ col → col < end → IsKept profile (shown col)) →
+      IsFoundBefore profile g ps row from found → IsFoundBefore profile g ps row end found
+  found_kept found from end forward within kept so_far =
+      let up_to : from + (end - from) ≡ end = omega arith in
+      subst (λ col. IsFoundBefore profile g ps row col found) up_to
+      (kept_some found from (end - from) (omega (arith, within)) (λ col past less. kept col past (omega (arith, less))) so_far)
+
+  -- one cell more that was noted
+  pub found_noted : (old new : Found) (col : ℕ) (p : Patch) → row < 28801 → cols ≤ 28801 → col < cols → p ≡ shown col →
+      IsNoted profile (place row col) p old new → IsFoundBefore profile g ps row col old →
+      IsFoundBefore profile g ps row (col + 1) new
+  found_noted old new col p few narrow less is noted so_far =
+      let inside = inside_row col less in
+      let cell = place row col in
+      let same : p ≡ patch_at g ps cell = is ∙ are.patches_are col less in
+      let here = ap (λ (q : Patch). q.here) same in
+      let at : IsNoted profile cell (patch_at g ps cell) old new =
+      subst (λ q. IsNoted profile cell q old new) same noted in
+      record {
+        faults = λ r. subst (λ cs. AreCellsWithout (λ c. HoldsAt profile g ps c r) cs (of_rule new.by_rule r)) (sym (cells_before-more g row col))
+            (noted_more (λ c. HoldsAt profile g ps c r) (cells_before g row col) cell (of_rule old.by_rule r) (of_rule new.by_rule r)
+            (cells_before-few g row col few (omega (arith, narrow, are.cols_are)) inside.col)
+            (noted_same (labelled_profile profile old.labels (patch_at g ps cell) r) (HoldsAt profile g ps cell r) cell (of_rule old.by_rule r) (of_rule new.by_rule r)
+            (labelled-HoldsAt profile g ps old.labels cell r inside so_far.before) (at.each r)) (so_far.faults r));
+        first_patch = subst (λ cs. IsFirstPatch profile g ps cs new.first) (sym (cells_before-more g row col))
+            (patch_noted profile g ps (cells_before g row col) cell (patch_at g ps cell) old.first new.first refl
+            (first_noted_same (labelled_profile profile old.labels (patch_at g ps cell)) (HoldsAt profile g ps cell) cell (patch_at g ps cell) old.first new.first
+            (λ r. labelled-HoldsAt profile g ps old.labels cell r inside so_far.before) at.first_is) so_far.first_patch);
+        before = AreLabelsBefore-more g ps row col p.here old.labels new.labels inside here so_far.before noted.admitted;
+      }
+
+  -- where a label found no room it is a new one
+  pub found_new : (found : Found) (col : ℕ) (p : Patch) → col < cols → p ≡ shown col → IsFoundBefore profile g ps row col found →
+      IsOutletByCode p.here × ¬ IsAdmitted found.labels p.here.bas → IsNewOutletAt g ps (place row col)
+  found_new found col p less is so_far want =
+      let inside = inside_row col less in
+      let cell = place row col in
+      let same : p ≡ patch_at g ps cell = is ∙ are.patches_are col less in
+      let at : IsOutletByCode (values_at g ps cell) × ¬ IsAdmitted found.labels (ps.bas cell) =
+      subst (λ (q : Patch). IsOutletByCode q.here × ¬ IsAdmitted found.labels q.here.bas) same want in
+      record {
+        has_data = record { inside = inside; is_data = at.0.has_data };
+        code = at.0.code;
+        is_new = (labelled-HoldsAt profile g ps found.labels cell SharedLabel inside so_far.before).0 (λ outlet. at.1);
+      }

@@ -1,0 +1,53 @@
+-- What tests and least faults tell of whether a rule fails.
+use Rattle.std.proofs.Common.{◌≡◌, ◌↔◌, ◌<◌, Bool, true, false, not, IsTrue, Option, Some, None, inl, inr, refl, sym, ap, subst, arith}
+use Rattle.std.proofs.lemmas.Bool.{false≢true, true≢false, cases_lt}
+use Rattle.drain_grid.specs.declared.cell.Cell.{Cell}
+use Rattle.drain_grid.specs.declared.rule.Rule.{Rule}
+use Rattle.drain_grid.specs.Rule.{number_of, IsLeastFault}
+use Rattle.drain_grid.proofs.RuleNumbers.{same_rule}
+use Rattle.drain_faults.specs.declared.rule_faults.RuleFaults.{RuleFaults}
+use Rattle.drain_faults.specs.CellFaults.{IsNotedAt, IsWith}
+use Rattle.drain_faults.specs.Flags.{TellsFault}
+
+-- a test that a rule holds tells, turned round, whether it fails
+pub tells_not : (b : Bool) (P : Type 0) → IsTrue b ↔ P → TellsFault (not b) P
+tells_not true P test = test.0 refl
+tells_not false P test = λ holds. false≢true (test.1 holds)
+
+-- what tells it of a fact tells it of one that holds alike
+pub tells_same : (b : Bool) (P Q : Type 0) → P ↔ Q → TellsFault b P → TellsFault b Q
+tells_same true P Q same fails = λ holds. fails (same.1 holds)
+tells_same false P Q same holds = same.0 holds
+
+-- so it isn't set exactly where the fact holds
+pub tells_iff : (b : Bool) (P : Type 0) → TellsFault b P → (b ≡ false) ↔ P
+tells_iff true P fails = (λ e. absurd (true≢false e), λ holds. absurd (fails holds))
+tells_iff false P holds = (λ e. holds, λ h. refl)
+
+-- whether the least fault is this rule tells whether it fails, where no lesser one's fault hides that it fails
+pub tells_least : (IsOwn P : Rule → Type 0) (r : Rule) (o : Option Rule) (b : Bool) → IsOwn r →
+    ((q : Rule) → IsOwn q → number_of q < number_of r → ¬ P q → P r) → IsLeastFault IsOwn P o → IsTrue b ↔ (o ≡ Some r) → TellsFault b (P r)
+tells_least IsOwn P r None true own hides least test = absurd (let is : None ≡ Some r = test.0 refl in cc)
+tells_least IsOwn P r (Some q) true own hides least test =
+    let is : Some q ≡ Some r = test.0 refl in
+    let same : q ≡ r = cc in
+    λ holds. least.1 (subst P (sym same) holds)
+tells_least IsOwn P r None false own hides least test = least r own
+tells_least IsOwn P r (Some q) false own hides least test =
+    elim (cases_lt (number_of q) (number_of r)) [
+      | inl below ↦ hides q least.0 below least.1
+      | inr above ↦ elim (cases_lt (number_of r) (number_of q)) [
+        | inl later ↦ least.2 r own later
+        | inr not_later ↦ absurd (false≢true (test.1 (ap Some (same_rule q r (omega (arith, above, not_later))))))
+      ]
+    ]
+
+-- a cell is noted as its flag tells
+pub noted_by : (b : Bool) (P : Type 0) (cell : Cell) (old new : RuleFaults) → TellsFault b P → IsWith cell b old new → IsNotedAt P cell old new
+noted_by true P cell old new tells with = inr (tells, with)
+noted_by false P cell old new tells with = inl (tells, with)
+
+-- and alike of a fact that holds alike
+pub noted_same : (P Q : Type 0) (cell : Cell) (old new : RuleFaults) → P ↔ Q → IsNotedAt P cell old new → IsNotedAt Q cell old new
+noted_same P Q cell old new same (inl holds) = inl (same.0 holds.0, holds.1)
+noted_same P Q cell old new same (inr fails) = inr ((λ holds. fails.0 (same.1 holds)), fails.1)

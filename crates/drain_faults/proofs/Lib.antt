@@ -1,0 +1,9 @@
+pub mod ByRule
+pub mod CellsBefore
+pub mod FaultSteps
+pub mod FirstPatches
+pub mod Flags
+pub mod MapSteps
+pub mod NumbersWithout
+pub mod PatchFlags
+pub mod RulePlaces

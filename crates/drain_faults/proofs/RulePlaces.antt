@@ -1,0 +1,19 @@
+-- The rules by their places in their order: a search that has passed a place has passed each lesser rule.
+use Rattle.std.proofs.Common.{◌≡◌, ℕ, ◌+◌, ◌-◌, ◌<◌, get_or, refl, subst}
+use Rattle.drain_grid.specs.declared.rule.Rule.{Rule}
+use Rattle.drain_grid.specs.declared.rule.Rule.TheVariants.{VoidCell}
+use Rattle.drain_grid.specs.Rule.{number_of}
+use Rattle.drain_grid.proofs.Decisions.{each_below, same_number}
+use Rattle.drain_grid.proofs.RuleNumbers.{numbered, rules}
+
+-- what stands at a place has the number after it
+pub place_at : (k : ℕ) → k < 15 → number_of (get_or rules k VoidCell) ≡ k + 1
+place_at = (each_below (λ k. same_number (number_of (get_or rules k VoidCell)) (k + 1)) 15).sound refl
+
+-- what holds at each place below one holds of each rule before it
+pub of_lesser : (P : Rule → Type 0) (i : ℕ) → ((k : ℕ) → k < i → P (get_or rules k VoidCell)) → (q : Rule) → number_of q - 1 < i → P q
+of_lesser P i h q before = subst P (numbered q).0 (h (number_of q - 1) before)
+
+-- and past the last place, of each rule
+pub of_each : (P : Rule → Type 0) → ((k : ℕ) → k < 15 → P (get_or rules k VoidCell)) → (q : Rule) → P q
+of_each P h q = of_lesser P 15 h q (numbered q).1

@@ -1,0 +1,52 @@
+use Rattle.std.proofs.Common.{arith}
+use Rattle.drain_kernel.specs.Rules.{tried}
+use Rattle.drain_rules.specs.Rows.{place}
+use Rattle.drain_faults.proofs.FaultSteps.{found_begins, found_ends, found_kept, found_new, found_noted}
+use Rattle.drain_faults.proofs.row_faults.note_row_of.Goals as goal
+
+pub loop-col-init : goal.loop-col-init
+loop-col-init g c = record {
+  within = omega arith;
+  found = λ grid ps are above.
+      found_begins (tried c.args.rules.now) grid ps c.args.row (g.R.PatchRow.len c.args.patches.now) (g.R.PatchRow.shown c.args.patches.now) are c.args.found.now above;
+}
+
+-- the cells that are vouched for, up to the end of the row
+pub loop-col-preserved : goal.loop-col-preserved
+loop-col-preserved g c =
+    let kept = c.kept_from-kept.ensures in
+    record {
+      within = kept.within;
+      found = λ grid ps are above.
+          found_kept (tried c.args.rules.now) grid ps c.args.row (g.R.PatchRow.len c.args.patches.now) (g.R.PatchRow.shown c.args.patches.now) are c.loop-col.found
+          c.loop-col.col c.kept_from-kept.result.end kept.forward kept.within kept.kept (c.loop-col.invariant.found grid ps are above);
+    }
+
+-- and the one behind them
+pub loop-col-preserved-then-col-cols : goal.loop-col-preserved-then-col-cols
+loop-col-preserved-then-col-cols g c =
+    let kept = c.kept_from-kept.ensures in
+    record {
+      within = omega (arith, c.if-col-cols.true, c.cols-cols.ensures.count);
+      found = λ grid ps are above.
+          found_noted (tried c.args.rules.now) grid ps c.args.row (g.R.PatchRow.len c.args.patches.now) (g.R.PatchRow.shown c.args.patches.now) are c.loop-col.found
+          c.note.new.self c.kept_from-kept.result.end c.patch-patch.result c.requires (omega (arith, c.cols-cols.ensures.count, c.cols-cols.ensures.narrow))
+          (omega (arith, c.if-col-cols.true, c.cols-cols.ensures.count)) c.patch-patch.ensures c.in-Ok.ensures.noted
+          (found_kept (tried c.args.rules.now) grid ps c.args.row (g.R.PatchRow.len c.args.patches.now) (g.R.PatchRow.shown c.args.patches.now) are c.loop-col.found
+          c.loop-col.col c.kept_from-kept.result.end kept.forward kept.within kept.kept (c.loop-col.invariant.found grid ps are above));
+    }
+
+pub returns-in-Err-clause-err : goal.returns-in-Err-clause-err
+returns-in-Err-clause-err g c = λ grid ps are above.
+    let kept = c.kept_from-kept.ensures in (
+      place c.args.row c.kept_from-kept.result.end,
+      found_new (tried c.args.rules.now) grid ps c.args.row (g.R.PatchRow.len c.args.patches.now) (g.R.PatchRow.shown c.args.patches.now) are c.loop-col.found
+          c.kept_from-kept.result.end c.patch-patch.result (omega (arith, c.if-col-cols.true, c.cols-cols.ensures.count)) c.patch-patch.ensures
+          (found_kept (tried c.args.rules.now) grid ps c.args.row (g.R.PatchRow.len c.args.patches.now) (g.R.PatchRow.shown c.args.patches.now) are c.loop-col.found
+          c.loop-col.col c.kept_from-kept.result.end kept.forward kept.within kept.kept (c.loop-col.invariant.found grid ps are above)) c.in-Err.ensures.err,
+    )
+
+pub returns-clause-found : goal.returns-clause-found
+returns-clause-found g c = λ grid ps are above.
+    found_ends (tried c.args.rules.now) grid ps c.args.row (g.R.PatchRow.len c.args.patches.now) (g.R.PatchRow.shown c.args.patches.now) are c.loop-col.found
+    c.loop-col.col (omega (arith, c.loop-col-test.false, c.loop-col.invariant.within, c.cols-cols.ensures.count)) (c.loop-col.invariant.found grid ps are above)

@@ -1,0 +1,16 @@
+use Rattle.std.proofs.Common.{◌-◌, ◌≤◌}
+use Rattle.drain_grid.specs.Grid.{Grid, Products}
+use Rattle.drain_kernel.specs.Rules.{tried}
+use Rattle.drain_faults.specs.FaultWalks.{IsFoundBefore, OfRowFound}
+use Rattle.drain_faults.proofs.row_faults.note_row_of.Given as goal
+
+-- what was found is right of the cells that were passed
+abbrev pub invariant-loop-col : goal.invariant-loop-col
+invariant-loop-col g l = record {
+  within : l.col ≤ g.R.PatchRow.len l.patches;
+  found : OfRowFound (tried l.rules) l.row (g.R.PatchRow.len l.patches) (g.R.PatchRow.shown l.patches) l.fn.found
+      (λ (grid : Grid) (ps : Products). IsFoundBefore (tried l.rules) grid ps l.row l.col l.found);
+}
+
+abbrev pub decreases-loop-col : goal.decreases-loop-col
+decreases-loop-col g l = g.R.PatchRow.len l.patches - l.col

@@ -1,0 +1,38 @@
+-- What one cell more adds to what was found.
+use Rattle.std.specs.Prelude.{◌≡◌, ◌+◌, ◌^◌, ◌<◌, ℤ, ◌↔◌, ◌⊎◌, Bool, true, false, Option, Some, None, unwrap_or}
+use Rattle.drain_basin.specs.Admitted.{IsAdmitted}
+use Rattle.drain_grid.specs.declared.cell.Cell.{Cell}
+use Rattle.drain_grid.specs.declared.patch.Patch.{Patch}
+use Rattle.drain_grid.specs.declared.rule.Rule.{Rule}
+use Rattle.drain_grid.specs.PatchRules.{Profile}
+use Rattle.drain_rules.specs.Labels.{IsLabelOf, labelled_profile}
+use Rattle.drain_faults.specs.declared.faulty_patch.FaultyPatch.{FaultyPatch}
+use Rattle.drain_faults.specs.declared.found.Found.{Found}
+use Rattle.drain_faults.specs.declared.rule_faults.RuleFaults.{RuleFaults}
+use Rattle.drain_faults.specs.PerRule.{of_rule}
+
+-- the cell is counted, where the count fits 32 bits, and is the first where there was none
+pub record IsWithFault (cell : Cell) (old new : RuleFaults) : Type 0 where
+  pub counted : old.cells + 1 < 2 ^ 32 → new.cells ≡ old.cells + 1
+  pub first_is : new.first ≡ Some (unwrap_or old.first cell)
+
+-- it is where the rule fails there, else nothing is changed
+abbrev pub IsWith : Cell → Bool → RuleFaults → RuleFaults → Type 0
+IsWith cell true old new = IsWithFault cell old new
+IsWith cell false old new = new ≡ old
+
+-- the fact holds at the cell, and nothing is changed; or it doesn't, and the cell is counted
+abbrev pub IsNotedAt : Type 0 → Cell → RuleFaults → RuleFaults → Type 0
+IsNotedAt P cell old new = (P × (new ≡ old)) ⊎ (¬ P × IsWithFault cell old new)
+
+-- the first cell so far at which a fact doesn't hold stays; where there is none it is this cell with its patch, if one of these facts doesn't hold here
+abbrev pub IsFirstNoted : (Rule → Type 0) → Cell → Patch → Option FaultyPatch → Option FaultyPatch → Type 0
+IsFirstNoted P cell p (Some first) new = new ≡ Some first
+IsFirstNoted P cell p None new =
+    (((r : Rule) → P r) × (new ≡ None)) ⊎ (((r : Rule) × ¬ P r) × (new ≡ Some (record { cell = cell; patch = p })))
+
+-- each rule is noted at the cell that shows this patch, SharedLabel by the labels so far; to these the cell's is added if it is an outlet by its code
+pub record IsNoted (profile : Profile) (cell : Cell) (p : Patch) (old new : Found) : Type 0 where
+  pub each : (r : Rule) → IsNotedAt (labelled_profile profile old.labels p r) cell (of_rule old.by_rule r) (of_rule new.by_rule r)
+  pub first_is : IsFirstNoted (labelled_profile profile old.labels p) cell p old.first new.first
+  pub admitted : (label : ℤ) → IsAdmitted new.labels label ↔ (IsLabelOf p.here label ⊎ IsAdmitted old.labels label)

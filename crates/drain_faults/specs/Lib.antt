@@ -1,0 +1,6 @@
+pub mod CellFaults
+pub mod FaultMaps
+pub mod FaultWalks
+pub mod Faults
+pub mod Flags
+pub mod PerRule

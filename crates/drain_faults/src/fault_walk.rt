@@ -1,0 +1,91 @@
+//! The walk over a grid, row by row.
+
+ghost use Rattle.std.specs.Prelude.{◌≡◌, ◌<◌, ◌+◌, OnErr, OnOk};
+ghost use Rattle.drain_grid.specs.declared.cell.TheConstants.{MAX_LENGTH};
+ghost use Rattle.drain_grid.specs.Grid.{Grid, Products};
+ghost use Rattle.drain_kernel.specs.declared.rules.Rules.{Rules};
+ghost use Rattle.drain_kernel.specs.Rules.{tried};
+ghost use Rattle.drain_rules.specs.Findings.{cells_above};
+ghost use Rattle.drain_faults.specs.Faults.{AreFaultsOf, IsFirstPatch};
+ghost use Rattle.drain_faults.specs.FaultWalks.{HasNewOutlet, IsRightOf, OfNextRow};
+
+use crate::faulty_patch::FaultyPatch;
+use crate::found::Found;
+use crate::per_rule::PerRule;
+use crate::row_faults::note_row_of;
+use crate::rule_faults::RuleFaults;
+use drain_basin::OutletLabels;
+use drain_grid::OutOfMemory;
+use drain_kernel::Rules;
+use drain_rules::PatchRow;
+use std::alloc::Global;
+
+/// How many rows were passed, and what their cells came to.
+#[derive(Drop)]
+pub struct FaultWalk {
+    rows: u32,
+    found: Found,
+}
+
+impl FaultWalk {
+    /// No row was passed. This takes no memory.
+    pub fn new(alloc: Global) -> FaultWalk
+        ensures rows { result.rows ≡ 0 }
+        ensures found { (rules : Rules) (g : Grid) (ps : Products) → IsRightOf (tried rules) g ps result }
+    {
+        FaultWalk {
+            rows: 0,
+            found: Found {
+                labels: OutletLabels::new(alloc),
+                by_rule: PerRule::same(RuleFaults::none()),
+                first: None,
+            },
+        }
+    }
+
+    /// Passes the next row. What was found is right of these rules where the rows above were passed with them too.
+    ///
+    /// `OutOfMemory` comes only at a data cell with code 0 whose label no earlier one has: it found no room. Then the walk is over.
+    pub fn note_row<R: PatchRow>(&mut self, patches: &R, rules: &Rules) -> Result<(), OutOfMemory>
+        requires row { self.old.rows < MAX_LENGTH }
+        ensures rows { OnOk result (self.new.rows ≡ self.old.rows + 1) }
+        ensures found { OnOk result (OfNextRow (tried rules.now) self.old (R.len patches.now) (R.shown patches.now) (λ g ps. IsRightOf (tried rules.now) g ps self.new)) }
+        ensures err { OnErr result (OfNextRow (tried rules.now) self.old (R.len patches.now) (R.shown patches.now) HasNewOutlet) }
+    {
+        match note_row_of(&mut self.found, self.rows, patches, rules) {
+            Ok(()) => {
+                self.rows += 1;
+                Ok(())
+            }
+            Err(OutOfMemory) => Err(OutOfMemory),
+        }
+    }
+
+    /// How many rows were passed.
+    pub fn rows(&self) -> u32
+        ensures { result ≡ self.now.rows }
+    {
+        self.rows
+    }
+
+    /// For each rule at how many cells of these rows it fails, and at which first: of every grid and its products of which the walk is right.
+    pub fn faults(&self) -> &PerRule<RuleFaults>
+        ensures of_grids { (rules : Rules) (g : Grid) (ps : Products) → IsRightOf (tried rules) g ps self.now → AreFaultsOf (tried rules) g ps (cells_above g self.now.rows) result.now }
+    {
+        &self.found.by_rule
+    }
+
+    /// The same, for whoever needs the walk no more.
+    pub fn into_faults(self) -> PerRule<RuleFaults>
+        ensures of_grids { (rules : Rules) (g : Grid) (ps : Products) → IsRightOf (tried rules) g ps self → AreFaultsOf (tried rules) g ps (cells_above g self.rows) result }
+    {
+        self.found.by_rule
+    }
+
+    /// The first cell of these rows at which any rule fails, and its patch; none where every rule holds at each of them. The same grids are meant.
+    pub fn first_patch(&self) -> Option<FaultyPatch>
+        ensures of_grids { (rules : Rules) (g : Grid) (ps : Products) → IsRightOf (tried rules) g ps self.now → IsFirstPatch (tried rules) g ps (cells_above g self.now.rows) result }
+    {
+        self.found.first
+    }
+}

@@ -1,0 +1,45 @@
+//! What the cells that were passed came to.
+
+ghost use Rattle.std.specs.Prelude.{OnErr, OnOk};
+ghost use Rattle.drain_basin.specs.Admitted.{IsAdmitted};
+ghost use Rattle.drain_kernel.specs.Rules.{tried};
+ghost use Rattle.drain_rules.specs.Labels.{IsOutletByCode};
+ghost use Rattle.drain_faults.specs.CellFaults.{IsNoted};
+
+use crate::cell_faults::cell_faults;
+use crate::faulty_patch::{FaultyPatch, with_patch};
+use crate::per_rule::PerRule;
+use crate::rule_faults::{RuleFaults, with_cell};
+use drain_basin::OutletLabels;
+use drain_grid::{Cell, OutOfMemory, Patch};
+use drain_kernel::Rules;
+
+/// The labels of the outlets among the cells that were passed, the cells at which each rule fails, and the first at which any does.
+#[derive(Drop)]
+pub struct Found {
+    pub labels: OutletLabels,
+    pub by_rule: PerRule<RuleFaults>,
+    pub first: Option<FaultyPatch>,
+}
+
+impl Found {
+    /// Passes one cell more, the next in row order, which shows this patch. `OutOfMemory` comes only at an outlet whose label is new.
+    pub(crate) fn note(
+        &mut self,
+        cell: Cell,
+        patch: &Patch,
+        rules: &Rules,
+    ) -> Result<(), OutOfMemory>
+        ensures noted { OnOk result (IsNoted (tried rules.now) cell patch.now self.old self.new) }
+        ensures err { OnErr result (IsOutletByCode patch.now.here × ¬ IsAdmitted self.old.labels patch.now.here.bas) }
+    {
+        match cell_faults(patch, rules, &mut self.labels) {
+            Ok(fails) => {
+                self.by_rule = with_cell(&self.by_rule, cell, &fails);
+                self.first = with_patch(self.first, cell, patch, &fails);
+                Ok(())
+            }
+            Err(OutOfMemory) => Err(OutOfMemory),
+        }
+    }
+}

@@ -1,0 +1,41 @@
+//! The walk along one row, patch by patch. It stops at no fault.
+
+ghost use Rattle.std.specs.Prelude.{◌<◌, ◌+◌, OnErr, OnOk};
+ghost use Rattle.drain_grid.specs.declared.cell.TheConstants.{MAX_LENGTH};
+ghost use Rattle.drain_kernel.specs.Rules.{tried};
+ghost use Rattle.drain_faults.specs.FaultWalks.{HasNewOutlet, IsFoundAbove, OfRowFound};
+
+use crate::found::Found;
+use drain_grid::{Cell, OutOfMemory};
+use drain_kernel::Rules;
+use drain_rules::PatchRow;
+
+/// Passes the cells of a row, from west to east, behind those of the rows above.
+///
+/// What was found then is right of every grid whose row this is. `OutOfMemory` comes only at an outlet whose label is new.
+pub(crate) fn note_row_of<R: PatchRow>(
+    found: &mut Found,
+    row: u32,
+    patches: &R,
+    rules: &Rules,
+) -> Result<(), OutOfMemory>
+    requires { row < MAX_LENGTH }
+    ensures found { OnOk result (OfRowFound (tried rules.now) row (R.len patches.now) (R.shown patches.now) found.old (λ g ps. IsFoundAbove (tried rules.now) g ps (row + 1) found.new)) }
+    ensures err { OnErr result (OfRowFound (tried rules.now) row (R.len patches.now) (R.shown patches.now) found.old HasNewOutlet) }
+{
+    let cols = patches.cols();
+    let mut col = 0;
+    while col < cols {
+        let kept = patches.kept_from(rules, col);
+        col = kept.end;
+        if col < cols {
+            let patch = patches.patch(col);
+            match found.note(Cell { row, col }, &patch, rules) {
+                Ok(()) => {}
+                Err(OutOfMemory) => return Err(OutOfMemory),
+            }
+            col += 1;
+        }
+    }
+    Ok(())
+}

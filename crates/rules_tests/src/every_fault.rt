@@ -1,0 +1,229 @@
+//! Every fault of worked grids with one number changed: at how many cells each rule fails, the first of them, the first patch with a fault, and the map. All
+//! were worked out by hand from the rules.
+
+ghost use Rattle.std.specs.Prelude.{◌≡◌};
+
+use crate::examples::{Part, changed, elevation, products};
+use crate::rows_of_numbers::{COLS, faults_by_rows};
+use crate::unasked_ranks::put;
+use drain_faults::{FaultMap, FaultWalk, RULES, RuleFaults};
+use drain_grid::{Cell, Elevation, OutOfMemory, ProductSet, Rule, Shape, Sinks};
+use drain_rules::{Ranks, RasterRow, Rules};
+use std::alloc::Global;
+use std::process::Abort;
+use std::test::Fail;
+use worked_grids::shafts::Shafts;
+use worked_grids::{slope, voids};
+
+/// A grid and its products.
+#[derive(Drop)]
+struct Given {
+    elevation: Elevation,
+    sinks: Sinks,
+    products: ProductSet,
+    ghost same_shape: { elevation.extent ≡ products.con.extent },
+}
+
+/// The parts of an example of this side, without sinks.
+fn example(alloc: Global, side: u8, numbers: &[i64]) -> Result<Given, Fail> {
+    let Some(shape) = Shape::new(side.into(), side.into()) else {
+        return Err("a shape".into());
+    };
+    let cells = shape.cells();
+    if numbers.len() != 6 * cells {
+        return Err("six parts".into());
+    }
+    Ok(Given {
+        elevation: elevation(alloc, shape, &numbers[..cells])?,
+        sinks: Sinks::none(alloc),
+        products: products(alloc, shape, -32768, &numbers[cells..])?,
+    })
+}
+
+/// The rules of a check.
+fn rules_of(example: &Given) -> Rules {
+    Rules {
+        nodata: example.products.nodata(),
+        ranks: Ranks::Asked,
+    }
+}
+
+/// The walk over all rows.
+fn walk_over(alloc: Global, example: &Given) -> Result<FaultWalk, OutOfMemory> {
+    let rules = rules_of(example);
+    let mut walk = FaultWalk::new(alloc);
+    for row in 0..example.elevation.shape().rows() {
+        let patches = RasterRow {
+            elevation: &example.elevation,
+            sinks: &example.sinks,
+            products: &example.products,
+            row,
+        };
+        walk.note_row(&patches, &rules)?;
+    }
+    Ok(walk)
+}
+
+/// The map of all rows.
+fn map_over(alloc: Global, example: &Given) -> Result<FaultMap, OutOfMemory> {
+    let rules = rules_of(example);
+    let shape = example.elevation.shape();
+    let mut map = FaultMap::new(alloc, shape)?;
+    for row in 0..shape.rows() {
+        let patches = RasterRow {
+            elevation: &example.elevation,
+            sinks: &example.sinks,
+            products: &example.products,
+            row,
+        };
+        map.note_row(&patches, &rules)?;
+    }
+    Ok(map)
+}
+
+/// A rule, the number of cells at which it fails, and the row and column of the first.
+type Told = (Rule, u32, (u32, u32));
+
+/// What the walk found of a rule.
+fn found_of(walk: &FaultWalk, rule: Rule) -> RuleFaults {
+    *walk.faults().of(rule)
+}
+
+/// What is told of a rule that isn't named: no cell.
+fn wanted_of(wanted: &[Told], rule: Rule) -> RuleFaults {
+    for (named, cells, (row, col)) in wanted {
+        if *named == rule {
+            return RuleFaults {
+                cells: *cells,
+                first: Some(Cell {
+                    row: *row,
+                    col: *col,
+                }),
+            };
+        }
+    }
+    RuleFaults::none()
+}
+
+/// Ends the test where the two differ.
+fn same(rt: &impl Abort, case: &str, given: RuleFaults, wanted: RuleFaults) {
+    assert_eq!(rt; given, wanted, "{case}");
+}
+
+/// The first cell with a fault, none where there is none.
+fn first_cell(walk: &FaultWalk) -> Option<(u32, u32)> {
+    match walk.first_patch() {
+        Some(found) => Some((found.cell.row, found.cell.col)),
+        None => None,
+    }
+}
+
+/// Looks that the walk found these faults and no others, and this cell first.
+fn expect_found(rt: &impl Abort, walk: &FaultWalk, wanted: &[Told], first: Option<(u32, u32)>) {
+    for rule in RULES {
+        same(
+            rt,
+            rule.name(),
+            found_of(walk, rule),
+            wanted_of(wanted, rule),
+        );
+    }
+    assert_eq!(rt; first_cell(walk), first);
+}
+
+/// Looks that the walk finds these faults and no others, this cell first, and that the map has these numbers.
+fn expect(
+    rt: &impl Abort,
+    alloc: Global,
+    example: &Given,
+    wanted: &[Told],
+    first: Option<(u32, u32)>,
+    pixels: &[u8],
+) -> Result<(), Fail> {
+    let walk = walk_over(alloc, example)?;
+    expect_found(rt, &walk, wanted, first);
+    let map = map_over(alloc, example)?;
+    assert_eq!(rt; map.pixels(), pixels);
+    Ok(())
+}
+
+/// The slope with a number changed.
+fn changed_slope(alloc: Global, part: Part, row: u8, col: u8, number: i64) -> Result<Given, Fail> {
+    let numbers = changed(alloc, 4, &slope(), part, row, col, number)?;
+    example(alloc, 4, &numbers)
+}
+
+#[test]
+fn right_products(rt: HostRuntime) -> Result<(), Fail> {
+    let slope = example(rt.alloc(), 4, &slope())?;
+    expect(&rt, rt.alloc(), &slope, &[], None, &[0; 16])?;
+    let voids = example(rt.alloc(), 2, &voids())?;
+    expect(&rt, rt.alloc(), &voids, &[], None, &[255; 4])
+}
+
+#[test]
+fn a_direction_that_leads_aside(rt: HostRuntime) -> Result<(), Fail> {
+    // The cell leads south and no longer east: past its steepest, to another label; two cells have another inflow.
+    let slope = changed_slope(rt.alloc(), Part::Dir, 1, 1, 4)?;
+    let wanted = [
+        (Rule::Slope, 1, (1, 1)),
+        (Rule::Accumulation, 2, (1, 2)),
+        (Rule::Label, 1, (1, 1)),
+    ];
+    let pixels = [0, 0, 0, 0, 0, 10, 13, 0, 0, 13, 0, 0, 0, 0, 0, 0];
+    expect(&rt, rt.alloc(), &slope, &wanted, Some((1, 1)), &pixels)
+}
+
+#[test]
+fn a_missing_direction(rt: HostRuntime) -> Result<(), Fail> {
+    // The no-data number of directions is no code either, and names no neighbour.
+    let slope = changed_slope(rt.alloc(), Part::Dir, 1, 1, 255)?;
+    let wanted = [
+        (Rule::Missing, 1, (1, 1)),
+        (Rule::BadCode, 1, (1, 1)),
+        (Rule::Slope, 1, (1, 1)),
+        (Rule::Accumulation, 1, (1, 2)),
+    ];
+    let pixels = [0, 0, 0, 0, 0, 2, 13, 0, 0, 0, 0, 0, 0, 0, 0, 0];
+    expect(&rt, rt.alloc(), &slope, &wanted, Some((1, 1)), &pixels)
+}
+
+#[test]
+fn a_label_of_another_outlet(rt: HostRuntime) -> Result<(), Fail> {
+    // The last row's outlet has the label of the first row's.
+    let slope = changed_slope(rt.alloc(), Part::Bas, 3, 3, 1)?;
+    let wanted = [(Rule::Label, 1, (3, 2)), (Rule::SharedLabel, 1, (3, 3))];
+    let pixels = [0, 0, 0, 0, 0, 0, 0, 0, 0, 0, 0, 0, 0, 0, 14, 15];
+    expect(&rt, rt.alloc(), &slope, &wanted, Some((3, 2)), &pixels)
+}
+
+#[test]
+fn a_number_at_a_void(rt: HostRuntime) -> Result<(), Fail> {
+    let numbers = changed(rt.alloc(), 2, &voids(), Part::Con, 0, 1, 0)?;
+    let voids = example(rt.alloc(), 2, &numbers)?;
+    let wanted = [(Rule::VoidCell, 1, (0, 1))];
+    let pixels = [255, 1, 255, 255];
+    expect(&rt, rt.alloc(), &voids, &wanted, Some((0, 1)), &pixels)
+}
+
+#[test]
+fn an_outlet_inside_long_rows(rt: HostRuntime) -> Result<(), Fail> {
+    let shafts = Shafts {
+        rows: 3,
+        cols: COLS,
+        listed: &[],
+    };
+    let mut numbers = shafts.numbers(rt.alloc())?;
+    // The cell leads nowhere and no longer north, so the cell there counts too many, and both are outlets of one label. Lanes vouch for the cells beside it.
+    put(&mut numbers, (Part::Dir, (1, 300), 0))?;
+    let wanted = [
+        (Rule::FlatStep, 1, (1, 300)),
+        (Rule::Accumulation, 1, (0, 300)),
+        (Rule::SharedLabel, 1, (1, 300)),
+    ];
+    let laned = faults_by_rows(rt.alloc(), &numbers, true)?;
+    expect_found(&rt, &laned, &wanted, Some((0, 300)));
+    let plain = faults_by_rows(rt.alloc(), &numbers, false)?;
+    expect_found(&rt, &plain, &wanted, Some((0, 300)));
+    Ok(())
+}
