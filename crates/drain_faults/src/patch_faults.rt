@@ -2,7 +2,7 @@
 //!
 //! Of each group of rules the crates below tell the least that fails. Where one can hide another of its group, that other is asked by itself.
 
-ghost use Rattle.std.specs.Prelude.{◌≡◌, ◌↔◌, IsTrue, Some};
+ghost use Rattle.std.specs.Prelude.{◌≡◌, ◌↔◌, false, IsTrue, Some};
 ghost use Rattle.drain_grid.specs.declared.rule.Rule.{Rule};
 ghost use Rattle.drain_grid.specs.Direction.{IsCode};
 ghost use Rattle.drain_grid.specs.PatchRules.{BadCodeWithoutSpill, NotLeastHolds, OpenRaisedWithoutSpill};
@@ -20,6 +20,7 @@ use drain_rules::patch_rules::{flat_fault, presence_fault};
 /// For each rule whether it fails at the cell, as it is tried. SharedLabel doesn't look at the patch alone, and is told not to fail.
 pub fn patch_faults(patch: &Patch, rules: &Rules) -> PerRule<bool>
     ensures each { (r : Rule) → IsPatchRule r → TellsFault (of_rule result r) (tried rules.now patch.now r) }
+    ensures shared_label { result.shared_label ≡ false }
 {
     let presence = presence_fault(patch, rules);
     let slope = drain_slope::fault(patch);

@@ -1,4 +1,4 @@
-use Rattle.std.proofs.Common.{arith}
+use Rattle.std.proofs.Common.{refl, arith}
 use Rattle.drain_grid.specs.declared.rule.Rule.TheVariants.{BelowGround, OpenRaised, NotLeast}
 use Rattle.drain_grid.specs.PatchRules.{BadCodeWithoutSpill, BelowGroundHolds, NotLeastHolds, OpenRaisedWithoutSpill}
 use Rattle.drain_kernel.specs.Rules.{tried}
@@ -9,6 +9,7 @@ use Rattle.drain_faults.proofs.patch_faults.patch_faults.Goals as goal
 
 pub returns : goal.returns
 returns c = record {
+  shared_label = refl;
   each = let rules = c.args.rules.now in
       let p = c.args.patch.now in
       let presence = c.presence_fault-presence in
