@@ -14,15 +14,18 @@ fn patch(dir: i64) -> Result<Patch, Fail> {
     Ok(Patch { here, around })
 }
 
+/// Codes, each with the rule that fails.
+static DIRECTIONS: [(&str, i64, Option<Rule>); 5] = [
+    ("east", 1, Some(Rule::Label)),
+    ("southeast", 2, None),
+    ("no direction", 0, None),
+    ("no code", 3, None),
+    ("void", 255, None),
+];
+
 #[test]
 fn hands_a_label_on_along_a_direction(rt: HostRuntime) -> Result<(), Fail> {
-    for (name, dir, answer) in [
-        ("east", 1, Some(Rule::Label)),
-        ("southeast", 2, None),
-        ("no direction", 0, None),
-        ("no code", 3, None),
-        ("void", 255, None),
-    ] {
+    for &(name, dir, answer) in &DIRECTIONS {
         same_rule(&rt, name, fault(&patch(dir)?), answer);
     }
     let mut to_a_void = patch(1)?;
@@ -39,43 +42,46 @@ fn hands_a_label_on_along_a_direction(rt: HostRuntime) -> Result<(), Fail> {
     Ok(())
 }
 
+/// Labels in the order in which they come, each with whether it is new.
+static LABELS: [(i64, bool); 31] = [
+    (7, true),
+    (7, false),
+    (8, true),
+    (-2147483648, true),
+    (4294967295, true),
+    (8, false),
+    (-2147483648, false),
+    // The ends of a word's half, of a word and of what a label can be, and labels that lie whole words apart.
+    (15, true),
+    (16, true),
+    (23, true),
+    (39, true),
+    (63, true),
+    (64, true),
+    (71, true),
+    (0, true),
+    (-1, true),
+    (-16, true),
+    (-17, true),
+    (-64, true),
+    (-65, true),
+    (i64::MIN, true),
+    (i64::MAX, true),
+    (15, false),
+    (16, false),
+    (63, false),
+    (64, false),
+    (0, false),
+    (-1, false),
+    (i64::MIN, false),
+    (i64::MAX, false),
+    (7, false),
+];
+
 #[test]
 fn admits_each_label_once(rt: HostRuntime) -> Result<(), Fail> {
     let mut labels = OutletLabels::new(rt.alloc());
-    for (label, is_new) in [
-        (7, true),
-        (7, false),
-        (8, true),
-        (-2147483648, true),
-        (4294967295, true),
-        (8, false),
-        (-2147483648, false),
-        // The ends of a word's half, of a word and of what a label can be, and labels that lie whole words apart.
-        (15, true),
-        (16, true),
-        (23, true),
-        (39, true),
-        (63, true),
-        (64, true),
-        (71, true),
-        (0, true),
-        (-1, true),
-        (-16, true),
-        (-17, true),
-        (-64, true),
-        (-65, true),
-        (i64::MIN, true),
-        (i64::MAX, true),
-        (15, false),
-        (16, false),
-        (63, false),
-        (64, false),
-        (0, false),
-        (-1, false),
-        (i64::MIN, false),
-        (i64::MAX, false),
-        (7, false),
-    ] {
+    for &(label, is_new) in &LABELS {
         same(&rt, label, labels.admit(label), Ok(is_new));
     }
     Ok(())

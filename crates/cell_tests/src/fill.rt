@@ -78,39 +78,51 @@ fn same_without_spill(rt: &impl Abort, name: &str, patch: &Patch, wanted: Option
     same(rt, name, fault_above(patch), above);
 }
 
+const BELOW: Option<Rule> = Some(Rule::BelowGround);
+
+const RAISED: Option<Rule> = Some(Rule::OpenRaised);
+
+const NO_SPILL: Option<Rule> = Some(Rule::NoSpill);
+
+const HEIGHT: Option<Rule> = Some(Rule::SpillHeight);
+
+const RANK: Option<Rule> = Some(Rule::SpillRank);
+
+const NOT_LEAST: Option<Rule> = Some(Rule::NotLeast);
+
+/// What stands in the east, the numbers con, spl and rnk, and the rule that fails with spill parents and without.
+static PIT: [(&str, Beside, i64, i64, i64, Option<Rule>, Option<Rule>); 25] = [
+    ("a filled pit", Rim, 5, 1, 1, None, None),
+    ("under its ground", Sunk, 5, 1, 1, None, None),
+    ("below ground", Rim, 0, 1, 1, BELOW, BELOW),
+    ("no spill parent", Rim, 5, 0, 1, NO_SPILL, None),
+    ("no spill code", Rim, 5, 3, 1, NO_SPILL, None),
+    ("no data for spill", Rim, 5, 255, 1, NO_SPILL, None),
+    ("not raised", Rim, 1, 1, 1, HEIGHT, None),
+    ("raised halfway", Rim, 3, 1, 1, HEIGHT, None),
+    ("too high", Rim, 6, 1, 1, HEIGHT, NOT_LEAST),
+    ("too high, no spill", Rim, 6, 0, 1, NO_SPILL, NOT_LEAST),
+    ("equal ranks", Rim, 5, 1, 0, RANK, None),
+    ("smaller rank", Rim, 5, 1, -1, RANK, None),
+    ("past a crest", Crest, 5, 2, 1, None, None),
+    ("needless crest", Crest, 7, 1, 1, NOT_LEAST, NOT_LEAST),
+    ("not its crest", Crest, 7, 2, 1, HEIGHT, NOT_LEAST),
+    ("open", Outside, 1, 0, 1, None, None),
+    ("open, raised", Outside, 5, 0, 1, RAISED, RAISED),
+    ("open, not least", Outside, 6, 0, 1, RAISED, RAISED),
+    ("open, below", Outside, 0, 0, 1, BELOW, BELOW),
+    ("open, spill", Outside, 1, 1, 1, RAISED, None),
+    ("open, no code", Outside, 1, 3, 1, RAISED, None),
+    ("beside a void", Void, 1, 0, 1, None, None),
+    ("to a void", Void, 1, 1, 1, RAISED, None),
+    ("raised by a void", Void, 5, 0, 1, RAISED, RAISED),
+    ("as a void", Void, -32768, 1, 1, BELOW, BELOW),
+];
+
 /// The code of the spill parent and the rank stand before the rule that fails with spill parents, and that which fails without.
 #[test]
 fn cells_in_a_pit(rt: HostRuntime) -> Result<(), Fail> {
-    let (below, raised) = (Some(Rule::BelowGround), Some(Rule::OpenRaised));
-    let (no_spill, height) = (Some(Rule::NoSpill), Some(Rule::SpillHeight));
-    let (rank, not_least) = (Some(Rule::SpillRank), Some(Rule::NotLeast));
-    for (name, east, con, spl, rnk, wanted, without_spill) in [
-        ("a filled pit", Rim, 5, 1, 1, None, None),
-        ("under its ground", Sunk, 5, 1, 1, None, None),
-        ("below ground", Rim, 0, 1, 1, below, below),
-        ("no spill parent", Rim, 5, 0, 1, no_spill, None),
-        ("no spill code", Rim, 5, 3, 1, no_spill, None),
-        ("no data for spill", Rim, 5, 255, 1, no_spill, None),
-        ("not raised", Rim, 1, 1, 1, height, None),
-        ("raised halfway", Rim, 3, 1, 1, height, None),
-        ("too high", Rim, 6, 1, 1, height, not_least),
-        ("too high, no spill", Rim, 6, 0, 1, no_spill, not_least),
-        ("equal ranks", Rim, 5, 1, 0, rank, None),
-        ("smaller rank", Rim, 5, 1, -1, rank, None),
-        ("past a crest", Crest, 5, 2, 1, None, None),
-        ("needless crest", Crest, 7, 1, 1, not_least, not_least),
-        ("not its crest", Crest, 7, 2, 1, height, not_least),
-        ("open", Outside, 1, 0, 1, None, None),
-        ("open, raised", Outside, 5, 0, 1, raised, raised),
-        ("open, not least", Outside, 6, 0, 1, raised, raised),
-        ("open, below", Outside, 0, 0, 1, below, below),
-        ("open, spill", Outside, 1, 1, 1, raised, None),
-        ("open, no code", Outside, 1, 3, 1, raised, None),
-        ("beside a void", Void, 1, 0, 1, None, None),
-        ("to a void", Void, 1, 1, 1, raised, None),
-        ("raised by a void", Void, 5, 0, 1, raised, raised),
-        ("as a void", Void, -32768, 1, 1, below, below),
-    ] {
+    for &(name, east, con, spl, rnk, wanted, without_spill) in &PIT {
         let here = cell(Some(1), con, spl, rnk).ok_or(name)?;
         let shown = patch(here, east, Rim);
         same_rule(&rt, name, fault(&shown), wanted);

@@ -109,26 +109,29 @@ fn east_values(east: East) -> Option<CellValues> {
     }
 }
 
+/// Codes beside what stands in the east, each with what the rule says.
+static DIRECTIONS: [(&str, i64, East, Told); 16] = [
+    ("nearer", 1, East::Near, HOLDS),
+    ("equal rank", 1, East::Equal, BY_RANK),
+    ("greater rank", 1, East::Far, BY_RANK),
+    ("higher", 1, East::Higher, FAILS),
+    ("lower", 1, East::Lower, HOLDS),
+    ("beside a lower", 16, East::Lower, HOLDS),
+    ("code 0 beside a lower", 0, East::Lower, HOLDS),
+    ("no direction", 0, East::Near, FAILS),
+    ("no code", 3, East::Near, FAILS),
+    ("no code, negative", -1, East::Near, FAILS),
+    ("past the nearer", 2, East::Near, BY_RANK),
+    ("to a void, so open", 1, East::Void, HOLDS),
+    ("beside a void, so open", 16, East::Void, HOLDS),
+    ("off the edge, so open", 1, East::Outside, HOLDS),
+    ("the least rank", 1, East::Least, HOLDS),
+    ("the greatest rank", 1, East::Greatest, BY_RANK),
+];
+
 #[test]
 fn what_a_direction_leads_to(rt: HostRuntime) -> Result<(), Fail> {
-    for (name, dir, east, wanted) in [
-        ("nearer", 1, East::Near, HOLDS),
-        ("equal rank", 1, East::Equal, BY_RANK),
-        ("greater rank", 1, East::Far, BY_RANK),
-        ("higher", 1, East::Higher, FAILS),
-        ("lower", 1, East::Lower, HOLDS),
-        ("beside a lower", 16, East::Lower, HOLDS),
-        ("code 0 beside a lower", 0, East::Lower, HOLDS),
-        ("no direction", 0, East::Near, FAILS),
-        ("no code", 3, East::Near, FAILS),
-        ("no code, negative", -1, East::Near, FAILS),
-        ("past the nearer", 2, East::Near, BY_RANK),
-        ("to a void, so open", 1, East::Void, HOLDS),
-        ("beside a void, so open", 16, East::Void, HOLDS),
-        ("off the edge, so open", 1, East::Outside, HOLDS),
-        ("the least rank", 1, East::Least, HOLDS),
-        ("the greatest rank", 1, East::Greatest, BY_RANK),
-    ] {
+    for &(name, dir, east, wanted) in &DIRECTIONS {
         let mut around = [level(3); 8];
         around[0] = east_values(east);
         let here = here(dir, 3)?;

@@ -11,8 +11,11 @@ use std::test::Fail;
 /// An elevation, and con, dir, spl and rnk.
 type Numbers = (Option<i16>, [i64; 4]);
 
-/// Whether a cell is open, and which of rules 4 to 9, of these without spill parents, 10 and 11, and 12 fails.
-type Told = (bool, [Option<Rule>; 4]);
+/// Which of rules 4 to 9, of these without spill parents, 10 and 11, and 12 fails.
+type Faults = [Option<Rule>; 4];
+
+/// Whether a cell is open, and which of these rules fail.
+type Told = (bool, Faults);
 
 /// What is told of a cell whose neighbours are listed or not.
 fn told_beside(here: CellValues, are_listed: bool) -> Told {
@@ -39,83 +42,95 @@ fn told((z, numbers): Numbers, is_listed: bool, are_listed: bool) -> Option<Told
     }
 }
 
+const RAISED: Option<Rule> = Some(Rule::OpenRaised);
+
+const NO_SPILL: Option<Rule> = Some(Rule::NoSpill);
+
+const SLOPE: Option<Rule> = Some(Rule::Slope);
+
+const CODE: Option<Rule> = Some(Rule::OutletCode);
+
+const STEP: Option<Rule> = Some(Rule::FlatStep);
+
+const BELOW: Option<Rule> = Some(Rule::BelowGround);
+
+/// A name, the ground, the numbers, and the rules that fail where the cell is listed and where it is not.
+static CELLS: [(&str, i16, [i64; 4], Faults, Faults); 10] = [
+    (
+        "a pit at its ground",
+        1,
+        [1, 0, 0, 0],
+        [None, None, None, None],
+        [NO_SPILL, None, None, STEP],
+    ),
+    (
+        "a filled pit",
+        1,
+        [5, 1, 1, 1],
+        [RAISED, RAISED, CODE, None],
+        [None, None, None, None],
+    ),
+    (
+        "a raised pit without a spill code",
+        1,
+        [5, 0, 0, 0],
+        [RAISED, RAISED, None, None],
+        [NO_SPILL, None, None, STEP],
+    ),
+    (
+        "level, with a spill code",
+        5,
+        [5, 0, 1, 1],
+        [RAISED, None, None, None],
+        [None, None, None, STEP],
+    ),
+    (
+        "level, with a direction",
+        5,
+        [5, 1, 0, 1],
+        [None, None, CODE, None],
+        [NO_SPILL, None, None, None],
+    ),
+    (
+        "a pit that is raised too high",
+        1,
+        [6, 1, 1, 1],
+        [RAISED, RAISED, None, None],
+        [Some(Rule::SpillHeight), Some(Rule::NotLeast), None, None],
+    ),
+    (
+        "level, with an equal rank",
+        5,
+        [5, 1, 1, 0],
+        [RAISED, None, CODE, None],
+        [Some(Rule::SpillRank), None, None, STEP],
+    ),
+    (
+        "a peak",
+        9,
+        [9, 1, 0, 0],
+        [None, None, None, None],
+        [NO_SPILL, None, None, None],
+    ),
+    (
+        "a peak without a direction",
+        9,
+        [9, 0, 0, 0],
+        [None, None, SLOPE, None],
+        [NO_SPILL, None, SLOPE, None],
+    ),
+    (
+        "below its ground",
+        5,
+        [4, 0, 0, 0],
+        [BELOW, BELOW, None, None],
+        [BELOW, BELOW, None, STEP],
+    ),
+];
+
 #[test]
 fn cells_that_are_listed_and_not(rt: HostRuntime) -> Result<(), Fail> {
-    let (raised, no_spill) = (Some(Rule::OpenRaised), Some(Rule::NoSpill));
-    let (slope, code) = (Some(Rule::Slope), Some(Rule::OutletCode));
-    let (step, below) = (Some(Rule::FlatStep), Some(Rule::BelowGround));
-    for (name, z, numbers, listed, unlisted) in [
-        (
-            "a pit at its ground",
-            1,
-            [1, 0, 0, 0],
-            [None, None, None, None],
-            [no_spill, None, None, step],
-        ),
-        (
-            "a filled pit",
-            1,
-            [5, 1, 1, 1],
-            [raised, raised, code, None],
-            [None, None, None, None],
-        ),
-        (
-            "a raised pit without a spill code",
-            1,
-            [5, 0, 0, 0],
-            [raised, raised, None, None],
-            [no_spill, None, None, step],
-        ),
-        (
-            "level, with a spill code",
-            5,
-            [5, 0, 1, 1],
-            [raised, None, None, None],
-            [None, None, None, step],
-        ),
-        (
-            "level, with a direction",
-            5,
-            [5, 1, 0, 1],
-            [None, None, code, None],
-            [no_spill, None, None, None],
-        ),
-        (
-            "a pit that is raised too high",
-            1,
-            [6, 1, 1, 1],
-            [raised, raised, None, None],
-            [Some(Rule::SpillHeight), Some(Rule::NotLeast), None, None],
-        ),
-        (
-            "level, with an equal rank",
-            5,
-            [5, 1, 1, 0],
-            [raised, None, code, None],
-            [Some(Rule::SpillRank), None, None, step],
-        ),
-        (
-            "a peak",
-            9,
-            [9, 1, 0, 0],
-            [None, None, None, None],
-            [no_spill, None, None, None],
-        ),
-        (
-            "a peak without a direction",
-            9,
-            [9, 0, 0, 0],
-            [None, None, slope, None],
-            [no_spill, None, slope, None],
-        ),
-        (
-            "below its ground",
-            5,
-            [4, 0, 0, 0],
-            [below, below, None, None],
-            [below, below, None, step],
-        ),
-    ] {
+    for &(name, z, numbers, listed, unlisted) in &CELLS {
         let numbers = (Some(z), numbers);
         let given = (
             told(numbers, true, false),

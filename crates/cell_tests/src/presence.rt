@@ -46,61 +46,82 @@ const MISSING: Told = [Some(Rule::Missing); 3];
 
 const BAD_CODE: Told = [Some(Rule::BadCode); 3];
 
+/// The number for no rank.
+const UNRANKED: i64 = 4294967295;
+
+/// It fails with spill parents alone.
+const SPILL: Told = [Some(Rule::VoidCell), None, None];
+
+/// It fails with ranks alone.
+const RANK: Told = [Some(Rule::VoidCell), Some(Rule::VoidCell), None];
+
+/// Numbers of a void, each with what is told of them.
+static OF_VOIDS: [(&str, [i64; 6], Told); 11] = [
+    ("the six numbers", [-32768, 255, 0, 0, 255, UNRANKED], NONE),
+    ("a height", [0, 255, 0, 0, 255, UNRANKED], VOID_CELL),
+    ("a direction", [-32768, 0, 0, 0, 255, UNRANKED], VOID_CELL),
+    (
+        "an accumulation",
+        [-32768, 255, 1, 0, 255, UNRANKED],
+        VOID_CELL,
+    ),
+    ("a label", [-32768, 255, 0, 1, 255, UNRANKED], VOID_CELL),
+    ("a rank", [-32768, 255, 0, 0, 255, 0], RANK),
+    ("no spill parent", [-32768, 255, 0, 0, 0, UNRANKED], SPILL),
+    ("a spill parent", [-32768, 255, 0, 0, 1, UNRANKED], SPILL),
+    ("no spill code", [-32768, 255, 0, 0, 3, UNRANKED], SPILL),
+    ("a rank beside spill", [-32768, 255, 0, 0, 1, 0], RANK),
+    ("a rank, a label", [-32768, 255, 0, 1, 255, 0], VOID_CELL),
+];
+
 #[test]
 fn numbers_of_voids(rt: HostRuntime) -> Result<(), Fail> {
-    let x = 4294967295;
-    let void = Some(Rule::VoidCell);
-    let spill = [void, None, None];
-    let rank = [void, void, None];
-    for (name, numbers, wanted) in [
-        ("the six numbers", [-32768, 255, 0, 0, 255, x], NONE),
-        ("a height", [0, 255, 0, 0, 255, x], VOID_CELL),
-        ("a direction", [-32768, 0, 0, 0, 255, x], VOID_CELL),
-        ("an accumulation", [-32768, 255, 1, 0, 255, x], VOID_CELL),
-        ("a label", [-32768, 255, 0, 1, 255, x], VOID_CELL),
-        ("a rank", [-32768, 255, 0, 0, 255, 0], rank),
-        ("no spill parent", [-32768, 255, 0, 0, 0, x], spill),
-        ("a spill parent", [-32768, 255, 0, 0, 1, x], spill),
-        ("no spill code", [-32768, 255, 0, 0, 3, x], spill),
-        ("a rank beside spill", [-32768, 255, 0, 0, 1, 0], rank),
-        ("a rank, a label", [-32768, 255, 0, 1, 255, 0], VOID_CELL),
-    ] {
+    for &(name, numbers, wanted) in &OF_VOIDS {
         same_presence(&rt, name, None, numbers, wanted)?;
     }
     Ok(())
 }
 
+const NO_NUMBER: Option<Rule> = Some(Rule::Missing);
+
+const NO_CODE: Option<Rule> = Some(Rule::BadCode);
+
+/// Numbers of a data cell, each with what is told of them.
+static OF_DATA: [(&str, [i64; 6], Told); 17] = [
+    ("an outlet", [5, 0, 1, 1, 0, 0], NONE),
+    ("a spill parent", [5, 64, 1, 1, 128, 2], NONE),
+    ("no height", [-32768, 0, 1, 1, 0, 0], MISSING),
+    ("no direction", [5, 255, 1, 1, 0, 0], MISSING),
+    ("no accumulation", [5, 0, 0, 1, 0, 0], MISSING),
+    ("no label", [5, 0, 1, 0, 0, 0], MISSING),
+    (
+        "no rank",
+        [5, 0, 1, 1, 0, UNRANKED],
+        [NO_NUMBER, NO_NUMBER, None],
+    ),
+    ("no spill", [5, 0, 1, 1, 255, 0], [NO_NUMBER, None, None]),
+    ("nothing", [-32768, 255, 0, 0, 255, UNRANKED], MISSING),
+    (
+        "no rank, no code",
+        [5, 3, 1, 1, 0, UNRANKED],
+        [NO_NUMBER, NO_NUMBER, NO_CODE],
+    ),
+    ("no rank, no label", [5, 0, 1, 0, 0, UNRANKED], MISSING),
+    ("no code", [5, 3, 1, 1, 0, 0], BAD_CODE),
+    ("no code, negative", [5, -1, 1, 1, 0, 0], BAD_CODE),
+    ("past the codes", [5, 256, 1, 1, 0, 0], BAD_CODE),
+    ("no spill code", [5, 0, 1, 1, 3, 0], [NO_CODE, None, None]),
+    ("no codes", [5, 3, 1, 1, 3, 0], BAD_CODE),
+    (
+        "no code, no spill",
+        [5, 3, 1, 1, 255, 0],
+        [NO_NUMBER, NO_CODE, NO_CODE],
+    ),
+];
+
 #[test]
 fn numbers_of_data_cells(rt: HostRuntime) -> Result<(), Fail> {
-    let x = 4294967295;
-    let (missing, code) = (Some(Rule::Missing), Some(Rule::BadCode));
-    for (name, numbers, wanted) in [
-        ("an outlet", [5, 0, 1, 1, 0, 0], NONE),
-        ("a spill parent", [5, 64, 1, 1, 128, 2], NONE),
-        ("no height", [-32768, 0, 1, 1, 0, 0], MISSING),
-        ("no direction", [5, 255, 1, 1, 0, 0], MISSING),
-        ("no accumulation", [5, 0, 0, 1, 0, 0], MISSING),
-        ("no label", [5, 0, 1, 0, 0, 0], MISSING),
-        ("no rank", [5, 0, 1, 1, 0, x], [missing, missing, None]),
-        ("no spill", [5, 0, 1, 1, 255, 0], [missing, None, None]),
-        ("nothing", [-32768, 255, 0, 0, 255, x], MISSING),
-        (
-            "no rank, no code",
-            [5, 3, 1, 1, 0, x],
-            [missing, missing, code],
-        ),
-        ("no rank, no label", [5, 0, 1, 0, 0, x], MISSING),
-        ("no code", [5, 3, 1, 1, 0, 0], BAD_CODE),
-        ("no code, negative", [5, -1, 1, 1, 0, 0], BAD_CODE),
-        ("past the codes", [5, 256, 1, 1, 0, 0], BAD_CODE),
-        ("no spill code", [5, 0, 1, 1, 3, 0], [code, None, None]),
-        ("no codes", [5, 3, 1, 1, 3, 0], BAD_CODE),
-        (
-            "no code, no spill",
-            [5, 3, 1, 1, 255, 0],
-            [missing, code, code],
-        ),
-    ] {
+    for &(name, numbers, wanted) in &OF_DATA {
         same_presence(&rt, name, Some(5), numbers, wanted)?;
     }
     Ok(())

@@ -37,93 +37,97 @@ fn same_list(rt: &impl Abort, case: &[u8], given: Listed, wanted: Listed) {
     assert_eq!(rt; given, wanted, "{case:?}");
 }
 
+/// Texts, each with the lines that list a cell: the number, the row and the column.
+static LISTS: [(&str, &[(u64, u32, u32)]); 21] = [
+    ("", &[]),
+    ("\n", &[]),
+    ("\n \n\t\n \t \r\n\r\n\r", &[]),
+    ("1 1\n", &[(1, 1, 1)]),
+    ("1 1", &[(1, 1, 1)]),
+    ("1 1\r\n2 0\r\n", &[(1, 1, 1), (2, 2, 0)]),
+    ("1 1\r", &[(1, 1, 1)]),
+    (" \t1 \t 2\t ", &[(1, 1, 2)]),
+    ("1\t2", &[(1, 1, 2)]),
+    ("1 1\n\n \t\n2 0\n\n", &[(1, 1, 1), (4, 2, 0)]),
+    ("\r\n\n3 4", &[(3, 3, 4)]),
+    ("007 0000000000000000000001\n", &[(1, 7, 1)]),
+    ("0 0", &[(1, 0, 0)]),
+    ("00 000", &[(1, 0, 0)]),
+    ("4294967295 4294967295", &[(1, 4294967295, 4294967295)]),
+    ("00000000000000000004294967295 1", &[(1, 4294967295, 1)]),
+    ("1 1\n1 1\n", &[(1, 1, 1), (2, 1, 1)]),
+    ("1 1\n2 2\n01 001", &[(1, 1, 1), (2, 2, 2), (3, 1, 1)]),
+    ("28801 28801\n99999 0", &[(1, 28801, 28801), (2, 99999, 0)]),
+    ("9 9\n5 5\n7 7", &[(1, 9, 9), (2, 5, 5), (3, 7, 7)]),
+    (
+        "3 0\n2 1\n\n1 2\n0 3",
+        &[(1, 3, 0), (2, 2, 1), (4, 1, 2), (5, 0, 3)],
+    ),
+];
+
 #[test]
 fn lines_that_list_cells(rt: HostRuntime) {
-    let cases: [(&str, &[(u64, u32, u32)]); 21] = [
-        ("", &[]),
-        ("\n", &[]),
-        ("\n \n\t\n \t \r\n\r\n\r", &[]),
-        ("1 1\n", &[(1, 1, 1)]),
-        ("1 1", &[(1, 1, 1)]),
-        ("1 1\r\n2 0\r\n", &[(1, 1, 1), (2, 2, 0)]),
-        ("1 1\r", &[(1, 1, 1)]),
-        (" \t1 \t 2\t ", &[(1, 1, 2)]),
-        ("1\t2", &[(1, 1, 2)]),
-        ("1 1\n\n \t\n2 0\n\n", &[(1, 1, 1), (4, 2, 0)]),
-        ("\r\n\n3 4", &[(3, 3, 4)]),
-        ("007 0000000000000000000001\n", &[(1, 7, 1)]),
-        ("0 0", &[(1, 0, 0)]),
-        ("00 000", &[(1, 0, 0)]),
-        ("4294967295 4294967295", &[(1, 4294967295, 4294967295)]),
-        ("00000000000000000004294967295 1", &[(1, 4294967295, 1)]),
-        ("1 1\n1 1\n", &[(1, 1, 1), (2, 1, 1)]),
-        ("1 1\n2 2\n01 001", &[(1, 1, 1), (2, 2, 2), (3, 1, 1)]),
-        ("28801 28801\n99999 0", &[(1, 28801, 28801), (2, 99999, 0)]),
-        ("9 9\n5 5\n7 7", &[(1, 9, 9), (2, 5, 5), (3, 7, 7)]),
-        (
-            "3 0\n2 1\n\n1 2\n0 3",
-            &[(1, 3, 0), (2, 2, 1), (4, 1, 2), (5, 0, 3)],
-        ),
-    ];
-    for (text, entries) in cases {
+    for &(text, entries) in &LISTS {
         let given = listed(rt.alloc(), text.as_bytes());
         same_list(&rt, text.as_bytes(), given, lines(entries));
     }
 }
 
+/// Texts, each with the line that is bad.
+static BAD: [(&[u8], u64); 48] = [
+    (b"x", 1),
+    (b"1", 1),
+    (b"1 1 1", 1),
+    (b"1 1 x", 1),
+    (b"1 x", 1),
+    (b"x 1", 1),
+    (b"1\n1", 1),
+    (b"+1 1", 1),
+    (b"1 +1", 1),
+    (b"-1 1", 1),
+    (b"1 -1", 1),
+    (b"-0 0", 1),
+    (b"1 -", 1),
+    (b"1.0 1", 1),
+    (b"1 1.", 1),
+    (b"1e0 1", 1),
+    (b"0x1 1", 1),
+    (b"1_0 1", 1),
+    (b"1,1", 1),
+    (b"1, 1", 1),
+    (b"(1 1)", 1),
+    (b"# 1", 1),
+    (b"1 1 # a pit", 1),
+    (b"ROW COL\n1 1", 1),
+    (b"4294967296 1", 1),
+    (b"1 4294967296", 1),
+    (b"4294967297 1", 1),
+    (b"18446744073709551616 1", 1),
+    (b"1 18446744073709551617", 1),
+    (b"1 340282366920938463463374607431768211457", 1),
+    (b"1\x0b1", 1),
+    (b"1 1\x0b", 1),
+    (b"1 \x0b1", 1),
+    (b"1 1 \x0b", 1),
+    (b"\x0b", 1),
+    (b"1\x0c1", 1),
+    (b"1 1\x00", 1),
+    (b"1\xc2\xa01", 1),
+    (b"\xef\xbb\xbf1 1", 1),
+    (b"\xd9\xa1 1", 1),
+    (b"1 1\r\r\n", 1),
+    (b"\r\r\n", 1),
+    (b"1\r1", 1),
+    (b"\r1 1", 1),
+    (b"1 1\nx\n", 2),
+    (b"1 1\nx\ny\n-1 -1\n", 2),
+    (b"\n\r\n \t\nx", 4),
+    (b"0 0\n\n0 0\r\n\n1\n\n1 1 1", 5),
+];
+
 #[test]
 fn lines_that_are_bad(rt: HostRuntime) {
-    let cases: [(&[u8], u64); 48] = [
-        (b"x", 1),
-        (b"1", 1),
-        (b"1 1 1", 1),
-        (b"1 1 x", 1),
-        (b"1 x", 1),
-        (b"x 1", 1),
-        (b"1\n1", 1),
-        (b"+1 1", 1),
-        (b"1 +1", 1),
-        (b"-1 1", 1),
-        (b"1 -1", 1),
-        (b"-0 0", 1),
-        (b"1 -", 1),
-        (b"1.0 1", 1),
-        (b"1 1.", 1),
-        (b"1e0 1", 1),
-        (b"0x1 1", 1),
-        (b"1_0 1", 1),
-        (b"1,1", 1),
-        (b"1, 1", 1),
-        (b"(1 1)", 1),
-        (b"# 1", 1),
-        (b"1 1 # a pit", 1),
-        (b"ROW COL\n1 1", 1),
-        (b"4294967296 1", 1),
-        (b"1 4294967296", 1),
-        (b"4294967297 1", 1),
-        (b"18446744073709551616 1", 1),
-        (b"1 18446744073709551617", 1),
-        (b"1 340282366920938463463374607431768211457", 1),
-        (b"1\x0b1", 1),
-        (b"1 1\x0b", 1),
-        (b"1 \x0b1", 1),
-        (b"1 1 \x0b", 1),
-        (b"\x0b", 1),
-        (b"1\x0c1", 1),
-        (b"1 1\x00", 1),
-        (b"1\xc2\xa01", 1),
-        (b"\xef\xbb\xbf1 1", 1),
-        (b"\xd9\xa1 1", 1),
-        (b"1 1\r\r\n", 1),
-        (b"\r\r\n", 1),
-        (b"1\r1", 1),
-        (b"\r1 1", 1),
-        (b"1 1\nx\n", 2),
-        (b"1 1\nx\ny\n-1 -1\n", 2),
-        (b"\n\r\n \t\nx", 4),
-        (b"0 0\n\n0 0\r\n\n1\n\n1 1 1", 5),
-    ];
-    for (text, line) in cases {
+    for &(text, line) in &BAD {
         let given = listed(rt.alloc(), text);
         let wanted = Err(SinkFault::BadSinkLine(line));
         same_list(&rt, text, given, wanted);
@@ -200,23 +204,26 @@ fn places_marked(sinks: &Sinks) -> Places {
     places
 }
 
+/// Texts, each with the cells that it lists.
+static PLACES: [(&str, Places); 12] = [
+    ("", [0, 0, 0, 0]),
+    ("\n\n", [0, 0, 0, 0]),
+    ("1 1\n", [0, 0b0010, 0, 0]),
+    ("1 1\n1 1\n01 01", [0, 0b0010, 0, 0]),
+    ("0 0\n3 3", [0b0001, 0, 0, 0b1000]),
+    ("0 3\n1 0", [0b1000, 0b0001, 0, 0]),
+    ("3 3\n0 3\n3 0\n0 0", [0b1001, 0, 0, 0b1001]),
+    ("2 3\n2 2\n2 1\n2 0", [0, 0, 0b1111, 0]),
+    ("0 1\n2 1\n0 2", [0b0110, 0, 0b0010, 0]),
+    // Past the last column, and below the last row.
+    ("0 4\n1 5\n2 4294967295", [0, 0, 0, 0]),
+    ("4 0\n5 1\n4294967295 2", [0, 0, 0, 0]),
+    ("1 2\n1 4\n1 4294967295\n2 0", [0, 0b0100, 0b0001, 0]),
+];
+
 #[test]
 fn places_of_listed_cells(rt: HostRuntime) {
-    for (text, wanted) in [
-        ("", [0, 0, 0, 0]),
-        ("\n\n", [0, 0, 0, 0]),
-        ("1 1\n", [0, 0b0010, 0, 0]),
-        ("1 1\n1 1\n01 01", [0, 0b0010, 0, 0]),
-        ("0 0\n3 3", [0b0001, 0, 0, 0b1000]),
-        ("0 3\n1 0", [0b1000, 0b0001, 0, 0]),
-        ("3 3\n0 3\n3 0\n0 0", [0b1001, 0, 0, 0b1001]),
-        ("2 3\n2 2\n2 1\n2 0", [0, 0, 0b1111, 0]),
-        ("0 1\n2 1\n0 2", [0b0110, 0, 0b0010, 0]),
-        // Past the last column, and below the last row.
-        ("0 4\n1 5\n2 4294967295", [0, 0, 0, 0]),
-        ("4 0\n5 1\n4294967295 2", [0, 0, 0, 0]),
-        ("1 2\n1 4\n1 4294967295\n2 0", [0, 0b0100, 0b0001, 0]),
-    ] {
+    for &(text, wanted) in &PLACES {
         same(&rt, text, places(rt.alloc(), text), Ok((wanted, wanted)));
     }
 }
@@ -256,17 +263,20 @@ fn ends(alloc: Global, text: &str) -> Result<[bool; 5], SinkFault> {
     })))
 }
 
+/// Texts, each with which of the cells near the ends it lists.
+static ENDS: [(&str, [bool; 5]); 6] = [
+    ("0 0", [true, false, false, false, false]),
+    ("0 4294967295", [false, true, false, false, false]),
+    ("1 0", [false, false, true, false, false]),
+    ("4294967295 0", [false, false, false, true, false]),
+    ("4294967295 4294967295", [false, false, false, false, true]),
+    ("", [false, false, false, false, false]),
+];
+
 /// The last column of a row is not the first of the next, nor a row a column.
 #[test]
 fn cells_at_the_ends_of_32_bits(rt: HostRuntime) {
-    for (text, wanted) in [
-        ("0 0", [true, false, false, false, false]),
-        ("0 4294967295", [false, true, false, false, false]),
-        ("1 0", [false, false, true, false, false]),
-        ("4294967295 0", [false, false, false, true, false]),
-        ("4294967295 4294967295", [false, false, false, false, true]),
-        ("", [false, false, false, false, false]),
-    ] {
+    for &(text, wanted) in &ENDS {
         same(&rt, text, ends(rt.alloc(), text), Ok(wanted));
     }
 }

@@ -81,17 +81,20 @@ fn voids_and_the_outside(rt: HostRuntime) -> Result<(), Fail> {
     Ok(())
 }
 
+/// Codes, each with the rule that fails.
+static ON_A_SLOPE: [(&str, i64, Option<Rule>); 7] = [
+    ("east", 1, None),
+    ("south", 4, None),
+    ("southeast", 2, Some(Rule::Slope)),
+    ("west", 16, Some(Rule::Slope)),
+    ("no direction", 0, Some(Rule::Slope)),
+    ("no code", 3, Some(Rule::Slope)),
+    ("no code, negative", -1, Some(Rule::Slope)),
+];
+
 #[test]
 fn codes_on_a_slope(rt: HostRuntime) -> Result<(), Fail> {
-    for (name, dir, wanted) in [
-        ("east", 1, None),
-        ("south", 4, None),
-        ("southeast", 2, Some(Rule::Slope)),
-        ("west", 16, Some(Rule::Slope)),
-        ("no direction", 0, Some(Rule::Slope)),
-        ("no code", 3, Some(Rule::Slope)),
-        ("no code, negative", -1, Some(Rule::Slope)),
-    ] {
+    for &(name, dir, wanted) in &ON_A_SLOPE {
         let here = cell(Some(0), 10, dir).ok_or("a cell")?;
         let mut shown = patch(here, 8, 10, 8, 10);
         let inside = fault(&shown);
@@ -106,13 +109,16 @@ fn codes_on_a_slope(rt: HostRuntime) -> Result<(), Fail> {
     Ok(())
 }
 
+/// Codes, each with the rule that fails.
+static NO_WAY_DOWN: [(&str, i64, Option<Rule>); 3] = [
+    ("no direction", 0, None),
+    ("east", 1, Some(Rule::OutletCode)),
+    ("no code", 3, Some(Rule::OutletCode)),
+];
+
 #[test]
 fn codes_with_no_way_down(rt: HostRuntime) -> Result<(), Fail> {
-    for (name, dir, wanted) in [
-        ("no direction", 0, None),
-        ("east", 1, Some(Rule::OutletCode)),
-        ("no code", 3, Some(Rule::OutletCode)),
-    ] {
+    for &(name, dir, wanted) in &NO_WAY_DOWN {
         let here = cell(Some(0), 10, dir).ok_or("a cell")?;
         let mut shown = patch(here, 10, 10, 10, 10);
         let on_a_flat = fault(&shown);

@@ -1,5 +1,6 @@
 //! A funnel: every cell drains through one outlet, over heights from below the sea to above it.
 
+use crate::agree::same;
 use crate::made::{elevation, one_tile};
 use drain_grid::{Cell, Raster, Sinks};
 use drain_maker::make;
@@ -54,9 +55,8 @@ fn every_cell_drains_through_one_outlet(rt: HostRuntime) -> Result<(), Fail> {
         raised: 0,
         outlets: 1,
     });
-    assert_eq!(rt;
-        verdict_and_greatest(rt.alloc())?,
-        (wanted, i64::from(SIDE * SIDE))
-    );
+    let (verdict, greatest) = verdict_and_greatest(rt.alloc())?;
+    same(&rt, "verdict", verdict, wanted);
+    same(&rt, "greatest", greatest, i64::from(SIDE * SIDE));
     Ok(())
 }

@@ -1,5 +1,6 @@
 //! The headers of one tile's products.
 
+use crate::agree::same;
 use crate::made::one_tile;
 use drain_grid::Product;
 use drain_header::header_text;
@@ -19,7 +20,7 @@ fn text_of_heights(rt: HostRuntime) -> Result<(), Fail> {
     let wanted =
         "BYTEORDER I\nLAYOUT BIL\nNROWS 3\nNCOLS 3\nNBANDS 1\nNBITS 16\nBANDROWBYTES 6\nTOTALROWBYTES 6\nSKIPBYTES 0\nPIXELTYPE SIGNEDINT\nULXMAP 0.000000000000000\nULYMAP 1.000000000000000\nXDIM 0.500000000000000\nYDIM 0.500000000000000\nNODATA -32768\n";
     let is_wanted = is_text_of_heights(rt.alloc(), wanted)?;
-    assert_eq!(rt; (wanted.len(), is_wanted), (230, true));
+    same(&rt, "heights", (wanted.len(), is_wanted), (230, true));
     Ok(())
 }
 
@@ -30,21 +31,21 @@ fn pixels_of(alloc: Global, product: Product) -> Result<(u8, u32, bool, Option<i
     Ok((header.bits, header.row_bytes, header.signed, header.nodata))
 }
 
+/// A product, its bits, the bytes of a row, whether it has signs, and no data.
+static PIXELS: [(Product, u8, u32, bool, i64); 6] = [
+    (Product::Con, 16, 6, true, -32768),
+    (Product::Dir, 8, 3, false, 255),
+    (Product::Acc, 32, 12, false, 0),
+    (Product::Bas, 32, 12, false, 0),
+    (Product::Spl, 8, 3, false, 255),
+    (Product::Rnk, 32, 12, false, 4294967295),
+];
+
 #[test]
 fn pixels_of_each_product(rt: HostRuntime) -> Result<(), Fail> {
-    for (product, bits, row_bytes, signed, nodata) in [
-        (Product::Con, 16, 6, true, -32768),
-        (Product::Dir, 8, 3, false, 255),
-        (Product::Acc, 32, 12, false, 0),
-        (Product::Bas, 32, 12, false, 0),
-        (Product::Spl, 8, 3, false, 255),
-        (Product::Rnk, 32, 12, false, 4294967295),
-    ] {
-        assert_eq!(rt;
-            pixels_of(rt.alloc(), product)?,
-            (bits, row_bytes, signed, Some(nodata)),
-            "{product:?}"
-        );
+    for &(product, bits, row_bytes, signed, nodata) in &PIXELS {
+        let wanted = (bits, row_bytes, signed, Some(nodata));
+        same(&rt, product, pixels_of(rt.alloc(), product)?, wanted);
     }
     Ok(())
 }

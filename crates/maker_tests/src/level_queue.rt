@@ -1,5 +1,6 @@
 //! The order in which pairs come out of a queue of levels.
 
+use crate::agree::same;
 use drain_grid::OutOfMemory;
 use drain_maker::LevelQueue;
 use refused_memory::owed;
@@ -41,13 +42,11 @@ const IN_ORDER: FirstFive = [Some((3, 1)), Some((3, 3)), Some((5, 0)), Some((5, 
 #[test]
 fn takes_out_by_level_and_then_by_time(rt: HostRuntime) -> Result<(), Fail> {
     let four = popped(rt.alloc(), 4, &FOUR)?;
-    assert_eq!(rt; four, IN_ORDER);
+    same(&rt, "four", four, IN_ORDER);
     let ends = popped(rt.alloc(), 2, &[(32767, 0), (-32768, 1)])?;
-    assert_eq!(rt;
-        ends,
-        [Some((-32768, 1)), Some((32767, 0)), None, None, None]
-    );
-    assert_eq!(rt; popped(rt.alloc(), 0, &[])?, [None, None, None, None, None]);
+    let ordered = [Some((-32768, 1)), Some((32767, 0)), None, None, None];
+    same(&rt, "ends", ends, ordered);
+    same(&rt, "no cells", popped(rt.alloc(), 0, &[])?, [None; 5]);
     Ok(())
 }
 
@@ -57,14 +56,12 @@ fn takes_items_in_again(rt: HostRuntime) -> Result<(), Fail> {
     let mut queue = LevelQueue::new(rt.alloc(), 3)?;
     queue.push(7, 2);
     let held = (queue.holds(2), queue.holds(1), queue.holds(3), queue.pop());
-    assert_eq!(rt; held, (true, false, false, Some((7, 2))));
+    same(&rt, "held", held, (true, false, false, Some((7, 2))));
     if !queue.holds(2) {
         queue.push(-7, 2);
     }
-    assert_eq!(rt;
-        (queue.pop(), queue.pop(), queue.holds(2)),
-        (Some((-7, 2)), None, false)
-    );
+    let last = (queue.pop(), queue.pop(), queue.holds(2));
+    same(&rt, "in again", last, (Some((-7, 2)), None, false));
     Ok(())
 }
 
@@ -80,7 +77,7 @@ fn a_queue_after_refused_memory(rt: HostRuntime) -> Result<(), Fail> {
     let right = Ok(Some(IN_ORDER));
     let first = four_popped(rt.alloc());
     let wanted = owed(rt.alloc(), Err(OutOfMemory), right);
-    assert_eq!(rt; first, wanted, "first");
-    assert_eq!(rt; four_popped(rt.alloc()), right, "again");
+    same(&rt, "first", first, wanted);
+    same(&rt, "again", four_popped(rt.alloc()), right);
     Ok(())
 }

@@ -1,5 +1,6 @@
 //! Products made with listed sinks: tiles worked out by hand, and lists that name cells without data.
 
+use crate::agree::{same, same_numbers};
 use crate::made::{con_of_nine, elevation, one_tile};
 use crate::raster_numbers::Numbers;
 use drain_grid::{Held, SinkFault, VOID, parse_sinks};
@@ -7,7 +8,6 @@ use drain_hgt::TileName;
 use drain_maker::{MakeRefusal, make};
 use refused_memory::owed_unless_right;
 use std::alloc::Global;
-use std::process::Abort;
 use std::test::Fail;
 
 /// The numbers of a product that is made of one tile with the sinks that the text lists.
@@ -25,30 +25,37 @@ fn made(
     Ok(Numbers::of(products.raster(product)))
 }
 
-/// Ends the test where a product has other numbers, and tells of which list and product it is.
-fn same_numbers(rt: &impl Abort, case: &str, product: Held, given: &Numbers, wanted: &[i64]) {
-    assert_eq!(rt; given.as_slice(), wanted, "{product:?} with {case}");
-}
-
 /// A pit in the middle, lower than the edge.
 const PIT: [i16; 9] = [5, 5, 5, 5, 1, 5, 5, 5, 5];
 
+/// A product, and its numbers.
+static OF_PIT: [(Held, [i64; 9]); 5] = [
+    (Held::Con, [5, 5, 5, 5, 1, 5, 5, 5, 5]),
+    (Held::Dir, [2, 4, 8, 1, 0, 16, 128, 64, 32]),
+    (Held::Acc, [1, 1, 1, 1, 9, 1, 1, 1, 1]),
+    (Held::Bas, [1; 9]),
+    (Held::Rnk, [0; 9]),
+];
+
 #[test]
 fn a_listed_pit_is_the_one_outlet(rt: HostRuntime) -> Result<(), Fail> {
-    for (product, wanted) in [
-        (Held::Con, [5, 5, 5, 5, 1, 5, 5, 5, 5]),
-        (Held::Dir, [2, 4, 8, 1, 0, 16, 128, 64, 32]),
-        (Held::Acc, [1, 1, 1, 1, 9, 1, 1, 1, 1]),
-        (Held::Bas, [1; 9]),
-        (Held::Rnk, [0; 9]),
-    ] {
+    for &(product, wanted) in &OF_PIT {
         for list in ["1 1", "1 1\n1 1", "\n1 1\r\n\n0 2\n1 1\n"] {
             let given = made(rt.alloc(), 3, &PIT, list, product)?;
-            same_numbers(&rt, list, product, &given, &wanted);
+            same_numbers(&rt, (product, list), given.as_slice(), &wanted);
         }
     }
     Ok(())
 }
+
+/// A list, and the heights of the left, the middle and the right column.
+static LOWEST_WAYS: [(&str, i64, i64, i64); 5] = [
+    ("", 9, 9, 9),
+    ("2 1", 3, 8, 8),
+    ("2 2", 8, 8, 8),
+    ("3 3", 8, 8, 2),
+    ("2 1\n2 3", 3, 8, 2),
+];
 
 /// Three columns inside an edge of nines, of heights 3, 8 and 2. With a sink on the left one the right one fills up to the middle one.
 #[test]
@@ -56,19 +63,13 @@ fn water_gets_to_a_listed_sink_over_the_lowest_way(rt: HostRuntime) -> Result<()
     let tile = [
         9, 9, 9, 9, 9, 9, 3, 8, 2, 9, 9, 3, 8, 2, 9, 9, 3, 8, 2, 9, 9, 9, 9, 9, 9,
     ];
-    for (list, left, middle, right) in [
-        ("", 9, 9, 9),
-        ("2 1", 3, 8, 8),
-        ("2 2", 8, 8, 8),
-        ("3 3", 8, 8, 2),
-        ("2 1\n2 3", 3, 8, 2),
-    ] {
+    for &(list, left, middle, right) in &LOWEST_WAYS {
         let given = made(rt.alloc(), 5, &tile, list, Held::Con)?;
         let (l, m, r) = (left, middle, right);
         let wanted = [
             9, 9, 9, 9, 9, 9, l, m, r, 9, 9, l, m, r, 9, 9, l, m, r, 9, 9, 9, 9, 9, 9,
         ];
-        same_numbers(&rt, list, Held::Con, &given, &wanted);
+        same_numbers(&rt, (Held::Con, list), given.as_slice(), &wanted);
     }
     Ok(())
 }
@@ -80,23 +81,26 @@ fn ranks_round_a_listed_cell_of_a_flat(rt: HostRuntime) -> Result<(), Fail> {
     let wanted = [
         0, 0, 0, 0, 0, 0, 1, 1, 1, 0, 0, 1, 0, 1, 0, 0, 1, 1, 1, 0, 0, 0, 0, 0, 0,
     ];
-    same_numbers(&rt, "2 2", Held::Rnk, &given, &wanted);
+    same_numbers(&rt, (Held::Rnk, "2 2"), given.as_slice(), &wanted);
     Ok(())
 }
+
+/// A product, and its numbers in each row.
+static OF_SLOPE: [(Held, [i64; 4]); 3] = [
+    (Held::Con, [4, 3, 2, 1]),
+    (Held::Dir, [1, 1, 1, 0]),
+    (Held::Acc, [1, 2, 3, 4]),
+];
 
 /// Cells of a slope that are listed drain on: they are open, and no outlets.
 #[test]
 fn listed_cells_of_a_slope_drain_on(rt: HostRuntime) -> Result<(), Fail> {
     let tile = [4, 3, 2, 1, 4, 3, 2, 1, 4, 3, 2, 1, 4, 3, 2, 1];
-    for (product, row) in [
-        (Held::Con, [4, 3, 2, 1]),
-        (Held::Dir, [1, 1, 1, 0]),
-        (Held::Acc, [1, 2, 3, 4]),
-    ] {
+    for &(product, row) in &OF_SLOPE {
         let [a, b, c, d] = row;
         let given = made(rt.alloc(), 4, &tile, "1 1\n2 2", product)?;
         let wanted = [a, b, c, d, a, b, c, d, a, b, c, d, a, b, c, d];
-        same_numbers(&rt, "1 1 and 2 2", product, &given, &wanted);
+        same_numbers(&rt, (product, "1 1 and 2 2"), given.as_slice(), &wanted);
     }
     Ok(())
 }
@@ -111,7 +115,7 @@ fn listed_cells_that_are_open_change_nothing(rt: HostRuntime) -> Result<(), Fail
         for list in ["0 0", "4 4\n\n0 3\n2 0\n0 3", "3 3", "2 3\n3 3\n1 0"] {
             let given = made(rt.alloc(), 5, &holed, list, product)?;
             let without = made(rt.alloc(), 5, &holed, "", product)?;
-            same_numbers(&rt, list, product, &given, without.as_slice());
+            same_numbers(&rt, (product, list), given.as_slice(), without.as_slice());
         }
     }
     Ok(())
@@ -130,25 +134,28 @@ fn refusal(
     Ok(make(alloc, &layout, &elevation, &sinks).err())
 }
 
+/// A void in the middle.
+const HOLED: [i16; 9] = [5, 5, 5, 5, VOID, 5, 5, 5, 5];
+
+/// The side of a tile, its samples, the list, and the least line whose cell has no data.
+static OFF_THE_DATA: [(u32, &[i16], &str, u64); 10] = [
+    (2, &[VOID; 4], "0 0", 1),
+    (2, &[VOID; 4], "\n \n0 0\n1 1", 3),
+    (3, &PIT, "0 0\n3 0", 2),
+    (3, &PIT, "0 3", 1),
+    (3, &PIT, "1 1\n\n\n0 3\n9 9", 4),
+    (3, &PIT, "2 2\r\n\r\n2 2\r\n3 3\r\n", 4),
+    (3, &PIT, "4294967295 4294967295", 1),
+    (3, &HOLED, "0 0\n\n1 1\n3 3\n1 1", 3),
+    (3, &HOLED, "3 3\n1 1", 1),
+    (3, &HOLED, "0 1\n0 1\n1 1\n1 1", 3),
+];
+
 #[test]
 fn the_least_line_without_data_is_told(rt: HostRuntime) -> Result<(), Fail> {
-    let voids = [VOID; 4];
-    let holed = [5, 5, 5, 5, VOID, 5, 5, 5, 5];
-    let cases: [(u32, &[i16], &str, u64); 10] = [
-        (2, voids.as_slice(), "0 0", 1),
-        (2, voids.as_slice(), "\n \n0 0\n1 1", 3),
-        (3, PIT.as_slice(), "0 0\n3 0", 2),
-        (3, PIT.as_slice(), "0 3", 1),
-        (3, PIT.as_slice(), "1 1\n\n\n0 3\n9 9", 4),
-        (3, PIT.as_slice(), "2 2\r\n\r\n2 2\r\n3 3\r\n", 4),
-        (3, PIT.as_slice(), "4294967295 4294967295", 1),
-        (3, holed.as_slice(), "0 0\n\n1 1\n3 3\n1 1", 3),
-        (3, holed.as_slice(), "3 3\n1 1", 1),
-        (3, holed.as_slice(), "0 1\n0 1\n1 1\n1 1", 3),
-    ];
-    for (side, samples, list, line) in cases {
+    for &(side, samples, list, line) in &OFF_THE_DATA {
         let told = refusal(rt.alloc(), side, samples, list)?;
-        assert_eq!(rt; told, Some(MakeRefusal::SinkNotData(line)), "{list}");
+        same(&rt, list, told, Some(MakeRefusal::SinkNotData(line)));
     }
     Ok(())
 }
@@ -169,8 +176,8 @@ fn a_listed_pit_after_refused_memory(rt: HostRuntime) -> Result<(), Fail> {
     let right = Ok(Some([5, 5, 5, 5, 1, 5, 5, 5, 5]));
     let first = con_with(rt.alloc(), name, "1 1");
     let wanted = owed_unless_right(rt.alloc(), first, Err(MakeRefusal::OutOfMemory), right);
-    assert_eq!(rt; first, wanted, "first");
-    assert_eq!(rt; con_with(rt.alloc(), name, "1 1"), right, "again");
+    same(&rt, "first", first, wanted);
+    same(&rt, "again", con_with(rt.alloc(), name, "1 1"), right);
     Ok(())
 }
 
@@ -181,7 +188,8 @@ fn a_sink_outside_after_refused_memory(rt: HostRuntime) -> Result<(), Fail> {
     let right = Err(MakeRefusal::SinkNotData(2));
     let first = con_with(rt.alloc(), name, "1 1\n1 3");
     let wanted = owed_unless_right(rt.alloc(), first, Err(MakeRefusal::OutOfMemory), right);
-    assert_eq!(rt; first, wanted, "first");
-    assert_eq!(rt; con_with(rt.alloc(), name, "1 1\n1 3"), right, "again");
+    same(&rt, "first", first, wanted);
+    let again = con_with(rt.alloc(), name, "1 1\n1 3");
+    same(&rt, "again", again, right);
     Ok(())
 }

@@ -1,6 +1,7 @@
 //! Terrains that are hard to drain, with listed sinks inside. Their products must be accepted with the list, each listed cell stays at its own
 //! ground, and a listed local minimum is an outlet.
 
+use crate::agree::same;
 use crate::made::{elevation, one_tile};
 use crate::terrain_samples::{TERRAINS, Terrain, samples};
 use drain_grid::{Cell, Direction, Elevation, ProductSet, Raster, parse_sinks};
@@ -128,11 +129,9 @@ fn listed_cells_of_hard_terrains(rt: HostRuntime) -> Result<(), Fail> {
             let (found, is_accepted) = terrain_made(rt.alloc(), side, terrain, 3)?;
             // A cone falls everywhere from its inside to its edge.
             let has_minima = !matches!(terrain, Terrain::Cone);
-            assert_eq!(rt;
-                (is_accepted, 0 < found.minima, found.raised, found.draining),
-                (true, has_minima, 0, 0),
-                "{terrain:?} {side}"
-            );
+            let counted = (0 < found.minima, found.raised, found.draining);
+            let given = (is_accepted, counted);
+            same(&rt, (terrain, side), given, (true, (has_minima, 0, 0)));
         }
     }
     Ok(())

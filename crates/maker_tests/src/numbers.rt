@@ -1,8 +1,9 @@
 //! The numbers of small tiles' products.
 
+use crate::agree::{same, same_numbers};
 use crate::made::{accepted, con_of_nine, elevation, one_tile};
 use crate::raster_numbers::Numbers;
-use drain_grid::{Held, Sinks};
+use drain_grid::{Held, Sinks, VOID};
 use drain_hgt::TileName;
 use drain_maker::{MakeRefusal, make};
 use drain_rules::Counts;
@@ -18,42 +19,47 @@ fn made(alloc: Global, side: u32, samples: &[i16], product: Held) -> Result<Numb
     Ok(Numbers::of(products.raster(product)))
 }
 
+/// The sample of a tile, a product, and its numbers.
+static OF_FOUR: [(i16, Held, [i64; 4]); 10] = [
+    (0, Held::Con, [0, 0, 0, 0]),
+    (0, Held::Dir, [0, 0, 0, 0]),
+    (0, Held::Acc, [1, 1, 1, 1]),
+    (0, Held::Bas, [1, 2, 3, 4]),
+    (0, Held::Rnk, [0, 0, 0, 0]),
+    (VOID, Held::Con, [-32768, -32768, -32768, -32768]),
+    (VOID, Held::Dir, [255, 255, 255, 255]),
+    (VOID, Held::Acc, [0, 0, 0, 0]),
+    (VOID, Held::Bas, [0, 0, 0, 0]),
+    (
+        VOID,
+        Held::Rnk,
+        [4294967295, 4294967295, 4294967295, 4294967295],
+    ),
+];
+
 #[test]
 fn tiles_of_four_samples(rt: HostRuntime) -> Result<(), Fail> {
-    let void = -32768;
-    for (sample, product, wanted) in [
-        (0, Held::Con, [0, 0, 0, 0]),
-        (0, Held::Dir, [0, 0, 0, 0]),
-        (0, Held::Acc, [1, 1, 1, 1]),
-        (0, Held::Bas, [1, 2, 3, 4]),
-        (0, Held::Rnk, [0, 0, 0, 0]),
-        (void, Held::Con, [-32768, -32768, -32768, -32768]),
-        (void, Held::Dir, [255, 255, 255, 255]),
-        (void, Held::Acc, [0, 0, 0, 0]),
-        (void, Held::Bas, [0, 0, 0, 0]),
-        (
-            void,
-            Held::Rnk,
-            [4294967295, 4294967295, 4294967295, 4294967295],
-        ),
-    ] {
+    for &(sample, product, wanted) in &OF_FOUR {
         let given = made(rt.alloc(), 2, &[sample, sample, sample, sample], product)?;
-        assert_eq!(rt; given.as_slice(), wanted.as_slice(), "{sample} {product:?}");
+        same_numbers(&rt, (sample, product), given.as_slice(), &wanted);
     }
     Ok(())
 }
 
+/// A product, and its numbers.
+static OF_SLOPE: [(Held, [i64; 16]); 4] = [
+    (Held::Con, [4, 3, 2, 1, 4, 3, 2, 1, 4, 3, 2, 1, 4, 3, 2, 1]),
+    (Held::Dir, [1, 1, 1, 0, 1, 1, 1, 0, 1, 1, 1, 0, 1, 1, 1, 0]),
+    (Held::Acc, [1, 2, 3, 4, 1, 2, 3, 4, 1, 2, 3, 4, 1, 2, 3, 4]),
+    (Held::Bas, [1, 1, 1, 1, 2, 2, 2, 2, 3, 3, 3, 3, 4, 4, 4, 4]),
+];
+
 #[test]
 fn slope_to_the_east(rt: HostRuntime) -> Result<(), Fail> {
     let tile = [4, 3, 2, 1, 4, 3, 2, 1, 4, 3, 2, 1, 4, 3, 2, 1];
-    for (product, wanted) in [
-        (Held::Con, [4, 3, 2, 1, 4, 3, 2, 1, 4, 3, 2, 1, 4, 3, 2, 1]),
-        (Held::Dir, [1, 1, 1, 0, 1, 1, 1, 0, 1, 1, 1, 0, 1, 1, 1, 0]),
-        (Held::Acc, [1, 2, 3, 4, 1, 2, 3, 4, 1, 2, 3, 4, 1, 2, 3, 4]),
-        (Held::Bas, [1, 1, 1, 1, 2, 2, 2, 2, 3, 3, 3, 3, 4, 4, 4, 4]),
-    ] {
+    for &(product, wanted) in &OF_SLOPE {
         let given = made(rt.alloc(), 4, &tile, product)?;
-        assert_eq!(rt; given.as_slice(), wanted.as_slice(), "{product:?}");
+        same_numbers(&rt, product, given.as_slice(), &wanted);
     }
     Ok(())
 }
@@ -65,19 +71,22 @@ fn ranks_on_a_flat(rt: HostRuntime) -> Result<(), Fail> {
     let wanted = [
         0, 0, 0, 0, 0, 0, 1, 1, 1, 0, 0, 1, 2, 1, 0, 0, 1, 1, 1, 0, 0, 0, 0, 0, 0,
     ];
-    assert_eq!(rt; given.as_slice(), wanted.as_slice());
+    same_numbers(&rt, "ranks", given.as_slice(), &wanted);
     Ok(())
 }
+
+/// A product, its number at the edge, and in the middle; none where that is another than 0.
+static OF_PIT: [(Held, i64, Option<i64>); 3] = [
+    (Held::Con, 5, Some(5)),
+    (Held::Dir, 0, None),
+    (Held::Rnk, 0, Some(1)),
+];
 
 /// A pit of one cell is filled, and drains to one of the eight cells of the edge: which of them no definition says.
 #[test]
 fn pit_in_the_middle(rt: HostRuntime) -> Result<(), Fail> {
     let tile = [5, 5, 5, 5, 1, 5, 5, 5, 5];
-    for (product, edge, middle) in [
-        (Held::Con, 5, Some(5)),
-        (Held::Dir, 0, None),
-        (Held::Rnk, 0, Some(1)),
-    ] {
+    for &(product, edge, middle) in &OF_PIT {
         let mut given = made(rt.alloc(), 3, &tile, product)?;
         let in_middle = given.list[4];
         let is_right = match middle {
@@ -86,11 +95,9 @@ fn pit_in_the_middle(rt: HostRuntime) -> Result<(), Fail> {
         };
         given.list[4] = edge;
         let is_even = given.as_slice().iter().all(|number| *number == edge);
-        assert_eq!(rt;
-            (given.count, is_right, is_even),
-            (9, true, true),
-            "{product:?}, {in_middle} in the middle"
-        );
+        let told = (given.count, is_right, is_even);
+        let case = (product, in_middle, "in the middle");
+        same(&rt, case, told, (9, true, true));
     }
     Ok(())
 }
@@ -102,7 +109,8 @@ fn accumulation_at_a_pit(rt: HostRuntime) -> Result<(), Fail> {
     let in_middle = counts.list[4];
     counts.list[..9].sort_unstable();
     let wanted = [1, 1, 1, 1, 1, 1, 1, 1, 2];
-    assert_eq!(rt; (in_middle, counts.as_slice()), (1, wanted.as_slice()));
+    same(&rt, "in the middle", in_middle, 1);
+    same_numbers(&rt, "counts", counts.as_slice(), &wanted);
     Ok(())
 }
 
@@ -127,8 +135,8 @@ fn pit_after_refused_memory(rt: HostRuntime) -> Result<(), Fail> {
     let right = Ok(Some([5; 9]));
     let first = con_without_sinks(rt.alloc(), name);
     let wanted = owed_unless_right(rt.alloc(), first, Err(MakeRefusal::OutOfMemory), right);
-    assert_eq!(rt; first, wanted, "first");
-    assert_eq!(rt; con_without_sinks(rt.alloc(), name), right, "again");
+    same(&rt, "first", first, wanted);
+    same(&rt, "again", con_without_sinks(rt.alloc(), name), right);
     let counted = Counts {
         rows: 3,
         cols: 3,
@@ -136,6 +144,6 @@ fn pit_after_refused_memory(rt: HostRuntime) -> Result<(), Fail> {
         raised: 1,
         outlets: 8,
     };
-    assert_eq!(rt; counts_of_pit(rt.alloc())?, counted, "accepted");
+    same(&rt, "accepted", counts_of_pit(rt.alloc())?, counted);
     Ok(())
 }

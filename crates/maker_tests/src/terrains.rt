@@ -1,5 +1,6 @@
 //! Terrains that are hard to drain. Their products must be accepted.
 
+use crate::agree::same;
 use crate::made::{accepted, one_tile};
 use crate::terrain_samples::{TERRAINS, Terrain, samples};
 use drain_grid::VOID;
@@ -7,6 +8,7 @@ use drain_hgt::TileName;
 use drain_mosaic::Layout;
 use drain_rules::Counts;
 use std::alloc::Global;
+use std::process::Abort;
 use std::test::Fail;
 
 /// A tile of side 5 with an edge of ones, and inside samples 0 or 2 by the bits of the choice.
@@ -55,52 +57,50 @@ fn first_wrong(alloc: Global, eighth: u8) -> Result<Option<(u32, Counts)>, Fail>
     Ok(None)
 }
 
+/// Ends the test where the verdict counts a choice of an eighth of them otherwise.
+fn none_wrong(rt: &impl Abort, alloc: Global, eighth: u8) -> Result<(), Fail> {
+    same(rt, eighth, first_wrong(alloc, eighth)?, None);
+    Ok(())
+}
+
 #[test]
 fn tiles_of_nine_inner_samples_from_0(rt: HostRuntime) -> Result<(), Fail> {
-    assert_eq!(rt; first_wrong(rt.alloc(), 0)?, None);
-    Ok(())
+    none_wrong(&rt, rt.alloc(), 0)
 }
 
 #[test]
 fn tiles_of_nine_inner_samples_from_64(rt: HostRuntime) -> Result<(), Fail> {
-    assert_eq!(rt; first_wrong(rt.alloc(), 1)?, None);
-    Ok(())
+    none_wrong(&rt, rt.alloc(), 1)
 }
 
 #[test]
 fn tiles_of_nine_inner_samples_from_128(rt: HostRuntime) -> Result<(), Fail> {
-    assert_eq!(rt; first_wrong(rt.alloc(), 2)?, None);
-    Ok(())
+    none_wrong(&rt, rt.alloc(), 2)
 }
 
 #[test]
 fn tiles_of_nine_inner_samples_from_192(rt: HostRuntime) -> Result<(), Fail> {
-    assert_eq!(rt; first_wrong(rt.alloc(), 3)?, None);
-    Ok(())
+    none_wrong(&rt, rt.alloc(), 3)
 }
 
 #[test]
 fn tiles_of_nine_inner_samples_from_256(rt: HostRuntime) -> Result<(), Fail> {
-    assert_eq!(rt; first_wrong(rt.alloc(), 4)?, None);
-    Ok(())
+    none_wrong(&rt, rt.alloc(), 4)
 }
 
 #[test]
 fn tiles_of_nine_inner_samples_from_320(rt: HostRuntime) -> Result<(), Fail> {
-    assert_eq!(rt; first_wrong(rt.alloc(), 5)?, None);
-    Ok(())
+    none_wrong(&rt, rt.alloc(), 5)
 }
 
 #[test]
 fn tiles_of_nine_inner_samples_from_384(rt: HostRuntime) -> Result<(), Fail> {
-    assert_eq!(rt; first_wrong(rt.alloc(), 6)?, None);
-    Ok(())
+    none_wrong(&rt, rt.alloc(), 6)
 }
 
 #[test]
 fn tiles_of_nine_inner_samples_from_448(rt: HostRuntime) -> Result<(), Fail> {
-    assert_eq!(rt; first_wrong(rt.alloc(), 7)?, None);
-    Ok(())
+    none_wrong(&rt, rt.alloc(), 7)
 }
 
 /// What the verdict on the products of two tiles with a gap between them counts.
@@ -124,7 +124,7 @@ fn tiles_apart(rt: HostRuntime) -> Result<(), Fail> {
         raised: 0,
         outlets: 16,
     };
-    assert_eq!(rt; apart_made(rt.alloc())?, wanted);
+    same(&rt, "apart", apart_made(rt.alloc())?, wanted);
     Ok(())
 }
 
@@ -140,7 +140,8 @@ fn hard_terrains(rt: HostRuntime) -> Result<(), Fail> {
     for terrain in TERRAINS {
         for side in [2, 3, 4, 5, 8, 17, 33, 65] {
             let counts = terrain_made(rt.alloc(), side, terrain, 0)?;
-            assert_eq!(rt; (counts.rows, counts.cols), (side, side), "{terrain:?}");
+            let given = (counts.rows, counts.cols);
+            same(&rt, terrain, given, (side, side));
         }
     }
     Ok(())
@@ -152,11 +153,8 @@ fn hard_terrains_whose_heights_cross_0(rt: HostRuntime) -> Result<(), Fail> {
         for side in [2, 3, 5, 8, 17] {
             let counts = terrain_made(rt.alloc(), side, terrain, 0)?;
             for lowered in [1, 3] {
-                assert_eq!(rt;
-                    terrain_made(rt.alloc(), side, terrain, lowered)?,
-                    counts,
-                    "{terrain:?}"
-                );
+                let given = terrain_made(rt.alloc(), side, terrain, lowered)?;
+                same(&rt, terrain, given, counts);
             }
         }
     }

@@ -7,6 +7,7 @@ use drain_grid::values::{GREATEST_PIXEL, LEAST_PIXEL};
 use drain_grid::{Elevation, Product, ProductSet, Raster, Rule, Shape, Sinks, parse_sinks};
 use drain_rules::{Counts, Verdict, verdict_of};
 use std::alloc::Global;
+use std::fmt::Debug;
 use std::process::Abort;
 use std::test::Fail;
 
@@ -156,6 +157,16 @@ pub fn changed(
 /// assertion in place.
 pub fn same(rt: &impl Abort, case: &str, given: Verdict, wanted: Verdict) {
     assert_eq!(rt; given, wanted, "{case}");
+}
+
+/// The same of any two.
+pub fn equal<C: Debug + Drop, T: PartialEq + Debug + Drop>(
+    rt: &impl Abort,
+    case: C,
+    given: T,
+    wanted: T,
+) {
+    assert_eq!(rt; given, wanted, "{case:?}");
 }
 
 pub fn rejected(rule: Rule, row: u8, col: u8) -> Verdict {

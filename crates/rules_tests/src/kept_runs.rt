@@ -1,5 +1,6 @@
 //! For which cells of three long rows their lanes vouch: that they do for most is what no contract says.
 
+use crate::examples::equal;
 use crate::rows_of_numbers::{COLS, kept_by_lanes};
 use drain_rules::Kept;
 use std::test::Fail;
@@ -10,6 +11,25 @@ fn level(end: u32) -> Kept {
     Kept { end, raised: 0 }
 }
 
+/// A list, a row, the column from which cells are kept, and the column before which they are.
+static LEVEL_ROWS: [(&str, u8, u32, u32); 12] = [
+    // Cells inside, so many as are looked for marks at a time.
+    ("", 1, 1, 129),
+    ("", 1, 470, 598),
+    // The edge of the grid.
+    ("", 1, 0, 0),
+    ("", 1, 500, 599),
+    ("", 1, 599, 599),
+    ("", 1, 600, 600),
+    ("", 0, 1, 1),
+    ("", 2, 1, 1),
+    // Listed sinks, in the row and beside it.
+    ("1 50", 1, 1, 50),
+    ("1 50", 1, 50, 50),
+    ("1 50", 1, 51, 179),
+    ("0 50", 1, 1, 129),
+];
+
 #[test]
 fn cells_of_level_rows(rt: HostRuntime) -> Result<(), Fail> {
     let shafts = Shafts {
@@ -18,25 +38,9 @@ fn cells_of_level_rows(rt: HostRuntime) -> Result<(), Fail> {
         listed: &[],
     };
     let numbers = shafts.numbers(rt.alloc())?;
-    for (text, row, from, wanted) in [
-        // Cells inside, so many as are looked for marks at a time.
-        ("", 1, 1, level(129)),
-        ("", 1, 470, level(598)),
-        // The edge of the grid.
-        ("", 1, 0, level(0)),
-        ("", 1, 500, level(599)),
-        ("", 1, 599, level(599)),
-        ("", 1, 600, level(600)),
-        ("", 0, 1, level(1)),
-        ("", 2, 1, level(1)),
-        // Listed sinks, in the row and beside it.
-        ("1 50", 1, 1, level(50)),
-        ("1 50", 1, 50, level(50)),
-        ("1 50", 1, 51, level(179)),
-        ("0 50", 1, 1, level(129)),
-    ] {
+    for &(text, row, from, end) in &LEVEL_ROWS {
         let kept = kept_by_lanes(rt.alloc(), text.as_bytes(), &numbers, row, from)?;
-        assert_eq!(&rt; kept, wanted);
+        equal(&rt, (text, row, from), kept, level(end));
     }
     Ok(())
 }
@@ -63,7 +67,7 @@ fn cells_beside_a_void(rt: HostRuntime) -> Result<(), Fail> {
         put_void(&mut numbers, nodata);
         for (from, wanted) in [(1, level(49)), (49, level(49)), (52, level(180))] {
             let kept = kept_by_lanes(rt.alloc(), &[], &numbers, 1, from)?;
-            assert_eq!(&rt; kept, wanted);
+            equal(&rt, (nodata, from), kept, wanted);
         }
     }
     Ok(())

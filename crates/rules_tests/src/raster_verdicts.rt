@@ -36,30 +36,36 @@ fn verdict_changed(
     verdict_on(alloc, side.into(), side.into(), &numbers)
 }
 
+/// A product whose number at a cell is another, the number, the rule that fails, and the row and the column.
+static CHANGED_SLOPES: [(Part, i64, Rule, u8, u8); 6] = [
+    (Part::Dir, 3, Rule::BadCode, 0, 0),
+    (Part::Con, 2, Rule::BelowGround, 0, 0),
+    (Part::Con, 5, Rule::OpenRaised, 0, 0),
+    (Part::Dir, 2, Rule::Slope, 1, 0),
+    (Part::Acc, 5, Rule::Accumulation, 1, 3),
+    (Part::Bas, 9, Rule::Label, 0, 0),
+];
+
 #[test]
 fn rejects_a_changed_slope(rt: HostRuntime) -> Result<(), Fail> {
-    for (part, number, rule, row, col) in [
-        (Part::Dir, 3, Rule::BadCode, 0, 0),
-        (Part::Con, 2, Rule::BelowGround, 0, 0),
-        (Part::Con, 5, Rule::OpenRaised, 0, 0),
-        (Part::Dir, 2, Rule::Slope, 1, 0),
-        (Part::Acc, 5, Rule::Accumulation, 1, 3),
-        (Part::Bas, 9, Rule::Label, 0, 0),
-    ] {
+    for &(part, number, rule, row, col) in &CHANGED_SLOPES {
         let verdict = verdict_changed(rt.alloc(), 4, &slope(), part, (row, col), number)?;
         same(&rt, rule.name(), verdict, rejected(rule, row, col));
     }
     Ok(())
 }
 
+/// A product whose number in the middle is another, the number, the rule that fails, and the row and the column.
+static CHANGED_PITS: [(&str, Part, i64, Rule, u8, u8); 4] = [
+    ("too high", Part::Con, 6, Rule::NotLeast, 1, 1),
+    ("filled halfway", Part::Con, 3, Rule::Slope, 0, 0),
+    ("no direction", Part::Dir, 0, Rule::FlatStep, 1, 1),
+    ("the rank of the next", Part::Rnk, 0, Rule::FlatStep, 1, 1),
+];
+
 #[test]
 fn rejects_a_changed_pit(rt: HostRuntime) -> Result<(), Fail> {
-    for (name, part, number, rule, row, col) in [
-        ("too high", Part::Con, 6, Rule::NotLeast, 1, 1),
-        ("filled halfway", Part::Con, 3, Rule::Slope, 0, 0),
-        ("no direction", Part::Dir, 0, Rule::FlatStep, 1, 1),
-        ("the rank of the next", Part::Rnk, 0, Rule::FlatStep, 1, 1),
-    ] {
+    for &(name, part, number, rule, row, col) in &CHANGED_PITS {
         let verdict = verdict_changed(rt.alloc(), 3, &pit(), part, (1, 1), number)?;
         same(&rt, name, verdict, rejected(rule, row, col));
     }

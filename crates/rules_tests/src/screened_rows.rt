@@ -1,5 +1,6 @@
 //! The screen of rows that are longer than one of its blocks.
 
+use crate::examples::equal;
 use drain_rules::screen::cells_above_ground;
 use std::test::Fail;
 
@@ -12,7 +13,7 @@ fn tells_the_first_place_below_the_ground(rt: HostRuntime) -> Result<(), Fail> {
             con[place] = -8;
             con[second] = -8;
             let found = cells_above_ground(&con, &[-7; 600]);
-            assert_eq!(rt; found, place, "{second}");
+            equal(&rt, second, found, place);
         }
     }
     Ok(())
@@ -27,6 +28,6 @@ fn takes_in_rows_that_are_nowhere_below(rt: HostRuntime) -> Result<(), Fail> {
         cells_above_ground(&[32767; 600], &[-32768; 600]),
         cells_above_ground(&[], &[]),
     ];
-    assert_eq!(rt; found, [600, 600, 600, 0]);
+    equal(&rt, "nowhere", found, [600, 600, 600, 0]);
     Ok(())
 }

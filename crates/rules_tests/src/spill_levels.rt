@@ -1,11 +1,12 @@
 //! Beside the proof that an accepted `con` shows spill levels, a slow plain twin, which finds the spill level of a closed cell by
 //! itself.
 
+use crate::examples::equal;
 use drain_rules::{FillVerdict, check_fill};
 use std::test::Fail;
 
 /// The neighbours of the middle cell of a tile of side 3: the code that names each, and its place.
-const BESIDE_THE_MIDDLE: [(u8, usize); 8] = [
+static BESIDE_THE_MIDDLE: [(u8, usize); 8] = [
     (1, 5),
     (2, 8),
     (4, 7),
@@ -39,7 +40,7 @@ fn raised_by(heights: &[u8; 9], place: usize) -> u8 {
 fn middle_level(heights: &[u8; 9]) -> u8 {
     let mut level = u8::MAX;
     for _round in 0..9 {
-        for (_, place) in BESIDE_THE_MIDDLE {
+        for &(_, place) in &BESIDE_THE_MIDDLE {
             level = level.min(raised_by(heights, place));
         }
     }
@@ -65,11 +66,12 @@ fn accepts_the_spill_level_alone(rt: HostRuntime) -> Result<(), Fail> {
         let heights = heights_of(number);
         let level = middle_level(&heights);
         for con in 0..4 {
-            for (code, place) in BESIDE_THE_MIDDLE {
+            for &(code, place) in &BESIDE_THE_MIDDLE {
                 let answer = check_fill(3, input_of(&heights, con, code).as_slice());
                 let accepted = matches!(answer, Ok(FillVerdict::Accepted(_)));
                 let wanted = con == level && raised_by(&heights, place) == level;
-                assert_eq!(rt; accepted, wanted, "tile {number} con {con} code {code}");
+                let case = (("tile", number), ("con", con), ("code", code));
+                equal(&rt, case, accepted, wanted);
             }
         }
     }

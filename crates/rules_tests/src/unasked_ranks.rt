@@ -65,53 +65,61 @@ fn ranks_that_keep_no_rule(rt: HostRuntime) -> Result<(), Fail> {
     Ok(())
 }
 
+const CORNER: (u8, u16) = (0, 0);
+
+const INSIDE: (u8, u16) = (1, 7);
+
+/// A number that changes nothing.
+const SAME_HEIGHT: Change = (Part::Con, INSIDE, 0);
+
+/// The rule that fails, the numbers that are changed, and the row and the column.
+static CHANGES: [(Rule, Change, Change, u8, u8); 10] = [
+    (
+        Rule::Missing,
+        (Part::Con, CORNER, -32768),
+        SAME_HEIGHT,
+        0,
+        0,
+    ),
+    (Rule::BadCode, (Part::Dir, CORNER, 3), SAME_HEIGHT, 0, 0),
+    (
+        Rule::BelowGround,
+        (Part::Con, CORNER, -1),
+        SAME_HEIGHT,
+        0,
+        0,
+    ),
+    (Rule::OpenRaised, (Part::Con, CORNER, 1), SAME_HEIGHT, 0, 0),
+    (Rule::OutletCode, (Part::Dir, CORNER, 1), SAME_HEIGHT, 0, 0),
+    (
+        Rule::Accumulation,
+        (Part::Acc, CORNER, 2),
+        SAME_HEIGHT,
+        0,
+        0,
+    ),
+    (Rule::SharedLabel, (Part::Bas, (0, 1), 1), SAME_HEIGHT, 0, 1),
+    (
+        Rule::NotLeast,
+        (Part::Con, INSIDE, 1),
+        (Part::Con, INSIDE, 1),
+        1,
+        7,
+    ),
+    (Rule::Label, (Part::Bas, INSIDE, 9), SAME_HEIGHT, 1, 7),
+    // It leads nowhere, and its outlet counts no cell but itself.
+    (
+        Rule::FlatStep,
+        (Part::Dir, INSIDE, 0),
+        (Part::Acc, (0, 7), 1),
+        1,
+        7,
+    ),
+];
+
 #[test]
 fn the_other_rules_without_ranks(rt: HostRuntime) -> Result<(), Fail> {
-    let (corner, inside) = ((0, 0), (1, 7));
-    let same_height = (Part::Con, inside, 0);
-    for (rule, change, other, row, col) in [
-        (
-            Rule::Missing,
-            (Part::Con, corner, -32768),
-            same_height,
-            0,
-            0,
-        ),
-        (Rule::BadCode, (Part::Dir, corner, 3), same_height, 0, 0),
-        (
-            Rule::BelowGround,
-            (Part::Con, corner, -1),
-            same_height,
-            0,
-            0,
-        ),
-        (Rule::OpenRaised, (Part::Con, corner, 1), same_height, 0, 0),
-        (Rule::OutletCode, (Part::Dir, corner, 1), same_height, 0, 0),
-        (
-            Rule::Accumulation,
-            (Part::Acc, corner, 2),
-            same_height,
-            0,
-            0,
-        ),
-        (Rule::SharedLabel, (Part::Bas, (0, 1), 1), same_height, 0, 1),
-        (
-            Rule::NotLeast,
-            (Part::Con, inside, 1),
-            (Part::Con, inside, 1),
-            1,
-            7,
-        ),
-        (Rule::Label, (Part::Bas, inside, 9), same_height, 1, 7),
-        // It leads nowhere, and its outlet counts no cell but itself.
-        (
-            Rule::FlatStep,
-            (Part::Dir, inside, 0),
-            (Part::Acc, (0, 7), 1),
-            1,
-            7,
-        ),
-    ] {
+    for &(rule, change, other, row, col) in &CHANGES {
         let given = verdict_changed(rt.alloc(), change, other)?;
         same(&rt, rule.name(), given, rejected(rule, row, col));
     }

@@ -1,5 +1,6 @@
 //! Right products, and what an acceptance leaves behind.
 
+use crate::agree::{same, same_line};
 use crate::example::{Example, one_tile, products_on, tile};
 use crate::runs::{products_at_once, tiles_at_once, told};
 use drain_device::ByteSource;
@@ -34,7 +35,7 @@ fn accepts_right_products_of_one_tile(rt: HostRuntime) -> Result<(), Fail> {
     ];
     for (side, numbers, line) in cases {
         let told = told(rt.alloc(), &one_tile(side, numbers)?)?;
-        assert_eq!(rt; told.as_str(), line);
+        same_line(&rt, line, &told, line);
     }
     Ok(())
 }
@@ -46,10 +47,8 @@ fn accepts_tiles_with_a_gap_between_them(rt: HostRuntime) -> Result<(), Fail> {
     for name in ["N00E000.hgt", "N00E002.hgt"] {
         example.push_tile(tile(name, &[0; 9]))?;
     }
-    assert_eq!(rt;
-        told(rt.alloc(), &example)?.as_str(),
-        "accepted rows=3 cols=7 data=18 raised=0 outlets=16"
-    );
+    let line = "accepted rows=3 cols=7 data=18 raised=0 outlets=16";
+    same_line(&rt, "a gap", &told(rt.alloc(), &example)?, line);
     Ok(())
 }
 
@@ -123,15 +122,10 @@ fn leaves_the_bytes_behind_a_raster(rt: HostRuntime) -> Result<(), Fail> {
     example.con.body.extend(b"behind");
     example.rnk.body.extend(b"end");
     let left = checked(rt.alloc(), &example)?;
-    assert_eq!(rt;
-        (
-            left.line.as_str(),
-            left.of_rasters,
-            left.headers,
-            left.names
-        ),
-        (PIT_LINE, [Some(6), Some(0), Some(3)], [true; 5], true)
-    );
+    same_line(&rt, "bytes behind", &left.line, PIT_LINE);
+    let of_rasters = [Some(6), Some(0), Some(3)];
+    same(&rt, "rasters", left.of_rasters, of_rasters);
+    same(&rt, "names", (left.headers, left.names), ([true; 5], true));
     Ok(())
 }
 
@@ -141,9 +135,9 @@ fn reads_one_byte_past_the_end_of_a_tile(rt: HostRuntime) -> Result<(), Fail> {
     let mut example = one_tile(3, &pit())?;
     example.tiles[0].body.extend(b"hello");
     let left = checked(rt.alloc(), &example)?;
-    assert_eq!(rt;
-        (left.line.as_str(), left.of_tile, left.of_rasters[0]),
-        ("refused BadTileLength N00E000.hgt", Some(4), Some(0))
-    );
+    let line = "refused BadTileLength N00E000.hgt";
+    same_line(&rt, "a long tile", &left.line, line);
+    let given = (left.of_tile, left.of_rasters[0]);
+    same(&rt, "a long tile and con", given, (Some(4), Some(0)));
     Ok(())
 }

@@ -69,20 +69,26 @@ fn slope_with(changes: &[(usize, i64)]) -> Result<Example, Fail> {
     one_tile(4, &numbers)
 }
 
+/// Numbers of the slope that are changed, and the line of the rejection.
+static CHANGES: [(&[(usize, i64)], &str); 6] = [
+    (&[(32, 3)], "rejected NoEnd row=0 col=0"),
+    (&[(32, 255)], "rejected NoEnd row=0 col=0"),
+    // The last cell of a row leads off the grid, and the others lead to it.
+    (&[(39, 1)], "rejected NoEnd row=1 col=0"),
+    (&[(55, 5)], "rejected rule=13 Accumulation row=1 col=3"),
+    (
+        &[(16, 5), (55, 5)],
+        "rejected rule=5 OpenRaised row=0 col=0",
+    ),
+    (
+        &[(68, 1), (69, 1), (70, 1), (71, 1)],
+        "rejected rule=15 SharedLabel row=1 col=3",
+    ),
+];
+
 #[test]
 fn rejects_a_changed_slope(rt: HostRuntime) -> Result<(), Fail> {
-    let con_first = "rejected rule=5 OpenRaised row=0 col=0";
-    let shared = [(68, 1), (69, 1), (70, 1), (71, 1)];
-    let cases: [(&[(usize, i64)], &str); 6] = [
-        (&[(32, 3)], "rejected NoEnd row=0 col=0"),
-        (&[(32, 255)], "rejected NoEnd row=0 col=0"),
-        // The last cell of a row leads off the grid, and the others lead to it.
-        (&[(39, 1)], "rejected NoEnd row=1 col=0"),
-        (&[(55, 5)], "rejected rule=13 Accumulation row=1 col=3"),
-        (&[(16, 5), (55, 5)], con_first),
-        (&shared, "rejected rule=15 SharedLabel row=1 col=3"),
-    ];
-    for (place, (changes, line)) in cases.iter().enumerate() {
+    for (place, (changes, line)) in CHANGES.iter().enumerate() {
         let given = audited(rt.alloc(), &slope_with(changes)?)?;
         same_line(&rt, place, &given, line);
     }
@@ -164,17 +170,20 @@ fn refuses_by_the_first_fault(rt: HostRuntime) -> Result<(), Fail> {
     Ok(())
 }
 
+/// Owners of sources, each with a call in its middle.
+static MIDDLES: [(Owner, u64); 5] = [
+    (Owner::Tile, 17),
+    (Owner::Raster(Held::Con), 17),
+    (Owner::Raster(Held::Dir), 9),
+    (Owner::Raster(Held::Acc), 33),
+    (Owner::Raster(Held::Bas), 33),
+];
+
 /// Each body of the slope faults in its middle, and then goes on.
 #[test]
 fn bodies_that_go_on_after_a_fault(rt: HostRuntime) -> Result<(), Fail> {
     let slope = one_tile(4, &slope())?;
-    for (owner, first) in [
-        (Owner::Tile, 17u64),
-        (Owner::Raster(Held::Con), 17),
-        (Owner::Raster(Held::Dir), 9),
-        (Owner::Raster(Held::Acc), 33),
-        (Owner::Raster(Held::Bas), 33),
-    ] {
+    for &(owner, first) in &MIDDLES {
         for (times, answer, line) in [
             (1u64, DeviceFault::Failed, "failed ReadFailed"),
             (999, DeviceFault::Interrupted, SLOPE_LINE),

@@ -11,7 +11,7 @@ use worked_grids::{SLOPE_LINE, slope};
 #[test]
 fn a_tile_at_each_length(rt: HostRuntime) -> Result<(), Fail> {
     let whole = one_tile(4, &slope())?;
-    for length in 0..=32usize {
+    for length in 0..=32 {
         let line = if length < 32 {
             "refused BadTileLength N00E000.hgt"
         } else {
@@ -25,16 +25,19 @@ fn a_tile_at_each_length(rt: HostRuntime) -> Result<(), Fail> {
     Ok(())
 }
 
+/// A product, how many bytes its raster has, and the line where there are fewer.
+static RASTERS: [(Held, usize, &str); 5] = [
+    (Held::Con, 32, "refused RasterShort con"),
+    (Held::Dir, 16, "refused RasterShort dir"),
+    (Held::Acc, 64, "refused RasterShort acc"),
+    (Held::Bas, 64, "refused RasterShort bas"),
+    (Held::Rnk, 64, "refused RasterShort rnk"),
+];
+
 #[test]
 fn each_raster_at_each_length(rt: HostRuntime) -> Result<(), Fail> {
     let whole = one_tile(4, &slope())?;
-    for (product, needed, short) in [
-        (Held::Con, 32usize, "refused RasterShort con"),
-        (Held::Dir, 16, "refused RasterShort dir"),
-        (Held::Acc, 64, "refused RasterShort acc"),
-        (Held::Bas, 64, "refused RasterShort bas"),
-        (Held::Rnk, 64, "refused RasterShort rnk"),
-    ] {
+    for &(product, needed, short) in &RASTERS {
         for length in 0..=needed {
             let line = if length < needed { short } else { SLOPE_LINE };
             let mut cut = whole;
@@ -47,7 +50,7 @@ fn each_raster_at_each_length(rt: HostRuntime) -> Result<(), Fail> {
 }
 
 /// The lines of con's header on the slope.
-const LINES: [&str; 15] = [
+static LINES: [&str; 15] = [
     "BYTEORDER I",
     "LAYOUT BIL",
     "NROWS 4",
@@ -136,7 +139,7 @@ fn a_header_at_each_length(rt: HostRuntime) -> Result<(), Fail> {
     let mut before = Bytes::new();
     let mut number: usize = 0;
     let mut row: usize = 0;
-    for line in LINES {
+    for &line in &LINES {
         number = number.saturating_add(1);
         for bytes in 0..=line.len() {
             if begins(row.saturating_add(1), number, bytes) {

@@ -1,5 +1,6 @@
 //! Headers of the pit's products on the tile S01E007: which are right, and which fault is told of those that aren't.
 
+use crate::agree::same_line;
 use crate::example::{header_on, tile_on};
 use crate::runs::told;
 use drain_grid::Held;
@@ -31,18 +32,21 @@ fn line_of(alloc: Global, con: &str, acc: &str) -> Result<Line, Fail> {
     told(alloc, &example)
 }
 
+/// The lines on the grid of con and of acc, and the line that is told.
+static HEADERS: [(&str, &str, &str); 7] = [
+    (RIGHT, RIGHT, PIT_LINE),
+    (JUST_PLACED, RIGHT, PIT_LINE),
+    (TOO_FEW_ROWS, RIGHT, "refused WrongShape con"),
+    (TOO_FAR_EAST, RIGHT, "refused Misplaced con"),
+    (RIGHT, TOO_NARROW, "refused Misplaced acc"),
+    (RIGHT, NO_HEIGHT, "refused BadHeader acc MissingKey YDIM"),
+    (TOO_FAR_EAST, NO_HEIGHT, "refused Misplaced con"),
+];
+
 #[test]
 fn headers_of_one_tile(rt: HostRuntime) -> Result<(), Fail> {
-    for (con, acc, line) in [
-        (RIGHT, RIGHT, PIT_LINE),
-        (JUST_PLACED, RIGHT, PIT_LINE),
-        (TOO_FEW_ROWS, RIGHT, "refused WrongShape con"),
-        (TOO_FAR_EAST, RIGHT, "refused Misplaced con"),
-        (RIGHT, TOO_NARROW, "refused Misplaced acc"),
-        (RIGHT, NO_HEIGHT, "refused BadHeader acc MissingKey YDIM"),
-        (TOO_FAR_EAST, NO_HEIGHT, "refused Misplaced con"),
-    ] {
-        assert_eq!(rt; line_of(rt.alloc(), con, acc)?.as_str(), line, "{con}{acc}");
+    for &(con, acc, line) in &HEADERS {
+        same_line(&rt, (con, acc), &line_of(rt.alloc(), con, acc)?, line);
     }
     Ok(())
 }

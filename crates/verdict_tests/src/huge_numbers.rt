@@ -9,7 +9,7 @@ use std::test::Fail;
 use worked_grids::{PIT_LINE, pit, voids};
 
 /// The lines of con's header on the pit.
-const LINES_OF_PIT: [&str; 15] = [
+static LINES_OF_PIT: [&str; 15] = [
     "BYTEORDER I",
     "LAYOUT BIL",
     "NROWS 3",
@@ -28,7 +28,7 @@ const LINES_OF_PIT: [&str; 15] = [
 ];
 
 /// The lines of con's header on four voids.
-const LINES_OF_VOIDS: [&str; 15] = [
+static LINES_OF_VOIDS: [&str; 15] = [
     "BYTEORDER I",
     "LAYOUT BIL",
     "NROWS 2",
@@ -98,27 +98,30 @@ fn line_with(
     told_of_header(alloc, example, &header)
 }
 
+/// The number of a line of the header, what stands in its place, and the line that is told.
+static AT_BOUNDS: [(usize, &str, &str); 8] = [
+    (9, "SKIPBYTES 4294967295", "refused RasterShort con"),
+    (8, "TOTALROWBYTES 4294967295", "refused RasterShort con"),
+    (
+        9,
+        "SKIPBYTES 4294967296",
+        "refused BadHeader con BadValue 9",
+    ),
+    (3, "NROWS 28801", "refused WrongShape con"),
+    (11, "ULXMAP 1e10", "refused Misplaced con"),
+    (11, "ULXMAP 1e99", "refused BadHeader con BadValue 11"),
+    (15, "NODATA 10000000000", PIT_LINE),
+    (
+        15,
+        "NODATA 10000000001",
+        "refused BadHeader con BadValue 15",
+    ),
+];
+
 #[test]
 fn numbers_at_their_bounds(rt: HostRuntime) -> Result<(), Fail> {
     let example = one_tile(3, &pit())?;
-    for (number, replaced, owed) in [
-        (9, "SKIPBYTES 4294967295", "refused RasterShort con"),
-        (8, "TOTALROWBYTES 4294967295", "refused RasterShort con"),
-        (
-            9,
-            "SKIPBYTES 4294967296",
-            "refused BadHeader con BadValue 9",
-        ),
-        (3, "NROWS 28801", "refused WrongShape con"),
-        (11, "ULXMAP 1e10", "refused Misplaced con"),
-        (11, "ULXMAP 1e99", "refused BadHeader con BadValue 11"),
-        (15, "NODATA 10000000000", PIT_LINE),
-        (
-            15,
-            "NODATA 10000000001",
-            "refused BadHeader con BadValue 15",
-        ),
-    ] {
+    for &(number, replaced, owed) in &AT_BOUNDS {
         let short = Replaced::short(number, replaced);
         let given = line_with(rt.alloc(), &example, &LINES_OF_PIT, short)?;
         same_line(&rt, replaced, &given, owed);
@@ -126,19 +129,22 @@ fn numbers_at_their_bounds(rt: HostRuntime) -> Result<(), Fail> {
     Ok(())
 }
 
+/// How a line begins, the digit that is repeated, how it ends, and the line that is told.
+static LONG_DECIMALS: [(&str, u8, &str, &str); 3] = [
+    (
+        "ULXMAP 1",
+        b'0',
+        "e-99",
+        "refused BadHeader con BadValue 11",
+    ),
+    ("ULXMAP 0.", b'0', "", PIT_LINE),
+    ("ULXMAP 0.", b'9', "", "refused Misplaced con"),
+];
+
 #[test]
 fn decimals_of_60_000_digits(rt: HostRuntime) -> Result<(), Fail> {
     let example = one_tile(3, &pit())?;
-    for (begin, digit, end, owed) in [
-        (
-            "ULXMAP 1",
-            b'0',
-            "e-99",
-            "refused BadHeader con BadValue 11",
-        ),
-        ("ULXMAP 0.", b'0', "", PIT_LINE),
-        ("ULXMAP 0.", b'9', "", "refused Misplaced con"),
-    ] {
+    for &(begin, digit, end, owed) in &LONG_DECIMALS {
         let long = Replaced {
             number: 11,
             begin,

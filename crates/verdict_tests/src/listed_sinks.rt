@@ -24,31 +24,37 @@ pub fn filled_pit_with(text: &str) -> Result<Example, Fail> {
     Ok(one_tile(3, &pit())?.listing(text))
 }
 
+/// Lists beside the listed pit, each with the line that is told.
+static LISTED_PIT_LISTS: [(&str, &str); 7] = [
+    ("1 1\n1 1", LISTED_PIT_LINE),
+    ("1 1\n", LISTED_PIT_LINE),
+    ("\r\n \t1\t01 \r\n\n", LISTED_PIT_LINE),
+    ("2 2\n1 1\n0 0\n0 1", LISTED_PIT_LINE),
+    ("", UNLISTED_PIT_LINE),
+    ("\n \n\r\n", UNLISTED_PIT_LINE),
+    ("0 0\n0 1\n0 2\n1 0\n1 2\n2 0\n2 1\n2 2", UNLISTED_PIT_LINE),
+];
+
 #[test]
 fn a_pit_that_is_listed_and_not(rt: HostRuntime) -> Result<(), Fail> {
-    for (text, line) in [
-        ("1 1\n1 1", LISTED_PIT_LINE),
-        ("1 1\n", LISTED_PIT_LINE),
-        ("\r\n \t1\t01 \r\n\n", LISTED_PIT_LINE),
-        ("2 2\n1 1\n0 0\n0 1", LISTED_PIT_LINE),
-        ("", UNLISTED_PIT_LINE),
-        ("\n \n\r\n", UNLISTED_PIT_LINE),
-        ("0 0\n0 1\n0 2\n1 0\n1 2\n2 0\n2 1\n2 2", UNLISTED_PIT_LINE),
-    ] {
+    for &(text, line) in &LISTED_PIT_LISTS {
         let given = told(rt.alloc(), &listed_pit_with(text)?)?;
         same_line(&rt, text, &given, line);
     }
     Ok(())
 }
 
+/// Lists beside the filled pit, each with the line that is told.
+static FILLED_PIT_LISTS: [(&str, &str); 4] = [
+    ("", PIT_LINE),
+    ("0 0", PIT_LINE),
+    ("0 0\n0 1\n0 2\n1 0\n1 2\n2 0\n2 1\n2 2", PIT_LINE),
+    ("1 1", "rejected rule=5 OpenRaised row=1 col=1"),
+];
+
 #[test]
 fn a_filled_pit_with_sinks(rt: HostRuntime) -> Result<(), Fail> {
-    for (text, line) in [
-        ("", PIT_LINE),
-        ("0 0", PIT_LINE),
-        ("0 0\n0 1\n0 2\n1 0\n1 2\n2 0\n2 1\n2 2", PIT_LINE),
-        ("1 1", "rejected rule=5 OpenRaised row=1 col=1"),
-    ] {
+    for &(text, line) in &FILLED_PIT_LISTS {
         let given = told(rt.alloc(), &filled_pit_with(text)?)?;
         same_line(&rt, text, &given, line);
     }
@@ -78,19 +84,24 @@ pub fn round_a_void(text: &str) -> Result<Example, Fail> {
     Ok(example.listing(text))
 }
 
+/// The line of the land round a void.
+const RIGHT: &str = "accepted rows=5 cols=5 data=24 raised=0 outlets=24";
+
+/// Lists beside land with a void inside, each with the line that is told.
+static VOID_LISTS: [(&str, &str); 8] = [
+    ("", RIGHT),
+    ("1 1\n4 4", RIGHT),
+    ("2 2", "refused SinkNotData 1"),
+    ("1 1\n\n2 2\n3 3", "refused SinkNotData 3"),
+    ("5 0\n2 2", "refused SinkNotData 1"),
+    ("2 2\n5 0", "refused SinkNotData 1"),
+    ("0 0\n5 0\n2 2", "refused SinkNotData 2"),
+    ("0 0\n2 2\n0 5", "refused SinkNotData 2"),
+];
+
 #[test]
 fn a_void_inside_the_land(rt: HostRuntime) -> Result<(), Fail> {
-    let right = "accepted rows=5 cols=5 data=24 raised=0 outlets=24";
-    for (text, line) in [
-        ("", right),
-        ("1 1\n4 4", right),
-        ("2 2", "refused SinkNotData 1"),
-        ("1 1\n\n2 2\n3 3", "refused SinkNotData 3"),
-        ("5 0\n2 2", "refused SinkNotData 1"),
-        ("2 2\n5 0", "refused SinkNotData 1"),
-        ("0 0\n5 0\n2 2", "refused SinkNotData 2"),
-        ("0 0\n2 2\n0 5", "refused SinkNotData 2"),
-    ] {
+    for &(text, line) in &VOID_LISTS {
         let given = told(rt.alloc(), &round_a_void(text)?)?;
         same_line(&rt, text, &given, line);
     }
@@ -140,52 +151,58 @@ pub fn two_tiles(alloc: Global, lie: Lie, cell: (u8, u16), text: &str) -> Result
     Ok(example.listing(text))
 }
 
+const RIGHT_BESIDE: &str = "accepted rows=3 cols=5 data=15 raised=0 outlets=13";
+
+const RIGHT_BELOW: &str = "accepted rows=5 cols=3 data=15 raised=0 outlets=13";
+
+const OPEN_OF_ITSELF: &str = "accepted rows=3 cols=5 data=15 raised=0 outlets=12";
+
+/// How the tiles lie, the cell at which the products are right, the list, and the line that is told.
+static TWO_TILES: [(Lie, (u8, u16), &str, &str); 18] = [
+    (Lie::Beside, (1, 1), "1 1", RIGHT_BESIDE),
+    (Lie::Beside, (1, 2), "1 2", RIGHT_BESIDE),
+    (Lie::Beside, (1, 3), "1 3\n", RIGHT_BESIDE),
+    (Lie::Beside, (1, 3), "2 4\n0 2\n1 3\n2 2", RIGHT_BESIDE),
+    (Lie::Beside, (2, 4), "2 4", OPEN_OF_ITSELF),
+    (Lie::Beside, (0, 4), "0 4", OPEN_OF_ITSELF),
+    (Lie::Beside, (2, 0), "2 0\n1 4", OPEN_OF_ITSELF),
+    (
+        Lie::Beside,
+        (1, 2),
+        "",
+        "rejected rule=12 FlatStep row=1 col=2",
+    ),
+    (
+        Lie::Beside,
+        (1, 3),
+        "1 2",
+        "rejected rule=11 OutletCode row=1 col=2",
+    ),
+    (
+        Lie::Beside,
+        (1, 2),
+        "1 3",
+        "rejected rule=12 FlatStep row=1 col=2",
+    ),
+    (Lie::Beside, (1, 2), "1 5", "refused SinkNotData 1"),
+    (Lie::Beside, (1, 2), "1 2\n3 2", "refused SinkNotData 2"),
+    (Lie::Below, (1, 1), "1 1", RIGHT_BELOW),
+    (Lie::Below, (2, 1), "2 1", RIGHT_BELOW),
+    (Lie::Below, (3, 1), "4 2\n3 1\n2 2", RIGHT_BELOW),
+    (
+        Lie::Below,
+        (3, 1),
+        "2 1",
+        "rejected rule=11 OutletCode row=2 col=1",
+    ),
+    (Lie::Below, (3, 1), "3 1\n5 1", "refused SinkNotData 2"),
+    (Lie::Below, (3, 1), "1 3\n3 1", "refused SinkNotData 1"),
+];
+
 /// A cell of the first tile, one of the seam, of the second tile, and of the last row and column.
 #[test]
 fn sinks_of_two_tiles(rt: HostRuntime) -> Result<(), Fail> {
-    let beside = "accepted rows=3 cols=5 data=15 raised=0 outlets=13";
-    let below = "accepted rows=5 cols=3 data=15 raised=0 outlets=13";
-    let open_of_itself = "accepted rows=3 cols=5 data=15 raised=0 outlets=12";
-    for (lie, cell, text, line) in [
-        (Lie::Beside, (1, 1), "1 1", beside),
-        (Lie::Beside, (1, 2), "1 2", beside),
-        (Lie::Beside, (1, 3), "1 3\n", beside),
-        (Lie::Beside, (1, 3), "2 4\n0 2\n1 3\n2 2", beside),
-        (Lie::Beside, (2, 4), "2 4", open_of_itself),
-        (Lie::Beside, (0, 4), "0 4", open_of_itself),
-        (Lie::Beside, (2, 0), "2 0\n1 4", open_of_itself),
-        (
-            Lie::Beside,
-            (1, 2),
-            "",
-            "rejected rule=12 FlatStep row=1 col=2",
-        ),
-        (
-            Lie::Beside,
-            (1, 3),
-            "1 2",
-            "rejected rule=11 OutletCode row=1 col=2",
-        ),
-        (
-            Lie::Beside,
-            (1, 2),
-            "1 3",
-            "rejected rule=12 FlatStep row=1 col=2",
-        ),
-        (Lie::Beside, (1, 2), "1 5", "refused SinkNotData 1"),
-        (Lie::Beside, (1, 2), "1 2\n3 2", "refused SinkNotData 2"),
-        (Lie::Below, (1, 1), "1 1", below),
-        (Lie::Below, (2, 1), "2 1", below),
-        (Lie::Below, (3, 1), "4 2\n3 1\n2 2", below),
-        (
-            Lie::Below,
-            (3, 1),
-            "2 1",
-            "rejected rule=11 OutletCode row=2 col=1",
-        ),
-        (Lie::Below, (3, 1), "3 1\n5 1", "refused SinkNotData 2"),
-        (Lie::Below, (3, 1), "1 3\n3 1", "refused SinkNotData 1"),
-    ] {
+    for &(lie, cell, text, line) in &TWO_TILES {
         let given = told(rt.alloc(), &two_tiles(rt.alloc(), lie, cell, text)?)?;
         same_line(&rt, (lie, cell, text), &given, line);
     }
@@ -208,7 +225,7 @@ fn listed_pit_where(
 }
 
 /// The lists beside which a source fails, and the line that is told where it doesn't.
-const BESIDE_A_FAULT: [(&str, &str); 4] = [
+static BESIDE_A_FAULT: [(&str, &str); 4] = [
     (LISTED_PIT_SINKS, LISTED_PIT_LINE),
     ("2 2\n", UNLISTED_PIT_LINE),
     ("1 1\nx", "refused BadSinkLine 2"),
@@ -217,7 +234,7 @@ const BESIDE_A_FAULT: [(&str, &str); 4] = [
 
 #[test]
 fn sources_that_fail_beside_a_list(rt: HostRuntime) -> Result<(), Fail> {
-    for (text, line) in BESIDE_A_FAULT {
+    for &(text, line) in &BESIDE_A_FAULT {
         for (owner, calls) in [
             (Owner::Tile, 19u64),
             (Owner::Raster(Held::Con), 18),
@@ -246,7 +263,7 @@ fn sources_that_fail_beside_a_list(rt: HostRuntime) -> Result<(), Fail> {
 
 #[test]
 fn sources_that_are_interrupted_beside_a_list(rt: HostRuntime) -> Result<(), Fail> {
-    for (text, line) in BESIDE_A_FAULT {
+    for &(text, line) in &BESIDE_A_FAULT {
         for owner in [Owner::Tile, Owner::Raster(Held::Dir)] {
             for (first, last, owed) in [
                 (1, 999, line),
@@ -267,17 +284,20 @@ fn sources_that_are_interrupted_beside_a_list(rt: HostRuntime) -> Result<(), Fai
     Ok(())
 }
 
+/// A place of the listed pit, the number there, and the line of the rejection.
+static RULES: [(usize, i64, &str); 6] = [
+    (13, 0, "rejected rule=4 BelowGround row=1 col=1"),
+    (13, 2, "rejected rule=5 OpenRaised row=1 col=1"),
+    (18, 1, "rejected rule=10 Slope row=0 col=0"),
+    (22, 1, "rejected rule=11 OutletCode row=1 col=1"),
+    (31, 8, "rejected rule=13 Accumulation row=1 col=1"),
+    (36, 2, "rejected rule=14 Label row=0 col=0"),
+];
+
 /// Rules that don't look at sinks, at the listed pit with one number changed; its samples and its products are 9 each.
 #[test]
 fn rules_beside_a_list(rt: HostRuntime) -> Result<(), Fail> {
-    for (place, number, line) in [
-        (13, 0, "rejected rule=4 BelowGround row=1 col=1"),
-        (13, 2, "rejected rule=5 OpenRaised row=1 col=1"),
-        (18, 1, "rejected rule=10 Slope row=0 col=0"),
-        (22, 1, "rejected rule=11 OutletCode row=1 col=1"),
-        (31, 8, "rejected rule=13 Accumulation row=1 col=1"),
-        (36, 2, "rejected rule=14 Label row=0 col=0"),
-    ] {
+    for &(place, number, line) in &RULES {
         let numbers = changed(&listed_pit(), place, number)?;
         let example = one_tile(3, &numbers)?.listing(LISTED_PIT_SINKS);
         let given = told(rt.alloc(), &example)?;

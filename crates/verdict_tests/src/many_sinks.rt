@@ -112,21 +112,26 @@ fn listed_told(alloc: Global, left_out: (u32, u32), last: &str) -> Result<Line, 
     level_told(alloc, &list(alloc, left_out, last)?)
 }
 
+/// The line of the level tile.
+const RIGHT: &str = "accepted rows=34 cols=34 data=1156 raised=0 outlets=1156";
+
+/// The cell that is left out, the last line, and the line that is told.
+static LISTS: [((u32, u32), &str, &str); 10] = [
+    ((0, 0), "", RIGHT),
+    ((0, 0), "33 33\n0 33\n17 20", RIGHT),
+    ((1, 1), "", "rejected rule=12 FlatStep row=1 col=1"),
+    ((1, 32), "", "rejected rule=12 FlatStep row=1 col=32"),
+    ((17, 20), "", "rejected rule=12 FlatStep row=17 col=20"),
+    ((17, 20), "17 20", RIGHT),
+    ((32, 32), "", "rejected rule=12 FlatStep row=32 col=32"),
+    ((0, 0), "x", "refused BadSinkLine 1025"),
+    ((0, 0), "\n33 34", "refused SinkNotData 1026"),
+    ((17, 20), "34 0", "refused SinkNotData 1024"),
+];
+
 #[test]
 fn a_thousand_sinks(rt: HostRuntime) -> Result<(), Fail> {
-    let right = "accepted rows=34 cols=34 data=1156 raised=0 outlets=1156";
-    for (left_out, last, line) in [
-        ((0, 0), "", right),
-        ((0, 0), "33 33\n0 33\n17 20", right),
-        ((1, 1), "", "rejected rule=12 FlatStep row=1 col=1"),
-        ((1, 32), "", "rejected rule=12 FlatStep row=1 col=32"),
-        ((17, 20), "", "rejected rule=12 FlatStep row=17 col=20"),
-        ((17, 20), "17 20", right),
-        ((32, 32), "", "rejected rule=12 FlatStep row=32 col=32"),
-        ((0, 0), "x", "refused BadSinkLine 1025"),
-        ((0, 0), "\n33 34", "refused SinkNotData 1026"),
-        ((17, 20), "34 0", "refused SinkNotData 1024"),
-    ] {
+    for &(left_out, last, line) in &LISTS {
         let given = listed_told(rt.alloc(), left_out, last)?;
         same_line(&rt, (left_out, last), &given, line);
     }

@@ -1,5 +1,6 @@
 //! Tiles that are read alone, for their mosaic.
 
+use crate::agree::{same, same_line};
 use crate::example::{TileBytes, tile};
 use crate::runs::{Faulty, Owner, slow_tiles, tiles_at_once};
 use drain_device::faults::Scripted;
@@ -49,7 +50,7 @@ fn joined(alloc: Global, bytes: &[TileBytes]) -> Result<Joined, Fail> {
 #[test]
 fn joins_tiles_side_by_side(rt: HostRuntime) -> Result<(), Fail> {
     let joined = joined(rt.alloc(), &side_by_side(2))?;
-    assert_eq!(rt; joined, (0, 1, [1, 2, 5, 3, 4, 6], 6));
+    same(&rt, "joined", joined, (0, 1, [1, 2, 5, 3, 4, 6], 6));
     Ok(())
 }
 
@@ -81,7 +82,7 @@ fn refuses_side_and_names(rt: HostRuntime) -> Result<(), Fail> {
         (3, 0, "refused NoTiles"),
     ] {
         let told = refused_at_once(rt.alloc(), side, &bytes[..tiles])?;
-        assert_eq!(rt; told.as_str(), line);
+        same_line(&rt, line, &told, line);
     }
     Ok(())
 }
@@ -98,7 +99,7 @@ fn refuses_bodies(rt: HostRuntime) -> Result<(), Fail> {
         ([long; 2], 1, "refused BadTileLength N00E000.hgt"),
     ] {
         let told = refused_at_once(rt.alloc(), 2, &bytes[..tiles])?;
-        assert_eq!(rt; told.as_str(), line);
+        same_line(&rt, line, &told, line);
     }
     Ok(())
 }
@@ -121,9 +122,7 @@ fn tells_a_failed_source(rt: HostRuntime) -> Result<(), Fail> {
         last: 3,
         answer: DeviceFault::Failed,
     }];
-    assert_eq!(rt;
-        refused_slowly(rt.alloc(), &script)?.as_str(),
-        "failed ReadFailed"
-    );
+    let told = refused_slowly(rt.alloc(), &script)?;
+    same_line(&rt, "a failed source", &told, "failed ReadFailed");
     Ok(())
 }

@@ -9,57 +9,66 @@ use drain_verdict::{Refusal, report};
 use std::test::Fail;
 use worked_grids::{PIT_LINE, UNLISTED_PIT_LINE, listed_pit, parted, voids};
 
+/// Lists beside the filled pit, each with the line that is told.
+static BAD_LINES: [(&str, &str); 12] = [
+    ("0 0", PIT_LINE),
+    ("1 1\nx", "refused BadSinkLine 2"),
+    ("+1 1", "refused BadSinkLine 1"),
+    ("1 1 1", "refused BadSinkLine 1"),
+    ("1", "refused BadSinkLine 1"),
+    ("-1 1", "refused BadSinkLine 1"),
+    ("0 4294967296", "refused BadSinkLine 1"),
+    ("0 0\r\r\n", "refused BadSinkLine 1"),
+    ("\n\n0 0\n\r\n0\x0b0\n0", "refused BadSinkLine 5"),
+    // Every line is judged before any cell.
+    ("9 9\nx", "refused BadSinkLine 2"),
+    ("9 9\n\n9 9\n0 0 0\nx", "refused BadSinkLine 4"),
+    ("4294967295 4294967295\n0,0", "refused BadSinkLine 2"),
+];
+
 #[test]
 fn lines_that_are_bad(rt: HostRuntime) -> Result<(), Fail> {
-    for (text, line) in [
-        ("0 0", PIT_LINE),
-        ("1 1\nx", "refused BadSinkLine 2"),
-        ("+1 1", "refused BadSinkLine 1"),
-        ("1 1 1", "refused BadSinkLine 1"),
-        ("1", "refused BadSinkLine 1"),
-        ("-1 1", "refused BadSinkLine 1"),
-        ("0 4294967296", "refused BadSinkLine 1"),
-        ("0 0\r\r\n", "refused BadSinkLine 1"),
-        ("\n\n0 0\n\r\n0\x0b0\n0", "refused BadSinkLine 5"),
-        // Every line is judged before any cell.
-        ("9 9\nx", "refused BadSinkLine 2"),
-        ("9 9\n\n9 9\n0 0 0\nx", "refused BadSinkLine 4"),
-        ("4294967295 4294967295\n0,0", "refused BadSinkLine 2"),
-    ] {
+    for &(text, line) in &BAD_LINES {
         let given = told(rt.alloc(), &filled_pit_with(text)?)?;
         same_line(&rt, text, &given, line);
     }
     Ok(())
 }
+
+/// Lists beside the filled pit, each with the line that is told.
+static OUTSIDE: [(&str, &str); 8] = [
+    ("0 0\n3 0", "refused SinkNotData 2"),
+    ("0 3", "refused SinkNotData 1"),
+    ("3 3", "refused SinkNotData 1"),
+    ("2 2\n\n\r\n2 3\n3 2", "refused SinkNotData 4"),
+    ("0 0\n0 4294967295", "refused SinkNotData 2"),
+    ("4294967295 0", "refused SinkNotData 1"),
+    ("0 0\n0 0\n9 9\n9 9\n0 0", "refused SinkNotData 3"),
+    ("2 2\n9 9\n0 3", "refused SinkNotData 2"),
+];
 
 #[test]
 fn cells_that_are_outside(rt: HostRuntime) -> Result<(), Fail> {
-    for (text, line) in [
-        ("0 0\n3 0", "refused SinkNotData 2"),
-        ("0 3", "refused SinkNotData 1"),
-        ("3 3", "refused SinkNotData 1"),
-        ("2 2\n\n\r\n2 3\n3 2", "refused SinkNotData 4"),
-        ("0 0\n0 4294967295", "refused SinkNotData 2"),
-        ("4294967295 0", "refused SinkNotData 1"),
-        ("0 0\n0 0\n9 9\n9 9\n0 0", "refused SinkNotData 3"),
-        ("2 2\n9 9\n0 3", "refused SinkNotData 2"),
-    ] {
+    for &(text, line) in &OUTSIDE {
         let given = told(rt.alloc(), &filled_pit_with(text)?)?;
         same_line(&rt, text, &given, line);
     }
     Ok(())
 }
 
+/// Lists beside voids, each with the line that is told.
+static VOIDS: [(&str, &str); 6] = [
+    ("0 0", "refused SinkNotData 1"),
+    ("1 1\n0 0", "refused SinkNotData 1"),
+    ("\n1 1\n\n0 0", "refused SinkNotData 2"),
+    ("\n2 2\n\n0 0", "refused SinkNotData 2"),
+    ("0 1\n0 1", "refused SinkNotData 1"),
+    ("0 0\nx", "refused BadSinkLine 2"),
+];
+
 #[test]
 fn voids_that_are_listed(rt: HostRuntime) -> Result<(), Fail> {
-    for (text, line) in [
-        ("0 0", "refused SinkNotData 1"),
-        ("1 1\n0 0", "refused SinkNotData 1"),
-        ("\n1 1\n\n0 0", "refused SinkNotData 2"),
-        ("\n2 2\n\n0 0", "refused SinkNotData 2"),
-        ("0 1\n0 1", "refused SinkNotData 1"),
-        ("0 0\nx", "refused BadSinkLine 2"),
-    ] {
+    for &(text, line) in &VOIDS {
         let given = told(rt.alloc(), &one_tile(2, &voids())?.listing(text))?;
         same_line(&rt, text, &given, line);
     }
@@ -77,46 +86,57 @@ pub fn with_a_gap(place: usize, number: i64, text: &str) -> Result<Example, Fail
     Ok(example.listing(text))
 }
 
+/// The line of the flats with a gap.
+const RIGHT: &str = "accepted rows=3 cols=7 data=18 raised=0 outlets=16";
+
+/// Lists beside flats with a gap, each with the line that is told.
+static OFF_THE_DATA: [(&str, &str); 9] = [
+    ("0 0\n2 6\n1 2", RIGHT),
+    ("0 3", "refused SinkNotData 1"),
+    ("1 3", "refused SinkNotData 1"),
+    ("2 3", "refused SinkNotData 1"),
+    ("2 3\n0 3", "refused SinkNotData 1"),
+    ("0 0\n\n2 3\n\n0 3\n9 9", "refused SinkNotData 3"),
+    ("0 0\n9 9\n0 3", "refused SinkNotData 2"),
+    ("0 0\n0 3\n9 9", "refused SinkNotData 2"),
+    ("\n0 7\n1 3", "refused SinkNotData 2"),
+];
+
+/// Lists beside the same with a raised corner, each with the line that is told.
+static RAISED_CORNER: [(&str, &str); 6] = [
+    ("", "rejected rule=5 OpenRaised row=0 col=0"),
+    ("0 0\n2 6", "rejected rule=5 OpenRaised row=0 col=0"),
+    ("0 3", "refused SinkNotData 1"),
+    ("0 0\n2 3", "refused SinkNotData 2"),
+    ("3 0", "refused SinkNotData 1"),
+    ("0 0\n\n-", "refused BadSinkLine 3"),
+];
+
 /// The least line is told, wherever its cell lies, and before any rule.
 #[test]
 fn the_first_of_the_lines_off_the_data(rt: HostRuntime) -> Result<(), Fail> {
-    let right = "accepted rows=3 cols=7 data=18 raised=0 outlets=16";
-    for (text, line) in [
-        ("0 0\n2 6\n1 2", right),
-        ("0 3", "refused SinkNotData 1"),
-        ("1 3", "refused SinkNotData 1"),
-        ("2 3", "refused SinkNotData 1"),
-        ("2 3\n0 3", "refused SinkNotData 1"),
-        ("0 0\n\n2 3\n\n0 3\n9 9", "refused SinkNotData 3"),
-        ("0 0\n9 9\n0 3", "refused SinkNotData 2"),
-        ("0 0\n0 3\n9 9", "refused SinkNotData 2"),
-        ("\n0 7\n1 3", "refused SinkNotData 2"),
-    ] {
+    for &(text, line) in &OFF_THE_DATA {
         let given = told(rt.alloc(), &with_a_gap(21, 0, text)?)?;
         same_line(&rt, text, &given, line);
     }
-    for (text, line) in [
-        ("", "rejected rule=5 OpenRaised row=0 col=0"),
-        ("0 0\n2 6", "rejected rule=5 OpenRaised row=0 col=0"),
-        ("0 3", "refused SinkNotData 1"),
-        ("0 0\n2 3", "refused SinkNotData 2"),
-        ("3 0", "refused SinkNotData 1"),
-        ("0 0\n\n-", "refused BadSinkLine 3"),
-    ] {
+    for &(text, line) in &RAISED_CORNER {
         let given = told(rt.alloc(), &with_a_gap(21, 1, text)?)?;
         same_line(&rt, ("a raised corner", text), &given, line);
     }
     Ok(())
 }
 
+/// Lists beside the listed pit, each with the line that is told.
+static BEFORE_THE_RULES: [(&str, &str); 3] = [
+    ("2 2", UNLISTED_PIT_LINE),
+    ("2 2\nx", "refused BadSinkLine 2"),
+    ("2 2\n\n2 3", "refused SinkNotData 3"),
+];
+
 /// A rejection comes behind a list that is refused.
 #[test]
 fn tells_a_list_before_the_rules(rt: HostRuntime) -> Result<(), Fail> {
-    for (text, line) in [
-        ("2 2", UNLISTED_PIT_LINE),
-        ("2 2\nx", "refused BadSinkLine 2"),
-        ("2 2\n\n2 3", "refused SinkNotData 3"),
-    ] {
+    for &(text, line) in &BEFORE_THE_RULES {
         let given = told(rt.alloc(), &listed_pit_with(text)?)?;
         same_line(&rt, text, &given, line);
     }

@@ -33,6 +33,15 @@ fn pit_where(
     Ok(told_slowly(alloc, &one_tile(3, &pit())?, faulty)?)
 }
 
+/// The first and the last call that is interrupted, and the line that is told.
+static INTERRUPTIONS: [(u64, u64, &str); 5] = [
+    (1, 999, PIT_LINE),
+    (5, 1003, PIT_LINE),
+    (1, 1000, FAILED),
+    (5, 1004, FAILED),
+    (1, u64::MAX, FAILED),
+];
+
 #[test]
 fn bears_999_interruptions_of_each_source(rt: HostRuntime) -> Result<(), Fail> {
     for owner in [
@@ -40,31 +49,28 @@ fn bears_999_interruptions_of_each_source(rt: HostRuntime) -> Result<(), Fail> {
         Owner::Raster(Held::Con),
         Owner::Raster(Held::Rnk),
     ] {
-        for (first, last, line) in [
-            (1, 999, PIT_LINE),
-            (5, 1003, PIT_LINE),
-            (1, 1000, FAILED),
-            (5, 1004, FAILED),
-            (1, u64::MAX, FAILED),
-        ] {
+        for &(first, last, line) in &INTERRUPTIONS {
             let told = pit_where(rt.alloc(), owner, first, last, DeviceFault::Interrupted)?;
-            assert_eq!(rt; told.as_str(), line, "{owner:?} {first} {last}");
+            same_line(&rt, (owner, first, last), &told, line);
         }
     }
     Ok(())
 }
 
+/// Owners of sources, each with how often its source is asked.
+static CALLS: [(Owner, u64); 6] = [
+    (Owner::Tile, 19),
+    (Owner::Raster(Held::Con), 18),
+    (Owner::Raster(Held::Dir), 9),
+    (Owner::Raster(Held::Acc), 36),
+    (Owner::Raster(Held::Bas), 36),
+    (Owner::Raster(Held::Rnk), 36),
+];
+
 /// A tile of 18 bytes is asked once more, for its end; a raster isn't.
 #[test]
 fn never_takes_a_failed_source_for_its_end(rt: HostRuntime) -> Result<(), Fail> {
-    for (owner, calls) in [
-        (Owner::Tile, 19u64),
-        (Owner::Raster(Held::Con), 18),
-        (Owner::Raster(Held::Dir), 9),
-        (Owner::Raster(Held::Acc), 36),
-        (Owner::Raster(Held::Bas), 36),
-        (Owner::Raster(Held::Rnk), 36),
-    ] {
+    for &(owner, calls) in &CALLS {
         for before in 0..=calls {
             let call = before.saturating_add(1);
             let (last, line) = if before < calls {
@@ -73,24 +79,27 @@ fn never_takes_a_failed_source_for_its_end(rt: HostRuntime) -> Result<(), Fail> 
                 (u64::MAX, PIT_LINE)
             };
             let told = pit_where(rt.alloc(), owner, call, last, DeviceFault::Failed)?;
-            assert_eq!(rt; told.as_str(), line, "{owner:?} {call}");
+            same_line(&rt, (owner, call), &told, line);
         }
     }
     Ok(())
 }
 
+/// Owners of sources, each with a call in its middle.
+static MIDDLES: [(Owner, u64); 6] = [
+    (Owner::Tile, 17),
+    (Owner::Raster(Held::Con), 17),
+    (Owner::Raster(Held::Dir), 9),
+    (Owner::Raster(Held::Acc), 33),
+    (Owner::Raster(Held::Bas), 33),
+    (Owner::Raster(Held::Rnk), 33),
+];
+
 /// Each body of the slope faults in its middle, and then goes on.
 #[test]
 fn bodies_that_go_on_after_a_fault(rt: HostRuntime) -> Result<(), Fail> {
     let slope = one_tile(4, &slope())?;
-    for (owner, middle) in [
-        (Owner::Tile, 17u64),
-        (Owner::Raster(Held::Con), 17),
-        (Owner::Raster(Held::Dir), 9),
-        (Owner::Raster(Held::Acc), 33),
-        (Owner::Raster(Held::Bas), 33),
-        (Owner::Raster(Held::Rnk), 33),
-    ] {
+    for &(owner, middle) in &MIDDLES {
         for (times, answer, line) in [
             (1u64, DeviceFault::Failed, FAILED),
             (999, DeviceFault::Interrupted, SLOPE_LINE),
