@@ -6,4 +6,6 @@ pub mod Flags
 pub mod MapSteps
 pub mod NumbersWithout
 pub mod PatchFlags
+pub mod ProductParts
+pub mod ProductSteps
 pub mod RulePlaces

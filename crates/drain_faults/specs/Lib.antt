@@ -1,3 +1,4 @@
+pub mod ByProduct
 pub mod CellFaults
 pub mod FaultMaps
 pub mod FaultWalks

@@ -58,6 +58,13 @@ impl FaultMap {
         }
     }
 
+    /// How many rows were passed.
+    pub fn rows(&self) -> u32
+        ensures { result ≡ self.now.rows }
+    {
+        self.rows
+    }
+
     /// A number for each cell of these rows, in row order: of every grid and its products of which the map is right.
     pub fn pixels(&self) -> &[u8]
         ensures of_grids { (rules : Rules) (g : Grid) (ps : Products) → IsMapOf (tried rules) g ps self.now → AreMapPixels (tried rules) g ps (cells_above g self.now.rows) result.now }

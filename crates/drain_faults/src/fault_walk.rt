@@ -6,16 +6,18 @@ ghost use Rattle.drain_grid.specs.Grid.{Grid, Products};
 ghost use Rattle.drain_kernel.specs.declared.rules.Rules.{Rules};
 ghost use Rattle.drain_kernel.specs.Rules.{tried};
 ghost use Rattle.drain_rules.specs.Findings.{cells_above};
+ghost use Rattle.drain_faults.specs.ByProduct.{AreFaultsByProduct, IsRightByProduct, OfNextRowByProduct};
 ghost use Rattle.drain_faults.specs.Faults.{AreFaultsOf, IsFirstPatch};
 ghost use Rattle.drain_faults.specs.FaultWalks.{HasNewOutlet, IsRightOf, OfNextRow};
 
 use crate::faulty_patch::FaultyPatch;
 use crate::found::Found;
 use crate::per_rule::PerRule;
+use crate::product_faults::{ProductFaults, no_faults};
 use crate::row_faults::note_row_of;
 use crate::rule_faults::RuleFaults;
 use drain_basin::OutletLabels;
-use drain_grid::OutOfMemory;
+use drain_grid::{OutOfMemory, PerProduct};
 use drain_kernel::Rules;
 use drain_rules::PatchRow;
 use std::alloc::Global;
@@ -32,12 +34,14 @@ impl FaultWalk {
     pub fn new(alloc: Global) -> FaultWalk
         ensures rows { result.rows ≡ 0 }
         ensures found { (rules : Rules) (g : Grid) (ps : Products) → IsRightOf (tried rules) g ps result }
+        ensures by_product { (rules : Rules) (g : Grid) (ps : Products) → IsRightByProduct rules g ps result }
     {
         FaultWalk {
             rows: 0,
             found: Found {
                 labels: OutletLabels::new(alloc),
                 by_rule: PerRule::same(RuleFaults::none()),
+                by_product: no_faults(),
                 first: None,
             },
         }
@@ -50,6 +54,7 @@ impl FaultWalk {
         requires row { self.old.rows < MAX_LENGTH }
         ensures rows { OnOk result (self.new.rows ≡ self.old.rows + 1) }
         ensures found { OnOk result (OfNextRow (tried rules.now) self.old (R.len patches.now) (R.shown patches.now) (λ g ps. IsRightOf (tried rules.now) g ps self.new)) }
+        ensures by_product { OnOk result (OfNextRowByProduct rules.now self.old (R.len patches.now) (R.shown patches.now) (λ g ps. IsRightByProduct rules.now g ps self.new)) }
         ensures err { OnErr result (OfNextRow (tried rules.now) self.old (R.len patches.now) (R.shown patches.now) HasNewOutlet) }
     {
         match note_row_of(&mut self.found, self.rows, patches, rules) {
@@ -75,11 +80,20 @@ impl FaultWalk {
         &self.found.by_rule
     }
 
-    /// The same, for whoever needs the walk no more.
-    pub fn into_faults(self) -> PerRule<RuleFaults>
-        ensures of_grids { (rules : Rules) (g : Grid) (ps : Products) → IsRightOf (tried rules) g ps self → AreFaultsOf (tried rules) g ps (cells_above g self.rows) result }
+    /// For each product at how many voids of these rows it has a number of its own, and at how many data cells its no-data number, and at which first.
+    /// Where ranks weren't asked for, nothing is counted of rnk. Grids are meant of which the walk is right in this.
+    pub fn by_product(&self) -> &PerProduct<ProductFaults>
+        ensures of_grids { (rules : Rules) (g : Grid) (ps : Products) → IsRightByProduct rules g ps self.now → AreFaultsByProduct rules g ps (cells_above g self.now.rows) result.now }
     {
-        self.found.by_rule
+        &self.found.by_product
+    }
+
+    /// The faults of each rule and of each product, for whoever needs the walk no more.
+    pub fn into_faults(self) -> (PerRule<RuleFaults>, PerProduct<ProductFaults>)
+        ensures of_grids { (rules : Rules) (g : Grid) (ps : Products) → IsRightOf (tried rules) g ps self → AreFaultsOf (tried rules) g ps (cells_above g self.rows) result.0 }
+        ensures by_product { (rules : Rules) (g : Grid) (ps : Products) → IsRightByProduct rules g ps self → AreFaultsByProduct rules g ps (cells_above g self.rows) result.1 }
+    {
+        (self.found.by_rule, self.found.by_product)
     }
 
     /// The first cell of these rows at which any rule fails, and its patch; none where every rule holds at each of them. The same grids are meant.

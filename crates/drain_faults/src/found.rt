@@ -4,21 +4,25 @@ ghost use Rattle.std.specs.Prelude.{OnErr, OnOk};
 ghost use Rattle.drain_basin.specs.Admitted.{IsAdmitted};
 ghost use Rattle.drain_kernel.specs.Rules.{tried};
 ghost use Rattle.drain_rules.specs.Labels.{IsOutletByCode};
+ghost use Rattle.drain_faults.specs.ByProduct.{AreProductsNotedAt};
 ghost use Rattle.drain_faults.specs.CellFaults.{IsNoted};
 
 use crate::cell_faults::cell_faults;
 use crate::faulty_patch::{FaultyPatch, with_patch};
 use crate::per_rule::PerRule;
+use crate::product_faults::{ProductFaults, note_products};
 use crate::rule_faults::{RuleFaults, with_cell};
 use drain_basin::OutletLabels;
-use drain_grid::{Cell, OutOfMemory, Patch};
+use drain_grid::{Cell, OutOfMemory, Patch, PerProduct};
 use drain_kernel::Rules;
 
-/// The labels of the outlets among the cells that were passed, the cells at which each rule fails, and the first at which any does.
+/// The labels of the outlets among the cells that were passed, the cells at which each rule fails, those at which each product does by
+/// itself, and the first at which any rule does.
 #[derive(Drop)]
 pub struct Found {
     pub labels: OutletLabels,
     pub by_rule: PerRule<RuleFaults>,
+    pub by_product: PerProduct<ProductFaults>,
     pub first: Option<FaultyPatch>,
 }
 
@@ -31,11 +35,13 @@ impl Found {
         rules: &Rules,
     ) -> Result<(), OutOfMemory>
         ensures noted { OnOk result (IsNoted (tried rules.now) cell patch.now self.old self.new) }
+        ensures by_product { OnOk result (AreProductsNotedAt rules.now cell patch.now self.old.by_product self.new.by_product) }
         ensures err { OnErr result (IsOutletByCode patch.now.here × ¬ IsAdmitted self.old.labels patch.now.here.bas) }
     {
         match cell_faults(patch, rules, &mut self.labels) {
             Ok(fails) => {
                 self.by_rule = with_cell(&self.by_rule, cell, &fails);
+                note_products(&mut self.by_product, cell, patch, rules, &fails);
                 self.first = with_patch(self.first, cell, patch, &fails);
                 Ok(())
             }

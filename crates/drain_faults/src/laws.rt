@@ -1,6 +1,12 @@
-//! What the definitions of this crate name.
+//! What the definitions of this crate name, and what they say of each other.
 
-ghost use Rattle.std.specs.Prelude.{◌≡◌};
+ghost use Rattle.std.specs.Prelude.{◌≡◌, ◌↔◌};
+ghost use Rattle.drain_grid.specs.declared.held.Held.{Held};
+ghost use Rattle.drain_grid.specs.declared.patch.Patch.{Patch};
+ghost use Rattle.drain_grid.specs.declared.rule.Rule.TheVariants.{VoidCell, Missing};
+ghost use Rattle.drain_kernel.specs.declared.rules.Rules.{Rules};
+ghost use Rattle.drain_kernel.specs.Rules.{tried};
+ghost use Rattle.drain_faults.specs.ByProduct.{MissingHoldsOf, VoidCellHoldsOf};
 
 use crate::drawn::{SOUND, SOUND_VOID};
 
@@ -8,4 +14,10 @@ use crate::drawn::{SOUND, SOUND_VOID};
 pub fn constants()
     ensures sound { SOUND ≡ 0 }
     ensures sound_void { SOUND_VOID ≡ 255 }
+{}
+
+/// The rules VoidCell and Missing, as they are tried, hold at a cell exactly where each product keeps what they ask of it.
+pub fn rules_by_product()
+    ensures void_cell { (rules : Rules) (p : Patch) → tried rules p VoidCell ↔ ((product : Held) → VoidCellHoldsOf rules product p) }
+    ensures missing { (rules : Rules) (p : Patch) → tried rules p Missing ↔ ((product : Held) → MissingHoldsOf rules product p) }
 {}

@@ -3,6 +3,8 @@
 ghost use Rattle.std.specs.Prelude.{◌<◌, ◌+◌, OnErr, OnOk};
 ghost use Rattle.drain_grid.specs.declared.cell.TheConstants.{MAX_LENGTH};
 ghost use Rattle.drain_kernel.specs.Rules.{tried};
+ghost use Rattle.drain_rules.specs.Findings.{cells_above};
+ghost use Rattle.drain_faults.specs.ByProduct.{AreFaultsByProduct, OfRowByProduct};
 ghost use Rattle.drain_faults.specs.FaultWalks.{HasNewOutlet, IsFoundAbove, OfRowFound};
 
 use crate::found::Found;
@@ -21,6 +23,7 @@ pub(crate) fn note_row_of<R: PatchRow>(
 ) -> Result<(), OutOfMemory>
     requires { row < MAX_LENGTH }
     ensures found { OnOk result (OfRowFound (tried rules.now) row (R.len patches.now) (R.shown patches.now) found.old (λ g ps. IsFoundAbove (tried rules.now) g ps (row + 1) found.new)) }
+    ensures by_product { OnOk result (OfRowByProduct rules.now row (R.len patches.now) (R.shown patches.now) found.old.by_product (λ g ps. AreFaultsByProduct rules.now g ps (cells_above g (row + 1)) found.new.by_product)) }
     ensures err { OnErr result (OfRowFound (tried rules.now) row (R.len patches.now) (R.shown patches.now) found.old HasNewOutlet) }
 {
     let cols = patches.cols();

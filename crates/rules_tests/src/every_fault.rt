@@ -17,7 +17,7 @@ use worked_grids::{slope, voids};
 
 /// A grid and its products.
 #[derive(Drop)]
-struct Given {
+pub struct Given {
     elevation: Elevation,
     sinks: Sinks,
     products: ProductSet,
@@ -25,7 +25,7 @@ struct Given {
 }
 
 /// The parts of an example of this side, without sinks.
-fn example(alloc: Global, side: u8, numbers: &[i64]) -> Result<Given, Fail> {
+pub fn example(alloc: Global, side: u8, numbers: &[i64]) -> Result<Given, Fail> {
     let Some(shape) = Shape::new(side.into(), side.into()) else {
         return Err("a shape".into());
     };
@@ -40,17 +40,17 @@ fn example(alloc: Global, side: u8, numbers: &[i64]) -> Result<Given, Fail> {
     })
 }
 
-/// The rules of a check.
-fn rules_of(example: &Given) -> Rules {
+/// The rules of a check, or those without ranks.
+fn rules_of(example: &Given, ranks: Ranks) -> Rules {
     Rules {
         nodata: example.products.nodata(),
-        ranks: Ranks::Asked,
+        ranks,
     }
 }
 
-/// The walk over all rows.
-fn walk_over(alloc: Global, example: &Given) -> Result<FaultWalk, OutOfMemory> {
-    let rules = rules_of(example);
+/// The walk over all rows; ranks are asked for or not.
+pub fn walk_over(alloc: Global, example: &Given, ranks: Ranks) -> Result<FaultWalk, OutOfMemory> {
+    let rules = rules_of(example, ranks);
     let mut walk = FaultWalk::new(alloc);
     for row in 0..example.elevation.shape().rows() {
         let patches = RasterRow {
@@ -66,7 +66,7 @@ fn walk_over(alloc: Global, example: &Given) -> Result<FaultWalk, OutOfMemory> {
 
 /// The map of all rows.
 fn map_over(alloc: Global, example: &Given) -> Result<FaultMap, OutOfMemory> {
-    let rules = rules_of(example);
+    let rules = rules_of(example, Ranks::Asked);
     let shape = example.elevation.shape();
     let mut map = FaultMap::new(alloc, shape)?;
     for row in 0..shape.rows() {
@@ -140,7 +140,7 @@ fn expect(
     first: Option<(u32, u32)>,
     pixels: &[u8],
 ) -> Result<(), Fail> {
-    let walk = walk_over(alloc, example)?;
+    let walk = walk_over(alloc, example, Ranks::Asked)?;
     expect_found(rt, &walk, wanted, first);
     let map = map_over(alloc, example)?;
     assert_eq!(rt; map.pixels(), pixels);

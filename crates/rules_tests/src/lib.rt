@@ -14,6 +14,8 @@ mod listed_sinks;
 #[cfg(test)]
 mod long_rows;
 #[cfg(test)]
+mod product_faults;
+#[cfg(test)]
 mod raster_verdicts;
 #[cfg(test)]
 mod rows_of_numbers;

@@ -2,6 +2,7 @@ use Rattle.std.proofs.Common.{arith}
 use Rattle.drain_kernel.specs.Rules.{tried}
 use Rattle.drain_rules.specs.Rows.{place}
 use Rattle.drain_faults.proofs.FaultSteps.{found_begins, found_ends, found_kept, found_new, found_noted}
+use Rattle.drain_faults.proofs.ProductSteps.{products_begin, products_end, products_kept, products_noted}
 use Rattle.drain_faults.proofs.row_faults.note_row_of.Goals as goal
 
 pub loop-col-init : goal.loop-col-init
@@ -9,6 +10,8 @@ loop-col-init g c = record {
   within = omega arith;
   found = λ grid ps are above.
       found_begins (tried c.args.rules.now) grid ps c.args.row (g.R.PatchRow.len c.args.patches.now) (g.R.PatchRow.shown c.args.patches.now) are c.args.found.now above;
+  by_product = λ grid ps are above.
+      products_begin c.args.rules.now grid ps c.args.row (g.R.PatchRow.len c.args.patches.now) (g.R.PatchRow.shown c.args.patches.now) are c.args.found.now.by_product above;
 }
 
 -- the cells that are vouched for, up to the end of the row
@@ -20,6 +23,9 @@ loop-col-preserved g c =
       found = λ grid ps are above.
           found_kept (tried c.args.rules.now) grid ps c.args.row (g.R.PatchRow.len c.args.patches.now) (g.R.PatchRow.shown c.args.patches.now) are c.loop-col.found
           c.loop-col.col c.kept_from-kept.result.end kept.forward kept.within kept.kept (c.loop-col.invariant.found grid ps are above);
+      by_product = λ grid ps are above.
+          products_kept c.args.rules.now grid ps c.args.row (g.R.PatchRow.len c.args.patches.now) (g.R.PatchRow.shown c.args.patches.now) are c.loop-col.found.by_product
+          c.loop-col.col c.kept_from-kept.result.end kept.forward kept.within kept.kept (c.loop-col.invariant.by_product grid ps are above);
     }
 
 -- and the one behind them
@@ -34,6 +40,13 @@ loop-col-preserved-then-col-cols g c =
           (omega (arith, c.if-col-cols.true, c.cols-cols.ensures.count)) c.patch-patch.ensures c.in-Ok.ensures.noted
           (found_kept (tried c.args.rules.now) grid ps c.args.row (g.R.PatchRow.len c.args.patches.now) (g.R.PatchRow.shown c.args.patches.now) are c.loop-col.found
           c.loop-col.col c.kept_from-kept.result.end kept.forward kept.within kept.kept (c.loop-col.invariant.found grid ps are above));
+      by_product = λ grid ps are above.
+          products_noted c.args.rules.now grid ps c.args.row (g.R.PatchRow.len c.args.patches.now) (g.R.PatchRow.shown c.args.patches.now) are c.loop-col.found.by_product
+          c.note.new.self.by_product c.kept_from-kept.result.end c.patch-patch.result c.requires
+          (omega (arith, c.cols-cols.ensures.count, c.cols-cols.ensures.narrow))
+          (omega (arith, c.if-col-cols.true, c.cols-cols.ensures.count)) c.patch-patch.ensures c.in-Ok.ensures.by_product
+          (products_kept c.args.rules.now grid ps c.args.row (g.R.PatchRow.len c.args.patches.now) (g.R.PatchRow.shown c.args.patches.now) are c.loop-col.found.by_product
+          c.loop-col.col c.kept_from-kept.result.end kept.forward kept.within kept.kept (c.loop-col.invariant.by_product grid ps are above));
     }
 
 pub returns-in-Err-clause-err : goal.returns-in-Err-clause-err
@@ -50,3 +63,8 @@ pub returns-clause-found : goal.returns-clause-found
 returns-clause-found g c = λ grid ps are above.
     found_ends (tried c.args.rules.now) grid ps c.args.row (g.R.PatchRow.len c.args.patches.now) (g.R.PatchRow.shown c.args.patches.now) are c.loop-col.found
     c.loop-col.col (omega (arith, c.loop-col-test.false, c.loop-col.invariant.within, c.cols-cols.ensures.count)) (c.loop-col.invariant.found grid ps are above)
+
+pub returns-clause-by_product : goal.returns-clause-by_product
+returns-clause-by_product g c = λ grid ps are above.
+    products_end c.args.rules.now grid ps c.args.row (g.R.PatchRow.len c.args.patches.now) (g.R.PatchRow.shown c.args.patches.now) are c.loop-col.found.by_product
+    c.loop-col.col (omega (arith, c.loop-col-test.false, c.loop-col.invariant.within, c.cols-cols.ensures.count)) (c.loop-col.invariant.by_product grid ps are above)

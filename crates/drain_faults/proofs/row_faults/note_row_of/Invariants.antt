@@ -1,7 +1,8 @@
 use Rattle.std.proofs.Common.{◌-◌, ◌≤◌}
 use Rattle.drain_grid.specs.Grid.{Grid, Products}
 use Rattle.drain_kernel.specs.Rules.{tried}
-use Rattle.drain_faults.specs.FaultWalks.{IsFoundBefore, OfRowFound}
+use Rattle.drain_faults.specs.ByProduct.{AreFaultsByProduct, OfRowByProduct}
+use Rattle.drain_faults.specs.FaultWalks.{IsFoundBefore, OfRowFound, cells_before}
 use Rattle.drain_faults.proofs.row_faults.note_row_of.Given as goal
 
 -- what was found is right of the cells that were passed
@@ -10,6 +11,8 @@ invariant-loop-col g l = record {
   within : l.col ≤ g.R.PatchRow.len l.patches;
   found : OfRowFound (tried l.rules) l.row (g.R.PatchRow.len l.patches) (g.R.PatchRow.shown l.patches) l.fn.found
       (λ (grid : Grid) (ps : Products). IsFoundBefore (tried l.rules) grid ps l.row l.col l.found);
+  by_product : OfRowByProduct l.rules l.row (g.R.PatchRow.len l.patches) (g.R.PatchRow.shown l.patches) l.fn.found.by_product
+      (λ (grid : Grid) (ps : Products). AreFaultsByProduct l.rules grid ps (cells_before grid l.row l.col) l.found.by_product);
 }
 
 abbrev pub decreases-loop-col : goal.decreases-loop-col

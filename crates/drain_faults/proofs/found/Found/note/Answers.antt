@@ -1,4 +1,5 @@
 use Rattle.std.proofs.Common.{◌≡◌, false}
+use Rattle.drain_grid.specs.declared.rule.Rule.TheVariants.{VoidCell, Missing}
 use Rattle.drain_kernel.specs.Rules.{tried}
 use Rattle.drain_rules.specs.Labels.{labelled_profile}
 use Rattle.drain_faults.specs.PerRule.{of_rule}
@@ -17,3 +18,9 @@ returns-in-Ok-clause-noted c = record {
       c.with_patch-self.ensures;
   admitted = c.in-Ok.ensures.labels;
 }
+
+pub note_products-requires-clause-void_cell : goal.note_products-requires-clause-void_cell
+note_products-requires-clause-void_cell c = c.in-Ok.ensures.each VoidCell
+
+pub note_products-requires-clause-missing : goal.note_products-requires-clause-missing
+note_products-requires-clause-missing c = c.in-Ok.ensures.each Missing

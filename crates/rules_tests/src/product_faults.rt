@@ -1,0 +1,154 @@
+//! The voids at which a product by itself has a number, and the data cells at which it has none, on worked grids; ranks are asked for or not. All were
+//! worked out by hand from the rules.
+
+use crate::every_fault::{example, walk_over};
+use crate::examples::{Part, changed, equal};
+use crate::rows_of_numbers::{COLS, faults_by_rows};
+use crate::unasked_ranks::put;
+use drain_faults::{FaultWalk, ProductFaults, RuleFaults};
+use drain_grid::{Cell, Held};
+use drain_rules::Ranks;
+use std::alloc::Global;
+use std::process::Abort;
+use std::test::Fail;
+use worked_grids::shafts::Shafts;
+use worked_grids::{slope, voids};
+
+/// The products, their parts, and the numbers that stand for no data in them.
+static PRODUCTS: [(Held, Part, i64); 5] = [
+    (Held::Con, Part::Con, -32768),
+    (Held::Dir, Part::Dir, 255),
+    (Held::Acc, Part::Acc, 0),
+    (Held::Bas, Part::Bas, 0),
+    (Held::Rnk, Part::Rnk, 4294967295),
+];
+
+/// So many cells, and the first of them.
+fn cells(cells: u32, row: u32, col: u32) -> RuleFaults {
+    RuleFaults {
+        cells,
+        first: Some(Cell { row, col }),
+    }
+}
+
+/// These voids.
+fn at_voids(cells: RuleFaults) -> ProductFaults {
+    ProductFaults {
+        at_voids: cells,
+        at_data: RuleFaults::none(),
+    }
+}
+
+/// These data cells.
+fn at_data(cells: RuleFaults) -> ProductFaults {
+    ProductFaults {
+        at_voids: RuleFaults::none(),
+        at_data: cells,
+    }
+}
+
+/// The walk over an example of this side.
+fn walk(alloc: Global, side: u8, numbers: &[i64], ranks: Ranks) -> Result<FaultWalk, Fail> {
+    let given = example(alloc, side, numbers)?;
+    Ok(walk_over(alloc, &given, ranks)?)
+}
+
+/// Looks that the walk tells these faults of a product.
+fn expect(rt: &impl Abort, walk: &FaultWalk, product: Held, wanted: ProductFaults) {
+    equal(rt, product, *walk.by_product().of(product), wanted);
+}
+
+/// Looks that it tells these faults of one product, and none of any other.
+fn expect_alone(rt: &impl Abort, walk: &FaultWalk, product: Held, wanted: ProductFaults) {
+    for held in Held::ALL {
+        let none = ProductFaults::none();
+        expect(rt, walk, held, if held == product { wanted } else { none });
+    }
+}
+
+/// Looks that these faults are told of one product alone, but where it is rnk and ranks aren't asked for.
+fn expect_faults(
+    rt: &impl Abort,
+    alloc: Global,
+    side: u8,
+    numbers: &[i64],
+    product: Held,
+    wanted: ProductFaults,
+) -> Result<(), Fail> {
+    let asked = walk(alloc, side, numbers, Ranks::Asked)?;
+    expect_alone(rt, &asked, product, wanted);
+    let unasked = walk(alloc, side, numbers, Ranks::Unasked)?;
+    let none = ProductFaults::none();
+    let is_rank = product == Held::Rnk;
+    expect_alone(rt, &unasked, product, if is_rank { none } else { wanted });
+    Ok(())
+}
+
+#[test]
+fn right_products(rt: HostRuntime) -> Result<(), Fail> {
+    let none = ProductFaults::none();
+    expect_faults(&rt, rt.alloc(), 4, &slope(), Held::Con, none)?;
+    expect_faults(&rt, rt.alloc(), 2, &voids(), Held::Con, none)
+}
+
+#[test]
+fn one_product_with_numbers_at_voids(rt: HostRuntime) -> Result<(), Fail> {
+    let wanted = at_voids(cells(2, 0, 1));
+    for &(product, part, _) in &PRODUCTS {
+        let one = changed(rt.alloc(), 2, &voids(), part, 0, 1, 7)?;
+        let two = changed(rt.alloc(), 2, &one, part, 1, 0, 8)?;
+        expect_faults(&rt, rt.alloc(), 2, &two, product, wanted)?;
+    }
+    Ok(())
+}
+
+#[test]
+fn one_product_without_numbers_at_data_cells(rt: HostRuntime) -> Result<(), Fail> {
+    let wanted = at_data(cells(2, 1, 2));
+    for &(product, part, nodata) in &PRODUCTS {
+        let one = changed(rt.alloc(), 4, &slope(), part, 1, 2, nodata)?;
+        let two = changed(rt.alloc(), 4, &one, part, 3, 0, nodata)?;
+        expect_faults(&rt, rt.alloc(), 4, &two, product, wanted)?;
+    }
+    Ok(())
+}
+
+#[test]
+fn products_at_a_void_and_at_a_data_cell(rt: HostRuntime) -> Result<(), Fail> {
+    // The first cell is a void, with the numbers of a data cell in every product; the last has no accumulation.
+    let void = changed(rt.alloc(), 4, &slope(), Part::Elevations, 0, 0, -32768)?;
+    let numbers = changed(rt.alloc(), 4, &void, Part::Acc, 3, 3, 0)?;
+    let numbered = at_voids(cells(1, 0, 0));
+    let both = ProductFaults {
+        at_voids: cells(1, 0, 0),
+        at_data: cells(1, 3, 3),
+    };
+    let none = ProductFaults::none();
+    for (ranks, rank) in [(Ranks::Asked, numbered), (Ranks::Unasked, none)] {
+        let walk = walk(rt.alloc(), 4, &numbers, ranks)?;
+        expect(&rt, &walk, Held::Con, numbered);
+        expect(&rt, &walk, Held::Dir, numbered);
+        expect(&rt, &walk, Held::Acc, both);
+        expect(&rt, &walk, Held::Bas, numbered);
+        expect(&rt, &walk, Held::Rnk, rank);
+    }
+    Ok(())
+}
+
+#[test]
+fn a_product_without_numbers_inside_long_rows(rt: HostRuntime) -> Result<(), Fail> {
+    let shafts = Shafts {
+        rows: 3,
+        cols: COLS,
+        listed: &[],
+    };
+    let mut numbers = shafts.numbers(rt.alloc())?;
+    // Lanes vouch for the cells beside them.
+    put(&mut numbers, (Part::Bas, (1, 300), 0))?;
+    put(&mut numbers, (Part::Bas, (2, 9), 0))?;
+    for is_laned in [true, false] {
+        let walk = faults_by_rows(rt.alloc(), &numbers, is_laned)?;
+        expect_alone(&rt, &walk, Held::Bas, at_data(cells(2, 1, 300)));
+    }
+    Ok(())
+}
