@@ -8,6 +8,8 @@ mod agree;
 #[cfg(test)]
 mod basin;
 #[cfg(test)]
+mod endless_runs;
+#[cfg(test)]
 mod fill;
 #[cfg(test)]
 mod flat;

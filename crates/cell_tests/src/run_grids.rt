@@ -3,7 +3,7 @@
 ghost use Rattle.std.specs.Prelude.{◌≡◌, ◌<◌, IfOk};
 
 use drain_grid::{Cell, Elevation, OutOfMemory, Raster, Shape, VOID};
-use drain_runs::{CellFlows, CertifyRefusal, steps_of};
+use drain_runs::{CellFlows, CertifyRefusal, EndlessRun, steps_of};
 use std::alloc::Global;
 use std::test::Fail;
 
@@ -90,6 +90,32 @@ pub fn first_endless(
         return Err("a flow for each cell".into());
     }
     Ok(flows.first_endless(shape))
+}
+
+/// What the run of this cell comes to where it doesn't end, on the same grid.
+pub fn endless_run(
+    alloc: Global,
+    rows: u32,
+    cols: u32,
+    voids: &[u8],
+    codes: &[u8],
+    start: Cell,
+) -> Result<Option<EndlessRun>, Fail> {
+    let Some(shape) = Shape::new(rows, cols) else {
+        return Err("a shape".into());
+    };
+    let elevation = elevations(alloc, shape, voids)?;
+    let dir = directions(alloc, shape, codes)?;
+    let mut flows = taken(alloc, shape, &elevation, &dir)?;
+    if flows.len() != shape.cells() || start.row >= rows || start.col >= cols {
+        return Err("a flow for each cell, and one of them".into());
+    }
+    // flows no longer tell the codes of runs that end
+    let _first = flows.first_endless(shape);
+    if flows.len() != shape.cells() {
+        return Err("as many flows".into());
+    }
+    Ok(flows.endless_run(alloc, shape, start)?)
 }
 
 /// The flows of a grid, row by row.

@@ -4,6 +4,7 @@ use Rattle.std.proofs.Common.{◌≡◌, ◌≢◌, ◌<◌, ℕ, ◌∙◌, inl
 use Rattle.std.proofs.lemmas.Bool.{cases_eq}
 use Rattle.drain_grid.specs.declared.cell.Cell.{Cell}
 use Rattle.drain_grid.specs.declared.direction.Direction.{Direction}
+use Rattle.drain_grid.specs.declared.direction.Direction.TheVariants.{East, SouthEast, South, SouthWest, West, NorthWest, North, NorthEast}
 use Rattle.drain_grid.specs.Extent.{index_of, step}
 use Rattle.drain_grid.specs.Grid.{Grid, Products, IsInside, HasData}
 use Rattle.drain_grid.specs.Run.{next, RunEnds}
@@ -12,11 +13,11 @@ use Rattle.drain_grid.proofs.Codes.{code-not_zero, next-named}
 use Rattle.drain_grid.proofs.Options.{none_some}
 use Rattle.drain_grid.proofs.Walks.{EndsAfter-zero, endless-stuck}
 use Rattle.drain_runs.specs.declared.flow.Flow.{Flow}
-use Rattle.drain_runs.specs.declared.flow.Flow.TheVariants.{Void, Lost, Ends}
+use Rattle.drain_runs.specs.declared.flow.Flow.TheVariants.{Void, Lost, Ends, ToEast, ToSouthEast, ToSouth, ToSouthWest, ToWest, ToNorthWest, ToNorth, ToNorthEast}
 use Rattle.drain_runs.specs.Flows.{direction_of, cell_flow, flow_at, AreFlowsOf}
 use Rattle.drain_runs.specs.KnownFlows.{IsKnownFlow, AreKnownFlows}
 use Rattle.drain_runs.proofs.Cells.{in_grid, same_index}
-use Rattle.drain_runs.proofs.NextCells.{next-unnamed, next-outside, next-void}
+use Rattle.drain_runs.proofs.NextCells.{next-of_no_code, next-outside, next-void, no_code, no_void}
 use Rattle.drain_runs.proofs.FlowCodes.{code_flow-says}
 
 -- what a cell's elevation and code say is known
@@ -41,7 +42,7 @@ known_of_code g ps c (Some z) is =
       void = λ h. absurd (says.not_void h);
       has_data = λ h. subst IsSome (sym is) refl;
       ends = λ h. (EndsAfter-zero g ps c (says.ends h)).ends;
-      lost = λ h. (next-unnamed g ps c (says.lost h).0, (says.lost h).1);
+      lost = λ h. no_code (ps.dir c) (says.lost h).0 (says.lost h).1;
       leads = says.leads;
     }
 
@@ -90,6 +91,20 @@ pub known_at : (g : Grid) (ps : Products) (e : Extent) (flows : List Flow) (c : 
     AreKnownFlows g ps e flows → IsInside g c → index ≡ index_of e c → f ≡ get_or flows index Void → IsKnownFlow g ps c f
 known_at g ps e flows c index f known inside at is =
     subst (IsKnownFlow g ps c) (sym (is ∙ ap (λ k. get_or flows k Void) at)) (known.each c inside)
+
+-- a data cell that leads nowhere, and isn't known to end, has a run that doesn't end
+pub endless_nowhere : (g : Grid) (ps : Products) (c : Cell) (f : Flow) → IsKnownFlow g ps c f → HasData g c → direction_of f ≡ None → f ≢ Ends → ¬ RunEnds g ps c
+endless_nowhere g ps c Void known here nowhere other = absurd (no_void (g.elevation c) (known.void refl) here.is_data)
+endless_nowhere g ps c Lost known here nowhere other = endless-stuck g ps c (next-of_no_code g ps c (known.lost refl)) (λ is. known.lost refl (inl is))
+endless_nowhere g ps c Ends known here nowhere other = absurd (other refl)
+endless_nowhere g ps c ToEast known here nowhere other = absurd (none_some East (sym nowhere))
+endless_nowhere g ps c ToSouthEast known here nowhere other = absurd (none_some SouthEast (sym nowhere))
+endless_nowhere g ps c ToSouth known here nowhere other = absurd (none_some South (sym nowhere))
+endless_nowhere g ps c ToSouthWest known here nowhere other = absurd (none_some SouthWest (sym nowhere))
+endless_nowhere g ps c ToWest known here nowhere other = absurd (none_some West (sym nowhere))
+endless_nowhere g ps c ToNorthWest known here nowhere other = absurd (none_some NorthWest (sym nowhere))
+endless_nowhere g ps c ToNorth known here nowhere other = absurd (none_some North (sym nowhere))
+endless_nowhere g ps c ToNorthEast known here nowhere other = absurd (none_some NorthEast (sym nowhere))
 
 module _ (g : Grid) (ps : Products) (e : Extent) (extent : g.extent ≡ e) (c : Cell) (f : Flow) (known : IsKnownFlow g ps c f) where
   pub endless_outside : (d : Direction) → direction_of f ≡ Some d → step e c d ≡ None → ¬ RunEnds g ps c

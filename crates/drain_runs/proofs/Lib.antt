@@ -1,5 +1,7 @@
+mod CellLists
 pub mod Cells
-pub mod FlowCodes
+pub mod EndlessSteps
+mod FlowCodes
 pub mod FlowTable
 pub mod FlowWalks
 pub mod GridFlows

@@ -4,7 +4,7 @@ use Rattle.std.specs.List.{find}
 use Rattle.std.proofs.lemmas.Bool.{cases_Bool, false≢true}
 use Rattle.drain_grid.specs.declared.cell.Cell.{Cell}
 use Rattle.drain_grid.specs.declared.direction.Direction.{Direction}
-use Rattle.drain_grid.specs.Direction.{directions, Names, names, named_direction, MeansCode}
+use Rattle.drain_grid.specs.Direction.{IsCode, directions, Names, names, named_direction, MeansCode}
 use Rattle.drain_grid.specs.Extent.{step}
 use Rattle.drain_grid.specs.Grid.{Grid, Products}
 use Rattle.drain_grid.specs.Run.{only_data, next}
@@ -31,6 +31,21 @@ named_direction-names n d h = (names_fact n d).0 (find_passes (names n) directio
 -- a code that names no direction leads nowhere
 pub next-unnamed : (g : Grid) (ps : Products) (c : Cell) → named_direction (ps.dir c) ≡ None → next g ps c ≡ None
 next-unnamed g ps c named = ap (λ o. option_and_then (only_data g) (option_and_then (step g.extent c) o)) named
+
+-- a number that names no direction, and isn't 0, is no code
+pub no_code : (number : ℤ) → named_direction number ≡ None → number ≢ pos 0 → ¬ IsCode number
+no_code number unnamed other code = elim code [
+  | inl zero ↦ other zero
+  | inr named ↦ none_some named.0 (sym unnamed ∙ named_direction-code number named.0 named.1)
+]
+
+-- so it leads nowhere
+pub next-of_no_code : (g : Grid) (ps : Products) (c : Cell) → ¬ IsCode (ps.dir c) → next g ps c ≡ None
+next-of_no_code g ps c not_code = by_name (named_direction (ps.dir c)) refl
+  where
+    by_name : (o : Option Direction) → named_direction (ps.dir c) ≡ o → next g ps c ≡ None
+    by_name None is = next-unnamed g ps c is
+    by_name (Some d) is = absurd (not_code (inr (d, named_direction-names (ps.dir c) d is)))
 
 -- nor does one that leads outside
 pub next-outside : (g : Grid) (ps : Products) (c : Cell) (d : Direction) → Names (ps.dir c) d → step g.extent c d ≡ None →

@@ -1,8 +1,8 @@
 -- What flows tell once cells whose runs were found to end are put down as such: less than codes, and as much as walks ask for.
-use Rattle.std.specs.Prelude.{◌≡◌, ◌≢◌, pos, List, Some, None, IsSome, IsNone}
+use Rattle.std.specs.Prelude.{◌≡◌, ◌≢◌, List, Some, None, IsSome, IsNone}
 use Rattle.drain_grid.specs.declared.cell.Cell.{Cell}
 use Rattle.drain_grid.specs.declared.direction.Direction.{Direction}
-use Rattle.drain_grid.specs.Direction.{Names}
+use Rattle.drain_grid.specs.Direction.{IsCode, Names}
 use Rattle.drain_grid.specs.Extent.{IsCellOf}
 use Rattle.drain_grid.specs.Grid.{Grid, Products, IsInside}
 use Rattle.drain_grid.specs.Run.{next, RunEnds}
@@ -19,7 +19,7 @@ pub record IsKnownFlow (g : Grid) (ps : Products) (c : Cell) (f : Flow) : Type 0
   pub void : f ≡ Void → IsNone (g.elevation c)
   pub has_data : f ≢ Void → IsSome (g.elevation c)
   pub ends : f ≡ Ends → RunEnds g ps c
-  pub lost : f ≡ Lost → (next g ps c ≡ None) × (ps.dir c ≢ pos 0)
+  pub lost : f ≡ Lost → ¬ IsCode (ps.dir c)
   pub leads : (d : Direction) → direction_of f ≡ Some d → Names (ps.dir c) d
 
 -- each flow is

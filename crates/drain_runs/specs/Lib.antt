@@ -1,3 +1,4 @@
+pub mod EndlessRuns
 pub mod FlowTable
 pub mod Flows
 pub mod KnownFlows

@@ -6,6 +6,7 @@ ghost use Rattle.drain_grid.specs.Certificate.{IsFirstEndless};
 ghost use Rattle.drain_grid.specs.Grid.{Grid, Products, HasData};
 ghost use Rattle.drain_grid.specs.Run.{RunEnds};
 ghost use Rattle.drain_runs.specs.Flows.{AreFlowsOf};
+ghost use Rattle.drain_runs.specs.KnownFlows.{AreKnownFlows};
 
 use crate::cell_flows::CellFlows;
 use crate::flow::Flow;
@@ -19,8 +20,10 @@ impl CellFlows {
     /// passed at most twice, and no other memory is taken. Afterwards the flows no longer tell the codes.
     pub fn first_endless(&mut self, shape: Shape) -> Option<Cell>
         requires { length self.old ≡ shape.rows * shape.cols }
-        ensures { (g : Grid) → (ps : Products) → AreFlowsOf g ps shape self.old →
+        ensures first { (g : Grid) → (ps : Products) → AreFlowsOf g ps shape self.old →
             MatchOption result ((c : Cell) → HasData g c → RunEnds g ps c) (IsFirstEndless g ps) }
+        ensures counted { length self.new ≡ length self.old }
+        ensures known { (g : Grid) → (ps : Products) → AreFlowsOf g ps shape self.old → AreKnownFlows g ps shape self.new }
     {
         for index in 0..shape.cells() {
             match self.at(index) {

@@ -51,7 +51,7 @@ pub fn put_ends(flows: &mut CellFlows, shape: Shape, start: Cell, steps: usize)
 }
 
 /// The way from a data cell.
-fn way_of(flows: &CellFlows, shape: Shape, cell: Cell) -> Way
+pub(crate) fn way_of(flows: &CellFlows, shape: Shape, cell: Cell) -> Way
     requires counted { length flows.now ≡ shape.rows * shape.cols }
     requires inside { IsCellOf shape cell }
     ensures inside { IsWayWithin shape result }

@@ -3,6 +3,7 @@
 
 pub mod cell_flows;
 mod endless;
+pub mod endless_run;
 pub mod flow;
 mod flow_walk;
 pub mod laws;
@@ -12,6 +13,7 @@ mod walk;
 mod way;
 
 pub use cell_flows::CellFlows;
+pub use endless_run::{EndlessRun, LostBy, RING_TOLD};
 pub use flow::Flow;
 pub use ranks::{CertifyRefusal, steps_of};
 pub use steps::Steps;

@@ -2,8 +2,14 @@ use Rattle.std.proofs.Common.{sym, subst, rules}
 use Rattle.drain_grid.specs.Extent.{IsCellOf}
 use Rattle.drain_grid.specs.Grid.{IsInside}
 use Rattle.drain_grid.specs.Size.{Extent}
-use Rattle.drain_runs.proofs.KnownWays.{known_at, endless_outside, endless_void, leads_on}
+use Rattle.drain_runs.proofs.KnownWays.{known_at, endless_nowhere, endless_outside, endless_void, leads_on}
 use Rattle.drain_runs.proofs.flow_walk.way_of.Goals as goal
+
+pub returns-in_default-clause-way : goal.returns-in_default-clause-way
+returns-in_default-clause-way c = λ g ps known here.
+    endless_nowhere g ps c.args.cell c.at-flow.result
+    (known_at g ps c.args.shape c.args.flows.now c.args.cell c.index.result c.at-flow.result known here.inside c.index.ensures.place c.at-flow.ensures)
+    here (search rules) (search rules)
 
 pub returns-then-eq-2-clause-way : goal.returns-then-eq-2-clause-way
 returns-then-eq-2-clause-way c = λ g ps known here.

@@ -11,8 +11,8 @@ loop-index-init c = record {
   ends = λ g ps are. FirstEnd-none g ps c.args.shape c.args.self.now (AreKnownFlows-grid g ps c.args.shape c.args.self.now are);
 }
 
-pub returns-in-None : goal.returns-in-None
-returns-in-None c = λ g ps are.
+pub returns-in-None-clause-first : goal.returns-in-None-clause-first
+returns-in-None-clause-first c = λ g ps are.
     (let first = c.loop-index.invariant.ends g ps are in
     let here = data_at g ps c.args.shape c.loop-index.self c.cell-cell.result c.loop-index.index c.at.result first.known
     c.cell-cell.ensures.inside c.cell-cell.ensures.place c.at.ensures c.in_default.not-Void in
@@ -42,6 +42,12 @@ loop-index-preserved c =
       }
     ]
 
-pub returns : goal.returns
-returns c = λ g ps are. FirstEnd-all g ps c.args.shape c.loop-index.self c.loop-index.index (c.loop-index.invariant.ends g ps are)
+pub returns-in-None-clause-known : goal.returns-in-None-clause-known
+returns-in-None-clause-known c = λ g ps are. (c.loop-index.invariant.ends g ps are).known
+
+pub returns-clause-known : goal.returns-clause-known
+returns-clause-known c = λ g ps are. (c.loop-index.invariant.ends g ps are).known
+
+pub returns-clause-first : goal.returns-clause-first
+returns-clause-first c = λ g ps are. FirstEnd-all g ps c.args.shape c.loop-index.self c.loop-index.index (c.loop-index.invariant.ends g ps are)
     (let cells = c.cells-index-end.ensures.product in omega (arith, cells))

@@ -1,0 +1,144 @@
+-- Steps along a run that doesn't end.
+use Rattle.std.proofs.Common.{nat_lt, true, false, ◌≡◌, ◌≢◌, ◌<◌, ◌≤◌, ◌+◌, ◌++◌, ◌∷◌, ◌∙◌, ℕ, zero, suc, inl, inr, List, [], length, slice_get, Option, Some, None, option_and_then, refl, sym, ap, subst, arith}
+use Rattle.std.specs.Prelude.{min, Result, Ok, Err, IfOk, IfSome}
+use Rattle.std.proofs.lemmas.Bool.{cases_Bool, cases_order}
+use Rattle.std.proofs.lemmas.Bool.Decides.{nat_tests}
+use Rattle.std.proofs.lemmas.List.{length-append}
+use Rattle.drain_runs.proofs.CellLists.{nth_left, nth_seam}
+use Rattle.drain_grid.specs.declared.cell.Cell.{Cell}
+use Rattle.drain_grid.specs.Grid.{Grid, Products, HasData}
+use Rattle.drain_grid.specs.Run.{next}
+use Rattle.drain_grid.proofs.EndedRuns.{HasData-next}
+use Rattle.drain_grid.proofs.Options.{none_some, same_some}
+use Rattle.drain_grid.specs.declared.memory.OutOfMemory.{OutOfMemory}
+use Rattle.drain_runs.specs.EndlessRuns.{IsEndlessRun, IsReached, IsRing, IsRingFrom, cell_after, told_with}
+use Rattle.drain_runs.specs.declared.endless_run.EndlessRun.{EndlessRun}
+use Rattle.drain_runs.specs.declared.endless_run.EndlessRun.TheVariants.{Ring, Lost}
+use Rattle.drain_runs.specs.declared.endless_run.TheConstants.{RING_TOLD}
+
+-- one step more
+pub after-more : (g : Grid) (ps : Products) (k : ℕ) (c d e : Cell) → cell_after g ps k c ≡ Some d → next g ps d ≡ Some e → cell_after g ps (suc k) c ≡ Some e
+after-more g ps zero c d e led on =
+    ap (option_and_then (cell_after g ps zero)) (subst (λ x. next g ps x ≡ Some e) (sym (same_some c d led)) on)
+after-more g ps (suc k) c d e led on = onward (next g ps c) (λ n h. after-more g ps k n d e h on) led
+  where
+    onward : (o : Option Cell) → ((n : Cell) → cell_after g ps k n ≡ Some d → cell_after g ps (suc k) n ≡ Some e) →
+        option_and_then (cell_after g ps k) o ≡ Some d → option_and_then (cell_after g ps (suc k)) o ≡ Some e
+    onward None more h = absurd (none_some d h)
+    onward (Some n) more h = more n h
+
+led-more : (g : Grid) (ps : Products) (c d e : Cell) (k : ℕ) → cell_after g ps k c ≡ Some d → next g ps d ≡ Some e → cell_after g ps (k + 1) c ≡ Some e
+led-more g ps c d e k led on = subst (λ n. cell_after g ps n c ≡ Some e) (suc_is k) (after-more g ps k c d e led on)
+  where
+    suc_is : (k : ℕ) → suc k ≡ k + 1
+    suc_is k = omega arith
+
+-- the start is reached, and what follows a cell that is
+pub reached-start : (g : Grid) (ps : Products) (c : Cell) → HasData g c → IsReached g ps c c
+reached-start g ps c here = record { has_data = here; led = (0, refl) }
+
+pub reached-more : (g : Grid) (ps : Products) (start c n : Cell) → IsReached g ps start c → next g ps c ≡ Some n → IsReached g ps start n
+reached-more g ps start c n reached on = record {
+  has_data = HasData-next g ps c n on;
+  led = (suc reached.led.0, after-more g ps reached.led.0 start c n reached.led.1 on);
+}
+
+-- a walk that hasn't come back yet
+pub record HasWalked (g : Grid) (ps : Products) (first here : Cell) (walked : ℕ) : Type 0 where
+  pub has_data : HasData g here
+  pub led : cell_after g ps walked first ≡ Some here
+  pub away : (k : ℕ) → 0 < k → k ≤ walked → cell_after g ps k first ≢ Some first
+
+-- and the cells that it passed, as far as they are told
+abbrev pub ArePassed : Grid → Products → Cell → List Cell → Type 0
+ArePassed g ps first cells = (k : ℕ) → k < length cells → cell_after g ps k first ≡ slice_get cells k
+
+pub walked-none : (g : Grid) (ps : Products) (first : Cell) → HasData g first → HasWalked g ps first first 0
+walked-none g ps first here = record {
+  has_data = here;
+  led = refl;
+  away = λ k some few. absurd (omega (arith, some, few));
+}
+
+-- one step further, to another cell than the first
+pub walked-more : (g : Grid) (ps : Products) (first here n : Cell) (walked : ℕ) → HasWalked g ps first here walked → next g ps here ≡ Some n → n ≢ first →
+    HasWalked g ps first n (walked + 1)
+walked-more g ps first here n walked so_far on other =
+    let led = led-more g ps first here n walked so_far.led on in
+    record {
+      has_data = HasData-next g ps here n on;
+      led = led;
+      away = λ k some few. elim (cases_order k (walked + 1)) [
+        | inl same ↦ (λ back. other (same_some n first (sym led ∙ ap (λ j. cell_after g ps j first) (sym same) ∙ back)))
+        | inr (inl less) ↦ so_far.away k some (omega (arith, less))
+        | inr (inr more) ↦ absurd (omega (arith, more, few))
+      ];
+    }
+
+-- or back to the first
+pub ring-closed : (g : Grid) (ps : Products) (first here n : Cell) (walked : ℕ) → HasWalked g ps first here walked → next g ps here ≡ Some n → n ≡ first →
+    IsRingFrom g ps first (walked + 1)
+ring-closed g ps first here n walked so_far on same = record {
+  some = omega arith;
+  closed = led-more g ps first here n walked so_far.led on ∙ ap Some same;
+  first = λ k some less. so_far.away k some (omega (arith, less));
+}
+
+pub passed-none : (g : Grid) (ps : Products) (first : Cell) → ArePassed g ps first []
+passed-none g ps first = λ k less. absurd (omega (arith, less))
+
+-- with the cell that the walk has come to
+pub passed-more : (g : Grid) (ps : Products) (first here : Cell) (cells : List Cell) → ArePassed g ps first cells → cell_after g ps (length cells) first ≡ Some here →
+    ArePassed g ps first (cells ++ here ∷ [])
+passed-more g ps first here cells passed led = λ k less. elim (cases_order k (length cells)) [
+  | inl same ↦ ap (λ j. cell_after g ps j first) same ∙ led ∙ sym (nth_seam cells here) ∙ ap (slice_get (cells ++ here ∷ [])) (sym same)
+  | inr (inl before) ↦ passed k before ∙ sym (nth_left cells (here ∷ []) k before)
+  | inr (inr behind) ↦ absurd (let long = length-append cells (here ∷ []) in omega (arith, less, behind, long))
+]
+
+below : (a b : ℕ) → nat_lt a b ≡ true → a < b
+below a b h = grind (arith, nat_tests)
+
+not_below : (a b : ℕ) → nat_lt a b ≡ false → b ≤ a
+not_below a b h = grind (arith, nat_tests)
+
+min-left : (a b : ℕ) → a < b → min a b ≡ a
+min-left a b less = omega (arith, less)
+
+-- so many are told then
+pub told-long : (here : Cell) (cells : List Cell) (walked : ℕ) → length cells ≡ min walked RING_TOLD → length (told_with walked here cells) ≡ min (walked + 1) RING_TOLD
+told-long here cells walked told = elim (cases_Bool (nat_lt walked RING_TOLD)) [
+  | inl few ↦
+      (let less = below walked RING_TOLD few in
+      let long : length cells ≡ walked = told ∙ min-left walked RING_TOLD less in
+      rw few (length-append cells (here ∷ []) ∙ ap (λ k. k + 1) long ∙ sym (min-more walked RING_TOLD less)))
+  | inr many ↦ rw many (told ∙ min-past walked RING_TOLD many)
+]
+  where
+    min-more : (a b : ℕ) → a < b → min (a + 1) b ≡ a + 1
+    min-more a b less = omega (arith, less)
+
+    min-past : (a b : ℕ) → nat_lt a b ≡ false → min a b ≡ min (a + 1) b
+    min-past a b many = let past = not_below a b many in omega (arith, past)
+
+-- and each is one that the walk passed
+pub told-more : (g : Grid) (ps : Products) (first here : Cell) (cells : List Cell) (walked : ℕ) → ArePassed g ps first cells → length cells ≡ min walked RING_TOLD →
+    cell_after g ps walked first ≡ Some here → ArePassed g ps first (told_with walked here cells)
+told-more g ps first here cells walked passed told led = elim (cases_Bool (nat_lt walked RING_TOLD)) [
+  | inl few ↦
+      (let less = below walked RING_TOLD few in
+      let long : length cells ≡ walked = told ∙ min-left walked RING_TOLD less in
+      rw few (passed-more g ps first here cells passed (ap (λ k. cell_after g ps k first) long ∙ led)))
+  | inr many ↦ rw many passed
+]
+
+-- a ring that the run of the start comes to
+pub ring-of : (Known : Grid → Products → Type 0) (start here : Cell) → ((g : Grid) (ps : Products) → Known g ps → HasData g start → IsReached g ps start here) →
+    (result : Result (Option EndlessRun) OutOfMemory) → IfOk result (λ told. (g : Grid) (ps : Products) → Known g ps → HasData g here → IfSome told (IsRing g ps here)) →
+    IfOk result (λ told. (g : Grid) (ps : Products) → Known g ps → HasData g start → IfSome told (IsEndlessRun g ps start))
+ring-of Known start here reached (Err e) rings = tt
+ring-of Known start here reached (Ok None) rings = λ g ps known has. tt
+ring-of Known start here reached (Ok (Some (Ring cells steps))) rings = λ g ps known has.
+    let came = reached g ps known has in
+    (here, came, rings g ps known came.has_data)
+ring-of Known start here reached (Ok (Some (Lost c by))) rings = λ g ps known has. absurd (rings g ps known (reached g ps known has).has_data)

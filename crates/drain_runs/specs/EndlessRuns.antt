@@ -1,0 +1,58 @@
+-- What a run comes to that doesn't end: a ring, or a cell from which it leads nowhere. Source: this project's own words for where the codes of D8 lead.
+use Rattle.std.specs.Prelude.{◌≡◌, ◌≢◌, ◌<◌, ◌++◌, ◌∷◌, [], ℕ, zero, suc, min, nat_lt, if◌then◌else◌, List, length, slice_get, Option, Some, None, IsNone, option_and_then}
+use Rattle.drain_grid.specs.declared.cell.Cell.{Cell}
+use Rattle.drain_grid.specs.declared.direction.Direction.{Direction}
+use Rattle.drain_grid.specs.Direction.{IsCode, Names}
+use Rattle.drain_grid.specs.Extent.{step}
+use Rattle.drain_grid.specs.Grid.{Grid, Products, HasData}
+use Rattle.drain_grid.specs.Run.{next}
+use Rattle.drain_runs.specs.declared.endless_run.EndlessRun.{EndlessRun}
+use Rattle.drain_runs.specs.declared.endless_run.EndlessRun.TheVariants.{Ring, Lost}
+use Rattle.drain_runs.specs.declared.endless_run.LostBy.{LostBy}
+use Rattle.drain_runs.specs.declared.endless_run.LostBy.TheVariants.{NoCode, Outside, Void}
+use Rattle.drain_runs.specs.declared.endless_run.TheConstants.{RING_TOLD}
+
+-- the cell to which the codes lead from a cell in so many steps, none where they lead nowhere before
+abbrev pub cell_after : Grid → Products → ℕ → Cell → Option Cell
+cell_after g ps zero c = Some c
+cell_after g ps (suc k) c = option_and_then (cell_after g ps k) (next g ps c)
+
+-- the codes lead from the one cell to the other
+abbrev pub LeadsTo : Grid → Products → Cell → Cell → Type 0
+LeadsTo g ps c d = (k : ℕ) × (cell_after g ps k c ≡ Some d)
+
+-- and the other has data
+pub record IsReached (g : Grid) (ps : Products) (start c : Cell) : Type 0 where
+  pub has_data : HasData g c
+  pub led : LeadsTo g ps start c
+
+-- why the code of a cell leads nowhere
+abbrev pub IsLostBy : Grid → Products → Cell → LostBy → Type 0
+IsLostBy g ps c NoCode = ¬ IsCode (ps.dir c)
+IsLostBy g ps c Outside = (d : Direction) × Names (ps.dir c) d × (step g.extent c d ≡ None)
+IsLostBy g ps c Void = (d : Direction) × (n : Cell) × Names (ps.dir c) d × (step g.extent c d ≡ Some n) × IsNone (g.elevation n)
+
+-- from the cell the codes come back to it in so many steps, and in no fewer
+pub record IsRingFrom (g : Grid) (ps : Products) (c : Cell) (steps : ℕ) : Type 0 where
+  pub some : 0 < steps
+  pub closed : cell_after g ps steps c ≡ Some c
+  pub first : (k : ℕ) → 0 < k → k < steps → cell_after g ps k c ≢ Some c
+
+-- the first cells of the ring: all, or 20 where there are more
+pub record AreCellsFrom (g : Grid) (ps : Products) (c : Cell) (steps : ℕ) (cells : List Cell) : Type 0 where
+  pub each : (k : ℕ) → k < length cells → cell_after g ps k c ≡ slice_get cells k
+  pub told : length cells ≡ min steps RING_TOLD
+
+-- the cells with that to which so many steps lead, where it is one of the first 20
+abbrev pub told_with : ℕ → Cell → List Cell → List Cell
+told_with steps c cells = if nat_lt steps RING_TOLD then cells ++ c ∷ [] else cells
+
+-- it is a ring from the cell, and not a cell from which it leads nowhere
+abbrev pub IsRing : Grid → Products → Cell → EndlessRun → Type 0
+IsRing g ps c (Ring cells steps) = IsRingFrom g ps c steps × AreCellsFrom g ps c steps cells.items
+IsRing g ps c (Lost d by) = ⊥
+
+-- the run of the cell comes to this
+abbrev pub IsEndlessRun : Grid → Products → Cell → EndlessRun → Type 0
+IsEndlessRun g ps start (Ring cells steps) = (c : Cell) × IsReached g ps start c × IsRing g ps c (Ring cells steps)
+IsEndlessRun g ps start (Lost c by) = IsReached g ps start c × IsLostBy g ps c by
