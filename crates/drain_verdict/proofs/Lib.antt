@@ -1,10 +1,10 @@
 mod Acceptance
-mod AuditAnswers
-mod AuditDevices
+pub mod AuditAnswers
+pub mod AuditDevices
 mod AuditReads
 mod BodyAnswers
 pub mod CellSets
-mod Devices
+pub mod Devices
 mod FirstValues
 mod HeaderAnswers
 mod HeaderTexts
@@ -26,7 +26,7 @@ pub mod RowReads
 mod RowStart
 mod SeamAnswers
 pub mod SinkAnswers
-mod StartAnswers
+pub mod StartAnswers
 mod Telling
 mod TileLists
 pub mod VoidRows

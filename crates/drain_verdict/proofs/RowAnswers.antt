@@ -169,7 +169,7 @@ module _ (laws : Laws) (i : Inputs) (hs : PerProduct Fields) (fields : (p : Held
   nodata_at : (p : Held) → unwrap_or (of_product hs p).nodata (default_no_data (product_of p)) ≡ nodata_of i p
   nodata_at p = ap (λ (h : Fields). unwrap_or h.nodata (default_no_data (product_of p))) (fields p)
 
-  nodata_are : nodata_in hs ≡ nodata_numbers i
+  pub nodata_are : nodata_in hs ≡ nodata_numbers i
   nodata_are = λ k. record {
     con = nodata_at Con k;
     dir = nodata_at Dir k;

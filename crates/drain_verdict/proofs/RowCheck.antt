@@ -24,8 +24,9 @@ use Rattle.drain_raster.specs.Pixels as pixels
 use Rattle.drain_kernel.specs.Rules.{rules_with}
 use Rattle.drain_rules.specs.Verdicts.{IsVerdictOf}
 use Rattle.drain_kernel.specs.declared.rules.Ranks.{Ranks}
+use Rattle.drain_kernel.specs.declared.rules.Rules.{Rules}
 use Rattle.drain_rules.specs.declared.verdict.Verdict.{Verdict}
-use Rattle.drain_verdict.specs.Answers.{IsAnswer, IsAnswerWith, IsRefusal}
+use Rattle.drain_verdict.specs.Answers.{AreNotesOf, IsAnswer, IsAnswerWith, IsRefusal, rules_at}
 use Rattle.drain_verdict.specs.GridRows.{IsRowsRefusal, OfGrid, ReadsOn}
 use Rattle.drain_verdict.specs.InputReads.{HaveBeenRead, Reading, products_lent, readers, tiles_lent}
 use Rattle.drain_verdict.specs.InputRows.{AreBegun, HasStopped, IsToldRefusal}
@@ -40,7 +41,7 @@ use Rattle.drain_verdict.specs.ToGive.{AreGiven, HaveCome, IsAfter}
 use Rattle.drain_verdict.specs.declared.input_rows.InputRows.{InputRows}
 use Rattle.drain_verdict.specs.declared.refusal.Refusal.{Refusal}
 use Rattle.drain_verdict.specs.declared.refusal.Refusal.TheVariants.{OutOfMemory, ReadFailed}
-use Rattle.drain_verdict.proofs.RowAnswers.{rows_of_bytes, told_none, told_refusal, verdict_is}
+use Rattle.drain_verdict.proofs.RowAnswers.{nodata_are, rows_of_bytes, told_none, told_refusal, verdict_is}
 use Rattle.drain_verdict.proofs.SinkAnswers.{sinks_none, sinks_refused}
 use Rattle.drain_verdict.proofs.RowDevices.{come_none}
 use Rattle.drain_verdict.proofs.RowEnd.{AreAtEnd, Laws, at_end, mosaic_goes}
@@ -121,6 +122,21 @@ module _ {R : Type 0} (bl : R → Option (List ℕ)) (ct : R → FaultCounts) (i
       verdict_is here.laws i hs fields (ended None (tiling_of i) here) ranks verdict
       (sinks_none i listing e voids sinks_are bad_is extent voids_are law told (none_before t is fields none read))
       (subst (λ (n : NoDataNumbers). IsVerdictOf (rules_with ranks n) (grid_of i) (products_of i) verdict) nodata_is verdict_is_of)
+
+  -- and notes of the grid that is given are of the inputs' grid
+  pub notes_hold : {K : Type 0} (are_of : Rules → Grid → grid.Products → ℕ → K → Type 0) (rules : Rules) (notes : K) (sinks : List SinkLine) (t : Tiling) → t ≡ tiling_of i →
+      ((p : Held) → of_product hs p ≡ fields_of i p) → rules.nodata ≡ nodata_in hs → sinks ≡ listed_in i →
+      OfGrid (AreGiven bl (rows, tiles, ps)) e sinks (λ g products. are_of rules g products g.extent.rows notes) → Read bl ct i hs rows rows_then tiles tiles_then ps ps_then e None t →
+      AreNotesOf are_of rules.ranks i notes
+  notes_hold are_of rules notes sinks t is fields nodata_is sinks_are of_grid read =
+      let here = subst (Read bl ct i hs rows rows_then tiles tiles_then ps ps_then e None) is read in
+      let numbers = nodata_is ∙ nodata_are here.laws i hs fields (ended None (tiling_of i) here) in
+      let same : rules ≡ rules_at rules.ranks i = ap (λ (n : NoDataNumbers). rules_with_nodata rules n) numbers in
+      subst (λ (r : Rules). are_of r (grid_of i) (products_of i) (grid_of i).extent.rows notes) same
+      (given_holds sinks (λ g products. are_of rules g products g.extent.rows notes) t is fields sinks_are of_grid read)
+    where
+      rules_with_nodata : Rules → NoDataNumbers → Rules
+      rules_with_nodata rules n = record { nodata = n; ranks = rules.ranks }
 
 -- a refusal of reading, by readers of five products, whichever are handed in
 module _ {R S : Type 0} (bl : R → Option (List ℕ)) (ct : R → FaultCounts) (view : S → Reading R) (before after : S) where

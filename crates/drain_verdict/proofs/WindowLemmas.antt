@@ -11,7 +11,7 @@ use Rattle.drain_rules.specs.PatchRows.{AreRowPatches}
 use Rattle.drain_rules.specs.RowNumbers.{AreNumbersOf, AreRowNumbers, RowNumbers, blank}
 use Rattle.drain_rules.specs.MarkedRows.{IsRowOf, MarkedRow}
 use Rattle.drain_rules.specs.Rows.{place}
-use Rattle.drain_rules.specs.ThreeRows.{AreRowsAround}
+use Rattle.drain_rules.specs.ThreeRows.{AreRowsAround, ThreeRowsShowPatches, patch_in}
 use Rattle.drain_grid.specs.declared.sink_line.SinkLine.{SinkLine}
 use Rattle.drain_verdict.specs.GridRows.{AreRowsOf}
 use Rattle.drain_verdict.specs.HeldRows.{IsMarked}
@@ -58,14 +58,6 @@ rows-around g ps sinks rows row three all inside are below_is above_marked here_
   none_above = are.none_above;
 }
 
--- one row further down
-pub held-more : (rows : ℕ → RowNumbers) (row : ℕ) (here below : RowNumbers) → here ≡ rows row → below ≡ rows (row + 1) → AreHeld rows (row + 1) here below
-held-more rows row here below here_is below_is = record {
-  here_is = below_is;
-  above_is = λ r is. let same : row ≡ r = omega (arith, is) in here_is ∙ ap rows same;
-  none_above = λ none. absurd (omega (arith, none));
-}
-
 -- the window turned
 pub held-turned : (rows : ℕ → RowNumbers) (row : ℕ) (above here above_now here_now : RowNumbers) → AreHeld rows row above here → above_now ≡ above →
     here_now ≡ here → AreHeld rows row above_now here_now
@@ -73,6 +65,27 @@ held-turned rows row above here above_now here_now are above_is here_is = record
   here_is = here_is ∙ are.here_is;
   above_is = λ r is. above_is ∙ are.above_is r is;
   none_above = λ none. above_is ∙ are.none_above none;
+}
+
+-- so three rows that are those of the window, once it turned, show the patches of the row
+pub window-shows : ThreeRowsShowPatches → (g : Grid) (ps : Products) (sinks : List SinkLine) (rows : ℕ → RowNumbers) (row : ℕ) (three : ThreeRows) (above here below : MarkedRow) →
+    AreRowsOf g ps sinks rows → row < g.extent.rows → three.above ≡ above → three.here ≡ here → three.below ≡ below → AreHeld rows row above.numbers here.numbers →
+    below.numbers ≡ rows (row + 1) → ((r : ℕ) → row ≡ r + 1 → IsMarked sinks r above) → IsMarked sinks row here → IsMarked sinks (row + 1) below →
+    AreRowPatches g ps row (length three.here.numbers.z) (patch_in three)
+window-shows law g ps sinks rows row three above here below all inside above_is here_is below_is held next above_marked here_marked below_marked =
+    law g ps row three (rows-around g ps sinks rows row three all inside
+    (held-turned rows row above.numbers here.numbers three.above.numbers three.here.numbers held (ap (λ (m : MarkedRow). m.numbers) above_is) (ap (λ (m : MarkedRow). m.numbers) here_is))
+    (ap (λ (m : MarkedRow). m.numbers) below_is ∙ next)
+    (λ r is. subst (IsMarked sinks r) (sym above_is) (above_marked r is))
+    (subst (IsMarked sinks row) (sym here_is) here_marked)
+    (subst (IsMarked sinks (row + 1)) (sym below_is) below_marked))
+
+-- one row further down
+pub held-more : (rows : ℕ → RowNumbers) (row : ℕ) (here below : RowNumbers) → here ≡ rows row → below ≡ rows (row + 1) → AreHeld rows (row + 1) here below
+held-more rows row here below here_is below_is = record {
+  here_is = below_is;
+  above_is = λ r is. let same : row ≡ r = omega (arith, is) in here_is ∙ ap rows same;
+  none_above = λ none. absurd (omega (arith, none));
 }
 
 -- the patches of a row by another name of its number

@@ -6,6 +6,7 @@ use Rattle.drain_rules.specs.declared.verdict.Verdict.{Verdict}
 use Rattle.drain_kernel.specs.Rules.{rules_with}
 use Rattle.drain_rules.specs.Verdicts.{IsVerdictOf}
 use Rattle.drain_kernel.specs.declared.rules.Ranks.{Ranks}
+use Rattle.drain_kernel.specs.declared.rules.Rules.{Rules}
 use Rattle.drain_kernel.specs.declared.rules.Ranks.TheVariants.{Asked}
 use Rattle.drain_verdict.specs.declared.refusal.Refusal.{Refusal}
 use Rattle.drain_verdict.specs.declared.refusal.Refusal.TheVariants.{OutOfMemory, ReadFailed}
@@ -32,6 +33,10 @@ IsAnswerWith ranks i (Err refusal) = IsRefusal i refusal
 abbrev pub IsAnswer : Inputs → Result Verdict Refusal → Type 0
 IsAnswer = IsAnswerWith Asked
 
--- notes of a grid's rows that are of all rows of the inputs' grid
-abbrev pub AreNotesOf : {K : Type 0} → (Grid → Products → ℕ → K → Type 0) → Inputs → K → Type 0
-AreNotesOf are_of i notes = are_of (grid_of i) (products_of i) (grid_of i).extent.rows notes
+-- the rules that are tried of the inputs, where ranks are asked for or not
+abbrev pub rules_at : Ranks → Inputs → Rules
+rules_at ranks i = record { nodata = nodata_numbers i; ranks = ranks }
+
+-- notes of a grid's rows that are of all rows of the inputs' grid, where these rules are tried
+abbrev pub AreNotesOf : {K : Type 0} → (Rules → Grid → Products → ℕ → K → Type 0) → Ranks → Inputs → K → Type 0
+AreNotesOf are_of ranks i notes = are_of (rules_at ranks i) (grid_of i) (products_of i) (grid_of i).extent.rows notes

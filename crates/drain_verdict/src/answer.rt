@@ -9,6 +9,7 @@ ghost use Rattle.drain_grid.specs.declared.per_product.PerProduct.{PerProduct};
 ghost use Rattle.drain_grid.specs.declared.held.Held.{Held};
 ghost use Rattle.drain_grid.specs.Grid as grid;
 ghost use Rattle.drain_grid.specs.Grid.{Grid};
+ghost use Rattle.drain_kernel.specs.declared.rules.Rules as declared;
 ghost use Rattle.drain_header.specs.Fields.{Fields};
 ghost use Rattle.drain_grid.specs.PerProduct.{of_product};
 ghost use Rattle.drain_mosaic.specs.Tiling as tiling;
@@ -65,9 +66,9 @@ pub fn answer_on<R: ByteSource, P: ProductInputs<R>, K: RowNotes>(
     notes: &mut K,
 ) -> Result<Verdict, Refusal>
     requires laid { IsLayoutOf layout.now.side (names_of tiles.old) layout.now }
-    requires unnoted { (g : Grid) (ps : grid.Products) → K.are_of g ps 0 notes.old }
+    requires unnoted { (rules : declared.Rules) (g : Grid) (ps : grid.Products) → K.are_of rules g ps 0 notes.old }
     ensures answer { (inputs : Inputs) → Tell R.bytes_left layout.now.side tiles.old sinks.now (P.inputs products.old) inputs → IsAnswerWith ranks inputs result }
-    ensures noted { OnOk result ((inputs : Inputs) → Tell R.bytes_left layout.now.side tiles.old sinks.now (P.inputs products.old) inputs → AreNotesOf K.are_of inputs notes.new) }
+    ensures noted { OnOk result ((inputs : Inputs) → Tell R.bytes_left layout.now.side tiles.old sinks.now (P.inputs products.old) inputs → AreNotesOf K.are_of ranks inputs notes.new) }
     ensures tiles_within { TilesTakeAtMost R.bytes_left layout.now.side tiles.old tiles.new }
     ensures rasters_within { (p : Held) → RasterTakesAtMost R.bytes_left (P.inputs products.old) (P.inputs products.new) p }
     ensures faults { SomeReadFails (map R.counts (devices_of tiles.old (P.inputs products.old))) (map R.counts (devices_of tiles.new (P.inputs products.new))) (IsErrOf result Refusal.ReadFailed) }
@@ -95,13 +96,13 @@ fn answer_to_bodies<R: ByteSource, P: ProductInputs<R>, K: RowNotes>(
     requires named { length tiles.old ≡ length layout.now.corners }
     requires shapes { (p : Held) → extent_of (of_product headers p) ≡ tiling.extent_of layout.now }
     requires alike { P.are_alike headers }
-    requires unnoted { (g : Grid) (ps : grid.Products) → K.are_of g ps 0 notes.old }
+    requires unnoted { (rules : declared.Rules) (g : Grid) (ps : grid.Products) → K.are_of rules g ps 0 notes.old }
     ensures answer { (inputs : Inputs) → layout.now ≡ tiling_of inputs → ((p : Held) → of_product headers p ≡ fields_of inputs p)
         → AreBodies R.bytes_left tiles.old inputs.tiles → AreRasterBodies R.bytes_left (P.inputs products.old) inputs.raster
         → inputs.sinks ≡ sinks.now → NoneStandsBefore inputs 5 → IsAnswerWith ranks inputs result }
     ensures noted { OnOk result ((inputs : Inputs) → layout.now ≡ tiling_of inputs → ((p : Held) → of_product headers p ≡ fields_of inputs p)
         → AreBodies R.bytes_left tiles.old inputs.tiles → AreRasterBodies R.bytes_left (P.inputs products.old) inputs.raster
-        → inputs.sinks ≡ sinks.now → AreNotesOf K.are_of inputs notes.new) }
+        → inputs.sinks ≡ sinks.now → AreNotesOf K.are_of ranks inputs notes.new) }
     ensures tiles_within { TilesTakeAtMost R.bytes_left layout.now.side tiles.old tiles.new }
     ensures rasters_within { (p : Held) → BodyTakesAtMost R.bytes_left (of_product headers p) (P.inputs products.old) (P.inputs products.new) p }
     ensures faults { SomeReadFails (map R.counts (devices_of tiles.old (P.inputs products.old))) (map R.counts (devices_of tiles.new (P.inputs products.new))) (IsErrOf result Refusal.ReadFailed) }
@@ -136,18 +137,18 @@ fn answer_to_rows<R: ByteSource, P: ProductInputs<R>, K: RowNotes>(
 ) -> Result<Verdict, Refusal>
     requires named { length tiles.old ≡ length layout.now.corners }
     requires counted { length rows.old.mosaic.tiles.items ≡ length layout.now.corners }
-    requires unnoted { (g : Grid) (ps : grid.Products) → K.are_of g ps 0 notes.old }
+    requires unnoted { (rules : declared.Rules) (g : Grid) (ps : grid.Products) → K.are_of rules g ps 0 notes.old }
     ensures answer { (inputs : Inputs) (hs : PerProduct Fields) → AreBegun layout.now hs (with_rasters P.readers rows.old) → rules.now.nodata ≡ nodata_in hs
         → ((p : Held) → extent_of (of_product hs p) ≡ tiling.extent_of layout.now)
         → layout.now ≡ tiling_of inputs → ((p : Held) → of_product hs p ≡ fields_of inputs p)
         → AreBodies R.bytes_left tiles.old inputs.tiles → AreRasterBodies R.bytes_left (P.inputs products.old) inputs.raster
         → listing.now.sinks ≡ listed_in inputs → IsBadLine (sinks_of inputs.sinks) listing.now.bad
         → NoneStandsBefore inputs 5 → IsAnswerWith rules.now.ranks inputs result }
-    ensures noted { OnOk result ((inputs : Inputs) (hs : PerProduct Fields) → AreBegun layout.now hs (with_rasters P.readers rows.old)
+    ensures noted { OnOk result ((inputs : Inputs) (hs : PerProduct Fields) → AreBegun layout.now hs (with_rasters P.readers rows.old) → rules.now.nodata ≡ nodata_in hs
         → ((p : Held) → extent_of (of_product hs p) ≡ tiling.extent_of layout.now)
         → layout.now ≡ tiling_of inputs → ((p : Held) → of_product hs p ≡ fields_of inputs p)
         → AreBodies R.bytes_left tiles.old inputs.tiles → AreRasterBodies R.bytes_left (P.inputs products.old) inputs.raster
-        → listing.now.sinks ≡ listed_in inputs → AreNotesOf K.are_of inputs notes.new) }
+        → listing.now.sinks ≡ listed_in inputs → AreNotesOf K.are_of rules.now.ranks inputs notes.new) }
     ensures reads { HaveBeenRead R.bytes_left R.counts (as_read P.readers P.inputs (rows.old, tiles.old, products.old)) (as_read P.readers P.inputs (rows.new, tiles.new, products.new)) (IsErrOf result Refusal.ReadFailed) }
     ensures of_bodies { IfErr result IsOfBodies }
 {

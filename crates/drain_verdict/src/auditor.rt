@@ -4,27 +4,39 @@
 //! Behind the last row it asks which runs end, but only where a rule failed: where none did, all do. That this tells correct products from all others is a
 //! law of `drain_grid`.
 
-ghost use Rattle.std.specs.Prelude.{◌≡◌, ◌↔◌, map, IfErr, IfOk, IsErrOf};
+ghost use Rattle.std.specs.Prelude.{◌≡◌, ◌↔◌, ◌*◌, [], length, map, IfErr, IfOk, IsErrOf, OnOk};
 ghost use Rattle.drain_device.specs.FaultLists.{SomeReadFails};
 ghost use Rattle.drain_grid.specs.declared.held.Held.{Held};
+ghost use Rattle.drain_grid.specs.Grid as grid;
+ghost use Rattle.drain_grid.specs.Grid.{Grid};
 ghost use Rattle.drain_grid.specs.PerProduct.{of_product};
 ghost use Rattle.drain_hgt.specs.Inputs.{names_of, TilesTakeAtMost};
+ghost use Rattle.drain_kernel.specs.declared.rules.Ranks.TheVariants.{Unasked};
+ghost use Rattle.drain_kernel.specs.declared.rules.Rules.{Rules};
+ghost use Rattle.drain_mosaic.specs.Tiling.{extent_of};
+ghost use Rattle.drain_runs.specs.KnownFlows.{AreKnownFlows};
+ghost use Rattle.drain_verdict.specs.Answers.{AreNotesOf};
 ghost use Rattle.drain_verdict.specs.AuditInputs.{audit_devices, with_con_for_ranks};
 ghost use Rattle.drain_verdict.specs.Audits.{AreCorrect, AuditMeans, IsAcceptance, IsAuditAnswer, IsPlainAnswer, OfFour};
 ghost use Rattle.drain_verdict.specs.Devices.{RasterTakesAtMost};
 ghost use Rattle.drain_verdict.specs.Headline.{TilesAreOne, ElevationIsTheirs, ConIsLeast, NoDirectionClimbs, DirectionsAreSteepest, CodesTellOutlets, RunsEnd, RunsEndAtOutlets, RunsVisitOnce, AccCountsUpstream, LabelsTellBasins, VoidsAreBlank, DataIsComplete};
+ghost use Rattle.drain_verdict.specs.Meaning.{grid_of, products_of};
 ghost use Rattle.drain_verdict.specs.Refusals.{IsOfBodies};
+ghost use Rattle.drain_verdict.specs.Stages.{IsLayoutOf};
 
 use crate::answer::answer_on;
 use crate::audit_products::AuditProducts;
 use crate::audit_verdict::{AuditVerdict, verdict_of_both};
+use crate::both_notes::BothNotes;
 use crate::layout::layout_of;
 use crate::refusal::Refusal;
 use crate::row_flows::first_endless;
+use crate::row_notes::{NoNotes, RowNotes};
 use drain_device::ByteSource;
 use drain_grid::laws::{correct_is_local, ranks_play_no_part, sound_from_correct};
 use drain_hgt::TileInput;
 use drain_hgt::laws::one_name;
+use drain_mosaic::Layout;
 use drain_mosaic::laws::agreement_gives_elevation;
 use drain_rules::Ranks;
 use drain_runs::CellFlows;
@@ -114,16 +126,41 @@ fn audit_of<R: ByteSource>(
     // The law that bytes name one tile.
     one_name();
     let layout = layout_of(alloc, side, tiles)?;
-    let mut flows = CellFlows::new(alloc);
-    let verdict = answer_on(
-        alloc,
-        &layout,
-        sinks,
-        tiles,
-        products,
-        Ranks::Unasked,
-        &mut flows,
-    )?;
-    let endless = first_endless(&mut flows, layout.shape(), &verdict);
+    let mut notes = BothNotes {
+        first: CellFlows::new(alloc),
+        second: NoNotes,
+    };
+    audit_on(alloc, &layout, sinks, tiles, products, &mut notes)
+}
+
+/// The answer to the bytes of inputs of this mosaic, without a word on ranks; each row of the grid is noted. Of a verdict the flows are known to be those of the grid, but
+/// for cells whose runs are found to end.
+pub fn audit_on<R: ByteSource, K: RowNotes>(
+    alloc: Global,
+    layout: &Layout,
+    sinks: &[u8],
+    tiles: &mut [TileInput<R>],
+    products: &mut AuditProducts<R>,
+    notes: &mut BothNotes<CellFlows, K>,
+) -> Result<AuditVerdict, Refusal>
+    requires laid { IsLayoutOf layout.now.side (names_of tiles.old) layout.now }
+    requires empty { notes.old.first ≡ [] }
+    requires unnoted { (rules : Rules) (g : Grid) (ps : grid.Products) → K.are_of rules g ps 0 notes.old.second }
+    ensures answer { OfFour R.bytes_left layout.now.side tiles.old sinks.now products.old (λ inputs. IsPlainAnswer inputs result) }
+    ensures noted { OnOk result (OfFour R.bytes_left layout.now.side tiles.old sinks.now products.old (λ inputs. AreNotesOf K.are_of Unasked inputs notes.new.second)) }
+    ensures flows { OnOk result (OfFour R.bytes_left layout.now.side tiles.old sinks.now products.old (λ inputs. AreKnownFlows (grid_of inputs) (products_of inputs) (extent_of layout.now) notes.new.first)) }
+    ensures counted { OnOk result (OfFour R.bytes_left layout.now.side tiles.old sinks.now products.old (λ inputs. length notes.new.first ≡ (extent_of layout.now).rows * (extent_of layout.now).cols)) }
+    ensures tiles_within { TilesTakeAtMost R.bytes_left layout.now.side tiles.old tiles.new }
+    ensures rasters_within { (p : Held) → RasterTakesAtMost R.bytes_left (with_con_for_ranks products.old) (with_con_for_ranks products.new) p }
+    ensures faults { SomeReadFails (map R.counts (audit_devices tiles.old products.old)) (map R.counts (audit_devices tiles.new products.new)) (IsErrOf result Refusal.ReadFailed) }
+    ensures names { names_of tiles.new ≡ names_of tiles.old }
+    ensures headers { (p : Held) → (of_product (with_con_for_ranks products.new) p).header ≡ (of_product (with_con_for_ranks products.old) p).header }
+    ensures untouched { IfErr result (λ refusal. ¬ IsOfBodies refusal → (tiles.new ≡ tiles.old) × (products.new ≡ products.old)) }
+{
+    // The law that bytes name one tile.
+    one_name();
+    let ranks = Ranks::Unasked;
+    let verdict = answer_on(alloc, layout, sinks, tiles, products, ranks, notes)?;
+    let endless = first_endless(&mut notes.first, layout.shape(), &verdict);
     Ok(verdict_of_both(&verdict, endless))
 }

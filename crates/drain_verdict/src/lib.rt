@@ -1,33 +1,34 @@
 //! The verdict on rasters that were made from tiles: from the bytes that readers give to an acceptance, a rejection or a refusal.
 #![tactic(auto)]
 
-mod answer;
+pub mod answer;
 pub mod answer_report;
 pub mod audit_line;
 pub mod audit_products;
 pub mod audit_verdict;
 pub mod auditor;
+pub mod both_notes;
 pub mod certifier;
 mod check_products;
 pub mod checker;
 pub mod fill_line;
 mod grid_rows;
 mod headers;
-mod held_row;
+pub mod held_row;
 pub mod input;
 mod input_rows;
 pub mod laws;
-mod layout;
+pub mod layout;
 pub mod line;
 mod listed_voids;
 mod marked_rows;
 pub mod mosaic;
 mod next_rows;
 mod placing;
-mod product_inputs;
+pub mod product_inputs;
 pub mod refusal;
 mod row_flows;
-mod row_notes;
+pub mod row_notes;
 mod row_verdict;
 mod seams;
 mod sink_listing;

@@ -1,25 +1,37 @@
 //! What is kept of each row of a grid beside the verdict.
 
-ghost use Rattle.std.specs.Prelude.{ℕ, ◌+◌, OnOk, OnErr};
+ghost use Rattle.std.specs.Prelude.{ℕ, ◌+◌, length, OnOk, OnErr};
 ghost use Rattle.drain_grid.specs.Grid.{Grid, Products};
+ghost use Rattle.drain_kernel.specs.declared.rules.Rules.{Rules};
+ghost use Rattle.drain_rules.specs.PatchRows.{AreRowPatches};
 ghost use Rattle.drain_rules.specs.RowNumbers.{AreNumbersOf, AreRowNumbers};
+ghost use Rattle.drain_rules.specs.ThreeRows.{patch_in};
 ghost use Rattle.drain_verdict.specs.HeldRows.{numbers_of};
 
 use crate::held_row::HeldRow;
 use drain_grid::OutOfMemory;
+use drain_kernel::Rules;
+use drain_rules::ThreeRows;
 
 /// Notes of a grid's rows, taken from north to south.
 pub trait RowNotes {
-    /// They are of so many rows of the grid, the northernmost.
-    ghost are_of: { Grid → Products → ℕ → Self → Type 0 };
+    /// They are of so many rows of the grid, the northernmost, where these rules are tried.
+    ghost are_of: { Rules → Grid → Products → ℕ → Self → Type 0 };
 
     /// Memory may be wanted for them.
     ghost wants: { Type 0 };
 
-    /// Notes the next row.
-    fn note(&mut self, row: &HeldRow) -> Result<(), OutOfMemory>
+    /// Notes the next row, where these rules are tried: `row` has its numbers, and `rows` shows it with those above and below it.
+    fn note(
+        &mut self,
+        row: &HeldRow,
+        rows: &ThreeRows<'_>,
+        rules: &Rules,
+    ) -> Result<(), OutOfMemory>
         requires whole { AreRowNumbers (numbers_of row.now) }
-        ensures noted { OnOk result ((g : Grid) (ps : Products) (r : ℕ) → AreNumbersOf g ps r (numbers_of row.now) → are_of g ps r self.old → are_of g ps (r + 1) self.new) }
+        ensures noted { OnOk result ((g : Grid) (ps : Products) (r : ℕ) → AreNumbersOf g ps r (numbers_of row.now)
+            → AreRowPatches g ps r (length rows.now.here.numbers.z) (patch_in rows.now)
+            → are_of rules.now g ps r self.old → are_of rules.now g ps (r + 1) self.new) }
         ensures err { OnErr result wants };
 }
 
@@ -28,11 +40,16 @@ pub trait RowNotes {
 pub struct NoNotes;
 
 impl RowNotes for NoNotes {
-    ghost are_of = { λ g ps rows notes. Unit {0} };
+    ghost are_of = { λ rules g ps rows notes. Unit {0} };
 
     ghost wants = { ⊥ };
 
-    fn note(&mut self, _row: &HeldRow) -> Result<(), OutOfMemory> {
+    fn note(
+        &mut self,
+        _row: &HeldRow,
+        _rows: &ThreeRows<'_>,
+        _rules: &Rules,
+    ) -> Result<(), OutOfMemory> {
         Ok(())
     }
 }

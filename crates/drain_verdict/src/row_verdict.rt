@@ -5,6 +5,8 @@ ghost use Rattle.drain_grid.specs.Grid.{Grid, Products};
 ghost use Rattle.drain_rules.specs.Labels.{HasNewLabel};
 ghost use Rattle.drain_rules.specs.RowNumbers.{AreNumbersOf, AreRowNumbers, RowNumbers};
 ghost use Rattle.drain_kernel.specs.Rules.{tried};
+ghost use Rattle.drain_rules.specs.PatchRows.{AreRowPatches};
+ghost use Rattle.drain_rules.specs.ThreeRows.{patch_in};
 ghost use Rattle.drain_rules.specs.Verdicts.{IsVerdictOf};
 ghost use Rattle.drain_verdict.specs.GridRows.{OfGrid, ReadsOn, IsRowsRefusal};
 ghost use Rattle.drain_verdict.specs.HeldRows.{numbers_of};
@@ -20,7 +22,7 @@ use crate::row_notes::RowNotes;
 use crate::window::Window;
 use drain_grid::{OutOfMemory, Shape, Sinks};
 use drain_rules::laws::three_rows_show_patches;
-use drain_rules::{GridWalk, Rules, Verdict};
+use drain_rules::{GridWalk, Rules, ThreeRows, Verdict};
 use std::alloc::Global;
 
 /// The verdict on a grid, and its listed sinks that are voids.
@@ -45,10 +47,10 @@ pub fn verdict_by_rows<T, P, S: GridRows<T, P>, K: RowNotes>(
     notes: &mut K,
 ) -> Result<RowVerdict, Refusal>
     requires counted { length tiles.old ≡ S.count source.old }
-    requires unnoted { (g : Grid) (ps : Products) → K.are_of g ps 0 notes.old }
+    requires unnoted { (g : Grid) (ps : Products) → K.are_of rules.now g ps 0 notes.old }
     ensures verdict { IfOk result (λ found. OfGrid (S.gives (source.old, tiles.old, products.old)) shape sinks.now (λ g ps. IsVerdictOf (tried rules.now) g ps found.verdict)) }
     ensures voids { IfOk result (λ found. OfGrid (S.gives (source.old, tiles.old, products.old)) shape sinks.now (λ g ps. AreListedVoids g found.voids)) }
-    ensures noted { OnOk result (OfGrid (S.gives (source.old, tiles.old, products.old)) shape sinks.now (λ g ps. K.are_of g ps g.extent.rows notes.new)) }
+    ensures noted { OnOk result (OfGrid (S.gives (source.old, tiles.old, products.old)) shape sinks.now (λ g ps. K.are_of rules.now g ps g.extent.rows notes.new)) }
     ensures given { OnOk result ((rows : ℕ → RowNumbers) → S.gives (source.old, tiles.old, products.old) rows 0 → S.gives (source.new, tiles.new, products.new) rows (shape.rows + 1)) }
     ensures reads { OnOk result (ReadsOn S.has_read (source.old, tiles.old, products.old) (source.new, tiles.new, products.new) (shape.rows + 1) None) }
     ensures refuses { IfErr result (IsRowsRefusal S.has_read (source.old, tiles.old, products.old) (source.new, tiles.new, products.new)
@@ -81,8 +83,9 @@ pub fn verdict_by_rows<T, P, S: GridRows<T, P>, K: RowNotes>(
             &mut window.below,
             &mut voids,
         )?;
-        note_row(notes, &window.here)?;
-        match walk.check_row(&window.rows(), rules) {
+        let shown = window.rows();
+        note_row(notes, &window.here, &shown, rules)?;
+        match walk.check_row(&shown, rules) {
             Ok(()) => {}
             Err(OutOfMemory) => return Err(Refusal::OutOfMemory),
         }
@@ -92,12 +95,18 @@ pub fn verdict_by_rows<T, P, S: GridRows<T, P>, K: RowNotes>(
 }
 
 /// Notes a row of the grid.
-fn note_row<K: RowNotes>(notes: &mut K, row: &HeldRow) -> Result<(), Refusal>
+fn note_row<K: RowNotes>(
+    notes: &mut K,
+    row: &HeldRow,
+    rows: &ThreeRows<'_>,
+    rules: &Rules,
+) -> Result<(), Refusal>
     requires whole { AreRowNumbers (numbers_of row.now) }
-    ensures noted { OnOk result ((g : Grid) (ps : Products) (r : ℕ) → AreNumbersOf g ps r (numbers_of row.now) → K.are_of g ps r notes.old → K.are_of g ps (r + 1) notes.new) }
+    ensures noted { OnOk result ((g : Grid) (ps : Products) (r : ℕ) → AreNumbersOf g ps r (numbers_of row.now)
+        → AreRowPatches g ps r (length rows.now.here.numbers.z) (patch_in rows.now) → K.are_of rules.now g ps r notes.old → K.are_of rules.now g ps (r + 1) notes.new) }
     ensures err { IfErr result (λ refusal. (refusal ≡ Refusal.OutOfMemory) × K.wants) }
 {
-    match notes.note(row) {
+    match notes.note(row, rows, rules) {
         Ok(()) => Ok(()),
         Err(OutOfMemory) => Err(Refusal::OutOfMemory),
     }

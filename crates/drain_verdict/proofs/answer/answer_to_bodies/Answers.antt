@@ -29,7 +29,7 @@ pub returns-clause-noted : goal.returns-clause-noted
 returns-clause-noted g c =
     on-ok c.answer_to_rows.result
     (λ noted inputs is fields tiles rasters sinks.
-    noted inputs c.args.headers c.in_ok-rows.ensures.begun c.requires.shapes is fields tiles rasters (c.in-Ok.ensures.sinks ∙ ap (λ (text : List ℕ). lines_in (sinks_of text)) (sym sinks)))
+    noted inputs c.args.headers c.in_ok-rows.ensures.begun c.nodata_of-nodata.ensures c.requires.shapes is fields tiles rasters (c.in-Ok.ensures.sinks ∙ ap (λ (text : List ℕ). lines_in (sinks_of text)) (sym sinks)))
     c.answer_to_rows.ensures.noted
 
 pub returns-in-Err-clause-tiles_within : goal.returns-in-Err-clause-tiles_within

@@ -1,14 +1,13 @@
 use Rattle.std.proofs.Common.{◌≡◌, ap, None, Some, ◌∙◌}
 use Rattle.std.proofs.lemmas.Result.{err_from_is_err_and}
 use Rattle.std.proofs.lemmas.Slice.Zip.{AllZip-long}
-use Rattle.drain_grid.specs.Grid.{Grid, Products}
 use Rattle.drain_mosaic.specs.LayoutFaults.{IsLayout}
 use Rattle.drain_rules.specs.declared.verdict.Verdict.{Verdict}
 use Rattle.drain_verdict.specs.Refusals.{IsOfBodies}
 use Rattle.drain_verdict.specs.declared.refusal.Refusal.TheVariants.{ReadFailed}
 use Rattle.drain_verdict.proofs.InputLemmas.{told-of}
 use Rattle.drain_verdict.specs.InputReads.{as_read, with_rasters}
-use Rattle.drain_verdict.proofs.RowCheck.{all_read, came, given_holds, of_reading_answers, of_reading_bodies, refusal_answers, refused, sinks_answer, verdict_answers}
+use Rattle.drain_verdict.proofs.RowCheck.{all_read, came, notes_hold, of_reading_answers, of_reading_bodies, refusal_answers, refused, sinks_answer, verdict_answers}
 use Rattle.drain_verdict.proofs.answer.answer_to_rows.Goals as goal
 
 pub returns-in_err-found-clause-answer : goal.returns-in_err-found-clause-answer
@@ -138,13 +137,13 @@ returns-clause-answer g c = λ inputs hs begun nodata shapes is fields tiles ras
     })
 
 pub returns-clause-noted : goal.returns-clause-noted
-returns-clause-noted g c = λ inputs hs begun shapes is fields tiles rasters sinks.
+returns-clause-noted g c = λ inputs hs begun nodata shapes is fields tiles rasters sinks.
     let bl = g.R.ByteSource.bytes_left in
     let ct = g.R.ByteSource.counts in
     let new = c.verdict_by_rows.new in
     let layout : IsLayout c.args.layout.now = c.makes_a_mosaic.ensures in
-    given_holds bl ct inputs hs (with_rasters g.P.ProductInputs.readers c.args.rows.now) (with_rasters g.P.ProductInputs.readers new.source) c.args.tiles.now new.tiles (g.P.ProductInputs.inputs c.args.products.now) (g.P.ProductInputs.inputs new.products) c.shape-shape.result
-    c.args.listing.now.sinks (λ (grid : Grid) (ps : Products). g.K.RowNotes.are_of grid ps grid.extent.rows new.notes) c.args.layout.now is fields sinks c.in_ok-found.ensures.noted (record {
+    notes_hold bl ct inputs hs (with_rasters g.P.ProductInputs.readers c.args.rows.now) (with_rasters g.P.ProductInputs.readers new.source) c.args.tiles.now new.tiles (g.P.ProductInputs.inputs c.args.products.now) (g.P.ProductInputs.inputs new.products) c.shape-shape.result
+    g.K.RowNotes.are_of c.args.rules.now new.notes c.args.listing.now.sinks c.args.layout.now is fields nodata sinks c.in_ok-found.ensures.noted (record {
       extent_is = c.shape-shape.ensures;
       laws = record {
         rows_end = c.rows_end.ensures;

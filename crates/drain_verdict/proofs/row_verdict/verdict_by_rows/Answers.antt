@@ -1,14 +1,13 @@
 use Rattle.std.proofs.Common.{◌≡◌, Option, Some, None, inl, ◌+◌, ◌<◌, inr, refl, sym, ap, subst, ◌∙◌, arith}
 use Rattle.drain_grid.specs.Size.{Extent}
 use Rattle.drain_rules.specs.RowNumbers.{AreNumbersOf, AreRowNumbers}
-use Rattle.drain_rules.specs.MarkedRows.{MarkedRow}
 use Rattle.drain_verdict.specs.GridRows.{ReadsOn}
 use Rattle.drain_verdict.specs.HeldRows.{HasItsLanes, IsMarked, marked_of, numbers_of}
 use Rattle.drain_verdict.specs.ListedVoids.{AreVoidsBefore}
 use Rattle.drain_verdict.specs.declared.refusal.Refusal.{Refusal}
 use Rattle.drain_verdict.proofs.InputLemmas.{told-of}
 use Rattle.drain_verdict.proofs.VoidRows.{voids-all, voids-more, voids-none}
-use Rattle.drain_verdict.proofs.WindowLemmas.{blank-whole, held-more, held-turned, patches-at, row-marked, rows-around}
+use Rattle.drain_verdict.proofs.WindowLemmas.{blank-whole, held-more, patches-at, row-marked, window-shows}
 use Rattle.drain_verdict.proofs.row_verdict.verdict_by_rows.Goals as goal
 
 pub loop-row-init : goal.loop-row-init
@@ -50,17 +49,10 @@ returns-in-Err-clause-refuses g c =
         inl (λ rows grid ps gives extent all.
             let count = ap (λ (e : Extent). e.rows) extent in
             let inside : row < grid.extent.rows = omega (arith, c.loop-row-test.true, c.rows-row-end.ensures, count) in
-            let above_is = c.rows.ensures.above ∙ ap marked_of c.turn.ensures.above in
-            let here_is = c.rows.ensures.here ∙ ap marked_of c.turn.ensures.here in
-            let held = held-turned rows row (numbers_of c.loop-row.window.here) (numbers_of c.loop-row.window.below) c.rows.result.above.numbers c.rows.result.here.numbers
-            (inv.held rows gives) (ap (λ (m : MarkedRow). m.numbers) above_is) (ap (λ (m : MarkedRow). m.numbers) here_is) in
-            let around = rows-around grid ps c.args.sinks.now rows row c.rows.result all inside held
-            (ap (λ (m : MarkedRow). m.numbers) c.rows.ensures.below ∙ (read.next rows (row + 1) (inv.given rows gives)).0)
-            (λ r is. subst (IsMarked c.args.sinks.now r) (sym above_is) (inv.here_marked r is))
-            (subst (IsMarked c.args.sinks.now row) (sym here_is) inv.below_marked)
-            (subst (IsMarked c.args.sinks.now (row + 1)) (sym c.rows.ensures.below) read.marked) in
-            c.in-Err.ensures.err grid ps
-            (patches-at grid ps row c.loop-row.walk.rows _ _ (c.three_rows_show_patches.ensures grid ps row c.rows.result around) inv.counted)
+            let shown = window-shows c.three_rows_show_patches.ensures grid ps c.args.sinks.now rows row c.rows-shown.result (marked_of c.loop-row.window.here) (marked_of c.loop-row.window.below)
+            (marked_of c.read_marked-in-loop-row.new.held) all inside (c.rows-shown.ensures.above ∙ ap marked_of c.turn.ensures.above) (c.rows-shown.ensures.here ∙ ap marked_of c.turn.ensures.here)
+            c.rows-shown.ensures.below (inv.held rows gives) (read.next rows (row + 1) (inv.given rows gives)).0 inv.here_marked inv.below_marked read.marked in
+            c.in-Err.ensures.err grid ps (patches-at grid ps row c.loop-row.walk.rows _ _ shown inv.counted)
             (inv.right rows grid ps gives extent all)),
       ),
     )
@@ -105,23 +97,19 @@ loop-row-preserved g c =
       right = λ rows grid ps gives extent all.
           let count = ap (λ (e : Extent). e.rows) extent in
           let inside : row < grid.extent.rows = omega (arith, c.loop-row-test.true, c.rows-row-end.ensures, count) in
-          let above_is = c.rows.ensures.above ∙ ap marked_of c.turn.ensures.above in
-          let here_is = c.rows.ensures.here ∙ ap marked_of c.turn.ensures.here in
-          let held = held-turned rows row (numbers_of c.loop-row.window.here) (numbers_of c.loop-row.window.below) c.rows.result.above.numbers c.rows.result.here.numbers
-          (inv.held rows gives) (ap (λ (m : MarkedRow). m.numbers) above_is) (ap (λ (m : MarkedRow). m.numbers) here_is) in
-          let around = rows-around grid ps c.args.sinks.now rows row c.rows.result all inside held
-          (ap (λ (m : MarkedRow). m.numbers) c.rows.ensures.below ∙ (read.next rows (row + 1) (inv.given rows gives)).0)
-          (λ r is. subst (IsMarked c.args.sinks.now r) (sym above_is) (inv.here_marked r is))
-          (subst (IsMarked c.args.sinks.now row) (sym here_is) inv.below_marked)
-          (subst (IsMarked c.args.sinks.now (row + 1)) (sym c.rows.ensures.below) read.marked) in
-          c.in-Ok.ensures.finding grid ps
-          (patches-at grid ps row c.loop-row.walk.rows _ _ (c.three_rows_show_patches.ensures grid ps row c.rows.result around) inv.counted)
+          let shown = window-shows c.three_rows_show_patches.ensures grid ps c.args.sinks.now rows row c.rows-shown.result (marked_of c.loop-row.window.here) (marked_of c.loop-row.window.below)
+          (marked_of c.read_marked-in-loop-row.new.held) all inside (c.rows-shown.ensures.above ∙ ap marked_of c.turn.ensures.above) (c.rows-shown.ensures.here ∙ ap marked_of c.turn.ensures.here)
+          c.rows-shown.ensures.below (inv.held rows gives) (read.next rows (row + 1) (inv.given rows gives)).0 inv.here_marked inv.below_marked read.marked in
+          c.in-Ok.ensures.finding grid ps (patches-at grid ps row c.loop-row.walk.rows _ _ shown inv.counted)
           (inv.right rows grid ps gives extent all);
       noted = λ rows grid ps gives extent all.
           let count = ap (λ (e : Extent). e.rows) extent in
           let inside : row < grid.extent.rows = omega (arith, c.loop-row-test.true, c.rows-row-end.ensures, count) in
+          let shown = window-shows c.three_rows_show_patches.ensures grid ps c.args.sinks.now rows row c.rows-shown.result (marked_of c.loop-row.window.here) (marked_of c.loop-row.window.below)
+          (marked_of c.read_marked-in-loop-row.new.held) all inside (c.rows-shown.ensures.above ∙ ap marked_of c.turn.ensures.above) (c.rows-shown.ensures.here ∙ ap marked_of c.turn.ensures.here)
+          c.rows-shown.ensures.below (inv.held rows gives) (read.next rows (row + 1) (inv.given rows gives)).0 inv.here_marked inv.below_marked read.marked in
           c.in_ok-note_row.ensures.noted grid ps row
-          (subst (AreNumbersOf grid ps row) (sym (ap numbers_of c.turn.ensures.here ∙ (inv.held rows gives).here_is)) (all.row row inside))
+          (subst (AreNumbersOf grid ps row) (sym (ap numbers_of c.turn.ensures.here ∙ (inv.held rows gives).here_is)) (all.row row inside)) shown
           (inv.noted rows grid ps gives extent all);
       reads = λ start n before. let same : n + (row + 1) + 1 ≡ n + (row + 1 + 1) = omega arith in subst (λ k. g.S.GridRows.has_read start (c.read_marked-in-loop-row.new.source, c.read_marked-in-loop-row.new.tiles, c.read_marked-in-loop-row.new.products) k None) same (read.reads start (n + (row + 1)) (inv.reads start n before));
     }
@@ -143,7 +131,7 @@ pub returns-clause-noted : goal.returns-clause-noted
 returns-clause-noted g c = λ rows grid ps gives extent all.
     let count = ap (λ (e : Extent). e.rows) extent in
     let last : c.loop-row.row ≡ grid.extent.rows = omega (arith, c.loop-row-test.false, c.loop-row.auto.row-end, c.rows-row-end.ensures, count) in
-    subst (λ n. g.K.RowNotes.are_of grid ps n c.loop-row.notes) last (c.loop-row.invariant.noted rows grid ps gives extent all)
+    subst (λ n. g.K.RowNotes.are_of c.args.rules.now grid ps n c.loop-row.notes) last (c.loop-row.invariant.noted rows grid ps gives extent all)
 
 pub returns-clause-given : goal.returns-clause-given
 returns-clause-given g c = λ rows gives.

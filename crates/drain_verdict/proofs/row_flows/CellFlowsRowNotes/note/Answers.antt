@@ -17,7 +17,7 @@ pub returns-clause-noted : goal.returns-clause-noted
 returns-clause-noted c =
     let row = c.args.row.now in
     on-ok c.push_row.result
-    (λ is grid ps r numbers first.
+    (λ is grid ps r numbers shown first.
     let flows : c.push_row.new.self ≡ c.args.self.now ++ flows_of row.z.items row.products.dir.items = is ∙ ap (λ (zs : List ℤ). c.args.self.now ++ flows_of zs c.as_slice-2.result.now) c.as_slice.ensures.value
     ∙ ap (λ (ns : List ℤ). c.args.self.now ++ flows_of row.z.items ns) c.as_slice-2.ensures.value in
     subst (AreFirstFlows grid ps grid.extent (r + 1)) (sym flows) (AreFirstFlows-row grid ps grid.extent r c.args.self.now row.z.items row.products.dir.items first (record {

@@ -1,0 +1,72 @@
+use Rattle.std.proofs.Common.{◌≡◌, ◌*◌, ◌∙◌, refl, sym, ap, subst, rules}
+use Rattle.std.proofs.lemmas.Result.{err_from_is_err_and}
+use Rattle.drain_device.proofs.FaultLists.{SomeReadFails-iff}
+use Rattle.drain_grid.specs.Size.{Extent, IsExtent}
+use Rattle.drain_mosaic.specs.Tiling.{extent_of}
+use Rattle.drain_runs.specs.Flows.{AreFirstFlows}
+use Rattle.drain_runs.specs.KnownFlows.{AreKnownFlows}
+use Rattle.drain_runs.proofs.GridFlows.{AreFirstFlows-none, AreFlowsOf-all}
+use Rattle.drain_verdict.specs.AuditInputs.{with_con_for_ranks}
+use Rattle.drain_verdict.specs.Meaning.{grid_of, nodata_numbers, products_of}
+use Rattle.drain_verdict.proofs.AuditAnswers.{both_are}
+use Rattle.drain_verdict.proofs.AuditDevices.{devices_of_four, failed_alike, none_alike}
+use Rattle.drain_verdict.proofs.InputLemmas.{told-of}
+use Rattle.drain_verdict.proofs.StartAnswers.{layout_of_inputs}
+use Rattle.drain_verdict.proofs.auditor.audit_on.Goals as goal
+
+pub answer_on-requires-clause-unnoted : goal.answer_on-requires-clause-unnoted
+answer_on-requires-clause-unnoted g c = λ rules grid ps. (
+  subst (AreFirstFlows grid ps grid.extent 0) (sym c.requires.empty) (AreFirstFlows-none grid ps grid.extent refl),
+  c.requires.unnoted rules grid ps,
+)
+
+pub returns-in_err-verdict-clause-faults : goal.returns-in_err-verdict-clause-faults
+returns-in_err-verdict-clause-faults g c =
+    let told = err_from_is_err_and c.from_residual.result c.from_residual.ensures.1 in
+    rw (told.1, told.2) (SomeReadFails-iff (failed_alike c.in_err-verdict.field-0.0)
+    (devices_of_four g.R.ByteSource.counts c.args.tiles.now c.answer_on.new.tiles c.args.products.now c.answer_on.new.products c.in_err-verdict.ensures.names c.in_err-verdict.ensures.faults))
+
+pub returns-in_err-verdict-clause-untouched : goal.returns-in_err-verdict-clause-untouched
+returns-in_err-verdict-clause-untouched g c = told-of c.from_residual.result c.in_err-verdict.field-0.0 _ c.from_residual.ensures.1 c.in_err-verdict.ensures.untouched
+
+pub returns-clause-faults : goal.returns-clause-faults
+returns-clause-faults g c =
+    SomeReadFails-iff (none_alike c.in_ok-verdict.verdict c.verdict_of_both.result)
+    (devices_of_four g.R.ByteSource.counts c.args.tiles.now c.answer_on.new.tiles c.args.products.now c.answer_on.new.products c.in_ok-verdict.ensures.names c.in_ok-verdict.ensures.faults)
+
+pub returns-clause-noted : goal.returns-clause-noted
+returns-clause-noted g c = λ inputs tell. (c.in_ok-verdict.ensures.noted inputs tell).1
+
+pub returns-clause-flows : goal.returns-clause-flows
+returns-clause-flows g c = λ inputs tell.
+    let bl = g.R.ByteSource.bytes_left in
+    let qs = with_con_for_ranks c.args.products.now in
+    let is = layout_of_inputs c.one_name.ensures bl c.args.layout.now.side c.args.tiles.now c.args.sinks.now qs inputs c.args.layout.now tell c.requires.laid in
+    let extent : c.shape.result ≡ (grid_of inputs).extent = c.shape.ensures ∙ ap extent_of is in
+    let flows = subst (λ (e : Extent). AreFirstFlows (grid_of inputs) (products_of inputs) e e.rows c.answer_on.new.notes.first) (sym extent) (c.in_ok-verdict.ensures.noted inputs tell).0 in
+    subst (λ (e : Extent). AreKnownFlows (grid_of inputs) (products_of inputs) e c.first_endless-endless.new.flows) c.shape.ensures
+    (c.first_endless-endless.ensures.known (grid_of inputs) (products_of inputs) (AreFlowsOf-all (grid_of inputs) (products_of inputs) c.shape.result c.answer_on.new.notes.first flows))
+
+pub returns-clause-counted : goal.returns-clause-counted
+returns-clause-counted g c = λ inputs tell.
+    let bl = g.R.ByteSource.bytes_left in
+    let qs = with_con_for_ranks c.args.products.now in
+    let is = layout_of_inputs c.one_name.ensures bl c.args.layout.now.side c.args.tiles.now c.args.sinks.now qs inputs c.args.layout.now tell c.requires.laid in
+    let extent : c.shape.result ≡ (grid_of inputs).extent = c.shape.ensures ∙ ap extent_of is in
+    let flows = subst (λ (e : Extent). AreFirstFlows (grid_of inputs) (products_of inputs) e e.rows c.answer_on.new.notes.first) (sym extent) (c.in_ok-verdict.ensures.noted inputs tell).0 in
+    c.first_endless-endless.ensures.counted ∙ flows.counted ∙ ap (λ (e : Extent). e.rows * e.cols) c.shape.ensures
+
+pub returns-clause-answer : goal.returns-clause-answer
+returns-clause-answer g c = λ inputs tell.
+    let bl = g.R.ByteSource.bytes_left in
+    let qs = with_con_for_ranks c.args.products.now in
+    let is = layout_of_inputs c.one_name.ensures bl c.args.layout.now.side c.args.tiles.now c.args.sinks.now qs inputs c.args.layout.now tell c.requires.laid in
+    let extent : c.shape.result ≡ (grid_of inputs).extent = c.shape.ensures ∙ ap extent_of is in
+    let flows = subst (λ (e : Extent). AreFirstFlows (grid_of inputs) (products_of inputs) e e.rows c.answer_on.new.notes.first) (sym extent) (c.in_ok-verdict.ensures.noted inputs tell).0 in
+    let answer = c.in_ok-verdict.ensures.answer inputs tell in (
+      answer.0,
+      subst IsExtent extent (search rules),
+      both_are (grid_of inputs) (products_of inputs) (nodata_numbers inputs) c.in_ok-verdict.verdict c.first_endless-endless.result c.verdict_of_both.result c.verdict_of_both.ensures
+          (c.first_endless-endless.ensures.first (grid_of inputs) (products_of inputs) (nodata_numbers inputs) answer.1 flows.counted
+          (AreFlowsOf-all (grid_of inputs) (products_of inputs) c.shape.result c.answer_on.new.notes.first flows)) answer.1,
+    )
