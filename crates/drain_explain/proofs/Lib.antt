@@ -1,0 +1,3 @@
+mod EndlessTold
+mod MapsTold
+mod Noting

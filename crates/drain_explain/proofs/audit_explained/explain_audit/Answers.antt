@@ -1,0 +1,70 @@
+use Rattle.std.proofs.Common.{◌≡◌, Option, Ok, Err, sym, subst}
+use Rattle.std.specs.Prelude.{IfSome}
+use Rattle.std.proofs.lemmas.Result.{err_from_is_err_and}
+use Rattle.drain_kernel.specs.declared.rules.Ranks.TheVariants.{Unasked}
+use Rattle.drain_grid.specs.Size.{Extent}
+use Rattle.drain_runs.specs.KnownFlows.{AreKnownFlows}
+use Rattle.drain_verdict.specs.AuditInputs.{with_con_for_ranks}
+use Rattle.drain_verdict.specs.Meaning.{grid_of, products_of}
+use Rattle.drain_grid.specs.declared.cell.Cell.{Cell}
+use Rattle.drain_runs.specs.declared.endless_run.EndlessRun.{EndlessRun}
+use Rattle.drain_verdict.specs.Audits.{IsAuditAnswer}
+use Rattle.drain_verdict.specs.declared.audit_verdict.AuditVerdict.{AuditVerdict}
+use Rattle.drain_explain.specs.Explanations.{IsEndlessOf}
+use Rattle.drain_verdict.proofs.AuditAnswers.{answer_certified}
+use Rattle.drain_verdict.proofs.AuditDevices.{four_none}
+use Rattle.drain_verdict.proofs.Devices.{tiles_take_none}
+use Rattle.drain_verdict.proofs.InputLemmas.{told-of}
+use Rattle.drain_verdict.proofs.StartAnswers.{at_side, laid, layout_answer, layout_reads_none}
+use Rattle.drain_explain.proofs.EndlessTold.{endless-told}
+use Rattle.drain_explain.proofs.audit_explained.explain_audit.Goals as goal
+
+pub returns-in_err-layout-clause-answer : goal.returns-in_err-layout-clause-answer
+returns-in_err-layout-clause-answer g c = λ inputs tell.
+    let told = err_from_is_err_and c.from_residual.result c.from_residual.ensures.1 in
+    rw (told.1, told.2) (layout_answer c.one_name.ensures g.R.ByteSource.bytes_left c.args.side c.args.tiles.now c.args.sinks.now (with_con_for_ranks c.args.products.now) inputs _ tell c.in_err-layout.ensures.refusal)
+
+pub returns-in_err-layout-clause-tiles_within : goal.returns-in_err-layout-clause-tiles_within
+returns-in_err-layout-clause-tiles_within g c = tiles_take_none g.R.ByteSource.bytes_left c.args.side c.args.tiles.now
+
+pub returns-in_err-layout-clause-faults : goal.returns-in_err-layout-clause-faults
+returns-in_err-layout-clause-faults g c =
+    let told = err_from_is_err_and c.from_residual.result c.from_residual.ensures.1 in
+    rw (told.1, told.2) (four_none g.R.ByteSource.counts c.args.tiles.now c.args.products.now (layout_reads_none _ _ _ c.in_err-layout.ensures.refusal))
+
+pub returns-in-Err-clause-tiles_within : goal.returns-in-Err-clause-tiles_within
+returns-in-Err-clause-tiles_within g c = tiles_take_none g.R.ByteSource.bytes_left c.args.side c.args.tiles.now
+
+pub returns-in-Err-clause-faults : goal.returns-in-Err-clause-faults
+returns-in-Err-clause-faults g c = four_none g.R.ByteSource.counts c.args.tiles.now c.args.products.now (λ is. cc)
+
+pub audit_on-requires-clause-laid : goal.audit_on-requires-clause-laid
+audit_on-requires-clause-laid g c = laid c.args.side _ c.in_ok-layout.layout c.in_ok-layout.ensures.layout
+
+pub returns-in_err-verdict-clause-answer : goal.returns-in_err-verdict-clause-answer
+returns-in_err-verdict-clause-answer g c = λ inputs tell.
+    let told = err_from_is_err_and c.from_residual-in_err-verdict.result c.from_residual-in_err-verdict.ensures.1 in
+    rw (told.1, told.2) (answer_certified c.ranks_play_no_part.ensures inputs (Err c.in_err-verdict.field-0.0) (c.in_err-verdict.ensures.answer inputs
+    (at_side g.R.ByteSource.bytes_left c.args.side c.args.tiles.now c.args.sinks.now (with_con_for_ranks c.args.products.now) inputs c.in_ok-layout.layout c.in_ok-layout.ensures.layout tell)))
+
+pub returns-in_err-verdict-clause-untouched : goal.returns-in_err-verdict-clause-untouched
+returns-in_err-verdict-clause-untouched g c = told-of c.from_residual-in_err-verdict.result c.in_err-verdict.field-0.0 _ c.from_residual-in_err-verdict.ensures.1 c.in_err-verdict.ensures.untouched
+
+pub returns-clause-answer : goal.returns-clause-answer
+returns-clause-answer g c = λ inputs tell.
+    subst (λ (verdict : AuditVerdict). IsAuditAnswer inputs (Ok verdict)) (sym c.told_by_notes.ensures.verdict)
+    (answer_certified c.ranks_play_no_part.ensures inputs (Ok c.in_ok-verdict.verdict) (c.in_ok-verdict.ensures.answer inputs
+    (at_side g.R.ByteSource.bytes_left c.args.side c.args.tiles.now c.args.sinks.now (with_con_for_ranks c.args.products.now) inputs c.in_ok-layout.layout c.in_ok-layout.ensures.layout tell)))
+
+pub returns-clause-explained : goal.returns-clause-explained
+returns-clause-explained g c = λ inputs tell.
+    c.told_by_notes.ensures.explained Unasked inputs (c.in_ok-verdict.ensures.noted inputs
+    (at_side g.R.ByteSource.bytes_left c.args.side c.args.tiles.now c.args.sinks.now (with_con_for_ranks c.args.products.now) inputs c.in_ok-layout.layout c.in_ok-layout.ensures.layout tell))
+
+pub returns-clause-endless : goal.returns-clause-endless
+returns-clause-endless g c = λ inputs tell.
+    let here = at_side g.R.ByteSource.bytes_left c.args.side c.args.tiles.now c.args.sinks.now (with_con_for_ranks c.args.products.now) inputs c.in_ok-layout.layout c.in_ok-layout.ensures.layout tell in
+    let known = subst (λ (e : Extent). AreKnownFlows (grid_of inputs) (products_of inputs) e c.audit_on.new.notes.first) (sym c.shape-2.ensures) (c.in_ok-verdict.ensures.flows inputs here) in
+    let told = endless-told inputs c.in_ok-verdict.verdict c.in-Ok-endless_of.endless (c.in_ok-verdict.ensures.answer inputs here) (c.in-Ok-endless_of.ensures (grid_of inputs) (products_of inputs) known) in
+    subst (λ (verdict : AuditVerdict). IfSome c.told_by_notes.result.endless (IsEndlessOf inputs verdict)) (sym c.told_by_notes.ensures.verdict)
+    (subst (λ (o : Option (Cell × EndlessRun)). IfSome o (IsEndlessOf inputs c.in_ok-verdict.verdict)) (sym c.told_by_notes.ensures.endless) told)

@@ -1,0 +1,77 @@
+//! An audit that is explained.
+
+ghost use Rattle.std.specs.Prelude.{◌≡◌, map, IfErr, IfOk, IfSome, IsErrOf};
+ghost use Rattle.drain_device.specs.FaultLists.{SomeReadFails};
+ghost use Rattle.drain_explain.specs.Explanations.{IsEndlessOf, IsExplanationOf, answer_in};
+ghost use Rattle.drain_grid.specs.declared.held.Held.{Held};
+ghost use Rattle.drain_grid.specs.PerProduct.{of_product};
+ghost use Rattle.drain_hgt.specs.Inputs.{names_of, TilesTakeAtMost};
+ghost use Rattle.drain_kernel.specs.declared.rules.Ranks.TheVariants.{Unasked};
+ghost use Rattle.drain_verdict.specs.AuditInputs.{audit_devices, with_con_for_ranks};
+ghost use Rattle.drain_verdict.specs.Audits.{IsAuditAnswer, OfFour};
+ghost use Rattle.drain_verdict.specs.Devices.{RasterTakesAtMost};
+ghost use Rattle.drain_verdict.specs.Refusals.{IsOfBodies};
+ghost use Rattle.drain_verdict.specs.Stages.{IsLayoutOf};
+
+use crate::endless::endless_of;
+use crate::explanation::{Explanation, told_by_notes};
+use crate::fault_notes::{FaultNotes, Mapping};
+use drain_device::ByteSource;
+use drain_grid::OutOfMemory;
+use drain_grid::laws::ranks_play_no_part;
+use drain_hgt::TileInput;
+use drain_hgt::laws::one_name;
+use drain_rules::Ranks;
+use drain_runs::CellFlows;
+use drain_verdict::auditor::audit_on;
+use drain_verdict::both_notes::BothNotes;
+use drain_verdict::layout::layout_of;
+use drain_verdict::{AuditProducts, AuditVerdict, Refusal};
+use std::alloc::Global;
+
+/// The verdict of `audit` with what explains it, or its refusal.
+///
+/// What is said of `explain_check` holds here too. Where the verdict is `NoEnd`, it tells what the run comes to: a ring, or a cell that leads nowhere.
+pub fn explain_audit<R: ByteSource>(
+    alloc: Global,
+    side: u32,
+    tiles: &mut [TileInput<R>],
+    sinks: &[u8],
+    products: &mut AuditProducts<R>,
+    mapping: Mapping,
+) -> Result<Explanation<AuditVerdict>, Refusal>
+    // The answer is an audit's.
+    ensures answer { OfFour R.bytes_left side tiles.old sinks.now products.old (λ inputs. IsAuditAnswer inputs (answer_in result)) }
+
+    // Of a verdict, what every cell showed, and what the run comes to that it names.
+    ensures explained { IfOk result (λ e. OfFour R.bytes_left side tiles.old sinks.now products.old (λ inputs. IsExplanationOf Unasked inputs e)) }
+    ensures endless { IfOk result (λ e. OfFour R.bytes_left side tiles.old sinks.now products.old (λ inputs. IfSome e.endless (IsEndlessOf inputs e.verdict))) }
+    ensures layout { IfOk result (λ e. IsLayoutOf side (names_of tiles.old) e.layout) }
+
+    // How far it reads, when a read fails, and that names and headers stay: as of an audit.
+    ensures tiles_within { TilesTakeAtMost R.bytes_left side tiles.old tiles.new }
+    ensures rasters_within { (p : Held) → RasterTakesAtMost R.bytes_left (with_con_for_ranks products.old) (with_con_for_ranks products.new) p }
+    ensures faults { SomeReadFails (map R.counts (audit_devices tiles.old products.old)) (map R.counts (audit_devices tiles.new products.new)) (IsErrOf result Refusal.ReadFailed) }
+    ensures names { names_of tiles.new ≡ names_of tiles.old }
+    ensures headers { (p : Held) → (of_product (with_con_for_ranks products.new) p).header ≡ (of_product (with_con_for_ranks products.old) p).header }
+    ensures untouched { IfErr result (λ refusal. ¬ IsOfBodies refusal → (tiles.new ≡ tiles.old) × (products.new ≡ products.old)) }
+{
+    // The laws that bytes name one tile, and that ranks play no part where runs end.
+    one_name();
+    ranks_play_no_part();
+    let layout = layout_of(alloc, side, tiles)?;
+    let second = match FaultNotes::new(alloc, layout.shape(), mapping, Ranks::Unasked) {
+        Ok(notes) => notes,
+        Err(OutOfMemory) => return Err(Refusal::OutOfMemory),
+    };
+    let mut notes = BothNotes {
+        first: CellFlows::new(alloc),
+        second,
+    };
+    let verdict = audit_on(alloc, &layout, sinks, tiles, products, &mut notes)?;
+    let endless = match endless_of(alloc, &notes.first, layout.shape(), &verdict) {
+        Ok(endless) => endless,
+        Err(OutOfMemory) => return Err(Refusal::OutOfMemory),
+    };
+    Ok(told_by_notes(verdict, layout, notes.second, endless))
+}

@@ -1,0 +1,65 @@
+//! A check that is explained.
+
+ghost use Rattle.std.specs.Prelude.{◌≡◌, map, IfErr, IfOk, IsErrOf};
+ghost use Rattle.drain_device.specs.FaultLists.{SomeReadFails};
+ghost use Rattle.drain_explain.specs.Explanations.{IsExplanationOf, answer_in};
+ghost use Rattle.drain_grid.specs.declared.held.Held.{Held};
+ghost use Rattle.drain_grid.specs.PerProduct.{of_product};
+ghost use Rattle.drain_hgt.specs.Inputs.{names_of, TilesTakeAtMost};
+ghost use Rattle.drain_kernel.specs.declared.rules.Ranks.TheVariants.{Asked};
+ghost use Rattle.drain_verdict.specs.Answers.{IsAnswer};
+ghost use Rattle.drain_verdict.specs.Devices.{devices_of, RasterTakesAtMost};
+ghost use Rattle.drain_verdict.specs.Inputs.{Inputs, Tell};
+ghost use Rattle.drain_verdict.specs.Refusals.{IsOfBodies};
+ghost use Rattle.drain_verdict.specs.Stages.{IsLayoutOf};
+
+use crate::explanation::{Explanation, told_by_notes};
+use crate::fault_notes::{FaultNotes, Mapping};
+use drain_device::ByteSource;
+use drain_grid::OutOfMemory;
+use drain_hgt::TileInput;
+use drain_hgt::laws::one_name;
+use drain_rules::{Ranks, Verdict};
+use drain_verdict::answer::answer_on;
+use drain_verdict::layout::layout_of;
+use drain_verdict::{Products, Refusal};
+use std::alloc::Global;
+
+/// The verdict of `check` with what explains it, or its refusal.
+///
+/// It reads what `check` reads, in the same order, and tells the same refusals. It goes on over all rows where a check would stop looking at rules, so it takes longer on products that are
+/// rejected. Memory is a check's, and a byte for each cell more where a map is wanted; `OutOfMemory` may come where a check finds memory.
+pub fn explain_check<R: ByteSource>(
+    alloc: Global,
+    side: u32,
+    tiles: &mut [TileInput<R>],
+    sinks: &[u8],
+    products: &mut Products<R>,
+    mapping: Mapping,
+) -> Result<Explanation<Verdict>, Refusal>
+    // The answer is a check's.
+    ensures answer { (inputs : Inputs) → Tell R.bytes_left side tiles.old sinks.now products.old inputs → IsAnswer inputs (answer_in result) }
+
+    // Of a verdict, what every cell showed.
+    ensures explained { IfOk result (λ e. (inputs : Inputs) → Tell R.bytes_left side tiles.old sinks.now products.old inputs → IsExplanationOf Asked inputs e) }
+    ensures layout { IfOk result (λ e. IsLayoutOf side (names_of tiles.old) e.layout) }
+
+    // How far it reads, when a read fails, and that names and headers stay: as of a check.
+    ensures tiles_within { TilesTakeAtMost R.bytes_left side tiles.old tiles.new }
+    ensures rasters_within { (p : Held) → RasterTakesAtMost R.bytes_left products.old products.new p }
+    ensures faults { SomeReadFails (map R.counts (devices_of tiles.old products.old)) (map R.counts (devices_of tiles.new products.new)) (IsErrOf result Refusal.ReadFailed) }
+    ensures names { names_of tiles.new ≡ names_of tiles.old }
+    ensures headers { (p : Held) → (of_product products.new p).header ≡ (of_product products.old p).header }
+    ensures untouched { IfErr result (λ refusal. ¬ IsOfBodies refusal → (tiles.new ≡ tiles.old) × (products.new ≡ products.old)) }
+{
+    // The law that bytes name one tile.
+    one_name();
+    let layout = layout_of(alloc, side, tiles)?;
+    let ranks = Ranks::Asked;
+    let mut notes = match FaultNotes::new(alloc, layout.shape(), mapping, ranks) {
+        Ok(notes) => notes,
+        Err(OutOfMemory) => return Err(Refusal::OutOfMemory),
+    };
+    let verdict = answer_on(alloc, &layout, sinks, tiles, products, ranks, &mut notes)?;
+    Ok(told_by_notes(verdict, layout, notes, None))
+}

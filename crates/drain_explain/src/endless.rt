@@ -1,0 +1,37 @@
+//! What the run comes to that an audit names.
+
+ghost use Rattle.std.specs.Prelude.{◌≡◌, ◌*◌, length, IfOk, IfSome};
+ghost use Rattle.drain_explain.specs.Explanations.{IsEndlessAt};
+ghost use Rattle.drain_grid.specs.Grid.{Grid, Products, HasData};
+ghost use Rattle.drain_runs.specs.KnownFlows.{AreKnownFlows};
+
+use drain_grid::{Cell, OutOfMemory, Shape};
+use drain_runs::{CellFlows, EndlessRun};
+use drain_verdict::AuditVerdict;
+use std::alloc::Global;
+
+/// The cell whose run doesn't end, where the verdict names one, and what its run comes to, of the flows of the grid's cells.
+pub fn endless_of(
+    alloc: Global,
+    flows: &CellFlows,
+    shape: Shape,
+    verdict: &AuditVerdict,
+) -> Result<Option<(Cell, EndlessRun)>, OutOfMemory>
+    ensures { IfOk result (λ told. (g : Grid) (ps : Products) → AreKnownFlows g ps shape flows.now → IfSome told (IsEndlessAt g ps verdict.now)) }
+{
+    let AuditVerdict::NoEnd { row, col } = verdict else {
+        return Ok(None);
+    };
+    let cell = Cell {
+        row: *row,
+        col: *col,
+    };
+    // flows of sources that tell their bytes are those of the cells, and the cell is one of them
+    if flows.len() != shape.cells() || cell.row >= shape.rows() || cell.col >= shape.cols() {
+        return Ok(None);
+    }
+    match flows.endless_run(alloc, shape, cell)? {
+        Some(run) => Ok(Some((cell, run))),
+        None => Ok(None),
+    }
+}

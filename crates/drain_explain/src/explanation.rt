@@ -1,0 +1,74 @@
+//! What explains an answer.
+
+ghost use Rattle.std.specs.Prelude.{◌≡◌, option_map};
+ghost use Rattle.drain_kernel.specs.declared.rules.Ranks as declared;
+ghost use Rattle.drain_verdict.specs.Answers.{AreNotesOf};
+ghost use Rattle.drain_verdict.specs.Inputs.{Inputs};
+ghost use Rattle.drain_explain.specs.Explanations.{ArePixelsOf, IsExplanationOf};
+ghost use Rattle.drain_explain.specs.FaultNotes.{AreFaultNotes};
+
+use crate::fault_notes::FaultNotes;
+use drain_faults::{FaultMap, FaultyPatch, PerRule, ProductFaults, RuleFaults};
+use drain_grid::{Cell, PerProduct};
+use drain_mosaic::Layout;
+use drain_rules::Rules;
+use drain_runs::EndlessRun;
+
+/// A verdict on products of a mosaic, and what every cell showed.
+#[derive(Drop)]
+pub struct Explanation<V> {
+    /// That of a check, or of an audit.
+    pub verdict: V,
+    /// The mosaic.
+    pub layout: Layout,
+    /// The rules that were tried: with ranks or without, and the numbers that stand for no data.
+    pub rules: Rules,
+    /// For each rule at how many cells it fails, and at which first.
+    pub by_rule: PerRule<RuleFaults>,
+    /// For each product at how many cells it breaks rule VoidCell or Missing, and at which first.
+    pub by_product: PerProduct<ProductFaults>,
+    /// The first cell at which any rule fails, and what it shows.
+    pub first: Option<FaultyPatch>,
+    /// Where a map was wanted, a number for each cell in row order: that of the least rule that fails there; where none does 0, and 255 at a void.
+    pub map: Option<Vec<u8>>,
+    /// Of an audit, the first data cell whose run doesn't end, and what its run comes to.
+    pub endless: Option<(Cell, EndlessRun)>,
+}
+
+/// The explanation of a verdict, by notes of all rows.
+pub(crate) fn told_by_notes<V>(
+    verdict: V,
+    layout: Layout,
+    notes: FaultNotes,
+    endless: Option<(Cell, EndlessRun)>,
+) -> Explanation<V>
+    ensures verdict { result.verdict ≡ verdict }
+    ensures layout { result.layout ≡ layout }
+    ensures endless { result.endless ≡ endless }
+    ensures explained { (ranks : declared.Ranks) (inputs : Inputs) → AreNotesOf AreFaultNotes ranks inputs notes → IsExplanationOf ranks inputs result }
+{
+    let first = notes.walk.first_patch();
+    let rules = notes.rules;
+    let map = pixels_of(notes.map);
+    let (by_rule, by_product) = notes.walk.into_faults();
+    Explanation {
+        verdict,
+        layout,
+        rules,
+        by_rule,
+        by_product,
+        first,
+        map,
+        endless,
+    }
+}
+
+/// The numbers of the map, where there is one.
+fn pixels_of(map: Option<FaultMap>) -> Option<Vec<u8>>
+    ensures { ArePixelsOf map (option_map (λ pixels. pixels.items) result) }
+{
+    match map {
+        Some(map) => Some(map.into_pixels()),
+        None => None,
+    }
+}

@@ -1,0 +1,4 @@
+pub mod Degrees
+pub mod LeastWays
+pub mod Lines
+pub mod Wanted

@@ -1,0 +1,101 @@
+//! The degrees of a cell: to seven places for the text, and as the nearest floating-point number for JSON.
+//!
+//! A row lies `row / steps` degrees south of the north edge, so `north * steps - row` is its latitude in steps; a column's longitude is
+//! `west * steps + col`. A place with no steps is taken for one of a step a degree.
+
+ghost use Rattle.std.specs.Prelude.{◌≡◌, ◌<◌, ◌≤ℤ◌, ◌+ℤ◌, ◌-ℤ◌, ◌*ℤ◌, neg_ℤ, pos};
+ghost use Rattle.drain_page.specs.Degrees.{IsRounded, steps_of};
+
+use crate::names::{Shown, append, append_number};
+use crate::place::MosaicPlace;
+
+/// A degree in units of the seventh place.
+pub const PLACES: u128 = 10_000_000;
+
+/// No cell of a place lies more steps from the equator, nor from the meridian.
+pub const MOST_STEPS: u64 = 140_741_783_322_624;
+
+impl MosaicPlace {
+    /// How many steps make up a degree.
+    fn steps_a_degree(&self) -> u32
+        ensures value { result ≡ steps_of self.now }
+        ensures some { 0 < result }
+    {
+        self.steps.max(1)
+    }
+
+    /// A row's latitude in steps.
+    fn latitude_in_steps(&self, row: u32) -> i64
+        ensures value { result ≡ (self.now.north *ℤ pos (steps_of self.now)) -ℤ pos row }
+        ensures low { neg_ℤ (pos MOST_STEPS) ≤ℤ result }
+        ensures high { result ≤ℤ pos MOST_STEPS }
+    {
+        i64::from(self.north) * i64::from(self.steps_a_degree()) - i64::from(row)
+    }
+
+    /// A column's longitude in steps.
+    fn longitude_in_steps(&self, col: u32) -> i64
+        ensures value { result ≡ (self.now.west *ℤ pos (steps_of self.now)) +ℤ pos col }
+        ensures low { neg_ℤ (pos MOST_STEPS) ≤ℤ result }
+        ensures high { result ≤ℤ pos MOST_STEPS }
+    {
+        i64::from(self.west) * i64::from(self.steps_a_degree()) + i64::from(col)
+    }
+
+    /// A row's latitude in degrees.
+    pub fn latitude(&self, row: u32) -> f64 {
+        self.latitude_in_steps(row) as f64 / f64::from(self.steps_a_degree())
+    }
+
+    /// A column's longitude in degrees.
+    pub fn longitude(&self, col: u32) -> f64 {
+        self.longitude_in_steps(col) as f64 / f64::from(self.steps_a_degree())
+    }
+
+    /// A row's latitude with seven places behind the point, the nearest, and of two the one further from 0.
+    pub(crate) fn latitude_text(&self, row: u32) -> Shown {
+        shown_degrees(self.latitude_in_steps(row), self.steps_a_degree())
+    }
+
+    /// A column's longitude likewise.
+    pub(crate) fn longitude_text(&self, col: u32) -> Shown {
+        shown_degrees(self.longitude_in_steps(col), self.steps_a_degree())
+    }
+}
+
+/// A number of steps, whatever its sign, in units of the seventh place of a degree, rounded to the nearest, and of two the greater.
+pub fn in_places(count: u64, steps: u32) -> u128
+    requires { 0 < steps }
+    ensures { IsRounded count steps result }
+{
+    let steps = u128::from(steps);
+    let count = u128::from(count) * PLACES;
+    (2 * count + steps) / (2 * steps)
+}
+
+/// So many steps in degrees, with seven places behind the point.
+fn shown_degrees(count: i64, steps: u32) -> Shown
+    requires { 0 < steps }
+{
+    let places = in_places(count.unsigned_abs(), steps);
+    let mut shown = Shown::new();
+    append(&mut shown, if count < 0 && 0 < places { "-" } else { "" });
+    append_number(&mut shown, places / PLACES);
+    append(&mut shown, ".");
+    append(&mut shown, leading_noughts(places % PLACES));
+    append_number(&mut shown, places % PLACES);
+    shown
+}
+
+/// The noughts that fill a number up to seven digits.
+fn leading_noughts(number: u128) -> &'static str {
+    match number {
+        0..=9 => "000000",
+        10..=99 => "00000",
+        100..=999 => "0000",
+        1_000..=9_999 => "000",
+        10_000..=99_999 => "00",
+        100_000..=999_999 => "0",
+        _ => "",
+    }
+}

@@ -1,0 +1,64 @@
+//! The conditioned elevation that rule NotLeast allows at a cell.
+
+ghost use Rattle.std.specs.Prelude.{◌≡◌, ◌↔◌, ◌⊎◌, MatchOption};
+ghost use Rattle.drain_grid.specs.declared.direction.Direction.{Direction};
+ghost use Rattle.drain_grid.specs.Patch.{IsDataNeighbor, neighbor, height};
+ghost use Rattle.drain_grid.specs.Values.{Values};
+ghost use Rattle.drain_page.specs.LeastWays.{IsNotAbove, way, way_of};
+ghost use Rattle.drain_page.specs.Wanted.{IsGreatestAllowed};
+
+use drain_grid::{CellValues, Direction, Patch};
+
+/// The greatest that would do at a data cell by its neighbours: the least, over its data neighbours, of the greater of the ground here and the
+/// elevation there. None where no neighbour has data.
+pub fn greatest_allowed(patch: &Patch) -> Option<i64>
+    ensures { MatchOption result ((d : Direction) (n : Values) → ¬ IsDataNeighbor patch.now d n) (IsGreatestAllowed patch.now) }
+{
+    let mut least = None;
+    for direction in Direction::ALL {
+        least = lesser(least, way(patch, direction));
+    }
+    least
+}
+
+/// The lesser of two, where none is more than any.
+fn lesser(one: Option<i64>, other: Option<i64>) -> Option<i64>
+    ensures below_one { IsNotAbove result one }
+    ensures below_other { IsNotAbove result other }
+    ensures either { (result ≡ one) ⊎ (result ≡ other) }
+{
+    match (one, other) {
+        (Some(a), Some(b)) => Some(a.min(b)),
+        (Some(a), None) => Some(a),
+        (None, any) => any,
+    }
+}
+
+/// What the neighbour in this direction allows; none where it has no data.
+fn way(patch: &Patch, direction: Direction) -> Option<i64>
+    ensures { result ≡ way patch.now direction }
+{
+    let there = patch.neighbor(direction)?;
+    over(ground(patch), &there)
+}
+
+/// The ground, 0 at a void.
+fn ground(patch: &Patch) -> i64
+    ensures { result ≡ height patch.now }
+{
+    match patch.here.z {
+        Some(ground) => i64::from(ground),
+        None => 0,
+    }
+}
+
+/// The greater of the ground and the elevation there; none where no data is.
+fn over(ground: i64, there: &CellValues) -> Option<i64>
+    ensures { result ≡ way_of ground there.now }
+{
+    if there.z.is_some() {
+        Some(ground.max(there.con))
+    } else {
+        None
+    }
+}

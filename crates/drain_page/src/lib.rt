@@ -1,0 +1,37 @@
+//! The page of an explanation: the facts about an answer as a text to read, or as JSON.
+#![tactic(auto)]
+
+mod answer_line;
+pub mod degrees;
+pub mod facts;
+pub mod first_rule;
+pub mod inflow;
+pub mod json_page;
+pub mod least_way;
+mod names;
+pub mod opening;
+mod patch_json;
+mod patch_text;
+pub mod place;
+mod place_text;
+mod refusal_json;
+pub mod refusal_note;
+mod refusal_text;
+mod rules_json;
+mod rules_text;
+mod run_json;
+mod run_text;
+mod shown_bytes;
+pub mod text_page;
+mod units;
+pub mod wanted;
+mod wanted_json;
+mod wanted_text;
+pub mod ways;
+mod writing;
+
+pub use facts::{Answer, Facts, Findings};
+pub use json_page::page_json;
+pub use place::MosaicPlace;
+pub use refusal_note::{Extent, NoData, RefusalNote, TileValue};
+pub use text_page::page_text;

@@ -1,0 +1,51 @@
+//! Why a cell is open.
+
+ghost use Rattle.std.specs.Prelude.{◌≡◌, ◌↔◌, IfSome, IsNone, true};
+ghost use Rattle.drain_grid.specs.Patch.{IsOpen};
+
+use drain_grid::{Direction, Patch};
+
+/// Why a data cell is open: the first of these that is so.
+#[derive(Clone, Copy, PartialEq, Eq, Debug)]
+pub enum Opening {
+    /// It is listed as a sink.
+    Sink,
+    /// It lies on the edge of the mosaic.
+    Edge,
+    /// It lies beside a void.
+    Void,
+}
+
+impl Opening {
+    /// A word for it.
+    pub fn name(self) -> &'static str {
+        match self {
+            Opening::Sink => "sink",
+            Opening::Edge => "edge",
+            Opening::Void => "void",
+        }
+    }
+}
+
+/// Why the cell is open; none where it isn't.
+pub fn opening_of(patch: &Patch) -> Option<Opening>
+    ensures none { IsNone result ↔ ¬ IsOpen patch.now }
+    ensures sink { IfSome result (λ opening. (opening ≡ Opening.Sink) ↔ (patch.now.here.sink ≡ true)) }
+{
+    if !patch.is_open() {
+        None
+    } else if patch.here.sink {
+        Some(Opening::Sink)
+    } else if is_on_edge(patch) {
+        Some(Opening::Edge)
+    } else {
+        Some(Opening::Void)
+    }
+}
+
+/// Whether there is no cell in some direction.
+fn is_on_edge(patch: &Patch) -> bool {
+    Direction::ALL
+        .iter()
+        .any(|direction| patch.neighbor(*direction).is_none())
+}

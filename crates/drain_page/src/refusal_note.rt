@@ -1,0 +1,78 @@
+//! What was expected and found, where inputs are refused.
+
+use drain_grid::Product;
+use drain_header::Place;
+use drain_hgt::TileName;
+
+/// What there is to tell of a refusal beyond its line.
+#[derive(PartialEq, Eq, Debug, Drop)]
+pub enum RefusalNote {
+    /// `BadSide`: the side that was asked for, where 2 to 3601 are sides.
+    Side(u32),
+    /// `BadName`: the name as it was given, in place of one such as N36W085.hgt.
+    Name(Vec<u8>),
+    /// `WrongShape`: the rows and columns of the mosaic, and those of the product's header.
+    Shape {
+        product: Product,
+        expected: Extent,
+        found: Extent,
+    },
+    /// `Misplaced`: the centre of the north-west pixel and the sizes of a pixel, of the mosaic and of the product's header, in units of 10^-15 degree.
+    Position {
+        product: Product,
+        expected: Place,
+        found: Place,
+    },
+    /// `BadTileLength`: the bytes that a tile of this side has, and those of the file.
+    TileLength {
+        tile: TileName,
+        expected: u64,
+        found: u64,
+    },
+    /// `RasterShort`: the bytes that the raster needs by its header, and those of the file.
+    RasterLength {
+        product: Product,
+        expected: u64,
+        found: u64,
+    },
+    /// `SeamMismatch`: the first tile with the cell and what it gives there, and the first that gives another value.
+    Seam {
+        first: TileValue,
+        other: TileValue,
+    },
+    /// `BadSinkLine`: the line as it stands in the list.
+    SinkLine {
+        number: u64,
+        text: Vec<u8>,
+    },
+    /// `SinkNotData`: the cell that the line lists, by row and column, and why it isn't a data cell.
+    SinkCell {
+        number: u64,
+        row: u64,
+        col: u64,
+        why: NoData,
+    },
+}
+
+/// Rows and columns.
+#[derive(Clone, Copy, PartialEq, Eq, Debug)]
+pub struct Extent {
+    pub rows: u32,
+    pub cols: u32,
+}
+
+/// What a tile gives at a cell: metres, or none at a void.
+#[derive(Clone, Copy, PartialEq, Eq, Debug)]
+pub struct TileValue {
+    pub tile: TileName,
+    pub metres: Option<i16>,
+}
+
+/// Why a listed cell isn't a data cell.
+#[derive(Clone, Copy, PartialEq, Eq, Debug)]
+pub enum NoData {
+    /// It is a void.
+    Void,
+    /// It lies outside the mosaic.
+    Outside,
+}

@@ -1,0 +1,187 @@
+//! What the first rule that fails at a cell wanted there.
+
+use crate::inflow::expected_accumulation;
+use crate::least_way::greatest_allowed;
+use crate::opening::{Opening, opening_of};
+use crate::ways::{expected_label, is_flat_way, key};
+use drain_grid::{CellValues, Direction, Held, NoData, OutOfMemory, Patch, Rule};
+use drain_rules::{Ranks, Rules};
+use std::alloc::Global;
+
+/// A way down: how far, and its key.
+#[derive(Clone, Copy, PartialEq, Eq, Debug)]
+pub struct WayDown {
+    pub direction: Direction,
+    pub drop: i64,
+    pub key: u128,
+}
+
+/// What a rule wanted at a cell.
+#[derive(PartialEq, Eq, Debug, Drop)]
+pub enum Wanted {
+    /// `VoidCell`: the no-data number of these products.
+    Blank(Vec<Held>),
+    /// `Missing`: numbers of these products.
+    Numbers(Vec<Held>),
+    /// `BadCode`: one of the nine codes.
+    Code,
+    /// `BelowGround`: con no less than the ground.
+    AtLeast(i64),
+    /// `OpenRaised`: con on the ground, and why the cell is open.
+    Ground {
+        ground: i64,
+        open: Option<Opening>,
+    },
+    /// `NotLeast`: con at most this; none where no neighbour has data.
+    AtMost(Option<i64>),
+    /// `Slope`: a steepest one of these.
+    Steepest(Vec<WayDown>),
+    /// `OutletCode`: code 0, and why the cell is open.
+    Outlet(Option<Opening>),
+    /// `FlatStep`: one of these directions.
+    Along {
+        directions: Vec<Direction>,
+        ranks: Ranks,
+    },
+    /// `Accumulation`: this number.
+    Sum(i64),
+    /// `Label`: this label; none where no cell is named.
+    Label(Option<i64>),
+    /// `SharedLabel`: a label that no earlier outlet has.
+    NewLabel,
+    /// Nothing: the rule isn't tried.
+    Nothing,
+}
+
+/// What this rule wanted at the cell of this patch.
+pub fn wanted_by(
+    alloc: Global,
+    rule: Rule,
+    patch: &Patch,
+    rules: &Rules,
+) -> Result<Wanted, OutOfMemory> {
+    let ground = i64::from(patch.here.z.unwrap_or(0));
+    Ok(match rule {
+        Rule::VoidCell => Wanted::Blank(products(alloc, &patch.here, rules, false)?),
+        Rule::Missing => Wanted::Numbers(products(alloc, &patch.here, rules, true)?),
+        Rule::BadCode => Wanted::Code,
+        Rule::BelowGround => Wanted::AtLeast(ground),
+        Rule::OpenRaised => Wanted::Ground {
+            ground,
+            open: opening_of(patch),
+        },
+        Rule::NotLeast => Wanted::AtMost(greatest_allowed(patch)),
+        Rule::Slope => Wanted::Steepest(ways_down(alloc, patch)?),
+        Rule::OutletCode => Wanted::Outlet(opening_of(patch)),
+        Rule::FlatStep => along(alloc, patch, rules.ranks)?,
+        Rule::Accumulation => Wanted::Sum(expected_accumulation(patch)),
+        Rule::Label => Wanted::Label(expected_label(patch)),
+        Rule::SharedLabel => Wanted::NewLabel,
+        Rule::NoSpill | Rule::SpillHeight | Rule::SpillRank => Wanted::Nothing,
+    })
+}
+
+/// The products that have their no-data number at a cell, or those that don't; rnk only where ranks are asked for.
+fn products(
+    alloc: Global,
+    values: &CellValues,
+    rules: &Rules,
+    blank: bool,
+) -> Result<Vec<Held>, OutOfMemory> {
+    let mut products = Vec::new(alloc);
+    for held in shown_products(rules.ranks) {
+        if (number(values, *held) == no_data(&rules.nodata, *held)) == blank {
+            push(&mut products, *held)?;
+        }
+    }
+    Ok(products)
+}
+
+/// The products that the rules look at.
+pub fn shown_products(ranks: Ranks) -> &'static [Held] {
+    match ranks {
+        Ranks::Asked => &[Held::Con, Held::Dir, Held::Acc, Held::Bas, Held::Rnk],
+        Ranks::Unasked => &[Held::Con, Held::Dir, Held::Acc, Held::Bas],
+    }
+}
+
+/// A product's number.
+pub fn number(values: &CellValues, held: Held) -> i64 {
+    match held {
+        Held::Con => values.con,
+        Held::Dir => values.dir,
+        Held::Acc => values.acc,
+        Held::Bas => values.bas,
+        Held::Rnk => values.rnk,
+    }
+}
+
+/// A product's no-data number.
+pub fn no_data(nodata: &NoData, held: Held) -> i64 {
+    match held {
+        Held::Con => nodata.con,
+        Held::Dir => nodata.dir,
+        Held::Acc => nodata.acc,
+        Held::Bas => nodata.bas,
+        Held::Rnk => nodata.rnk,
+    }
+}
+
+/// The ways to lower neighbours.
+fn ways_down(alloc: Global, patch: &Patch) -> Result<Vec<WayDown>, OutOfMemory> {
+    let mut ways = Vec::new(alloc);
+    for direction in Direction::ALL {
+        let key = key(patch, direction);
+        if key != 0 {
+            let drop = drop_to(patch, direction);
+            push(
+                &mut ways,
+                WayDown {
+                    direction,
+                    drop,
+                    key,
+                },
+            )?;
+        }
+    }
+    Ok(ways)
+}
+
+/// How far the neighbour in this direction lies below.
+fn drop_to(patch: &Patch, direction: Direction) -> i64 {
+    match patch.neighbor(direction) {
+        Some(there) => difference(&patch.here, &there),
+        None => 0,
+    }
+}
+
+fn difference(here: &CellValues, there: &CellValues) -> i64 {
+    here.con - there.con
+}
+
+/// The directions that rule FlatStep takes.
+fn along(alloc: Global, patch: &Patch, ranks: Ranks) -> Result<Wanted, OutOfMemory> {
+    let mut directions = Vec::new(alloc);
+    for direction in Direction::ALL {
+        if is_flat_way(patch, direction, ranks) {
+            push(&mut directions, direction)?;
+        }
+    }
+    Ok(Wanted::Along { directions, ranks })
+}
+
+/// The greatest key of these ways, 0 where there is none.
+pub fn steepest(ways: &[WayDown]) -> u128 {
+    let mut steepest = 0;
+    for way in ways {
+        steepest = way.key.max(steepest);
+    }
+    steepest
+}
+
+fn push<T: Drop>(things: &mut Vec<T>, thing: T) -> Result<(), OutOfMemory> {
+    match things.push(thing) {
+        Ok(()) => Ok(()),
+        Err(_) => Err(OutOfMemory),
+    }
+}

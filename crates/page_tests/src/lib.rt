@@ -1,0 +1,17 @@
+//! Tests of the page of an explanation.
+#![tactic(auto)]
+
+#[cfg(test)]
+mod agree;
+#[cfg(test)]
+mod refusals;
+#[cfg(test)]
+mod runs;
+#[cfg(test)]
+mod wanted;
+#[cfg(test)]
+mod whole;
+#[cfg(test)]
+mod whole_pages;
+#[cfg(test)]
+mod worked;

@@ -1,0 +1,167 @@
+//! What was expected and found for each refusal.
+
+use crate::agree::has;
+use crate::worked::{json_of, text_of};
+use drain_grid::{Cell, Product};
+use drain_header::Place;
+use drain_hgt::TileName;
+use drain_page::{Answer, Extent, Facts, NoData, RefusalNote, TileValue};
+use drain_verdict::Refusal;
+use std::alloc::Global;
+use std::test::Fail;
+
+/// The facts of a refusal.
+fn refused(refusal: Refusal, note: RefusalNote) -> Facts {
+    Facts {
+        answer: Answer::Check(Err(refusal)),
+        refusal: Some(note),
+        findings: None,
+    }
+}
+
+fn bytes(alloc: Global, bytes: &[u8]) -> Result<Vec<u8>, Fail> {
+    Ok(bytes.to_vec(alloc)?)
+}
+
+/// A place at this longitude.
+fn place(west: i32) -> Place {
+    Place {
+        ulx: i128::from(west) * 1_000_000_000_000_000,
+        uly: 37_500_000_000_000_001,
+        xdim: 833_333_333_333,
+        ydim: 833_333_333_333,
+    }
+}
+
+/// Facts of so many kinds, by number.
+fn facts(alloc: Global, kind: usize) -> Result<Facts, Fail> {
+    let tile = TileName::parse(b"N36W085.hgt")?;
+    Ok(match kind {
+        0 => refused(Refusal::BadSide, RefusalNote::Side(7000)),
+        1 => refused(
+            Refusal::BadName(0),
+            RefusalNote::Name(bytes(alloc, b"S1\\\xe9.hgt")?),
+        ),
+        2 => refused(
+            Refusal::WrongShape(Product::Con),
+            RefusalNote::Shape {
+                product: Product::Con,
+                expected: Extent { rows: 3, cols: 5 },
+                found: Extent { rows: 4, cols: 5 },
+            },
+        ),
+        3 => refused(
+            Refusal::Misplaced(Product::Dir),
+            RefusalNote::Position {
+                product: Product::Dir,
+                expected: place(-105),
+                found: place(-104),
+            },
+        ),
+        4 => refused(
+            Refusal::BadTileLength(tile),
+            RefusalNote::TileLength {
+                tile,
+                expected: 18,
+                found: 17,
+            },
+        ),
+        5 => refused(
+            Refusal::RasterShort(Product::Rnk),
+            RefusalNote::RasterLength {
+                product: Product::Rnk,
+                expected: 36,
+                found: 0,
+            },
+        ),
+        6 => refused(
+            Refusal::SeamMismatch(Cell { row: 2, col: 0 }),
+            RefusalNote::Seam {
+                first: TileValue {
+                    tile,
+                    metres: Some(-3),
+                },
+                other: TileValue { tile, metres: None },
+            },
+        ),
+        7 => refused(
+            Refusal::BadSinkLine(2),
+            RefusalNote::SinkLine {
+                number: 2,
+                text: bytes(alloc, b"1\t2")?,
+            },
+        ),
+        8 => refused(
+            Refusal::SinkNotData(2),
+            RefusalNote::SinkCell {
+                number: 2,
+                row: 4294967296,
+                col: 7,
+                why: NoData::Void,
+            },
+        ),
+        _ => refused(
+            Refusal::SinkNotData(3),
+            RefusalNote::SinkCell {
+                number: 3,
+                row: 4,
+                col: 7,
+                why: NoData::Outside,
+            },
+        ),
+    })
+}
+
+/// For each of them the text below its line, and its JSON.
+static WANTED: [(&str, &str); 10] = [
+    (
+        "\nexpected: a side from 2 to 3601\nfound: 7000\n",
+        r#""refusal":{"about":"side","least":2,"greatest":3601,"found":7000},"rows""#,
+    ),
+    (
+        "\nexpected: the name of a tile, such as N36W085.hgt\nfound: S1\\\\\\xe9.hgt\n",
+        r#""refusal":{"about":"name","found":"S1\\\\\\xe9.hgt"},"rows""#,
+    ),
+    (
+        "\nexpected: con with 3 rows and 5 columns\nfound: con with 4 rows and 5 columns\n",
+        r#""refusal":{"about":"shape","product":"con","expected":{"rows":3,"cols":5},"found":{"rows":4,"cols":5}},"rows""#,
+    ),
+    (
+        "\nexpected: dir at ULXMAP -105.000000000000000, ULYMAP 37.500000000000001, XDIM 0.000833333333333, YDIM 0.000833333333333\nfound: dir at ULXMAP -104.000000000000000, ULYMAP 37.500000000000001, XDIM 0.000833333333333, YDIM 0.000833333333333\n",
+        r#""refusal":{"about":"position","product":"dir","expected":{"ulxmap":"-105.000000000000000","ulymap":"37.500000000000001","xdim":"0.000833333333333","ydim":"0.000833333333333"},"found":{"ulxmap":"-104.000000000000000","ulymap":"37.500000000000001","xdim":"0.000833333333333","ydim":"0.000833333333333"}},"rows""#,
+    ),
+    (
+        "\nexpected: N36W085.hgt of 18 bytes\nfound: N36W085.hgt of 17 bytes\n",
+        r#""refusal":{"about":"tile_length","tile":"N36W085.hgt","expected":18,"found":17},"rows""#,
+    ),
+    (
+        "\nexpected: rnk.bil of 36 bytes\nfound: rnk.bil of 0 bytes\n",
+        r#""refusal":{"about":"raster_length","product":"rnk","expected":36,"found":0},"rows""#,
+    ),
+    (
+        "\nexpected: one value at the cell: N36W085.hgt gives -3\nfound: N36W085.hgt gives a void\n",
+        r#""refusal":{"about":"seam","first":{"tile":"N36W085.hgt","metres":-3},"other":{"tile":"N36W085.hgt","metres":null}},"rows""#,
+    ),
+    (
+        "\nexpected: line 2 with a row and a column, as 12 7\nfound: line 2: 1\\x092\n",
+        r#""refusal":{"about":"sink_line","line":2,"found":"1\\x092"},"rows""#,
+    ),
+    (
+        "\nexpected: line 2 with a data cell\nfound: row 4294967296, column 7, a void\n",
+        r#""refusal":{"about":"sink_cell","line":2,"row":4294967296,"col":7,"found":"void"},"rows""#,
+    ),
+    (
+        "\nexpected: line 3 with a data cell\nfound: row 4, column 7, outside the mosaic\n",
+        r#""refusal":{"about":"sink_cell","line":3,"row":4,"col":7,"found":"outside"},"rows""#,
+    ),
+];
+
+#[test]
+fn each_refusal(rt: HostRuntime) -> Result<(), Fail> {
+    for (kind, (words, json)) in WANTED.iter().enumerate() {
+        let facts = facts(rt.alloc(), kind)?;
+        has(&rt, words, &text_of(rt.alloc(), &facts)?, words);
+        has(&rt, json, &json_of(rt.alloc(), &facts)?, json);
+    }
+    Ok(())
+}

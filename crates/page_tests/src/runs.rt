@@ -1,0 +1,98 @@
+//! Runs without an end: rings and runs that lead nowhere.
+
+use crate::agree::has;
+use crate::worked::{json_of, no_fault, text_of};
+use drain_grid::Cell;
+use drain_page::{Answer, Facts};
+use drain_rules::Ranks;
+use drain_runs::{EndlessRun, LostBy};
+use drain_verdict::AuditVerdict;
+use std::alloc::Global;
+use std::test::Fail;
+
+/// The facts of an audit where the run of row 0, column 3 doesn't end.
+fn no_end(run: EndlessRun) -> Result<Facts, Fail> {
+    let mut findings = no_fault(Ranks::Unasked)?;
+    findings.endless = Some((Cell { row: 0, col: 3 }, run));
+    Ok(Facts {
+        answer: Answer::Audit(Ok(AuditVerdict::NoEnd { row: 0, col: 3 })),
+        refusal: None,
+        findings: Some(findings),
+    })
+}
+
+/// A ring of so many cells, of which two are told.
+fn ring(alloc: Global, length: usize) -> Result<Facts, Fail> {
+    let told = [Cell { row: 1, col: 1 }, Cell { row: 1, col: 2 }];
+    let cells = told.to_vec(alloc)?;
+    no_end(EndlessRun::Ring { cells, length })
+}
+
+#[test]
+fn rings(rt: HostRuntime) -> Result<(), Fail> {
+    let whole = text_of(rt.alloc(), &ring(rt.alloc(), 2)?)?;
+    has(
+        &rt,
+        "two cells",
+        &whole,
+        "asked of ranks\n\nrun without an end: from row 0, column 3 into a ring of 2 cells\n  row 1, column 1\n  row 1, column 2\n",
+    );
+    let cut = text_of(rt.alloc(), &ring(rt.alloc(), 3)?)?;
+    has(
+        &rt,
+        "three cells",
+        &cut,
+        "3 cells\n  row 1, column 1\n  row 1, column 2\n  and so on\n",
+    );
+    let json = json_of(rt.alloc(), &ring(rt.alloc(), 3)?)?;
+    has(
+        &rt,
+        "as JSON",
+        &json,
+        r#""run":{"from":{"row":0,"col":3,"longitude":-104.0,"latitude":38.0},"ring":{"length":3,"cells":[{"row":1,"col":1,"longitude":-104.66666666666667,"latitude":37.666666666666664},{"row":1,"col":2,"longitude":-104.33333333333333,"latitude":37.666666666666664}]},"lost":null}}"#,
+    );
+    Ok(())
+}
+
+/// Why a run leads nowhere, with its words and its name.
+static LOST: [(LostBy, &str, &str); 3] = [
+    (
+        LostBy::NoCode,
+        "  it leads nowhere from row 3, column 0: its dir is no code\n",
+        "no_code",
+    ),
+    (
+        LostBy::Outside,
+        "  it leads nowhere from row 3, column 0: its dir leads outside the mosaic\n",
+        "outside",
+    ),
+    (
+        LostBy::Void,
+        "  it leads nowhere from row 3, column 0: its dir leads to a void\n",
+        "void",
+    ),
+];
+
+fn lost(by: LostBy) -> Result<Facts, Fail> {
+    no_end(EndlessRun::Lost {
+        cell: Cell { row: 3, col: 0 },
+        by,
+    })
+}
+
+#[test]
+fn lost_runs(rt: HostRuntime) -> Result<(), Fail> {
+    for (by, words, name) in &LOST {
+        let text = text_of(rt.alloc(), &lost(*by)?)?;
+        has(&rt, name, &text, words);
+        let json = json_of(rt.alloc(), &lost(*by)?)?;
+        has(
+            &rt,
+            name,
+            &json,
+            r#""ring":null,"lost":{"cell":{"row":3,"col":0,"longitude":-105.0,"latitude":37.0},"by":""#,
+        );
+        has(&rt, name, &json, name);
+    }
+    Ok(())
+}

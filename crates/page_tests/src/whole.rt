@@ -1,0 +1,113 @@
+//! A page with two rules that fail, as text and as JSON; and pages with nothing to explain.
+
+use crate::agree::same_text;
+use crate::whole_pages::{JSON, TEXT};
+use crate::worked::{cell, cells, json_of, no_cell, no_fault, product, rejected, text_of, void};
+use drain_faults::FaultyPatch;
+use drain_grid::{Cell, CellValues, Patch, Rule};
+use drain_page::{Answer, Facts, Findings};
+use drain_rules::{Counts, Ranks, Verdict};
+use drain_verdict::{AuditVerdict, Refusal};
+use std::test::Fail;
+
+/// A cell on the northern edge beside a void and a listed sink.
+fn edge() -> Result<Patch, &'static str> {
+    Ok(Patch {
+        here: cell(5, false, (5, 1, 0, 7, 3))?,
+        around: [
+            Some(cell(4, true, (4, 0, 9, 7, 1))?),
+            Some(cell(-8, false, (8, 8, 4294967295, 7, 6))?),
+            Some(cell(7, false, (7, 128, 2, 7, 5))?),
+            Some(cell(6, false, (6, 3, 1, 7, 4))?),
+            Some(void()?),
+            None,
+            None,
+            None,
+        ],
+    })
+}
+
+fn two_rules() -> Result<Findings, &'static str> {
+    let mut findings = no_fault(Ranks::Asked)?;
+    findings.by_rule.missing = cells(2, 0, 1);
+    findings.by_rule.slope = cells(1, 2, 0);
+    findings.by_product.acc = product(no_cell(), cells(2, 0, 1));
+    findings.first = Some(FaultyPatch {
+        cell: Cell { row: 0, col: 1 },
+        patch: edge()?,
+    });
+    Ok(findings)
+}
+
+#[test]
+fn a_whole_text(rt: HostRuntime) -> Result<(), Fail> {
+    let facts = rejected(Rule::Missing, 0, 1, two_rules()?);
+    let text = text_of(rt.alloc(), &facts)?;
+    same_text(&rt, "two rules", &text, TEXT);
+    Ok(())
+}
+
+#[test]
+fn a_whole_json(rt: HostRuntime) -> Result<(), Fail> {
+    let facts = rejected(Rule::Missing, 0, 1, two_rules()?);
+    let json = json_of(rt.alloc(), &facts)?;
+    let line = json.strip_suffix("\n").unwrap_or("no line end");
+    same_text(&rt, "two rules", line, JSON);
+    Ok(())
+}
+
+/// The facts of an acceptance.
+fn accepted() -> Result<Facts, &'static str> {
+    let counts = Counts {
+        rows: 4,
+        cols: 4,
+        data_cells: 15,
+        raised: 2,
+        outlets: 3,
+    };
+    Ok(Facts {
+        answer: Answer::Audit(Ok(AuditVerdict::Accepted(counts))),
+        refusal: None,
+        findings: Some(no_fault(Ranks::Unasked)?),
+    })
+}
+
+#[test]
+fn an_acceptance(rt: HostRuntime) -> Result<(), Fail> {
+    let text = text_of(rt.alloc(), &accepted()?)?;
+    same_text(
+        &rt,
+        "an acceptance",
+        &text,
+        "accepted rows=4 cols=4 data=15 raised=2 outlets=3
+
+hold: 1 VoidCell, 2 Missing, 3 BadCode, 4 BelowGround, 5 OpenRaised, 9 NotLeast, 10 Slope, 11 OutletCode, 12 FlatStep, 13 Accumulation, 14 Label, 15 SharedLabel
+not tried: 6 NoSpill, 7 SpillHeight, 8 SpillRank
+nothing was asked of ranks
+",
+    );
+    Ok(())
+}
+
+/// The facts of a refusal of which there is no more to tell.
+fn no_tiles() -> Facts {
+    Facts {
+        answer: Answer::Check(Err(Refusal::NoTiles)),
+        refusal: None,
+        findings: None,
+    }
+}
+
+#[test]
+fn the_line_alone(rt: HostRuntime) -> Result<(), Fail> {
+    let text = text_of(rt.alloc(), &no_tiles())?;
+    same_text(&rt, "no tiles", &text, "refused NoTiles\n");
+    let json = json_of(rt.alloc(), &no_tiles())?;
+    same_text(
+        &rt,
+        "no tiles as JSON",
+        &json,
+        "{\"answer\":\"refused NoTiles\",\"refusal\":null,\"rows\":null,\"cols\":null,\"ranks\":null,\"rules\":[],\"products\":[],\"patch\":null,\"expected\":null,\"run\":null}\n",
+    );
+    Ok(())
+}

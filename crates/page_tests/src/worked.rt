@@ -1,0 +1,122 @@
+//! Facts to make pages of: a mosaic of 4 by 4 cells at three steps a degree, whose north-west corner lies at 38 degrees north and 105 west.
+
+use drain_faults::{FaultyPatch, PerRule, ProductFaults, RuleFaults};
+use drain_grid::{Cell, CellValues, NoData, Patch, PerProduct, Rule, Shape};
+use drain_page::{Answer, Facts, Findings, MosaicPlace, page_json, page_text};
+use drain_rules::{Ranks, Rules, Verdict};
+use std::alloc::Global;
+use std::test::Fail;
+
+/// Where it lies.
+pub const PLACE: MosaicPlace = MosaicPlace {
+    north: 38,
+    west: -105,
+    steps: 3,
+};
+
+/// The numbers of con, dir, acc, bas and rnk.
+pub type Numbers = (i64, i64, i64, i64, i64);
+
+/// A data cell.
+pub fn cell(ground: i16, sink: bool, numbers: Numbers) -> Result<CellValues, &'static str> {
+    let (con, dir, acc, bas, rnk) = numbers;
+    CellValues::new(Some(ground), sink, con, dir, acc, bas, 0, rnk).ok_or("a data cell")
+}
+
+/// A void with the numbers that stand for no data.
+pub fn void() -> Result<CellValues, &'static str> {
+    CellValues::new(None, false, -32768, 255, 0, 0, 255, 4294967295).ok_or("a void")
+}
+
+/// No cell.
+pub fn no_cell() -> RuleFaults {
+    RuleFaults {
+        cells: 0,
+        first: None,
+    }
+}
+
+/// So many cells, the first of them this.
+pub fn cells(cells: u32, row: u32, col: u32) -> RuleFaults {
+    RuleFaults {
+        cells,
+        first: Some(Cell { row, col }),
+    }
+}
+
+/// A product with these cells at fault, at voids and at data cells.
+pub fn product(at_voids: RuleFaults, at_data: RuleFaults) -> ProductFaults {
+    ProductFaults { at_voids, at_data }
+}
+
+/// Findings with no fault.
+pub fn no_fault(ranks: Ranks) -> Result<Findings, &'static str> {
+    Ok(Findings {
+        place: PLACE,
+        shape: Shape::new(4, 4).ok_or("a shape")?,
+        rules: Rules {
+            nodata: NoData::defaults(),
+            ranks,
+        },
+        by_rule: PerRule::same(no_cell()),
+        by_product: PerProduct {
+            con: product(no_cell(), no_cell()),
+            dir: product(no_cell(), no_cell()),
+            acc: product(no_cell(), no_cell()),
+            bas: product(no_cell(), no_cell()),
+            rnk: product(no_cell(), no_cell()),
+        },
+        first: None,
+        endless: None,
+    })
+}
+
+/// Findings with one fault of this rule, at this patch.
+pub fn one_fault(rule: Rule, ranks: Ranks, patch: Patch) -> Result<Findings, &'static str> {
+    let mut findings = no_fault(ranks)?;
+    set(&mut findings.by_rule, rule, cells(1, 1, 2));
+    findings.first = Some(FaultyPatch {
+        cell: Cell { row: 1, col: 2 },
+        patch,
+    });
+    Ok(findings)
+}
+
+fn set(by_rule: &mut PerRule<RuleFaults>, rule: Rule, faults: RuleFaults) {
+    match rule {
+        Rule::VoidCell => by_rule.void_cell = faults,
+        Rule::Missing => by_rule.missing = faults,
+        Rule::BadCode => by_rule.bad_code = faults,
+        Rule::BelowGround => by_rule.below_ground = faults,
+        Rule::OpenRaised => by_rule.open_raised = faults,
+        Rule::NoSpill => by_rule.no_spill = faults,
+        Rule::SpillHeight => by_rule.spill_height = faults,
+        Rule::SpillRank => by_rule.spill_rank = faults,
+        Rule::NotLeast => by_rule.not_least = faults,
+        Rule::Slope => by_rule.slope = faults,
+        Rule::OutletCode => by_rule.outlet_code = faults,
+        Rule::FlatStep => by_rule.flat_step = faults,
+        Rule::Accumulation => by_rule.accumulation = faults,
+        Rule::Label => by_rule.label = faults,
+        Rule::SharedLabel => by_rule.shared_label = faults,
+    }
+}
+
+/// The facts of a rejection.
+pub fn rejected(rule: Rule, row: u32, col: u32, findings: Findings) -> Facts {
+    Facts {
+        answer: Answer::Check(Ok(Verdict::Rejected { rule, row, col })),
+        refusal: None,
+        findings: Some(findings),
+    }
+}
+
+/// The page as text.
+pub fn text_of(alloc: Global, facts: &Facts) -> Result<String, Fail> {
+    Ok(String::from_utf8(page_text(alloc, facts)?)?)
+}
+
+/// The page as JSON.
+pub fn json_of(alloc: Global, facts: &Facts) -> Result<String, Fail> {
+    Ok(page_json(alloc, facts)?)
+}
