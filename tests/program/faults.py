@@ -24,9 +24,9 @@ FAILED = 3
 # What a failure of each kind of call prints; a line that can't be written isn't there.
 TELLS = {
     "open": lambda line: line.startswith("failed Open "),
-    "read": lambda line: line == "failed ReadFailed\n",
+    "read": lambda line: line == "failed ReadFailed\n" or line.startswith('{"answer":"failed ReadFailed",'),
     "write": lambda line: line in ("", "failed WriteFailed\n"),
-    "allocation": lambda line: line == "failed OutOfMemory\n",
+    "allocation": lambda line: line == "failed OutOfMemory\n" or line.startswith('{"answer":"failed OutOfMemory",'),
 }
 
 
@@ -65,6 +65,8 @@ class Faults:
         self.check_listed = Run(drain, [*self.check.words, *self.listing], "rejected rule=5 OpenRaised row=1 col=1\n", status=1)
         self.audit_listed = Run(drain, [*self.audit.words, *self.listing], self.check_listed.line, status=1)
         self.make_listed = Run(drain, [*self.make.words, *self.listing], self.make.line)
+        mapped = [*self.check.words[1:], "--map", str(self.made / "faults.bil")]
+        self.explain, self.explain_object = (Run(drain, ["explain", *mapped, *form], "") for form in ([], ["--json"]))
         self.fill = Run(drain, ["fill", "--side", "3"], "accepted rows=3 cols=3 data=9 raised=1\n", stdin=PIT / "pit-3.fill")
         header = subprocess.run([drain, "header", PIT / "pit-3/con.hdr"], stdout=subprocess.PIPE, check=True).stdout.decode()
         self.header = Run(drain, ["header", str(PIT / "pit-3/con.hdr")], header)
@@ -156,7 +158,10 @@ class Faults:
             if not run.is_right(run.under()):
                 sys.exit("FAILED: nothing is made where no call fails")
             shutil.copytree(self.made, right)
-        for run in (self.check, self.audit, self.make, self.fill, self.header, self.check_listed, self.audit_listed, self.make_listed):
+        for run in (self.explain, self.explain_object):
+            self.restore()
+            run.line = run.under()[1]
+        for run in (self.check, self.audit, self.explain, self.explain_object, self.make, self.fill, self.header, self.check_listed, self.audit_listed, self.make_listed):
             self.refused(run)
             self.harmless(run)
         self.killed()

@@ -63,6 +63,8 @@ done < <(sed -E 's/ *\| */|/g; s/^ +| +$//g' "$here/table.txt")
 . "$here/make.sh"
 . "$here/sinks.sh"
 . "$here/audit.sh"
+. "$here/explain.sh"
+. "$here/progress.sh"
 
 # Adds the runs that another program judged: it prints those that failed, and in its last line 'NAME: N passed, M failed'.
 add_runs() {
@@ -80,6 +82,7 @@ add_runs() {
 
 add_runs "$here/cut_inputs.py" "$drain"
 add_runs "$here/random_audits.py" "$drain"
+add_runs "$here/explain.py" "$drain"
 
 # Calls of the program are made to fail by a library that is loaded before the C library's, so it wants a compiler of C.
 compiler=$(dirname "$(readlink -f "$(command -v rt)")")/../toolchain/bin/clang

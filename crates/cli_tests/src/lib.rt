@@ -6,6 +6,8 @@ mod audit_runs;
 #[cfg(test)]
 mod check_runs;
 #[cfg(test)]
+mod explain_runs;
+#[cfg(test)]
 mod file_paths;
 #[cfg(test)]
 mod fill_runs;

@@ -1,8 +1,11 @@
 pub mod AuditLemmas
 pub mod CheckLemmas
+pub mod ExplainLemmas
 pub mod HeaderLemmas
+pub mod PaceLemmas
 pub mod PathLemmas
 pub mod PrintLemmas
 pub mod RoundTrips
+pub mod RowCounts
 pub mod StatusLemmas
 pub mod TileNames

@@ -1,12 +1,17 @@
 pub mod AuditRuns
 pub mod CheckRuns
+pub mod ExplainRuns
 pub mod Failures
 pub mod FilePaths
 pub mod FillRuns
 pub mod HeaderRuns
 pub mod MadeSets
+pub mod MapFiles
 pub mod OpenFailures
+pub mod Pace
 pub mod Printing
 pub mod RoundTrip
+pub mod RowEnds
 pub mod SetRuns
 pub mod Statuses
+pub mod Telling

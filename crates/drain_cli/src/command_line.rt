@@ -1,7 +1,9 @@
 //! The words of the command line: which command is asked for.
 
-use crate::help_texts;
+use crate::file_paths::map_stem;
+use crate::{explain_texts, help_texts};
 use clap::builder::ValueParser;
+use clap::error::ErrorKind;
 use clap::{Arg, ArgAction, ArgMatches, Command, Error};
 use std::alloc::{AllocError, Global};
 
@@ -12,12 +14,15 @@ pub enum Request<'a> {
     Audit(Judged<'a>),
     /// `drain check`: check the five products in this folder.
     Check(Judged<'a>),
+    /// `drain explain`: tell what is wrong with the products in this folder, where, and how much of it.
+    Explain(Explained<'a>),
     /// `drain make`: make products of the tiles at these paths, with the sinks that the file at this path lists, and write them into this folder.
     Make {
         side: u32,
         folder: &'a str,
         sinks: Option<&'a str>,
         tiles: Vec<&'a str>,
+        progress: bool,
     },
     /// `drain fill`: check a conditioned surface from standard input.
     Fill {
@@ -29,13 +34,23 @@ pub enum Request<'a> {
     },
 }
 
-/// What is to be judged: the products in this folder against the tiles at these paths, with the sinks that the file at this path lists.
+/// What is to be judged: the products in this folder against the tiles at these paths, with the sinks that the file at this path lists; and
+/// whether it is told how far it is.
 #[derive(PartialEq, Eq, Debug, Drop)]
 pub struct Judged<'a> {
     pub side: u32,
     pub products: &'a str,
     pub sinks: Option<&'a str>,
     pub tiles: Vec<&'a str>,
+    pub progress: bool,
+}
+
+/// What is to be explained, as a text or as JSON; and where a map of the faults goes, by its path without `.bil`.
+#[derive(PartialEq, Eq, Debug, Drop)]
+pub struct Explained<'a> {
+    pub judged: Judged<'a>,
+    pub map: Option<&'a str>,
+    pub json: bool,
 }
 
 /// The side of a tile where none is given: that of 3 arc seconds, as a number and as it is written in the help.
@@ -52,6 +67,9 @@ proved with rattle-kit-13f logic dac8208d650f15bf";
 /// Help and the version come as an error of their kind, as in `clap`, and so does a fault of the words.
 pub fn parse<'a>(alloc: Global, words: &'a [String]) -> Result<Request<'a>, Error> {
     let matches = program(alloc)?.try_get_matches_from(words)?;
+    if let Some(explain) = matches.subcommand_matches("explain") {
+        return explain_request(alloc, explain);
+    }
     Ok(asked_for(alloc, &matches)?)
 }
 
@@ -59,6 +77,7 @@ pub fn parse<'a>(alloc: Global, words: &'a [String]) -> Result<Request<'a>, Erro
 fn program<'a>(alloc: Global) -> Result<Command<'a>, AllocError> {
     let program = with(described(alloc)?, audit(alloc))?;
     let program = with(program, check(alloc))?;
+    let program = with(program, explain(alloc))?;
     let program = with(program, make(alloc))?;
     let program = with(program, fill(alloc))?;
     with(program, header(alloc))
@@ -84,7 +103,7 @@ fn described<'a>(alloc: Global) -> Result<Command<'a>, AllocError> {
     )
 }
 
-/// What the words that were given ask for.
+/// What the words that were given ask for, but for those of an explanation.
 fn asked_for<'a>(alloc: Global, matches: &ArgMatches<'a>) -> Result<Request<'a>, AllocError> {
     if let Some(header) = matches.subcommand_matches("header") {
         return Ok(Request::Header {
@@ -114,7 +133,30 @@ fn to_judge<'a>(alloc: Global, given: &ArgMatches<'a>) -> Result<Judged<'a>, All
         products: given.get_str("products").unwrap_or(""),
         sinks: given.get_str("sinks"),
         tiles: given_tiles(alloc, given)?,
+        progress: given.get_flag("progress"),
     })
+}
+
+/// What is to be explained. A map whose name doesn't end in `.bil` is a fault of the words.
+fn explain_request<'a>(alloc: Global, given: &ArgMatches<'a>) -> Result<Request<'a>, Error> {
+    let map = match given.get_str("map") {
+        Some(path) => match map_stem(path) {
+            Some(stem) => Some(stem),
+            None => return Err(bad_map(alloc)?),
+        },
+        None => None,
+    };
+    Ok(Request::Explain(Explained {
+        judged: to_judge(alloc, given)?,
+        map,
+        json: given.get_flag("json"),
+    }))
+}
+
+/// The fault of words that name a map by another ending.
+fn bad_map(alloc: Global) -> Result<Error, AllocError> {
+    let mut command = explain(alloc)?.bin_name("drain explain")?;
+    command.error(ErrorKind::ValueValidation, explain_texts::BAD_MAP)
 }
 
 fn make_request<'a>(alloc: Global, given: &ArgMatches<'a>) -> Result<Request<'a>, AllocError> {
@@ -123,6 +165,7 @@ fn make_request<'a>(alloc: Global, given: &ArgMatches<'a>) -> Result<Request<'a>
         folder: given.get_str("out").unwrap_or(""),
         sinks: given.get_str("sinks"),
         tiles: given_tiles(alloc, given)?,
+        progress: given.get_flag("progress"),
     })
 }
 
@@ -197,6 +240,13 @@ fn sinks<'a>(alloc: Global) -> Arg<'a> {
         .help(help_texts::SINKS_HELP)
 }
 
+fn progress<'a>(alloc: Global) -> Arg<'a> {
+    Arg::new(alloc, "progress")
+        .long("progress")
+        .action(ArgAction::SetTrue)
+        .help(help_texts::PROGRESS_HELP)
+}
+
 fn audit<'a>(alloc: Global) -> Result<Command<'a>, AllocError> {
     let command = Command::new(alloc, "audit")
         .about(help_texts::AUDIT_ABOUT)
@@ -213,12 +263,37 @@ fn check<'a>(alloc: Global) -> Result<Command<'a>, AllocError> {
     judging(alloc, command)
 }
 
+fn explain<'a>(alloc: Global) -> Result<Command<'a>, AllocError> {
+    let command = Command::new(alloc, "explain")
+        .about(explain_texts::ABOUT)
+        .long_about(explain_texts::LONG_ABOUT)
+        .after_long_help(explain_texts::AFTER);
+    let command = judging(alloc, command)?;
+    command.arg(map(alloc))?.arg(json(alloc))
+}
+
+fn map<'a>(alloc: Global) -> Arg<'a> {
+    Arg::new(alloc, "map")
+        .long("map")
+        .value_name("FILE")
+        .value_parser(ValueParser::NonEmptyString)
+        .help(explain_texts::MAP_HELP)
+}
+
+fn json<'a>(alloc: Global) -> Arg<'a> {
+    Arg::new(alloc, "json")
+        .long("json")
+        .action(ArgAction::SetTrue)
+        .help(explain_texts::JSON_HELP)
+}
+
 /// The command with the words that tell what is to be judged.
 fn judging<'a>(alloc: Global, command: Command<'a>) -> Result<Command<'a>, AllocError> {
     command
         .arg(side(alloc))?
         .arg(products(alloc))?
         .arg(sinks(alloc))?
+        .arg(progress(alloc))?
         .arg(tiles(alloc))
 }
 
@@ -239,5 +314,6 @@ fn make<'a>(alloc: Global) -> Result<Command<'a>, AllocError> {
         .arg(side(alloc))?
         .arg(out(alloc))?
         .arg(sinks(alloc))?
+        .arg(progress(alloc))?
         .arg(tiles(alloc))
 }

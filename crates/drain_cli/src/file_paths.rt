@@ -1,9 +1,10 @@
-//! Where the files of a check lie, and what of a tile's path is its name.
+//! Where the files of a check and of a map lie, and what of a tile's path is its name.
 
-ghost use Rattle.std.specs.Prelude.{◌≡◌, IfOk, string_bytes};
-ghost use Rattle.drain_cli.specs.FilePaths.{product_path, separator, header_ending, raster_ending, IsLastPart};
+ghost use Rattle.std.specs.Prelude.{◌≡◌, ◌++◌, IfOk, IfSome, string_bytes};
+ghost use Rattle.drain_cli.specs.FilePaths.{product_path, separator, header_ending, raster_ending, ending_of, IsLastPart};
 
 use drain_grid::Product;
+use drain_maker::product_files::Part;
 use memchr::memrchr;
 use std::alloc::{AllocError, Global};
 
@@ -44,6 +45,31 @@ fn separator(folder: &str) -> &'static str
         ""
     } else {
         "/"
+    }
+}
+
+/// What stands before the `.bil` of a map's path, none where the path ends otherwise.
+pub fn map_stem(path: &str) -> Option<&str>
+    ensures { IfSome result (λ stem. path.now ≡ stem.now ++ raster_ending) }
+{
+    path.strip_suffix(".bil")
+}
+
+/// The path of a map's file: the header lies beside the raster, with `.hdr` in place of `.bil`.
+pub fn map_path(alloc: Global, stem: &str, part: Part) -> Result<String, AllocError>
+    ensures { IfOk result (λ path. string_bytes path ≡ stem.now ++ ending_of part) }
+{
+    let mut path = String::from_str(alloc, stem)?;
+    path.push_str(ending_of(part))?;
+    Ok(path)
+}
+
+fn ending_of(part: Part) -> &'static str
+    ensures { result.now ≡ ending_of part }
+{
+    match part {
+        Part::Header => ".hdr",
+        Part::Raster => ".bil",
     }
 }
 

@@ -146,6 +146,9 @@ pub const TILES_HELP: &str = "The files of the tiles, each named after its south
 
 pub const SINKS_HELP: &str = "A list of inland sinks, one a line: ROW COL";
 
+pub const PROGRESS_HELP: &str =
+    "Tell on standard error how far it is, in at most two lines a second";
+
 pub const FILE_HELP: &str = "The header file";
 
 pub const SIDE_HELP: &str = "Samples along an edge of the tile, 2 to 3601";

@@ -2,19 +2,33 @@
 #![tactic(auto)]
 
 pub mod command_line;
+pub mod explain_files;
+pub mod explain_page;
+pub mod explain_texts;
 pub mod file_paths;
+pub mod gauge;
 pub mod help_texts;
 pub mod laws;
 pub mod make_set;
+pub mod map_file;
 pub mod open_failure;
 pub mod open_files;
 pub mod open_judged;
+pub mod pace;
 pub mod print;
 pub mod program;
+pub mod refusal_facts;
+pub mod row_ends;
 pub mod run_audit;
 pub mod run_check;
+pub mod run_explain;
 pub mod run_fill;
 pub mod run_header;
+pub mod seam_facts;
+pub mod sink_facts;
 pub mod sink_file;
 pub mod status;
+pub mod telling;
+pub mod watched;
+pub mod watched_rows;
 pub mod write_set;

@@ -8,12 +8,21 @@ ghost use Rattle.drain_cli.specs.FilePaths.{IsLastPart, ending_of, product_path}
 ghost use Rattle.drain_maker.specs.declared.product_files.TheConstants.{FILE_COUNT};
 
 use crate::file_paths::{header_path, raster_path, tile_name};
+use crate::gauge::Gauge;
 use crate::sink_file::read_list;
+use crate::watched::Watched;
+use crate::watched_rows::file_rows;
 use drain_device::{BodyFault, ByteList, Reader, Writer};
 use drain_hgt::TileInput;
 use drain_maker::product_files::{Part, SET_FILES, SetFile};
+use drain_mosaic::Layout;
 use std::alloc::AllocError;
 use std::fs::File;
+
+/// A file that is read, and one that is written; each may be watched.
+pub type InputFile<'a> = Watched<'a, Reader<File>>;
+
+pub type OutputFile<'a> = Watched<'a, Writer<File>>;
 
 /// Why the files aren't open.
 #[derive(Drop)]
@@ -31,10 +40,10 @@ impl From<AllocError> for OpenFault {
 }
 
 /// Opens the tiles at these paths, in their order; each has the name that its path ends in. The first fault ends it.
-pub fn open_tiles(
+pub fn open_tiles<'a>(
     rt: &HostRuntime,
     paths: &[&str],
-) -> Result<Vec<TileInput<Reader<File>>>, OpenFault>
+) -> Result<Vec<TileInput<InputFile<'a>>>, OpenFault>
     ensures { IfOk result (λ tiles. AllZip (λ path name. IsLastPart path.now name) paths.now (names_of tiles.items)) }
 {
     let mut tiles = Vec::new(rt.alloc());
@@ -46,11 +55,11 @@ pub fn open_tiles(
     Ok(tiles)
 }
 
-fn open_tile(rt: &HostRuntime, path: &str) -> Result<TileInput<Reader<File>>, OpenFault>
+fn open_tile<'a>(rt: &HostRuntime, path: &str) -> Result<TileInput<InputFile<'a>>, OpenFault>
     ensures { IfOk result (λ tile. IsLastPart path.now tile.name) }
 {
     let name = Vec::from_slice(rt.alloc(), tile_name(path.as_bytes()))?;
-    let body = open(rt, path)?;
+    let body = Watched::new(open(rt, path)?);
     Ok(TileInput {
         name: ByteList::new(name),
         body,
@@ -78,24 +87,43 @@ pub fn list_at(rt: &HostRuntime, path: Option<&str>) -> Result<Vec<u8>, OpenFaul
 }
 
 /// Creates the files of a product set in this folder, in the order of `SET_FILES`. A file that is there is emptied. The first fault ends it.
-pub fn create_files(rt: &HostRuntime, folder: &str) -> Result<Vec<Writer<File>>, OpenFault>
+pub fn create_files<'a>(
+    rt: &HostRuntime,
+    folder: &str,
+    layout: &Layout,
+    gauge: &'a Gauge<'a>,
+) -> Result<Vec<OutputFile<'a>>, OpenFault>
     ensures { IfOk result (λ files. vec_len files ≡ FILE_COUNT) }
 {
     let mut files = Vec::new(rt.alloc());
     for file in SET_FILES {
-        if files.push(create(rt, folder, file)?).is_err() {
+        if files
+            .push(create(rt, folder, file, layout, gauge)?)
+            .is_err()
+        {
             return Err(OpenFault::Body(BodyFault::OutOfMemory));
         }
     }
     Ok(files)
 }
 
-fn create(rt: &HostRuntime, folder: &str, file: SetFile) -> Result<Writer<File>, OpenFault> {
+/// Creates a file, of which the rows are watched where it is a raster's.
+fn create<'a>(
+    rt: &HostRuntime,
+    folder: &str,
+    file: SetFile,
+    layout: &Layout,
+    gauge: &'a Gauge<'a>,
+) -> Result<OutputFile<'a>, OpenFault> {
     let path = path_of(rt, folder, file)?;
-    match File::create(rt, path.as_str()) {
-        Ok(created) => Ok(Writer::new(created)),
-        Err(_) => Err(OpenFault::Open(path)),
+    let Ok(created) = File::create(rt, path.as_str()) else {
+        return Err(OpenFault::Open(path));
+    };
+    let mut created = Watched::new(Writer::new(created));
+    if let Part::Raster = file.part {
+        created.watch(gauge.watch(file_rows(layout, file.product)));
     }
+    Ok(created)
 }
 
 /// The path of a file of a product set in this folder.

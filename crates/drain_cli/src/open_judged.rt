@@ -3,35 +3,39 @@
 
 use crate::command_line::Judged;
 use crate::file_paths::{header_path, raster_path};
-use crate::open_files::{OpenFault, list_at, open, open_tiles};
-use drain_device::{ByteList, Reader, read_body};
+use crate::gauge::Gauge;
+use crate::open_files::{InputFile, OpenFault, list_at, open, open_tiles};
+use crate::watched::Watched;
+use crate::watched_rows::judged_rows;
+use drain_device::{ByteList, read_body};
 use drain_grid::{Held, PerProduct, Product};
-use drain_header::MAX_HEADER_BYTES;
+use drain_header::{MAX_HEADER_BYTES, parse_header};
 use drain_hgt::TileInput;
 use drain_verdict::{AuditProducts, Products, RasterInput};
-use std::fs::File;
 
 /// The files of a check or an audit, of which nothing but the headers and the list of sinks has been read.
 #[derive(Drop)]
-pub struct OpenFiles<P> {
-    pub tiles: Vec<TileInput<Reader<File>>>,
+pub struct OpenFiles<'a, P> {
+    pub tiles: Vec<TileInput<InputFile<'a>>>,
     pub products: P,
     pub sinks: Vec<u8>,
 }
 
-/// Opens the files of an audit: those of no ranks. The first fault ends it.
-pub fn open_audit(
+/// Opens the files of an audit: those of no ranks. The first fault ends it. The rows of con are watched.
+pub fn open_audit<'a>(
     rt: &HostRuntime,
     judged: &Judged<'_>,
-) -> Result<OpenFiles<AuditProducts<Reader<File>>>, OpenFault> {
+    gauge: &'a Gauge<'a>,
+) -> Result<OpenFiles<'a, AuditProducts<InputFile<'a>>>, OpenFault> {
     let tiles = open_tiles(rt, judged.tiles.as_slice())?;
     let folder = judged.products;
-    let products = AuditProducts {
+    let mut products = AuditProducts {
         con: open_product(rt, folder, Product::Con)?,
         dir: open_product(rt, folder, Product::Dir)?,
         acc: open_product(rt, folder, Product::Acc)?,
         bas: open_product(rt, folder, Product::Bas)?,
     };
+    watch_con(&mut products.con, gauge);
     let sinks = list_at(rt, judged.sinks)?;
     Ok(OpenFiles {
         tiles,
@@ -40,13 +44,15 @@ pub fn open_audit(
     })
 }
 
-/// Opens the files of a check: those of all five products. The first fault ends it.
-pub fn open_check(
+/// Opens the files of a check: those of all five products. The first fault ends it. The rows of con are watched.
+pub fn open_check<'a>(
     rt: &HostRuntime,
     judged: &Judged<'_>,
-) -> Result<OpenFiles<Products<Reader<File>>>, OpenFault> {
+    gauge: &'a Gauge<'a>,
+) -> Result<OpenFiles<'a, Products<InputFile<'a>>>, OpenFault> {
     let tiles = open_tiles(rt, judged.tiles.as_slice())?;
-    let products = open_products(rt, judged.products)?;
+    let mut products = open_products(rt, judged.products)?;
+    watch_con(&mut products.con, gauge);
     let sinks = list_at(rt, judged.sinks)?;
     Ok(OpenFiles {
         tiles,
@@ -55,22 +61,32 @@ pub fn open_check(
     })
 }
 
-fn open_products(rt: &HostRuntime, folder: &str) -> Result<Products<Reader<File>>, OpenFault> {
-    let open = |product: Held| -> Result<RasterInput<Reader<File>>, OpenFault> {
+/// Has the rows of con watched, where anything is told and the header says where they end.
+fn watch_con<'a>(con: &mut RasterInput<InputFile<'a>>, gauge: &'a Gauge<'a>) {
+    if !gauge.is_on() {
+        return;
+    }
+    if let Ok(header) = parse_header(con.header.as_slice()) {
+        con.body.watch(gauge.watch(judged_rows(&header)));
+    }
+}
+
+fn open_products<'a>(rt: &HostRuntime, folder: &str) -> Result<Products<InputFile<'a>>, OpenFault> {
+    let open = |product: Held| -> Result<RasterInput<InputFile<'_>>, OpenFault> {
         open_product(rt, folder, product.product())
     };
     PerProduct::from_each(&open)
 }
 
-fn open_product(
+fn open_product<'a>(
     rt: &HostRuntime,
     folder: &str,
     product: Product,
-) -> Result<RasterInput<Reader<File>>, OpenFault> {
+) -> Result<RasterInput<InputFile<'a>>, OpenFault> {
     let header = header_path(rt.alloc(), folder, product)?;
     let header = read_header(rt, header.as_str())?;
     let raster = raster_path(rt.alloc(), folder, product)?;
-    let body = open(rt, raster.as_str())?;
+    let body = Watched::new(open(rt, raster.as_str())?);
     Ok(RasterInput { header, body })
 }
 

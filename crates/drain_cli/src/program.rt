@@ -3,16 +3,19 @@
 
 use crate::command_line;
 use crate::command_line::{Judged, Request};
+use crate::explain_files::explain_files;
+use crate::gauge::Gauge;
 use crate::make_set::make_set;
 use crate::open_failure::print_open_failure;
 use crate::open_files::{OpenFault, create_files, list_at, open_tiles};
-use crate::open_judged::{open_audit, open_check};
+use crate::open_judged::{OpenFiles, open_audit, open_check};
 use crate::print::{print_failure, print_text};
 use crate::run_audit::run_audit;
 use crate::run_check::run_check;
 use crate::run_fill::run_fill;
 use crate::run_header::run_header;
 use crate::status::Status;
+use crate::watched_rows::watch_tiles;
 use crate::write_set::write_set;
 use clap::Error;
 use clap::error::ErrorKind;
@@ -46,14 +49,24 @@ fn run(rt: &HostRuntime, asked: &[String], out: &mut impl ByteSink) -> u8 {
     match command_line::parse(rt.alloc(), asked) {
         Ok(Request::Audit(judged)) => audit_of_files(rt, &judged, out),
         Ok(Request::Check(judged)) => check_of_files(rt, &judged, out),
+        Ok(Request::Explain(asked)) => explain_files(rt, &asked, out),
         Ok(
             Request::Make {
                 side,
                 folder,
                 sinks,
                 tiles,
+                progress,
             },
-        ) => make_from_files(rt, side, folder, sinks, tiles.as_slice(), out),
+        ) => make_from_files(
+            rt,
+            &Gauge::new(rt, progress),
+            side,
+            folder,
+            sinks,
+            tiles.as_slice(),
+            out,
+        ),
         Ok(Request::Fill { side }) => run_fill(rt.alloc(), side, &mut Reader::new(rt.stdin()), out),
         Ok(Request::Header { path }) => header_of_file(rt, path, out),
         Err(error) if error.kind() == ErrorKind::OutOfMemory => print_failure(
@@ -74,13 +87,20 @@ fn header_of_file(rt: &HostRuntime, path: &str, out: &mut impl ByteSink) -> u8 {
 
 /// Opens the tiles and the four products of a folder, audits them, and answers the exit status.
 fn audit_of_files(rt: &HostRuntime, judged: &Judged<'_>, out: &mut impl ByteSink) -> u8 {
-    match open_audit(rt, judged) {
-        Ok(mut files) => run_audit(
+    let gauge = Gauge::new(rt, judged.progress);
+    match open_audit(rt, judged, &gauge) {
+        Ok(
+            OpenFiles {
+                mut tiles,
+                mut products,
+                sinks,
+            },
+        ) => run_audit(
             rt.alloc(),
             judged.side,
-            files.tiles.as_mut_slice(),
-            files.sinks.as_slice(),
-            &mut files.products,
+            tiles.as_mut_slice(),
+            sinks.as_slice(),
+            &mut products,
             out,
         ),
         Err(fault) => print_open_fault(rt, fault, out),
@@ -89,13 +109,20 @@ fn audit_of_files(rt: &HostRuntime, judged: &Judged<'_>, out: &mut impl ByteSink
 
 /// Opens the tiles and the five products of a folder, checks them, and answers the exit status.
 fn check_of_files(rt: &HostRuntime, judged: &Judged<'_>, out: &mut impl ByteSink) -> u8 {
-    match open_check(rt, judged) {
-        Ok(mut files) => run_check(
+    let gauge = Gauge::new(rt, judged.progress);
+    match open_check(rt, judged, &gauge) {
+        Ok(
+            OpenFiles {
+                mut tiles,
+                mut products,
+                sinks,
+            },
+        ) => run_check(
             rt.alloc(),
             judged.side,
-            files.tiles.as_mut_slice(),
-            files.sinks.as_slice(),
-            &mut files.products,
+            tiles.as_mut_slice(),
+            sinks.as_slice(),
+            &mut products,
             out,
         ),
         Err(fault) => print_open_fault(rt, fault, out),
@@ -105,8 +132,9 @@ fn check_of_files(rt: &HostRuntime, judged: &Judged<'_>, out: &mut impl ByteSink
 /// Makes products of tiles and writes them into a folder, and answers the exit status. The files are created once nothing is left to refuse.
 ///
 /// Where standard output is closed nothing is opened: the first file would take its place, and the line would go into that file.
-fn make_from_files(
+fn make_from_files<'a>(
     rt: &HostRuntime,
+    gauge: &'a Gauge<'a>,
     side: u32,
     folder: &str,
     sinks: Option<&str>,
@@ -120,6 +148,7 @@ fn make_from_files(
         Ok(tiles) => tiles,
         Err(fault) => return print_open_fault(rt, fault, out),
     };
+    watch_tiles(tiles.as_mut_slice(), side, gauge);
     let sinks = match list_at(rt, sinks) {
         Ok(sinks) => sinks,
         Err(fault) => return print_open_fault(rt, fault, out),
@@ -136,14 +165,14 @@ fn make_from_files(
         Err(status) => return status,
     };
     drop(tiles);
-    match create_files(rt, folder) {
+    match create_files(rt, folder, &layout, gauge) {
         Ok(mut files) => write_set(rt.alloc(), &layout, &products, files.as_mut_slice(), out),
         Err(fault) => print_open_fault(rt, fault, out),
     }
 }
 
 /// Prints why files aren't open, and answers the exit status.
-fn print_open_fault(rt: &HostRuntime, fault: OpenFault, out: &mut impl ByteSink) -> u8 {
+pub(crate) fn print_open_fault(rt: &HostRuntime, fault: OpenFault, out: &mut impl ByteSink) -> u8 {
     match fault {
         OpenFault::Open(path) => print_open_failure(rt.alloc(), out, path.as_str()),
         OpenFault::Body(fault) => print_failure(out, fault),

@@ -53,7 +53,7 @@ pub fn run_audit<R: ByteSource, W: ByteSink>(
 }
 
 /// The exit status of an answer.
-fn status_of(answer: &Result<AuditVerdict, Refusal>) -> Status
+pub(crate) fn status_of(answer: &Result<AuditVerdict, Refusal>) -> Status
     ensures { result ≡ audit_status answer.now }
 {
     match answer {

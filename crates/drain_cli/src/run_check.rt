@@ -50,7 +50,7 @@ pub fn run_check<R: ByteSource, W: ByteSink>(
 }
 
 /// The exit status of an answer.
-fn status_of(answer: &Result<Verdict, Refusal>) -> Status
+pub(crate) fn status_of(answer: &Result<Verdict, Refusal>) -> Status
     ensures { result ≡ check_status answer.now }
 {
     match answer {

@@ -1,0 +1,126 @@
+//! Printing an explanation: the map of the faults is saved first, then the page is printed, as a text or as JSON.
+
+ghost use Rattle.std.specs.Prelude.{ℕ, List};
+ghost use Rattle.drain_page.specs.Lines.{line_of};
+ghost use Rattle.drain_cli.specs.ExplainRuns.{Tells, no_page};
+ghost use Rattle.drain_cli.specs.Printing.{PrintsText};
+
+use crate::open_failure::print_open_failure;
+use crate::print::{print_failure, print_text};
+use crate::status::Status;
+use drain_device::{BodyFault, ByteSink};
+use drain_mosaic::Layout;
+use drain_page::{Facts, RefusalNote, page_json, page_text};
+use drain_verdict::Refusal;
+use std::alloc::Global;
+
+/// How an explanation is told.
+#[derive(Clone, Copy, PartialEq, Eq, Debug)]
+pub enum Form {
+    /// As a page to read.
+    Text,
+    /// As one JSON object.
+    Json,
+}
+
+/// The object that is printed where there is no memory for one. It has the members of every page.
+const NO_OBJECT: &str =
+    "{\"answer\":\"failed OutOfMemory\",\"refusal\":null,\"rows\":null,\"cols\":null,\"ranks\":null,\"rules\":[],\"products\":[],\"patch\":null,\"expected\":null,\"run\":null}\n";
+
+/// Why a map wasn't saved.
+#[derive(PartialEq, Eq, Debug, Drop)]
+pub enum MapFault {
+    /// The file at this path can't be created.
+    Open(String),
+    /// A file failed, was interrupted for the 1,000th time, or took no byte of some.
+    WriteFailed,
+    /// Memory was refused.
+    OutOfMemory,
+}
+
+/// What stands beside the inputs of an explanation: more to tell of a refusal, and where a map goes.
+pub trait Beside {
+    /// What was expected and found, where inputs were refused; none where there is no more to tell, or it can't be found again.
+    fn note_of(&mut self, refusal: Refusal) -> Option<RefusalNote>;
+
+    /// Saves the map of the faults.
+    fn save_map(&mut self, layout: &Layout, pixels: &[u8]) -> Result<(), MapFault>;
+}
+
+/// A map of the faults, and the mosaic whose map it is.
+#[derive(Drop)]
+pub struct DrawnMap {
+    pub layout: Layout,
+    pub pixels: Vec<u8>,
+}
+
+/// Saves the map, where there is one, then prints the page, and answers the exit status: that of the answer, or that of a failure.
+///
+/// Where the map can't be saved it prints why in place of the page, and where memory is refused for the page it prints that.
+pub fn tell<B: Beside, W: ByteSink>(
+    alloc: Global,
+    facts: &Facts,
+    map: &Option<DrawnMap>,
+    form: Form,
+    status: Status,
+    beside: &mut B,
+    out: &mut W,
+) -> u8
+    ensures { Tells W.ByteSink out.old out.new form (line_of facts.now.answer) status result }
+{
+    match save(map, beside) {
+        Ok(()) => print_page(alloc, facts, form, status, out),
+        Err(fault) => print_map_fault(alloc, fault, form, out),
+    }
+}
+
+/// Saves the map, where there is one.
+fn save<B: Beside>(map: &Option<DrawnMap>, beside: &mut B) -> Result<(), MapFault> {
+    match map {
+        Some(drawn) => beside.save_map(&drawn.layout, &drawn.pixels),
+        None => Ok(()),
+    }
+}
+
+/// Prints why a map wasn't saved, and answers the status of a failure.
+fn print_map_fault<W: ByteSink>(alloc: Global, fault: MapFault, form: Form, out: &mut W) -> u8
+    ensures { (line : List ℕ) (wanted : Status) → Tells W.ByteSink out.old out.new form line wanted result }
+{
+    match fault {
+        MapFault::Open(path) => print_open_failure(alloc, out, path.as_str()),
+        MapFault::WriteFailed => print_text(out, b"failed WriteFailed\n", Status::Failed),
+        MapFault::OutOfMemory => print_failure(out, BodyFault::OutOfMemory),
+    }
+}
+
+/// Prints the page, or that there is no memory for it.
+fn print_page<W: ByteSink>(
+    alloc: Global,
+    facts: &Facts,
+    form: Form,
+    status: Status,
+    out: &mut W,
+) -> u8
+    ensures { Tells W.ByteSink out.old out.new form (line_of facts.now.answer) status result }
+{
+    match form {
+        Form::Text => match page_text(alloc, facts) {
+            Ok(page) => print_text(out, &page, status),
+            Err(_) => print_no_page(form, out),
+        },
+        Form::Json => match page_json(alloc, facts) {
+            Ok(page) => print_text(out, page.as_bytes(), status),
+            Err(_) => print_no_page(form, out),
+        },
+    }
+}
+
+/// Prints that there is no memory for the page, and answers the status of a failure.
+fn print_no_page<W: ByteSink>(form: Form, out: &mut W) -> u8
+    ensures { PrintsText W.ByteSink out.old out.new (no_page form) Status.Failed result }
+{
+    match form {
+        Form::Text => print_failure(out, BodyFault::OutOfMemory),
+        Form::Json => print_text(out, NO_OBJECT.as_bytes(), Status::Failed),
+    }
+}

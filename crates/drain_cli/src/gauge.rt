@@ -1,0 +1,125 @@
+//! How far a run is, told on standard error: the rows of a device are counted as its bytes come or go, and a line is told when it is due.
+//!
+//! Whether a line can be written, and whether the clock can be read, changes nothing of the run.
+
+use crate::pace::Pace;
+use crate::print::print_line;
+use crate::row_ends::RowEnds;
+use crate::status::Status;
+use crate::telling::{Counted, row_line};
+use drain_device::{Writer, write_nothing};
+use drain_verdict::line::{Line, words};
+use std::cell::Cell;
+use std::time::Instant;
+
+/// What a run is told by, and since when it goes; nothing is told where that isn't known.
+#[derive(Drop)]
+pub struct Gauge<'a> {
+    rt: &'a HostRuntime,
+    start: Option<Instant>,
+    pace: Cell<Pace>,
+}
+
+/// Which rows of a device are counted, where they end, how many rows there are before them, and how many in all.
+#[derive(Clone, Copy)]
+pub struct Rows {
+    pub counted: Counted,
+    pub ends: RowEnds,
+    pub before: u32,
+    pub all: u32,
+}
+
+/// The rows of one device, how many of its bytes came or went, and how many rows so.
+#[derive(Drop)]
+pub struct Watch<'a> {
+    gauge: &'a Gauge<'a>,
+    rows: Rows,
+    bytes: u64,
+    reached: u32,
+}
+
+impl<'a> Gauge<'a> {
+    /// A gauge of a run that starts now. It tells nothing where that isn't asked for, where standard error is closed (the first file that is opened
+    /// would take its place), and where the clock can't be read.
+    pub fn new(rt: &'a HostRuntime, asked: bool) -> Gauge<'a> {
+        Gauge {
+            rt,
+            start: if asked { start(rt) } else { None },
+            pace: Cell::new(Pace::new(0)),
+        }
+    }
+
+    /// Whether anything is told.
+    pub fn is_on(&self) -> bool {
+        self.start.is_some()
+    }
+
+    /// A watch over these rows, where anything is told.
+    pub fn watch(&'a self, rows: Rows) -> Option<Watch<'a>> {
+        if !self.is_on() {
+            return None;
+        }
+        Some(Watch {
+            gauge: self,
+            rows,
+            bytes: 0,
+            reached: rows.before,
+        })
+    }
+
+    /// Tells that so many rows are reached, where that is due. The last row to be judged is told in any case; where the last row was read to
+    /// make products, they are made now.
+    fn reach(&self, counted: Counted, row: u32, rows: u32) {
+        let Some(now) = self.now() else {
+            return;
+        };
+        let mut pace = self.pace.get();
+        match counted {
+            Counted::Judged if row == rows => {
+                pace.tell(now);
+                self.tell(&row_line(counted, row, rows));
+            }
+            Counted::Read if row == rows => {
+                pace.tell(now);
+                self.tell(&words("drain: making"));
+            }
+            _ => {
+                if pace.is_due(now) {
+                    self.tell(&row_line(counted, row, rows));
+                }
+            }
+        }
+        self.pace.set(pace);
+    }
+
+    /// How many milliseconds the run takes so far.
+    fn now(&self) -> Option<u64> {
+        let passed = self.start?.elapsed(self.rt).ok()?;
+        u64::try_from(passed.as_millis()).ok()
+    }
+
+    fn tell(&self, line: &Line) {
+        let _ = print_line(&mut Writer::new(self.rt.stderr()), line, Status::Done);
+    }
+}
+
+impl<'a> Watch<'a> {
+    /// So many bytes more came or went.
+    pub fn pass(&mut self, bytes: usize) {
+        self.bytes = self.bytes.saturating_add(bytes as u64);
+        let rows = u32::try_from(self.rows.ends.rows_within(self.bytes)).unwrap_or(u32::MAX);
+        let reached = self.rows.before.saturating_add(rows);
+        if reached > self.reached {
+            self.reached = reached;
+            self.gauge.reach(self.rows.counted, reached, self.rows.all);
+        }
+    }
+}
+
+/// When a run starts, where standard error is open and there is a clock.
+fn start(rt: &HostRuntime) -> Option<Instant> {
+    if write_nothing(&mut Writer::new(rt.stderr())).is_err() {
+        return None;
+    }
+    Instant::now(rt).ok()
+}

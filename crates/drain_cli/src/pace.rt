@@ -1,0 +1,62 @@
+//! When a line about progress is due: seldom enough that of all lines at most two come in any one second.
+
+ghost use Rattle.std.specs.Prelude.{◌≡◌, ◌+◌, ◌≤◌, ◌↔◌, IsTrue};
+ghost use Rattle.drain_cli.specs.Pace.{AtMostOneLineInASecond, AtMostTwoLinesInASecond, told_last};
+
+use std::marker::Model;
+
+/// How far apart lines are that come when they are due, in milliseconds: a second, so that one line more may come beside them.
+pub const APART: u64 = 1000;
+
+/// When the last line was told, in milliseconds. Contracts see it as that number.
+#[derive(Clone, Copy)]
+pub struct Pace {
+    last: u64,
+}
+
+impl Model for Pace {
+    ghost use Rattle.std.specs.Prelude.{ℕ};
+
+    ghost Value = { ℕ };
+
+    ghost view = { λ p. p.last };
+
+    ghost inverse = { λ last. record { last = last } };
+}
+
+impl Pace {
+    /// As if a line were told at this time.
+    pub fn new(now: u64) -> Pace
+        ensures { result ≡ now }
+    {
+        Pace { last: now }
+    }
+
+    /// Whether a line is due: where a second has passed since the last. It then counts as told.
+    pub fn is_due(&mut self, now: u64) -> bool
+        ensures due { IsTrue result ↔ (self.old + APART ≤ now) }
+        ensures told { self.new ≡ told_last self.old now }
+    {
+        let due = now.saturating_sub(self.last) >= APART;
+        if due {
+            self.last = now;
+        }
+        due
+    }
+
+    /// Counts a line that is told though it may not be due.
+    pub fn tell(&mut self, now: u64)
+        ensures { self.new ≡ now }
+    {
+        self.last = now;
+    }
+}
+
+/// Whenever it is asked whether a line is due, and if the clock went back: at most one of the lines that are due comes in any one second, and at most
+/// two with a line among them that is told without being due.
+///
+/// A law is a function with nothing to do: its contract is the law.
+pub fn at_most_two_lines_in_a_second()
+    ensures when_due { AtMostOneLineInASecond }
+    ensures with_one_more { AtMostTwoLinesInASecond }
+{}

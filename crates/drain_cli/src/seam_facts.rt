@@ -1,0 +1,67 @@
+//! What two tiles give that differ at a cell.
+
+use crate::refusal_facts::open_again;
+use drain_grid::Cell;
+use drain_mosaic::Layout;
+use drain_page::{RefusalNote, TileValue};
+use std::os::unix::fs::FileExt;
+
+/// The sample of a void.
+const VOID: i16 = -32768;
+
+/// The first tile with data at the cell, and the first that gives another height there.
+pub fn seam_note(
+    rt: &HostRuntime,
+    layout: &Layout,
+    paths: &[&str],
+    cell: Cell,
+) -> Option<RefusalNote> {
+    let mut first: Option<TileValue> = None;
+    for (i, path) in paths.iter().enumerate() {
+        if let Some(value) = value_at(rt, layout, i, path, cell) {
+            match first {
+                None => first = Some(value),
+                Some(first) if first.metres != value.metres => {
+                    return Some(RefusalNote::Seam {
+                        first,
+                        other: value,
+                    });
+                }
+                Some(_) => {}
+            }
+        }
+    }
+    None
+}
+
+/// What the tile gives at the cell, none where the tile doesn't reach it or has a void there.
+fn value_at(
+    rt: &HostRuntime,
+    layout: &Layout,
+    i: usize,
+    path: &str,
+    cell: Cell,
+) -> Option<TileValue> {
+    if i >= layout.len() {
+        return None;
+    }
+    let corner = layout.place(i);
+    let row = cell.row.checked_sub(corner.row)?;
+    let col = cell.col.checked_sub(corner.col)?;
+    let side = layout.side();
+    if row >= side || col >= side {
+        return None;
+    }
+    let place = 2 * (u64::from(row) * u64::from(side) + u64::from(col));
+    let mut sample = [0; 2];
+    open_again(rt, path)?
+        .read_exact_at(&mut sample, place)
+        .ok()?;
+    match i16::from_be_bytes(sample) {
+        VOID => None,
+        metres => Some(TileValue {
+            tile: layout.name(i),
+            metres: Some(metres),
+        }),
+    }
+}

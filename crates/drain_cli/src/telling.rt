@@ -1,0 +1,32 @@
+//! The words of the lines that tell how far a run is.
+
+ghost use Rattle.std.specs.Prelude.{◌≡◌, ◌++◌, codes, decimal};
+ghost use Rattle.drain_cli.specs.Telling.{before_row};
+
+use drain_verdict::line::{Line, push_number, words};
+
+/// Which rows are counted.
+#[derive(Clone, Copy, PartialEq, Eq, Debug)]
+pub enum Counted {
+    /// Rows of con that were read to be judged.
+    Judged,
+    /// Rows of tiles that were read to make products of them.
+    Read,
+    /// Rows of products that were written.
+    Written,
+}
+
+/// The line that tells how many rows there were so far, of how many: `drain: row 1200 of 3601`.
+pub fn row_line(counted: Counted, row: u32, rows: u32) -> Line
+    ensures { result.bytes ≡ before_row counted ++ decimal row ++ codes " of " ++ decimal rows }
+{
+    let mut line = match counted {
+        Counted::Judged => words("drain: row "),
+        Counted::Read => words("drain: reading row "),
+        Counted::Written => words("drain: writing row "),
+    };
+    push_number(&mut line, row);
+    line.push_str(" of ");
+    push_number(&mut line, rows);
+    line
+}

@@ -1,0 +1,82 @@
+"""Counts the faults of products rule by rule, as docs/RULES.md has the rules: slow and plain, for grids of up to some 200,000 cells."""
+
+import sys
+
+sys.dont_write_bytecode = True
+from audit import NO_DATA, STATUSES, AuditRules, contents, first_endless
+from make_products import PRODUCTS, RULES, Rules, Terrain, verdict
+from plain_inputs import Header, Mosaic, listed_sinks
+
+ALL_NO_DATA = {name: nodata for name, _, _, _, nodata in PRODUCTS}
+SOUND, SOUND_VOID = 0, 255
+
+
+class CheckRules(Rules):
+    """The rules of a check, with the no-data numbers that headers tell."""
+
+    def __init__(self, terrain, products, nodata):
+        super().__init__(terrain, products)
+        self.nodata = nodata
+
+
+class Explained:
+    """What there is to tell of products that aren't refused: of five with ranks, of four without."""
+
+    def __init__(self, side, folder, sinks, tiles, ranks):
+        self.ranks = ranks
+        self.mosaic = Mosaic(side, [tile.name.encode() for tile in tiles])
+        numbers = ALL_NO_DATA if ranks else NO_DATA
+        headers = {name: Header(contents(folder / f"{name}.hdr")) for name in numbers}
+        products = {name: headers[name].pixels(contents(folder / f"{name}.bil")) for name in numbers}
+        nodata = {name: blank if headers[name].nodata is None else headers[name].nodata for name, blank in numbers.items()}
+        z = self.mosaic.elevations([contents(tile) for tile in tiles])
+        listed = listed_sinks(contents(sinks) if sinks else b"")
+        self.terrain = Terrain(self.mosaic.rows, self.mosaic.cols, z, [(row, col) for _, row, col in listed])
+        kind = CheckRules if ranks else AuditRules
+        self.rules = kind(self.terrain, products, nodata)
+        self.count()
+
+    def place(self, cell):
+        return {"row": cell // self.terrain.cols, "col": cell % self.terrain.cols}
+
+    def faults(self, cells):
+        """How many cells, and the first."""
+        return {"cells": len(cells), "first": self.place(cells[0]) if cells else None}
+
+    def count(self):
+        """The cells at which each rule fails, and the least rule that fails at each cell."""
+        cells = range(len(self.terrain.z))
+        failing = {number: [cell for cell in cells if not getattr(self.rules, holds)(cell)] for number, _, holds in RULES}
+        self.by_rule = [{"rule": number, "name": name, **self.faults(failing[number])} for number, name, _ in RULES]
+        self.map = bytearray(SOUND_VOID if ground is None else SOUND for ground in self.terrain.z)
+        for number, _, _ in reversed(RULES):
+            for cell in failing[number]:
+                self.map[cell] = number
+        self.by_product = []
+        for name, nodata in self.rules.nodata.items():
+            is_blank = [number == nodata for number in self.rules.products[name]]
+            at_voids = [cell for cell in cells if self.terrain.z[cell] is None and not is_blank[cell]]
+            at_data = [cell for cell in cells if self.terrain.z[cell] is not None and is_blank[cell]]
+            self.by_product.append({"product": name, "at_voids": self.faults(at_voids), "at_data": self.faults(at_data)})
+        failing_cells = [cell for cells_of_rule in failing.values() for cell in cells_of_rule]
+        self.first = min(failing_cells, default=None)
+        self.endless = first_endless(self.rules)
+
+    def line(self):
+        if not self.ranks and self.endless is not None:
+            place = self.place(self.endless)
+            return f"rejected NoEnd row={place['row']} col={place['col']}"
+        return verdict(self.rules)
+
+    def status(self):
+        return STATUSES.index(self.line().split(" ")[0])
+
+    def ring_or_lost(self):
+        """The first run without an end: the ring that it comes to, from the cell where it comes to it on, or the cell from which it leads nowhere."""
+        run, seen = [], {}
+        here = self.endless
+        while here is not None and here not in seen:
+            seen[here] = len(run)
+            run.append(here)
+            here = self.rules.named(here, self.rules.dir[here])
+        return ("lost", run[-1]) if here is None else ("ring", run[seen[here]:])

@@ -1,0 +1,61 @@
+# Runs with --progress: standard output and the status are the same, and standard error tells rows to the last, at most two lines in any one second.
+# Read by run.sh behind audit.sh.
+
+told=$scratch/told
+mkdir "$told" "$told/out" "$told/other"
+cp samples/N36W085.hgt "$told"
+jacksboro=(--side 121 --products samples/jacksboro samples/jacksboro/N36W085.hgt)
+jacksboro_line='accepted rows=121 cols=121 data=14641 raised=690 outlets=32'
+made=(make --side 344 --out "$told/out" "$told/N36W085.hgt")
+
+# Compares a run: its name, status and line, the lines on standard error, and its words.
+judge_told() {
+    want "$3"
+    timeout 60 "$drain" "${@:5}" </dev/null >"$scratch/out" 2>"$told/err"
+    local came=$?
+    : >"$scratch/err"
+    judge "$1" "$2" "$scratch/want" "$came"
+    printf '%b' "$4" >"$scratch/want"
+    cp "$told/err" "$scratch/out"
+    judge "$1, what is told" 0 "$scratch/want" 0
+}
+judge_told 'a check without progress' 0 "$jacksboro_line" '' check "${jacksboro[@]}"
+judge_told 'a check with progress' 0 "$jacksboro_line" 'drain: row 121 of 121\n' check --progress "${jacksboro[@]}"
+judge_told 'an audit with progress' 0 "$jacksboro_line" 'drain: row 121 of 121\n' audit "${jacksboro[@]}" --progress
+judge_told 'a check that is refused before a row' 2 'refused BadSide' '' check --progress --side 1 "${jacksboro[@]:2}"
+judge_told 'a maker without progress' 0 'made rows=344 cols=344' '' "${made[@]}"
+cp "$told"/out/* "$told/other"
+judge_told 'a maker with progress' 0 'made rows=344 cols=344' 'drain: making\n' "${made[@]}" --progress
+
+# A standard error that is closed or full changes nothing, and nothing goes into a file in its place.
+for words in check audit; do
+    want "$jacksboro_line"
+    : >"$scratch/err"
+    "$drain" "$words" --progress "${jacksboro[@]}" >"$scratch/out" 2>&-
+    judge "$words with progress and a closed standard error" 0 "$scratch/want" $?
+    "$drain" "$words" --progress "${jacksboro[@]}" >"$scratch/out" 2>/dev/full
+    judge "$words with progress and a full standard error" 0 "$scratch/want" $?
+done
+want 'made rows=344 cols=344'
+"$drain" "${made[@]}" --progress >"$scratch/out" 2>&-
+judge 'a maker with progress and a closed standard error' 0 "$scratch/want" $?
+diff -r "$told/out" "$told/other" >"$scratch/out" && : >"$scratch/want"
+judge 'files of a maker with progress and a closed standard error' 0 "$scratch/want" 0
+
+# A raster that comes slowly, in a pipe: lines are a second apart, count up, and end at the last row.
+mkdir "$told/slow"
+cp samples/jacksboro/*.hdr samples/jacksboro/*.bil "$told/slow"
+rm "$told/slow/con.bil" && mkfifo "$told/slow/con.bil"
+(exec 4>"$told/slow/con.bil"
+    for part in 0 1 2 3 4 5 6 7 8 9 10; do dd if=samples/jacksboro/con.bil bs=2662 skip=$part count=1 status=none >&4; sleep 0.3; done) &
+want "$jacksboro_line"
+timeout 60 "$drain" audit --progress --side 121 --products "$told/slow" samples/jacksboro/N36W085.hgt 2>&1 >"$scratch/out" |
+    while IFS= read -r line; do echo "$(date +%s%3N) $line"; done >"$told/times"
+: >"$scratch/err"
+judge 'an audit with progress of a raster that comes slowly' 0 "$scratch/want" 0
+awk '{ if ($3 != "row" || $5 != "of" || $6 != 121 || $4 <= row) print "not a line: " $0
+       if (NR > 2 && $1 - before < 900) print "three lines in a second: " $0
+       before = last; last = $1; row = $4 }
+     END { if (row != 121 || NR < 3) print "ends at " row " after " NR " lines" }' "$told/times" >"$scratch/out"
+: >"$scratch/want"
+judge 'lines of an audit of a raster that comes slowly' 0 "$scratch/want" 0
