@@ -38,6 +38,7 @@ test:
 bench: build/drain build/benches
 	bench/run.sh build/drain
 	bench/check.sh build/drain
+	bench/explain.sh build/drain
 	bench/memory.sh build/drain
 	bench/make.sh build/drain
 	bench/hard.sh build/drain

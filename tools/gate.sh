@@ -22,5 +22,5 @@ time rt ci
 mv build/gate_began build/gate_passed
 time make --no-print-directory build/drain build/benches
 time tests/program/run.sh build/drain build/benches
-time tests/refused_memory.sh byte_tests cell_tests rules_tests verdict_tests maker_tests cli_tests
+time tests/refused_memory.sh byte_tests cell_tests rules_tests page_tests verdict_tests maker_tests cli_tests
 time tests/wrong_makers.sh
