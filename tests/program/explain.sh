@@ -212,6 +212,28 @@ for file in "$faults" "$faults_header"; do
     rm "$faults" "$faults_header"
 done
 
+# A map over a file that is read, by whatever way, is a fault of the words, and the files stay as they are.
+make_pit
+rm -f "$faults" "$faults_header"
+printf '1 1\n' >"$check/list.hdr"
+cp "$check/list.hdr" "$check/list.bil"
+ln -s "$tile" "$check/tile_linked.bil"
+ln -s out/acc.bil "$check/acc_linked.bil"
+ln -s out "$check/out_linked"
+cat "$tile" "$check"/list.* "$check"/out/* | cksum >"$scratch/before"
+for over in out/{con,dir,acc,bas,rnk}.bil out/../out/con.bil out_linked/bas.bil tile_linked.bil acc_linked.bil list.bil; do
+    for sinks in '' list.hdr list.bil; do
+        [ "$over" != list.bil ] || [ -n "$sinks" ] || continue
+        want -
+        timeout 20 "$drain" explain --side 3 --products "$check/out" --map "$check/$over" ${sinks:+--sinks "$check/$sinks"} "$tile" >"$scratch/out" 2>"$scratch/err"
+        judge "a map over $over, sinks ${sinks:-none}" 2 "$scratch/want" $? words
+    done
+done
+: >"$scratch/err"
+cat "$tile" "$check"/list.* "$check"/out/* | cksum >"$scratch/out"
+judge 'files that are read stay as they are' 0 "$scratch/before" 0
+rm "$check"/list.* "$check"/*_linked*
+
 # Outputs that can't be written: status 3, whatever the line was; and where standard output is closed no map is begun.
 : >"$scratch/want"
 : >"$scratch/out"

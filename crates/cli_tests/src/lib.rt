@@ -24,4 +24,6 @@ mod making;
 #[cfg(test)]
 mod printed;
 #[cfg(test)]
+mod progress;
+#[cfg(test)]
 mod stamped_reads;

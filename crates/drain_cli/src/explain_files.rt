@@ -5,6 +5,7 @@ use crate::explain_page::{Beside, Form, MapFault};
 use crate::file_paths::{header_path, map_path, raster_path};
 use crate::gauge::Gauge;
 use crate::map_file::write_map;
+use crate::map_place::map_over_input;
 use crate::open_files::OpenFault;
 use crate::open_judged::{OpenFiles, open_audit, open_check};
 use crate::program::print_open_fault;
@@ -22,13 +23,29 @@ use std::fs;
 use std::fs::File;
 use std::io::ErrorKind;
 
-/// Explains the products of a folder, and answers the exit status. Ranks are asked for where a file of theirs is there.
+/// Explains the products of a folder, and answers the exit status.
 ///
-/// Where a map is wanted and standard output is closed nothing is opened: the map would take its place.
+/// Where a map is wanted and standard output is closed nothing is opened: the map would take its place. A map over a file that is read is a fault of
+/// the words, and nothing is opened either.
 pub fn explain_files(rt: &HostRuntime, asked: &Explained<'_>, out: &mut impl ByteSink) -> u8 {
-    if asked.map.is_some() && write_nothing(out).is_err() {
+    let Some(stem) = asked.map else {
+        return explain_opened(rt, asked, out);
+    };
+    if write_nothing(out).is_err() {
         return Status::Failed.code();
     }
+    match map_over_input(rt, &asked.judged, stem) {
+        Ok(None) => explain_opened(rt, asked, out),
+        Ok(Some(path)) => {
+            let _ = eprintln!(rt; "error: the map would be written over {path}, which is read");
+            Status::Refused.code()
+        }
+        Err(fault) => print_open_fault(rt, fault, out),
+    }
+}
+
+/// Opens the files and explains them, and answers the exit status. Ranks are asked for where a file of theirs is there.
+fn explain_opened(rt: &HostRuntime, asked: &Explained<'_>, out: &mut impl ByteSink) -> u8 {
     match has_ranks(rt, asked.judged.products) {
         Ok(true) => with_ranks(rt, asked, out),
         Ok(false) => without_ranks(rt, asked, out),

@@ -12,10 +12,9 @@ tells what was expected and what was found.
 
 A map has a byte for each cell: the number of the first rule that fails there, 0 where all hold, and 255 at a
 void where all hold. Its header is written beside it, so GIS programs open it. The files are created once nothing
-is left to refuse; files that are there already are replaced.
+is left to refuse; files that are there already are replaced, but for those that are read.
 
-Memory is that of check or audit, with the labels of outlets once more, and for a map once more again and a
-byte for each cell.";
+Memory is that of check or audit, with the labels of outlets once more, and for a map a byte for each cell.";
 
 pub const AFTER: &str = "Lines and exit statuses:
   0  accepted ..                             as of drain check or drain audit

@@ -11,6 +11,7 @@ pub mod help_texts;
 pub mod laws;
 pub mod make_set;
 pub mod map_file;
+pub mod map_place;
 pub mod open_failure;
 pub mod open_files;
 pub mod open_judged;

@@ -20,6 +20,7 @@ use crate::explain_page::{Beside, DrawnMap, Form, tell};
 use crate::{run_audit, run_check};
 use drain_device::{ByteSink, ByteSource};
 use drain_explain::{Explanation, Mapping, explain_audit, explain_check};
+use drain_faults::FaultMap;
 use drain_hgt::TileInput;
 use drain_mosaic::Layout;
 use drain_page::{Answer, Facts, Findings, MosaicPlace, RefusalNote};
@@ -175,9 +176,12 @@ fn place_of(layout: &Layout) -> MosaicPlace {
 }
 
 /// The map, where one was drawn, with its mosaic.
-fn drawn_on(layout: Layout, pixels: Option<Vec<u8>>) -> Option<DrawnMap> {
-    match pixels {
-        Some(pixels) => Some(DrawnMap { layout, pixels }),
+fn drawn_on(layout: Layout, map: Option<FaultMap>) -> Option<DrawnMap> {
+    match map {
+        Some(map) => Some(DrawnMap {
+            layout,
+            pixels: map.pixels,
+        }),
         None => None,
     }
 }

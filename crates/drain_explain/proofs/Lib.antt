@@ -1,3 +1,2 @@
 mod EndlessTold
-mod MapsTold
 mod Noting

@@ -1,26 +1,30 @@
 -- Notes of faults, row by row.
-use Rattle.std.proofs.Common.{◌≡◌, ◌+◌, ◌∙◌, ℕ, Some, sym, subst, ap, arith}
+use Rattle.std.proofs.Common.{◌≡◌, ◌+◌, ◌∙◌, ℕ, sym, subst, ap}
 use Rattle.drain_grid.specs.declared.patch.Patch.{Patch}
 use Rattle.drain_grid.specs.Grid.{Grid, Products}
 use Rattle.drain_kernel.specs.declared.rules.Rules.{Rules}
 use Rattle.drain_kernel.specs.Rules.{tried}
 use Rattle.drain_rules.specs.PatchRows.{AreRowPatches}
 use Rattle.drain_faults.specs.ByProduct.{IsRightByProduct, OfNextRowByProduct}
+use Rattle.drain_faults.specs.FaultMaps.{IsMapOf, OfNextRowDrawn}
 use Rattle.drain_faults.specs.FaultWalks.{IsRightOf, OfNextRow}
-use Rattle.drain_explain.specs.FaultNotes.{AreFaultNotes, IsMapNoted}
+use Rattle.drain_explain.specs.FaultNotes.{AreFaultNotes}
 use Rattle.drain_explain.specs.declared.fault_notes.FaultNotes.{FaultNotes}
 
 -- one row more
 pub notes-more : (rules : Rules) (g : Grid) (ps : Products) (r cols : ℕ) (shown : ℕ → Patch) (old new : FaultNotes) → AreRowPatches g ps r cols shown → AreFaultNotes rules g ps r old →
     new.walk.rows ≡ old.walk.rows + 1 → OfNextRow (tried rules) old.walk cols shown (λ g ps. IsRightOf (tried rules) g ps new.walk) →
     OfNextRowByProduct rules old.walk cols shown (λ g ps. IsRightByProduct rules g ps new.walk) →
-    (IsMapNoted rules g ps r old.map → IsMapNoted rules g ps (r + 1) new.map) → new.rules ≡ rules → AreFaultNotes rules g ps (r + 1) new
+    OfNextRowDrawn (tried rules) old.walk cols shown (λ g ps. IsMapOf (tried rules) g ps new.walk) → new.rules ≡ rules → AreFaultNotes rules g ps (r + 1) new
 notes-more rules g ps r cols shown old new patches are counted by_rule by_product map same =
-    let here = subst (λ n. AreRowPatches g ps n cols shown) (sym are.rows_are) patches in
+    let so_far = are.walk_is in
+    let here = subst (λ n. AreRowPatches g ps n cols shown) (sym so_far.rows_are) patches in
     record {
-      rows_are = counted ∙ ap (λ n. n + 1) are.rows_are;
-      by_rule = by_rule g ps here are.by_rule;
-      by_product = by_product g ps here are.by_product;
-      map = map are.map;
+      walk_is = record {
+        rows_are = counted ∙ ap (λ n. n + 1) so_far.rows_are;
+        by_rule = by_rule g ps here so_far.by_rule;
+        by_product = by_product g ps here so_far.by_product;
+        map = map g ps here so_far.by_rule so_far.map;
+      };
       rules_are = λ some. same;
     }

@@ -1,16 +1,13 @@
 -- What explains an answer. Source: this project's own.
-use Rattle.std.specs.Prelude.{◌≡◌, ℕ, List, Option, Some, None, IfSome, Result, Ok, Err}
+use Rattle.std.specs.Prelude.{◌≡◌, Result, Ok, Err}
 use Rattle.drain_grid.specs.declared.cell.Cell.{Cell}
 use Rattle.drain_grid.specs.Extent.{cells}
 use Rattle.drain_grid.specs.Grid.{Grid, Products, HasData}
 use Rattle.drain_kernel.specs.declared.rules.Ranks.{Ranks}
-use Rattle.drain_kernel.specs.declared.rules.Rules.{Rules}
 use Rattle.drain_kernel.specs.Rules.{tried}
 use Rattle.drain_faults.specs.ByProduct.{AreFaultsByProduct}
-use Rattle.drain_faults.specs.FaultMaps.{AreMapPixels, IsMapOf}
-use Rattle.drain_faults.specs.declared.fault_map.FaultMap.{FaultMap}
+use Rattle.drain_faults.specs.FaultMaps.{IsMapOfCells}
 use Rattle.drain_faults.specs.Faults.{AreFaultsOf, IsFirstPatch}
-use Rattle.drain_rules.specs.Findings.{cells_above}
 use Rattle.drain_runs.specs.EndlessRuns.{IsEndlessRun}
 use Rattle.drain_runs.specs.declared.endless_run.EndlessRun.{EndlessRun}
 use Rattle.drain_verdict.specs.Answers.{rules_at}
@@ -33,7 +30,7 @@ pub record IsExplanationOf {V : Type 0} (ranks : Ranks) (i : Inputs) (e : Explan
   pub each_rule : AreFaultsOf (tried (rules_at ranks i)) (grid_of i) (products_of i) (cells (grid_of i).extent) e.by_rule
   pub each_product : AreFaultsByProduct (rules_at ranks i) (grid_of i) (products_of i) (cells (grid_of i).extent) e.by_product
   pub first_patch : IsFirstPatch (tried (rules_at ranks i)) (grid_of i) (products_of i) (cells (grid_of i).extent) e.first
-  pub map : IfSome e.map (λ pixels. AreMapPixels (tried (rules_at ranks i)) (grid_of i) (products_of i) (cells (grid_of i).extent) pixels.items)
+  pub map : IsMapOfCells (tried (rules_at ranks i)) (grid_of i) (products_of i) (cells (grid_of i).extent) e.map
 
 -- the verdict names a cell with data, and its run comes to this
 pub record IsEndlessAt (g : Grid) (ps : Products) (verdict : AuditVerdict) (told : Cell × EndlessRun) : Type 0 where
@@ -43,10 +40,3 @@ pub record IsEndlessAt (g : Grid) (ps : Products) (verdict : AuditVerdict) (told
 -- of the inputs
 abbrev pub IsEndlessOf : Inputs → AuditVerdict → Cell × EndlessRun → Type 0
 IsEndlessOf i verdict told = (verdict ≡ NoEnd told.0.row told.0.col) × IsEndlessRun (grid_of i) (products_of i) told.0 told.1
-
--- the numbers are those of the map, whatever its grid
-abbrev pub ArePixelsOf : Option FaultMap → Option (List ℕ) → Type 0
-ArePixelsOf None None = Unit {0}
-ArePixelsOf None (Some pixels) = ⊥
-ArePixelsOf (Some map) None = ⊥
-ArePixelsOf (Some map) (Some pixels) = (rules : Rules) (g : Grid) (ps : Products) → IsMapOf (tried rules) g ps map → AreMapPixels (tried rules) g ps (cells_above g map.rows) pixels

@@ -1,10 +1,10 @@
 //! What explains an answer.
 
-ghost use Rattle.std.specs.Prelude.{◌≡◌, option_map};
+ghost use Rattle.std.specs.Prelude.{◌≡◌};
 ghost use Rattle.drain_kernel.specs.declared.rules.Ranks as declared;
 ghost use Rattle.drain_verdict.specs.Answers.{AreNotesOf};
 ghost use Rattle.drain_verdict.specs.Inputs.{Inputs};
-ghost use Rattle.drain_explain.specs.Explanations.{ArePixelsOf, IsExplanationOf};
+ghost use Rattle.drain_explain.specs.Explanations.{IsExplanationOf};
 ghost use Rattle.drain_explain.specs.FaultNotes.{AreFaultNotes};
 
 use crate::fault_notes::FaultNotes;
@@ -30,7 +30,7 @@ pub struct Explanation<V> {
     /// The first cell at which any rule fails, and what it shows.
     pub first: Option<FaultyPatch>,
     /// Where a map was wanted, a number for each cell in row order: that of the least rule that fails there; where none does 0, and 255 at a void.
-    pub map: Option<Vec<u8>>,
+    pub map: Option<FaultMap>,
     /// Of an audit, the first data cell whose run doesn't end, and what its run comes to.
     pub endless: Option<(Cell, EndlessRun)>,
 }
@@ -49,8 +49,7 @@ pub(crate) fn told_by_notes<V>(
 {
     let first = notes.walk.first_patch();
     let rules = notes.rules;
-    let map = pixels_of(notes.map);
-    let (by_rule, by_product) = notes.walk.into_faults();
+    let (by_rule, by_product, map) = notes.walk.into_faults();
     Explanation {
         verdict,
         layout,
@@ -60,15 +59,5 @@ pub(crate) fn told_by_notes<V>(
         first,
         map,
         endless,
-    }
-}
-
-/// The numbers of the map, where there is one.
-fn pixels_of(map: Option<FaultMap>) -> Option<Vec<u8>>
-    ensures { ArePixelsOf map (option_map (λ pixels. pixels.items) result) }
-{
-    match map {
-        Some(map) => Some(map.into_pixels()),
-        None => None,
     }
 }

@@ -1,14 +1,12 @@
 //! The faults of a grid's rows, noted beside the verdict.
 
-ghost use Rattle.std.specs.Prelude.{◌≡◌, ◌↔◌, ◌+◌, ℕ, length, IfOk, IsSome, OnOk};
+ghost use Rattle.std.specs.Prelude.{◌≡◌, ◌↔◌, IfOk, IsSome};
 ghost use Rattle.drain_grid.specs.Grid.{Grid, Products};
 ghost use Rattle.drain_kernel.specs.declared.rules.Rules.{Rules};
-ghost use Rattle.drain_rules.specs.PatchRows.{AreRowPatches};
-ghost use Rattle.drain_rules.specs.ThreeRows.{patch_in};
-ghost use Rattle.drain_explain.specs.FaultNotes.{AreFaultNotes, IsMapNoted};
+ghost use Rattle.drain_explain.specs.FaultNotes.{AreFaultNotes, IsWalkNoted};
 ghost use Rattle.drain_explain.specs.declared.fault_notes.Mapping.TheVariants.{Drawn};
 
-use drain_faults::{FaultMap, FaultWalk};
+use drain_faults::FaultWalk;
 use drain_grid::cell::MAX_LENGTH;
 use drain_grid::{NoData, OutOfMemory, Product, Shape};
 use drain_rules::{Ranks, Rules, ThreeRows};
@@ -23,11 +21,10 @@ pub enum Mapping {
     Undrawn,
 }
 
-/// What the rows so far came to, and the map of them where one is wanted; the rules that were tried at the last row.
+/// What the rows so far came to, with the map of them where one is wanted; the rules that were tried at the last row.
 #[derive(Drop)]
 pub struct FaultNotes {
     pub walk: FaultWalk,
-    pub map: Option<FaultMap>,
     pub rules: Rules,
 }
 
@@ -40,12 +37,11 @@ impl FaultNotes {
         ranks: Ranks,
     ) -> Result<FaultNotes, OutOfMemory>
         ensures begun { IfOk result (λ notes. (rules : Rules) (g : Grid) (ps : Products) → AreFaultNotes rules g ps 0 notes) }
-        ensures drawn { IfOk result (λ notes. IsSome notes.map ↔ (mapping ≡ Drawn)) }
+        ensures drawn { IfOk result (λ notes. IsSome notes.walk.map ↔ (mapping ≡ Drawn)) }
     {
-        let map = new_map(alloc, shape, mapping)?;
+        let walk = new_walk(alloc, shape, mapping)?;
         Ok(FaultNotes {
-            walk: FaultWalk::new(alloc),
-            map,
+            walk,
             rules: Rules {
                 nodata: default_numbers(),
                 ranks,
@@ -54,14 +50,14 @@ impl FaultNotes {
     }
 }
 
-/// A map without a row, where one is wanted.
-fn new_map(alloc: Global, shape: Shape, mapping: Mapping) -> Result<Option<FaultMap>, OutOfMemory>
-    ensures begun { IfOk result (λ map. (rules : Rules) (g : Grid) (ps : Products) → IsMapNoted rules g ps 0 map) }
-    ensures drawn { IfOk result (λ map. IsSome map ↔ (mapping ≡ Drawn)) }
+/// A walk that passed no row, which draws a map where one is wanted.
+fn new_walk(alloc: Global, shape: Shape, mapping: Mapping) -> Result<FaultWalk, OutOfMemory>
+    ensures begun { IfOk result (λ walk. (rules : Rules) (g : Grid) (ps : Products) → IsWalkNoted rules g ps 0 walk) }
+    ensures drawn { IfOk result (λ walk. IsSome walk.map ↔ (mapping ≡ Drawn)) }
 {
     match mapping {
-        Mapping::Drawn => Ok(Some(FaultMap::new(alloc, shape)?)),
-        Mapping::Undrawn => Ok(None),
+        Mapping::Drawn => FaultWalk::drawing(alloc, shape),
+        Mapping::Undrawn => Ok(FaultWalk::new(alloc)),
     }
 }
 
@@ -95,29 +91,7 @@ impl RowNotes for FaultNotes {
             return Err(OutOfMemory);
         }
         self.walk.note_row(rows, rules)?;
-        note_map(&mut self.map, rows, rules)?;
         self.rules = *rules;
         Ok(())
-    }
-}
-
-/// The next row on the map, where there is one.
-fn note_map(
-    map: &mut Option<FaultMap>,
-    rows: &ThreeRows<'_>,
-    rules: &Rules,
-) -> Result<(), OutOfMemory>
-    ensures { OnOk result ((g : Grid) (ps : Products) (r : ℕ) → AreRowPatches g ps r (length rows.now.here.numbers.z) (patch_in rows.now)
-        → IsMapNoted rules.now g ps r map.old → IsMapNoted rules.now g ps (r + 1) map.new) }
-{
-    match map {
-        Some(map) => {
-            // no grid has more rows
-            if map.rows() >= MAX_LENGTH {
-                return Err(OutOfMemory);
-            }
-            map.note_row(rows, rules)
-        }
-        None => Ok(()),
     }
 }

@@ -1,22 +1,33 @@
--- The numbers of a map, with one cell more; and from row to row.
-use Rattle.std.proofs.Common.{◌≡◌, ℕ, ◌+◌, ◌<◌, is_some, List, [], ◌∷◌, ◌++◌, None, refl, sym, ◌∙◌, ap, subst}
+-- The numbers of a map, with one cell more or a run of cells that a row vouches for; and from row to row.
+use Rattle.std.proofs.Common.{◌≡◌, ℕ, zero, suc, ◌+◌, ◌-◌, ◌<◌, ◌≤◌, is_some, List, [], ◌∷◌, ◌++◌, Option, Some, None, sym, ◌∙◌, ap, subst, arith, append_assoc}
+use Rattle.std.specs.Prelude.{replicate, ◌↔◌, IsSome}
+use Rattle.std.proofs.lemmas.List.{append-nil}
 use Rattle.drain_grid.specs.declared.cell.Cell.{Cell}
 use Rattle.drain_grid.specs.declared.patch.Patch.{Patch}
-use Rattle.drain_grid.specs.Grid.{Grid, Products, patch_at, values_at}
+use Rattle.drain_grid.specs.declared.rule.Rule.{Rule}
+use Rattle.drain_grid.specs.Grid.{Grid, Products, patch_at}
 use Rattle.drain_grid.specs.PatchRules.{Profile}
+use Rattle.drain_grid.specs.Rule.{IsAnyRule, IsLeastFault}
 use Rattle.drain_kernel.specs.Kept.{IsKept}
-use Rattle.drain_rules.specs.Labels.{AreLabelsBefore}
+use Rattle.drain_rules.specs.Findings.{cells_above}
+use Rattle.drain_rules.specs.Labels.{labelled_profile}
 use Rattle.drain_rules.specs.PatchRows.{AreRowPatches}
 use Rattle.drain_rules.specs.Rows.{place}
 use Rattle.drain_rules.proofs.Faults.{IsLeastFault-cell}
-use Rattle.drain_rules.proofs.KeptCells.{no_label}
-use Rattle.drain_rules.proofs.LabelsBefore.{AreLabelsBefore-more, AreLabelsBefore-row}
-use Rattle.drain_faults.specs.declared.drawn.Drawn.{Drawn}
-use Rattle.drain_faults.specs.declared.drawn.TheConstants.{SOUND}
-use Rattle.drain_faults.specs.FaultMaps.{AreMapPixels, IsDrawnAbove, IsDrawnAt, IsDrawnBefore, IsDrawnSound, IsMapPixel, pixel_of}
-use Rattle.drain_faults.specs.FaultWalks.{cells_before}
+use Rattle.drain_faults.specs.declared.fault_map.FaultMap.{FaultMap}
+use Rattle.drain_faults.specs.declared.fault_map.TheConstants.{SOUND}
+use Rattle.drain_faults.specs.declared.found.Found.{Found}
+use Rattle.drain_faults.specs.FaultMaps.{AreDrawn, AreMapPixels, IsMapOfCells, IsMapPixel, pixel_of}
+use Rattle.drain_faults.specs.FaultWalks.{IsFoundBefore, cells_before}
 use Rattle.drain_faults.proofs.CellsBefore.{cells_before-all, cells_before-more, cells_before-none}
 use Rattle.drain_faults.proofs.FaultSteps.{inside_row, kept_holds}
+
+-- there is a map still where there was one
+pub drawn_still : (old new : Option FaultMap) (more : List ℕ) → AreDrawn old new more → IsSome new ↔ IsSome old
+drawn_still None None more drawn = (λ some. some, λ some. some)
+drawn_still None (Some new) more drawn = absurd drawn
+drawn_still (Some old) None more drawn = absurd drawn
+drawn_still (Some old) (Some new) more drawn = (λ some. some, λ some. some)
 
 module _ (profile : Profile) (g : Grid) (ps : Products) where
   pixels_more : (cs : List Cell) (ns : List ℕ) (c : Cell) (n : ℕ) → IsMapPixel profile g ps c n → AreMapPixels profile g ps cs ns →
@@ -26,59 +37,74 @@ module _ (profile : Profile) (g : Grid) (ps : Products) where
   pixels_more (b ∷ cs) [] c n pixel all = absurd all
   pixels_more (b ∷ cs) (m ∷ ns) c n pixel all = (all.0, pixels_more cs ns c n pixel all.1)
 
-  pub drawn_begins : (row : ℕ) (drawn : Drawn) → IsDrawnAbove profile g ps row drawn → IsDrawnBefore profile g ps row 0 drawn
-  drawn_begins row drawn above = record {
-    pixels = subst (λ cs. AreMapPixels profile g ps cs drawn.pixels.items) (sym (cells_before-none g row)) above.pixels;
-    before = above.before;
-  }
+  -- one number more, where there is a map
+  map_more : (cs : List Cell) (c : Cell) (n : ℕ) (old new : Option FaultMap) → IsMapPixel profile g ps c n → AreDrawn old new (n ∷ []) →
+      IsMapOfCells profile g ps cs old → IsMapOfCells profile g ps (cs ++ c ∷ []) new
+  map_more cs c n None None pixel drawn so_far = tt
+  map_more cs c n None (Some new) pixel drawn so_far = absurd drawn
+  map_more cs c n (Some old) None pixel drawn so_far = absurd drawn
+  map_more cs c n (Some old) (Some new) pixel drawn so_far =
+      subst (AreMapPixels profile g ps (cs ++ c ∷ [])) (sym drawn) (pixels_more cs old.pixels.items c n pixel so_far)
 
-  -- one number more
-  with_pixel : (row col n : ℕ) (old new : Drawn) → IsMapPixel profile g ps (place row col) n → new.pixels.items ≡ old.pixels.items ++ n ∷ [] →
-      AreLabelsBefore g ps (place row (col + 1)) new.labels → IsDrawnBefore profile g ps row col old → IsDrawnBefore profile g ps row (col + 1) new
-  with_pixel row col n old new pixel is labels so_far =
-      let more : AreMapPixels profile g ps (cells_before g row (col + 1)) (old.pixels.items ++ n ∷ []) =
-      subst (λ cs. AreMapPixels profile g ps cs (old.pixels.items ++ n ∷ [])) (sym (cells_before-more g row col))
-      (pixels_more (cells_before g row col) old.pixels.items (place row col) n pixel so_far.pixels) in
-      record {
-        pixels = subst (AreMapPixels profile g ps (cells_before g row (col + 1))) (sym is) more;
-        before = labels;
-      }
+  pub map_begins : (row : ℕ) (map : Option FaultMap) → IsMapOfCells profile g ps (cells_above g row) map →
+      IsMapOfCells profile g ps (cells_before g row 0) map
+  map_begins row map above = subst (λ cs. IsMapOfCells profile g ps cs map) (sym (cells_before-none g row)) above
 
 module _ (profile : Profile) (g : Grid) (ps : Products) (row cols : ℕ) (shown : ℕ → Patch) (are : AreRowPatches g ps row cols shown) where
-  pub drawn_ends : (drawn : Drawn) (col : ℕ) → col ≡ cols → IsDrawnBefore profile g ps row col drawn → IsDrawnAbove profile g ps (row + 1) drawn
-  drawn_ends drawn col last so_far =
-      let whole : IsDrawnBefore profile g ps row g.extent.cols drawn = subst (λ n. IsDrawnBefore profile g ps row n drawn) (last ∙ are.cols_are) so_far in
-      record {
-        pixels = subst (λ cs. AreMapPixels profile g ps cs drawn.pixels.items) (cells_before-all g row) whole.pixels;
-        before = AreLabelsBefore-row g ps row drawn.labels whole.before;
-      }
+  pub map_ends : (map : Option FaultMap) (col : ℕ) → col ≡ cols → IsMapOfCells profile g ps (cells_before g row col) map →
+      IsMapOfCells profile g ps (cells_above g (row + 1)) map
+  map_ends map col last so_far =
+      let whole : IsMapOfCells profile g ps (cells_before g row g.extent.cols) map =
+      subst (λ n. IsMapOfCells profile g ps (cells_before g row n) map) (last ∙ are.cols_are) so_far in
+      subst (λ cs. IsMapOfCells profile g ps cs map) (cells_before-all g row) whole
 
-  -- the cell of a row that vouches for it
-  pub drawn_sound : (old new : Drawn) (col : ℕ) → col < cols → IsKept profile (shown col) → IsDrawnSound old new → IsDrawnBefore profile g ps row col old →
-      IsDrawnBefore profile g ps row (col + 1) new
-  drawn_sound old new col less kept drawn so_far =
-      let cell = place row col in
-      let at : IsKept profile (patch_at g ps cell) = subst (IsKept profile) (are.patches_are col less) kept in
-      let number : SOUND ≡ pixel_of None (is_some (g.elevation cell)) = sym (ap (pixel_of None) at.has_data) in
-      let labels : AreLabelsBefore g ps (place row (col + 1)) old.labels =
-      AreLabelsBefore-more g ps row col (values_at g ps cell) old.labels old.labels (inside_row profile g ps row cols shown are col less) refl so_far.before
-      (no_label profile old.labels (patch_at g ps cell) at) in
-      with_pixel profile g ps row col SOUND old new (record { rule = None; least = λ r own. kept_holds profile g ps cell at r; number_is = number }) drawn.pixels_are
-      (subst (AreLabelsBefore g ps (place row (col + 1))) (sym drawn.labels_are) labels) so_far
+  -- the number of a cell that is vouched for
+  sound_pixel : (col : ℕ) → col < cols → IsKept profile (shown col) → IsMapPixel profile g ps (place row col) SOUND
+  sound_pixel col less kept =
+      let at : IsKept profile (patch_at g ps (place row col)) = subst (IsKept profile) (are.patches_are col less) kept in
+      record { rule = None; least = λ r own. kept_holds profile g ps (place row col) at r; number_is = sym (ap (pixel_of None) at.has_data) }
 
-  -- a cell that was looked at
-  pub drawn_at : (old new : Drawn) (col : ℕ) (p : Patch) → col < cols → p ≡ shown col → IsDrawnAt profile p old new → IsDrawnBefore profile g ps row col old →
-      IsDrawnBefore profile g ps row (col + 1) new
-  drawn_at old new col p less is drawn so_far =
+  -- those of a run of such cells, by induction over the run, behind any numbers
+  sound_run : (ns : List ℕ) (from n : ℕ) → from + n ≤ cols → ((col : ℕ) → from ≤ col → col < from + n → IsKept profile (shown col)) →
+      AreMapPixels profile g ps (cells_before g row from) ns → AreMapPixels profile g ps (cells_before g row (from + n)) (ns ++ replicate n SOUND)
+  sound_run ns from zero within kept so_far =
+      let here : from + 0 ≡ from = omega arith in
+      subst (λ col. AreMapPixels profile g ps (cells_before g row col) (ns ++ [])) (sym here)
+      (subst (AreMapPixels profile g ps (cells_before g row from)) (sym (append-nil ns)) so_far)
+  sound_run ns from (suc n) within kept so_far =
+      let one : AreMapPixels profile g ps (cells_before g row (from + 1)) (ns ++ SOUND ∷ []) =
+      subst (λ cs. AreMapPixels profile g ps cs (ns ++ SOUND ∷ [])) (sym (cells_before-more g row from))
+      (pixels_more profile g ps (cells_before g row from) ns (place row from) SOUND (sound_pixel from (omega (arith, within)) (kept from (omega arith) (omega arith))) so_far) in
+      let rest : AreMapPixels profile g ps (cells_before g row (from + 1 + n)) ((ns ++ SOUND ∷ []) ++ replicate n SOUND) =
+      sound_run (ns ++ SOUND ∷ []) (from + 1) n (omega (arith, within)) (λ col past less. kept col (omega (arith, past)) (omega (arith, less))) one in
+      let next : from + 1 + n ≡ from + suc n = omega arith in
+      subst (λ col. AreMapPixels profile g ps (cells_before g row col) (ns ++ replicate (suc n) SOUND)) next
+      (subst (AreMapPixels profile g ps (cells_before g row (from + 1 + n))) (append_assoc ns (SOUND ∷ []) (replicate n SOUND)) rest)
+
+  -- the cells that a row vouches for
+  pub map_sound : (old new : Option FaultMap) (from end n : ℕ) → from ≤ end → end ≤ cols → n ≡ end - from →
+      ((col : ℕ) → from ≤ col → col < end → IsKept profile (shown col)) → AreDrawn old new (replicate n SOUND) →
+      IsMapOfCells profile g ps (cells_before g row from) old → IsMapOfCells profile g ps (cells_before g row end) new
+  map_sound None None from end n forward within many kept drawn so_far = tt
+  map_sound None (Some new) from end n forward within many kept drawn so_far = absurd drawn
+  map_sound (Some old) None from end n forward within many kept drawn so_far = absurd drawn
+  map_sound (Some old) (Some new) from end n forward within many kept drawn so_far =
+      let up_to : from + n ≡ end = omega (arith, many, forward) in
+      subst (λ col. AreMapPixels profile g ps (cells_before g row col) new.pixels.items) up_to
+      (subst (AreMapPixels profile g ps (cells_before g row (from + n))) (sym drawn)
+      (sound_run old.pixels.items from n (omega (arith, up_to, within)) (λ col past less. kept col past (omega (arith, up_to, less))) so_far))
+
+  -- a cell that was noted
+  pub map_noted : (found : Found) (least : Option Rule) (old new : Option FaultMap) (col : ℕ) (p : Patch) → col < cols → p ≡ shown col →
+      IsLeastFault IsAnyRule (labelled_profile profile found.labels p) least → AreDrawn old new (pixel_of least (is_some p.here.z) ∷ []) →
+      IsFoundBefore profile g ps row col found → IsMapOfCells profile g ps (cells_before g row col) old → IsMapOfCells profile g ps (cells_before g row (col + 1)) new
+  map_noted found least old new col p less is fault drawn found_before so_far =
       let cell = place row col in
-      let inside = inside_row profile g ps row cols shown are col less in
       let same : p ≡ patch_at g ps cell = is ∙ are.patches_are col less in
-      let here = ap (λ (q : Patch). q.here) same in
-      let n = pixel_of drawn.rule (is_some p.here.z) in
-      with_pixel profile g ps row col n old new
-      (record {
-        rule = drawn.rule;
-        least = IsLeastFault-cell profile g ps old.labels cell p drawn.rule inside so_far.before same drawn.least;
-        number_is = ap (λ (q : Patch). pixel_of drawn.rule (is_some q.here.z)) same;
-      }) drawn.pixels_are
-      (AreLabelsBefore-more g ps row col p.here old.labels new.labels inside here so_far.before drawn.admitted) so_far
+      let pixel : IsMapPixel profile g ps cell (pixel_of least (is_some p.here.z)) = record {
+        rule = least;
+        least = IsLeastFault-cell profile g ps found.labels cell p least (inside_row profile g ps row cols shown are col less) found_before.before same fault;
+        number_is = ap (λ (q : Patch). pixel_of least (is_some q.here.z)) same;
+      } in
+      subst (λ cs. IsMapOfCells profile g ps cs new) (sym (cells_before-more g row col))
+      (map_more profile g ps (cells_before g row col) cell (pixel_of least (is_some p.here.z)) old new pixel drawn so_far)

@@ -1,6 +1,5 @@
 -- The number of each cell on a map of faults. Source: this project's own.
-use Rattle.std.specs.Prelude.{◌≡◌, ℕ, ℤ, ◌↔◌, ◌⊎◌, ◌++◌, Bool, true, false, is_some, List, [], ◌∷◌, Option, Some, None}
-use Rattle.drain_basin.specs.Admitted.{IsAdmitted}
+use Rattle.std.specs.Prelude.{◌≡◌, ℕ, ◌++◌, Bool, true, false, is_some, List, [], ◌∷◌, Option, Some, None, IfSome}
 use Rattle.drain_grid.specs.declared.cell.Cell.{Cell}
 use Rattle.drain_grid.specs.declared.patch.Patch.{Patch}
 use Rattle.drain_grid.specs.declared.rule.Rule.{Rule}
@@ -9,13 +8,12 @@ use Rattle.drain_grid.specs.GridRules.{HoldsAt}
 use Rattle.drain_grid.specs.PatchRules.{Profile}
 use Rattle.drain_grid.specs.Rule.{IsAnyRule, IsLeastFault, number_of}
 use Rattle.drain_rules.specs.Findings.{cells_above}
-use Rattle.drain_rules.specs.Labels.{AreLabelsBefore, IsLabelOf, labelled_profile}
 use Rattle.drain_rules.specs.PatchRows.{AreRowPatches}
-use Rattle.drain_rules.specs.Rows.{place}
-use Rattle.drain_faults.specs.declared.drawn.Drawn.{Drawn}
-use Rattle.drain_faults.specs.declared.drawn.TheConstants.{SOUND, SOUND_VOID}
 use Rattle.drain_faults.specs.declared.fault_map.FaultMap.{FaultMap}
-use Rattle.drain_faults.specs.FaultWalks.{cells_before}
+use Rattle.drain_faults.specs.declared.fault_map.TheConstants.{SOUND, SOUND_VOID}
+use Rattle.drain_faults.specs.declared.fault_walk.FaultWalk.{FaultWalk}
+use Rattle.drain_faults.specs.declared.found.Found.{Found}
+use Rattle.drain_faults.specs.FaultWalks.{IsFoundAbove, cells_before}
 
 -- that of the least rule that fails at the cell; where none fails that of a sound data cell, or of a sound void
 abbrev pub pixel_of : Option Rule → Bool → ℕ
@@ -36,37 +34,30 @@ AreMapPixels profile g ps [] (n ∷ ns) = ⊥
 AreMapPixels profile g ps (c ∷ cs) [] = ⊥
 AreMapPixels profile g ps (c ∷ cs) (n ∷ ns) = IsMapPixel profile g ps c n × AreMapPixels profile g ps cs ns
 
--- with the number of one cell more, which shows this patch, by the labels so far; to these the cell's is added if it is an outlet by its code
-pub record IsDrawnAt (profile : Profile) (p : Patch) (old new : Drawn) : Type 0 where
-  pub rule : Option Rule
-  pub least : IsLeastFault IsAnyRule (labelled_profile profile old.labels p) rule
-  pub pixels_are : new.pixels.items ≡ old.pixels.items ++ pixel_of rule (is_some p.here.z) ∷ []
-  pub admitted : (label : ℤ) → IsAdmitted new.labels label ↔ (IsLabelOf p.here label ⊎ IsAdmitted old.labels label)
+-- with these numbers more
+abbrev pub HasMore : FaultMap → FaultMap → List ℕ → Type 0
+HasMore old new more = new.pixels.items ≡ old.pixels.items ++ more
 
--- with the number of one cell more that is vouched for
-pub record IsDrawnSound (old new : Drawn) : Type 0 where
-  pub pixels_are : new.pixels.items ≡ old.pixels.items ++ SOUND ∷ []
-  pub labels_are : new.labels ≡ old.labels
+-- the same where there is a map, and else there is none still
+abbrev pub AreDrawn : Option FaultMap → Option FaultMap → List ℕ → Type 0
+AreDrawn None None more = Unit {0}
+AreDrawn None (Some new) more = ⊥
+AreDrawn (Some old) None more = ⊥
+AreDrawn (Some old) (Some new) more = HasMore old new more
 
--- the numbers of the cells before a place, and the labels of their outlets
-pub record IsDrawnBefore (profile : Profile) (g : Grid) (ps : Products) (row col : ℕ) (drawn : Drawn) : Type 0 where
-  pub pixels : AreMapPixels profile g ps (cells_before g row col) drawn.pixels.items
-  pub before : AreLabelsBefore g ps (place row col) drawn.labels
+-- where there is a map, its numbers are those of the list's cells
+abbrev pub IsMapOfCells : Profile → Grid → Products → List Cell → Option FaultMap → Type 0
+IsMapOfCells profile g ps cs map = IfSome map (λ m. AreMapPixels profile g ps cs m.pixels.items)
 
--- of the rows above a row
-pub record IsDrawnAbove (profile : Profile) (g : Grid) (ps : Products) (row : ℕ) (drawn : Drawn) : Type 0 where
-  pub pixels : AreMapPixels profile g ps (cells_above g row) drawn.pixels.items
-  pub before : AreLabelsBefore g ps (place row 0) drawn.labels
+-- this holds of each grid of which these are the row's patches, where this was found and drawn above it
+abbrev pub OfRowDrawn : Profile → ℕ → ℕ → (ℕ → Patch) → Found → Option FaultMap → (Grid → Products → Type 0) → Type 0
+OfRowDrawn profile row cols shown found map P =
+    (g : Grid) (ps : Products) → AreRowPatches g ps row cols shown → IsFoundAbove profile g ps row found → IsMapOfCells profile g ps (cells_above g row) map → P g ps
 
--- this holds of each grid of which these are the row's patches, where this was drawn above it
-abbrev pub OfRowDrawn : Profile → ℕ → ℕ → (ℕ → Patch) → Drawn → (Grid → Products → Type 0) → Type 0
-OfRowDrawn profile row cols shown drawn P =
-    (g : Grid) (ps : Products) → AreRowPatches g ps row cols shown → IsDrawnAbove profile g ps row drawn → P g ps
+-- the walk's map, where there is one, is right of a grid and its products
+abbrev pub IsMapOf : Profile → Grid → Products → FaultWalk → Type 0
+IsMapOf profile g ps w = IsMapOfCells profile g ps (cells_above g w.rows) w.map
 
--- the map is right of a grid and its products
-abbrev pub IsMapOf : Profile → Grid → Products → FaultMap → Type 0
-IsMapOf profile g ps m = IsDrawnAbove profile g ps m.rows m.drawn
-
--- this holds of each grid of which the map is right, where these are the patches of its next row
-abbrev pub OfNextMapRow : Profile → FaultMap → ℕ → (ℕ → Patch) → (Grid → Products → Type 0) → Type 0
-OfNextMapRow profile m cols shown P = OfRowDrawn profile m.rows cols shown m.drawn P
+-- this holds of each grid of which the walk and its map are right, where these are the patches of its next row
+abbrev pub OfNextRowDrawn : Profile → FaultWalk → ℕ → (ℕ → Patch) → (Grid → Products → Type 0) → Type 0
+OfNextRowDrawn profile w cols shown P = OfRowDrawn profile w.rows cols shown w.found w.map P

@@ -1,81 +1,94 @@
-//! A map of the faults: a number for each cell, which tells the least rule that fails there.
+//! A map of the faults as far as it is drawn: a number for each cell, which tells the least rule that fails there.
 //!
-//! It is a walk of its own beside that of the counts, since it takes a byte for each cell, and is seldom wanted.
+//! A walk draws it where one is wanted (`FaultWalk::drawing`): it takes a byte for each cell, and is seldom wanted.
 
-ghost use Rattle.std.specs.Prelude.{◌≡◌, ◌<◌, ◌+◌, IfOk, OnOk};
-ghost use Rattle.drain_grid.specs.declared.cell.TheConstants.{MAX_LENGTH};
-ghost use Rattle.drain_grid.specs.Grid.{Grid, Products};
-ghost use Rattle.drain_kernel.specs.declared.rules.Rules.{Rules};
-ghost use Rattle.drain_kernel.specs.Rules.{tried};
-ghost use Rattle.drain_rules.specs.Findings.{cells_above};
-ghost use Rattle.drain_faults.specs.FaultMaps.{AreMapPixels, IsMapOf, OfNextMapRow};
+ghost use Rattle.std.specs.Prelude.{◌≡◌, ◌∷◌, [], IfOk, IsSome, OnErr, OnOk, is_some, replicate};
+ghost use Rattle.drain_faults.specs.declared.fault_map.TheConstants.{SOUND};
+ghost use Rattle.drain_faults.specs.FaultMaps.{AreDrawn, HasMore, pixel_of};
 
-use crate::drawn::Drawn;
-use crate::map_row::draw_row;
-use drain_basin::OutletLabels;
-use drain_grid::{OutOfMemory, Shape};
-use drain_kernel::Rules;
-use drain_rules::PatchRow;
+use drain_grid::{OutOfMemory, Patch, Rule, Shape};
 use std::alloc::Global;
 
-/// How many rows were passed, and the map of their cells.
+/// The number of a data cell at which no rule fails.
+pub const SOUND: u8 = 0;
+
+/// The number of a void at which no rule fails.
+pub const SOUND_VOID: u8 = 255;
+
+/// A number for each cell that was passed, in row order.
 #[derive(Drop)]
 pub struct FaultMap {
-    rows: u32,
-    drawn: Drawn,
+    pub pixels: Vec<u8>,
 }
 
 impl FaultMap {
-    /// No row was passed. There is room for a byte for each cell of a grid of this shape.
-    pub fn new(alloc: Global, shape: Shape) -> Result<FaultMap, OutOfMemory>
-        ensures rows { IfOk result (λ map. map.rows ≡ 0) }
-        ensures drawn { IfOk result (λ map. (rules : Rules) (g : Grid) (ps : Products) → IsMapOf (tried rules) g ps map) }
+    /// No cell was passed. There is room for a byte for each cell of a grid of this shape.
+    pub(crate) fn new(alloc: Global, shape: Shape) -> Result<FaultMap, OutOfMemory>
+        ensures { IfOk result (λ map. map.pixels.items ≡ []) }
     {
         match Vec::with_capacity(alloc, shape.cells()) {
-            Ok(pixels) => Ok(FaultMap {
-                rows: 0,
-                drawn: Drawn {
-                    labels: OutletLabels::new(alloc),
-                    pixels,
-                },
-            }),
+            Ok(pixels) => Ok(FaultMap { pixels }),
             Err(_) => Err(OutOfMemory),
         }
     }
 
-    /// Passes the next row. The map is right of these rules where the rows above were passed with them too. Where memory is wanted the map is over.
-    pub fn note_row<R: PatchRow>(&mut self, patches: &R, rules: &Rules) -> Result<(), OutOfMemory>
-        requires row { self.old.rows < MAX_LENGTH }
-        ensures rows { OnOk result (self.new.rows ≡ self.old.rows + 1) }
-        ensures drawn { OnOk result (OfNextMapRow (tried rules.now) self.old (R.len patches.now) (R.shown patches.now) (λ g ps. IsMapOf (tried rules.now) g ps self.new)) }
+    /// Draws one cell more, the next in row order.
+    fn push(&mut self, pixel: u8) -> Result<(), OutOfMemory>
+        ensures { OnOk result (HasMore self.old self.new (pixel ∷ [])) }
     {
-        match draw_row(&mut self.drawn, patches, rules) {
-            Ok(()) => {
-                self.rows += 1;
-                Ok(())
-            }
-            Err(OutOfMemory) => Err(OutOfMemory),
+        match self.pixels.push(pixel) {
+            Ok(()) => Ok(()),
+            Err(_) => Err(OutOfMemory),
         }
     }
 
-    /// How many rows were passed.
-    pub fn rows(&self) -> u32
-        ensures { result ≡ self.now.rows }
+    /// Draws so many cells more, at each of which every rule holds, and none of which is a void.
+    fn push_sound(&mut self, cells: usize) -> Result<(), OutOfMemory>
+        ensures { OnOk result (HasMore self.old self.new (replicate cells SOUND)) }
     {
-        self.rows
+        let Some(len) = self.pixels.len().checked_add(cells) else {
+            return Err(OutOfMemory);
+        };
+        match self.pixels.resize(len, SOUND) {
+            Ok(()) => Ok(()),
+            Err(_) => Err(OutOfMemory),
+        }
     }
+}
 
-    /// A number for each cell of these rows, in row order: of every grid and its products of which the map is right.
-    pub fn pixels(&self) -> &[u8]
-        ensures of_grids { (rules : Rules) (g : Grid) (ps : Products) → IsMapOf (tried rules) g ps self.now → AreMapPixels (tried rules) g ps (cells_above g self.now.rows) result.now }
-    {
-        &self.drawn.pixels
+/// Draws the next cell in row order, which shows this patch and at which this is the least rule that fails, where there is a map. `OutOfMemory` comes only where there is one.
+pub(crate) fn draw_cell(
+    map: &mut Option<FaultMap>,
+    least: Option<Rule>,
+    patch: &Patch,
+) -> Result<(), OutOfMemory>
+    ensures drawn { OnOk result (AreDrawn map.old map.new (pixel_of least (is_some patch.now.here.z) ∷ [])) }
+    ensures err { OnErr result (IsSome map.old) }
+{
+    match map {
+        Some(map) => map.push(pixel(least, patch.here.z.is_some())),
+        None => Ok(()),
     }
+}
 
-    /// The same, for whoever needs the walk no more.
-    pub fn into_pixels(self) -> Vec<u8>
-        ensures of_grids { (rules : Rules) (g : Grid) (ps : Products) → IsMapOf (tried rules) g ps self → AreMapPixels (tried rules) g ps (cells_above g self.rows) result.items }
-    {
-        self.drawn.pixels
+/// Draws so many cells more that a row vouches for, where there is a map. `OutOfMemory` comes only where there is one.
+pub(crate) fn draw_sound(map: &mut Option<FaultMap>, cells: u32) -> Result<(), OutOfMemory>
+    ensures drawn { OnOk result (AreDrawn map.old map.new (replicate cells SOUND)) }
+    ensures err { OnErr result (IsSome map.old) }
+{
+    match map {
+        Some(map) => map.push_sound(cells as usize),
+        None => Ok(()),
+    }
+}
+
+/// The number of a cell at which this is the least rule that fails.
+fn pixel(least: Option<Rule>, has_data: bool) -> u8
+    ensures { result ≡ pixel_of least has_data }
+{
+    match least {
+        Some(rule) => rule.number(),
+        None if has_data => SOUND,
+        None => SOUND_VOID,
     }
 }

@@ -1,6 +1,6 @@
 //! The walk over a grid, row by row.
 
-ghost use Rattle.std.specs.Prelude.{◌≡◌, ◌<◌, ◌+◌, OnErr, OnOk};
+ghost use Rattle.std.specs.Prelude.{◌≡◌, ◌<◌, ◌+◌, ◌↔◌, ◌⊎◌, IfOk, IfSome, IsNone, IsSome, OnErr, OnOk};
 ghost use Rattle.drain_grid.specs.declared.cell.TheConstants.{MAX_LENGTH};
 ghost use Rattle.drain_grid.specs.Grid.{Grid, Products};
 ghost use Rattle.drain_kernel.specs.declared.rules.Rules.{Rules};
@@ -8,8 +8,10 @@ ghost use Rattle.drain_kernel.specs.Rules.{tried};
 ghost use Rattle.drain_rules.specs.Findings.{cells_above};
 ghost use Rattle.drain_faults.specs.ByProduct.{AreFaultsByProduct, IsRightByProduct, OfNextRowByProduct};
 ghost use Rattle.drain_faults.specs.Faults.{AreFaultsOf, IsFirstPatch};
+ghost use Rattle.drain_faults.specs.FaultMaps.{AreMapPixels, IsMapOf, IsMapOfCells, OfNextRowDrawn};
 ghost use Rattle.drain_faults.specs.FaultWalks.{HasNewOutlet, IsRightOf, OfNextRow};
 
+use crate::fault_map::FaultMap;
 use crate::faulty_patch::FaultyPatch;
 use crate::found::Found;
 use crate::per_rule::PerRule;
@@ -17,22 +19,25 @@ use crate::product_faults::{ProductFaults, no_faults};
 use crate::row_faults::note_row_of;
 use crate::rule_faults::RuleFaults;
 use drain_basin::OutletLabels;
-use drain_grid::{OutOfMemory, PerProduct};
+use drain_grid::{OutOfMemory, PerProduct, Shape};
 use drain_kernel::Rules;
 use drain_rules::PatchRow;
 use std::alloc::Global;
 
-/// How many rows were passed, and what their cells came to.
+/// How many rows were passed, what their cells came to, and a map of them where one is wanted.
 #[derive(Drop)]
 pub struct FaultWalk {
     rows: u32,
     found: Found,
+    map: Option<FaultMap>,
 }
 
 impl FaultWalk {
-    /// No row was passed. This takes no memory.
+    /// No row was passed, and no map is drawn. This takes no memory.
     pub fn new(alloc: Global) -> FaultWalk
         ensures rows { result.rows ≡ 0 }
+        ensures drawn { IsNone result.map }
+        ensures map { (rules : Rules) (g : Grid) (ps : Products) → IsMapOf (tried rules) g ps result }
         ensures found { (rules : Rules) (g : Grid) (ps : Products) → IsRightOf (tried rules) g ps result }
         ensures by_product { (rules : Rules) (g : Grid) (ps : Products) → IsRightByProduct rules g ps result }
     {
@@ -44,20 +49,37 @@ impl FaultWalk {
                 by_product: no_faults(),
                 first: None,
             },
+            map: None,
         }
+    }
+
+    /// No row was passed. A map is drawn, with room for a byte for each cell of a grid of this shape.
+    pub fn drawing(alloc: Global, shape: Shape) -> Result<FaultWalk, OutOfMemory>
+        ensures rows { IfOk result (λ walk. walk.rows ≡ 0) }
+        ensures drawn { IfOk result (λ walk. IsSome walk.map) }
+        ensures found { IfOk result (λ walk. (rules : Rules) (g : Grid) (ps : Products) → IsRightOf (tried rules) g ps walk) }
+        ensures by_product { IfOk result (λ walk. (rules : Rules) (g : Grid) (ps : Products) → IsRightByProduct rules g ps walk) }
+        ensures map { IfOk result (λ walk. (rules : Rules) (g : Grid) (ps : Products) → IsMapOf (tried rules) g ps walk) }
+    {
+        let map = FaultMap::new(alloc, shape)?;
+        let mut walk = FaultWalk::new(alloc);
+        walk.map = Some(map);
+        Ok(walk)
     }
 
     /// Passes the next row. What was found is right of these rules where the rows above were passed with them too.
     ///
-    /// `OutOfMemory` comes only at a data cell with code 0 whose label no earlier one has: it found no room. Then the walk is over.
+    /// `OutOfMemory` comes only where a map is drawn, or at a data cell with code 0 whose label no earlier one has: it found no room. Then the walk is over.
     pub fn note_row<R: PatchRow>(&mut self, patches: &R, rules: &Rules) -> Result<(), OutOfMemory>
         requires row { self.old.rows < MAX_LENGTH }
         ensures rows { OnOk result (self.new.rows ≡ self.old.rows + 1) }
         ensures found { OnOk result (OfNextRow (tried rules.now) self.old (R.len patches.now) (R.shown patches.now) (λ g ps. IsRightOf (tried rules.now) g ps self.new)) }
         ensures by_product { OnOk result (OfNextRowByProduct rules.now self.old (R.len patches.now) (R.shown patches.now) (λ g ps. IsRightByProduct rules.now g ps self.new)) }
-        ensures err { OnErr result (OfNextRow (tried rules.now) self.old (R.len patches.now) (R.shown patches.now) HasNewOutlet) }
+        ensures map { OnOk result (OfNextRowDrawn (tried rules.now) self.old (R.len patches.now) (R.shown patches.now) (λ g ps. IsMapOf (tried rules.now) g ps self.new)) }
+        ensures drawn { OnOk result (IsSome self.new.map ↔ IsSome self.old.map) }
+        ensures err { OnErr result (IsSome self.old.map ⊎ OfNextRow (tried rules.now) self.old (R.len patches.now) (R.shown patches.now) HasNewOutlet) }
     {
-        match note_row_of(&mut self.found, self.rows, patches, rules) {
+        match note_row_of(&mut self.found, &mut self.map, self.rows, patches, rules) {
             Ok(()) => {
                 self.rows += 1;
                 Ok(())
@@ -88,12 +110,27 @@ impl FaultWalk {
         &self.found.by_product
     }
 
-    /// The faults of each rule and of each product, for whoever needs the walk no more.
-    pub fn into_faults(self) -> (PerRule<RuleFaults>, PerProduct<ProductFaults>)
+    /// A number for each cell of these rows, in row order, where a map is drawn: of every grid and its products of which the map is right.
+    pub fn map(&self) -> Option<&FaultMap>
+        ensures of_grids { (rules : Rules) (g : Grid) (ps : Products) → IsMapOf (tried rules) g ps self.now → IfSome result (λ map. AreMapPixels (tried rules) g ps (cells_above g self.now.rows) map.now.pixels.items) }
+    {
+        self.map.as_ref()
+    }
+
+    /// The faults of each rule and of each product, and the map where one is drawn, for whoever needs the walk no more.
+    pub fn into_faults(
+        self,
+    ) -> (
+        PerRule<RuleFaults>,
+        PerProduct<ProductFaults>,
+        Option<FaultMap>,
+    )
         ensures of_grids { (rules : Rules) (g : Grid) (ps : Products) → IsRightOf (tried rules) g ps self → AreFaultsOf (tried rules) g ps (cells_above g self.rows) result.0 }
         ensures by_product { (rules : Rules) (g : Grid) (ps : Products) → IsRightByProduct rules g ps self → AreFaultsByProduct rules g ps (cells_above g self.rows) result.1 }
+        ensures map { (rules : Rules) (g : Grid) (ps : Products) → IsMapOf (tried rules) g ps self → IsMapOfCells (tried rules) g ps (cells_above g self.rows) result.2 }
+        ensures drawn { IsSome result.2 ↔ IsSome self.map }
     {
-        (self.found.by_rule, self.found.by_product)
+        (self.found.by_rule, self.found.by_product, self.map)
     }
 
     /// The first cell of these rows at which any rule fails, and its patch; none where every rule holds at each of them. The same grids are meant.

@@ -1,9 +1,10 @@
 //! What the cells that were passed came to.
 
-ghost use Rattle.std.specs.Prelude.{OnErr, OnOk};
+ghost use Rattle.std.specs.Prelude.{IfOk, OnErr, OnOk};
+ghost use Rattle.drain_grid.specs.Rule.{IsAnyRule, IsLeastFault};
 ghost use Rattle.drain_basin.specs.Admitted.{IsAdmitted};
 ghost use Rattle.drain_kernel.specs.Rules.{tried};
-ghost use Rattle.drain_rules.specs.Labels.{IsOutletByCode};
+ghost use Rattle.drain_rules.specs.Labels.{IsOutletByCode, labelled_profile};
 ghost use Rattle.drain_faults.specs.ByProduct.{AreProductsNotedAt};
 ghost use Rattle.drain_faults.specs.CellFaults.{IsNoted};
 
@@ -13,7 +14,7 @@ use crate::per_rule::PerRule;
 use crate::product_faults::{ProductFaults, note_products};
 use crate::rule_faults::{RuleFaults, with_cell};
 use drain_basin::OutletLabels;
-use drain_grid::{Cell, OutOfMemory, Patch, PerProduct};
+use drain_grid::{Cell, OutOfMemory, Patch, PerProduct, Rule};
 use drain_kernel::Rules;
 
 /// The labels of the outlets among the cells that were passed, the cells at which each rule fails, those at which each product does by
@@ -27,13 +28,15 @@ pub struct Found {
 }
 
 impl Found {
-    /// Passes one cell more, the next in row order, which shows this patch. `OutOfMemory` comes only at an outlet whose label is new.
+    /// Passes one cell more, the next in row order, which shows this patch, and answers the least rule that fails there. `OutOfMemory` comes only at an
+    /// outlet whose label is new.
     pub(crate) fn note(
         &mut self,
         cell: Cell,
         patch: &Patch,
         rules: &Rules,
-    ) -> Result<(), OutOfMemory>
+    ) -> Result<Option<Rule>, OutOfMemory>
+        ensures least { IfOk result (λ rule. IsLeastFault IsAnyRule (labelled_profile (tried rules.now) self.old.labels patch.now) rule) }
         ensures noted { OnOk result (IsNoted (tried rules.now) cell patch.now self.old self.new) }
         ensures by_product { OnOk result (AreProductsNotedAt rules.now cell patch.now self.old.by_product self.new.by_product) }
         ensures err { OnErr result (IsOutletByCode patch.now.here × ¬ IsAdmitted self.old.labels patch.now.here.bas) }
@@ -43,7 +46,7 @@ impl Found {
                 self.by_rule = with_cell(&self.by_rule, cell, &fails);
                 note_products(&mut self.by_product, cell, patch, rules, &fails);
                 self.first = with_patch(self.first, cell, patch, &fails);
-                Ok(())
+                Ok(fails.least())
             }
             Err(OutOfMemory) => Err(OutOfMemory),
         }

@@ -8,7 +8,7 @@ ghost use Rattle.drain_kernel.specs.declared.rules.Rules.{Rules};
 ghost use Rattle.drain_kernel.specs.Rules.{tried};
 ghost use Rattle.drain_faults.specs.ByProduct.{MissingHoldsOf, VoidCellHoldsOf};
 
-use crate::drawn::{SOUND, SOUND_VOID};
+use crate::fault_map::{SOUND, SOUND_VOID};
 
 /// The numerals of the constants that definitions name: the numbers on a map where no rule fails. This project's own; neither is the number of a rule.
 pub fn constants()

@@ -7,13 +7,11 @@
 #![tactic(auto)]
 
 pub mod cell_faults;
-pub mod drawn;
 pub mod fault_map;
 pub mod fault_walk;
 pub mod faulty_patch;
 pub mod found;
 pub mod laws;
-pub mod map_row;
 pub mod patch_faults;
 pub mod per_rule;
 pub mod product_faults;
@@ -21,8 +19,7 @@ pub mod product_presence;
 pub mod row_faults;
 pub mod rule_faults;
 
-pub use drawn::{SOUND, SOUND_VOID};
-pub use fault_map::FaultMap;
+pub use fault_map::{FaultMap, SOUND, SOUND_VOID};
 pub use fault_walk::FaultWalk;
 pub use faulty_patch::FaultyPatch;
 pub use per_rule::{PerRule, RULES};

@@ -1,12 +1,14 @@
 //! The walk along one row, patch by patch. It stops at no fault.
 
-ghost use Rattle.std.specs.Prelude.{◌<◌, ◌+◌, OnErr, OnOk};
+ghost use Rattle.std.specs.Prelude.{◌<◌, ◌+◌, ◌↔◌, ◌⊎◌, IsSome, OnErr, OnOk};
 ghost use Rattle.drain_grid.specs.declared.cell.TheConstants.{MAX_LENGTH};
 ghost use Rattle.drain_kernel.specs.Rules.{tried};
 ghost use Rattle.drain_rules.specs.Findings.{cells_above};
 ghost use Rattle.drain_faults.specs.ByProduct.{AreFaultsByProduct, OfRowByProduct};
+ghost use Rattle.drain_faults.specs.FaultMaps.{IsMapOfCells, OfRowDrawn};
 ghost use Rattle.drain_faults.specs.FaultWalks.{HasNewOutlet, IsFoundAbove, OfRowFound};
 
+use crate::fault_map::{FaultMap, draw_cell, draw_sound};
 use crate::found::Found;
 use drain_grid::{Cell, OutOfMemory};
 use drain_kernel::Rules;
@@ -14,9 +16,11 @@ use drain_rules::PatchRow;
 
 /// Passes the cells of a row, from west to east, behind those of the rows above.
 ///
-/// What was found then is right of every grid whose row this is. `OutOfMemory` comes only at an outlet whose label is new.
+/// What was found then is right of every grid whose row this is, and so is the map where there is one. `OutOfMemory` comes only at an outlet whose label is
+/// new, or where there is a map.
 pub(crate) fn note_row_of<R: PatchRow>(
     found: &mut Found,
+    map: &mut Option<FaultMap>,
     row: u32,
     patches: &R,
     rules: &Rules,
@@ -24,17 +28,20 @@ pub(crate) fn note_row_of<R: PatchRow>(
     requires { row < MAX_LENGTH }
     ensures found { OnOk result (OfRowFound (tried rules.now) row (R.len patches.now) (R.shown patches.now) found.old (λ g ps. IsFoundAbove (tried rules.now) g ps (row + 1) found.new)) }
     ensures by_product { OnOk result (OfRowByProduct rules.now row (R.len patches.now) (R.shown patches.now) found.old.by_product (λ g ps. AreFaultsByProduct rules.now g ps (cells_above g (row + 1)) found.new.by_product)) }
-    ensures err { OnErr result (OfRowFound (tried rules.now) row (R.len patches.now) (R.shown patches.now) found.old HasNewOutlet) }
+    ensures map { OnOk result (OfRowDrawn (tried rules.now) row (R.len patches.now) (R.shown patches.now) found.old map.old (λ g ps. IsMapOfCells (tried rules.now) g ps (cells_above g (row + 1)) map.new)) }
+    ensures drawn { OnOk result (IsSome map.new ↔ IsSome map.old) }
+    ensures err { OnErr result (IsSome map.old ⊎ OfRowFound (tried rules.now) row (R.len patches.now) (R.shown patches.now) found.old HasNewOutlet) }
 {
     let cols = patches.cols();
     let mut col = 0;
     while col < cols {
         let kept = patches.kept_from(rules, col);
+        draw_sound(map, kept.end - col)?;
         col = kept.end;
         if col < cols {
             let patch = patches.patch(col);
             match found.note(Cell { row, col }, &patch, rules) {
-                Ok(()) => {}
+                Ok(least) => draw_cell(map, least, &patch)?,
                 Err(OutOfMemory) => return Err(OutOfMemory),
             }
             col += 1;

@@ -6,7 +6,7 @@ ghost use Rattle.std.specs.Prelude.{◌≡◌};
 use crate::examples::{Part, changed, elevation, products};
 use crate::rows_of_numbers::{COLS, faults_by_rows};
 use crate::unasked_ranks::put;
-use drain_faults::{FaultMap, FaultWalk, RULES, RuleFaults};
+use drain_faults::{FaultWalk, RULES, RuleFaults};
 use drain_grid::{Cell, Elevation, OutOfMemory, ProductSet, Rule, Shape, Sinks};
 use drain_rules::{Ranks, RasterRow, Rules};
 use std::alloc::Global;
@@ -48,11 +48,12 @@ fn rules_of(example: &Given, ranks: Ranks) -> Rules {
     }
 }
 
-/// The walk over all rows; ranks are asked for or not.
+/// The walk over all rows; ranks are asked for or not, and a map is drawn.
 pub fn walk_over(alloc: Global, example: &Given, ranks: Ranks) -> Result<FaultWalk, OutOfMemory> {
     let rules = rules_of(example, ranks);
-    let mut walk = FaultWalk::new(alloc);
-    for row in 0..example.elevation.shape().rows() {
+    let shape = example.elevation.shape();
+    let mut walk = FaultWalk::drawing(alloc, shape)?;
+    for row in 0..shape.rows() {
         let patches = RasterRow {
             elevation: &example.elevation,
             sinks: &example.sinks,
@@ -62,23 +63,6 @@ pub fn walk_over(alloc: Global, example: &Given, ranks: Ranks) -> Result<FaultWa
         walk.note_row(&patches, &rules)?;
     }
     Ok(walk)
-}
-
-/// The map of all rows.
-fn map_over(alloc: Global, example: &Given) -> Result<FaultMap, OutOfMemory> {
-    let rules = rules_of(example, Ranks::Asked);
-    let shape = example.elevation.shape();
-    let mut map = FaultMap::new(alloc, shape)?;
-    for row in 0..shape.rows() {
-        let patches = RasterRow {
-            elevation: &example.elevation,
-            sinks: &example.sinks,
-            products: &example.products,
-            row,
-        };
-        map.note_row(&patches, &rules)?;
-    }
-    Ok(map)
 }
 
 /// A rule, the number of cells at which it fails, and the row and column of the first.
@@ -131,6 +115,14 @@ fn expect_found(rt: &impl Abort, walk: &FaultWalk, wanted: &[Told], first: Optio
     assert_eq!(rt; first_cell(walk), first);
 }
 
+/// The numbers of the walk's map, none where it draws none.
+fn pixels_of(walk: &FaultWalk) -> &[u8] {
+    match walk.map() {
+        Some(map) => map.pixels.as_slice(),
+        None => &[],
+    }
+}
+
 /// Looks that the walk finds these faults and no others, this cell first, and that the map has these numbers.
 fn expect(
     rt: &impl Abort,
@@ -142,8 +134,7 @@ fn expect(
 ) -> Result<(), Fail> {
     let walk = walk_over(alloc, example, Ranks::Asked)?;
     expect_found(rt, &walk, wanted, first);
-    let map = map_over(alloc, example)?;
-    assert_eq!(rt; map.pixels(), pixels);
+    assert_eq!(rt; pixels_of(&walk), pixels);
     Ok(())
 }
 

@@ -1,11 +1,13 @@
-use Rattle.std.proofs.Common.{◌-◌, ◌≤◌}
+use Rattle.std.proofs.Common.{◌-◌, ◌≤◌, ◌↔◌}
+use Rattle.std.specs.Prelude.{IsSome}
 use Rattle.drain_grid.specs.Grid.{Grid, Products}
 use Rattle.drain_kernel.specs.Rules.{tried}
 use Rattle.drain_faults.specs.ByProduct.{AreFaultsByProduct, OfRowByProduct}
+use Rattle.drain_faults.specs.FaultMaps.{IsMapOfCells, OfRowDrawn}
 use Rattle.drain_faults.specs.FaultWalks.{IsFoundBefore, OfRowFound, cells_before}
 use Rattle.drain_faults.proofs.row_faults.note_row_of.Given as goal
 
--- what was found is right of the cells that were passed
+-- what was found, and the map, are right of the cells that were passed
 abbrev pub invariant-loop-col : goal.invariant-loop-col
 invariant-loop-col g l = record {
   within : l.col ≤ g.R.PatchRow.len l.patches;
@@ -13,6 +15,9 @@ invariant-loop-col g l = record {
       (λ (grid : Grid) (ps : Products). IsFoundBefore (tried l.rules) grid ps l.row l.col l.found);
   by_product : OfRowByProduct l.rules l.row (g.R.PatchRow.len l.patches) (g.R.PatchRow.shown l.patches) l.fn.found.by_product
       (λ (grid : Grid) (ps : Products). AreFaultsByProduct l.rules grid ps (cells_before grid l.row l.col) l.found.by_product);
+  map : OfRowDrawn (tried l.rules) l.row (g.R.PatchRow.len l.patches) (g.R.PatchRow.shown l.patches) l.fn.found l.fn.map
+      (λ (grid : Grid) (ps : Products). IsMapOfCells (tried l.rules) grid ps (cells_before grid l.row l.col) l.map);
+  drawn : IsSome l.map ↔ IsSome l.fn.map;
 }
 
 abbrev pub decreases-loop-col : goal.decreases-loop-col

@@ -1,11 +1,19 @@
 use Rattle.std.proofs.Common.{◌≡◌, false}
 use Rattle.drain_grid.specs.declared.rule.Rule.TheVariants.{VoidCell, Missing}
 use Rattle.drain_kernel.specs.Rules.{tried}
+use Rattle.drain_grid.specs.Rule.{IsAnyRule}
+use Rattle.drain_rules.proofs.Faults.{IsLeastFault-same}
 use Rattle.drain_rules.specs.Labels.{labelled_profile}
 use Rattle.drain_faults.specs.PerRule.{of_rule}
 use Rattle.drain_faults.proofs.FirstPatches.{first_noted_same}
 use Rattle.drain_faults.proofs.Flags.{noted_by, tells_iff}
 use Rattle.drain_faults.proofs.found.Found.note.Goals as goal
+
+pub returns-in-Ok-clause-least : goal.returns-in-Ok-clause-least
+returns-in-Ok-clause-least c =
+    let labelled = labelled_profile (tried c.args.rules.now) c.args.self.now.labels c.args.patch.now in
+    IsLeastFault-same IsAnyRule (λ r. of_rule c.in-Ok.fails r ≡ false) labelled c.least.result
+    (λ r own. tells_iff (of_rule c.in-Ok.fails r) (labelled r) (c.in-Ok.ensures.each r)) c.least.ensures
 
 pub returns-in-Ok-clause-noted : goal.returns-in-Ok-clause-noted
 returns-in-Ok-clause-noted c = record {
