@@ -60,7 +60,7 @@ const DEFAULT_SIDE_WORD: &str = "1201";
 
 /// The program's version, and the toolchain whose logic proved it.
 const VERSION: &str = "0.1.0
-proved with rattle-kit-13f logic dac8208d650f15bf";
+proved with rattle-kit-13b logic dac8208d650f15bf";
 
 /// What the words ask for. The first word is the program's own name.
 ///

@@ -1,15 +1,25 @@
 -- Notes of faults, row by row.
-use Rattle.std.proofs.Common.{◌≡◌, ◌+◌, ◌∙◌, ℕ, sym, subst, ap}
+use Rattle.std.proofs.Common.{◌≡◌, ◌↔◌, ◌+◌, ◌∙◌, ℕ, Option, Some, None, is_some, refl, sym, subst, ap}
+use Rattle.std.specs.Prelude.{IsSome}
+use Rattle.std.proofs.lemmas.Bool.{false≢true}
 use Rattle.drain_grid.specs.declared.patch.Patch.{Patch}
 use Rattle.drain_grid.specs.Grid.{Grid, Products}
 use Rattle.drain_kernel.specs.declared.rules.Rules.{Rules}
 use Rattle.drain_kernel.specs.Rules.{tried}
 use Rattle.drain_rules.specs.PatchRows.{AreRowPatches}
 use Rattle.drain_faults.specs.ByProduct.{IsRightByProduct, OfNextRowByProduct}
+use Rattle.drain_faults.specs.declared.fault_map.FaultMap.{FaultMap}
 use Rattle.drain_faults.specs.FaultMaps.{IsMapOf, OfNextRowDrawn}
 use Rattle.drain_faults.specs.FaultWalks.{IsRightOf, OfNextRow}
 use Rattle.drain_explain.specs.FaultNotes.{AreFaultNotes}
 use Rattle.drain_explain.specs.declared.fault_notes.FaultNotes.{FaultNotes}
+
+-- there is a map after a row exactly where there was one
+pub still_drawn : (new old : Option FaultMap) → IsSome new ↔ IsSome old → is_some new ≡ is_some old
+still_drawn None None same = refl
+still_drawn (Some new) (Some old) same = refl
+still_drawn None (Some old) same = absurd (false≢true (same.1 refl))
+still_drawn (Some new) None same = absurd (false≢true (same.0 refl))
 
 -- one row more
 pub notes-more : (rules : Rules) (g : Grid) (ps : Products) (r cols : ℕ) (shown : ℕ → Patch) (old new : FaultNotes) → AreRowPatches g ps r cols shown → AreFaultNotes rules g ps r old →

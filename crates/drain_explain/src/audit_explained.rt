@@ -1,8 +1,9 @@
 //! An audit that is explained.
 
-ghost use Rattle.std.specs.Prelude.{◌≡◌, map, IfErr, IfOk, IfSome, IsErrOf};
+ghost use Rattle.std.specs.Prelude.{◌≡◌, ◌↔◌, map, IfErr, IfOk, IfSome, IsErrOf, IsSome};
 ghost use Rattle.drain_device.specs.FaultLists.{SomeReadFails};
 ghost use Rattle.drain_explain.specs.Explanations.{IsEndlessOf, IsExplanationOf, answer_in};
+ghost use Rattle.drain_explain.specs.declared.fault_notes.Mapping.TheVariants.{Drawn};
 ghost use Rattle.drain_grid.specs.declared.held.Held.{Held};
 ghost use Rattle.drain_grid.specs.PerProduct.{of_product};
 ghost use Rattle.drain_hgt.specs.Inputs.{names_of, TilesTakeAtMost};
@@ -43,9 +44,10 @@ pub fn explain_audit<R: ByteSource>(
     // The answer is an audit's.
     ensures answer { OfFour R.bytes_left side tiles.old sinks.now products.old (λ inputs. IsAuditAnswer inputs (answer_in result)) }
 
-    // Of a verdict, what every cell showed, and what the run comes to that it names.
+    // Of a verdict, what every cell showed, with a map where one is wanted; and what the run comes to that it names.
     ensures explained { IfOk result (λ e. OfFour R.bytes_left side tiles.old sinks.now products.old (λ inputs. IsExplanationOf Unasked inputs e)) }
     ensures endless { IfOk result (λ e. OfFour R.bytes_left side tiles.old sinks.now products.old (λ inputs. IfSome e.endless (IsEndlessOf inputs e.verdict))) }
+    ensures drawn { IfOk result (λ e. IsSome e.map ↔ (mapping ≡ Drawn)) }
     ensures layout { IfOk result (λ e. IsLayoutOf side (names_of tiles.old) e.layout) }
 
     // How far it reads, when a read fails, and that names and headers stay: as of an audit.

@@ -1,8 +1,9 @@
 //! A check that is explained.
 
-ghost use Rattle.std.specs.Prelude.{◌≡◌, map, IfErr, IfOk, IsErrOf};
+ghost use Rattle.std.specs.Prelude.{◌≡◌, ◌↔◌, map, IfErr, IfOk, IsErrOf, IsSome};
 ghost use Rattle.drain_device.specs.FaultLists.{SomeReadFails};
 ghost use Rattle.drain_explain.specs.Explanations.{IsExplanationOf, answer_in};
+ghost use Rattle.drain_explain.specs.declared.fault_notes.Mapping.TheVariants.{Drawn};
 ghost use Rattle.drain_grid.specs.declared.held.Held.{Held};
 ghost use Rattle.drain_grid.specs.PerProduct.{of_product};
 ghost use Rattle.drain_hgt.specs.Inputs.{names_of, TilesTakeAtMost};
@@ -28,7 +29,7 @@ use std::alloc::Global;
 /// The verdict of `check` with what explains it, or its refusal.
 ///
 /// It reads what `check` reads, in the same order, and tells the same refusals. It goes on over all rows where a check would stop looking at rules, so it takes longer on products that are
-/// rejected. Memory is a check's, and a byte for each cell more where a map is wanted; `OutOfMemory` may come where a check finds memory.
+/// rejected. Memory is a check's with the labels of outlets once more, and a byte for each cell where a map is wanted; `OutOfMemory` may come where a check finds memory.
 pub fn explain_check<R: ByteSource>(
     alloc: Global,
     side: u32,
@@ -40,8 +41,9 @@ pub fn explain_check<R: ByteSource>(
     // The answer is a check's.
     ensures answer { (inputs : Inputs) → Tell R.bytes_left side tiles.old sinks.now products.old inputs → IsAnswer inputs (answer_in result) }
 
-    // Of a verdict, what every cell showed.
+    // Of a verdict, what every cell showed, with a map where one is wanted.
     ensures explained { IfOk result (λ e. (inputs : Inputs) → Tell R.bytes_left side tiles.old sinks.now products.old inputs → IsExplanationOf Asked inputs e) }
+    ensures drawn { IfOk result (λ e. IsSome e.map ↔ (mapping ≡ Drawn)) }
     ensures layout { IfOk result (λ e. IsLayoutOf side (names_of tiles.old) e.layout) }
 
     // How far it reads, when a read fails, and that names and headers stay: as of a check.

@@ -1,6 +1,6 @@
 //! What explains an answer.
 
-ghost use Rattle.std.specs.Prelude.{◌≡◌};
+ghost use Rattle.std.specs.Prelude.{◌≡◌, ◌↔◌, IsSome};
 ghost use Rattle.drain_kernel.specs.declared.rules.Ranks as declared;
 ghost use Rattle.drain_verdict.specs.Answers.{AreNotesOf};
 ghost use Rattle.drain_verdict.specs.Inputs.{Inputs};
@@ -45,6 +45,7 @@ pub(crate) fn told_by_notes<V>(
     ensures verdict { result.verdict ≡ verdict }
     ensures layout { result.layout ≡ layout }
     ensures endless { result.endless ≡ endless }
+    ensures drawn { IsSome result.map ↔ IsSome notes.walk.map }
     ensures explained { (ranks : declared.Ranks) (inputs : Inputs) → AreNotesOf AreFaultNotes ranks inputs notes → IsExplanationOf ranks inputs result }
 {
     let first = notes.walk.first_patch();

@@ -74,11 +74,14 @@ fn default_numbers() -> NoData {
 }
 
 impl RowNotes for FaultNotes {
+    ghost use Rattle.std.specs.Prelude.{is_some};
     ghost use Rattle.drain_explain.specs.FaultNotes.{AreFaultNotes};
 
     ghost are_of = { AreFaultNotes };
 
     ghost wants = { Unit {0} };
+
+    ghost lasting = { λ notes. is_some notes.walk.map };
 
     fn note(
         &mut self,

@@ -68,6 +68,7 @@ pub fn answer_on<R: ByteSource, P: ProductInputs<R>, K: RowNotes>(
     requires laid { IsLayoutOf layout.now.side (names_of tiles.old) layout.now }
     requires unnoted { (rules : declared.Rules) (g : Grid) (ps : grid.Products) → K.are_of rules g ps 0 notes.old }
     ensures answer { (inputs : Inputs) → Tell R.bytes_left layout.now.side tiles.old sinks.now (P.inputs products.old) inputs → IsAnswerWith ranks inputs result }
+    ensures lasting { OnOk result (K.lasting notes.new ≡ K.lasting notes.old) }
     ensures noted { OnOk result ((inputs : Inputs) → Tell R.bytes_left layout.now.side tiles.old sinks.now (P.inputs products.old) inputs → AreNotesOf K.are_of ranks inputs notes.new) }
     ensures tiles_within { TilesTakeAtMost R.bytes_left layout.now.side tiles.old tiles.new }
     ensures rasters_within { (p : Held) → RasterTakesAtMost R.bytes_left (P.inputs products.old) (P.inputs products.new) p }
@@ -100,6 +101,7 @@ fn answer_to_bodies<R: ByteSource, P: ProductInputs<R>, K: RowNotes>(
     ensures answer { (inputs : Inputs) → layout.now ≡ tiling_of inputs → ((p : Held) → of_product headers p ≡ fields_of inputs p)
         → AreBodies R.bytes_left tiles.old inputs.tiles → AreRasterBodies R.bytes_left (P.inputs products.old) inputs.raster
         → inputs.sinks ≡ sinks.now → NoneStandsBefore inputs 5 → IsAnswerWith ranks inputs result }
+    ensures lasting { OnOk result (K.lasting notes.new ≡ K.lasting notes.old) }
     ensures noted { OnOk result ((inputs : Inputs) → layout.now ≡ tiling_of inputs → ((p : Held) → of_product headers p ≡ fields_of inputs p)
         → AreBodies R.bytes_left tiles.old inputs.tiles → AreRasterBodies R.bytes_left (P.inputs products.old) inputs.raster
         → inputs.sinks ≡ sinks.now → AreNotesOf K.are_of ranks inputs notes.new) }
@@ -144,6 +146,7 @@ fn answer_to_rows<R: ByteSource, P: ProductInputs<R>, K: RowNotes>(
         → AreBodies R.bytes_left tiles.old inputs.tiles → AreRasterBodies R.bytes_left (P.inputs products.old) inputs.raster
         → listing.now.sinks ≡ listed_in inputs → IsBadLine (sinks_of inputs.sinks) listing.now.bad
         → NoneStandsBefore inputs 5 → IsAnswerWith rules.now.ranks inputs result }
+    ensures lasting { OnOk result (K.lasting notes.new ≡ K.lasting notes.old) }
     ensures noted { OnOk result ((inputs : Inputs) (hs : PerProduct Fields) → AreBegun layout.now hs (with_rasters P.readers rows.old) → rules.now.nodata ≡ nodata_in hs
         → ((p : Held) → extent_of (of_product hs p) ≡ tiling.extent_of layout.now)
         → layout.now ≡ tiling_of inputs → ((p : Held) → of_product hs p ≡ fields_of inputs p)

@@ -147,6 +147,7 @@ pub fn audit_on<R: ByteSource, K: RowNotes>(
     requires empty { notes.old.first ≡ [] }
     requires unnoted { (rules : Rules) (g : Grid) (ps : grid.Products) → K.are_of rules g ps 0 notes.old.second }
     ensures answer { OfFour R.bytes_left layout.now.side tiles.old sinks.now products.old (λ inputs. IsPlainAnswer inputs result) }
+    ensures lasting { OnOk result (K.lasting notes.new.second ≡ K.lasting notes.old.second) }
     ensures noted { OnOk result (OfFour R.bytes_left layout.now.side tiles.old sinks.now products.old (λ inputs. AreNotesOf K.are_of Unasked inputs notes.new.second)) }
     ensures flows { OnOk result (OfFour R.bytes_left layout.now.side tiles.old sinks.now products.old (λ inputs. AreKnownFlows (grid_of inputs) (products_of inputs) (extent_of layout.now) notes.new.first)) }
     ensures counted { OnOk result (OfFour R.bytes_left layout.now.side tiles.old sinks.now products.old (λ inputs. length notes.new.first ≡ (extent_of layout.now).rows * (extent_of layout.now).cols)) }

@@ -20,6 +20,8 @@ impl<A: RowNotes, B: RowNotes> RowNotes for BothNotes<A, B> {
 
     ghost wants = { A.wants ⊎ B.wants };
 
+    ghost lasting = { λ both. B.lasting both.second };
+
     fn note(
         &mut self,
         row: &HeldRow,

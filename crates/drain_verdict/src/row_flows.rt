@@ -18,11 +18,14 @@ use drain_rules::{Rules, ThreeRows, Verdict};
 use drain_runs::CellFlows;
 
 impl RowNotes for CellFlows {
+    ghost use Rattle.std.specs.Prelude.{true};
     ghost use Rattle.drain_runs.specs.Flows.{AreFirstFlows};
 
     ghost are_of = { λ rules g ps rows flows. AreFirstFlows g ps g.extent rows flows };
 
     ghost wants = { Unit {0} };
+
+    ghost lasting = { λ flows. true };
 
     fn note(
         &mut self,

@@ -1,6 +1,6 @@
 //! What is kept of each row of a grid beside the verdict.
 
-ghost use Rattle.std.specs.Prelude.{ℕ, ◌+◌, length, OnOk, OnErr};
+ghost use Rattle.std.specs.Prelude.{◌≡◌, ℕ, ◌+◌, Bool, true, length, OnOk, OnErr};
 ghost use Rattle.drain_grid.specs.Grid.{Grid, Products};
 ghost use Rattle.drain_kernel.specs.declared.rules.Rules.{Rules};
 ghost use Rattle.drain_rules.specs.PatchRows.{AreRowPatches};
@@ -21,6 +21,9 @@ pub trait RowNotes {
     /// Memory may be wanted for them.
     ghost wants: { Type 0 };
 
+    /// A fact about the notes that no row changes, as that there is a map among them.
+    ghost lasting: { Self → Bool };
+
     /// Notes the next row, where these rules are tried: `row` has its numbers, and `rows` shows it with those above and below it.
     fn note(
         &mut self,
@@ -32,6 +35,7 @@ pub trait RowNotes {
         ensures noted { OnOk result ((g : Grid) (ps : Products) (r : ℕ) → AreNumbersOf g ps r (numbers_of row.now)
             → AreRowPatches g ps r (length rows.now.here.numbers.z) (patch_in rows.now)
             → are_of rules.now g ps r self.old → are_of rules.now g ps (r + 1) self.new) }
+        ensures lasting { OnOk result (lasting self.new ≡ lasting self.old) }
         ensures err { OnErr result wants };
 }
 
@@ -43,6 +47,8 @@ impl RowNotes for NoNotes {
     ghost are_of = { λ rules g ps rows notes. Unit {0} };
 
     ghost wants = { ⊥ };
+
+    ghost lasting = { λ notes. true };
 
     fn note(
         &mut self,

@@ -51,6 +51,7 @@ pub fn verdict_by_rows<T, P, S: GridRows<T, P>, K: RowNotes>(
     ensures verdict { IfOk result (λ found. OfGrid (S.gives (source.old, tiles.old, products.old)) shape sinks.now (λ g ps. IsVerdictOf (tried rules.now) g ps found.verdict)) }
     ensures voids { IfOk result (λ found. OfGrid (S.gives (source.old, tiles.old, products.old)) shape sinks.now (λ g ps. AreListedVoids g found.voids)) }
     ensures noted { OnOk result (OfGrid (S.gives (source.old, tiles.old, products.old)) shape sinks.now (λ g ps. K.are_of rules.now g ps g.extent.rows notes.new)) }
+    ensures lasting { OnOk result (K.lasting notes.new ≡ K.lasting notes.old) }
     ensures given { OnOk result ((rows : ℕ → RowNumbers) → S.gives (source.old, tiles.old, products.old) rows 0 → S.gives (source.new, tiles.new, products.new) rows (shape.rows + 1)) }
     ensures reads { OnOk result (ReadsOn S.has_read (source.old, tiles.old, products.old) (source.new, tiles.new, products.new) (shape.rows + 1) None) }
     ensures refuses { IfErr result (IsRowsRefusal S.has_read (source.old, tiles.old, products.old) (source.new, tiles.new, products.new)
@@ -104,6 +105,7 @@ fn note_row<K: RowNotes>(
     requires whole { AreRowNumbers (numbers_of row.now) }
     ensures noted { OnOk result ((g : Grid) (ps : Products) (r : ℕ) → AreNumbersOf g ps r (numbers_of row.now)
         → AreRowPatches g ps r (length rows.now.here.numbers.z) (patch_in rows.now) → K.are_of rules.now g ps r notes.old → K.are_of rules.now g ps (r + 1) notes.new) }
+    ensures lasting { OnOk result (K.lasting notes.new ≡ K.lasting notes.old) }
     ensures err { IfErr result (λ refusal. (refusal ≡ Refusal.OutOfMemory) × K.wants) }
 {
     match notes.note(row, rows, rules) {

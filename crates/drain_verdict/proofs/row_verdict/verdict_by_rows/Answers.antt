@@ -34,6 +34,7 @@ loop-row-init g c =
           (subst (AreVoidsBefore grid 0) (sym c.new-voids.ensures) (voids-none grid)) read.noted;
       right = λ rows grid ps gives extent all. c.new-walk.ensures.finding c.args.rules.now grid ps;
       noted = λ rows grid ps gives extent all. c.requires.unnoted grid ps;
+      lasting = refl;
       reads = read.reads;
     }
 
@@ -111,6 +112,7 @@ loop-row-preserved g c =
           c.in_ok-note_row.ensures.noted grid ps row
           (subst (AreNumbersOf grid ps row) (sym (ap numbers_of c.turn.ensures.here ∙ (inv.held rows gives).here_is)) (all.row row inside)) shown
           (inv.noted rows grid ps gives extent all);
+      lasting = c.in_ok-note_row.ensures.lasting ∙ inv.lasting;
       reads = λ start n before. let same : n + (row + 1) + 1 ≡ n + (row + 1 + 1) = omega arith in subst (λ k. g.S.GridRows.has_read start (c.read_marked-in-loop-row.new.source, c.read_marked-in-loop-row.new.tiles, c.read_marked-in-loop-row.new.products) k None) same (read.reads start (n + (row + 1)) (inv.reads start n before));
     }
 

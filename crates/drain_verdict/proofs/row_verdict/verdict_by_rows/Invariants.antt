@@ -29,5 +29,6 @@ invariant-loop-row g l =
       voids : OfGrid (source.gives (l.fn.source, l.fn.tiles, l.fn.products)) l.shape l.sinks (λ (grid : Grid) (ps : Products). AreVoidsBefore grid (l.row + 1) l.voids);
       right : OfGrid (source.gives (l.fn.source, l.fn.tiles, l.fn.products)) l.shape l.sinks (λ (grid : Grid) (ps : Products). IsRightOf (tried l.rules) grid ps l.walk);
       noted : OfGrid (source.gives (l.fn.source, l.fn.tiles, l.fn.products)) l.shape l.sinks (λ (grid : Grid) (ps : Products). g.K.RowNotes.are_of l.rules grid ps l.row l.notes);
+      lasting : g.K.RowNotes.lasting l.notes ≡ g.K.RowNotes.lasting l.fn.notes;
       reads : ReadsOn source.has_read (l.fn.source, l.fn.tiles, l.fn.products) (l.source, l.tiles, l.products) (l.row + 1) None;
     }
