@@ -16,6 +16,8 @@ const BYTES: &str = "NROWS 2\nNCOLS 2\nULXMAP 0\nULYMAP 1\nXDIM 1\nYDIM 1\n";
 
 const LINE: &str = "accepted rows=2 cols=2 data=4 raised=0 outlets=4\n";
 
+const TILE: &str = "N00E000.hgt";
+
 /// A raster with this header.
 fn raster<'a>(
     alloc: Global,
@@ -60,67 +62,68 @@ fn printed(
     Ok(Printed::new(out.as_slice(), status)?)
 }
 
+/// A side, a tile's name, codes and labels of the products, the status and the line.
+static AUDITED: [(&str, u32, &str, &[u8], &[u8], u8, &str); 7] = [
+    ("correct products", 2, TILE, &[0; 4], &[1, 2, 3, 4], 0, LINE),
+    (
+        "a label for two outlets",
+        2,
+        TILE,
+        &[0; 4],
+        &[1, 2, 2, 4],
+        1,
+        "rejected rule=15 SharedLabel row=1 col=0\n",
+    ),
+    (
+        "a ring of two",
+        2,
+        TILE,
+        &[0, 0, 1, 16],
+        &[1, 2, 3, 4],
+        1,
+        "rejected NoEnd row=1 col=0\n",
+    ),
+    (
+        "a number that is no code, behind a label for two outlets",
+        2,
+        TILE,
+        &[0, 0, 0, 3],
+        &[1, 1, 3, 4],
+        1,
+        "rejected NoEnd row=1 col=1\n",
+    ),
+    (
+        "side 1",
+        1,
+        "x",
+        &[0; 4],
+        &[1, 2, 3, 4],
+        2,
+        "refused BadSide\n",
+    ),
+    (
+        "no tile's name",
+        2,
+        "x",
+        &[0; 4],
+        &[1, 2, 3, 4],
+        2,
+        "refused BadName 0\n",
+    ),
+    (
+        "a label too few",
+        2,
+        TILE,
+        &[0; 4],
+        &[1, 2, 3],
+        2,
+        "refused RasterShort bas\n",
+    ),
+];
+
 #[test]
 fn prints_the_answer_to_an_audit(rt: HostRuntime) -> Result<(), Fail> {
-    let tile = "N00E000.hgt";
-    let cases: [(&str, u32, &str, &[u8], &[u8], u8, &str); 7] = [
-        ("correct products", 2, tile, &[0; 4], &[1, 2, 3, 4], 0, LINE),
-        (
-            "a label for two outlets",
-            2,
-            tile,
-            &[0; 4],
-            &[1, 2, 2, 4],
-            1,
-            "rejected rule=15 SharedLabel row=1 col=0\n",
-        ),
-        (
-            "a ring of two",
-            2,
-            tile,
-            &[0, 0, 1, 16],
-            &[1, 2, 3, 4],
-            1,
-            "rejected NoEnd row=1 col=0\n",
-        ),
-        (
-            "a number that is no code, behind a label for two outlets",
-            2,
-            tile,
-            &[0, 0, 0, 3],
-            &[1, 1, 3, 4],
-            1,
-            "rejected NoEnd row=1 col=1\n",
-        ),
-        (
-            "side 1",
-            1,
-            "x",
-            &[0; 4],
-            &[1, 2, 3, 4],
-            2,
-            "refused BadSide\n",
-        ),
-        (
-            "no tile's name",
-            2,
-            "x",
-            &[0; 4],
-            &[1, 2, 3, 4],
-            2,
-            "refused BadName 0\n",
-        ),
-        (
-            "a label too few",
-            2,
-            tile,
-            &[0; 4],
-            &[1, 2, 3],
-            2,
-            "refused RasterShort bas\n",
-        ),
-    ];
-    for (name, side, tile, codes, labels, status, line) in cases {
+    for &(name, side, tile, codes, labels, status, line) in &AUDITED {
         let out = whole_sink(rt.alloc())?;
         let answered = printed(rt.alloc(), side, tile, codes, labels, out)?;
         same_line(&rt, name, &answered, line, status);
@@ -139,7 +142,7 @@ fn ends_with_status_3_where_the_line_of_an_audit_cannot_be_written(
     }];
     let out = slow_sink(rt.alloc(), &script)?;
     let codes = [0; 4];
-    let answered = printed(rt.alloc(), 2, "N00E000.hgt", &codes, &[1, 2, 3, 4], out)?;
+    let answered = printed(rt.alloc(), 2, TILE, &codes, &[1, 2, 3, 4], out)?;
     same_line(&rt, "a sink that fails", &answered, "accepted", 3);
     Ok(())
 }

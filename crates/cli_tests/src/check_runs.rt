@@ -17,6 +17,8 @@ const BYTES: &str = "NROWS 2\nNCOLS 2\nULXMAP 0\nULYMAP 1\nXDIM 1\nYDIM 1\n";
 
 const LINE: &str = "accepted rows=2 cols=2 data=4 raised=0 outlets=4\n";
 
+const TILE: &str = "N00E000.hgt";
+
 /// The bytes of a product's raster; those of bas are the labels.
 fn body_of<'a>(product: Held, labels: &'a [u8]) -> &'a [u8] {
     match product {
@@ -82,38 +84,39 @@ fn printed(
     Ok(check_printed(alloc, side, tile, products, out)?)
 }
 
+/// A side, a tile's name, labels of the products, the status and the line.
+static CHECKED: [(&str, u32, &str, &[u8], u8, &str); 5] = [
+    ("correct products", 2, TILE, &[1, 2, 3, 4], 0, LINE),
+    (
+        "a label for two outlets",
+        2,
+        TILE,
+        &[1, 2, 2, 4],
+        1,
+        "rejected rule=15 SharedLabel row=1 col=0\n",
+    ),
+    ("side 1", 1, "x", &[1, 2, 3, 4], 2, "refused BadSide\n"),
+    (
+        "no tile's name",
+        2,
+        "x",
+        &[1, 2, 3, 4],
+        2,
+        "refused BadName 0\n",
+    ),
+    (
+        "a label too few",
+        2,
+        TILE,
+        &[1, 2, 3],
+        2,
+        "refused RasterShort bas\n",
+    ),
+];
+
 #[test]
 fn prints_the_answer_to_products(rt: HostRuntime) -> Result<(), Fail> {
-    let tile = "N00E000.hgt";
-    let cases: [(&str, u32, &str, &[u8], u8, &str); 5] = [
-        ("correct products", 2, tile, &[1, 2, 3, 4], 0, LINE),
-        (
-            "a label for two outlets",
-            2,
-            tile,
-            &[1, 2, 2, 4],
-            1,
-            "rejected rule=15 SharedLabel row=1 col=0\n",
-        ),
-        ("side 1", 1, "x", &[1, 2, 3, 4], 2, "refused BadSide\n"),
-        (
-            "no tile's name",
-            2,
-            "x",
-            &[1, 2, 3, 4],
-            2,
-            "refused BadName 0\n",
-        ),
-        (
-            "a label too few",
-            2,
-            tile,
-            &[1, 2, 3],
-            2,
-            "refused RasterShort bas\n",
-        ),
-    ];
-    for (name, side, tile, labels, status, line) in cases {
+    for &(name, side, tile, labels, status, line) in &CHECKED {
         let out = whole_sink(rt.alloc())?;
         let answered = printed(rt.alloc(), side, tile, labels, out)?;
         same_line(&rt, name, &answered, line, status);
@@ -131,7 +134,7 @@ fn ends_with_status_3_where_the_line_of_a_check_cannot_be_written(
         answer: SinkAnswer::Failed,
     }];
     let out = slow_sink(rt.alloc(), &script)?;
-    let answered = printed(rt.alloc(), 2, "N00E000.hgt", &[1, 2, 3, 4], out)?;
+    let answered = printed(rt.alloc(), 2, TILE, &[1, 2, 3, 4], out)?;
     same_line(&rt, "a sink that fails", &answered, "accepted", 3);
     Ok(())
 }

@@ -61,48 +61,50 @@ fn changed(changes: &[(usize, u8)]) -> [u8; 81] {
     bytes
 }
 
+/// Bytes of the pit that are changed, the status and the line.
+static CHANGED_PITS: [(&str, &[(usize, u8)], u8, &str); 7] = [
+    ("as it is", &[], 0, PIT_LINE),
+    (
+        "con 4 in the corner",
+        &[(19, 4)],
+        1,
+        "rejected rule=4 BelowGround row=0 col=0\n",
+    ),
+    (
+        "con 6 in the corner",
+        &[(19, 6)],
+        1,
+        "rejected rule=5 OpenRaised row=0 col=0\n",
+    ),
+    (
+        "no spill parent",
+        &[(40, 0)],
+        1,
+        "rejected rule=6 NoSpill row=1 col=1\n",
+    ),
+    (
+        "con 6 in the pit",
+        &[(27, 6)],
+        1,
+        "rejected rule=7 SpillHeight row=1 col=1\n",
+    ),
+    (
+        "rank 0 in the pit",
+        &[(64, 0)],
+        1,
+        "rejected rule=8 SpillRank row=1 col=1\n",
+    ),
+    (
+        "a needless crest of 7",
+        &[(11, 7), (29, 7), (27, 7)],
+        1,
+        "rejected rule=9 NotLeast row=1 col=1\n",
+    ),
+];
+
 #[test]
 fn tells_the_first_fault_of_a_changed_pit(rt: HostRuntime) -> Result<(), Fail> {
-    let cases: [(&str, &[(usize, u8)], u8, &str); 7] = [
-        ("as it is", &[], 0, PIT_LINE),
-        (
-            "con 4 in the corner",
-            &[(19, 4)],
-            1,
-            "rejected rule=4 BelowGround row=0 col=0\n",
-        ),
-        (
-            "con 6 in the corner",
-            &[(19, 6)],
-            1,
-            "rejected rule=5 OpenRaised row=0 col=0\n",
-        ),
-        (
-            "no spill parent",
-            &[(40, 0)],
-            1,
-            "rejected rule=6 NoSpill row=1 col=1\n",
-        ),
-        (
-            "con 6 in the pit",
-            &[(27, 6)],
-            1,
-            "rejected rule=7 SpillHeight row=1 col=1\n",
-        ),
-        (
-            "rank 0 in the pit",
-            &[(64, 0)],
-            1,
-            "rejected rule=8 SpillRank row=1 col=1\n",
-        ),
-        (
-            "a needless crest of 7",
-            &[(11, 7), (29, 7), (27, 7)],
-            1,
-            "rejected rule=9 NotLeast row=1 col=1\n",
-        ),
-    ];
-    for (name, changes, status, line) in cases {
+    for &(name, changes, status, line) in &CHANGED_PITS {
         let answered = told(rt.alloc(), 3, &changed(changes))?;
         same_line(&rt, name, &answered, line, status);
     }

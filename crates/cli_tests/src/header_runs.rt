@@ -93,27 +93,29 @@ fn told_into(alloc: Global, script: &[Scripted<SinkAnswer>]) -> Result<Printed, 
     Ok(printed(alloc, &mut input, out)?)
 }
 
+/// A header, the status and what is printed.
+static HEADERS: [(&str, &str, u8, &str); 5] = [
+    ("its own form", SMALL, 0, SMALL),
+    ("a usual tool's", USUAL, 0, USUAL_WRITTEN),
+    ("no byte", "", 2, "refused MissingKey NROWS\n"),
+    (
+        "a bad line behind a good one",
+        "NROWS 2\nNCOLS 0\n",
+        2,
+        "refused BadValue 2\n",
+    ),
+    (
+        "a keyword twice",
+        "NROWS 2\nnrows",
+        2,
+        "refused RepeatedKey 2\n",
+    ),
+];
+
 #[test]
 fn prints_headers_and_faults(rt: HostRuntime) -> Result<(), Fail> {
-    let cases: [(&str, &[u8], u8, &str); 5] = [
-        ("its own form", SMALL.as_bytes(), 0, SMALL),
-        ("a usual tool's", USUAL.as_bytes(), 0, USUAL_WRITTEN),
-        ("no byte", b"", 2, "refused MissingKey NROWS\n"),
-        (
-            "a bad line behind a good one",
-            b"NROWS 2\nNCOLS 0\n",
-            2,
-            "refused BadValue 2\n",
-        ),
-        (
-            "a keyword twice",
-            b"NROWS 2\nnrows",
-            2,
-            "refused RepeatedKey 2\n",
-        ),
-    ];
-    for (name, bytes, status, text) in cases {
-        let (answered, _) = told(rt.alloc(), bytes)?;
+    for &(name, header, status, text) in &HEADERS {
+        let (answered, _) = told(rt.alloc(), header.as_bytes())?;
         same_line(&rt, name, &answered, text, status);
     }
     Ok(())

@@ -36,46 +36,48 @@ fn tells(
     Ok(is(&making, made, 0) && is(&checking, accepted, 0))
 }
 
+/// A side and the bytes of a tile, and the lines of making and of checking.
+static WORKED_TILES: [(&str, u32, &[u8], &str, &str); 5] = [
+    (
+        "a pit",
+        3,
+        &PIT,
+        "made rows=3 cols=3\n",
+        "accepted rows=3 cols=3 data=9 raised=1 outlets=8\n",
+    ),
+    (
+        "level, side 2",
+        2,
+        &[0; 8],
+        "made rows=2 cols=2\n",
+        "accepted rows=2 cols=2 data=4 raised=0 outlets=4\n",
+    ),
+    (
+        "all void",
+        2,
+        &[128, 0, 128, 0, 128, 0, 128, 0],
+        "made rows=2 cols=2\n",
+        "accepted rows=2 cols=2 data=0 raised=0 outlets=0\n",
+    ),
+    (
+        "a slope",
+        4,
+        &SLOPE,
+        "made rows=4 cols=4\n",
+        "accepted rows=4 cols=4 data=16 raised=0 outlets=4\n",
+    ),
+    (
+        "level, side 4",
+        4,
+        &[1; 32],
+        "made rows=4 cols=4\n",
+        "accepted rows=4 cols=4 data=16 raised=0 outlets=12\n",
+    ),
+];
+
 #[test]
 fn what_is_made_of_worked_tiles_is_accepted(rt: HostRuntime) -> Result<(), Fail> {
-    let cases: [(&str, u32, &[u8], &str, &str); 5] = [
-        (
-            "a pit",
-            3,
-            PIT.as_slice(),
-            "made rows=3 cols=3\n",
-            "accepted rows=3 cols=3 data=9 raised=1 outlets=8\n",
-        ),
-        (
-            "level, side 2",
-            2,
-            &[0; 8],
-            "made rows=2 cols=2\n",
-            "accepted rows=2 cols=2 data=4 raised=0 outlets=4\n",
-        ),
-        (
-            "all void",
-            2,
-            &[128, 0, 128, 0, 128, 0, 128, 0],
-            "made rows=2 cols=2\n",
-            "accepted rows=2 cols=2 data=0 raised=0 outlets=0\n",
-        ),
-        (
-            "a slope",
-            4,
-            SLOPE.as_slice(),
-            "made rows=4 cols=4\n",
-            "accepted rows=4 cols=4 data=16 raised=0 outlets=4\n",
-        ),
-        (
-            "level, side 4",
-            4,
-            &[1; 32],
-            "made rows=4 cols=4\n",
-            "accepted rows=4 cols=4 data=16 raised=0 outlets=12\n",
-        ),
-    ];
-    for (name, side, bytes, made, accepted) in cases {
+    for &(name, side, bytes, made, accepted) in &WORKED_TILES {
         let tiles = at_zero(bytes);
         assert!(rt;
             tells(rt.alloc(), side, tiles.as_slice(), made, accepted)?,

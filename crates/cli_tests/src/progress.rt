@@ -13,7 +13,8 @@ use std::process::Abort;
 use std::test::Fail;
 
 /// A header of 3 rows of 4 pixels of 16 bits, 5 bytes before the first row and 2 between the rows.
-const HEADER: &[u8] = b"NROWS 3\nNCOLS 4\nNBITS 16\nSKIPBYTES 5\nTOTALROWBYTES 10\nULXMAP 0\nULYMAP 1\nXDIM 1\nYDIM 1\n";
+const HEADER: &[u8] =
+    b"NROWS 3\nNCOLS 4\nNBITS 16\nSKIPBYTES 5\nTOTALROWBYTES 10\nULXMAP 0\nULYMAP 1\nXDIM 1\nYDIM 1\n";
 
 fn same_number(rt: &impl Abort, case: u64, given: u64, wanted: u64) {
     assert_eq!(rt; given, wanted, "{case}");
@@ -44,7 +45,11 @@ fn lines_tell_which_rows_are_counted(rt: HostRuntime) {
     let read = row_line(Counted::Read, 1, 2);
     same_text(&rt, read.as_str().as_bytes(), "drain: reading row 1 of 2");
     let written = row_line(Counted::Written, 0, 28801);
-    same_text(&rt, written.as_str().as_bytes(), "drain: writing row 0 of 28801");
+    same_text(
+        &rt,
+        written.as_str().as_bytes(),
+        "drain: writing row 0 of 28801",
+    );
 }
 
 /// Whether a line is due at each of these milliseconds, where one was told at the start.
@@ -86,7 +91,9 @@ fn an_unwatched_device_hands_on_its_bytes(rt: HostRuntime) -> Result<(), Fail> {
 #[test]
 fn an_unwatched_sink_takes_its_bytes(rt: HostRuntime) -> Result<(), Fail> {
     let mut sink = Watched::new(VecSink::new(Vec::with_capacity(rt.alloc(), 8)?));
-    let taken = sink.write_some(b"drainage").map_err(|_| BodyFault::OutOfMemory)?;
+    let taken = sink
+        .write_some(b"drainage")
+        .map_err(|_| BodyFault::OutOfMemory)?;
     let faults = (sink.failures(), sink.interruptions());
     assert_eq!(rt; (taken, faults), (8, (0, 0)));
     Ok(())
