@@ -22,11 +22,13 @@ for side in 1201 3601; do
     cp "$scratch"/right/* "$scratch/wrong"
     head -c $((4 * side * side)) /dev/zero | tr '\0' '\1' >"$scratch/wrong/acc.bil"
     for set in right wrong; do
+        turns=5
+        [ "$set" = right ] || turns=3
         for command in check audit; do
             [ "$command" = check ] || rm "$scratch/$set"/rnk.*
             echo
             echo "$set products, side $side, $command and its explanation, at a load of $(cut -d ' ' -f 1 /proc/loadavg)"
-            "$bench/turns.py" 5 "$drain" "$command" "$scratch/faults.bil" --side "$side" --products "$scratch/$set" "$tile" || differ=1
+            "$bench/turns.py" "$turns" "$drain" "$command" "$scratch/faults.bil" --side "$side" --products "$scratch/$set" "$tile" || differ=1
         done
     done
     rm -rf "$scratch/right" "$scratch/wrong" "$tile"
