@@ -56,7 +56,7 @@ fn new_walk(alloc: Global, shape: Shape, mapping: Mapping) -> Result<FaultWalk, 
     ensures drawn { IfOk result (λ walk. IsSome walk.map ↔ (mapping ≡ Drawn)) }
 {
     match mapping {
-        Mapping::Drawn => FaultWalk::drawing(alloc, shape),
+        Mapping::Drawn => Ok(FaultWalk::drawing(alloc, shape)?),
         Mapping::Undrawn => Ok(FaultWalk::new(alloc)),
     }
 }

@@ -16,8 +16,8 @@ returns-clause-explained g c = λ ranks inputs noted.
     let walk = noted.walk_is in
     record {
       rules = noted.rules_are (omega arith);
-      each_rule = subst (λ n. AreFaultsOf (tried rules) grid ps (cells_above grid n) c.into_faults.result.0) walk.rows_are (c.into_faults.ensures.of_grids rules grid ps walk.by_rule);
-      each_product = subst (λ n. AreFaultsByProduct rules grid ps (cells_above grid n) c.into_faults.result.1) walk.rows_are (c.into_faults.ensures.by_product rules grid ps walk.by_product);
+      each_rule = subst (λ n. AreFaultsOf (tried rules) grid ps (cells_above grid n) c.into_faults-map.result.0) walk.rows_are (c.into_faults-map.ensures.of_grids rules grid ps walk.by_rule);
+      each_product = subst (λ n. AreFaultsByProduct rules grid ps (cells_above grid n) c.into_faults-map.result.1) walk.rows_are (c.into_faults-map.ensures.by_product rules grid ps walk.by_product);
       first_patch = subst (λ n. IsFirstPatch (tried rules) grid ps (cells_above grid n) c.first_patch-first.result) walk.rows_are (c.first_patch-first.ensures.of_grids rules grid ps walk.by_rule);
-      map = subst (λ n. IsMapOfCells (tried rules) grid ps (cells_above grid n) c.into_faults.result.2) walk.rows_are (c.into_faults.ensures.map rules grid ps walk.map);
+      map = subst (λ n. IsMapOfCells (tried rules) grid ps (cells_above grid n) c.into_faults-map.result.2) walk.rows_are (c.into_faults-map.ensures.map rules grid ps walk.map);
     }
