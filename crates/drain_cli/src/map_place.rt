@@ -34,10 +34,7 @@ fn is_read(rt: &HostRuntime, judged: &Judged<'_>, path: &str) -> Result<bool, Op
     let Some(file) = file_at(rt, path)? else {
         return Ok(false);
     };
-    Ok(
-        is_tile_or_list(rt, judged, &file)?
-            || is_of_products(rt, judged.products, &file)?,
-    )
+    Ok(is_tile_or_list(rt, judged, &file)? || is_of_products(rt, judged.products, &file)?)
 }
 
 /// Whether the file is a tile or the list of sinks.
