@@ -1,7 +1,8 @@
 #!/usr/bin/env bash
 # Shows what a list of sinks costs `drain make` and `drain check` on a tile of side 3601: no list, 1,000 cells and 1,000,000 cells, taken at random from
 # the data cells, timed in turn; on made-up terrain, where a list changes the products, and on the same terrain filled, where it makes outlets and little else.
-# Each check has to accept what was made with its list. It exits with 1 where one doesn't; times never make it fail.
+# Beside the checks it times a plain program that reads the longest list and looks at no cell (plain_list.rs). Each check has to accept what was made with
+# its list. It exits with 1 where one doesn't; times never make it fail.
 # Usage: bench/sinks.sh DRAIN [SIDE]
 set -euo pipefail
 drain=$(realpath "$1")
@@ -12,7 +13,7 @@ scratch=$(mktemp -d)
 trap 'rm -rf "$scratch"' EXIT
 
 mkdir -p "$out"
-for name in make_check_input measure; do
+for name in make_check_input measure plain_list; do
     rustc --edition 2024 -O -C target-cpu=x86-64-v2 -o "$out/$name" "$bench/$name.rs"
 done
 "$out/make_check_input" "$side" "$side" "$scratch/terrain"
@@ -60,7 +61,9 @@ time_lists() {
         echo "$count listed: $line"
     done
     "$out/measure" 7 $((side * side)) /dev/null "${makes[@]}" --
-    "$out/measure" 7 $((side * side)) /dev/null "${checks[@]}" --
+    printf '#!/bin/sh\nexec %q %q %q\n' "$out/plain_list" "$scratch/list-1000000" "$side" >"$scratch/plain_list"
+    chmod +x "$scratch/plain_list"
+    "$out/measure" 7 $((side * side)) /dev/null "${checks[@]}" "$scratch/plain_list" --
 }
 
 # Writes the conditioned elevation that was made as a tile, whose bytes stand the other way round.

@@ -1,7 +1,7 @@
 #!/usr/bin/env bash
-# The merge gate: that each crate's README names its files; every proof from nothing, the must-fail edits and the tests (rt ci); then the program
-# that came of it and its own tests, tests with memory refused, and wrong makers. Each step but the first ends with a line that tells its seconds:
-# those that passed, and those of processors.
+# The merge gate: that each crate's README names its files; every proof from nothing, the edits of must-fail/ and the tests (rt ci); the edits that name
+# their function; then the program that came of it and its own tests, tests with memory refused, and wrong makers. Each step but the first ends with a line
+# that tells its seconds: those that passed, and those of processors.
 # Usage: tools/gate.sh
 set -euo pipefail
 cd "$(dirname "$0")/.."
@@ -20,6 +20,7 @@ tools/check_readmes.py
 rt version >build/gate_began
 time rt ci
 mv build/gate_began build/gate_passed
+time tools/try_named_edits.py
 time make --no-print-directory build/drain build/benches
 time tests/program/run.sh build/drain build/benches
 time tests/refused_memory.sh byte_tests cell_tests rules_tests page_tests verdict_tests maker_tests cli_tests

@@ -8,7 +8,7 @@ use clap::{Arg, ArgAction, ArgMatches, Command, Error};
 use std::alloc::{AllocError, Global};
 
 /// What the words ask for.
-#[derive(PartialEq, Eq, Debug, Drop)]
+#[derive(Drop)]
 pub enum Request<'a> {
     /// `drain audit`: check the four products in this folder, without ranks.
     Audit(Judged<'a>),
@@ -36,7 +36,7 @@ pub enum Request<'a> {
 
 /// What is to be judged: the products in this folder against the tiles at these paths, with the sinks that the file at this path lists; and
 /// whether it is told how far it is.
-#[derive(PartialEq, Eq, Debug, Drop)]
+#[derive(Drop)]
 pub struct Judged<'a> {
     pub side: u32,
     pub products: &'a str,
@@ -46,7 +46,7 @@ pub struct Judged<'a> {
 }
 
 /// What is to be explained, as a text or as JSON; and where a map of the faults goes, by its path without `.bil`.
-#[derive(PartialEq, Eq, Debug, Drop)]
+#[derive(Drop)]
 pub struct Explained<'a> {
     pub judged: Judged<'a>,
     pub map: Option<&'a str>,
@@ -60,7 +60,7 @@ const DEFAULT_SIDE_WORD: &str = "1201";
 
 /// The program's version, and the toolchain whose logic proved it.
 const VERSION: &str = "0.1.0
-proved with rattle-kit-13b logic dac8208d650f15bf";
+proved with rattle-kit-13f logic dac8208d650f15bf";
 
 /// What the words ask for. The first word is the program's own name.
 ///

@@ -100,9 +100,21 @@ fn verdict_with_sinks(
     if numbers.len() != 6 * cells {
         return Err("six parts".into());
     }
-    let products = products(alloc, shape, con_nodata, &numbers[cells..])?;
     let elevation = elevation(alloc, shape, &numbers[..cells])?;
-    Ok(verdict_of(alloc, &elevation, sinks, &products)?)
+    let products = products(alloc, shape, con_nodata, &numbers[cells..])?;
+    verdict_on_parts(alloc, &elevation, sinks, &products)
+}
+
+/// The verdict on parts that are put together.
+fn verdict_on_parts(
+    alloc: Global,
+    elevation: &Elevation,
+    sinks: &Sinks,
+    products: &ProductSet,
+) -> Result<Verdict, Fail>
+    requires { elevation.now.extent ≡ products.now.con.extent }
+{
+    Ok(verdict_of(alloc, elevation, sinks, products)?)
 }
 
 /// The verdict on an example without sinks.
@@ -134,6 +146,16 @@ pub fn verdict_listing(
     verdict_with_sinks(alloc, -32768, (rows, cols), numbers, &sinks)
 }
 
+/// The place of a part's cell among the numbers of an example of this side.
+fn place_of(side: u8, part: Part, row: u8, col: u8) -> usize {
+    let rows_before = (part as usize)
+        .saturating_mul(side.into())
+        .saturating_add(row.into());
+    rows_before
+        .saturating_mul(side.into())
+        .saturating_add(col.into())
+}
+
 /// The example of this side with one number changed.
 pub fn changed(
     alloc: Global,
@@ -145,8 +167,7 @@ pub fn changed(
     number: i64,
 ) -> Result<Vec<i64>, Fail> {
     let mut copy = Vec::from_slice(alloc, numbers)?;
-    let place = (part as usize * side as usize + row as usize) * side as usize + col as usize;
-    match copy.get_mut(place) {
+    match copy.get_mut(place_of(side, part, row, col)) {
         Some(found) => *found = number,
         None => return Err("a place".into()),
     }

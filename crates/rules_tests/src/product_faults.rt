@@ -1,7 +1,7 @@
 //! The voids at which a product by itself has a number, and the data cells at which it has none, on worked grids; ranks are asked for or not. All were
 //! worked out by hand from the rules.
 
-use crate::every_fault::{example, walk_over};
+use crate::every_fault::{Given, example, walk_over};
 use crate::examples::{Part, changed, equal};
 use crate::rows_of_numbers::{COLS, faults_by_rows};
 use crate::unasked_ranks::put;
@@ -50,7 +50,12 @@ fn at_data(cells: RuleFaults) -> ProductFaults {
 /// The walk over an example of this side.
 fn walk(alloc: Global, side: u8, numbers: &[i64], ranks: Ranks) -> Result<FaultWalk, Fail> {
     let given = example(alloc, side, numbers)?;
-    Ok(walk_over(alloc, &given, ranks)?)
+    walk_along(alloc, &given, ranks)
+}
+
+/// The walk over the parts of an example.
+fn walk_along(alloc: Global, given: &Given, ranks: Ranks) -> Result<FaultWalk, Fail> {
+    Ok(walk_over(alloc, given, ranks)?)
 }
 
 /// Looks that the walk tells these faults of a product.

@@ -64,8 +64,9 @@ fn are_row_numbers(z: &[i64], products: &PerProduct<&[i64]>) -> bool
 
 /// A row of a part.
 fn row_of(numbers: &[i64], part: Part, row: u8) -> Option<&[i64]> {
-    let start = (part as usize * 3 + row as usize) * COLS as usize;
-    numbers.get(start..start + COLS as usize)
+    let rows_before = (part as usize).saturating_mul(3).saturating_add(row.into());
+    let start = rows_before.saturating_mul(COLS.into());
+    numbers.get(start..start.saturating_add(COLS.into()))
 }
 
 /// What the rows are made of. The lanes of their numbers are taken, or they aren't.
@@ -181,7 +182,9 @@ fn check_row(walk: &mut GridWalk, given: Given<'_>, row: u8, room: &mut Room) ->
     requires { walk.old.rows < 3 }
     ensures { OnOk result (walk.new.rows ≡ walk.old.rows + 1) }
 {
-    let rows = three_rows(given, row, room).ok_or("rows of numbers")?;
+    let Some(rows) = three_rows(given, row, room) else {
+        return Err("rows of numbers".into());
+    };
     Ok(walk.check_row(&rows, &rules_with(given.ranks))?)
 }
 
@@ -201,7 +204,9 @@ fn note_row(walk: &mut FaultWalk, given: Given<'_>, row: u8, room: &mut Room) ->
     requires { walk.old.rows < 3 }
     ensures { OnOk result (walk.new.rows ≡ walk.old.rows + 1) }
 {
-    let rows = three_rows(given, row, room).ok_or("rows of numbers")?;
+    let Some(rows) = three_rows(given, row, room) else {
+        return Err("rows of numbers".into());
+    };
     Ok(walk.note_row(&rows, &rules_with(given.ranks))?)
 }
 
@@ -230,20 +235,26 @@ pub fn kept_by_lanes(
     row: u8,
     from: u32,
 ) -> Result<Kept, Fail> {
-    let sinks = parse_sinks(alloc, text)?;
-    let marks = marks_of(&sinks);
+    let marks = marks_of(&parse_sinks(alloc, text)?);
     let given = Given {
         numbers,
         marks: &marks,
         ranks: Ranks::Asked,
         is_laned: true,
     };
-    let mut room = Room::new(alloc);
-    let rows = three_rows(given, row, &mut room).ok_or("rows of numbers")?;
-    if from > rows.cols() {
-        return Err("a column".into());
+    match kept_in_row(given, row, from, &mut Room::new(alloc)) {
+        Some(kept) => Ok(kept),
+        None => Err("rows of numbers, and a column".into()),
     }
-    Ok(rows.kept_from(&rules_with(Ranks::Asked), from))
+}
+
+/// The same of the row with those above and below it; none where they are no rows, or where there is no such column.
+fn kept_in_row(given: Given<'_>, row: u8, from: u32, room: &mut Room) -> Option<Kept> {
+    let rows = three_rows(given, row, room)?;
+    if from > rows.cols() {
+        return None;
+    }
+    Some(rows.kept_from(&rules_with(Ranks::Asked), from))
 }
 
 /// The verdict on the numbers of the six parts, with the sinks that a text lists, the same with lanes and without; ranks are asked for or not.

@@ -1,0 +1,161 @@
+#!/usr/bin/env python3
+"""Tries the edits that name their function by a line 'only: PATH': those of a crate are put into one copy of it, each in a file of its own, and the
+prover, asked for these functions alone, has to refuse each for a goal of its own. A function's proof sees the contracts of what it calls and no body, so no
+edit helps another to be refused. The checks stand on the libraries that rt ci built, so an edit takes some twenty seconds, where a try of the whole
+crate takes minutes.
+
+An edit is a file of must-fail/ or more-edits/ as rt reads it, which passes over the line 'only:'.
+
+Usage: tools/try_named_edits.py [CRATE...]    (all of them where none is named)
+"""
+import concurrent.futures
+import os
+import re
+import shutil
+import subprocess
+import sys
+import tempfile
+from pathlib import Path
+
+TOP = Path(__file__).resolve().parent.parent
+KIT = Path(subprocess.run(["rt", "doc"], capture_output=True, text=True, check=True).stdout.strip()).parent
+
+
+class Edit:
+    """A wrong body: which texts of which files it changes, the first of these, and the function that has to be refused."""
+
+    def __init__(self, file):
+        self.name = f"{file.parent.parent.name}/{file.stem}"
+        self.only, self.changes = None, []
+        path = old = None
+        for line in file.read_text().splitlines():
+            word, _, rest = line.partition(": ")
+            if word == "file":
+                path = rest
+            elif word == "old":
+                old = rest
+            elif line.startswith("new:"):
+                self.changes.append((path, old, rest))
+            elif word == "only":
+                self.only = rest
+        self.file = self.changes[0][0]
+
+    def applied(self, crate, texts):
+        """The changed texts of the crate's files, of which some may be changed already; none where an old text doesn't stand there once."""
+        texts = dict(texts)
+        for path, old, new in self.changes:
+            text = texts.get(path) or (crate / path).read_text()
+            if text.count(old) != 1:
+                return None
+            texts[path] = text.replace(old, new)
+        return texts
+
+
+class Round:
+    """Edits of one crate that are tried together, each in a file of its own, and the texts that they make."""
+
+    def __init__(self, crate):
+        self.crate, self.edits, self.texts = TOP / "crates" / crate, [], {}
+
+    def takes(self, edit):
+        """Puts the edit in, unless another one is in its file."""
+        texts = edit.applied(self.crate, self.texts)
+        if texts is None or edit.file in (other.file for other in self.edits):
+            return False
+        self.edits.append(edit)
+        self.texts = texts
+        return True
+
+
+def rounds_of(crate):
+    """The edits of a crate that name a function, in rounds."""
+    rounds = []
+    for part in ("must-fail", "more-edits"):
+        for file in sorted((TOP / "crates" / crate / part).glob("*.edit")):
+            edit = Edit(file)
+            if edit.only and not any(found.takes(edit) for found in rounds):
+                rounds.append(Round(crate))
+                if not rounds[-1].takes(edit):
+                    sys.exit(f"{edit.name}: an old text of it doesn't stand in its file, or not once")
+    return rounds
+
+
+def libraries():
+    """What each crate of crates.txt stands on, by its name: crates of the repository and of the kit."""
+    found = {}
+    for line in (TOP / "crates.txt").read_text().splitlines():
+        name, colon, below = line.partition("#")[0].partition(":")
+        if colon:
+            found[name.strip()] = below.split()
+    return found
+
+
+def words_of(crate, below):
+    """The words of a check of a crate over the libraries that were built."""
+    words = ["--extern", f"std={KIT}/rlibs/std.rlib", "-L", f"dependency={KIT}/rlibs"]
+    found, left = [], [crate]
+    while left:
+        for name in below[left.pop()]:
+            if name in below and name not in found:
+                found.append(name)
+                left.append(name)
+    for name in sorted({"core", *found, *below[crate]}):
+        rlib = TOP / "crates" / name / "out/rlib" / f"{name}.rlib" if name in below else KIT / "rlibs" / f"{name}.rlib"
+        if not rlib.is_dir():
+            sys.exit(f"{crate}: its library {name} isn't built: run rt ci first")
+        words += ["--extern", f"{name}={rlib}"] if name in below[crate] or name == "core" else ["-L", f"dependency={rlib.parent}"]
+    root = "src/main.rt" if (TOP / "crates" / crate / "src/main.rt").exists() else "src/lib.rt"
+    logic = ["--antt-project", f"{KIT}/rattle/logic/antt-project.json", "--logic-built", f"{KIT}/logic_built"]
+    return ["--crate-name", crate, root, *words, *logic, "--jobs", "1"]
+
+
+def tried(crate, edits, texts, below):
+    """Tries edits together: of each whether its function was refused, or nothing where the prover didn't come to them, and what it said."""
+    with tempfile.TemporaryDirectory() as room:
+        for part in ("src", "specs", "proofs"):
+            if (TOP / "crates" / crate / part).is_dir():
+                shutil.copytree(TOP / "crates" / crate / part, Path(room) / part)
+        for path, text in texts.items():
+            (Path(room) / path).write_text(text)
+        asked = [word for edit in edits for word in ("--only", edit.only)]
+        ran = subprocess.run(
+            [KIT / "bin/rattle", "check", *words_of(crate, below), *asked],
+            cwd=room, stdin=subprocess.DEVNULL, stdout=subprocess.PIPE, stderr=subprocess.STDOUT, text=True, errors="replace",
+        )
+    if ran.returncode != 1 or not re.search(r"^only=\d+ proved=\d+$", ran.stdout, re.M):
+        return None, ran.stdout
+    return {edit.name: is_refused(crate, edit, ran.stdout) for edit in edits}, ran.stdout
+
+
+def is_refused(crate, edit, said):
+    """Whether the prover said that a goal of the edit's own function isn't met: not only that it calls one which isn't proved."""
+    found = re.search(rf"^fn {crate}::(?:\S+::)?{re.escape(edit.only)}: (not proved|no proof.*)$", said, re.M)
+    if not found:
+        return False
+    own = re.escape(f"{edit.only.rpartition('::')[2]}/")
+    at = rf"^(\./)?proofs/(\S*/)?{own}\S*: error|^note: {re.escape(edit.file)}:\d+:\d+: it is not proved"
+    return "did not prove" in found[1] or bool(re.search(at, said, re.M))
+
+
+def main():
+    below = libraries()
+    passed = failed = 0
+    with concurrent.futures.ThreadPoolExecutor(int(os.environ.get("RT_JOBS") or os.cpu_count())) as pool:
+        runs = []
+        for crate in sys.argv[1:] or below:
+            for together in rounds_of(crate):
+                runs.append((crate, together.edits, pool.submit(tried, crate, together.edits, together.texts, below)))
+        for crate, edits, run in runs:
+            told, said = run.result()
+            if told is None:
+                failed += len(edits)
+                print(f"{crate}: {len(edits)} edits weren't tried: the prover said\n{said[-2000:]}")
+                continue
+            for name, is_refused in told.items():
+                passed, failed = passed + is_refused, failed + (not is_refused)
+                print(f"{name}: {'refused' if is_refused else 'NOT REFUSED'}", flush=True)
+    print(f"edits: {passed} passed, {failed} failed")
+    sys.exit(failed > 0)
+
+
+main()
