@@ -15,6 +15,9 @@ pub const PLACES: u128 = 10_000_000;
 /// No cell of a place lies more steps from the equator, nor from the meridian.
 pub const MOST_STEPS: u64 = 140_741_783_322_624;
 
+/// Nor do whole degrees make more steps than this.
+const MOST_WHOLE_STEPS: u64 = 140_737_488_355_328;
+
 impl MosaicPlace {
     /// How many steps make up a degree.
     fn steps_a_degree(&self) -> u32
@@ -30,7 +33,7 @@ impl MosaicPlace {
         ensures low { neg_ℤ (pos MOST_STEPS) ≤ℤ result }
         ensures high { result ≤ℤ pos MOST_STEPS }
     {
-        i64::from(self.north) * i64::from(self.steps_a_degree()) - i64::from(row)
+        in_steps(self.north, self.steps_a_degree()) - i64::from(row)
     }
 
     /// A column's longitude in steps.
@@ -39,7 +42,7 @@ impl MosaicPlace {
         ensures low { neg_ℤ (pos MOST_STEPS) ≤ℤ result }
         ensures high { result ≤ℤ pos MOST_STEPS }
     {
-        i64::from(self.west) * i64::from(self.steps_a_degree()) + i64::from(col)
+        in_steps(self.west, self.steps_a_degree()) + i64::from(col)
     }
 
     /// A row's latitude in degrees.
@@ -61,6 +64,15 @@ impl MosaicPlace {
     pub(crate) fn longitude_text(&self, col: u32) -> Shown {
         shown_degrees(self.longitude_in_steps(col), self.steps_a_degree())
     }
+}
+
+/// Whole degrees in steps.
+fn in_steps(degrees: i16, steps: u32) -> i64
+    ensures value { result ≡ degrees *ℤ pos steps }
+    ensures low { neg_ℤ (pos MOST_WHOLE_STEPS) ≤ℤ result }
+    ensures high { result ≤ℤ pos MOST_WHOLE_STEPS }
+{
+    i64::from(degrees) * i64::from(steps)
 }
 
 /// A number of steps, whatever its sign, in units of the seventh place of a degree, rounded to the nearest, and of two the greater.

@@ -1,94 +1,70 @@
 //! The page as one JSON object.
 
+ghost use Rattle.std.specs.Prelude.{IfOk, string_bytes};
+ghost use Rattle.drain_page.specs.JsonLines.{IsJsonLine};
+
 use crate::answer_line::answer_line;
 use crate::facts::{Facts, Findings};
-use crate::patch_json::{PatchJson, patch_json};
-use crate::refusal_json::{RefusalJson, refusal_json};
-use crate::rules_json::{ProductJson, RuleJson, products_json, rules_json};
-use crate::run_json::{RunJson, run_json};
-use crate::wanted_json::{WantedJson, first_wanted_json};
+use crate::json_text::JsonText;
+use crate::patch_json::write_patch;
+use crate::refusal_json::write_refusal;
+use crate::rules_json::{write_products, write_rules};
+use crate::run_json::write_run;
+use crate::wanted_json::write_wanted;
 use drain_grid::OutOfMemory;
 use drain_rules::Ranks;
-use serde::Serialize;
 use std::alloc::Global;
 
-/// The members of the object, in their order.
-#[derive(Drop, Serialize)]
-struct PageJson<'a> {
-    answer: &'a str,
-    refusal: Option<RefusalJson>,
-    rows: Option<u32>,
-    cols: Option<u32>,
-    ranks: Option<bool>,
-    rules: Vec<RuleJson>,
-    products: Vec<ProductJson>,
-    patch: Option<PatchJson>,
-    expected: Option<WantedJson>,
-    run: Option<RunJson>,
-}
-
 /// The page as one JSON object on one line, which ends with a line feed. Its members are always there: null or an empty list where there is nothing to tell.
-pub fn page_json(alloc: Global, facts: &Facts) -> Result<String, OutOfMemory> {
-    let line = answer_line(&facts.answer);
-    let refusal = match &facts.refusal {
-        Some(note) => Some(refusal_json(alloc, note)?),
-        None => None,
-    };
+pub fn page_json(alloc: Global, facts: &Facts) -> Result<String, OutOfMemory>
+    ensures { IfOk result (λ line. IsJsonLine (string_bytes line)) }
+{
+    let mut json = JsonText::new(alloc);
+    match write_page(alloc, &mut json, facts) {
+        Ok(()) => json.into_line(),
+        Err(e) => Err(e),
+    }
+}
+
+fn write_page(alloc: Global, json: &mut JsonText, facts: &Facts) -> Result<(), OutOfMemory> {
+    json.begin_object_item()?;
+    json.text("answer", answer_line(&facts.answer).as_str())?;
+    write_refusal(alloc, json, &facts.refusal)?;
     match &facts.findings {
-        Some(findings) => written(
-            alloc,
-            &with_findings(alloc, line.as_str(), refusal, findings)?,
-        ),
-        None => written(alloc, &without_findings(alloc, line.as_str(), refusal)),
+        Some(findings) => write_findings(alloc, json, findings)?,
+        None => write_no_findings(json)?,
     }
+    json.end_object()
 }
 
-/// The object's text and a line feed. A write fails for want of memory alone.
-fn written(alloc: Global, page: &PageJson<'_>) -> Result<String, OutOfMemory> {
-    let Ok(mut text) = serde_json::to_string(alloc, page) else {
-        return Err(OutOfMemory);
-    };
-    match text.push('\n') {
-        Ok(()) => Ok(text),
-        Err(_) => Err(OutOfMemory),
-    }
-}
-
-fn without_findings<'a>(
+fn write_findings(
     alloc: Global,
-    answer: &'a str,
-    refusal: Option<RefusalJson>,
-) -> PageJson<'a> {
-    PageJson {
-        answer,
-        refusal,
-        rows: None,
-        cols: None,
-        ranks: None,
-        rules: Vec::new(alloc),
-        products: Vec::new(alloc),
-        patch: None,
-        expected: None,
-        run: None,
-    }
-}
-
-fn with_findings<'a>(
-    alloc: Global,
-    answer: &'a str,
-    refusal: Option<RefusalJson>,
+    json: &mut JsonText,
     findings: &Findings,
-) -> Result<PageJson<'a>, OutOfMemory> {
-    Ok(PageJson {
-        answer,
-        refusal,
-        rows: Some(findings.shape.rows()),
-        cols: Some(findings.shape.cols()),
-        ranks: Some(findings.rules.ranks == Ranks::Asked),
-        rules: rules_json(alloc, findings)?,
-        products: products_json(alloc, findings)?,
-        patch: patch_json(alloc, findings)?,
-        expected: first_wanted_json(alloc, findings)?,
-        run: run_json(alloc, findings)?,
-    })
+) -> Result<(), OutOfMemory> {
+    json.count("rows", u64::from(findings.shape.rows()))?;
+    json.count("cols", u64::from(findings.shape.cols()))?;
+    json.flag("ranks", findings.rules.ranks == Ranks::Asked)?;
+    write_rules(json, findings)?;
+    write_products(json, findings)?;
+    write_patch(json, findings)?;
+    write_wanted(alloc, json, findings)?;
+    write_run(json, findings)
+}
+
+/// The same members where there is no verdict.
+fn write_no_findings(json: &mut JsonText) -> Result<(), OutOfMemory> {
+    json.null("rows")?;
+    json.null("cols")?;
+    json.null("ranks")?;
+    write_empty_list(json, "rules")?;
+    write_empty_list(json, "products")?;
+    json.null("patch")?;
+    json.null("expected")?;
+    json.null("run")
+}
+
+fn write_empty_list(json: &mut JsonText, name: &str) -> Result<(), OutOfMemory> {
+    json.begin_list(name)?;
+    json.end_list()
 }

@@ -1,99 +1,95 @@
 //! The first cell at which a rule fails, with what it and its neighbours show, as JSON.
 
 use crate::facts::Findings;
+use crate::json_text::JsonText;
 use crate::patch_text::{ROUND, values_at};
-use crate::rules_json::{CellJson, cell_json};
-use crate::wanted::{no_data, number};
-use crate::wanted_json::push;
+use crate::rules_json::write_cell;
+use crate::wanted::{no_data, number, shown_products};
+use drain_faults::FaultyPatch;
 use drain_grid::{CellValues, Direction, Held, OutOfMemory, Patch};
 use drain_rules::{Ranks, Rules};
-use serde::Serialize;
-use std::alloc::Global;
 
-/// The cell, and three rows of three cells with it in the middle; null outside the mosaic.
-#[derive(Drop, Serialize)]
-pub(crate) struct PatchJson {
-    cell: CellJson,
-    values: Vec<Vec<Option<ValuesJson>>>,
-}
-
-/// The ground, null at a void, and the products' numbers, null where a number stands for no data; of rnk also where nothing is asked of ranks.
-#[derive(Drop, Serialize)]
-pub(crate) struct ValuesJson {
-    ground: Option<i16>,
-    sink: bool,
-    con: Option<i64>,
-    dir: Option<i64>,
-    acc: Option<i64>,
-    bas: Option<i64>,
-    rnk: Option<i64>,
-}
-
-pub(crate) fn patch_json(
-    alloc: Global,
-    findings: &Findings,
-) -> Result<Option<PatchJson>, OutOfMemory> {
+/// The cell, and three rows of three cells with it in the middle; null where there is none.
+pub(crate) fn write_patch(json: &mut JsonText, findings: &Findings) -> Result<(), OutOfMemory> {
     match &findings.first {
-        Some(first) => Ok(Some(PatchJson {
-            cell: cell_json(&findings.place, first.cell),
-            values: rows_json(alloc, &first.patch, &findings.rules)?,
-        })),
-        None => Ok(None),
+        Some(first) => write_first(json, findings, first),
+        None => json.null("patch"),
     }
 }
 
-fn rows_json(
-    alloc: Global,
-    patch: &Patch,
-    rules: &Rules,
-) -> Result<Vec<Vec<Option<ValuesJson>>>, OutOfMemory> {
-    let mut rows = Vec::new(alloc);
+fn write_first(
+    json: &mut JsonText,
+    findings: &Findings,
+    first: &FaultyPatch,
+) -> Result<(), OutOfMemory> {
+    json.begin_object("patch")?;
+    write_cell(json, "cell", &findings.place, first.cell)?;
+    write_rows(json, &first.patch, &findings.rules)?;
+    json.end_object()
+}
+
+fn write_rows(json: &mut JsonText, patch: &Patch, rules: &Rules) -> Result<(), OutOfMemory> {
+    json.begin_list("values")?;
     for row in ROUND {
-        push(&mut rows, row_json(alloc, patch, rules, row)?)?;
+        write_row(json, patch, rules, row)?;
     }
-    Ok(rows)
+    json.end_list()
 }
 
-fn row_json(
-    alloc: Global,
+fn write_row(
+    json: &mut JsonText,
     patch: &Patch,
     rules: &Rules,
     row: [Option<Direction>; 3],
-) -> Result<Vec<Option<ValuesJson>>, OutOfMemory> {
-    let mut cells = Vec::new(alloc);
+) -> Result<(), OutOfMemory> {
+    json.begin_list_item()?;
     for place in row {
-        push(&mut cells, place_json(patch, rules, place))?;
+        write_place(json, patch, rules, place)?;
     }
-    Ok(cells)
+    json.end_list()
 }
 
-fn place_json(patch: &Patch, rules: &Rules, place: Option<Direction>) -> Option<ValuesJson> {
+/// What a cell shows; null outside the mosaic.
+fn write_place(
+    json: &mut JsonText,
+    patch: &Patch,
+    rules: &Rules,
+    place: Option<Direction>,
+) -> Result<(), OutOfMemory> {
     match values_at(patch, place) {
-        Some(values) => Some(values_json(&values, rules)),
-        None => None,
+        Some(values) => write_values(json, &values, rules),
+        None => json.null_item(),
     }
 }
 
-fn values_json(values: &CellValues, rules: &Rules) -> ValuesJson {
-    ValuesJson {
-        ground: values.z,
-        sink: values.sink,
-        con: number_json(values, rules, Held::Con),
-        dir: number_json(values, rules, Held::Dir),
-        acc: number_json(values, rules, Held::Acc),
-        bas: number_json(values, rules, Held::Bas),
-        rnk: match rules.ranks {
-            Ranks::Asked => number_json(values, rules, Held::Rnk),
-            Ranks::Unasked => None,
-        },
+/// The ground, null at a void, and the products' numbers.
+fn write_values(
+    json: &mut JsonText,
+    values: &CellValues,
+    rules: &Rules,
+) -> Result<(), OutOfMemory> {
+    json.begin_object_item()?;
+    json.metres("ground", values.z)?;
+    json.flag("sink", values.sink)?;
+    for held in shown_products(Ranks::Asked) {
+        json.number_or_null(held.product().name(), told_number(values, rules, *held))?;
     }
+    json.end_object()
 }
 
-fn number_json(values: &CellValues, rules: &Rules, held: Held) -> Option<i64> {
+/// A product's number; none where it stands for no data, and of rnk also where nothing is asked of ranks.
+fn told_number(values: &CellValues, rules: &Rules, held: Held) -> Option<i64> {
     let number = number(values, held);
-    if number == no_data(&rules.nodata, held) {
+    if number == no_data(&rules.nodata, held) || !is_asked(rules.ranks, held) {
         None
     } else {
         Some(number)
+    }
+}
+
+fn is_asked(ranks: Ranks, held: Held) -> bool {
+    match held {
+        Held::Rnk => ranks == Ranks::Asked,
+        _ => true,
     }
 }

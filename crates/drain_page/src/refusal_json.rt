@@ -1,190 +1,206 @@
 //! What was expected and found, where inputs are refused, as JSON.
 
+use crate::json_text::JsonText;
 use crate::refusal_note::{Extent, NoData, RefusalNote, TileValue};
 use crate::shown_bytes::shown_bytes;
 use crate::units::units_text;
-use drain_grid::{MAX_SIDE, MIN_SIDE, OutOfMemory};
+use drain_grid::{MAX_SIDE, MIN_SIDE, OutOfMemory, Product};
 use drain_header::Place;
 use drain_hgt::TileName;
-use serde::Serialize;
 use std::alloc::Global;
 
-/// What is told of a refusal; `about` names its kind.
-#[derive(Drop, Serialize)]
-#[serde(tag = "about", rename_all = "snake_case")]
-pub(crate) enum RefusalJson {
-    Side {
-        least: u32,
-        greatest: u32,
-        found: u32,
-    },
-    Name {
-        found: String,
-    },
-    Shape {
-        product: &'static str,
-        expected: ExtentJson,
-        found: ExtentJson,
-    },
-    Position {
-        product: &'static str,
-        expected: PlaceJson,
-        found: PlaceJson,
-    },
-    TileLength {
-        tile: String,
-        expected: u64,
-        found: u64,
-    },
-    RasterLength {
-        product: &'static str,
-        expected: u64,
-        found: u64,
-    },
-    Seam {
-        first: TileValueJson,
-        other: TileValueJson,
-    },
-    SinkLine {
-        line: u64,
-        found: String,
-    },
-    SinkCell {
-        line: u64,
-        row: u64,
-        col: u64,
-        found: &'static str,
-    },
+/// What is told of a refusal; null where there is no more than its line. `about` names its kind.
+pub(crate) fn write_refusal(
+    alloc: Global,
+    json: &mut JsonText,
+    note: &Option<RefusalNote>,
+) -> Result<(), OutOfMemory> {
+    match note {
+        Some(note) => write_note(alloc, json, note),
+        None => json.null("refusal"),
+    }
 }
 
-#[derive(Drop, Serialize)]
-pub(crate) struct ExtentJson {
-    rows: u32,
-    cols: u32,
+fn write_note(alloc: Global, json: &mut JsonText, note: &RefusalNote) -> Result<(), OutOfMemory> {
+    json.begin_object("refusal")?;
+    json.text("about", kind(note))?;
+    write_members(alloc, json, note)?;
+    json.end_object()
 }
 
-/// Degrees as decimals with fifteen places: a float would lose the last of them.
-#[derive(Drop, Serialize)]
-pub(crate) struct PlaceJson {
-    ulxmap: String,
-    ulymap: String,
-    xdim: String,
-    ydim: String,
+fn kind(note: &RefusalNote) -> &'static str {
+    match note {
+        RefusalNote::Side(_) => "side",
+        RefusalNote::Name(_) => "name",
+        RefusalNote::Shape { .. } => "shape",
+        RefusalNote::Position { .. } => "position",
+        RefusalNote::TileLength { .. } => "tile_length",
+        RefusalNote::RasterLength { .. } => "raster_length",
+        RefusalNote::Seam { .. } => "seam",
+        RefusalNote::SinkLine { .. } => "sink_line",
+        RefusalNote::SinkCell { .. } => "sink_cell",
+    }
 }
 
-/// A tile and its metres at the cell, null at a void.
-#[derive(Drop, Serialize)]
-pub(crate) struct TileValueJson {
-    tile: String,
-    metres: Option<i16>,
-}
-
-pub(crate) fn refusal_json(alloc: Global, note: &RefusalNote) -> Result<RefusalJson, OutOfMemory> {
-    Ok(match note {
-        RefusalNote::Side(side) => RefusalJson::Side {
-            least: MIN_SIDE,
-            greatest: MAX_SIDE,
-            found: *side,
-        },
-        RefusalNote::Name(name) => RefusalJson::Name {
-            found: shown_bytes(alloc, name)?,
-        },
+fn write_members(
+    alloc: Global,
+    json: &mut JsonText,
+    note: &RefusalNote,
+) -> Result<(), OutOfMemory> {
+    match note {
+        RefusalNote::Side(side) => write_side(json, *side),
+        RefusalNote::Name(name) => write_shown(alloc, json, name),
         RefusalNote::Shape {
             product,
             expected,
             found,
-        } => RefusalJson::Shape {
-            product: product.name(),
-            expected: extent_json(expected),
-            found: extent_json(found),
-        },
+        } => write_shape(json, *product, expected, found),
         RefusalNote::Position {
             product,
             expected,
             found,
-        } => RefusalJson::Position {
-            product: product.name(),
-            expected: place_json(alloc, expected)?,
-            found: place_json(alloc, found)?,
-        },
+        } => write_position(json, *product, expected, found),
         RefusalNote::TileLength {
             tile,
             expected,
             found,
-        } => RefusalJson::TileLength {
-            tile: tile_json(alloc, *tile)?,
-            expected: *expected,
-            found: *found,
-        },
+        } => write_tile_length(json, *tile, *expected, *found),
         RefusalNote::RasterLength {
             product,
             expected,
             found,
-        } => RefusalJson::RasterLength {
-            product: product.name(),
-            expected: *expected,
-            found: *found,
-        },
-        RefusalNote::Seam { first, other } => RefusalJson::Seam {
-            first: value_json(alloc, first)?,
-            other: value_json(alloc, other)?,
-        },
-        RefusalNote::SinkLine { number, text } => RefusalJson::SinkLine {
-            line: *number,
-            found: shown_bytes(alloc, text)?,
-        },
+        } => write_raster_length(json, *product, *expected, *found),
+        RefusalNote::Seam { first, other } => write_seam(json, first, other),
+        RefusalNote::SinkLine { number, text } => write_sink_line(alloc, json, *number, text),
         RefusalNote::SinkCell {
             number,
             row,
             col,
             why,
-        } => RefusalJson::SinkCell {
-            line: *number,
-            row: *row,
-            col: *col,
-            found: match why {
-                NoData::Void => "void",
-                NoData::Outside => "outside",
-            },
+        } => write_sink_cell(json, *number, *row, *col, *why),
+    }
+}
+
+fn write_side(json: &mut JsonText, found: u32) -> Result<(), OutOfMemory> {
+    json.count("least", u64::from(MIN_SIDE))?;
+    json.count("greatest", u64::from(MAX_SIDE))?;
+    json.count("found", u64::from(found))
+}
+
+/// Bytes that were found.
+fn write_shown(alloc: Global, json: &mut JsonText, found: &[u8]) -> Result<(), OutOfMemory> {
+    match shown_bytes(alloc, found) {
+        Ok(shown) => json.text("found", shown.as_str()),
+        Err(e) => Err(e),
+    }
+}
+
+fn write_shape(
+    json: &mut JsonText,
+    product: Product,
+    expected: &Extent,
+    found: &Extent,
+) -> Result<(), OutOfMemory> {
+    json.text("product", product.name())?;
+    write_extent(json, "expected", expected)?;
+    write_extent(json, "found", found)
+}
+
+fn write_extent(json: &mut JsonText, name: &str, extent: &Extent) -> Result<(), OutOfMemory> {
+    json.begin_object(name)?;
+    json.count("rows", u64::from(extent.rows))?;
+    json.count("cols", u64::from(extent.cols))?;
+    json.end_object()
+}
+
+fn write_position(
+    json: &mut JsonText,
+    product: Product,
+    expected: &Place,
+    found: &Place,
+) -> Result<(), OutOfMemory> {
+    json.text("product", product.name())?;
+    write_place(json, "expected", expected)?;
+    write_place(json, "found", found)
+}
+
+/// Degrees as decimals with fifteen places: a float would lose the last of them.
+fn write_place(json: &mut JsonText, name: &str, place: &Place) -> Result<(), OutOfMemory> {
+    json.begin_object(name)?;
+    json.text("ulxmap", units_text(place.ulx).as_str())?;
+    json.text("ulymap", units_text(place.uly).as_str())?;
+    json.text("xdim", units_text(place.xdim).as_str())?;
+    json.text("ydim", units_text(place.ydim).as_str())?;
+    json.end_object()
+}
+
+fn write_tile_length(
+    json: &mut JsonText,
+    tile: TileName,
+    expected: u64,
+    found: u64,
+) -> Result<(), OutOfMemory> {
+    json.text("tile", tile.text().as_str())?;
+    write_lengths(json, expected, found)
+}
+
+fn write_raster_length(
+    json: &mut JsonText,
+    product: Product,
+    expected: u64,
+    found: u64,
+) -> Result<(), OutOfMemory> {
+    json.text("product", product.name())?;
+    write_lengths(json, expected, found)
+}
+
+fn write_lengths(json: &mut JsonText, expected: u64, found: u64) -> Result<(), OutOfMemory> {
+    json.count("expected", expected)?;
+    json.count("found", found)
+}
+
+fn write_seam(
+    json: &mut JsonText,
+    first: &TileValue,
+    other: &TileValue,
+) -> Result<(), OutOfMemory> {
+    write_value(json, "first", first)?;
+    write_value(json, "other", other)
+}
+
+/// A tile and its metres at the cell, null at a void.
+fn write_value(json: &mut JsonText, name: &str, value: &TileValue) -> Result<(), OutOfMemory> {
+    json.begin_object(name)?;
+    json.text("tile", value.tile.text().as_str())?;
+    json.metres("metres", value.metres)?;
+    json.end_object()
+}
+
+fn write_sink_line(
+    alloc: Global,
+    json: &mut JsonText,
+    line: u64,
+    found: &[u8],
+) -> Result<(), OutOfMemory> {
+    json.count("line", line)?;
+    write_shown(alloc, json, found)
+}
+
+fn write_sink_cell(
+    json: &mut JsonText,
+    line: u64,
+    row: u64,
+    col: u64,
+    why: NoData,
+) -> Result<(), OutOfMemory> {
+    json.count("line", line)?;
+    json.count("row", row)?;
+    json.count("col", col)?;
+    json.text(
+        "found",
+        match why {
+            NoData::Void => "void",
+            NoData::Outside => "outside",
         },
-    })
-}
-
-fn extent_json(extent: &Extent) -> ExtentJson {
-    ExtentJson {
-        rows: extent.rows,
-        cols: extent.cols,
-    }
-}
-
-fn place_json(alloc: Global, place: &Place) -> Result<PlaceJson, OutOfMemory> {
-    Ok(PlaceJson {
-        ulxmap: units_json(alloc, place.ulx)?,
-        ulymap: units_json(alloc, place.uly)?,
-        xdim: units_json(alloc, place.xdim)?,
-        ydim: units_json(alloc, place.ydim)?,
-    })
-}
-
-fn units_json(alloc: Global, units: i128) -> Result<String, OutOfMemory> {
-    copied(alloc, units_text(units).as_str())
-}
-
-fn tile_json(alloc: Global, tile: TileName) -> Result<String, OutOfMemory> {
-    copied(alloc, tile.text().as_str())
-}
-
-fn value_json(alloc: Global, value: &TileValue) -> Result<TileValueJson, OutOfMemory> {
-    Ok(TileValueJson {
-        tile: tile_json(alloc, value.tile)?,
-        metres: value.metres,
-    })
-}
-
-fn copied(alloc: Global, words: &str) -> Result<String, OutOfMemory> {
-    let mut copy = String::new(alloc);
-    match copy.push_str(words) {
-        Ok(()) => Ok(copy),
-        Err(_) => Err(OutOfMemory),
-    }
+    )
 }

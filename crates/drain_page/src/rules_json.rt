@@ -2,103 +2,100 @@
 
 use crate::facts::Findings;
 use crate::first_rule::is_tried;
+use crate::json_text::JsonText;
 use crate::place::MosaicPlace;
 use crate::wanted::shown_products;
-use crate::wanted_json::push;
-use drain_faults::{RULES, RuleFaults};
-use drain_grid::{Cell, OutOfMemory};
-use serde::Serialize;
-use std::alloc::Global;
-
-/// A rule that was tried.
-#[derive(Drop, Serialize)]
-pub(crate) struct RuleJson {
-    rule: u8,
-    name: &'static str,
-    cells: u32,
-    first: Option<CellJson>,
-}
-
-/// A product's faults by rules VoidCell and Missing.
-#[derive(Drop, Serialize)]
-pub(crate) struct ProductJson {
-    product: &'static str,
-    at_voids: FaultsJson,
-    at_data: FaultsJson,
-}
-
-/// How many cells, and the first.
-#[derive(Drop, Serialize)]
-pub(crate) struct FaultsJson {
-    cells: u32,
-    first: Option<CellJson>,
-}
-
-/// A cell and its degrees.
-#[derive(Drop, Serialize)]
-pub(crate) struct CellJson {
-    row: u32,
-    col: u32,
-    longitude: f64,
-    latitude: f64,
-}
+use drain_faults::{ProductFaults, RULES, RuleFaults};
+use drain_grid::{Cell, Held, OutOfMemory, Rule};
 
 /// Each rule that was tried.
-pub(crate) fn rules_json(alloc: Global, findings: &Findings) -> Result<Vec<RuleJson>, OutOfMemory> {
-    let mut rules = Vec::new(alloc);
+pub(crate) fn write_rules(json: &mut JsonText, findings: &Findings) -> Result<(), OutOfMemory> {
+    json.begin_list("rules")?;
     for rule in RULES {
         if is_tried(rule) {
-            let faults = findings.by_rule.of(rule);
-            let rule = RuleJson {
-                rule: rule.number(),
-                name: rule.name(),
-                cells: faults.cells,
-                first: first_json(&findings.place, faults),
-            };
-            push(&mut rules, rule)?;
+            write_rule(json, &findings.place, rule, findings.by_rule.of(rule))?;
         }
     }
-    Ok(rules)
+    json.end_list()
 }
 
-/// Each product that was looked at.
-pub(crate) fn products_json(
-    alloc: Global,
-    findings: &Findings,
-) -> Result<Vec<ProductJson>, OutOfMemory> {
-    let mut products = Vec::new(alloc);
+fn write_rule(
+    json: &mut JsonText,
+    place: &MosaicPlace,
+    rule: Rule,
+    faults: &RuleFaults,
+) -> Result<(), OutOfMemory> {
+    json.begin_object_item()?;
+    json.count("rule", u64::from(rule.number()))?;
+    json.text("name", rule.name())?;
+    end_with_faults(json, place, faults)
+}
+
+/// Each product that was looked at, with its faults by rules VoidCell and Missing.
+pub(crate) fn write_products(json: &mut JsonText, findings: &Findings) -> Result<(), OutOfMemory> {
+    json.begin_list("products")?;
     for held in shown_products(findings.rules.ranks) {
         let faults = findings.by_product.of(*held);
-        let product = ProductJson {
-            product: held.product().name(),
-            at_voids: faults_json(&findings.place, &faults.at_voids),
-            at_data: faults_json(&findings.place, &faults.at_data),
-        };
-        push(&mut products, product)?;
+        write_product(json, &findings.place, *held, faults)?;
     }
-    Ok(products)
+    json.end_list()
 }
 
-fn faults_json(place: &MosaicPlace, faults: &RuleFaults) -> FaultsJson {
-    FaultsJson {
-        cells: faults.cells,
-        first: first_json(place, faults),
-    }
+fn write_product(
+    json: &mut JsonText,
+    place: &MosaicPlace,
+    held: Held,
+    faults: &ProductFaults,
+) -> Result<(), OutOfMemory> {
+    json.begin_object_item()?;
+    json.text("product", held.product().name())?;
+    json.begin_object("at_voids")?;
+    end_with_faults(json, place, &faults.at_voids)?;
+    json.begin_object("at_data")?;
+    end_with_faults(json, place, &faults.at_data)?;
+    json.end_object()
 }
 
-fn first_json(place: &MosaicPlace, faults: &RuleFaults) -> Option<CellJson> {
+/// How many cells, and the first, at the end of an object.
+fn end_with_faults(
+    json: &mut JsonText,
+    place: &MosaicPlace,
+    faults: &RuleFaults,
+) -> Result<(), OutOfMemory> {
+    json.count("cells", u64::from(faults.cells))?;
     match faults.first {
-        Some(cell) => Some(cell_json(place, cell)),
-        None => None,
+        Some(cell) => write_cell(json, "first", place, cell)?,
+        None => json.null("first")?,
     }
+    json.end_object()
 }
 
-/// A cell with its degrees.
-pub(crate) fn cell_json(place: &MosaicPlace, cell: Cell) -> CellJson {
-    CellJson {
-        row: cell.row,
-        col: cell.col,
-        longitude: place.longitude(cell.col),
-        latitude: place.latitude(cell.row),
-    }
+/// A member that is a cell with its degrees.
+pub(crate) fn write_cell(
+    json: &mut JsonText,
+    name: &str,
+    place: &MosaicPlace,
+    cell: Cell,
+) -> Result<(), OutOfMemory> {
+    json.begin_object(name)?;
+    end_with_place(json, place, cell)
+}
+
+/// An item that is a cell with its degrees.
+pub(crate) fn write_cell_item(
+    json: &mut JsonText,
+    place: &MosaicPlace,
+    cell: Cell,
+) -> Result<(), OutOfMemory> {
+    json.begin_object_item()?;
+    end_with_place(json, place, cell)
+}
+
+/// A cell's row and column and its degrees, at the end of an object.
+fn end_with_place(json: &mut JsonText, place: &MosaicPlace, cell: Cell) -> Result<(), OutOfMemory> {
+    json.count("row", u64::from(cell.row))?;
+    json.count("col", u64::from(cell.col))?;
+    json.decimal("longitude", place.longitude(cell.col))?;
+    json.decimal("latitude", place.latitude(cell.row))?;
+    json.end_object()
 }

@@ -1,83 +1,83 @@
 //! The first run without an end, as JSON.
 
 use crate::facts::Findings;
+use crate::json_text::JsonText;
 use crate::place::MosaicPlace;
-use crate::rules_json::{CellJson, cell_json};
-use crate::wanted_json::push;
+use crate::rules_json::{write_cell, write_cell_item};
 use drain_grid::{Cell, OutOfMemory};
 use drain_runs::{EndlessRun, LostBy};
-use serde::Serialize;
-use std::alloc::Global;
 
-/// Where the run begins, and the ring or the cell to which it comes; the other is null.
-#[derive(Drop, Serialize)]
-pub(crate) struct RunJson {
-    from: CellJson,
-    ring: Option<RingJson>,
-    lost: Option<LostJson>,
+/// Where the run begins, and the ring or the cell to which it comes; null where there is none.
+pub(crate) fn write_run(json: &mut JsonText, findings: &Findings) -> Result<(), OutOfMemory> {
+    match &findings.endless {
+        Some((cell, run)) => write_endless(json, &findings.place, *cell, run),
+        None => json.null("run"),
+    }
+}
+
+fn write_endless(
+    json: &mut JsonText,
+    place: &MosaicPlace,
+    from: Cell,
+    run: &EndlessRun,
+) -> Result<(), OutOfMemory> {
+    json.begin_object("run")?;
+    write_cell(json, "from", place, from)?;
+    write_end(json, place, run)?;
+    json.end_object()
+}
+
+/// The ring or the cell to which the run comes; the other is null.
+fn write_end(
+    json: &mut JsonText,
+    place: &MosaicPlace,
+    run: &EndlessRun,
+) -> Result<(), OutOfMemory> {
+    match run {
+        EndlessRun::Ring { cells, length } => {
+            write_ring(json, place, cells, *length)?;
+            json.null("lost")
+        }
+        EndlessRun::Lost { cell, by } => {
+            json.null("ring")?;
+            write_lost(json, place, *cell, *by)
+        }
+    }
 }
 
 /// How many cells a ring has, and its first ones.
-#[derive(Drop, Serialize)]
-pub(crate) struct RingJson {
-    length: u64,
-    cells: Vec<CellJson>,
+fn write_ring(
+    json: &mut JsonText,
+    place: &MosaicPlace,
+    cells: &[Cell],
+    length: usize,
+) -> Result<(), OutOfMemory> {
+    json.begin_object("ring")?;
+    json.count("length", length as u64)?;
+    json.begin_list("cells")?;
+    for cell in cells {
+        write_cell_item(json, place, *cell)?;
+    }
+    json.end_list()?;
+    json.end_object()
 }
 
 /// The cell from which a run leads nowhere, and why.
-#[derive(Drop, Serialize)]
-pub(crate) struct LostJson {
-    cell: CellJson,
-    by: &'static str,
-}
-
-pub(crate) fn run_json(alloc: Global, findings: &Findings) -> Result<Option<RunJson>, OutOfMemory> {
-    match &findings.endless {
-        Some((cell, run)) => Ok(Some(RunJson {
-            from: cell_json(&findings.place, *cell),
-            ring: ring_json(alloc, &findings.place, run)?,
-            lost: lost_json(&findings.place, run),
-        })),
-        None => Ok(None),
-    }
-}
-
-fn ring_json(
-    alloc: Global,
+fn write_lost(
+    json: &mut JsonText,
     place: &MosaicPlace,
-    run: &EndlessRun,
-) -> Result<Option<RingJson>, OutOfMemory> {
-    match run {
-        EndlessRun::Ring { cells, length } => Ok(Some(RingJson {
-            length: *length as u64,
-            cells: cells_json(alloc, place, cells)?,
-        })),
-        EndlessRun::Lost { .. } => Ok(None),
-    }
-}
-
-fn cells_json(
-    alloc: Global,
-    place: &MosaicPlace,
-    cells: &[Cell],
-) -> Result<Vec<CellJson>, OutOfMemory> {
-    let mut told = Vec::new(alloc);
-    for cell in cells {
-        push(&mut told, cell_json(place, *cell))?;
-    }
-    Ok(told)
-}
-
-fn lost_json(place: &MosaicPlace, run: &EndlessRun) -> Option<LostJson> {
-    match run {
-        EndlessRun::Ring { .. } => None,
-        EndlessRun::Lost { cell, by } => Some(LostJson {
-            cell: cell_json(place, *cell),
-            by: match by {
-                LostBy::NoCode => "no_code",
-                LostBy::Outside => "outside",
-                LostBy::Void => "void",
-            },
-        }),
-    }
+    cell: Cell,
+    by: LostBy,
+) -> Result<(), OutOfMemory> {
+    json.begin_object("lost")?;
+    write_cell(json, "cell", place, cell)?;
+    json.text(
+        "by",
+        match by {
+            LostBy::NoCode => "no_code",
+            LostBy::Outside => "outside",
+            LostBy::Void => "void",
+        },
+    )?;
+    json.end_object()
 }

@@ -2,104 +2,81 @@
 
 use crate::facts::Findings;
 use crate::first_rule::least_first_at;
+use crate::json_text::JsonText;
 use crate::opening::Opening;
 use crate::wanted::{Wanted, WayDown, number, steepest, wanted_by};
 use crate::wanted_text::found_product;
 use drain_faults::FaultyPatch;
 use drain_grid::{CellValues, Direction, Held, OutOfMemory, Rule};
-use serde::Serialize;
 use std::alloc::Global;
-
-/// What was wanted. A member that the rule has no use for is null or empty.
-#[derive(Drop, Serialize)]
-pub(crate) struct WantedJson {
-    rule: u8,
-    name: &'static str,
-    /// The product whose number is wrong, of rules 3 to 15.
-    product: Option<&'static str>,
-    /// Its number.
-    found: Option<i64>,
-    /// The number that was expected; of rule BelowGround the least, of rule NotLeast the greatest.
-    number: Option<i64>,
-    /// The products at fault, of rules VoidCell and Missing.
-    products: Vec<&'static str>,
-    /// The codes that would do, where dir is at fault.
-    codes: Vec<i64>,
-    /// The ways down, of rule Slope.
-    ways: Vec<WayJson>,
-    /// Why the cell is open, where this is why the rule asks.
-    open: Option<&'static str>,
-}
-
-/// A way down.
-#[derive(Drop, Serialize)]
-pub(crate) struct WayJson {
-    code: i64,
-    drop: i64,
-    key: u128,
-}
 
 /// The nine codes.
 const CODES: [i64; 9] = [0, 1, 2, 4, 8, 16, 32, 64, 128];
 
-pub(crate) fn first_wanted_json(
+/// What was wanted; null where no rule fails. A member that the rule has no use for is null or empty.
+pub(crate) fn write_wanted(
     alloc: Global,
+    json: &mut JsonText,
     findings: &Findings,
-) -> Result<Option<WantedJson>, OutOfMemory> {
+) -> Result<(), OutOfMemory> {
     match &findings.first {
-        Some(first) => wanted_at(alloc, findings, first),
-        None => Ok(None),
+        Some(first) => write_wanted_at(alloc, json, findings, first),
+        None => json.null("expected"),
     }
 }
 
-fn wanted_at(
+fn write_wanted_at(
     alloc: Global,
+    json: &mut JsonText,
     findings: &Findings,
     first: &FaultyPatch,
-) -> Result<Option<WantedJson>, OutOfMemory> {
+) -> Result<(), OutOfMemory> {
     match least_first_at(&findings.by_rule, first.cell) {
-        Some(rule) => {
-            let wanted = wanted_by(alloc, rule, &first.patch, &findings.rules)?;
-            Ok(Some(wanted_json(alloc, rule, &first.patch.here, &wanted)?))
-        }
-        None => Ok(None),
+        Some(rule) => match wanted_by(alloc, rule, &first.patch, &findings.rules) {
+            Ok(wanted) => write_wanted_by(json, rule, &first.patch.here, &wanted),
+            Err(e) => Err(e),
+        },
+        None => json.null("expected"),
     }
 }
 
-fn wanted_json(
-    alloc: Global,
+fn write_wanted_by(
+    json: &mut JsonText,
     rule: Rule,
     here: &CellValues,
     wanted: &Wanted,
-) -> Result<WantedJson, OutOfMemory> {
-    let product = found_product(wanted);
-    Ok(WantedJson {
-        rule: rule.number(),
-        name: rule.name(),
-        product: name_of(product),
-        found: number_of(here, product),
-        number: expected_number(wanted),
-        products: products(alloc, wanted)?,
-        codes: codes(alloc, wanted)?,
-        ways: ways(alloc, wanted)?,
-        open: opening_name(wanted),
-    })
+) -> Result<(), OutOfMemory> {
+    json.begin_object("expected")?;
+    json.count("rule", u64::from(rule.number()))?;
+    json.text("name", rule.name())?;
+    write_found(json, here, found_product(wanted))?;
+    json.number_or_null("number", expected_number(wanted))?;
+    write_products(json, wanted)?;
+    write_codes(json, wanted)?;
+    write_ways(json, wanted)?;
+    write_opening(json, wanted)?;
+    json.end_object()
 }
 
-fn name_of(product: Option<Held>) -> Option<&'static str> {
+/// The product whose number is wrong, and this number, of rules 3 to 15.
+fn write_found(
+    json: &mut JsonText,
+    here: &CellValues,
+    product: Option<Held>,
+) -> Result<(), OutOfMemory> {
     match product {
-        Some(held) => Some(held.product().name()),
-        None => None,
+        Some(held) => {
+            json.text("product", held.product().name())?;
+            json.number("found", number(here, held))
+        }
+        None => {
+            json.null("product")?;
+            json.null("found")
+        }
     }
 }
 
-fn number_of(here: &CellValues, product: Option<Held>) -> Option<i64> {
-    match product {
-        Some(held) => Some(number(here, held)),
-        None => None,
-    }
-}
-
+/// The number that was expected; of rule BelowGround the least, of rule NotLeast the greatest.
 fn expected_number(wanted: &Wanted) -> Option<i64> {
     match wanted {
         Wanted::AtLeast(ground) => Some(*ground),
@@ -112,96 +89,99 @@ fn expected_number(wanted: &Wanted) -> Option<i64> {
     }
 }
 
-fn opening_name(wanted: &Wanted) -> Option<&'static str> {
-    match wanted {
-        Wanted::Ground { open, .. } => word_of(*open),
-        Wanted::Outlet(open) => word_of(*open),
-        _ => None,
+/// The products at fault, of rules VoidCell and Missing.
+fn write_products(json: &mut JsonText, wanted: &Wanted) -> Result<(), OutOfMemory> {
+    json.begin_list("products")?;
+    if let Wanted::Blank(products) | Wanted::Numbers(products) = wanted {
+        write_names(json, products)?;
     }
+    json.end_list()
 }
 
-fn word_of(open: Option<Opening>) -> Option<&'static str> {
-    match open {
-        Some(opening) => Some(opening.name()),
-        None => None,
-    }
-}
-
-fn products(alloc: Global, wanted: &Wanted) -> Result<Vec<&'static str>, OutOfMemory> {
-    match wanted {
-        Wanted::Blank(products) | Wanted::Numbers(products) => names(alloc, products),
-        _ => Ok(Vec::new(alloc)),
-    }
-}
-
-fn names(alloc: Global, products: &[Held]) -> Result<Vec<&'static str>, OutOfMemory> {
-    let mut names = Vec::new(alloc);
+fn write_names(json: &mut JsonText, products: &[Held]) -> Result<(), OutOfMemory> {
     for held in products {
-        push(&mut names, held.product().name())?;
+        json.text_item(held.product().name())?;
     }
-    Ok(names)
+    Ok(())
 }
 
-/// The codes with which the rule would hold.
-fn codes(alloc: Global, wanted: &Wanted) -> Result<Vec<i64>, OutOfMemory> {
+/// The codes that would do, where dir is at fault.
+fn write_codes(json: &mut JsonText, wanted: &Wanted) -> Result<(), OutOfMemory> {
+    json.begin_list("codes")?;
+    write_each_code(json, wanted)?;
+    json.end_list()
+}
+
+fn write_each_code(json: &mut JsonText, wanted: &Wanted) -> Result<(), OutOfMemory> {
     match wanted {
-        Wanted::Code => copied(alloc, &CODES),
-        Wanted::Outlet(_) => copied(alloc, &CODES[..1]),
-        Wanted::Along { directions, .. } => codes_of(alloc, directions),
-        Wanted::Steepest(ways) => steepest_codes(alloc, ways),
-        _ => Ok(Vec::new(alloc)),
+        Wanted::Code => write_every_code(json),
+        Wanted::Outlet(_) => json.number_item(0),
+        Wanted::Along { directions, .. } => write_directions(json, directions),
+        Wanted::Steepest(ways) => write_steepest(json, ways),
+        _ => Ok(()),
     }
 }
 
-fn copied(alloc: Global, numbers: &[i64]) -> Result<Vec<i64>, OutOfMemory> {
-    match numbers.to_vec(alloc) {
-        Ok(copy) => Ok(copy),
-        Err(_) => Err(OutOfMemory),
+fn write_every_code(json: &mut JsonText) -> Result<(), OutOfMemory> {
+    for code in CODES {
+        json.number_item(code)?;
     }
+    Ok(())
 }
 
-fn codes_of(alloc: Global, directions: &[Direction]) -> Result<Vec<i64>, OutOfMemory> {
-    let mut codes = Vec::new(alloc);
+fn write_directions(json: &mut JsonText, directions: &[Direction]) -> Result<(), OutOfMemory> {
     for direction in directions {
-        push(&mut codes, direction.code())?;
+        json.number_item(direction.code())?;
     }
-    Ok(codes)
+    Ok(())
 }
 
-fn steepest_codes(alloc: Global, ways: &[WayDown]) -> Result<Vec<i64>, OutOfMemory> {
+fn write_steepest(json: &mut JsonText, ways: &[WayDown]) -> Result<(), OutOfMemory> {
     let steepest = steepest(ways);
-    let mut codes = Vec::new(alloc);
     for way in ways {
         if way.key == steepest {
-            push(&mut codes, way.direction.code())?;
+            json.number_item(way.direction.code())?;
         }
     }
-    Ok(codes)
+    Ok(())
 }
 
-fn ways(alloc: Global, wanted: &Wanted) -> Result<Vec<WayJson>, OutOfMemory> {
-    match wanted {
-        Wanted::Steepest(ways) => each_way(alloc, ways),
-        _ => Ok(Vec::new(alloc)),
+/// The ways down, of rule Slope.
+fn write_ways(json: &mut JsonText, wanted: &Wanted) -> Result<(), OutOfMemory> {
+    json.begin_list("ways")?;
+    if let Wanted::Steepest(ways) = wanted {
+        write_each_way(json, ways)?;
     }
+    json.end_list()
 }
 
-fn each_way(alloc: Global, ways: &[WayDown]) -> Result<Vec<WayJson>, OutOfMemory> {
-    let mut told = Vec::new(alloc);
+fn write_each_way(json: &mut JsonText, ways: &[WayDown]) -> Result<(), OutOfMemory> {
     for way in ways {
-        let way = WayJson {
-            code: way.direction.code(),
-            drop: way.drop,
-            key: way.key,
-        };
-        push(&mut told, way)?;
+        write_way(json, way)?;
     }
-    Ok(told)
+    Ok(())
 }
 
-pub(crate) fn push<T: Drop>(things: &mut Vec<T>, thing: T) -> Result<(), OutOfMemory> {
-    match things.push(thing) {
-        Ok(()) => Ok(()),
-        Err(_) => Err(OutOfMemory),
+fn write_way(json: &mut JsonText, way: &WayDown) -> Result<(), OutOfMemory> {
+    json.begin_object_item()?;
+    json.number("code", way.direction.code())?;
+    json.number("drop", way.drop)?;
+    json.long("key", way.key)?;
+    json.end_object()
+}
+
+/// Why the cell is open, where this is why the rule asks.
+fn write_opening(json: &mut JsonText, wanted: &Wanted) -> Result<(), OutOfMemory> {
+    match opening(wanted) {
+        Some(opening) => json.text("open", opening.name()),
+        None => json.null("open"),
+    }
+}
+
+fn opening(wanted: &Wanted) -> Option<Opening> {
+    match wanted {
+        Wanted::Ground { open, .. } => *open,
+        Wanted::Outlet(open) => *open,
+        _ => None,
     }
 }

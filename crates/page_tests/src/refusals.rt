@@ -100,7 +100,7 @@ fn facts(alloc: Global, kind: usize) -> Result<Facts, Fail> {
                 why: NoData::Void,
             },
         ),
-        _ => refused(
+        9 => refused(
             Refusal::SinkNotData(3),
             RefusalNote::SinkCell {
                 number: 3,
@@ -109,11 +109,15 @@ fn facts(alloc: Global, kind: usize) -> Result<Facts, Fail> {
                 why: NoData::Outside,
             },
         ),
+        _ => refused(
+            Refusal::BadName(1),
+            RefusalNote::Name(bytes(alloc, b"\"\\\x7f\0/")?),
+        ),
     })
 }
 
 /// For each of them the text below its line, and its JSON.
-static WANTED: [(&str, &str); 10] = [
+static WANTED: [(&str, &str); 11] = [
     (
         "\nexpected: a side from 2 to 3601\nfound: 7000\n",
         r#""refusal":{"about":"side","least":2,"greatest":3601,"found":7000},"rows""#,
@@ -153,6 +157,10 @@ static WANTED: [(&str, &str); 10] = [
     (
         "\nexpected: line 3 with a data cell\nfound: row 4, column 7, outside the mosaic\n",
         r#""refusal":{"about":"sink_cell","line":3,"row":4,"col":7,"found":"outside"},"rows""#,
+    ),
+    (
+        "\nexpected: the name of a tile, such as N36W085.hgt\nfound: \"\\\\\\x7f\\x00/\n",
+        r#""refusal":{"about":"name","found":"\"\\\\\\x7f\\x00/"},"rows""#,
     ),
 ];
 
