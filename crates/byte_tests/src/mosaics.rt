@@ -1,14 +1,17 @@
 //! Worked mosaics, from the format's own rows. Seams and layouts have files of their own.
 
+ghost use Rattle.std.specs.Prelude.{◌≡◌, IfOk, All, map, length};
+
 mod boxes;
 mod layouts;
 mod seams;
 
 use crate::agree::same;
+use crate::tiles::{four_named, two_named};
 use drain_grid::{Cell, Elevation, VOID};
 use drain_hgt::{NameFault, TileName};
 use drain_mosaic::{Layout, SeamFault, join};
-use std::alloc::Global;
+use std::alloc::{AllocError, Global};
 use std::test::Fail;
 
 /// The samples of an elevation in row order.
@@ -23,25 +26,52 @@ fn samples(alloc: Global, elevation: &Elevation) -> Result<Vec<i16>, Fail> {
     Ok(samples)
 }
 
+/// Two tiles of these samples.
+fn two_tiles<const N: usize>(
+    alloc: Global,
+    samples: &[[i16; N]; 2],
+) -> Result<[Vec<i16>; 2], AllocError>
+    ensures { IfOk result (λ tiles. All (λ tile. length tile ≡ N) (map (λ tile. tile.items) tiles)) }
+{
+    Ok([
+        Vec::from_slice(alloc, &samples[0])?,
+        Vec::from_slice(alloc, &samples[1])?,
+    ])
+}
+
+/// Four tiles of these samples.
+fn four_tiles<const N: usize>(
+    alloc: Global,
+    samples: &[[i16; N]; 4],
+) -> Result<[Vec<i16>; 4], AllocError>
+    ensures { IfOk result (λ tiles. All (λ tile. length tile ≡ N) (map (λ tile. tile.items) tiles)) }
+{
+    Ok([
+        Vec::from_slice(alloc, &samples[0])?,
+        Vec::from_slice(alloc, &samples[1])?,
+        Vec::from_slice(alloc, &samples[2])?,
+        Vec::from_slice(alloc, &samples[3])?,
+    ])
+}
+
 /// The samples of two tiles of side 2, one west of the other.
 fn side_by_side(alloc: Global, west: [i16; 4], east: [i16; 4]) -> Result<Vec<i16>, Fail> {
-    let first = TileName::parse(b"N00E000.hgt")?;
-    let last = TileName::parse(b"N00E001.hgt")?;
-    let layout = Layout::new(alloc, 2, &[first, last])?;
-    let west = Vec::from_slice(alloc, &west)?;
-    let east = Vec::from_slice(alloc, &east)?;
-    let elevation = join(alloc, &layout, &[west, east])?;
+    let names = two_named(["N00E000.hgt", "N00E001.hgt"])?;
+    let layout = Layout::new(alloc, 2, &names)?;
+    let elevation = join(alloc, &layout, &two_tiles(alloc, &[west, east])?)?;
     samples(alloc, &elevation)
 }
 
+/// The samples of two tiles, and those of their mosaic.
+static PAIRS: [([i16; 4], [i16; 4], [i16; 6]); 3] = [
+    ([1, 2, 3, 4], [2, 5, 4, 6], [1, 2, 5, 3, 4, 6]),
+    ([1, 2, 3, 4], [VOID, 5, 4, 6], [1, 2, 5, 3, 4, 6]),
+    ([1, VOID, 3, VOID], [2, 5, VOID, 6], [1, 2, 5, 3, VOID, 6]),
+];
+
 #[test]
 fn tiles_side_by_side(rt: HostRuntime) -> Result<(), Fail> {
-    let v = VOID;
-    for (west, east, wanted) in [
-        ([1, 2, 3, 4], [2, 5, 4, 6], [1, 2, 5, 3, 4, 6]),
-        ([1, 2, 3, 4], [v, 5, 4, 6], [1, 2, 5, 3, 4, 6]),
-        ([1, v, 3, v], [2, 5, v, 6], [1, 2, 5, 3, v, 6]),
-    ] {
+    for &(west, east, wanted) in &PAIRS {
         let given = side_by_side(rt.alloc(), west, east)?;
         same(&rt, east, given.as_slice(), wanted.as_slice());
     }
@@ -50,12 +80,7 @@ fn tiles_side_by_side(rt: HostRuntime) -> Result<(), Fail> {
 
 /// The names of four tiles in a square: north-west, north-east, south-west, south-east.
 fn names_of_square() -> Result<[TileName; 4], NameFault> {
-    Ok([
-        TileName::parse(b"N01E000.hgt")?,
-        TileName::parse(b"N01E001.hgt")?,
-        TileName::parse(b"N00E000.hgt")?,
-        TileName::parse(b"N00E001.hgt")?,
-    ])
+    four_named(["N01E000.hgt", "N01E001.hgt", "N00E000.hgt", "N00E001.hgt"])
 }
 
 /// The north of a square, and how many tiles it has.
@@ -68,11 +93,12 @@ fn north_of_square(alloc: Global) -> Result<(i16, usize), Fail> {
 fn square(alloc: Global, sample: i16) -> Result<Result<Elevation, SeamFault>, Fail> {
     let layout = Layout::new(alloc, 2, &names_of_square()?)?;
     let tiles = [
-        vec![in alloc; 1, 2, 4, VOID]?,
-        vec![in alloc; 2, 3, VOID, 6]?,
-        vec![in alloc; 4, sample, 7, 8]?,
-        vec![in alloc; 5, 6, 8, 9]?,
+        [1, 2, 4, VOID],
+        [2, 3, VOID, 6],
+        [4, sample, 7, 8],
+        [5, 6, 8, 9],
     ];
+    let tiles = four_tiles(alloc, &tiles)?;
     Ok(join(alloc, &layout, &tiles))
 }
 
@@ -94,12 +120,9 @@ fn tiles_in_a_square(rt: HostRuntime) -> Result<(), Fail> {
 
 /// The samples of two tiles of zeros, of side 3, with a gap of one tile between them.
 fn with_a_gap(alloc: Global) -> Result<Vec<i16>, Fail> {
-    let first = TileName::parse(b"N00E000.hgt")?;
-    let last = TileName::parse(b"N00E002.hgt")?;
-    let layout = Layout::new(alloc, 3, &[first, last])?;
-    let west = Vec::from_slice(alloc, &[0; 9])?;
-    let east = Vec::from_slice(alloc, &[0; 9])?;
-    let elevation = join(alloc, &layout, &[west, east])?;
+    let names = two_named(["N00E000.hgt", "N00E002.hgt"])?;
+    let layout = Layout::new(alloc, 3, &names)?;
+    let elevation = join(alloc, &layout, &two_tiles(alloc, &[[0; 9]; 2])?)?;
     samples(alloc, &elevation)
 }
 
@@ -116,39 +139,32 @@ fn tiles_with_a_gap_between_them(rt: HostRuntime) -> Result<(), Fail> {
 
 /// The samples of a box of 8 by 8 tiles of side 2, of which only the corners are there, each of one number.
 fn largest_box(alloc: Global) -> Result<Vec<i16>, Fail> {
-    let names = [
-        TileName::parse(b"N00E000.hgt")?,
-        TileName::parse(b"N07E007.hgt")?,
-        TileName::parse(b"N00E007.hgt")?,
-        TileName::parse(b"N07E000.hgt")?,
-    ];
+    let names = four_named(["N00E000.hgt", "N07E007.hgt", "N00E007.hgt", "N07E000.hgt"])?;
     let layout = Layout::new(alloc, 2, &names)?;
-    let tiles = [
-        Vec::from_slice(alloc, &[1; 4])?,
-        Vec::from_slice(alloc, &[2; 4])?,
-        Vec::from_slice(alloc, &[3; 4])?,
-        Vec::from_slice(alloc, &[4; 4])?,
-    ];
+    let tiles = four_tiles(alloc, &[[1; 4], [2; 4], [3; 4], [4; 4]])?;
     let elevation = join(alloc, &layout, &tiles)?;
     samples(alloc, &elevation)
 }
+
+/// Places in the largest box, and the samples there.
+static LARGEST_BOX: [(usize, i16); 10] = [
+    (0, 4),
+    (1, 4),
+    (2, VOID),
+    (7, 2),
+    (8, 2),
+    (9, 4),
+    (40, VOID),
+    (71, 3),
+    (72, 1),
+    (80, 3),
+];
 
 #[test]
 fn corners_of_the_largest_box(rt: HostRuntime) -> Result<(), Fail> {
     let given = largest_box(rt.alloc())?;
     same(&rt, "samples", Some(given.len()), Some(81));
-    for (place, sample) in [
-        (0, 4),
-        (1, 4),
-        (2, VOID),
-        (7, 2),
-        (8, 2),
-        (9, 4),
-        (40, VOID),
-        (71, 3),
-        (72, 1),
-        (80, 3),
-    ] {
+    for &(place, sample) in &LARGEST_BOX {
         same(&rt, place, given.get(place).copied(), Some(sample));
     }
     Ok(())

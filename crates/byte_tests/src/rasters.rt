@@ -3,7 +3,7 @@
 ghost use Rattle.std.specs.Prelude.{◌≡◌, IfOk, IfSome};
 ghost use Rattle.drain_raster.specs.Pixels.{extent_of};
 
-use crate::agree::same;
+use crate::agree::{same, same_text};
 use drain_device::VecSink;
 use drain_grid::values::{GREATEST_PIXEL, LEAST_PIXEL};
 use drain_grid::{Cell, Product, Raster, Shape};
@@ -144,6 +144,16 @@ fn nodata_of(alloc: Global, product: Product, header: &Header) -> Result<i64, Ra
     Ok(read_raster(alloc, product, header, &[7])?.nodata())
 }
 
+/// Products, each with its number for no data.
+static NO_DATA: [(Product, i64); 6] = [
+    (Product::Con, -32768),
+    (Product::Dir, 255),
+    (Product::Acc, 0),
+    (Product::Bas, 0),
+    (Product::Spl, 255),
+    (Product::Rnk, 4294967295),
+];
+
 /// A header's no-data number comes before the product's.
 #[test]
 fn the_no_data_number_is_that_of_the_header_or_the_product(rt: HostRuntime) -> Result<(), Fail> {
@@ -152,14 +162,7 @@ fn the_no_data_number_is_that_of_the_header_or_the_product(rt: HostRuntime) -> R
         nodata: Some(-9999),
         ..header
     };
-    for (product, number) in [
-        (Product::Con, -32768),
-        (Product::Dir, 255),
-        (Product::Acc, 0),
-        (Product::Bas, 0),
-        (Product::Spl, 255),
-        (Product::Rnk, 4294967295),
-    ] {
+    for &(product, number) in &NO_DATA {
         let of_product = nodata_of(rt.alloc(), product, &header)?;
         let of_header = nodata_of(rt.alloc(), product, &given)?;
         same(&rt, product, (of_product, of_header), (number, -9999));
@@ -171,7 +174,7 @@ fn the_no_data_number_is_that_of_the_header_or_the_product(rt: HostRuntime) -> R
 type Spelling = (u8, bool, i64, [u8; 4], [u8; 4]);
 
 /// The least and the greatest number of each kind of pixel; behind a pixel stand zeros.
-const BOUNDS: [Spelling; 12] = [
+static BOUNDS: [Spelling; 12] = [
     (8, false, 0, [0, 0, 0, 0], [0, 0, 0, 0]),
     (8, false, 255, [0xff, 0, 0, 0], [0xff, 0, 0, 0]),
     (8, true, -128, [0x80, 0, 0, 0], [0x80, 0, 0, 0]),
@@ -213,7 +216,7 @@ fn spelled(
 
 #[test]
 fn each_kind_of_pixel_spells_its_bounds(rt: HostRuntime) -> Result<(), Fail> {
-    for (bits, signed, number, least_first, most_first) in BOUNDS {
+    for &(bits, signed, number, least_first, most_first) in &BOUNDS {
         for (order, bytes) in [
             (ByteOrdering::Least, least_first),
             (ByteOrdering::Most, most_first),
@@ -241,22 +244,25 @@ fn refused(
     Ok((written, sink.as_slice().len()))
 }
 
+/// Numbers outside the bounds of a pixel of so many bits, with or without a sign.
+static OUTSIDE: [(u8, bool, i64); 12] = [
+    (8, false, -1),
+    (8, false, 256),
+    (8, true, -129),
+    (8, true, 128),
+    (16, false, -1),
+    (16, false, 65536),
+    (16, true, -32769),
+    (16, true, 32768),
+    (32, false, -1),
+    (32, false, -2147483648),
+    (32, true, 2147483648),
+    (32, true, 4294967295),
+];
+
 #[test]
 fn no_kind_of_pixel_spells_a_number_outside_its_bounds(rt: HostRuntime) -> Result<(), Fail> {
-    for (bits, signed, number) in [
-        (8, false, -1),
-        (8, false, 256),
-        (8, true, -129),
-        (8, true, 128),
-        (16, false, -1),
-        (16, false, 65536),
-        (16, true, -32769),
-        (16, true, 32768),
-        (32, false, -1),
-        (32, false, -2147483648),
-        (32, true, 2147483648),
-        (32, true, 4294967295),
-    ] {
+    for &(bits, signed, number) in &OUTSIDE {
         let header = alone(bits, signed, ByteOrdering::Least);
         let given = refused(rt.alloc(), &header, number)?;
         let fault = WriteFault::OutOfRange(Cell { row: 0, col: 0 });
@@ -265,24 +271,28 @@ fn no_kind_of_pixel_spells_a_number_outside_its_bounds(rt: HostRuntime) -> Resul
     Ok(())
 }
 
+/// Faults of reads, each with its text.
+static READ_FAULTS: [(RasterFault, &str); 2] = [
+    (RasterFault::Short, "the raster is too short"),
+    (RasterFault::OutOfMemory, "out of memory"),
+];
+
+/// Faults of writes, each with its text.
+static WRITE_FAULTS: [(WriteFault, &str); 2] = [
+    (
+        WriteFault::OutOfRange(Cell { row: 0, col: 1 }),
+        "a number is out of range",
+    ),
+    (WriteFault::WriteFailed, "the write failed"),
+];
+
 #[test]
 fn texts_of_faults(rt: HostRuntime) -> Result<(), Fail> {
-    for (fault, text) in [
-        (RasterFault::Short, "the raster is too short"),
-        (RasterFault::OutOfMemory, "out of memory"),
-    ] {
-        let given = format!(in rt.alloc(); "{fault}")?;
-        same(&rt, text, given.as_str(), text);
+    for (fault, text) in &READ_FAULTS {
+        same_text(&rt, rt.alloc(), fault, text)?;
     }
-    for (fault, text) in [
-        (
-            WriteFault::OutOfRange(Cell { row: 0, col: 1 }),
-            "a number is out of range",
-        ),
-        (WriteFault::WriteFailed, "the write failed"),
-    ] {
-        let given = format!(in rt.alloc(); "{fault}")?;
-        same(&rt, text, given.as_str(), text);
+    for (fault, text) in &WRITE_FAULTS {
+        same_text(&rt, rt.alloc(), fault, text)?;
     }
     Ok(())
 }

@@ -1,28 +1,22 @@
 //! Boxes of eight tiles, worked by hand, and a wide and a tall mosaic: that they find memory is no clause.
 
-ghost use Rattle.std.specs.Prelude.{◌≡◌, ◌*◌, IfOk, length};
+ghost use Rattle.std.specs.Prelude.{◌≡◌, ◌*◌, IfOk, All, map, length};
 ghost use Rattle.drain_grid.specs.Tile.{IsSide};
 
 use super::samples;
 use crate::agree::same;
+use crate::tiles::{four_named, two_named};
 use drain_grid::{Cell, Elevation};
 use drain_hgt::{NameFault, TileName};
 use drain_mosaic::{Layout, SeamFault, join};
 use std::alloc::{AllocError, Global};
 use std::test::Fail;
 
-/// Eight names of tiles.
-fn names_of(names: [&str; 8]) -> Result<[TileName; 8], NameFault> {
-    Ok([
-        TileName::parse(names[0].as_bytes())?,
-        TileName::parse(names[1].as_bytes())?,
-        TileName::parse(names[2].as_bytes())?,
-        TileName::parse(names[3].as_bytes())?,
-        TileName::parse(names[4].as_bytes())?,
-        TileName::parse(names[5].as_bytes())?,
-        TileName::parse(names[6].as_bytes())?,
-        TileName::parse(names[7].as_bytes())?,
-    ])
+/// Eight tiles by their names.
+fn eight_named(names: [&str; 8]) -> Result<[TileName; 8], NameFault> {
+    let [first, second, third, fourth] = four_named([names[0], names[1], names[2], names[3]])?;
+    let [fifth, sixth, seventh, eighth] = four_named([names[4], names[5], names[6], names[7]])?;
+    Ok([first, second, third, fourth, fifth, sixth, seventh, eighth])
 }
 
 /// What eight tiles of side 2 give together.
@@ -31,7 +25,7 @@ fn eight(
     names: [&str; 8],
     tiles: [[i16; 4]; 8],
 ) -> Result<Result<Elevation, SeamFault>, Fail> {
-    let layout = Layout::new(alloc, 2, &names_of(names)?)?;
+    let layout = Layout::new(alloc, 2, &eight_named(names)?)?;
     let tiles = [
         Vec::from_slice(alloc, &tiles[0])?,
         Vec::from_slice(alloc, &tiles[1])?,
@@ -136,7 +130,8 @@ fn eight_tiles_that_agree(rt: HostRuntime) -> Result<(), Fail> {
 /// Each tile but the first differs in turn from the one before it, at the first and at the last of the cells that they share.
 #[test]
 fn eight_tiles_that_differ(rt: HostRuntime) -> Result<(), Fail> {
-    for (tile, seam) in [(1, 1), (2, 2), (3, 3), (4, 4), (5, 5), (6, 6), (7, 7)] {
+    for seam in 1..8u32 {
+        let tile = seam as usize;
         for (place, row) in [(0, 0), (2, 1)] {
             let answer = wide(rt.alloc(), turned(row_of_tiles(), tile, place))?;
             let wanted = SeamFault::SeamMismatch(Cell { row, col: seam });
@@ -159,6 +154,14 @@ fn level(alloc: Global, side: u32, sample: i16) -> Result<Vec<i16>, AllocError>
     vec![in alloc; sample; side as usize * side as usize]
 }
 
+/// A tile of 1 and one of 2.
+fn one_and_two(alloc: Global, side: u32) -> Result<[Vec<i16>; 2], AllocError>
+    requires { IsSide side }
+    ensures { IfOk result (λ tiles. All (λ tile. length tile ≡ side * side) (map (λ tile. tile.items) tiles)) }
+{
+    Ok([level(alloc, side, 1)?, level(alloc, side, 2)?])
+}
+
 /// Rows, columns, and samples: the first, the last and the middle one.
 type Shown = ((u32, u32), [Option<i16>; 3]);
 
@@ -166,13 +169,9 @@ type Shown = ((u32, u32), [Option<i16>; 3]);
 fn of_two(alloc: Global, side: u32, names: [&str; 2]) -> Result<Shown, Fail>
     requires { IsSide side }
 {
-    let names = [
-        TileName::parse(names[0].as_bytes())?,
-        TileName::parse(names[1].as_bytes())?,
-    ];
-    let layout = Layout::new(alloc, side, &names)?;
-    let tiles = [level(alloc, side, 1)?, level(alloc, side, 2)?];
-    Ok(shown(&join(alloc, &layout, &tiles)?))
+    let layout = Layout::new(alloc, side, &two_named(names)?)?;
+    let elevation = join(alloc, &layout, &one_and_two(alloc, side)?)?;
+    Ok(shown(&elevation))
 }
 
 /// What an elevation shows.
