@@ -241,24 +241,30 @@ fn a_device_that_fails(rt: HostRuntime) -> Result<(), Fail> {
     Ok(())
 }
 
+/// The first answer where the western tile's device is interrupted 999 times, and the eastern one's so many times.
+fn interrupted(alloc: Global, times: u64) -> Result<Answer, Fail> {
+    let often = [Scripted {
+        first: 1,
+        last: 999,
+        answer: DeviceFault::Interrupted,
+    }];
+    let more_often = [Scripted {
+        first: 1,
+        last: times,
+        answer: DeviceFault::Interrupted,
+    }];
+    let first = ScriptSource::new(&WEST, 100, &often);
+    let last = ScriptSource::new(&EAST, 100, &more_often);
+    let (answers, ..) = four_calls(alloc, BESIDE, first, last)?;
+    Ok(answers[0])
+}
+
 /// Each tile's device is borne 999 times.
 #[test]
 fn devices_that_are_interrupted(rt: HostRuntime) -> Result<(), Fail> {
-    for (times, step) in [(999, Ok(RowStep::Row)), (1000, Err(ReadFault::ReadFailed))] {
-        let often = [Scripted {
-            first: 1,
-            last: 999,
-            answer: DeviceFault::Interrupted,
-        }];
-        let more_often = [Scripted {
-            first: 1,
-            last: times,
-            answer: DeviceFault::Interrupted,
-        }];
-        let first = ScriptSource::new(&WEST, 100, &often);
-        let last = ScriptSource::new(&EAST, 100, &more_often);
-        let (answers, ..) = four_calls(rt.alloc(), BESIDE, first, last)?;
-        same(&rt, times, answers[0], step);
-    }
+    let borne = interrupted(rt.alloc(), 999)?;
+    let not_borne = interrupted(rt.alloc(), 1000)?;
+    let wanted = [Ok(RowStep::Row), Err(ReadFault::ReadFailed)];
+    same(&rt, "999 and 1000 times", [borne, not_borne], wanted);
     Ok(())
 }

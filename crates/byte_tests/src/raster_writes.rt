@@ -5,9 +5,9 @@ ghost use Rattle.std.specs.Prelude.{◌≡◌, IfOk};
 ghost use Rattle.drain_raster.specs.Pixels.{extent_of};
 
 use crate::agree::same;
-use crate::rasters::{NOWHERE, PADDED, numbers_in, numbers_of, padded, raster_of};
+use crate::rasters::{NOWHERE, PADDED, numbers_in, numbers_of, padded, raster_of, written};
+use drain_device::ByteSink;
 use drain_device::faults::{ScriptSink, Scripted, SinkAnswer};
-use drain_device::{ByteSink, VecSink};
 use drain_grid::{Cell, Product, Raster};
 use drain_header::{ByteOrdering, Header};
 use drain_raster::laws::bytes_read_back;
@@ -28,11 +28,13 @@ fn worked(alloc: Global) -> Result<Raster, Fail>
 fn written_and_read_back(alloc: Global) -> Result<(Option<[u8; 11]>, Option<[i64; 4]>), Fail> {
     let raster = worked(alloc)?;
     let header = padded(ByteOrdering::Least);
-    let mut sink = VecSink::new(Vec::with_capacity(alloc, WRITTEN.len())?);
-    write_raster(&mut sink, &header, &raster)?;
+    let written = written(alloc, &header, &raster, WRITTEN.len())?;
     bytes_read_back();
-    let again = read_raster(alloc, Product::Con, &header, sink.as_slice())?;
-    Ok((sink.as_slice().try_into().ok(), numbers_in(alloc, &again)?))
+    let again = read_raster(alloc, Product::Con, &header, &written)?;
+    Ok((
+        written.as_slice().try_into().ok(),
+        numbers_in(alloc, &again)?,
+    ))
 }
 
 #[test]
@@ -206,9 +208,8 @@ fn read_and_written(alloc: Global, bytes: &[u8]) -> Result<(Option<i64>, bool), 
     let header = long();
     let raster = read_raster(alloc, Product::Acc, &header, bytes)?;
     let last = last_of(alloc, &raster)?;
-    let mut sink = VecSink::new(Vec::with_capacity(alloc, bytes.len())?);
-    write_raster(&mut sink, &header, &raster)?;
-    Ok((last, sink.as_slice() == bytes))
+    let written = written(alloc, &header, &raster, bytes.len())?;
+    Ok((last, written.as_slice() == bytes))
 }
 
 #[test]

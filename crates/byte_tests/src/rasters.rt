@@ -100,16 +100,24 @@ pub fn numbers_of(alloc: Global, raster: &Raster) -> Result<Vec<i64>, AllocError
     Ok(numbers)
 }
 
+/// The rows and the columns of the padded raster read in this order, and its numbers where there are four.
+fn padded_in(alloc: Global, order: ByteOrdering) -> Result<((u32, u32), Option<[i64; 4]>), Fail> {
+    let raster = read_raster(alloc, Product::Con, &padded(order), &PADDED)?;
+    let shape = raster.shape();
+    let numbers = numbers_in(alloc, &raster)?;
+    Ok(((shape.rows(), shape.cols()), numbers))
+}
+
+/// The numbers of the padded raster, in both orders.
+static IN_BOTH_ORDERS: [(ByteOrdering, [i64; 4]); 2] = [
+    (ByteOrdering::Least, [1, -2, -32768, 2]),
+    (ByteOrdering::Most, [256, -257, 128, 512]),
+];
+
 #[test]
 fn a_worked_raster_is_read_in_both_orders(rt: HostRuntime) -> Result<(), Fail> {
-    for (order, wanted) in [
-        (ByteOrdering::Least, [1, -2, -32768, 2]),
-        (ByteOrdering::Most, [256, -257, 128, 512]),
-    ] {
-        let raster = read_raster(rt.alloc(), Product::Con, &padded(order), &PADDED)?;
-        let shape = raster.shape();
-        let numbers = numbers_in(rt.alloc(), &raster)?;
-        let given = ((shape.rows(), shape.cols()), numbers);
+    for &(order, wanted) in &IN_BOTH_ORDERS {
+        let given = padded_in(rt.alloc(), order)?;
         same(&rt, order, given, ((2, 2), Some(wanted)));
     }
     Ok(())
@@ -201,6 +209,20 @@ static BOUNDS: [Spelling; 12] = [
     ),
 ];
 
+/// What is written of a raster, where there is room for so many bytes at first.
+pub fn written(
+    alloc: Global,
+    header: &Header,
+    raster: &Raster,
+    room: usize,
+) -> Result<Vec<u8>, Fail>
+    requires { raster.now.extent ≡ extent_of header.now }
+{
+    let mut sink = VecSink::new(Vec::with_capacity(alloc, room)?);
+    write_raster(&mut sink, header, raster)?;
+    Ok(sink.into_inner())
+}
+
 /// The one number that the bytes spell, and the four bytes that are written of it; none where there are more or fewer.
 fn spelled(
     alloc: Global,
@@ -208,10 +230,11 @@ fn spelled(
     bytes: &[u8],
 ) -> Result<(Option<[i64; 1]>, Option<[u8; 4]>), Fail> {
     let raster = read_raster(alloc, Product::Con, header, bytes)?;
-    let mut sink = VecSink::new(Vec::with_capacity(alloc, 4)?);
-    write_raster(&mut sink, header, &raster)?;
-    let written = sink.as_slice().try_into().ok();
-    Ok((numbers_in(alloc, &raster)?, written))
+    let written = written(alloc, header, &raster, 4)?;
+    Ok((
+        numbers_in(alloc, &raster)?,
+        written.as_slice().try_into().ok(),
+    ))
 }
 
 #[test]

@@ -3,9 +3,9 @@
 ghost use Rattle.std.specs.Prelude.{map};
 ghost use Rattle.drain_mosaic.specs.Mosaic.{AreTiles};
 
-use super::{four_tiles, names_of_square, two_tiles};
+use super::{SQUARE, four_tiles, two_tiles};
 use crate::agree::same;
-use crate::tiles::two_named;
+use crate::tiles::{four_named, two_named};
 use drain_grid::{Cell, VOID};
 use drain_mosaic::first_seam::first_seam;
 use drain_mosaic::{Layout, SeamFault, join};
@@ -107,7 +107,7 @@ fn one_above_the_other(rt: HostRuntime) -> Result<(), Fail> {
 
 /// The seam of four tiles of side 3 in a square of 5 by 5 cells: north-west, north-east, south-west, south-east.
 fn seam_of_square(alloc: Global, tiles: [[i16; 9]; 4]) -> Result<Option<Cell>, Fail> {
-    let layout = Layout::new(alloc, 3, &names_of_square()?)?;
+    let layout = Layout::new(alloc, 3, &four_named(SQUARE)?)?;
     let tiles = four_tiles(alloc, &tiles)?;
     seam_of(alloc, &layout, &tiles)
 }
