@@ -1,6 +1,7 @@
-//! The assertion of these tests, in a function: a proof of a call of it costs less than that of an assertion in place.
+//! The assertions of these tests, in functions: a proof of a call of one costs less than that of an assertion in place.
 
-use std::fmt::Debug;
+use std::alloc::{AllocError, Global};
+use std::fmt::{Debug, Display};
 use std::process::Abort;
 
 /// Ends the test where the two differ, and tells of which case they are.
@@ -11,4 +12,16 @@ pub fn same<C: Debug + Drop, T: PartialEq + Debug + Drop>(
     wanted: T,
 ) {
     assert_eq!(rt; given, wanted, "{case:?}");
+}
+
+/// Ends the test where what is printed of a value is another text.
+pub fn same_text<D: Display>(
+    rt: &impl Abort,
+    alloc: Global,
+    value: &D,
+    wanted: &str,
+) -> Result<(), AllocError> {
+    let given = format!(in alloc; "{value}")?;
+    assert_eq!(rt; given.as_str(), wanted);
+    Ok(())
 }

@@ -46,9 +46,13 @@ fn a_slice_is_read_to_its_end(rt: HostRuntime) -> Result<(), Fail> {
     let rest = read_full(&mut source, &mut out, &mut Patience::new());
     let at_end = source.read_some(&mut [0; 5]);
     let faults = (source.failures(), source.interruptions());
-    same(&rt, "bytes", (first, out), (*b"drain", *b"agein"));
-    same(&rt, "rest", rest, Ok(3));
-    same(&rt, "calls", (read, at_end, faults), (Ok(5), Ok(0), (0, 0)));
+    let wanted = ((*b"drain", *b"agein"), Ok(3), (Ok(5), Ok(0), (0, 0)));
+    same(
+        &rt,
+        "bytes, rest and calls",
+        ((first, out), rest, (read, at_end, faults)),
+        wanted,
+    );
     Ok(())
 }
 
@@ -63,7 +67,9 @@ fn a_list_shows_its_bytes(rt: HostRuntime) -> Result<(), Fail> {
 fn a_vector_takes_all(rt: HostRuntime) -> Result<(), Fail> {
     let mut sink = VecSink::new(b"a ".to_vec(rt.alloc())?);
     // It fails only for want of memory.
-    let taken = sink.write_some(TEXT).map_err(|_| BodyFault::OutOfMemory)?;
+    let Ok(taken) = sink.write_some(TEXT) else {
+        return Err(BodyFault::OutOfMemory.into());
+    };
     same(&rt, "taken", sink.as_slice(), b"a drainage".as_slice());
     let numbers = (taken, sink.failures(), sink.interruptions());
     same(
@@ -111,37 +117,46 @@ fn readers_and_writers_of_std_are_devices(rt: HostRuntime) -> Result<(), Fail> {
     Ok(())
 }
 
+/// What a read of a reader that only has such errors answers, and the failures and the interruptions.
+fn broken_read(kind: ErrorKind) -> (Result<usize, DeviceFault>, (u64, u64)) {
+    let mut from = Reader::new(Broken { kind });
+    let read = from.read_some(&mut [0]);
+    (read, (from.failures(), from.interruptions()))
+}
+
+/// What a write answers, and the failures and the interruptions.
+type Wrote = (Result<usize, DeviceFault>, (u64, u64));
+
+/// What a flush answers, and whether there are more failures and more interruptions than before it.
+type Flushed = (Result<(), DeviceFault>, (bool, bool));
+
+/// What a write to such a writer and then a flush of it answer.
+fn broken_write(kind: ErrorKind) -> (Wrote, Flushed) {
+    let mut to = Writer::new(Broken { kind });
+    let wrote = to.write_some(TEXT);
+    let (failures, interruptions) = (to.failures(), to.interruptions());
+    let flushed = to.flush();
+    let more = (to.failures() > failures, to.interruptions() > interruptions);
+    ((wrote, (failures, interruptions)), (flushed, more))
+}
+
+/// Errors of std, each with its fault, and how many failures and interruptions it counts as.
+static ERRORS: [(ErrorKind, DeviceFault, u64, u64); 3] = [
+    (ErrorKind::Interrupted, DeviceFault::Interrupted, 0, 1),
+    (ErrorKind::UnexpectedEof, DeviceFault::Failed, 1, 0),
+    (ErrorKind::WouldBlock, DeviceFault::Failed, 1, 0),
+];
+
 #[test]
 fn an_interruption_of_std_is_one_and_every_other_error_is_a_failure(
     rt: HostRuntime,
 ) -> Result<(), Fail> {
-    for (kind, fault, failures, interruptions) in [
-        (ErrorKind::Interrupted, DeviceFault::Interrupted, 0, 1),
-        (ErrorKind::UnexpectedEof, DeviceFault::Failed, 1, 0),
-        (ErrorKind::WouldBlock, DeviceFault::Failed, 1, 0),
-    ] {
-        let mut from = Reader::new(Broken { kind });
-        let read = from.read_some(&mut [0]);
-        let counts = (from.failures(), from.interruptions());
-        same(
-            &rt,
-            "read",
-            (read, counts),
-            (Err(fault), (failures, interruptions)),
-        );
-        let mut to = Writer::new(Broken { kind });
-        let wrote = to.write_some(TEXT);
-        let counts = (to.failures(), to.interruptions());
-        same(
-            &rt,
-            "write",
-            (wrote, counts),
-            (Err(fault), (failures, interruptions)),
-        );
-        let flushed = to.flush();
-        let more = (to.failures() > failures, to.interruptions() > interruptions);
-        same(&rt, "flush", flushed, Err(fault));
-        same(&rt, "counts", more, (failures > 0, interruptions > 0));
+    for &(kind, fault, failures, interruptions) in &ERRORS {
+        let counts = (failures, interruptions);
+        let more = (failures > 0, interruptions > 0);
+        same(&rt, "read", broken_read(kind), (Err(fault), counts));
+        let wanted = ((Err(fault), counts), (Err(fault), more));
+        same(&rt, "write and flush", broken_write(kind), wanted);
     }
     Ok(())
 }
@@ -168,22 +183,35 @@ fn read(
     }
 }
 
+/// The first and the last call with this answer, the limit of a read, and how many bytes are read.
+static READS: [(u64, u64, DeviceFault, usize, Result<usize, BodyFault>); 9] = [
+    (1, 1, DeviceFault::Failed, 9, Err(BodyFault::ReadFailed)),
+    (5, 5, DeviceFault::Failed, 9, Err(BodyFault::ReadFailed)),
+    (9, 9, DeviceFault::Failed, 9, Err(BodyFault::ReadFailed)),
+    (10, 10, DeviceFault::Failed, 9, Ok(8)),
+    (6, 6, DeviceFault::Failed, 5, Ok(5)),
+    (1, 9, DeviceFault::Failed, 0, Ok(0)),
+    (3, 1001, DeviceFault::Interrupted, 9, Ok(8)),
+    (
+        3,
+        1002,
+        DeviceFault::Interrupted,
+        9,
+        Err(BodyFault::ReadFailed),
+    ),
+    (
+        1,
+        1000,
+        DeviceFault::Interrupted,
+        9,
+        Err(BodyFault::ReadFailed),
+    ),
+];
+
 /// A source of `TEXT` that gives one byte at a call is asked nine times for all of it, the last time for the end.
 #[test]
 fn a_read_gives_up_where_its_source_does(rt: HostRuntime) -> Result<(), Fail> {
-    let failed = DeviceFault::Failed;
-    let interrupted = DeviceFault::Interrupted;
-    for (first, last, answer, limit, want) in [
-        (1, 1, failed, 9, Err(BodyFault::ReadFailed)),
-        (5, 5, failed, 9, Err(BodyFault::ReadFailed)),
-        (9, 9, failed, 9, Err(BodyFault::ReadFailed)),
-        (10, 10, failed, 9, Ok(8)),
-        (6, 6, failed, 5, Ok(5)),
-        (1, 9, failed, 0, Ok(0)),
-        (3, 1001, interrupted, 9, Ok(8)),
-        (3, 1002, interrupted, 9, Err(BodyFault::ReadFailed)),
-        (1, 1000, interrupted, 9, Err(BodyFault::ReadFailed)),
-    ] {
+    for &(first, last, answer, limit, want) in &READS {
         let script = [Scripted {
             first,
             last,
@@ -223,23 +251,23 @@ fn write(
     Ok((got, taken.len(), TEXT.starts_with(taken), gave_up))
 }
 
+/// The first and the last call with this answer, how many bytes are taken, and what a write answers.
+static WRITES: [(u64, u64, SinkAnswer, usize, Result<(), GaveUp>); 9] = [
+    (1, 1, SinkAnswer::Failed, 0, Err(GaveUp)),
+    (4, 4, SinkAnswer::Failed, 3, Err(GaveUp)),
+    (8, 8, SinkAnswer::Failed, 7, Err(GaveUp)),
+    (9, 9, SinkAnswer::Failed, 8, Ok(())),
+    (1, 1, SinkAnswer::TookNone, 0, Err(GaveUp)),
+    (8, 8, SinkAnswer::TookNone, 7, Err(GaveUp)),
+    (9, 9, SinkAnswer::TookNone, 8, Ok(())),
+    (2, 1000, SinkAnswer::Interrupted, 8, Ok(())),
+    (2, 1001, SinkAnswer::Interrupted, 1, Err(GaveUp)),
+];
+
 /// A sink that takes one byte at a call is called eight times for `TEXT`.
 #[test]
 fn a_write_gives_up_where_its_sink_does(rt: HostRuntime) -> Result<(), Fail> {
-    let failed = SinkAnswer::Failed;
-    let none = SinkAnswer::TookNone;
-    let interrupted = SinkAnswer::Interrupted;
-    for (first, last, answer, taken, want) in [
-        (1, 1, failed, 0, Err(GaveUp)),
-        (4, 4, failed, 3, Err(GaveUp)),
-        (8, 8, failed, 7, Err(GaveUp)),
-        (9, 9, failed, 8, Ok(())),
-        (1, 1, none, 0, Err(GaveUp)),
-        (8, 8, none, 7, Err(GaveUp)),
-        (9, 9, none, 8, Ok(())),
-        (2, 1000, interrupted, 8, Ok(())),
-        (2, 1001, interrupted, 1, Err(GaveUp)),
-    ] {
+    for &(first, last, answer, taken, want) in &WRITES {
         let script = [Scripted {
             first,
             last,
@@ -263,17 +291,18 @@ fn nothing_written(alloc: Global, script: &[Scripted<SinkAnswer>]) -> (Result<()
     (got, to.as_slice().len())
 }
 
+/// The first and the last call with this answer, and what a write of nothing answers.
+static WRITES_OF_NOTHING: [(u64, u64, SinkAnswer, Result<(), GaveUp>); 5] = [
+    (1, 1, SinkAnswer::Failed, Err(GaveUp)),
+    (2, 2, SinkAnswer::Failed, Ok(())),
+    (1, 1, SinkAnswer::Interrupted, Ok(())),
+    (1, 999, SinkAnswer::Interrupted, Ok(())),
+    (1, 1000, SinkAnswer::Interrupted, Err(GaveUp)),
+];
+
 #[test]
 fn a_write_of_nothing_gives_up_where_its_sink_does(rt: HostRuntime) -> Result<(), Fail> {
-    let failed = SinkAnswer::Failed;
-    let interrupted = SinkAnswer::Interrupted;
-    for (first, last, answer, want) in [
-        (1, 1, failed, Err(GaveUp)),
-        (2, 2, failed, Ok(())),
-        (1, 1, interrupted, Ok(())),
-        (1, 999, interrupted, Ok(())),
-        (1, 1000, interrupted, Err(GaveUp)),
-    ] {
+    for &(first, last, answer, want) in &WRITES_OF_NOTHING {
         let script = [Scripted {
             first,
             last,

@@ -6,7 +6,7 @@ use std::alloc::{AllocError, Global};
 use std::test::Fail;
 
 /// The lines of a small header, with a half degree from pixel to pixel.
-const LINES: [&str; 15] = [
+static LINES: [&str; 15] = [
     "BYTEORDER I",
     "LAYOUT BIL",
     "NROWS 3",
@@ -75,60 +75,62 @@ fn parsed(
     Ok(parse_header(&bytes[..length]))
 }
 
+/// What is replaced in the lines, and the fault that is told.
+static FAULTS: [(&str, &[(usize, &str)], HeaderFault); 13] = [
+    (
+        "three bands of four bits",
+        &[(5, "NBANDS 3"), (6, "NBITS 4")],
+        HeaderFault::NotOneBand,
+    ),
+    ("no band", &[(5, "NBANDS 0")], HeaderFault::NotOneBand),
+    ("four bits", &[(6, "NBITS 4")], HeaderFault::BadBits),
+    ("half a bit", &[(6, "NBITS 0.5")], HeaderFault::BadValue(6)),
+    (
+        "floating point",
+        &[(10, "PIXELTYPE FLOAT")],
+        HeaderFault::BadPixelType,
+    ),
+    (
+        "a pixel type without a word",
+        &[(10, "PIXELTYPE")],
+        HeaderFault::BadValue(10),
+    ),
+    (
+        "five bytes for three pixels of two",
+        &[(8, "TOTALROWBYTES 5")],
+        HeaderFault::RowTooShort,
+    ),
+    ("no row", &[(3, "NROWS 0")], HeaderFault::BadValue(3)),
+    (
+        "rows are missing and a line is bad",
+        &[(3, ""), (15, "NODATA x")],
+        HeaderFault::BadValue(15),
+    ),
+    (
+        "no place, four bits",
+        &[(6, "NBITS 4"), (11, ""), (12, "")],
+        HeaderFault::MissingKey(Key::Ulxmap),
+    ),
+    (
+        "two bad lines",
+        &[(4, "NCOLS x"), (9, "SKIPBYTES x")],
+        HeaderFault::BadValue(4),
+    ),
+    (
+        "rows twice, once in other case and without a value",
+        &[(9, "nRoWs")],
+        HeaderFault::RepeatedKey(9),
+    ),
+    (
+        "rows twice",
+        &[(1, "NROWS 2"), (2, "NROWS 2")],
+        HeaderFault::RepeatedKey(2),
+    ),
+];
+
 #[test]
 fn the_last_faults(rt: HostRuntime) -> Result<(), Fail> {
-    let cases: [(&str, &[(usize, &str)], HeaderFault); 13] = [
-        (
-            "three bands of four bits",
-            &[(5, "NBANDS 3"), (6, "NBITS 4")],
-            HeaderFault::NotOneBand,
-        ),
-        ("no band", &[(5, "NBANDS 0")], HeaderFault::NotOneBand),
-        ("four bits", &[(6, "NBITS 4")], HeaderFault::BadBits),
-        ("half a bit", &[(6, "NBITS 0.5")], HeaderFault::BadValue(6)),
-        (
-            "floating point",
-            &[(10, "PIXELTYPE FLOAT")],
-            HeaderFault::BadPixelType,
-        ),
-        (
-            "a pixel type without a word",
-            &[(10, "PIXELTYPE")],
-            HeaderFault::BadValue(10),
-        ),
-        (
-            "five bytes for three pixels of two",
-            &[(8, "TOTALROWBYTES 5")],
-            HeaderFault::RowTooShort,
-        ),
-        ("no row", &[(3, "NROWS 0")], HeaderFault::BadValue(3)),
-        (
-            "rows are missing and a line is bad",
-            &[(3, ""), (15, "NODATA x")],
-            HeaderFault::BadValue(15),
-        ),
-        (
-            "no place, four bits",
-            &[(6, "NBITS 4"), (11, ""), (12, "")],
-            HeaderFault::MissingKey(Key::Ulxmap),
-        ),
-        (
-            "two bad lines",
-            &[(4, "NCOLS x"), (9, "SKIPBYTES x")],
-            HeaderFault::BadValue(4),
-        ),
-        (
-            "rows twice, once in other case and without a value",
-            &[(9, "nRoWs")],
-            HeaderFault::RepeatedKey(9),
-        ),
-        (
-            "rows twice",
-            &[(1, "NROWS 2"), (2, "NROWS 2")],
-            HeaderFault::RepeatedKey(2),
-        ),
-    ];
-    for (name, changes, wanted) in cases {
+    for &(name, changes, wanted) in &FAULTS {
         let answer = parsed(rt.alloc(), "\n", changes, 0)?;
         same(&rt, name, answer, Err(wanted));
     }
@@ -173,31 +175,40 @@ fn small_or(fault: Option<HeaderFault>) -> Result<Header, HeaderFault> {
     }
 }
 
+/// A line's end behind further words, and two lines more.
+const MORE: &str = " and more\nmoretext x\n\n";
+
+/// The end of each line, what is replaced in the lines, how many bytes are cut off, and the fault that is told.
+static SPELLINGS: [(&str, &str, &[(usize, &str)], usize, Option<HeaderFault>); 10] = [
+    ("as it is", "\n", &[], 0, None),
+    ("carriage returns", "\r\n", &[], 0, None),
+    ("further words and lines", MORE, &[], 0, None),
+    ("small letters and tabs", "\r\n", &SMALL_LETTERS, 0, None),
+    (
+        "small letters, further words",
+        MORE,
+        &SMALL_LETTERS,
+        0,
+        None,
+    ),
+    ("defaults", "\r\n", &DEFAULTS, 0, None),
+    ("defaults, further words", MORE, &DEFAULTS, 0, None),
+    ("no line feed", "\r\n", &[], 1, None),
+    ("no line end", "\r\n", &[], 2, None),
+    (
+        "two carriage returns",
+        "\r\r\n",
+        &[],
+        0,
+        Some(HeaderFault::BadValue(1)),
+    ),
+];
+
 /// Carriage returns, tabs, small letters, further words and lines of other tools change nothing. The last line counts with a carriage
 /// return alone, and without a line end. Of two carriage returns one is part of the last word.
 #[test]
 fn other_spellings(rt: HostRuntime) -> Result<(), Fail> {
-    let more = " and more\nmoretext x\n\n";
-    let twice = Some(HeaderFault::BadValue(1));
-    let cases: [(&str, &str, &[(usize, &str)], usize, Option<HeaderFault>); 10] = [
-        ("as it is", "\n", &[], 0, None),
-        ("carriage returns", "\r\n", &[], 0, None),
-        ("further words and lines", more, &[], 0, None),
-        ("small letters and tabs", "\r\n", &SMALL_LETTERS, 0, None),
-        (
-            "small letters, further words",
-            more,
-            &SMALL_LETTERS,
-            0,
-            None,
-        ),
-        ("defaults", "\r\n", &DEFAULTS, 0, None),
-        ("defaults, further words", more, &DEFAULTS, 0, None),
-        ("no line feed", "\r\n", &[], 1, None),
-        ("no line end", "\r\n", &[], 2, None),
-        ("two carriage returns", "\r\r\n", &[], 0, twice),
-    ];
-    for (name, end, changes, cut, fault) in cases {
+    for &(name, end, changes, cut, fault) in &SPELLINGS {
         let answer = parsed(rt.alloc(), end, changes, cut)?;
         same(&rt, name, answer, small_or(fault));
     }

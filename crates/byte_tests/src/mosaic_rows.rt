@@ -3,22 +3,35 @@
 ghost use Rattle.std.specs.Prelude.{◌≡◌, ◌<◌, IfOk, length};
 
 use crate::agree::same;
+use crate::tiles::two_named;
 use drain_device::faults::{ScriptSource, Scripted};
 use drain_device::{ByteList, DeviceFault, ReadFault, RowStep};
 use drain_grid::Cell;
-use drain_hgt::{TileInput, TileName};
+use drain_hgt::TileInput;
 use drain_mosaic::{Layout, MosaicRows};
 use std::alloc::{AllocError, Global};
 use std::test::Fail;
 
-/// The samples 1 2 and 3 4, and a byte behind them.
-pub const WEST: [u8; 9] = [0, 1, 0, 2, 0, 3, 0, 4, 0];
+/// The samples 1 2 and 3 4.
+pub const WEST: [u8; 8] = [0, 1, 0, 2, 0, 3, 0, 4];
+
+/// The same and a byte behind them.
+const LONG_WEST: [u8; 9] = [0, 1, 0, 2, 0, 3, 0, 4, 0];
+
+/// The same without their last byte.
+const SHORT_WEST: [u8; 7] = [0, 1, 0, 2, 0, 3, 0];
 
 /// The samples 2 5 and 4 6, which have the west tile's column 2 4.
-pub const EAST: [u8; 9] = [0, 2, 0, 5, 0, 4, 0, 6, 0];
+pub const EAST: [u8; 8] = [0, 2, 0, 5, 0, 4, 0, 6];
+
+/// The same without their last byte.
+const SHORT_EAST: [u8; 7] = [0, 2, 0, 5, 0, 4, 0];
 
 /// The same with a 9 in place of the first.
-const OTHER: [u8; 9] = [0, 9, 0, 5, 0, 4, 0, 6, 0];
+const OTHER: [u8; 8] = [0, 9, 0, 5, 0, 4, 0, 6];
+
+/// These and a byte behind them.
+const LONG_OTHER: [u8; 9] = [0, 9, 0, 5, 0, 4, 0, 6, 0];
 
 /// The names of a tile and of that east of it.
 pub const BESIDE: [&str; 2] = ["N00E000.hgt", "N00E001.hgt"];
@@ -73,11 +86,7 @@ fn answers(
 fn rows_of(alloc: Global, names: [&str; 2]) -> Result<MosaicRows, Fail>
     ensures { IfOk result (λ rows. length rows.tiles.items ≡ 2) }
 {
-    let names = [
-        TileName::parse(names[0].as_bytes())?,
-        TileName::parse(names[1].as_bytes())?,
-    ];
-    let layout = Layout::new(alloc, 2, &names)?;
+    let layout = Layout::new(alloc, 2, &two_named(names)?)?;
     Ok(MosaicRows::new(alloc, &layout)?)
 }
 
@@ -135,20 +144,23 @@ const WHOLE: [Answer; 4] = [
 /// The numbers of whole tiles.
 pub const NUMBERS: [i64; 6] = [1, 2, 5, 3, 4, 6];
 
+/// The seam of tiles that differ in the middle of the first row.
+const SEAM: Option<Cell> = Some(Cell { row: 0, col: 1 });
+
+/// The bytes of two tiles, and what four calls give of them: the numbers, the seam, and the tile of wrong length.
+static PAIRS: [(&[u8], &[u8], [i64; 6], Option<Cell>, Option<usize>); 7] = [
+    (&WEST, &EAST, NUMBERS, None, None),
+    (&WEST, &OTHER, NUMBERS, SEAM, None),
+    (&LONG_WEST, &EAST, NUMBERS, None, Some(0)),
+    (&LONG_WEST, &LONG_OTHER, NUMBERS, SEAM, Some(0)),
+    (&SHORT_WEST, &EAST, [1, 2, 5, -32768, 4, 6], None, Some(0)),
+    (&WEST, &SHORT_EAST, [1, 2, 5, 3, 4, -32768], None, Some(1)),
+    (&WEST, &LONG_OTHER, NUMBERS, SEAM, Some(1)),
+];
+
 #[test]
 fn rows_of_two_tiles(rt: HostRuntime) -> Result<(), Fail> {
-    let seam = Some(Cell { row: 0, col: 1 });
-    let west_cut = [1, 2, 5, -32768, 4, 6];
-    let east_cut = [1, 2, 5, 3, 4, -32768];
-    for (west, east, numbers, seam, wrong) in [
-        (&WEST[..8], &EAST[..8], NUMBERS, None, None),
-        (&WEST[..8], &OTHER[..8], NUMBERS, seam, None),
-        (&WEST[..9], &EAST[..8], NUMBERS, None, Some(0)),
-        (&WEST[..9], &OTHER[..9], NUMBERS, seam, Some(0)),
-        (&WEST[..7], &EAST[..8], west_cut, None, Some(0)),
-        (&WEST[..8], &EAST[..7], east_cut, None, Some(1)),
-        (&WEST[..8], &OTHER[..9], NUMBERS, seam, Some(1)),
-    ] {
+    for &(west, east, numbers, seam, wrong) in &PAIRS {
         for most in [1, 100] {
             let given = of_bytes(rt.alloc(), BESIDE, west, east, most)?;
             let wanted = (WHOLE, (6, numbers), seam, wrong);
@@ -158,33 +170,38 @@ fn rows_of_two_tiles(rt: HostRuntime) -> Result<(), Fail> {
     Ok(())
 }
 
+/// The samples 3 9 and 7 8.
+const SOUTH: [u8; 8] = [0, 3, 0, 9, 0, 7, 0, 8];
+
+/// The names of two tiles, their bytes, and their numbers.
+static ABOVE: [([&str; 2], [u8; 8], [u8; 8], [i64; 6]); 2] = [
+    (
+        ["N01E000.hgt", "N00E000.hgt"],
+        WEST,
+        SOUTH,
+        [1, 2, 3, 4, 7, 8],
+    ),
+    (
+        ["N00E000.hgt", "N01E000.hgt"],
+        SOUTH,
+        WEST,
+        [1, 2, 3, 9, 7, 8],
+    ),
+];
+
 /// Two tiles that share row 1 of 3 rows, of which the one named first gives the row's last number.
 #[test]
 fn rows_of_a_tile_above_another(rt: HostRuntime) -> Result<(), Fail> {
-    const SOUTH: [u8; 8] = [0, 3, 0, 9, 0, 7, 0, 8];
-    for (names, first, last, numbers) in [
-        (
-            ["N01E000.hgt", "N00E000.hgt"],
-            &WEST[..8],
-            &SOUTH[..],
-            [1, 2, 3, 4, 7, 8],
-        ),
-        (
-            ["N00E000.hgt", "N01E000.hgt"],
-            &SOUTH[..],
-            &WEST[..8],
-            [1, 2, 3, 9, 7, 8],
-        ),
-    ] {
+    for (names, first, last, numbers) in &ABOVE {
         let answers = [
             Ok(RowStep::Row),
             Ok(RowStep::Row),
             Ok(RowStep::Row),
             Ok(RowStep::Ended),
         ];
-        let given = of_bytes(rt.alloc(), names, first, last, 100)?;
-        let wanted = (answers, (6, numbers), Some(Cell { row: 1, col: 1 }), None);
-        same(&rt, names, given, wanted);
+        let given = of_bytes(rt.alloc(), *names, first, last, 100)?;
+        let wanted = (answers, (6, *numbers), Some(Cell { row: 1, col: 1 }), None);
+        same(&rt, *names, given, wanted);
     }
     Ok(())
 }
@@ -209,8 +226,8 @@ fn a_device_that_fails(rt: HostRuntime) -> Result<(), Fail> {
             } else {
                 (&script, &[])
             };
-            let first = ScriptSource::new(&WEST, 100, west);
-            let last = ScriptSource::new(&EAST[..8], 100, east);
+            let first = ScriptSource::new(&LONG_WEST, 100, west);
+            let last = ScriptSource::new(&EAST, 100, east);
             let (given, (count, _), _, wrong_length) = four_calls(rt.alloc(), BESIDE, first, last)?;
             let wanted = (answers, 3 * (call as usize - 1), None);
             same(
@@ -224,24 +241,30 @@ fn a_device_that_fails(rt: HostRuntime) -> Result<(), Fail> {
     Ok(())
 }
 
+/// The first answer where the western tile's device is interrupted 999 times, and the eastern one's so many times.
+fn interrupted(alloc: Global, times: u64) -> Result<Answer, Fail> {
+    let often = [Scripted {
+        first: 1,
+        last: 999,
+        answer: DeviceFault::Interrupted,
+    }];
+    let more_often = [Scripted {
+        first: 1,
+        last: times,
+        answer: DeviceFault::Interrupted,
+    }];
+    let first = ScriptSource::new(&WEST, 100, &often);
+    let last = ScriptSource::new(&EAST, 100, &more_often);
+    let (answers, ..) = four_calls(alloc, BESIDE, first, last)?;
+    Ok(answers[0])
+}
+
 /// Each tile's device is borne 999 times.
 #[test]
 fn devices_that_are_interrupted(rt: HostRuntime) -> Result<(), Fail> {
-    for (times, step) in [(999, Ok(RowStep::Row)), (1000, Err(ReadFault::ReadFailed))] {
-        let often = [Scripted {
-            first: 1,
-            last: 999,
-            answer: DeviceFault::Interrupted,
-        }];
-        let more_often = [Scripted {
-            first: 1,
-            last: times,
-            answer: DeviceFault::Interrupted,
-        }];
-        let first = ScriptSource::new(&WEST[..8], 100, &often);
-        let last = ScriptSource::new(&EAST[..8], 100, &more_often);
-        let (answers, ..) = four_calls(rt.alloc(), BESIDE, first, last)?;
-        same(&rt, times, answers[0], step);
-    }
+    let borne = interrupted(rt.alloc(), 999)?;
+    let not_borne = interrupted(rt.alloc(), 1000)?;
+    let wanted = [Ok(RowStep::Row), Err(ReadFault::ReadFailed)];
+    same(&rt, "999 and 1000 times", [borne, not_borne], wanted);
     Ok(())
 }

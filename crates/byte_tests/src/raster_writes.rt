@@ -5,9 +5,9 @@ ghost use Rattle.std.specs.Prelude.{◌≡◌, IfOk};
 ghost use Rattle.drain_raster.specs.Pixels.{extent_of};
 
 use crate::agree::same;
-use crate::rasters::{NOWHERE, PADDED, numbers_in, numbers_of, padded, raster_of};
+use crate::rasters::{NOWHERE, PADDED, numbers_in, numbers_of, padded, raster_of, written};
+use drain_device::ByteSink;
 use drain_device::faults::{ScriptSink, Scripted, SinkAnswer};
-use drain_device::{ByteSink, VecSink};
 use drain_grid::{Cell, Product, Raster};
 use drain_header::{ByteOrdering, Header};
 use drain_raster::laws::bytes_read_back;
@@ -28,11 +28,13 @@ fn worked(alloc: Global) -> Result<Raster, Fail>
 fn written_and_read_back(alloc: Global) -> Result<(Option<[u8; 11]>, Option<[i64; 4]>), Fail> {
     let raster = worked(alloc)?;
     let header = padded(ByteOrdering::Least);
-    let mut sink = VecSink::new(Vec::with_capacity(alloc, WRITTEN.len())?);
-    write_raster(&mut sink, &header, &raster)?;
+    let written = written(alloc, &header, &raster, WRITTEN.len())?;
     bytes_read_back();
-    let again = read_raster(alloc, Product::Con, &header, sink.as_slice())?;
-    Ok((sink.as_slice().try_into().ok(), numbers_in(alloc, &again)?))
+    let again = read_raster(alloc, Product::Con, &header, &written)?;
+    Ok((
+        written.as_slice().try_into().ok(),
+        numbers_in(alloc, &again)?,
+    ))
 }
 
 #[test]
@@ -60,23 +62,21 @@ fn refused(alloc: Global, numbers: &[i64]) -> Result<(Result<(), WriteFault>, us
     Ok((written, sink.as_slice().len(), sink.failures()))
 }
 
+/// Numbers, each four with the cell of the first that is out of range.
+static OUT_OF_RANGE: [([i64; 4], Cell); 4] = [
+    ([1, 40000, -32768, 2], Cell { row: 0, col: 1 }),
+    ([1, 40000, 40000, 40000], Cell { row: 0, col: 1 }),
+    ([-32769, -2, -32768, 2], Cell { row: 0, col: 0 }),
+    ([1, -2, -32768, 32768], Cell { row: 1, col: 1 }),
+];
+
 /// The sink would fail at its first call, and isn't called.
 #[test]
 fn the_first_number_out_of_range_is_told_before_any_byte(rt: HostRuntime) -> Result<(), Fail> {
-    let cases: [([i64; 4], Cell); 4] = [
-        ([1, 40000, -32768, 2], Cell { row: 0, col: 1 }),
-        ([1, 40000, 40000, 40000], Cell { row: 0, col: 1 }),
-        ([-32769, -2, -32768, 2], Cell { row: 0, col: 0 }),
-        ([1, -2, -32768, 32768], Cell { row: 1, col: 1 }),
-    ];
-    for (numbers, cell) in cases {
-        let given = refused(rt.alloc(), &numbers)?;
-        same(
-            &rt,
-            numbers,
-            given,
-            (Err(WriteFault::OutOfRange(cell)), 0, 0),
-        );
+    for (numbers, cell) in &OUT_OF_RANGE {
+        let given = refused(rt.alloc(), numbers)?;
+        let wanted = (Err(WriteFault::OutOfRange(*cell)), 0, 0);
+        same(&rt, *numbers, given, wanted);
     }
     Ok(())
 }
@@ -94,35 +94,35 @@ fn write(
     Ok((written, taken.len(), WRITTEN.starts_with(taken)))
 }
 
+/// The first and the last call with this answer, and how many bytes are taken.
+static WRITES: [(u64, u64, SinkAnswer, usize); 21] = [
+    (1, 1, SinkAnswer::Failed, 0),
+    (2, 2, SinkAnswer::Failed, 1),
+    (3, 3, SinkAnswer::Failed, 2),
+    (4, 4, SinkAnswer::Failed, 3),
+    (5, 5, SinkAnswer::Failed, 4),
+    (6, 6, SinkAnswer::Failed, 5),
+    (7, 7, SinkAnswer::Failed, 6),
+    (8, 8, SinkAnswer::Failed, 7),
+    (9, 9, SinkAnswer::Failed, 8),
+    (10, 10, SinkAnswer::Failed, 9),
+    (11, 11, SinkAnswer::Failed, 10),
+    (12, 12, SinkAnswer::Failed, 11),
+    (1, 1, SinkAnswer::TookNone, 0),
+    (6, 6, SinkAnswer::TookNone, 5),
+    (11, 11, SinkAnswer::TookNone, 10),
+    (12, 12, SinkAnswer::TookNone, 11),
+    (1, 999, SinkAnswer::Interrupted, 11),
+    (1, 1000, SinkAnswer::Interrupted, 0),
+    (6, 1004, SinkAnswer::Interrupted, 11),
+    (6, 1005, SinkAnswer::Interrupted, 5),
+    (11, 1010, SinkAnswer::Interrupted, 10),
+];
+
 /// A sink that takes one byte at a call is called eleven times for the worked raster.
 #[test]
 fn a_write_fails_where_its_sink_does(rt: HostRuntime) -> Result<(), Fail> {
-    let failed = SinkAnswer::Failed;
-    let none = SinkAnswer::TookNone;
-    let interrupted = SinkAnswer::Interrupted;
-    for (first, last, answer, taken) in [
-        (1, 1, failed, 0),
-        (2, 2, failed, 1),
-        (3, 3, failed, 2),
-        (4, 4, failed, 3),
-        (5, 5, failed, 4),
-        (6, 6, failed, 5),
-        (7, 7, failed, 6),
-        (8, 8, failed, 7),
-        (9, 9, failed, 8),
-        (10, 10, failed, 9),
-        (11, 11, failed, 10),
-        (12, 12, failed, 11),
-        (1, 1, none, 0),
-        (6, 6, none, 5),
-        (11, 11, none, 10),
-        (12, 12, none, 11),
-        (1, 999, interrupted, 11),
-        (1, 1000, interrupted, 0),
-        (6, 1004, interrupted, 11),
-        (6, 1005, interrupted, 5),
-        (11, 1010, interrupted, 10),
-    ] {
+    for &(first, last, answer, taken) in &WRITES {
         let script = [Scripted {
             first,
             last,
@@ -208,9 +208,8 @@ fn read_and_written(alloc: Global, bytes: &[u8]) -> Result<(Option<i64>, bool), 
     let header = long();
     let raster = read_raster(alloc, Product::Acc, &header, bytes)?;
     let last = last_of(alloc, &raster)?;
-    let mut sink = VecSink::new(Vec::with_capacity(alloc, bytes.len())?);
-    write_raster(&mut sink, &header, &raster)?;
-    Ok((last, sink.as_slice() == bytes))
+    let written = written(alloc, &header, &raster, bytes.len())?;
+    Ok((last, written.as_slice() == bytes))
 }
 
 #[test]

@@ -3,7 +3,7 @@
 ghost use Rattle.std.specs.Prelude.{◌≡◌, IfOk, IfSome};
 ghost use Rattle.drain_raster.specs.Pixels.{extent_of};
 
-use crate::agree::same;
+use crate::agree::{same, same_text};
 use drain_device::VecSink;
 use drain_grid::values::{GREATEST_PIXEL, LEAST_PIXEL};
 use drain_grid::{Cell, Product, Raster, Shape};
@@ -100,16 +100,24 @@ pub fn numbers_of(alloc: Global, raster: &Raster) -> Result<Vec<i64>, AllocError
     Ok(numbers)
 }
 
+/// The rows and the columns of the padded raster read in this order, and its numbers where there are four.
+fn padded_in(alloc: Global, order: ByteOrdering) -> Result<((u32, u32), Option<[i64; 4]>), Fail> {
+    let raster = read_raster(alloc, Product::Con, &padded(order), &PADDED)?;
+    let shape = raster.shape();
+    let numbers = numbers_in(alloc, &raster)?;
+    Ok(((shape.rows(), shape.cols()), numbers))
+}
+
+/// The numbers of the padded raster, in both orders.
+static IN_BOTH_ORDERS: [(ByteOrdering, [i64; 4]); 2] = [
+    (ByteOrdering::Least, [1, -2, -32768, 2]),
+    (ByteOrdering::Most, [256, -257, 128, 512]),
+];
+
 #[test]
 fn a_worked_raster_is_read_in_both_orders(rt: HostRuntime) -> Result<(), Fail> {
-    for (order, wanted) in [
-        (ByteOrdering::Least, [1, -2, -32768, 2]),
-        (ByteOrdering::Most, [256, -257, 128, 512]),
-    ] {
-        let raster = read_raster(rt.alloc(), Product::Con, &padded(order), &PADDED)?;
-        let shape = raster.shape();
-        let numbers = numbers_in(rt.alloc(), &raster)?;
-        let given = ((shape.rows(), shape.cols()), numbers);
+    for &(order, wanted) in &IN_BOTH_ORDERS {
+        let given = padded_in(rt.alloc(), order)?;
         same(&rt, order, given, ((2, 2), Some(wanted)));
     }
     Ok(())
@@ -144,6 +152,16 @@ fn nodata_of(alloc: Global, product: Product, header: &Header) -> Result<i64, Ra
     Ok(read_raster(alloc, product, header, &[7])?.nodata())
 }
 
+/// Products, each with its number for no data.
+static NO_DATA: [(Product, i64); 6] = [
+    (Product::Con, -32768),
+    (Product::Dir, 255),
+    (Product::Acc, 0),
+    (Product::Bas, 0),
+    (Product::Spl, 255),
+    (Product::Rnk, 4294967295),
+];
+
 /// A header's no-data number comes before the product's.
 #[test]
 fn the_no_data_number_is_that_of_the_header_or_the_product(rt: HostRuntime) -> Result<(), Fail> {
@@ -152,14 +170,7 @@ fn the_no_data_number_is_that_of_the_header_or_the_product(rt: HostRuntime) -> R
         nodata: Some(-9999),
         ..header
     };
-    for (product, number) in [
-        (Product::Con, -32768),
-        (Product::Dir, 255),
-        (Product::Acc, 0),
-        (Product::Bas, 0),
-        (Product::Spl, 255),
-        (Product::Rnk, 4294967295),
-    ] {
+    for &(product, number) in &NO_DATA {
         let of_product = nodata_of(rt.alloc(), product, &header)?;
         let of_header = nodata_of(rt.alloc(), product, &given)?;
         same(&rt, product, (of_product, of_header), (number, -9999));
@@ -171,7 +182,7 @@ fn the_no_data_number_is_that_of_the_header_or_the_product(rt: HostRuntime) -> R
 type Spelling = (u8, bool, i64, [u8; 4], [u8; 4]);
 
 /// The least and the greatest number of each kind of pixel; behind a pixel stand zeros.
-const BOUNDS: [Spelling; 12] = [
+static BOUNDS: [Spelling; 12] = [
     (8, false, 0, [0, 0, 0, 0], [0, 0, 0, 0]),
     (8, false, 255, [0xff, 0, 0, 0], [0xff, 0, 0, 0]),
     (8, true, -128, [0x80, 0, 0, 0], [0x80, 0, 0, 0]),
@@ -198,6 +209,20 @@ const BOUNDS: [Spelling; 12] = [
     ),
 ];
 
+/// What is written of a raster, where there is room for so many bytes at first.
+pub fn written(
+    alloc: Global,
+    header: &Header,
+    raster: &Raster,
+    room: usize,
+) -> Result<Vec<u8>, Fail>
+    requires { raster.now.extent ≡ extent_of header.now }
+{
+    let mut sink = VecSink::new(Vec::with_capacity(alloc, room)?);
+    write_raster(&mut sink, header, raster)?;
+    Ok(sink.into_inner())
+}
+
 /// The one number that the bytes spell, and the four bytes that are written of it; none where there are more or fewer.
 fn spelled(
     alloc: Global,
@@ -205,15 +230,16 @@ fn spelled(
     bytes: &[u8],
 ) -> Result<(Option<[i64; 1]>, Option<[u8; 4]>), Fail> {
     let raster = read_raster(alloc, Product::Con, header, bytes)?;
-    let mut sink = VecSink::new(Vec::with_capacity(alloc, 4)?);
-    write_raster(&mut sink, header, &raster)?;
-    let written = sink.as_slice().try_into().ok();
-    Ok((numbers_in(alloc, &raster)?, written))
+    let written = written(alloc, header, &raster, 4)?;
+    Ok((
+        numbers_in(alloc, &raster)?,
+        written.as_slice().try_into().ok(),
+    ))
 }
 
 #[test]
 fn each_kind_of_pixel_spells_its_bounds(rt: HostRuntime) -> Result<(), Fail> {
-    for (bits, signed, number, least_first, most_first) in BOUNDS {
+    for &(bits, signed, number, least_first, most_first) in &BOUNDS {
         for (order, bytes) in [
             (ByteOrdering::Least, least_first),
             (ByteOrdering::Most, most_first),
@@ -241,22 +267,25 @@ fn refused(
     Ok((written, sink.as_slice().len()))
 }
 
+/// Numbers outside the bounds of a pixel of so many bits, with or without a sign.
+static OUTSIDE: [(u8, bool, i64); 12] = [
+    (8, false, -1),
+    (8, false, 256),
+    (8, true, -129),
+    (8, true, 128),
+    (16, false, -1),
+    (16, false, 65536),
+    (16, true, -32769),
+    (16, true, 32768),
+    (32, false, -1),
+    (32, false, -2147483648),
+    (32, true, 2147483648),
+    (32, true, 4294967295),
+];
+
 #[test]
 fn no_kind_of_pixel_spells_a_number_outside_its_bounds(rt: HostRuntime) -> Result<(), Fail> {
-    for (bits, signed, number) in [
-        (8, false, -1),
-        (8, false, 256),
-        (8, true, -129),
-        (8, true, 128),
-        (16, false, -1),
-        (16, false, 65536),
-        (16, true, -32769),
-        (16, true, 32768),
-        (32, false, -1),
-        (32, false, -2147483648),
-        (32, true, 2147483648),
-        (32, true, 4294967295),
-    ] {
+    for &(bits, signed, number) in &OUTSIDE {
         let header = alone(bits, signed, ByteOrdering::Least);
         let given = refused(rt.alloc(), &header, number)?;
         let fault = WriteFault::OutOfRange(Cell { row: 0, col: 0 });
@@ -265,24 +294,28 @@ fn no_kind_of_pixel_spells_a_number_outside_its_bounds(rt: HostRuntime) -> Resul
     Ok(())
 }
 
+/// Faults of reads, each with its text.
+static READ_FAULTS: [(RasterFault, &str); 2] = [
+    (RasterFault::Short, "the raster is too short"),
+    (RasterFault::OutOfMemory, "out of memory"),
+];
+
+/// Faults of writes, each with its text.
+static WRITE_FAULTS: [(WriteFault, &str); 2] = [
+    (
+        WriteFault::OutOfRange(Cell { row: 0, col: 1 }),
+        "a number is out of range",
+    ),
+    (WriteFault::WriteFailed, "the write failed"),
+];
+
 #[test]
 fn texts_of_faults(rt: HostRuntime) -> Result<(), Fail> {
-    for (fault, text) in [
-        (RasterFault::Short, "the raster is too short"),
-        (RasterFault::OutOfMemory, "out of memory"),
-    ] {
-        let given = format!(in rt.alloc(); "{fault}")?;
-        same(&rt, text, given.as_str(), text);
+    for (fault, text) in &READ_FAULTS {
+        same_text(&rt, rt.alloc(), fault, text)?;
     }
-    for (fault, text) in [
-        (
-            WriteFault::OutOfRange(Cell { row: 0, col: 1 }),
-            "a number is out of range",
-        ),
-        (WriteFault::WriteFailed, "the write failed"),
-    ] {
-        let given = format!(in rt.alloc(); "{fault}")?;
-        same(&rt, text, given.as_str(), text);
+    for (fault, text) in &WRITE_FAULTS {
+        same_text(&rt, rt.alloc(), fault, text)?;
     }
     Ok(())
 }

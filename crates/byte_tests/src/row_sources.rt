@@ -2,7 +2,7 @@
 
 ghost use Rattle.std.specs.Prelude.{◌<◌};
 
-use crate::agree::same;
+use crate::agree::{same, same_text};
 use crate::rasters::{PADDED, padded};
 use drain_device::faults::{ScriptSource, Scripted};
 use drain_device::{DeviceFault, ReadFault, RowSource, RowStep};
@@ -12,8 +12,14 @@ use drain_raster::RasterRows;
 use std::alloc::{AllocError, Global};
 use std::test::Fail;
 
-/// Two rows of two samples, and a byte behind them.
-pub const TILE: [u8; 9] = [0x00, 0x01, 0x80, 0x00, 0xff, 0xff, 0x7f, 0xff, 0x00];
+/// Two rows of two samples.
+pub const TILE: [u8; 8] = [0x00, 0x01, 0x80, 0x00, 0xff, 0xff, 0x7f, 0xff];
+
+/// The same and a byte behind them.
+const LONG_TILE: [u8; 9] = [0x00, 0x01, 0x80, 0x00, 0xff, 0xff, 0x7f, 0xff, 0x00];
+
+/// The same without their last byte.
+const SHORT_TILE: [u8; 7] = [0x00, 0x01, 0x80, 0x00, 0xff, 0xff, 0x7f];
 
 /// The samples of the tile, in row order.
 pub const SAMPLES: [i64; 4] = [1, -32768, -1, 32767];
@@ -111,13 +117,16 @@ pub fn of_raster(
 /// The samples of the tile's first row.
 const FIRST_SAMPLES: [i64; 4] = [1, -32768, 0, 0];
 
+/// The bytes of a tile, what four calls answer, and the numbers that they give.
+static TILES: [(&[u8], [Answer; 4], Numbers); 3] = [
+    (&TILE, WHOLE, (4, SAMPLES)),
+    (&LONG_TILE, LONGER, (4, SAMPLES)),
+    (&SHORT_TILE, SHORTER, (2, FIRST_SAMPLES)),
+];
+
 #[test]
 fn a_tile_gives_its_rows(rt: HostRuntime) -> Result<(), Fail> {
-    for (bytes, wanted, numbers) in [
-        (&TILE[..8], WHOLE, (4, SAMPLES)),
-        (&TILE[..9], LONGER, (4, SAMPLES)),
-        (&TILE[..7], SHORTER, (2, FIRST_SAMPLES)),
-    ] {
+    for &(bytes, wanted, numbers) in &TILES {
         for most in [100, 1] {
             let given = of_tile(rt.alloc(), bytes, most, &[])?;
             same(&rt, (bytes.len(), most), given, (wanted, numbers));
@@ -126,34 +135,35 @@ fn a_tile_gives_its_rows(rt: HostRuntime) -> Result<(), Fail> {
     Ok(())
 }
 
+/// The padded raster without its last byte.
+const SHORT_PADDED: [u8; 9] = [0xff, 1, 0, 0xfe, 0xff, 0xaa, 0, 0x80, 2];
+
+/// The bytes of a raster and their order, what four calls answer, and the numbers that they give.
+static RASTERS: [(ByteOrdering, &[u8], [Answer; 4], Numbers); 4] = [
+    (ByteOrdering::Least, &PADDED, WHOLE, (4, [1, -2, -32768, 2])),
+    (
+        ByteOrdering::Least,
+        &SHORT_PADDED,
+        SHORTER,
+        (2, [1, -2, 0, 0]),
+    ),
+    (
+        ByteOrdering::Most,
+        &PADDED,
+        WHOLE,
+        (4, [256, -257, 128, 512]),
+    ),
+    (
+        ByteOrdering::Most,
+        &SHORT_PADDED,
+        SHORTER,
+        (2, [256, -257, 0, 0]),
+    ),
+];
+
 #[test]
 fn a_raster_gives_its_rows(rt: HostRuntime) -> Result<(), Fail> {
-    for (order, bytes, wanted, numbers) in [
-        (
-            ByteOrdering::Least,
-            &PADDED[..10],
-            WHOLE,
-            (4, [1, -2, -32768, 2]),
-        ),
-        (
-            ByteOrdering::Least,
-            &PADDED[..9],
-            SHORTER,
-            (2, [1, -2, 0, 0]),
-        ),
-        (
-            ByteOrdering::Most,
-            &PADDED[..10],
-            WHOLE,
-            (4, [256, -257, 128, 512]),
-        ),
-        (
-            ByteOrdering::Most,
-            &PADDED[..9],
-            SHORTER,
-            (2, [256, -257, 0, 0]),
-        ),
-    ] {
+    for &(order, bytes, wanted, numbers) in &RASTERS {
         for most in [100, 1] {
             let given = of_raster(rt.alloc(), order, bytes, most, &[])?;
             same(&rt, (bytes.len(), most), given, (wanted, numbers));
@@ -162,66 +172,63 @@ fn a_raster_gives_its_rows(rt: HostRuntime) -> Result<(), Fail> {
     Ok(())
 }
 
-/// This answer at two runs of calls, each from a first to a last call; from 0 to 0 there is none.
-fn faults(answer: DeviceFault, one: (u64, u64), other: (u64, u64)) -> [Scripted<DeviceFault>; 2] {
-    [one, other].map(|(first, last)| Scripted {
+/// A first and a last call; from 0 to 0 there is none.
+type Calls = (u64, u64);
+
+/// This answer at these calls.
+fn run(answer: DeviceFault, calls: Calls) -> Scripted<DeviceFault> {
+    let (first, last) = calls;
+    Scripted {
         first,
         last,
         answer,
-    })
+    }
 }
+
+/// What four calls give of the tile and of the raster: all rows, or no more than the first, since a read fails.
+fn whole_or_failed(is_whole: bool) -> [([Answer; 4], Numbers); 2] {
+    if is_whole {
+        [(WHOLE, (4, SAMPLES)), (WHOLE, (4, [1, -2, -32768, 2]))]
+    } else {
+        [(FAILED, (2, FIRST_SAMPLES)), (FAILED, (2, [1, -2, 0, 0]))]
+    }
+}
+
+/// A device's answer at two runs of calls, and whether all rows come.
+static RUNS: [(DeviceFault, Calls, Calls, bool); 4] = [
+    (DeviceFault::Failed, (6, 6), (0, 0), false),
+    (DeviceFault::Interrupted, (2, 1000), (0, 0), true),
+    (DeviceFault::Interrupted, (2, 501), (506, 1004), true),
+    (DeviceFault::Interrupted, (2, 501), (506, 1005), false),
+];
 
 /// At a byte a call the first row of either is there after five calls at most, and the second after ten.
 #[test]
 fn rows_fail_where_their_source_gives_up(rt: HostRuntime) -> Result<(), Fail> {
-    let failed = DeviceFault::Failed;
-    let interrupted = DeviceFault::Interrupted;
     let least = ByteOrdering::Least;
-    let whole = [1, -2, -32768, 2];
-    for (script, wanted, samples, pixels) in [
-        (
-            faults(failed, (6, 6), (0, 0)),
-            FAILED,
-            (2, FIRST_SAMPLES),
-            (2, [1, -2, 0, 0]),
-        ),
-        (
-            faults(interrupted, (2, 1000), (0, 0)),
-            WHOLE,
-            (4, SAMPLES),
-            (4, whole),
-        ),
-        (
-            faults(interrupted, (2, 501), (506, 1004)),
-            WHOLE,
-            (4, SAMPLES),
-            (4, whole),
-        ),
-        (
-            faults(interrupted, (2, 501), (506, 1005)),
-            FAILED,
-            (2, FIRST_SAMPLES),
-            (2, [1, -2, 0, 0]),
-        ),
-    ] {
-        let tile = of_tile(rt.alloc(), &TILE[..8], 1, &script)?;
+    for &(answer, one, other, is_whole) in &RUNS {
+        let script = [run(answer, one), run(answer, other)];
+        let [tile_owed, raster_owed] = whole_or_failed(is_whole);
+        let tile = of_tile(rt.alloc(), &TILE, 1, &script)?;
         let raster = of_raster(rt.alloc(), least, &PADDED, 1, &script)?;
-        same(&rt, "a tile", tile, (wanted, samples));
-        same(&rt, "a raster", raster, (wanted, pixels));
+        same(&rt, "a tile", tile, tile_owed);
+        same(&rt, "a raster", raster, raster_owed);
     }
     Ok(())
 }
 
+/// Faults, each with its text.
+static FAULTS: [(ReadFault, &str); 4] = [
+    (ReadFault::WrongLength, "the input has another length"),
+    (ReadFault::ReadFailed, "the read failed"),
+    (ReadFault::OutOfMemory, "out of memory"),
+    (ReadFault::AlreadyFailed, "an earlier call failed"),
+];
+
 #[test]
 fn texts_of_faults_of_rows(rt: HostRuntime) -> Result<(), Fail> {
-    for (fault, text) in [
-        (ReadFault::WrongLength, "the input has another length"),
-        (ReadFault::ReadFailed, "the read failed"),
-        (ReadFault::OutOfMemory, "out of memory"),
-        (ReadFault::AlreadyFailed, "an earlier call failed"),
-    ] {
-        let given = format!(in rt.alloc(); "{fault}")?;
-        same(&rt, text, given.as_str(), text);
+    for (fault, text) in &FAULTS {
+        same_text(&rt, rt.alloc(), fault, text)?;
     }
     Ok(())
 }

@@ -7,6 +7,7 @@ use crate::header_lines::{CONDITIONED, CONDITIONED_TEXT};
 use crate::mosaic_rows::{BESIDE, EAST, NUMBERS, WEST, input, of_bytes};
 use crate::rasters::{PADDED, padded};
 use crate::row_sources::{SAMPLES, TILE, of_raster, of_tile};
+use crate::tiles::two_named;
 use drain_device::faults::ScriptSource;
 use drain_device::{ReadFault, RowSource, RowStep};
 use drain_grid::{Cell, Elevation, OutOfMemory, Product, Raster};
@@ -20,7 +21,7 @@ use std::test::Fail;
 
 /// The samples of a tile of side 2, where there are four.
 fn samples(alloc: Global) -> Result<Option<[i16; 4]>, TileFault> {
-    let samples = read_tile(alloc, 2, &TILE[..8])?;
+    let samples = read_tile(alloc, 2, &TILE)?;
     Ok(samples.as_slice().try_into().ok())
 }
 
@@ -80,14 +81,6 @@ fn pixels_after_refused_memory(rt: HostRuntime) -> Result<(), Fail> {
     Ok(())
 }
 
-/// The names of a tile and of that east of it.
-fn names() -> Result<[TileName; 2], Fail> {
-    Ok([
-        TileName::parse(BESIDE[0].as_bytes())?,
-        TileName::parse(BESIDE[1].as_bytes())?,
-    ])
-}
-
 /// The rows and columns, the west and the north of two tiles of side 2; none where they have a fault.
 fn layout_of(alloc: Global, names: [TileName; 2]) -> Result<Option<[i64; 4]>, OutOfMemory> {
     match Layout::new(alloc, 2, &names) {
@@ -104,7 +97,7 @@ fn layout_of(alloc: Global, names: [TileName; 2]) -> Result<Option<[i64; 4]>, Ou
 
 #[test]
 fn a_layout_after_refused_memory(rt: HostRuntime) -> Result<(), Fail> {
-    let names = names()?;
+    let names = two_named(BESIDE)?;
     let right = Ok(Some([2, 3, 0, 1]));
     let first = layout_of(rt.alloc(), names);
     let wanted = owed(rt.alloc(), Err(OutOfMemory), right);
@@ -151,7 +144,7 @@ fn heights(alloc: Global, names: [TileName; 2]) -> Result<[i16; 6], SeamFault> {
 
 #[test]
 fn heights_after_refused_memory(rt: HostRuntime) -> Result<(), Fail> {
-    let names = names()?;
+    let names = two_named(BESIDE)?;
     let right = Ok([1, 2, 5, 3, 4, 6]);
     let first = heights(rt.alloc(), names);
     let wanted = owed(rt.alloc(), Err(SeamFault::OutOfMemory), right);
@@ -215,10 +208,10 @@ fn five_calls<'a, S: RowSource<ScriptSource<'a>>>(
 
 #[test]
 fn rows_of_a_tile_after_refused_memory(rt: HostRuntime) -> Result<(), Fail> {
-    let from = ScriptSource::new(&TILE[..8], 100, &[]);
+    let from = ScriptSource::new(&TILE, 100, &[]);
     let given = five_calls(rt.alloc(), &mut TileRows::new(2), from);
     same(&rt, "first", given.0, owed_answers(&given));
-    let (_, numbers) = of_tile(rt.alloc(), &TILE[..8], 100, &[])?;
+    let (_, numbers) = of_tile(rt.alloc(), &TILE, 100, &[])?;
     same(&rt, "again", numbers, (4, SAMPLES));
     Ok(())
 }
@@ -271,8 +264,8 @@ fn five_of_pair(alloc: Global, names: [TileName; 2]) -> Answers {
         }
     };
     let mut from = [
-        input(alloc, ScriptSource::new(&WEST[..8], 100, &[])),
-        input(alloc, ScriptSource::new(&EAST[..8], 100, &[])),
+        input(alloc, ScriptSource::new(&WEST, 100, &[])),
+        input(alloc, ScriptSource::new(&EAST, 100, &[])),
     ];
     let first = call_of_pair(alloc, &mut rows, &mut from);
     let second = call_of_pair(alloc, &mut rows, &mut from);
@@ -285,9 +278,9 @@ fn five_of_pair(alloc: Global, names: [TileName; 2]) -> Answers {
 
 #[test]
 fn rows_of_a_mosaic_after_refused_memory(rt: HostRuntime) -> Result<(), Fail> {
-    let given = five_of_pair(rt.alloc(), names()?);
+    let given = five_of_pair(rt.alloc(), two_named(BESIDE)?);
     same(&rt, "first", given.0, owed_answers(&given));
-    let (_, numbers, ..) = of_bytes(rt.alloc(), BESIDE, &WEST[..8], &EAST[..8], 100)?;
+    let (_, numbers, ..) = of_bytes(rt.alloc(), BESIDE, &WEST, &EAST, 100)?;
     same(&rt, "again", numbers, (6, NUMBERS));
     Ok(())
 }

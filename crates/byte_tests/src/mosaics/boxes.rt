@@ -1,131 +1,123 @@
 //! Boxes of eight tiles, worked by hand, and a wide and a tall mosaic: that they find memory is no clause.
 
-ghost use Rattle.std.specs.Prelude.{◌≡◌, ◌*◌, IfOk, length};
+ghost use Rattle.std.specs.Prelude.{◌≡◌, ◌*◌, IfOk, All, map, length};
 ghost use Rattle.drain_grid.specs.Tile.{IsSide};
 
-use super::samples;
+use super::samples_made;
 use crate::agree::same;
+use crate::tiles::{four_named, two_named};
 use drain_grid::{Cell, Elevation};
 use drain_hgt::{NameFault, TileName};
 use drain_mosaic::{Layout, SeamFault, join};
 use std::alloc::{AllocError, Global};
 use std::test::Fail;
 
-/// Eight names of tiles.
-fn names_of(names: [&str; 8]) -> Result<[TileName; 8], NameFault> {
+/// Eight tiles by their names.
+fn eight_named(names: &[&str; 8]) -> Result<[TileName; 8], NameFault> {
+    let [first, second, third, fourth] = four_named([names[0], names[1], names[2], names[3]])?;
+    let [fifth, sixth, seventh, eighth] = four_named([names[4], names[5], names[6], names[7]])?;
+    Ok([first, second, third, fourth, fifth, sixth, seventh, eighth])
+}
+
+/// Eight tiles of these samples.
+fn eight_tiles(alloc: Global, samples: &[[i16; 4]; 8]) -> Result<[Vec<i16>; 8], AllocError>
+    ensures { IfOk result (λ tiles. All (λ tile. length tile ≡ 4) (map (λ tile. tile.items) tiles)) }
+{
     Ok([
-        TileName::parse(names[0].as_bytes())?,
-        TileName::parse(names[1].as_bytes())?,
-        TileName::parse(names[2].as_bytes())?,
-        TileName::parse(names[3].as_bytes())?,
-        TileName::parse(names[4].as_bytes())?,
-        TileName::parse(names[5].as_bytes())?,
-        TileName::parse(names[6].as_bytes())?,
-        TileName::parse(names[7].as_bytes())?,
+        Vec::from_slice(alloc, &samples[0])?,
+        Vec::from_slice(alloc, &samples[1])?,
+        Vec::from_slice(alloc, &samples[2])?,
+        Vec::from_slice(alloc, &samples[3])?,
+        Vec::from_slice(alloc, &samples[4])?,
+        Vec::from_slice(alloc, &samples[5])?,
+        Vec::from_slice(alloc, &samples[6])?,
+        Vec::from_slice(alloc, &samples[7])?,
     ])
 }
 
 /// What eight tiles of side 2 give together.
 fn eight(
     alloc: Global,
-    names: [&str; 8],
-    tiles: [[i16; 4]; 8],
+    names: &[&str; 8],
+    samples: &[[i16; 4]; 8],
 ) -> Result<Result<Elevation, SeamFault>, Fail> {
-    let layout = Layout::new(alloc, 2, &names_of(names)?)?;
-    let tiles = [
-        Vec::from_slice(alloc, &tiles[0])?,
-        Vec::from_slice(alloc, &tiles[1])?,
-        Vec::from_slice(alloc, &tiles[2])?,
-        Vec::from_slice(alloc, &tiles[3])?,
-        Vec::from_slice(alloc, &tiles[4])?,
-        Vec::from_slice(alloc, &tiles[5])?,
-        Vec::from_slice(alloc, &tiles[6])?,
-        Vec::from_slice(alloc, &tiles[7])?,
-    ];
-    Ok(join(alloc, &layout, &tiles))
+    let layout = Layout::new(alloc, 2, &eight_named(names)?)?;
+    Ok(join(alloc, &layout, &eight_tiles(alloc, samples)?))
 }
 
 /// Eight tiles from west to east, in 2 rows and 9 columns.
-fn wide(alloc: Global, tiles: [[i16; 4]; 8]) -> Result<Result<Elevation, SeamFault>, Fail> {
-    let names = [
-        "N00E000.hgt",
-        "N00E001.hgt",
-        "N00E002.hgt",
-        "N00E003.hgt",
-        "N00E004.hgt",
-        "N00E005.hgt",
-        "N00E006.hgt",
-        "N00E007.hgt",
-    ];
-    eight(alloc, names, tiles)
-}
+static WIDE: [&str; 8] = [
+    "N00E000.hgt",
+    "N00E001.hgt",
+    "N00E002.hgt",
+    "N00E003.hgt",
+    "N00E004.hgt",
+    "N00E005.hgt",
+    "N00E006.hgt",
+    "N00E007.hgt",
+];
 
 /// Eight tiles from north to south, in 9 rows and 2 columns.
-fn tall(alloc: Global, tiles: [[i16; 4]; 8]) -> Result<Result<Elevation, SeamFault>, Fail> {
-    let names = [
-        "N07E000.hgt",
-        "N06E000.hgt",
-        "N05E000.hgt",
-        "N04E000.hgt",
-        "N03E000.hgt",
-        "N02E000.hgt",
-        "N01E000.hgt",
-        "N00E000.hgt",
-    ];
-    eight(alloc, names, tiles)
-}
+static TALL: [&str; 8] = [
+    "N07E000.hgt",
+    "N06E000.hgt",
+    "N05E000.hgt",
+    "N04E000.hgt",
+    "N03E000.hgt",
+    "N02E000.hgt",
+    "N01E000.hgt",
+    "N00E000.hgt",
+];
 
 /// The tiles of a row: 1 to 9 along its north, 11 to 19 along its south.
-fn row_of_tiles() -> [[i16; 4]; 8] {
-    [
-        [1, 2, 11, 12],
-        [2, 3, 12, 13],
-        [3, 4, 13, 14],
-        [4, 5, 14, 15],
-        [5, 6, 15, 16],
-        [6, 7, 16, 17],
-        [7, 8, 17, 18],
-        [8, 9, 18, 19],
-    ]
-}
+static ROW: [[i16; 4]; 8] = [
+    [1, 2, 11, 12],
+    [2, 3, 12, 13],
+    [3, 4, 13, 14],
+    [4, 5, 14, 15],
+    [5, 6, 15, 16],
+    [6, 7, 16, 17],
+    [7, 8, 17, 18],
+    [8, 9, 18, 19],
+];
 
 /// The tiles of a column: 1 to 9 along its west, 11 to 19 along its east.
-fn column_of_tiles() -> [[i16; 4]; 8] {
-    [
-        [1, 11, 2, 12],
-        [2, 12, 3, 13],
-        [3, 13, 4, 14],
-        [4, 14, 5, 15],
-        [5, 15, 6, 16],
-        [6, 16, 7, 17],
-        [7, 17, 8, 18],
-        [8, 18, 9, 19],
-    ]
-}
+static COLUMN: [[i16; 4]; 8] = [
+    [1, 11, 2, 12],
+    [2, 12, 3, 13],
+    [3, 13, 4, 14],
+    [4, 14, 5, 15],
+    [5, 15, 6, 16],
+    [6, 16, 7, 17],
+    [7, 17, 8, 18],
+    [8, 18, 9, 19],
+];
 
-/// The tiles with one sample turned to 0.
-fn turned(mut tiles: [[i16; 4]; 8], tile: usize, place: usize) -> [[i16; 4]; 8] {
-    if let Some(tile) = tiles.get_mut(tile) {
+/// The fault of these tiles with one sample turned to 0.
+fn fault_of_turned(
+    alloc: Global,
+    names: &[&str; 8],
+    samples: &[[i16; 4]; 8],
+    tile: usize,
+    place: usize,
+) -> Result<Option<SeamFault>, Fail> {
+    let mut samples = *samples;
+    if let Some(tile) = samples.get_mut(tile) {
         if let Some(sample) = tile.get_mut(place) {
             *sample = 0;
         }
     }
-    tiles
-}
-
-/// The samples of an elevation that was made.
-fn samples_made(alloc: Global, made: Result<Elevation, SeamFault>) -> Result<Vec<i16>, Fail> {
-    samples(alloc, &made?)
+    Ok(eight(alloc, names, &samples)?.err())
 }
 
 #[test]
 fn eight_tiles_that_agree(rt: HostRuntime) -> Result<(), Fail> {
-    let given = samples_made(rt.alloc(), wide(rt.alloc(), row_of_tiles())?)?;
+    let given = samples_made(rt.alloc(), eight(rt.alloc(), &WIDE, &ROW)?)?;
     let wanted = [
         1, 2, 3, 4, 5, 6, 7, 8, 9, 11, 12, 13, 14, 15, 16, 17, 18, 19,
     ];
     same(&rt, "wide", given.as_slice(), wanted.as_slice());
-    let given = samples_made(rt.alloc(), tall(rt.alloc(), column_of_tiles())?)?;
+    let given = samples_made(rt.alloc(), eight(rt.alloc(), &TALL, &COLUMN)?)?;
     let wanted = [
         1, 11, 2, 12, 3, 13, 4, 14, 5, 15, 6, 16, 7, 17, 8, 18, 9, 19,
     ];
@@ -136,16 +128,17 @@ fn eight_tiles_that_agree(rt: HostRuntime) -> Result<(), Fail> {
 /// Each tile but the first differs in turn from the one before it, at the first and at the last of the cells that they share.
 #[test]
 fn eight_tiles_that_differ(rt: HostRuntime) -> Result<(), Fail> {
-    for (tile, seam) in [(1, 1), (2, 2), (3, 3), (4, 4), (5, 5), (6, 6), (7, 7)] {
+    for seam in 1..8u32 {
+        let tile = seam as usize;
         for (place, row) in [(0, 0), (2, 1)] {
-            let answer = wide(rt.alloc(), turned(row_of_tiles(), tile, place))?;
+            let fault = fault_of_turned(rt.alloc(), &WIDE, &ROW, tile, place)?;
             let wanted = SeamFault::SeamMismatch(Cell { row, col: seam });
-            same(&rt, (tile, place), answer.err(), Some(wanted));
+            same(&rt, (tile, place), fault, Some(wanted));
         }
         for (place, col) in [(0, 0), (1, 1)] {
-            let answer = tall(rt.alloc(), turned(column_of_tiles(), tile, place))?;
+            let fault = fault_of_turned(rt.alloc(), &TALL, &COLUMN, tile, place)?;
             let wanted = SeamFault::SeamMismatch(Cell { row: seam, col });
-            same(&rt, (tile, place), answer.err(), Some(wanted));
+            same(&rt, (tile, place), fault, Some(wanted));
         }
     }
     Ok(())
@@ -159,6 +152,14 @@ fn level(alloc: Global, side: u32, sample: i16) -> Result<Vec<i16>, AllocError>
     vec![in alloc; sample; side as usize * side as usize]
 }
 
+/// A tile of 1 and one of 2.
+fn one_and_two(alloc: Global, side: u32) -> Result<[Vec<i16>; 2], AllocError>
+    requires { IsSide side }
+    ensures { IfOk result (λ tiles. All (λ tile. length tile ≡ side * side) (map (λ tile. tile.items) tiles)) }
+{
+    Ok([level(alloc, side, 1)?, level(alloc, side, 2)?])
+}
+
 /// Rows, columns, and samples: the first, the last and the middle one.
 type Shown = ((u32, u32), [Option<i16>; 3]);
 
@@ -166,13 +167,9 @@ type Shown = ((u32, u32), [Option<i16>; 3]);
 fn of_two(alloc: Global, side: u32, names: [&str; 2]) -> Result<Shown, Fail>
     requires { IsSide side }
 {
-    let names = [
-        TileName::parse(names[0].as_bytes())?,
-        TileName::parse(names[1].as_bytes())?,
-    ];
-    let layout = Layout::new(alloc, side, &names)?;
-    let tiles = [level(alloc, side, 1)?, level(alloc, side, 2)?];
-    Ok(shown(&join(alloc, &layout, &tiles)?))
+    let layout = Layout::new(alloc, side, &two_named(names)?)?;
+    let elevation = join(alloc, &layout, &one_and_two(alloc, side)?)?;
+    Ok(shown(&elevation))
 }
 
 /// What an elevation shows.

@@ -3,6 +3,7 @@
 ghost use Rattle.drain_grid.specs.Tile.{IsSide};
 
 use crate::agree::same;
+use crate::tiles::{four_named, two_named};
 use drain_grid::Cell;
 use drain_grid::tile::is_side;
 use drain_hgt::{NameFault, TileName};
@@ -28,21 +29,27 @@ fn told(
     ))
 }
 
+/// A side, the names of two tiles, and their mosaic's rows, columns, west and north.
+static BOXES: [(u32, [&str; 2], (u32, u32), (i16, i16)); 5] = [
+    (3601, ["N00E000.hgt", "N00E007.hgt"], (3601, 28801), (0, 1)),
+    (3, ["N00E000.hgt", "N00E002.hgt"], (3, 7), (0, 1)),
+    (2, ["S08W180.hgt", "S01W173.hgt"], (9, 9), (-180, 0)),
+    (
+        1201,
+        ["N89E179.hgt", "N82E179.hgt"],
+        (9601, 1201),
+        (179, 90),
+    ),
+    (2, ["S90W001.hgt", "S90E000.hgt"], (2, 3), (-1, -89)),
+];
+
 #[test]
 fn boxes_of_tiles(rt: HostRuntime) -> Result<(), Fail> {
-    for (side, names, rows, cols, west, north) in [
-        (3601, ["N00E000.hgt", "N00E007.hgt"], 3601, 28801, 0, 1),
-        (3, ["N00E000.hgt", "N00E002.hgt"], 3, 7, 0, 1),
-        (2, ["S08W180.hgt", "S01W173.hgt"], 9, 9, -180, 0),
-        (1201, ["N89E179.hgt", "N82E179.hgt"], 9601, 1201, 179, 90),
-        (2, ["S90W001.hgt", "S90E000.hgt"], 2, 3, -1, -89),
-    ] {
-        let first = TileName::parse(names[0].as_bytes())?;
-        let last = TileName::parse(names[1].as_bytes())?;
+    for &(side, names, sizes, place) in &BOXES {
+        let [first, last] = two_named(names)?;
         assert!(rt; is_side(side));
         let given = told(rt.alloc(), side, [first, last])?;
-        let wanted = ((rows, cols), (west, north), (side, 2), last);
-        same(&rt, names, given, wanted);
+        same(&rt, names, given, (sizes, place, (side, 2), last));
     }
     Ok(())
 }
@@ -54,70 +61,84 @@ fn fault_of(alloc: Global, tiles: &[TileName]) -> Option<LayoutFault> {
 
 /// The fault of four tiles of side 2 with these names.
 fn fault_of_four(alloc: Global, names: [&str; 4]) -> Result<Option<LayoutFault>, NameFault> {
-    let tiles = [
-        TileName::parse(names[0].as_bytes())?,
-        TileName::parse(names[1].as_bytes())?,
-        TileName::parse(names[2].as_bytes())?,
-        TileName::parse(names[3].as_bytes())?,
-    ];
-    Ok(fault_of(alloc, &tiles))
+    Ok(fault_of(alloc, &four_named(names)?))
 }
+
+/// The fault of a list in which the tile of this name comes again; where there is none, of one whose box is too large.
+fn fault_told(again: Option<&str>) -> Result<LayoutFault, NameFault> {
+    match again {
+        Some(name) => Ok(LayoutFault::RepeatedTile(TileName::parse(name.as_bytes())?)),
+        None => Ok(LayoutFault::BoxTooLarge),
+    }
+}
+
+/// Names of tiles, and which of them comes again; none where their box is too large.
+static FOUR_TILES: [(&str, [&str; 4], Option<&str>); 5] = [
+    (
+        "two pairs",
+        ["n00e000.hgt", "N00E000.HGT", "N00E001.hgt", "n00e001.hgt"],
+        Some("N00E000.hgt"),
+    ),
+    (
+        "a pair inside another",
+        ["N00E000.hgt", "N00E001.hgt", "n00e001.hgt", "n00e000.hgt"],
+        Some("N00E001.hgt"),
+    ),
+    (
+        "too wide",
+        ["N00E000.hgt", "N00E008.hgt", "N01E000.hgt", "N02E000.hgt"],
+        None,
+    ),
+    (
+        "too tall",
+        ["N00E000.hgt", "S08E000.hgt", "N01E000.hgt", "N02E000.hgt"],
+        None,
+    ),
+    (
+        "too wide, with a pair",
+        ["N00E000.hgt", "N00E008.hgt", "N01E000.hgt", "N00E000.hgt"],
+        Some("N00E000.hgt"),
+    ),
+];
 
 #[test]
 fn tiles_that_make_no_mosaic(rt: HostRuntime) -> Result<(), Fail> {
     let none = fault_of(rt.alloc(), &[]);
     same(&rt, "no tiles", none, Some(LayoutFault::NoTiles));
-    let here = TileName::parse(b"N00E000.hgt")?;
-    let beside = TileName::parse(b"N00E001.hgt")?;
-    for (case, names, fault) in [
-        (
-            "two pairs",
-            ["n00e000.hgt", "N00E000.HGT", "N00E001.hgt", "n00e001.hgt"],
-            LayoutFault::RepeatedTile(here),
-        ),
-        (
-            "a pair inside another",
-            ["N00E000.hgt", "N00E001.hgt", "n00e001.hgt", "n00e000.hgt"],
-            LayoutFault::RepeatedTile(beside),
-        ),
-        (
-            "too wide",
-            ["N00E000.hgt", "N00E008.hgt", "N01E000.hgt", "N02E000.hgt"],
-            LayoutFault::BoxTooLarge,
-        ),
-        (
-            "too tall",
-            ["N00E000.hgt", "S08E000.hgt", "N01E000.hgt", "N02E000.hgt"],
-            LayoutFault::BoxTooLarge,
-        ),
-        (
-            "too wide, with a pair",
-            ["N00E000.hgt", "N00E008.hgt", "N01E000.hgt", "N00E000.hgt"],
-            LayoutFault::RepeatedTile(here),
-        ),
-    ] {
+    for &(case, names, again) in &FOUR_TILES {
         let given = fault_of_four(rt.alloc(), names)?;
-        same(&rt, case, given, Some(fault));
+        same(&rt, case, given, Some(fault_told(again)?));
     }
     Ok(())
 }
 
+/// Puts the tile of this name behind the others; none where the name is empty.
+fn push_named(tiles: &mut Vec<TileName>, name: &str) -> Result<(), Fail> {
+    if !name.is_empty() {
+        tiles.push(TileName::parse(name.as_bytes())?)?;
+    }
+    Ok(())
+}
+
+/// The tile whose south-west corner has these degrees, each below 10.
+fn tile_at(lat: u8, lon: u8) -> Result<TileName, NameFault> {
+    let mut name = *b"N00E000.hgt";
+    name[2] = b'0'.saturating_add(lat);
+    name[6] = b'0'.saturating_add(lon);
+    TileName::parse(&name)
+}
+
 /// The 64 tiles of the box from N00E000 to N07E007, row by row from the south, between two more: none where a name is empty.
 fn full_box(alloc: Global, front: &str, back: &str) -> Result<Vec<TileName>, Fail> {
-    let mut names = Vec::new(alloc);
-    if !front.is_empty() {
-        names.push(TileName::parse(front.as_bytes())?)?;
-    }
+    let mut tiles = Vec::new(alloc);
+    push_named(&mut tiles, front)?;
     for lat in 0..8 {
         for lon in 0..8 {
-            let name = format!(in alloc; "N0{lat}E00{lon}.hgt")?;
-            names.push(TileName::parse(name.as_bytes())?)?;
+            tiles.push(tile_at(lat, lon)?)?;
         }
     }
-    if !back.is_empty() {
-        names.push(TileName::parse(back.as_bytes())?)?;
-    }
-    Ok(names)
+    push_named(&mut tiles, back)?;
+    Ok(tiles)
 }
 
 #[test]
@@ -143,52 +164,37 @@ fn fault_of_box(alloc: Global, front: &str, back: &str) -> Result<Option<LayoutF
     Ok(fault_of(alloc, &names))
 }
 
+/// The names of tiles in front of a full box and behind it, and which tile comes again; none where the box is too large.
+static BESIDE_A_BOX: [(&str, &str, &str, Option<&str>); 12] = [
+    ("first tile first", "N00E000.hgt", "", Some("N00E000.hgt")),
+    ("first tile last", "", "N00E000.hgt", Some("N00E000.hgt")),
+    ("inner tile first", "N03E004.hgt", "", Some("N03E004.hgt")),
+    ("inner tile last", "", "N03E004.hgt", Some("N03E004.hgt")),
+    ("last tile first", "N07E007.hgt", "", Some("N07E007.hgt")),
+    ("last tile last", "", "N07E007.hgt", Some("N07E007.hgt")),
+    (
+        "both ends",
+        "N07E007.hgt",
+        "N00E000.hgt",
+        Some("N07E007.hgt"),
+    ),
+    (
+        "a repeated tile, and a large box",
+        "N00E000.hgt",
+        "N08E000.hgt",
+        Some("N00E000.hgt"),
+    ),
+    ("a tile to the north", "", "N08E000.hgt", None),
+    ("a tile to the east", "", "N00E008.hgt", None),
+    ("a tile to the south", "S01E000.hgt", "", None),
+    ("a tile to the west", "N00W001.hgt", "", None),
+];
+
 #[test]
 fn faults_of_many_tiles(rt: HostRuntime) -> Result<(), Fail> {
-    let first = LayoutFault::RepeatedTile(TileName::parse(b"N00E000.hgt")?);
-    let inner = LayoutFault::RepeatedTile(TileName::parse(b"N03E004.hgt")?);
-    let last = LayoutFault::RepeatedTile(TileName::parse(b"N07E007.hgt")?);
-    for (case, front, back, wanted) in [
-        ("first tile first", "N00E000.hgt", "", first),
-        ("first tile last", "", "N00E000.hgt", first),
-        ("inner tile first", "N03E004.hgt", "", inner),
-        ("inner tile last", "", "N03E004.hgt", inner),
-        ("last tile first", "N07E007.hgt", "", last),
-        ("last tile last", "", "N07E007.hgt", last),
-        ("both ends", "N07E007.hgt", "N00E000.hgt", last),
-        (
-            "a repeated tile, and a large box",
-            "N00E000.hgt",
-            "N08E000.hgt",
-            first,
-        ),
-        (
-            "a tile to the north",
-            "",
-            "N08E000.hgt",
-            LayoutFault::BoxTooLarge,
-        ),
-        (
-            "a tile to the east",
-            "",
-            "N00E008.hgt",
-            LayoutFault::BoxTooLarge,
-        ),
-        (
-            "a tile to the south",
-            "S01E000.hgt",
-            "",
-            LayoutFault::BoxTooLarge,
-        ),
-        (
-            "a tile to the west",
-            "N00W001.hgt",
-            "",
-            LayoutFault::BoxTooLarge,
-        ),
-    ] {
+    for &(case, front, back, again) in &BESIDE_A_BOX {
         let given = fault_of_box(rt.alloc(), front, back)?;
-        same(&rt, case, given, Some(wanted));
+        same(&rt, case, given, Some(fault_told(again)?));
     }
     Ok(())
 }

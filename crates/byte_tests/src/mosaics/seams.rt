@@ -3,10 +3,10 @@
 ghost use Rattle.std.specs.Prelude.{map};
 ghost use Rattle.drain_mosaic.specs.Mosaic.{AreTiles};
 
-use super::names_of_square;
+use super::{SQUARE, four_tiles, two_tiles};
 use crate::agree::same;
+use crate::tiles::{four_named, two_named};
 use drain_grid::{Cell, VOID};
-use drain_hgt::TileName;
 use drain_mosaic::first_seam::first_seam;
 use drain_mosaic::{Layout, SeamFault, join};
 use std::alloc::Global;
@@ -34,15 +34,8 @@ fn seam_of_pair(
     first: [i16; 9],
     last: [i16; 9],
 ) -> Result<Option<Cell>, Fail> {
-    let names = [
-        TileName::parse(names[0].as_bytes())?,
-        TileName::parse(names[1].as_bytes())?,
-    ];
-    let layout = Layout::new(alloc, 3, &names)?;
-    let tiles = [
-        Vec::from_slice(alloc, &first)?,
-        Vec::from_slice(alloc, &last)?,
-    ];
+    let layout = Layout::new(alloc, 3, &two_named(names)?)?;
+    let tiles = two_tiles(alloc, &[first, last])?;
     seam_of(alloc, &layout, &tiles)
 }
 
@@ -60,24 +53,26 @@ fn seams_both_ways(
     ])
 }
 
+/// The samples of the eastern tile, and the row of the seam; none where the tiles agree.
+static EASTERN: [(&str, [i16; 9], Option<u32>); 11] = [
+    ("agree", [3, 0, 0, 6, 0, 0, 9, 0, 0], None),
+    ("first row", [0, 0, 0, 6, 0, 0, 9, 0, 0], Some(0)),
+    ("inner row", [3, 0, 0, 0, 0, 0, 9, 0, 0], Some(1)),
+    ("last row", [3, 0, 0, 6, 0, 0, 0, 0, 0], Some(2)),
+    ("every row", [0, 0, 0, 0, 0, 0, 0, 0, 0], Some(0)),
+    ("last rows", [3, 0, 0, 0, 0, 0, 0, 0, 0], Some(1)),
+    ("after a void", [VOID, 0, 0, VOID, 0, 0, 0, 0, 0], Some(2)),
+    ("voids", [VOID, 0, 0, VOID, 0, 0, VOID, 0, 0], None),
+    ("by one", [3, 0, 0, 7, 0, 0, 9, 0, 0], Some(1)),
+    ("by sign", [-3, 0, 0, 6, 0, 0, 9, 0, 0], Some(0)),
+    ("extremes", [32767, 0, 0, -32767, 0, 0, 9, 0, 0], Some(0)),
+];
+
 /// Two tiles that share column 2 of 3 rows and 5 columns.
 #[test]
 fn one_beside_the_other(rt: HostRuntime) -> Result<(), Fail> {
-    let v = VOID;
     let west = [1, 2, 3, 4, 5, 6, 7, 8, 9];
-    for (case, east, row) in [
-        ("agree", [3, 0, 0, 6, 0, 0, 9, 0, 0], None),
-        ("first row", [0, 0, 0, 6, 0, 0, 9, 0, 0], Some(0)),
-        ("inner row", [3, 0, 0, 0, 0, 0, 9, 0, 0], Some(1)),
-        ("last row", [3, 0, 0, 6, 0, 0, 0, 0, 0], Some(2)),
-        ("every row", [0, 0, 0, 0, 0, 0, 0, 0, 0], Some(0)),
-        ("last rows", [3, 0, 0, 0, 0, 0, 0, 0, 0], Some(1)),
-        ("after a void", [v, 0, 0, v, 0, 0, 0, 0, 0], Some(2)),
-        ("voids", [v, 0, 0, v, 0, 0, v, 0, 0], None),
-        ("by one", [3, 0, 0, 7, 0, 0, 9, 0, 0], Some(1)),
-        ("by sign", [-3, 0, 0, 6, 0, 0, 9, 0, 0], Some(0)),
-        ("extremes", [32767, 0, 0, -32767, 0, 0, 9, 0, 0], Some(0)),
-    ] {
+    for &(case, east, row) in &EASTERN {
         let wanted = row.map(|row| Cell { row, col: 2 });
         let seams = seams_both_ways(rt.alloc(), ["N00E000.hgt", "N00E001.hgt"], west, east)?;
         same(&rt, case, seams, [wanted, wanted]);
@@ -85,22 +80,24 @@ fn one_beside_the_other(rt: HostRuntime) -> Result<(), Fail> {
     Ok(())
 }
 
+/// The samples of the southern tile, and the column of the seam; none where the tiles agree.
+static SOUTHERN: [(&str, [i16; 9], Option<u32>); 9] = [
+    ("agree", [7, 8, 9, 0, 0, 0, 0, 0, 0], None),
+    ("first column", [0, 8, 9, 0, 0, 0, 0, 0, 0], Some(0)),
+    ("inner column", [7, 0, 9, 0, 0, 0, 0, 0, 0], Some(1)),
+    ("last column", [7, 8, 0, 0, 0, 0, 0, 0, 0], Some(2)),
+    ("every column", [0, 0, 0, 0, 0, 0, 0, 0, 0], Some(0)),
+    ("both ends", [0, 8, 0, 0, 0, 0, 0, 0, 0], Some(0)),
+    ("last columns", [7, 0, 0, 0, 0, 0, 0, 0, 0], Some(1)),
+    ("after a void", [VOID, VOID, 0, 0, 0, 0, 0, 0, 0], Some(2)),
+    ("voids", [VOID, VOID, VOID, 0, 0, 0, 0, 0, 0], None),
+];
+
 /// Two tiles that share row 2 of 5 rows and 3 columns.
 #[test]
 fn one_above_the_other(rt: HostRuntime) -> Result<(), Fail> {
-    let v = VOID;
     let north = [1, 2, 3, 4, 5, 6, 7, 8, 9];
-    for (case, south, col) in [
-        ("agree", [7, 8, 9, 0, 0, 0, 0, 0, 0], None),
-        ("first column", [0, 8, 9, 0, 0, 0, 0, 0, 0], Some(0)),
-        ("inner column", [7, 0, 9, 0, 0, 0, 0, 0, 0], Some(1)),
-        ("last column", [7, 8, 0, 0, 0, 0, 0, 0, 0], Some(2)),
-        ("every column", [0, 0, 0, 0, 0, 0, 0, 0, 0], Some(0)),
-        ("both ends", [0, 8, 0, 0, 0, 0, 0, 0, 0], Some(0)),
-        ("last columns", [7, 0, 0, 0, 0, 0, 0, 0, 0], Some(1)),
-        ("after a void", [v, v, 0, 0, 0, 0, 0, 0, 0], Some(2)),
-        ("voids", [v, v, v, 0, 0, 0, 0, 0, 0], None),
-    ] {
+    for &(case, south, col) in &SOUTHERN {
         let wanted = col.map(|col| Cell { row: 2, col });
         let seams = seams_both_ways(rt.alloc(), ["N01E000.hgt", "N00E000.hgt"], north, south)?;
         same(&rt, case, seams, [wanted, wanted]);
@@ -110,13 +107,8 @@ fn one_above_the_other(rt: HostRuntime) -> Result<(), Fail> {
 
 /// The seam of four tiles of side 3 in a square of 5 by 5 cells: north-west, north-east, south-west, south-east.
 fn seam_of_square(alloc: Global, tiles: [[i16; 9]; 4]) -> Result<Option<Cell>, Fail> {
-    let layout = Layout::new(alloc, 3, &names_of_square()?)?;
-    let tiles = [
-        Vec::from_slice(alloc, &tiles[0])?,
-        Vec::from_slice(alloc, &tiles[1])?,
-        Vec::from_slice(alloc, &tiles[2])?,
-        Vec::from_slice(alloc, &tiles[3])?,
-    ];
+    let layout = Layout::new(alloc, 3, &four_named(SQUARE)?)?;
+    let tiles = four_tiles(alloc, &tiles)?;
     seam_of(alloc, &layout, &tiles)
 }
 
@@ -155,27 +147,29 @@ fn centre(differ: bool) -> Option<Cell> {
     }
 }
 
+/// The samples where four tiles meet, and whether they differ.
+static MEETINGS: [(&str, [i16; 4], bool); 15] = [
+    ("all the same", [13, 13, 13, 13], false),
+    ("all voids", [VOID, VOID, VOID, VOID], false),
+    ("north-west alone", [13, VOID, VOID, VOID], false),
+    ("south-east alone", [VOID, VOID, VOID, 13], false),
+    ("north-west and north-east", [1, 2, VOID, VOID], true),
+    ("north-west and south-west", [1, VOID, 2, VOID], true),
+    ("north-west and south-east", [1, VOID, VOID, 2], true),
+    ("north-east and south-west", [VOID, 1, 2, VOID], true),
+    ("north-east and south-east", [VOID, 1, VOID, 2], true),
+    ("south-west and south-east", [VOID, VOID, 1, 2], true),
+    ("north-west from the others", [1, 13, 13, 13], true),
+    ("north-east from the others", [13, 1, 13, 13], true),
+    ("south-west from the others", [13, 13, 1, 13], true),
+    ("south-east from the others", [13, 13, 13, 1], true),
+    ("each from each", [1, 2, 3, 4], true),
+];
+
 /// The four tiles meet at one cell, each with a sample of its own there.
 #[test]
 fn corners_of_four_tiles(rt: HostRuntime) -> Result<(), Fail> {
-    let v = VOID;
-    for (case, samples, differ) in [
-        ("all the same", [13, 13, 13, 13], false),
-        ("all voids", [v, v, v, v], false),
-        ("north-west alone", [13, v, v, v], false),
-        ("south-east alone", [v, v, v, 13], false),
-        ("north-west and north-east", [1, 2, v, v], true),
-        ("north-west and south-west", [1, v, 2, v], true),
-        ("north-west and south-east", [1, v, v, 2], true),
-        ("north-east and south-west", [v, 1, 2, v], true),
-        ("north-east and south-east", [v, 1, v, 2], true),
-        ("south-west and south-east", [v, v, 1, 2], true),
-        ("north-west from the others", [1, 13, 13, 13], true),
-        ("north-east from the others", [13, 1, 13, 13], true),
-        ("south-west from the others", [13, 13, 1, 13], true),
-        ("south-east from the others", [13, 13, 13, 1], true),
-        ("each from each", [1, 2, 3, 4], true),
-    ] {
+    for &(case, samples, differ) in &MEETINGS {
         let seam = seam_of_square(rt.alloc(), meeting(samples))?;
         same(&rt, case, seam, centre(differ));
     }
@@ -195,24 +189,27 @@ fn with_zeros(places: [(usize, usize); 2]) -> [[i16; 9]; 4] {
     tiles
 }
 
+/// One or two samples that are turned to 0, each by its tile and its place in it, and the row and the column of the seam.
+static EDGES: [(&str, (usize, usize), (usize, usize), u32, u32); 13] = [
+    ("first row", (1, 0), (1, 0), 0, 2),
+    ("above the corners", (1, 3), (1, 3), 1, 2),
+    ("first column", (2, 0), (2, 0), 2, 0),
+    ("before the corners", (2, 1), (2, 1), 2, 1),
+    ("after the corners", (3, 1), (3, 1), 2, 3),
+    ("last column", (3, 2), (3, 2), 2, 4),
+    ("below the corners", (3, 3), (3, 3), 3, 2),
+    ("last row", (3, 6), (3, 6), 4, 2),
+    ("first and last row", (3, 6), (1, 0), 0, 2),
+    ("first and last column", (3, 2), (2, 0), 2, 0),
+    ("last column and last row", (3, 6), (3, 2), 2, 4),
+    ("first row and first column", (2, 0), (1, 0), 0, 2),
+    ("corners and last column", (3, 2), (3, 0), 2, 2),
+];
+
 /// One or two samples of the two eastern or southern tiles are turned to 0.
 #[test]
 fn edges_of_four_tiles(rt: HostRuntime) -> Result<(), Fail> {
-    for (case, one, other, row, col) in [
-        ("first row", (1, 0), (1, 0), 0, 2),
-        ("above the corners", (1, 3), (1, 3), 1, 2),
-        ("first column", (2, 0), (2, 0), 2, 0),
-        ("before the corners", (2, 1), (2, 1), 2, 1),
-        ("after the corners", (3, 1), (3, 1), 2, 3),
-        ("last column", (3, 2), (3, 2), 2, 4),
-        ("below the corners", (3, 3), (3, 3), 3, 2),
-        ("last row", (3, 6), (3, 6), 4, 2),
-        ("first and last row", (3, 6), (1, 0), 0, 2),
-        ("first and last column", (3, 2), (2, 0), 2, 0),
-        ("last column and last row", (3, 6), (3, 2), 2, 4),
-        ("first row and first column", (2, 0), (1, 0), 0, 2),
-        ("corners and last column", (3, 2), (3, 0), 2, 2),
-    ] {
+    for &(case, one, other, row, col) in &EDGES {
         let seam = seam_of_square(rt.alloc(), with_zeros([one, other]))?;
         same(&rt, case, seam, Some(Cell { row, col }));
     }
