@@ -54,8 +54,10 @@ class Edit:
 class Round:
     """Edits of one crate that are tried together, each in a file of its own, and the texts that they make."""
 
-    def __init__(self, crate):
+    def __init__(self, crate, edit):
         self.crate, self.edits, self.texts = TOP / "crates" / crate, [], {}
+        if not self.takes(edit):
+            sys.exit(f"{edit.name}: an old text of it doesn't stand in its file, or not once")
 
     def takes(self, edit):
         """Puts the edit in, unless another one is in its file."""
@@ -74,9 +76,7 @@ def rounds_of(crate):
         for file in sorted((TOP / "crates" / crate / part).glob("*.edit")):
             edit = Edit(file)
             if edit.only and not any(found.takes(edit) for found in rounds):
-                rounds.append(Round(crate))
-                if not rounds[-1].takes(edit):
-                    sys.exit(f"{edit.name}: an old text of it doesn't stand in its file, or not once")
+                rounds.append(Round(crate, edit))
     return rounds
 
 
@@ -109,26 +109,37 @@ def words_of(crate, below):
     return ["--crate-name", crate, root, *words, *logic, "--jobs", "1"]
 
 
-def tried(crate, edits, texts, below):
-    """Tries edits together: of each whether its function was refused, or nothing where the prover didn't come to them, and what it said."""
+def tried(together, below):
+    """Tries the edits of a round: of each what the prover said, and whether it refused it. One that calls a function which another edit of the round made
+    wrong isn't looked at, so what isn't refused beside others is tried alone."""
+    said = said_of(together, below)
+    told = {edit.name: (is_refused(together.crate.name, edit, said), said) for edit in together.edits}
+    if len(together.edits) > 1:
+        for edit in together.edits:
+            if not told[edit.name][0]:
+                told.update(tried(Round(together.crate.name, edit), below))
+    return told
+
+
+def said_of(together, below):
+    """What the prover says of the functions that the edits of a round name."""
     with tempfile.TemporaryDirectory() as room:
         for part in ("src", "specs", "proofs"):
-            if (TOP / "crates" / crate / part).is_dir():
-                shutil.copytree(TOP / "crates" / crate / part, Path(room) / part)
-        for path, text in texts.items():
+            if (together.crate / part).is_dir():
+                shutil.copytree(together.crate / part, Path(room) / part)
+        for path, text in together.texts.items():
             (Path(room) / path).write_text(text)
-        asked = [word for edit in edits for word in ("--only", edit.only)]
-        ran = subprocess.run(
-            [KIT / "bin/rattle", "check", *words_of(crate, below), *asked],
+        asked = [word for edit in together.edits for word in ("--only", edit.only)]
+        return subprocess.run(
+            [KIT / "bin/rattle", "check", *words_of(together.crate.name, below), *asked],
             cwd=room, stdin=subprocess.DEVNULL, stdout=subprocess.PIPE, stderr=subprocess.STDOUT, text=True, errors="replace",
-        )
-    if ran.returncode != 1 or not re.search(r"^only=\d+ proved=\d+$", ran.stdout, re.M):
-        return None, ran.stdout
-    return {edit.name: is_refused(crate, edit, ran.stdout) for edit in edits}, ran.stdout
+        ).stdout
 
 
 def is_refused(crate, edit, said):
-    """Whether the prover said that a goal of the edit's own function isn't met: not only that it calls one which isn't proved."""
+    """Whether the prover came to its end, and said that a goal of the edit's own function isn't met: not only that it calls one which isn't proved."""
+    if not re.search(r"^only=\d+ proved=\d+$", said, re.M):
+        return False
     found = re.search(rf"^fn {crate}::(?:\S+::)?{re.escape(edit.only)}: (not proved|no proof.*)$", said, re.M)
     if not found:
         return False
@@ -141,19 +152,12 @@ def main():
     below = libraries()
     passed = failed = 0
     with concurrent.futures.ThreadPoolExecutor(int(os.environ.get("RT_JOBS") or os.cpu_count())) as pool:
-        runs = []
-        for crate in sys.argv[1:] or below:
-            for together in rounds_of(crate):
-                runs.append((crate, together.edits, pool.submit(tried, crate, together.edits, together.texts, below)))
-        for crate, edits, run in runs:
-            told, said = run.result()
-            if told is None:
-                failed += len(edits)
-                print(f"{crate}: {len(edits)} edits weren't tried: the prover said\n{said[-2000:]}")
-                continue
-            for name, is_refused in told.items():
-                passed, failed = passed + is_refused, failed + (not is_refused)
-                print(f"{name}: {'refused' if is_refused else 'NOT REFUSED'}", flush=True)
+        for run in [pool.submit(tried, together, below) for crate in sys.argv[1:] or below for together in rounds_of(crate)]:
+            for name, (is_right, said) in run.result().items():
+                passed, failed = passed + is_right, failed + (not is_right)
+                print(f"{name}: {'refused' if is_right else 'NOT REFUSED'}", flush=True)
+                if not is_right:
+                    print(said[-2000:])
     print(f"edits: {passed} passed, {failed} failed")
     sys.exit(failed > 0)
 
