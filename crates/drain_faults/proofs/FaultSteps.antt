@@ -12,7 +12,7 @@ use Rattle.drain_kernel.specs.Kept.{IsKept}
 use Rattle.drain_rules.specs.Labels.{IsOutletByCode, labelled_profile}
 use Rattle.drain_rules.specs.PatchRows.{AreRowPatches}
 use Rattle.drain_rules.specs.Rows.{place}
-use Rattle.drain_rules.proofs.Faults.{labelled-HoldsAt}
+use Rattle.drain_rules.proofs.Faults.{IsLeastFault-cell, labelled-HoldsAt}
 use Rattle.drain_rules.proofs.KeptCells.{no_label}
 use Rattle.drain_rules.proofs.LabelsBefore.{AreLabelsBefore-more, AreLabelsBefore-row}
 use Rattle.drain_faults.specs.declared.found.Found.{Found}
@@ -21,7 +21,7 @@ use Rattle.drain_faults.specs.Faults.{AreCellsWithout, IsFirstPatch}
 use Rattle.drain_faults.specs.FaultWalks.{IsFoundAbove, IsFoundBefore, IsNewOutletAt, cells_before}
 use Rattle.drain_faults.specs.PerRule.{of_rule}
 use Rattle.drain_faults.proofs.CellsBefore.{cells_before-all, cells_before-few, cells_before-more, cells_before-none}
-use Rattle.drain_faults.proofs.FirstPatches.{first_noted_same, patch_noted, patch_past}
+use Rattle.drain_faults.proofs.FirstPatches.{patch_noted, patch_past}
 use Rattle.drain_faults.proofs.Flags.{noted_same}
 use Rattle.drain_faults.proofs.NumbersWithout.{holding_more, noted_more}
 
@@ -103,9 +103,9 @@ module _ (profile : Profile) (g : Grid) (ps : Products) (row cols : ℕ) (shown 
             (noted_same (labelled_profile profile old.labels (patch_at g ps cell) r) (HoldsAt profile g ps cell r) cell (of_rule old.by_rule r) (of_rule new.by_rule r)
             (labelled-HoldsAt profile g ps old.labels cell r inside so_far.before) (at.each r)) (so_far.faults r));
         first_patch = subst (λ cs. IsFirstPatch profile g ps cs new.first) (sym (cells_before-more g row col))
-            (patch_noted profile g ps (cells_before g row col) cell (patch_at g ps cell) old.first new.first refl
-            (first_noted_same (labelled_profile profile old.labels (patch_at g ps cell)) (HoldsAt profile g ps cell) cell (patch_at g ps cell) old.first new.first
-            (λ r. labelled-HoldsAt profile g ps old.labels cell r inside so_far.before) at.first_is) so_far.first_patch);
+            (patch_noted profile g ps (cells_before g row col) cell (patch_at g ps cell) at.first_is.least old.first new.first refl
+            (IsLeastFault-cell profile g ps old.labels cell (patch_at g ps cell) at.first_is.least inside so_far.before refl at.first_is.least_is)
+            at.first_is.first_is so_far.first_patch);
         before = AreLabelsBefore-more g ps row col p.here old.labels new.labels inside here so_far.before noted.admitted;
       }
 

@@ -1,22 +1,17 @@
 -- The first cell of a list at which some rule fails, with one cell more.
-use Rattle.std.proofs.Common.{◌≡◌, ◌↔◌, List, [], ◌∷◌, ◌++◌, Option, Some, None, inl, inr, sym, subst}
+use Rattle.std.proofs.Common.{◌≡◌, List, [], ◌∷◌, ◌++◌, Option, Some, None, sym, subst}
 use Rattle.drain_grid.specs.declared.cell.Cell.{Cell}
 use Rattle.drain_grid.specs.declared.patch.Patch.{Patch}
 use Rattle.drain_grid.specs.declared.rule.Rule.{Rule}
 use Rattle.drain_grid.specs.Grid.{Grid, Products, patch_at}
 use Rattle.drain_grid.specs.GridRules.{HoldsAt}
 use Rattle.drain_grid.specs.PatchRules.{Profile}
+use Rattle.drain_grid.specs.Rule.{IsAnyRule, IsLeastFault}
 use Rattle.drain_faults.specs.declared.faulty_patch.FaultyPatch.{FaultyPatch}
 use Rattle.drain_faults.specs.CellFaults.{IsFirstNoted}
 use Rattle.drain_faults.specs.Faults.{IsFirstPatch}
 use Rattle.drain_faults.proofs.NumbersWithout.{first_found, first_past, first_stays}
-
--- facts that hold alike note alike
-pub first_noted_same : (P Q : Rule → Type 0) (cell : Cell) (p : Patch) (old new : Option FaultyPatch) → ((r : Rule) → P r ↔ Q r) →
-    IsFirstNoted P cell p old new → IsFirstNoted Q cell p old new
-first_noted_same P Q cell p (Some first) new same noted = noted
-first_noted_same P Q cell p None new same (inl kept) = inl ((λ r. (same r).0 (kept.0 r)), kept.1)
-first_noted_same P Q cell p None new same (inr fails) = inr ((fails.0.0, λ holds. fails.0.1 ((same fails.0.0).1 holds)), fails.1)
+use Rattle.drain_faults.proofs.RulePlaces.{any_rule}
 
 module _ (profile : Profile) (g : Grid) (ps : Products) where
   -- every rule holds at the cell
@@ -30,17 +25,18 @@ module _ (profile : Profile) (g : Grid) (ps : Products) where
   patch_past cs c (Some found) holds first = record {
     first_is = first_past all_hold cs c (Some found.cell) holds first.first_is;
     patch_is = first.patch_is;
-    fails = first.fails;
+    least = first.least;
   }
 
   -- one cell more that was noted
-  pub patch_noted : (cs : List Cell) (c : Cell) (p : Patch) (old new : Option FaultyPatch) → p ≡ patch_at g ps c → IsFirstNoted (HoldsAt profile g ps c) c p old new →
-      IsFirstPatch profile g ps cs old → IsFirstPatch profile g ps (cs ++ c ∷ []) new
-  patch_noted cs c p (Some found) new is noted first =
+  pub patch_noted : (cs : List Cell) (c : Cell) (p : Patch) (least : Option Rule) (old new : Option FaultyPatch) → p ≡ patch_at g ps c →
+      IsLeastFault IsAnyRule (HoldsAt profile g ps c) least → IsFirstNoted least c p old new → IsFirstPatch profile g ps cs old →
+      IsFirstPatch profile g ps (cs ++ c ∷ []) new
+  patch_noted cs c p least (Some found) new is fault noted first =
       subst (IsFirstPatch profile g ps (cs ++ c ∷ [])) (sym noted)
-      (record { first_is = first_stays all_hold cs (c ∷ []) found.cell first.first_is; patch_is = first.patch_is; fails = first.fails })
-  patch_noted cs c p None new is (inl kept) first =
-      subst (IsFirstPatch profile g ps (cs ++ c ∷ [])) (sym kept.1) (first_past all_hold cs c None kept.0 first)
-  patch_noted cs c p None new is (inr fails) first =
-      subst (IsFirstPatch profile g ps (cs ++ c ∷ [])) (sym fails.1)
-      (record { first_is = first_found all_hold cs c None (λ all. fails.0.1 (all fails.0.0)) first; patch_is = is; fails = fails.0 })
+      (record { first_is = first_stays all_hold cs (c ∷ []) found.cell first.first_is; patch_is = first.patch_is; least = first.least })
+  patch_noted cs c p None None new is fault noted first =
+      subst (IsFirstPatch profile g ps (cs ++ c ∷ [])) (sym noted) (first_past all_hold cs c None (λ r. fault r (any_rule r)) first)
+  patch_noted cs c p (Some rule) None new is fault noted first =
+      subst (IsFirstPatch profile g ps (cs ++ c ∷ [])) (sym noted)
+      (record { first_is = first_found all_hold cs c None (λ all. fault.1 (all rule)) first; patch_is = is; least = fault })

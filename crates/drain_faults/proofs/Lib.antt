@@ -1,5 +1,6 @@
 pub mod ByRule
 pub mod CellsBefore
+pub mod CountSteps
 pub mod FaultSteps
 pub mod FirstPatches
 pub mod Flags
@@ -8,4 +9,5 @@ pub mod NumbersWithout
 pub mod PatchFlags
 pub mod ProductParts
 pub mod ProductSteps
+pub mod RowOrder
 pub mod RulePlaces

@@ -1,8 +1,8 @@
 -- The rules by their places in their order: a search that has passed a place has passed each lesser rule.
-use Rattle.std.proofs.Common.{◌≡◌, ℕ, ◌+◌, ◌-◌, ◌<◌, get_or, refl, subst}
+use Rattle.std.proofs.Common.{◌≡◌, ℕ, ◌+◌, ◌-◌, ◌<◌, get_or, refl, subst, arith}
 use Rattle.drain_grid.specs.declared.rule.Rule.{Rule}
 use Rattle.drain_grid.specs.declared.rule.Rule.TheVariants.{VoidCell}
-use Rattle.drain_grid.specs.Rule.{number_of}
+use Rattle.drain_grid.specs.Rule.{IsAnyRule, number_of}
 use Rattle.drain_grid.proofs.Decisions.{each_below, same_number}
 use Rattle.drain_grid.proofs.RuleNumbers.{numbered, rules}
 
@@ -17,3 +17,9 @@ of_lesser P i h q before = subst P (numbered q).0 (h (number_of q - 1) before)
 -- and past the last place, of each rule
 pub of_each : (P : Rule → Type 0) → ((k : ℕ) → k < 15 → P (get_or rules k VoidCell)) → (q : Rule) → P q
 of_each P h q = of_lesser P 15 h q (numbered q).1
+
+-- each rule has a number from 1 to 15
+pub any_rule : (r : Rule) → IsAnyRule r
+any_rule r =
+    let number : number_of r ≡ number_of r - 1 + 1 = subst (λ q. number_of q ≡ number_of r - 1 + 1) (numbered r).0 (place_at (number_of r - 1) (numbered r).1) in
+    (omega (arith, number), omega (arith, number, (numbered r).1))

@@ -5,6 +5,7 @@ use Rattle.drain_grid.specs.declared.cell.Cell.{Cell}
 use Rattle.drain_grid.specs.declared.patch.Patch.{Patch}
 use Rattle.drain_grid.specs.declared.rule.Rule.{Rule}
 use Rattle.drain_grid.specs.PatchRules.{Profile}
+use Rattle.drain_grid.specs.Rule.{IsAnyRule, IsLeastFault}
 use Rattle.drain_rules.specs.Labels.{IsLabelOf, labelled_profile}
 use Rattle.drain_faults.specs.declared.faulty_patch.FaultyPatch.{FaultyPatch}
 use Rattle.drain_faults.specs.declared.found.Found.{Found}
@@ -25,14 +26,20 @@ IsWith cell false old new = new ≡ old
 abbrev pub IsNotedAt : Type 0 → Cell → RuleFaults → RuleFaults → Type 0
 IsNotedAt P cell old new = (P × (new ≡ old)) ⊎ (¬ P × IsWithFault cell old new)
 
--- the first cell so far at which a fact doesn't hold stays; where there is none it is this cell with its patch, if one of these facts doesn't hold here
-abbrev pub IsFirstNoted : (Rule → Type 0) → Cell → Patch → Option FaultyPatch → Option FaultyPatch → Type 0
-IsFirstNoted P cell p (Some first) new = new ≡ Some first
-IsFirstNoted P cell p None new =
-    (((r : Rule) → P r) × (new ≡ None)) ⊎ (((r : Rule) × ¬ P r) × (new ≡ Some (record { cell = cell; patch = p })))
+-- the first cell so far at which a rule fails stays; where there is none it is this cell with its patch, if a rule fails here, of which this is the least
+abbrev pub IsFirstNoted : Option Rule → Cell → Patch → Option FaultyPatch → Option FaultyPatch → Type 0
+IsFirstNoted least cell p (Some first) new = new ≡ Some first
+IsFirstNoted None cell p None new = new ≡ None
+IsFirstNoted (Some rule) cell p None new = new ≡ Some (record { cell = cell; patch = p; rule = rule })
+
+-- it is so with the least of the rules that don't hold here
+pub record IsLeastNoted (P : Rule → Type 0) (cell : Cell) (p : Patch) (old new : Option FaultyPatch) : Type 0 where
+  pub least : Option Rule
+  pub least_is : IsLeastFault IsAnyRule P least
+  pub first_is : IsFirstNoted least cell p old new
 
 -- each rule is noted at the cell that shows this patch, SharedLabel by the labels so far; to these the cell's is added if it is an outlet by its code
 pub record IsNoted (profile : Profile) (cell : Cell) (p : Patch) (old new : Found) : Type 0 where
   pub each : (r : Rule) → IsNotedAt (labelled_profile profile old.labels p r) cell (of_rule old.by_rule r) (of_rule new.by_rule r)
-  pub first_is : IsFirstNoted (labelled_profile profile old.labels p) cell p old.first new.first
+  pub first_is : IsLeastNoted (labelled_profile profile old.labels p) cell p old.first new.first
   pub admitted : (label : ℤ) → IsAdmitted new.labels label ↔ (IsLabelOf p.here label ⊎ IsAdmitted old.labels label)

@@ -13,7 +13,7 @@ use Rattle.drain_faults.specs.declared.fault_map.FaultMap.{FaultMap}
 use Rattle.drain_faults.specs.declared.fault_map.TheConstants.{SOUND, SOUND_VOID}
 use Rattle.drain_faults.specs.declared.fault_walk.FaultWalk.{FaultWalk}
 use Rattle.drain_faults.specs.declared.found.Found.{Found}
-use Rattle.drain_faults.specs.FaultWalks.{IsFoundAbove, cells_before}
+use Rattle.drain_faults.specs.FaultWalks.{IsFoundAbove}
 
 -- that of the least rule that fails at the cell; where none fails that of a sound data cell, or of a sound void
 abbrev pub pixel_of : Option Rule → Bool → ℕ

@@ -6,7 +6,7 @@ use Rattle.drain_grid.specs.Extent.{row_cells}
 use Rattle.drain_grid.specs.Grid.{Grid, Products, HasData}
 use Rattle.drain_grid.specs.GridRules.{SharedLabelHolds}
 use Rattle.drain_grid.specs.PatchRules.{Profile}
-use Rattle.drain_rules.specs.Findings.{cells_above}
+use Rattle.drain_rules.specs.Findings.{CountsAbove, cells_above}
 use Rattle.drain_rules.specs.Labels.{AreLabelsBefore}
 use Rattle.drain_rules.specs.PatchRows.{AreRowPatches}
 use Rattle.drain_rules.specs.Rows.{place}
@@ -45,6 +45,10 @@ abbrev pub OfRowFound : Profile → ℕ → ℕ → (ℕ → Patch) → Found �
 OfRowFound profile row cols shown found P =
     (g : Grid) (ps : Products) → AreRowPatches g ps row cols shown → IsFoundAbove profile g ps row found → P g ps
 
+-- this holds of each grid of which these are the row's patches
+abbrev pub OfRowPatches : ℕ → ℕ → (ℕ → Patch) → (Grid → Products → Type 0) → Type 0
+OfRowPatches row cols shown P = (g : Grid) (ps : Products) → AreRowPatches g ps row cols shown → P g ps
+
 -- the walk is right of a grid and its products
 abbrev pub IsRightOf : Profile → Grid → Products → FaultWalk → Type 0
 IsRightOf profile g ps w = IsFoundAbove profile g ps w.rows w.found
@@ -52,3 +56,11 @@ IsRightOf profile g ps w = IsFoundAbove profile g ps w.rows w.found
 -- this holds of each grid of which the walk is right, where these are the patches of its next row
 abbrev pub OfNextRow : Profile → FaultWalk → ℕ → (ℕ → Patch) → (Grid → Products → Type 0) → Type 0
 OfNextRow profile w cols shown P = OfRowFound profile w.rows cols shown w.found P
+
+-- its counts are those of the rows that were passed
+abbrev pub IsCountedOf : Grid → Products → FaultWalk → Type 0
+IsCountedOf g ps w = CountsAbove g ps w.rows w.tally
+
+-- this holds of each grid of which that is so, where these are the patches of its next row
+abbrev pub OfNextRowCounted : FaultWalk → ℕ → (ℕ → Patch) → (Grid → Products → Type 0) → Type 0
+OfNextRowCounted w cols shown P = OfRowPatches w.rows cols shown (λ g ps. IsCountedOf g ps w → P g ps)

@@ -5,6 +5,7 @@ use Rattle.drain_grid.specs.declared.rule.Rule.{Rule}
 use Rattle.drain_grid.specs.Grid.{Grid, Products, patch_at}
 use Rattle.drain_grid.specs.GridRules.{HoldsAt}
 use Rattle.drain_grid.specs.PatchRules.{Profile}
+use Rattle.drain_grid.specs.Rule.{IsAnyRule, IsLeastFault}
 use Rattle.drain_faults.specs.declared.faulty_patch.FaultyPatch.{FaultyPatch}
 use Rattle.drain_faults.specs.declared.per_rule.PerRule.{PerRule}
 use Rattle.drain_faults.specs.declared.rule_faults.RuleFaults.{RuleFaults}
@@ -29,11 +30,11 @@ pub record AreCellsWithout (P : Cell → Type 0) (cs : List Cell) (faults : Rule
 abbrev pub AreFaultsOf : Profile → Grid → Products → List Cell → PerRule RuleFaults → Type 0
 AreFaultsOf profile g ps cs faults = (r : Rule) → AreCellsWithout (λ c. HoldsAt profile g ps c r) cs (of_rule faults r)
 
--- the first of the list's cells at which some rule fails, and its patch
+-- the first of the list's cells at which some rule fails, its patch, and the least rule that fails there
 pub record IsFirstFaulty (profile : Profile) (g : Grid) (ps : Products) (cs : List Cell) (found : FaultyPatch) : Type 0 where
   pub first_is : IsFirstWithout (λ c. (r : Rule) → HoldsAt profile g ps c r) cs (Some found.cell)
   pub patch_is : found.patch ≡ patch_at g ps found.cell
-  pub fails : (r : Rule) × ¬ HoldsAt profile g ps found.cell r
+  pub least : IsLeastFault IsAnyRule (HoldsAt profile g ps found.cell) (Some found.rule)
 
 -- it is that, or none where every rule holds at each of them
 abbrev pub IsFirstPatch : Profile → Grid → Products → List Cell → Option FaultyPatch → Type 0

@@ -1,15 +1,8 @@
 //! The walk over a grid, row by row.
 
-ghost use Rattle.std.specs.Prelude.{◌≡◌, ◌<◌, ◌+◌, ◌↔◌, ◌⊎◌, IfOk, IfSome, IsNone, IsSome, OnErr, OnOk};
 ghost use Rattle.drain_grid.specs.declared.cell.TheConstants.{MAX_LENGTH};
-ghost use Rattle.drain_grid.specs.Grid.{Grid, Products};
-ghost use Rattle.drain_kernel.specs.declared.rules.Rules.{Rules};
-ghost use Rattle.drain_kernel.specs.Rules.{tried};
-ghost use Rattle.drain_rules.specs.Findings.{cells_above};
-ghost use Rattle.drain_faults.specs.ByProduct.{AreFaultsByProduct, IsRightByProduct, OfNextRowByProduct};
-ghost use Rattle.drain_faults.specs.Faults.{AreFaultsOf, IsFirstPatch};
-ghost use Rattle.drain_faults.specs.FaultMaps.{AreMapPixels, IsMapOf, IsMapOfCells, OfNextRowDrawn};
-ghost use Rattle.drain_faults.specs.FaultWalks.{HasNewOutlet, IsRightOf, OfNextRow};
+ghost use Rattle.drain_rules.specs.PatchRows.{IsAtMost};
+ghost use Rattle.std.specs.Prelude.{◌*◌};
 
 use crate::fault_map::FaultMap;
 use crate::faulty_patch::FaultyPatch;
@@ -21,18 +14,32 @@ use crate::rule_faults::RuleFaults;
 use drain_basin::OutletLabels;
 use drain_grid::{OutOfMemory, PerProduct, Shape};
 use drain_kernel::Rules;
-use drain_rules::PatchRow;
+use drain_rules::tally::Tally;
+use drain_rules::{Counts, PatchRow, Verdict};
 use std::alloc::Global;
 
-/// How many rows were passed, what their cells came to, and a map of them where one is wanted.
+/// How many rows were passed, their counts, what their cells came to, and a map of them where one is wanted.
 #[derive(Drop)]
 pub struct FaultWalk {
     rows: u32,
+    tally: Tally,
     found: Found,
     map: Option<FaultMap>,
+    ghost bounded: { IsAtMost (rows * MAX_LENGTH) tally },
 }
 
 impl FaultWalk {
+    ghost use Rattle.std.specs.Prelude.{◌≡◌, ◌<◌, ◌+◌, ◌↔◌, ◌⊎◌, IfOk, IfSome, IsNone, IsSome, OnErr, OnOk};
+    ghost use Rattle.drain_grid.specs.Grid.{Grid, Products};
+    ghost use Rattle.drain_kernel.specs.declared.rules.Rules.{Rules};
+    ghost use Rattle.drain_kernel.specs.Rules.{tried};
+    ghost use Rattle.drain_rules.specs.Findings.{cells_above};
+    ghost use Rattle.drain_rules.specs.Verdicts.{IsVerdictOf};
+    ghost use Rattle.drain_faults.specs.ByProduct.{AreFaultsByProduct, IsRightByProduct, OfNextRowByProduct};
+    ghost use Rattle.drain_faults.specs.Faults.{AreFaultsOf, IsFirstPatch};
+    ghost use Rattle.drain_faults.specs.FaultMaps.{AreMapPixels, IsMapOf, IsMapOfCells, OfNextRowDrawn};
+    ghost use Rattle.drain_faults.specs.FaultWalks.{HasNewOutlet, IsCountedOf, IsRightOf, OfNextRow, OfNextRowCounted};
+
     /// No row was passed, and no map is drawn. This takes no memory.
     pub fn new(alloc: Global) -> FaultWalk
         ensures rows { result.rows ≡ 0 }
@@ -40,9 +47,11 @@ impl FaultWalk {
         ensures map { (rules : Rules) (g : Grid) (ps : Products) → IsMapOf (tried rules) g ps result }
         ensures found { (rules : Rules) (g : Grid) (ps : Products) → IsRightOf (tried rules) g ps result }
         ensures by_product { (rules : Rules) (g : Grid) (ps : Products) → IsRightByProduct rules g ps result }
+        ensures counted { (g : Grid) (ps : Products) → IsCountedOf g ps result }
     {
         FaultWalk {
             rows: 0,
+            tally: Tally::new(),
             found: Found {
                 labels: OutletLabels::new(alloc),
                 by_rule: PerRule::same(RuleFaults::none()),
@@ -59,6 +68,7 @@ impl FaultWalk {
         ensures drawn { IfOk result (λ walk. IsSome walk.map) }
         ensures found { IfOk result (λ walk. (rules : Rules) (g : Grid) (ps : Products) → IsRightOf (tried rules) g ps walk) }
         ensures by_product { IfOk result (λ walk. (rules : Rules) (g : Grid) (ps : Products) → IsRightByProduct rules g ps walk) }
+        ensures counted { IfOk result (λ walk. (g : Grid) (ps : Products) → IsCountedOf g ps walk) }
         ensures map { IfOk result (λ walk. (rules : Rules) (g : Grid) (ps : Products) → IsMapOf (tried rules) g ps walk) }
     {
         let map = FaultMap::new(alloc, shape)?;
@@ -76,15 +86,37 @@ impl FaultWalk {
         ensures found { OnOk result (OfNextRow (tried rules.now) self.old (R.len patches.now) (R.shown patches.now) (λ g ps. IsRightOf (tried rules.now) g ps self.new)) }
         ensures by_product { OnOk result (OfNextRowByProduct rules.now self.old (R.len patches.now) (R.shown patches.now) (λ g ps. IsRightByProduct rules.now g ps self.new)) }
         ensures map { OnOk result (OfNextRowDrawn (tried rules.now) self.old (R.len patches.now) (R.shown patches.now) (λ g ps. IsMapOf (tried rules.now) g ps self.new)) }
+        ensures counted { OnOk result (OfNextRowCounted self.old (R.len patches.now) (R.shown patches.now) (λ g ps. IsCountedOf g ps self.new)) }
         ensures drawn { OnOk result (IsSome self.new.map ↔ IsSome self.old.map) }
         ensures err { OnErr result (IsSome self.old.map ⊎ OfNextRow (tried rules.now) self.old (R.len patches.now) (R.shown patches.now) HasNewOutlet) }
     {
         match note_row_of(&mut self.found, &mut self.map, self.rows, patches, rules) {
-            Ok(()) => {
+            Ok(row) => {
+                self.tally.join(row);
                 self.rows += 1;
                 Ok(())
             }
             Err(OutOfMemory) => Err(OutOfMemory),
+        }
+    }
+
+    /// The verdict on the grid of this shape whose rows all were passed: that of `drain_rules`.
+    pub fn verdict(&self, shape: Shape) -> Verdict
+        ensures { (rules : Rules) (g : Grid) (ps : Products) → g.extent ≡ shape → self.now.rows ≡ g.extent.rows → IsRightOf (tried rules) g ps self.now → IsCountedOf g ps self.now → IsVerdictOf (tried rules) g ps result }
+    {
+        match self.found.first {
+            None => Verdict::Accepted(Counts {
+                rows: shape.rows(),
+                cols: shape.cols(),
+                data_cells: self.tally.data_cells,
+                raised: self.tally.raised,
+                outlets: self.tally.outlets,
+            }),
+            Some(first) => Verdict::Rejected {
+                rule: first.rule,
+                row: first.cell.row,
+                col: first.cell.col,
+            },
         }
     }
 

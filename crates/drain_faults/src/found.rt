@@ -45,8 +45,9 @@ impl Found {
             Ok(fails) => {
                 self.by_rule = with_cell(&self.by_rule, cell, &fails);
                 note_products(&mut self.by_product, cell, patch, rules, &fails);
-                self.first = with_patch(self.first, cell, patch, &fails);
-                Ok(fails.least())
+                let least = fails.least();
+                self.first = with_patch(self.first, cell, patch, least);
+                Ok(least)
             }
             Err(OutOfMemory) => Err(OutOfMemory),
         }

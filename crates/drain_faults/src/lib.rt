@@ -3,7 +3,8 @@
 //!
 //! The verdict (`drain_rules`) stops at the first fault. Whoever has to repair products wants to see more, so here nothing stops at a
 //! fault. The rules are asked one by one, since of each group of rules the crates below tell the first that fails, and it may hide another.
-//! The walk looks at a row as the verdict's does: cells that a row vouches for keep every rule, and are passed at once.
+//! The walk looks at a row as the verdict's does: cells that a row vouches for keep every rule, and are passed at once. It counts as that one does,
+//! so it gives the verdict too.
 #![tactic(auto)]
 
 pub mod cell_faults;

@@ -1,20 +1,23 @@
 //! The walk along one row, patch by patch. It stops at no fault.
 
-ghost use Rattle.std.specs.Prelude.{◌<◌, ◌+◌, ◌↔◌, ◌⊎◌, IsSome, OnErr, OnOk};
+ghost use Rattle.std.specs.Prelude.{◌<◌, ◌+◌, ◌↔◌, ◌⊎◌, IfOk, IsSome, OnErr, OnOk};
 ghost use Rattle.drain_grid.specs.declared.cell.TheConstants.{MAX_LENGTH};
 ghost use Rattle.drain_kernel.specs.Rules.{tried};
 ghost use Rattle.drain_rules.specs.Findings.{cells_above};
+ghost use Rattle.drain_rules.specs.PatchRows.{IsAtMost};
+ghost use Rattle.drain_rules.specs.Rows.{CountsAlong};
 ghost use Rattle.drain_faults.specs.ByProduct.{AreFaultsByProduct, OfRowByProduct};
 ghost use Rattle.drain_faults.specs.FaultMaps.{IsMapOfCells, OfRowDrawn};
-ghost use Rattle.drain_faults.specs.FaultWalks.{HasNewOutlet, IsFoundAbove, OfRowFound};
+ghost use Rattle.drain_faults.specs.FaultWalks.{HasNewOutlet, IsFoundAbove, OfRowFound, OfRowPatches};
 
 use crate::fault_map::{FaultMap, draw_cell, draw_sound};
 use crate::found::Found;
 use drain_grid::{Cell, OutOfMemory};
 use drain_kernel::Rules;
 use drain_rules::PatchRow;
+use drain_rules::tally::Tally;
 
-/// Passes the cells of a row, from west to east, behind those of the rows above.
+/// Passes the cells of a row, from west to east, behind those of the rows above, and answers their counts.
 ///
 /// What was found then is right of every grid whose row this is, and so is the map where there is one. `OutOfMemory` comes only at an outlet whose label is
 /// new, or where there is a map.
@@ -24,19 +27,23 @@ pub(crate) fn note_row_of<R: PatchRow>(
     row: u32,
     patches: &R,
     rules: &Rules,
-) -> Result<(), OutOfMemory>
+) -> Result<Tally, OutOfMemory>
     requires { row < MAX_LENGTH }
     ensures found { OnOk result (OfRowFound (tried rules.now) row (R.len patches.now) (R.shown patches.now) found.old (λ g ps. IsFoundAbove (tried rules.now) g ps (row + 1) found.new)) }
     ensures by_product { OnOk result (OfRowByProduct rules.now row (R.len patches.now) (R.shown patches.now) found.old.by_product (λ g ps. AreFaultsByProduct rules.now g ps (cells_above g (row + 1)) found.new.by_product)) }
     ensures map { OnOk result (OfRowDrawn (tried rules.now) row (R.len patches.now) (R.shown patches.now) found.old map.old (λ g ps. IsMapOfCells (tried rules.now) g ps (cells_above g (row + 1)) map.new)) }
     ensures drawn { OnOk result (IsSome map.new ↔ IsSome map.old) }
+    ensures tally { IfOk result (λ tally. OfRowPatches row (R.len patches.now) (R.shown patches.now) (λ g ps. CountsAlong g ps row g.extent.cols tally)) }
+    ensures bounds { IfOk result (IsAtMost MAX_LENGTH) }
     ensures err { OnErr result (IsSome map.old ⊎ OfRowFound (tried rules.now) row (R.len patches.now) (R.shown patches.now) found.old HasNewOutlet) }
 {
     let cols = patches.cols();
+    let mut tally = Tally::new();
     let mut col = 0;
     while col < cols {
         let kept = patches.kept_from(rules, col);
         draw_sound(map, kept.end - col)?;
+        tally.add_kept(kept.end - col, kept.raised);
         col = kept.end;
         if col < cols {
             let patch = patches.patch(col);
@@ -44,8 +51,9 @@ pub(crate) fn note_row_of<R: PatchRow>(
                 Ok(least) => draw_cell(map, least, &patch)?,
                 Err(OutOfMemory) => return Err(OutOfMemory),
             }
+            tally.add(&patch.here);
             col += 1;
         }
     }
-    Ok(())
+    Ok(tally)
 }

@@ -18,7 +18,9 @@ use Rattle.drain_rules.specs.declared.tally.Tally.{Tally}
 use Rattle.drain_rules.specs.KeptRuns.{shows_raised, raised_between}
 use Rattle.drain_rules.specs.Labels.{IsLabelOf, labelled_profile}
 use Rattle.drain_rules.specs.PatchRows.{AreRowPatches, IsAtMost}
+use Rattle.drain_rules.specs.Rows.{CountsAlong}
 use Rattle.drain_rules.proofs.PassedCells.{IsPassed, passed-more}
+use Rattle.drain_rules.proofs.RowLemmas.{CountsAlong-more}
 
 -- how many are raised, with one column more
 raised_between-none : (shown : ℕ → Patch) (from : ℕ) → raised_between shown from from ≡ 0
@@ -63,61 +65,66 @@ no_label profile labels p kept label = (
   ]),
 )
 
-module _ (profile : Profile) (g : Grid) (ps : Products) (row cols : ℕ) (shown : ℕ → Patch) (labels : List (ℕ × ℕ)) where
-  -- one such cell more is passed
-  kept_one : (col : ℕ) (old new : Tally) → AreRowPatches g ps row cols shown → col < cols → IsPassed profile g ps row col old labels →
-      IsKept profile (shown col) → new.data_cells ≡ old.data_cells + 1 → new.raised ≡ old.raised + cond (shows_raised (shown col)) 1 0 →
-      new.outlets ≡ old.outlets → IsPassed profile g ps row (col + 1) new labels
-  kept_one col old new are less passed kept data_cells raised outlets =
-      let p = shown col in
-      passed-more profile g ps row col cols shown p old new labels labels are less refl passed (kept_holds profile labels p kept)
-      (omega (arith, data_cells, counts_one p.here.z kept.has_data)) raised
-      (omega (arith, outlets, counts_none p.here.z p.here.dir kept.no_outlet)) (no_label profile labels p kept)
-
-  -- the same counts do as well
-  recounted : (col : ℕ) (old new : Tally) → IsPassed profile g ps row col old labels → new.data_cells ≡ old.data_cells → new.raised ≡ old.raised →
-      new.outlets ≡ old.outlets → IsPassed profile g ps row col new labels
-  recounted col old new passed data_cells raised outlets = record {
-    holds = passed.holds;
-    counted = record {
-      data_cells = data_cells ∙ passed.counted.data_cells;
-      raised = raised ∙ passed.counted.raised;
-      outlets = outlets ∙ passed.counted.outlets;
-    };
-    before = passed.before;
-  }
-
-  -- so many such cells are
-  kept_some : (from n : ℕ) (old new : Tally) → AreRowPatches g ps row cols shown → from + n ≤ cols → IsPassed profile g ps row from old labels →
-      ((col : ℕ) → from ≤ col → col < from + n → IsKept profile (shown col)) → new.data_cells ≡ old.data_cells + n →
-      new.raised ≡ old.raised + raised_between shown from (from + n) → new.outlets ≡ old.outlets → IsPassed profile g ps row (from + n) new labels
-  kept_some from zero old new are within passed kept data_cells raised outlets =
+-- what is so of the cells before a column and of their counts, where one such cell more leaves it so
+module _ (profile : Profile) (cols : ℕ) (shown : ℕ → Patch) (P : ℕ → Tally → Type 0)
+    (one : (col : ℕ) (old new : Tally) → col < cols → P col old → IsKept profile (shown col) → new.data_cells ≡ old.data_cells + 1 →
+    new.raised ≡ old.raised + cond (shows_raised (shown col)) 1 0 → new.outlets ≡ old.outlets → P (col + 1) new) where
+  -- so many such cells leave it so
+  kept_some : (from n : ℕ) (old new : Tally) → from + n ≤ cols → P from old → ((col : ℕ) → from ≤ col → col < from + n → IsKept profile (shown col)) →
+      new.data_cells ≡ old.data_cells + n → new.raised ≡ old.raised + raised_between shown from (from + n) → new.outlets ≡ old.outlets → P (from + n) new
+  kept_some from zero old new within so_far kept data_cells raised outlets =
       let here : from + 0 ≡ from = omega arith in
       let none : raised_between shown from (from + 0) ≡ 0 = rw here (raised_between-none shown from) in
-      subst (λ col. IsPassed profile g ps row col new labels) (sym here)
-      (recounted from old new passed (omega (arith, data_cells)) (omega (arith, raised, none)) outlets)
-  kept_some from (suc n) old new are within passed kept data_cells raised outlets =
-      let so_far : Tally = record { data_cells = old.data_cells + n; raised = old.raised + raised_between shown from (from + n); outlets = old.outlets } in
-      let before = kept_some from n old so_far are (omega (arith, within)) passed (λ col past less. kept col past (omega (arith, less))) refl refl refl in
+      let same_cells : new.data_cells ≡ old.data_cells = omega (arith, data_cells) in
+      let same_raised : new.raised ≡ old.raised = omega (arith, raised, none) in
+      let same : old ≡ new = λ i. record { data_cells = sym same_cells i; raised = sym same_raised i; outlets = sym outlets i } in
+      subst (λ col. P col new) (sym here) (subst (P from) same so_far)
+  kept_some from (suc n) old new within so_far kept data_cells raised outlets =
+      let before : Tally = record { data_cells = old.data_cells + n; raised = old.raised + raised_between shown from (from + n); outlets = old.outlets } in
+      let earlier = kept_some from n old before (omega (arith, within)) so_far (λ col past less. kept col past (omega (arith, less))) refl refl refl in
       let more : raised_between shown from (from + suc n) ≡ raised_between shown from (from + n) + cond (shows_raised (shown (from + n))) 1 0 =
       subst (λ m. raised_between shown from (from + m) ≡ raised_between shown from (from + n) + cond (shows_raised (shown (from + n))) 1 0) (add-one n)
       (raised_between-more shown from n) in
       let next : from + n + 1 ≡ from + suc n = omega arith in
-      subst (λ col. IsPassed profile g ps row col new labels) next
-      (kept_one (from + n) so_far new are (omega (arith, within)) before (kept (from + n) (omega arith) (omega arith))
-      (omega (arith, data_cells)) (omega (arith, raised, more)) outlets)
+      subst (λ col. P col new) next
+      (one (from + n) before new (omega (arith, within)) earlier (kept (from + n) (omega arith) (omega arith)) (omega (arith, data_cells)) (omega (arith, raised, more)) outlets)
 
-  -- the cells that a row vouches for are passed
-  pub passed-kept : (from : ℕ) (kept : Kept) (old new : Tally) → AreRowPatches g ps row cols shown → from ≤ kept.end → kept.end ≤ cols →
+  -- and so do the cells that a row vouches for
+  kept_run : (from : ℕ) (kept : Kept) (old new : Tally) → from ≤ kept.end → kept.end ≤ cols → P from old →
+      ((col : ℕ) → from ≤ col → col < kept.end → IsKept profile (shown col)) → kept.raised ≡ raised_between shown from kept.end →
+      new.data_cells ≡ old.data_cells + (kept.end - from) → new.raised ≡ old.raised + kept.raised → new.outlets ≡ old.outlets → P kept.end new
+  kept_run from kept old new forward within so_far all count data_cells raised outlets =
+      let up_to : from + (kept.end - from) ≡ kept.end = omega arith in
+      let all_raised : new.raised ≡ old.raised + raised_between shown from (from + (kept.end - from)) = rw up_to (raised ∙ ap (λ n. old.raised + n) count) in
+      subst (λ col. P col new) up_to
+      (kept_some from (kept.end - from) old new (omega (arith, within)) so_far (λ col past less. all col past (omega (arith, less))) data_cells all_raised outlets)
+
+module _ (profile : Profile) (g : Grid) (ps : Products) (row cols : ℕ) (shown : ℕ → Patch) where
+  -- the cells that a row vouches for are counted
+  pub counted-kept : (from : ℕ) (kept : Kept) (old new : Tally) → AreRowPatches g ps row cols shown → from ≤ kept.end → kept.end ≤ cols →
+      CountsAlong g ps row from old → ((col : ℕ) → from ≤ col → col < kept.end → IsKept profile (shown col)) →
+      kept.raised ≡ raised_between shown from kept.end → new.data_cells ≡ old.data_cells + (kept.end - from) → new.raised ≡ old.raised + kept.raised →
+      new.outlets ≡ old.outlets → CountsAlong g ps row kept.end new
+  counted-kept from kept old new are =
+      kept_run profile cols shown (CountsAlong g ps row)
+      (λ col old new less so_far at data_cells raised outlets.
+      let p = shown col in
+      CountsAlong-more g ps row col p.here old new (ap (λ (q : Patch). q.here) (are.patches_are col less)) so_far
+      (omega (arith, data_cells, counts_one p.here.z at.has_data)) raised (omega (arith, outlets, counts_none p.here.z p.here.dir at.no_outlet)))
+      from kept old new
+
+  -- and they are passed
+  pub passed-kept : (labels : List (ℕ × ℕ)) (from : ℕ) (kept : Kept) (old new : Tally) → AreRowPatches g ps row cols shown → from ≤ kept.end → kept.end ≤ cols →
       IsPassed profile g ps row from old labels → ((col : ℕ) → from ≤ col → col < kept.end → IsKept profile (shown col)) →
       kept.raised ≡ raised_between shown from kept.end → new.data_cells ≡ old.data_cells + (kept.end - from) → new.raised ≡ old.raised + kept.raised →
       new.outlets ≡ old.outlets → IsPassed profile g ps row kept.end new labels
-  passed-kept from kept old new are forward within passed all count data_cells raised outlets =
-      let up_to : from + (kept.end - from) ≡ kept.end = omega arith in
-      let all_raised : new.raised ≡ old.raised + raised_between shown from (from + (kept.end - from)) = rw up_to (raised ∙ ap (λ n. old.raised + n) count) in
-      subst (λ col. IsPassed profile g ps row col new labels) up_to
-      (kept_some from (kept.end - from) old new are (omega (arith, within)) passed (λ col past less. all col past (omega (arith, less))) data_cells
-      all_raised outlets)
+  passed-kept labels from kept old new are =
+      kept_run profile cols shown (λ col tally. IsPassed profile g ps row col tally labels)
+      (λ col old new less so_far at data_cells raised outlets.
+      let p = shown col in
+      passed-more profile g ps row col cols shown p old new labels labels are less refl so_far (kept_holds profile labels p at)
+      (omega (arith, data_cells, counts_one p.here.z at.has_data)) raised (omega (arith, outlets, counts_none p.here.z p.here.dir at.no_outlet)) (no_label profile labels p at))
+      from kept old new
 
 -- and no count is greater than the cells
 pub bounds-kept : (shown : ℕ → Patch) (from : ℕ) (kept : Kept) (old new : Tally) → from ≤ kept.end → IsAtMost from old →

@@ -8,7 +8,7 @@ use Rattle.drain_grid.specs.declared.rule.Rule.{Rule}
 use Rattle.drain_grid.specs.declared.rule.Rule.TheVariants.{VoidCell, Missing, BadCode, BelowGround, OpenRaised, NoSpill, SpillHeight, SpillRank, NotLeast, Slope, OutletCode, FlatStep, Accumulation, Label, SharedLabel}
 use Rattle.drain_grid.specs.Grid.{Grid, Products}
 use Rattle.drain_grid.specs.PatchRules.{Profile}
-use Rattle.drain_grid.specs.Rule.{IsAnyRule, IsPatchRule}
+use Rattle.drain_grid.specs.Rule.{IsAnyRule}
 use Rattle.drain_grid.specs.Unranked.{IsBlankWithoutRank}
 use Rattle.drain_grid.specs.Values.{IsBlankWithoutSpill, NoDataNumbers, Values}
 use Rattle.drain_kernel.specs.declared.rules.Ranks.{Ranks}

@@ -4,7 +4,6 @@ use Rattle.drain_grid.specs.PerProduct.{of_product}
 use Rattle.drain_grid.proofs.ByProduct.{by_held}
 use Rattle.drain_grid.specs.Values.{IsPixel}
 use Rattle.drain_grid.specs.declared.held.Held.{Held}
-use Rattle.drain_grid.specs.declared.patch.Patch.{Patch}
 use Rattle.drain_grid.specs.Grid.{Grid, Products}
 use Rattle.drain_rules.specs.declared.three_rows.ThreeRows.{ThreeRows}
 use Rattle.drain_rules.specs.PatchRows.{AreRowPatches}
@@ -87,8 +86,3 @@ held-more rows row here below here_is below_is = record {
   above_is = λ r is. let same : row ≡ r = omega (arith, is) in here_is ∙ ap rows same;
   none_above = λ none. absurd (omega (arith, none));
 }
-
--- the patches of a row by another name of its number
-pub patches-at : (g : Grid) (ps : Products) (row same cols : ℕ) (shown : ℕ → Patch) → AreRowPatches g ps row cols shown → same ≡ row →
-    AreRowPatches g ps same cols shown
-patches-at g ps row same cols shown are is = subst (λ r. AreRowPatches g ps r cols shown) (sym is) are

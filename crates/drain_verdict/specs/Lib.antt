@@ -15,6 +15,7 @@ pub mod Lines
 pub mod ListedVoids
 pub mod Meaning
 pub mod Mosaics
+pub mod NotedRows
 pub mod Refusals
 pub mod SinkListings
 pub mod Stages

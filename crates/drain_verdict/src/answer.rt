@@ -31,7 +31,7 @@ use crate::headers::nodata_of;
 use crate::input_rows::InputRows;
 use crate::product_inputs::ProductInputs;
 use crate::refusal::Refusal;
-use crate::row_notes::RowNotes;
+use crate::row_notes::RowVerdicts;
 use crate::row_verdict::verdict_by_rows;
 use crate::sink_listing::{SinkListing, sink_listing};
 use crate::sink_refusal::sink_refusal;
@@ -56,7 +56,7 @@ use std::alloc::Global;
 /// row of the grid is noted, and rules are tried with ranks or without.
 ///
 /// See `check` for the order of refusals, and for how far it reads.
-pub fn answer_on<R: ByteSource, P: ProductInputs<R>, K: RowNotes>(
+pub fn answer_on<R: ByteSource, P: ProductInputs<R>, K: RowVerdicts>(
     alloc: Global,
     layout: &Layout,
     sinks: &[u8],
@@ -66,6 +66,7 @@ pub fn answer_on<R: ByteSource, P: ProductInputs<R>, K: RowNotes>(
     notes: &mut K,
 ) -> Result<Verdict, Refusal>
     requires laid { IsLayoutOf layout.now.side (names_of tiles.old) layout.now }
+    requires uncounted { K.counts 0 notes.old }
     requires unnoted { (rules : declared.Rules) (g : Grid) (ps : grid.Products) → K.are_of rules g ps 0 notes.old }
     ensures answer { (inputs : Inputs) → Tell R.bytes_left layout.now.side tiles.old sinks.now (P.inputs products.old) inputs → IsAnswerWith ranks inputs result }
     ensures lasting { OnOk result (K.lasting notes.new ≡ K.lasting notes.old) }
@@ -84,7 +85,7 @@ pub fn answer_on<R: ByteSource, P: ProductInputs<R>, K: RowNotes>(
 }
 
 /// The answer to the bodies, where the layout and the headers are right: the verdict on their rows, unless they are refused.
-fn answer_to_bodies<R: ByteSource, P: ProductInputs<R>, K: RowNotes>(
+fn answer_to_bodies<R: ByteSource, P: ProductInputs<R>, K: RowVerdicts>(
     alloc: Global,
     layout: &Layout,
     headers: PerProduct<Header>,
@@ -97,6 +98,7 @@ fn answer_to_bodies<R: ByteSource, P: ProductInputs<R>, K: RowNotes>(
     requires named { length tiles.old ≡ length layout.now.corners }
     requires shapes { (p : Held) → extent_of (of_product headers p) ≡ tiling.extent_of layout.now }
     requires alike { P.are_alike headers }
+    requires uncounted { K.counts 0 notes.old }
     requires unnoted { (rules : declared.Rules) (g : Grid) (ps : grid.Products) → K.are_of rules g ps 0 notes.old }
     ensures answer { (inputs : Inputs) → layout.now ≡ tiling_of inputs → ((p : Held) → of_product headers p ≡ fields_of inputs p)
         → AreBodies R.bytes_left tiles.old inputs.tiles → AreRasterBodies R.bytes_left (P.inputs products.old) inputs.raster
@@ -127,7 +129,7 @@ fn answer_to_bodies<R: ByteSource, P: ProductInputs<R>, K: RowNotes>(
 }
 
 /// The verdict on the rows that new readers give, or the refusal that they tell behind the last, or that of the list of sinks.
-fn answer_to_rows<R: ByteSource, P: ProductInputs<R>, K: RowNotes>(
+fn answer_to_rows<R: ByteSource, P: ProductInputs<R>, K: RowVerdicts>(
     alloc: Global,
     layout: &Layout,
     listing: &SinkListing,
@@ -139,6 +141,7 @@ fn answer_to_rows<R: ByteSource, P: ProductInputs<R>, K: RowNotes>(
 ) -> Result<Verdict, Refusal>
     requires named { length tiles.old ≡ length layout.now.corners }
     requires counted { length rows.old.mosaic.tiles.items ≡ length layout.now.corners }
+    requires uncounted { K.counts 0 notes.old }
     requires unnoted { (rules : declared.Rules) (g : Grid) (ps : grid.Products) → K.are_of rules g ps 0 notes.old }
     ensures answer { (inputs : Inputs) (hs : PerProduct Fields) → AreBegun layout.now hs (with_rasters P.readers rows.old) → rules.now.nodata ≡ nodata_in hs
         → ((p : Held) → extent_of (of_product hs p) ≡ tiling.extent_of layout.now)

@@ -31,14 +31,14 @@ use crate::both_notes::BothNotes;
 use crate::layout::layout_of;
 use crate::refusal::Refusal;
 use crate::row_flows::first_endless;
-use crate::row_notes::{NoNotes, RowNotes};
+use crate::row_notes::RowVerdicts;
 use drain_device::ByteSource;
 use drain_grid::laws::{correct_is_local, ranks_play_no_part, sound_from_correct};
 use drain_hgt::TileInput;
 use drain_hgt::laws::one_name;
 use drain_mosaic::Layout;
 use drain_mosaic::laws::agreement_gives_elevation;
-use drain_rules::Ranks;
+use drain_rules::{GridWalk, Ranks};
 use drain_runs::CellFlows;
 use std::alloc::Global;
 
@@ -128,14 +128,14 @@ fn audit_of<R: ByteSource>(
     let layout = layout_of(alloc, side, tiles)?;
     let mut notes = BothNotes {
         first: CellFlows::new(alloc),
-        second: NoNotes,
+        second: GridWalk::new(alloc),
     };
     audit_on(alloc, &layout, sinks, tiles, products, &mut notes)
 }
 
 /// The answer to the bytes of inputs of this mosaic, without a word on ranks; each row of the grid is noted. Of a verdict the flows are known to be those of the grid, but
 /// for cells whose runs are found to end.
-pub fn audit_on<R: ByteSource, K: RowNotes>(
+pub fn audit_on<R: ByteSource, K: RowVerdicts>(
     alloc: Global,
     layout: &Layout,
     sinks: &[u8],
@@ -145,6 +145,7 @@ pub fn audit_on<R: ByteSource, K: RowNotes>(
 ) -> Result<AuditVerdict, Refusal>
     requires laid { IsLayoutOf layout.now.side (names_of tiles.old) layout.now }
     requires empty { notes.old.first ≡ [] }
+    requires uncounted { K.counts 0 notes.old.second }
     requires unnoted { (rules : Rules) (g : Grid) (ps : grid.Products) → K.are_of rules g ps 0 notes.old.second }
     ensures answer { OfFour R.bytes_left layout.now.side tiles.old sinks.now products.old (λ inputs. IsPlainAnswer inputs result) }
     ensures lasting { OnOk result (K.lasting notes.new.second ≡ K.lasting notes.old.second) }

@@ -1,12 +1,12 @@
 //! Two kinds of notes, both taken of each row.
 
 use crate::held_row::HeldRow;
-use crate::row_notes::RowNotes;
-use drain_grid::OutOfMemory;
+use crate::row_notes::{RowNotes, RowVerdicts};
+use drain_grid::{OutOfMemory, Shape};
 use drain_kernel::Rules;
-use drain_rules::ThreeRows;
+use drain_rules::{ThreeRows, Verdict};
 
-/// Notes of one kind, and of another.
+/// Notes of one kind, and of another, which gives the verdict where it can.
 #[derive(Drop)]
 pub struct BothNotes<A, B> {
     pub first: A,
@@ -16,9 +16,11 @@ pub struct BothNotes<A, B> {
 impl<A: RowNotes, B: RowNotes> RowNotes for BothNotes<A, B> {
     ghost use Rattle.std.specs.Prelude.{◌⊎◌};
 
+    ghost counts = { λ n both. A.counts n both.first × B.counts n both.second };
+
     ghost are_of = { λ rules g ps rows both. A.are_of rules g ps rows both.first × B.are_of rules g ps rows both.second };
 
-    ghost wants = { A.wants ⊎ B.wants };
+    ghost wants = { λ rules g ps. A.wants rules g ps ⊎ B.wants rules g ps };
 
     ghost lasting = { λ both. B.lasting both.second };
 
@@ -30,5 +32,11 @@ impl<A: RowNotes, B: RowNotes> RowNotes for BothNotes<A, B> {
     ) -> Result<(), OutOfMemory> {
         self.first.note(row, rows, rules)?;
         self.second.note(row, rows, rules)
+    }
+}
+
+impl<A: RowNotes, B: RowVerdicts> RowVerdicts for BothNotes<A, B> {
+    fn verdict(&self, shape: Shape) -> Verdict {
+        self.second.verdict(shape)
     }
 }

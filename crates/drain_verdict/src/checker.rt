@@ -17,13 +17,12 @@ use crate::answer::answer_on;
 use crate::input::Products;
 use crate::layout::layout_of;
 use crate::refusal::Refusal;
-use crate::row_notes::NoNotes;
 use drain_device::ByteSource;
 use drain_grid::laws::correct_from_rules;
 use drain_hgt::TileInput;
 use drain_hgt::laws::one_name;
 use drain_mosaic::laws::agreement_gives_elevation;
-use drain_rules::{Ranks, Verdict};
+use drain_rules::{GridWalk, Ranks, Verdict};
 use std::alloc::Global;
 
 /// The verdict on products of the tiles, or the first refusal.
@@ -116,6 +115,6 @@ fn answer_of<R: ByteSource>(
         tiles,
         products,
         Ranks::Asked,
-        &mut NoNotes,
+        &mut GridWalk::new(alloc),
     )
 }

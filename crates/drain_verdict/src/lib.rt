@@ -35,6 +35,7 @@ mod sink_listing;
 mod sink_refusal;
 mod tiles;
 pub mod verdict_report;
+mod walk_notes;
 mod whole_rows;
 mod window;
 

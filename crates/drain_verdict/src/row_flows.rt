@@ -21,9 +21,11 @@ impl RowNotes for CellFlows {
     ghost use Rattle.std.specs.Prelude.{true};
     ghost use Rattle.drain_runs.specs.Flows.{AreFirstFlows};
 
+    ghost counts = { λ n flows. Unit {0} };
+
     ghost are_of = { λ rules g ps rows flows. AreFirstFlows g ps g.extent rows flows };
 
-    ghost wants = { Unit {0} };
+    ghost wants = { λ rules g ps. Unit {0} };
 
     ghost lasting = { λ flows. true };
 

@@ -1,16 +1,16 @@
 //! The verdict on a grid and its products whose rows come one after another.
 
-ghost use Rattle.std.specs.Prelude.{◌≡◌, ◌+◌, ◌⊎◌, ℕ, [], length, None, IfOk, IfErr, OnOk};
+ghost use Rattle.std.specs.Prelude.{◌≡◌, ◌<◌, ◌+◌, ◌⊎◌, ℕ, [], length, None, IfOk, IfErr, OnErr, OnOk};
+ghost use Rattle.drain_grid.specs.declared.cell.TheConstants.{MAX_LENGTH};
 ghost use Rattle.drain_grid.specs.Grid.{Grid, Products};
-ghost use Rattle.drain_rules.specs.Labels.{HasNewLabel};
-ghost use Rattle.drain_rules.specs.RowNumbers.{AreNumbersOf, AreRowNumbers, RowNumbers};
+ghost use Rattle.drain_rules.specs.RowNumbers.{AreRowNumbers, RowNumbers};
 ghost use Rattle.drain_kernel.specs.Rules.{tried};
-ghost use Rattle.drain_rules.specs.PatchRows.{AreRowPatches};
 ghost use Rattle.drain_rules.specs.ThreeRows.{patch_in};
 ghost use Rattle.drain_rules.specs.Verdicts.{IsVerdictOf};
 ghost use Rattle.drain_verdict.specs.GridRows.{OfGrid, ReadsOn, IsRowsRefusal};
 ghost use Rattle.drain_verdict.specs.HeldRows.{numbers_of};
 ghost use Rattle.drain_verdict.specs.ListedVoids.{AreListedVoids};
+ghost use Rattle.drain_verdict.specs.NotedRows.{OfNotedRow};
 ghost use Rattle.drain_verdict.specs.declared.refusal.Refusal.{Refusal};
 
 use crate::grid_rows::GridRows;
@@ -18,11 +18,11 @@ use crate::held_row::HeldRow;
 use crate::listed_voids::ListedVoids;
 use crate::marked_rows::read_marked;
 use crate::refusal::Refusal;
-use crate::row_notes::RowNotes;
+use crate::row_notes::{RowNotes, RowVerdicts};
 use crate::window::Window;
 use drain_grid::{OutOfMemory, Shape, Sinks};
 use drain_rules::laws::three_rows_show_patches;
-use drain_rules::{GridWalk, Rules, ThreeRows, Verdict};
+use drain_rules::{Rules, ThreeRows, Verdict};
 use std::alloc::Global;
 
 /// The verdict on a grid, and its listed sinks that are voids.
@@ -32,11 +32,11 @@ pub struct RowVerdict {
     pub voids: ListedVoids,
 }
 
-/// The verdict on the grid of this shape and with these sinks, whose rows the source gives, each of which is noted.
+/// The verdict on the grid of this shape and with these sinks, whose rows the source gives: that of the notes which are taken of each.
 ///
-/// One row more is asked for than there are, and behind the last comes none. A refusal is the source's own; or it is `OutOfMemory`, where a
-/// label has to be admitted that is new, where there are sinks, or where the notes want memory.
-pub fn verdict_by_rows<T, P, S: GridRows<T, P>, K: RowNotes>(
+/// One row more is asked for than there are, and behind the last comes none. A refusal is the source's own; or it is `OutOfMemory`, where
+/// the notes want memory, or where there are sinks.
+pub fn verdict_by_rows<T, P, S: GridRows<T, P>, K: RowVerdicts>(
     alloc: Global,
     shape: Shape,
     sinks: &Sinks,
@@ -47,6 +47,7 @@ pub fn verdict_by_rows<T, P, S: GridRows<T, P>, K: RowNotes>(
     notes: &mut K,
 ) -> Result<RowVerdict, Refusal>
     requires counted { length tiles.old ≡ S.count source.old }
+    requires uncounted { K.counts 0 notes.old }
     requires unnoted { (g : Grid) (ps : Products) → K.are_of rules.now g ps 0 notes.old }
     ensures verdict { IfOk result (λ found. OfGrid (S.gives (source.old, tiles.old, products.old)) shape sinks.now (λ g ps. IsVerdictOf (tried rules.now) g ps found.verdict)) }
     ensures voids { IfOk result (λ found. OfGrid (S.gives (source.old, tiles.old, products.old)) shape sinks.now (λ g ps. AreListedVoids g found.voids)) }
@@ -55,13 +56,12 @@ pub fn verdict_by_rows<T, P, S: GridRows<T, P>, K: RowNotes>(
     ensures given { OnOk result ((rows : ℕ → RowNumbers) → S.gives (source.old, tiles.old, products.old) rows 0 → S.gives (source.new, tiles.new, products.new) rows (shape.rows + 1)) }
     ensures reads { OnOk result (ReadsOn S.has_read (source.old, tiles.old, products.old) (source.new, tiles.new, products.new) (shape.rows + 1) None) }
     ensures refuses { IfErr result (IsRowsRefusal S.has_read (source.old, tiles.old, products.old) (source.new, tiles.new, products.new)
-        (OfGrid (S.gives (source.old, tiles.old, products.old)) shape sinks.now (HasNewLabel (tried rules.now)) ⊎ (¬ (sinks.now ≡ []) ⊎ K.wants))) }
+        (OfGrid (S.gives (source.old, tiles.old, products.old)) shape sinks.now (K.wants rules.now) ⊎ ¬ (sinks.now ≡ []))) }
 {
     // The law that makes a row's patches of three rows.
     three_rows_show_patches();
     let mut window = Window::new(alloc);
     let mut voids = ListedVoids::new(alloc);
-    let mut walk = GridWalk::new(alloc);
     read_marked(
         source,
         tiles,
@@ -86,12 +86,8 @@ pub fn verdict_by_rows<T, P, S: GridRows<T, P>, K: RowNotes>(
         )?;
         let shown = window.rows();
         note_row(notes, &window.here, &shown, rules)?;
-        match walk.check_row(&shown, rules) {
-            Ok(()) => {}
-            Err(OutOfMemory) => return Err(Refusal::OutOfMemory),
-        }
     }
-    let verdict = walk.verdict(shape);
+    let verdict = notes.verdict(shape);
     Ok(RowVerdict { verdict, voids })
 }
 
@@ -103,10 +99,14 @@ fn note_row<K: RowNotes>(
     rules: &Rules,
 ) -> Result<(), Refusal>
     requires whole { AreRowNumbers (numbers_of row.now) }
-    ensures noted { OnOk result ((g : Grid) (ps : Products) (r : ℕ) → AreNumbersOf g ps r (numbers_of row.now)
-        → AreRowPatches g ps r (length rows.now.here.numbers.z) (patch_in rows.now) → K.are_of rules.now g ps r notes.old → K.are_of rules.now g ps (r + 1) notes.new) }
+    requires counted { (n : ℕ) × (n < MAX_LENGTH) × K.counts n notes.old }
+    ensures counted { OnOk result ((n : ℕ) → K.counts n notes.old → K.counts (n + 1) notes.new) }
+    ensures noted { OnOk result (OfNotedRow (numbers_of row.now) (length rows.now.here.numbers.z) (patch_in rows.now)
+        (λ g ps r. K.are_of rules.now g ps r notes.old → K.are_of rules.now g ps (r + 1) notes.new)) }
     ensures lasting { OnOk result (K.lasting notes.new ≡ K.lasting notes.old) }
-    ensures err { IfErr result (λ refusal. (refusal ≡ Refusal.OutOfMemory) × K.wants) }
+    ensures wants { OnErr result (OfNotedRow (numbers_of row.now) (length rows.now.here.numbers.z) (patch_in rows.now)
+        (λ g ps r. K.are_of rules.now g ps r notes.old → K.wants rules.now g ps)) }
+    ensures err { IfErr result (λ refusal. refusal ≡ Refusal.OutOfMemory) }
 {
     match notes.note(row, rows, rules) {
         Ok(()) => Ok(()),

@@ -12,11 +12,10 @@ ghost use Rattle.drain_verdict.specs.WholeRows.{AreOfShape, row_in};
 use crate::grid_rows::GridRows;
 use crate::held_row::HeldRow;
 use crate::refusal::Refusal;
-use crate::row_notes::NoNotes;
 use crate::row_verdict::verdict_by_rows;
 use drain_grid::laws::correct_from_rules;
 use drain_grid::{Elevation, OutOfMemory, ProductSet, Shape, Sinks};
-use drain_rules::{Ranks, Rules, Verdict};
+use drain_rules::{GridWalk, Ranks, Rules, Verdict};
 use std::alloc::Global;
 
 /// The verdict of `drain_rules::verdict_of`, by three rows at a time, which takes a fraction of its time. `OutOfMemory` comes where there is
@@ -67,7 +66,7 @@ fn walk(
         &mut rows,
         &mut [],
         &mut (),
-        &mut NoNotes,
+        &mut GridWalk::new(alloc),
     ) {
         Ok(found) => Ok(found.verdict),
         Err(_) => Err(OutOfMemory),

@@ -1,6 +1,10 @@
-use Rattle.std.proofs.Common.{arith, inr}
+use Rattle.std.proofs.Common.{◌∙◌, ap, arith, inr, subst}
+use Rattle.drain_grid.specs.declared.patch.Patch.{Patch}
 use Rattle.drain_kernel.specs.Rules.{tried}
-use Rattle.drain_rules.specs.Rows.{place}
+use Rattle.drain_rules.specs.Rows.{CountsAlong, place}
+use Rattle.drain_rules.proofs.KeptCells.{bounds-kept, counted-kept, raised_between-fits}
+use Rattle.drain_rules.proofs.RowLemmas.{CountsAlong-more}
+use Rattle.drain_faults.proofs.CountSteps.{counted_none, none_at_most}
 use Rattle.drain_faults.proofs.FaultSteps.{found_begins, found_ends, found_kept, found_new, found_noted}
 use Rattle.drain_faults.proofs.MapSteps.{drawn_still, map_begins, map_ends, map_noted, map_sound}
 use Rattle.drain_faults.proofs.ProductSteps.{products_begin, products_end, products_kept, products_noted}
@@ -14,6 +18,8 @@ loop-col-init g c = record {
   by_product = λ grid ps are above.
       products_begin c.args.rules.now grid ps c.args.row (g.R.PatchRow.len c.args.patches.now) (g.R.PatchRow.shown c.args.patches.now) are c.args.found.now.by_product above;
   map = λ grid ps are above drawn. map_begins (tried c.args.rules.now) grid ps c.args.row c.args.map.now drawn;
+  counted = λ grid ps are. counted_none grid ps c.args.row c.new-tally.result c.new-tally.ensures;
+  bounds = none_at_most c.new-tally.result c.new-tally.ensures;
   drawn = (λ some. some, λ some. some);
 }
 
@@ -21,8 +27,14 @@ loop-col-init g c = record {
 pub loop-col-preserved : goal.loop-col-preserved
 loop-col-preserved g c =
     let kept = c.kept_from-kept.ensures in
+    let run = c.add_kept.ensures in
     record {
       within = kept.within;
+      counted = λ grid ps are.
+          counted-kept (tried c.args.rules.now) grid ps c.args.row (g.R.PatchRow.len c.args.patches.now) (g.R.PatchRow.shown c.args.patches.now) c.loop-col.col c.kept_from-kept.result c.loop-col.tally c.add_kept.new.self are
+          kept.forward kept.within (c.loop-col.invariant.counted grid ps are) kept.kept kept.raised run.data_cells run.raised run.outlets;
+      bounds = bounds-kept (g.R.PatchRow.shown c.args.patches.now) c.loop-col.col c.kept_from-kept.result c.loop-col.tally c.add_kept.new.self kept.forward
+          c.loop-col.invariant.bounds kept.raised run.data_cells run.raised run.outlets;
       found = λ grid ps are above.
           found_kept (tried c.args.rules.now) grid ps c.args.row (g.R.PatchRow.len c.args.patches.now) (g.R.PatchRow.shown c.args.patches.now) are c.loop-col.found
           c.loop-col.col c.kept_from-kept.result.end kept.forward kept.within kept.kept (c.loop-col.invariant.found grid ps are above);
@@ -41,8 +53,23 @@ loop-col-preserved g c =
 pub loop-col-preserved-then-col-cols : goal.loop-col-preserved-then-col-cols
 loop-col-preserved-then-col-cols g c =
     let kept = c.kept_from-kept.ensures in
+    let run = c.add_kept.ensures in
+    let add = c.add.ensures in
+    let bounds = bounds-kept (g.R.PatchRow.shown c.args.patches.now) c.loop-col.col c.kept_from-kept.result c.loop-col.tally c.add_kept.new.self kept.forward
+    c.loop-col.invariant.bounds kept.raised run.data_cells run.raised run.outlets in
     record {
       within = omega (arith, c.if-col-cols.true, c.cols-cols.ensures.count);
+      counted = λ grid ps are.
+          CountsAlong-more grid ps c.args.row c.kept_from-kept.result.end c.patch-patch.result.here c.add_kept.new.self c.add.new.self
+          (ap (λ (p : Patch). p.here) (c.patch-patch.ensures ∙ are.patches_are c.kept_from-kept.result.end (omega (arith, c.if-col-cols.true, c.cols-cols.ensures.count))))
+          (counted-kept (tried c.args.rules.now) grid ps c.args.row (g.R.PatchRow.len c.args.patches.now) (g.R.PatchRow.shown c.args.patches.now) c.loop-col.col c.kept_from-kept.result c.loop-col.tally c.add_kept.new.self are
+          kept.forward kept.within (c.loop-col.invariant.counted grid ps are) kept.kept kept.raised run.data_cells run.raised run.outlets)
+          add.data_cells add.raised add.outlets;
+      bounds = record {
+        data_cells = grind (arith, add.data_cells, bounds.data_cells);
+        raised = grind (arith, add.raised, add.data_cells, bounds.raised);
+        outlets = grind (arith, add.outlets, add.data_cells, bounds.outlets);
+      };
       found = λ grid ps are above.
           found_noted (tried c.args.rules.now) grid ps c.args.row (g.R.PatchRow.len c.args.patches.now) (g.R.PatchRow.shown c.args.patches.now) are c.loop-col.found
           c.note.new.self c.kept_from-kept.result.end c.patch-patch.result c.requires (omega (arith, c.cols-cols.ensures.count, c.cols-cols.ensures.narrow))
@@ -68,6 +95,31 @@ loop-col-preserved-then-col-cols g c =
           let so_far = c.loop-col.invariant.drawn in
           (λ some. so_far.0 (now.0 (behind.0 some)), λ some. behind.1 (now.1 (so_far.1 some)));
     }
+
+pub add_kept-requires-clause-raised_fit : goal.add_kept-requires-clause-raised_fit
+add_kept-requires-clause-raised_fit g c =
+    omega (
+      arith,
+      c.loop-col.invariant.bounds.data_cells,
+      c.loop-col.invariant.bounds.raised,
+      c.kept_from-kept.ensures.raised,
+      raised_between-fits (g.R.PatchRow.shown c.args.patches.now) c.loop-col.col c.kept_from-kept.result.end,
+      c.kept_from-kept.ensures.within,
+      c.cols-cols.ensures.count,
+      c.cols-cols.ensures.narrow,
+    )
+
+pub add-requires-clause-raised_within : goal.add-requires-clause-raised_within
+add-requires-clause-raised_within g c =
+    let kept = c.kept_from-kept.ensures in
+    let run = c.add_kept.ensures in
+    (bounds-kept (g.R.PatchRow.shown c.args.patches.now) c.loop-col.col c.kept_from-kept.result c.loop-col.tally c.add_kept.new.self kept.forward
+    c.loop-col.invariant.bounds kept.raised run.data_cells run.raised run.outlets).raised
+
+pub returns-clause-tally : goal.returns-clause-tally
+returns-clause-tally g c = λ grid ps are.
+    subst (λ n. CountsAlong grid ps c.args.row n c.loop-col.tally)
+    (omega (arith, c.loop-col-test.false, c.loop-col.invariant.within, c.cols-cols.ensures.count, are.cols_are)) (c.loop-col.invariant.counted grid ps are)
 
 pub returns-in-Err-clause-err : goal.returns-in-Err-clause-err
 returns-in-Err-clause-err g c = inr (λ grid ps are above.

@@ -25,3 +25,6 @@ pub returns-clause-answer : goal.returns-clause-answer
 returns-clause-answer g c = λ inputs tell.
     c.audit_on.ensures.answer inputs
     (at_side g.R.ByteSource.bytes_left c.args.side c.args.tiles.now c.args.sinks.now (with_con_for_ranks c.args.products.now) inputs c.in_ok-layout.layout c.in_ok-layout.ensures.layout tell)
+
+pub audit_on-requires-clause-unnoted : goal.audit_on-requires-clause-unnoted
+audit_on-requires-clause-unnoted g c = λ rules grid ps. record { rows_are = c.new-2.ensures.rows; right = c.new-2.ensures.finding rules grid ps }

@@ -23,3 +23,6 @@ pub returns-clause-answer : goal.returns-clause-answer
 returns-clause-answer g c = λ inputs tell.
     c.answer_on.ensures.answer inputs
     (at_side g.R.ByteSource.bytes_left c.args.side c.args.tiles.now c.args.sinks.now c.args.products.now inputs c.in_ok-layout.layout c.in_ok-layout.ensures.layout tell)
+
+pub answer_on-requires-clause-unnoted : goal.answer_on-requires-clause-unnoted
+answer_on-requires-clause-unnoted g c = λ rules grid ps. record { rows_are = c.new.ensures.rows; right = c.new.ensures.finding rules grid ps }

@@ -1,4 +1,4 @@
-use Rattle.std.proofs.Common.{◌≡◌, Option, Some, None, inl, ◌+◌, ◌<◌, inr, refl, sym, ap, subst, ◌∙◌, arith}
+use Rattle.std.proofs.Common.{◌≡◌, Option, Some, None, inl, ◌+◌, ◌<◌, inr, refl, sym, ap, subst, ◌∙◌, arith, rules}
 use Rattle.drain_grid.specs.Size.{Extent}
 use Rattle.drain_rules.specs.RowNumbers.{AreNumbersOf, AreRowNumbers}
 use Rattle.drain_verdict.specs.GridRows.{ReadsOn}
@@ -7,14 +7,14 @@ use Rattle.drain_verdict.specs.ListedVoids.{AreVoidsBefore}
 use Rattle.drain_verdict.specs.declared.refusal.Refusal.{Refusal}
 use Rattle.drain_verdict.proofs.InputLemmas.{told-of}
 use Rattle.drain_verdict.proofs.VoidRows.{voids-all, voids-more, voids-none}
-use Rattle.drain_verdict.proofs.WindowLemmas.{blank-whole, held-more, patches-at, row-marked, window-shows}
+use Rattle.drain_verdict.proofs.WindowLemmas.{blank-whole, held-more, row-marked, window-shows}
 use Rattle.drain_verdict.proofs.row_verdict.verdict_by_rows.Goals as goal
 
 pub loop-row-init : goal.loop-row-init
 loop-row-init g c =
     let read = c.in_ok-read_marked.ensures in
     record {
-      counted = c.new-walk.ensures.rows;
+      counted = c.requires.uncounted;
       as_many = read.as_many ∙ c.requires.counted ∙ sym read.counted;
       here_whole = subst (λ n. AreRowNumbers n) (sym c.new-window.ensures.here) blank-whole;
       below_whole = read.whole;
@@ -32,31 +32,13 @@ loop-row-init g c =
           voids-more grid ps 0 _ _ (marked_of c.read_marked.new.held)
           (row-marked grid ps c.args.sinks.now rows 0 (marked_of c.read_marked.new.held) all (read.next rows 0 gives).0 read.marked)
           (subst (AreVoidsBefore grid 0) (sym c.new-voids.ensures) (voids-none grid)) read.noted;
-      right = λ rows grid ps gives extent all. c.new-walk.ensures.finding c.args.rules.now grid ps;
       noted = λ rows grid ps gives extent all. c.requires.unnoted grid ps;
       lasting = refl;
       reads = read.reads;
     }
 
-pub returns-in-Err-clause-refuses : goal.returns-in-Err-clause-refuses
-returns-in-Err-clause-refuses g c =
-    let row = c.loop-row.row in
-    let inv = c.loop-row.invariant in
-    let read = c.in_ok-read_marked-2.ensures in (
-      row + 1 + 1,
-      inr (
-        refl,
-        λ start n before. let same : n + (row + 1) + 1 ≡ n + (row + 1 + 1) = omega arith in subst (λ k. g.S.GridRows.has_read start (c.read_marked-in-loop-row.new.source, c.read_marked-in-loop-row.new.tiles, c.read_marked-in-loop-row.new.products) k None) same (read.reads start (n + (row + 1)) (inv.reads start n before)),
-        inl (λ rows grid ps gives extent all.
-            let count = ap (λ (e : Extent). e.rows) extent in
-            let inside : row < grid.extent.rows = omega (arith, c.loop-row-test.true, c.rows-row-end.ensures, count) in
-            let shown = window-shows c.three_rows_show_patches.ensures grid ps c.args.sinks.now rows row c.rows-shown.result (marked_of c.loop-row.window.here) (marked_of c.loop-row.window.below)
-            (marked_of c.read_marked-in-loop-row.new.held) all inside (c.rows-shown.ensures.above ∙ ap marked_of c.turn.ensures.above) (c.rows-shown.ensures.here ∙ ap marked_of c.turn.ensures.here)
-            c.rows-shown.ensures.below (inv.held rows gives) (read.next rows (row + 1) (inv.given rows gives)).0 inv.here_marked inv.below_marked read.marked in
-            c.in-Err.ensures.err grid ps (patches-at grid ps row c.loop-row.walk.rows _ _ shown inv.counted)
-            (inv.right rows grid ps gives extent all)),
-      ),
-    )
+pub note_row-requires-clause-counted : goal.note_row-requires-clause-counted
+note_row-requires-clause-counted g c = (c.loop-row.row, search rules, c.loop-row.invariant.counted)
 
 pub returns-in_err-note_row-clause-refuses : goal.returns-in_err-note_row-clause-refuses
 returns-in_err-note_row-clause-refuses g c =
@@ -65,9 +47,18 @@ returns-in_err-note_row-clause-refuses g c =
     told-of c.from_residual-in_err-note_row.result c.in_err-note_row.field-0.0 _ c.from_residual-in_err-note_row.ensures.1 (
       row + 1 + 1,
       inr (
-        c.in_err-note_row.ensures.err.0,
+        c.in_err-note_row.ensures.err,
         λ start n before. let same : n + (row + 1) + 1 ≡ n + (row + 1 + 1) = omega arith in subst (λ k. g.S.GridRows.has_read start (c.read_marked-in-loop-row.new.source, c.read_marked-in-loop-row.new.tiles, c.read_marked-in-loop-row.new.products) k None) same (read.reads start (n + (row + 1)) (c.loop-row.invariant.reads start n before)),
-        inr (inr c.in_err-note_row.ensures.err.1),
+        inl (λ rows grid ps gives extent all.
+            let inv = c.loop-row.invariant in
+            let count = ap (λ (e : Extent). e.rows) extent in
+            let inside : row < grid.extent.rows = omega (arith, c.loop-row-test.true, c.rows-row-end.ensures, count) in
+            let shown = window-shows c.three_rows_show_patches.ensures grid ps c.args.sinks.now rows row c.rows-shown.result (marked_of c.loop-row.window.here) (marked_of c.loop-row.window.below)
+            (marked_of c.read_marked-in-loop-row.new.held) all inside (c.rows-shown.ensures.above ∙ ap marked_of c.turn.ensures.above) (c.rows-shown.ensures.here ∙ ap marked_of c.turn.ensures.here)
+            c.rows-shown.ensures.below (inv.held rows gives) (read.next rows (row + 1) (inv.given rows gives)).0 inv.here_marked inv.below_marked read.marked in
+            c.in_err-note_row.ensures.wants grid ps row
+            (subst (AreNumbersOf grid ps row) (sym (ap numbers_of c.turn.ensures.here ∙ (inv.held rows gives).here_is)) (all.row row inside)) shown
+            (inv.noted rows grid ps gives extent all)),
       ),
     )
 
@@ -77,7 +68,7 @@ loop-row-preserved g c =
     let inv = c.loop-row.invariant in
     let read = c.in_ok-read_marked-2.ensures in
     record {
-      counted = omega (arith, c.in-Ok.ensures.rows, inv.counted);
+      counted = c.in_ok-note_row.ensures.counted row inv.counted;
       as_many = read.as_many ∙ inv.as_many ∙ sym read.counted;
       here_whole = subst (λ n. AreRowNumbers n) (ap numbers_of (sym c.turn.ensures.here)) inv.below_whole;
       below_whole = read.whole;
@@ -95,14 +86,6 @@ loop-row-preserved g c =
           voids-more grid ps (row + 1) _ _ (marked_of c.read_marked-in-loop-row.new.held)
           (row-marked grid ps c.args.sinks.now rows (row + 1) (marked_of c.read_marked-in-loop-row.new.held) all (read.next rows (row + 1) (inv.given rows gives)).0 read.marked)
           (inv.voids rows grid ps gives extent all) read.noted;
-      right = λ rows grid ps gives extent all.
-          let count = ap (λ (e : Extent). e.rows) extent in
-          let inside : row < grid.extent.rows = omega (arith, c.loop-row-test.true, c.rows-row-end.ensures, count) in
-          let shown = window-shows c.three_rows_show_patches.ensures grid ps c.args.sinks.now rows row c.rows-shown.result (marked_of c.loop-row.window.here) (marked_of c.loop-row.window.below)
-          (marked_of c.read_marked-in-loop-row.new.held) all inside (c.rows-shown.ensures.above ∙ ap marked_of c.turn.ensures.above) (c.rows-shown.ensures.here ∙ ap marked_of c.turn.ensures.here)
-          c.rows-shown.ensures.below (inv.held rows gives) (read.next rows (row + 1) (inv.given rows gives)).0 inv.here_marked inv.below_marked read.marked in
-          c.in-Ok.ensures.finding grid ps (patches-at grid ps row c.loop-row.walk.rows _ _ shown inv.counted)
-          (inv.right rows grid ps gives extent all);
       noted = λ rows grid ps gives extent all.
           let count = ap (λ (e : Extent). e.rows) extent in
           let inside : row < grid.extent.rows = omega (arith, c.loop-row-test.true, c.rows-row-end.ensures, count) in
@@ -116,13 +99,6 @@ loop-row-preserved g c =
       reads = λ start n before. let same : n + (row + 1) + 1 ≡ n + (row + 1 + 1) = omega arith in subst (λ k. g.S.GridRows.has_read start (c.read_marked-in-loop-row.new.source, c.read_marked-in-loop-row.new.tiles, c.read_marked-in-loop-row.new.products) k None) same (read.reads start (n + (row + 1)) (inv.reads start n before));
     }
 
-pub returns-clause-verdict : goal.returns-clause-verdict
-returns-clause-verdict g c = λ rows grid ps gives extent all.
-    let count = ap (λ (e : Extent). e.rows) extent in
-    c.verdict-verdict.ensures.verdict c.args.rules.now grid ps extent
-    (omega (arith, c.loop-row.invariant.counted, c.loop-row-test.false, c.loop-row.auto.row-end, c.rows-row-end.ensures, count))
-    (c.loop-row.invariant.right rows grid ps gives extent all)
-
 pub returns-clause-voids : goal.returns-clause-voids
 returns-clause-voids g c = λ rows grid ps gives extent all.
     let count = ap (λ (e : Extent). e.rows) extent in
@@ -134,6 +110,10 @@ returns-clause-noted g c = λ rows grid ps gives extent all.
     let count = ap (λ (e : Extent). e.rows) extent in
     let last : c.loop-row.row ≡ grid.extent.rows = omega (arith, c.loop-row-test.false, c.loop-row.auto.row-end, c.rows-row-end.ensures, count) in
     subst (λ n. g.K.RowNotes.are_of c.args.rules.now grid ps n c.loop-row.notes) last (c.loop-row.invariant.noted rows grid ps gives extent all)
+
+pub returns-clause-verdict : goal.returns-clause-verdict
+returns-clause-verdict g c = λ rows grid ps gives extent all.
+    c.verdict-verdict.ensures c.args.rules.now grid ps extent (returns-clause-noted g c rows grid ps gives extent all)
 
 pub returns-clause-given : goal.returns-clause-given
 returns-clause-given g c = λ rows gives.
@@ -151,7 +131,7 @@ returns-in_err-read_marked-clause-refuses g c =
       1,
       elim c.in_err-read_marked.ensures.refuses [
         | inl reads ↦ inl reads
-        | inr wants ↦ inr (wants.0, wants.1, inr (inl wants.2))
+        | inr wants ↦ inr (wants.0, wants.1, inr wants.2)
       ],
     )
 
@@ -169,6 +149,6 @@ returns-in_err-read_marked-2-clause-refuses g c =
       row + 1 + 1,
       elim c.in_err-read_marked-2.ensures.refuses [
         | inl reads ↦ inl (more (Some refusal) reads)
-        | inr wants ↦ inr (wants.0, more None wants.1, inr (inl wants.2))
+        | inr wants ↦ inr (wants.0, more None wants.1, inr wants.2)
       ],
     )

@@ -4,6 +4,7 @@ use Rattle.drain_grid.specs.declared.held.Held.TheVariants.{Con}
 use Rattle.drain_grid.specs.Size.{Extent}
 use Rattle.drain_grid.specs.Values.{NoDataNumbers}
 use Rattle.drain_grid.specs.WholeGrid.{grid_of, products_of}
+use Rattle.drain_kernel.specs.declared.rules.Ranks.TheVariants.{Asked}
 use Rattle.drain_rules.specs.Verdicts.{IsVerdict}
 use Rattle.drain_verdict.specs.WholeRows.{row_or_blank}
 use Rattle.drain_verdict.proofs.WholeRowLemmas.{whole_rows}
@@ -28,3 +29,6 @@ returns-in-Ok c =
     let found = c.in-Ok.ensures.verdict (row_or_blank e ps) g (products_of ps) (record { row_is = λ r. refl; next = omega arith }) same
     (whole_rows e ps c.args.sinks.now (λ p. c.shape_of-shape.ensures p ∙ sym same)) in
     record { verdict = subst (λ (nodata : NoDataNumbers). IsVerdict g (products_of ps) nodata c.in-Ok.found.verdict) c.nodata.ensures found }
+
+pub verdict_by_rows-requires-clause-unnoted : goal.verdict_by_rows-requires-clause-unnoted
+verdict_by_rows-requires-clause-unnoted c = λ grid ps. record { rows_are = c.new.ensures.rows; right = c.new.ensures.finding (record { nodata = c.nodata.result; ranks = Asked }) grid ps }

@@ -5,25 +5,21 @@ use Rattle.drain_grid.specs.Rule.{IsAnyRule}
 use Rattle.drain_rules.proofs.Faults.{IsLeastFault-same}
 use Rattle.drain_rules.specs.Labels.{labelled_profile}
 use Rattle.drain_faults.specs.PerRule.{of_rule}
-use Rattle.drain_faults.proofs.FirstPatches.{first_noted_same}
 use Rattle.drain_faults.proofs.Flags.{noted_by, tells_iff}
 use Rattle.drain_faults.proofs.found.Found.note.Goals as goal
 
 pub returns-in-Ok-clause-least : goal.returns-in-Ok-clause-least
 returns-in-Ok-clause-least c =
     let labelled = labelled_profile (tried c.args.rules.now) c.args.self.now.labels c.args.patch.now in
-    IsLeastFault-same IsAnyRule (λ r. of_rule c.in-Ok.fails r ≡ false) labelled c.least.result
-    (λ r own. tells_iff (of_rule c.in-Ok.fails r) (labelled r) (c.in-Ok.ensures.each r)) c.least.ensures
+    IsLeastFault-same IsAnyRule (λ r. of_rule c.in-Ok.fails r ≡ false) labelled c.least-least.result
+    (λ r own. tells_iff (of_rule c.in-Ok.fails r) (labelled r) (c.in-Ok.ensures.each r)) c.least-least.ensures
 
 pub returns-in-Ok-clause-noted : goal.returns-in-Ok-clause-noted
 returns-in-Ok-clause-noted c = record {
   each = λ r.
       noted_by (of_rule c.in-Ok.fails r) (labelled_profile (tried c.args.rules.now) c.args.self.now.labels c.args.patch.now r) c.args.cell
       (of_rule c.args.self.now.by_rule r) (of_rule c.with_cell-self.result r) (c.in-Ok.ensures.each r) (c.with_cell-self.ensures r);
-  first_is = first_noted_same (λ r. of_rule c.in-Ok.fails r ≡ false) (labelled_profile (tried c.args.rules.now) c.args.self.now.labels c.args.patch.now) c.args.cell
-      c.args.patch.now c.args.self.now.first c.with_patch-self.result
-      (λ r. tells_iff (of_rule c.in-Ok.fails r) (labelled_profile (tried c.args.rules.now) c.args.self.now.labels c.args.patch.now r) (c.in-Ok.ensures.each r))
-      c.with_patch-self.ensures;
+  first_is = record { least = c.least-least.result; least_is = returns-in-Ok-clause-least c; first_is = c.with_patch-self.ensures };
   admitted = c.in-Ok.ensures.labels;
 }
 

@@ -1,4 +1,4 @@
-use Rattle.std.proofs.Common.{ℕ, ◌<◌, ◌≤◌, arith, subst, below_more}
+use Rattle.std.proofs.Common.{ℕ, ◌≤◌, arith, subst, below_more}
 use Rattle.drain_grid.specs.Values.{Values}
 use Rattle.drain_kernel.specs.Rules.{tried}
 use Rattle.drain_rules.specs.BlankVoids.{IsBlankVoid, IsRightVoid}

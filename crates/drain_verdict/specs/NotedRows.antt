@@ -1,0 +1,19 @@
+-- The rows of which notes are taken, and what the walk of a check has found of them.
+use Rattle.std.specs.Prelude.{◌≡◌, ℕ}
+use Rattle.drain_grid.specs.declared.patch.Patch.{Patch}
+use Rattle.drain_grid.specs.Grid.{Grid, Products}
+use Rattle.drain_kernel.specs.declared.rules.Rules.{Rules}
+use Rattle.drain_kernel.specs.Rules.{tried}
+use Rattle.drain_rules.specs.declared.grid_walk.GridWalk.{GridWalk}
+use Rattle.drain_rules.specs.GridWalks.{IsRightOf}
+use Rattle.drain_rules.specs.PatchRows.{AreRowPatches}
+use Rattle.drain_rules.specs.RowNumbers.{AreNumbersOf, RowNumbers}
+
+-- this holds of each grid and row that has these numbers and shows these patches
+abbrev pub OfNotedRow : RowNumbers → ℕ → (ℕ → Patch) → (Grid → Products → ℕ → Type 0) → Type 0
+OfNotedRow numbers cols shown P = (g : Grid) (ps : Products) (r : ℕ) → AreNumbersOf g ps r numbers → AreRowPatches g ps r cols shown → P g ps r
+
+-- the walk has gone over so many rows, and what they came to is right where these rules are tried
+pub record IsWalkOf (rules : Rules) (g : Grid) (ps : Products) (rows : ℕ) (walk : GridWalk) : Type 0 where
+  pub rows_are : walk.rows ≡ rows
+  pub right : IsRightOf (tried rules) g ps walk
