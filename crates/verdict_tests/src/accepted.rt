@@ -2,12 +2,12 @@
 
 use crate::agree::{same, same_line};
 use crate::example::{Example, one_tile, products_on, tile};
-use crate::runs::{products_at_once, tiles_at_once, told};
+use crate::runs::{line_of, products_at_once, tiles_at_once, told};
 use drain_device::ByteSource;
 use drain_grid::Held;
 use drain_hgt::TileInput;
+use drain_verdict::Products;
 use drain_verdict::line::Line;
-use drain_verdict::{Products, check, report};
 use std::alloc::Global;
 use std::test::Fail;
 use worked_grids::{PIT_LINE, level, parted, pit, slope, voids};
@@ -34,7 +34,7 @@ fn accepts_right_products_of_one_tile(rt: HostRuntime) -> Result<(), Fail> {
         ),
     ];
     for (side, numbers, line) in cases {
-        let told = told(rt.alloc(), &one_tile(side, numbers)?)?;
+        let told = told(rt.alloc(), &one_tile(side, numbers))?;
         same_line(&rt, line, &told, line);
     }
     Ok(())
@@ -45,7 +45,7 @@ fn accepts_tiles_with_a_gap_between_them(rt: HostRuntime) -> Result<(), Fail> {
     let grid = "NROWS 3\nNCOLS 7\nULXMAP 0\nULYMAP 1\nXDIM 0.5\nYDIM 0.5\n";
     let mut example = products_on(3, grid, &parted()[21..]);
     for name in ["N00E000.hgt", "N00E002.hgt"] {
-        example.push_tile(tile(name, &[0; 9]))?;
+        example.push_tile(tile(name, &[0; 9]));
     }
     let line = "accepted rows=3 cols=7 data=18 raised=0 outlets=16";
     same_line(&rt, "a gap", &told(rt.alloc(), &example)?, line);
@@ -99,15 +99,10 @@ fn have_name<R>(tiles: &[TileInput<R>]) -> bool {
 fn checked(alloc: Global, example: &Example) -> Result<Leftovers, Fail> {
     let mut tiles = tiles_at_once(alloc, example.tiles())?;
     let mut products = products_at_once(alloc, example)?;
-    let answer = check(
-        alloc,
-        3,
-        &mut tiles,
-        example.sinks.as_slice(),
-        &mut products,
-    );
+    let sinks = example.sinks.as_slice();
+    let line = line_of(alloc, 3, &mut tiles, sinks, &mut products);
     Ok(Leftovers {
-        line: report(&answer),
+        line,
         of_rasters: left_of_rasters(&mut products),
         of_tile: tiles.last_mut().and_then(|tile| left(&mut tile.body)),
         headers: have_headers(&products, example),
@@ -118,7 +113,7 @@ fn checked(alloc: Global, example: &Example) -> Result<Leftovers, Fail> {
 /// Of a tile one byte past its end is read, of a raster none; names and headers stay as they were.
 #[test]
 fn leaves_the_bytes_behind_a_raster(rt: HostRuntime) -> Result<(), Fail> {
-    let mut example = one_tile(3, &pit())?;
+    let mut example = one_tile(3, &pit());
     example.con.body.extend(b"behind");
     example.rnk.body.extend(b"end");
     let left = checked(rt.alloc(), &example)?;
@@ -132,7 +127,7 @@ fn leaves_the_bytes_behind_a_raster(rt: HostRuntime) -> Result<(), Fail> {
 /// The rasters are read on to their ends, since all inputs go on together.
 #[test]
 fn reads_one_byte_past_the_end_of_a_tile(rt: HostRuntime) -> Result<(), Fail> {
-    let mut example = one_tile(3, &pit())?;
+    let mut example = one_tile(3, &pit());
     example.tiles[0].body.extend(b"hello");
     let left = checked(rt.alloc(), &example)?;
     let line = "refused BadTileLength N00E000.hgt";

@@ -36,12 +36,12 @@ fn each_tells(rt: &impl Abort, alloc: Global, cases: &[(Example, &str)]) -> Resu
 fn accepts_right_products_of_one_tile(rt: HostRuntime) -> Result<(), Fail> {
     let void_inside = "accepted rows=5 cols=5 data=24 raised=0 outlets=24";
     let cases = [
-        (one_tile(3, &pit())?, PIT_LINE),
-        (one_tile(2, &level())?, LEVEL_LINE),
-        (one_tile(2, &voids())?, VOIDS_LINE),
-        (one_tile(4, &slope())?, SLOPE_LINE),
-        (round_a_void("")?, void_inside),
-        (listed_pit_with(LISTED_PIT_SINKS)?, LISTED_PIT_LINE),
+        (one_tile(3, &pit()), PIT_LINE),
+        (one_tile(2, &level()), LEVEL_LINE),
+        (one_tile(2, &voids()), VOIDS_LINE),
+        (one_tile(4, &slope()), SLOPE_LINE),
+        (round_a_void(""), void_inside),
+        (listed_pit_with(LISTED_PIT_SINKS), LISTED_PIT_LINE),
     ];
     each_tells(&rt, rt.alloc(), &cases)
 }
@@ -55,16 +55,16 @@ fn accepts_right_products_of_two_tiles(rt: HostRuntime) -> Result<(), Fail> {
     let cases = [
         (two_tiles(alloc, Lie::Beside, (1, 3), "1 3")?, beside),
         (two_tiles(alloc, Lie::Below, (3, 1), "3 1")?, below),
-        (with_a_gap(21, 0, "")?, parted),
+        (with_a_gap(21, 0, ""), parted),
     ];
     each_tells(&rt, alloc, &cases)
 }
 
 /// The slope with these numbers changed. Its places are counted through its samples and its products, 16 of each.
-fn slope_with(changes: &[(usize, i64)]) -> Result<Example, Fail> {
+fn slope_with(changes: &[(usize, i64)]) -> Example {
     let mut numbers = slope();
     for (place, number) in changes {
-        numbers = changed(&numbers, *place, *number)?;
+        numbers = changed(&numbers, *place, *number);
     }
     one_tile(4, &numbers)
 }
@@ -89,7 +89,7 @@ static CHANGES: [(&[(usize, i64)], &str); 6] = [
 #[test]
 fn rejects_a_changed_slope(rt: HostRuntime) -> Result<(), Fail> {
     for (place, (changes, line)) in CHANGES.iter().enumerate() {
-        let given = audited(rt.alloc(), &slope_with(changes)?)?;
+        let given = audited(rt.alloc(), &slope_with(changes))?;
         same_line(&rt, place, &given, line);
     }
     Ok(())
@@ -98,14 +98,14 @@ fn rejects_a_changed_slope(rt: HostRuntime) -> Result<(), Fail> {
 /// A run without an end is told before the rules: con is too high in the second of these.
 #[test]
 fn rejects_flats_that_lead_nowhere(rt: HostRuntime) -> Result<(), Fail> {
-    let mut short_ring = one_tile(4, &ring())?;
+    let mut short_ring = one_tile(4, &ring());
     short_ring.dir.body.pop();
     let cases = [
-        (one_tile(4, &ring())?, RING_LINE),
-        (one_tile(4, &changed(&ring(), 16, 6)?)?, RING_LINE),
+        (one_tile(4, &ring()), RING_LINE),
+        (one_tile(4, &changed(&ring(), 16, 6)), RING_LINE),
         (short_ring, "refused RasterShort dir"),
-        (one_tile(3, &changed(&pit(), 22, 0)?)?, UNLISTED_PIT_LINE),
-        (listed_pit_with("")?, UNLISTED_PIT_LINE),
+        (one_tile(3, &changed(&pit(), 22, 0)), UNLISTED_PIT_LINE),
+        (listed_pit_with(""), UNLISTED_PIT_LINE),
     ];
     each_tells(&rt, rt.alloc(), &cases)
 }
@@ -120,9 +120,9 @@ fn put_first(example: &mut Example, product: Held, line: &str) {
 /// A number for no data that isn't a direction's own, and one that is the elevation everywhere.
 #[test]
 fn rejects_beside_other_numbers_of_nodata(rt: HostRuntime) -> Result<(), Fail> {
-    let mut wrong_code = slope_with(&[(32, 255)])?;
+    let mut wrong_code = slope_with(&[(32, 255)]);
     put_first(&mut wrong_code, Held::Dir, "NODATA 9\n");
-    let mut missing = one_tile(2, &level())?;
+    let mut missing = one_tile(2, &level());
     put_first(&mut missing, Held::Con, "NODATA 0\n");
     let cases = [
         (wrong_code, "rejected NoEnd row=0 col=0"),
@@ -152,7 +152,7 @@ fn put_fault(example: &mut Example, fault: usize) {
 /// Each fault by itself, and with all that come behind it.
 #[test]
 fn refuses_by_the_first_fault(rt: HostRuntime) -> Result<(), Fail> {
-    let mut together = one_tile(3, &pit())?;
+    let mut together = one_tile(3, &pit());
     for (fault, line) in [
         (6, "refused SinkNotData 2"),
         (5, "refused BadSinkLine 2"),
@@ -162,7 +162,7 @@ fn refuses_by_the_first_fault(rt: HostRuntime) -> Result<(), Fail> {
         (1, "refused BadName 0"),
         (0, "refused BadSide"),
     ] {
-        let mut alone = one_tile(3, &pit())?;
+        let mut alone = one_tile(3, &pit());
         put_fault(&mut alone, fault);
         put_fault(&mut together, fault);
         each_tells(&rt, rt.alloc(), &[(alone, line), (together, line)])?;
@@ -182,7 +182,7 @@ static MIDDLES: [(Owner, u64); 5] = [
 /// Each body of the slope faults in its middle, and then goes on.
 #[test]
 fn bodies_that_go_on_after_a_fault(rt: HostRuntime) -> Result<(), Fail> {
-    let slope = one_tile(4, &slope())?;
+    let slope = one_tile(4, &slope());
     for &(owner, first) in &MIDDLES {
         for (times, answer, line) in [
             (1u64, DeviceFault::Failed, "failed ReadFailed"),
@@ -221,20 +221,17 @@ fn audited_twice(rt: &impl Abort, alloc: Global, example: &Example, right: &str)
 }
 
 #[test]
-fn pit_after_refused_memory(rt: HostRuntime) -> Result<(), Fail> {
-    audited_twice(&rt, rt.alloc(), &one_tile(3, &pit())?, PIT_LINE);
-    Ok(())
+fn pit_after_refused_memory(rt: HostRuntime) {
+    audited_twice(&rt, rt.alloc(), &one_tile(3, &pit()), PIT_LINE);
 }
 
 #[test]
-fn ring_after_refused_memory(rt: HostRuntime) -> Result<(), Fail> {
-    audited_twice(&rt, rt.alloc(), &one_tile(4, &ring())?, RING_LINE);
-    Ok(())
+fn ring_after_refused_memory(rt: HostRuntime) {
+    audited_twice(&rt, rt.alloc(), &one_tile(4, &ring()), RING_LINE);
 }
 
 #[test]
-fn listed_pit_after_refused_memory(rt: HostRuntime) -> Result<(), Fail> {
-    let example = listed_pit_with(LISTED_PIT_SINKS)?;
+fn listed_pit_after_refused_memory(rt: HostRuntime) {
+    let example = listed_pit_with(LISTED_PIT_SINKS);
     audited_twice(&rt, rt.alloc(), &example, LISTED_PIT_LINE);
-    Ok(())
 }

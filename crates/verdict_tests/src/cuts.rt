@@ -10,7 +10,7 @@ use worked_grids::{SLOPE_LINE, slope};
 
 #[test]
 fn a_tile_at_each_length(rt: HostRuntime) -> Result<(), Fail> {
-    let whole = one_tile(4, &slope())?;
+    let whole = one_tile(4, &slope());
     for length in 0..=32 {
         let line = if length < 32 {
             "refused BadTileLength N00E000.hgt"
@@ -36,7 +36,7 @@ static RASTERS: [(Held, usize, &str); 5] = [
 
 #[test]
 fn each_raster_at_each_length(rt: HostRuntime) -> Result<(), Fail> {
-    let whole = one_tile(4, &slope())?;
+    let whole = one_tile(4, &slope());
     for &(product, needed, short) in &RASTERS {
         for length in 0..=needed {
             let line = if length < needed { short } else { SLOPE_LINE };
@@ -82,7 +82,7 @@ const NO_HEIGHT: &str = "refused BadHeader con MissingKey YDIM";
 
 /// What is told of a header that is cut in this line, counted from 1, with so many bytes of it or more. A keyword that is cut says nothing, one without
 /// a value is told, and what is left of a number is a number; that of YDIM is near enough to a third from nine digits on.
-const TOLD: [(usize, usize, &str); 32] = [
+static TOLD: [(usize, usize, &str); 32] = [
     (1, 0, NO_ROWS),
     (1, 9, "refused BadHeader con BadValue 1"),
     (1, 11, NO_ROWS),
@@ -135,7 +135,7 @@ fn told_by(row: usize) -> &'static str {
 
 #[test]
 fn a_header_at_each_length(rt: HostRuntime) -> Result<(), Fail> {
-    let whole = one_tile(4, &slope())?;
+    let whole = one_tile(4, &slope());
     let mut before = Bytes::new();
     let mut number: usize = 0;
     let mut row: usize = 0;

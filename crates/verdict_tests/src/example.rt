@@ -2,7 +2,6 @@
 
 use crate::bytes::Bytes;
 use drain_grid::Held;
-use std::test::Fail;
 
 /// A tile's name and its bytes.
 #[derive(Clone, Copy)]
@@ -43,14 +42,12 @@ impl Example {
         self
     }
 
-    /// Puts a tile behind the others.
-    pub fn push_tile(&mut self, tile: TileBytes) -> Result<(), Fail> {
-        match self.tiles.get_mut(self.tile_count) {
-            Some(place) => *place = tile,
-            None => return Err("room for three tiles".into()),
+    /// Puts a tile behind the others. Where there are more than there is room for, it has none.
+    pub fn push_tile(&mut self, tile: TileBytes) {
+        if let Some(place) = self.tiles.get_mut(self.tile_count) {
+            *place = tile;
         }
         self.tile_count = self.tile_count.saturating_add(1);
-        Ok(())
     }
 
     pub fn raster(&self, product: Held) -> &RasterBytes {
@@ -151,20 +148,20 @@ pub fn products_on(side: u32, grid: &str, numbers: &[i64]) -> Example {
 }
 
 /// A tile and its products with these lines of a header on their grid: the samples, then the numbers of one product after the other.
-pub fn tile_on(side: u32, name: &str, grid: &str, numbers: &[i64]) -> Result<Example, Fail> {
+pub fn tile_on(side: u32, name: &str, grid: &str, numbers: &[i64]) -> Example {
     let cells = numbers.len() / 6;
     let mut example = products_on(side, grid, &numbers[cells..]);
-    example.push_tile(tile(name, &numbers[..cells]))?;
-    Ok(example)
+    example.push_tile(tile(name, &numbers[..cells]));
+    example
 }
 
 /// The tile N00E000 and its products.
-pub fn one_tile(side: u32, numbers: &[i64]) -> Result<Example, Fail> {
+pub fn one_tile(side: u32, numbers: &[i64]) -> Example {
     tile_on(side, "N00E000.hgt", grid_of(side), numbers)
 }
 
 /// Tiles of these names and products that all have this header, with no byte behind them.
-pub fn bare(side: u32, names: &[&str], header: &str) -> Result<Example, Fail> {
+pub fn bare(side: u32, names: &[&str], header: &str) -> Example {
     let raster = RasterBytes {
         header: Bytes::of(header.as_bytes()),
         body: Bytes::new(),
@@ -181,21 +178,16 @@ pub fn bare(side: u32, names: &[&str], header: &str) -> Result<Example, Fail> {
         rnk: raster,
     };
     for name in names {
-        example.push_tile(tile(name, &[]))?;
+        example.push_tile(tile(name, &[]));
     }
-    Ok(example)
+    example
 }
 
-/// The numbers with another in one place.
-pub fn changed<const N: usize>(
-    numbers: &[i64; N],
-    place: usize,
-    number: i64,
-) -> Result<[i64; N], Fail> {
+/// The numbers with another in one of their places.
+pub fn changed<const N: usize>(numbers: &[i64; N], place: usize, number: i64) -> [i64; N] {
     let mut copy = *numbers;
-    match copy.get_mut(place) {
-        Some(found) => *found = number,
-        None => return Err("a place".into()),
+    if let Some(found) = copy.get_mut(place) {
+        *found = number;
     }
-    Ok(copy)
+    copy
 }

@@ -26,7 +26,7 @@ const TOO_NARROW: &str = "NROWS 3\nNCOLS 3\nULXMAP 7\nULYMAP 0\nXDIM 0.499999998
 
 /// The line of the pit whose con and acc have headers with these lines on their grid, where the others are right.
 fn line_of(alloc: Global, con: &str, acc: &str) -> Result<Line, Fail> {
-    let mut example = tile_on(3, "S01E007.hgt", RIGHT, &pit())?;
+    let mut example = tile_on(3, "S01E007.hgt", RIGHT, &pit());
     example.con.header = header_on(Held::Con, con);
     example.acc.header = header_on(Held::Acc, acc);
     told(alloc, &example)

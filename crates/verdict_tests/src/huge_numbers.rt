@@ -120,7 +120,7 @@ static AT_BOUNDS: [(usize, &str, &str); 8] = [
 
 #[test]
 fn numbers_at_their_bounds(rt: HostRuntime) -> Result<(), Fail> {
-    let example = one_tile(3, &pit())?;
+    let example = one_tile(3, &pit());
     for &(number, replaced, owed) in &AT_BOUNDS {
         let short = Replaced::short(number, replaced);
         let given = line_with(rt.alloc(), &example, &LINES_OF_PIT, short)?;
@@ -143,7 +143,7 @@ static LONG_DECIMALS: [(&str, u8, &str, &str); 3] = [
 
 #[test]
 fn decimals_of_60_000_digits(rt: HostRuntime) -> Result<(), Fail> {
-    let example = one_tile(3, &pit())?;
+    let example = one_tile(3, &pit());
     for &(begin, digit, end, owed) in &LONG_DECIMALS {
         let long = Replaced {
             number: 11,
@@ -160,7 +160,7 @@ fn decimals_of_60_000_digits(rt: HostRuntime) -> Result<(), Fail> {
 /// No pixel of 16 bits has the number that voids would have to have.
 #[test]
 fn voids_without_a_number_for_them(rt: HostRuntime) -> Result<(), Fail> {
-    let example = one_tile(2, &voids())?;
+    let example = one_tile(2, &voids());
     let replaced = Replaced::short(15, "NODATA 10000000000");
     let given = line_with(rt.alloc(), &example, &LINES_OF_VOIDS, replaced)?;
     same_line(&rt, "voids", &given, "rejected rule=1 VoidCell row=0 col=0");

@@ -15,13 +15,13 @@ use worked_grids::{
 };
 
 /// The listed pit with a list.
-pub fn listed_pit_with(text: &str) -> Result<Example, Fail> {
-    Ok(one_tile(3, &listed_pit())?.listing(text))
+pub fn listed_pit_with(text: &str) -> Example {
+    one_tile(3, &listed_pit()).listing(text)
 }
 
 /// The filled pit with a list.
-pub fn filled_pit_with(text: &str) -> Result<Example, Fail> {
-    Ok(one_tile(3, &pit())?.listing(text))
+pub fn filled_pit_with(text: &str) -> Example {
+    one_tile(3, &pit()).listing(text)
 }
 
 /// Lists beside the listed pit, each with the line that is told.
@@ -38,7 +38,7 @@ static LISTED_PIT_LISTS: [(&str, &str); 7] = [
 #[test]
 fn a_pit_that_is_listed_and_not(rt: HostRuntime) -> Result<(), Fail> {
     for &(text, line) in &LISTED_PIT_LISTS {
-        let given = told(rt.alloc(), &listed_pit_with(text)?)?;
+        let given = told(rt.alloc(), &listed_pit_with(text))?;
         same_line(&rt, text, &given, line);
     }
     Ok(())
@@ -55,7 +55,7 @@ static FILLED_PIT_LISTS: [(&str, &str); 4] = [
 #[test]
 fn a_filled_pit_with_sinks(rt: HostRuntime) -> Result<(), Fail> {
     for &(text, line) in &FILLED_PIT_LISTS {
-        let given = told(rt.alloc(), &filled_pit_with(text)?)?;
+        let given = told(rt.alloc(), &filled_pit_with(text))?;
         same_line(&rt, text, &given, line);
     }
     Ok(())
@@ -78,10 +78,10 @@ fn land_round_a_void() -> [i64; 150] {
 }
 
 /// The level tile round a void, with a list.
-pub fn round_a_void(text: &str) -> Result<Example, Fail> {
+pub fn round_a_void(text: &str) -> Example {
     let grid = "NROWS 5\nNCOLS 5\nULXMAP 0\nULYMAP 1\nXDIM 0.25\nYDIM 0.25\n";
-    let example = tile_on(5, "N00E000.hgt", grid, &land_round_a_void())?;
-    Ok(example.listing(text))
+    let example = tile_on(5, "N00E000.hgt", grid, &land_round_a_void());
+    example.listing(text)
 }
 
 /// The line of the land round a void.
@@ -102,7 +102,7 @@ static VOID_LISTS: [(&str, &str); 8] = [
 #[test]
 fn a_void_inside_the_land(rt: HostRuntime) -> Result<(), Fail> {
     for &(text, line) in &VOID_LISTS {
-        let given = told(rt.alloc(), &round_a_void(text)?)?;
+        let given = told(rt.alloc(), &round_a_void(text))?;
         same_line(&rt, text, &given, line);
     }
     Ok(())
@@ -146,8 +146,8 @@ pub fn two_tiles(alloc: Global, lie: Lie, cell: (u8, u16), text: &str) -> Result
     let numbers = shafts.numbers(alloc)?;
     let products = numbers.get(15..).ok_or("products")?;
     let mut example = products_on(3, grid, products);
-    example.push_tile(tile(first, &[0; 9]))?;
-    example.push_tile(tile(second, &[0; 9]))?;
+    example.push_tile(tile(first, &[0; 9]));
+    example.push_tile(tile(second, &[0; 9]));
     Ok(example.listing(text))
 }
 
@@ -221,7 +221,7 @@ fn listed_pit_where(
         owner,
         script: &script,
     };
-    Ok(told_slowly(alloc, &listed_pit_with(text)?, faulty)?)
+    Ok(told_slowly(alloc, &listed_pit_with(text), faulty)?)
 }
 
 /// The lists beside which a source fails, and the line that is told where it doesn't.
@@ -298,8 +298,8 @@ static RULES: [(usize, i64, &str); 6] = [
 #[test]
 fn rules_beside_a_list(rt: HostRuntime) -> Result<(), Fail> {
     for &(place, number, line) in &RULES {
-        let numbers = changed(&listed_pit(), place, number)?;
-        let example = one_tile(3, &numbers)?.listing(LISTED_PIT_SINKS);
+        let numbers = changed(&listed_pit(), place, number);
+        let example = one_tile(3, &numbers).listing(LISTED_PIT_SINKS);
         let given = told(rt.alloc(), &example)?;
         same_line(&rt, (place, number), &given, line);
     }

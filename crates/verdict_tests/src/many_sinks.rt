@@ -2,11 +2,12 @@
 
 use crate::agree::same_line;
 use crate::example::header_on;
+use crate::runs::line_of;
 use drain_device::{ByteList, SliceSource};
 use drain_grid::{Held, PerProduct};
 use drain_hgt::TileInput;
 use drain_verdict::line::Line;
-use drain_verdict::{Products, RasterInput, check, report};
+use drain_verdict::{Products, RasterInput};
 use std::alloc::{AllocError, Global};
 use std::test::Fail;
 
@@ -82,7 +83,7 @@ fn level_told(alloc: Global, text: &[u8]) -> Result<Line, AllocError> {
         name: ByteList::new(b"N00E000.hgt".to_vec(alloc)?),
         body: SliceSource::new(others.get(..2312).unwrap_or(&[])),
     })?;
-    Ok(report(&check(alloc, 34, &mut tiles, text, &mut products)))
+    Ok(line_of(alloc, 34, &mut tiles, text, &mut products))
 }
 
 /// A number below 100 in two digits.

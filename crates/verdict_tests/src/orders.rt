@@ -19,7 +19,7 @@ const TWO_BANDS: &str = "NBANDS 2\nNROWS 3\nNCOLS 3\nULXMAP 0\nULYMAP 1\nXDIM 0.
 
 /// The line of tiles of these names, where no header is right.
 fn named(alloc: Global, side: u32, names: &[&str]) -> Result<Line, Fail> {
-    told(alloc, &bare(side, names, TWO_BANDS)?)
+    told(alloc, &bare(side, names, TWO_BANDS))
 }
 
 /// A side, names of tiles, and the line that is told.
@@ -46,7 +46,7 @@ fn tells_the_side_before_the_names_before_the_headers(rt: HostRuntime) -> Result
 
 /// The line of an empty tile of side 3, whose products have this header but for con, dir and rnk.
 fn headed(alloc: Global, con: &str, dir: &str, rnk: &str) -> Result<Line, Fail> {
-    let mut example = bare(3, &["N00E000.hgt"], RIGHT)?;
+    let mut example = bare(3, &["N00E000.hgt"], RIGHT);
     example.con.header = Bytes::of(con.as_bytes());
     example.dir.header = Bytes::of(dir.as_bytes());
     example.rnk.header = Bytes::of(rnk.as_bytes());
@@ -72,30 +72,30 @@ fn tells_a_product_before_the_next_and_the_tiles(rt: HostRuntime) -> Result<(), 
 }
 
 /// Two tiles of side 2 that differ in the middle of the first row; every other cell is void, and no product has the number for no data.
-fn torn() -> Result<Example, Fail> {
+fn torn() -> Example {
     let grid = "NROWS 2\nNCOLS 3\nULXMAP 0\nULYMAP 1\nXDIM 1\nYDIM 1\n";
     let v = -32768;
     let mut example = products_on(2, grid, &[7; 30]);
-    example.push_tile(tile("N00E000.hgt", &[v, 2, v, v]))?;
-    example.push_tile(tile("N00E001.hgt", &[9, v, v, v]))?;
-    Ok(example)
+    example.push_tile(tile("N00E000.hgt", &[v, 2, v, v]));
+    example.push_tile(tile("N00E001.hgt", &[9, v, v, v]));
+    example
 }
 
 #[test]
 fn tells_a_seam_before_the_rules(rt: HostRuntime) -> Result<(), Fail> {
     let line = "refused SeamMismatch row=0 col=1";
-    same_line(&rt, "a seam", &told(rt.alloc(), &torn()?)?, line);
+    same_line(&rt, "a seam", &told(rt.alloc(), &torn())?, line);
     Ok(())
 }
 
 #[test]
 fn tells_a_tile_before_a_raster_before_a_seam(rt: HostRuntime) -> Result<(), Fail> {
-    let mut short_raster = torn()?;
+    let mut short_raster = torn();
     short_raster.rnk.body.pop();
-    let mut short_tile = torn()?;
+    let mut short_tile = torn();
     short_tile.con.body.pop();
     short_tile.tiles[1].body.pop();
-    let mut short_rasters = one_tile(3, &pit())?;
+    let mut short_rasters = one_tile(3, &pit());
     short_rasters.dir.body.pop();
     short_rasters.rnk.body.pop();
     for (example, line) in [

@@ -9,10 +9,10 @@ use std::test::Fail;
 use worked_grids::{PIT_LINE, pit, ring};
 
 /// The pit, with these lines on the grid in a product's header.
-fn pit_on(product: Held, grid: &str) -> Result<Example, Fail> {
-    let mut example = one_tile(3, &pit())?;
+fn pit_on(product: Held, grid: &str) -> Example {
+    let mut example = one_tile(3, &pit());
     example.raster_mut(product).header = header_on(product, grid);
-    Ok(example)
+    example
 }
 
 /// A product, the lines on its grid, and the line that is told.
@@ -52,7 +52,7 @@ static PLACES_AND_SHAPES: [(Held, &str, &str); 6] = [
 #[test]
 fn refuses_other_places_and_shapes(rt: HostRuntime) -> Result<(), Fail> {
     for &(product, grid, line) in &PLACES_AND_SHAPES {
-        let example = pit_on(product, grid)?;
+        let example = pit_on(product, grid);
         same_line(&rt, grid, &told(rt.alloc(), &example)?, line);
     }
     Ok(())
@@ -60,12 +60,12 @@ fn refuses_other_places_and_shapes(rt: HostRuntime) -> Result<(), Fail> {
 
 #[test]
 fn refuses_bodies_of_another_length(rt: HostRuntime) -> Result<(), Fail> {
-    let mut short_raster = one_tile(4, &ring())?;
+    let mut short_raster = one_tile(4, &ring());
     short_raster.con.body.pop();
-    let mut short_tile = one_tile(3, &pit())?;
+    let mut short_tile = one_tile(3, &pit());
     short_tile.con.body.pop();
     short_tile.tiles[0].body.pop();
-    let mut long_tile = one_tile(3, &pit())?;
+    let mut long_tile = one_tile(3, &pit());
     long_tile.con.body.pop();
     long_tile.tiles[0].body.push(0);
     for (example, line) in [
@@ -83,8 +83,8 @@ fn refuses_bodies_of_another_length(rt: HostRuntime) -> Result<(), Fail> {
 fn refuses_tiles_that_differ(rt: HostRuntime) -> Result<(), Fail> {
     let grid = "NROWS 2\nNCOLS 3\nULXMAP 0\nULYMAP 1\nXDIM 1\nYDIM 1\n";
     let mut example = products_on(2, grid, &[0; 30]);
-    example.push_tile(tile("N00E000.hgt", &[1, 2, 3, 4]))?;
-    example.push_tile(tile("N00E001.hgt", &[9, 5, 4, 6]))?;
+    example.push_tile(tile("N00E000.hgt", &[1, 2, 3, 4]));
+    example.push_tile(tile("N00E001.hgt", &[9, 5, 4, 6]));
     let line = "refused SeamMismatch row=0 col=1";
     same_line(&rt, "a seam", &told(rt.alloc(), &example)?, line);
     Ok(())
@@ -109,7 +109,7 @@ NODATA -32768
 
 #[test]
 fn takes_the_headers_of_usual_tools(rt: HostRuntime) -> Result<(), Fail> {
-    let example = bare(1201, &["N37W105.hgt"], USUAL)?;
+    let example = bare(1201, &["N37W105.hgt"], USUAL);
     let line = "refused BadTileLength N37W105.hgt";
     same_line(&rt, "usual", &told(rt.alloc(), &example)?, line);
     Ok(())

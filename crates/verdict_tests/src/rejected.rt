@@ -11,8 +11,8 @@ use worked_grids::{level, needless_crest, pit, ring, slope, voids};
 
 /// The line of the slope with one number changed.
 fn slope_with(alloc: Global, place: usize, number: i64) -> Result<Line, Fail> {
-    let numbers = changed(&slope(), place, number)?;
-    told(alloc, &one_tile(4, &numbers)?)
+    let numbers = changed(&slope(), place, number);
+    told(alloc, &one_tile(4, &numbers))
 }
 
 /// A place of the slope, the number there, and the line of the rejection.
@@ -37,8 +37,8 @@ fn rejects_a_changed_slope(rt: HostRuntime) -> Result<(), Fail> {
 
 /// The line of the pit with one number changed.
 fn pit_with(alloc: Global, place: usize, number: i64) -> Result<Line, Fail> {
-    let numbers = changed(&pit(), place, number)?;
-    told(alloc, &one_tile(3, &numbers)?)
+    let numbers = changed(&pit(), place, number);
+    told(alloc, &one_tile(3, &numbers))
 }
 
 /// A place of the pit, the number there, and the line of the rejection.
@@ -61,8 +61,8 @@ fn rejects_a_changed_pit(rt: HostRuntime) -> Result<(), Fail> {
 
 #[test]
 fn rejects_by_the_other_rules(rt: HostRuntime) -> Result<(), Fail> {
-    let count_at_a_void = changed(&voids(), 14, 1)?;
-    let no_outlet = changed(&level(), 8, 1)?;
+    let count_at_a_void = changed(&voids(), 14, 1);
+    let no_outlet = changed(&level(), 8, 1);
     let (crest, ring) = (needless_crest(), ring());
     let cases: [(u32, &[i64], &str); 4] = [
         (2, &count_at_a_void, "rejected rule=1 VoidCell row=1 col=0"),
@@ -71,7 +71,7 @@ fn rejects_by_the_other_rules(rt: HostRuntime) -> Result<(), Fail> {
         (4, &ring, "rejected rule=12 FlatStep row=1 col=1"),
     ];
     for (side, numbers, line) in cases {
-        let told = told(rt.alloc(), &one_tile(side, numbers)?)?;
+        let told = told(rt.alloc(), &one_tile(side, numbers))?;
         same_line(&rt, line, &told, line);
     }
     Ok(())
@@ -80,7 +80,7 @@ fn rejects_by_the_other_rules(rt: HostRuntime) -> Result<(), Fail> {
 /// Cells with data, whose number is that which the header gives for no data.
 #[test]
 fn rejects_the_number_of_nodata(rt: HostRuntime) -> Result<(), Fail> {
-    let mut example = one_tile(2, &level())?;
+    let mut example = one_tile(2, &level());
     let grid = "NODATA 0\nNROWS 2\nNCOLS 2\nULXMAP 0\nULYMAP 1\nXDIM 1\nYDIM 1\n";
     example.con.header = header_on(Held::Con, grid);
     let line = "rejected rule=2 Missing row=0 col=0";
@@ -92,9 +92,9 @@ fn rejects_the_number_of_nodata(rt: HostRuntime) -> Result<(), Fail> {
 fn rejects_two_outlets_of_one_label(rt: HostRuntime) -> Result<(), Fail> {
     let mut numbers = slope();
     for place in 68..72 {
-        numbers = changed(&numbers, place, 1)?;
+        numbers = changed(&numbers, place, 1);
     }
-    let given = told(rt.alloc(), &one_tile(4, &numbers)?)?;
+    let given = told(rt.alloc(), &one_tile(4, &numbers))?;
     let line = "rejected rule=15 SharedLabel row=1 col=3";
     same_line(&rt, "one label", &given, line);
     Ok(())

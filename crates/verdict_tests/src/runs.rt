@@ -2,7 +2,7 @@
 
 use crate::example::{Example, RasterBytes, TileBytes};
 use drain_device::faults::{ScriptSource, Scripted};
-use drain_device::{ByteList, DeviceFault, SliceSource};
+use drain_device::{ByteList, ByteSource, DeviceFault, SliceSource};
 use drain_grid::{Held, PerProduct};
 use drain_hgt::TileInput;
 use drain_verdict::line::Line;
@@ -83,6 +83,17 @@ pub fn products_at_once<'a>(
     PerProduct::from_each(&input)
 }
 
+/// The line of a check.
+pub fn line_of<R: ByteSource>(
+    alloc: Global,
+    side: u32,
+    tiles: &mut [TileInput<R>],
+    sinks: &[u8],
+    products: &mut Products<R>,
+) -> Line {
+    report(&check(alloc, side, tiles, sinks, products))
+}
+
 /// An example with this header of con, which may have more bytes than the others.
 #[derive(Clone, Copy)]
 struct ConHeaded<'a> {
@@ -110,14 +121,8 @@ pub fn told_of_header(alloc: Global, example: &Example, header: &[u8]) -> Result
     };
     let mut tiles = tiles_at_once(alloc, example.tiles())?;
     let mut products = PerProduct::from_each(&input)?;
-    let answer = check(
-        alloc,
-        example.side,
-        &mut tiles,
-        example.sinks.as_slice(),
-        &mut products,
-    );
-    Ok(report(&answer))
+    let sinks = example.sinks.as_slice();
+    Ok(line_of(alloc, example.side, &mut tiles, sinks, &mut products))
 }
 
 /// A source that gives one byte at a call.
@@ -191,28 +196,16 @@ pub fn slow_products<'a>(
 pub fn told_slowly(alloc: Global, example: &Example, faulty: Faulty) -> Result<Line, AllocError> {
     let mut tiles = slow_tiles(alloc, example.tiles(), faulty)?;
     let mut products = slow_products(alloc, SlowExample { example, faulty })?;
-    let answer = check(
-        alloc,
-        example.side,
-        &mut tiles,
-        example.sinks.as_slice(),
-        &mut products,
-    );
-    Ok(report(&answer))
+    let sinks = example.sinks.as_slice();
+    Ok(line_of(alloc, example.side, &mut tiles, sinks, &mut products))
 }
 
 /// The line of a check whose sources give all bytes at once.
 pub fn told_at_once(alloc: Global, example: &Example) -> Result<Line, AllocError> {
     let mut tiles = tiles_at_once(alloc, example.tiles())?;
     let mut products = products_at_once(alloc, example)?;
-    let answer = check(
-        alloc,
-        example.side,
-        &mut tiles,
-        example.sinks.as_slice(),
-        &mut products,
-    );
-    Ok(report(&answer))
+    let sinks = example.sinks.as_slice();
+    Ok(line_of(alloc, example.side, &mut tiles, sinks, &mut products))
 }
 
 /// The line of a check whose sources never fault: the same whether they give all bytes at once or one at a call.

@@ -9,7 +9,6 @@ use drain_verdict::{Refusal, report};
 use refused_memory::owed_unless_right;
 use std::alloc::Global;
 use std::process::Abort;
-use std::test::Fail;
 use worked_grids::{
     LEVEL_LINE, LISTED_PIT_LINE, PIT_LINE, SLOPE_LINE, UNLISTED_PIT_LINE, VOIDS_LINE, level, pit,
     slope, voids,
@@ -32,63 +31,54 @@ fn checked_twice(rt: &impl Abort, alloc: Global, example: &Example, right: &str)
 }
 
 #[test]
-fn pit_after_refused_memory(rt: HostRuntime) -> Result<(), Fail> {
-    checked_twice(&rt, rt.alloc(), &one_tile(3, &pit())?, PIT_LINE);
-    Ok(())
+fn pit_after_refused_memory(rt: HostRuntime) {
+    checked_twice(&rt, rt.alloc(), &one_tile(3, &pit()), PIT_LINE);
 }
 
 #[test]
-fn level_tile_after_refused_memory(rt: HostRuntime) -> Result<(), Fail> {
-    checked_twice(&rt, rt.alloc(), &one_tile(2, &level())?, LEVEL_LINE);
-    Ok(())
+fn level_tile_after_refused_memory(rt: HostRuntime) {
+    checked_twice(&rt, rt.alloc(), &one_tile(2, &level()), LEVEL_LINE);
 }
 
 #[test]
-fn voids_after_refused_memory(rt: HostRuntime) -> Result<(), Fail> {
-    checked_twice(&rt, rt.alloc(), &one_tile(2, &voids())?, VOIDS_LINE);
-    Ok(())
+fn voids_after_refused_memory(rt: HostRuntime) {
+    checked_twice(&rt, rt.alloc(), &one_tile(2, &voids()), VOIDS_LINE);
 }
 
 #[test]
-fn slope_after_refused_memory(rt: HostRuntime) -> Result<(), Fail> {
-    checked_twice(&rt, rt.alloc(), &one_tile(4, &slope())?, SLOPE_LINE);
-    Ok(())
+fn slope_after_refused_memory(rt: HostRuntime) {
+    checked_twice(&rt, rt.alloc(), &one_tile(4, &slope()), SLOPE_LINE);
 }
 
 /// Enough sinks that what holds them grows.
 const SINKS: &str = "1 1\n0 0\n0 1\n0 2\n1 0\n1 2\n2 0\n2 1\n2 2\n1 1\n";
 
 #[test]
-fn listed_pit_after_refused_memory(rt: HostRuntime) -> Result<(), Fail> {
-    let example = listed_pit_with(SINKS)?;
+fn listed_pit_after_refused_memory(rt: HostRuntime) {
+    let example = listed_pit_with(SINKS);
     checked_twice(&rt, rt.alloc(), &example, LISTED_PIT_LINE);
-    Ok(())
 }
 
 #[test]
-fn unlisted_pit_after_refused_memory(rt: HostRuntime) -> Result<(), Fail> {
-    let example = listed_pit_with("2 2\n0 0\n")?;
+fn unlisted_pit_after_refused_memory(rt: HostRuntime) {
+    let example = listed_pit_with("2 2\n0 0\n");
     checked_twice(&rt, rt.alloc(), &example, UNLISTED_PIT_LINE);
-    Ok(())
 }
 
 #[test]
-fn bad_line_after_refused_memory(rt: HostRuntime) -> Result<(), Fail> {
-    let example = filled_pit_with("0 0\n0 1\n0 2\n1 0\n1 2\n\nx\n")?;
+fn bad_line_after_refused_memory(rt: HostRuntime) {
+    let example = filled_pit_with("0 0\n0 1\n0 2\n1 0\n1 2\n\nx\n");
     checked_twice(&rt, rt.alloc(), &example, "refused BadSinkLine 7");
-    Ok(())
 }
 
 #[test]
-fn cell_outside_after_refused_memory(rt: HostRuntime) -> Result<(), Fail> {
-    let example = filled_pit_with("0 0\n\n2 3\n0 1\n")?;
+fn cell_outside_after_refused_memory(rt: HostRuntime) {
+    let example = filled_pit_with("0 0\n\n2 3\n0 1\n");
     checked_twice(&rt, rt.alloc(), &example, "refused SinkNotData 3");
-    Ok(())
 }
 
 #[test]
-fn listed_voids_after_refused_memory(rt: HostRuntime) -> Result<(), Fail> {
-    let example = one_tile(2, &voids())?.listing("1 1\n0 1\n1 0\n0 0\n");
+fn listed_voids_after_refused_memory(rt: HostRuntime) {
+    let example = one_tile(2, &voids()).listing("1 1\n0 1\n1 0\n0 0\n");
     checked_twice(&rt, rt.alloc(), &example, "refused SinkNotData 1");
-    Ok(())
 }

@@ -30,7 +30,7 @@ fn pit_where(
         owner,
         script: &script,
     };
-    Ok(told_slowly(alloc, &one_tile(3, &pit())?, faulty)?)
+    Ok(told_slowly(alloc, &one_tile(3, &pit()), faulty)?)
 }
 
 /// The first and the last call that is interrupted, and the line that is told.
@@ -98,7 +98,7 @@ static MIDDLES: [(Owner, u64); 6] = [
 /// Each body of the slope faults in its middle, and then goes on.
 #[test]
 fn bodies_that_go_on_after_a_fault(rt: HostRuntime) -> Result<(), Fail> {
-    let slope = one_tile(4, &slope())?;
+    let slope = one_tile(4, &slope());
     for &(owner, middle) in &MIDDLES {
         for (times, answer, line) in [
             (1u64, DeviceFault::Failed, FAILED),
