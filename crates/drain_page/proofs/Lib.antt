@@ -1,1 +1,2 @@
+pub mod DegreeSteps
 pub mod LeastWays

@@ -39,9 +39,7 @@ impl JsonText {
         ensures { IfOk result (λ line. IsJsonLine (string_bytes line)) }
     {
         let JsonText { writer } = self;
-        let Ok(mut line) = String::from_utf8(writer.into_inner()) else {
-            return Err(OutOfMemory);
-        };
+        let mut line = String::from_utf8(writer.into_inner()).unwrap();
         match line.push('\n') {
             Ok(()) => Ok(line),
             Err(_) => Err(OutOfMemory),
@@ -151,7 +149,7 @@ impl JsonText {
         self.digits(Buffer::new().format(number))
     }
 
-    /// A value of these digits.
+    /// The value that these digits are; a whole number's always are one.
     fn digits(&mut self, digits: &str) -> Result<(), OutOfMemory> {
         if is_number(digits) {
             written(self.writer.number(digits))
