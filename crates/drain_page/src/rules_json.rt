@@ -1,8 +1,8 @@
 //! The rules, and the products at voids and at data cells, as JSON.
 
 use crate::facts::Findings;
-use crate::first_rule::is_tried;
 use crate::place::MosaicPlace;
+use crate::tried_rules::is_tried;
 use crate::wanted::shown_products;
 use crate::wanted_json::push;
 use drain_faults::{RULES, RuleFaults};

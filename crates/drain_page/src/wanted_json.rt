@@ -1,7 +1,6 @@
 //! What the first rule wanted at the first cell at which any fails, as JSON.
 
 use crate::facts::Findings;
-use crate::first_rule::least_first_at;
 use crate::opening::Opening;
 use crate::wanted::{Wanted, WayDown, number, steepest, wanted_by};
 use crate::wanted_text::found_product;
@@ -47,7 +46,7 @@ pub(crate) fn first_wanted_json(
     findings: &Findings,
 ) -> Result<Option<WantedJson>, OutOfMemory> {
     match &findings.first {
-        Some(first) => wanted_at(alloc, findings, first),
+        Some(first) => Ok(Some(wanted_at(alloc, findings, first)?)),
         None => Ok(None),
     }
 }
@@ -56,14 +55,9 @@ fn wanted_at(
     alloc: Global,
     findings: &Findings,
     first: &FaultyPatch,
-) -> Result<Option<WantedJson>, OutOfMemory> {
-    match least_first_at(&findings.by_rule, first.cell) {
-        Some(rule) => {
-            let wanted = wanted_by(alloc, rule, &first.patch, &findings.rules)?;
-            Ok(Some(wanted_json(alloc, rule, &first.patch.here, &wanted)?))
-        }
-        None => Ok(None),
-    }
+) -> Result<WantedJson, OutOfMemory> {
+    let wanted = wanted_by(alloc, first.rule, &first.patch, &findings.rules)?;
+    wanted_json(alloc, first.rule, &first.patch.here, &wanted)
 }
 
 fn wanted_json(
