@@ -1,5 +1,5 @@
 -- What the run comes to that an audit names.
-use Rattle.std.proofs.Common.{◌≡◌, Option, Some, None, Ok, subst}
+use Rattle.std.proofs.Common.{Option, Some, None, Ok, subst}
 use Rattle.std.specs.Prelude.{IfSome}
 use Rattle.drain_grid.specs.declared.cell.Cell.{Cell}
 use Rattle.drain_runs.specs.declared.endless_run.EndlessRun.{EndlessRun}

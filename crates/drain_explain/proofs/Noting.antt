@@ -10,7 +10,7 @@ use Rattle.drain_rules.specs.PatchRows.{AreRowPatches}
 use Rattle.drain_faults.specs.ByProduct.{IsRightByProduct, OfNextRowByProduct}
 use Rattle.drain_faults.specs.declared.fault_map.FaultMap.{FaultMap}
 use Rattle.drain_faults.specs.FaultMaps.{IsMapOf, OfNextRowDrawn}
-use Rattle.drain_faults.specs.FaultWalks.{IsRightOf, OfNextRow}
+use Rattle.drain_faults.specs.FaultWalks.{IsCountedOf, IsRightOf, OfNextRow, OfNextRowCounted}
 use Rattle.drain_explain.specs.FaultNotes.{AreFaultNotes}
 use Rattle.drain_explain.specs.declared.fault_notes.FaultNotes.{FaultNotes}
 
@@ -25,15 +25,17 @@ still_drawn (Some new) None same = absurd (false≢true (same.0 refl))
 pub notes-more : (rules : Rules) (g : Grid) (ps : Products) (r cols : ℕ) (shown : ℕ → Patch) (old new : FaultNotes) → AreRowPatches g ps r cols shown → AreFaultNotes rules g ps r old →
     new.walk.rows ≡ old.walk.rows + 1 → OfNextRow (tried rules) old.walk cols shown (λ g ps. IsRightOf (tried rules) g ps new.walk) →
     OfNextRowByProduct rules old.walk cols shown (λ g ps. IsRightByProduct rules g ps new.walk) →
+    OfNextRowCounted old.walk cols shown (λ g ps. IsCountedOf g ps new.walk) →
     OfNextRowDrawn (tried rules) old.walk cols shown (λ g ps. IsMapOf (tried rules) g ps new.walk) → new.rules ≡ rules → AreFaultNotes rules g ps (r + 1) new
-notes-more rules g ps r cols shown old new patches are counted by_rule by_product map same =
+notes-more rules g ps r cols shown old new patches are rows by_rule by_product counted map same =
     let so_far = are.walk_is in
     let here = subst (λ n. AreRowPatches g ps n cols shown) (sym so_far.rows_are) patches in
     record {
       walk_is = record {
-        rows_are = counted ∙ ap (λ n. n + 1) so_far.rows_are;
+        rows_are = rows ∙ ap (λ n. n + 1) so_far.rows_are;
         by_rule = by_rule g ps here so_far.by_rule;
         by_product = by_product g ps here so_far.by_product;
+        counted = counted g ps here so_far.counted;
         map = map g ps here so_far.by_rule so_far.map;
       };
       rules_are = λ some. same;

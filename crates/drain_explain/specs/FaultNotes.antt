@@ -5,15 +5,16 @@ use Rattle.drain_kernel.specs.declared.rules.Rules.{Rules}
 use Rattle.drain_kernel.specs.Rules.{tried}
 use Rattle.drain_faults.specs.ByProduct.{IsRightByProduct}
 use Rattle.drain_faults.specs.FaultMaps.{IsMapOf}
-use Rattle.drain_faults.specs.FaultWalks.{IsRightOf}
+use Rattle.drain_faults.specs.FaultWalks.{IsCountedOf, IsRightOf}
 use Rattle.drain_faults.specs.declared.fault_walk.FaultWalk.{FaultWalk}
 use Rattle.drain_explain.specs.declared.fault_notes.FaultNotes.{FaultNotes}
 
--- the faults of the rules and of the products, and the map where there is one, are those of so many rows
+-- the faults of the rules and of the products, the counts, and the map where there is one, are those of so many rows
 pub record IsWalkNoted (rules : Rules) (g : Grid) (ps : Products) (rows : ℕ) (walk : FaultWalk) : Type 0 where
   pub rows_are : walk.rows ≡ rows
   pub by_rule : IsRightOf (tried rules) g ps walk
   pub by_product : IsRightByProduct rules g ps walk
+  pub counted : IsCountedOf g ps walk
   pub map : IsMapOf (tried rules) g ps walk
 
 -- and these were the rules

@@ -32,7 +32,8 @@ use std::alloc::Global;
 
 /// The verdict of `audit` with what explains it, or its refusal.
 ///
-/// What is said of `explain_check` holds here too. Where the verdict is `NoEnd`, it tells what the run comes to: a ring, or a cell that leads nowhere.
+/// What is said of `explain_check` holds here too. Memory is an audit's, with a byte for each cell more where a map is wanted. Where the verdict is `NoEnd`, it tells what the run comes to: a ring,
+/// or a cell that leads nowhere.
 pub fn explain_audit<R: ByteSource>(
     alloc: Global,
     side: u32,

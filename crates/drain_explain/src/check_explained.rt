@@ -29,7 +29,7 @@ use std::alloc::Global;
 /// The verdict of `check` with what explains it, or its refusal.
 ///
 /// It reads what `check` reads, in the same order, and tells the same refusals. It goes on over all rows where a check would stop looking at rules, so it takes longer on products that are
-/// rejected. Memory is a check's with the labels of outlets once more, and a byte for each cell where a map is wanted; `OutOfMemory` may come where a check finds memory.
+/// rejected. Memory is a check's, with a byte for each cell more where a map is wanted; `OutOfMemory` may come where a check finds memory.
 pub fn explain_check<R: ByteSource>(
     alloc: Global,
     side: u32,

@@ -1,4 +1,4 @@
-//! The faults of a grid's rows, noted beside the verdict.
+//! The faults of a grid's rows, which give the verdict too.
 
 ghost use Rattle.std.specs.Prelude.{◌≡◌, ◌↔◌, IfOk, IsSome};
 ghost use Rattle.drain_grid.specs.Grid.{Grid, Products};
@@ -7,11 +7,10 @@ ghost use Rattle.drain_explain.specs.FaultNotes.{AreFaultNotes, IsWalkNoted};
 ghost use Rattle.drain_explain.specs.declared.fault_notes.Mapping.TheVariants.{Drawn};
 
 use drain_faults::FaultWalk;
-use drain_grid::cell::MAX_LENGTH;
 use drain_grid::{NoData, OutOfMemory, Product, Shape};
-use drain_rules::{Ranks, Rules, ThreeRows};
+use drain_rules::{Ranks, Rules, ThreeRows, Verdict};
 use drain_verdict::held_row::HeldRow;
-use drain_verdict::row_notes::RowNotes;
+use drain_verdict::row_notes::{RowNotes, RowVerdicts};
 use std::alloc::Global;
 
 /// Whether a map of the faults is wanted, which takes a byte for each cell.
@@ -36,6 +35,7 @@ impl FaultNotes {
         mapping: Mapping,
         ranks: Ranks,
     ) -> Result<FaultNotes, OutOfMemory>
+        ensures rows { IfOk result (λ notes. notes.walk.rows ≡ 0) }
         ensures begun { IfOk result (λ notes. (rules : Rules) (g : Grid) (ps : Products) → AreFaultNotes rules g ps 0 notes) }
         ensures drawn { IfOk result (λ notes. IsSome notes.walk.map ↔ (mapping ≡ Drawn)) }
     {
@@ -52,6 +52,7 @@ impl FaultNotes {
 
 /// A walk that passed no row, which draws a map where one is wanted.
 fn new_walk(alloc: Global, shape: Shape, mapping: Mapping) -> Result<FaultWalk, OutOfMemory>
+    ensures rows { IfOk result (λ walk. walk.rows ≡ 0) }
     ensures begun { IfOk result (λ walk. (rules : Rules) (g : Grid) (ps : Products) → IsWalkNoted rules g ps 0 walk) }
     ensures drawn { IfOk result (λ walk. IsSome walk.map ↔ (mapping ≡ Drawn)) }
 {
@@ -74,12 +75,14 @@ fn default_numbers() -> NoData {
 }
 
 impl RowNotes for FaultNotes {
-    ghost use Rattle.std.specs.Prelude.{is_some};
+    ghost use Rattle.std.specs.Prelude.{◌≡◌, is_some};
     ghost use Rattle.drain_explain.specs.FaultNotes.{AreFaultNotes};
+
+    ghost counts = { λ n notes. notes.walk.rows ≡ n };
 
     ghost are_of = { AreFaultNotes };
 
-    ghost wants = { Unit {0} };
+    ghost wants = { λ rules g ps. Unit {0} };
 
     ghost lasting = { λ notes. is_some notes.walk.map };
 
@@ -89,12 +92,14 @@ impl RowNotes for FaultNotes {
         rows: &ThreeRows<'_>,
         rules: &Rules,
     ) -> Result<(), OutOfMemory> {
-        // no grid has more rows
-        if self.walk.rows() >= MAX_LENGTH {
-            return Err(OutOfMemory);
-        }
         self.walk.note_row(rows, rules)?;
         self.rules = *rules;
         Ok(())
+    }
+}
+
+impl RowVerdicts for FaultNotes {
+    fn verdict(&self, shape: Shape) -> Verdict {
+        self.walk.verdict(shape)
     }
 }

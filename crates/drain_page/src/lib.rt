@@ -4,7 +4,6 @@
 mod answer_line;
 pub mod degrees;
 pub mod facts;
-pub mod first_rule;
 pub mod inflow;
 pub mod json_page;
 mod json_text;
@@ -24,6 +23,7 @@ mod run_json;
 mod run_text;
 mod shown_bytes;
 pub mod text_page;
+pub mod tried_rules;
 mod units;
 pub mod wanted;
 mod wanted_json;

@@ -1,7 +1,6 @@
 //! The first cell at which a rule fails: where it lies, what it and its neighbours show, and what the rule wanted.
 
 use crate::facts::Findings;
-use crate::first_rule::least_first_at;
 use crate::names::{shown_ground, shown_number};
 use crate::place_text::push_cell;
 use crate::wanted::{shown_products, wanted_by};
@@ -44,13 +43,8 @@ pub(crate) fn push_first(
     push(text, findings.place.latitude_text(first.cell.row).as_str())?;
     push(text, "\n")?;
     push_patch(text, findings, &first.patch)?;
-    match least_first_at(&findings.by_rule, first.cell) {
-        Some(rule) => {
-            let wanted = wanted_by(alloc, rule, &first.patch, &findings.rules)?;
-            push_wanted(text, rule, &first.patch, &findings.rules.nodata, &wanted)
-        }
-        None => Ok(()),
-    }
+    let wanted = wanted_by(alloc, first.rule, &first.patch, &findings.rules)?;
+    push_wanted(text, first.rule, &first.patch, &findings.rules.nodata, &wanted)
 }
 
 /// The ground and each product, three numbers by three.

@@ -1,9 +1,9 @@
 //! The rules, and the products at voids and at data cells, as JSON.
 
 use crate::facts::Findings;
-use crate::first_rule::is_tried;
 use crate::json_text::JsonText;
 use crate::place::MosaicPlace;
+use crate::tried_rules::is_tried;
 use crate::wanted::shown_products;
 use drain_faults::{ProductFaults, RULES, RuleFaults};
 use drain_grid::{Cell, Held, OutOfMemory, Rule};

@@ -1,9 +1,9 @@
 //! A table of the rules that fail, and lines of those that hold and of those that aren't tried.
 
 use crate::facts::Findings;
-use crate::first_rule::is_tried;
 use crate::names::shown_rule;
 use crate::place::MosaicPlace;
+use crate::tried_rules::is_tried;
 use crate::wanted::shown_products;
 use crate::writing::{push, push_left, push_right, push_right_number};
 use drain_faults::{RULES, RuleFaults};

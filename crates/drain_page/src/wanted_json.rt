@@ -1,7 +1,6 @@
 //! What the first rule wanted at the first cell at which any fails, as JSON.
 
 use crate::facts::Findings;
-use crate::first_rule::least_first_at;
 use crate::json_text::JsonText;
 use crate::opening::Opening;
 use crate::wanted::{Wanted, WayDown, number, steepest, wanted_by};
@@ -31,12 +30,9 @@ fn write_wanted_at(
     findings: &Findings,
     first: &FaultyPatch,
 ) -> Result<(), OutOfMemory> {
-    match least_first_at(&findings.by_rule, first.cell) {
-        Some(rule) => match wanted_by(alloc, rule, &first.patch, &findings.rules) {
-            Ok(wanted) => write_wanted_by(json, rule, &first.patch.here, &wanted),
-            Err(e) => Err(e),
-        },
-        None => json.null("expected"),
+    match wanted_by(alloc, first.rule, &first.patch, &findings.rules) {
+        Ok(wanted) => write_wanted_by(json, first.rule, &first.patch.here, &wanted),
+        Err(e) => Err(e),
     }
 }
 

@@ -35,6 +35,7 @@ fn two_rules() -> Result<Findings, &'static str> {
     findings.first = Some(FaultyPatch {
         cell: Cell { row: 0, col: 1 },
         patch: edge()?,
+        rule: Rule::Missing,
     });
     Ok(findings)
 }

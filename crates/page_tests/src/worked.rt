@@ -78,6 +78,7 @@ pub fn one_fault(rule: Rule, ranks: Ranks, patch: Patch) -> Result<Findings, &'s
     findings.first = Some(FaultyPatch {
         cell: Cell { row: 1, col: 2 },
         patch,
+        rule,
     });
     Ok(findings)
 }

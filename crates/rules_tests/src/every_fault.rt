@@ -1,5 +1,5 @@
 //! Every fault of worked grids with one number changed: at how many cells each rule fails, the first of them, the first patch with a fault, and the map. All
-//! were worked out by hand from the rules.
+//! were worked out by hand from the rules. The verdict is that of the walk that stops at the first fault.
 
 ghost use Rattle.std.specs.Prelude.{◌≡◌};
 
@@ -8,7 +8,7 @@ use crate::rows_of_numbers::{COLS, faults_by_rows};
 use crate::unasked_ranks::put;
 use drain_faults::{FaultWalk, RULES, RuleFaults};
 use drain_grid::{Cell, Elevation, OutOfMemory, ProductSet, Rule, Shape, Sinks};
-use drain_rules::{Ranks, RasterRow, Rules};
+use drain_rules::{Ranks, RasterRow, Rules, Verdict, verdict_of};
 use std::alloc::Global;
 use std::process::Abort;
 use std::test::Fail;
@@ -135,7 +135,18 @@ fn expect(
     let walk = walk_over(alloc, example, Ranks::Asked)?;
     expect_found(rt, &walk, wanted, first);
     assert_eq!(rt; pixels_of(&walk), pixels);
+    same_verdict(rt, &walk, example, rules_verdict(alloc, example)?);
     Ok(())
+}
+
+/// The verdict of the walk that stops at the first fault.
+fn rules_verdict(alloc: Global, example: &Given) -> Result<Verdict, OutOfMemory> {
+    verdict_of(alloc, &example.elevation, &example.sinks, &example.products)
+}
+
+/// Looks that the walk over every fault gives this verdict.
+fn same_verdict(rt: &impl Abort, walk: &FaultWalk, example: &Given, wanted: Verdict) {
+    assert_eq!(rt; walk.verdict(example.elevation.shape()), wanted);
 }
 
 /// The slope with a number changed.
@@ -216,5 +227,22 @@ fn an_outlet_inside_long_rows(rt: HostRuntime) -> Result<(), Fail> {
     expect_found(&rt, &laned, &wanted, Some((0, 300)));
     let plain = faults_by_rows(rt.alloc(), &numbers, false)?;
     expect_found(&rt, &plain, &wanted, Some((0, 300)));
+    expect_rejected(&rt, &laned, shape_of_rows()?);
+    expect_rejected(&rt, &plain, shape_of_rows()?);
     Ok(())
+}
+
+/// Three rows.
+fn shape_of_rows() -> Result<Shape, Fail> {
+    Ok(Shape::new(3, COLS.into()).ok_or("a shape")?)
+}
+
+/// Looks that the verdict is the fault of the first row.
+fn expect_rejected(rt: &impl Abort, walk: &FaultWalk, shape: Shape) {
+    let wanted = Verdict::Rejected {
+        rule: Rule::Accumulation,
+        row: 0,
+        col: 300,
+    };
+    assert_eq!(rt; walk.verdict(shape), wanted);
 }

@@ -1,4 +1,4 @@
-use Rattle.std.proofs.Common.{◌≡◌, Option, Ok, Err, sym, subst}
+use Rattle.std.proofs.Common.{Option, Ok, Err, sym, subst}
 use Rattle.std.specs.Prelude.{IfSome}
 use Rattle.std.proofs.lemmas.Result.{err_from_is_err_and}
 use Rattle.drain_kernel.specs.declared.rules.Ranks.TheVariants.{Unasked}
