@@ -44,7 +44,13 @@ pub(crate) fn push_first(
     push(text, "\n")?;
     push_patch(text, findings, &first.patch)?;
     let wanted = wanted_by(alloc, first.rule, &first.patch, &findings.rules)?;
-    push_wanted(text, first.rule, &first.patch, &findings.rules.nodata, &wanted)
+    push_wanted(
+        text,
+        first.rule,
+        &first.patch,
+        &findings.rules.nodata,
+        &wanted,
+    )
 }
 
 /// The ground and each product, three numbers by three.
