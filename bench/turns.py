@@ -1,6 +1,5 @@
 #!/usr/bin/env python3
-"""Times a check or an audit beside its explanation, the runs in turn, and prints the least and the middle of each one's user and system seconds, and
-the greatest memory of any of its runs.
+"""Times a check or an audit beside its explanation, the runs in turn, and prints the least and the middle of each one's user and system seconds.
 
 turns.py TURNS DRAIN COMMAND MAP WORD..     COMMAND is check or audit; the words are those of the run; ends with 1 where the first lines differ
 """
@@ -13,12 +12,12 @@ from pathlib import Path
 
 
 def timed(words):
-    """Seconds of user and system, the greatest memory in MiB, and the first line of a run."""
+    """Seconds of user and system, and the first line of a run."""
     with subprocess.Popen(words, stdout=subprocess.PIPE, stderr=subprocess.DEVNULL) as run:
         text = run.stdout.read()
         _, _, used = os.wait4(run.pid, 0)
         run.returncode = 0
-    return used.ru_utime + used.ru_stime, used.ru_maxrss / 1024, text.split(b"\n")[0]
+    return used.ru_utime + used.ru_stime, text.split(b"\n")[0]
 
 
 def main():
@@ -30,16 +29,14 @@ def main():
         "explain --map": [drain, "explain", "--map", map_path, *words],
     }
     seconds = {name: [] for name in runs}
-    memory = dict.fromkeys(runs, 0.0)
     lines = {}
     for _ in range(turns):
         for name, run in runs.items():
-            took, held, lines[name] = timed(run)
+            took, lines[name] = timed(run)
             seconds[name].append(took)
-            memory[name] = max(memory[name], held)
     del lines["explain --json"]
     for name, took in seconds.items():
-        print(f"{name:15} least {min(took):6.2f}  middle {statistics.median(took):6.2f}  {memory[name]:6.1f} MiB")
+        print(f"{name:15} least {min(took):6.2f}  middle {statistics.median(took):6.2f}")
     print(lines[command].decode())
     for path in (Path(map_path), Path(map_path).with_suffix(".hdr")):
         path.unlink(missing_ok=True)
