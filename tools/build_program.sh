@@ -84,7 +84,7 @@ if [ -d "$folder/out/incremental" ]; then
 else
     mkdir "$scratch/proving"
     copy_crates
-    echo "Proving $(wc -w <<<"$crates") crates: about twenty minutes with 4 processors the first time ..."
+    echo "Proving $(wc -w <<<"$crates") crates: a quarter to three quarters of an hour with 4 processors the first time, as the machine is ..."
     (cd "$scratch/proving" && exec rt ci) >"$log" 2>&1 </dev/null &
     show_progress $! || tell
     cp "$scratch/proving/crates/$crate/out/$crate" "$target"
