@@ -9,7 +9,8 @@ use Rattle.drain_cli.specs.declared.status.Status.{Status}
 use Rattle.drain_cli.specs.declared.status.Status.TheVariants.{Failed}
 use Rattle.drain_cli.specs.Failures.{failure_text}
 use Rattle.drain_cli.specs.OpenFailures.{IsOpenFailure}
-use Rattle.drain_cli.specs.Printing.{PrintsText, line_feed}
+use Rattle.drain_page.specs.JsonLines.{line_feed}
+use Rattle.drain_cli.specs.Printing.{PrintsText}
 
 -- a page begins with the line of its answer; of one JSON object no more is said than that it is printed
 abbrev pub BeginsWith : Form → List ℕ → List ℕ → Type 0

@@ -2,7 +2,7 @@
 use Rattle.std.specs.Prelude.{ℕ, ◌++◌, List, [], ◌∷◌, codes}
 use Rattle.drain_device.specs.declared.read.BodyFault.{BodyFault}
 use Rattle.drain_device.specs.declared.read.BodyFault.TheVariants.{ReadFailed, OutOfMemory}
-use Rattle.drain_cli.specs.Printing.{line_feed}
+use Rattle.drain_page.specs.JsonLines.{line_feed}
 
 -- want of memory, or a source that gave up
 abbrev pub failure_text : BodyFault → List ℕ

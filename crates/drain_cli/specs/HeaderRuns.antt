@@ -12,7 +12,7 @@ use Rattle.drain_header.specs.Text.{text_of}
 use Rattle.drain_cli.specs.declared.status.Status.{Status}
 use Rattle.drain_cli.specs.declared.status.Status.TheVariants as status
 use Rattle.drain_cli.specs.Failures.{failure_text}
-use Rattle.drain_cli.specs.Printing.{line_feed}
+use Rattle.drain_page.specs.JsonLines.{line_feed}
 
 -- an answer, or why there is none
 abbrev pub HeaderOutcome : Type 0

@@ -2,7 +2,7 @@
 use Rattle.std.specs.Prelude.{◌≡◌, ◌⊎◌, ℕ, ◌++◌, List, [], ◌∷◌, codes}
 use Rattle.drain_device.specs.declared.read.BodyFault.TheVariants.{OutOfMemory}
 use Rattle.drain_cli.specs.Failures.{failure_text}
-use Rattle.drain_cli.specs.Printing.{line_feed}
+use Rattle.drain_page.specs.JsonLines.{line_feed}
 
 abbrev pub open_failure_line : List ℕ → List ℕ
 open_failure_line path = codes "failed Open " ++ (path ++ line_feed ∷ [])

@@ -4,12 +4,10 @@ use Rattle.drain_device.specs.declared.patience.GaveUp.{GaveUp}
 use Rattle.drain_device.specs.Devices.{Sink}
 use Rattle.drain_device.specs.Failing.{WriteFails}
 use Rattle.drain_device.specs.Writes.{HandsOver}
+use Rattle.drain_page.specs.JsonLines.{line_feed}
 use Rattle.drain_cli.specs.declared.status.Status.{Status}
 use Rattle.drain_cli.specs.declared.status.Status.TheVariants.{Failed}
 use Rattle.drain_cli.specs.Statuses.{code_of}
-
-abbrev pub line_feed : ℕ
-line_feed = 10
 
 -- the status of a run stands where its line was written
 abbrev pub status_after : {T E : Type 0} → Result T E → Status → Status

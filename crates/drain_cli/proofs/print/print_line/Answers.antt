@@ -1,5 +1,5 @@
 use Rattle.std.proofs.Common.{◌≡◌, ◌++◌, [], ◌∷◌, rules}
-use Rattle.drain_cli.specs.Printing.{line_feed}
+use Rattle.drain_page.specs.JsonLines.{line_feed}
 use Rattle.drain_cli.proofs.print.print_line.Goals as goal
 
 pub returns : goal.returns
