@@ -3,12 +3,12 @@
 ghost use Rattle.std.specs.Prelude.{◌≡◌, ◌<◌, ◌+◌, ◌⊎◌, ℕ, [], length, None, IfOk, IfErr, OnErr, OnOk};
 ghost use Rattle.drain_grid.specs.declared.cell.TheConstants.{MAX_LENGTH};
 ghost use Rattle.drain_grid.specs.Grid.{Grid, Products};
-ghost use Rattle.drain_rules.specs.RowNumbers.{AreRowNumbers, RowNumbers};
+ghost use Rattle.drain_rules.specs.RowNumbers.{AreRowNumbers, RowNumbers, blank};
 ghost use Rattle.drain_kernel.specs.Rules.{tried};
 ghost use Rattle.drain_rules.specs.ThreeRows.{patch_in};
 ghost use Rattle.drain_rules.specs.Verdicts.{IsVerdictOf};
 ghost use Rattle.drain_verdict.specs.GridRows.{OfGrid, ReadsOn, IsRowsRefusal};
-ghost use Rattle.drain_verdict.specs.HeldRows.{numbers_of};
+ghost use Rattle.drain_verdict.specs.HeldRows.{HasItsLanes, numbers_of};
 ghost use Rattle.drain_verdict.specs.ListedVoids.{AreListedVoids};
 ghost use Rattle.drain_verdict.specs.NotedRows.{OfNotedRow};
 ghost use Rattle.drain_verdict.specs.declared.refusal.Refusal.{Refusal};
@@ -58,10 +58,51 @@ pub fn verdict_by_rows<T, P, S: GridRows<T, P>, K: RowVerdicts>(
     ensures refuses { IfErr result (IsRowsRefusal S.has_read (source.old, tiles.old, products.old) (source.new, tiles.new, products.new)
         (OfGrid (S.gives (source.old, tiles.old, products.old)) shape sinks.now (K.wants rules.now) ⊎ ¬ (sinks.now ≡ []))) }
 {
-    // The law that makes a row's patches of three rows.
-    three_rows_show_patches();
     let mut window = Window::new(alloc);
     let mut voids = ListedVoids::new(alloc);
+    note_rows(
+        shape,
+        sinks,
+        rules,
+        source,
+        tiles,
+        products,
+        notes,
+        &mut window,
+        &mut voids,
+    )?;
+    let verdict = notes.verdict(shape);
+    Ok(RowVerdict { verdict, voids })
+}
+
+/// Notes each row of the grid, and its listed sinks that are voids, by a window that holds no row and a list of none.
+fn note_rows<T, P, S: GridRows<T, P>, K: RowNotes>(
+    shape: Shape,
+    sinks: &Sinks,
+    rules: &Rules,
+    source: &mut S,
+    tiles: &mut [T],
+    products: &mut P,
+    notes: &mut K,
+    window: &mut Window,
+    voids: &mut ListedVoids,
+) -> Result<(), Refusal>
+    requires counted { length tiles.old ≡ S.count source.old }
+    requires uncounted { K.counts 0 notes.old }
+    requires unnoted { (g : Grid) (ps : Products) → K.are_of rules.now g ps 0 notes.old }
+    requires here { numbers_of window.old.here ≡ blank }
+    requires here_lanes { HasItsLanes window.old.here }
+    requires none { voids.old ≡ [] }
+    ensures voids { OnOk result (OfGrid (S.gives (source.old, tiles.old, products.old)) shape sinks.now (λ g ps. AreListedVoids g voids.new)) }
+    ensures noted { OnOk result (OfGrid (S.gives (source.old, tiles.old, products.old)) shape sinks.now (λ g ps. K.are_of rules.now g ps g.extent.rows notes.new)) }
+    ensures lasting { OnOk result (K.lasting notes.new ≡ K.lasting notes.old) }
+    ensures given { OnOk result ((rows : ℕ → RowNumbers) → S.gives (source.old, tiles.old, products.old) rows 0 → S.gives (source.new, tiles.new, products.new) rows (shape.rows + 1)) }
+    ensures reads { OnOk result (ReadsOn S.has_read (source.old, tiles.old, products.old) (source.new, tiles.new, products.new) (shape.rows + 1) None) }
+    ensures refuses { IfErr result (IsRowsRefusal S.has_read (source.old, tiles.old, products.old) (source.new, tiles.new, products.new)
+        (OfGrid (S.gives (source.old, tiles.old, products.old)) shape sinks.now (K.wants rules.now) ⊎ ¬ (sinks.now ≡ []))) }
+{
+    // The law that makes a row's patches of three rows.
+    three_rows_show_patches();
     read_marked(
         source,
         tiles,
@@ -70,7 +111,7 @@ pub fn verdict_by_rows<T, P, S: GridRows<T, P>, K: RowVerdicts>(
         sinks,
         rules.ranks,
         &mut window.below,
-        &mut voids,
+        voids,
     )?;
     for row in 0..shape.rows() {
         window.turn();
@@ -82,13 +123,12 @@ pub fn verdict_by_rows<T, P, S: GridRows<T, P>, K: RowVerdicts>(
             sinks,
             rules.ranks,
             &mut window.below,
-            &mut voids,
+            voids,
         )?;
         let shown = window.rows();
         note_row(notes, &window.here, &shown, rules)?;
     }
-    let verdict = notes.verdict(shape);
-    Ok(RowVerdict { verdict, voids })
+    Ok(())
 }
 
 /// Notes a row of the grid.

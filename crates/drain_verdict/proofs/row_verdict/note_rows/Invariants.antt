@@ -5,7 +5,7 @@ use Rattle.drain_verdict.specs.GridRows.{OfGrid, ReadsOn}
 use Rattle.drain_verdict.specs.HeldRows.{HasItsLanes, IsMarked, marked_of, numbers_of}
 use Rattle.drain_verdict.specs.ListedVoids.{AreVoidsBefore}
 use Rattle.drain_verdict.proofs.WindowLemmas.{AreHeld}
-use Rattle.drain_verdict.proofs.row_verdict.verdict_by_rows.Given as goal
+use Rattle.drain_verdict.proofs.row_verdict.note_rows.Given as goal
 
 -- the row below the window is the next to be noted, and the notes are of the rows before it
 abbrev pub invariant-loop-row : goal.invariant-loop-row
@@ -24,8 +24,8 @@ invariant-loop-row g l =
           AreHeld rows l.row (numbers_of l.window.here) (numbers_of l.window.below);
       here_marked : (r : ℕ) → l.row ≡ r + 1 → IsMarked l.sinks r (marked_of l.window.here);
       below_marked : IsMarked l.sinks l.row (marked_of l.window.below);
-      voids : OfGrid (source.gives (l.fn.source, l.fn.tiles, l.fn.products)) l.shape l.sinks (λ (grid : Grid) (ps : Products). AreVoidsBefore grid (l.row + 1) l.voids);
-      noted : OfGrid (source.gives (l.fn.source, l.fn.tiles, l.fn.products)) l.shape l.sinks (λ (grid : Grid) (ps : Products). g.K.RowNotes.are_of l.rules grid ps l.row l.notes);
+      voids : OfGrid (source.gives (l.fn.source, l.fn.tiles, l.fn.products)) l.fn.shape l.sinks (λ (grid : Grid) (ps : Products). AreVoidsBefore grid (l.row + 1) l.voids);
+      noted : OfGrid (source.gives (l.fn.source, l.fn.tiles, l.fn.products)) l.fn.shape l.sinks (λ (grid : Grid) (ps : Products). g.K.RowNotes.are_of l.rules grid ps l.row l.notes);
       lasting : g.K.RowNotes.lasting l.notes ≡ g.K.RowNotes.lasting l.fn.notes;
       reads : ReadsOn source.has_read (l.fn.source, l.fn.tiles, l.fn.products) (l.source, l.tiles, l.products) (l.row + 1) None;
     }
