@@ -1,48 +1,11 @@
 //! Runs of `drain audit` over sources and sinks in memory: one tile of side 2 at 0 degrees, level, with its four products.
 
+use crate::level_tile::{LINE, TILE, four, tile};
 use crate::printed::{Printed, same_line, slow_sink, whole_sink};
 use drain_cli::run_audit::run_audit;
 use drain_device::faults::{ScriptSink, Scripted, SinkAnswer};
-use drain_device::{BodyFault, ByteList, SliceSource};
-use drain_hgt::TileInput;
-use drain_verdict::{AuditProducts, RasterInput};
-use std::alloc::{AllocError, Global};
+use std::alloc::Global;
 use std::test::Fail;
-
-const WORDS: &str =
-    "BYTEORDER I\nNROWS 2\nNCOLS 2\nNBITS 16\nPIXELTYPE SIGNEDINT\nULXMAP 0\nULYMAP 1\nXDIM 1\nYDIM 1\n";
-
-const BYTES: &str = "NROWS 2\nNCOLS 2\nULXMAP 0\nULYMAP 1\nXDIM 1\nYDIM 1\n";
-
-const LINE: &str = "accepted rows=2 cols=2 data=4 raised=0 outlets=4\n";
-
-const TILE: &str = "N00E000.hgt";
-
-/// A raster with this header.
-fn raster<'a>(
-    alloc: Global,
-    header: &str,
-    body: &'a [u8],
-) -> Result<RasterInput<SliceSource<'a>>, AllocError> {
-    Ok(RasterInput {
-        header: ByteList::new(Vec::from_slice(alloc, header.as_bytes())?),
-        body: SliceSource::new(body),
-    })
-}
-
-/// The products of the tile, with these codes and labels.
-fn products<'a>(
-    alloc: Global,
-    codes: &'a [u8],
-    labels: &'a [u8],
-) -> Result<AuditProducts<SliceSource<'a>>, AllocError> {
-    Ok(AuditProducts {
-        con: raster(alloc, WORDS, &[0; 8])?,
-        dir: raster(alloc, BYTES, codes)?,
-        acc: raster(alloc, BYTES, &[1; 4])?,
-        bas: raster(alloc, BYTES, labels)?,
-    })
-}
 
 /// What an audit of the tile of this name and side prints.
 fn printed(
@@ -53,11 +16,8 @@ fn printed(
     labels: &[u8],
     mut out: ScriptSink<'_>,
 ) -> Result<Printed, Fail> {
-    let mut products = products(alloc, codes, labels)?;
-    let mut tiles = [TileInput {
-        name: ByteList::new(Vec::from_slice(alloc, name.as_bytes())?),
-        body: SliceSource::new(&[0; 8]),
-    }];
+    let mut products = four(alloc, codes, labels)?;
+    let mut tiles = [tile(alloc, name)?];
     let status = run_audit(alloc, side, &mut tiles, &[], &mut products, &mut out);
     Ok(Printed::new(out.as_slice(), status)?)
 }

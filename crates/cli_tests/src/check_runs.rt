@@ -1,62 +1,14 @@
 //! Runs of `drain check` over sources and sinks in memory: one tile of side 2 at 0 degrees, level, with its products.
 
+use crate::level_tile::{LINE, TILE, five, tile};
 use crate::printed::{Printed, same_line, slow_sink, whole_sink};
 use drain_cli::run_check::run_check;
 use drain_device::faults::{ScriptSink, Scripted, SinkAnswer};
-use drain_device::{BodyFault, ByteList, SliceSource};
-use drain_grid::{Held, PerProduct};
+use drain_device::{BodyFault, SliceSource};
 use drain_hgt::TileInput;
-use drain_verdict::{Products, RasterInput};
-use std::alloc::{AllocError, Global};
+use drain_verdict::Products;
+use std::alloc::Global;
 use std::test::Fail;
-
-const WORDS: &str =
-    "BYTEORDER I\nNROWS 2\nNCOLS 2\nNBITS 16\nPIXELTYPE SIGNEDINT\nULXMAP 0\nULYMAP 1\nXDIM 1\nYDIM 1\n";
-
-const BYTES: &str = "NROWS 2\nNCOLS 2\nULXMAP 0\nULYMAP 1\nXDIM 1\nYDIM 1\n";
-
-const LINE: &str = "accepted rows=2 cols=2 data=4 raised=0 outlets=4\n";
-
-const TILE: &str = "N00E000.hgt";
-
-/// The bytes of a product's raster; those of bas are the labels.
-fn body_of<'a>(product: Held, labels: &'a [u8]) -> &'a [u8] {
-    match product {
-        Held::Con => &[0; 8],
-        Held::Acc => &[1; 4],
-        Held::Bas => labels,
-        _ => &[0; 4],
-    }
-}
-
-/// A product of the tile.
-fn product_of<'a>(
-    alloc: Global,
-    labels: &'a [u8],
-    product: Held,
-) -> Result<RasterInput<SliceSource<'a>>, AllocError> {
-    let header = if product == Held::Con { WORDS } else { BYTES };
-    Ok(RasterInput {
-        header: ByteList::new(Vec::from_slice(alloc, header.as_bytes())?),
-        body: SliceSource::new(body_of(product, labels)),
-    })
-}
-
-/// The products of the tile, with these labels.
-fn products<'a>(alloc: Global, labels: &'a [u8]) -> Result<Products<SliceSource<'a>>, AllocError> {
-    let input = |product: Held| -> Result<RasterInput<SliceSource<'_>>, AllocError> {
-        product_of(alloc, labels, product)
-    };
-    PerProduct::from_each(&input)
-}
-
-/// A tile of this name and of side 2.
-fn tile(alloc: Global, name: &str) -> Result<TileInput<SliceSource<'static>>, AllocError> {
-    Ok(TileInput {
-        name: ByteList::new(Vec::from_slice(alloc, name.as_bytes())?),
-        body: SliceSource::new(&[0; 8]),
-    })
-}
 
 /// What a check of the tile prints.
 fn check_printed<'a>(
@@ -79,7 +31,7 @@ fn printed(
     labels: &[u8],
     out: ScriptSink<'_>,
 ) -> Result<Printed, Fail> {
-    let products = products(alloc, labels)?;
+    let products = five(alloc, labels)?;
     let tile = tile(alloc, name)?;
     Ok(check_printed(alloc, side, tile, products, out)?)
 }

@@ -1,30 +1,20 @@
 //! Runs of `drain explain` over sources and sinks in memory: one tile of side 2 at 0 degrees, level, with its products; and maps that are saved in memory.
 
-use crate::printed::{slow_sink, whole_sink};
+use crate::level_tile::{LINE, TILE, five, four, tile};
+use crate::printed::{same_bytes, slow_sink, whole_sink};
 use drain_cli::explain_page::{Beside, Form, MapFault};
 use drain_cli::map_file::write_map;
 use drain_cli::run_explain::{run_explain_audit, run_explain_check};
+use drain_device::BodyFault;
 use drain_device::faults::{ScriptSink, Scripted, SinkAnswer};
-use drain_device::{BodyFault, ByteList, SliceSource, VecSink};
 use drain_explain::Mapping;
-use drain_grid::{Held, PerProduct};
-use drain_hgt::TileInput;
 use drain_maker::product_files::SetFault;
 use drain_mosaic::Layout;
 use drain_page::RefusalNote;
-use drain_verdict::{AuditProducts, Products, RasterInput, Refusal};
+use drain_verdict::Refusal;
 use std::alloc::{AllocError, Global};
 use std::process::Abort;
 use std::test::Fail;
-
-const WORDS: &str =
-    "BYTEORDER I\nNROWS 2\nNCOLS 2\nNBITS 16\nPIXELTYPE SIGNEDINT\nULXMAP 0\nULYMAP 1\nXDIM 1\nYDIM 1\n";
-
-const BYTES: &str = "NROWS 2\nNCOLS 2\nULXMAP 0\nULYMAP 1\nXDIM 1\nYDIM 1\n";
-
-const LINE: &str = "accepted rows=2 cols=2 data=4 raised=0 outlets=4\n";
-
-const TILE: &str = "N00E000.hgt";
 
 /// The header of a map of the tile.
 const MAP_HEADER: &str =
@@ -61,39 +51,6 @@ impl<'a> Beside for InMemory<'a> {
     }
 }
 
-/// A raster with this header.
-fn raster<'a>(
-    alloc: Global,
-    header: &str,
-    body: &'a [u8],
-) -> Result<RasterInput<SliceSource<'a>>, AllocError> {
-    Ok(RasterInput {
-        header: ByteList::new(Vec::from_slice(alloc, header.as_bytes())?),
-        body: SliceSource::new(body),
-    })
-}
-
-/// The four products of the tile, with these codes and labels.
-fn four<'a>(
-    alloc: Global,
-    codes: &'a [u8],
-    labels: &'a [u8],
-) -> Result<AuditProducts<SliceSource<'a>>, AllocError> {
-    Ok(AuditProducts {
-        con: raster(alloc, WORDS, &[0; 8])?,
-        dir: raster(alloc, BYTES, codes)?,
-        acc: raster(alloc, BYTES, &[1; 4])?,
-        bas: raster(alloc, BYTES, labels)?,
-    })
-}
-
-fn tile(alloc: Global) -> Result<TileInput<SliceSource<'static>>, AllocError> {
-    Ok(TileInput {
-        name: ByteList::new(Vec::from_slice(alloc, TILE.as_bytes())?),
-        body: SliceSource::new(&[0; 8]),
-    })
-}
-
 /// The status of a run without ranks, over a tile of this side.
 fn audit_status(
     alloc: Global,
@@ -104,7 +61,7 @@ fn audit_status(
     beside: &mut InMemory<'_>,
     out: &mut ScriptSink<'_>,
 ) -> Result<u8, Fail> {
-    let mut tiles = [tile(alloc)?];
+    let mut tiles = [tile(alloc, TILE)?];
     let mut products = four(alloc, codes, labels)?;
     Ok(run_explain_audit(
         alloc,
@@ -221,11 +178,6 @@ fn page_sink(alloc: Global) -> Result<ScriptSink<'static>, AllocError> {
     Ok(ScriptSink::new(room, 1000, &[]))
 }
 
-/// Ends the test where bytes aren't those that are wanted, and tells of which case it is.
-fn same_bytes(rt: &impl Abort, case: &str, bytes: &[u8], wanted: &[u8]) {
-    assert_eq!(rt; bytes, wanted, "{case}");
-}
-
 #[test]
 fn a_page_begins_with_the_line(rt: HostRuntime) -> Result<(), Fail> {
     for case in &CASES {
@@ -321,13 +273,15 @@ fn in_failing_memory(alloc: Global, of_header: bool) -> Result<InMemory<'static>
     }
 }
 
+/// Which file fails, whether it is the header, and what header and raster took.
+static FAILING_FILES: [(&str, bool, &str, &str); 2] = [
+    ("its header", true, "BY", ""),
+    ("its raster", false, MAP_HEADER, "\0\0"),
+];
+
 #[test]
 fn a_map_that_cannot_be_written_is_told_in_place_of_the_page(rt: HostRuntime) -> Result<(), Fail> {
-    let cases = [
-        ("its header", true, "BY", ""),
-        ("its raster", false, MAP_HEADER, "\0\0"),
-    ];
-    for (name, of_header, header, raster) in cases {
+    for &(name, of_header, header, raster) in &FAILING_FILES {
         let mut beside = in_failing_memory(rt.alloc(), of_header)?;
         let mut out = page_sink(rt.alloc())?;
         let status = right_status(rt.alloc(), Form::Text, &mut beside, &mut out)?;
@@ -357,42 +311,32 @@ fn ends_with_status_3_where_a_page_cannot_be_written(rt: HostRuntime) -> Result<
     Ok(())
 }
 
-/// The bytes of a product's raster, with ranks that are all 0.
-fn body_of(product: Held) -> &'static [u8] {
-    match product {
-        Held::Con => &[0; 8],
-        Held::Acc => &[1; 4],
-        Held::Bas => &[1, 2, 3, 3],
-        _ => &[0; 4],
-    }
-}
-
-/// The five products of the tile, of which two outlets share a label.
-fn five(alloc: Global) -> Result<Products<SliceSource<'static>>, AllocError> {
-    let input = |product: Held| -> Result<RasterInput<SliceSource<'_>>, AllocError> {
-        let header = if product == Held::Con { WORDS } else { BYTES };
-        raster(alloc, header, body_of(product))
-    };
-    PerProduct::from_each(&input)
-}
-
-#[test]
-fn a_page_with_ranks_begins_with_the_line_of_a_check(rt: HostRuntime) -> Result<(), Fail> {
-    let mut tiles = [tile(rt.alloc())?];
-    let mut products = five(rt.alloc())?;
-    let mut beside = in_memory(rt.alloc())?;
-    let mut out = page_sink(rt.alloc())?;
-    let status = run_explain_check(
-        rt.alloc(),
+/// The status of a run with ranks, on products of which two outlets share a label.
+fn check_status(
+    alloc: Global,
+    beside: &mut InMemory<'_>,
+    out: &mut ScriptSink<'_>,
+) -> Result<u8, Fail> {
+    let mut tiles = [tile(alloc, TILE)?];
+    let mut products = five(alloc, &[1, 2, 3, 3])?;
+    Ok(run_explain_check(
+        alloc,
         2,
         &mut tiles,
         &[],
         &mut products,
         Mapping::Drawn,
         Form::Text,
-        &mut beside,
-        &mut out,
-    );
+        beside,
+        out,
+    ))
+}
+
+#[test]
+fn a_page_with_ranks_begins_with_the_line_of_a_check(rt: HostRuntime) -> Result<(), Fail> {
+    let mut beside = in_memory(rt.alloc())?;
+    let mut out = page_sink(rt.alloc())?;
+    let status = check_status(rt.alloc(), &mut beside, &mut out)?;
     let line = b"rejected rule=15 SharedLabel row=1 col=1\n";
     begins(&rt, "with ranks", out.as_slice(), status, line, 1)?;
     same_bytes(&rt, "its map", beside.raster.as_slice(), &[0, 0, 0, 15]);

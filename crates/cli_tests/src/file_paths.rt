@@ -1,5 +1,6 @@
 //! Paths of products' files and of maps, and names of tiles in paths.
 
+use crate::printed::{holds, same_bytes};
 use drain_cli::file_paths::{header_path, map_path, map_stem, raster_path, tile_name};
 use drain_grid::Product;
 use drain_maker::product_files::Part;
@@ -14,48 +15,55 @@ fn are_paths(alloc: Global, folder: &str, header: &str, raster: &str) -> Result<
     )
 }
 
+/// A folder, and the paths in it of con's header and of rnk's raster.
+static PATHS: [(&str, &str, &str); 4] = [
+    ("out", "out/con.hdr", "out/rnk.bil"),
+    ("out/", "out/con.hdr", "out/rnk.bil"),
+    ("a/b//", "a/b//con.hdr", "a/b//rnk.bil"),
+    ("/", "/con.hdr", "/rnk.bil"),
+];
+
 #[test]
 fn puts_one_slash_between_folder_and_file(rt: HostRuntime) -> Result<(), Fail> {
-    let cases = [
-        ("out", "out/con.hdr", "out/rnk.bil"),
-        ("out/", "out/con.hdr", "out/rnk.bil"),
-        ("a/b//", "a/b//con.hdr", "a/b//rnk.bil"),
-        ("/", "/con.hdr", "/rnk.bil"),
-    ];
-    for (folder, header, raster) in cases {
-        assert!(rt; are_paths(rt.alloc(), folder, header, raster)?, "{folder}");
+    for &(folder, header, raster) in &PATHS {
+        let are_paths = are_paths(rt.alloc(), folder, header, raster)?;
+        holds(&rt, folder, are_paths);
     }
     Ok(())
 }
+
+/// The path of a tile, and its name.
+static NAMES: [(&str, &str); 5] = [
+    ("N00E000.hgt", "N00E000.hgt"),
+    ("tiles/N00E000.hgt", "N00E000.hgt"),
+    ("/a//b/n.hgt", "n.hgt"),
+    ("folder/", ""),
+    ("", ""),
+];
 
 #[test]
 fn takes_the_name_of_a_tile_from_its_path(rt: HostRuntime) -> Result<(), Fail> {
-    let cases = [
-        ("N00E000.hgt", "N00E000.hgt"),
-        ("tiles/N00E000.hgt", "N00E000.hgt"),
-        ("/a//b/n.hgt", "n.hgt"),
-        ("folder/", ""),
-        ("", ""),
-    ];
-    for (path, name) in cases {
-        assert_eq!(rt; tile_name(path.as_bytes()), name.as_bytes());
+    for &(path, name) in &NAMES {
+        same_bytes(&rt, path, tile_name(path.as_bytes()), name.as_bytes());
     }
     Ok(())
 }
 
+/// The path of a map, and what stands before its ending.
+static STEMS: [(&str, Option<&str>); 7] = [
+    ("faults.bil", Some("faults")),
+    ("a/b.c.bil", Some("a/b.c")),
+    (".bil", Some("")),
+    ("faults", None),
+    ("faults.hdr", None),
+    ("faults.BIL", None),
+    ("", None),
+];
+
 #[test]
 fn a_map_ends_in_bil(rt: HostRuntime) -> Result<(), Fail> {
-    let cases = [
-        ("faults.bil", Some("faults")),
-        ("a/b.c.bil", Some("a/b.c")),
-        (".bil", Some("")),
-        ("faults", None),
-        ("faults.hdr", None),
-        ("faults.BIL", None),
-        ("", None),
-    ];
-    for (path, stem) in cases {
-        assert!(rt; map_stem(path) == stem, "{path}");
+    for &(path, stem) in &STEMS {
+        holds(&rt, path, map_stem(path) == stem);
     }
     Ok(())
 }
@@ -63,8 +71,8 @@ fn a_map_ends_in_bil(rt: HostRuntime) -> Result<(), Fail> {
 #[test]
 fn the_header_of_a_map_lies_beside_it(rt: HostRuntime) -> Result<(), Fail> {
     let raster = map_path(rt.alloc(), "a/faults", Part::Raster)?;
-    assert_eq!(rt; raster.as_str(), "a/faults.bil");
+    same_bytes(&rt, "its raster", raster.as_bytes(), b"a/faults.bil");
     let header = map_path(rt.alloc(), "a/faults", Part::Header)?;
-    assert_eq!(rt; header.as_str(), "a/faults.hdr");
+    same_bytes(&rt, "its header", header.as_bytes(), b"a/faults.hdr");
     Ok(())
 }

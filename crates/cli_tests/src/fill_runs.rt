@@ -131,68 +131,66 @@ fn nines_round_a_void(middle: Option<u8>) -> [u8; 225] {
     bytes
 }
 
-#[test]
-fn tells_what_inputs_of_each_length_are(rt: HostRuntime) -> Result<(), Fail> {
-    let zeros = [0; 82];
+/// Bytes of zeros: those of a flat tile of side 2, or one too many for side 3.
+const ZEROS: [u8; 82] = [0; 82];
+
+/// A tile of side 3 of voids, and zeros behind it.
+fn all_void() -> [u8; 81] {
     let mut voids = [0; 81];
     for place in voids[..18].iter_mut().step_by(2) {
         *place = 0x80;
     }
-    let open_void = nines_round_a_void(None);
-    let closed_void = nines_round_a_void(Some(9));
-    let cases: [(&str, u32, &[u8], u8, &str); 11] = [
-        (
-            "a flat tile",
-            2,
-            &zeros[..36],
-            0,
-            "accepted rows=2 cols=2 data=4 raised=0\n",
-        ),
-        (
-            "all void",
-            3,
-            voids.as_slice(),
-            0,
-            "accepted rows=3 cols=3 data=0 raised=0\n",
-        ),
-        (
-            "a cell beside an inner void",
-            5,
-            open_void.as_slice(),
-            0,
-            "accepted rows=5 cols=5 data=24 raised=0\n",
-        ),
-        (
-            "the same with data in place of the void",
-            5,
-            closed_void.as_slice(),
-            1,
-            "rejected rule=6 NoSpill row=1 col=1\n",
-        ),
-        ("no byte", 3, &[], 2, "refused BadLength\n"),
-        ("a byte too few", 3, &PIT[..80], 2, "refused BadLength\n"),
-        (
-            "a byte too many",
-            3,
-            zeros.as_slice(),
-            2,
-            "refused BadLength\n",
-        ),
-        (
-            "a smaller side",
-            2,
-            PIT.as_slice(),
-            2,
-            "refused BadLength\n",
-        ),
-        ("side 0", 0, &[], 2, "refused BadSide\n"),
-        ("side 1", 1, &[], 2, "refused BadSide\n"),
-        ("side 3602", 3602, PIT.as_slice(), 2, "refused BadSide\n"),
-    ];
-    for (name, side, bytes, status, line) in cases {
+    voids
+}
+
+/// A side, zeros or the pit, how many of these bytes come, the status and the line.
+static LENGTHS: [(&str, u32, &[u8], usize, u8, &str); 8] = [
+    (
+        "a flat tile",
+        2,
+        &ZEROS,
+        36,
+        0,
+        "accepted rows=2 cols=2 data=4 raised=0\n",
+    ),
+    ("no byte", 3, &PIT, 0, 2, "refused BadLength\n"),
+    ("a byte too few", 3, &PIT, 80, 2, "refused BadLength\n"),
+    ("a byte too many", 3, &ZEROS, 82, 2, "refused BadLength\n"),
+    ("a smaller side", 2, &PIT, 81, 2, "refused BadLength\n"),
+    ("side 0", 0, &PIT, 0, 2, "refused BadSide\n"),
+    ("side 1", 1, &PIT, 0, 2, "refused BadSide\n"),
+    ("side 3602", 3602, &PIT, 81, 2, "refused BadSide\n"),
+];
+
+#[test]
+fn tells_what_inputs_of_each_length_are(rt: HostRuntime) -> Result<(), Fail> {
+    for &(name, side, bytes, length, status, line) in &LENGTHS {
+        let Some(bytes) = bytes.get(..length) else {
+            return Err("bytes of this length".into());
+        };
         let answered = told(rt.alloc(), side, bytes)?;
         same_line(&rt, name, &answered, line, status);
     }
+    Ok(())
+}
+
+#[test]
+fn tells_what_inputs_with_voids_are(rt: HostRuntime) -> Result<(), Fail> {
+    let void = told(rt.alloc(), 3, &all_void())?;
+    let line = "accepted rows=3 cols=3 data=0 raised=0\n";
+    same_line(&rt, "all void", &void, line, 0);
+    let open = told(rt.alloc(), 5, &nines_round_a_void(None))?;
+    let line = "accepted rows=5 cols=5 data=24 raised=0\n";
+    same_line(&rt, "a cell beside an inner void", &open, line, 0);
+    let closed = told(rt.alloc(), 5, &nines_round_a_void(Some(9)))?;
+    let line = "rejected rule=6 NoSpill row=1 col=1\n";
+    same_line(
+        &rt,
+        "the same with data in place of the void",
+        &closed,
+        line,
+        1,
+    );
     Ok(())
 }
 
@@ -205,47 +203,51 @@ fn fault(first: u64, last: u64, answer: DeviceFault) -> [Scripted<DeviceFault>; 
     }]
 }
 
+/// How many bytes a source gives at a call, at which calls it faults, the status and the line.
+static FAULTS: [(&str, usize, u64, u64, DeviceFault, u8, &str); 5] = [
+    ("one byte a call", 1, 0, 0, DeviceFault::Failed, 0, PIT_LINE),
+    (
+        "999 interruptions",
+        1000,
+        1,
+        999,
+        DeviceFault::Interrupted,
+        0,
+        PIT_LINE,
+    ),
+    (
+        "999 interruptions in the middle",
+        1,
+        50,
+        1048,
+        DeviceFault::Interrupted,
+        0,
+        PIT_LINE,
+    ),
+    (
+        "1,000 interruptions",
+        1000,
+        1,
+        1000,
+        DeviceFault::Interrupted,
+        3,
+        "failed ReadFailed\n",
+    ),
+    (
+        "interruptions for ever",
+        1000,
+        1,
+        u64::MAX,
+        DeviceFault::Interrupted,
+        3,
+        "failed ReadFailed\n",
+    ),
+];
+
 #[test]
 fn bears_999_interruptions_of_its_input(rt: HostRuntime) -> Result<(), Fail> {
-    let failed = "failed ReadFailed\n";
-    let cases: [(&str, usize, [Scripted<DeviceFault>; 1], u8, &str); 5] = [
-        (
-            "one byte a call",
-            1,
-            fault(0, 0, DeviceFault::Failed),
-            0,
-            PIT_LINE,
-        ),
-        (
-            "999 interruptions",
-            1000,
-            fault(1, 999, DeviceFault::Interrupted),
-            0,
-            PIT_LINE,
-        ),
-        (
-            "999 interruptions in the middle",
-            1,
-            fault(50, 1048, DeviceFault::Interrupted),
-            0,
-            PIT_LINE,
-        ),
-        (
-            "1,000 interruptions",
-            1000,
-            fault(1, 1000, DeviceFault::Interrupted),
-            3,
-            failed,
-        ),
-        (
-            "interruptions for ever",
-            1000,
-            fault(1, u64::MAX, DeviceFault::Interrupted),
-            3,
-            failed,
-        ),
-    ];
-    for (name, most, script, status, line) in cases {
+    for &(name, most, first, last, answer, status, line) in &FAULTS {
+        let script = fault(first, last, answer);
         let answered = told_slowly(rt.alloc(), most, &script)?;
         same_line(&rt, name, &answered, line, status);
     }
@@ -269,23 +271,38 @@ fn told_into(alloc: Global, script: &[Scripted<SinkAnswer>]) -> Result<Printed, 
     Ok(printed(alloc, 3, &mut input, out)?)
 }
 
+/// What a sink answers at which calls, how many bytes of the line it takes, and the status.
+static SINKS: [(&str, SinkAnswer, u64, u64, usize, u8); 5] = [
+    ("a failure at once", SinkAnswer::Failed, 1, 1, 0, 3),
+    (
+        "a failure at the line end",
+        SinkAnswer::Failed,
+        39,
+        39,
+        38,
+        3,
+    ),
+    ("no byte is taken", SinkAnswer::TookNone, 20, 20, 19, 3),
+    (
+        "1,000 interruptions",
+        SinkAnswer::Interrupted,
+        1,
+        1000,
+        0,
+        3,
+    ),
+    ("999 interruptions", SinkAnswer::Interrupted, 1, 999, 39, 0),
+];
+
 #[test]
 fn ends_with_status_3_where_the_line_cannot_be_written(rt: HostRuntime) -> Result<(), Fail> {
-    let cases: [(&str, SinkAnswer, u64, u64, u8); 5] = [
-        ("a failure at once", SinkAnswer::Failed, 1, 1, 3),
-        ("a failure at the line end", SinkAnswer::Failed, 39, 39, 3),
-        ("no byte is taken", SinkAnswer::TookNone, 20, 20, 3),
-        ("1,000 interruptions", SinkAnswer::Interrupted, 1, 1000, 3),
-        ("999 interruptions", SinkAnswer::Interrupted, 1, 999, 0),
-    ];
-    for (name, answer, first, last, status) in cases {
+    for &(name, answer, first, last, written, status) in &SINKS {
         let script = [Scripted {
             first,
             last,
             answer,
         }];
         let answered = told_into(rt.alloc(), &script)?;
-        let written = if status == 0 { 39 } else { first as usize - 1 };
         let wanted = PIT_LINE.get(..written).unwrap_or("");
         same_line(&rt, name, &answered, wanted, status);
     }

@@ -6,6 +6,7 @@ use drain_cli::run_header::run_header;
 use drain_device::faults::{ScriptSink, ScriptSource, Scripted, SinkAnswer};
 use drain_device::{BodyFault, ByteSource, DeviceFault, SliceSource};
 use std::alloc::Global;
+use std::process::Abort;
 use std::test::Fail;
 
 /// The header of a raster of 3 by 3 pixels, half a degree apart, as this program writes it.
@@ -121,31 +122,50 @@ fn prints_headers_and_faults(rt: HostRuntime) -> Result<(), Fail> {
     Ok(())
 }
 
+/// Line feeds, more than a header can have.
+static LINE_FEEDS: [u8; 70000] = [b'\n'; 70000];
+
+/// How many line feeds there are, the line, and how many bytes are left.
+static LONG_HEADERS: [(usize, &str, usize); 3] = [
+    (65536, "refused MissingKey NROWS\n", 0),
+    (65537, "refused TooLong\n", 0),
+    (70000, "refused TooLong\n", 70000 - 65537),
+];
+
+/// Ends the test where a source had another number of bytes left, and tells of which header it is.
+fn same_rest(
+    rt: &impl Abort,
+    length: usize,
+    rest: Result<usize, DeviceFault>,
+    wanted: Result<usize, DeviceFault>,
+) {
+    assert_eq!(rt; rest, wanted, "{length}");
+}
+
 /// A header has at most 65,536 bytes, and at most one byte more is read.
 #[test]
 fn reads_one_byte_past_the_longest_header(rt: HostRuntime) -> Result<(), Fail> {
-    let line_feeds = [b'\n'; 70000];
-    let cases = [
-        (65536, "refused MissingKey NROWS\n", 0),
-        (65537, "refused TooLong\n", 0),
-        (70000, "refused TooLong\n", 70000 - 65537),
-    ];
-    for (length, line, left) in cases {
-        let (answered, rest) = told(rt.alloc(), &line_feeds[..length])?;
+    for &(length, line, left) in &LONG_HEADERS {
+        let Some(bytes) = LINE_FEEDS.get(..length) else {
+            return Err("more line feeds".into());
+        };
+        let (answered, rest) = told(rt.alloc(), bytes)?;
         same_run(&rt, length as u64, &answered, line.as_bytes(), 2);
-        assert_eq!(rt; rest, Ok(left), "{length}");
+        same_rest(&rt, length, rest, Ok(left));
     }
     Ok(())
 }
 
+/// What a source answers at which calls, the status and the text.
+static FAULTS: [(DeviceFault, u64, u64, u8, &str); 3] = [
+    (DeviceFault::Interrupted, 3, 1001, 0, SMALL),
+    (DeviceFault::Interrupted, 3, 1002, 3, "failed ReadFailed\n"),
+    (DeviceFault::Failed, 200, 200, 3, "failed ReadFailed\n"),
+];
+
 #[test]
 fn bears_999_interruptions_of_its_file(rt: HostRuntime) -> Result<(), Fail> {
-    let cases = [
-        (DeviceFault::Interrupted, 3, 1001, 0, SMALL),
-        (DeviceFault::Interrupted, 3, 1002, 3, "failed ReadFailed\n"),
-        (DeviceFault::Failed, 200, 200, 3, "failed ReadFailed\n"),
-    ];
-    for (answer, first, last, status, text) in cases {
+    for &(answer, first, last, status, text) in &FAULTS {
         let script = [Scripted {
             first,
             last,
@@ -157,13 +177,16 @@ fn bears_999_interruptions_of_its_file(rt: HostRuntime) -> Result<(), Fail> {
     Ok(())
 }
 
+/// What a sink answers from its hundredth call on.
+static SINK_ANSWERS: [(u64, SinkAnswer); 3] = [
+    (0, SinkAnswer::Failed),
+    (1, SinkAnswer::TookNone),
+    (2, SinkAnswer::Interrupted),
+];
+
 #[test]
 fn ends_with_status_3_where_the_header_cannot_be_written(rt: HostRuntime) -> Result<(), Fail> {
-    for (case, answer) in [
-        (0, SinkAnswer::Failed),
-        (1, SinkAnswer::TookNone),
-        (2, SinkAnswer::Interrupted),
-    ] {
+    for &(case, answer) in &SINK_ANSWERS {
         let script = [Scripted {
             first: 100,
             last: 1099,

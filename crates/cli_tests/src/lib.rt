@@ -14,6 +14,10 @@ mod fill_runs;
 #[cfg(test)]
 mod header_runs;
 #[cfg(test)]
+mod inputs;
+#[cfg(test)]
+mod level_tile;
+#[cfg(test)]
 mod list_reads;
 #[cfg(test)]
 mod listed_sinks;

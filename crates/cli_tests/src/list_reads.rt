@@ -58,10 +58,15 @@ fn same_read(
     assert_eq!(rt; came, wanted, "{case}");
 }
 
+/// The bytes of lists, and how many a source gives at a call.
+static LENGTHS: [usize; 7] = [0, 1, 16_383, 16_384, 16_385, 32_768, LONGEST];
+
+static MOST_AT_A_CALL: [usize; 4] = [1, 7, 16_384, 100_000];
+
 #[test]
 fn reads_lists_of_each_length_whole(rt: HostRuntime) -> Result<(), Fail> {
-    for length in [0, 1, 16_383, 16_384, 16_385, 32_768, LONGEST] {
-        for most in [1, 7, 16_384, 100_000] {
+    for &length in &LENGTHS {
+        for &most in &MOST_AT_A_CALL {
             let read = came(rt.alloc(), length, most, &[]);
             same_read(&rt, length as u64, read, Ok(Some(length)));
         }
@@ -78,36 +83,43 @@ fn fault(first: u64, last: u64, answer: DeviceFault) -> [Scripted<DeviceFault>; 
     }]
 }
 
+const WHOLE: Result<Option<usize>, BodyFault> = Ok(Some(LONGEST));
+
+const FAILED: Result<Option<usize>, BodyFault> = Err(BodyFault::ReadFailed);
+
+/// What a source answers at which calls, and what came. 42 calls give all, as the last of a chunk gives less, and the next finds the end.
+static FAULTS: [(u64, u64, u64, DeviceFault, Result<Option<usize>, BodyFault>); 10] = [
+    (1, 1, 999, DeviceFault::Interrupted, WHOLE),
+    (2, 1, 1000, DeviceFault::Interrupted, FAILED),
+    (3, 20, 1018, DeviceFault::Interrupted, WHOLE),
+    (4, 20, 1019, DeviceFault::Interrupted, FAILED),
+    (5, 1, u64::MAX, DeviceFault::Interrupted, FAILED),
+    (6, 1, 1, DeviceFault::Failed, FAILED),
+    (7, 20, 20, DeviceFault::Failed, FAILED),
+    (8, 42, 42, DeviceFault::Failed, FAILED),
+    (9, 43, 43, DeviceFault::Failed, FAILED),
+    (10, 44, 44, DeviceFault::Failed, WHOLE),
+];
+
 #[test]
 fn bears_999_interruptions_of_a_list(rt: HostRuntime) -> Result<(), Fail> {
-    let whole = Ok(Some(LONGEST));
-    let failed = Err(BodyFault::ReadFailed);
-    let interrupted = DeviceFault::Interrupted;
-    for (case, script, wanted) in [
-        (1, fault(1, 999, interrupted), whole),
-        (2, fault(1, 1000, interrupted), failed),
-        (3, fault(20, 1018, interrupted), whole),
-        (4, fault(20, 1019, interrupted), failed),
-        (5, fault(1, u64::MAX, interrupted), failed),
-        (6, fault(1, 1, DeviceFault::Failed), failed),
-        (7, fault(20, 20, DeviceFault::Failed), failed),
-        (8, fault(42, 42, DeviceFault::Failed), failed),
-        (9, fault(43, 43, DeviceFault::Failed), failed),
-        (10, fault(44, 44, DeviceFault::Failed), whole),
-    ] {
-        // 42 calls give all, as the last of a chunk gives less, and the next finds the end.
+    for &(case, first, last, answer, wanted) in &FAULTS {
+        let script = fault(first, last, answer);
         same_read(&rt, case, came(rt.alloc(), LONGEST, 1000, &script), wanted);
     }
     Ok(())
 }
 
+/// The last call at which a second chunk is interrupted, and what came.
+static SECOND_FAULTS: [(u64, u64, Result<Option<usize>, BodyFault>); 2] = [
+    (1, 1000, WHOLE),
+    (2, 1001, FAILED),
+];
+
 /// Interruptions of one chunk after another are counted together.
 #[test]
 fn counts_interruptions_over_all_chunks(rt: HostRuntime) -> Result<(), Fail> {
-    for (case, last, wanted) in [
-        (1, 1000, Ok(Some(LONGEST))),
-        (2, 1001, Err(BodyFault::ReadFailed)),
-    ] {
+    for &(case, last, wanted) in &SECOND_FAULTS {
         let script = [
             Scripted {
                 first: 1,

@@ -1,15 +1,21 @@
 //! From tiles to products, to files in memory, and to the check of these files. The expected lines were worked out by hand.
 
 ghost use Rattle.std.specs.Prelude.{◌≡◌, length, IfOk};
+ghost use Rattle.drain_maker.specs.Made.{CanBeWritten};
+ghost use Rattle.drain_mosaic.specs.Tiling.{extent_of};
 
-use crate::making::{PIT, Tile, at_zero, check, inputs, make};
-use crate::printed::{Printed, ROOM, room, same_run};
+use crate::inputs::{Tile, at_zero, inputs};
+use crate::making::{PIT, check, make};
+use crate::printed::{Printed, ROOM, holds, room, same_run};
 use drain_cli::make_set::make_set;
 use drain_cli::write_set::write_set;
 use drain_device::VecSink;
 use drain_device::faults::{ScriptSink, Scripted, SinkAnswer};
+use drain_grid::ProductSet;
 use drain_maker::product_files::FILE_COUNT;
+use drain_mosaic::Layout;
 use std::alloc::{AllocError, Global};
+use std::process::Abort;
 use std::test::Fail;
 
 /// A tile of side 4 that falls to the east, each row 4 3 2 1.
@@ -78,31 +84,30 @@ static WORKED_TILES: [(&str, u32, &[u8], &str, &str); 5] = [
 #[test]
 fn what_is_made_of_worked_tiles_is_accepted(rt: HostRuntime) -> Result<(), Fail> {
     for &(name, side, bytes, made, accepted) in &WORKED_TILES {
-        let tiles = at_zero(bytes);
-        assert!(rt;
-            tells(rt.alloc(), side, tiles.as_slice(), made, accepted)?,
-            "{name}"
-        );
+        let is_accepted = tells(rt.alloc(), side, &at_zero(bytes), made, accepted)?;
+        holds(&rt, name, is_accepted);
     }
     Ok(())
 }
 
+/// Two level tiles of side 3, with a gap of a tile between them.
+static APART: [Tile<'_>; 2] = [
+    Tile {
+        name: "N00E000.hgt",
+        bytes: &[0; 18],
+    },
+    Tile {
+        name: "N00E002.hgt",
+        bytes: &[0; 18],
+    },
+];
+
 #[test]
 fn what_is_made_of_tiles_apart_is_accepted(rt: HostRuntime) -> Result<(), Fail> {
-    let level = [0; 18];
-    let tiles = [
-        Tile {
-            name: "N00E000.hgt",
-            bytes: &level,
-        },
-        Tile {
-            name: "N00E002.hgt",
-            bytes: &level,
-        },
-    ];
     let made = "made rows=3 cols=7\n";
     let accepted = "accepted rows=3 cols=7 data=18 raised=0 outlets=16\n";
-    assert!(rt; tells(rt.alloc(), 3, &tiles, made, accepted)?);
+    let is_accepted = tells(rt.alloc(), 3, &APART, made, accepted)?;
+    holds(&rt, "tiles apart", is_accepted);
     Ok(())
 }
 
@@ -138,12 +143,18 @@ fn tells_choice(alloc: Global, choice: u32) -> Result<bool, Fail> {
     )
 }
 
+/// Ends the test where something doesn't hold of a choice.
+fn holds_for(rt: &impl Abort, choice: u32, is_so: bool) {
+    assert!(rt; is_so, "{choice}");
+}
+
 #[test]
 fn what_is_made_of_every_tile_of_nine_inner_samples_is_accepted(
     rt: HostRuntime,
 ) -> Result<(), Fail> {
     for choice in 0..512u32 {
-        assert!(rt; tells_choice(rt.alloc(), choice)?, "{choice}");
+        let is_accepted = tells_choice(rt.alloc(), choice)?;
+        holds_for(&rt, choice, is_accepted);
     }
     Ok(())
 }
@@ -155,33 +166,43 @@ fn refuses(alloc: Global, side: u32, tiles: &[Tile<'_>], line: &str) -> Result<b
     Ok(is(&making, line, 2) && files.is_empty())
 }
 
-/// A tile of this name and of side 2.
-fn named(name: &'static str) -> Tile<'static> {
-    Tile {
-        name,
-        bytes: &[0, 1, 0, 2, 0, 3, 0, 4],
-    }
-}
+/// Tiles of side 2: at 0 degrees, without a name of a tile, east of the first with other heights at the seam, and far from it.
+const ZERO: Tile<'_> = Tile {
+    name: "N00E000.hgt",
+    bytes: &[0, 1, 0, 2, 0, 3, 0, 4],
+};
+
+const NONE: Tile<'_> = Tile {
+    name: "x",
+    bytes: &[0, 1, 0, 2, 0, 3, 0, 4],
+};
+
+const SEAM: Tile<'_> = Tile {
+    name: "N00E001.hgt",
+    bytes: &[0, 9, 0, 5, 0, 4, 0, 6],
+};
+
+const FAR: Tile<'_> = Tile {
+    name: "N00E008.hgt",
+    bytes: &[0, 1, 0, 2, 0, 3, 0, 4],
+};
+
+/// A side and tiles, and the line that tells why nothing is made of them.
+static REFUSED_TILES: [(u32, &[Tile<'_>], &str); 7] = [
+    (1, &[NONE], "refused BadSide\n"),
+    (2, &[ZERO, NONE], "refused BadName 1\n"),
+    (2, &[], "refused NoTiles\n"),
+    (2, &[ZERO, ZERO], "refused RepeatedTile N00E000.hgt\n"),
+    (2, &[ZERO, FAR], "refused BoxTooLarge\n"),
+    (3, &[ZERO], "refused BadTileLength N00E000.hgt\n"),
+    (2, &[ZERO, SEAM], "refused SeamMismatch row=0 col=1\n"),
+];
 
 #[test]
 fn tells_why_nothing_is_made(rt: HostRuntime) -> Result<(), Fail> {
-    let zero = named("N00E000.hgt");
-    let none = named("x");
-    let seam = Tile {
-        name: "N00E001.hgt",
-        bytes: &[0, 9, 0, 5, 0, 4, 0, 6],
-    };
-    let far = named("N00E008.hgt");
-    for (side, tiles, count, line) in [
-        (1, [none, none], 1, "refused BadSide\n"),
-        (2, [zero, none], 2, "refused BadName 1\n"),
-        (2, [none, none], 0, "refused NoTiles\n"),
-        (2, [zero, zero], 2, "refused RepeatedTile N00E000.hgt\n"),
-        (2, [zero, far], 2, "refused BoxTooLarge\n"),
-        (3, [zero, zero], 1, "refused BadTileLength N00E000.hgt\n"),
-        (2, [zero, seam], 2, "refused SeamMismatch row=0 col=1\n"),
-    ] {
-        assert!(rt; refuses(rt.alloc(), side, &tiles[..count], line)?, "{line}");
+    for &(side, tiles, line) in &REFUSED_TILES {
+        let is_refused = refuses(rt.alloc(), side, tiles, line)?;
+        holds(&rt, line, is_refused);
     }
     Ok(())
 }
@@ -222,6 +243,26 @@ fn lengths_of(files: &[ScriptSink<'_>]) -> [usize; FILE_COUNT] {
     lengths
 }
 
+/// The products that are made of the pit.
+fn made_of_the_pit(alloc: Global, out: &mut VecSink) -> Result<(Layout, ProductSet), Fail>
+    ensures same_shape { IfOk result (λ set. set.1.con.extent ≡ extent_of set.0) }
+    ensures written { IfOk result (λ set. CanBeWritten set.0 set.1) }
+{
+    let mut inputs = inputs(alloc, &at_zero(&PIT))?;
+    match make_set(alloc, 3, inputs.as_mut_slice(), &[], out) {
+        Ok(made) => Ok(made),
+        Err(_) => Err(why_not(out.as_slice())),
+    }
+}
+
+/// Why nothing was made: want of memory, where the line tells of it.
+fn why_not(printed: &[u8]) -> Fail {
+    match Printed::new(printed, 0) {
+        Ok(_) => "nothing made".into(),
+        Err(fault) => fault.into(),
+    }
+}
+
 /// What writing the pit's files printed, where the one in this place takes some bytes and then fails, and how many bytes each took.
 fn lengths_where_one_fails(
     alloc: Global,
@@ -234,11 +275,7 @@ fn lengths_where_one_fails(
     }];
     let mut out = VecSink::new(room(alloc)?);
     let mut files = scripted_files(alloc, place, &fails)?;
-    let mut inputs = inputs(alloc, &at_zero(&PIT))?;
-    let Ok((layout, products)) = make_set(alloc, 3, inputs.as_mut_slice(), &[], &mut out) else {
-        Printed::new(out.as_slice(), 0)?;
-        return Err("nothing made".into());
-    };
+    let (layout, products) = made_of_the_pit(alloc, &mut out)?;
     let status = write_set(alloc, &layout, &products, files.as_mut_slice(), &mut out);
     let lengths = lengths_of(files.as_slice());
     Ok((Printed::new(out.as_slice(), status)?, lengths))
@@ -260,18 +297,29 @@ fn first_wrong(
     })
 }
 
+/// Ends the test where the first header and the rasters have other lengths than they have to.
+fn same_lengths(rt: &impl Abort, given: [usize; 6], wanted: [usize; 6]) {
+    assert_eq!(rt; given, wanted);
+}
+
+/// Ends the test where some file is the first wrong one, and tells in which place the file fails.
+fn are_right(rt: &impl Abort, place: usize, first_wrong: Option<usize>) {
+    assert_eq!(rt; first_wrong, None, "{place}");
+}
+
 #[test]
 fn a_file_that_fails_ends_the_writing(rt: HostRuntime) -> Result<(), Fail> {
     let whole = lengths_where_one_fails(rt.alloc(), FILE_COUNT)?.1;
     let [header, con, _, dir, _, acc, _, bas, _, rnk] = whole;
-    assert_eq!(rt;
-        (header, [con, dir, acc, bas, rnk]),
-        (230, [18, 9, 36, 36, 36])
+    same_lengths(
+        &rt,
+        [header, con, dir, acc, bas, rnk],
+        [230, 18, 9, 36, 36, 36],
     );
     for place in 0..FILE_COUNT {
         let (run, lengths) = lengths_where_one_fails(rt.alloc(), place)?;
         same_run(&rt, place as u64, &run, b"failed WriteFailed\n", 3);
-        assert_eq!(rt; first_wrong(place, &lengths, &whole), None, "{place}");
+        are_right(&rt, place, first_wrong(place, &lengths, &whole));
     }
     Ok(())
 }

@@ -113,6 +113,16 @@ pub fn same_line(rt: &impl Abort, case: &str, run: &Printed, line: &str, status:
     );
 }
 
+/// Ends the test where bytes aren't those that are wanted, and tells of which case it is.
+pub fn same_bytes(rt: &impl Abort, case: &str, bytes: &[u8], wanted: &[u8]) {
+    assert_eq!(rt; bytes, wanted, "{case}");
+}
+
+/// Ends the test where something doesn't hold, and tells of which case it is.
+pub fn holds(rt: &impl Abort, case: &str, is_so: bool) {
+    assert!(rt; is_so, "{case}");
+}
+
 /// What a check with this list of sinks prints.
 pub fn check_printed<R: ByteSource>(
     alloc: Global,

@@ -24,13 +24,16 @@ fn same_text(rt: &impl Abort, given: &[u8], wanted: &str) {
     assert_eq!(rt; given, wanted.as_bytes(), "{wanted}");
 }
 
+/// How many rows end within so many bytes.
+static ROWS_WITHIN: [(u64, u64); 6] = [(0, 0), (12, 0), (13, 1), (22, 1), (23, 2), (33, 3)];
+
 #[test]
 fn rows_end_behind_what_is_skipped(rt: HostRuntime) -> Result<(), Fail> {
     let Ok(header) = parse_header(HEADER) else {
         return Err("a header".into());
     };
     let ends = raster_row_ends(&header);
-    for (bytes, rows) in [(0, 0), (12, 0), (13, 1), (22, 1), (23, 2), (33, 3)] {
+    for &(bytes, rows) in &ROWS_WITHIN {
         same_number(&rt, bytes, ends.rows_within(bytes), rows);
     }
     let none = RowEnds { first: 0, each: 0 };

@@ -3,7 +3,8 @@
 ghost use Rattle.std.specs.Prelude.{None};
 ghost use Rattle.drain_device.specs.Counts.{no_faults};
 
-use crate::making::{at_zero, make};
+use crate::inputs::at_zero;
+use crate::making::make;
 use crate::printed::{check_printed, files_of};
 use drain_device::{ByteList, ByteSource, DeviceFault, SliceSource, VecSink};
 use drain_grid::{Held, PerProduct};

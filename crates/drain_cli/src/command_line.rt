@@ -1,10 +1,10 @@
 //! The words of the command line: which command is asked for.
 
+use crate::commands::{DEFAULT_SIDE, EXPLAIN, command, program};
+use crate::explain_texts;
 use crate::file_paths::map_stem;
-use crate::{explain_texts, help_texts};
-use clap::builder::ValueParser;
 use clap::error::ErrorKind;
-use clap::{Arg, ArgAction, ArgMatches, Command, Error};
+use clap::{ArgMatches, Error};
 use std::alloc::{AllocError, Global};
 
 /// What the words ask for.
@@ -53,77 +53,56 @@ pub struct Explained<'a> {
     pub json: bool,
 }
 
-/// The side of a tile where none is given: that of 3 arc seconds, as a number and as it is written in the help.
-const DEFAULT_SIDE: u32 = 1201;
-
-const DEFAULT_SIDE_WORD: &str = "1201";
-
-/// The program's version, and the toolchain whose logic proved it.
-const VERSION: &str = "0.1.0
-proved with rattle-kit-13f logic dac8208d650f15bf";
-
 /// What the words ask for. The first word is the program's own name.
 ///
 /// Help and the version come as an error of their kind, as in `clap`, and so does a fault of the words.
 pub fn parse<'a>(alloc: Global, words: &'a [String]) -> Result<Request<'a>, Error> {
     let matches = program(alloc)?.try_get_matches_from(words)?;
-    if let Some(explain) = matches.subcommand_matches("explain") {
-        return explain_request(alloc, explain);
+    match matches.subcommand_matches("explain") {
+        Some(explain) => explain_request(alloc, explain),
+        None => told(asked_for(alloc, &matches)),
     }
-    Ok(asked_for(alloc, &matches)?)
 }
 
-/// The program and its commands, in the order of its help.
-fn program<'a>(alloc: Global) -> Result<Command<'a>, AllocError> {
-    let program = with(described(alloc)?, audit(alloc))?;
-    let program = with(program, check(alloc))?;
-    let program = with(program, explain(alloc))?;
-    let program = with(program, make(alloc))?;
-    let program = with(program, fill(alloc))?;
-    with(program, header(alloc))
-}
-
-/// The program with one command more, where there was memory for it.
-fn with<'a>(
-    program: Command<'a>,
-    command: Result<Command<'a>, AllocError>,
-) -> Result<Command<'a>, AllocError> {
-    program.subcommand(command?)
-}
-
-/// The program without its commands.
-fn described<'a>(alloc: Global) -> Result<Command<'a>, AllocError> {
-    Ok(
-        Command::new(alloc, "drain")
-            .version(VERSION)
-            .bin_name("drain")?
-            .about(help_texts::ABOUT)
-            .subcommand_required(true)
-            .arg_required_else_help(true),
-    )
+/// What is asked for, or that there was no memory for it.
+fn told(request: Result<Request<'_>, AllocError>) -> Result<Request<'_>, Error> {
+    Ok(request?)
 }
 
 /// What the words that were given ask for, but for those of an explanation.
 fn asked_for<'a>(alloc: Global, matches: &ArgMatches<'a>) -> Result<Request<'a>, AllocError> {
-    if let Some(header) = matches.subcommand_matches("header") {
-        return Ok(Request::Header {
-            path: header.get_str("file").unwrap_or(""),
-        });
-    }
     if let Some(audit) = matches.subcommand_matches("audit") {
-        return Ok(Request::Audit(to_judge(alloc, audit)?));
+        return audit_request(alloc, audit);
     }
     if let Some(check) = matches.subcommand_matches("check") {
-        return Ok(Request::Check(to_judge(alloc, check)?));
+        return check_request(alloc, check);
     }
     if let Some(make) = matches.subcommand_matches("make") {
         return make_request(alloc, make);
+    }
+    Ok(other_request(matches))
+}
+
+/// What is asked for where no rasters are to be judged or made.
+fn other_request<'a>(matches: &ArgMatches<'a>) -> Request<'a> {
+    if let Some(header) = matches.subcommand_matches("header") {
+        return Request::Header {
+            path: header.get_str("file").unwrap_or(""),
+        };
     }
     let side = match matches.subcommand_matches("fill") {
         Some(fill) => side_given(fill),
         None => DEFAULT_SIDE,
     };
-    Ok(Request::Fill { side })
+    Request::Fill { side }
+}
+
+fn audit_request<'a>(alloc: Global, given: &ArgMatches<'a>) -> Result<Request<'a>, AllocError> {
+    Ok(Request::Audit(to_judge(alloc, given)?))
+}
+
+fn check_request<'a>(alloc: Global, given: &ArgMatches<'a>) -> Result<Request<'a>, AllocError> {
+    Ok(Request::Check(to_judge(alloc, given)?))
 }
 
 /// What is to be judged, by the words of an audit or a check.
@@ -155,7 +134,7 @@ fn explain_request<'a>(alloc: Global, given: &ArgMatches<'a>) -> Result<Request<
 
 /// The fault of words that name a map by another ending.
 fn bad_map(alloc: Global) -> Result<Error, AllocError> {
-    let mut command = explain(alloc)?.bin_name("drain explain")?;
+    let mut command = command(alloc, &EXPLAIN)?.bin_name("drain explain")?;
     command.error(ErrorKind::ValueValidation, explain_texts::BAD_MAP)
 }
 
@@ -180,140 +159,4 @@ fn given_tiles<'a>(alloc: Global, given: &ArgMatches<'a>) -> Result<Vec<&'a str>
         Some(tiles) => Vec::from_slice(alloc, tiles),
         None => Ok(Vec::new(alloc)),
     }
-}
-
-fn side<'a>(alloc: Global) -> Arg<'a> {
-    Arg::new(alloc, "side")
-        .long("side")
-        .value_name("N")
-        .value_parser(clap::value_parser!(u32))
-        .default_value(DEFAULT_SIDE_WORD)
-        .help(help_texts::SIDE_HELP)
-}
-
-fn fill<'a>(alloc: Global) -> Result<Command<'a>, AllocError> {
-    Command::new(alloc, "fill")
-        .about(help_texts::FILL_ABOUT)
-        .long_about(help_texts::FILL_LONG_ABOUT)
-        .after_long_help(help_texts::FILL_AFTER)
-        .arg(side(alloc))
-}
-
-fn file<'a>(alloc: Global) -> Arg<'a> {
-    Arg::new(alloc, "file")
-        .value_name("FILE")
-        .value_parser(ValueParser::NonEmptyString)
-        .required(true)
-        .help(help_texts::FILE_HELP)
-}
-
-fn header<'a>(alloc: Global) -> Result<Command<'a>, AllocError> {
-    Command::new(alloc, "header")
-        .about(help_texts::HEADER_ABOUT)
-        .long_about(help_texts::HEADER_LONG_ABOUT)
-        .after_long_help(help_texts::HEADER_AFTER)
-        .arg(file(alloc))
-}
-
-fn tiles<'a>(alloc: Global) -> Arg<'a> {
-    Arg::new(alloc, "tiles")
-        .value_name("TILE")
-        .value_parser(ValueParser::NonEmptyString)
-        .action(ArgAction::Append)
-        .help(help_texts::TILES_HELP)
-}
-
-fn products<'a>(alloc: Global) -> Arg<'a> {
-    Arg::new(alloc, "products")
-        .long("products")
-        .value_name("DIR")
-        .value_parser(ValueParser::NonEmptyString)
-        .required(true)
-        .help(help_texts::PRODUCTS_HELP)
-}
-
-fn sinks<'a>(alloc: Global) -> Arg<'a> {
-    Arg::new(alloc, "sinks")
-        .long("sinks")
-        .value_name("FILE")
-        .value_parser(ValueParser::NonEmptyString)
-        .help(help_texts::SINKS_HELP)
-}
-
-fn progress<'a>(alloc: Global) -> Arg<'a> {
-    Arg::new(alloc, "progress")
-        .long("progress")
-        .action(ArgAction::SetTrue)
-        .help(help_texts::PROGRESS_HELP)
-}
-
-fn audit<'a>(alloc: Global) -> Result<Command<'a>, AllocError> {
-    let command = Command::new(alloc, "audit")
-        .about(help_texts::AUDIT_ABOUT)
-        .long_about(help_texts::AUDIT_LONG_ABOUT)
-        .after_long_help(help_texts::AUDIT_AFTER);
-    judging(alloc, command)
-}
-
-fn check<'a>(alloc: Global) -> Result<Command<'a>, AllocError> {
-    let command = Command::new(alloc, "check")
-        .about(help_texts::CHECK_ABOUT)
-        .long_about(help_texts::CHECK_LONG_ABOUT)
-        .after_long_help(help_texts::CHECK_AFTER);
-    judging(alloc, command)
-}
-
-fn explain<'a>(alloc: Global) -> Result<Command<'a>, AllocError> {
-    let command = Command::new(alloc, "explain")
-        .about(explain_texts::ABOUT)
-        .long_about(explain_texts::LONG_ABOUT)
-        .after_long_help(explain_texts::AFTER);
-    let command = judging(alloc, command)?;
-    command.arg(map(alloc))?.arg(json(alloc))
-}
-
-fn map<'a>(alloc: Global) -> Arg<'a> {
-    Arg::new(alloc, "map")
-        .long("map")
-        .value_name("FILE")
-        .value_parser(ValueParser::NonEmptyString)
-        .help(explain_texts::MAP_HELP)
-}
-
-fn json<'a>(alloc: Global) -> Arg<'a> {
-    Arg::new(alloc, "json")
-        .long("json")
-        .action(ArgAction::SetTrue)
-        .help(explain_texts::JSON_HELP)
-}
-
-/// The command with the words that tell what is to be judged.
-fn judging<'a>(alloc: Global, command: Command<'a>) -> Result<Command<'a>, AllocError> {
-    command
-        .arg(side(alloc))?
-        .arg(products(alloc))?
-        .arg(sinks(alloc))?
-        .arg(progress(alloc))?
-        .arg(tiles(alloc))
-}
-
-fn out<'a>(alloc: Global) -> Arg<'a> {
-    Arg::new(alloc, "out")
-        .long("out")
-        .value_name("DIR")
-        .value_parser(ValueParser::NonEmptyString)
-        .required(true)
-        .help(help_texts::OUT_HELP)
-}
-
-fn make<'a>(alloc: Global) -> Result<Command<'a>, AllocError> {
-    Command::new(alloc, "make")
-        .about(help_texts::MAKE_ABOUT)
-        .long_about(help_texts::MAKE_LONG_ABOUT)
-        .after_long_help(help_texts::MAKE_AFTER)
-        .arg(side(alloc))?
-        .arg(out(alloc))?
-        .arg(sinks(alloc))?
-        .arg(progress(alloc))?
-        .arg(tiles(alloc))
 }

@@ -15,7 +15,7 @@ use drain_verdict::Refusal;
 use std::alloc::Global;
 
 /// How an explanation is told.
-#[derive(Clone, Copy, PartialEq, Eq, Debug)]
+#[derive(Clone, Copy)]
 pub enum Form {
     /// As a page to read.
     Text,
@@ -28,7 +28,7 @@ const NO_OBJECT: &str =
     "{\"answer\":\"failed OutOfMemory\",\"refusal\":null,\"rows\":null,\"cols\":null,\"ranks\":null,\"rules\":[],\"products\":[],\"patch\":null,\"expected\":null,\"run\":null}\n";
 
 /// Why a map wasn't saved.
-#[derive(PartialEq, Eq, Debug, Drop)]
+#[derive(Drop)]
 pub enum MapFault {
     /// The file at this path can't be created.
     Open(String),

@@ -2,6 +2,7 @@
 #![tactic(auto)]
 
 pub mod command_line;
+mod commands;
 pub mod explain_files;
 pub mod explain_page;
 pub mod explain_texts;

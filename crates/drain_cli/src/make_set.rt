@@ -21,7 +21,7 @@ use drain_verdict::{Refusal, Verdict, read_mosaic, report};
 use std::alloc::Global;
 
 /// Why there is no product set.
-#[derive(Clone, Copy, PartialEq, Eq, Debug)]
+#[derive(Clone, Copy)]
 pub enum NoSet {
     /// Of the tiles.
     Tiles(Refusal),

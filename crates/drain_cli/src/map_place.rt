@@ -6,7 +6,7 @@ use crate::command_line::Judged;
 use crate::file_paths::{header_path, map_path, raster_path};
 use crate::open_files::OpenFault;
 use drain_device::BodyFault;
-use drain_grid::Held;
+use drain_grid::{Held, Product};
 use drain_maker::product_files::Part;
 use std::fs;
 use std::io::ErrorKind;
@@ -57,13 +57,26 @@ fn is_tile_or_list(
 /// Whether the file is a header or a raster of a product in this folder.
 fn is_of_products(rt: &HostRuntime, folder: &str, file: &PathBuf) -> Result<bool, OpenFault> {
     for held in Held::ALL {
-        let header = header_path(rt.alloc(), folder, held.product())?;
-        let raster = raster_path(rt.alloc(), folder, held.product())?;
-        if leads_to(rt, header.as_str(), file)? || leads_to(rt, raster.as_str(), file)? {
+        if is_of_product(rt, folder, held.product(), file)? {
             return Ok(true);
         }
     }
     Ok(false)
+}
+
+/// Whether the file is the header or the raster of the product.
+fn is_of_product(
+    rt: &HostRuntime,
+    folder: &str,
+    product: Product,
+    file: &PathBuf,
+) -> Result<bool, OpenFault> {
+    let header = header_path(rt.alloc(), folder, product)?;
+    if leads_to(rt, header.as_str(), file)? {
+        return Ok(true);
+    }
+    let raster = raster_path(rt.alloc(), folder, product)?;
+    leads_to(rt, raster.as_str(), file)
 }
 
 /// Whether the path leads to this file.

@@ -28,13 +28,7 @@ pub fn open_audit<'a>(
     gauge: &'a Gauge<'a>,
 ) -> Result<OpenFiles<'a, AuditProducts<InputFile<'a>>>, OpenFault> {
     let tiles = open_tiles(rt, judged.tiles.as_slice())?;
-    let folder = judged.products;
-    let mut products = AuditProducts {
-        con: open_product(rt, folder, Product::Con)?,
-        dir: open_product(rt, folder, Product::Dir)?,
-        acc: open_product(rt, folder, Product::Acc)?,
-        bas: open_product(rt, folder, Product::Bas)?,
-    };
+    let mut products = open_four(rt, judged.products)?;
     watch_con(&mut products.con, gauge);
     let sinks = list_at(rt, judged.sinks)?;
     Ok(OpenFiles {
@@ -42,6 +36,28 @@ pub fn open_audit<'a>(
         products,
         sinks,
     })
+}
+
+/// Opens the products of an audit.
+fn open_four<'a>(
+    rt: &HostRuntime,
+    folder: &str,
+) -> Result<AuditProducts<InputFile<'a>>, OpenFault> {
+    let (con, dir) = open_two(rt, folder, Product::Con, Product::Dir)?;
+    let (acc, bas) = open_two(rt, folder, Product::Acc, Product::Bas)?;
+    Ok(AuditProducts { con, dir, acc, bas })
+}
+
+/// Opens two products, one after the other.
+fn open_two<'a>(
+    rt: &HostRuntime,
+    folder: &str,
+    first: Product,
+    second: Product,
+) -> Result<(RasterInput<InputFile<'a>>, RasterInput<InputFile<'a>>), OpenFault> {
+    let first = open_product(rt, folder, first)?;
+    let second = open_product(rt, folder, second)?;
+    Ok((first, second))
 }
 
 /// Opens the files of a check: those of all five products. The first fault ends it. The rows of con are watched.

@@ -1,6 +1,10 @@
 //! What the program `drain` does: the words are read, the standard streams and the named files opened as devices and handed to a
 //! run, and its status answered. What a run does is in the other modules, each with its contract.
 
+ghost use Rattle.std.specs.Prelude.{◌≡◌, IfOk};
+ghost use Rattle.drain_maker.specs.Made.{CanBeWritten};
+ghost use Rattle.drain_mosaic.specs.Tiling.{extent_of};
+
 use crate::command_line;
 use crate::command_line::{Judged, Request};
 use crate::explain_files::explain_files;
@@ -20,6 +24,8 @@ use crate::write_set::write_set;
 use clap::Error;
 use clap::error::ErrorKind;
 use drain_device::{BodyFault, ByteSink, Reader, Writer, write_nothing};
+use drain_grid::ProductSet;
+use drain_mosaic::Layout;
 use std::fs::File;
 use std::io;
 
@@ -144,29 +150,55 @@ fn make_from_files<'a>(
     if write_nothing(out).is_err() {
         return Status::Failed.code();
     }
+    match made_of_files(rt, gauge, side, sinks, tiles, out) {
+        Ok((layout, products)) => write_into(rt, gauge, folder, &layout, &products, out),
+        Err(status) => status,
+    }
+}
+
+/// The products of the tiles at these paths, which are closed again; or it prints why there are none, and answers the exit status.
+fn made_of_files<'a>(
+    rt: &HostRuntime,
+    gauge: &'a Gauge<'a>,
+    side: u32,
+    sinks: Option<&str>,
+    tiles: &[&str],
+    out: &mut impl ByteSink,
+) -> Result<(Layout, ProductSet), u8>
+    ensures same_shape { IfOk result (λ set. set.1.con.extent ≡ extent_of set.0) }
+    ensures written { IfOk result (λ set. CanBeWritten set.0 set.1) }
+{
     let mut tiles = match open_tiles(rt, tiles) {
         Ok(tiles) => tiles,
-        Err(fault) => return print_open_fault(rt, fault, out),
+        Err(fault) => return Err(print_open_fault(rt, fault, out)),
     };
     watch_tiles(tiles.as_mut_slice(), side, gauge);
-    let sinks = match list_at(rt, sinks) {
-        Ok(sinks) => sinks,
-        Err(fault) => return print_open_fault(rt, fault, out),
-    };
-    let made = make_set(
-        rt.alloc(),
-        side,
-        tiles.as_mut_slice(),
-        sinks.as_slice(),
-        out,
-    );
-    let (layout, products) = match made {
-        Ok(set) => set,
-        Err(status) => return status,
-    };
-    drop(tiles);
-    match create_files(rt, folder, &layout, gauge) {
-        Ok(mut files) => write_set(rt.alloc(), &layout, &products, files.as_mut_slice(), out),
+    match list_at(rt, sinks) {
+        Ok(sinks) => make_set(
+            rt.alloc(),
+            side,
+            tiles.as_mut_slice(),
+            sinks.as_slice(),
+            out,
+        ),
+        Err(fault) => Err(print_open_fault(rt, fault, out)),
+    }
+}
+
+/// Creates the files of the products in a folder and writes them, and answers the exit status.
+fn write_into<'a>(
+    rt: &HostRuntime,
+    gauge: &'a Gauge<'a>,
+    folder: &str,
+    layout: &Layout,
+    products: &ProductSet,
+    out: &mut impl ByteSink,
+) -> u8
+    requires same_shape { products.now.con.extent ≡ extent_of layout.now }
+    requires written { CanBeWritten layout.now products.now }
+{
+    match create_files(rt, folder, layout, gauge) {
+        Ok(mut files) => write_set(rt.alloc(), layout, products, files.as_mut_slice(), out),
         Err(fault) => print_open_fault(rt, fault, out),
     }
 }

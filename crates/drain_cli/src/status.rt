@@ -6,7 +6,7 @@ ghost use Rattle.drain_cli.specs.Statuses.{code_of, refusal_status};
 use drain_verdict::Refusal;
 
 /// How a run of the program ended.
-#[derive(Clone, Copy, PartialEq, Eq, Debug)]
+#[derive(Clone, Copy)]
 pub enum Status {
     /// Accepted, or printed.
     Done,

@@ -6,7 +6,7 @@ ghost use Rattle.drain_cli.specs.Telling.{before_row};
 use drain_verdict::line::{Line, push_number, words};
 
 /// Which rows are counted.
-#[derive(Clone, Copy, PartialEq, Eq, Debug)]
+#[derive(Clone, Copy)]
 pub enum Counted {
     /// Rows of con that were read to be judged.
     Judged,
