@@ -10,10 +10,18 @@ fn cell(dir: i64, acc: i64) -> Option<CellValues> {
     CellValues::new(Some(0), false, 0, dir, acc, 0, 0, 0)
 }
 
+/// A data cell with this accumulation that leads nowhere.
+fn here(acc: i64) -> Result<CellValues, Fail> {
+    match cell(0, acc) {
+        Some(values) => Ok(values),
+        None => Err("values".into()),
+    }
+}
+
 /// The patch of a cell with this accumulation, whose eight neighbours lead to it.
 fn meeting_place(acc: i64) -> Result<Patch, Fail> {
     Ok(Patch {
-        here: cell(0, acc).ok_or("values")?,
+        here: here(acc)?,
         around: [
             cell(16, 1),
             cell(32, 1),
@@ -52,7 +60,7 @@ fn counts_the_cell_and_what_its_neighbors_hand_on(rt: HostRuntime) -> Result<(),
     same_rule(&rt, "who leads away hands on nothing", away, None);
 
     let greatest = Patch {
-        here: cell(0, 4294967295).ok_or("values")?,
+        here: here(4294967295)?,
         around: [cell(16, 4294967295); 8],
     };
     let one_more = fault(&greatest);

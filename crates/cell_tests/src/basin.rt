@@ -8,7 +8,9 @@ use std::test::Fail;
 
 /// The patch of a cell with this direction and label 5, whose east has label 7 and whose other neighbours have label 5.
 fn patch(dir: i64) -> Result<Patch, Fail> {
-    let here = CellValues::new(Some(0), false, 0, dir, 1, 5, 0, 0).ok_or("values")?;
+    let Some(here) = CellValues::new(Some(0), false, 0, dir, 1, 5, 0, 0) else {
+        return Err("values".into());
+    };
     let mut around = [Some(here); 8];
     around[0] = CellValues::new(Some(0), false, 0, 0, 1, 7, 0, 0);
     Ok(Patch { here, around })

@@ -30,42 +30,20 @@ fn is_lost(
     Ok(())
 }
 
+/// Voids and directions of two rows and three columns, the cell from which the run of the first goes nowhere, and why.
+static LOST: [([u8; 6], [u8; 6], (u32, u32), LostBy); 4] = [
+    ([0; 6], [1, 1, 3, 0, 0, 0], (0, 2), LostBy::NoCode),
+    ([0; 6], [1, 1, 1, 0, 0, 0], (0, 2), LostBy::Outside),
+    ([0; 6], [64, 0, 0, 0, 0, 0], (0, 0), LostBy::Outside),
+    ([0, 0, 0, 0, 1, 0], [1, 4, 0, 0, 0, 0], (0, 1), LostBy::Void),
+];
+
 #[test]
 fn tells_where_a_run_is_lost(rt: HostRuntime) -> Result<(), Fail> {
-    let alloc = rt.alloc();
-    let land = &[0; 6];
-    is_lost(
-        &rt,
-        alloc,
-        land,
-        &[1, 1, 3, 0, 0, 0],
-        (0, 2),
-        LostBy::NoCode,
-    )?;
-    is_lost(
-        &rt,
-        alloc,
-        land,
-        &[1, 1, 1, 0, 0, 0],
-        (0, 2),
-        LostBy::Outside,
-    )?;
-    is_lost(
-        &rt,
-        alloc,
-        land,
-        &[64, 0, 0, 0, 0, 0],
-        (0, 0),
-        LostBy::Outside,
-    )?;
-    is_lost(
-        &rt,
-        alloc,
-        &[0, 0, 0, 0, 1, 0],
-        &[1, 4, 0, 0, 0, 0],
-        (0, 1),
-        LostBy::Void,
-    )
+    for &(voids, codes, at, why) in &LOST {
+        is_lost(&rt, rt.alloc(), &voids, &codes, at, why)?;
+    }
+    Ok(())
 }
 
 /// The cells of a ring and how many it has, none where the run doesn't go round.

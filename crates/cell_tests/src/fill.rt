@@ -123,7 +123,9 @@ static PIT: [(&str, Beside, i64, i64, i64, Option<Rule>, Option<Rule>); 25] = [
 #[test]
 fn cells_in_a_pit(rt: HostRuntime) -> Result<(), Fail> {
     for &(name, east, con, spl, rnk, wanted, without_spill) in &PIT {
-        let here = cell(Some(1), con, spl, rnk).ok_or(name)?;
+        let Some(here) = cell(Some(1), con, spl, rnk) else {
+            return Err(name.into());
+        };
         let shown = patch(here, east, Rim);
         same_rule(&rt, name, fault(&shown), wanted);
         same_without_spill(&rt, name, &shown, without_spill);
@@ -131,26 +133,25 @@ fn cells_in_a_pit(rt: HostRuntime) -> Result<(), Fail> {
     Ok(())
 }
 
+/// The greatest number that a pixel spells.
+const MOST: i64 = 4294967295;
+
+/// An elevation, the numbers con, spl and rnk, what stands beside the cell, and the rule that fails.
+static AT_BOUNDS: [(&str, Option<i16>, i64, i64, i64, Beside, Option<Rule>); 5] = [
+    ("a void", None, -32768, 255, MOST, Least, None),
+    ("a void with numbers", None, 0, 3, 0, Outside, None),
+    ("greatest", Some(1), MOST, 128, MOST, Greatest, None),
+    ("deepest", Some(-32767), -32767, 64, MOST, Least, None),
+    ("least", Some(1), -2147483648, 64, 0, Least, BELOW),
+];
+
 /// Without spill parents the same rules fail.
 #[test]
 fn voids_and_bounds(rt: HostRuntime) -> Result<(), Fail> {
-    let below = Some(Rule::BelowGround);
-    for (name, z, con, spl, rnk, beside, wanted) in [
-        ("a void", None, -32768, 255, 4294967295, Least, None),
-        ("a void with numbers", None, 0, 3, 0, Outside, None),
-        (
-            "greatest",
-            Some(1),
-            4294967295,
-            128,
-            4294967295,
-            Greatest,
-            None,
-        ),
-        ("deepest", Some(-32767), -32767, 64, 4294967295, Least, None),
-        ("least", Some(1), -2147483648, 64, 0, Least, below),
-    ] {
-        let here = cell(z, con, spl, rnk).ok_or("a number that no pixel spells")?;
+    for &(name, z, con, spl, rnk, beside, wanted) in &AT_BOUNDS {
+        let Some(here) = cell(z, con, spl, rnk) else {
+            return Err("a number that no pixel spells".into());
+        };
         let shown = patch(here, beside, beside);
         same_rule(&rt, name, fault(&shown), wanted);
         same_without_spill(&rt, name, &shown, wanted);
@@ -166,24 +167,24 @@ fn first_place(con: &[i16], z: &[i16]) -> Option<Option<usize>> {
     Some(first_below(con, z))
 }
 
+/// Slices of con and of the ground, and the first place below it.
+static PLACES: [(&str, &[i16], &[i16], Option<usize>); 6] = [
+    ("the greatest over the least", &[32767], &[-32768], None),
+    ("the least below the greatest", &[-32768], &[32767], Some(0)),
+    ("one of three", &[5, 4, 3], &[5, 4, 4], Some(2)),
+    ("two of three", &[5, 3, 3], &[5, 4, 4], Some(1)),
+    ("no places", &[], &[], None),
+    (
+        "the last of 17",
+        &[0, 0, 0, 0, 0, 0, 0, 0, 0, 0, 0, 0, 0, 0, 0, 0, -1],
+        &[0; 17],
+        Some(16),
+    ),
+];
+
 #[test]
 fn places_below_the_ground(rt: HostRuntime) -> Result<(), Fail> {
-    let mut con = [0; 17];
-    con[16] = -1;
-    let cases: [(&str, &[i16], &[i16], Option<usize>); 6] = [
-        ("the greatest over the least", &[32767], &[-32768], None),
-        ("the least below the greatest", &[-32768], &[32767], Some(0)),
-        ("one of three", &[5, 4, 3], &[5, 4, 4], Some(2)),
-        ("two of three", &[5, 3, 3], &[5, 4, 4], Some(1)),
-        ("no places", &[], &[], None),
-        (
-            "the last of 17",
-            con.as_slice(),
-            [0; 17].as_slice(),
-            Some(16),
-        ),
-    ];
-    for (name, con, z, wanted) in cases {
+    for &(name, con, z, wanted) in &PLACES {
         same(&rt, name, first_place(con, z), Some(wanted));
     }
     Ok(())

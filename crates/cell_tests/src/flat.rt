@@ -37,6 +37,21 @@ fn here(dir: i64, rnk: i64) -> Result<CellValues, Fail> {
     }
 }
 
+/// Of the flat below, the ranks around the second cell of the second row, from the east clockwise.
+const SECOND: [i64; 8] = [2, 1, 1, 0, 0, 0, 0, 0];
+
+/// The same around its third.
+const THIRD: [i64; 8] = [0, 0, 1, 1, 1, 0, 0, 0];
+
+/// Codes and ranks of a cell, with the ranks around it and what the rule says.
+static OF_A_FLAT: [(&str, i64, i64, [i64; 8], Told); 5] = [
+    ("to a greater rank", 1, 1, SECOND, BY_RANK),
+    ("to an equal rank", 4, 1, SECOND, BY_RANK),
+    ("to the edge", 16, 1, SECOND, HOLDS),
+    ("to a smaller rank", 16, 2, THIRD, HOLDS),
+    ("no direction", 0, 1, SECOND, FAILS),
+];
+
 /// Cells of a flat of four by four at height 5, with these ranks:
 ///
 /// ```text
@@ -47,16 +62,7 @@ fn here(dir: i64, rnk: i64) -> Result<CellValues, Fail> {
 /// ```
 #[test]
 fn cells_of_a_flat(rt: HostRuntime) -> Result<(), Fail> {
-    // From the second row: its second cell, and its third. The ranks around go from the east clockwise.
-    let second = [2, 1, 1, 0, 0, 0, 0, 0];
-    let third = [0, 0, 1, 1, 1, 0, 0, 0];
-    for (name, dir, rnk, ranks, wanted) in [
-        ("to a greater rank", 1, 1, second, BY_RANK),
-        ("to an equal rank", 4, 1, second, BY_RANK),
-        ("to the edge", 16, 1, second, HOLDS),
-        ("to a smaller rank", 16, 2, third, HOLDS),
-        ("no direction", 0, 1, second, FAILS),
-    ] {
+    for &(name, dir, rnk, ranks, wanted) in &OF_A_FLAT {
         let patch = Patch {
             here: here(dir, rnk)?,
             around: [
@@ -143,8 +149,11 @@ fn what_a_direction_leads_to(rt: HostRuntime) -> Result<(), Fail> {
 
 #[test]
 fn a_void(rt: HostRuntime) -> Result<(), Fail> {
+    let Some(here) = cell(None, -32768, 255, 4294967295) else {
+        return Err("a void".into());
+    };
     let patch = Patch {
-        here: cell(None, -32768, 255, 4294967295).ok_or("a void")?,
+        here,
         around: [level(0); 8],
     };
     same(&rt, "a void", told(&patch), HOLDS);

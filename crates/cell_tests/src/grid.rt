@@ -1,26 +1,28 @@
 //! Worked values of the small calls, from the tables of the formats that they come from.
 
-ghost use Rattle.std.specs.Prelude.{◌≡◌, IfOk};
+ghost use Rattle.std.specs.Prelude.{◌≡◌};
 
 use crate::agree::same;
 use drain_grid::tile::{height_from, is_side};
 use drain_grid::{
-    Cell, CellValues, Code, Direction, Elevation, Held, NoData, Patch, PerProduct, Product,
-    ProductSet, Raster, Rule, Shape, Sinks, VOID, parse_sinks,
+    Cell, CellValues, Code, Direction, Held, NoData, Patch, PerProduct, Product, Raster, Rule,
+    Shape,
 };
-use std::alloc::{AllocError, Global};
 use std::test::Fail;
+
+/// Rows and columns, and whether they make a shape.
+static SHAPES: [(u32, u32, bool); 6] = [
+    (1, 1, true),
+    (28801, 28801, true),
+    (0, 5, false),
+    (5, 0, false),
+    (28802, 5, false),
+    (5, 28802, false),
+];
 
 #[test]
 fn shapes_and_their_cells(rt: HostRuntime) -> Result<(), Fail> {
-    for (rows, cols, is_shape) in [
-        (1, 1, true),
-        (28801, 28801, true),
-        (0, 5, false),
-        (5, 0, false),
-        (28802, 5, false),
-        (5, 28802, false),
-    ] {
+    for &(rows, cols, is_shape) in &SHAPES {
         same(
             &rt,
             (rows, cols),
@@ -28,7 +30,9 @@ fn shapes_and_their_cells(rt: HostRuntime) -> Result<(), Fail> {
             is_shape,
         );
     }
-    let shape = Shape::new(3, 4).ok_or("a shape")?;
+    let Some(shape) = Shape::new(3, 4) else {
+        return Err("a shape".into());
+    };
     let cell = Cell { row: 1, col: 2 };
     let sizes = ((shape.rows(), shape.cols()), shape.cells());
     let given = (sizes, shape.index(cell), shape.cell(6));
@@ -36,20 +40,24 @@ fn shapes_and_their_cells(rt: HostRuntime) -> Result<(), Fail> {
     Ok(())
 }
 
+/// A direction, its code, whether it is straight, and the row and the column that it leads to from the middle of three by three cells.
+static AROUND: [(Direction, i64, bool, u32, u32); 8] = [
+    (Direction::East, 1, true, 1, 2),
+    (Direction::SouthEast, 2, false, 2, 2),
+    (Direction::South, 4, true, 2, 1),
+    (Direction::SouthWest, 8, false, 2, 0),
+    (Direction::West, 16, true, 1, 0),
+    (Direction::NorthWest, 32, false, 0, 0),
+    (Direction::North, 64, true, 0, 1),
+    (Direction::NorthEast, 128, false, 0, 2),
+];
+
 #[test]
 fn steps_codes_and_what_they_name(rt: HostRuntime) -> Result<(), Fail> {
-    let shape = Shape::new(3, 3).ok_or("a shape")?;
-    let around = [
-        (Direction::East, 1, true, 1, 2),
-        (Direction::SouthEast, 2, false, 2, 2),
-        (Direction::South, 4, true, 2, 1),
-        (Direction::SouthWest, 8, false, 2, 0),
-        (Direction::West, 16, true, 1, 0),
-        (Direction::NorthWest, 32, false, 0, 0),
-        (Direction::North, 64, true, 0, 1),
-        (Direction::NorthEast, 128, false, 0, 2),
-    ];
-    for (direction, code, straight, row, col) in around {
+    let Some(shape) = Shape::new(3, 3) else {
+        return Err("a shape".into());
+    };
+    for &(direction, code, straight, row, col) in &AROUND {
         let told = (direction.code(), direction.is_straight());
         same(&rt, direction, told, (code, straight));
         let centre = Cell { row: 1, col: 1 };
@@ -62,30 +70,36 @@ fn steps_codes_and_what_they_name(rt: HostRuntime) -> Result<(), Fail> {
     Ok(())
 }
 
+/// Numbers, each with the direction that it names.
+static DIRECTIONS: [(i64, Direction); 8] = [
+    (1, Direction::East),
+    (2, Direction::SouthEast),
+    (4, Direction::South),
+    (8, Direction::SouthWest),
+    (16, Direction::West),
+    (32, Direction::NorthWest),
+    (64, Direction::North),
+    (128, Direction::NorthEast),
+];
+
+/// Numbers that name no direction, each with its code.
+static NO_DIRECTIONS: [(i64, Option<Code>); 6] = [
+    (0, Some(Code::Outlet)),
+    (3, None),
+    (255, None),
+    (-128, None),
+    (256, None),
+    (-1, None),
+];
+
 #[test]
 fn codes_of_numbers(rt: HostRuntime) -> Result<(), Fail> {
-    for (number, direction) in [
-        (1, Direction::East),
-        (2, Direction::SouthEast),
-        (4, Direction::South),
-        (8, Direction::SouthWest),
-        (16, Direction::West),
-        (32, Direction::NorthWest),
-        (64, Direction::North),
-        (128, Direction::NorthEast),
-    ] {
+    for &(number, direction) in &DIRECTIONS {
         let given = (Code::from_number(number), Code::direction_named(number));
         let wanted = (Some(Code::To(direction)), Some(direction));
         same(&rt, number, given, wanted);
     }
-    for (number, code) in [
-        (0, Some(Code::Outlet)),
-        (3, None),
-        (255, None),
-        (-128, None),
-        (256, None),
-        (-1, None),
-    ] {
+    for &(number, code) in &NO_DIRECTIONS {
         let given = (Code::from_number(number), Code::direction_named(number));
         same(&rt, number, given, (code, None));
     }
@@ -123,7 +137,9 @@ fn level(height: i16) -> Option<CellValues> {
 
 #[test]
 fn open_and_lower_cells(rt: HostRuntime) -> Result<(), Fail> {
-    let here = level(5).ok_or("values")?;
+    let Some(here) = level(5) else {
+        return Err("values".into());
+    };
     let void = CellValues::new(None, false, -32768, 255, 0, 0, 255, 4294967295);
     let mut patch = Patch {
         here,
@@ -153,24 +169,39 @@ fn open_and_lower_cells(rt: HostRuntime) -> Result<(), Fail> {
 pub fn values(
     z: Option<i16>,
     [con, dir, acc, bas, spl, rnk]: [i64; 6],
-) -> Result<CellValues, &'static str> {
-    CellValues::new(z, false, con, dir, acc, bas, spl, rnk).ok_or("values")
+) -> Result<CellValues, Fail> {
+    match CellValues::new(z, false, con, dir, acc, bas, spl, rnk) {
+        Some(values) => Ok(values),
+        None => Err("values".into()),
+    }
 }
+
+/// The names of the products in their order, and the numbers that stand for no data.
+static DEFAULTS: [(&str, i64); 6] = [
+    ("con", -32768),
+    ("dir", 255),
+    ("acc", 0),
+    ("bas", 0),
+    ("spl", 255),
+    ("rnk", 4294967295),
+];
 
 #[test]
 fn products_and_their_defaults(rt: HostRuntime) {
-    let defaults = NoData::defaults();
-    let [con, dir, acc, bas, spl, rnk] = Product::ALL;
-    for (product, name, number, of_defaults) in [
-        (con, "con", -32768, defaults.con),
-        (dir, "dir", 255, defaults.dir),
-        (acc, "acc", 0, defaults.acc),
-        (bas, "bas", 0, defaults.bas),
-        (spl, "spl", 255, defaults.spl),
-        (rnk, "rnk", 4294967295, defaults.rnk),
-    ] {
+    let NoData {
+        con,
+        dir,
+        acc,
+        bas,
+        spl,
+        rnk,
+    } = NoData::defaults();
+    let of_defaults = [con, dir, acc, bas, spl, rnk];
+    for place in 0..6 {
+        let (name, number) = DEFAULTS[place];
+        let product = Product::ALL[place];
         same(&rt, name, product.name(), name);
-        let numbers = (product.default_no_data(), of_defaults);
+        let numbers = (product.default_no_data(), of_defaults[place]);
         same(&rt, name, numbers, (number, number));
     }
 }
@@ -206,7 +237,9 @@ fn one_thing_for_each_product(rt: HostRuntime) -> Result<(), Fail> {
 #[test]
 fn narrow_rasters(rt: HostRuntime) -> Result<(), Fail> {
     let alloc = rt.alloc();
-    let shape = Shape::new(1, 2).ok_or("a shape")?;
+    let Some(shape) = Shape::new(1, 2) else {
+        return Err("a shape".into());
+    };
     let bytes = Raster::of_bytes(shape, 255, vec![in alloc; 0, 255]?);
     same(&rt, "bytes", west_and_east(&bytes), (0, 255));
     let heights = Raster::of_heights(shape, -1, vec![in alloc; -32768, 32767]?);
@@ -223,133 +256,4 @@ fn west_and_east(raster: &Raster) -> (i64, i64)
     let west = Cell { row: 0, col: 0 };
     let east = Cell { row: 0, col: 1 };
     (raster.value(west), raster.value(east))
-}
-
-/// A raster of two by two cells, none of which has the number for no data.
-fn two_by_two(alloc: Global, shape: Shape, numbers: [u16; 4]) -> Result<Raster, AllocError>
-    requires { shape ≡ record { rows = 2; cols = 2 } }
-    ensures { IfOk result (λ raster. raster.extent ≡ shape) }
-{
-    let [a, b, c, d] = numbers;
-    let pixels = vec![in alloc; a as i64, b as i64, c as i64, d as i64]?;
-    Ok(Raster::new(shape, -1, pixels))
-}
-
-/// Products whose numbers tell the product, by their tens, and the cell.
-fn numbered(alloc: Global, shape: Shape) -> Result<ProductSet, AllocError>
-    requires { shape ≡ record { rows = 2; cols = 2 } }
-    ensures { IfOk result (λ products. products.con.extent ≡ shape) }
-{
-    Ok(ProductSet {
-        con: two_by_two(alloc, shape, [10, 11, 12, 13])?,
-        dir: two_by_two(alloc, shape, [20, 21, 22, 23])?,
-        acc: two_by_two(alloc, shape, [30, 31, 32, 33])?,
-        bas: two_by_two(alloc, shape, [40, 41, 42, 43])?,
-        rnk: two_by_two(alloc, shape, [50, 51, 52, 53])?,
-    })
-}
-
-/// The patch of its second cell, with a void to the south-west.
-fn numbered_patch(alloc: Global, sinks: &Sinks) -> Result<Patch, AllocError> {
-    let Some(shape) = Shape::new(2, 2) else {
-        unreachable!()
-    };
-    let elevation = Elevation::new(shape, vec![in alloc; 7, 8, VOID, 9]?);
-    let products = numbered(alloc, shape)?;
-    Ok(products.patch(&elevation, sinks, Cell { row: 0, col: 1 }))
-}
-
-/// Of spill parents, which no set holds, they show 0.
-#[test]
-fn what_whole_rasters_show(rt: HostRuntime) -> Result<(), Fail> {
-    let patch = numbered_patch(rt.alloc(), &Sinks::none(rt.alloc()))?;
-    let here = values(Some(8), [11, 21, 31, 41, 0, 51])?;
-    same(&rt, "here", Some(patch.here), Some(here));
-    for (direction, z, numbers) in [
-        (Direction::West, Some(7), [10, 20, 30, 40, 0, 50]),
-        (Direction::SouthWest, None, [12, 22, 32, 42, 0, 52]),
-        (Direction::South, Some(9), [13, 23, 33, 43, 0, 53]),
-    ] {
-        let wanted = values(z, numbers)?;
-        same(&rt, direction, patch.neighbor(direction), Some(wanted));
-    }
-    for outside in [Direction::East, Direction::North] {
-        same(&rt, outside, patch.neighbor(outside), None);
-    }
-    Ok(())
-}
-
-/// Whether that cell is shown as listed, and its neighbours in the west and the southwest.
-fn shown_as_listed(alloc: Global, text: &str) -> Result<[Option<bool>; 3], Fail> {
-    let sinks = parse_sinks(alloc, text.as_bytes())?;
-    let patch = numbered_patch(alloc, &sinks)?;
-    Ok([
-        Some(patch.here.sink),
-        patch.neighbor(Direction::West).map(|values| values.sink),
-        patch
-            .neighbor(Direction::SouthWest)
-            .map(|values| values.sink),
-    ])
-}
-
-#[test]
-fn listed_cells_of_whole_rasters(rt: HostRuntime) -> Result<(), Fail> {
-    for (text, wanted) in [
-        ("", [false, false, false]),
-        ("0 1\n", [true, false, false]),
-        ("0 0\n0 0", [false, true, false]),
-        ("1 0\n0 1", [true, false, true]),
-        ("0 2\n2 1\n1 1", [false, false, false]),
-    ] {
-        let given = shown_as_listed(rt.alloc(), text)?;
-        same(&rt, text, given, wanted.map(Some));
-    }
-    Ok(())
-}
-
-/// What a product set tells: con's shape and its number at the second cell, the number there of each raster, and that for no data of each product.
-fn numbers_told(alloc: Global) -> Result<(Shape, i64, [i64; 5], NoData), Fail> {
-    let shape = Shape::new(2, 2).ok_or("a shape")?;
-    let products = numbered(alloc, shape)?;
-    let cell = Cell { row: 0, col: 1 };
-    let numbers = [
-        products.raster(Held::Con).value(cell),
-        products.raster(Held::Dir).value(cell),
-        products.raster(Held::Acc).value(cell),
-        products.raster(Held::Bas).value(cell),
-        products.raster(Held::Rnk).value(cell),
-    ];
-    let con = (products.con.shape(), products.con.value(cell));
-    Ok((con.0, con.1, numbers, products.nodata()))
-}
-
-/// Of spill parents, which no set holds, the number for no data is the default one.
-#[test]
-fn what_a_product_set_tells(rt: HostRuntime) -> Result<(), Fail> {
-    let (shape, con, numbers, nodata) = numbers_told(rt.alloc())?;
-    let given = ((shape.rows(), shape.cols()), con, numbers);
-    same(&rt, "products", given, ((2, 2), 11, [11, 21, 31, 41, 51]));
-    let codes = [nodata.dir, nodata.spl];
-    let given = (nodata.con, codes, nodata.acc, nodata.bas, nodata.rnk);
-    same(&rt, "no data", given, (-1, [-1, 255], -1, -1, -1));
-    Ok(())
-}
-
-/// What elevations tell: their shape, and the heights of their two cells, of which one is a void.
-fn heights_told(alloc: Global) -> Result<(Shape, [Option<i16>; 2]), Fail> {
-    let shape = Shape::new(1, 2).ok_or("a shape")?;
-    let elevation = Elevation::new(shape, vec![in alloc; 8, VOID]?);
-    let east = elevation.z(Cell { row: 0, col: 1 });
-    Ok((
-        elevation.shape(),
-        [elevation.z(Cell { row: 0, col: 0 }), east],
-    ))
-}
-
-#[test]
-fn what_elevations_tell(rt: HostRuntime) -> Result<(), Fail> {
-    let (shape, heights) = heights_told(rt.alloc())?;
-    let given = ((shape.rows(), shape.cols()), heights);
-    same(&rt, "elevations", given, ((1, 2), [Some(8), None]));
-    Ok(())
 }

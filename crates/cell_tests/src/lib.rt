@@ -27,3 +27,5 @@ mod runs;
 mod sinks;
 #[cfg(test)]
 mod slope;
+#[cfg(test)]
+mod whole_rasters;

@@ -25,14 +25,38 @@ fn directions(alloc: Global, shape: Shape, codes: &[u8]) -> Result<Raster, Fail>
 fn elevations(alloc: Global, shape: Shape, voids: &[u8]) -> Result<Elevation, Fail>
     ensures { IfOk result (λ elevation. elevation.extent ≡ shape) }
 {
-    let samples: Vec<i16> = voids
-        .iter()
-        .map(|void| if *void == 1 { VOID } else { 0 })
-        .collect(alloc)?;
+    let mut samples = Vec::new(alloc);
+    for void in voids {
+        samples.push(if *void == 1 { VOID } else { 0 })?;
+    }
     if samples.len() != shape.cells() {
         return Err("a sample for each cell".into());
     }
     Ok(Elevation::new(shape, samples))
+}
+
+/// A grid of worked directions.
+#[derive(Drop)]
+struct Grid {
+    shape: Shape,
+    elevation: Elevation,
+    dir: Raster,
+    ghost same_elevation: { elevation.extent ≡ shape },
+    ghost same_dir: { dir.extent ≡ shape },
+}
+
+/// The grid of these voids and directions, row by row.
+fn grid_of(alloc: Global, rows: u32, cols: u32, voids: &[u8], codes: &[u8]) -> Result<Grid, Fail> {
+    let Some(shape) = Shape::new(rows, cols) else {
+        return Err("a shape".into());
+    };
+    let elevation = elevations(alloc, shape, voids)?;
+    let dir = directions(alloc, shape, codes)?;
+    Ok(Grid {
+        shape,
+        elevation,
+        dir,
+    })
 }
 
 /// The ranks for these directions, on a grid with these voids; or the first cell whose run doesn't end.
@@ -43,12 +67,8 @@ pub fn certified(
     voids: &[u8],
     codes: &[u8],
 ) -> Result<Result<Raster, Cell>, Fail> {
-    let Some(shape) = Shape::new(rows, cols) else {
-        return Err("a shape".into());
-    };
-    let elevation = elevations(alloc, shape, voids)?;
-    let dir = directions(alloc, shape, codes)?;
-    match steps_of(alloc, &elevation, &dir) {
+    let grid = grid_of(alloc, rows, cols, voids, codes)?;
+    match steps_of(alloc, &grid.elevation, &grid.dir) {
         Ok(steps) => Ok(Ok(steps.raster(alloc)?)),
         Err(CertifyRefusal::NoEnd(cell)) => Ok(Err(cell)),
         Err(CertifyRefusal::OutOfMemory) => Err(OutOfMemory.into()),
@@ -80,16 +100,12 @@ pub fn first_endless(
     voids: &[u8],
     codes: &[u8],
 ) -> Result<Option<Cell>, Fail> {
-    let Some(shape) = Shape::new(rows, cols) else {
-        return Err("a shape".into());
-    };
-    let elevation = elevations(alloc, shape, voids)?;
-    let dir = directions(alloc, shape, codes)?;
-    let mut flows = taken(alloc, shape, &elevation, &dir)?;
-    if flows.len() != shape.cells() {
+    let grid = grid_of(alloc, rows, cols, voids, codes)?;
+    let mut flows = taken(alloc, &grid)?;
+    if flows.len() != grid.shape.cells() {
         return Err("a flow for each cell".into());
     }
-    Ok(flows.first_endless(shape))
+    Ok(flows.first_endless(grid.shape))
 }
 
 /// What the run of this cell comes to where it doesn't end, on the same grid.
@@ -101,13 +117,19 @@ pub fn endless_run(
     codes: &[u8],
     start: Cell,
 ) -> Result<Option<EndlessRun>, Fail> {
-    let Some(shape) = Shape::new(rows, cols) else {
-        return Err("a shape".into());
-    };
-    let elevation = elevations(alloc, shape, voids)?;
-    let dir = directions(alloc, shape, codes)?;
-    let mut flows = taken(alloc, shape, &elevation, &dir)?;
-    if flows.len() != shape.cells() || start.row >= rows || start.col >= cols {
+    let grid = grid_of(alloc, rows, cols, voids, codes)?;
+    let flows = taken(alloc, &grid)?;
+    endless_of(alloc, grid.shape, flows, start)
+}
+
+/// The same of the flows of a grid of this shape.
+fn endless_of(
+    alloc: Global,
+    shape: Shape,
+    mut flows: CellFlows,
+    start: Cell,
+) -> Result<Option<EndlessRun>, Fail> {
+    if flows.len() != shape.cells() || start.row >= shape.rows() || start.col >= shape.cols() {
         return Err("a flow for each cell, and one of them".into());
     }
     // flows no longer tell the codes of runs that end
@@ -119,26 +141,32 @@ pub fn endless_run(
 }
 
 /// The flows of a grid, row by row.
-fn taken(
-    alloc: Global,
-    shape: Shape,
-    elevation: &Elevation,
-    dir: &Raster,
-) -> Result<CellFlows, OutOfMemory>
-    requires elevation { elevation.now.extent ≡ shape }
-    requires dir { dir.now.extent ≡ shape }
-{
+fn taken(alloc: Global, grid: &Grid) -> Result<CellFlows, OutOfMemory> {
     let mut flows = CellFlows::new(alloc);
     let mut samples = Vec::new(alloc);
     let mut numbers = Vec::new(alloc);
-    for row in 0..shape.rows() {
-        elevation.read_row(row, &mut samples)?;
-        dir.read_row(row, &mut numbers)?;
-        if samples.len() == numbers.len() {
-            flows.push_row(&samples, &numbers)?;
-        }
+    for row in 0..grid.shape.rows() {
+        take_row(&mut flows, grid, row, &mut samples, &mut numbers)?;
     }
     Ok(flows)
+}
+
+/// Takes the flows of a row, which is read into these.
+fn take_row(
+    flows: &mut CellFlows,
+    grid: &Grid,
+    row: u32,
+    samples: &mut Vec<i64>,
+    numbers: &mut Vec<i64>,
+) -> Result<(), OutOfMemory>
+    requires { row < grid.now.shape.rows }
+{
+    grid.elevation.read_row(row, samples)?;
+    grid.dir.read_row(row, numbers)?;
+    if samples.len() == numbers.len() {
+        flows.push_row(samples, numbers)?;
+    }
+    Ok(())
 }
 
 /// One run through all cells, to and fro from the first cell on; or, where it goes round, from its last cell to the one above.

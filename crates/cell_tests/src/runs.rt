@@ -24,76 +24,63 @@ fn all_end(
     Ok(())
 }
 
-#[test]
-fn counts_the_steps_of_runs(rt: HostRuntime) -> Result<(), Fail> {
-    let alloc = rt.alloc();
-    all_end(
-        &rt,
-        alloc,
+/// A grid's rows and columns, its voids, its directions, and the ranks.
+type Grid = (
+    &'static str,
+    (u32, u32),
+    &'static [u8],
+    &'static [u8],
+    &'static [i64],
+);
+
+static COUNTED: [Grid; 5] = [
+    (
         "each row runs to the east",
         (4, 4),
         &[0; 16],
         &[1, 1, 1, 0, 1, 1, 1, 0, 1, 1, 1, 0, 1, 1, 1, 0],
         &[3, 2, 1, 0, 3, 2, 1, 0, 3, 2, 1, 0, 3, 2, 1, 0],
-    )?;
-    all_end(
-        &rt,
-        alloc,
+    ),
+    (
         "a filled pit",
         (3, 3),
         &[0; 9],
         &[0, 0, 0, 0, 1, 0, 0, 0, 0],
         &[0, 0, 0, 0, 1, 0, 0, 0, 0],
-    )?;
-    all_end(
-        &rt,
-        alloc,
+    ),
+    (
         "one run through all cells, from the last to the first",
         (3, 3),
         &[0; 9],
         &[0, 16, 16, 1, 1, 64, 64, 16, 16],
         &[0, 1, 2, 5, 4, 3, 6, 7, 8],
-    )?;
-    all_end(
-        &rt,
-        alloc,
+    ),
+    (
         "and from the first to the last",
         (3, 3),
         &[0; 9],
         &[1, 1, 4, 4, 16, 16, 1, 1, 0],
         &[8, 7, 6, 3, 4, 5, 2, 1, 0],
-    )?;
-    all_end(
-        &rt,
-        alloc,
+    ),
+    (
         "a later walk ends where an earlier one went",
         (2, 3),
         &[0; 6],
         &[1, 1, 0, 64, 128, 32],
         &[2, 1, 0, 3, 1, 2],
-    )?;
-    Ok(())
-}
+    ),
+];
 
-#[test]
-fn goes_each_way(rt: HostRuntime) -> Result<(), Fail> {
-    all_end(
-        &rt,
-        rt.alloc(),
-        "all eight directions",
-        (3, 4),
-        &[0; 12],
-        &[2, 4, 0, 8, 128, 8, 64, 16, 0, 16, 1, 32],
-        &[2, 2, 0, 2, 3, 1, 1, 2, 0, 1, 3, 2],
-    )
-}
+static EACH_WAY: [Grid; 1] = [(
+    "all eight directions",
+    (3, 4),
+    &[0; 12],
+    &[2, 4, 0, 8, 128, 8, 64, 16, 0, 16, 1, 32],
+    &[2, 2, 0, 2, 3, 1, 1, 2, 0, 1, 3, 2],
+)];
 
-#[test]
-fn leaves_voids_out(rt: HostRuntime) -> Result<(), Fail> {
-    let alloc = rt.alloc();
-    all_end(
-        &rt,
-        alloc,
+static WITH_VOIDS: [Grid; 2] = [
+    (
         "voids between two parts",
         (3, 7),
         &[
@@ -105,88 +92,113 @@ fn leaves_voids_out(rt: HostRuntime) -> Result<(), Fail> {
         &[
             0, 0, 0, NONE, 0, 0, 0, 0, 1, 0, NONE, 0, 1, 0, 0, 0, 0, NONE, 0, 0, 0,
         ],
-    )?;
-    all_end(
-        &rt,
-        alloc,
+    ),
+    (
         "the code of a void plays no part, though it be one that goes round",
         (2, 2),
         &[1, 1, 1, 1],
         &[1, 16, 1, 16],
         &[NONE, NONE, NONE, NONE],
-    )?;
+    ),
+];
+
+/// Ends the test where a run of one of these grids doesn't end, or its ranks aren't those.
+fn each_ends(rt: &impl Abort, alloc: Global, grids: &'static [Grid]) -> Result<(), Fail> {
+    for &(name, shape, voids, codes, ranks) in grids {
+        all_end(rt, alloc, name, shape, voids, codes, ranks)?;
+    }
     Ok(())
 }
 
 #[test]
+fn counts_the_steps_of_runs(rt: HostRuntime) -> Result<(), Fail> {
+    each_ends(&rt, rt.alloc(), &COUNTED)
+}
+
+#[test]
+fn goes_each_way(rt: HostRuntime) -> Result<(), Fail> {
+    each_ends(&rt, rt.alloc(), &EACH_WAY)
+}
+
+#[test]
+fn leaves_voids_out(rt: HostRuntime) -> Result<(), Fail> {
+    each_ends(&rt, rt.alloc(), &WITH_VOIDS)
+}
+
+/// No voids.
+const DATA: [u8; 16] = [0; 16];
+
+/// Voids and directions of four rows and columns, and the row and the column of the first cell whose run doesn't end.
+static ENDLESS: [(&str, [u8; 16], [u8; 16], u32, u32); 9] = [
+    (
+        "a ring of two",
+        DATA,
+        [0, 0, 0, 0, 0, 1, 16, 0, 0, 16, 1, 0, 0, 0, 0, 0],
+        1,
+        1,
+    ),
+    (
+        "a way into a ring",
+        DATA,
+        [0, 0, 0, 0, 0, 0, 0, 4, 0, 1, 4, 16, 0, 64, 16, 0],
+        1,
+        3,
+    ),
+    (
+        "a number that is no code",
+        DATA,
+        [3, 1, 1, 0, 0, 0, 0, 0, 0, 0, 0, 0, 0, 0, 0, 0],
+        0,
+        0,
+    ),
+    (
+        "the number for no data",
+        DATA,
+        [255, 1, 1, 0, 0, 0, 0, 0, 0, 0, 0, 0, 0, 0, 0, 0],
+        0,
+        0,
+    ),
+    (
+        "a way to a number that is no code",
+        DATA,
+        [0, 1, 4, 0, 0, 0, 4, 0, 0, 0, 7, 0, 0, 0, 0, 0],
+        0,
+        1,
+    ),
+    (
+        "off the grid",
+        DATA,
+        [0, 0, 0, 0, 0, 0, 0, 1, 0, 0, 0, 0, 0, 0, 0, 0],
+        1,
+        3,
+    ),
+    (
+        "off the grid at a corner",
+        DATA,
+        [32, 0, 0, 0, 0, 0, 0, 0, 0, 0, 0, 0, 0, 0, 0, 0],
+        0,
+        0,
+    ),
+    (
+        "into a void",
+        [0, 0, 0, 0, 0, 0, 1, 0, 0, 0, 0, 0, 0, 0, 0, 0],
+        [0, 0, 0, 0, 0, 1, 0, 0, 0, 0, 0, 0, 0, 0, 0, 0],
+        1,
+        1,
+    ),
+    (
+        "two rings, the first told",
+        DATA,
+        [0, 0, 0, 0, 0, 0, 1, 16, 0, 0, 0, 0, 1, 16, 0, 0],
+        1,
+        2,
+    ),
+];
+
+#[test]
 fn finds_the_first_run_without_an_end(rt: HostRuntime) -> Result<(), Fail> {
     let alloc = rt.alloc();
-    let data = [0; 16];
-    for (name, voids, codes, row, col) in [
-        (
-            "a ring of two",
-            data,
-            [0, 0, 0, 0, 0, 1, 16, 0, 0, 16, 1, 0, 0, 0, 0, 0],
-            1,
-            1,
-        ),
-        (
-            "a way into a ring",
-            data,
-            [0, 0, 0, 0, 0, 0, 0, 4, 0, 1, 4, 16, 0, 64, 16, 0],
-            1,
-            3,
-        ),
-        (
-            "a number that is no code",
-            data,
-            [3, 1, 1, 0, 0, 0, 0, 0, 0, 0, 0, 0, 0, 0, 0, 0],
-            0,
-            0,
-        ),
-        (
-            "the number for no data",
-            data,
-            [255, 1, 1, 0, 0, 0, 0, 0, 0, 0, 0, 0, 0, 0, 0, 0],
-            0,
-            0,
-        ),
-        (
-            "a way to a number that is no code",
-            data,
-            [0, 1, 4, 0, 0, 0, 4, 0, 0, 0, 7, 0, 0, 0, 0, 0],
-            0,
-            1,
-        ),
-        (
-            "off the grid",
-            data,
-            [0, 0, 0, 0, 0, 0, 0, 1, 0, 0, 0, 0, 0, 0, 0, 0],
-            1,
-            3,
-        ),
-        (
-            "off the grid at a corner",
-            data,
-            [32, 0, 0, 0, 0, 0, 0, 0, 0, 0, 0, 0, 0, 0, 0, 0],
-            0,
-            0,
-        ),
-        (
-            "into a void",
-            [0, 0, 0, 0, 0, 0, 1, 0, 0, 0, 0, 0, 0, 0, 0, 0],
-            [0, 0, 0, 0, 0, 1, 0, 0, 0, 0, 0, 0, 0, 0, 0, 0],
-            1,
-            1,
-        ),
-        (
-            "two rings, the first told",
-            data,
-            [0, 0, 0, 0, 0, 0, 1, 16, 0, 0, 0, 0, 1, 16, 0, 0],
-            1,
-            2,
-        ),
-    ] {
+    for &(name, voids, codes, row, col) in &ENDLESS {
         let cell = Cell { row, col };
         let ranks = certified(alloc, 4, 4, &voids, &codes)?;
         same(&rt, name, ranks.err(), Some(cell));

@@ -143,30 +143,40 @@ fn listed_long(alloc: Global, begin: &[u8], byte: u8, end: &[u8]) -> Result<List
     Ok(listed(alloc, &text))
 }
 
+/// The begin of a text, the byte, and the end; and the line that lists a cell, or that is bad.
+static LONG: [(&str, u8, &str, Result<(u64, u32, u32), u64>); 17] = [
+    ("", b'0', "7 1", Ok((1, 7, 1))),
+    ("7 ", b'0', "1", Ok((1, 7, 1))),
+    ("7 ", b'0', "", Ok((1, 7, 0))),
+    ("", b'0', "4294967295 1", Ok((1, 4294967295, 1))),
+    ("", b'0', "4294967296 1", Err(1)),
+    ("1", b'0', " 1", Err(1)),
+    ("1 1", b'0', "", Err(1)),
+    ("", b'9', " 1", Err(1)),
+    ("1 ", b'9', "", Err(1)),
+    ("", b'0', "x 1", Err(1)),
+    ("7", b' ', "1", Ok((1, 7, 1))),
+    ("7 1", b'\t', "", Ok((1, 7, 1))),
+    ("7 1", b' ', "x", Err(1)),
+    ("", b'\n', "7 1", Ok((60001, 7, 1))),
+    ("7 1", b'\n', "", Ok((1, 7, 1))),
+    ("", b'\n', "x", Err(60001)),
+    ("7 1", b'\n', "\n1", Err(60002)),
+];
+
+/// That one line lists a cell, or is bad.
+fn one_line(line: Result<(u64, u32, u32), u64>) -> Listed {
+    match line {
+        Ok(entry) => lines(&[entry]),
+        Err(bad) => Err(SinkFault::BadSinkLine(bad)),
+    }
+}
+
 #[test]
 fn texts_of_60_000_bytes(rt: HostRuntime) -> Result<(), Fail> {
-    let bad = Err(SinkFault::BadSinkLine(1));
-    for (begin, byte, end, wanted) in [
-        ("", b'0', "7 1", lines(&[(1, 7, 1)])),
-        ("7 ", b'0', "1", lines(&[(1, 7, 1)])),
-        ("7 ", b'0', "", lines(&[(1, 7, 0)])),
-        ("", b'0', "4294967295 1", lines(&[(1, 4294967295, 1)])),
-        ("", b'0', "4294967296 1", bad),
-        ("1", b'0', " 1", bad),
-        ("1 1", b'0', "", bad),
-        ("", b'9', " 1", bad),
-        ("1 ", b'9', "", bad),
-        ("", b'0', "x 1", bad),
-        ("7", b' ', "1", lines(&[(1, 7, 1)])),
-        ("7 1", b'\t', "", lines(&[(1, 7, 1)])),
-        ("7 1", b' ', "x", bad),
-        ("", b'\n', "7 1", lines(&[(60001, 7, 1)])),
-        ("7 1", b'\n', "", lines(&[(1, 7, 1)])),
-        ("", b'\n', "x", Err(SinkFault::BadSinkLine(60001))),
-        ("7 1", b'\n', "\n1", Err(SinkFault::BadSinkLine(60002))),
-    ] {
+    for &(begin, byte, end, line) in &LONG {
         let given = listed_long(rt.alloc(), begin.as_bytes(), byte, end.as_bytes())?;
-        same_list(&rt, end.as_bytes(), given, wanted);
+        same_list(&rt, end.as_bytes(), given, one_line(line));
     }
     Ok(())
 }
@@ -237,18 +247,21 @@ fn marked(alloc: Global, text: &str, row: u32) -> Result<[bool; 3], SinkFault> {
     Ok(marks)
 }
 
+/// Rows, each with the marks of its first three columns.
+static MARKS: [(u32, [bool; 3]); 7] = [
+    (0, [false, false, false]),
+    (6, [false, false, false]),
+    (7, [true, false, true]),
+    (8, [false, true, false]),
+    (9, [false, false, false]),
+    (4294967294, [false, false, false]),
+    (4294967295, [true, false, false]),
+];
+
 #[test]
 fn marks_of_one_row(rt: HostRuntime) {
     let text = "7 2\n4294967295 0\n7 0\n8 1\n6 4294967295\n4294967294 4294967295";
-    for (row, wanted) in [
-        (0, [false, false, false]),
-        (6, [false, false, false]),
-        (7, [true, false, true]),
-        (8, [false, true, false]),
-        (9, [false, false, false]),
-        (4294967294, [false, false, false]),
-        (4294967295, [true, false, false]),
-    ] {
+    for &(row, wanted) in &MARKS {
         same(&rt, row, marked(rt.alloc(), text, row), Ok(wanted));
     }
 }
@@ -288,19 +301,22 @@ fn no_sink(rt: HostRuntime) {
     same(&rt, "none", given, (0, [0; 4], [0; 4]));
 }
 
+/// Faults, each with its text.
+static TEXTS: [(SinkFault, &str); 3] = [
+    (
+        SinkFault::BadSinkLine(1),
+        "line 1 is not a row and a column",
+    ),
+    (
+        SinkFault::BadSinkLine(u64::MAX),
+        "line 18446744073709551615 is not a row and a column",
+    ),
+    (SinkFault::OutOfMemory, "out of memory"),
+];
+
 #[test]
 fn faults_of_lists_as_texts(rt: HostRuntime) -> Result<(), Fail> {
-    for (fault, wanted) in [
-        (
-            SinkFault::BadSinkLine(1),
-            "line 1 is not a row and a column",
-        ),
-        (
-            SinkFault::BadSinkLine(u64::MAX),
-            "line 18446744073709551615 is not a row and a column",
-        ),
-        (SinkFault::OutOfMemory, "out of memory"),
-    ] {
+    for &(fault, wanted) in &TEXTS {
         let given = format!(in rt.alloc(); "{fault}")?;
         same(&rt, wanted, given.as_str(), wanted);
     }

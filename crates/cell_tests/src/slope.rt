@@ -6,6 +6,7 @@ use drain_grid::{CellValues, Direction, Patch, Rule};
 use drain_slope::{fault, greatest_key, steepest};
 use std::test::Fail;
 
+/// A cell with an elevation, con and dir; none where a number can't be a cell's.
 fn cell(z: Option<i16>, con: i64, dir: i64) -> Option<CellValues> {
     CellValues::new(z, false, con, dir, 0, 0, 0, 0)
 }
@@ -24,41 +25,49 @@ fn patch(here: CellValues, east: i64, southeast: i64, south: i64, other: i64) ->
     Patch { here, around }
 }
 
+const LEAST: i64 = -2147483648;
+
+const GREATEST: i64 = 4294967295;
+
+const EAST: Option<Direction> = Some(Direction::East);
+
+/// The con of a cell, those in the east, the southeast, the south and elsewhere, the greatest key, and the first steepest way down.
+static WAYS_DOWN: [(&str, i64, (i64, i64, i64, i64), u128, Option<Direction>); 9] = [
+    (
+        "9 across a corner over 8",
+        10,
+        (8, 7, 10, 10),
+        9,
+        Some(Direction::SouthEast),
+    ),
+    ("50 over 49 across a corner", 10, (5, 3, 10, 10), 50, EAST),
+    (
+        "equal drops",
+        32767,
+        (-32767, -32767, 32767, 32767),
+        8589410312,
+        EAST,
+    ),
+    ("equal slopes", 10, (8, 10, 8, 10), 8, EAST),
+    ("a later one", 10, (9, 10, 8, 10), 8, Some(Direction::South)),
+    (
+        "the whole range of pixels",
+        GREATEST,
+        (LEAST, GREATEST, 2147483648, GREATEST),
+        83010348305923178498,
+        EAST,
+    ),
+    ("level", 10, (10, 10, 10, 10), 0, None),
+    ("a pit", 10, (11, 12, 13, 11), 0, None),
+    ("the least", LEAST, (LEAST, 0, GREATEST, 0), 0, None),
+];
+
 #[test]
 fn steepest_ways_down(rt: HostRuntime) -> Result<(), Fail> {
-    let least = -2147483648;
-    let greatest = 4294967295;
-    let east = Some(Direction::East);
-    for (name, con, (in_east, in_southeast, in_south, other), key, wanted) in [
-        (
-            "9 across a corner over 8",
-            10,
-            (8, 7, 10, 10),
-            9,
-            Some(Direction::SouthEast),
-        ),
-        ("50 over 49 across a corner", 10, (5, 3, 10, 10), 50, east),
-        (
-            "equal drops",
-            32767,
-            (-32767, -32767, 32767, 32767),
-            8589410312,
-            east,
-        ),
-        ("equal slopes", 10, (8, 10, 8, 10), 8, east),
-        ("a later one", 10, (9, 10, 8, 10), 8, Some(Direction::South)),
-        (
-            "the whole range of pixels",
-            greatest,
-            (least, greatest, 2147483648, greatest),
-            83010348305923178498,
-            east,
-        ),
-        ("level", 10, (10, 10, 10, 10), 0, None),
-        ("a pit", 10, (11, 12, 13, 11), 0, None),
-        ("the least", least, (least, 0, greatest, 0), 0, None),
-    ] {
-        let here = at(con).ok_or(name)?;
+    for &(name, con, (in_east, in_southeast, in_south, other), key, wanted) in &WAYS_DOWN {
+        let Some(here) = at(con) else {
+            return Err(name.into());
+        };
         let shown = patch(here, in_east, in_southeast, in_south, other);
         let given = (steepest(&shown), greatest_key(&shown));
         same(&rt, name, given, (wanted, key));
@@ -68,7 +77,9 @@ fn steepest_ways_down(rt: HostRuntime) -> Result<(), Fail> {
 
 #[test]
 fn voids_and_the_outside(rt: HostRuntime) -> Result<(), Fail> {
-    let here = at(10).ok_or("a cell")?;
+    let Some(here) = at(10) else {
+        return Err("a cell".into());
+    };
     let mut shown = patch(here, 10, 10, 10, 10);
     shown.around[0] = cell(None, -100, 0);
     shown.around[1] = None;
@@ -76,7 +87,10 @@ fn voids_and_the_outside(rt: HostRuntime) -> Result<(), Fail> {
     shown.around[7] = at(9);
     let past = Some(Direction::NorthEast);
     same(&rt, "past a void", steepest(&shown), past);
-    shown.here = cell(None, 10, 0).ok_or("a void")?;
+    let Some(void) = cell(None, 10, 0) else {
+        return Err("a void".into());
+    };
+    shown.here = void;
     same(&rt, "at a void", steepest(&shown), None);
     Ok(())
 }
@@ -95,7 +109,9 @@ static ON_A_SLOPE: [(&str, i64, Option<Rule>); 7] = [
 #[test]
 fn codes_on_a_slope(rt: HostRuntime) -> Result<(), Fail> {
     for &(name, dir, wanted) in &ON_A_SLOPE {
-        let here = cell(Some(0), 10, dir).ok_or("a cell")?;
+        let Some(here) = cell(Some(0), 10, dir) else {
+            return Err("a cell".into());
+        };
         let mut shown = patch(here, 8, 10, 8, 10);
         let inside = fault(&shown);
         // An open cell keeps the same rule.
@@ -103,7 +119,9 @@ fn codes_on_a_slope(rt: HostRuntime) -> Result<(), Fail> {
         same(&rt, name, (inside, fault(&shown)), (wanted, wanted));
     }
     // A lower neighbour is not enough.
-    let here = cell(Some(0), 10, 1).ok_or("a cell")?;
+    let Some(here) = cell(Some(0), 10, 1) else {
+        return Err("a cell".into());
+    };
     let gentle = patch(here, 9, 10, 8, 10);
     same_rule(&rt, "a gentle slope", fault(&gentle), Some(Rule::Slope));
     Ok(())
@@ -119,14 +137,19 @@ static NO_WAY_DOWN: [(&str, i64, Option<Rule>); 3] = [
 #[test]
 fn codes_with_no_way_down(rt: HostRuntime) -> Result<(), Fail> {
     for &(name, dir, wanted) in &NO_WAY_DOWN {
-        let here = cell(Some(0), 10, dir).ok_or("a cell")?;
+        let Some(here) = cell(Some(0), 10, dir) else {
+            return Err("a cell".into());
+        };
         let mut shown = patch(here, 10, 10, 10, 10);
         let on_a_flat = fault(&shown);
         shown.around[3] = None;
         let on_the_edge = fault(&shown);
         shown.around[3] = cell(None, -32768, 255);
         let beside_a_void = fault(&shown);
-        shown.here = cell(None, 10, dir).ok_or("a void")?;
+        let Some(void) = cell(None, 10, dir) else {
+            return Err("a void".into());
+        };
+        shown.here = void;
         let at_a_void = fault(&shown);
         shown.around[0] = at(5);
         let over_a_cell = fault(&shown);
