@@ -28,29 +28,32 @@ fn ring(alloc: Global, length: usize) -> Result<Facts, Fail> {
     no_end(EndlessRun::Ring { cells, length })
 }
 
+/// A case of a ring, how many cells it has, and what is told of it.
+static RINGS: [(&str, usize, &str); 2] = [
+    (
+        "two cells",
+        2,
+        "asked of ranks\n\nrun without an end: from row 0, column 3 into a ring of 2 cells\n  row 1, column 1\n  row 1, column 2\n",
+    ),
+    (
+        "three cells",
+        3,
+        "3 cells\n  row 1, column 1\n  row 1, column 2\n  and so on\n",
+    ),
+];
+
+/// What is told of the ring of three cells as JSON.
+static RING_AS_JSON: &str =
+    r#""run":{"from":{"row":0,"col":3,"longitude":-104.0,"latitude":38.0},"ring":{"length":3,"cells":[{"row":1,"col":1,"longitude":-104.66666666666667,"latitude":37.666666666666664},{"row":1,"col":2,"longitude":-104.33333333333333,"latitude":37.666666666666664}]},"lost":null}}"#;
+
 #[test]
 fn rings(rt: HostRuntime) -> Result<(), Fail> {
-    let whole = text_of(rt.alloc(), &ring(rt.alloc(), 2)?)?;
-    has(
-        &rt,
-        "two cells",
-        &whole,
-        "asked of ranks\n\nrun without an end: from row 0, column 3 into a ring of 2 cells\n  row 1, column 1\n  row 1, column 2\n",
-    );
-    let cut = text_of(rt.alloc(), &ring(rt.alloc(), 3)?)?;
-    has(
-        &rt,
-        "three cells",
-        &cut,
-        "3 cells\n  row 1, column 1\n  row 1, column 2\n  and so on\n",
-    );
+    for &(case, length, words) in &RINGS {
+        let text = text_of(rt.alloc(), &ring(rt.alloc(), length)?)?;
+        has(&rt, case, &text, words);
+    }
     let json = json_of(rt.alloc(), &ring(rt.alloc(), 3)?)?;
-    has(
-        &rt,
-        "as JSON",
-        &json,
-        r#""run":{"from":{"row":0,"col":3,"longitude":-104.0,"latitude":38.0},"ring":{"length":3,"cells":[{"row":1,"col":1,"longitude":-104.66666666666667,"latitude":37.666666666666664},{"row":1,"col":2,"longitude":-104.33333333333333,"latitude":37.666666666666664}]},"lost":null}}"#,
-    );
+    has(&rt, "as JSON", &json, RING_AS_JSON);
     Ok(())
 }
 
@@ -73,6 +76,10 @@ static LOST: [(LostBy, &str, &str); 3] = [
     ),
 ];
 
+/// What is told of each of them as JSON.
+static LOST_AS_JSON: &str =
+    r#""ring":null,"lost":{"cell":{"row":3,"col":0,"longitude":-105.0,"latitude":37.0},"by":""#;
+
 fn lost(by: LostBy) -> Result<Facts, Fail> {
     no_end(EndlessRun::Lost {
         cell: Cell { row: 3, col: 0 },
@@ -86,12 +93,7 @@ fn lost_runs(rt: HostRuntime) -> Result<(), Fail> {
         let text = text_of(rt.alloc(), &lost(*by)?)?;
         has(&rt, name, &text, words);
         let json = json_of(rt.alloc(), &lost(*by)?)?;
-        has(
-            &rt,
-            name,
-            &json,
-            r#""ring":null,"lost":{"cell":{"row":3,"col":0,"longitude":-105.0,"latitude":37.0},"by":""#,
-        );
+        has(&rt, name, &json, LOST_AS_JSON);
         has(&rt, name, &json, name);
     }
     Ok(())

@@ -220,28 +220,35 @@ fn open_beside(north: Option<CellValues>) -> Result<Facts, &'static str> {
     Ok(rejected(Rule::OpenRaised, 1, 2, findings))
 }
 
+/// Whether a void lies in the north, and what is expected of the cell.
+static OPEN: [(&str, bool, &str); 2] = [
+    (
+        "the edge",
+        false,
+        "expected: con on the ground, 5, on the edge of the mosaic\n",
+    ),
+    (
+        "a void",
+        true,
+        "expected: con on the ground, 5, beside a void\n",
+    ),
+];
+
 #[test]
 fn why_cells_are_open(rt: HostRuntime) -> Result<(), Fail> {
-    let edge = text_of(rt.alloc(), &open_beside(None)?)?;
-    has(
-        &rt,
-        "the edge",
-        &edge,
-        "expected: con on the ground, 5, on the edge of the mosaic\n",
-    );
-    let beside_a_void = text_of(rt.alloc(), &open_beside(Some(void()?))?)?;
-    has(
-        &rt,
-        "a void",
-        &beside_a_void,
-        "expected: con on the ground, 5, beside a void\n",
-    );
+    for &(case, beside_a_void, expected) in &OPEN {
+        let north = if beside_a_void { Some(void()?) } else { None };
+        let text = text_of(rt.alloc(), &open_beside(north)?)?;
+        has(&rt, case, &text, expected);
+    }
     Ok(())
 }
 
 /// A void with numbers of its own.
 fn numbered_void(ranks: Ranks) -> Result<Facts, &'static str> {
-    let void = CellValues::new(None, false, 4, 255, 0, 0, 255, 3).ok_or("a void")?;
+    let Some(void) = CellValues::new(None, false, 4, 255, 0, 0, 255, 3) else {
+        return Err("a void");
+    };
     let patch = Patch {
         here: void,
         around: [None; 8],
@@ -254,21 +261,25 @@ fn numbered_void(ranks: Ranks) -> Result<Facts, &'static str> {
     ))
 }
 
+/// Whether ranks are asked, and what is expected of the void.
+static NUMBERED: [(&str, Ranks, &str); 2] = [
+    (
+        "ranks asked",
+        Ranks::Asked,
+        "expected: no data at a void, of con, rnk\n",
+    ),
+    (
+        "ranks unasked",
+        Ranks::Unasked,
+        "expected: no data at a void, of con\n",
+    ),
+];
+
 #[test]
 fn voids_with_numbers(rt: HostRuntime) -> Result<(), Fail> {
-    let asked = text_of(rt.alloc(), &numbered_void(Ranks::Asked)?)?;
-    has(
-        &rt,
-        "ranks asked",
-        &asked,
-        "expected: no data at a void, of con, rnk\n",
-    );
-    let unasked = text_of(rt.alloc(), &numbered_void(Ranks::Unasked)?)?;
-    has(
-        &rt,
-        "ranks unasked",
-        &unasked,
-        "expected: no data at a void, of con\n",
-    );
+    for &(case, ranks, expected) in &NUMBERED {
+        let text = text_of(rt.alloc(), &numbered_void(ranks)?)?;
+        has(&rt, case, &text, expected);
+    }
     Ok(())
 }

@@ -12,19 +12,14 @@ use std::test::Fail;
 
 /// A cell on the northern edge beside a void and a listed sink.
 fn edge() -> Result<Patch, &'static str> {
-    Ok(Patch {
-        here: cell(5, false, (5, 1, 0, 7, 3))?,
-        around: [
-            Some(cell(4, true, (4, 0, 9, 7, 1))?),
-            Some(cell(-8, false, (8, 8, 4294967295, 7, 6))?),
-            Some(cell(7, false, (7, 128, 2, 7, 5))?),
-            Some(cell(6, false, (6, 3, 1, 7, 4))?),
-            Some(void()?),
-            None,
-            None,
-            None,
-        ],
-    })
+    let mut around = [None; 8];
+    around[0] = Some(cell(4, true, (4, 0, 9, 7, 1))?);
+    around[1] = Some(cell(-8, false, (8, 8, 4294967295, 7, 6))?);
+    around[2] = Some(cell(7, false, (7, 128, 2, 7, 5))?);
+    around[3] = Some(cell(6, false, (6, 3, 1, 7, 4))?);
+    around[4] = Some(void()?);
+    let here = cell(5, false, (5, 1, 0, 7, 3))?;
+    Ok(Patch { here, around })
 }
 
 fn two_rules() -> Result<Findings, &'static str> {
@@ -73,20 +68,18 @@ fn accepted() -> Result<Facts, &'static str> {
     })
 }
 
-#[test]
-fn an_acceptance(rt: HostRuntime) -> Result<(), Fail> {
-    let text = text_of(rt.alloc(), &accepted()?)?;
-    same_text(
-        &rt,
-        "an acceptance",
-        &text,
-        "accepted rows=4 cols=4 data=15 raised=2 outlets=3
+/// The page of that acceptance.
+static ACCEPTED: &str = "accepted rows=4 cols=4 data=15 raised=2 outlets=3
 
 hold: 1 VoidCell, 2 Missing, 3 BadCode, 4 BelowGround, 5 OpenRaised, 9 NotLeast, 10 Slope, 11 OutletCode, 12 FlatStep, 13 Accumulation, 14 Label, 15 SharedLabel
 not tried: 6 NoSpill, 7 SpillHeight, 8 SpillRank
 nothing was asked of ranks
-",
-    );
+";
+
+#[test]
+fn an_acceptance(rt: HostRuntime) -> Result<(), Fail> {
+    let text = text_of(rt.alloc(), &accepted()?)?;
+    same_text(&rt, "an acceptance", &text, ACCEPTED);
     Ok(())
 }
 
@@ -99,16 +92,15 @@ fn no_tiles() -> Facts {
     }
 }
 
+/// The page of that refusal as JSON.
+static NO_TILES: &str =
+    "{\"answer\":\"refused NoTiles\",\"refusal\":null,\"rows\":null,\"cols\":null,\"ranks\":null,\"rules\":[],\"products\":[],\"patch\":null,\"expected\":null,\"run\":null}\n";
+
 #[test]
 fn the_line_alone(rt: HostRuntime) -> Result<(), Fail> {
     let text = text_of(rt.alloc(), &no_tiles())?;
     same_text(&rt, "no tiles", &text, "refused NoTiles\n");
     let json = json_of(rt.alloc(), &no_tiles())?;
-    same_text(
-        &rt,
-        "no tiles as JSON",
-        &json,
-        "{\"answer\":\"refused NoTiles\",\"refusal\":null,\"rows\":null,\"cols\":null,\"ranks\":null,\"rules\":[],\"products\":[],\"patch\":null,\"expected\":null,\"run\":null}\n",
-    );
+    same_text(&rt, "no tiles as JSON", &json, NO_TILES);
     Ok(())
 }

@@ -20,12 +20,18 @@ pub type Numbers = (i64, i64, i64, i64, i64);
 /// A data cell.
 pub fn cell(ground: i16, sink: bool, numbers: Numbers) -> Result<CellValues, &'static str> {
     let (con, dir, acc, bas, rnk) = numbers;
-    CellValues::new(Some(ground), sink, con, dir, acc, bas, 0, rnk).ok_or("a data cell")
+    match CellValues::new(Some(ground), sink, con, dir, acc, bas, 0, rnk) {
+        Some(values) => Ok(values),
+        None => Err("a data cell"),
+    }
 }
 
 /// A void with the numbers that stand for no data.
 pub fn void() -> Result<CellValues, &'static str> {
-    CellValues::new(None, false, -32768, 255, 0, 0, 255, 4294967295).ok_or("a void")
+    match CellValues::new(None, false, -32768, 255, 0, 0, 255, 4294967295) {
+        Some(values) => Ok(values),
+        None => Err("a void"),
+    }
 }
 
 /// No cell.
@@ -51,9 +57,12 @@ pub fn product(at_voids: RuleFaults, at_data: RuleFaults) -> ProductFaults {
 
 /// Findings with no fault.
 pub fn no_fault(ranks: Ranks) -> Result<Findings, &'static str> {
+    let Some(shape) = Shape::new(4, 4) else {
+        return Err("a shape");
+    };
     Ok(Findings {
         place: PLACE,
-        shape: Shape::new(4, 4).ok_or("a shape")?,
+        shape,
         rules: Rules {
             nodata: NoData::defaults(),
             ranks,
