@@ -1,7 +1,6 @@
 //! Runs without an end: rings and runs that lead nowhere.
 
-use crate::agree::has;
-use crate::worked::{json_of, no_fault, text_of};
+use crate::worked::{json_has, no_fault, text_has};
 use drain_grid::Cell;
 use drain_page::{Answer, Facts};
 use drain_rules::Ranks;
@@ -49,12 +48,11 @@ static RING_AS_JSON: &str =
 #[test]
 fn rings(rt: HostRuntime) -> Result<(), Fail> {
     for &(case, length, words) in &RINGS {
-        let text = text_of(rt.alloc(), &ring(rt.alloc(), length)?)?;
-        has(&rt, case, &text, words);
+        let facts = ring(rt.alloc(), length)?;
+        text_has(&rt, rt.alloc(), case, facts, words)?;
     }
-    let json = json_of(rt.alloc(), &ring(rt.alloc(), 3)?)?;
-    has(&rt, "as JSON", &json, RING_AS_JSON);
-    Ok(())
+    let facts = ring(rt.alloc(), 3)?;
+    json_has(&rt, rt.alloc(), "as JSON", facts, RING_AS_JSON)
 }
 
 /// Why a run leads nowhere, with its words and its name.
@@ -90,11 +88,9 @@ fn lost(by: LostBy) -> Result<Facts, Fail> {
 #[test]
 fn lost_runs(rt: HostRuntime) -> Result<(), Fail> {
     for (by, words, name) in &LOST {
-        let text = text_of(rt.alloc(), &lost(*by)?)?;
-        has(&rt, name, &text, words);
-        let json = json_of(rt.alloc(), &lost(*by)?)?;
-        has(&rt, name, &json, LOST_AS_JSON);
-        has(&rt, name, &json, name);
+        text_has(&rt, rt.alloc(), name, lost(*by)?, words)?;
+        json_has(&rt, rt.alloc(), name, lost(*by)?, LOST_AS_JSON)?;
+        json_has(&rt, rt.alloc(), name, lost(*by)?, name)?;
     }
     Ok(())
 }

@@ -1,7 +1,6 @@
 //! What each rule wanted, at a cell of ground 5 with neighbours in the east and the southeast, and others that stand at 9.
 
-use crate::agree::has;
-use crate::worked::{Numbers, cell, json_of, one_fault, rejected, text_of, void};
+use crate::worked::{Numbers, cell, json_has, one_fault, rejected, text_has, values, void};
 use drain_grid::{CellValues, Patch, Rule};
 use drain_page::Facts;
 use drain_rules::Ranks;
@@ -196,8 +195,7 @@ fn facts(row: &Row) -> Result<Facts, &'static str> {
 #[test]
 fn each_rule_in_words(rt: HostRuntime) -> Result<(), Fail> {
     for row in &ROWS {
-        let text = text_of(rt.alloc(), &facts(row)?)?;
-        has(&rt, row.case, &text, row.text);
+        text_has(&rt, rt.alloc(), row.case, facts(row)?, row.text)?;
     }
     Ok(())
 }
@@ -205,8 +203,7 @@ fn each_rule_in_words(rt: HostRuntime) -> Result<(), Fail> {
 #[test]
 fn each_rule_as_json(rt: HostRuntime) -> Result<(), Fail> {
     for row in &ROWS {
-        let json = json_of(rt.alloc(), &facts(row)?)?;
-        has(&rt, row.case, &json, row.json);
+        json_has(&rt, rt.alloc(), row.case, facts(row)?, row.json)?;
     }
     Ok(())
 }
@@ -238,19 +235,15 @@ static OPEN: [(&str, bool, &str); 2] = [
 fn why_cells_are_open(rt: HostRuntime) -> Result<(), Fail> {
     for &(case, beside_a_void, expected) in &OPEN {
         let north = if beside_a_void { Some(void()?) } else { None };
-        let text = text_of(rt.alloc(), &open_beside(north)?)?;
-        has(&rt, case, &text, expected);
+        text_has(&rt, rt.alloc(), case, open_beside(north)?, expected)?;
     }
     Ok(())
 }
 
 /// A void with numbers of its own.
 fn numbered_void(ranks: Ranks) -> Result<Facts, &'static str> {
-    let Some(void) = CellValues::new(None, false, 4, 255, 0, 0, 255, 3) else {
-        return Err("a void");
-    };
     let patch = Patch {
-        here: void,
+        here: values(None, false, (4, 255, 0, 0, 3), 255)?,
         around: [None; 8],
     };
     Ok(rejected(
@@ -278,8 +271,7 @@ static NUMBERED: [(&str, Ranks, &str); 2] = [
 #[test]
 fn voids_with_numbers(rt: HostRuntime) -> Result<(), Fail> {
     for &(case, ranks, expected) in &NUMBERED {
-        let text = text_of(rt.alloc(), &numbered_void(ranks)?)?;
-        has(&rt, case, &text, expected);
+        text_has(&rt, rt.alloc(), case, numbered_void(ranks)?, expected)?;
     }
     Ok(())
 }
