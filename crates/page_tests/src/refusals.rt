@@ -1,7 +1,6 @@
 //! What was expected and found for each refusal.
 
-use crate::agree::has;
-use crate::worked::{json_of, text_of};
+use crate::worked::{json_has, text_has};
 use drain_grid::{Cell, Product};
 use drain_header::Place;
 use drain_hgt::TileName;
@@ -167,9 +166,8 @@ static WANTED: [(&str, &str); 11] = [
 #[test]
 fn each_refusal(rt: HostRuntime) -> Result<(), Fail> {
     for (kind, (words, json)) in WANTED.iter().enumerate() {
-        let facts = facts(rt.alloc(), kind)?;
-        has(&rt, words, &text_of(rt.alloc(), &facts)?, words);
-        has(&rt, json, &json_of(rt.alloc(), &facts)?, json);
+        text_has(&rt, rt.alloc(), words, facts(rt.alloc(), kind)?, words)?;
+        json_has(&rt, rt.alloc(), json, facts(rt.alloc(), kind)?, json)?;
     }
     Ok(())
 }

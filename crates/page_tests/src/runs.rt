@@ -1,7 +1,6 @@
 //! Runs without an end: rings and runs that lead nowhere.
 
-use crate::agree::has;
-use crate::worked::{json_of, no_fault, text_of};
+use crate::worked::{json_has, no_fault, text_has};
 use drain_grid::Cell;
 use drain_page::{Answer, Facts};
 use drain_rules::Ranks;
@@ -28,30 +27,32 @@ fn ring(alloc: Global, length: usize) -> Result<Facts, Fail> {
     no_end(EndlessRun::Ring { cells, length })
 }
 
+/// A case of a ring, how many cells it has, and what is told of it.
+static RINGS: [(&str, usize, &str); 2] = [
+    (
+        "two cells",
+        2,
+        "asked of ranks\n\nrun without an end: from row 0, column 3 into a ring of 2 cells\n  row 1, column 1\n  row 1, column 2\n",
+    ),
+    (
+        "three cells",
+        3,
+        "3 cells\n  row 1, column 1\n  row 1, column 2\n  and so on\n",
+    ),
+];
+
+/// What is told of the ring of three cells as JSON.
+static RING_AS_JSON: &str =
+    r#""run":{"from":{"row":0,"col":3,"longitude":-104.0,"latitude":38.0},"ring":{"length":3,"cells":[{"row":1,"col":1,"longitude":-104.66666666666667,"latitude":37.666666666666664},{"row":1,"col":2,"longitude":-104.33333333333333,"latitude":37.666666666666664}]},"lost":null}}"#;
+
 #[test]
 fn rings(rt: HostRuntime) -> Result<(), Fail> {
-    let whole = text_of(rt.alloc(), &ring(rt.alloc(), 2)?)?;
-    has(
-        &rt,
-        "two cells",
-        &whole,
-        "asked of ranks\n\nrun without an end: from row 0, column 3 into a ring of 2 cells\n  row 1, column 1\n  row 1, column 2\n",
-    );
-    let cut = text_of(rt.alloc(), &ring(rt.alloc(), 3)?)?;
-    has(
-        &rt,
-        "three cells",
-        &cut,
-        "3 cells\n  row 1, column 1\n  row 1, column 2\n  and so on\n",
-    );
-    let json = json_of(rt.alloc(), &ring(rt.alloc(), 3)?)?;
-    has(
-        &rt,
-        "as JSON",
-        &json,
-        r#""run":{"from":{"row":0,"col":3,"longitude":-104.0,"latitude":38.0},"ring":{"length":3,"cells":[{"row":1,"col":1,"longitude":-104.66666666666667,"latitude":37.666666666666664},{"row":1,"col":2,"longitude":-104.33333333333333,"latitude":37.666666666666664}]},"lost":null}}"#,
-    );
-    Ok(())
+    for &(case, length, words) in &RINGS {
+        let facts = ring(rt.alloc(), length)?;
+        text_has(&rt, rt.alloc(), case, facts, words)?;
+    }
+    let facts = ring(rt.alloc(), 3)?;
+    json_has(&rt, rt.alloc(), "as JSON", facts, RING_AS_JSON)
 }
 
 /// Why a run leads nowhere, with its words and its name.
@@ -73,6 +74,10 @@ static LOST: [(LostBy, &str, &str); 3] = [
     ),
 ];
 
+/// What is told of each of them as JSON.
+static LOST_AS_JSON: &str =
+    r#""ring":null,"lost":{"cell":{"row":3,"col":0,"longitude":-105.0,"latitude":37.0},"by":""#;
+
 fn lost(by: LostBy) -> Result<Facts, Fail> {
     no_end(EndlessRun::Lost {
         cell: Cell { row: 3, col: 0 },
@@ -83,16 +88,9 @@ fn lost(by: LostBy) -> Result<Facts, Fail> {
 #[test]
 fn lost_runs(rt: HostRuntime) -> Result<(), Fail> {
     for (by, words, name) in &LOST {
-        let text = text_of(rt.alloc(), &lost(*by)?)?;
-        has(&rt, name, &text, words);
-        let json = json_of(rt.alloc(), &lost(*by)?)?;
-        has(
-            &rt,
-            name,
-            &json,
-            r#""ring":null,"lost":{"cell":{"row":3,"col":0,"longitude":-105.0,"latitude":37.0},"by":""#,
-        );
-        has(&rt, name, &json, name);
+        text_has(&rt, rt.alloc(), name, lost(*by)?, words)?;
+        json_has(&rt, rt.alloc(), name, lost(*by)?, LOST_AS_JSON)?;
+        json_has(&rt, rt.alloc(), name, lost(*by)?, name)?;
     }
     Ok(())
 }

@@ -1,7 +1,6 @@
 //! What each rule wanted, at a cell of ground 5 with neighbours in the east and the southeast, and others that stand at 9.
 
-use crate::agree::has;
-use crate::worked::{Numbers, cell, json_of, one_fault, rejected, text_of, void};
+use crate::worked::{Numbers, cell, json_has, one_fault, rejected, text_has, values, void};
 use drain_grid::{CellValues, Patch, Rule};
 use drain_page::Facts;
 use drain_rules::Ranks;
@@ -196,8 +195,7 @@ fn facts(row: &Row) -> Result<Facts, &'static str> {
 #[test]
 fn each_rule_in_words(rt: HostRuntime) -> Result<(), Fail> {
     for row in &ROWS {
-        let text = text_of(rt.alloc(), &facts(row)?)?;
-        has(&rt, row.case, &text, row.text);
+        text_has(&rt, rt.alloc(), row.case, facts(row)?, row.text)?;
     }
     Ok(())
 }
@@ -205,8 +203,7 @@ fn each_rule_in_words(rt: HostRuntime) -> Result<(), Fail> {
 #[test]
 fn each_rule_as_json(rt: HostRuntime) -> Result<(), Fail> {
     for row in &ROWS {
-        let json = json_of(rt.alloc(), &facts(row)?)?;
-        has(&rt, row.case, &json, row.json);
+        json_has(&rt, rt.alloc(), row.case, facts(row)?, row.json)?;
     }
     Ok(())
 }
@@ -220,30 +217,33 @@ fn open_beside(north: Option<CellValues>) -> Result<Facts, &'static str> {
     Ok(rejected(Rule::OpenRaised, 1, 2, findings))
 }
 
+/// Whether a void lies in the north, and what is expected of the cell.
+static OPEN: [(&str, bool, &str); 2] = [
+    (
+        "the edge",
+        false,
+        "expected: con on the ground, 5, on the edge of the mosaic\n",
+    ),
+    (
+        "a void",
+        true,
+        "expected: con on the ground, 5, beside a void\n",
+    ),
+];
+
 #[test]
 fn why_cells_are_open(rt: HostRuntime) -> Result<(), Fail> {
-    let edge = text_of(rt.alloc(), &open_beside(None)?)?;
-    has(
-        &rt,
-        "the edge",
-        &edge,
-        "expected: con on the ground, 5, on the edge of the mosaic\n",
-    );
-    let beside_a_void = text_of(rt.alloc(), &open_beside(Some(void()?))?)?;
-    has(
-        &rt,
-        "a void",
-        &beside_a_void,
-        "expected: con on the ground, 5, beside a void\n",
-    );
+    for &(case, beside_a_void, expected) in &OPEN {
+        let north = if beside_a_void { Some(void()?) } else { None };
+        text_has(&rt, rt.alloc(), case, open_beside(north)?, expected)?;
+    }
     Ok(())
 }
 
 /// A void with numbers of its own.
 fn numbered_void(ranks: Ranks) -> Result<Facts, &'static str> {
-    let void = CellValues::new(None, false, 4, 255, 0, 0, 255, 3).ok_or("a void")?;
     let patch = Patch {
-        here: void,
+        here: values(None, false, (4, 255, 0, 0, 3), 255)?,
         around: [None; 8],
     };
     Ok(rejected(
@@ -254,21 +254,24 @@ fn numbered_void(ranks: Ranks) -> Result<Facts, &'static str> {
     ))
 }
 
+/// Whether ranks are asked, and what is expected of the void.
+static NUMBERED: [(&str, Ranks, &str); 2] = [
+    (
+        "ranks asked",
+        Ranks::Asked,
+        "expected: no data at a void, of con, rnk\n",
+    ),
+    (
+        "ranks unasked",
+        Ranks::Unasked,
+        "expected: no data at a void, of con\n",
+    ),
+];
+
 #[test]
 fn voids_with_numbers(rt: HostRuntime) -> Result<(), Fail> {
-    let asked = text_of(rt.alloc(), &numbered_void(Ranks::Asked)?)?;
-    has(
-        &rt,
-        "ranks asked",
-        &asked,
-        "expected: no data at a void, of con, rnk\n",
-    );
-    let unasked = text_of(rt.alloc(), &numbered_void(Ranks::Unasked)?)?;
-    has(
-        &rt,
-        "ranks unasked",
-        &unasked,
-        "expected: no data at a void, of con\n",
-    );
+    for &(case, ranks, expected) in &NUMBERED {
+        text_has(&rt, rt.alloc(), case, numbered_void(ranks)?, expected)?;
+    }
     Ok(())
 }

@@ -2,29 +2,33 @@
 
 use crate::agree::same_text;
 use crate::whole_pages::{JSON, TEXT};
-use crate::worked::{cell, cells, json_of, no_cell, no_fault, product, rejected, text_of, void};
+use crate::worked::{
+    Numbers, cell, cells, json_of, no_cell, no_fault, product, rejected, text_is, void,
+};
 use drain_faults::FaultyPatch;
-use drain_grid::{Cell, CellValues, Patch, Rule};
+use drain_grid::{Cell, Patch, Rule};
 use drain_page::{Answer, Facts, Findings};
 use drain_rules::{Counts, Ranks, Verdict};
 use drain_verdict::{AuditVerdict, Refusal};
 use std::test::Fail;
 
+/// The ground of four neighbours from the east on, whether each is a listed sink, and its numbers.
+static NEIGHBOURS: [(i16, bool, Numbers); 4] = [
+    (4, true, (4, 0, 9, 7, 1)),
+    (-8, false, (8, 8, 4294967295, 7, 6)),
+    (7, false, (7, 128, 2, 7, 5)),
+    (6, false, (6, 3, 1, 7, 4)),
+];
+
 /// A cell on the northern edge beside a void and a listed sink.
 fn edge() -> Result<Patch, &'static str> {
-    Ok(Patch {
-        here: cell(5, false, (5, 1, 0, 7, 3))?,
-        around: [
-            Some(cell(4, true, (4, 0, 9, 7, 1))?),
-            Some(cell(-8, false, (8, 8, 4294967295, 7, 6))?),
-            Some(cell(7, false, (7, 128, 2, 7, 5))?),
-            Some(cell(6, false, (6, 3, 1, 7, 4))?),
-            Some(void()?),
-            None,
-            None,
-            None,
-        ],
-    })
+    let mut around = [None; 8];
+    for (place, &(ground, sink, numbers)) in around.iter_mut().zip(&NEIGHBOURS) {
+        *place = Some(cell(ground, sink, numbers)?);
+    }
+    around[4] = Some(void()?);
+    let here = cell(5, false, (5, 1, 0, 7, 3))?;
+    Ok(Patch { here, around })
 }
 
 fn two_rules() -> Result<Findings, &'static str> {
@@ -43,9 +47,7 @@ fn two_rules() -> Result<Findings, &'static str> {
 #[test]
 fn a_whole_text(rt: HostRuntime) -> Result<(), Fail> {
     let facts = rejected(Rule::Missing, 0, 1, two_rules()?);
-    let text = text_of(rt.alloc(), &facts)?;
-    same_text(&rt, "two rules", &text, TEXT);
-    Ok(())
+    text_is(&rt, rt.alloc(), "two rules", facts, TEXT)
 }
 
 #[test]
@@ -73,21 +75,17 @@ fn accepted() -> Result<Facts, &'static str> {
     })
 }
 
-#[test]
-fn an_acceptance(rt: HostRuntime) -> Result<(), Fail> {
-    let text = text_of(rt.alloc(), &accepted()?)?;
-    same_text(
-        &rt,
-        "an acceptance",
-        &text,
-        "accepted rows=4 cols=4 data=15 raised=2 outlets=3
+/// The page of that acceptance.
+static ACCEPTED: &str = "accepted rows=4 cols=4 data=15 raised=2 outlets=3
 
 hold: 1 VoidCell, 2 Missing, 3 BadCode, 4 BelowGround, 5 OpenRaised, 9 NotLeast, 10 Slope, 11 OutletCode, 12 FlatStep, 13 Accumulation, 14 Label, 15 SharedLabel
 not tried: 6 NoSpill, 7 SpillHeight, 8 SpillRank
 nothing was asked of ranks
-",
-    );
-    Ok(())
+";
+
+#[test]
+fn an_acceptance(rt: HostRuntime) -> Result<(), Fail> {
+    text_is(&rt, rt.alloc(), "an acceptance", accepted()?, ACCEPTED)
 }
 
 /// The facts of a refusal of which there is no more to tell.
@@ -99,16 +97,14 @@ fn no_tiles() -> Facts {
     }
 }
 
+/// The page of that refusal as JSON.
+static NO_TILES: &str =
+    "{\"answer\":\"refused NoTiles\",\"refusal\":null,\"rows\":null,\"cols\":null,\"ranks\":null,\"rules\":[],\"products\":[],\"patch\":null,\"expected\":null,\"run\":null}\n";
+
 #[test]
 fn the_line_alone(rt: HostRuntime) -> Result<(), Fail> {
-    let text = text_of(rt.alloc(), &no_tiles())?;
-    same_text(&rt, "no tiles", &text, "refused NoTiles\n");
+    text_is(&rt, rt.alloc(), "no tiles", no_tiles(), "refused NoTiles\n")?;
     let json = json_of(rt.alloc(), &no_tiles())?;
-    same_text(
-        &rt,
-        "no tiles as JSON",
-        &json,
-        "{\"answer\":\"refused NoTiles\",\"refusal\":null,\"rows\":null,\"cols\":null,\"ranks\":null,\"rules\":[],\"products\":[],\"patch\":null,\"expected\":null,\"run\":null}\n",
-    );
+    same_text(&rt, "no tiles as JSON", &json, NO_TILES);
     Ok(())
 }

@@ -1,10 +1,12 @@
 //! Facts to make pages of: a mosaic of 4 by 4 cells at three steps a degree, whose north-west corner lies at 38 degrees north and 105 west.
 
+use crate::agree::{has, same_text};
 use drain_faults::{FaultyPatch, PerRule, ProductFaults, RuleFaults};
 use drain_grid::{Cell, CellValues, NoData, Patch, PerProduct, Rule, Shape};
 use drain_page::{Answer, Facts, Findings, MosaicPlace, page_json, page_text};
 use drain_rules::{Ranks, Rules, Verdict};
 use std::alloc::Global;
+use std::process::Abort;
 use std::test::Fail;
 
 /// Where it lies.
@@ -17,15 +19,28 @@ pub const PLACE: MosaicPlace = MosaicPlace {
 /// The numbers of con, dir, acc, bas and rnk.
 pub type Numbers = (i64, i64, i64, i64, i64);
 
+/// A cell with this spill code.
+pub fn values(
+    ground: Option<i16>,
+    sink: bool,
+    numbers: Numbers,
+    spl: i64,
+) -> Result<CellValues, &'static str> {
+    let (con, dir, acc, bas, rnk) = numbers;
+    match CellValues::new(ground, sink, con, dir, acc, bas, spl, rnk) {
+        Some(values) => Ok(values),
+        None => Err("the values of a cell"),
+    }
+}
+
 /// A data cell.
 pub fn cell(ground: i16, sink: bool, numbers: Numbers) -> Result<CellValues, &'static str> {
-    let (con, dir, acc, bas, rnk) = numbers;
-    CellValues::new(Some(ground), sink, con, dir, acc, bas, 0, rnk).ok_or("a data cell")
+    values(Some(ground), sink, numbers, 0)
 }
 
 /// A void with the numbers that stand for no data.
 pub fn void() -> Result<CellValues, &'static str> {
-    CellValues::new(None, false, -32768, 255, 0, 0, 255, 4294967295).ok_or("a void")
+    values(None, false, (-32768, 255, 0, 0, 4294967295), 255)
 }
 
 /// No cell.
@@ -51,9 +66,12 @@ pub fn product(at_voids: RuleFaults, at_data: RuleFaults) -> ProductFaults {
 
 /// Findings with no fault.
 pub fn no_fault(ranks: Ranks) -> Result<Findings, &'static str> {
+    let Some(shape) = Shape::new(4, 4) else {
+        return Err("a shape");
+    };
     Ok(Findings {
         place: PLACE,
-        shape: Shape::new(4, 4).ok_or("a shape")?,
+        shape,
         rules: Rules {
             nodata: NoData::defaults(),
             ranks,
@@ -120,4 +138,40 @@ pub fn text_of(alloc: Global, facts: &Facts) -> Result<String, Fail> {
 /// The page as JSON.
 pub fn json_of(alloc: Global, facts: &Facts) -> Result<String, Fail> {
     Ok(page_json(alloc, facts)?)
+}
+
+/// Ends the test where the page as text doesn't hold this, and tells of which case it is.
+pub fn text_has(
+    rt: &impl Abort,
+    alloc: Global,
+    case: &str,
+    facts: Facts,
+    part: &str,
+) -> Result<(), Fail> {
+    has(rt, case, &text_of(alloc, &facts)?, part);
+    Ok(())
+}
+
+/// Ends the test where the page as JSON doesn't hold this, and tells of which case it is.
+pub fn json_has(
+    rt: &impl Abort,
+    alloc: Global,
+    case: &str,
+    facts: Facts,
+    part: &str,
+) -> Result<(), Fail> {
+    has(rt, case, &json_of(alloc, &facts)?, part);
+    Ok(())
+}
+
+/// Ends the test where the page as text is another, and tells of which case it is.
+pub fn text_is(
+    rt: &impl Abort,
+    alloc: Global,
+    case: &str,
+    facts: Facts,
+    wanted: &str,
+) -> Result<(), Fail> {
+    same_text(rt, case, &text_of(alloc, &facts)?, wanted);
+    Ok(())
 }
