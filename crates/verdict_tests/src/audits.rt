@@ -149,19 +149,22 @@ fn put_fault(example: &mut Example, fault: usize) {
     }
 }
 
+/// Faults, the last that is told first, each with its line.
+static FAULTS: [(usize, &str); 7] = [
+    (6, "refused SinkNotData 2"),
+    (5, "refused BadSinkLine 2"),
+    (4, "refused BadTileLength N00E000.hgt"),
+    (3, "refused WrongShape bas"),
+    (2, "refused BadHeader con MissingKey ULXMAP"),
+    (1, "refused BadName 0"),
+    (0, "refused BadSide"),
+];
+
 /// Each fault by itself, and with all that come behind it.
 #[test]
 fn refuses_by_the_first_fault(rt: HostRuntime) -> Result<(), Fail> {
     let mut together = one_tile(3, &pit());
-    for (fault, line) in [
-        (6, "refused SinkNotData 2"),
-        (5, "refused BadSinkLine 2"),
-        (4, "refused BadTileLength N00E000.hgt"),
-        (3, "refused WrongShape bas"),
-        (2, "refused BadHeader con MissingKey ULXMAP"),
-        (1, "refused BadName 0"),
-        (0, "refused BadSide"),
-    ] {
+    for &(fault, line) in &FAULTS {
         let mut alone = one_tile(3, &pit());
         put_fault(&mut alone, fault);
         put_fault(&mut together, fault);
@@ -179,15 +182,18 @@ static MIDDLES: [(Owner, u64); 5] = [
     (Owner::Raster(Held::Bas), 33),
 ];
 
+/// How often a source faults, how, and the line that is told.
+static DEVICE_FAULTS: [(u64, DeviceFault, &str); 2] = [
+    (1, DeviceFault::Failed, "failed ReadFailed"),
+    (999, DeviceFault::Interrupted, SLOPE_LINE),
+];
+
 /// Each body of the slope faults in its middle, and then goes on.
 #[test]
 fn bodies_that_go_on_after_a_fault(rt: HostRuntime) -> Result<(), Fail> {
     let slope = one_tile(4, &slope());
     for &(owner, first) in &MIDDLES {
-        for (times, answer, line) in [
-            (1u64, DeviceFault::Failed, "failed ReadFailed"),
-            (999, DeviceFault::Interrupted, SLOPE_LINE),
-        ] {
+        for &(times, answer, line) in &DEVICE_FAULTS {
             let script = [Scripted {
                 first,
                 last: first.saturating_add(times).saturating_sub(1),

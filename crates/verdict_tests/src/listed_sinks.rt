@@ -232,15 +232,18 @@ static BESIDE_A_FAULT: [(&str, &str); 4] = [
     ("1 1\n\n3 3", "refused SinkNotData 3"),
 ];
 
+/// Owners of sources, each with how often its source is asked.
+static CALLS: [(Owner, u64); 4] = [
+    (Owner::Tile, 19),
+    (Owner::Raster(Held::Con), 18),
+    (Owner::Raster(Held::Dir), 9),
+    (Owner::Raster(Held::Rnk), 36),
+];
+
 #[test]
 fn sources_that_fail_beside_a_list(rt: HostRuntime) -> Result<(), Fail> {
     for &(text, line) in &BESIDE_A_FAULT {
-        for (owner, calls) in [
-            (Owner::Tile, 19u64),
-            (Owner::Raster(Held::Con), 18),
-            (Owner::Raster(Held::Dir), 9),
-            (Owner::Raster(Held::Rnk), 36),
-        ] {
+        for &(owner, calls) in &CALLS {
             for before in 0..=calls {
                 let first = before.saturating_add(1);
                 let (last, owed) = if before < calls {
@@ -261,24 +264,30 @@ fn sources_that_fail_beside_a_list(rt: HostRuntime) -> Result<(), Fail> {
     Ok(())
 }
 
+/// An owner, the first and the last call of its source that is interrupted, and whether that is borne.
+static INTERRUPTIONS: [(Owner, u64, u64, bool); 8] = [
+    (Owner::Tile, 1, 999, true),
+    (Owner::Tile, 5, 1003, true),
+    (Owner::Tile, 1, 1000, false),
+    (Owner::Tile, 5, 1004, false),
+    (Owner::Raster(Held::Dir), 1, 999, true),
+    (Owner::Raster(Held::Dir), 5, 1003, true),
+    (Owner::Raster(Held::Dir), 1, 1000, false),
+    (Owner::Raster(Held::Dir), 5, 1004, false),
+];
+
 #[test]
 fn sources_that_are_interrupted_beside_a_list(rt: HostRuntime) -> Result<(), Fail> {
     for &(text, line) in &BESIDE_A_FAULT {
-        for owner in [Owner::Tile, Owner::Raster(Held::Dir)] {
-            for (first, last, owed) in [
-                (1, 999, line),
-                (5, 1003, line),
-                (1, 1000, "failed ReadFailed"),
-                (5, 1004, "failed ReadFailed"),
-            ] {
-                let script = Scripted {
-                    first,
-                    last,
-                    answer: DeviceFault::Interrupted,
-                };
-                let given = listed_pit_where(rt.alloc(), text, owner, script)?;
-                same_line(&rt, (text, owner, first), &given, owed);
-            }
+        for &(owner, first, last, is_borne) in &INTERRUPTIONS {
+            let owed = if is_borne { line } else { "failed ReadFailed" };
+            let script = Scripted {
+                first,
+                last,
+                answer: DeviceFault::Interrupted,
+            };
+            let given = listed_pit_where(rt.alloc(), text, owner, script)?;
+            same_line(&rt, (text, owner, first), &given, owed);
         }
     }
     Ok(())

@@ -17,26 +17,29 @@ const GRID: &str =
 /// How many cells there are.
 const CELLS: u32 = 1156;
 
-/// The numbers of a product in 32 bits each, the least significant byte first. Of one whose numbers are all 0 they do for fewer bits too.
+/// The number of acc or of bas at a cell, in 32 bits with the least significant byte first.
+fn pixel(product: Held, cell: u32) -> [u8; 4] {
+    let number: u32 = match product {
+        Held::Bas => cell.saturating_add(1),
+        _ => 1,
+    };
+    number.to_le_bytes()
+}
+
+/// The numbers of acc or of bas in 32 bits each.
 fn pixels(alloc: Global, product: Held) -> Result<Vec<u8>, AllocError> {
     let mut bytes = Vec::new(alloc);
     for cell in 0..CELLS {
-        let number = match product {
-            Held::Acc => 1,
-            Held::Bas => cell + 1,
-            _ => 0,
-        };
-        bytes.extend_from_slice(&number.to_le_bytes())?;
+        bytes.extend_from_slice(&pixel(product, cell))?;
     }
     Ok(bytes)
 }
 
-/// The bytes of the products.
+/// The bytes of the products whose numbers aren't all 0.
 #[derive(Clone, Copy)]
 struct Bodies<'a> {
     acc: &'a [u8],
     bas: &'a [u8],
-    others: &'a [u8],
 }
 
 fn raster<'a>(
@@ -47,7 +50,7 @@ fn raster<'a>(
     let body = match product {
         Held::Acc => bodies.acc,
         Held::Bas => bodies.bas,
-        _ => bodies.others,
+        _ => &ZEROS,
     };
     Ok(RasterInput {
         header: ByteList::new(header_on(product, GRID).as_slice().to_vec(alloc)?),
@@ -65,43 +68,62 @@ fn products<'a>(
     PerProduct::from_each(&input)
 }
 
+/// The bytes of the products whose numbers are all 0, and of the tile.
+static ZEROS: [u8; 4624] = [0; 4624];
+
+/// The level tile.
+fn tiles<'a>(alloc: Global) -> Result<Vec<TileInput<SliceSource<'a>>>, AllocError> {
+    let tile = TileInput {
+        name: ByteList::new(b"N00E000.hgt".to_vec(alloc)?),
+        body: SliceSource::new(&ZEROS[..2312]),
+    };
+    let mut tiles = Vec::new(alloc);
+    tiles.push(tile)?;
+    Ok(tiles)
+}
+
+/// The line of the level tile with these products and a list.
+fn level_with(alloc: Global, bodies: Bodies<'_>, text: &[u8]) -> Result<Line, AllocError> {
+    let mut products = products(alloc, bodies)?;
+    let mut tiles = tiles(alloc)?;
+    Ok(line_of(alloc, 34, &mut tiles, text, &mut products))
+}
+
 /// The line of the level tile with a list.
 fn level_told(alloc: Global, text: &[u8]) -> Result<Line, AllocError> {
     let acc = pixels(alloc, Held::Acc)?;
     let bas = pixels(alloc, Held::Bas)?;
-    let others = pixels(alloc, Held::Con)?;
-    let mut products = products(
-        alloc,
-        Bodies {
-            acc: &acc,
-            bas: &bas,
-            others: &others,
-        },
-    )?;
-    let mut tiles = Vec::new(alloc);
-    tiles.push(TileInput {
-        name: ByteList::new(b"N00E000.hgt".to_vec(alloc)?),
-        body: SliceSource::new(others.get(..2312).unwrap_or(&[])),
-    })?;
-    Ok(line_of(alloc, 34, &mut tiles, text, &mut products))
+    let bodies = Bodies {
+        acc: &acc,
+        bas: &bas,
+    };
+    level_with(alloc, bodies, text)
 }
 
 /// A number below 100 in two digits.
 fn digits(number: u32) -> [u8; 2] {
-    [b'0' + (number / 10 % 10) as u8, b'0' + (number % 10) as u8]
+    let (tens, ones) = ((number / 10 % 10) as u8, (number % 10) as u8);
+    [b'0'.saturating_add(tens), b'0'.saturating_add(ones)]
+}
+
+/// Puts the line of a cell behind a list.
+fn push_cell(text: &mut Vec<u8>, row: u32, col: u32) -> Result<(), AllocError> {
+    text.extend_from_slice(&digits(row))?;
+    text.push(b' ')?;
+    text.extend_from_slice(&digits(col))?;
+    text.push(b'\n')?;
+    Ok(())
 }
 
 /// A list of the 1,024 cells that don't lie on the edge, out of their order, but of this one; and a line behind them.
 fn list(alloc: Global, left_out: (u32, u32), last: &str) -> Result<Vec<u8>, AllocError> {
     let mut text = Vec::new(alloc);
-    for number in 0..1024 {
-        let place = number * 389 % 1024;
-        let (row, col) = (place / 32 + 1, place % 32 + 1);
+    for number in 0..1024u32 {
+        let place = number.saturating_mul(389) % 1024;
+        let row = (place / 32).saturating_add(1);
+        let col = (place % 32).saturating_add(1);
         if (row, col) != left_out {
-            text.extend_from_slice(&digits(row))?;
-            text.push(b' ')?;
-            text.extend_from_slice(&digits(col))?;
-            text.push(b'\n')?;
+            push_cell(&mut text, row, col)?;
         }
     }
     text.extend_from_slice(last.as_bytes())?;

@@ -73,14 +73,17 @@ fn refused_at_once(alloc: Global, side: u32, bytes: &[TileBytes]) -> Result<Line
     refused(alloc, side, &mut tiles)
 }
 
+/// A side, how many tiles without a name there are, and the line that is told.
+static SIDES: [(u32, usize, &str); 3] = [
+    (1, 1, "refused BadSide"),
+    (3, 1, "refused BadName 0"),
+    (3, 0, "refused NoTiles"),
+];
+
 #[test]
 fn refuses_side_and_names(rt: HostRuntime) -> Result<(), Fail> {
     let bytes = [tile("x", &[])];
-    for (side, tiles, line) in [
-        (1, 1, "refused BadSide"),
-        (3, 1, "refused BadName 0"),
-        (3, 0, "refused NoTiles"),
-    ] {
+    for &(side, tiles, line) in &SIDES {
         let told = refused_at_once(rt.alloc(), side, &bytes[..tiles])?;
         same_line(&rt, line, &told, line);
     }
