@@ -31,11 +31,17 @@ fn come_out(mut queue: LevelQueue, pushed: &[(i16, u32)]) -> Option<FirstFive> {
 /// The first five that come out of a queue of so many cells, once these pairs were put in.
 fn popped(alloc: Global, cells: u8, pushed: &[(i16, u32)]) -> Result<FirstFive, Fail> {
     let queue = LevelQueue::new(alloc, usize::from(cells))?;
-    Ok(come_out(queue, pushed).ok_or("an item twice, or beyond the cells")?)
+    match come_out(queue, pushed) {
+        Some(first) => Ok(first),
+        None => Err("an item twice, or beyond the cells".into()),
+    }
 }
 
+/// The greatest level, and the least.
+static ENDS: [(i16, u32); 2] = [(32767, 0), (-32768, 1)];
+
 /// Four pairs, and in which order they come out.
-const FOUR: [(i16, u32); 4] = [(5, 0), (3, 1), (5, 2), (3, 3)];
+static FOUR: [(i16, u32); 4] = [(5, 0), (3, 1), (5, 2), (3, 3)];
 
 const IN_ORDER: FirstFive = [Some((3, 1)), Some((3, 3)), Some((5, 0)), Some((5, 2)), None];
 
@@ -43,7 +49,7 @@ const IN_ORDER: FirstFive = [Some((3, 1)), Some((3, 3)), Some((5, 0)), Some((5, 
 fn takes_out_by_level_and_then_by_time(rt: HostRuntime) -> Result<(), Fail> {
     let four = popped(rt.alloc(), 4, &FOUR)?;
     same(&rt, "four", four, IN_ORDER);
-    let ends = popped(rt.alloc(), 2, &[(32767, 0), (-32768, 1)])?;
+    let ends = popped(rt.alloc(), 2, &ENDS)?;
     let ordered = [Some((-32768, 1)), Some((32767, 0)), None, None, None];
     same(&rt, "ends", ends, ordered);
     same(&rt, "no cells", popped(rt.alloc(), 0, &[])?, [None; 5]);

@@ -1,7 +1,7 @@
 //! Products made with listed sinks: tiles worked out by hand, and lists that name cells without data.
 
 use crate::agree::{same, same_numbers};
-use crate::made::{con_of_nine, elevation, one_tile};
+use crate::made::{con_of_nine, elevation, made_of_tile, one_tile};
 use crate::raster_numbers::Numbers;
 use drain_grid::{Held, SinkFault, VOID, parse_sinks};
 use drain_hgt::TileName;
@@ -18,10 +18,8 @@ fn made(
     list: &str,
     product: Held,
 ) -> Result<Numbers, Fail> {
-    let layout = one_tile(alloc, side)?;
-    let elevation = elevation(&layout, Vec::from_slice(alloc, samples)?)?;
     let sinks = parse_sinks(alloc, list.as_bytes())?;
-    let products = make(alloc, &layout, &elevation, &sinks)?;
+    let products = made_of_tile(alloc, side, samples, &sinks)?;
     Ok(Numbers::of(products.raster(product)))
 }
 
@@ -37,16 +35,24 @@ static OF_PIT: [(Held, [i64; 9]); 5] = [
     (Held::Rnk, [0; 9]),
 ];
 
+/// Lists of the pit.
+static PIT_LISTS: [&str; 3] = ["1 1", "1 1\n1 1", "\n1 1\r\n\n0 2\n1 1\n"];
+
 #[test]
 fn a_listed_pit_is_the_one_outlet(rt: HostRuntime) -> Result<(), Fail> {
     for &(product, wanted) in &OF_PIT {
-        for list in ["1 1", "1 1\n1 1", "\n1 1\r\n\n0 2\n1 1\n"] {
+        for &list in &PIT_LISTS {
             let given = made(rt.alloc(), 3, &PIT, list, product)?;
             same_numbers(&rt, (product, list), given.as_slice(), &wanted);
         }
     }
     Ok(())
 }
+
+/// Three columns inside an edge of nines.
+static COLUMNS: [i16; 25] = [
+    9, 9, 9, 9, 9, 9, 3, 8, 2, 9, 9, 3, 8, 2, 9, 9, 3, 8, 2, 9, 9, 9, 9, 9, 9,
+];
 
 /// A list, and the heights of the left, the middle and the right column.
 static LOWEST_WAYS: [(&str, i64, i64, i64); 5] = [
@@ -60,11 +66,8 @@ static LOWEST_WAYS: [(&str, i64, i64, i64); 5] = [
 /// Three columns inside an edge of nines, of heights 3, 8 and 2. With a sink on the left one the right one fills up to the middle one.
 #[test]
 fn water_gets_to_a_listed_sink_over_the_lowest_way(rt: HostRuntime) -> Result<(), Fail> {
-    let tile = [
-        9, 9, 9, 9, 9, 9, 3, 8, 2, 9, 9, 3, 8, 2, 9, 9, 3, 8, 2, 9, 9, 9, 9, 9, 9,
-    ];
     for &(list, left, middle, right) in &LOWEST_WAYS {
-        let given = made(rt.alloc(), 5, &tile, list, Held::Con)?;
+        let given = made(rt.alloc(), 5, &COLUMNS, list, Held::Con)?;
         let (l, m, r) = (left, middle, right);
         let wanted = [
             9, 9, 9, 9, 9, 9, l, m, r, 9, 9, l, m, r, 9, 9, l, m, r, 9, 9, 9, 9, 9, 9,
@@ -74,14 +77,16 @@ fn water_gets_to_a_listed_sink_over_the_lowest_way(rt: HostRuntime) -> Result<()
     Ok(())
 }
 
+/// The ranks of a flat whose middle is listed.
+static OF_FLAT: [i64; 25] = [
+    0, 0, 0, 0, 0, 0, 1, 1, 1, 0, 0, 1, 0, 1, 0, 0, 1, 1, 1, 0, 0, 0, 0, 0, 0,
+];
+
 /// A sink on a flat is an outlet, and ranks are steps to it or to the edge.
 #[test]
 fn ranks_round_a_listed_cell_of_a_flat(rt: HostRuntime) -> Result<(), Fail> {
     let given = made(rt.alloc(), 5, &[7; 25], "2 2", Held::Rnk)?;
-    let wanted = [
-        0, 0, 0, 0, 0, 0, 1, 1, 1, 0, 0, 1, 0, 1, 0, 0, 1, 1, 1, 0, 0, 0, 0, 0, 0,
-    ];
-    same_numbers(&rt, (Held::Rnk, "2 2"), given.as_slice(), &wanted);
+    same_numbers(&rt, (Held::Rnk, "2 2"), given.as_slice(), &OF_FLAT);
     Ok(())
 }
 
@@ -92,29 +97,36 @@ static OF_SLOPE: [(Held, [i64; 4]); 3] = [
     (Held::Acc, [1, 2, 3, 4]),
 ];
 
+/// Rows that fall from west to east.
+static SLOPE: [i16; 16] = [4, 3, 2, 1, 4, 3, 2, 1, 4, 3, 2, 1, 4, 3, 2, 1];
+
 /// Cells of a slope that are listed drain on: they are open, and no outlets.
 #[test]
 fn listed_cells_of_a_slope_drain_on(rt: HostRuntime) -> Result<(), Fail> {
-    let tile = [4, 3, 2, 1, 4, 3, 2, 1, 4, 3, 2, 1, 4, 3, 2, 1];
     for &(product, row) in &OF_SLOPE {
         let [a, b, c, d] = row;
-        let given = made(rt.alloc(), 4, &tile, "1 1\n2 2", product)?;
+        let given = made(rt.alloc(), 4, &SLOPE, "1 1\n2 2", product)?;
         let wanted = [a, b, c, d, a, b, c, d, a, b, c, d, a, b, c, d];
         same_numbers(&rt, (product, "1 1 and 2 2"), given.as_slice(), &wanted);
     }
     Ok(())
 }
 
+/// A tile with a void inside.
+static WITH_A_VOID: [i16; 25] = [
+    5, 4, 5, 6, 5, 4, 3, 6, 6, 5, 5, 6, 1, 6, 5, 5, 6, 6, 2, VOID, 5, 5, 5, 5, 5,
+];
+
+/// Lists of cells that are open without them.
+static OPEN_CELLS: [&str; 4] = ["0 0", "4 4\n\n0 3\n2 0\n0 3", "3 3", "2 3\n3 3\n1 0"];
+
 /// What is open without a list stays as it is: cells of the edge, and a cell beside a void.
 #[test]
 fn listed_cells_that_are_open_change_nothing(rt: HostRuntime) -> Result<(), Fail> {
-    let holed = [
-        5, 4, 5, 6, 5, 4, 3, 6, 6, 5, 5, 6, 1, 6, 5, 5, 6, 6, 2, VOID, 5, 5, 5, 5, 5,
-    ];
     for product in Held::ALL {
-        for list in ["0 0", "4 4\n\n0 3\n2 0\n0 3", "3 3", "2 3\n3 3\n1 0"] {
-            let given = made(rt.alloc(), 5, &holed, list, product)?;
-            let without = made(rt.alloc(), 5, &holed, "", product)?;
+        for &list in &OPEN_CELLS {
+            let given = made(rt.alloc(), 5, &WITH_A_VOID, list, product)?;
+            let without = made(rt.alloc(), 5, &WITH_A_VOID, "", product)?;
             same_numbers(&rt, (product, list), given.as_slice(), without.as_slice());
         }
     }

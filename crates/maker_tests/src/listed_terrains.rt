@@ -1,11 +1,15 @@
 //! Terrains that are hard to drain, with listed sinks inside. Their products must be accepted with the list, each listed cell stays at its own
 //! ground, and a listed local minimum is an outlet.
 
+ghost use Rattle.std.specs.Prelude.{◌≡◌};
+ghost use Rattle.drain_mosaic.specs.Tiling.{extent_of};
+
 use crate::agree::same;
 use crate::made::{elevation, one_tile};
 use crate::terrain_samples::{TERRAINS, Terrain, samples};
-use drain_grid::{Cell, Direction, Elevation, ProductSet, Raster, parse_sinks};
+use drain_grid::{Cell, Direction, Elevation, ProductSet, Raster, Sinks, parse_sinks};
 use drain_maker::make;
+use drain_mosaic::Layout;
 use drain_rules::{Verdict, verdict_of};
 use std::alloc::Global;
 use std::test::Fail;
@@ -105,7 +109,29 @@ fn found(elevation: &Elevation, products: &ProductSet, side: u32) -> Tally {
     found
 }
 
-/// What is found at the listed cells of a terrain once products of it were made, and whether they are accepted.
+/// The chosen cells of a tile as sinks.
+fn sinks_of(alloc: Global, elevation: &Elevation, side: u32) -> Result<Sinks, Fail> {
+    let list = list_of(alloc, elevation, side)?;
+    Ok(parse_sinks(alloc, list.as_bytes())?)
+}
+
+/// What is found at the listed cells of a tile once products of it were made, and whether they are accepted.
+fn tile_made(
+    alloc: Global,
+    layout: &Layout,
+    elevation: &Elevation,
+    sinks: &Sinks,
+    side: u32,
+) -> Result<(Tally, bool), Fail>
+    requires { elevation.now.extent ≡ extent_of layout.now }
+{
+    let products = make(alloc, layout, elevation, sinks)?;
+    let verdict = verdict_of(alloc, elevation, sinks, &products)?;
+    let found = found(elevation, &products, side);
+    Ok((found, matches!(verdict, Verdict::Accepted(_))))
+}
+
+/// The same of a terrain.
 fn terrain_made(
     alloc: Global,
     side: u32,
@@ -114,12 +140,8 @@ fn terrain_made(
 ) -> Result<(Tally, bool), Fail> {
     let layout = one_tile(alloc, side)?;
     let elevation = elevation(&layout, samples(alloc, side, terrain, lowered)?)?;
-    let list = list_of(alloc, &elevation, side)?;
-    let sinks = parse_sinks(alloc, list.as_bytes())?;
-    let products = make(alloc, &layout, &elevation, &sinks)?;
-    let verdict = verdict_of(alloc, &elevation, &sinks, &products)?;
-    let found = found(&elevation, &products, side);
-    Ok((found, matches!(verdict, Verdict::Accepted(_))))
+    let sinks = sinks_of(alloc, &elevation, side)?;
+    tile_made(alloc, &layout, &elevation, &sinks, side)
 }
 
 #[test]

@@ -6,7 +6,7 @@ ghost use Rattle.drain_mosaic.specs.Tiling.{extent_of};
 
 use crate::raster_numbers::Numbers;
 use drain_grid::tile::is_side;
-use drain_grid::{Elevation, Sinks};
+use drain_grid::{Elevation, ProductSet, Sinks};
 use drain_hgt::TileName;
 use drain_maker::{MakeRefusal, make};
 use drain_mosaic::Layout;
@@ -34,12 +34,35 @@ pub fn elevation(layout: &Layout, samples: Vec<i16>) -> Result<Elevation, Fail>
     Ok(Elevation::new(shape, samples))
 }
 
+/// The products that are made of one tile with these sinks.
+pub fn made_of_tile(
+    alloc: Global,
+    side: u32,
+    samples: &[i16],
+    sinks: &Sinks,
+) -> Result<ProductSet, Fail> {
+    let layout = one_tile(alloc, side)?;
+    let elevation = elevation(&layout, Vec::from_slice(alloc, samples)?)?;
+    Ok(make(alloc, &layout, &elevation, sinks)?)
+}
+
+/// The verdict on the products that are made of these elevations with these sinks.
+fn verdict_on_made(
+    alloc: Global,
+    layout: &Layout,
+    elevation: &Elevation,
+    sinks: &Sinks,
+) -> Result<Verdict, Fail>
+    requires { elevation.now.extent ≡ extent_of layout.now }
+{
+    let products = make(alloc, layout, elevation, sinks)?;
+    Ok(verdict_of(alloc, elevation, sinks, &products)?)
+}
+
 /// Makes products without listed sinks, and counts what the verdict on them counts. They must be accepted.
 pub fn accepted(alloc: Global, layout: &Layout, samples: Vec<i16>) -> Result<Counts, Fail> {
     let elevation = elevation(layout, samples)?;
-    let sinks = Sinks::none(alloc);
-    let products = make(alloc, layout, &elevation, &sinks)?;
-    match verdict_of(alloc, &elevation, &sinks, &products)? {
+    match verdict_on_made(alloc, layout, &elevation, &Sinks::none(alloc))? {
         Verdict::Accepted(counts) => Ok(counts),
         Verdict::Rejected { .. } => Err("rejected".into()),
     }

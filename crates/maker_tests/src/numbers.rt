@@ -1,11 +1,11 @@
 //! The numbers of small tiles' products.
 
 use crate::agree::{same, same_numbers};
-use crate::made::{accepted, con_of_nine, elevation, one_tile};
+use crate::made::{accepted, con_of_nine, made_of_tile, one_tile};
 use crate::raster_numbers::Numbers;
 use drain_grid::{Held, Sinks, VOID};
 use drain_hgt::TileName;
-use drain_maker::{MakeRefusal, make};
+use drain_maker::MakeRefusal;
 use drain_rules::Counts;
 use refused_memory::owed_unless_right;
 use std::alloc::Global;
@@ -13,9 +13,7 @@ use std::test::Fail;
 
 /// The numbers of a product that is made of one tile.
 fn made(alloc: Global, side: u32, samples: &[i16], product: Held) -> Result<Numbers, Fail> {
-    let layout = one_tile(alloc, side)?;
-    let elevation = elevation(&layout, Vec::from_slice(alloc, samples)?)?;
-    let products = make(alloc, &layout, &elevation, &Sinks::none(alloc))?;
+    let products = made_of_tile(alloc, side, samples, &Sinks::none(alloc))?;
     Ok(Numbers::of(products.raster(product)))
 }
 
@@ -54,26 +52,33 @@ static OF_SLOPE: [(Held, [i64; 16]); 4] = [
     (Held::Bas, [1, 1, 1, 1, 2, 2, 2, 2, 3, 3, 3, 3, 4, 4, 4, 4]),
 ];
 
+/// Rows that fall from west to east.
+static SLOPE: [i16; 16] = [4, 3, 2, 1, 4, 3, 2, 1, 4, 3, 2, 1, 4, 3, 2, 1];
+
 #[test]
 fn slope_to_the_east(rt: HostRuntime) -> Result<(), Fail> {
-    let tile = [4, 3, 2, 1, 4, 3, 2, 1, 4, 3, 2, 1, 4, 3, 2, 1];
     for &(product, wanted) in &OF_SLOPE {
-        let given = made(rt.alloc(), 4, &tile, product)?;
+        let given = made(rt.alloc(), 4, &SLOPE, product)?;
         same_numbers(&rt, product, given.as_slice(), &wanted);
     }
     Ok(())
 }
 
+/// The ranks of a flat.
+static OF_FLAT: [i64; 25] = [
+    0, 0, 0, 0, 0, 0, 1, 1, 1, 0, 0, 1, 2, 1, 0, 0, 1, 1, 1, 0, 0, 0, 0, 0, 0,
+];
+
 /// A flat at the edge of the grid is crossed by the shortest way.
 #[test]
 fn ranks_on_a_flat(rt: HostRuntime) -> Result<(), Fail> {
     let given = made(rt.alloc(), 5, &[7; 25], Held::Rnk)?;
-    let wanted = [
-        0, 0, 0, 0, 0, 0, 1, 1, 1, 0, 0, 1, 2, 1, 0, 0, 1, 1, 1, 0, 0, 0, 0, 0, 0,
-    ];
-    same_numbers(&rt, "ranks", given.as_slice(), &wanted);
+    same_numbers(&rt, "ranks", given.as_slice(), &OF_FLAT);
     Ok(())
 }
+
+/// A pit in the middle, lower than the edge.
+static PIT: [i16; 9] = [5, 5, 5, 5, 1, 5, 5, 5, 5];
 
 /// A product, its number at the edge, and in the middle; none where that is another than 0.
 static OF_PIT: [(Held, i64, Option<i64>); 3] = [
@@ -85,9 +90,8 @@ static OF_PIT: [(Held, i64, Option<i64>); 3] = [
 /// A pit of one cell is filled, and drains to one of the eight cells of the edge: which of them no definition says.
 #[test]
 fn pit_in_the_middle(rt: HostRuntime) -> Result<(), Fail> {
-    let tile = [5, 5, 5, 5, 1, 5, 5, 5, 5];
     for &(product, edge, middle) in &OF_PIT {
-        let mut given = made(rt.alloc(), 3, &tile, product)?;
+        let mut given = made(rt.alloc(), 3, &PIT, product)?;
         let in_middle = given.list[4];
         let is_right = match middle {
             Some(wanted) => in_middle == wanted,
@@ -102,20 +106,18 @@ fn pit_in_the_middle(rt: HostRuntime) -> Result<(), Fail> {
     Ok(())
 }
 
+/// The accumulations at a pit, by size.
+static COUNTS_OF_PIT: [i64; 9] = [1, 1, 1, 1, 1, 1, 1, 1, 2];
+
 #[test]
 fn accumulation_at_a_pit(rt: HostRuntime) -> Result<(), Fail> {
-    let tile = [5, 5, 5, 5, 1, 5, 5, 5, 5];
-    let mut counts = made(rt.alloc(), 3, &tile, Held::Acc)?;
+    let mut counts = made(rt.alloc(), 3, &PIT, Held::Acc)?;
     let in_middle = counts.list[4];
     counts.list[..9].sort_unstable();
-    let wanted = [1, 1, 1, 1, 1, 1, 1, 1, 2];
     same(&rt, "in the middle", in_middle, 1);
-    same_numbers(&rt, "counts", counts.as_slice(), &wanted);
+    same_numbers(&rt, "counts", counts.as_slice(), &COUNTS_OF_PIT);
     Ok(())
 }
-
-/// A pit in the middle, lower than the edge.
-const PIT: [i16; 9] = [5, 5, 5, 5, 1, 5, 5, 5, 5];
 
 /// The first nine numbers of con that is made of the pit without listed sinks.
 fn con_without_sinks(alloc: Global, name: TileName) -> Result<Option<[i64; 9]>, MakeRefusal> {

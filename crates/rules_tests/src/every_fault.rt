@@ -36,7 +36,7 @@ pub fn example(alloc: Global, side: u8, numbers: &[i64]) -> Result<Given, Fail> 
     Ok(Given {
         elevation: elevation(alloc, shape, &numbers[..cells])?,
         sinks: Sinks::none(alloc),
-        products: products(alloc, shape, -32768, &numbers[cells..])?,
+        products: products(alloc, shape, -32768, numbers)?,
     })
 }
 
@@ -67,6 +67,9 @@ pub fn walk_over(alloc: Global, example: &Given, ranks: Ranks) -> Result<FaultWa
 
 /// A rule, the number of cells at which it fails, and the row and column of the first.
 type Told = (Rule, u32, (u32, u32));
+
+/// What the walk finds of the rules that fail, the row and column of the first patch with a fault, and the numbers of the map.
+type Found = (&'static [Told], Option<(u32, u32)>, &'static [u8]);
 
 /// What the walk found of a rule.
 fn found_of(walk: &FaultWalk, rule: Rule) -> RuleFaults {
@@ -127,15 +130,13 @@ fn pixels_of(walk: &FaultWalk) -> &[u8] {
 fn expect(
     rt: &impl Abort,
     alloc: Global,
-    example: &Given,
-    wanted: &[Told],
-    first: Option<(u32, u32)>,
-    pixels: &[u8],
+    example: Given,
+    (wanted, first, pixels): Found,
 ) -> Result<(), Fail> {
-    let walk = walk_over(alloc, example, Ranks::Asked)?;
+    let walk = walk_over(alloc, &example, Ranks::Asked)?;
     expect_found(rt, &walk, wanted, first);
     assert_eq!(rt; pixels_of(&walk), pixels);
-    same_verdict(rt, &walk, example, rules_verdict(alloc, example)?);
+    same_verdict(rt, &walk, &example, rules_verdict(alloc, &example)?);
     Ok(())
 }
 
@@ -155,86 +156,123 @@ fn changed_slope(alloc: Global, part: Part, row: u8, col: u8, number: i64) -> Re
     example(alloc, 4, &numbers)
 }
 
-#[test]
-fn right_products(rt: HostRuntime) -> Result<(), Fail> {
-    let slope = example(rt.alloc(), 4, &slope())?;
-    expect(&rt, rt.alloc(), &slope, &[], None, &[0; 16])?;
-    let voids = example(rt.alloc(), 2, &voids())?;
-    expect(&rt, rt.alloc(), &voids, &[], None, &[255; 4])
-}
+/// No fault on the slope, and none on voids.
+static RIGHT: [Found; 2] = [(&[], None, &[0; 16]), (&[], None, &[255; 4])];
 
 #[test]
-fn a_direction_that_leads_aside(rt: HostRuntime) -> Result<(), Fail> {
-    // The cell leads south and no longer east: past its steepest, to another label; two cells have another inflow.
-    let slope = changed_slope(rt.alloc(), Part::Dir, 1, 1, 4)?;
-    let wanted = [
+fn right_products(rt: HostRuntime) -> Result<(), Fail> {
+    let [on_slope, on_voids] = RIGHT;
+    expect(&rt, rt.alloc(), example(rt.alloc(), 4, &slope())?, on_slope)?;
+    expect(&rt, rt.alloc(), example(rt.alloc(), 2, &voids())?, on_voids)
+}
+
+/// The cell leads south and no longer east: past its steepest, to another label; two cells have another inflow.
+static LEADS_ASIDE: Found = (
+    &[
         (Rule::Slope, 1, (1, 1)),
         (Rule::Accumulation, 2, (1, 2)),
         (Rule::Label, 1, (1, 1)),
-    ];
-    let pixels = [0, 0, 0, 0, 0, 10, 13, 0, 0, 13, 0, 0, 0, 0, 0, 0];
-    expect(&rt, rt.alloc(), &slope, &wanted, Some((1, 1)), &pixels)
-}
+    ],
+    Some((1, 1)),
+    &[0, 0, 0, 0, 0, 10, 13, 0, 0, 13, 0, 0, 0, 0, 0, 0],
+);
 
 #[test]
-fn a_missing_direction(rt: HostRuntime) -> Result<(), Fail> {
-    // The no-data number of directions is no code either, and names no neighbour.
-    let slope = changed_slope(rt.alloc(), Part::Dir, 1, 1, 255)?;
-    let wanted = [
+fn a_direction_that_leads_aside(rt: HostRuntime) -> Result<(), Fail> {
+    let slope = changed_slope(rt.alloc(), Part::Dir, 1, 1, 4)?;
+    expect(&rt, rt.alloc(), slope, LEADS_ASIDE)
+}
+
+/// The no-data number of directions is no code either, and names no neighbour.
+static MISSING: Found = (
+    &[
         (Rule::Missing, 1, (1, 1)),
         (Rule::BadCode, 1, (1, 1)),
         (Rule::Slope, 1, (1, 1)),
         (Rule::Accumulation, 1, (1, 2)),
-    ];
-    let pixels = [0, 0, 0, 0, 0, 2, 13, 0, 0, 0, 0, 0, 0, 0, 0, 0];
-    expect(&rt, rt.alloc(), &slope, &wanted, Some((1, 1)), &pixels)
+    ],
+    Some((1, 1)),
+    &[0, 0, 0, 0, 0, 2, 13, 0, 0, 0, 0, 0, 0, 0, 0, 0],
+);
+
+#[test]
+fn a_missing_direction(rt: HostRuntime) -> Result<(), Fail> {
+    let slope = changed_slope(rt.alloc(), Part::Dir, 1, 1, 255)?;
+    expect(&rt, rt.alloc(), slope, MISSING)
 }
+
+/// The last row's outlet has the label of the first row's.
+static SHARED: Found = (
+    &[(Rule::Label, 1, (3, 2)), (Rule::SharedLabel, 1, (3, 3))],
+    Some((3, 2)),
+    &[0, 0, 0, 0, 0, 0, 0, 0, 0, 0, 0, 0, 0, 0, 14, 15],
+);
 
 #[test]
 fn a_label_of_another_outlet(rt: HostRuntime) -> Result<(), Fail> {
-    // The last row's outlet has the label of the first row's.
     let slope = changed_slope(rt.alloc(), Part::Bas, 3, 3, 1)?;
-    let wanted = [(Rule::Label, 1, (3, 2)), (Rule::SharedLabel, 1, (3, 3))];
-    let pixels = [0, 0, 0, 0, 0, 0, 0, 0, 0, 0, 0, 0, 0, 0, 14, 15];
-    expect(&rt, rt.alloc(), &slope, &wanted, Some((3, 2)), &pixels)
+    expect(&rt, rt.alloc(), slope, SHARED)
 }
+
+/// The voids with a number of con changed.
+fn changed_voids(alloc: Global, row: u8, col: u8, number: i64) -> Result<Given, Fail> {
+    let numbers = changed(alloc, 2, &voids(), Part::Con, row, col, number)?;
+    example(alloc, 2, &numbers)
+}
+
+/// A void has a number.
+static NUMBERED: Found = (
+    &[(Rule::VoidCell, 1, (0, 1))],
+    Some((0, 1)),
+    &[255, 1, 255, 255],
+);
 
 #[test]
 fn a_number_at_a_void(rt: HostRuntime) -> Result<(), Fail> {
-    let numbers = changed(rt.alloc(), 2, &voids(), Part::Con, 0, 1, 0)?;
-    let voids = example(rt.alloc(), 2, &numbers)?;
-    let wanted = [(Rule::VoidCell, 1, (0, 1))];
-    let pixels = [255, 1, 255, 255];
-    expect(&rt, rt.alloc(), &voids, &wanted, Some((0, 1)), &pixels)
+    let voids = changed_voids(rt.alloc(), 0, 1, 0)?;
+    expect(&rt, rt.alloc(), voids, NUMBERED)
 }
 
-#[test]
-fn an_outlet_inside_long_rows(rt: HostRuntime) -> Result<(), Fail> {
+/// The cell leads nowhere and no longer north, so the cell there counts too many, and both are outlets of one label.
+static INSIDE: [Told; 3] = [
+    (Rule::FlatStep, 1, (1, 300)),
+    (Rule::Accumulation, 1, (0, 300)),
+    (Rule::SharedLabel, 1, (1, 300)),
+];
+
+/// The numbers of three long rows, in which a cell inside is an outlet. Lanes vouch for the cells beside it.
+fn long_rows(alloc: Global) -> Result<Vec<i64>, Fail> {
     let shafts = Shafts {
         rows: 3,
         cols: COLS,
         listed: &[],
     };
-    let mut numbers = shafts.numbers(rt.alloc())?;
-    // The cell leads nowhere and no longer north, so the cell there counts too many, and both are outlets of one label. Lanes vouch for the cells beside it.
+    let mut numbers = shafts.numbers(alloc)?;
     put(&mut numbers, (Part::Dir, (1, 300), 0))?;
-    let wanted = [
-        (Rule::FlatStep, 1, (1, 300)),
-        (Rule::Accumulation, 1, (0, 300)),
-        (Rule::SharedLabel, 1, (1, 300)),
-    ];
-    let laned = faults_by_rows(rt.alloc(), &numbers, true)?;
-    expect_found(&rt, &laned, &wanted, Some((0, 300)));
-    let plain = faults_by_rows(rt.alloc(), &numbers, false)?;
-    expect_found(&rt, &plain, &wanted, Some((0, 300)));
-    expect_rejected(&rt, &laned, shape_of_rows()?);
-    expect_rejected(&rt, &plain, shape_of_rows()?);
+    Ok(numbers)
+}
+
+/// Looks that the walk over the long rows, with lanes or without, finds the faults, and that the verdict is that of the first row.
+fn expect_inside(rt: &impl Abort, alloc: Global, is_laned: bool) -> Result<(), Fail> {
+    let numbers = long_rows(alloc)?;
+    let walk = faults_by_rows(alloc, &numbers, is_laned)?;
+    expect_found(rt, &walk, &INSIDE, Some((0, 300)));
+    expect_rejected(rt, &walk, shape_of_rows()?);
     Ok(())
+}
+
+#[test]
+fn an_outlet_inside_long_rows(rt: HostRuntime) -> Result<(), Fail> {
+    expect_inside(&rt, rt.alloc(), true)?;
+    expect_inside(&rt, rt.alloc(), false)
 }
 
 /// Three rows.
 fn shape_of_rows() -> Result<Shape, Fail> {
-    Ok(Shape::new(3, COLS.into()).ok_or("a shape")?)
+    match Shape::new(3, COLS.into()) {
+        Some(shape) => Ok(shape),
+        None => Err("a shape".into()),
+    }
 }
 
 /// Looks that the verdict is the fault of the first row.

@@ -1,10 +1,12 @@
 //! Examples: parts put together from numbers, and the verdict on them.
 
-ghost use Rattle.std.specs.Prelude.{◌≡◌, ◌↔◌, ◌*◌, IsTrue, IfOk, length};
+ghost use Rattle.std.specs.Prelude.{◌≡◌, ◌↔◌, IsTrue, IfOk};
 ghost use Rattle.drain_grid.specs.Values.{IsNoData, IsPixel};
 
 use drain_grid::values::{GREATEST_PIXEL, LEAST_PIXEL};
-use drain_grid::{Elevation, Product, ProductSet, Raster, Rule, Shape, Sinks, parse_sinks};
+use drain_grid::{
+    Elevation, Held, PerProduct, Product, ProductSet, Raster, Rule, Shape, Sinks, parse_sinks,
+};
 use drain_rules::{Counts, Verdict, verdict_of};
 use std::alloc::Global;
 use std::fmt::Debug;
@@ -61,27 +63,58 @@ pub fn elevation(alloc: Global, shape: Shape, numbers: &[i64]) -> Result<Elevati
     Ok(Elevation::new(shape, samples))
 }
 
-/// The products of an example: five rasters whose numbers stand one after the other. The number for no data of con is given; the others are the defaults.
+/// So many numbers behind as many for each place before, where there are as many.
+pub fn numbers_at(numbers: &[i64], place: usize, count: usize) -> Option<&[i64]> {
+    let start = place.saturating_mul(count);
+    numbers.get(start..start.saturating_add(count))
+}
+
+/// The numbers of a part, of so many cells; none where there are fewer parts.
+fn part_of(numbers: &[i64], cells: usize, part: Part) -> &[i64] {
+    numbers_at(numbers, part as usize, cells).unwrap_or(&[])
+}
+
+/// The part of a product, and its number for no data: the default one, but of con.
+fn product_of(product: Held, con_nodata: i16) -> (Part, i64)
+    ensures { IsNoData result.1 }
+{
+    match product {
+        Held::Con => (Part::Con, con_nodata.into()),
+        Held::Dir => (Part::Dir, Product::Dir.default_no_data()),
+        Held::Acc => (Part::Acc, Product::Acc.default_no_data()),
+        Held::Bas => (Part::Bas, Product::Bas.default_no_data()),
+        Held::Rnk => (Part::Rnk, Product::Rnk.default_no_data()),
+    }
+}
+
+/// The products of an example, whose parts stand one after the other. The number for no data of con is given; the others are the defaults.
 pub fn products(
     alloc: Global,
     shape: Shape,
     con_nodata: i16,
     numbers: &[i64],
 ) -> Result<ProductSet, Fail>
-    requires long { length numbers.now ≡ 5 * (shape.rows * shape.cols) }
     ensures { IfOk result (λ products. products.con.extent ≡ shape) }
 {
-    let cells = shape.cells();
-    let codes = Product::Dir.default_no_data();
-    let counts = Product::Acc.default_no_data();
-    let labels = Product::Bas.default_no_data();
-    let ranks = Product::Rnk.default_no_data();
+    let made = |product: Held| -> Result<Raster, Fail>
+        ensures { IfOk result (λ raster. raster.extent ≡ shape) }
+    {
+        let (part, nodata) = product_of(product, con_nodata);
+        raster(alloc, shape, nodata, part_of(numbers, shape.cells(), part))
+    };
+    let PerProduct {
+        con,
+        dir,
+        acc,
+        bas,
+        rnk,
+    } = PerProduct::from_each(&made)?;
     Ok(ProductSet {
-        con: raster(alloc, shape, con_nodata.into(), &numbers[..cells])?,
-        dir: raster(alloc, shape, codes, &numbers[cells..2 * cells])?,
-        acc: raster(alloc, shape, counts, &numbers[2 * cells..3 * cells])?,
-        bas: raster(alloc, shape, labels, &numbers[3 * cells..4 * cells])?,
-        rnk: raster(alloc, shape, ranks, &numbers[4 * cells..])?,
+        con,
+        dir,
+        acc,
+        bas,
+        rnk,
     })
 }
 
@@ -101,7 +134,7 @@ fn verdict_with_sinks(
         return Err("six parts".into());
     }
     let elevation = elevation(alloc, shape, &numbers[..cells])?;
-    let products = products(alloc, shape, con_nodata, &numbers[cells..])?;
+    let products = products(alloc, shape, con_nodata, numbers)?;
     verdict_on_parts(alloc, &elevation, sinks, &products)
 }
 

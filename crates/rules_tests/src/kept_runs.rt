@@ -54,6 +54,12 @@ fn put_void(numbers: &mut [i64], number: i64) {
     }
 }
 
+/// Numbers that stand for no data, whether they fit 16 bits or 32, with a sign or without.
+static NO_DATA: [i64; 8] = [-32768, -9999, -1, 0, 255, 65535, -2147483648, 4294967295];
+
+/// The column from which cells are kept, and the column before which they are.
+static BESIDE: [(u32, u32); 3] = [(1, 49), (49, 49), (52, 180)];
+
 #[test]
 fn cells_beside_a_void(rt: HostRuntime) -> Result<(), Fail> {
     let shafts = Shafts {
@@ -62,12 +68,11 @@ fn cells_beside_a_void(rt: HostRuntime) -> Result<(), Fail> {
         listed: &[],
     };
     let mut numbers = shafts.numbers(rt.alloc())?;
-    // Numbers that stand for no data, whether they fit 16 bits or 32, with a sign or without.
-    for nodata in [-32768, -9999, -1, 0, 255, 65535, -2147483648, 4294967295] {
+    for &nodata in &NO_DATA {
         put_void(&mut numbers, nodata);
-        for (from, wanted) in [(1, level(49)), (49, level(49)), (52, level(180))] {
+        for &(from, end) in &BESIDE {
             let kept = kept_by_lanes(rt.alloc(), &[], &numbers, 1, from)?;
-            equal(&rt, (nodata, from), kept, wanted);
+            equal(&rt, (nodata, from), kept, level(end));
         }
     }
     Ok(())

@@ -10,7 +10,7 @@ use std::test::Fail;
 use worked_grids::shafts::Shafts;
 
 /// The columns at which strides of 64, of 8 and of 1 begin and end.
-const COLUMNS: [u16; 14] = [
+static COLUMNS: [u16; 14] = [
     1, 64, 65, 128, 129, 512, 513, 576, 577, 584, 585, 592, 593, 598,
 ];
 
@@ -44,7 +44,7 @@ fn verdict_at(
 /// A label that is no other cell's.
 #[test]
 fn a_label_at_the_ends_of_strides(rt: HostRuntime) -> Result<(), Fail> {
-    for col in COLUMNS {
+    for &col in &COLUMNS {
         let given = verdict_at(rt.alloc(), Part::Bas, col, 5000, Ranks::Asked)?;
         same(&rt, "a label", given, rejected(Rule::Label, 1, col));
     }
@@ -54,17 +54,20 @@ fn a_label_at_the_ends_of_strides(rt: HostRuntime) -> Result<(), Fail> {
 /// Water that goes nowhere, where the cell above counts it: that is told first.
 #[test]
 fn a_code_at_the_ends_of_strides(rt: HostRuntime) -> Result<(), Fail> {
-    for col in COLUMNS {
+    for &col in &COLUMNS {
         let given = verdict_at(rt.alloc(), Part::Dir, col, 0, Ranks::Unasked)?;
         same(&rt, "a code", given, rejected(Rule::Accumulation, 0, col));
     }
     Ok(())
 }
 
+/// Ranks that fit no lane.
+static UNFIT: [(&str, i64); 2] = [("less than 0", -1), ("the least pixel", -2147483648)];
+
 /// Ranks of 33 bits and less than 0 fit no lane: then each cell is tried by itself, and where ranks aren't asked for nothing is changed.
 #[test]
 fn ranks_that_fit_no_lane(rt: HostRuntime) -> Result<(), Fail> {
-    for (name, rank) in [("less than 0", -1), ("the least pixel", -2147483648)] {
+    for &(name, rank) in &UNFIT {
         let given = verdict_at(rt.alloc(), Part::Rnk, 300, rank, Ranks::Unasked)?;
         same(&rt, name, given, accepted(3, 600, 1800, 0, 1202));
     }

@@ -9,48 +9,63 @@ use std::test::Fail;
 use worked_grids::shafts::Shafts;
 use worked_grids::{LISTED_PIT_SINKS, listed_pit, parted, pit, voids};
 
+/// Lists, each with whether it has the pit.
+static OF_LISTED_PIT: [(&str, bool); 6] = [
+    (LISTED_PIT_SINKS, true),
+    ("1 1\n1 1\n01 1", true),
+    ("0 0\n\n9 9\n1 1\n0 4\n4 0\n2 2", true),
+    ("", false),
+    // Cells beside it and outside the grid, one of which has its place were there no end of a row.
+    ("0 0\n0 1\n0 2\n1 0\n1 2\n2 0\n2 1\n2 2", false),
+    ("0 4\n4 0\n3 3\n11 1\n1 11\n1 4294967295", false),
+];
+
 #[test]
 fn a_pit_that_is_listed_and_not(rt: HostRuntime) -> Result<(), Fail> {
-    let right = accepted(3, 3, 9, 0, 1);
-    let no_step = rejected(Rule::FlatStep, 1, 1);
-    for (text, wanted) in [
-        (LISTED_PIT_SINKS, right),
-        ("1 1\n1 1\n01 1", right),
-        ("0 0\n\n9 9\n1 1\n0 4\n4 0\n2 2", right),
-        ("", no_step),
-        // Cells beside it and outside the grid, one of which has its place were there no end of a row.
-        ("0 0\n0 1\n0 2\n1 0\n1 2\n2 0\n2 1\n2 2", no_step),
-        ("0 4\n4 0\n3 3\n11 1\n1 11\n1 4294967295", no_step),
-    ] {
+    for &(text, is_listed) in &OF_LISTED_PIT {
+        let wanted = if is_listed {
+            accepted(3, 3, 9, 0, 1)
+        } else {
+            rejected(Rule::FlatStep, 1, 1)
+        };
         let given = verdict_listing(rt.alloc(), text.as_bytes(), 3, 3, &listed_pit())?;
         same(&rt, text, given, wanted);
     }
     Ok(())
 }
 
+/// Lists, each with whether it has the pit.
+static OF_FILLED_PIT: [(&str, bool); 5] = [
+    ("", false),
+    ("0 0", false),
+    ("0 0\n0 1\n0 2\n1 0\n1 2\n2 0\n2 1\n2 2", false),
+    ("3 0\n0 3\n3 3\n0 4\n4294967295 4294967295", false),
+    ("1 1", true),
+];
+
 /// Cells that are open of themselves, and cells outside the grid, change nothing.
 #[test]
 fn a_filled_pit_with_sinks(rt: HostRuntime) -> Result<(), Fail> {
-    let right = accepted(3, 3, 9, 1, 8);
-    for (text, wanted) in [
-        ("", right),
-        ("0 0", right),
-        ("0 0\n0 1\n0 2\n1 0\n1 2\n2 0\n2 1\n2 2", right),
-        ("3 0\n0 3\n3 3\n0 4\n4294967295 4294967295", right),
-        ("1 1", rejected(Rule::OpenRaised, 1, 1)),
-    ] {
+    for &(text, is_listed) in &OF_FILLED_PIT {
+        let wanted = if is_listed {
+            rejected(Rule::OpenRaised, 1, 1)
+        } else {
+            accepted(3, 3, 9, 1, 8)
+        };
         let given = verdict_listing(rt.alloc(), text.as_bytes(), 3, 3, &pit())?;
         same(&rt, text, given, wanted);
     }
     Ok(())
 }
 
+/// Lists of voids.
+static OF_VOIDS: [&str; 4] = ["0 3", "1 3", "2 3", "0 3\n1 3\n2 3\n7 3"];
+
 #[test]
 fn listed_voids(rt: HostRuntime) -> Result<(), Fail> {
-    let on_parted = accepted(3, 7, 18, 0, 16);
-    for text in ["0 3", "1 3", "2 3", "0 3\n1 3\n2 3\n7 3"] {
+    for &text in &OF_VOIDS {
         let given = verdict_listing(rt.alloc(), text.as_bytes(), 3, 7, &parted())?;
-        same(&rt, text, given, on_parted);
+        same(&rt, text, given, accepted(3, 7, 18, 0, 16));
     }
     let beside = verdict_listing(rt.alloc(), b"1 3\n1 5", 3, 7, &parted())?;
     let no_outlet = rejected(Rule::OutletCode, 1, 5);
@@ -114,7 +129,7 @@ fn each_cell_of_a_level_grid(rt: HostRuntime) -> Result<(), Fail> {
 }
 
 /// Columns of the middle one of three long rows.
-const LISTED: [u16; 7] = [1, 255, 256, 257, 511, 512, 598];
+static LISTED: [u16; 7] = [1, 255, 256, 257, 511, 512, 598];
 
 /// The verdicts on three long rows that are right where these columns of the middle one are listed: by rasters and by rows. One of them
 /// is left out of the list, and these lines stand in front.
@@ -127,7 +142,7 @@ fn long_verdicts(alloc: Global, left_out: u16, more: &str) -> Result<[Verdict; 2
     let numbers = shafts.numbers(alloc)?;
     let mut text = Vec::new(alloc);
     text.extend_from_slice(more.as_bytes())?;
-    for col in LISTED {
+    for &col in &LISTED {
         if col != left_out {
             let line = format!(in alloc; "1 {col}\n")?;
             text.extend_from_slice(line.as_bytes())?;
@@ -139,26 +154,29 @@ fn long_verdicts(alloc: Global, left_out: u16, more: &str) -> Result<[Verdict; 2
     ])
 }
 
+/// The column that is left out, the lines in front, and the rule and the column that fail in the middle row, if any.
+static LONG_ROWS: [(u16, &str, Option<(Rule, u32)>); 11] = [
+    (0, "", None),
+    (
+        0,
+        "2 300\n1 599\n1 0\n0 256\n0 0\n2 599\n1 600\n3 1\n1 256\n",
+        None,
+    ),
+    (0, "1 300\n", Some((Rule::OutletCode, 300))),
+    (0, "1 258\n1 300\n", Some((Rule::OutletCode, 258))),
+    (1, "", Some((Rule::FlatStep, 1))),
+    (255, "", Some((Rule::FlatStep, 255))),
+    (256, "", Some((Rule::FlatStep, 256))),
+    (257, "0 257\n2 257\n", Some((Rule::FlatStep, 257))),
+    (511, "", Some((Rule::FlatStep, 511))),
+    (512, "", Some((Rule::FlatStep, 512))),
+    (598, "0 1198\n", Some((Rule::FlatStep, 598))),
+];
+
 #[test]
 fn long_rows_by_rasters_and_by_rows(rt: HostRuntime) -> Result<(), Fail> {
-    let right = accepted(3, 600, 1800, 0, 1209);
-    for (left_out, more, wanted) in [
-        (0, "", right),
-        (
-            0,
-            "2 300\n1 599\n1 0\n0 256\n0 0\n2 599\n1 600\n3 1\n1 256\n",
-            right,
-        ),
-        (0, "1 300\n", rejected_far(Rule::OutletCode, 300)),
-        (0, "1 258\n1 300\n", rejected_far(Rule::OutletCode, 258)),
-        (1, "", rejected_far(Rule::FlatStep, 1)),
-        (255, "", rejected_far(Rule::FlatStep, 255)),
-        (256, "", rejected_far(Rule::FlatStep, 256)),
-        (257, "0 257\n2 257\n", rejected_far(Rule::FlatStep, 257)),
-        (511, "", rejected_far(Rule::FlatStep, 511)),
-        (512, "", rejected_far(Rule::FlatStep, 512)),
-        (598, "0 1198\n", rejected_far(Rule::FlatStep, 598)),
-    ] {
+    for &(left_out, more, fault) in &LONG_ROWS {
+        let wanted = long_verdict(fault);
         let [by_rasters, by_rows] = long_verdicts(rt.alloc(), left_out, more)?;
         same(&rt, "by rasters", by_rasters, wanted);
         same(&rt, "by rows", by_rows, wanted);
@@ -166,7 +184,10 @@ fn long_rows_by_rasters_and_by_rows(rt: HostRuntime) -> Result<(), Fail> {
     Ok(())
 }
 
-/// A rejection in the middle one of the long rows.
-fn rejected_far(rule: Rule, col: u32) -> Verdict {
-    Verdict::Rejected { rule, row: 1, col }
+/// The verdict on the long rows where this is the fault in the middle one.
+fn long_verdict(fault: Option<(Rule, u32)>) -> Verdict {
+    match fault {
+        Some((rule, col)) => Verdict::Rejected { rule, row: 1, col },
+        None => accepted(3, 600, 1800, 0, 1209),
+    }
 }

@@ -3,6 +3,9 @@
 use crate::examples::{accepted, same, verdict_on};
 use std::test::Fail;
 
+/// Rows and columns.
+static SHAPES: [(&str, u32, u32); 2] = [("a row", 1, 28801), ("a column", 28801, 1)];
+
 /// On a level row each cell is an outlet with a label of its own, from 1 on.
 #[test]
 fn accepts_the_longest_rows(rt: HostRuntime) -> Result<(), Fail> {
@@ -17,7 +20,7 @@ fn accepts_the_longest_rows(rt: HostRuntime) -> Result<(), Fail> {
             numbers.push(number)?;
         }
     }
-    for (name, rows, cols) in [("a row", 1, 28801), ("a column", 28801, 1)] {
+    for &(name, rows, cols) in &SHAPES {
         let verdict = verdict_on(rt.alloc(), rows, cols, &numbers)?;
         same(&rt, name, verdict, accepted(rows, cols, 28801, 0, 28801));
     }

@@ -119,26 +119,33 @@ fn verdict_changed_twice(
     verdict_changed(alloc, 4, &numbers, other, place, last)
 }
 
+/// The cell whose accumulation is another, the cell whose con is, the rule that fails first, and the row and the column.
+static TWO_FAULTS: [(&str, (u8, u8), (u8, u8), Rule, u8, u8); 2] = [
+    (
+        "the first cell, though its rule is the later one",
+        (0, 3),
+        (2, 0),
+        Rule::Accumulation,
+        0,
+        3,
+    ),
+    (
+        "the first rule at a cell",
+        (0, 0),
+        (0, 0),
+        Rule::BelowGround,
+        0,
+        0,
+    ),
+];
+
 #[test]
 fn tells_the_first_of_two_faults(rt: HostRuntime) -> Result<(), Fail> {
-    for (name, sum, con, wanted) in [
-        (
-            "the first cell, though its rule is the later one",
-            (0, 3),
-            (2, 0),
-            rejected(Rule::Accumulation, 0, 3),
-        ),
-        (
-            "the first rule at a cell",
-            (0, 0),
-            (0, 0),
-            rejected(Rule::BelowGround, 0, 0),
-        ),
-    ] {
+    for &(name, sum, con, rule, row, col) in &TWO_FAULTS {
         let sum = (Part::Acc, sum, 5);
         let con = (Part::Con, con, 2);
         let verdict = verdict_changed_twice(rt.alloc(), sum, con)?;
-        same(&rt, name, verdict, wanted);
+        same(&rt, name, verdict, rejected(rule, row, col));
     }
     Ok(())
 }

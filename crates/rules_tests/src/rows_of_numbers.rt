@@ -7,7 +7,7 @@ ghost use Rattle.drain_grid.specs.Tile.{IsSample};
 ghost use Rattle.drain_grid.specs.Values.{IsPixel};
 ghost use Rattle.drain_rules.specs.RowNumbers.{AreRowNumbers};
 
-use crate::examples::{Part, is_pixel};
+use crate::examples::{Part, is_pixel, numbers_at};
 use drain_faults::FaultWalk;
 use drain_grid::{NoData, PerProduct, Shape, Sinks, parse_sinks};
 use drain_kernel::Lanes;
@@ -64,9 +64,8 @@ fn are_row_numbers(z: &[i64], products: &PerProduct<&[i64]>) -> bool
 
 /// A row of a part.
 fn row_of(numbers: &[i64], part: Part, row: u8) -> Option<&[i64]> {
-    let rows_before = (part as usize).saturating_mul(3).saturating_add(row.into());
-    let start = rows_before.saturating_mul(COLS.into());
-    numbers.get(start..start.saturating_add(COLS.into()))
+    let rows_before = part as usize * 3 + row as usize;
+    numbers_at(numbers, rows_before, COLS.into())
 }
 
 /// What the rows are made of. The lanes of their numbers are taken, or they aren't.

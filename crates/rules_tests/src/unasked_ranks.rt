@@ -40,27 +40,47 @@ pub fn put(numbers: &mut Vec<i64>, (part, (row, col), number): Change) -> Result
 
 /// The verdict without ranks on these rows with two numbers changed.
 fn verdict_changed(alloc: Global, one: Change, other: Change) -> Result<Verdict, Fail> {
-    let mut numbers = long_rows(alloc, 4294967295)?;
+    let mut numbers = long_rows(alloc, UNRANKED)?;
     put(&mut numbers, one)?;
     put(&mut numbers, other)?;
     verdict_by_rows(alloc, b"", &numbers, Ranks::Unasked)
 }
 
+/// The number for no rank.
+const UNRANKED: i64 = 4294967295;
+
+/// The rank of each cell, whether ranks are asked for, and the rule that fails with the row and the column, if any.
+static RANKS: [(&str, i64, Ranks, Option<(Rule, u8, u8)>); 4] = [
+    (
+        "equal ranks, asked for",
+        0,
+        Ranks::Asked,
+        Some((Rule::FlatStep, 1, 1)),
+    ),
+    ("equal ranks", 0, Ranks::Unasked, None),
+    (
+        "no ranks, asked for",
+        UNRANKED,
+        Ranks::Asked,
+        Some((Rule::Missing, 0, 0)),
+    ),
+    ("no ranks", UNRANKED, Ranks::Unasked, None),
+];
+
+/// The verdict on the rows where this is the fault.
+fn verdict_of(fault: Option<(Rule, u8, u8)>) -> Verdict {
+    match fault {
+        Some((rule, row, col)) => rejected(rule, row, col),
+        None => accepted(3, 600, 1800, 0, 1202),
+    }
+}
+
 #[test]
 fn ranks_that_keep_no_rule(rt: HostRuntime) -> Result<(), Fail> {
-    let nodata = 4294967295;
-    let right = accepted(3, 600, 1800, 0, 1202);
-    let first_flat = rejected(Rule::FlatStep, 1, 1);
-    let missing = rejected(Rule::Missing, 0, 0);
-    for (name, rank, ranks, wanted) in [
-        ("equal ranks, asked for", 0, Ranks::Asked, first_flat),
-        ("equal ranks", 0, Ranks::Unasked, right),
-        ("no ranks, asked for", nodata, Ranks::Asked, missing),
-        ("no ranks", nodata, Ranks::Unasked, right),
-    ] {
+    for &(name, rank, ranks, fault) in &RANKS {
         let numbers = long_rows(rt.alloc(), rank)?;
         let given = verdict_by_rows(rt.alloc(), b"", &numbers, ranks)?;
-        same(&rt, name, given, wanted);
+        same(&rt, name, given, verdict_of(fault));
     }
     Ok(())
 }
