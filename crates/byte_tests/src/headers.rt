@@ -216,13 +216,14 @@ fn other_spellings(rt: HostRuntime) -> Result<(), Fail> {
 }
 
 /// The header of a usual tool, for the tile N37W105 of side 1201.
-#[test]
-fn a_usual_tool(rt: HostRuntime) -> Result<(), Fail> {
-    let text =
-        "BYTEORDER      I\nLAYOUT         BIL\nNROWS          1201\nNCOLS          1201\nNBANDS         1\n\
+static USUAL: &str =
+    "BYTEORDER      I\nLAYOUT         BIL\nNROWS          1201\nNCOLS          1201\nNBANDS         1\n\
         NBITS          16\nBANDROWBYTES   2402\nTOTALROWBYTES  2402\nPIXELTYPE      SIGNEDINT\n\
         ULXMAP         -105\nULYMAP         38\nXDIM           0.000833333333333333\n\
         YDIM           0.000833333333333333\nNODATA         -32768\n";
+
+#[test]
+fn a_usual_tool(rt: HostRuntime) -> Result<(), Fail> {
     let wanted = Header {
         rows: 1201,
         cols: 1201,
@@ -235,23 +236,22 @@ fn a_usual_tool(rt: HostRuntime) -> Result<(), Fail> {
         },
         ..SMALL
     };
-    same(
-        &rt,
-        "a usual tool",
-        parse_header(text.as_bytes()),
-        Ok(wanted),
-    );
+    let given = parse_header(USUAL.as_bytes());
+    same(&rt, "a usual tool", given, Ok(wanted));
     Ok(())
 }
+
+/// How many line feeds a text has, and the fault that is told.
+static LINE_FEEDS: [(usize, HeaderFault); 3] = [
+    (0, HeaderFault::MissingKey(Key::Nrows)),
+    (65536, HeaderFault::MissingKey(Key::Nrows)),
+    (65537, HeaderFault::TooLong),
+];
 
 #[test]
 fn the_longest_text(rt: HostRuntime) -> Result<(), Fail> {
     let line_feeds = [b'\n'; 65537];
-    for (length, wanted) in [
-        (0, HeaderFault::MissingKey(Key::Nrows)),
-        (65536, HeaderFault::MissingKey(Key::Nrows)),
-        (65537, HeaderFault::TooLong),
-    ] {
+    for &(length, wanted) in &LINE_FEEDS {
         let answer = parse_header(&line_feeds[..length]);
         same(&rt, length, answer, Err(wanted));
     }

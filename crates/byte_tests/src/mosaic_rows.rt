@@ -3,6 +3,7 @@
 ghost use Rattle.std.specs.Prelude.{◌≡◌, ◌<◌, IfOk, length};
 
 use crate::agree::same;
+use crate::row_sources;
 use crate::tiles::two_named;
 use drain_device::faults::{ScriptSource, Scripted};
 use drain_device::{ByteList, DeviceFault, ReadFault, RowStep};
@@ -90,15 +91,6 @@ fn rows_of(alloc: Global, names: [&str; 2]) -> Result<MosaicRows, Fail>
     Ok(MosaicRows::new(alloc, &layout)?)
 }
 
-/// The first six numbers, with zeros where there are fewer.
-fn first_six(numbers: &[i64]) -> [i64; 6] {
-    let mut first = [0; 6];
-    for (place, number) in first.iter_mut().zip(numbers) {
-        *place = *number;
-    }
-    first
-}
-
 /// What four calls give of two tiles of side 2 with these names.
 fn four_calls<'a>(
     alloc: Global,
@@ -112,7 +104,7 @@ fn four_calls<'a>(
     let answers = answers(&mut rows, &mut from, &mut Vec::new(alloc), &mut numbers)?;
     Ok((
         answers,
-        (numbers.len(), first_six(&numbers)),
+        (numbers.len(), row_sources::first(&numbers)),
         rows.seam(),
         rows.wrong_length(),
     ))
@@ -189,18 +181,25 @@ static ABOVE: [([&str; 2], [u8; 8], [u8; 8], [i64; 6]); 2] = [
     ),
 ];
 
+/// Three rows, and then the end.
+const THREE_ROWS: [Answer; 4] = [
+    Ok(RowStep::Row),
+    Ok(RowStep::Row),
+    Ok(RowStep::Row),
+    Ok(RowStep::Ended),
+];
+
 /// Two tiles that share row 1 of 3 rows, of which the one named first gives the row's last number.
 #[test]
 fn rows_of_a_tile_above_another(rt: HostRuntime) -> Result<(), Fail> {
     for (names, first, last, numbers) in &ABOVE {
-        let answers = [
-            Ok(RowStep::Row),
-            Ok(RowStep::Row),
-            Ok(RowStep::Row),
-            Ok(RowStep::Ended),
-        ];
         let given = of_bytes(rt.alloc(), *names, first, last, 100)?;
-        let wanted = (answers, (6, *numbers), Some(Cell { row: 1, col: 1 }), None);
+        let wanted = (
+            THREE_ROWS,
+            (6, *numbers),
+            Some(Cell { row: 1, col: 1 }),
+            None,
+        );
         same(&rt, *names, given, wanted);
     }
     Ok(())

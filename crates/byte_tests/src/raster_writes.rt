@@ -51,7 +51,9 @@ fn a_worked_raster_is_written_and_read_back(rt: HostRuntime) -> Result<(), Fail>
 
 /// What a write of these numbers to a sink that would fail at its first call answers, how many bytes were taken, and the failures.
 fn refused(alloc: Global, numbers: &[i64]) -> Result<(Result<(), WriteFault>, usize, u64), Fail> {
-    let raster = raster_of(alloc, 2, 2, numbers)?.ok_or("no raster")?;
+    let Some(raster) = raster_of(alloc, 2, 2, numbers)? else {
+        return Err("no raster".into());
+    };
     let script = [Scripted {
         first: 1,
         last: 1,
@@ -139,11 +141,17 @@ fn a_write_fails_where_its_sink_does(rt: HostRuntime) -> Result<(), Fail> {
     Ok(())
 }
 
+/// The last of the calls that are interrupted, and what a write answers.
+static LAST_INTERRUPTED: [(u64, Result<(), WriteFault>); 2] = [
+    (1009, Ok(())),
+    (1010, Err(WriteFault::WriteFailed)),
+];
+
 /// Interruptions of one write add up, wherever they come: 500 before the first byte, and as many or one less before the last.
 #[test]
 fn interruptions_add_up_over_a_write(rt: HostRuntime) -> Result<(), Fail> {
     let interrupted = SinkAnswer::Interrupted;
-    for (last, wanted) in [(1009, Ok(())), (1010, Err(WriteFault::WriteFailed))] {
+    for &(last, wanted) in &LAST_INTERRUPTED {
         let script = [
             Scripted {
                 first: 1,
@@ -187,9 +195,8 @@ fn long_bytes(alloc: Global) -> Result<Vec<u8>, AllocError> {
     }
     for row in 0..2u8 {
         for col in 0..3000u16 {
-            bytes.push(row)?;
-            bytes.extend_from_slice(&col.to_be_bytes())?;
-            bytes.push(7)?;
+            let [high, low] = col.to_be_bytes();
+            bytes.extend_from_slice(&[row, high, low, 7])?;
         }
         for _ in 12000..17000 {
             bytes.push(0)?;

@@ -126,7 +126,10 @@ fn a_worked_raster_is_read_in_both_orders(rt: HostRuntime) -> Result<(), Fail> {
 /// The four numbers of the padded raster with these bytes.
 fn four_numbers(alloc: Global, bytes: &[u8]) -> Result<Result<[i64; 4], RasterFault>, Fail> {
     match read_raster(alloc, Product::Con, &padded(ByteOrdering::Least), bytes) {
-        Ok(raster) => Ok(Ok(numbers_in(alloc, &raster)?.ok_or("four numbers")?)),
+        Ok(raster) => match numbers_in(alloc, &raster)? {
+            Some(numbers) => Ok(Ok(numbers)),
+            None => Err("four numbers".into()),
+        },
         Err(fault) => Ok(Err(fault)),
     }
 }
@@ -261,7 +264,9 @@ fn refused(
 ) -> Result<(Result<(), WriteFault>, usize), Fail>
     requires { extent_of header.now ≡ record { rows = 1; cols = 1 } }
 {
-    let raster = raster_of(alloc, 1, 1, &[number])?.ok_or("no raster")?;
+    let Some(raster) = raster_of(alloc, 1, 1, &[number])? else {
+        return Err("no raster".into());
+    };
     let mut sink = VecSink::new(Vec::new(alloc));
     let written = write_raster(&mut sink, header, &raster);
     Ok((written, sink.as_slice().len()))

@@ -62,13 +62,13 @@ const FAILED: [Answer; 4] = [
 /// How many numbers there are, and the first four, with zeros where there are fewer.
 pub type Numbers = (usize, [i64; 4]);
 
-/// What these numbers are.
-fn numbers_of(numbers: &[i64]) -> Numbers {
-    let mut first = [0; 4];
+/// The first of these numbers, with zeros where there are fewer.
+pub fn first<const N: usize>(numbers: &[i64]) -> [i64; N] {
+    let mut first = [0; N];
     for (place, number) in first.iter_mut().zip(numbers) {
         *place = *number;
     }
-    (numbers.len(), first)
+    first
 }
 
 /// The answers to four calls, and the numbers that each call left in the vector, one call's behind the other's.
@@ -84,7 +84,7 @@ fn four_calls<'a, S: RowSource<ScriptSource<'a>>>(
         *answer = rows.next_row(&mut from, &mut row);
         numbers.extend_from_slice(&row)?;
     }
-    Ok((answers, numbers_of(&numbers)))
+    Ok((answers, (numbers.len(), first(&numbers))))
 }
 
 /// What four calls give of a tile of side 2 with these bytes.

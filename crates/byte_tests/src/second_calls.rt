@@ -169,11 +169,13 @@ fn owed_answers(given: &Answers) -> [Answer; 5] {
     }
     let mut owed = [Err(ReadFault::AlreadyFailed); 5];
     for (place, answer) in owed.iter_mut().zip(answers) {
-        if *answer != row {
-            *place = Err(ReadFault::OutOfMemory);
-            break;
+        match answer {
+            Ok(RowStep::Row) => *place = row,
+            _ => {
+                *place = Err(ReadFault::OutOfMemory);
+                break;
+            }
         }
-        *place = row;
     }
     owed
 }

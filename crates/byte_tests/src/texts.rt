@@ -5,41 +5,38 @@ use drain_text::{first_line, first_word, whole_number};
 use std::test::Fail;
 
 /// Texts, each with its first line and what is behind that.
-static TEXTS: [(&str, &str, Option<&str>); 8] = [
-    ("", "", None),
-    ("a b", "a b", None),
-    ("a\n", "a", Some("")),
-    ("\na", "", Some("a")),
-    ("a\r\nb\nc", "a", Some("b\nc")),
-    ("a\r\r\nb", "a\r", Some("b")),
-    ("a\rb\r", "a\rb", None),
-    ("\r", "", None),
+static TEXTS: [(&str, &[u8], Option<&[u8]>); 8] = [
+    ("", b"", None),
+    ("a b", b"a b", None),
+    ("a\n", b"a", Some(b"")),
+    ("\na", b"", Some(b"a")),
+    ("a\r\nb\nc", b"a", Some(b"b\nc")),
+    ("a\r\r\nb", b"a\r", Some(b"b")),
+    ("a\rb\r", b"a\rb", None),
+    ("\r", b"", None),
 ];
 
 #[test]
 fn first_lines(rt: HostRuntime) -> Result<(), Fail> {
     for &(text, line, rest) in &TEXTS {
-        let wanted = (line.as_bytes(), rest.map(|rest| rest.as_bytes()));
-        same(&rt, text, first_line(text.as_bytes()), wanted);
+        same(&rt, text, first_line(text.as_bytes()), (line, rest));
     }
     Ok(())
 }
 
 /// Lines, each with its first word and what is behind that.
-static WORDS: [(&str, Option<(&str, &str)>); 5] = [
+static WORDS: [(&str, Option<(&[u8], &[u8])>); 5] = [
     ("", None),
     (" \t ", None),
-    ("a", Some(("a", ""))),
-    ("\t ab\tc d", Some(("ab", "\tc d"))),
-    ("a\rb ", Some(("a\rb", " "))),
+    ("a", Some((b"a", b""))),
+    ("\t ab\tc d", Some((b"ab", b"\tc d"))),
+    ("a\rb ", Some((b"a\rb", b" "))),
 ];
 
 #[test]
 fn first_words(rt: HostRuntime) -> Result<(), Fail> {
     for &(line, wanted) in &WORDS {
-        let found = first_word(line.as_bytes());
-        let wanted = wanted.map(|(word, rest)| (word.as_bytes(), rest.as_bytes()));
-        same(&rt, line, found, wanted);
+        same(&rt, line, first_word(line.as_bytes()), wanted);
     }
     Ok(())
 }

@@ -3,7 +3,7 @@
 ghost use Rattle.std.specs.Prelude.{◌≡◌, ◌*◌, IfOk, All, map, length};
 ghost use Rattle.drain_grid.specs.Tile.{IsSide};
 
-use super::samples_made;
+use super::{samples_made, seam_fault, turn};
 use crate::agree::same;
 use crate::tiles::{four_named, two_named};
 use drain_grid::{Cell, Elevation};
@@ -102,12 +102,8 @@ fn fault_of_turned(
     place: usize,
 ) -> Result<Option<SeamFault>, Fail> {
     let mut samples = *samples;
-    if let Some(tile) = samples.get_mut(tile) {
-        if let Some(sample) = tile.get_mut(place) {
-            *sample = 0;
-        }
-    }
-    Ok(eight(alloc, names, &samples)?.err())
+    turn(&mut samples, tile, place);
+    Ok(seam_fault(eight(alloc, names, &samples)?))
 }
 
 #[test]
@@ -188,13 +184,16 @@ fn shown(elevation: &Elevation) -> Shown {
     ((shape.rows(), shape.cols()), [first, last, middle])
 }
 
+/// The names of two tiles of side 1201, and the rows and columns of their mosaic.
+static LONG_BOXES: [([&str; 2], u32, u32); 2] = [
+    (["N00E000.hgt", "N00E007.hgt"], 1201, 9601),
+    (["N07E000.hgt", "N00E000.hgt"], 9601, 1201),
+];
+
 /// As wide and as tall as a box of tiles of side 1201 can be.
 #[test]
 fn widest_and_tallest(rt: HostRuntime) -> Result<(), Fail> {
-    for (names, rows, cols) in [
-        (["N00E000.hgt", "N00E007.hgt"], 1201, 9601),
-        (["N07E000.hgt", "N00E000.hgt"], 9601, 1201),
-    ] {
+    for &(names, rows, cols) in &LONG_BOXES {
         let given = of_two(rt.alloc(), 1201, names)?;
         same(&rt, names, given, ((rows, cols), [Some(1), Some(2), None]));
     }

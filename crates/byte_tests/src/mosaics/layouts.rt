@@ -4,7 +4,6 @@ ghost use Rattle.drain_grid.specs.Tile.{IsSide};
 
 use crate::agree::same;
 use crate::tiles::{four_named, two_named};
-use drain_grid::Cell;
 use drain_grid::tile::is_side;
 use drain_hgt::{NameFault, TileName};
 use drain_mosaic::{Layout, LayoutFault};

@@ -3,7 +3,7 @@
 ghost use Rattle.std.specs.Prelude.{map};
 ghost use Rattle.drain_mosaic.specs.Mosaic.{AreTiles};
 
-use super::{SQUARE, four_tiles, two_tiles};
+use super::{SQUARE, four_tiles, turn, two_tiles};
 use crate::agree::same;
 use crate::tiles::{four_named, two_named};
 use drain_grid::{Cell, VOID};
@@ -16,10 +16,10 @@ use std::test::Fail;
 fn seam_of(alloc: Global, layout: &Layout, tiles: &[Vec<i16>]) -> Result<Option<Cell>, Fail>
     requires { AreTiles layout.now (map (λ tile. tile.items) tiles.now) }
 {
-    let seam = match join(alloc, layout, tiles).err() {
-        Some(SeamFault::SeamMismatch(cell)) => Some(cell),
-        Some(fault) => return Err(fault.into()),
-        None => None,
+    let seam = match join(alloc, layout, tiles) {
+        Err(SeamFault::SeamMismatch(cell)) => Some(cell),
+        Err(fault) => return Err(fault.into()),
+        Ok(_) => None,
     };
     if first_seam(layout, tiles) != seam {
         return Err("another cell without memory".into());
@@ -179,13 +179,9 @@ fn corners_of_four_tiles(rt: HostRuntime) -> Result<(), Fail> {
 /// The square with the samples at one or two places turned to 0: a tile, and a place in it.
 fn with_zeros(places: [(usize, usize); 2]) -> [[i16; 9]; 4] {
     let mut tiles = square();
-    for (tile, place) in places {
-        if let Some(tile) = tiles.get_mut(tile) {
-            if let Some(sample) = tile.get_mut(place) {
-                *sample = 0;
-            }
-        }
-    }
+    let [(tile, place), (other, other_place)] = places;
+    turn(&mut tiles, tile, place);
+    turn(&mut tiles, other, other_place);
     tiles
 }
 
