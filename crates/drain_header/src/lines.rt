@@ -1,8 +1,9 @@
 //! The lines of a header, one after another: each keyword's value, or the first fault of a line.
 
-ghost use Rattle.std.specs.Prelude.{◌≡◌, ◌≤◌, length};
+ghost use Rattle.std.specs.Prelude.{◌≡◌, ◌≤◌, None, is_some, length, slice_index_or};
 ghost use Rattle.drain_text.specs.Text.{lines_of};
 ghost use Rattle.drain_header.specs.Lacking.{lacking};
+ghost use Rattle.drain_header.specs.Lines.{key_order};
 ghost use Rattle.drain_header.specs.Reading.{nothing, with_line as line_added, with_lines as lines_added};
 
 use crate::fault::HeaderFault;
@@ -41,8 +42,7 @@ fn with_line(seen: Seen, number: u32, line: &[u8]) -> Result<Seen, HeaderFault>
     let Some(key) = keyword else {
         return Ok(seen);
     };
-    let place = key as usize;
-    if seen[place].is_some() {
+    if has_value(&seen, key) {
         return Err(HeaderFault::RepeatedKey(number));
     }
     let Some(word) = word else {
@@ -52,8 +52,15 @@ fn with_line(seen: Seen, number: u32, line: &[u8]) -> Result<Seen, HeaderFault>
         return Err(HeaderFault::BadValue(number));
     };
     let mut next = seen;
-    next[place] = Some(value);
+    next[key as usize] = Some(value);
     Ok(next)
+}
+
+/// Whether a line so far has the keyword.
+fn has_value(seen: &Seen, key: Key) -> bool
+    ensures { result ≡ is_some (slice_index_or seen.now (key_order key) None) }
+{
+    seen[key as usize].is_some()
 }
 
 /// The first keyword that a header must have and that no line has.
