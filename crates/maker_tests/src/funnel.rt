@@ -1,10 +1,9 @@
 //! A funnel: every cell drains through one outlet, over heights from below the sea to above it.
 
 use crate::agree::same;
-use crate::made::{elevation, one_tile};
+use crate::made::{elevation, judged, one_tile};
 use drain_grid::{Cell, Raster, Sinks};
-use drain_maker::make;
-use drain_rules::{Counts, Verdict, verdict_of};
+use drain_rules::{Counts, Verdict};
 use std::alloc::Global;
 use std::test::Fail;
 
@@ -40,9 +39,7 @@ fn greatest(raster: &Raster) -> i64 {
 fn verdict_and_greatest(alloc: Global) -> Result<(Verdict, i64), Fail> {
     let layout = one_tile(alloc, SIDE)?;
     let elevation = elevation(&layout, samples(alloc)?)?;
-    let sinks = Sinks::none(alloc);
-    let products = make(alloc, &layout, &elevation, &sinks)?;
-    let verdict = verdict_of(alloc, &elevation, &sinks, &products)?;
+    let (products, verdict) = judged(alloc, &layout, &elevation, &Sinks::none(alloc))?;
     Ok((verdict, greatest(&products.acc)))
 }
 

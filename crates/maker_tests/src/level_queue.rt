@@ -56,17 +56,28 @@ fn takes_out_by_level_and_then_by_time(rt: HostRuntime) -> Result<(), Fail> {
     Ok(())
 }
 
-/// An item that came out can go in again, and below the level that was come to.
-#[test]
-fn takes_items_in_again(rt: HostRuntime) -> Result<(), Fail> {
-    let mut queue = LevelQueue::new(rt.alloc(), 3)?;
+/// What a queue of three cells holds once the item 2 went in, and what comes out.
+type Holds = (bool, bool, bool, Option<(i16, u32)>);
+
+/// What comes out once the item 2 went in again, and whether it is held then.
+type Last = (Option<(i16, u32)>, Option<(i16, u32)>, bool);
+
+/// What is told of a queue of three cells into which the item 2 goes twice.
+fn put_in_twice(alloc: Global) -> Result<(Holds, Last), OutOfMemory> {
+    let mut queue = LevelQueue::new(alloc, 3)?;
     queue.push(7, 2);
     let held = (queue.holds(2), queue.holds(1), queue.holds(3), queue.pop());
-    same(&rt, "held", held, (true, false, false, Some((7, 2))));
     if !queue.holds(2) {
         queue.push(-7, 2);
     }
-    let last = (queue.pop(), queue.pop(), queue.holds(2));
+    Ok((held, (queue.pop(), queue.pop(), queue.holds(2))))
+}
+
+/// An item that came out can go in again, and below the level that was come to.
+#[test]
+fn takes_items_in_again(rt: HostRuntime) -> Result<(), Fail> {
+    let (held, last) = put_in_twice(rt.alloc())?;
+    same(&rt, "held", held, (true, false, false, Some((7, 2))));
     same(&rt, "in again", last, (Some((-7, 2)), None, false));
     Ok(())
 }

@@ -1,26 +1,41 @@
 //! Products made with listed sinks: tiles worked out by hand, and lists that name cells without data.
 
+ghost use Rattle.std.specs.Prelude.{◌≡◌};
+ghost use Rattle.drain_mosaic.specs.Tiling.{extent_of};
+
 use crate::agree::{same, same_numbers};
-use crate::made::{con_of_nine, elevation, made_of_tile, one_tile};
+use crate::made::{con_of_nine, elevation, numbers_made, one_tile};
 use crate::raster_numbers::Numbers;
-use drain_grid::{Held, SinkFault, VOID, parse_sinks};
+use drain_grid::{Elevation, Held, SinkFault, VOID, parse_sinks};
 use drain_hgt::TileName;
 use drain_maker::{MakeRefusal, make};
+use drain_mosaic::Layout;
 use refused_memory::owed_unless_right;
 use std::alloc::Global;
+use std::process::Abort;
 use std::test::Fail;
 
+/// A tile's side and its samples.
+type Tile<'a> = (u32, &'a [i16]);
+
 /// The numbers of a product that is made of one tile with the sinks that the text lists.
-fn made(
+fn made(alloc: Global, tile: Tile, list: &str, product: Held) -> Result<Numbers, Fail> {
+    let sinks = parse_sinks(alloc, list.as_bytes())?;
+    numbers_made(alloc, tile, &sinks, product)
+}
+
+/// Ends the test where a product that is made of one tile with the sinks that the text lists has other numbers.
+fn gives(
+    rt: &impl Abort,
     alloc: Global,
-    side: u32,
-    samples: &[i16],
+    tile: Tile,
     list: &str,
     product: Held,
-) -> Result<Numbers, Fail> {
-    let sinks = parse_sinks(alloc, list.as_bytes())?;
-    let products = made_of_tile(alloc, side, samples, &sinks)?;
-    Ok(Numbers::of(products.raster(product)))
+    wanted: &[i64],
+) -> Result<(), Fail> {
+    let given = made(alloc, tile, list, product)?;
+    same_numbers(rt, (product, list), given.as_slice(), wanted);
+    Ok(())
 }
 
 /// A pit in the middle, lower than the edge.
@@ -42,8 +57,7 @@ static PIT_LISTS: [&str; 3] = ["1 1", "1 1\n1 1", "\n1 1\r\n\n0 2\n1 1\n"];
 fn a_listed_pit_is_the_one_outlet(rt: HostRuntime) -> Result<(), Fail> {
     for &(product, wanted) in &OF_PIT {
         for &list in &PIT_LISTS {
-            let given = made(rt.alloc(), 3, &PIT, list, product)?;
-            same_numbers(&rt, (product, list), given.as_slice(), &wanted);
+            gives(&rt, rt.alloc(), (3, &PIT), list, product, &wanted)?;
         }
     }
     Ok(())
@@ -67,12 +81,11 @@ static LOWEST_WAYS: [(&str, i64, i64, i64); 5] = [
 #[test]
 fn water_gets_to_a_listed_sink_over_the_lowest_way(rt: HostRuntime) -> Result<(), Fail> {
     for &(list, left, middle, right) in &LOWEST_WAYS {
-        let given = made(rt.alloc(), 5, &COLUMNS, list, Held::Con)?;
         let (l, m, r) = (left, middle, right);
         let wanted = [
             9, 9, 9, 9, 9, 9, l, m, r, 9, 9, l, m, r, 9, 9, l, m, r, 9, 9, 9, 9, 9, 9,
         ];
-        same_numbers(&rt, (Held::Con, list), given.as_slice(), &wanted);
+        gives(&rt, rt.alloc(), (5, &COLUMNS), list, Held::Con, &wanted)?;
     }
     Ok(())
 }
@@ -85,9 +98,8 @@ static OF_FLAT: [i64; 25] = [
 /// A sink on a flat is an outlet, and ranks are steps to it or to the edge.
 #[test]
 fn ranks_round_a_listed_cell_of_a_flat(rt: HostRuntime) -> Result<(), Fail> {
-    let given = made(rt.alloc(), 5, &[7; 25], "2 2", Held::Rnk)?;
-    same_numbers(&rt, (Held::Rnk, "2 2"), given.as_slice(), &OF_FLAT);
-    Ok(())
+    let flat = (5, [7; 25].as_slice());
+    gives(&rt, rt.alloc(), flat, "2 2", Held::Rnk, &OF_FLAT)
 }
 
 /// A product, and its numbers in each row.
@@ -105,9 +117,9 @@ static SLOPE: [i16; 16] = [4, 3, 2, 1, 4, 3, 2, 1, 4, 3, 2, 1, 4, 3, 2, 1];
 fn listed_cells_of_a_slope_drain_on(rt: HostRuntime) -> Result<(), Fail> {
     for &(product, row) in &OF_SLOPE {
         let [a, b, c, d] = row;
-        let given = made(rt.alloc(), 4, &SLOPE, "1 1\n2 2", product)?;
         let wanted = [a, b, c, d, a, b, c, d, a, b, c, d, a, b, c, d];
-        same_numbers(&rt, (product, "1 1 and 2 2"), given.as_slice(), &wanted);
+        let list = "1 1\n2 2";
+        gives(&rt, rt.alloc(), (4, &SLOPE), list, product, &wanted)?;
     }
     Ok(())
 }
@@ -124,26 +136,33 @@ static OPEN_CELLS: [&str; 4] = ["0 0", "4 4\n\n0 3\n2 0\n0 3", "3 3", "2 3\n3 3\
 #[test]
 fn listed_cells_that_are_open_change_nothing(rt: HostRuntime) -> Result<(), Fail> {
     for product in Held::ALL {
+        let without = made(rt.alloc(), (5, &WITH_A_VOID), "", product)?;
         for &list in &OPEN_CELLS {
-            let given = made(rt.alloc(), 5, &WITH_A_VOID, list, product)?;
-            let without = made(rt.alloc(), 5, &WITH_A_VOID, "", product)?;
-            same_numbers(&rt, (product, list), given.as_slice(), without.as_slice());
+            let wanted = without.as_slice();
+            gives(&rt, rt.alloc(), (5, &WITH_A_VOID), list, product, wanted)?;
         }
     }
     Ok(())
 }
 
-/// Why nothing is made of one tile with the sinks that the text lists.
-fn refusal(
+/// Why nothing is made of these elevations with the sinks that the text lists.
+fn refusal_of(
     alloc: Global,
-    side: u32,
-    samples: &[i16],
+    layout: &Layout,
+    elevation: &Elevation,
     list: &str,
-) -> Result<Option<MakeRefusal>, Fail> {
+) -> Result<Option<MakeRefusal>, Fail>
+    requires { elevation.now.extent ≡ extent_of layout.now }
+{
+    let sinks = parse_sinks(alloc, list.as_bytes())?;
+    Ok(make(alloc, layout, elevation, &sinks).err())
+}
+
+/// The same of one tile.
+fn refusal(alloc: Global, (side, samples): Tile, list: &str) -> Result<Option<MakeRefusal>, Fail> {
     let layout = one_tile(alloc, side)?;
     let elevation = elevation(&layout, Vec::from_slice(alloc, samples)?)?;
-    let sinks = parse_sinks(alloc, list.as_bytes())?;
-    Ok(make(alloc, &layout, &elevation, &sinks).err())
+    refusal_of(alloc, &layout, &elevation, list)
 }
 
 /// A void in the middle.
@@ -166,7 +185,7 @@ static OFF_THE_DATA: [(u32, &[i16], &str, u64); 10] = [
 #[test]
 fn the_least_line_without_data_is_told(rt: HostRuntime) -> Result<(), Fail> {
     for &(side, samples, list, line) in &OFF_THE_DATA {
-        let told = refusal(rt.alloc(), side, samples, list)?;
+        let told = refusal(rt.alloc(), (side, samples), list)?;
         same(&rt, list, told, Some(MakeRefusal::SinkNotData(line)));
     }
     Ok(())

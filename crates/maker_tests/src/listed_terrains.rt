@@ -5,12 +5,11 @@ ghost use Rattle.std.specs.Prelude.{◌≡◌};
 ghost use Rattle.drain_mosaic.specs.Tiling.{extent_of};
 
 use crate::agree::same;
-use crate::made::{elevation, one_tile};
+use crate::made::{elevation, judged, one_tile};
 use crate::terrain_samples::{TERRAINS, Terrain, samples};
 use drain_grid::{Cell, Direction, Elevation, ProductSet, Raster, Sinks, parse_sinks};
-use drain_maker::make;
 use drain_mosaic::Layout;
-use drain_rules::{Verdict, verdict_of};
+use drain_rules::Verdict;
 use std::alloc::Global;
 use std::test::Fail;
 
@@ -74,7 +73,7 @@ fn is_local_minimum(elevation: &Elevation, cell: Cell) -> bool {
 }
 
 /// What is found at the listed cells of a tile.
-#[derive(Clone, Copy, PartialEq, Eq, Debug)]
+#[derive(Clone, Copy)]
 struct Tally {
     /// How many are local minima.
     minima: u32,
@@ -125,8 +124,7 @@ fn tile_made(
 ) -> Result<(Tally, bool), Fail>
     requires { elevation.now.extent ≡ extent_of layout.now }
 {
-    let products = make(alloc, layout, elevation, sinks)?;
-    let verdict = verdict_of(alloc, elevation, sinks, &products)?;
+    let (products, verdict) = judged(alloc, layout, elevation, sinks)?;
     let found = found(elevation, &products, side);
     Ok((found, matches!(verdict, Verdict::Accepted(_))))
 }
@@ -144,10 +142,13 @@ fn terrain_made(
     tile_made(alloc, &layout, &elevation, &sinks, side)
 }
 
+/// The sides of the tiles.
+static SIDES: [u32; 3] = [9, 12, 17];
+
 #[test]
 fn listed_cells_of_hard_terrains(rt: HostRuntime) -> Result<(), Fail> {
-    for terrain in TERRAINS {
-        for side in [9, 12, 17] {
+    for &terrain in &TERRAINS {
+        for &side in &SIDES {
             let (found, is_accepted) = terrain_made(rt.alloc(), side, terrain, 3)?;
             // A cone falls everywhere from its inside to its edge.
             let has_minima = !matches!(terrain, Terrain::Cone);

@@ -6,7 +6,7 @@ ghost use Rattle.drain_mosaic.specs.Tiling.{extent_of};
 
 use crate::raster_numbers::Numbers;
 use drain_grid::tile::is_side;
-use drain_grid::{Elevation, ProductSet, Sinks};
+use drain_grid::{Elevation, Held, ProductSet, Sinks};
 use drain_hgt::TileName;
 use drain_maker::{MakeRefusal, make};
 use drain_mosaic::Layout;
@@ -35,7 +35,7 @@ pub fn elevation(layout: &Layout, samples: Vec<i16>) -> Result<Elevation, Fail>
 }
 
 /// The products that are made of one tile with these sinks.
-pub fn made_of_tile(
+fn made_of_tile(
     alloc: Global,
     side: u32,
     samples: &[i16],
@@ -46,26 +46,52 @@ pub fn made_of_tile(
     Ok(make(alloc, &layout, &elevation, sinks)?)
 }
 
-/// The verdict on the products that are made of these elevations with these sinks.
-fn verdict_on_made(
+/// The numbers of a product that is made of one tile with these sinks.
+pub fn numbers_made(
+    alloc: Global,
+    (side, samples): (u32, &[i16]),
+    sinks: &Sinks,
+    product: Held,
+) -> Result<Numbers, Fail> {
+    let products = made_of_tile(alloc, side, samples, sinks)?;
+    Ok(Numbers::of(products.raster(product)))
+}
+
+/// The products that are made of these elevations with these sinks, and the verdict on them.
+pub fn judged(
     alloc: Global,
     layout: &Layout,
     elevation: &Elevation,
     sinks: &Sinks,
-) -> Result<Verdict, Fail>
+) -> Result<(ProductSet, Verdict), Fail>
     requires { elevation.now.extent ≡ extent_of layout.now }
 {
     let products = make(alloc, layout, elevation, sinks)?;
-    Ok(verdict_of(alloc, elevation, sinks, &products)?)
+    let verdict = verdict_of(alloc, elevation, sinks, &products)?;
+    Ok((products, verdict))
 }
 
 /// Makes products without listed sinks, and counts what the verdict on them counts. They must be accepted.
 pub fn accepted(alloc: Global, layout: &Layout, samples: Vec<i16>) -> Result<Counts, Fail> {
     let elevation = elevation(layout, samples)?;
-    match verdict_on_made(alloc, layout, &elevation, &Sinks::none(alloc))? {
+    let (_, verdict) = judged(alloc, layout, &elevation, &Sinks::none(alloc))?;
+    match verdict {
         Verdict::Accepted(counts) => Ok(counts),
         Verdict::Rejected { .. } => Err("rejected".into()),
     }
+}
+
+/// The first nine numbers of con that is made of these elevations with these sinks.
+fn nine_of_con(
+    alloc: Global,
+    layout: &Layout,
+    elevation: &Elevation,
+    sinks: &Sinks,
+) -> Result<Option<[i64; 9]>, MakeRefusal>
+    requires { elevation.now.extent ≡ extent_of layout.now }
+{
+    let products = make(alloc, layout, elevation, sinks)?;
+    Ok(Numbers::of(&products.con).as_slice().try_into().ok())
 }
 
 /// The first nine numbers of con that is made of a tile of side 3 with these sinks. Its inputs' want of memory is told as the maker's own.
@@ -85,8 +111,5 @@ pub fn con_of_nine(
     if samples.len() != shape.cells() {
         return Ok(None);
     }
-    let elevation = Elevation::new(shape, samples);
-    let products = make(alloc, &layout, &elevation, sinks)?;
-    let con = Numbers::of(&products.con);
-    Ok(con.as_slice().try_into().ok())
+    nine_of_con(alloc, &layout, &Elevation::new(shape, samples), sinks)
 }

@@ -1,7 +1,7 @@
 //! The numbers of small tiles' products.
 
 use crate::agree::{same, same_numbers};
-use crate::made::{accepted, con_of_nine, made_of_tile, one_tile};
+use crate::made::{accepted, con_of_nine, numbers_made, one_tile};
 use crate::raster_numbers::Numbers;
 use drain_grid::{Held, Sinks, VOID};
 use drain_hgt::TileName;
@@ -9,12 +9,25 @@ use drain_maker::MakeRefusal;
 use drain_rules::Counts;
 use refused_memory::owed_unless_right;
 use std::alloc::Global;
+use std::process::Abort;
 use std::test::Fail;
 
 /// The numbers of a product that is made of one tile.
-fn made(alloc: Global, side: u32, samples: &[i16], product: Held) -> Result<Numbers, Fail> {
-    let products = made_of_tile(alloc, side, samples, &Sinks::none(alloc))?;
-    Ok(Numbers::of(products.raster(product)))
+fn made(alloc: Global, tile: (u32, &[i16]), product: Held) -> Result<Numbers, Fail> {
+    numbers_made(alloc, tile, &Sinks::none(alloc), product)
+}
+
+/// Ends the test where a product that is made of one tile has other numbers.
+fn gives(
+    rt: &impl Abort,
+    alloc: Global,
+    tile: (u32, &[i16]),
+    product: Held,
+    wanted: &[i64],
+) -> Result<(), Fail> {
+    let given = made(alloc, tile, product)?;
+    same_numbers(rt, product, given.as_slice(), wanted);
+    Ok(())
 }
 
 /// The sample of a tile, a product, and its numbers.
@@ -38,8 +51,7 @@ static OF_FOUR: [(i16, Held, [i64; 4]); 10] = [
 #[test]
 fn tiles_of_four_samples(rt: HostRuntime) -> Result<(), Fail> {
     for &(sample, product, wanted) in &OF_FOUR {
-        let given = made(rt.alloc(), 2, &[sample, sample, sample, sample], product)?;
-        same_numbers(&rt, (sample, product), given.as_slice(), &wanted);
+        gives(&rt, rt.alloc(), (2, &[sample; 4]), product, &wanted)?;
     }
     Ok(())
 }
@@ -58,8 +70,7 @@ static SLOPE: [i16; 16] = [4, 3, 2, 1, 4, 3, 2, 1, 4, 3, 2, 1, 4, 3, 2, 1];
 #[test]
 fn slope_to_the_east(rt: HostRuntime) -> Result<(), Fail> {
     for &(product, wanted) in &OF_SLOPE {
-        let given = made(rt.alloc(), 4, &SLOPE, product)?;
-        same_numbers(&rt, product, given.as_slice(), &wanted);
+        gives(&rt, rt.alloc(), (4, &SLOPE), product, &wanted)?;
     }
     Ok(())
 }
@@ -72,9 +83,7 @@ static OF_FLAT: [i64; 25] = [
 /// A flat at the edge of the grid is crossed by the shortest way.
 #[test]
 fn ranks_on_a_flat(rt: HostRuntime) -> Result<(), Fail> {
-    let given = made(rt.alloc(), 5, &[7; 25], Held::Rnk)?;
-    same_numbers(&rt, "ranks", given.as_slice(), &OF_FLAT);
-    Ok(())
+    gives(&rt, rt.alloc(), (5, &[7; 25]), Held::Rnk, &OF_FLAT)
 }
 
 /// A pit in the middle, lower than the edge.
@@ -91,17 +100,15 @@ static OF_PIT: [(Held, i64, Option<i64>); 3] = [
 #[test]
 fn pit_in_the_middle(rt: HostRuntime) -> Result<(), Fail> {
     for &(product, edge, middle) in &OF_PIT {
-        let mut given = made(rt.alloc(), 3, &PIT, product)?;
+        let mut given = made(rt.alloc(), (3, &PIT), product)?;
         let in_middle = given.list[4];
+        given.list[4] = edge;
+        same_numbers(&rt, product, given.as_slice(), &[edge; 9]);
         let is_right = match middle {
             Some(wanted) => in_middle == wanted,
             None => in_middle != 0,
         };
-        given.list[4] = edge;
-        let is_even = given.as_slice().iter().all(|number| *number == edge);
-        let told = (given.count, is_right, is_even);
-        let case = (product, in_middle, "in the middle");
-        same(&rt, case, told, (9, true, true));
+        same(&rt, (product, in_middle), is_right, true);
     }
     Ok(())
 }
@@ -111,7 +118,7 @@ static COUNTS_OF_PIT: [i64; 9] = [1, 1, 1, 1, 1, 1, 1, 1, 2];
 
 #[test]
 fn accumulation_at_a_pit(rt: HostRuntime) -> Result<(), Fail> {
-    let mut counts = made(rt.alloc(), 3, &PIT, Held::Acc)?;
+    let mut counts = made(rt.alloc(), (3, &PIT), Held::Acc)?;
     let in_middle = counts.list[4];
     counts.list[..9].sort_unstable();
     same(&rt, "in the middle", in_middle, 1);

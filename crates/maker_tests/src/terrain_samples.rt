@@ -63,7 +63,7 @@ pub fn samples(alloc: Global, side: u32, terrain: Terrain, lowered: i16) -> Resu
 }
 
 /// Each of them.
-pub const TERRAINS: [Terrain; 6] = [
+pub static TERRAINS: [Terrain; 6] = [
     Terrain::Flat,
     Terrain::Cone,
     Terrain::Spiral,

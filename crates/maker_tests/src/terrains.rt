@@ -135,10 +135,13 @@ fn terrain_made(alloc: Global, side: u32, terrain: Terrain, lowered: i16) -> Res
     accepted(alloc, &layout, samples)
 }
 
+/// The sides of the tiles.
+static SIDES: [u32; 8] = [2, 3, 4, 5, 8, 17, 33, 65];
+
 #[test]
 fn hard_terrains(rt: HostRuntime) -> Result<(), Fail> {
-    for terrain in TERRAINS {
-        for side in [2, 3, 4, 5, 8, 17, 33, 65] {
+    for &terrain in &TERRAINS {
+        for &side in &SIDES {
             let counts = terrain_made(rt.alloc(), side, terrain, 0)?;
             let given = (counts.rows, counts.cols);
             same(&rt, terrain, given, (side, side));
@@ -147,12 +150,18 @@ fn hard_terrains(rt: HostRuntime) -> Result<(), Fail> {
     Ok(())
 }
 
+/// The sides of the tiles that are lowered.
+static SIDES_OF_LOWERED: [u32; 5] = [2, 3, 5, 8, 17];
+
+/// By how many metres they are lowered.
+static LOWERED: [i16; 2] = [1, 3];
+
 #[test]
 fn hard_terrains_whose_heights_cross_0(rt: HostRuntime) -> Result<(), Fail> {
-    for terrain in TERRAINS {
-        for side in [2, 3, 5, 8, 17] {
+    for &terrain in &TERRAINS {
+        for &side in &SIDES_OF_LOWERED {
             let counts = terrain_made(rt.alloc(), side, terrain, 0)?;
-            for lowered in [1, 3] {
+            for &lowered in &LOWERED {
                 let given = terrain_made(rt.alloc(), side, terrain, lowered)?;
                 same(&rt, terrain, given, counts);
             }

@@ -1,55 +1,45 @@
 //! Right products, and what an acceptance leaves behind.
 
 use crate::agree::{same, same_line};
-use crate::example::{Example, one_tile, products_on, tile};
-use crate::runs::{line_of, products_at_once, tiles_at_once, told};
+use crate::example::{Example, one_tile};
+use crate::inputs::{ConHeaded, products_at_once, tiles_at_once};
+use crate::runs::{Asked, line_of};
+use crate::sink_orders::with_a_gap;
+use crate::tells::{each_tells, tells};
 use drain_device::ByteSource;
 use drain_grid::Held;
 use drain_hgt::TileInput;
 use drain_verdict::Products;
 use drain_verdict::line::Line;
-use std::alloc::Global;
+use std::alloc::{AllocError, Global};
 use std::test::Fail;
-use worked_grids::{PIT_LINE, level, parted, pit, slope, voids};
+use worked_grids::{PIT_LINE, level, pit, slope, voids};
 
 #[test]
 fn accepts_right_products_of_one_tile(rt: HostRuntime) -> Result<(), Fail> {
-    let (pit, level, voids, slope) = (pit(), level(), voids(), slope());
-    let cases: [(u32, &[i64], &str); 4] = [
-        (3, &pit, PIT_LINE),
+    let cases = [
+        (one_tile(3, &pit()), PIT_LINE),
         (
-            2,
-            &level,
+            one_tile(2, &level()),
             "accepted rows=2 cols=2 data=4 raised=0 outlets=4",
         ),
         (
-            2,
-            &voids,
+            one_tile(2, &voids()),
             "accepted rows=2 cols=2 data=0 raised=0 outlets=0",
         ),
         (
-            4,
-            &slope,
+            one_tile(4, &slope()),
             "accepted rows=4 cols=4 data=16 raised=0 outlets=4",
         ),
     ];
-    for (side, numbers, line) in cases {
-        let told = told(rt.alloc(), &one_tile(side, numbers))?;
-        same_line(&rt, line, &told, line);
-    }
-    Ok(())
+    each_tells(&rt, rt.alloc(), Asked::Check, &cases)
 }
 
 #[test]
 fn accepts_tiles_with_a_gap_between_them(rt: HostRuntime) -> Result<(), Fail> {
-    let grid = "NROWS 3\nNCOLS 7\nULXMAP 0\nULYMAP 1\nXDIM 0.5\nYDIM 0.5\n";
-    let mut example = products_on(3, grid, &parted()[21..]);
-    for name in ["N00E000.hgt", "N00E002.hgt"] {
-        example.push_tile(tile(name, &[0; 9]));
-    }
     let line = "accepted rows=3 cols=7 data=18 raised=0 outlets=16";
-    same_line(&rt, "a gap", &told(rt.alloc(), &example)?, line);
-    Ok(())
+    let example = with_a_gap(&[]);
+    tells(&rt, rt.alloc(), Asked::Check, "a gap", &example, line)
 }
 
 /// How many bytes a source still gives.
@@ -58,56 +48,63 @@ fn left<R: ByteSource>(source: &mut R) -> Option<usize> {
     source.read_some(&mut rest).ok()
 }
 
-/// What a check tells and what it leaves behind.
-#[derive(Clone, Copy)]
-struct Leftovers {
-    line: Line,
-    /// How many bytes the sources of con, dir and rnk still give.
-    of_rasters: [Option<usize>; 3],
-    /// How many bytes the last tile's source still gives.
-    of_tile: Option<usize>,
-    /// Whether each product has the header that it was made with.
-    headers: [bool; 5],
-    /// Whether each tile has the name N00E000.hgt.
-    names: bool,
-}
+/// How many bytes the sources of the last tile, of con, of dir and of rnk still give.
+type BytesLeft = [Option<usize>; 4];
 
-/// Whether each product has the header that it was made with.
-fn have_headers<R>(products: &Products<R>, made: &Example) -> [bool; 5] {
-    Held::ALL.map(|product| {
-        products.of(product).header.as_slice() == made.raster(product).header.as_slice()
-    })
-}
-
-/// How many bytes the sources of con, dir and rnk still give.
-fn left_of_rasters<R: ByteSource>(products: &mut Products<R>) -> [Option<usize>; 3] {
+fn bytes_left<R: ByteSource>(tiles: &mut [TileInput<R>], products: &mut Products<R>) -> BytesLeft {
+    let of_tile = match tiles.last_mut() {
+        Some(tile) => left(&mut tile.body),
+        None => None,
+    };
     [
+        of_tile,
         left(&mut products.con.body),
         left(&mut products.dir.body),
         left(&mut products.rnk.body),
     ]
 }
 
-/// Whether each tile has the name N00E000.hgt.
-fn have_name<R>(tiles: &[TileInput<R>]) -> bool {
-    tiles
-        .iter()
-        .all(|tile| tile.name.as_slice() == b"N00E000.hgt".as_slice())
+/// The first product that hasn't the header that it was made with.
+fn other_header<R>(products: &Products<R>, made: &Example) -> Option<Held> {
+    for product in Held::ALL {
+        let header = products.of(product).header.as_slice();
+        if header != made.raster(product).header.as_slice() {
+            return Some(product);
+        }
+    }
+    None
 }
 
-/// What a check of tiles of side 3 leaves behind.
-fn checked(alloc: Global, example: &Example) -> Result<Leftovers, Fail> {
+/// The place of the first tile that hasn't the name that it was made with.
+fn other_name<R>(tiles: &[TileInput<R>], made: &Example) -> Option<usize> {
+    for (place, (tile, made)) in tiles.iter().zip(made.tiles()).enumerate() {
+        if tile.name.as_slice() != made.name.as_slice() {
+            return Some(place);
+        }
+    }
+    None
+}
+
+/// What a check tells, the bytes that it leaves, and a product with another header and a tile with another name than it was handed.
+type Leftovers = (Line, BytesLeft, (Option<Held>, Option<usize>));
+
+fn left_by<R: ByteSource>(
+    alloc: Global,
+    example: &Example,
+    tiles: &mut [TileInput<R>],
+    products: &mut Products<R>,
+) -> Leftovers {
+    let line = line_of(alloc, example, tiles, products);
+    let bytes = bytes_left(tiles, products);
+    let changed = (other_header(products, example), other_name(tiles, example));
+    (line, bytes, changed)
+}
+
+/// What a check of an example leaves behind.
+fn checked(alloc: Global, example: &Example) -> Result<Leftovers, AllocError> {
     let mut tiles = tiles_at_once(alloc, example.tiles())?;
-    let mut products = products_at_once(alloc, example)?;
-    let sinks = example.sinks.as_slice();
-    let line = line_of(alloc, 3, &mut tiles, sinks, &mut products);
-    Ok(Leftovers {
-        line,
-        of_rasters: left_of_rasters(&mut products),
-        of_tile: tiles.last_mut().and_then(|tile| left(&mut tile.body)),
-        headers: have_headers(&products, example),
-        names: have_name(&tiles),
-    })
+    let mut products = products_at_once(alloc, ConHeaded::by_itself(example))?;
+    Ok(left_by(alloc, example, &mut tiles, &mut products))
 }
 
 /// Of a tile one byte past its end is read, of a raster none; names and headers stay as they were.
@@ -116,11 +113,10 @@ fn leaves_the_bytes_behind_a_raster(rt: HostRuntime) -> Result<(), Fail> {
     let mut example = one_tile(3, &pit());
     example.con.body.extend(b"behind");
     example.rnk.body.extend(b"end");
-    let left = checked(rt.alloc(), &example)?;
-    same_line(&rt, "bytes behind", &left.line, PIT_LINE);
-    let of_rasters = [Some(6), Some(0), Some(3)];
-    same(&rt, "rasters", left.of_rasters, of_rasters);
-    same(&rt, "names", (left.headers, left.names), ([true; 5], true));
+    let (line, bytes, changed) = checked(rt.alloc(), &example)?;
+    same_line(&rt, "bytes behind", &line, PIT_LINE);
+    same(&rt, "bytes", bytes, [Some(0), Some(6), Some(0), Some(3)]);
+    same(&rt, "headers and names", changed, (None, None));
     Ok(())
 }
 
@@ -129,10 +125,9 @@ fn leaves_the_bytes_behind_a_raster(rt: HostRuntime) -> Result<(), Fail> {
 fn reads_one_byte_past_the_end_of_a_tile(rt: HostRuntime) -> Result<(), Fail> {
     let mut example = one_tile(3, &pit());
     example.tiles[0].body.extend(b"hello");
-    let left = checked(rt.alloc(), &example)?;
-    let line = "refused BadTileLength N00E000.hgt";
-    same_line(&rt, "a long tile", &left.line, line);
-    let given = (left.of_tile, left.of_rasters[0]);
-    same(&rt, "a long tile and con", given, (Some(4), Some(0)));
+    let (line, bytes, _) = checked(rt.alloc(), &example)?;
+    let refused = "refused BadTileLength N00E000.hgt";
+    same_line(&rt, "a long tile", &line, refused);
+    same(&rt, "bytes", bytes, [Some(4), Some(0), Some(0), Some(0)]);
     Ok(())
 }

@@ -1,20 +1,15 @@
 //! Audits of worked products. The lines were worked out by hand from the rules.
 
-use crate::agree::same_line;
-use crate::audit_runs::{audited, audited_at_once, audited_slowly};
 use crate::bytes::Bytes;
 use crate::example::{Example, changed, grid_of, header_on, one_tile};
+use crate::faults::{Times, goes_on_after};
+use crate::inputs::Owner;
 use crate::listed_sinks::{Lie, listed_pit_with, round_a_void, two_tiles};
-use crate::runs::{Faulty, Owner};
+use crate::runs::Asked;
 use crate::sink_orders::with_a_gap;
+use crate::tells::{Changes, changes_tell, each_tells, tells_twice};
 use drain_device::DeviceFault;
-use drain_device::faults::Scripted;
 use drain_grid::Held;
-use drain_verdict::line::Line;
-use drain_verdict::{Refusal, audit_report};
-use refused_memory::owed_unless_right;
-use std::alloc::Global;
-use std::process::Abort;
 use std::test::Fail;
 use worked_grids::{
     LEVEL_LINE, LISTED_PIT_LINE, LISTED_PIT_SINKS, PIT_LINE, SLOPE_LINE, UNLISTED_PIT_LINE,
@@ -22,14 +17,6 @@ use worked_grids::{
 };
 
 const RING_LINE: &str = "rejected NoEnd row=1 col=1";
-
-/// Ends the test where the audit of an example tells another line than stands beside it.
-fn each_tells(rt: &impl Abort, alloc: Global, cases: &[(Example, &str)]) -> Result<(), Fail> {
-    for (place, (example, line)) in cases.iter().enumerate() {
-        same_line(rt, place, &audited(alloc, example)?, line);
-    }
-    Ok(())
-}
 
 /// A check accepts these with the same lines.
 #[test]
@@ -40,10 +27,10 @@ fn accepts_right_products_of_one_tile(rt: HostRuntime) -> Result<(), Fail> {
         (one_tile(2, &level()), LEVEL_LINE),
         (one_tile(2, &voids()), VOIDS_LINE),
         (one_tile(4, &slope()), SLOPE_LINE),
-        (round_a_void(""), void_inside),
+        (round_a_void(), void_inside),
         (listed_pit_with(LISTED_PIT_SINKS), LISTED_PIT_LINE),
     ];
-    each_tells(&rt, rt.alloc(), &cases)
+    each_tells(&rt, rt.alloc(), Asked::Audit, &cases)
 }
 
 #[test]
@@ -55,22 +42,13 @@ fn accepts_right_products_of_two_tiles(rt: HostRuntime) -> Result<(), Fail> {
     let cases = [
         (two_tiles(alloc, Lie::Beside, (1, 3), "1 3")?, beside),
         (two_tiles(alloc, Lie::Below, (3, 1), "3 1")?, below),
-        (with_a_gap(21, 0, ""), parted),
+        (with_a_gap(&[]), parted),
     ];
-    each_tells(&rt, alloc, &cases)
+    each_tells(&rt, rt.alloc(), Asked::Audit, &cases)
 }
 
-/// The slope with these numbers changed. Its places are counted through its samples and its products, 16 of each.
-fn slope_with(changes: &[(usize, i64)]) -> Example {
-    let mut numbers = slope();
-    for (place, number) in changes {
-        numbers = changed(&numbers, *place, *number);
-    }
-    one_tile(4, &numbers)
-}
-
-/// Numbers of the slope that are changed, and the line of the rejection.
-static CHANGES: [(&[(usize, i64)], &str); 6] = [
+/// Numbers of the slope that are changed, and the line of the rejection. Its places are counted through its samples and its products, 16 of each.
+static CHANGES: [Changes; 6] = [
     (&[(32, 3)], "rejected NoEnd row=0 col=0"),
     (&[(32, 255)], "rejected NoEnd row=0 col=0"),
     // The last cell of a row leads off the grid, and the others lead to it.
@@ -88,11 +66,7 @@ static CHANGES: [(&[(usize, i64)], &str); 6] = [
 
 #[test]
 fn rejects_a_changed_slope(rt: HostRuntime) -> Result<(), Fail> {
-    for (place, (changes, line)) in CHANGES.iter().enumerate() {
-        let given = audited(rt.alloc(), &slope_with(changes))?;
-        same_line(&rt, place, &given, line);
-    }
-    Ok(())
+    changes_tell(&rt, rt.alloc(), Asked::Audit, (4, ""), &slope(), &CHANGES)
 }
 
 /// A run without an end is told before the rules: con is too high in the second of these.
@@ -102,12 +76,12 @@ fn rejects_flats_that_lead_nowhere(rt: HostRuntime) -> Result<(), Fail> {
     short_ring.dir.body.pop();
     let cases = [
         (one_tile(4, &ring()), RING_LINE),
-        (one_tile(4, &changed(&ring(), 16, 6)), RING_LINE),
+        (one_tile(4, &changed(&ring(), &[(16, 6)])), RING_LINE),
         (short_ring, "refused RasterShort dir"),
-        (one_tile(3, &changed(&pit(), 22, 0)), UNLISTED_PIT_LINE),
+        (one_tile(3, &changed(&pit(), &[(22, 0)])), UNLISTED_PIT_LINE),
         (listed_pit_with(""), UNLISTED_PIT_LINE),
     ];
-    each_tells(&rt, rt.alloc(), &cases)
+    each_tells(&rt, rt.alloc(), Asked::Audit, &cases)
 }
 
 /// Puts this line before those of a product's header.
@@ -120,7 +94,7 @@ fn put_first(example: &mut Example, product: Held, line: &str) {
 /// A number for no data that isn't a direction's own, and one that is the elevation everywhere.
 #[test]
 fn rejects_beside_other_numbers_of_nodata(rt: HostRuntime) -> Result<(), Fail> {
-    let mut wrong_code = slope_with(&[(32, 255)]);
+    let mut wrong_code = one_tile(4, &changed(&slope(), &[(32, 255)]));
     put_first(&mut wrong_code, Held::Dir, "NODATA 9\n");
     let mut missing = one_tile(2, &level());
     put_first(&mut missing, Held::Con, "NODATA 0\n");
@@ -128,7 +102,7 @@ fn rejects_beside_other_numbers_of_nodata(rt: HostRuntime) -> Result<(), Fail> {
         (wrong_code, "rejected NoEnd row=0 col=0"),
         (missing, "rejected rule=2 Missing row=0 col=0"),
     ];
-    each_tells(&rt, rt.alloc(), &cases)
+    each_tells(&rt, rt.alloc(), Asked::Audit, &cases)
 }
 
 /// Puts one of the faults of the test below into the filled pit.
@@ -168,7 +142,12 @@ fn refuses_by_the_first_fault(rt: HostRuntime) -> Result<(), Fail> {
         let mut alone = one_tile(3, &pit());
         put_fault(&mut alone, fault);
         put_fault(&mut together, fault);
-        each_tells(&rt, rt.alloc(), &[(alone, line), (together, line)])?;
+        each_tells(
+            &rt,
+            rt.alloc(),
+            Asked::Audit,
+            &[(alone, line), (together, line)],
+        )?;
     }
     Ok(())
 }
@@ -183,7 +162,7 @@ static MIDDLES: [(Owner, u64); 5] = [
 ];
 
 /// How often a source faults, how, and the line that is told.
-static DEVICE_FAULTS: [(u64, DeviceFault, &str); 2] = [
+static DEVICE_FAULTS: [Times; 2] = [
     (1, DeviceFault::Failed, "failed ReadFailed"),
     (999, DeviceFault::Interrupted, SLOPE_LINE),
 ];
@@ -192,52 +171,43 @@ static DEVICE_FAULTS: [(u64, DeviceFault, &str); 2] = [
 #[test]
 fn bodies_that_go_on_after_a_fault(rt: HostRuntime) -> Result<(), Fail> {
     let slope = one_tile(4, &slope());
-    for &(owner, first) in &MIDDLES {
-        for &(times, answer, line) in &DEVICE_FAULTS {
-            let script = [Scripted {
-                first,
-                last: first.saturating_add(times).saturating_sub(1),
-                answer,
-            }];
-            let faulty = Faulty {
-                owner,
-                script: &script,
-            };
-            let given = audited_slowly(rt.alloc(), &slope, faulty)?;
-            same_line(&rt, (owner, times), &given, line);
-        }
+    for &middle in &MIDDLES {
+        goes_on_after(
+            &rt,
+            rt.alloc(),
+            Asked::Audit,
+            &slope,
+            middle,
+            &DEVICE_FAULTS,
+        )?;
     }
     Ok(())
 }
 
-/// The line of an audit. Its inputs' want of memory is told as its own.
-fn line_of(alloc: Global, example: &Example) -> Line {
-    match audited_at_once(alloc, example) {
-        Ok(line) => line,
-        Err(_) => audit_report(&Err(Refusal::OutOfMemory)),
-    }
-}
-
-/// Ends the test where an audit tells another line than is owed, or one after it, on fresh inputs, another than the right one.
-fn audited_twice(rt: &impl Abort, alloc: Global, example: &Example, right: &str) {
-    let first = line_of(alloc, example);
-    let line = owed_unless_right(alloc, first.as_str(), "failed OutOfMemory", right);
-    same_line(rt, "first", &first, line);
-    same_line(rt, "again", &line_of(alloc, example), right);
-}
-
 #[test]
 fn pit_after_refused_memory(rt: HostRuntime) {
-    audited_twice(&rt, rt.alloc(), &one_tile(3, &pit()), PIT_LINE);
+    tells_twice(
+        &rt,
+        rt.alloc(),
+        Asked::Audit,
+        &one_tile(3, &pit()),
+        PIT_LINE,
+    );
 }
 
 #[test]
 fn ring_after_refused_memory(rt: HostRuntime) {
-    audited_twice(&rt, rt.alloc(), &one_tile(4, &ring()), RING_LINE);
+    tells_twice(
+        &rt,
+        rt.alloc(),
+        Asked::Audit,
+        &one_tile(4, &ring()),
+        RING_LINE,
+    );
 }
 
 #[test]
 fn listed_pit_after_refused_memory(rt: HostRuntime) {
     let example = listed_pit_with(LISTED_PIT_SINKS);
-    audited_twice(&rt, rt.alloc(), &example, LISTED_PIT_LINE);
+    tells_twice(&rt, rt.alloc(), Asked::Audit, &example, LISTED_PIT_LINE);
 }

@@ -1,7 +1,7 @@
 //! Bytes on the stack.
 
-/// The most bytes of a header, of a tile or of a raster in these tests.
-const ROOM: usize = 400;
+/// The most bytes of a header, of a tile, of a raster or of a list in these tests.
+const ROOM: usize = 6200;
 
 /// Bytes that own no memory and may be copied, so that a test that holds some is cheap to prove (arrayvec's vectors are dropped, and not copied).
 /// Where there are more than there is room for, it has none.

@@ -2,6 +2,7 @@
 
 ghost use Rattle.std.specs.Prelude.{◌≡◌, IfOk};
 
+use crate::agree::same;
 use drain_grid::{Cell, Elevation, Raster, Shape, VOID};
 use drain_verdict::{CertifyRefusal, certify};
 use refused_memory::gave_out;
@@ -13,11 +14,19 @@ use worked_grids::{parted, pit, ring, slope};
 /// The ranks of a grid in row order, with -1 behind them, or why there are none.
 type Told = Result<[i64; 21], CertifyRefusal>;
 
-/// The ranks of a worked grid, which are the last sixth of its numbers.
-fn worked_ranks(numbers: &[i64]) -> Told {
+/// A sixth of a worked grid's numbers: the elevations, or those of one product.
+fn sixth(numbers: &[i64], place: usize) -> &[i64] {
     let cells = numbers.len() / 6;
+    let start = place.saturating_mul(cells);
+    numbers
+        .get(start..start.saturating_add(cells))
+        .unwrap_or(&[])
+}
+
+/// The ranks of a worked grid, which are the last of its numbers.
+fn worked_ranks(numbers: &[i64]) -> Told {
     let mut ranks = [-1; 21];
-    for (place, number) in ranks.iter_mut().zip(&numbers[5 * cells..]) {
+    for (place, number) in ranks.iter_mut().zip(sixth(numbers, 5)) {
         *place = *number;
     }
     Ok(ranks)
@@ -39,7 +48,7 @@ fn elevation_of(alloc: Global, shape: Shape, numbers: &[i64]) -> Result<Elevatio
     ensures { IfOk result (λ elevation. elevation.extent ≡ shape) }
 {
     let mut samples = Vec::new(alloc);
-    for number in numbers {
+    for number in sixth(numbers, 0) {
         samples.push(i16::try_from(*number).unwrap_or(VOID))?;
     }
     samples.resize(shape.cells(), VOID)?;
@@ -51,11 +60,21 @@ fn dir_of(alloc: Global, shape: Shape, numbers: &[i64]) -> Result<Raster, AllocE
     ensures { IfOk result (λ dir. dir.extent ≡ shape) }
 {
     let mut codes = Vec::new(alloc);
-    for number in numbers.iter().skip(2 * shape.cells()) {
+    for number in sixth(numbers, 2) {
         codes.push(u8::try_from(*number).unwrap_or(255))?;
     }
     codes.resize(shape.cells(), 255)?;
     Ok(Raster::of_bytes(shape, 255, codes))
+}
+
+/// What is told of these elevations and directions.
+fn certified_by(alloc: Global, elevation: &Elevation, dir: &Raster) -> Told
+    requires { elevation.now.extent ≡ dir.now.extent }
+{
+    match certify(alloc, elevation, dir) {
+        Ok(ranks) => Ok(ranks_of(&ranks)),
+        Err(refusal) => Err(refusal),
+    }
 }
 
 /// What is told of a worked grid's elevations and directions. Its inputs' want of memory is told as its own.
@@ -66,10 +85,7 @@ fn told(alloc: Global, shape: Shape, numbers: &[i64]) -> Told {
     let Ok(dir) = dir_of(alloc, shape, numbers) else {
         return Err(CertifyRefusal::OutOfMemory);
     };
-    match certify(alloc, &elevation, &dir) {
-        Ok(ranks) => Ok(ranks_of(&ranks)),
-        Err(refusal) => Err(refusal),
-    }
+    certified_by(alloc, &elevation, &dir)
 }
 
 /// The same of a grid of so many rows and columns.
@@ -80,11 +96,6 @@ fn certified(alloc: Global, rows: u32, cols: u32, numbers: &[i64]) -> Result<Tol
     }
 }
 
-/// Ends the test where another thing is told than is owed, and tells of which case it is.
-fn same_ranks(rt: &impl Abort, case: &str, given: &Told, owed: &Told) {
-    assert_eq!(rt; given, owed, "{case}");
-}
-
 /// The ranks of these grids count the steps of runs.
 #[test]
 fn ranks_of_worked_grids(rt: HostRuntime) -> Result<(), Fail> {
@@ -92,7 +103,7 @@ fn ranks_of_worked_grids(rt: HostRuntime) -> Result<(), Fail> {
     let cases: [(u32, u32, &[i64]); 3] = [(3, 3, &pit), (4, 4, &slope), (3, 7, &parted)];
     for (rows, cols, numbers) in cases {
         let given = certified(rt.alloc(), rows, cols, numbers)?;
-        same_ranks(&rt, "worked", &given, &worked_ranks(numbers));
+        same(&rt, "worked", &given, &worked_ranks(numbers));
     }
     Ok(())
 }
@@ -105,7 +116,7 @@ fn ring_refusal() -> Told {
 #[test]
 fn no_ranks_of_the_ring(rt: HostRuntime) -> Result<(), Fail> {
     let given = certified(rt.alloc(), 4, 4, &ring())?;
-    same_ranks(&rt, "ring", &given, &ring_refusal());
+    same(&rt, "ring", &given, &ring_refusal());
     Ok(())
 }
 
@@ -118,11 +129,11 @@ fn certified_twice(
 ) -> Result<(), Fail> {
     let first = certified(alloc, 4, 4, numbers)?;
     if gave_out(alloc) {
-        same_ranks(rt, "first", &first, &Err(CertifyRefusal::OutOfMemory));
+        same(rt, "first", &first, &Err(CertifyRefusal::OutOfMemory));
     } else {
-        same_ranks(rt, "first", &first, right);
+        same(rt, "first", &first, right);
     }
-    same_ranks(rt, "again", &certified(alloc, 4, 4, numbers)?, right);
+    same(rt, "again", &certified(alloc, 4, 4, numbers)?, right);
     Ok(())
 }
 

@@ -2,8 +2,8 @@
 
 use crate::agree::same_line;
 use crate::bytes::Bytes;
-use crate::example::one_tile;
-use crate::runs::{told, told_at_once};
+use crate::example::{Example, one_tile};
+use crate::runs::{Asked, told, told_at_once};
 use drain_grid::Held;
 use std::test::Fail;
 use worked_grids::{SLOPE_LINE, slope};
@@ -19,8 +19,8 @@ fn a_tile_at_each_length(rt: HostRuntime) -> Result<(), Fail> {
         };
         let mut cut = whole;
         cut.tiles[0].body = whole.tiles[0].body.first(length);
-        let given = told(rt.alloc(), &cut)?;
-        same_line(&rt, length, &given, line);
+        let given = told(rt.alloc(), Asked::Check, &cut)?;
+        same_line(&rt, ("a tile", length), &given, line);
     }
     Ok(())
 }
@@ -42,8 +42,8 @@ fn each_raster_at_each_length(rt: HostRuntime) -> Result<(), Fail> {
             let line = if length < needed { short } else { SLOPE_LINE };
             let mut cut = whole;
             cut.raster_mut(product).body = whole.raster(product).body.first(length);
-            let given = told(rt.alloc(), &cut)?;
-            same_line(&rt, (product, length), &given, line);
+            let given = told(rt.alloc(), Asked::Check, &cut)?;
+            same_line(&rt, (short, length), &given, line);
         }
     }
     Ok(())
@@ -117,11 +117,12 @@ static TOLD: [(usize, usize, &str); 32] = [
     (15, 9, SLOPE_LINE),
 ];
 
-/// Whether this row of the table begins at a cut in this line, with so many bytes of it.
-fn begins(row: usize, line: usize, bytes: usize) -> bool {
-    match TOLD.get(row) {
-        Some((from_line, from_bytes, _)) => *from_line == line && *from_bytes == bytes,
-        None => false,
+/// The row of the table that tells of a cut in this line, with so many bytes of it: the one behind this row, where that begins here.
+fn row_at(row: usize, line: usize, bytes: usize) -> usize {
+    let next = row.saturating_add(1);
+    match TOLD.get(next) {
+        Some(&(from_line, from_bytes, _)) if from_line == line && from_bytes == bytes => next,
+        _ => row,
     }
 }
 
@@ -133,24 +134,27 @@ fn told_by(row: usize) -> &'static str {
     }
 }
 
+/// The slope, whose header of con is these lines and the first bytes of one more.
+fn slope_headed(before: &Bytes, line: &str, bytes: usize) -> Example {
+    let mut example = one_tile(4, &slope());
+    example.con.header = *before;
+    let cut = Bytes::of(line.as_bytes()).first(bytes);
+    example.con.header.extend(cut.as_slice());
+    example
+}
+
 #[test]
 fn a_header_at_each_length(rt: HostRuntime) -> Result<(), Fail> {
-    let whole = one_tile(4, &slope());
     let mut before = Bytes::new();
     let mut number: usize = 0;
     let mut row: usize = 0;
     for &line in &LINES {
         number = number.saturating_add(1);
         for bytes in 0..=line.len() {
-            if begins(row.saturating_add(1), number, bytes) {
-                row = row.saturating_add(1);
-            }
-            let mut cut = whole;
-            cut.con.header = before;
-            let left = Bytes::of(line.as_bytes()).first(bytes);
-            cut.con.header.extend(left.as_slice());
-            let given = told_at_once(rt.alloc(), &cut)?;
-            same_line(&rt, (number, bytes), &given, told_by(row));
+            row = row_at(row, number, bytes);
+            let cut = slope_headed(&before, line, bytes);
+            let given = told_at_once(rt.alloc(), Asked::Check, &cut)?;
+            same_line(&rt, (line, bytes), &given, told_by(row));
         }
         before.extend(line.as_bytes());
         before.push(b'\n');

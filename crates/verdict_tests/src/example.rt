@@ -37,8 +37,13 @@ impl Example {
     }
 
     /// The same with this list of sinks.
-    pub fn listing(mut self, text: &str) -> Example {
-        self.sinks = Bytes::of(text.as_bytes());
+    pub fn listing(self, text: &str) -> Example {
+        self.with_sinks(Bytes::of(text.as_bytes()))
+    }
+
+    /// The same with a list of these bytes.
+    pub fn with_sinks(mut self, sinks: Bytes) -> Example {
+        self.sinks = sinks;
         self
     }
 
@@ -183,11 +188,13 @@ pub fn bare(side: u32, names: &[&str], header: &str) -> Example {
     example
 }
 
-/// The numbers with another in one of their places.
-pub fn changed<const N: usize>(numbers: &[i64; N], place: usize, number: i64) -> [i64; N] {
+/// The numbers with others in some of their places.
+pub fn changed<const N: usize>(numbers: &[i64; N], changes: &[(usize, i64)]) -> [i64; N] {
     let mut copy = *numbers;
-    if let Some(found) = copy.get_mut(place) {
-        *found = number;
+    for &(place, number) in changes {
+        if let Some(found) = copy.get_mut(place) {
+            *found = number;
+        }
     }
     copy
 }

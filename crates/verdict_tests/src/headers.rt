@@ -1,11 +1,9 @@
 //! Headers of the pit's products on the tile S01E007: which are right, and which fault is told of those that aren't.
 
-use crate::agree::same_line;
-use crate::example::{header_on, tile_on};
-use crate::runs::told;
+use crate::example::{Example, header_on, tile_on};
+use crate::runs::Asked;
+use crate::tells::tells;
 use drain_grid::Held;
-use drain_verdict::line::Line;
-use std::alloc::Global;
 use std::test::Fail;
 use worked_grids::{PIT_LINE, pit};
 
@@ -24,29 +22,45 @@ const TOO_FAR_EAST: &str =
 
 const TOO_NARROW: &str = "NROWS 3\nNCOLS 3\nULXMAP 7\nULYMAP 0\nXDIM 0.499999998999999\nYDIM 0.5\n";
 
-/// The line of the pit whose con and acc have headers with these lines on their grid, where the others are right.
-fn line_of(alloc: Global, con: &str, acc: &str) -> Result<Line, Fail> {
+/// The pit whose con and acc have headers with these lines on their grid, where the others are right.
+fn pit_headed(con: &str, acc: &str) -> Example {
     let mut example = tile_on(3, "S01E007.hgt", RIGHT, &pit());
     example.con.header = header_on(Held::Con, con);
     example.acc.header = header_on(Held::Acc, acc);
-    told(alloc, &example)
+    example
 }
 
-/// The lines on the grid of con and of acc, and the line that is told.
-static HEADERS: [(&str, &str, &str); 7] = [
-    (RIGHT, RIGHT, PIT_LINE),
-    (JUST_PLACED, RIGHT, PIT_LINE),
-    (TOO_FEW_ROWS, RIGHT, "refused WrongShape con"),
-    (TOO_FAR_EAST, RIGHT, "refused Misplaced con"),
-    (RIGHT, TOO_NARROW, "refused Misplaced acc"),
-    (RIGHT, NO_HEIGHT, "refused BadHeader acc MissingKey YDIM"),
-    (TOO_FAR_EAST, NO_HEIGHT, "refused Misplaced con"),
+/// The lines on the grid of con and of acc, what they are, and the line that is told.
+static HEADERS: [(&str, &str, &str, &str); 7] = [
+    (RIGHT, RIGHT, "right", PIT_LINE),
+    (JUST_PLACED, RIGHT, "just placed", PIT_LINE),
+    (
+        TOO_FEW_ROWS,
+        RIGHT,
+        "too few rows",
+        "refused WrongShape con",
+    ),
+    (TOO_FAR_EAST, RIGHT, "too far east", "refused Misplaced con"),
+    (RIGHT, TOO_NARROW, "too narrow", "refused Misplaced acc"),
+    (
+        RIGHT,
+        NO_HEIGHT,
+        "no height",
+        "refused BadHeader acc MissingKey YDIM",
+    ),
+    (
+        TOO_FAR_EAST,
+        NO_HEIGHT,
+        "too far east, and no height",
+        "refused Misplaced con",
+    ),
 ];
 
 #[test]
 fn headers_of_one_tile(rt: HostRuntime) -> Result<(), Fail> {
-    for &(con, acc, line) in &HEADERS {
-        same_line(&rt, (con, acc), &line_of(rt.alloc(), con, acc)?, line);
+    for &(con, acc, case, line) in &HEADERS {
+        let example = pit_headed(con, acc);
+        tells(&rt, rt.alloc(), Asked::Check, case, &example, line)?;
     }
     Ok(())
 }

@@ -5,6 +5,7 @@ use crate::example::{Example, one_tile};
 use crate::runs::told_of_header;
 use drain_verdict::line::Line;
 use std::alloc::{AllocError, Global};
+use std::process::Abort;
 use std::test::Fail;
 use worked_grids::{PIT_LINE, pit, voids};
 
@@ -46,20 +47,18 @@ static LINES_OF_VOIDS: [&str; 15] = [
     "NODATA -32768",
 ];
 
-/// A line in another's place, counted from 1: how it begins, 60,000 times a digit or none, and how it ends.
+/// A line of a header: how it begins, 60,000 times a digit or none, and how it ends.
 #[derive(Clone, Copy)]
-struct Replaced {
-    number: usize,
+struct HeaderLine {
     begin: &'static str,
     digit: Option<u8>,
     end: &'static str,
 }
 
-impl Replaced {
+impl HeaderLine {
     /// A line without many digits.
-    fn short(number: usize, begin: &'static str) -> Replaced {
-        Replaced {
-            number,
+    fn short(begin: &'static str) -> HeaderLine {
+        HeaderLine {
             begin,
             digit: None,
             end: "",
@@ -67,35 +66,60 @@ impl Replaced {
     }
 }
 
-/// The bytes of a header of these lines, one of them replaced.
-fn header_of(alloc: Global, lines: &[&str; 15], replaced: Replaced) -> Result<Vec<u8>, AllocError> {
+/// Puts a line behind a header.
+fn push_line(header: &mut Vec<u8>, line: HeaderLine) -> Result<(), AllocError> {
+    header.extend_from_slice(line.begin.as_bytes())?;
+    if let Some(digit) = line.digit {
+        header.extend_from_slice(&[digit; 60000])?;
+    }
+    header.extend_from_slice(line.end.as_bytes())?;
+    header.push(b'\n')?;
+    Ok(())
+}
+
+/// The bytes of a header of these lines, with another in the place of one of them, counted from 1.
+fn header_of(
+    alloc: Global,
+    lines: &[&'static str; 15],
+    number: usize,
+    replaced: HeaderLine,
+) -> Result<Vec<u8>, AllocError> {
     let mut header = Vec::new(alloc);
-    let mut number: usize = 0;
-    for line in lines {
-        number = number.saturating_add(1);
-        if number == replaced.number {
-            header.extend_from_slice(replaced.begin.as_bytes())?;
-            if let Some(digit) = replaced.digit {
-                header.extend_from_slice(&[digit; 60000])?;
-            }
-            header.extend_from_slice(replaced.end.as_bytes())?;
+    for (place, &line) in lines.iter().enumerate() {
+        let line = if place.saturating_add(1) == number {
+            replaced
         } else {
-            header.extend_from_slice(line.as_bytes())?;
-        }
-        header.push(b'\n')?;
+            HeaderLine::short(line)
+        };
+        push_line(&mut header, line)?;
     }
     Ok(header)
 }
 
-/// The line of an example whose con has a header of these lines, one of them replaced.
+/// The line of an example whose con has a header of these lines, with another in the place of one of them.
 fn line_with(
     alloc: Global,
     example: &Example,
-    lines: &[&str; 15],
-    replaced: Replaced,
+    lines: &[&'static str; 15],
+    number: usize,
+    replaced: HeaderLine,
 ) -> Result<Line, AllocError> {
-    let header = header_of(alloc, lines, replaced)?;
+    let header = header_of(alloc, lines, number, replaced)?;
     told_of_header(alloc, example, &header)
+}
+
+/// Ends the test where another line is told of an example with such a header than is owed.
+fn header_tells(
+    rt: &impl Abort,
+    alloc: Global,
+    example: &Example,
+    lines: &[&'static str; 15],
+    (number, replaced): (usize, HeaderLine),
+    owed: &str,
+) -> Result<(), Fail> {
+    let given = line_with(alloc, example, lines, number, replaced)?;
+    same_line(rt, replaced.begin, &given, owed);
+    Ok(())
 }
 
 /// The number of a line of the header, what stands in its place, and the line that is told.
@@ -122,9 +146,8 @@ static AT_BOUNDS: [(usize, &str, &str); 8] = [
 fn numbers_at_their_bounds(rt: HostRuntime) -> Result<(), Fail> {
     let example = one_tile(3, &pit());
     for &(number, replaced, owed) in &AT_BOUNDS {
-        let short = Replaced::short(number, replaced);
-        let given = line_with(rt.alloc(), &example, &LINES_OF_PIT, short)?;
-        same_line(&rt, replaced, &given, owed);
+        let short = (number, HeaderLine::short(replaced));
+        header_tells(&rt, rt.alloc(), &example, &LINES_OF_PIT, short, owed)?;
     }
     Ok(())
 }
@@ -145,14 +168,12 @@ static LONG_DECIMALS: [(&str, u8, &str, &str); 3] = [
 fn decimals_of_60_000_digits(rt: HostRuntime) -> Result<(), Fail> {
     let example = one_tile(3, &pit());
     for &(begin, digit, end, owed) in &LONG_DECIMALS {
-        let long = Replaced {
-            number: 11,
+        let long = HeaderLine {
             begin,
             digit: Some(digit),
             end,
         };
-        let given = line_with(rt.alloc(), &example, &LINES_OF_PIT, long)?;
-        same_line(&rt, (begin, digit), &given, owed);
+        header_tells(&rt, rt.alloc(), &example, &LINES_OF_PIT, (11, long), owed)?;
     }
     Ok(())
 }
@@ -161,8 +182,7 @@ fn decimals_of_60_000_digits(rt: HostRuntime) -> Result<(), Fail> {
 #[test]
 fn voids_without_a_number_for_them(rt: HostRuntime) -> Result<(), Fail> {
     let example = one_tile(2, &voids());
-    let replaced = Replaced::short(15, "NODATA 10000000000");
-    let given = line_with(rt.alloc(), &example, &LINES_OF_VOIDS, replaced)?;
-    same_line(&rt, "voids", &given, "rejected rule=1 VoidCell row=0 col=0");
-    Ok(())
+    let replaced = (15, HeaderLine::short("NODATA 10000000000"));
+    let owed = "rejected rule=1 VoidCell row=0 col=0";
+    header_tells(&rt, rt.alloc(), &example, &LINES_OF_VOIDS, replaced, owed)
 }

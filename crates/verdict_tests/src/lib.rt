@@ -6,8 +6,6 @@ mod accepted;
 #[cfg(test)]
 mod agree;
 #[cfg(test)]
-mod audit_runs;
-#[cfg(test)]
 mod audits;
 #[cfg(test)]
 mod bytes;
@@ -18,9 +16,13 @@ mod cuts;
 #[cfg(test)]
 mod example;
 #[cfg(test)]
+mod faults;
+#[cfg(test)]
 mod headers;
 #[cfg(test)]
 mod huge_numbers;
+#[cfg(test)]
+mod inputs;
 #[cfg(test)]
 mod listed_sinks;
 #[cfg(test)]
@@ -41,5 +43,7 @@ mod second_checks;
 mod sink_orders;
 #[cfg(test)]
 mod sources;
+#[cfg(test)]
+mod tells;
 #[cfg(test)]
 mod whole_rows;

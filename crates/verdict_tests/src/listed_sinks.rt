@@ -1,12 +1,12 @@
 //! Lists of sinks: what they change, on one tile and on two. The lines were worked out by hand from the rules.
 
-use crate::agree::same_line;
-use crate::example::{Example, changed, one_tile, products_on, tile, tile_on};
-use crate::runs::{Faulty, Owner, told, told_slowly};
+use crate::example::{Example, one_tile, products_on, tile, tile_on};
+use crate::faults::{FaultyCalls, fails_at_each_call, tells_beside};
+use crate::inputs::Owner;
+use crate::runs::Asked;
+use crate::tells::{Changes, changes_tell, lists_tell, tells};
 use drain_device::DeviceFault;
-use drain_device::faults::Scripted;
 use drain_grid::Held;
-use drain_verdict::line::Line;
 use std::alloc::Global;
 use std::test::Fail;
 use worked_grids::shafts::Shafts;
@@ -37,11 +37,7 @@ static LISTED_PIT_LISTS: [(&str, &str); 7] = [
 
 #[test]
 fn a_pit_that_is_listed_and_not(rt: HostRuntime) -> Result<(), Fail> {
-    for &(text, line) in &LISTED_PIT_LISTS {
-        let given = told(rt.alloc(), &listed_pit_with(text))?;
-        same_line(&rt, text, &given, line);
-    }
-    Ok(())
+    lists_tell(&rt, rt.alloc(), &listed_pit_with(""), &LISTED_PIT_LISTS)
 }
 
 /// Lists beside the filled pit, each with the line that is told.
@@ -54,11 +50,7 @@ static FILLED_PIT_LISTS: [(&str, &str); 4] = [
 
 #[test]
 fn a_filled_pit_with_sinks(rt: HostRuntime) -> Result<(), Fail> {
-    for &(text, line) in &FILLED_PIT_LISTS {
-        let given = told(rt.alloc(), &filled_pit_with(text))?;
-        same_line(&rt, text, &given, line);
-    }
-    Ok(())
+    lists_tell(&rt, rt.alloc(), &filled_pit_with(""), &FILLED_PIT_LISTS)
 }
 
 /// A level tile of side 5 whose middle is a void: so each other cell is an outlet with a label of its own.
@@ -77,11 +69,10 @@ fn land_round_a_void() -> [i64; 150] {
     numbers
 }
 
-/// The level tile round a void, with a list.
-pub fn round_a_void(text: &str) -> Example {
+/// The level tile round a void.
+pub fn round_a_void() -> Example {
     let grid = "NROWS 5\nNCOLS 5\nULXMAP 0\nULYMAP 1\nXDIM 0.25\nYDIM 0.25\n";
-    let example = tile_on(5, "N00E000.hgt", grid, &land_round_a_void());
-    example.listing(text)
+    tile_on(5, "N00E000.hgt", grid, &land_round_a_void())
 }
 
 /// The line of the land round a void.
@@ -101,15 +92,11 @@ static VOID_LISTS: [(&str, &str); 8] = [
 
 #[test]
 fn a_void_inside_the_land(rt: HostRuntime) -> Result<(), Fail> {
-    for &(text, line) in &VOID_LISTS {
-        let given = told(rt.alloc(), &round_a_void(text))?;
-        same_line(&rt, text, &given, line);
-    }
-    Ok(())
+    lists_tell(&rt, rt.alloc(), &round_a_void(), &VOID_LISTS)
 }
 
 /// How two tiles of side 3 lie, the second beside the first or below it.
-#[derive(Clone, Copy, Debug)]
+#[derive(Clone, Copy)]
 pub enum Lie {
     Beside,
     Below,
@@ -135,20 +122,29 @@ impl Lie {
     }
 }
 
+/// Two level tiles with these products and this list.
+fn two_level_tiles(lie: Lie, products: &[i64], text: &str) -> Example {
+    let (_, _, grid, names) = lie.mosaic();
+    let mut example = products_on(3, grid, products);
+    for name in names {
+        example.push_tile(tile(name, &[0; 9]));
+    }
+    example.listing(text)
+}
+
 /// Two level tiles whose products are right where this cell is listed, with this list.
 pub fn two_tiles(alloc: Global, lie: Lie, cell: (u8, u16), text: &str) -> Result<Example, Fail> {
-    let (rows, cols, grid, [first, second]) = lie.mosaic();
+    let (rows, cols, _, _) = lie.mosaic();
     let shafts = Shafts {
         rows,
         cols,
         listed: &[cell],
     };
     let numbers = shafts.numbers(alloc)?;
-    let products = numbers.get(15..).ok_or("products")?;
-    let mut example = products_on(3, grid, products);
-    example.push_tile(tile(first, &[0; 9]));
-    example.push_tile(tile(second, &[0; 9]));
-    Ok(example.listing(text))
+    match numbers.get(15..) {
+        Some(products) => Ok(two_level_tiles(lie, products, text)),
+        None => Err("products".into()),
+    }
 }
 
 const RIGHT_BESIDE: &str = "accepted rows=3 cols=5 data=15 raised=0 outlets=13";
@@ -203,25 +199,10 @@ static TWO_TILES: [(Lie, (u8, u16), &str, &str); 18] = [
 #[test]
 fn sinks_of_two_tiles(rt: HostRuntime) -> Result<(), Fail> {
     for &(lie, cell, text, line) in &TWO_TILES {
-        let given = told(rt.alloc(), &two_tiles(rt.alloc(), lie, cell, text)?)?;
-        same_line(&rt, (lie, cell, text), &given, line);
+        let example = two_tiles(rt.alloc(), lie, cell, text)?;
+        tells(&rt, rt.alloc(), Asked::Check, text, &example, line)?;
     }
     Ok(())
-}
-
-/// The line of the listed pit with a list where an owner's source answers a fault from one call to another.
-fn listed_pit_where(
-    alloc: Global,
-    text: &str,
-    owner: Owner,
-    script: Scripted<DeviceFault>,
-) -> Result<Line, Fail> {
-    let script = [script];
-    let faulty = Faulty {
-        owner,
-        script: &script,
-    };
-    Ok(told_slowly(alloc, &listed_pit_with(text), faulty)?)
 }
 
 /// The lists beside which a source fails, and the line that is told where it doesn't.
@@ -243,22 +224,9 @@ static CALLS: [(Owner, u64); 4] = [
 #[test]
 fn sources_that_fail_beside_a_list(rt: HostRuntime) -> Result<(), Fail> {
     for &(text, line) in &BESIDE_A_FAULT {
-        for &(owner, calls) in &CALLS {
-            for before in 0..=calls {
-                let first = before.saturating_add(1);
-                let (last, owed) = if before < calls {
-                    (first, "failed ReadFailed")
-                } else {
-                    (u64::MAX, line)
-                };
-                let script = Scripted {
-                    first,
-                    last,
-                    answer: DeviceFault::Failed,
-                };
-                let given = listed_pit_where(rt.alloc(), text, owner, script)?;
-                same_line(&rt, (text, owner, first), &given, owed);
-            }
+        let pit = listed_pit_with(text);
+        for &asked in &CALLS {
+            fails_at_each_call(&rt, rt.alloc(), text, &pit, asked, line)?;
         }
     }
     Ok(())
@@ -279,38 +247,40 @@ static INTERRUPTIONS: [(Owner, u64, u64, bool); 8] = [
 #[test]
 fn sources_that_are_interrupted_beside_a_list(rt: HostRuntime) -> Result<(), Fail> {
     for &(text, line) in &BESIDE_A_FAULT {
+        let pit = listed_pit_with(text);
         for &(owner, first, last, is_borne) in &INTERRUPTIONS {
             let owed = if is_borne { line } else { "failed ReadFailed" };
-            let script = Scripted {
+            let calls = FaultyCalls {
+                owner,
                 first,
                 last,
                 answer: DeviceFault::Interrupted,
             };
-            let given = listed_pit_where(rt.alloc(), text, owner, script)?;
-            same_line(&rt, (text, owner, first), &given, owed);
+            tells_beside(&rt, rt.alloc(), Asked::Check, text, &pit, calls, owed)?;
         }
     }
     Ok(())
 }
 
-/// A place of the listed pit, the number there, and the line of the rejection.
-static RULES: [(usize, i64, &str); 6] = [
-    (13, 0, "rejected rule=4 BelowGround row=1 col=1"),
-    (13, 2, "rejected rule=5 OpenRaised row=1 col=1"),
-    (18, 1, "rejected rule=10 Slope row=0 col=0"),
-    (22, 1, "rejected rule=11 OutletCode row=1 col=1"),
-    (31, 8, "rejected rule=13 Accumulation row=1 col=1"),
-    (36, 2, "rejected rule=14 Label row=0 col=0"),
+/// A number of the listed pit that is changed, and the line of the rejection.
+static RULES: [Changes; 6] = [
+    (&[(13, 0)], "rejected rule=4 BelowGround row=1 col=1"),
+    (&[(13, 2)], "rejected rule=5 OpenRaised row=1 col=1"),
+    (&[(18, 1)], "rejected rule=10 Slope row=0 col=0"),
+    (&[(22, 1)], "rejected rule=11 OutletCode row=1 col=1"),
+    (&[(31, 8)], "rejected rule=13 Accumulation row=1 col=1"),
+    (&[(36, 2)], "rejected rule=14 Label row=0 col=0"),
 ];
 
 /// Rules that don't look at sinks, at the listed pit with one number changed; its samples and its products are 9 each.
 #[test]
 fn rules_beside_a_list(rt: HostRuntime) -> Result<(), Fail> {
-    for &(place, number, line) in &RULES {
-        let numbers = changed(&listed_pit(), place, number);
-        let example = one_tile(3, &numbers).listing(LISTED_PIT_SINKS);
-        let given = told(rt.alloc(), &example)?;
-        same_line(&rt, (place, number), &given, line);
-    }
-    Ok(())
+    changes_tell(
+        &rt,
+        rt.alloc(),
+        Asked::Check,
+        (3, LISTED_PIT_SINKS),
+        &listed_pit(),
+        &RULES,
+    )
 }

@@ -2,7 +2,7 @@
 
 use crate::agree::{same, same_line};
 use crate::example::{TileBytes, tile};
-use crate::runs::{Faulty, Owner, slow_tiles, tiles_at_once};
+use crate::inputs::{Faulty, Owner, slow_tiles, tiles_at_once};
 use drain_device::faults::Scripted;
 use drain_device::{ByteSource, DeviceFault};
 use drain_grid::{Cell, Elevation, VOID};
@@ -10,6 +10,7 @@ use drain_hgt::TileInput;
 use drain_verdict::line::Line;
 use drain_verdict::{Refusal, read_mosaic, report};
 use std::alloc::Global;
+use std::process::Abort;
 use std::test::Fail;
 
 /// Two tiles of side 2, one west of the other; the eastern one has this first sample.
@@ -73,21 +74,25 @@ fn refused_at_once(alloc: Global, side: u32, bytes: &[TileBytes]) -> Result<Line
     refused(alloc, side, &mut tiles)
 }
 
-/// A side, how many tiles without a name there are, and the line that is told.
-static SIDES: [(u32, usize, &str); 3] = [
-    (1, 1, "refused BadSide"),
-    (3, 1, "refused BadName 0"),
-    (3, 0, "refused NoTiles"),
-];
+/// Ends the test where another line is told of tiles of this side than is owed.
+fn refuses(
+    rt: &impl Abort,
+    alloc: Global,
+    side: u32,
+    bytes: &[TileBytes],
+    owed: &str,
+) -> Result<(), Fail> {
+    let told = refused_at_once(alloc, side, bytes)?;
+    same_line(rt, owed, &told, owed);
+    Ok(())
+}
 
 #[test]
 fn refuses_side_and_names(rt: HostRuntime) -> Result<(), Fail> {
     let bytes = [tile("x", &[])];
-    for &(side, tiles, line) in &SIDES {
-        let told = refused_at_once(rt.alloc(), side, &bytes[..tiles])?;
-        same_line(&rt, line, &told, line);
-    }
-    Ok(())
+    refuses(&rt, rt.alloc(), 1, &bytes, "refused BadSide")?;
+    refuses(&rt, rt.alloc(), 3, &bytes, "refused BadName 0")?;
+    refuses(&rt, rt.alloc(), 3, &[], "refused NoTiles")
 }
 
 #[test]
@@ -96,15 +101,11 @@ fn refuses_bodies(rt: HostRuntime) -> Result<(), Fail> {
     short.body.pop();
     let mut long = tile("N00E000.hgt", &[1, 2, 3, 4]);
     long.body.push(0);
-    for (bytes, tiles, line) in [
-        (side_by_side(9), 2, "refused SeamMismatch row=0 col=1"),
-        ([short; 2], 1, "refused BadTileLength N00E000.hgt"),
-        ([long; 2], 1, "refused BadTileLength N00E000.hgt"),
-    ] {
-        let told = refused_at_once(rt.alloc(), 2, &bytes[..tiles])?;
-        same_line(&rt, line, &told, line);
-    }
-    Ok(())
+    let seam = "refused SeamMismatch row=0 col=1";
+    refuses(&rt, rt.alloc(), 2, &side_by_side(9), seam)?;
+    let length = "refused BadTileLength N00E000.hgt";
+    refuses(&rt, rt.alloc(), 2, &[short], length)?;
+    refuses(&rt, rt.alloc(), 2, &[long], length)
 }
 
 /// The line of the refusal of two tiles whose sources fault by this script.

@@ -1,11 +1,9 @@
 //! Inputs with two faults, of which the earlier is told.
 
-use crate::agree::same_line;
 use crate::bytes::Bytes;
 use crate::example::{Example, bare, one_tile, products_on, tile};
-use crate::runs::told;
-use drain_verdict::line::Line;
-use std::alloc::Global;
+use crate::runs::Asked;
+use crate::tells::{each_tells, tells};
 use std::test::Fail;
 use worked_grids::pit;
 
@@ -17,12 +15,7 @@ const ELSEWHERE_AND_HIGHER: &str = "NROWS 4\nNCOLS 3\nULXMAP 1\nULYMAP 1\nXDIM 0
 
 const TWO_BANDS: &str = "NBANDS 2\nNROWS 3\nNCOLS 3\nULXMAP 0\nULYMAP 1\nXDIM 0.5\nYDIM 0.5\n";
 
-/// The line of tiles of these names, where no header is right.
-fn named(alloc: Global, side: u32, names: &[&str]) -> Result<Line, Fail> {
-    told(alloc, &bare(side, names, TWO_BANDS))
-}
-
-/// A side, names of tiles, and the line that is told.
+/// A side, names of tiles, and the line that is told where no header is right.
 static NAMES: [(u32, &[&str], &str); 6] = [
     (1, &["x"], "refused BadSide"),
     (3, &["x"], "refused BadName 0"),
@@ -39,18 +32,19 @@ static NAMES: [(u32, &[&str], &str); 6] = [
 #[test]
 fn tells_the_side_before_the_names_before_the_headers(rt: HostRuntime) -> Result<(), Fail> {
     for &(side, names, line) in &NAMES {
-        same_line(&rt, line, &named(rt.alloc(), side, names)?, line);
+        let example = bare(side, names, TWO_BANDS);
+        tells(&rt, rt.alloc(), Asked::Check, line, &example, line)?;
     }
     Ok(())
 }
 
-/// The line of an empty tile of side 3, whose products have this header but for con, dir and rnk.
-fn headed(alloc: Global, con: &str, dir: &str, rnk: &str) -> Result<Line, Fail> {
+/// An empty tile of side 3, whose products have this header but for con, dir and rnk.
+fn headed(con: &str, dir: &str, rnk: &str) -> Example {
     let mut example = bare(3, &["N00E000.hgt"], RIGHT);
     example.con.header = Bytes::of(con.as_bytes());
     example.dir.header = Bytes::of(dir.as_bytes());
     example.rnk.header = Bytes::of(rnk.as_bytes());
-    told(alloc, &example)
+    example
 }
 
 /// The headers of con, dir and rnk, and the line that is told.
@@ -65,8 +59,14 @@ static PRODUCTS: [(&str, &str, &str, &str); 5] = [
 #[test]
 fn tells_a_product_before_the_next_and_the_tiles(rt: HostRuntime) -> Result<(), Fail> {
     for &(con, dir, rnk, line) in &PRODUCTS {
-        let given = headed(rt.alloc(), con, dir, rnk)?;
-        same_line(&rt, line, &given, line);
+        tells(
+            &rt,
+            rt.alloc(),
+            Asked::Check,
+            line,
+            &headed(con, dir, rnk),
+            line,
+        )?;
     }
     Ok(())
 }
@@ -84,8 +84,7 @@ fn torn() -> Example {
 #[test]
 fn tells_a_seam_before_the_rules(rt: HostRuntime) -> Result<(), Fail> {
     let line = "refused SeamMismatch row=0 col=1";
-    same_line(&rt, "a seam", &told(rt.alloc(), &torn())?, line);
-    Ok(())
+    tells(&rt, rt.alloc(), Asked::Check, "a seam", &torn(), line)
 }
 
 #[test]
@@ -98,12 +97,10 @@ fn tells_a_tile_before_a_raster_before_a_seam(rt: HostRuntime) -> Result<(), Fai
     let mut short_rasters = one_tile(3, &pit());
     short_rasters.dir.body.pop();
     short_rasters.rnk.body.pop();
-    for (example, line) in [
+    let cases = [
         (short_raster, "refused RasterShort rnk"),
         (short_tile, "refused BadTileLength N00E001.hgt"),
         (short_rasters, "refused RasterShort dir"),
-    ] {
-        same_line(&rt, line, &told(rt.alloc(), &example)?, line);
-    }
-    Ok(())
+    ];
+    each_tells(&rt, rt.alloc(), Asked::Check, &cases)
 }

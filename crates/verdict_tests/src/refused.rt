@@ -2,7 +2,8 @@
 
 use crate::agree::same_line;
 use crate::example::{Example, bare, header_on, one_tile, products_on, tile};
-use crate::runs::told;
+use crate::runs::Asked;
+use crate::tells::{each_tells, tells};
 use drain_grid::Held;
 use drain_verdict::{Refusal, report};
 use std::test::Fail;
@@ -52,8 +53,14 @@ static PLACES_AND_SHAPES: [(Held, &str, &str); 6] = [
 #[test]
 fn refuses_other_places_and_shapes(rt: HostRuntime) -> Result<(), Fail> {
     for &(product, grid, line) in &PLACES_AND_SHAPES {
-        let example = pit_on(product, grid);
-        same_line(&rt, grid, &told(rt.alloc(), &example)?, line);
+        tells(
+            &rt,
+            rt.alloc(),
+            Asked::Check,
+            grid,
+            &pit_on(product, grid),
+            line,
+        )?;
     }
     Ok(())
 }
@@ -68,14 +75,12 @@ fn refuses_bodies_of_another_length(rt: HostRuntime) -> Result<(), Fail> {
     let mut long_tile = one_tile(3, &pit());
     long_tile.con.body.pop();
     long_tile.tiles[0].body.push(0);
-    for (example, line) in [
+    let cases = [
         (short_raster, "refused RasterShort con"),
         (short_tile, "refused BadTileLength N00E000.hgt"),
         (long_tile, "refused BadTileLength N00E000.hgt"),
-    ] {
-        same_line(&rt, line, &told(rt.alloc(), &example)?, line);
-    }
-    Ok(())
+    ];
+    each_tells(&rt, rt.alloc(), Asked::Check, &cases)
 }
 
 /// Two tiles of side 2 that differ in the middle of the first row.
@@ -86,8 +91,7 @@ fn refuses_tiles_that_differ(rt: HostRuntime) -> Result<(), Fail> {
     example.push_tile(tile("N00E000.hgt", &[1, 2, 3, 4]));
     example.push_tile(tile("N00E001.hgt", &[9, 5, 4, 6]));
     let line = "refused SeamMismatch row=0 col=1";
-    same_line(&rt, "a seam", &told(rt.alloc(), &example)?, line);
-    Ok(())
+    tells(&rt, rt.alloc(), Asked::Check, "a seam", &example, line)
 }
 
 /// A usual tool's header of the tile N37W105, but for its spaces.
@@ -111,8 +115,7 @@ NODATA -32768
 fn takes_the_headers_of_usual_tools(rt: HostRuntime) -> Result<(), Fail> {
     let example = bare(1201, &["N37W105.hgt"], USUAL);
     let line = "refused BadTileLength N37W105.hgt";
-    same_line(&rt, "usual", &told(rt.alloc(), &example)?, line);
-    Ok(())
+    tells(&rt, rt.alloc(), Asked::Check, "usual", &example, line)
 }
 
 #[test]

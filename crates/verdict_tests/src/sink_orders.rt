@@ -4,7 +4,7 @@ use crate::agree::same_line;
 use crate::bytes::Bytes;
 use crate::example::{Example, bare, changed, one_tile, products_on, tile};
 use crate::listed_sinks::{filled_pit_with, listed_pit_with};
-use crate::runs::told;
+use crate::tells::{any_list_tells, lists_tell};
 use drain_verdict::{Refusal, report};
 use std::test::Fail;
 use worked_grids::{PIT_LINE, UNLISTED_PIT_LINE, listed_pit, parted, voids};
@@ -28,11 +28,7 @@ static BAD_LINES: [(&str, &str); 12] = [
 
 #[test]
 fn lines_that_are_bad(rt: HostRuntime) -> Result<(), Fail> {
-    for &(text, line) in &BAD_LINES {
-        let given = told(rt.alloc(), &filled_pit_with(text))?;
-        same_line(&rt, text, &given, line);
-    }
-    Ok(())
+    lists_tell(&rt, rt.alloc(), &filled_pit_with(""), &BAD_LINES)
 }
 
 /// Lists beside the filled pit, each with the line that is told.
@@ -49,11 +45,7 @@ static OUTSIDE: [(&str, &str); 8] = [
 
 #[test]
 fn cells_that_are_outside(rt: HostRuntime) -> Result<(), Fail> {
-    for &(text, line) in &OUTSIDE {
-        let given = told(rt.alloc(), &filled_pit_with(text))?;
-        same_line(&rt, text, &given, line);
-    }
-    Ok(())
+    lists_tell(&rt, rt.alloc(), &filled_pit_with(""), &OUTSIDE)
 }
 
 /// Lists beside voids, each with the line that is told.
@@ -68,22 +60,18 @@ static VOIDS: [(&str, &str); 6] = [
 
 #[test]
 fn voids_that_are_listed(rt: HostRuntime) -> Result<(), Fail> {
-    for &(text, line) in &VOIDS {
-        let given = told(rt.alloc(), &one_tile(2, &voids()).listing(text))?;
-        same_line(&rt, text, &given, line);
-    }
-    Ok(())
+    lists_tell(&rt, rt.alloc(), &one_tile(2, &voids()), &VOIDS)
 }
 
-/// Two flats with a column of voids between them, which no tile covers; one number of the products may be another.
-pub fn with_a_gap(place: usize, number: i64, text: &str) -> Example {
+/// Two flats with a column of voids between them, which no tile covers; some numbers of the products may be others.
+pub fn with_a_gap(changes: &[(usize, i64)]) -> Example {
     let grid = "NROWS 3\nNCOLS 7\nULXMAP 0\nULYMAP 1\nXDIM 0.5\nYDIM 0.5\n";
-    let numbers = changed(&parted(), place, number);
+    let numbers = changed(&parted(), changes);
     let mut example = products_on(3, grid, &numbers[21..]);
     for name in ["N00E000.hgt", "N00E002.hgt"] {
         example.push_tile(tile(name, &[0; 9]));
     }
-    example.listing(text)
+    example
 }
 
 /// The line of the flats with a gap.
@@ -115,15 +103,8 @@ static RAISED_CORNER: [(&str, &str); 6] = [
 /// The least line is told, wherever its cell lies, and before any rule.
 #[test]
 fn the_first_of_the_lines_off_the_data(rt: HostRuntime) -> Result<(), Fail> {
-    for &(text, line) in &OFF_THE_DATA {
-        let given = told(rt.alloc(), &with_a_gap(21, 0, text))?;
-        same_line(&rt, text, &given, line);
-    }
-    for &(text, line) in &RAISED_CORNER {
-        let given = told(rt.alloc(), &with_a_gap(21, 1, text))?;
-        same_line(&rt, ("a raised corner", text), &given, line);
-    }
-    Ok(())
+    lists_tell(&rt, rt.alloc(), &with_a_gap(&[]), &OFF_THE_DATA)?;
+    lists_tell(&rt, rt.alloc(), &with_a_gap(&[(21, 1)]), &RAISED_CORNER)
 }
 
 /// Lists beside the listed pit, each with the line that is told.
@@ -136,43 +117,58 @@ static BEFORE_THE_RULES: [(&str, &str); 3] = [
 /// A rejection comes behind a list that is refused.
 #[test]
 fn tells_a_list_before_the_rules(rt: HostRuntime) -> Result<(), Fail> {
-    for &(text, line) in &BEFORE_THE_RULES {
-        let given = told(rt.alloc(), &listed_pit_with(text))?;
-        same_line(&rt, text, &given, line);
-    }
-    Ok(())
+    lists_tell(&rt, rt.alloc(), &listed_pit_with(""), &BEFORE_THE_RULES)
 }
+
+/// What is wrong with an example beside its list.
+#[derive(Clone, Copy)]
+enum Wrong {
+    Side,
+    NoHeader,
+    ShortTile,
+    LongTile,
+    ShortRaster,
+}
+
+/// The listed pit with something wrong.
+fn wrong_pit(wrong: Wrong) -> Example {
+    let mut pit = listed_pit_with("");
+    match wrong {
+        Wrong::Side => pit.side = 1,
+        Wrong::NoHeader => pit.rnk.header = Bytes::new(),
+        Wrong::ShortTile => pit.tiles[0].body.pop(),
+        Wrong::LongTile => pit.tiles[0].body.push(0),
+        Wrong::ShortRaster => pit.rnk.body.pop(),
+    }
+    pit
+}
+
+/// What is wrong, and the line that is told of it.
+static WRONG_PITS: [(Wrong, &str); 5] = [
+    (Wrong::Side, "refused BadSide"),
+    (Wrong::NoHeader, "refused BadHeader rnk MissingKey NROWS"),
+    (Wrong::ShortTile, "refused BadTileLength N00E000.hgt"),
+    (Wrong::LongTile, "refused BadTileLength N00E000.hgt"),
+    (Wrong::ShortRaster, "refused RasterShort rnk"),
+];
+
+/// Lists of which some are wrong.
+static LISTS: [&str; 4] = ["x", "9 9", "1 1\n9 9\nx", "1 1"];
 
 /// Each other refusal comes before that of a list.
 #[test]
 fn tells_side_names_headers_and_bodies_before_a_list(rt: HostRuntime) -> Result<(), Fail> {
-    let right = one_tile(3, &listed_pit());
-    let mut bad_side = right;
-    bad_side.side = 1;
-    let mut no_header = right;
-    no_header.rnk.header = Bytes::new();
-    let mut short_tile = right;
-    short_tile.tiles[0].body.pop();
-    let mut long_tile = right;
-    long_tile.tiles[0].body.push(0);
-    let mut short_raster = right;
-    short_raster.rnk.body.pop();
-    for (example, line) in [
-        (bad_side, "refused BadSide"),
-        (bare(3, &["x"], ""), "refused BadName 0"),
-        (bare(3, &[], ""), "refused NoTiles"),
-        (no_header, "refused BadHeader rnk MissingKey NROWS"),
-        (short_tile, "refused BadTileLength N00E000.hgt"),
-        (long_tile, "refused BadTileLength N00E000.hgt"),
-        (short_raster, "refused RasterShort rnk"),
-    ] {
-        for text in ["x", "9 9", "1 1\n9 9\nx", "1 1"] {
-            let given = told(rt.alloc(), &example.listing(text))?;
-            same_line(&rt, text, &given, line);
-        }
+    for &(wrong, line) in &WRONG_PITS {
+        any_list_tells(&rt, rt.alloc(), &wrong_pit(wrong), &LISTS, line)?;
     }
-    Ok(())
+    let bad_name = bare(3, &["x"], "");
+    any_list_tells(&rt, rt.alloc(), &bad_name, &LISTS, "refused BadName 0")?;
+    let no_tiles = bare(3, &[], "");
+    any_list_tells(&rt, rt.alloc(), &no_tiles, &LISTS, "refused NoTiles")
 }
+
+/// Lists beside tiles that differ, of which some are wrong.
+static BESIDE_A_SEAM: [&str; 4] = ["x", "9 9", "0 1", "0 1\n0 0 0"];
 
 /// Two tiles of side 2 that differ in the middle of the first row, with a list.
 #[test]
@@ -181,11 +177,8 @@ fn tells_a_seam_before_a_list(rt: HostRuntime) -> Result<(), Fail> {
     let mut torn = products_on(2, grid, &[0; 30]);
     torn.push_tile(tile("N00E000.hgt", &[1, 2, 3, 4]));
     torn.push_tile(tile("N00E001.hgt", &[9, 5, 4, 6]));
-    for text in ["x", "9 9", "0 1", "0 1\n0 0 0"] {
-        let given = told(rt.alloc(), &torn.listing(text))?;
-        same_line(&rt, text, &given, "refused SeamMismatch row=0 col=1");
-    }
-    Ok(())
+    let line = "refused SeamMismatch row=0 col=1";
+    any_list_tells(&rt, rt.alloc(), &torn, &BESIDE_A_SEAM, line)
 }
 
 #[test]

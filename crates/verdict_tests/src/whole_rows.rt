@@ -3,46 +3,84 @@
 ghost use Rattle.std.specs.Prelude.{◌≡◌, IfOk};
 
 use crate::agree::same_line;
-use drain_grid::{Elevation, Product, ProductSet, Raster, Shape, Sinks};
+use drain_grid::{Elevation, Held, PerProduct, ProductSet, Raster, Shape, Sinks};
 use drain_verdict::line::Line;
 use drain_verdict::{Refusal, report, verdict_row_by_row};
 use std::alloc::Global;
 use std::test::Fail;
 use worked_grids::LEVEL_LINE;
 
+/// Four cells of elevation 0.
+fn elevation(alloc: Global, shape: Shape) -> Result<Elevation, Fail>
+    ensures { IfOk result (λ elevation. elevation.extent ≡ shape) }
+{
+    let samples = Vec::from_slice(alloc, &[0i16; 4])?;
+    if samples.len() != shape.cells() {
+        return Err("a sample for each cell".into());
+    }
+    Ok(Elevation::new(shape, samples))
+}
+
 /// A raster of four numbers.
-fn raster(alloc: Global, shape: Shape, product: Product, numbers: [u8; 4]) -> Result<Raster, Fail>
+fn raster(alloc: Global, shape: Shape, product: Held, numbers: [u8; 4]) -> Result<Raster, Fail>
     ensures { IfOk result (λ raster. raster.extent ≡ shape) }
 {
     let numbers = Vec::from_slice(alloc, &numbers)?;
     if numbers.len() != shape.cells() {
         return Err("a number for each cell".into());
     }
-    Ok(Raster::of_bytes(shape, product.default_no_data(), numbers))
+    let no_data = product.product().default_no_data();
+    Ok(Raster::of_bytes(shape, no_data, numbers))
 }
 
-/// The line of the verdict on four cells of elevation 0, each of which flows nowhere, with these counts.
-fn line_of_level(alloc: Global, acc: [u8; 4]) -> Result<Line, Fail> {
-    let Some(shape) = Shape::new(2, 2) else {
-        return Err("a shape".into());
+/// The products of four cells of elevation 0, each of which flows nowhere, with these counts.
+fn products(alloc: Global, shape: Shape, counts: [u8; 4]) -> Result<ProductSet, Fail>
+    ensures { IfOk result (λ products. products.con.extent ≡ shape) }
+{
+    let made = |product: Held| -> Result<Raster, Fail>
+        ensures { IfOk result (λ raster. raster.extent ≡ shape) }
+    {
+        let numbers = match product {
+            Held::Acc => counts,
+            Held::Bas => [1, 2, 3, 4],
+            _ => [0; 4],
+        };
+        raster(alloc, shape, product, numbers)
     };
-    let samples = Vec::from_slice(alloc, &[0i16; 4])?;
-    if samples.len() != shape.cells() {
-        return Err("a sample for each cell".into());
-    }
-    let elevation = Elevation::new(shape, samples);
-    let products = ProductSet {
-        con: raster(alloc, shape, Product::Con, [0; 4])?,
-        dir: raster(alloc, shape, Product::Dir, [0; 4])?,
-        acc: raster(alloc, shape, Product::Acc, acc)?,
-        bas: raster(alloc, shape, Product::Bas, [1, 2, 3, 4])?,
-        rnk: raster(alloc, shape, Product::Rnk, [0; 4])?,
-    };
-    let verdict = verdict_row_by_row(alloc, &elevation, &Sinks::none(alloc), &products);
-    Ok(match verdict {
+    let PerProduct {
+        con,
+        dir,
+        acc,
+        bas,
+        rnk,
+    } = PerProduct::from_each(&made)?;
+    Ok(ProductSet {
+        con,
+        dir,
+        acc,
+        bas,
+        rnk,
+    })
+}
+
+/// The line of the verdict on these.
+fn line_of(alloc: Global, elevation: &Elevation, products: &ProductSet) -> Line
+    requires { elevation.now.extent ≡ products.now.con.extent }
+{
+    match verdict_row_by_row(alloc, elevation, &Sinks::none(alloc), products) {
         Ok(verdict) => report(&Ok(verdict)),
         Err(_) => report(&Err(Refusal::OutOfMemory)),
-    })
+    }
+}
+
+/// The line of the verdict on four cells with these counts.
+fn line_of_level(alloc: Global, counts: [u8; 4]) -> Result<Line, Fail> {
+    let Some(shape) = Shape::new(2, 2) else {
+        unreachable!()
+    };
+    let elevation = elevation(alloc, shape)?;
+    let products = products(alloc, shape, counts)?;
+    Ok(line_of(alloc, &elevation, &products))
 }
 
 #[test]

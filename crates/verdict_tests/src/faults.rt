@@ -1,0 +1,96 @@
+//! What tests of sources that fault do: they ask of an example whose sources give one byte at a call, and look that the line that is owed is told.
+
+use crate::agree::same_line;
+use crate::example::Example;
+use crate::inputs::{Faulty, Owner};
+use crate::runs::{Asked, told_slowly};
+use drain_device::DeviceFault;
+use drain_device::faults::Scripted;
+use std::alloc::Global;
+use std::process::Abort;
+use std::test::Fail;
+
+/// Which calls of an owner's source answer a fault: from the first to the last of them.
+#[derive(Clone, Copy)]
+pub struct FaultyCalls {
+    pub owner: Owner,
+    pub first: u64,
+    pub last: u64,
+    pub answer: DeviceFault,
+}
+
+/// Ends the test where another line is told than is owed when a source faults, and tells of which case it is.
+pub fn tells_beside(
+    rt: &impl Abort,
+    alloc: Global,
+    asked: Asked,
+    case: &str,
+    example: &Example,
+    calls: FaultyCalls,
+    owed: &str,
+) -> Result<(), Fail> {
+    let script = [Scripted {
+        first: calls.first,
+        last: calls.last,
+        answer: calls.answer,
+    }];
+    let faulty = Faulty {
+        owner: calls.owner,
+        script: &script,
+    };
+    let given = told_slowly(alloc, asked, example, faulty)?;
+    let case = (case, calls.owner, calls.first, calls.last);
+    same_line(rt, case, &given, owed);
+    Ok(())
+}
+
+/// The same of checks in which each call of an owner's source fails in turn. Where that is none of those that it is asked, the right line is told.
+pub fn fails_at_each_call(
+    rt: &impl Abort,
+    alloc: Global,
+    case: &str,
+    example: &Example,
+    (owner, asked): (Owner, u64),
+    right: &str,
+) -> Result<(), Fail> {
+    for before in 0..=asked {
+        let first = before.saturating_add(1);
+        let (last, owed) = if before < asked {
+            (first, "failed ReadFailed")
+        } else {
+            (u64::MAX, right)
+        };
+        let calls = FaultyCalls {
+            owner,
+            first,
+            last,
+            answer: DeviceFault::Failed,
+        };
+        tells_beside(rt, alloc, Asked::Check, case, example, calls, owed)?;
+    }
+    Ok(())
+}
+
+/// How often a source faults, how, and the line that is told.
+pub type Times = (u64, DeviceFault, &'static str);
+
+/// The same where an owner's source faults so often from this call on, and then goes on.
+pub fn goes_on_after(
+    rt: &impl Abort,
+    alloc: Global,
+    asked: Asked,
+    example: &Example,
+    (owner, first): (Owner, u64),
+    cases: &[Times],
+) -> Result<(), Fail> {
+    for &(times, answer, line) in cases {
+        let calls = FaultyCalls {
+            owner,
+            first,
+            last: first.saturating_add(times).saturating_sub(1),
+            answer,
+        };
+        tells_beside(rt, alloc, asked, "goes on", example, calls, line)?;
+    }
+    Ok(())
+}

@@ -1,0 +1,102 @@
+//! What every test does: it asks of an example, and looks that the line that is owed is told.
+
+use crate::agree::same_line;
+use crate::example::{Example, changed, one_tile};
+use crate::runs::{Asked, told, told_at_once};
+use drain_verdict::line::Line;
+use drain_verdict::{Refusal, report};
+use refused_memory::owed_unless_right;
+use std::alloc::Global;
+use std::process::Abort;
+use std::test::Fail;
+
+/// Ends the test where another line is told than is owed, and tells of which case it is.
+pub fn tells(
+    rt: &impl Abort,
+    alloc: Global,
+    asked: Asked,
+    case: &str,
+    example: &Example,
+    owed: &str,
+) -> Result<(), Fail> {
+    let given = told(alloc, asked, example)?;
+    same_line(rt, case, &given, owed);
+    Ok(())
+}
+
+/// The same of each of these, each beside its line.
+pub fn each_tells(
+    rt: &impl Abort,
+    alloc: Global,
+    asked: Asked,
+    cases: &[(Example, &str)],
+) -> Result<(), Fail> {
+    for (place, (example, line)) in cases.iter().enumerate() {
+        let given = told(alloc, asked, example)?;
+        same_line(rt, (*line, place), &given, line);
+    }
+    Ok(())
+}
+
+/// The same of checks of an example with each of these lists.
+pub fn lists_tell(
+    rt: &impl Abort,
+    alloc: Global,
+    example: &Example,
+    lists: &[(&str, &str)],
+) -> Result<(), Fail> {
+    for &(text, line) in lists {
+        tells(rt, alloc, Asked::Check, text, &example.listing(text), line)?;
+    }
+    Ok(())
+}
+
+/// The same of checks of an example with each of these lists, where the line is always this one.
+pub fn any_list_tells(
+    rt: &impl Abort,
+    alloc: Global,
+    example: &Example,
+    lists: &[&str],
+    owed: &str,
+) -> Result<(), Fail> {
+    for &text in lists {
+        tells(rt, alloc, Asked::Check, text, &example.listing(text), owed)?;
+    }
+    Ok(())
+}
+
+/// Some of an example's numbers that are changed, each by its place, and the line that is told.
+pub type Changes = (&'static [(usize, i64)], &'static str);
+
+/// The same of a tile of this side, with this list and these numbers, with each of these changes.
+pub fn changes_tell<const N: usize>(
+    rt: &impl Abort,
+    alloc: Global,
+    asked: Asked,
+    (side, list): (u32, &str),
+    numbers: &[i64; N],
+    cases: &[Changes],
+) -> Result<(), Fail> {
+    for (place, &(changes, line)) in cases.iter().enumerate() {
+        let example = one_tile(side, &changed(numbers, changes)).listing(list);
+        let given = told(alloc, asked, &example)?;
+        same_line(rt, (line, place), &given, line);
+    }
+    Ok(())
+}
+
+/// The line that is told where bytes come at once. The inputs' want of memory is told as its own.
+fn line_told(alloc: Global, asked: Asked, example: &Example) -> Line {
+    match told_at_once(alloc, asked, example) {
+        Ok(line) => line,
+        Err(_) => report(&Err(Refusal::OutOfMemory)),
+    }
+}
+
+/// Ends the test where another line is told than is owed, or after it, on fresh inputs, another than the right one.
+pub fn tells_twice(rt: &impl Abort, alloc: Global, asked: Asked, example: &Example, right: &str) {
+    let first = line_told(alloc, asked, example);
+    let line = owed_unless_right(alloc, first.as_str(), "failed OutOfMemory", right);
+    same_line(rt, "first", &first, line);
+    same_line(rt, "again", &line_told(alloc, asked, example), right);
+}
