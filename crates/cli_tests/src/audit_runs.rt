@@ -1,25 +1,50 @@
 //! Runs of `drain audit` over sources and sinks in memory: one tile of side 2 at 0 degrees, level, with its four products.
 
 use crate::level_tile::{LINE, TILE, four, tile};
-use crate::printed::{Printed, same_line, slow_sink, whole_sink};
+use crate::printed::{AT_THE_NINTH, Printed, same_line, slow_sink, whole_sink};
 use drain_cli::run_audit::run_audit;
-use drain_device::faults::{ScriptSink, Scripted, SinkAnswer};
+use drain_device::SliceSource;
+use drain_device::faults::ScriptSink;
+use drain_verdict::AuditProducts;
 use std::alloc::Global;
 use std::test::Fail;
 
-/// What an audit of the tile of this name and side prints.
-fn printed(
+/// What an audit of the tile of this name and side with these products prints.
+fn audit<'a>(
     alloc: Global,
     side: u32,
     name: &str,
-    codes: &[u8],
-    labels: &[u8],
-    mut out: ScriptSink<'_>,
+    products: &mut AuditProducts<SliceSource<'a>>,
+    out: &mut ScriptSink<'_>,
+) -> Result<Printed, Fail> {
+    let mut tiles = [tile(alloc, name)?];
+    let status = run_audit(alloc, side, &mut tiles, &[], products, out);
+    Ok(Printed::new(out.as_slice(), status)?)
+}
+
+/// The same with the products of these codes and labels.
+fn printed<'a>(
+    alloc: Global,
+    side: u32,
+    name: &str,
+    codes: &'a [u8],
+    labels: &'a [u8],
+    out: &mut ScriptSink<'_>,
 ) -> Result<Printed, Fail> {
     let mut products = four(alloc, codes, labels)?;
-    let mut tiles = [tile(alloc, name)?];
-    let status = run_audit(alloc, side, &mut tiles, &[], &mut products, &mut out);
-    Ok(Printed::new(out.as_slice(), status)?)
+    audit(alloc, side, name, &mut products, out)
+}
+
+/// The same where it prints into a sink that takes all that it is given.
+fn told<'a>(
+    alloc: Global,
+    side: u32,
+    name: &str,
+    codes: &'a [u8],
+    labels: &'a [u8],
+) -> Result<Printed, Fail> {
+    let mut out = whole_sink(alloc)?;
+    printed(alloc, side, name, codes, labels, &mut out)
 }
 
 /// A side, a tile's name, codes and labels of the products, the status and the line.
@@ -84,25 +109,23 @@ static AUDITED: [(&str, u32, &str, &[u8], &[u8], u8, &str); 7] = [
 #[test]
 fn prints_the_answer_to_an_audit(rt: HostRuntime) -> Result<(), Fail> {
     for &(name, side, tile, codes, labels, status, line) in &AUDITED {
-        let out = whole_sink(rt.alloc())?;
-        let answered = printed(rt.alloc(), side, tile, codes, labels, out)?;
+        let answered = told(rt.alloc(), side, tile, codes, labels)?;
         same_line(&rt, name, &answered, line, status);
     }
     Ok(())
+}
+
+/// What an audit of right products prints into a sink that takes a byte at a call, and fails at the ninth.
+fn told_into_failing(alloc: Global) -> Result<Printed, Fail> {
+    let mut out = slow_sink(alloc, &AT_THE_NINTH)?;
+    printed(alloc, 2, TILE, &[0; 4], &[1, 2, 3, 4], &mut out)
 }
 
 #[test]
 fn ends_with_status_3_where_the_line_of_an_audit_cannot_be_written(
     rt: HostRuntime,
 ) -> Result<(), Fail> {
-    let script = [Scripted {
-        first: 9,
-        last: 9,
-        answer: SinkAnswer::Failed,
-    }];
-    let out = slow_sink(rt.alloc(), &script)?;
-    let codes = [0; 4];
-    let answered = printed(rt.alloc(), 2, TILE, &codes, &[1, 2, 3, 4], out)?;
+    let answered = told_into_failing(rt.alloc())?;
     same_line(&rt, "a sink that fails", &answered, "accepted", 3);
     Ok(())
 }

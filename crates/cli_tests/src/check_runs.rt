@@ -1,39 +1,43 @@
 //! Runs of `drain check` over sources and sinks in memory: one tile of side 2 at 0 degrees, level, with its products.
 
 use crate::level_tile::{LINE, TILE, five, tile};
-use crate::printed::{Printed, same_line, slow_sink, whole_sink};
+use crate::printed::{AT_THE_NINTH, Printed, same_line, slow_sink, whole_sink};
 use drain_cli::run_check::run_check;
-use drain_device::faults::{ScriptSink, Scripted, SinkAnswer};
-use drain_device::{BodyFault, SliceSource};
-use drain_hgt::TileInput;
+use drain_device::SliceSource;
+use drain_device::faults::ScriptSink;
 use drain_verdict::Products;
 use std::alloc::Global;
 use std::test::Fail;
 
-/// What a check of the tile prints.
-fn check_printed<'a>(
+/// What a check of the tile of this name and side with these products prints.
+fn check<'a>(
     alloc: Global,
     side: u32,
-    tile: TileInput<SliceSource<'a>>,
-    mut products: Products<SliceSource<'a>>,
-    mut out: ScriptSink<'_>,
-) -> Result<Printed, BodyFault> {
-    let mut tiles = [tile];
-    let status = run_check(alloc, side, &mut tiles, &[], &mut products, &mut out);
-    Printed::new(out.as_slice(), status)
+    name: &str,
+    products: &mut Products<SliceSource<'a>>,
+    out: &mut ScriptSink<'_>,
+) -> Result<Printed, Fail> {
+    let mut tiles = [tile(alloc, name)?];
+    let status = run_check(alloc, side, &mut tiles, &[], products, out);
+    Ok(Printed::new(out.as_slice(), status)?)
 }
 
-/// What a run on the tile of this name and side prints, with these labels.
+/// The same with the products of these labels; no cell drains into another.
 fn printed(
     alloc: Global,
     side: u32,
     name: &str,
     labels: &[u8],
-    out: ScriptSink<'_>,
+    out: &mut ScriptSink<'_>,
 ) -> Result<Printed, Fail> {
-    let products = five(alloc, labels)?;
-    let tile = tile(alloc, name)?;
-    Ok(check_printed(alloc, side, tile, products, out)?)
+    let mut products = five(alloc, &[0; 4], labels)?;
+    check(alloc, side, name, &mut products, out)
+}
+
+/// The same where it prints into a sink that takes all that it is given.
+fn told(alloc: Global, side: u32, name: &str, labels: &[u8]) -> Result<Printed, Fail> {
+    let mut out = whole_sink(alloc)?;
+    printed(alloc, side, name, labels, &mut out)
 }
 
 /// A side, a tile's name, labels of the products, the status and the line.
@@ -69,24 +73,23 @@ static CHECKED: [(&str, u32, &str, &[u8], u8, &str); 5] = [
 #[test]
 fn prints_the_answer_to_products(rt: HostRuntime) -> Result<(), Fail> {
     for &(name, side, tile, labels, status, line) in &CHECKED {
-        let out = whole_sink(rt.alloc())?;
-        let answered = printed(rt.alloc(), side, tile, labels, out)?;
+        let answered = told(rt.alloc(), side, tile, labels)?;
         same_line(&rt, name, &answered, line, status);
     }
     Ok(())
+}
+
+/// What a check of right products prints into a sink that takes a byte at a call, and fails at the ninth.
+fn told_into_failing(alloc: Global) -> Result<Printed, Fail> {
+    let mut out = slow_sink(alloc, &AT_THE_NINTH)?;
+    printed(alloc, 2, TILE, &[1, 2, 3, 4], &mut out)
 }
 
 #[test]
 fn ends_with_status_3_where_the_line_of_a_check_cannot_be_written(
     rt: HostRuntime,
 ) -> Result<(), Fail> {
-    let script = [Scripted {
-        first: 9,
-        last: 9,
-        answer: SinkAnswer::Failed,
-    }];
-    let out = slow_sink(rt.alloc(), &script)?;
-    let answered = printed(rt.alloc(), 2, TILE, &[1, 2, 3, 4], out)?;
+    let answered = told_into_failing(rt.alloc())?;
     same_line(&rt, "a sink that fails", &answered, "accepted", 3);
     Ok(())
 }

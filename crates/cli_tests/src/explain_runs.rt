@@ -1,19 +1,18 @@
 //! Runs of `drain explain` over sources and sinks in memory: one tile of side 2 at 0 degrees, level, with its products; and maps that are saved in memory.
 
 use crate::level_tile::{LINE, TILE, five, four, tile};
-use crate::printed::{same_bytes, slow_sink, whole_sink};
+use crate::printed::{Printed, Text, same_bytes, same_line, slow_sink, whole_sink};
 use drain_cli::explain_page::{Beside, Form, MapFault};
 use drain_cli::map_file::write_map;
 use drain_cli::run_explain::{run_explain_audit, run_explain_check};
-use drain_device::BodyFault;
 use drain_device::faults::{ScriptSink, Scripted, SinkAnswer};
+use drain_device::{BodyFault, SliceSource};
 use drain_explain::Mapping;
 use drain_maker::product_files::SetFault;
 use drain_mosaic::Layout;
 use drain_page::RefusalNote;
-use drain_verdict::Refusal;
+use drain_verdict::{AuditProducts, Products, Refusal};
 use std::alloc::{AllocError, Global};
-use std::process::Abort;
 use std::test::Fail;
 
 /// The header of a map of the tile.
@@ -51,29 +50,89 @@ impl<'a> Beside for InMemory<'a> {
     }
 }
 
-/// The status of a run without ranks, over a tile of this side.
-fn audit_status(
+/// What a run printed first, the status, and what its files took.
+#[derive(Clone, Copy)]
+struct Explained {
+    page: Printed,
+    header: Text,
+    raster: Text,
+}
+
+/// What a run printed, of which so many bytes, and what its files took; or that it told of want of memory.
+fn outcome(
+    page: &[u8],
+    length: usize,
+    status: u8,
+    beside: &InMemory<'_>,
+) -> Result<Explained, BodyFault> {
+    if tells_want_of_memory(page) {
+        return Err(BodyFault::OutOfMemory);
+    }
+    Ok(Explained {
+        page: Printed::new(page.get(..length).unwrap_or(page), status)?,
+        header: Text::new(beside.header.as_slice()),
+        raster: Text::new(beside.raster.as_slice()),
+    })
+}
+
+/// Whether a run told of want of memory, by its line or in an object, or by two bytes of its line where the third can't be written.
+fn tells_want_of_memory(printed: &[u8]) -> bool {
+    printed == b"fa".as_slice()
+        || printed.starts_with(b"failed O")
+        || printed.starts_with(b"{\"answer\":\"failed O")
+}
+
+/// A side of the tile, and codes and labels.
+#[derive(Clone, Copy)]
+struct Given {
+    side: u32,
+    codes: &'static [u8],
+    labels: &'static [u8],
+}
+
+/// The right products.
+const RIGHT: Given = Given {
+    side: 2,
+    codes: &[0; 4],
+    labels: &[1, 2, 3, 4],
+};
+
+/// What a run without ranks prints in this form, of which so many bytes, and what its files take.
+fn explain<'a>(
     alloc: Global,
     side: u32,
-    codes: &[u8],
-    labels: &[u8],
+    products: &mut AuditProducts<SliceSource<'a>>,
     form: Form,
+    length: usize,
     beside: &mut InMemory<'_>,
     out: &mut ScriptSink<'_>,
-) -> Result<u8, Fail> {
+) -> Result<Explained, Fail> {
     let mut tiles = [tile(alloc, TILE)?];
-    let mut products = four(alloc, codes, labels)?;
-    Ok(run_explain_audit(
+    let status = run_explain_audit(
         alloc,
         side,
         &mut tiles,
         &[],
-        &mut products,
+        products,
         Mapping::Drawn,
         form,
         beside,
         out,
-    ))
+    );
+    Ok(outcome(out.as_slice(), length, status, beside)?)
+}
+
+/// The same of given codes and labels.
+fn explain_given(
+    alloc: Global,
+    given: Given,
+    form: Form,
+    length: usize,
+    beside: &mut InMemory<'_>,
+    out: &mut ScriptSink<'_>,
+) -> Result<Explained, Fail> {
+    let mut products = four(alloc, given.codes, given.labels)?;
+    explain(alloc, given.side, &mut products, form, length, beside, out)
 }
 
 /// Files that take all that they are given.
@@ -85,90 +144,6 @@ fn in_memory(alloc: Global) -> Result<InMemory<'static>, AllocError> {
     })
 }
 
-/// A set of codes and labels, with the line of its answer, the status, and its map.
-struct Case {
-    name: &'static str,
-    side: u32,
-    codes: &'static [u8],
-    labels: &'static [u8],
-    status: u8,
-    line: &'static str,
-    map: &'static [u8],
-}
-
-static CASES: [Case; 5] = [
-    Case {
-        name: "correct products",
-        side: 2,
-        codes: &[0; 4],
-        labels: &[1, 2, 3, 4],
-        status: 0,
-        line: LINE,
-        map: &[0; 4],
-    },
-    Case {
-        name: "a label for three outlets",
-        side: 2,
-        codes: &[0; 4],
-        labels: &[1, 2, 2, 2],
-        status: 1,
-        line: "rejected rule=15 SharedLabel row=1 col=0\n",
-        map: &[0, 0, 15, 15],
-    },
-    Case {
-        name: "a ring of two",
-        side: 2,
-        codes: &[0, 0, 1, 16],
-        labels: &[1, 2, 3, 4],
-        status: 1,
-        line: "rejected NoEnd row=1 col=0\n",
-        map: &[0, 0, 11, 11],
-    },
-    Case {
-        name: "side 1",
-        side: 1,
-        codes: &[0; 4],
-        labels: &[1, 2, 3, 4],
-        status: 2,
-        line: "refused BadSide\n",
-        map: &[],
-    },
-    Case {
-        name: "a label too few",
-        side: 2,
-        codes: &[0; 4],
-        labels: &[1, 2, 3],
-        status: 2,
-        line: "refused RasterShort bas\n",
-        map: &[],
-    },
-];
-
-/// Ends the test where a run ended with another status or what it printed begins otherwise, and tells of which case it is; or tells of want of memory, where the
-/// run did.
-fn begins(
-    rt: &impl Abort,
-    case: &str,
-    printed: &[u8],
-    status: u8,
-    line: &[u8],
-    wanted: u8,
-) -> Result<(), Fail> {
-    if tells_want_of_memory(printed) {
-        return Err(BodyFault::OutOfMemory.into());
-    }
-    assert_eq!(rt; status, wanted, "{case}");
-    assert!(rt; printed.starts_with(line), "{case}");
-    Ok(())
-}
-
-/// Whether a run told of want of memory, by its line or in an object, or by two bytes of its line where the third can't be written.
-fn tells_want_of_memory(printed: &[u8]) -> bool {
-    printed == b"fa".as_slice()
-        || printed.starts_with(b"failed O")
-        || printed.starts_with(b"{\"answer\":\"failed O")
-}
-
 /// The most bytes that a page of these tests has.
 const PAGE_ROOM: usize = 8000;
 
@@ -178,63 +153,113 @@ fn page_sink(alloc: Global) -> Result<ScriptSink<'static>, AllocError> {
     Ok(ScriptSink::new(room, 1000, &[]))
 }
 
+/// The same where the page can be written.
+fn explain_beside(
+    alloc: Global,
+    given: Given,
+    form: Form,
+    length: usize,
+    beside: &mut InMemory<'_>,
+) -> Result<Explained, Fail> {
+    let mut out = page_sink(alloc)?;
+    explain_given(alloc, given, form, length, beside, &mut out)
+}
+
+/// The same where the files can be written too.
+fn told(alloc: Global, given: Given, form: Form, length: usize) -> Result<Explained, Fail> {
+    let mut beside = in_memory(alloc)?;
+    explain_beside(alloc, given, form, length, &mut beside)
+}
+
+/// Products, with the line of their answer, the status, and their map.
+struct Case {
+    name: &'static str,
+    given: Given,
+    status: u8,
+    line: &'static str,
+    map: &'static [u8],
+}
+
+static CASES: [Case; 5] = [
+    Case {
+        name: "correct products",
+        given: RIGHT,
+        status: 0,
+        line: LINE,
+        map: &[0; 4],
+    },
+    Case {
+        name: "a label for three outlets",
+        given: Given {
+            side: 2,
+            codes: &[0; 4],
+            labels: &[1, 2, 2, 2],
+        },
+        status: 1,
+        line: "rejected rule=15 SharedLabel row=1 col=0\n",
+        map: &[0, 0, 15, 15],
+    },
+    Case {
+        name: "a ring of two",
+        given: Given {
+            side: 2,
+            codes: &[0, 0, 1, 16],
+            labels: &[1, 2, 3, 4],
+        },
+        status: 1,
+        line: "rejected NoEnd row=1 col=0\n",
+        map: &[0, 0, 11, 11],
+    },
+    Case {
+        name: "side 1",
+        given: Given {
+            side: 1,
+            codes: &[0; 4],
+            labels: &[1, 2, 3, 4],
+        },
+        status: 2,
+        line: "refused BadSide\n",
+        map: &[],
+    },
+    Case {
+        name: "a label too few",
+        given: Given {
+            side: 2,
+            codes: &[0; 4],
+            labels: &[1, 2, 3],
+        },
+        status: 2,
+        line: "refused RasterShort bas\n",
+        map: &[],
+    },
+];
+
 #[test]
 fn a_page_begins_with_the_line(rt: HostRuntime) -> Result<(), Fail> {
     for case in &CASES {
-        let mut beside = in_memory(rt.alloc())?;
-        let mut out = page_sink(rt.alloc())?;
-        let status = audit_status(
-            rt.alloc(),
-            case.side,
-            case.codes,
-            case.labels,
-            Form::Text,
-            &mut beside,
-            &mut out,
-        )?;
-        begins(
-            &rt,
-            case.name,
-            out.as_slice(),
-            status,
-            case.line.as_bytes(),
-            case.status,
-        )?;
-        same_bytes(&rt, case.name, beside.raster.as_slice(), case.map);
+        let answered = told(rt.alloc(), case.given, Form::Text, case.line.len())?;
+        same_line(&rt, case.name, &answered.page, case.line, case.status);
+        same_bytes(&rt, case.name, answered.raster.as_slice(), case.map);
     }
     Ok(())
 }
 
-/// What a run on right products prints, with the status, where a map goes into these files.
-fn right_status(
-    alloc: Global,
-    form: Form,
-    beside: &mut InMemory<'_>,
-    out: &mut ScriptSink<'_>,
-) -> Result<u8, Fail> {
-    audit_status(alloc, 2, &[0; 4], &[1, 2, 3, 4], form, beside, out)
-}
-
 #[test]
 fn an_object_tells_the_line(rt: HostRuntime) -> Result<(), Fail> {
-    let mut beside = in_memory(rt.alloc())?;
-    let mut out = page_sink(rt.alloc())?;
-    let status = right_status(rt.alloc(), Form::Json, &mut beside, &mut out)?;
-    let line = b"{\"answer\":\"accepted rows=2 cols=2 data=4 raised=0 outlets=4\"";
-    begins(&rt, "JSON", out.as_slice(), status, line, 0)?;
+    let line = "{\"answer\":\"accepted rows=2 cols=2 data=4 raised=0 outlets=4\"";
+    let answered = told(rt.alloc(), RIGHT, Form::Json, line.len())?;
+    same_line(&rt, "JSON", &answered.page, line, 0);
     Ok(())
 }
 
 #[test]
 fn a_map_has_a_header(rt: HostRuntime) -> Result<(), Fail> {
-    let mut beside = in_memory(rt.alloc())?;
-    let mut out = page_sink(rt.alloc())?;
-    let status = right_status(rt.alloc(), Form::Text, &mut beside, &mut out)?;
-    begins(&rt, "a page", out.as_slice(), status, LINE.as_bytes(), 0)?;
+    let answered = told(rt.alloc(), RIGHT, Form::Text, LINE.len())?;
+    same_line(&rt, "a page", &answered.page, LINE, 0);
     same_bytes(
         &rt,
         "the header of a map",
-        beside.header.as_slice(),
+        answered.header.as_slice(),
         MAP_HEADER.as_bytes(),
     );
     Ok(())
@@ -248,97 +273,117 @@ static AT_ONCE: [Scripted<SinkAnswer>; 1] = [Scripted {
 }];
 
 /// The third byte fails.
-static AT_THE_THIRD: [Scripted<SinkAnswer>; 1] = [Scripted {
+const AT_THE_THIRD: [Scripted<SinkAnswer>; 1] = [Scripted {
     first: 3,
     last: 3,
     answer: SinkAnswer::Failed,
 }];
 
-/// Two files in memory, of which the header's or the raster's fails at its third byte.
-fn in_failing_memory(alloc: Global, of_header: bool) -> Result<InMemory<'static>, Fail> {
-    let slow = slow_sink(alloc, &AT_THE_THIRD)?;
-    let whole = whole_sink(alloc)?;
-    if of_header {
-        Ok(InMemory {
-            alloc,
-            header: slow,
-            raster: whole,
-        })
-    } else {
-        Ok(InMemory {
-            alloc,
-            header: whole,
-            raster: slow,
-        })
-    }
+/// What a run on right products prints, of which so many bytes, and what its files take, which fault by these scripts.
+fn told_in(
+    alloc: Global,
+    header: &[Scripted<SinkAnswer>],
+    raster: &[Scripted<SinkAnswer>],
+    length: usize,
+) -> Result<Explained, Fail> {
+    let mut beside = in_slow_memory(alloc, header, raster)?;
+    explain_beside(alloc, RIGHT, Form::Text, length, &mut beside)
 }
 
-/// Which file fails, whether it is the header, and what header and raster took.
-static FAILING_FILES: [(&str, bool, &str, &str); 2] = [
-    ("its header", true, "BY", ""),
-    ("its raster", false, MAP_HEADER, "\0\0"),
+/// Files that take a byte at a call, and fault by these scripts.
+fn in_slow_memory<'a>(
+    alloc: Global,
+    header: &'a [Scripted<SinkAnswer>],
+    raster: &'a [Scripted<SinkAnswer>],
+) -> Result<InMemory<'a>, AllocError> {
+    Ok(InMemory {
+        alloc,
+        header: slow_sink(alloc, header)?,
+        raster: slow_sink(alloc, raster)?,
+    })
+}
+
+/// Which file fails, the scripts of header and raster, and what they took.
+static FAILING_FILES: [(
+    &str,
+    &[Scripted<SinkAnswer>],
+    &[Scripted<SinkAnswer>],
+    &str,
+    &str,
+); 2] = [
+    ("its header", &AT_THE_THIRD, &[], "BY", ""),
+    ("its raster", &[], &AT_THE_THIRD, MAP_HEADER, "\0\0"),
 ];
 
 #[test]
 fn a_map_that_cannot_be_written_is_told_in_place_of_the_page(rt: HostRuntime) -> Result<(), Fail> {
-    for &(name, of_header, header, raster) in &FAILING_FILES {
-        let mut beside = in_failing_memory(rt.alloc(), of_header)?;
-        let mut out = page_sink(rt.alloc())?;
-        let status = right_status(rt.alloc(), Form::Text, &mut beside, &mut out)?;
-        begins(
-            &rt,
-            name,
-            out.as_slice(),
-            status,
-            b"failed WriteFailed\n",
-            3,
-        )?;
-        same_bytes(&rt, name, beside.header.as_slice(), header.as_bytes());
-        same_bytes(&rt, name, beside.raster.as_slice(), raster.as_bytes());
+    let line = "failed WriteFailed\n";
+    for &(name, of_header, of_raster, header, raster) in &FAILING_FILES {
+        let answered = told_in(rt.alloc(), of_header, of_raster, line.len())?;
+        same_line(&rt, name, &answered.page, line, 3);
+        same_bytes(&rt, name, answered.header.as_slice(), header.as_bytes());
+        same_bytes(&rt, name, answered.raster.as_slice(), raster.as_bytes());
     }
     Ok(())
 }
 
+/// What a run on right products prints in this form, of which so many bytes, into a sink that takes a byte at a call and faults by the script.
+fn told_into(
+    alloc: Global,
+    form: Form,
+    script: &[Scripted<SinkAnswer>],
+    length: usize,
+) -> Result<Explained, Fail> {
+    let mut beside = in_memory(alloc)?;
+    let mut out = slow_sink(alloc, script)?;
+    explain_given(alloc, RIGHT, form, length, &mut beside, &mut out)
+}
+
 #[test]
 fn ends_with_status_3_where_a_page_cannot_be_written(rt: HostRuntime) -> Result<(), Fail> {
-    let mut beside = in_memory(rt.alloc())?;
-    let mut out = slow_sink(rt.alloc(), &AT_THE_THIRD)?;
-    let status = right_status(rt.alloc(), Form::Text, &mut beside, &mut out)?;
-    begins(&rt, "a page", out.as_slice(), status, b"ac", 3)?;
-    let mut out = slow_sink(rt.alloc(), &AT_ONCE)?;
-    let status = right_status(rt.alloc(), Form::Json, &mut beside, &mut out)?;
-    begins(&rt, "an object", out.as_slice(), status, b"", 3)?;
+    let answered = told_into(rt.alloc(), Form::Text, &AT_THE_THIRD, 2)?;
+    same_line(&rt, "a page", &answered.page, "ac", 3);
+    let answered = told_into(rt.alloc(), Form::Json, &AT_ONCE, 0)?;
+    same_line(&rt, "an object", &answered.page, "", 3);
     Ok(())
 }
 
-/// The status of a run with ranks, on products of which two outlets share a label.
-fn check_status(
+/// What a run with ranks prints, of which so many bytes, and what its files take.
+fn explain_with_ranks<'a>(
     alloc: Global,
+    products: &mut Products<SliceSource<'a>>,
+    length: usize,
     beside: &mut InMemory<'_>,
     out: &mut ScriptSink<'_>,
-) -> Result<u8, Fail> {
+) -> Result<Explained, Fail> {
     let mut tiles = [tile(alloc, TILE)?];
-    let mut products = five(alloc, &[1, 2, 3, 3])?;
-    Ok(run_explain_check(
+    let status = run_explain_check(
         alloc,
         2,
         &mut tiles,
         &[],
-        &mut products,
+        products,
         Mapping::Drawn,
         Form::Text,
         beside,
         out,
-    ))
+    );
+    Ok(outcome(out.as_slice(), length, status, beside)?)
+}
+
+/// The same of products of which two outlets share a label, where page and files can be written.
+fn told_with_ranks(alloc: Global, length: usize) -> Result<Explained, Fail> {
+    let mut beside = in_memory(alloc)?;
+    let mut out = page_sink(alloc)?;
+    let mut products = five(alloc, &[0; 4], &[1, 2, 3, 3])?;
+    explain_with_ranks(alloc, &mut products, length, &mut beside, &mut out)
 }
 
 #[test]
 fn a_page_with_ranks_begins_with_the_line_of_a_check(rt: HostRuntime) -> Result<(), Fail> {
-    let mut beside = in_memory(rt.alloc())?;
-    let mut out = page_sink(rt.alloc())?;
-    let status = check_status(rt.alloc(), &mut beside, &mut out)?;
-    let line = b"rejected rule=15 SharedLabel row=1 col=1\n";
-    begins(&rt, "with ranks", out.as_slice(), status, line, 1)?;
-    same_bytes(&rt, "its map", beside.raster.as_slice(), &[0, 0, 0, 15]);
+    let line = "rejected rule=15 SharedLabel row=1 col=1\n";
+    let answered = told_with_ranks(rt.alloc(), line.len())?;
+    same_line(&rt, "with ranks", &answered.page, line, 1);
+    same_bytes(&rt, "its map", answered.raster.as_slice(), &[0, 0, 0, 15]);
     Ok(())
 }

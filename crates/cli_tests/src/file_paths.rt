@@ -7,12 +7,14 @@ use drain_maker::product_files::Part;
 use std::alloc::{AllocError, Global};
 use std::test::Fail;
 
-/// Whether in this folder the paths of con's header and of rnk's raster are these.
-fn are_paths(alloc: Global, folder: &str, header: &str, raster: &str) -> Result<bool, AllocError> {
-    Ok(
-        header_path(alloc, folder, Product::Con)?.as_str() == header
-            && raster_path(alloc, folder, Product::Rnk)?.as_str() == raster,
-    )
+/// Whether this is the path of con's header in a folder.
+fn is_header(alloc: Global, folder: &str, path: &str) -> Result<bool, AllocError> {
+    Ok(header_path(alloc, folder, Product::Con)?.as_str() == path)
+}
+
+/// Whether this is the path of rnk's raster in a folder.
+fn is_raster(alloc: Global, folder: &str, path: &str) -> Result<bool, AllocError> {
+    Ok(raster_path(alloc, folder, Product::Rnk)?.as_str() == path)
 }
 
 /// A folder, and the paths in it of con's header and of rnk's raster.
@@ -26,8 +28,9 @@ static PATHS: [(&str, &str, &str); 4] = [
 #[test]
 fn puts_one_slash_between_folder_and_file(rt: HostRuntime) -> Result<(), Fail> {
     for &(folder, header, raster) in &PATHS {
-        let are_paths = are_paths(rt.alloc(), folder, header, raster)?;
-        holds(&rt, folder, are_paths);
+        let is_header = is_header(rt.alloc(), folder, header)?;
+        let is_raster = is_raster(rt.alloc(), folder, raster)?;
+        holds(&rt, folder, is_header && is_raster);
     }
     Ok(())
 }
@@ -68,11 +71,17 @@ fn a_map_ends_in_bil(rt: HostRuntime) -> Result<(), Fail> {
     Ok(())
 }
 
+/// A part of a map, and the path of its file.
+static MAP_PATHS: [(Part, &str); 2] = [
+    (Part::Raster, "a/faults.bil"),
+    (Part::Header, "a/faults.hdr"),
+];
+
 #[test]
 fn the_header_of_a_map_lies_beside_it(rt: HostRuntime) -> Result<(), Fail> {
-    let raster = map_path(rt.alloc(), "a/faults", Part::Raster)?;
-    same_bytes(&rt, "its raster", raster.as_bytes(), b"a/faults.bil");
-    let header = map_path(rt.alloc(), "a/faults", Part::Header)?;
-    same_bytes(&rt, "its header", header.as_bytes(), b"a/faults.hdr");
+    for &(part, wanted) in &MAP_PATHS {
+        let path = map_path(rt.alloc(), "a/faults", part)?;
+        same_bytes(&rt, wanted, path.as_bytes(), wanted.as_bytes());
+    }
     Ok(())
 }

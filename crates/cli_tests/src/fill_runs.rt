@@ -4,7 +4,7 @@
 use crate::printed::{Printed, same_line, same_run, slow_sink, whole_sink};
 use drain_cli::run_fill::run_fill;
 use drain_device::faults::{ScriptSink, ScriptSource, Scripted, SinkAnswer};
-use drain_device::{BodyFault, ByteSource, DeviceFault, SliceSource};
+use drain_device::{ByteSource, DeviceFault, SliceSource};
 use std::alloc::Global;
 use std::test::Fail;
 
@@ -17,6 +17,11 @@ const PIT: [u8; 81] = [
     0, 1, 0, 0, 0, 0, 0, 0, 0, 0, 0, 0, 0, 0, 0, 0, 0, 0, // rnk
 ];
 
+/// The pit, where it stands once for all that read it.
+fn pit() -> &'static [u8; 81] {
+    &PIT
+}
+
 const PIT_LINE: &str = "accepted rows=3 cols=3 data=9 raised=1\n";
 
 /// What a run over the input prints.
@@ -25,15 +30,15 @@ fn printed<R: ByteSource>(
     side: u32,
     input: &mut R,
     mut out: ScriptSink<'_>,
-) -> Result<Printed, BodyFault> {
+) -> Result<Printed, Fail> {
     let status = run_fill(alloc, side, input, &mut out);
-    Printed::new(out.as_slice(), status)
+    Ok(Printed::new(out.as_slice(), status)?)
 }
 
 /// What a run over these bytes prints.
 fn told(alloc: Global, side: u32, bytes: &[u8]) -> Result<Printed, Fail> {
     let out = whole_sink(alloc)?;
-    Ok(printed(alloc, side, &mut SliceSource::new(bytes), out)?)
+    printed(alloc, side, &mut SliceSource::new(bytes), out)
 }
 
 /// What a run over the pit prints, whose source gives at most so many bytes at a call, and faults by the script.
@@ -46,13 +51,13 @@ fn told_slowly(
         return Err("a byte at a call, or more".into());
     }
     let out = whole_sink(alloc)?;
-    let mut input = ScriptSource::new(PIT.as_slice(), most, script);
-    Ok(printed(alloc, 3, &mut input, out)?)
+    let mut input = ScriptSource::new(pit(), most, script);
+    printed(alloc, 3, &mut input, out)
 }
 
 /// The pit with other bytes at some places.
 fn changed(changes: &[(usize, u8)]) -> [u8; 81] {
-    let mut bytes = PIT;
+    let mut bytes = *pit();
     for (at, byte) in changes {
         if let Some(place) = bytes.get_mut(*at) {
             *place = *byte;
@@ -267,8 +272,8 @@ fn never_takes_a_failed_input_for_its_end(rt: HostRuntime) -> Result<(), Fail> {
 /// What a run over the pit prints into a sink that takes one byte at a call, and faults by the script.
 fn told_into(alloc: Global, script: &[Scripted<SinkAnswer>]) -> Result<Printed, Fail> {
     let out = slow_sink(alloc, script)?;
-    let mut input = SliceSource::new(PIT.as_slice());
-    Ok(printed(alloc, 3, &mut input, out)?)
+    let mut input = SliceSource::new(pit());
+    printed(alloc, 3, &mut input, out)
 }
 
 /// What a sink answers at which calls, how many bytes of the line it takes, and the status.

@@ -1,12 +1,11 @@
 //! Runs of `drain header` over sources and sinks in memory: texts with what is printed of them, and devices that are
 //! slow, interrupted or fail.
 
-use crate::printed::{Printed, same_line, same_run, slow_sink, whole_sink};
+use crate::printed::{Printed, same_line, same_number, same_run, slow_sink, whole_sink};
 use drain_cli::run_header::run_header;
 use drain_device::faults::{ScriptSink, ScriptSource, Scripted, SinkAnswer};
 use drain_device::{BodyFault, ByteSource, DeviceFault, SliceSource};
 use std::alloc::Global;
-use std::process::Abort;
 use std::test::Fail;
 
 /// The header of a raster of 3 by 3 pixels, half a degree apart, as this program writes it.
@@ -66,32 +65,34 @@ fn printed<R: ByteSource>(
     alloc: Global,
     input: &mut R,
     mut out: ScriptSink<'_>,
-) -> Result<Printed, BodyFault> {
+) -> Result<Printed, Fail> {
     let status = run_header(alloc, input, &mut out);
-    Printed::new(out.as_slice(), status)
+    Ok(Printed::new(out.as_slice(), status)?)
 }
 
 /// What a run over these bytes prints, and how many bytes its source still gives.
-fn told(alloc: Global, bytes: &[u8]) -> Result<(Printed, Result<usize, DeviceFault>), Fail> {
+fn told(alloc: Global, bytes: &[u8]) -> Result<(Printed, usize), Fail> {
     let out = whole_sink(alloc)?;
     let mut input = SliceSource::new(bytes);
     let answered = printed(alloc, &mut input, out)?;
-    let mut rest = [0; 70000];
-    Ok((answered, input.read_some(&mut rest)))
+    match input.read_some(&mut [0; 70000]) {
+        Ok(rest) => Ok((answered, rest)),
+        Err(_) => Err(BodyFault::ReadFailed.into()),
+    }
 }
 
 /// What a run over the small header prints, whose source gives one byte at a call, and faults by the script.
 fn told_slowly(alloc: Global, script: &[Scripted<DeviceFault>]) -> Result<Printed, Fail> {
     let out = whole_sink(alloc)?;
     let mut input = ScriptSource::new(SMALL.as_bytes(), 1, script);
-    Ok(printed(alloc, &mut input, out)?)
+    printed(alloc, &mut input, out)
 }
 
 /// What a run over the small header prints into a sink that takes one byte at a call, and faults by the script.
 fn told_into(alloc: Global, script: &[Scripted<SinkAnswer>]) -> Result<Printed, Fail> {
     let out = slow_sink(alloc, script)?;
     let mut input = SliceSource::new(SMALL.as_bytes());
-    Ok(printed(alloc, &mut input, out)?)
+    printed(alloc, &mut input, out)
 }
 
 /// A header, the status and what is printed.
@@ -132,16 +133,6 @@ static LONG_HEADERS: [(usize, &str, usize); 3] = [
     (70000, "refused TooLong\n", 70000 - 65537),
 ];
 
-/// Ends the test where a source had another number of bytes left, and tells of which header it is.
-fn same_rest(
-    rt: &impl Abort,
-    length: usize,
-    rest: Result<usize, DeviceFault>,
-    wanted: Result<usize, DeviceFault>,
-) {
-    assert_eq!(rt; rest, wanted, "{length}");
-}
-
 /// A header has at most 65,536 bytes, and at most one byte more is read.
 #[test]
 fn reads_one_byte_past_the_longest_header(rt: HostRuntime) -> Result<(), Fail> {
@@ -151,7 +142,7 @@ fn reads_one_byte_past_the_longest_header(rt: HostRuntime) -> Result<(), Fail> {
         };
         let (answered, rest) = told(rt.alloc(), bytes)?;
         same_run(&rt, length as u64, &answered, line.as_bytes(), 2);
-        same_rest(&rt, length, rest, Ok(left));
+        same_number(&rt, length as u64, rest as u64, left as u64);
     }
     Ok(())
 }

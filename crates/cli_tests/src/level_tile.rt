@@ -1,6 +1,6 @@
 //! One tile of side 2 at 0 degrees, level, with its products, as sources in memory.
 
-use crate::inputs::{Parts, input, product, products};
+use crate::inputs::{Parts, input, products};
 use drain_device::SliceSource;
 use drain_grid::PerProduct;
 use drain_hgt::TileInput;
@@ -39,8 +39,26 @@ fn bytes<'a>(raster: &'a [u8]) -> Parts<'a> {
 }
 
 /// The tile, by this name.
-pub fn tile(alloc: Global, name: &str) -> Result<TileInput<SliceSource<'static>>, AllocError> {
+pub fn tile<'a>(alloc: Global, name: &str) -> Result<TileInput<SliceSource<'a>>, AllocError> {
     input(alloc, name, &[0; 8])
+}
+
+/// The products of a check, with these codes and labels; no rank is above 0.
+pub fn five<'a>(
+    alloc: Global,
+    codes: &'a [u8],
+    labels: &'a [u8],
+) -> Result<Products<SliceSource<'a>>, AllocError> {
+    products(
+        alloc,
+        &PerProduct {
+            con: CON,
+            dir: bytes(codes),
+            acc: ACC,
+            bas: bytes(labels),
+            rnk: bytes(&[0; 4]),
+        },
+    )
 }
 
 /// The products of an audit, with these codes and labels.
@@ -49,24 +67,12 @@ pub fn four<'a>(
     codes: &'a [u8],
     labels: &'a [u8],
 ) -> Result<AuditProducts<SliceSource<'a>>, AllocError> {
-    Ok(AuditProducts {
-        con: product(alloc, CON)?,
-        dir: product(alloc, bytes(codes))?,
-        acc: product(alloc, ACC)?,
-        bas: product(alloc, bytes(labels))?,
-    })
-}
-
-/// The products of a check, with these labels; no cell drains into another, and no rank is above 0.
-pub fn five<'a>(alloc: Global, labels: &'a [u8]) -> Result<Products<SliceSource<'a>>, AllocError> {
-    products(
-        alloc,
-        &PerProduct {
-            con: CON,
-            dir: bytes(&[0; 4]),
-            acc: ACC,
-            bas: bytes(labels),
-            rnk: bytes(&[0; 4]),
-        },
-    )
+    let PerProduct {
+        con,
+        dir,
+        acc,
+        bas,
+        rnk: _,
+    } = five(alloc, codes, labels)?;
+    Ok(AuditProducts { con, dir, acc, bas })
 }

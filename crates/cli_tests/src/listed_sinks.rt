@@ -1,9 +1,9 @@
 //! Runs of `drain check` and `drain make` with lists of sinks: the pit of side 3, whose centre the list names. The expected lines and numbers were
 //! worked out by hand.
 
-use crate::inputs::{Parts, Tile, at_zero, inputs, products};
-use crate::making::{PIT, make};
-use crate::printed::{Printed, ROOM, check_printed, files_of, holds, same_line};
+use crate::inputs::{Parts, Tile};
+use crate::making::{PIT, check_parts, make, pit};
+use crate::printed::{Printed, ROOM, empty_files, files_of, holds, same_line};
 use drain_device::VecSink;
 use drain_grid::{Held, PerProduct};
 use std::alloc::Global;
@@ -16,15 +16,20 @@ const WORDS: &[u8] =
 /// That of the other products.
 const BYTES: &[u8] = b"NROWS 3\nNCOLS 3\nULXMAP 0\nULYMAP 1\nXDIM 0.5\nYDIM 0.5\n";
 
+/// Con and dir of the pit where its centre is listed.
+const LISTED_CON: &[u8] = &[5, 0, 5, 0, 5, 0, 5, 0, 1, 0, 5, 0, 5, 0, 5, 0, 5, 0];
+
+const LISTED_DIR: &[u8] = &[2, 4, 8, 1, 0, 16, 128, 64, 32];
+
 /// The right products of the pit where its centre is listed.
 const LISTED: PerProduct<Parts<'_>> = PerProduct {
     con: Parts {
         header: WORDS,
-        raster: &[5, 0, 5, 0, 5, 0, 5, 0, 1, 0, 5, 0, 5, 0, 5, 0, 5, 0],
+        raster: LISTED_CON,
     },
     dir: Parts {
         header: BYTES,
-        raster: &[2, 4, 8, 1, 0, 16, 128, 64, 32],
+        raster: LISTED_DIR,
     },
     acc: Parts {
         header: BYTES,
@@ -64,13 +69,6 @@ const FILLED: PerProduct<Parts<'_>> = PerProduct {
     },
 };
 
-/// What a check of the pit prints, with these products and this list.
-fn checked(alloc: Global, parts: &PerProduct<Parts<'_>>, list: &str) -> Result<Printed, Fail> {
-    let mut products = products(alloc, parts)?;
-    let mut tiles = inputs(alloc, &at_zero(&PIT))?;
-    check_printed(alloc, 3, &mut tiles, list.as_bytes(), &mut products)
-}
-
 const LISTED_LINE: &str = "accepted rows=3 cols=3 data=9 raised=0 outlets=1\n";
 
 const FILLED_LINE: &str = "accepted rows=3 cols=3 data=9 raised=1 outlets=8\n";
@@ -103,7 +101,7 @@ static ANSWERED: [(&PerProduct<Parts<'_>>, &str, u8, &str); 11] = [
 #[test]
 fn prints_the_answer_to_products_and_a_list(rt: HostRuntime) -> Result<(), Fail> {
     for &(parts, list, status, line) in &ANSWERED {
-        let answered = checked(rt.alloc(), parts, list)?;
+        let answered = check_parts(rt.alloc(), 3, &pit(), list.as_bytes(), parts)?;
         same_line(&rt, list, &answered, line, status);
     }
     Ok(())
@@ -111,8 +109,8 @@ fn prints_the_answer_to_products_and_a_list(rt: HostRuntime) -> Result<(), Fail>
 
 /// What making products of tiles of side 2 prints, with this list.
 fn made(alloc: Global, side: u32, tiles: &[Tile<'_>], list: &str) -> Result<Printed, Fail> {
-    let mut files = Vec::new(alloc);
-    make(alloc, side, tiles, list.as_bytes(), ROOM, &mut files)
+    let mut files = empty_files(alloc, ROOM)?;
+    make(alloc, side, tiles, list.as_bytes(), files.as_mut_slice())
 }
 
 /// Tiles of side 2, one beside the other, with other heights at the seam; one of voids, and one of side 3.
@@ -157,18 +155,23 @@ fn tells_why_nothing_is_made_with_a_list(rt: HostRuntime) -> Result<(), Fail> {
     Ok(())
 }
 
-/// Whether con's and dir's files of the pit with its centre listed have the right numbers.
-fn has_right_files(alloc: Global) -> Result<bool, Fail> {
-    let mut files: Vec<VecSink> = Vec::new(alloc);
-    make(alloc, 3, &at_zero(&PIT), b"1 1", ROOM, &mut files)?;
-    let (_, con) = files_of(files.as_slice(), Held::Con)?;
-    let (_, dir) = files_of(files.as_slice(), Held::Dir)?;
-    Ok(con == LISTED.con.raster && dir == LISTED.dir.raster)
+/// Whether con's and dir's files have the right numbers of the pit with its centre listed.
+fn are_right(files: &[VecSink]) -> Result<bool, Fail> {
+    let (_, con) = files_of(files, Held::Con)?;
+    let (_, dir) = files_of(files, Held::Dir)?;
+    Ok(con == LISTED_CON && dir == LISTED_DIR)
+}
+
+/// Whether the files that are made of the pit with its centre listed are right.
+fn makes_right_files(alloc: Global) -> Result<bool, Fail> {
+    let mut files = empty_files(alloc, ROOM)?;
+    make(alloc, 3, &pit(), b"1 1", files.as_mut_slice())?;
+    are_right(files.as_slice())
 }
 
 #[test]
 fn writes_the_numbers_of_a_listed_pit(rt: HostRuntime) -> Result<(), Fail> {
-    let are_right = has_right_files(rt.alloc())?;
+    let are_right = makes_right_files(rt.alloc())?;
     holds(&rt, "con and dir", are_right);
     Ok(())
 }

@@ -1,19 +1,12 @@
 //! From tiles to products, to files in memory, and to the check of these files. The expected lines were worked out by hand.
 
 ghost use Rattle.std.specs.Prelude.{◌≡◌, length, IfOk};
-ghost use Rattle.drain_maker.specs.Made.{CanBeWritten};
-ghost use Rattle.drain_mosaic.specs.Tiling.{extent_of};
 
-use crate::inputs::{Tile, at_zero, inputs};
-use crate::making::{PIT, check, make};
-use crate::printed::{Printed, ROOM, holds, room, same_run};
-use drain_cli::make_set::make_set;
-use drain_cli::write_set::write_set;
-use drain_device::VecSink;
+use crate::inputs::{Tile, at_zero};
+use crate::making::{PIT, check, make, pit};
+use crate::printed::{Printed, ROOM, empty_files, holds, holds_at, room, same_number, same_run};
 use drain_device::faults::{ScriptSink, Scripted, SinkAnswer};
-use drain_grid::ProductSet;
 use drain_maker::product_files::FILE_COUNT;
-use drain_mosaic::Layout;
 use std::alloc::{AllocError, Global};
 use std::process::Abort;
 use std::test::Fail;
@@ -36,8 +29,8 @@ fn tells(
     made: &str,
     accepted: &str,
 ) -> Result<bool, Fail> {
-    let mut files = Vec::new(alloc);
-    let making = make(alloc, side, tiles, &[], ROOM, &mut files)?;
+    let mut files = empty_files(alloc, ROOM)?;
+    let making = make(alloc, side, tiles, &[], files.as_mut_slice())?;
     let checking = check(alloc, side, tiles, &[], files.as_slice())?;
     Ok(is(&making, made, 0) && is(&checking, accepted, 0))
 }
@@ -143,27 +136,23 @@ fn tells_choice(alloc: Global, choice: u32) -> Result<bool, Fail> {
     )
 }
 
-/// Ends the test where something doesn't hold of a choice.
-fn holds_for(rt: &impl Abort, choice: u32, is_so: bool) {
-    assert!(rt; is_so, "{choice}");
-}
-
 #[test]
 fn what_is_made_of_every_tile_of_nine_inner_samples_is_accepted(
     rt: HostRuntime,
 ) -> Result<(), Fail> {
     for choice in 0..512u32 {
         let is_accepted = tells_choice(rt.alloc(), choice)?;
-        holds_for(&rt, choice, is_accepted);
+        holds_at(&rt, choice.into(), is_accepted);
     }
     Ok(())
 }
 
 /// Whether nothing is made of the tiles, and the line tells why.
 fn refuses(alloc: Global, side: u32, tiles: &[Tile<'_>], line: &str) -> Result<bool, Fail> {
-    let mut files = Vec::new(alloc);
-    let making = make(alloc, side, tiles, &[], ROOM, &mut files)?;
-    Ok(is(&making, line, 2) && files.is_empty())
+    let mut files = empty_files(alloc, ROOM)?;
+    let making = make(alloc, side, tiles, &[], files.as_mut_slice())?;
+    let are_empty = files.iter().all(|file| file.as_slice().is_empty());
+    Ok(is(&making, line, 2) && are_empty)
 }
 
 /// Tiles of side 2: at 0 degrees, without a name of a tile, east of the first with other heights at the seam, and far from it.
@@ -207,11 +196,13 @@ fn tells_why_nothing_is_made(rt: HostRuntime) -> Result<(), Fail> {
     Ok(())
 }
 
-/// A file that takes five bytes at a call.
+/// A file that takes five bytes at a call, and faults by the script or never.
 fn scripted_file<'a>(
     alloc: Global,
+    faults: bool,
     script: &'a [Scripted<SinkAnswer>],
 ) -> Result<ScriptSink<'a>, AllocError> {
+    let script = if faults { script } else { &[] };
     Ok(ScriptSink::new(room(alloc)?, 5, script))
 }
 
@@ -225,8 +216,7 @@ fn scripted_files<'a>(
 {
     let mut files = Vec::new(alloc);
     for k in 0..FILE_COUNT {
-        let script = if k == place { script } else { &[] };
-        files.push(scripted_file(alloc, script)?)?;
+        files.push(scripted_file(alloc, k == place, script)?)?;
     }
     if files.len() != FILE_COUNT {
         return Err("ten files".into());
@@ -243,26 +233,6 @@ fn lengths_of(files: &[ScriptSink<'_>]) -> [usize; FILE_COUNT] {
     lengths
 }
 
-/// The products that are made of the pit.
-fn made_of_the_pit(alloc: Global, out: &mut VecSink) -> Result<(Layout, ProductSet), Fail>
-    ensures same_shape { IfOk result (λ set. set.1.con.extent ≡ extent_of set.0) }
-    ensures written { IfOk result (λ set. CanBeWritten set.0 set.1) }
-{
-    let mut inputs = inputs(alloc, &at_zero(&PIT))?;
-    match make_set(alloc, 3, inputs.as_mut_slice(), &[], out) {
-        Ok(made) => Ok(made),
-        Err(_) => Err(why_not(out.as_slice())),
-    }
-}
-
-/// Why nothing was made: want of memory, where the line tells of it.
-fn why_not(printed: &[u8]) -> Fail {
-    match Printed::new(printed, 0) {
-        Ok(_) => "nothing made".into(),
-        Err(fault) => fault.into(),
-    }
-}
-
 /// What writing the pit's files printed, where the one in this place takes some bytes and then fails, and how many bytes each took.
 fn lengths_where_one_fails(
     alloc: Global,
@@ -273,38 +243,27 @@ fn lengths_where_one_fails(
         last: 2,
         answer: SinkAnswer::Failed,
     }];
-    let mut out = VecSink::new(room(alloc)?);
     let mut files = scripted_files(alloc, place, &fails)?;
-    let (layout, products) = made_of_the_pit(alloc, &mut out)?;
-    let status = write_set(alloc, &layout, &products, files.as_mut_slice(), &mut out);
-    let lengths = lengths_of(files.as_slice());
-    Ok((Printed::new(out.as_slice(), status)?, lengths))
+    let run = make(alloc, 3, &pit(), &[], files.as_mut_slice())?;
+    Ok((run, lengths_of(files.as_slice())))
 }
 
-/// The first file that took another number of bytes than it has to where the one in this place fails.
-fn first_wrong(
-    place: usize,
-    lengths: &[usize; FILE_COUNT],
-    whole: &[usize; FILE_COUNT],
-) -> Option<usize> {
-    lengths.iter().zip(whole.iter()).enumerate().position(|(k, (length, all))| {
+/// The place of the first file that took another number of bytes than it has to where the one in this place fails; the number of files where none did.
+fn first_wrong(place: usize, lengths: &[usize; FILE_COUNT], whole: &[usize; FILE_COUNT]) -> usize {
+    let wrong = lengths.iter().zip(whole.iter()).enumerate().position(|(k, (length, all))| {
         let is_right = if k == place {
             0 < *length && length < all
         } else {
             *length == if k < place { *all } else { 0 }
         };
         !is_right
-    })
+    });
+    wrong.unwrap_or(FILE_COUNT)
 }
 
 /// Ends the test where the first header and the rasters have other lengths than they have to.
 fn same_lengths(rt: &impl Abort, given: [usize; 6], wanted: [usize; 6]) {
     assert_eq!(rt; given, wanted);
-}
-
-/// Ends the test where some file is the first wrong one, and tells in which place the file fails.
-fn are_right(rt: &impl Abort, place: usize, first_wrong: Option<usize>) {
-    assert_eq!(rt; first_wrong, None, "{place}");
 }
 
 #[test]
@@ -319,7 +278,8 @@ fn a_file_that_fails_ends_the_writing(rt: HostRuntime) -> Result<(), Fail> {
     for place in 0..FILE_COUNT {
         let (run, lengths) = lengths_where_one_fails(rt.alloc(), place)?;
         same_run(&rt, place as u64, &run, b"failed WriteFailed\n", 3);
-        are_right(&rt, place, first_wrong(place, &lengths, &whole));
+        let wrong = first_wrong(place, &lengths, &whole);
+        same_number(&rt, place as u64, wrong as u64, FILE_COUNT as u64);
     }
     Ok(())
 }

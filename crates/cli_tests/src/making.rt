@@ -1,50 +1,56 @@
 //! Makes products of tiles, writes them as files in memory, and checks these.
 
-use crate::inputs::{Parts, Tile, inputs, products};
-use crate::printed::{Printed, check_printed, empty_files, files_of, room};
+ghost use Rattle.std.specs.Prelude.{◌≡◌, length};
+
+use crate::inputs::{Parts, Tile, at_zero, inputs, products};
+use crate::printed::{Printed, check_printed, files_of, room};
 use drain_cli::make_set::make_set;
 use drain_cli::write_set::write_set;
-use drain_device::{SliceSource, VecSink};
+use drain_device::{ByteSink, SliceSource, VecSink};
 use drain_grid::{Held, PerProduct};
-use drain_hgt::TileInput;
+use drain_maker::product_files::FILE_COUNT;
 use drain_verdict::Products;
-use std::alloc::Global;
+use std::alloc::{AllocError, Global};
 use std::test::Fail;
 
 /// A tile of side 3 with border 5 and a pit of 1.
 pub const PIT: [u8; 18] = [0, 5, 0, 5, 0, 5, 0, 5, 0, 1, 0, 5, 0, 5, 0, 5, 0, 5];
 
-/// Makes products of the tiles with this list of sinks, and writes them as files with room for so many bytes each. Where none are made the list of files stays as it is.
-fn set_status(
-    alloc: Global,
-    side: u32,
-    tiles: &mut [TileInput<SliceSource<'_>>],
-    sinks: &[u8],
-    capacity: usize,
-    files: &mut Vec<VecSink>,
-    out: &mut VecSink,
-) -> Result<u8, Fail> {
-    match make_set(alloc, side, tiles, sinks, out) {
-        Ok((layout, products)) => {
-            *files = empty_files(alloc, capacity)?;
-            Ok(write_set(alloc, &layout, &products, files.as_mut_slice(), out))
-        }
-        Err(status) => Ok(status),
-    }
+/// The same at 0 degrees.
+pub fn pit() -> [Tile<'static>; 1] {
+    at_zero(&PIT)
 }
 
-/// What a run prints that makes products of the tiles with this list of sinks, and writes them as files with room for so many bytes each.
-pub fn make(
+/// Makes products of the tiles with this list of sinks, and writes them as these files. Where none are made the files stay as they are.
+fn set_status<F: ByteSink>(
     alloc: Global,
     side: u32,
     tiles: &[Tile<'_>],
     sinks: &[u8],
-    capacity: usize,
-    files: &mut Vec<VecSink>,
-) -> Result<Printed, Fail> {
-    let mut out = VecSink::new(room(alloc)?);
+    files: &mut [F],
+    out: &mut VecSink,
+) -> Result<u8, AllocError>
+    requires { length files.old ≡ FILE_COUNT }
+{
     let mut inputs = inputs(alloc, tiles)?;
-    let status = set_status(alloc, side, &mut inputs, sinks, capacity, files, &mut out)?;
+    match make_set(alloc, side, inputs.as_mut_slice(), sinks, out) {
+        Ok((layout, products)) => Ok(write_set(alloc, &layout, &products, files, out)),
+        Err(status) => Ok(status),
+    }
+}
+
+/// What a run prints that makes products of the tiles with this list of sinks, and writes them as these files.
+pub fn make<F: ByteSink>(
+    alloc: Global,
+    side: u32,
+    tiles: &[Tile<'_>],
+    sinks: &[u8],
+    files: &mut [F],
+) -> Result<Printed, Fail>
+    requires { length files.old ≡ FILE_COUNT }
+{
+    let mut out = VecSink::new(room(alloc)?);
+    let status = set_status(alloc, side, tiles, sinks, files, &mut out)?;
     Ok(Printed::new(out.as_slice(), status)?)
 }
 
@@ -52,21 +58,6 @@ pub fn make(
 fn parts_of<'a>(files: &'a [VecSink], product: Held) -> Result<Parts<'a>, Fail> {
     let (header, raster) = files_of(files, product)?;
     Ok(Parts { header, raster })
-}
-
-/// The products whose headers and rasters are the files.
-fn made_products<'a>(
-    alloc: Global,
-    files: &'a [VecSink],
-) -> Result<Products<SliceSource<'a>>, Fail> {
-    let parts = PerProduct {
-        con: parts_of(files, Held::Con)?,
-        dir: parts_of(files, Held::Dir)?,
-        acc: parts_of(files, Held::Acc)?,
-        bas: parts_of(files, Held::Bas)?,
-        rnk: parts_of(files, Held::Rnk)?,
-    };
-    Ok(products(alloc, &parts)?)
 }
 
 /// Checks the files with the tiles and this list of sinks.
@@ -77,7 +68,30 @@ pub fn check<'a>(
     sinks: &[u8],
     files: &'a [VecSink],
 ) -> Result<Printed, Fail> {
-    let mut products = made_products(alloc, files)?;
+    let parts = PerProduct::from_each(&|product| parts_of(files, product))?;
+    check_parts(alloc, side, tiles, sinks, &parts)
+}
+
+/// Checks the products of these parts with the tiles and this list of sinks.
+pub fn check_parts<'a>(
+    alloc: Global,
+    side: u32,
+    tiles: &[Tile<'a>],
+    sinks: &[u8],
+    parts: &PerProduct<Parts<'a>>,
+) -> Result<Printed, Fail> {
+    let mut products = products(alloc, parts)?;
+    check_products(alloc, side, tiles, sinks, &mut products)
+}
+
+/// Checks the products with the tiles and this list of sinks.
+fn check_products<'a>(
+    alloc: Global,
+    side: u32,
+    tiles: &[Tile<'a>],
+    sinks: &[u8],
+    products: &mut Products<SliceSource<'a>>,
+) -> Result<Printed, Fail> {
     let mut inputs = inputs(alloc, tiles)?;
-    check_printed(alloc, side, &mut inputs, sinks, &mut products)
+    check_printed(alloc, side, &mut inputs, sinks, products)
 }

@@ -26,6 +26,13 @@ pub fn whole_sink(alloc: Global) -> Result<ScriptSink<'static>, AllocError> {
     Ok(ScriptSink::new(room(alloc)?, 1000, &[]))
 }
 
+/// The ninth byte fails.
+pub static AT_THE_NINTH: [Scripted<SinkAnswer>; 1] = [Scripted {
+    first: 9,
+    last: 9,
+    answer: SinkAnswer::Failed,
+}];
+
 /// A sink that takes one byte at a call, and faults by the script.
 pub fn slow_sink<'a>(
     alloc: Global,
@@ -67,11 +74,35 @@ pub fn files_of<'a>(files: &'a [VecSink], product: Held) -> Result<(&'a [u8], &'
     Ok((header.as_slice(), raster.as_slice()))
 }
 
-/// What a run printed, and the status that it ended with. It owns no memory, so that a test that holds some is cheap to prove.
+/// A copy of a few bytes that owns no memory, so that a test that holds some is cheap to prove.
 #[derive(Clone, Copy)]
-pub struct Printed {
+pub struct Text {
     bytes: [u8; ROOM],
     length: usize,
+}
+
+impl Text {
+    pub fn new(of: &[u8]) -> Text {
+        let mut bytes = [0; ROOM];
+        for (place, byte) in bytes.iter_mut().zip(of) {
+            *place = *byte;
+        }
+        Text {
+            bytes,
+            length: of.len(),
+        }
+    }
+
+    /// The bytes; none where there were more than a run prints.
+    pub fn as_slice(&self) -> &[u8] {
+        self.bytes.get(..self.length).unwrap_or(&[])
+    }
+}
+
+/// What a run printed, and the status that it ended with.
+#[derive(Clone, Copy)]
+pub struct Printed {
+    printed: Text,
     pub status: u8,
 }
 
@@ -81,20 +112,15 @@ impl Printed {
         if printed.starts_with(b"failed O") {
             return Err(BodyFault::OutOfMemory);
         }
-        let mut bytes = [0; ROOM];
-        for (place, byte) in bytes.iter_mut().zip(printed) {
-            *place = *byte;
-        }
         Ok(Printed {
-            bytes,
-            length: printed.len(),
+            printed: Text::new(printed),
             status,
         })
     }
 
     /// The bytes that were printed; none where there were more than a run prints.
     pub fn text(&self) -> &[u8] {
-        self.bytes.get(..self.length).unwrap_or(&[])
+        self.printed.as_slice()
     }
 }
 
@@ -116,6 +142,16 @@ pub fn same_line(rt: &impl Abort, case: &str, run: &Printed, line: &str, status:
 /// Ends the test where bytes aren't those that are wanted, and tells of which case it is.
 pub fn same_bytes(rt: &impl Abort, case: &str, bytes: &[u8], wanted: &[u8]) {
     assert_eq!(rt; bytes, wanted, "{case}");
+}
+
+/// Ends the test where a number isn't the one that is wanted, and tells of which case it is: by its number.
+pub fn same_number(rt: &impl Abort, case: u64, given: u64, wanted: u64) {
+    assert_eq!(rt; given, wanted, "{case}");
+}
+
+/// Ends the test where something doesn't hold, and tells of which case it is: by its number.
+pub fn holds_at(rt: &impl Abort, case: u64, is_so: bool) {
+    assert!(rt; is_so, "{case}");
 }
 
 /// Ends the test where something doesn't hold, and tells of which case it is.

@@ -1,6 +1,7 @@
 //! What `--progress` tells, and when: where rows end, the words of a line, when one is due; and a device that nobody watches hands on what it is given.
 //! Lines on standard error are shown by tests/program/progress.sh.
 
+use crate::printed::{holds, holds_at, same_bytes, same_number};
 use drain_cli::gauge::Gauge;
 use drain_cli::pace::Pace;
 use drain_cli::row_ends::{RowEnds, raster_row_ends};
@@ -9,20 +10,13 @@ use drain_cli::watched::Watched;
 use drain_cli::watched_rows::judged_rows;
 use drain_device::{BodyFault, ByteSink, ByteSource, SliceSource, VecSink};
 use drain_header::parse_header;
+use std::alloc::Global;
 use std::process::Abort;
 use std::test::Fail;
 
 /// A header of 3 rows of 4 pixels of 16 bits, 5 bytes before the first row and 2 between the rows.
 const HEADER: &[u8] =
     b"NROWS 3\nNCOLS 4\nNBITS 16\nSKIPBYTES 5\nTOTALROWBYTES 10\nULXMAP 0\nULYMAP 1\nXDIM 1\nYDIM 1\n";
-
-fn same_number(rt: &impl Abort, case: u64, given: u64, wanted: u64) {
-    assert_eq!(rt; given, wanted, "{case}");
-}
-
-fn same_text(rt: &impl Abort, given: &[u8], wanted: &str) {
-    assert_eq!(rt; given, wanted.as_bytes(), "{wanted}");
-}
 
 /// How many rows end within so many bytes.
 static ROWS_WITHIN: [(u64, u64); 6] = [(0, 0), (12, 0), (13, 1), (22, 1), (23, 2), (33, 3)];
@@ -41,38 +35,45 @@ fn rows_end_behind_what_is_skipped(rt: HostRuntime) -> Result<(), Fail> {
     Ok(())
 }
 
+/// What is counted, the row, the number of rows, and the line.
+static LINES: [(Counted, u32, u32, &str); 3] = [
+    (Counted::Judged, 1200, 3601, "drain: row 1200 of 3601"),
+    (Counted::Read, 1, 2, "drain: reading row 1 of 2"),
+    (Counted::Written, 0, 28801, "drain: writing row 0 of 28801"),
+];
+
 #[test]
 fn lines_tell_which_rows_are_counted(rt: HostRuntime) {
-    let judged = row_line(Counted::Judged, 1200, 3601);
-    same_text(&rt, judged.as_str().as_bytes(), "drain: row 1200 of 3601");
-    let read = row_line(Counted::Read, 1, 2);
-    same_text(&rt, read.as_str().as_bytes(), "drain: reading row 1 of 2");
-    let written = row_line(Counted::Written, 0, 28801);
-    same_text(
-        &rt,
-        written.as_str().as_bytes(),
-        "drain: writing row 0 of 28801",
-    );
+    for &(counted, row, rows, wanted) in &LINES {
+        let line = row_line(counted, row, rows);
+        same_bytes(&rt, wanted, line.as_str().as_bytes(), wanted.as_bytes());
+    }
 }
 
-/// Whether a line is due at each of these milliseconds, where one was told at the start.
-fn dues(times: [u64; 5]) -> [bool; 5] {
-    let mut pace = Pace::new(0);
-    let mut due = [false; 5];
-    for (place, time) in due.iter_mut().zip(times) {
-        *place = pace.is_due(time);
+/// Milliseconds, and whether a line is due then: where one was told at the start, and where one was told at 600.
+static DUES: [(u64, bool); 5] = [
+    (999, false),
+    (1000, true),
+    (1999, false),
+    (2000, true),
+    (10, false),
+];
+
+static DUES_BEHIND_600: [(u64, bool); 2] = [(1599, false), (1600, true)];
+
+/// Ends the test where a line is due when none is to be, or none when one is.
+fn expect_dues(rt: &impl Abort, mut pace: Pace, dues: &[(u64, bool)]) {
+    for &(time, is_due) in dues {
+        holds_at(rt, time, pace.is_due(time) == is_due);
     }
-    due
 }
 
 #[test]
 fn a_line_is_due_a_second_after_the_last(rt: HostRuntime) {
-    let due = dues([999, 1000, 1999, 2000, 10]);
-    assert_eq!(rt; due, [false, true, false, true, false]);
     let mut pace = Pace::new(0);
+    expect_dues(&rt, pace, &DUES);
     pace.tell(600);
-    let due = (pace.is_due(1599), pace.is_due(1600));
-    assert_eq!(rt; due, (false, true));
+    expect_dues(&rt, pace, &DUES_BEHIND_600);
 }
 
 #[test]
@@ -85,19 +86,28 @@ fn an_unwatched_device_hands_on_its_bytes(rt: HostRuntime) -> Result<(), Fail> {
     source.watch(gauge.watch(judged_rows(&header)));
     let mut out = [0; 5];
     let read = source.read_some(&mut out);
-    let faults = (source.failures(), source.interruptions());
-    assert_eq!(rt; (gauge.is_on(), read, out), (false, Ok(5), *b"drain"));
-    assert_eq!(rt; faults, (0, 0));
+    holds(&rt, "the gauge is off", !gauge.is_on());
+    holds(&rt, "five bytes are read", read == Ok(5));
+    same_bytes(&rt, "what is read", &out, b"drain");
+    same_number(&rt, 1, source.failures(), 0);
+    same_number(&rt, 2, source.interruptions(), 0);
     Ok(())
+}
+
+/// How many bytes a sink takes that nobody watches, and how many failures and interruptions it counts.
+fn taken(alloc: Global) -> Result<(usize, u64, u64), Fail> {
+    let mut sink = Watched::new(VecSink::new(Vec::with_capacity(alloc, 8)?));
+    match sink.write_some(b"drainage") {
+        Ok(taken) => Ok((taken, sink.failures(), sink.interruptions())),
+        Err(_) => Err(BodyFault::OutOfMemory.into()),
+    }
 }
 
 #[test]
 fn an_unwatched_sink_takes_its_bytes(rt: HostRuntime) -> Result<(), Fail> {
-    let mut sink = Watched::new(VecSink::new(Vec::with_capacity(rt.alloc(), 8)?));
-    let taken = sink
-        .write_some(b"drainage")
-        .map_err(|_| BodyFault::OutOfMemory)?;
-    let faults = (sink.failures(), sink.interruptions());
-    assert_eq!(rt; (taken, faults), (8, (0, 0)));
+    let (taken, failures, interruptions) = taken(rt.alloc())?;
+    same_number(&rt, 0, taken as u64, 8);
+    same_number(&rt, 1, failures, 0);
+    same_number(&rt, 2, interruptions, 0);
     Ok(())
 }

@@ -5,7 +5,7 @@ ghost use Rattle.drain_device.specs.Counts.{no_faults};
 
 use crate::inputs::at_zero;
 use crate::making::make;
-use crate::printed::{check_printed, files_of};
+use crate::printed::{check_printed, empty_files, files_of};
 use drain_device::{ByteList, ByteSource, DeviceFault, SliceSource, VecSink};
 use drain_grid::{Held, PerProduct};
 use drain_hgt::TileInput;
@@ -92,15 +92,8 @@ impl ByteSource for Stamped<'_> {
 
 /// The files of the products that are made of the tile of zeros.
 fn made(alloc: Global) -> Result<Vec<VecSink>, Fail> {
-    let mut files = Vec::new(alloc);
-    let run = make(
-        alloc,
-        64,
-        &at_zero(&ZEROS),
-        &[],
-        4 * SIDE * SIDE,
-        &mut files,
-    )?;
+    let mut files = empty_files(alloc, 4 * SIDE * SIDE)?;
+    let run = make(alloc, 64, &at_zero(&ZEROS), &[], files.as_mut_slice())?;
     match run.status {
         0 => Ok(files),
         _ => Err("the files were not made and written".into()),
@@ -160,7 +153,21 @@ fn tile<'a>(alloc: Global, clock: &'a Cell<u64>) -> Result<TileInput<Stamped<'a>
     })
 }
 
-/// The stamps of the sources of a check of the tile of zeros with the files.
+/// The stamps of the sources of a check of the tile of zeros with these products.
+fn stamps_beside<'a>(
+    alloc: Global,
+    clock: &'a Cell<u64>,
+    products: &mut Products<Stamped<'a>>,
+) -> Result<[(Stamps, Stamps); 6], Fail> {
+    let mut tiles = [tile(alloc, clock)?];
+    let run = check_printed(alloc, 64, &mut tiles, &[], products)?;
+    if run.status != 0 {
+        return Err("not accepted".into());
+    }
+    Ok(stamps_of_each(&tiles[0].body, products))
+}
+
+/// The same with the products whose headers and rasters are the files.
 fn stamps(alloc: Global, files: &[VecSink]) -> Result<[(Stamps, Stamps); 6], Fail> {
     let clock = Cell::new(0);
     let watched = Watched {
@@ -168,12 +175,7 @@ fn stamps(alloc: Global, files: &[VecSink]) -> Result<[(Stamps, Stamps); 6], Fai
         clock: &clock,
     };
     let mut products = products(alloc, watched)?;
-    let mut tiles = [tile(alloc, &clock)?];
-    let run = check_printed(alloc, 64, &mut tiles, &[], &mut products)?;
-    if run.status != 0 {
-        return Err("not accepted".into());
-    }
-    Ok(stamps_of_each(&tiles[0].body, &products))
+    stamps_beside(alloc, &clock, &mut products)
 }
 
 /// The stamps of a check of the tile of zeros with the products that are made of it.
