@@ -126,18 +126,29 @@ fn pixels_of(walk: &FaultWalk) -> &[u8] {
     }
 }
 
+/// Ends the test where the map has other numbers.
+fn same_pixels(rt: &impl Abort, given: &[u8], wanted: &[u8]) {
+    assert_eq!(rt; given, wanted);
+}
+
 /// Looks that the walk finds these faults and no others, this cell first, and that the map has these numbers.
-fn expect(
+fn expect_on(
     rt: &impl Abort,
     alloc: Global,
-    example: Given,
+    example: &Given,
     (wanted, first, pixels): Found,
 ) -> Result<(), Fail> {
-    let walk = walk_over(alloc, &example, Ranks::Asked)?;
+    let verdict = rules_verdict(alloc, example)?;
+    let walk = walk_over(alloc, example, Ranks::Asked)?;
     expect_found(rt, &walk, wanted, first);
-    assert_eq!(rt; pixels_of(&walk), pixels);
-    same_verdict(rt, &walk, &example, rules_verdict(alloc, &example)?);
+    same_pixels(rt, pixels_of(&walk), pixels);
+    same_verdict(rt, &walk, example, verdict);
     Ok(())
+}
+
+/// The same on an example that is made for it.
+fn expect(rt: &impl Abort, alloc: Global, example: Given, found: Found) -> Result<(), Fail> {
+    expect_on(rt, alloc, &example, found)
 }
 
 /// The verdict of the walk that stops at the first fault.

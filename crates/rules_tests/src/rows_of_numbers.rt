@@ -187,14 +187,21 @@ fn check_row(walk: &mut GridWalk, given: Given<'_>, row: u8, room: &mut Room) ->
     Ok(walk.check_row(&rows, &rules_with(given.ranks))?)
 }
 
+/// Checks all three rows.
+fn check_rows(walk: &mut GridWalk, given: Given<'_>, room: &mut Room) -> Result<(), Fail>
+    requires { walk.old.rows ≡ 0 }
+{
+    check_row(walk, given, 0, room)?;
+    check_row(walk, given, 1, room)?;
+    check_row(walk, given, 2, room)
+}
+
 /// The verdict on these rows.
 fn verdict_of(alloc: Global, given: Given<'_>) -> Result<Verdict, Fail> {
     let shape = Shape::new(3, COLS.into()).ok_or("a shape")?;
     let mut room = Room::new(alloc);
     let mut walk = GridWalk::new(alloc);
-    check_row(&mut walk, given, 0, &mut room)?;
-    check_row(&mut walk, given, 1, &mut room)?;
-    check_row(&mut walk, given, 2, &mut room)?;
+    check_rows(&mut walk, given, &mut room)?;
     Ok(walk.verdict(shape))
 }
 
@@ -209,6 +216,15 @@ fn note_row(walk: &mut FaultWalk, given: Given<'_>, row: u8, room: &mut Room) ->
     Ok(walk.note_row(&rows, &rules_with(given.ranks))?)
 }
 
+/// Looks for faults in all three rows.
+fn note_rows(walk: &mut FaultWalk, given: Given<'_>, room: &mut Room) -> Result<(), Fail>
+    requires { walk.old.rows ≡ 0 }
+{
+    note_row(walk, given, 0, room)?;
+    note_row(walk, given, 1, room)?;
+    note_row(walk, given, 2, room)
+}
+
 /// The faults of the numbers of the six parts, where ranks are asked for, with lanes or without.
 pub fn faults_by_rows(alloc: Global, numbers: &[i64], is_laned: bool) -> Result<FaultWalk, Fail> {
     let marks = marks_of(&Sinks::none(alloc));
@@ -218,11 +234,8 @@ pub fn faults_by_rows(alloc: Global, numbers: &[i64], is_laned: bool) -> Result<
         ranks: Ranks::Asked,
         is_laned,
     };
-    let mut room = Room::new(alloc);
     let mut walk = FaultWalk::new(alloc);
-    note_row(&mut walk, given, 0, &mut room)?;
-    note_row(&mut walk, given, 1, &mut room)?;
-    note_row(&mut walk, given, 2, &mut room)?;
+    note_rows(&mut walk, given, &mut Room::new(alloc))?;
     Ok(walk)
 }
 
