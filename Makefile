@@ -1,8 +1,8 @@
 # make           proves what the program needs, and builds it to build/drain
 # make demo      runs it on the bundled samples
 # make install   puts it and its man page below PREFIX (/usr/local; DESTDIR goes in front)
-# make test      passes everything: every proof and test, the must-fail edits of the gate, then the program's own tests
-# make edits     tries all must-fail edits, those of more-edits/ too; CRATES=".." names the crates (all of them)
+# make test      passes everything: every proof and test, the edits of the gate, then the program's own tests
+# make edits     tries all edits, those that the gate leaves out too; CRATES=".." names the crates (all of them)
 # make bench     measures it beside its twins in plain Rust (docs/BENCH.md)
 # make clean     drops what these made
 

@@ -1,5 +1,5 @@
 #!/usr/bin/env bash
-# The merge gate: that each crate's README names its files; every proof from nothing, the edits of must-fail/ and the tests (rt ci); the edits that name
+# The merge gate: that each crate's README names its files; every proof from nothing and the tests (rt ci); the edits that name
 # their function; then the program that came of it and its own tests, tests with memory refused, and wrong makers. Each step but the first ends with a line
 # that tells its seconds: those that passed, and those of processors.
 # Usage: tools/gate.sh

@@ -1,7 +1,6 @@
 #!/usr/bin/env bash
-# Tries every must-fail edit of the crates, and the prover has to refuse each: those of must-fail/, which the gate tries as well, and those of
-# more-edits/, of which the gate tries some on their function alone. Run it on a crate that was changed before the change lands; it takes 10 to 30 seconds
-# an edit.
+# Tries every edit of the crates, and the prover has to refuse each; the gate tries some of them, on their function alone. Run it on a crate that was changed
+# before the change lands; it takes 10 to 30 seconds an edit.
 # Usage: tools/try_edits.sh [CRATE...]    (all of them where none is named)
 set -euo pipefail
 top=$(cd "$(dirname "$0")/.." && pwd)
