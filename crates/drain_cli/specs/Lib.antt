@@ -5,6 +5,7 @@ pub mod Failures
 pub mod FilePaths
 pub mod FillRuns
 pub mod HeaderRuns
+pub mod LongLists
 pub mod MadeSets
 pub mod MapFiles
 pub mod OpenFailures

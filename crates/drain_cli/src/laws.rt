@@ -1,9 +1,12 @@
-//! What making, writing and checking say together.
+//! What making, writing and checking say together, and what the constants are.
 //!
 //! A law is a function with nothing to do: its contract is the law, and a caller that calls it has the law at hand.
 
+ghost use Rattle.std.specs.Prelude.{◌≡◌};
 ghost use Rattle.drain_cli.specs.RoundTrip.{WhatIsWrittenIsAccepted};
 
+use crate::pace::APART;
+use crate::sink_file::{CHUNK_BYTES, MAX_LIST_BYTES};
 use drain_device::{ByteSink, ByteSource};
 use drain_maker::laws::made_is_accepted;
 
@@ -14,3 +17,11 @@ pub fn what_is_written_is_accepted<R: ByteSource, F: ByteSink>()
 {
     made_is_accepted();
 }
+
+/// The numerals of the constants that definitions name: a list of sinks has at most 2^32 bytes and is read by 16,384 of them, and lines that are due
+/// come a thousand milliseconds apart. This project's own.
+pub fn constants()
+    ensures max_list_bytes { MAX_LIST_BYTES ≡ 4294967296 }
+    ensures chunk_bytes { CHUNK_BYTES ≡ 16384 }
+    ensures apart { APART ≡ 1000 }
+{}

@@ -1,13 +1,10 @@
 //! What two tiles give that differ at a cell.
 
 use crate::refusal_facts::open_again;
-use drain_grid::Cell;
+use drain_grid::{Cell, VOID};
 use drain_mosaic::Layout;
 use drain_page::{RefusalNote, TileValue};
 use std::os::unix::fs::FileExt;
-
-/// The sample of a void.
-const VOID: i16 = -32768;
 
 /// The first tile with data at the cell, and the first that gives another height there.
 pub fn seam_note(

@@ -1,7 +1,11 @@
 //! Reading a list of sinks whole.
 
-ghost use Rattle.std.specs.Prelude.{◌≤◌, IfOk, vec_len};
+ghost use Rattle.std.specs.Prelude.{◌≡◌, ◌+◌, ◌<◌, ◌≤◌, ◌⊎◌, ℕ, IfErr, IfOk, IsErrOf, OnErr, vec_len};
 ghost use Rattle.std.specs.Io.KnownBytes.{Consumes, IsAtEnd};
+ghost use Rattle.drain_device.specs.Counts.{Answered};
+ghost use Rattle.drain_device.specs.Patience.{GivesUp, full_patience};
+ghost use Rattle.drain_device.specs.Reads.{TakesAtMost};
+ghost use Rattle.drain_cli.specs.LongLists.{TakesMoreThan};
 
 use drain_device::{BodyFault, ByteSource, Patience, read_full};
 use std::alloc::Global;
@@ -10,12 +14,20 @@ use std::alloc::Global;
 pub const MAX_LIST_BYTES: usize = 4294967296;
 
 /// How many bytes are asked for at once.
-const CHUNK_BYTES: usize = 16384;
+pub const CHUNK_BYTES: usize = 16384;
 
-/// Reads a list of sinks to its end. More than `MAX_LIST_BYTES` can't be read, and are told as `ReadFailed`.
+/// Reads a list of sinks to its end. More than `MAX_LIST_BYTES` can't be read, and are told as `ReadFailed`; so is a source that failed, or was
+/// interrupted for the 1,000th time. `OutOfMemory` comes where there is no room for a chunk more.
 pub fn read_list<R: ByteSource>(alloc: Global, from: &mut R) -> Result<Vec<u8>, BodyFault>
     ensures whole { IfOk result (λ list. Consumes (R.bytes_left from.old) (R.bytes_left from.new) list.items × IsAtEnd (R.bytes_left from.new)) }
     ensures bound { IfOk result (λ list. vec_len list ≤ MAX_LIST_BYTES) }
+    ensures within { OnErr result (TakesAtMost (MAX_LIST_BYTES + CHUNK_BYTES) (R.bytes_left from.old) (R.bytes_left from.new)) }
+
+    // A read fails where the source failed, or was interrupted for the 1,000th time in this call; else only where more bytes came than a list may have.
+    ensures faults { (failures : ℕ) × (interruptions : ℕ)
+        × Answered (R.counts from.old) (R.counts from.new) failures interruptions
+        × (GivesUp full_patience failures interruptions → IsErrOf result BodyFault.ReadFailed)
+        × (IsErrOf result BodyFault.ReadFailed → GivesUp full_patience failures interruptions ⊎ TakesMoreThan MAX_LIST_BYTES (R.bytes_left from.old) (R.bytes_left from.new)) }
 {
     let mut list = Vec::new(alloc);
     let mut patience = Patience::new();
@@ -24,15 +36,23 @@ pub fn read_list<R: ByteSource>(alloc: Global, from: &mut R) -> Result<Vec<u8>, 
         let Ok(came) = read_full(from, &mut chunk, &mut patience) else {
             return Err(BodyFault::ReadFailed);
         };
-        if list.extend_from_slice(&chunk[..came]).is_err() {
+        let Ok(()) = list.extend_from_slice(&chunk[..came]) else {
             return Err(BodyFault::OutOfMemory);
-        }
-        if came < CHUNK_BYTES && list.len() <= MAX_LIST_BYTES {
-            return Ok(list);
-        }
+        };
         if came < CHUNK_BYTES {
-            return Err(BodyFault::ReadFailed);
+            return unless_too_long(list);
         }
     }
     Err(BodyFault::ReadFailed)
+}
+
+/// The list, unless it has more bytes than a list may have.
+fn unless_too_long(list: Vec<u8>) -> Result<Vec<u8>, BodyFault>
+    ensures kept { IfOk result (λ kept. (kept ≡ list) × (vec_len list ≤ MAX_LIST_BYTES)) }
+    ensures too_long { IfErr result (λ fault. (fault ≡ BodyFault.ReadFailed) × (MAX_LIST_BYTES < vec_len list)) }
+{
+    if list.len() > MAX_LIST_BYTES {
+        return Err(BodyFault::ReadFailed);
+    }
+    Ok(list)
 }

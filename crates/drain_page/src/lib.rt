@@ -7,6 +7,7 @@ pub mod facts;
 pub mod inflow;
 pub mod json_page;
 mod json_text;
+pub mod laws;
 pub mod least_way;
 mod names;
 pub mod opening;
