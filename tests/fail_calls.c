@@ -1,6 +1,6 @@
 /* Is loaded before the C library into a run of the program, and lets one of its calls end otherwise. By variables of the environment:
 
-   FAIL_CALL  open, read, write or allocation: which calls are counted
+   FAIL_CALL  open, read, write, look or allocation: which calls are counted; a look is one that asks what is at a path
    FAIL_AT    the number of the call that is meant, from 1
    FAIL_HOW   refused: it fails; later: it and each later one; interrupted: it is interrupted once; short: it moves one byte; killed: the
               process is killed in place of it; cut: FAIL_FILE is cut to half its length before it; turned: FAIL_FILE is written over
@@ -21,8 +21,9 @@ extern char *getenv(const char *);
 extern long strtol(const char *, char **, int);
 extern int strcmp(const char *, const char *);
 extern long syscall(long, ...);
+extern char *__realpath_chk(const char *, char *, size_t);
 
-enum { READ = 0, WRITE = 1, CLOSE = 3, LSEEK = 8, GETPID = 39, KILL = 62, TRUNCATE = 76, OPENAT = 257 };
+enum { READ = 0, WRITE = 1, CLOSE = 3, LSEEK = 8, GETPID = 39, KILL = 62, TRUNCATE = 76, OPENAT = 257, STATX = 332 };
 enum { HERE = -100, WRITE_ONLY = 1, READ_WRITE = 2, CREATE = 64, TO_END = 2, KILLED = 9 };
 enum { INTERRUPTED = 4, IO_ERROR = 5, NO_MEMORY = 12, NOT_PERMITTED = 13, NO_SPACE = 28 };
 
@@ -97,6 +98,12 @@ ssize_t write(int file, const void *from, size_t length) {
 }
 
 ssize_t __write(int file, const void *from, size_t length) { return write(file, from, length); }
+
+int statx(int folder, const char *path, int flags, unsigned wanted, void *to) {
+    return fate("look", NO_MEMORY) == FAILS ? -1 : (int)told(syscall(STATX, folder, path, flags, wanted, to));
+}
+
+char *realpath(const char *path, char *to) { return fate("look", NO_MEMORY) == FAILS ? 0 : __realpath_chk(path, to, (size_t)-1); }
 
 void *malloc(size_t size) { return fate("allocation", NO_MEMORY) == FAILS ? 0 : __libc_malloc(size); }
 

@@ -144,6 +144,14 @@ refused RasterShort bas
 expected: bas.bil of 36 bytes
 found: bas.bil of 35 bytes
 END
+printf 'SKIPBYTES 7\nTOTALROWBYTES 20\n' >>"$check/out/bas.hdr"
+head -c 58 /dev/zero >"$check/out/bas.bil"
+refused 'a short raster with bytes in front of it and between its rows' <<'END'
+refused RasterShort bas
+
+expected: bas.bil of 59 bytes
+found: bas.bil of 58 bytes
+END
 make_bare
 printf '5 6\n\n1 1 1\n' >"$check/sinks.txt"
 listed=1 refused 'a line of sinks' <<'END'
@@ -177,8 +185,23 @@ refused SeamMismatch row=2 col=0
 expected: one value at the cell: N00E000.hgt gives 5
 found: N01E000.hgt gives 6
 END
+sed -i 's/^NROWS 5/NROWS 3/' "$check/out/dir.hdr"
+refused 'rows and columns of two tiles' <<'END'
+refused WrongShape dir
 
-# A raster in a pipe isn't opened again: nothing is told of it but the line.
+expected: dir with 5 rows and 3 columns
+found: dir with 3 rows and 3 columns
+END
+sed -i 's/^NROWS 3/NROWS 5/' "$check/out/dir.hdr"
+
+# A tile or a raster in a pipe isn't opened again: nothing is told of it but the line.
+mv "$check/N01E000.hgt" "$scratch/bytes"
+mkfifo "$check/N01E000.hgt"
+cat "$scratch/bytes" >"$check/N01E000.hgt" &
+refused 'a seam with a tile in a pipe' <<'END'
+refused SeamMismatch row=2 col=0
+END
+wait $!
 make_bare
 tiles=("$tile")
 mv "$check/out/bas.bil" "$scratch/bytes"

@@ -1,5 +1,5 @@
 #!/usr/bin/env python3
-"""Lets each open, read, write and allocation of the program end otherwise, one after the other, and looks at what it answers.
+"""Lets each open, read, write, look at a path and allocation of the program end otherwise, one after the other, and looks at what it answers.
 
 faults.py DRAIN SHIM     SHIM is tests/fail_calls.c as a shared library
 
@@ -26,6 +26,7 @@ TELLS = {
     "open": lambda line: line.startswith("failed Open "),
     "read": lambda line: line == "failed ReadFailed\n" or line.startswith('{"answer":"failed ReadFailed",'),
     "write": lambda line: line in ("", "failed WriteFailed\n"),
+    "look": lambda line: TELLS["allocation"](line),
     "allocation": lambda line: line == "failed OutOfMemory\n" or line.startswith('{"answer":"failed OutOfMemory",'),
 }
 
@@ -104,7 +105,7 @@ class Faults:
         a check, an audit and a make try each cell by itself."""
         for call, tells in TELLS.items():
             for how in ("refused", "later"):
-                if call == "open" and run is self.fill:
+                if call == "open" and run is self.fill or call == "look" and run not in (self.explain, self.explain_object):
                     continue
                 for name, ended in self.each_call(run, call, how):
                     does_without = call == "allocation" and (how == "refused" or run is not self.fill) and run.is_right(ended)

@@ -26,6 +26,9 @@ judge_told 'a check that is refused before a row' 2 'refused BadSide' '' check -
 judge_told 'a maker without progress' 0 'made rows=344 cols=344' '' "${made[@]}"
 cp "$told"/out/* "$told/other"
 judge_told 'a maker with progress' 0 'made rows=344 cols=344' 'drain: making\n' "${made[@]}" --progress
+mkdir "$told/pair"
+head -c 18 /dev/zero | tee "$told/N00E000.hgt" >"$told/N00E001.hgt"
+judge_told 'a maker of two tiles with progress' 0 'made rows=3 cols=5' 'drain: making\n' make --progress --side 3 --out "$told/pair" "$told"/N00E00[01].hgt
 
 # A standard error that is closed or full changes nothing, and nothing goes into a file in its place.
 for words in check audit; do
@@ -59,3 +62,19 @@ awk '{ if ($3 != "row" || $5 != "of" || $6 != 121 || $4 <= row) print "not a lin
      END { if (row != 121 || NR < 3) print "ends at " row " after " NR " lines" }' "$told/times" >"$scratch/out"
 : >"$scratch/want"
 judge 'lines of an audit of a raster that comes slowly' 0 "$scratch/want" 0
+
+# A raster that is taken slowly, by a pipe: the rows of the products before it are counted, and those of all products.
+rm "$told/out/rnk.bil" && mkfifo "$told/out/rnk.bil"
+(exec 5<"$told/out/rnk.bil"
+    for part in 0 1 2 3 4 5 6 7 8 9; do dd bs=50000 count=1 iflag=fullblock status=none <&5; sleep 0.3; done) >"$told/taken" &
+want 'made rows=344 cols=344'
+timeout 60 "$drain" "${made[@]}" --progress 2>"$told/lines" >"$scratch/out"
+judge 'a maker with progress of a raster that is taken slowly' 0 "$scratch/want" $?
+wait $!
+cmp "$told/taken" "$told/other/rnk.bil" >"$scratch/out" 2>&1
+awk 'NR == 1 && $0 == "drain: making" { next }
+     { if ($2 != "writing" || $3 != "row" || $5 != "of" || $6 != 1720 || $4 <= 1376 || $4 <= row || $4 > 1720) print "not a line: " $0
+       row = $4 }
+     END { if (NR < 3) print "ends after " NR " lines" }' "$told/lines" >>"$scratch/out"
+: >"$scratch/want"
+judge 'lines of a maker of a raster that is taken slowly' 0 "$scratch/want" 0
