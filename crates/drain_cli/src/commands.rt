@@ -33,9 +33,9 @@ pub(crate) const DEFAULT_SIDE: u32 = 1201;
 
 const DEFAULT_SIDE_WORD: &str = "1201";
 
-/// The program's version, and the toolchain whose logic proved it.
+/// The program's version, and the logic of the toolchain that its sources are written for, as `rt version` names it.
 const VERSION: &str = "0.1.0
-proved with rattle-kit-13f logic dac8208d650f15bf";
+logic dac8208d650f15bf";
 
 const AUDIT: Described = Described {
     name: "audit",
