@@ -1,5 +1,5 @@
 # make           proves what the program needs, and builds it to build/drain
-# make demo      runs it on the bundled samples
+# make demo      shows it on the bundled samples, in two minutes; without a proved program it runs the sources unproved
 # make install   puts it and its man page below PREFIX (/usr/local; DESTDIR goes in front)
 # make test      passes everything: every proof and test, the edits of the gate, then the program's own tests
 # make edits     tries all edits, those that the gate leaves out too; CRATES=".." names the crates (all of them)
@@ -9,21 +9,17 @@
 PREFIX ?= /usr/local
 CRATES ?=
 
-SOURCES := crates.txt HANDLES $(shell find crates -type f \( -name '*.rt' -o -name '*.antt' \) -not -path '*/out/*' -not -path '*/must-fail/*')
-
-build/drain: $(SOURCES)
-	@tools/build_program.sh drain $@ --version
-
-build/benches: $(SOURCES)
-	@tools/build_program.sh benches $@
+# The program and its record build/drain.proved; nothing is done where they fit the sources, by their sums.
+build/drain build/benches: FORCE
+	@tools/build_program.py $(@F) $@
 
 build/drain.1: build/drain tools/man_page.py
 	@tools/man_page.py build/drain >$@
 
-.PHONY: demo install test edits bench clean
+.PHONY: FORCE demo install test edits bench clean
 
-demo: build/drain
-	@tools/demo.sh build/drain
+demo:
+	@tools/run_demo.sh build/drain
 
 install: build/drain build/drain.1
 	install -D -m 755 build/drain "$(DESTDIR)$(PREFIX)/bin/drain"

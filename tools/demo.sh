@@ -1,63 +1,110 @@
 #!/usr/bin/env bash
-# Runs the built program on the bundled samples. Ends with 1 where it prints anything but what is expected.
-# Usage: tools/demo.sh PROGRAM
-set -eu
-drain=$(realpath "$1")
-samples=$(cd "$(dirname "$0")/../samples" && pwd)
+# Runs the commands of demo.txt on the bundled samples, and shows each with its answer. Ends with 1 where an answer differs from the file's.
+# With a program, that one runs. Without, the sources run as they are, unproved, by the toolchain's checked runner: it builds them first.
+# Usage: tools/demo.sh [PROGRAM]
+set -euo pipefail
+here=$(cd "$(dirname "$0")" && pwd)
+top=$(dirname "$here")
+program=${1:+$(realpath "$1")}
 scratch=$(mktemp -d)
 trap 'rm -rf "$scratch"' EXIT
-cd "$scratch" && ln -s "$samples" samples
+mkdir "$scratch/work" "$scratch/cases"
+ln -s "$top/samples" "$scratch/work/samples"
+cd "$scratch/work"
 status=0
 
-# Runs the program on the words behind an input, and compares what it prints.
+# Calls the function $1 for each command of demo.txt, with what the file says of it in about, words, input, expected, change and is_built.
+each_command() {
+    local line number=0
+    about= words= input= expected= change= is_built=
+    while IFS= read -r line || [ -n "$line" ]; do
+        case $line in
+            about:*) about=${line#about: } ;;
+            run:*) words=${line#run: } ;;
+            input:*) input=${line#input: } ;;
+            prints:*) expected=${line#prints: } ;;
+            prints-file:*) expected=$(cat "${line#prints-file: }") ;;
+            change:*) change=${line#change: } ;;
+            built) is_built=yes ;;
+            '')
+                if [ -n "$words" ]; then
+                    number=$((number + 1))
+                    name=$(printf '%02d' "$number")
+                    "$1"
+                fi
+                about= words= input= expected= change= is_built=
+                ;;
+        esac
+    done < <(cat "$here/demo.txt" && echo)
+}
+
+# Shows one command with its answer, which is compared with the file's.
 show() {
-    local about=$1 expected=$2 input=$3 printed
-    shift 3
-    echo
-    echo "# $about"
-    case $input in
-        /dev/null) echo "\$ drain $*" ;;
-        *) echo "\$ drain $* < $input" ;;
-    esac
-    printed=$("$drain" "$@" <"$input") || true
-    echo "$printed"
-    if [ "$printed" != "$expected" ]; then
+    printf '\n# %s\n$ drain %s%s\n%s\n' "$about" "$words" "${input:+ < $input}" "$1"
+    if [ "$1" != "$expected" ]; then
         echo "EXPECTED: $expected"
         status=1
     fi
 }
 
-other=samples/other-tools
-show 'What SAGA made of a tile, its surface and directions, with counts and labels that fit them: right, and nobody had to hand over a certificate' \
-    'accepted rows=51 cols=51 data=2601 raised=59 outlets=10' /dev/null audit --side 51 --products $other/saga-counted $other/N36W085.hgt
-show "SAGA's own accumulation loses the water of 213 cells on a flat" \
-    'rejected rule=13 Accumulation row=7 col=25' /dev/null audit --side 51 --products $other/saga-linear $other/N36W085.hgt
-show "GRASS's r.fill.dir filled a depression a metre too high" \
-    'rejected rule=9 NotLeast row=29 col=5' /dev/null audit --side 51 --products $other/fill-dir $other/N36W085.hgt
-show "GRASS's r.terraflow lets directions point off the grid" \
-    'rejected NoEnd row=0 col=0' /dev/null audit --side 51 --products $other/terraflow $other/N36W085.hgt
+run_built() {
+    local answer file at byte
+    if [ -n "$change" ]; then
+        read -r file at byte <<<"$change"
+        printf "\\x$byte" | dd of="$file" bs=1 seek="$at" conv=notrunc status=none
+    fi
+    case $words in make*) mkdir -p rasters ;; esac
+    answer=$("$program" $words <"${input:-/dev/null}") || true
+    show "$answer"
+}
 
-tile=samples/N36W085.hgt
-mkdir products
-show 'Real terrain, the Jacksboro fault in Tennessee: five products are made of its tile' \
-    'made rows=344 cols=344' /dev/null make --side 344 --out products $tile
-show 'They are checked against the tile: all rules hold' \
-    'accepted rows=344 cols=344 data=118336 raised=5200 outlets=115' /dev/null check --side 344 --products products $tile
+# Writes a command as a case of `rt try`: its standard input, and its arguments line by line.
+write_case() {
+    [ -z "$is_built" ] || return 0
+    cat "${input:-/dev/null}" >"$scratch/cases/$name"
+    tr ' ' '\n' <<<"$words" >"$scratch/cases/$name.args"
+}
 
-printf '\x02' | dd of=products/acc.bil bs=1 seek=$((4 * (344 * 172 + 172))) conv=notrunc status=none
-show 'One number of acc is changed from 1 to 2' \
-    'rejected rule=13 Accumulation row=172 col=172' /dev/null check --side 344 --products products $tile
+show_case() {
+    [ -z "$is_built" ] || return 0
+    show "$(awk -v case="== $name" '/^(== |case=)/ { found = ($0 == case); next } found' "$scratch/answers")"
+}
 
-tile=samples/jacksboro/N36W085.hgt
-show 'A part of this terrain, with products that another program made' \
-    'accepted rows=121 cols=121 data=14641 raised=690 outlets=32' /dev/null check --side 121 --products samples/jacksboro $tile
-cp $tile N36W084.hgt
-show 'The same, but the tile has the name of its neighbour' \
-    'refused Misplaced con' /dev/null check --side 121 --products samples/jacksboro N36W084.hgt
+# Runs the cases in one build. Standard error has the reason where the sources can't be built.
+run_cases() {
+    local data=() file
+    while IFS= read -r file; do
+        data+=(--data "$file=$top/$file")
+    done < <(cd "$top" && find samples/other-tools samples/jacksboro samples/headers -type f)
+    (cd "$top/crates/drain" && exec rt try --steps 1 --seconds 60 "${data[@]}" --cases "$scratch/cases") >"$scratch/answers" 2>"$scratch/errors" </dev/null
+}
 
-show 'A conditioned surface alone, in one stream with its tile and its certificate' \
-    'accepted rows=121 cols=121 data=14641 raised=690' samples/jacksboro-121.fill fill --side 121
-show 'The header of a raster, as GDAL wrote it' \
-    "$(cat samples/headers/gdal-hgt-i16.expected)" /dev/null header samples/headers/gdal-hgt-i16.hdr
+# Says on a terminal how long the command in the background has run.
+show_seconds() {
+    local started=$SECONDS
+    while kill -0 "$1" 2>/dev/null; do
+        [ ! -t 1 ] || printf '\r\033[Kbuilding and running: %d s' $((SECONDS - started))
+        sleep 1
+    done
+    [ ! -t 1 ] || printf '\r\033[K'
+    wait "$1"
+}
 
+if [ -n "$program" ]; then
+    each_command run_built
+    exit $status
+fi
+
+command -v rt >/dev/null || {
+    echo 'drain is built by the Rattle toolchain: put its command rt on the PATH' >&2
+    exit 1
+}
+echo 'Not proved: these sources are built and run with checks, in a minute or two. `make` proves them and builds the program.'
+each_command write_case
+run_cases &
+show_seconds $! || {
+    cat "$scratch/errors" "$scratch/answers" >&2
+    exit 1
+}
+each_command show_case
 exit $status

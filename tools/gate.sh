@@ -15,13 +15,19 @@ RT_JOBS=$(nproc)
 export RT_JOBS
 
 mkdir -p build
-rm -f build/gate_passed
 tools/check_readmes.py
-rt version >build/gate_began
+sources=$(tools/sources_sum.sh)
 time rt ci
-mv build/gate_began build/gate_passed
+[ "$(tools/sources_sum.sh)" = "$sources" ] || {
+    echo 'the sources changed while they were proved: run this again' >&2
+    exit 1
+}
+for program in drain benches; do
+    cp "crates/$program/out/$program" "build/$program"
+    tools/record_proof.sh "build/$program" "$sources"
+done
 time tools/try_named_edits.py
-time make --no-print-directory build/drain build/benches
+time tests/first_run.sh build/drain
 time tests/program/run.sh build/drain build/benches
 time tests/refused_memory.sh byte_tests cell_tests rules_tests page_tests verdict_tests maker_tests cli_tests
 time tests/wrong_makers.sh

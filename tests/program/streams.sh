@@ -86,10 +86,10 @@ else
     echo "interrupted writes of the program aren't tried: there is no strace"
 fi
 
-# The logic that the version names is that of the toolchain here, whichever kit it comes in.
-"$drain" --version | tail -n 1 >"$scratch/out"
-rt version | sed 's/.*\(logic .*\)/\1/' >"$scratch/want"
-judge 'the logic that the version names' 0 "$scratch/want" 0
+# The version names the logic of the toolchain that is here.
+want -
+tools/same_logic.sh "$drain" >"$scratch/out" 2>"$scratch/err"
+judge 'the logic that the version names' 0 "$scratch/want" $?
 
 # No memory for the input.
 want 'failed OutOfMemory'

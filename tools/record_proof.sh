@@ -1,0 +1,18 @@
+#!/usr/bin/env bash
+# Writes PROGRAM.proved, which says what a program was proved and built from.
+# Usage: tools/record_proof.sh PROGRAM SOURCES    (SOURCES: what tools/sources_sum.sh printed of the sources that were proved)
+set -euo pipefail
+program=$1
+top=$(cd "$(dirname "$0")/.." && pwd)
+commit=-
+if git -C "$top" rev-parse -q --verify HEAD >/dev/null 2>&1; then
+    commit=$(git -C "$top" rev-parse HEAD)
+    [ -z "$(git -C "$top" status --porcelain -- crates crates.txt HANDLES)" ] || commit+=-changed
+fi
+{
+    echo "commit   $commit"
+    echo "sources  $2"
+    echo "kit      $(rt version)"
+    echo "program  $(sha256sum <"$program" | cut -d ' ' -f 1)"
+} >"$program.proved.new"
+mv "$program.proved.new" "$program.proved"
