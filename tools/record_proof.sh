@@ -1,11 +1,11 @@
 #!/usr/bin/env bash
-# Writes PROGRAM.proved, which says what a program was proved and built from.
+# Writes PROGRAM.proved, which says what a program was proved and built from. The commit is '-' where there is none that has these sources.
 # Usage: tools/record_proof.sh PROGRAM SOURCES    (SOURCES: what tools/sources_sum.sh printed of the sources that were proved)
 set -euo pipefail
 program=$1
 top=$(cd "$(dirname "$0")/.." && pwd)
 commit=-
-if git -C "$top" rev-parse -q --verify HEAD >/dev/null 2>&1; then
+if git -C "$top" rev-parse -q --verify HEAD >/dev/null 2>&1 && [ "$("$top/tools/sources_sum.sh")" = "$2" ]; then
     commit=$(git -C "$top" rev-parse HEAD)
     [ -z "$(git -C "$top" status --porcelain -- crates crates.txt HANDLES)" ] || commit+=-changed
 fi
