@@ -4,7 +4,7 @@ use Rattle.drain_device.specs.declared.patience.GaveUp.{GaveUp}
 use Rattle.drain_rules.specs.declared.verdict.Verdict.{Verdict}
 use Rattle.drain_rules.specs.declared.verdict.Verdict.TheVariants.{Accepted, Rejected}
 use Rattle.drain_rules.specs.Verdicts.{IfAccepted}
-use Rattle.drain_verdict.specs.declared.refusal.Refusal.{Refusal}
+use Rattle.drain_answer.specs.declared.refusal.Refusal.{Refusal}
 use Rattle.drain_cli.specs.declared.status.Status.{Status}
 use Rattle.drain_cli.specs.CheckRuns.{check_status}
 use Rattle.drain_cli.specs.Printing.{status_after}

@@ -6,10 +6,10 @@ use Rattle.drain_hgt.specs.declared.input.TileInput.{TileInput}
 use Rattle.drain_verdict.specs.AuditInputs.{audit_devices}
 use Rattle.drain_verdict.specs.Audits.{IsAuditAnswer, OfFour}
 use Rattle.drain_verdict.specs.declared.audit_products.AuditProducts.{AuditProducts}
-use Rattle.drain_verdict.specs.declared.audit_verdict.AuditVerdict.{AuditVerdict}
-use Rattle.drain_verdict.specs.declared.audit_verdict.AuditVerdict.TheVariants.{Accepted, Rejected, NoEnd}
-use Rattle.drain_verdict.specs.declared.refusal.Refusal.{Refusal}
-use Rattle.drain_verdict.specs.declared.refusal.Refusal.TheVariants.{ReadFailed}
+use Rattle.drain_answer.specs.declared.audit_verdict.AuditVerdict.{AuditVerdict}
+use Rattle.drain_answer.specs.declared.audit_verdict.AuditVerdict.TheVariants.{Accepted, Rejected, NoEnd}
+use Rattle.drain_answer.specs.declared.refusal.Refusal.{Refusal}
+use Rattle.drain_answer.specs.declared.refusal.Refusal.TheVariants.{ReadFailed}
 use Rattle.drain_verdict.specs.Refusals.{IsOfBodies}
 use Rattle.drain_cli.specs.Statuses.{refusal_status}
 use Rattle.drain_cli.specs.declared.status.Status.{Status}

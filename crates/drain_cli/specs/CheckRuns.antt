@@ -4,8 +4,8 @@ use Rattle.drain_device.specs.Devices.{Source}
 use Rattle.drain_hgt.specs.declared.input.TileInput.{TileInput}
 use Rattle.drain_rules.specs.declared.verdict.Verdict.{Verdict}
 use Rattle.drain_rules.specs.declared.verdict.Verdict.TheVariants.{Accepted, Rejected}
-use Rattle.drain_verdict.specs.declared.refusal.Refusal.{Refusal}
-use Rattle.drain_verdict.specs.declared.refusal.Refusal.TheVariants.{ReadFailed}
+use Rattle.drain_answer.specs.declared.refusal.Refusal.{Refusal}
+use Rattle.drain_answer.specs.declared.refusal.Refusal.TheVariants.{ReadFailed}
 use Rattle.drain_verdict.specs.Inputs.{Inputs, Tell, Products}
 use Rattle.drain_verdict.specs.Answers.{IsAnswer}
 use Rattle.drain_verdict.specs.Refusals.{IsOfBodies}

@@ -10,7 +10,7 @@ use Rattle.drain_rules.specs.declared.fill_walk.FillVerdict.{FillVerdict}
 use Rattle.drain_rules.specs.declared.fill_walk.FillVerdict.TheVariants.{Accepted, Rejected}
 use Rattle.drain_rules.specs.declared.fill_walk.FillRefusal.{FillRefusal}
 use Rattle.drain_rules.specs.FillVerdicts.{IsFillAnswer}
-use Rattle.drain_verdict.specs.FillLines.{fill_line}
+use Rattle.drain_answer.specs.FillLines.{fill_line}
 use Rattle.drain_cli.specs.declared.status.Status.{Status}
 use Rattle.drain_cli.specs.declared.status.Status.TheVariants as status
 

@@ -2,8 +2,8 @@
 use Rattle.std.specs.Prelude.{ℕ, ◌++◌, List, Result, Ok, Err, codes, decimal}
 use Rattle.drain_grid.specs.declared.sink_text.SinkFault.TheVariants as sink
 use Rattle.drain_mosaic.specs.Tiling.{Tiling, extent_of}
-use Rattle.drain_verdict.specs.declared.refusal.Refusal.TheVariants as refusal
-use Rattle.drain_verdict.specs.Lines.{refusal_line}
+use Rattle.drain_answer.specs.declared.refusal.Refusal.TheVariants as refusal
+use Rattle.drain_answer.specs.Lines.{refusal_line}
 use Rattle.drain_maker.specs.declared.maker.MakeRefusal.TheVariants as maker
 use Rattle.drain_cli.specs.Statuses.{refusal_status}
 use Rattle.drain_cli.specs.declared.status.Status.{Status}

@@ -1,7 +1,7 @@
 -- The numbers that the program ends with, and the status that a refusal leaves. They are this project's own.
 use Rattle.std.specs.Prelude.{ℕ}
-use Rattle.drain_verdict.specs.declared.refusal.Refusal.{Refusal}
-use Rattle.drain_verdict.specs.declared.refusal.Refusal.TheVariants.{OutOfMemory, ReadFailed}
+use Rattle.drain_answer.specs.declared.refusal.Refusal.{Refusal}
+use Rattle.drain_answer.specs.declared.refusal.Refusal.TheVariants.{OutOfMemory, ReadFailed}
 use Rattle.drain_cli.specs.declared.status.Status.{Status}
 use Rattle.drain_cli.specs.declared.status.Status.TheVariants.{Done, Rejected, Refused, Failed}
 

@@ -5,7 +5,7 @@ ghost use Rattle.drain_device.specs.FaultLists.{SomeReadFails};
 ghost use Rattle.drain_hgt.specs.Inputs.{names_of, tile_devices, TilesTakeAtMost};
 ghost use Rattle.drain_cli.specs.declared.make_set.NoSet.{NoSet};
 ghost use Rattle.drain_cli.specs.MadeSets.{IsSetOf, IsNoSet};
-ghost use Rattle.drain_verdict.specs.Lines.{refusal_line};
+ghost use Rattle.drain_answer.specs.Lines.{refusal_line};
 ghost use Rattle.drain_cli.specs.Printing.{Prints};
 ghost use Rattle.drain_cli.specs.SetRuns.{no_set_line, no_set_status};
 
@@ -16,7 +16,7 @@ use drain_grid::{ProductSet, SinkFault, parse_sinks};
 use drain_hgt::TileInput;
 use drain_maker::{MakeRefusal, make};
 use drain_mosaic::Layout;
-use drain_verdict::line::{Line, words};
+use drain_answer::line::{Line, words};
 use drain_verdict::{Refusal, Verdict, read_mosaic, report};
 use std::alloc::Global;
 

@@ -5,10 +5,10 @@ ghost use Rattle.drain_grid.specs.declared.held.Held.{Held};
 ghost use Rattle.drain_rules.specs.declared.verdict.Verdict.{Verdict};
 ghost use Rattle.drain_grid.specs.PerProduct.{of_product};
 ghost use Rattle.drain_hgt.specs.Inputs.{names_of, TilesTakeAtMost};
-ghost use Rattle.drain_verdict.specs.declared.refusal.Refusal.{Refusal};
+ghost use Rattle.drain_answer.specs.declared.refusal.Refusal.{Refusal};
 ghost use Rattle.drain_verdict.specs.Devices.{RasterTakesAtMost};
 ghost use Rattle.drain_verdict.specs.Headline.{OfInputs};
-ghost use Rattle.drain_verdict.specs.Lines.{report_line};
+ghost use Rattle.drain_answer.specs.Lines.{report_line};
 ghost use Rattle.drain_cli.specs.CheckRuns.{IsCheckOutcome, IsRight, check_status};
 ghost use Rattle.drain_cli.specs.Printing.{Prints};
 

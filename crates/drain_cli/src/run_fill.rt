@@ -12,7 +12,7 @@ use drain_device::{BodyFault, ByteSink, ByteSource, read_body};
 use drain_grid::laws::least_from_rules;
 use drain_grid::tile::is_side;
 use drain_rules::fill_length;
-use drain_verdict::line::{Line, words};
+use drain_answer::line::{Line, words};
 use drain_verdict::{FillRefusal, FillVerdict, check_fill, fill_report};
 use std::alloc::Global;
 

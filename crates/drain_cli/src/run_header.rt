@@ -10,7 +10,7 @@ use crate::print::{print_failure, print_line, print_text};
 use crate::status::Status;
 use drain_device::{BodyFault, ByteSink, ByteSource, read_body};
 use drain_header::{Header, HeaderFault, MAX_HEADER_BYTES, header_text, parse_header};
-use drain_verdict::line::{Line, words};
+use drain_answer::line::{Line, words};
 use std::alloc::Global;
 
 /// An answer, or why there is none.

@@ -3,7 +3,7 @@
 ghost use Rattle.std.specs.Prelude.{◌≡◌, ◌++◌, codes, decimal};
 ghost use Rattle.drain_cli.specs.Telling.{before_row};
 
-use drain_verdict::line::{Line, push_number, words};
+use drain_answer::line::{Line, push_number, words};
 
 /// Which rows are counted.
 #[derive(Clone, Copy)]

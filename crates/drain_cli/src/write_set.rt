@@ -15,7 +15,7 @@ use drain_device::ByteSink;
 use drain_grid::{ProductSet, Shape};
 use drain_maker::product_files::{SetFault, write_files};
 use drain_mosaic::Layout;
-use drain_verdict::line::{Line, push_number, words};
+use drain_answer::line::{Line, push_number, words};
 use std::alloc::Global;
 
 /// Writes header and raster of each product, in the order of `SET_FILES`, prints `made rows=R cols=C` and answers the exit status.

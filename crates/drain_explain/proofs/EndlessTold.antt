@@ -6,7 +6,7 @@ use Rattle.drain_runs.specs.declared.endless_run.EndlessRun.{EndlessRun}
 use Rattle.drain_verdict.specs.Audits.{IsPlainAnswer, IsPlainVerdict}
 use Rattle.drain_verdict.specs.Inputs.{Inputs}
 use Rattle.drain_verdict.specs.Meaning.{grid_of, nodata_numbers, products_of}
-use Rattle.drain_verdict.specs.declared.audit_verdict.AuditVerdict.{AuditVerdict}
+use Rattle.drain_answer.specs.declared.audit_verdict.AuditVerdict.{AuditVerdict}
 use Rattle.drain_explain.specs.Explanations.{IsEndlessAt, IsEndlessOf}
 
 -- the cell that the verdict names has data

@@ -13,9 +13,9 @@ use Rattle.drain_runs.specs.declared.endless_run.EndlessRun.{EndlessRun}
 use Rattle.drain_verdict.specs.Answers.{rules_at}
 use Rattle.drain_verdict.specs.Inputs.{Inputs}
 use Rattle.drain_verdict.specs.Meaning.{grid_of, products_of}
-use Rattle.drain_verdict.specs.declared.audit_verdict.AuditVerdict.{AuditVerdict}
-use Rattle.drain_verdict.specs.declared.audit_verdict.AuditVerdict.TheVariants.{NoEnd}
-use Rattle.drain_verdict.specs.declared.refusal.Refusal.{Refusal}
+use Rattle.drain_answer.specs.declared.audit_verdict.AuditVerdict.{AuditVerdict}
+use Rattle.drain_answer.specs.declared.audit_verdict.AuditVerdict.TheVariants.{NoEnd}
+use Rattle.drain_answer.specs.declared.refusal.Refusal.{Refusal}
 use Rattle.drain_explain.specs.declared.explanation.Explanation.{Explanation}
 
 -- the answer that is explained

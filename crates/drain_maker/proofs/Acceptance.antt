@@ -30,8 +30,8 @@ use Rattle.drain_rules.specs.declared.verdict.Verdict.{Verdict}
 use Rattle.drain_rules.specs.declared.verdict.Verdict.TheVariants.{Accepted, Rejected}
 use Rattle.drain_rules.specs.Verdicts.{counts_of, IsVerdict}
 use Rattle.drain_rules.specs.Laws.{AreEqual, EqualGridsHaveOneVerdict}
-use Rattle.drain_verdict.specs.declared.refusal.Refusal.{Refusal}
-use Rattle.drain_verdict.specs.declared.refusal.Refusal.TheVariants.{BadSide, BadName, BoxTooLarge, BadHeader, WrongShape, Misplaced, RasterShort, BadSinkLine, SinkNotData, OutOfMemory, ReadFailed}
+use Rattle.drain_answer.specs.declared.refusal.Refusal.{Refusal}
+use Rattle.drain_answer.specs.declared.refusal.Refusal.TheVariants.{BadSide, BadName, BoxTooLarge, BadHeader, WrongShape, Misplaced, RasterShort, BadSinkLine, SinkNotData, OutOfMemory, ReadFailed}
 use Rattle.drain_verdict.specs.Inputs.{Inputs}
 use Rattle.drain_verdict.specs.Meaning.{tiling_of, grid_of, listed_in, lines_in, fields_of, number_of, products_of, nodata_of, nodata_numbers}
 use Rattle.drain_verdict.specs.Refusals.{HasShape, IsPlaced}

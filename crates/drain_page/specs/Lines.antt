@@ -2,8 +2,8 @@
 use Rattle.std.specs.Prelude.{ℕ, List}
 use Rattle.drain_page.specs.declared.facts.Answer.{Answer}
 use Rattle.drain_page.specs.declared.facts.Answer.TheVariants.{Check, Audit}
-use Rattle.drain_verdict.specs.Lines.{report_line}
-use Rattle.drain_verdict.specs.AuditLines.{audit_report_line}
+use Rattle.drain_answer.specs.Lines.{report_line}
+use Rattle.drain_answer.specs.AuditLines.{audit_report_line}
 
 -- as a check or an audit prints it
 abbrev pub line_of : Answer → List ℕ

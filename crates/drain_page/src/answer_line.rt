@@ -4,8 +4,8 @@ ghost use Rattle.std.specs.Prelude.{◌≡◌};
 ghost use Rattle.drain_page.specs.Lines.{line_of};
 
 use crate::facts::Answer;
-use drain_verdict::line::Line;
-use drain_verdict::{audit_report, report};
+use drain_answer::line::Line;
+use drain_answer::{audit_report, report};
 
 /// The line that a check or an audit prints, without a line end.
 pub(crate) fn answer_line(answer: &Answer) -> Line

@@ -2,11 +2,11 @@
 
 use crate::place::MosaicPlace;
 use crate::refusal_note::RefusalNote;
+use drain_answer::{AuditVerdict, Refusal};
 use drain_faults::{FaultyPatch, PerRule, ProductFaults, RuleFaults};
 use drain_grid::{Cell, PerProduct, Shape};
 use drain_rules::{Rules, Verdict};
 use drain_runs::EndlessRun;
-use drain_verdict::{AuditVerdict, Refusal};
 
 /// The answer that is explained.
 #[derive(Clone, Copy, PartialEq, Eq, Debug)]

@@ -9,8 +9,8 @@ use Rattle.drain_rules.specs.declared.verdict.Counts.{Counts}
 use Rattle.drain_rules.specs.declared.verdict.Verdict.{Verdict}
 use Rattle.drain_rules.specs.declared.verdict.Verdict.TheVariants.{Accepted, Rejected}
 use Rattle.drain_rules.specs.Verdicts.{IfAccepted}
-use Rattle.drain_verdict.specs.declared.refusal.Refusal.{Refusal}
-use Rattle.drain_verdict.specs.declared.refusal.Refusal.TheVariants.{SeamMismatch}
+use Rattle.drain_answer.specs.declared.refusal.Refusal.{Refusal}
+use Rattle.drain_answer.specs.declared.refusal.Refusal.TheVariants.{SeamMismatch}
 use Rattle.drain_verdict.specs.Inputs.{Inputs}
 use Rattle.drain_verdict.specs.Meaning.{tiling_of, tiles_of, grid_of, products_of, nodata_numbers}
 use Rattle.drain_verdict.specs.Answers.{AreReadable, IsAnswer}

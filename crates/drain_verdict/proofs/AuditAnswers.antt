@@ -23,9 +23,9 @@ use Rattle.drain_rules.specs.declared.verdict.Verdict.TheVariants as checked
 use Rattle.drain_verdict.specs.Audits.{AllRunsEnd, AreCorrect, IfAccepts, IsAcceptance, IsAuditAnswer, IsAuditVerdict, IsOfBoth, IsPlainAnswer, IsPlainVerdict, certified_nodata, certified_ranks}
 use Rattle.drain_verdict.specs.Inputs.{Inputs}
 use Rattle.drain_verdict.specs.Meaning.{grid_of, products_of, nodata_numbers}
-use Rattle.drain_verdict.specs.declared.audit_verdict.AuditVerdict.{AuditVerdict}
-use Rattle.drain_verdict.specs.declared.audit_verdict.AuditVerdict.TheVariants.{Accepted, Rejected, NoEnd}
-use Rattle.drain_verdict.specs.declared.refusal.Refusal.{Refusal}
+use Rattle.drain_answer.specs.declared.audit_verdict.AuditVerdict.{AuditVerdict}
+use Rattle.drain_answer.specs.declared.audit_verdict.AuditVerdict.TheVariants.{Accepted, Rejected, NoEnd}
+use Rattle.drain_answer.specs.declared.refusal.Refusal.{Refusal}
 
 -- the verdict of the rules that ask nothing of ranks, and the first run without an end
 pub both_are : (g : Grid) (ps : Products) (nodata : NoDataNumbers) (verdict : Verdict) (endless : Option Cell) (audit : AuditVerdict) →

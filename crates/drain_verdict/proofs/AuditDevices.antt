@@ -13,8 +13,8 @@ use Rattle.drain_hgt.specs.Inputs.{names_of, tile_devices}
 use Rattle.drain_verdict.specs.AuditInputs.{audit_devices, with_con_for_ranks}
 use Rattle.drain_verdict.specs.Devices.{devices_of}
 use Rattle.drain_verdict.specs.declared.audit_products.AuditProducts.{AuditProducts}
-use Rattle.drain_verdict.specs.declared.refusal.Refusal.{Refusal}
-use Rattle.drain_verdict.specs.declared.refusal.Refusal.TheVariants.{ReadFailed}
+use Rattle.drain_answer.specs.declared.refusal.Refusal.{Refusal}
+use Rattle.drain_answer.specs.declared.refusal.Refusal.TheVariants.{ReadFailed}
 
 gave_up_or_not : (f : Faults) → gave_up f ⊎ ¬ gave_up f
 gave_up_or_not f = elim (cases_order 0 f.failures) [

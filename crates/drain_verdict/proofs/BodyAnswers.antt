@@ -14,8 +14,8 @@ use Rattle.drain_raster.specs.Pixels.{IsShort}
 use Rattle.drain_mosaic.specs.Tiling as tiling
 use Rattle.drain_mosaic.specs.LayoutFaults.{IsFirstRepeated}
 use Rattle.drain_mosaic.specs.Mosaic.{TilesAgree, IsFirstSeam}
-use Rattle.drain_verdict.specs.declared.refusal.Refusal.{Refusal}
-use Rattle.drain_verdict.specs.declared.refusal.Refusal.TheVariants.{RepeatedTile, BadTileLength, RasterShort, SeamMismatch, OutOfMemory, ReadFailed}
+use Rattle.drain_answer.specs.declared.refusal.Refusal.{Refusal}
+use Rattle.drain_answer.specs.declared.refusal.Refusal.TheVariants.{RepeatedTile, BadTileLength, RasterShort, SeamMismatch, OutOfMemory, ReadFailed}
 use Rattle.drain_verdict.specs.Inputs.{Inputs}
 use Rattle.drain_verdict.specs.Meaning.{tiling_of, tiles_of, fields_of}
 use Rattle.drain_verdict.specs.Refusals.{HasBadLength, IsSeamFault, Stands, NoneStandsBefore, refusal_order, place_among}

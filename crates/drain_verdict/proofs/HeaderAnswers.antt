@@ -11,8 +11,8 @@ use Rattle.drain_header.specs.Fields.{Fields}
 use Rattle.drain_header.specs.Faults.{Answers, Describes}
 use Rattle.drain_raster.specs.Pixels.{extent_of}
 use Rattle.drain_mosaic.specs.Tiling as tiling
-use Rattle.drain_verdict.specs.declared.refusal.Refusal.{Refusal}
-use Rattle.drain_verdict.specs.declared.refusal.Refusal.TheVariants.{BadHeader, WrongShape, Misplaced}
+use Rattle.drain_answer.specs.declared.refusal.Refusal.{Refusal}
+use Rattle.drain_answer.specs.declared.refusal.Refusal.TheVariants.{BadHeader, WrongShape, Misplaced}
 use Rattle.drain_verdict.specs.Inputs.{Inputs, Products}
 use Rattle.drain_verdict.specs.Meaning.{tiling_of, fields_of}
 use Rattle.drain_verdict.specs.Refusals.{Stands, NoneStandsBefore, HasShape, IsPlaced, refusal_order}

@@ -10,8 +10,8 @@ use Rattle.drain_mosaic.specs.declared.layout.LayoutFault.{LayoutFault}
 use Rattle.drain_mosaic.specs.declared.layout.LayoutFault.TheVariants as layout
 use Rattle.drain_mosaic.specs.Tiling.{Tiling}
 use Rattle.drain_mosaic.specs.LayoutFaults.{HasLayoutFault, order_of}
-use Rattle.drain_verdict.specs.declared.refusal.Refusal.{Refusal}
-use Rattle.drain_verdict.specs.declared.refusal.Refusal.TheVariants.{BadSide, BadName, NoTiles, RepeatedTile, BoxTooLarge, OutOfMemory, ReadFailed}
+use Rattle.drain_answer.specs.declared.refusal.Refusal.{Refusal}
+use Rattle.drain_answer.specs.declared.refusal.Refusal.TheVariants.{BadSide, BadName, NoTiles, RepeatedTile, BoxTooLarge, OutOfMemory, ReadFailed}
 use Rattle.drain_verdict.specs.Inputs.{Inputs, AreNames}
 use Rattle.drain_verdict.specs.Meaning.{tiling_of}
 use Rattle.drain_verdict.specs.Refusals.{Stands, NoneStandsBefore, refusal_order}

@@ -39,8 +39,8 @@ use Rattle.drain_verdict.specs.Inputs.{Inputs}
 use Rattle.drain_verdict.specs.Meaning.{fields_of, grid_of, listed_in, nodata_in, nodata_numbers, nodata_of, products_of, tiles_of, tiling_of}
 use Rattle.drain_verdict.specs.Refusals.{NoneStandsBefore}
 use Rattle.drain_verdict.specs.ToGive.{ToGive, given}
-use Rattle.drain_verdict.specs.declared.refusal.Refusal.{Refusal}
-use Rattle.drain_verdict.specs.declared.refusal.Refusal.TheVariants.{BadTileLength, RasterShort, SeamMismatch}
+use Rattle.drain_answer.specs.declared.refusal.Refusal.{Refusal}
+use Rattle.drain_answer.specs.declared.refusal.Refusal.TheVariants.{BadTileLength, RasterShort, SeamMismatch}
 use Rattle.drain_verdict.proofs.BodyAnswers.{raster_refused, rasters_none, seam_refused, seams_none, tile_refused, tiles_none}
 use Rattle.drain_grid.proofs.ByProduct.{by_held, by_held_or_spill, of_held}
 use Rattle.drain_verdict.proofs.RowEnd.{AreAtEnd, Laws}

@@ -39,8 +39,8 @@ use Rattle.drain_verdict.specs.Refusals.{IsOfBodies, NoneStandsBefore}
 use Rattle.drain_verdict.specs.Stages.{AreRasterBodies}
 use Rattle.drain_verdict.specs.ToGive.{AreGiven, HaveCome, IsAfter}
 use Rattle.drain_verdict.specs.declared.input_rows.InputRows.{InputRows}
-use Rattle.drain_verdict.specs.declared.refusal.Refusal.{Refusal}
-use Rattle.drain_verdict.specs.declared.refusal.Refusal.TheVariants.{OutOfMemory, ReadFailed}
+use Rattle.drain_answer.specs.declared.refusal.Refusal.{Refusal}
+use Rattle.drain_answer.specs.declared.refusal.Refusal.TheVariants.{OutOfMemory, ReadFailed}
 use Rattle.drain_verdict.proofs.RowAnswers.{nodata_are, rows_of_bytes, told_none, told_refusal, verdict_is}
 use Rattle.drain_verdict.proofs.SinkAnswers.{sinks_none, sinks_refused}
 use Rattle.drain_verdict.proofs.RowDevices.{come_none}

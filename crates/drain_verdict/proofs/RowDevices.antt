@@ -30,8 +30,8 @@ use Rattle.drain_verdict.specs.InputRows.{AreBegun, IsRasterBegun}
 use Rattle.drain_verdict.specs.Inputs.{Products}
 use Rattle.drain_verdict.specs.ToGive.{HaveCome, IsAfter}
 use Rattle.drain_verdict.specs.declared.input_rows.InputRows.{InputRows}
-use Rattle.drain_verdict.specs.declared.refusal.Refusal.{Refusal}
-use Rattle.drain_verdict.specs.declared.refusal.Refusal.TheVariants.{ReadFailed}
+use Rattle.drain_answer.specs.declared.refusal.Refusal.{Refusal}
+use Rattle.drain_answer.specs.declared.refusal.Refusal.TheVariants.{ReadFailed}
 use Rattle.drain_verdict.proofs.Devices.{devices_then}
 use Rattle.drain_verdict.proofs.RowReads.{raster_none}
 

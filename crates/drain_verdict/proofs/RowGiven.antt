@@ -17,7 +17,7 @@ use Rattle.drain_verdict.specs.InputReads.{InputsHaveRead, Reading}
 use Rattle.drain_verdict.specs.Inputs.{Products}
 use Rattle.drain_verdict.specs.ToGive.{AreGiven, HaveCome, IsAfter, IsAfterTold, IsMosaicAfter, IsMosaicOneMore, IsOneMore, ToGive, given}
 use Rattle.drain_verdict.specs.declared.input_rows.InputRows.{InputRows}
-use Rattle.drain_verdict.specs.declared.refusal.Refusal.{Refusal}
+use Rattle.drain_answer.specs.declared.refusal.Refusal.{Refusal}
 
 abbrev made : List ℤ → List ℤ → List ℤ → List ℤ → List ℤ → List ℤ → RowNumbers
 made z con dir acc bas rnk = record { z = z; products = record { con = con; dir = dir; acc = acc; bas = bas; rnk = rnk } }

@@ -13,8 +13,8 @@ use Rattle.drain_verdict.specs.InputReads.{InputsHaveRead, IsOfReading, RasterHa
 use Rattle.drain_hgt.specs.Inputs.{names_of}
 use Rattle.drain_verdict.specs.Inputs.{Products}
 use Rattle.drain_verdict.specs.declared.input_rows.InputRows.{InputRows}
-use Rattle.drain_verdict.specs.declared.refusal.Refusal.{Refusal}
-use Rattle.drain_verdict.specs.declared.refusal.Refusal.TheVariants.{ReadFailed}
+use Rattle.drain_answer.specs.declared.refusal.Refusal.{Refusal}
+use Rattle.drain_answer.specs.declared.refusal.Refusal.TheVariants.{ReadFailed}
 use Rattle.drain_verdict.proofs.InputLemmas.{only_failed}
 
 -- a raster that wasn't called

@@ -6,7 +6,7 @@ use Rattle.drain_mosaic.specs.declared.seams.SeamFault.{SeamFault}
 use Rattle.drain_mosaic.specs.declared.seams.SeamFault.TheVariants as seam
 use Rattle.drain_mosaic.specs.Tiling.{Tiling}
 use Rattle.drain_mosaic.specs.Mosaic as mosaic
-use Rattle.drain_verdict.specs.declared.refusal.Refusal.{Refusal}
+use Rattle.drain_answer.specs.declared.refusal.Refusal.{Refusal}
 use Rattle.drain_verdict.specs.Inputs.{Inputs}
 use Rattle.drain_verdict.specs.Meaning.{tiling_of, tiles_of}
 use Rattle.drain_verdict.specs.Stages.{IsSeamFaultAs, IsSeamRefusal}

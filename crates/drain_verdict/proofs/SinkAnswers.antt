@@ -19,8 +19,8 @@ use Rattle.drain_verdict.specs.Meaning.{grid_of, listed_in}
 use Rattle.drain_verdict.specs.Refusals.{NoneStandsBefore, Stands, refusal_order}
 use Rattle.drain_verdict.specs.SinkListings.{IsBadLine, IsToldOfSinks}
 use Rattle.drain_verdict.specs.declared.sink_listing.SinkListing.{SinkListing}
-use Rattle.drain_verdict.specs.declared.refusal.Refusal.{Refusal}
-use Rattle.drain_verdict.specs.declared.refusal.Refusal.TheVariants.{BadSinkLine, SinkNotData}
+use Rattle.drain_answer.specs.declared.refusal.Refusal.{Refusal}
+use Rattle.drain_answer.specs.declared.refusal.Refusal.TheVariants.{BadSinkLine, SinkNotData}
 use Rattle.drain_verdict.proofs.Order.{at_bad_line, at_off_data, first_of, none_more, readable}
 
 -- a cell that a line lists is listed

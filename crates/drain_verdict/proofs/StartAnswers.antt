@@ -15,8 +15,8 @@ use Rattle.drain_hgt.specs.Laws.{OneName}
 use Rattle.drain_hgt.specs.Inputs.{names_of}
 use Rattle.drain_header.specs.Fields.{Fields}
 use Rattle.drain_mosaic.specs.Tiling.{Tiling}
-use Rattle.drain_verdict.specs.declared.refusal.Refusal.{Refusal}
-use Rattle.drain_verdict.specs.declared.refusal.Refusal.TheVariants.{ReadFailed}
+use Rattle.drain_answer.specs.declared.refusal.Refusal.{Refusal}
+use Rattle.drain_answer.specs.declared.refusal.Refusal.TheVariants.{ReadFailed}
 use Rattle.drain_verdict.specs.Inputs.{Inputs, Tell, Products}
 use Rattle.drain_verdict.specs.Meaning.{tiling_of, fields_of}
 use Rattle.drain_verdict.specs.Refusals.{NoneStandsBefore}

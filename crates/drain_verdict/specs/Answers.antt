@@ -8,8 +8,8 @@ use Rattle.drain_rules.specs.Verdicts.{IsVerdictOf}
 use Rattle.drain_kernel.specs.declared.rules.Ranks.{Ranks}
 use Rattle.drain_kernel.specs.declared.rules.Rules.{Rules}
 use Rattle.drain_kernel.specs.declared.rules.Ranks.TheVariants.{Asked}
-use Rattle.drain_verdict.specs.declared.refusal.Refusal.{Refusal}
-use Rattle.drain_verdict.specs.declared.refusal.Refusal.TheVariants.{OutOfMemory, ReadFailed}
+use Rattle.drain_answer.specs.declared.refusal.Refusal.{Refusal}
+use Rattle.drain_answer.specs.declared.refusal.Refusal.TheVariants.{OutOfMemory, ReadFailed}
 use Rattle.drain_verdict.specs.Inputs.{Inputs}
 use Rattle.drain_verdict.specs.Meaning.{grid_of, products_of, nodata_numbers}
 use Rattle.drain_verdict.specs.Refusals.{Stands, refusal_order}

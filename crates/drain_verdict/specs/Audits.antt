@@ -15,9 +15,9 @@ use Rattle.drain_rules.specs.declared.verdict.Verdict.{Verdict}
 use Rattle.drain_rules.specs.declared.verdict.Verdict.TheVariants as checked
 use Rattle.drain_runs.specs.declared.steps.TheConstants.{UNKNOWN}
 use Rattle.drain_verdict.specs.declared.audit_products.AuditProducts.{AuditProducts}
-use Rattle.drain_verdict.specs.declared.audit_verdict.AuditVerdict.{AuditVerdict}
-use Rattle.drain_verdict.specs.declared.audit_verdict.AuditVerdict.TheVariants.{Accepted, Rejected, NoEnd}
-use Rattle.drain_verdict.specs.declared.refusal.Refusal.{Refusal}
+use Rattle.drain_answer.specs.declared.audit_verdict.AuditVerdict.{AuditVerdict}
+use Rattle.drain_answer.specs.declared.audit_verdict.AuditVerdict.TheVariants.{Accepted, Rejected, NoEnd}
+use Rattle.drain_answer.specs.declared.refusal.Refusal.{Refusal}
 use Rattle.drain_verdict.specs.AuditInputs.{with_con_for_ranks}
 use Rattle.drain_verdict.specs.Answers.{AreReadable, IsRefusal}
 use Rattle.drain_verdict.specs.Inputs.{Inputs, Tell}

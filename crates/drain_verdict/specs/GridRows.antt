@@ -6,8 +6,8 @@ use Rattle.drain_grid.specs.SinkLines.{is_listed}
 use Rattle.drain_grid.specs.Size.{Extent}
 use Rattle.drain_grid.specs.Grid.{Grid, Products, IsInside}
 use Rattle.drain_rules.specs.RowNumbers.{AreNumbersOf, RowNumbers, blank}
-use Rattle.drain_verdict.specs.declared.refusal.Refusal.{Refusal}
-use Rattle.drain_verdict.specs.declared.refusal.Refusal.TheVariants.{OutOfMemory}
+use Rattle.drain_answer.specs.declared.refusal.Refusal.{Refusal}
+use Rattle.drain_answer.specs.declared.refusal.Refusal.TheVariants.{OutOfMemory}
 
 -- these are all rows, behind the last there is none, and the grid's sinks are those that are listed
 pub record AreRowsOf (g : Grid) (ps : Products) (sinks : List SinkLine) (rows : ℕ → RowNumbers) : Type 0 where

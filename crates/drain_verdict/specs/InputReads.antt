@@ -13,8 +13,8 @@ use Rattle.drain_mosaic.specs.PlacedRows.{HaveRead}
 use Rattle.drain_hgt.specs.Inputs.{names_of}
 use Rattle.drain_verdict.specs.Inputs.{Products}
 use Rattle.drain_verdict.specs.declared.input_rows.InputRows.{InputRows}
-use Rattle.drain_verdict.specs.declared.refusal.Refusal.{Refusal}
-use Rattle.drain_verdict.specs.declared.refusal.Refusal.TheVariants.{OutOfMemory, ReadFailed}
+use Rattle.drain_answer.specs.declared.refusal.Refusal.{Refusal}
+use Rattle.drain_answer.specs.declared.refusal.Refusal.TheVariants.{OutOfMemory, ReadFailed}
 
 -- the refusal of an answer
 abbrev pub told_by : Result (Unit {0}) Refusal → Option Refusal

@@ -12,8 +12,8 @@ use Rattle.drain_mosaic.specs.MosaicRows.{IsBegun}
 use Rattle.drain_mosaic.specs.Tiling.{Tiling}
 use Rattle.drain_raster.specs.declared.raster_rows.RasterRows.{RasterRows}
 use Rattle.drain_verdict.specs.declared.input_rows.InputRows.{InputRows}
-use Rattle.drain_verdict.specs.declared.refusal.Refusal.{Refusal}
-use Rattle.drain_verdict.specs.declared.refusal.Refusal.TheVariants.{BadTileLength, RasterShort, SeamMismatch}
+use Rattle.drain_answer.specs.declared.refusal.Refusal.{Refusal}
+use Rattle.drain_answer.specs.declared.refusal.Refusal.TheVariants.{BadTileLength, RasterShort, SeamMismatch}
 
 -- the first row of a raster with this header is to come
 pub record IsRasterBegun (h : Fields) (raster : RasterRows) : Type 0 where

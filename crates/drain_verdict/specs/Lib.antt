@@ -1,9 +1,7 @@
 pub mod Answers
 pub mod AuditInputs
-pub mod AuditLines
 pub mod Audits
 pub mod Devices
-pub mod FillLines
 pub mod GridRows
 pub mod Headline
 pub mod HeldRows
@@ -11,7 +9,6 @@ pub mod InputReads
 pub mod InputRows
 pub mod Inputs
 pub mod Laws
-pub mod Lines
 pub mod ListedVoids
 pub mod Meaning
 pub mod Mosaics

@@ -10,8 +10,8 @@ use Rattle.drain_hgt.specs.declared.input.TileInput.{TileInput}
 use Rattle.drain_hgt.specs.Name.{Names}
 use Rattle.drain_hgt.specs.Inputs.{names_of}
 use Rattle.drain_mosaic.specs.Tiling.{Tiling, extent_of}
-use Rattle.drain_verdict.specs.declared.refusal.Refusal.{Refusal}
-use Rattle.drain_verdict.specs.declared.refusal.Refusal.TheVariants.{BadHeader, WrongShape, Misplaced, RasterShort, BadSinkLine, SinkNotData, OutOfMemory, ReadFailed}
+use Rattle.drain_answer.specs.declared.refusal.Refusal.{Refusal}
+use Rattle.drain_answer.specs.declared.refusal.Refusal.TheVariants.{BadHeader, WrongShape, Misplaced, RasterShort, BadSinkLine, SinkNotData, OutOfMemory, ReadFailed}
 use Rattle.drain_verdict.specs.Inputs.{Inputs, AreNames}
 use Rattle.drain_verdict.specs.Meaning.{tiling_of, grid_of}
 use Rattle.drain_verdict.specs.Refusals.{Stands, refusal_order}

@@ -6,8 +6,8 @@ use Rattle.drain_grid.specs.Size.{Extent}
 use Rattle.drain_grid.specs.OffData.{IsLeastLine, IsLeastOff}
 use Rattle.drain_verdict.specs.ListedVoids.{has_data_but}
 use Rattle.drain_verdict.specs.declared.sink_listing.SinkListing.{SinkListing}
-use Rattle.drain_verdict.specs.declared.refusal.Refusal.{Refusal}
-use Rattle.drain_verdict.specs.declared.refusal.Refusal.TheVariants.{BadSinkLine, SinkNotData}
+use Rattle.drain_answer.specs.declared.refusal.Refusal.{Refusal}
+use Rattle.drain_answer.specs.declared.refusal.Refusal.TheVariants.{BadSinkLine, SinkNotData}
 
 -- the first bad line, none where there is none
 abbrev pub IsBadLine : Result (List SinkLine) ℕ → Option ℕ → Type 0

@@ -18,7 +18,7 @@ use Rattle.drain_verdict.specs.InputReads.{InputsHaveRead, Reading, products_len
 use Rattle.drain_verdict.specs.HeldRows.{IsEven}
 use Rattle.drain_verdict.specs.Inputs.{Products}
 use Rattle.drain_verdict.specs.declared.input_rows.InputRows.{InputRows}
-use Rattle.drain_verdict.specs.declared.refusal.Refusal.{Refusal}
+use Rattle.drain_answer.specs.declared.refusal.Refusal.{Refusal}
 
 -- the rows of the mosaic, its first seam and its first tile of wrong length, and the rows of each product
 pub record ToGive : Type 0 where

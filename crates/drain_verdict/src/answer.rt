@@ -30,11 +30,11 @@ ghost use Rattle.drain_verdict.specs.Devices.{devices_of, RasterTakesAtMost, Bod
 use crate::headers::nodata_of;
 use crate::input_rows::InputRows;
 use crate::product_inputs::ProductInputs;
-use crate::refusal::Refusal;
 use crate::row_notes::RowVerdicts;
 use crate::row_verdict::verdict_by_rows;
 use crate::sink_listing::{SinkListing, sink_listing};
 use crate::sink_refusal::sink_refusal;
+use drain_answer::Refusal;
 use drain_device::ByteSource;
 use drain_grid::laws::found_off_data_is_right;
 use drain_grid::{OutOfMemory, PerProduct};

@@ -12,7 +12,7 @@ use crate::headers::read_headers;
 use crate::input::RasterInput;
 use crate::next_rows::read_raster;
 use crate::product_inputs::ProductInputs;
-use crate::refusal::Refusal;
+use drain_answer::Refusal;
 use drain_device::ByteSource;
 use drain_grid::{Held, OutOfMemory, PerProduct};
 use drain_header::Header;

@@ -26,12 +26,12 @@ ghost use Rattle.drain_verdict.specs.Stages.{IsLayoutOf};
 
 use crate::answer::answer_on;
 use crate::audit_products::AuditProducts;
-use crate::audit_verdict::{AuditVerdict, verdict_of_both};
 use crate::both_notes::BothNotes;
+use crate::both_verdict::verdict_of_both;
 use crate::layout::layout_of;
-use crate::refusal::Refusal;
 use crate::row_flows::first_endless;
 use crate::row_notes::RowVerdicts;
+use drain_answer::{AuditVerdict, Refusal};
 use drain_device::ByteSource;
 use drain_grid::laws::{correct_is_local, ranks_play_no_part, sound_from_correct};
 use drain_hgt::TileInput;

@@ -10,7 +10,7 @@ use crate::headers::read_headers;
 use crate::input::{Products, RasterInput};
 use crate::next_rows::read_rasters;
 use crate::product_inputs::ProductInputs;
-use crate::refusal::Refusal;
+use drain_answer::Refusal;
 use drain_device::ByteSource;
 use drain_grid::{Held, PerProduct};
 use drain_header::Header;

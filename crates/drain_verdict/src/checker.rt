@@ -16,7 +16,7 @@ ghost use Rattle.drain_verdict.specs.Headline.{AcceptedMeans, TilesAreOne, Eleva
 use crate::answer::answer_on;
 use crate::input::Products;
 use crate::layout::layout_of;
-use crate::refusal::Refusal;
+use drain_answer::Refusal;
 use drain_device::ByteSource;
 use drain_grid::laws::correct_from_rules;
 use drain_hgt::TileInput;

@@ -2,12 +2,12 @@
 
 ghost use Rattle.std.specs.Prelude.{◌≡◌, ℕ, List, length, Option, Some, None, OnOk, IfErr};
 ghost use Rattle.drain_rules.specs.RowNumbers.{RowNumbers, AreRowNumbers};
-ghost use Rattle.drain_verdict.specs.declared.refusal.Refusal.{Refusal};
+ghost use Rattle.drain_answer.specs.declared.refusal.Refusal.{Refusal};
 ghost use Rattle.drain_verdict.specs.GridRows.{IsNext, ReadsOn};
 ghost use Rattle.drain_verdict.specs.HeldRows.{numbers_of};
 
 use crate::held_row::HeldRow;
-use crate::refusal::Refusal;
+use drain_answer::Refusal;
 
 /// A reader of a grid's rows, the northernmost first, from tiles and products that are lent at each call.
 pub trait GridRows<T, P> {

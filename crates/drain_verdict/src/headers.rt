@@ -9,7 +9,7 @@ ghost use Rattle.drain_verdict.specs.Meaning.{nodata_in};
 ghost use Rattle.drain_verdict.specs.Stages.{IsHeaderFor, IsHeaderRefusal, AreHeadersOf, IsFirstRefusalOf};
 
 use crate::placing::is_placed;
-use crate::refusal::Refusal;
+use drain_answer::Refusal;
 use drain_grid::{Held, NoData, PerProduct, Product};
 use drain_header::{Header, parse_header};
 use drain_mosaic::Layout;

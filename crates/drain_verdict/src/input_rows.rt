@@ -10,7 +10,7 @@ use crate::grid_rows::GridRows;
 use crate::held_row::HeldRow;
 use crate::next_rows::read_mosaic;
 use crate::product_inputs::ProductInputs;
-use crate::refusal::Refusal;
+use drain_answer::Refusal;
 use drain_device::ByteSource;
 use drain_grid::{OutOfMemory, PerProduct};
 use drain_header::Header;

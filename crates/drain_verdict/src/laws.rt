@@ -2,17 +2,10 @@
 //!
 //! A law is a function with nothing to do: its contract is the law, and a caller that calls it has the law at hand.
 
-ghost use Rattle.std.specs.Prelude.{◌≡◌};
 ghost use Rattle.drain_verdict.specs.Laws.{InputsAreTold};
 
-use crate::line::LINE_LENGTH;
 use drain_device::ByteSource;
 use drain_hgt::laws::names_give_corners;
-
-/// The numeral of the constant: the longest line has fewer bytes. It is this project's own.
-pub fn constants()
-    ensures line_length { LINE_LENGTH ≡ 160 }
-{}
 
 /// What is handed in tells some inputs wherever its sources tell their bytes, whatever the names are: so what `check` promises of the inputs
 /// that are told is promised of each such call.

@@ -6,7 +6,7 @@ ghost use Rattle.drain_hgt.specs.Name.{Names};
 ghost use Rattle.drain_hgt.specs.Inputs.{names_of};
 ghost use Rattle.drain_verdict.specs.Stages.{IsLayoutOf, IsLayoutRefusal, IsNameRefusal, IsLayoutFaultAs};
 
-use crate::refusal::Refusal;
+use drain_answer::Refusal;
 use drain_grid::tile::is_side;
 use drain_hgt::{TileInput, TileName};
 use drain_mosaic::{Layout, LayoutFault};

@@ -10,7 +10,7 @@ ghost use Rattle.drain_verdict.specs.ListedVoids.{is_among, is_listed_void};
 use crate::grid_rows::GridRows;
 use crate::held_row::HeldRow;
 use crate::listed_voids::ListedVoids;
-use crate::refusal::Refusal;
+use drain_answer::Refusal;
 use drain_grid::{OutOfMemory, Sinks};
 use drain_rules::Ranks;
 

@@ -9,9 +9,9 @@ ghost use Rattle.drain_verdict.specs.Refusals.{IsOfBodies};
 ghost use Rattle.drain_verdict.specs.Mosaics.{TellTiles, IsMosaicOf, IsMosaicRefusal};
 
 use crate::layout::layout_of;
-use crate::refusal::Refusal;
 use crate::seams::elevation_of;
 use crate::tiles::read_tiles;
+use drain_answer::Refusal;
 use drain_device::ByteSource;
 use drain_grid::Elevation;
 use drain_hgt::TileInput;

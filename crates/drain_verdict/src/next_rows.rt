@@ -14,7 +14,7 @@ ghost use Rattle.drain_verdict.specs.InputReads.{IsOfReading, RasterHasRead, Ras
 ghost use Rattle.drain_verdict.specs.ToGive.{IsAfterTold, IsMosaicAfter, IsMosaicOneMore, IsOneMore, ToGive};
 
 use crate::input::Products;
-use crate::refusal::Refusal;
+use drain_answer::Refusal;
 use drain_device::{ByteSource, ReadFault, RowSource};
 use drain_grid::PerProduct;
 use drain_hgt::TileInput;

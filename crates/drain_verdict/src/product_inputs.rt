@@ -16,7 +16,7 @@ ghost use Rattle.drain_verdict.specs.Inputs.{Products};
 ghost use Rattle.drain_verdict.specs.Stages.{AreHeadersFor, IsFirstHeaderRefusal};
 ghost use Rattle.drain_verdict.specs.ToGive.{IsAfterTold, IsOneMore};
 
-use crate::refusal::Refusal;
+use drain_answer::Refusal;
 use drain_device::ByteSource;
 use drain_grid::{Held, PerProduct};
 use drain_header::Header;

@@ -11,15 +11,15 @@ ghost use Rattle.drain_verdict.specs.GridRows.{OfGrid, ReadsOn, IsRowsRefusal};
 ghost use Rattle.drain_verdict.specs.HeldRows.{HasItsLanes, numbers_of};
 ghost use Rattle.drain_verdict.specs.ListedVoids.{AreListedVoids};
 ghost use Rattle.drain_verdict.specs.NotedRows.{OfNotedRow};
-ghost use Rattle.drain_verdict.specs.declared.refusal.Refusal.{Refusal};
+ghost use Rattle.drain_answer.specs.declared.refusal.Refusal.{Refusal};
 
 use crate::grid_rows::GridRows;
 use crate::held_row::HeldRow;
 use crate::listed_voids::ListedVoids;
 use crate::marked_rows::read_marked;
-use crate::refusal::Refusal;
 use crate::row_notes::{RowNotes, RowVerdicts};
 use crate::window::Window;
+use drain_answer::Refusal;
 use drain_grid::{OutOfMemory, Shape, Sinks};
 use drain_rules::laws::three_rows_show_patches;
 use drain_rules::{Rules, ThreeRows, Verdict};

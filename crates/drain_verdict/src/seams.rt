@@ -5,7 +5,7 @@ ghost use Rattle.drain_mosaic.specs.Mosaic.{AreTiles};
 ghost use Rattle.drain_verdict.specs.Refusals.{IsOfBodies};
 ghost use Rattle.drain_verdict.specs.Stages.{IsElevationOf, IsSeamFaultAs, IsSeamRefusal};
 
-use crate::refusal::Refusal;
+use drain_answer::Refusal;
 use drain_grid::Elevation;
 use drain_mosaic::{Layout, SeamFault, join};
 use std::alloc::Global;

@@ -5,8 +5,8 @@ ghost use Rattle.drain_verdict.specs.Refusals.{IsOfBodies};
 ghost use Rattle.drain_verdict.specs.SinkListings.{IsToldOfSinks};
 
 use crate::listed_voids::ListedVoids;
-use crate::refusal::Refusal;
 use crate::sink_listing::SinkListing;
+use drain_answer::Refusal;
 use drain_grid::{Cell, Shape, SinkData, first_off_data};
 
 /// The first bad line; or else the first that lists a cell outside the grid, or one of these voids.

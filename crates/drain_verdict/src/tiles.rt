@@ -12,7 +12,7 @@ ghost use Rattle.drain_device.specs.FaultLists.{SomeReadFails};
 ghost use Rattle.drain_verdict.specs.Refusals.{IsOfBodies};
 ghost use Rattle.drain_verdict.specs.Stages.{AreSamplesOf, IsTileRefusal, IsOneTileRefusal};
 
-use crate::refusal::Refusal;
+use drain_answer::Refusal;
 use drain_device::{BodyFault, ByteSource, read_body};
 use drain_hgt::tile::tile_length;
 use drain_hgt::{TileFault, TileInput, TileName, read_tile};

@@ -11,8 +11,8 @@ ghost use Rattle.drain_verdict.specs.WholeRows.{AreOfShape, row_in};
 
 use crate::grid_rows::GridRows;
 use crate::held_row::HeldRow;
-use crate::refusal::Refusal;
 use crate::row_verdict::verdict_by_rows;
+use drain_answer::Refusal;
 use drain_grid::laws::correct_from_rules;
 use drain_grid::{Elevation, OutOfMemory, ProductSet, Shape, Sinks};
 use drain_rules::{GridWalk, Ranks, Rules, Verdict};

@@ -5,7 +5,7 @@ use drain_grid::{Cell, Product};
 use drain_header::Place;
 use drain_hgt::TileName;
 use drain_page::{Answer, Extent, Facts, NoData, RefusalNote, TileValue};
-use drain_verdict::Refusal;
+use drain_answer::Refusal;
 use std::alloc::Global;
 use std::test::Fail;
 

@@ -5,7 +5,7 @@ use drain_grid::Cell;
 use drain_page::{Answer, Facts};
 use drain_rules::Ranks;
 use drain_runs::{EndlessRun, LostBy};
-use drain_verdict::AuditVerdict;
+use drain_answer::AuditVerdict;
 use std::alloc::Global;
 use std::test::Fail;
 

@@ -9,7 +9,7 @@ use drain_faults::FaultyPatch;
 use drain_grid::{Cell, Patch, Rule};
 use drain_page::{Answer, Facts, Findings};
 use drain_rules::{Counts, Ranks, Verdict};
-use drain_verdict::{AuditVerdict, Refusal};
+use drain_answer::{AuditVerdict, Refusal};
 use std::test::Fail;
 
 /// The ground of four neighbours from the east on, whether each is a listed sink, and its numbers.

@@ -10,7 +10,7 @@ use drain_device::ByteSource;
 use drain_grid::Held;
 use drain_hgt::TileInput;
 use drain_verdict::Products;
-use drain_verdict::line::Line;
+use drain_answer::line::Line;
 use std::alloc::{AllocError, Global};
 use std::test::Fail;
 use worked_grids::{PIT_LINE, level, pit, slope, voids};

@@ -1,6 +1,6 @@
 //! The assertions of these tests, in functions: a proof of a call of one costs less than that of an assertion in place.
 
-use drain_verdict::line::Line;
+use drain_answer::line::Line;
 use std::fmt::Debug;
 use std::process::Abort;
 

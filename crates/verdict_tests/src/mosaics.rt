@@ -7,7 +7,7 @@ use drain_device::faults::Scripted;
 use drain_device::{ByteSource, DeviceFault};
 use drain_grid::{Cell, Elevation, VOID};
 use drain_hgt::TileInput;
-use drain_verdict::line::Line;
+use drain_answer::line::Line;
 use drain_verdict::{Refusal, read_mosaic, report};
 use std::alloc::Global;
 use std::process::Abort;

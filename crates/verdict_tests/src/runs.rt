@@ -6,7 +6,7 @@ use crate::inputs::{
 };
 use drain_device::ByteSource;
 use drain_hgt::TileInput;
-use drain_verdict::line::Line;
+use drain_answer::line::Line;
 use drain_verdict::{AuditProducts, Products, audit, audit_report, check, report};
 use std::alloc::{AllocError, Global};
 use std::test::Fail;

@@ -3,7 +3,7 @@
 use crate::agree::same_line;
 use crate::example::{Example, changed, one_tile};
 use crate::runs::{Asked, told, told_at_once};
-use drain_verdict::line::Line;
+use drain_answer::line::Line;
 use drain_verdict::{Refusal, report};
 use refused_memory::owed_unless_right;
 use std::alloc::Global;

@@ -1,5 +1,5 @@
 use Rattle.std.proofs.Common.{subst, sym}
-use Rattle.drain_verdict.specs.AuditLines.{audit_report_line}
+use Rattle.drain_answer.specs.AuditLines.{audit_report_line}
 use Rattle.drain_cli.specs.AuditRuns.{IsAuditOutcome}
 use Rattle.drain_cli.specs.ExplainRuns.{Tells}
 use Rattle.drain_cli.proofs.ExplainLemmas.{audit_outcome}

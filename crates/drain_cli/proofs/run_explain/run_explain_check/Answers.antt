@@ -1,5 +1,5 @@
 use Rattle.std.proofs.Common.{subst, sym}
-use Rattle.drain_verdict.specs.Lines.{report_line}
+use Rattle.drain_answer.specs.Lines.{report_line}
 use Rattle.drain_cli.specs.CheckRuns.{IsCheckOutcome}
 use Rattle.drain_cli.specs.ExplainRuns.{Tells}
 use Rattle.drain_cli.proofs.ExplainLemmas.{check_outcome}

@@ -9,7 +9,7 @@ use Rattle.drain_verdict.specs.Meaning.{grid_of, products_of}
 use Rattle.drain_grid.specs.declared.cell.Cell.{Cell}
 use Rattle.drain_runs.specs.declared.endless_run.EndlessRun.{EndlessRun}
 use Rattle.drain_verdict.specs.Audits.{IsAuditAnswer}
-use Rattle.drain_verdict.specs.declared.audit_verdict.AuditVerdict.{AuditVerdict}
+use Rattle.drain_answer.specs.declared.audit_verdict.AuditVerdict.{AuditVerdict}
 use Rattle.drain_explain.specs.Explanations.{IsEndlessOf}
 use Rattle.drain_verdict.proofs.AuditAnswers.{answer_certified}
 use Rattle.drain_verdict.proofs.AuditDevices.{four_none}

@@ -3,7 +3,7 @@ use Rattle.std.proofs.lemmas.Result.{err_from_is_err_and}
 use Rattle.drain_grid.specs.SinkTexts.{sinks_of}
 use Rattle.drain_verdict.specs.Meaning.{lines_in}
 use Rattle.drain_verdict.specs.SinkListings.{IsBadLine}
-use Rattle.drain_verdict.specs.declared.refusal.Refusal.TheVariants.{ReadFailed}
+use Rattle.drain_answer.specs.declared.refusal.Refusal.TheVariants.{ReadFailed}
 use Rattle.drain_verdict.specs.InputReads.{with_rasters}
 use Rattle.drain_verdict.proofs.Devices.{devices_none, tiles_take_none}
 use Rattle.drain_verdict.proofs.InputLemmas.{on-ok}

@@ -4,7 +4,7 @@ use Rattle.std.proofs.lemmas.Slice.Zip.{AllZip-long}
 use Rattle.drain_mosaic.specs.LayoutFaults.{IsLayout}
 use Rattle.drain_rules.specs.declared.verdict.Verdict.{Verdict}
 use Rattle.drain_verdict.specs.Refusals.{IsOfBodies}
-use Rattle.drain_verdict.specs.declared.refusal.Refusal.TheVariants.{ReadFailed}
+use Rattle.drain_answer.specs.declared.refusal.Refusal.TheVariants.{ReadFailed}
 use Rattle.drain_verdict.proofs.InputLemmas.{told-of}
 use Rattle.drain_verdict.specs.InputReads.{as_read, with_rasters}
 use Rattle.drain_verdict.proofs.RowCheck.{all_read, came, notes_hold, of_reading_answers, of_reading_bodies, refusal_answers, refused, sinks_answer, verdict_answers}

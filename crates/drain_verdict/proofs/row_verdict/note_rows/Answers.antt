@@ -4,7 +4,7 @@ use Rattle.drain_rules.specs.RowNumbers.{AreNumbersOf, AreRowNumbers}
 use Rattle.drain_verdict.specs.GridRows.{ReadsOn}
 use Rattle.drain_verdict.specs.HeldRows.{HasItsLanes, IsMarked, marked_of, numbers_of}
 use Rattle.drain_verdict.specs.ListedVoids.{AreVoidsBefore}
-use Rattle.drain_verdict.specs.declared.refusal.Refusal.{Refusal}
+use Rattle.drain_answer.specs.declared.refusal.Refusal.{Refusal}
 use Rattle.drain_verdict.proofs.InputLemmas.{told-of}
 use Rattle.drain_verdict.proofs.VoidRows.{voids-all, voids-more, voids-none}
 use Rattle.drain_verdict.proofs.WindowLemmas.{blank-whole, held-more, row-marked, window-shows}

@@ -1,6 +1,6 @@
 use Rattle.std.proofs.Common.{◌≡◌, ◌++◌, ◌∷◌, [], map, slice_index_or, Err, arith, refl, rules, ap, ◌∙◌}
 use Rattle.std.proofs.lemmas.List.{map-append}
-use Rattle.drain_verdict.specs.declared.refusal.Refusal.TheVariants.{OutOfMemory, ReadFailed}
+use Rattle.drain_answer.specs.declared.refusal.Refusal.TheVariants.{OutOfMemory, ReadFailed}
 use Rattle.drain_device.proofs.FaultLists.{SomeReadFails-iff}
 use Rattle.drain_verdict.proofs.TileLists.{so_far-none, so_far-more, so_far-stop, so_far-all}
 use Rattle.drain_verdict.proofs.tiles.read_tiles.Goals as goal

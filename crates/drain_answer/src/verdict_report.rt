@@ -1,7 +1,7 @@
 //! The line that tells a verdict.
 
 ghost use Rattle.std.specs.Prelude.{◌≡◌};
-ghost use Rattle.drain_verdict.specs.Lines.{verdict_line, accepted_line, rejected_line};
+ghost use Rattle.drain_answer.specs.Lines.{verdict_line, accepted_line, rejected_line};
 
 use crate::line::{Line, push_number, words};
 use drain_grid::Rule;

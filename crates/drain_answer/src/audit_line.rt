@@ -1,7 +1,7 @@
 //! The line that tells the answer of an audit.
 
 ghost use Rattle.std.specs.Prelude.{◌≡◌};
-ghost use Rattle.drain_verdict.specs.AuditLines.{audit_report_line, audit_line, no_end_line};
+ghost use Rattle.drain_answer.specs.AuditLines.{audit_report_line, audit_line, no_end_line};
 
 use crate::answer_report::refusal_line;
 use crate::audit_verdict::AuditVerdict;

@@ -5,7 +5,7 @@ use Rattle.drain_rules.specs.declared.fill_walk.FillVerdict.{FillVerdict}
 use Rattle.drain_rules.specs.declared.fill_walk.FillVerdict.TheVariants.{Accepted, Rejected}
 use Rattle.drain_rules.specs.declared.fill_walk.FillRefusal.{FillRefusal}
 use Rattle.drain_rules.specs.declared.fill_walk.FillRefusal.TheVariants.{BadSide, BadLength}
-use Rattle.drain_verdict.specs.Lines.{rejected_line}
+use Rattle.drain_answer.specs.Lines.{rejected_line}
 
 -- accepted rows=R cols=C data=D raised=U
 abbrev pub accepted_line : FillCounts → List ℕ

@@ -3,7 +3,7 @@
 ghost use Rattle.std.specs.Prelude.{◌≡◌, ◌++◌, ◌≤◌, length, codes, decimal};
 ghost use Rattle.drain_grid.specs.Product.{name_of as product_name};
 ghost use Rattle.drain_hgt.specs.Name.{name_of as tile_name};
-ghost use Rattle.drain_verdict.specs.Lines.{report_line, refusal_line};
+ghost use Rattle.drain_answer.specs.Lines.{report_line, refusal_line};
 
 use crate::line::{LINE_LENGTH, Line, push_number, words};
 use crate::refusal::Refusal;

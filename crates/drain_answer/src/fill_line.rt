@@ -1,7 +1,7 @@
 //! The line that tells the answer to a fill input.
 
 ghost use Rattle.std.specs.Prelude.{◌≡◌};
-ghost use Rattle.drain_verdict.specs.FillLines.{fill_line, accepted_line};
+ghost use Rattle.drain_answer.specs.FillLines.{fill_line, accepted_line};
 
 use crate::line::{Line, push_number, words};
 use crate::verdict_report::rejected;

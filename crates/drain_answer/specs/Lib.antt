@@ -1,0 +1,3 @@
+pub mod AuditLines
+pub mod FillLines
+pub mod Lines
