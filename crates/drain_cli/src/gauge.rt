@@ -7,8 +7,8 @@ use crate::print::print_line;
 use crate::row_ends::RowEnds;
 use crate::status::Status;
 use crate::telling::{Counted, row_line};
-use drain_device::{Writer, write_nothing};
 use drain_answer::line::{Line, words};
+use drain_device::{Writer, write_nothing};
 use std::cell::Cell;
 use std::time::Instant;
 

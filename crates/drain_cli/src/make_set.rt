@@ -11,12 +11,12 @@ ghost use Rattle.drain_cli.specs.SetRuns.{no_set_line, no_set_status};
 
 use crate::print::print_line;
 use crate::status::Status;
+use drain_answer::line::{Line, words};
 use drain_device::{ByteSink, ByteSource};
 use drain_grid::{ProductSet, SinkFault, parse_sinks};
 use drain_hgt::TileInput;
 use drain_maker::{MakeRefusal, make};
 use drain_mosaic::Layout;
-use drain_answer::line::{Line, words};
 use drain_verdict::{Refusal, Verdict, read_mosaic, report};
 use std::alloc::Global;
 

@@ -6,8 +6,8 @@ ghost use Rattle.drain_cli.specs.Printing.{Prints, PrintsText};
 
 use crate::status::Status;
 use arrayvec::ArrayString;
-use drain_device::{BodyFault, ByteSink, Patience, write_all};
 use drain_answer::line::{LINE_LENGTH, Line};
+use drain_device::{BodyFault, ByteSink, Patience, write_all};
 
 /// Prints the line and its line end, and answers the exit status: that of the run, or that of a failure
 /// where the sink gives up before the last byte.

@@ -8,11 +8,11 @@ ghost use Rattle.drain_cli.specs.Printing.{Prints};
 
 use crate::print::print_line;
 use crate::status::Status;
+use drain_answer::line::{Line, words};
 use drain_device::{BodyFault, ByteSink, ByteSource, read_body};
 use drain_grid::laws::least_from_rules;
 use drain_grid::tile::is_side;
 use drain_rules::fill_length;
-use drain_answer::line::{Line, words};
 use drain_verdict::{FillRefusal, FillVerdict, check_fill, fill_report};
 use std::alloc::Global;
 

@@ -8,9 +8,9 @@ ghost use Rattle.drain_cli.specs.Printing.{PrintsText};
 
 use crate::print::{print_failure, print_line, print_text};
 use crate::status::Status;
+use drain_answer::line::{Line, words};
 use drain_device::{BodyFault, ByteSink, ByteSource, read_body};
 use drain_header::{Header, HeaderFault, MAX_HEADER_BYTES, header_text, parse_header};
-use drain_answer::line::{Line, words};
 use std::alloc::Global;
 
 /// An answer, or why there is none.

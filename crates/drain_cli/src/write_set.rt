@@ -11,11 +11,11 @@ ghost use Rattle.drain_cli.specs.SetRuns.{written_line, written_status};
 
 use crate::print::print_line;
 use crate::status::Status;
+use drain_answer::line::{Line, push_number, words};
 use drain_device::ByteSink;
 use drain_grid::{ProductSet, Shape};
 use drain_maker::product_files::{SetFault, write_files};
 use drain_mosaic::Layout;
-use drain_answer::line::{Line, push_number, words};
 use std::alloc::Global;
 
 /// Writes header and raster of each product, in the order of `SET_FILES`, prints `made rows=R cols=C` and answers the exit status.

@@ -1,11 +1,11 @@
 //! What was expected and found for each refusal.
 
 use crate::worked::{json_has, text_has};
+use drain_answer::Refusal;
 use drain_grid::{Cell, Product};
 use drain_header::Place;
 use drain_hgt::TileName;
 use drain_page::{Answer, Extent, Facts, NoData, RefusalNote, TileValue};
-use drain_answer::Refusal;
 use std::alloc::Global;
 use std::test::Fail;
 

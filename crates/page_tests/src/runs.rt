@@ -1,11 +1,11 @@
 //! Runs without an end: rings and runs that lead nowhere.
 
 use crate::worked::{json_has, no_fault, text_has};
+use drain_answer::AuditVerdict;
 use drain_grid::Cell;
 use drain_page::{Answer, Facts};
 use drain_rules::Ranks;
 use drain_runs::{EndlessRun, LostBy};
-use drain_answer::AuditVerdict;
 use std::alloc::Global;
 use std::test::Fail;
 

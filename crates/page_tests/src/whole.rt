@@ -5,11 +5,11 @@ use crate::whole_pages::{JSON, TEXT};
 use crate::worked::{
     Numbers, cell, cells, json_of, no_cell, no_fault, product, rejected, text_is, void,
 };
+use drain_answer::{AuditVerdict, Refusal};
 use drain_faults::FaultyPatch;
 use drain_grid::{Cell, Patch, Rule};
 use drain_page::{Answer, Facts, Findings};
 use drain_rules::{Counts, Ranks, Verdict};
-use drain_answer::{AuditVerdict, Refusal};
 use std::test::Fail;
 
 /// The ground of four neighbours from the east on, whether each is a listed sink, and its numbers.

@@ -3,11 +3,11 @@
 use crate::agree::{same, same_line};
 use crate::example::{TileBytes, tile};
 use crate::inputs::{Faulty, Owner, slow_tiles, tiles_at_once};
+use drain_answer::line::Line;
 use drain_device::faults::Scripted;
 use drain_device::{ByteSource, DeviceFault};
 use drain_grid::{Cell, Elevation, VOID};
 use drain_hgt::TileInput;
-use drain_answer::line::Line;
 use drain_verdict::{Refusal, read_mosaic, report};
 use std::alloc::Global;
 use std::process::Abort;

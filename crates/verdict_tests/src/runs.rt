@@ -4,9 +4,9 @@ use crate::example::Example;
 use crate::inputs::{
     ConHeaded, Faulty, SlowExample, products_at_once, slow_products, slow_tiles, tiles_at_once,
 };
+use drain_answer::line::Line;
 use drain_device::ByteSource;
 use drain_hgt::TileInput;
-use drain_answer::line::Line;
 use drain_verdict::{AuditProducts, Products, audit, audit_report, check, report};
 use std::alloc::{AllocError, Global};
 use std::test::Fail;

@@ -3,8 +3,8 @@
 ghost use Rattle.std.specs.Prelude.{◌≡◌, IfOk};
 
 use crate::agree::same_line;
-use drain_grid::{Elevation, Held, PerProduct, ProductSet, Raster, Shape, Sinks};
 use drain_answer::line::Line;
+use drain_grid::{Elevation, Held, PerProduct, ProductSet, Raster, Shape, Sinks};
 use drain_verdict::{Refusal, report, verdict_row_by_row};
 use std::alloc::Global;
 use std::test::Fail;
