@@ -39,7 +39,7 @@ judge_folder() {
 # Ranks are asked for where a file of theirs is there.
 make_bare
 judge_explained 'a pit without ranks, explained' 0 "$pit_checked"
-grep -q 'nothing was asked of ranks' "$scratch/page" || echo 'nothing was said of ranks' >>"$scratch/err"
+grep -qx 'ranks: not checked' "$scratch/page" || echo 'the page does not say that ranks were not checked' >>"$scratch/err"
 judge 'a page without ranks tells so' 0 "$scratch/want" 0
 make_pit
 judge_explained 'a pit with ranks, explained' 0 "$pit_checked"

@@ -28,7 +28,7 @@ pub(crate) fn push_rules(text: &mut Vec<u8>, findings: &Findings) -> Result<(), 
     push(text, "not tried: 6 NoSpill, 7 SpillHeight, 8 SpillRank\n")?;
     match findings.rules.ranks {
         Ranks::Asked => Ok(()),
-        Ranks::Unasked => push(text, "nothing was asked of ranks\n"),
+        Ranks::Unasked => push(text, "ranks: not checked\n"),
     }
 }
 

@@ -1,17 +1,17 @@
-//! A run without an end, in words.
+//! A path without an end, in words.
 
 use crate::place_text::push_cell;
 use crate::writing::{push, push_long};
 use drain_grid::{Cell, OutOfMemory};
 use drain_runs::{EndlessRun, LostBy};
 
-/// Appends the cell where the run begins, and what it comes to.
+/// Appends the cell where the path begins, and where it leads.
 pub(crate) fn push_run(
     text: &mut Vec<u8>,
     cell: Cell,
     run: &EndlessRun,
 ) -> Result<(), OutOfMemory> {
-    push(text, "run without an end: from ")?;
+    push(text, "path without an end: from ")?;
     push_cell(text, cell)?;
     match run {
         EndlessRun::Ring { cells, length } => push_ring(text, cells, *length),
@@ -36,16 +36,16 @@ fn push_ring(text: &mut Vec<u8>, cells: &[Cell], length: usize) -> Result<(), Ou
     }
 }
 
-/// The cell from which it leads nowhere, and why.
+/// The cell where it stops, and why.
 fn push_lost(text: &mut Vec<u8>, cell: Cell, by: LostBy) -> Result<(), OutOfMemory> {
-    push(text, "\n  it leads nowhere from ")?;
+    push(text, "\n  path stops at ")?;
     push_cell(text, cell)?;
     push(
         text,
         match by {
-            LostBy::NoCode => ": its dir is no code\n",
-            LostBy::Outside => ": its dir leads outside the mosaic\n",
-            LostBy::Void => ": its dir leads to a void\n",
+            LostBy::NoCode => ": dir is no direction code\n",
+            LostBy::Outside => ": dir points outside the mosaic\n",
+            LostBy::Void => ": dir points to a void\n",
         },
     )
 }

@@ -32,7 +32,7 @@ static RINGS: [(&str, usize, &str); 2] = [
     (
         "two cells",
         2,
-        "asked of ranks\n\nrun without an end: from row 0, column 3 into a ring of 2 cells\n  row 1, column 1\n  row 1, column 2\n",
+        "ranks: not checked\n\npath without an end: from row 0, column 3 into a ring of 2 cells\n  row 1, column 1\n  row 1, column 2\n",
     ),
     (
         "three cells",
@@ -59,17 +59,17 @@ fn rings(rt: HostRuntime) -> Result<(), Fail> {
 static LOST: [(LostBy, &str, &str); 3] = [
     (
         LostBy::NoCode,
-        "  it leads nowhere from row 3, column 0: its dir is no code\n",
+        "  path stops at row 3, column 0: dir is no direction code\n",
         "no_code",
     ),
     (
         LostBy::Outside,
-        "  it leads nowhere from row 3, column 0: its dir leads outside the mosaic\n",
+        "  path stops at row 3, column 0: dir points outside the mosaic\n",
         "outside",
     ),
     (
         LostBy::Void,
-        "  it leads nowhere from row 3, column 0: its dir leads to a void\n",
+        "  path stops at row 3, column 0: dir points to a void\n",
         "void",
     ),
 ];

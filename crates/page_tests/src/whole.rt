@@ -80,7 +80,7 @@ static ACCEPTED: &str = "accepted rows=4 cols=4 data=15 raised=2 outlets=3
 
 hold: 1 VoidCell, 2 Missing, 3 BadCode, 4 BelowGround, 5 OpenRaised, 9 NotLeast, 10 Slope, 11 OutletCode, 12 FlatStep, 13 Accumulation, 14 Label, 15 SharedLabel
 not tried: 6 NoSpill, 7 SpillHeight, 8 SpillRank
-nothing was asked of ranks
+ranks: not checked
 ";
 
 #[test]
