@@ -1,6 +1,7 @@
 #!/usr/bin/env bash
-# Tests what users without the toolchain get: the tarball, the package, the static program, and that neither is made of a program that isn't the proved one.
-# Prints the tests that failed, and how many passed. What this machine can't do is left out, and named.
+# Tests what users without the toolchain get: the tarball, the package and the static program. None of them may be made
+# from a program that is not the proved one. Prints the tests that failed, and how many passed and failed. A test that this
+# machine can't run is left out, in a line that says so.
 # Usage: tests/shipping.sh BUILD_DIR    (drain and drain.proved, and drain.o for the static program)
 set -uo pipefail
 [ $# -eq 1 ] || {
@@ -14,7 +15,7 @@ trap 'rm -rf "$scratch"' EXIT
 passed=0
 failed=0
 
-# Counts one test: its name, and the command that has to succeed. What the command prints is shown where it fails.
+# Counts one test: its name, and the command that has to succeed. If it fails, the end of what it printed is shown.
 holds() {
     local name=$1
     shift
@@ -27,7 +28,7 @@ holds() {
     fi
 }
 
-# Whether a command ends with this status and prints this text, whatever else it prints; where the text is empty, whatever it prints.
+# Whether a command ends with this status and prints this text (or anything, if the text is empty).
 # Usage: ends STATUS TEXT COMMAND...
 ends() {
     local status=$1 text=$2 came=0
@@ -50,7 +51,7 @@ if [ -f "$build/drain.o" ] && command -v gcc >/dev/null; then
     static=$scratch/build/drain-static
     holds 'a static program is linked' "$top/tools/static_program.sh" "$drain" "$build/drain.o" "$static"
     holds 'and again' "$top/tools/static_program.sh" "$drain" "$build/drain.o" "$scratch/again"
-    holds 'the same bytes' cmp "$static" "$scratch/again"
+    for part in '' .o .linked; do holds "the same bytes: drain-static$part" cmp "$static$part" "$scratch/again$part"; done
     holds 'an object of another program is refused' \
         ends 1 'is not the object of' "$top/tools/static_program.sh" /bin/true "$build/drain.o" "$scratch/other"
     holds 'and nothing is linked' test ! -e "$scratch/other"
@@ -69,7 +70,8 @@ holds 'it is unpacked' tar -C "$scratch/unpacked" -xf "$scratch"/one/drain-*-lin
 release=$(echo "$scratch"/unpacked/drain-*-linux-x86_64)
 holds 'it is one folder' test -d "$release"
 holds 'SHA256SUMS fits' sh -c "cd '$release' && sha256sum --strict -c SHA256SUMS"
-holds 'SHA256SUMS has each other file' sh -c "cd '$release' && find . -type f ! -path ./SHA256SUMS -printf '%P\n' | LC_ALL=C sort | diff - <(sed 's/^[0-9a-f]*  //' SHA256SUMS)"
+(cd "$release" && find . -type f ! -path ./SHA256SUMS -printf '%P\n' | LC_ALL=C sort) >"$scratch/files"
+holds 'SHA256SUMS has each other file' diff "$scratch/files" <(sed 's/^[0-9a-f]*  //' "$release/SHA256SUMS")
 holds 'it has the proved program' cmp "$drain" "$release/bin/drain"
 holds 'PROVED begins with the record of the proof' diff "$drain.proved" <(head -n "$(wc -l <"$drain.proved")" "$release/PROVED")
 holds 'its demo runs by its program' sh -c "cd '$release' && tools/demo.sh bin/drain"
@@ -78,7 +80,7 @@ for file in README.md LICENSE docs/RELEASING.md samples/README.md samples/LICENS
     holds "it has $file" cmp "$top/$file" "$release/$file"
 done
 
-# The static program, in a root that holds nothing else but samples. Both programs get the same arguments, and have to answer the same.
+# The static program, in a root that holds only it and samples. Both programs get the same arguments, and have to answer the same.
 if [ "$static" != - ]; then
     holds 'the tarball has the static program' cmp "$static" "$release/bin/drain-static"
     holds 'its demo runs by the static program' sh -c "cd '$release' && tools/demo.sh bin/drain-static"

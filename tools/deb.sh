@@ -1,6 +1,7 @@
 #!/usr/bin/env bash
-# Packs the program for Debian and Ubuntu: FOLDER/drain_VERSION-1_amd64.deb. A program that wasn't proved and built of these sources is refused. The same inputs
-# give the same bytes. The package isn't for Debian's own archive: that builds from source, and has no Rattle toolchain.
+# Packs the program for Debian and Ubuntu: FOLDER/drain_VERSION-1_amd64.deb. Refuses a program that was not proved and
+# built from these sources. The same inputs give the same bytes. The package is not for Debian's own archive: that builds
+# from source, and has no Rattle toolchain.
 # Usage: tools/deb.sh PROGRAM FOLDER
 #     DEBFULLNAME, DEBEMAIL    name and address of who makes the package
 #     SOURCE_DATE_EPOCH        the time of the packed files, in seconds since 1970; else that of the last commit
@@ -18,8 +19,8 @@ for tool in dpkg-deb objdump; do
 done
 take_program "$program"
 
-# A package has to name who made it. The repository gives no address, so without DEBFULLNAME and DEBEMAIL this one is put there: example.org is reserved
-# for examples and gets no mail. There is no Homepage field, as the repository gives no page.
+# A package names who made it. The repository gives no address. Without DEBFULLNAME and DEBEMAIL a placeholder is put there:
+# example.org is reserved for examples, and is no real address. There is no Homepage field, as the repository gives no page.
 maintainer="${DEBFULLNAME:-The authors of drain} <${DEBEMAIL:-drain@example.org}>"
 
 root=$room/root

@@ -1,7 +1,8 @@
 #!/usr/bin/env bash
-# Packs a release for users without the toolchain: FOLDER/drain-VERSION-linux-x86_64.tar.xz, and its sum beside it. It holds the program, the static
-# program, the man page, documents, samples, the demo, PROVED (what the programs were made from) and SHA256SUMS. A program that wasn't proved and built of
-# these sources is refused. The same inputs give the same bytes.
+# Packs a release for users without the toolchain: FOLDER/drain-VERSION-linux-x86_64.tar.xz, and its sum beside it.
+# It holds the program, the static program, the man page, documents, samples, the demo, PROVED (what the programs were
+# made from) and SHA256SUMS. Refuses a program that was not proved and built from these sources.
+# The same inputs give the same bytes.
 # Usage: tools/dist.sh PROGRAM STATIC FOLDER
 #     STATIC               what tools/static_program.sh linked, or - for a release without it
 #     SOURCE_DATE_EPOCH    the time of the packed files, in seconds since 1970; else that of the last commit
@@ -30,8 +31,10 @@ if [ "$static" != - ]; then
         [ -f "$file" ] || refuse "$file is not there: tools/static_program.sh makes it"
     done
     install -m 755 "$static" "$root/bin/drain-static"
-    [ "$(value_of program "$static.linked")" = "$(sum_of "$room/drain")" ] || refuse "$static was not linked from the object of $1: run tools/static_program.sh"
-    [ "$(value_of static "$static.linked")" = "$(sum_of "$root/bin/drain-static")" ] || refuse "$static is not what tools/static_program.sh linked"
+    [ "$(value_of program "$static.linked")" = "$(sum_of "$room/drain")" ] ||
+        refuse "$static was not linked from the object of $1: run tools/static_program.sh"
+    [ "$(value_of static "$static.linked")" = "$(sum_of "$root/bin/drain-static")" ] ||
+        refuse "$static is not what tools/static_program.sh linked"
     grep -v '^program ' "$static.linked" >>"$root/PROVED"
     install -D -m 644 "$static.o" "$root/share/relink/drain-static.o"
     cat >"$root/share/relink/README" <<'TEXT'
@@ -43,7 +46,8 @@ TEXT
 fi
 
 (cd "$root" && find . -type f -printf '%P\0' | sort -z | xargs -0 sha256sum >"$room/SHA256SUMS" && mv "$room/SHA256SUMS" .)
-tar -C "$room" --format=gnu --sort=name --owner=0 --group=0 --numeric-owner --mtime="@$when" -cf - "$name" | xz -9e -T1 >"$room/$name.tar.xz"
+tar -C "$room" --format=gnu --sort=name --owner=0 --group=0 --numeric-owner --mtime="@$when" -cf - "$name" |
+    xz -9e -T1 >"$room/$name.tar.xz"
 (cd "$room" && sha256sum "$name.tar.xz" >"$name.tar.xz.sha256")
 put "$room/$name.tar.xz" "$folder"
 put "$room/$name.tar.xz.sha256" "$folder"
