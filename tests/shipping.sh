@@ -50,11 +50,11 @@ static=-
 if [ -f "$build/drain.o" ] && command -v gcc >/dev/null; then
     static=$scratch/build/drain-static
     holds 'a static program is linked' "$top/tools/static_program.sh" "$drain" "$build/drain.o" "$static"
-    holds 'and again' "$top/tools/static_program.sh" "$drain" "$build/drain.o" "$scratch/again"
+    holds 'a static program is linked again' "$top/tools/static_program.sh" "$drain" "$build/drain.o" "$scratch/again"
     for part in '' .o .linked; do holds "the same bytes: drain-static$part" cmp "$static$part" "$scratch/again$part"; done
     holds 'an object of another program is refused' \
         ends 1 'is not the object of' "$top/tools/static_program.sh" /bin/true "$build/drain.o" "$scratch/other"
-    holds 'and nothing is linked' test ! -e "$scratch/other"
+    holds 'an object of another program: nothing is linked' test ! -e "$scratch/other"
 else
     echo "the static program isn't tried: there is no drain.o or no gcc"
 fi
@@ -62,31 +62,33 @@ fi
 # The tarball.
 holds 'a tarball is made' "$top/tools/dist.sh" "$drain" $static "$scratch/one"
 sleep 1
-holds 'and again' otherwise "$top/tools/dist.sh" "$drain" $static "$scratch/two"
-holds 'the same bytes' diff -r "$scratch/one" "$scratch/two"
-holds 'its sum fits' sh -c "cd '$scratch/one' && sha256sum -c *.sha256"
+holds 'a tarball is made again' otherwise "$top/tools/dist.sh" "$drain" $static "$scratch/two"
+holds 'tarballs: the same bytes' diff -r "$scratch/one" "$scratch/two"
+holds 'tarball: its sum fits' sh -c "cd '$scratch/one' && sha256sum -c *.sha256"
 mkdir "$scratch/unpacked"
-holds 'it is unpacked' tar -C "$scratch/unpacked" -xf "$scratch"/one/drain-*-linux-x86_64.tar.xz
+holds 'tarball: it is unpacked' tar -C "$scratch/unpacked" -xf "$scratch"/one/drain-*-linux-x86_64.tar.xz
 release=$(echo "$scratch"/unpacked/drain-*-linux-x86_64)
-holds 'it is one folder' test -d "$release"
-holds 'SHA256SUMS fits' sh -c "cd '$release' && sha256sum --strict -c SHA256SUMS"
+holds 'tarball: it is one folder' test -d "$release"
+holds 'tarball: SHA256SUMS fits' sh -c "cd '$release' && sha256sum --strict -c SHA256SUMS"
 (cd "$release" && find . -type f ! -path ./SHA256SUMS -printf '%P\n' | LC_ALL=C sort) >"$scratch/files"
-holds 'SHA256SUMS has each other file' diff "$scratch/files" <(sed 's/^[0-9a-f]*  //' "$release/SHA256SUMS")
-holds 'it has the proved program' cmp "$drain" "$release/bin/drain"
-holds 'PROVED begins with the record of the proof' diff "$drain.proved" <(head -n "$(wc -l <"$drain.proved")" "$release/PROVED")
-holds 'its demo runs by its program' sh -c "cd '$release' && tools/demo.sh bin/drain"
-holds 'its man page has the commands' grep -q '^.SH "DRAIN AUDIT"' "$release/share/man/man1/drain.1"
+holds 'tarball: SHA256SUMS has each other file' diff "$scratch/files" <(sed 's/^[0-9a-f]*  //' "$release/SHA256SUMS")
+tar -tvf "$scratch"/one/*.tar.xz --full-time | awk '{ print $2, $4, $5 }' | sort -u >"$scratch/times"
+holds 'tarball: its files have one owner and one time' test "$(wc -l <"$scratch/times")" = 1
+holds 'tarball: it has the proved program' cmp "$drain" "$release/bin/drain"
+holds 'tarball: PROVED begins with the record of the proof' diff "$drain.proved" <(head -n "$(wc -l <"$drain.proved")" "$release/PROVED")
+holds 'tarball: its demo runs' sh -c "cd '$release' && tools/demo.sh"
+holds 'tarball: its man page has the commands' grep -q '^.SH "DRAIN AUDIT"' "$release/share/man/man1/drain.1"
 for file in README.md LICENSE docs/RELEASING.md samples/README.md samples/LICENSE-matplotlib.txt; do
-    holds "it has $file" cmp "$top/$file" "$release/$file"
+    holds "tarball: it has $file" cmp "$top/$file" "$release/$file"
 done
 
 # The static program, in a root that holds only it and samples. Both programs get the same arguments, and have to answer the same.
 if [ "$static" != - ]; then
     holds 'the tarball has the static program' cmp "$static" "$release/bin/drain-static"
-    holds 'its demo runs by the static program' sh -c "cd '$release' && tools/demo.sh bin/drain-static"
+    holds 'tarball: its demo runs by the static program' sh -c "cd '$release' && tools/demo.sh bin/drain-static"
     holds "PROVED has the static program's sum" grep -qx "static   $(sha256sum <"$static" | cut -d ' ' -f 1)" "$release/PROVED"
-    holds 'it is linked again from the object in the tarball' gcc -static -o "$scratch/relinked" "$release/share/relink/drain-static.o"
-    holds 'the same bytes' cmp "$static" "$scratch/relinked"
+    holds 'tarball: its object is linked again' gcc -static -o "$scratch/relinked" "$release/share/relink/drain-static.o"
+    holds 'tarball: its object gives the static program' cmp "$static" "$scratch/relinked"
     root=$scratch/root
     mkdir -p "$root/made" "$scratch/plain/made"
     cp -r "$top/samples" "$root/"
@@ -132,33 +134,35 @@ fi
 if command -v dpkg-deb >/dev/null; then
     holds 'a package is made' "$top/tools/deb.sh" "$drain" "$scratch/deb"
     sleep 1
-    holds 'and again' otherwise "$top/tools/deb.sh" "$drain" "$scratch/deb2"
-    holds 'the same bytes' diff -r "$scratch/deb" "$scratch/deb2"
+    holds 'a package is made again' otherwise "$top/tools/deb.sh" "$drain" "$scratch/deb2"
+    holds 'packages: the same bytes' diff -r "$scratch/deb" "$scratch/deb2"
     deb=$(echo "$scratch"/deb/drain_*-1_amd64.deb)
+    dpkg-deb --fsys-tarfile "$deb" | tar -tvf - --full-time | awk '{ print $2, $4, $5 }' | sort -u >"$scratch/times"
+    holds 'package: its files have one owner and one time' test "$(wc -l <"$scratch/times")" = 1
     there=$scratch/installed
     mkdir -p "$there/var/lib/dpkg/info" "$there/var/lib/dpkg/updates"
     : >"$there/var/lib/dpkg/status"
     if [ "$(id -u)" = 0 ]; then
         # The root has no C library, so its dependency is passed over.
-        holds 'it is installed' dpkg --root="$there" --force-depends --install "$deb"
-        holds 'its files have the sums of its list' ends 0 '' dpkg --root="$there" --verify drain
-        holds 'and none differs' test ! -s "$scratch/printed"
+        holds 'package: it is installed' dpkg --root="$there" --force-depends --install "$deb"
+        holds 'package: its sums are looked at' ends 0 '' dpkg --root="$there" --verify drain
+        holds 'package: no sum differs' test ! -s "$scratch/printed"
     else
         echo "the package is unpacked, not installed: only root installs"
-        holds 'it is unpacked' dpkg-deb -x "$deb" "$there"
+        holds 'package: it is unpacked' dpkg-deb -x "$deb" "$there"
     fi
-    holds 'it has the proved program' cmp "$drain" "$there/usr/bin/drain"
-    holds 'its program runs' "$there/usr/bin/drain" --version
-    holds 'its doc folder has the record of the proof' cmp "$drain.proved" "$there/usr/share/doc/drain/PROVED"
-    holds 'its demo runs' sh -c "cd '$there/usr/share/doc/drain/examples' && tools/demo.sh '$there/usr/bin/drain'"
-    holds 'its man page has the commands' sh -c "gzip -dc '$there/usr/share/man/man1/drain.1.gz' | grep -q '^.SH \"DRAIN AUDIT\"'"
+    holds 'package: it has the proved program' cmp "$drain" "$there/usr/bin/drain"
+    holds 'package: its program runs' "$there/usr/bin/drain" --version
+    holds 'package: its doc folder has the record of the proof' cmp "$drain.proved" "$there/usr/share/doc/drain/PROVED"
+    holds 'package: its demo runs' sh -c "cd '$there/usr/share/doc/drain/examples' && tools/demo.sh '$there/usr/bin/drain'"
+    holds 'package: its man page has the commands' sh -c "gzip -dc '$there/usr/share/man/man1/drain.1.gz' | grep -q '^.SH \"DRAIN AUDIT\"'"
     if [ "$(id -u)" = 0 ]; then
-        holds 'it is removed' dpkg --root="$there" --remove drain
-        holds 'no file of it is left' test -z "$(find "$there" -type f -not -path '*/var/*')"
+        holds 'package: it is removed' dpkg --root="$there" --remove drain
+        holds 'package: no file of it is left' test -z "$(find "$there" -type f -not -path '*/var/*')"
     fi
     if command -v lintian >/dev/null; then
-        holds 'lintian has nothing to say' ends 0 '' lintian --allow-root --display-info --fail-on error,warning,info "$deb"
-        holds 'not even a hint' test -z "$(grep -v '^running with root' "$scratch/printed")"
+        holds 'package: lintian ends well' ends 0 '' lintian --allow-root --display-info --fail-on error,warning,info "$deb"
+        holds 'package: lintian has no hint' test -z "$(grep -v '^running with root' "$scratch/printed")"
     else
         echo "the package isn't looked at by lintian: it isn't installed"
     fi
@@ -194,7 +198,7 @@ if [ "$static" != - ]; then
     sed -i 's/^program .*/program  0/' "$scratch/changed/drain-static.linked"
     holds 'a static program of another program: no tarball' \
         ends 1 'was not linked from the object of' "$top/tools/dist.sh" "$drain" "$scratch/changed/drain-static" "$scratch/refused"
-    holds 'nothing is written' is_empty "$scratch/refused"
+    holds 'a wrong static program: nothing is written' is_empty "$scratch/refused"
 fi
 
 # A comparison with PROVED. Nothing is proved here: in the copy a stand-in takes the place of the prover, and gives the program of BUILD_DIR.
@@ -211,13 +215,13 @@ program_line="program  $(printf '0%.0s' {1..64})"
 holds 'PROVED of this program' ends 0 'the same bytes: ' "$copy/tools/same.sh" "$release/PROVED"
 sed "s/^program .*/$program_line/" "$drain.proved" >"$scratch/PROVED"
 holds 'PROVED of another program' ends 1 'not the same' "$copy/tools/same.sh" "$scratch/PROVED"
-holds 'it has the sum of PROVED' grep -q '0000000' "$scratch/printed"
-holds 'and that of the program' grep -q "$(sha256sum <"$drain" | cut -d ' ' -f 1)" "$scratch/printed"
+holds 'PROVED of another program: its sum is shown' grep -q '0000000' "$scratch/printed"
+holds 'PROVED of another program: the built sum is shown' grep -q "$(sha256sum <"$drain" | cut -d ' ' -f 1)" "$scratch/printed"
 echo '// a changed source' >>"$copy/crates/drain_grid/src/lib.rt"
 holds 'PROVED of other sources' ends 1 'other sources: ' "$copy/tools/same.sh" "$drain.proved"
 holds 'no PROVED' ends 2 'is not there' "$copy/tools/same.sh" "$scratch/nothing"
 holds 'a file that is no PROVED' ends 2 "has no line 'sources'" "$copy/tools/same.sh" "$top/README.md"
-holds 'no argument' ends 2 'usage: ' "$copy/tools/same.sh" ''
+holds 'PROVED is not named' ends 2 'usage: ' "$copy/tools/same.sh" ''
 
 echo "$passed passed, $failed failed"
 [ "$failed" -eq 0 ]
