@@ -1,11 +1,13 @@
 #!/usr/bin/env bash
 # Runs the commands of demo.txt on the bundled samples, and shows each with its answer. Ends with 1 where an answer differs from the file's.
-# With a program, that one runs. Without, the sources run as they are, unproved, by the toolchain's checked runner: it builds them first.
+# With a program, that one runs; without, in an unpacked release bin/drain. Elsewhere the sources run as they are, unproved, by the toolchain's checked
+# runner: it builds them first.
 # Usage: tools/demo.sh [PROGRAM]
 set -euo pipefail
 here=$(cd "$(dirname "$0")" && pwd)
 top=$(dirname "$here")
 program=${1:+$(realpath "$1")}
+[ -n "$program" ] || [ ! -x "$top/bin/drain" ] || program=$top/bin/drain
 scratch=$(mktemp -d)
 trap 'rm -rf "$scratch"' EXIT
 mkdir "$scratch/work" "$scratch/cases"

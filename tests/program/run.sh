@@ -84,10 +84,14 @@ add_runs "$here/cut_inputs.py" "$drain"
 add_runs "$here/random_audits.py" "$drain"
 add_runs "$here/explain.py" "$drain"
 
-# Calls of the program are made to fail by a library that is loaded before the C library's, so it wants a compiler of C.
+# Calls of the program are made to fail by a library that is loaded before the C library's, so this needs a C compiler. A static
+# program loads no library.
+is_static() { ! LC_ALL=C readelf -lW "$drain" | grep -qw INTERP; }
 compiler=$(dirname "$(readlink -f "$(command -v rt)")")/../toolchain/bin/clang
 [ -x "$compiler" ] || compiler=$(command -v cc)
-if [ -n "$compiler" ]; then
+if command -v readelf >/dev/null && is_static; then
+    echo "a static program, which reads no LD_PRELOAD: none of its calls is made to fail (tests/program/faults.py is left out)"
+elif [ -n "$compiler" ]; then
     "$compiler" -O2 -Wall -shared -fPIC -nostdlib -o "$scratch/fail_calls.so" "$here/../fail_calls.c" || exit 1
     add_runs "$here/faults.py" "$drain" "$scratch/fail_calls.so"
 else

@@ -1,0 +1,227 @@
+#!/usr/bin/env bash
+# Tests what users without the toolchain get: the tarball, the package and the static program. None of them may be made
+# from a program that is not the proved one. Prints the tests that failed, and how many passed and failed. A test that this
+# machine can't run is left out, in a line that says so.
+# Usage: tests/shipping.sh BUILD_DIR    (drain and drain.proved, and drain.o for the static program)
+set -uo pipefail
+[ $# -eq 1 ] || {
+    echo 'usage: tests/shipping.sh BUILD_DIR' >&2
+    exit 2
+}
+build=$(realpath "$1")
+top=$(cd "$(dirname "$0")/.." && pwd)
+scratch=$(mktemp -d)
+trap 'rm -rf "$scratch"' EXIT
+passed=0
+failed=0
+
+# Counts one test: its name, and the command that has to succeed. If it fails, the end of what it printed is shown.
+holds() {
+    local name=$1
+    shift
+    if "$@" >"$scratch/said" 2>&1 </dev/null; then
+        passed=$((passed + 1))
+    else
+        failed=$((failed + 1))
+        echo "FAILED $name"
+        tail -n 20 "$scratch/said"
+    fi
+}
+
+# Whether a command ends with this status and prints this text (or anything, if the text is empty).
+# Usage: ends STATUS TEXT COMMAND...
+ends() {
+    local status=$1 text=$2 came=0
+    shift 2
+    "$@" >"$scratch/printed" 2>&1 || came=$?
+    cat "$scratch/printed"
+    [ "$came" = "$status" ] && { [ -z "$text" ] || grep -qF -- "$text" "$scratch/printed"; }
+}
+is_empty() { [ ! -e "$1" ] || [ -z "$(ls -A "$1")" ]; }
+
+# Runs a command with other settings of the user, none of which may change what is packed.
+otherwise() { (umask 077 && env LANG=de_DE.UTF-8 TZ=Asia/Tokyo XZ_OPT=-0 TAR_OPTIONS=--numeric-owner GZIP=-1 "$@"); }
+
+# The program and its record, in a folder of their own, so that nothing is left in BUILD_DIR.
+mkdir "$scratch/build"
+cp "$build/drain" "$build/drain.proved" "$scratch/build/"
+drain=$scratch/build/drain
+static=-
+if [ -f "$build/drain.o" ] && command -v gcc >/dev/null; then
+    static=$scratch/build/drain-static
+    holds 'a static program is linked' "$top/tools/static_program.sh" "$drain" "$build/drain.o" "$static"
+    holds 'a static program is linked again' "$top/tools/static_program.sh" "$drain" "$build/drain.o" "$scratch/again"
+    for part in '' .o .linked; do holds "the same bytes: drain-static$part" cmp "$static$part" "$scratch/again$part"; done
+    holds 'an object of another program is refused' \
+        ends 1 'is not the object of' "$top/tools/static_program.sh" /bin/true "$build/drain.o" "$scratch/other"
+    holds 'an object of another program: nothing is linked' test ! -e "$scratch/other"
+else
+    echo "the static program isn't tried: there is no drain.o or no gcc"
+fi
+
+# The tarball.
+holds 'a tarball is made' "$top/tools/dist.sh" "$drain" $static "$scratch/one"
+sleep 1
+holds 'a tarball is made again' otherwise "$top/tools/dist.sh" "$drain" $static "$scratch/two"
+holds 'tarballs: the same bytes' diff -r "$scratch/one" "$scratch/two"
+holds 'tarball: its sum fits' sh -c "cd '$scratch/one' && sha256sum -c *.sha256"
+mkdir "$scratch/unpacked"
+holds 'tarball: it is unpacked' tar -C "$scratch/unpacked" -xf "$scratch"/one/drain-*-linux-x86_64.tar.xz
+release=$(echo "$scratch"/unpacked/drain-*-linux-x86_64)
+holds 'tarball: it is one folder' test -d "$release"
+holds 'tarball: SHA256SUMS fits' sh -c "cd '$release' && sha256sum --strict -c SHA256SUMS"
+(cd "$release" && find . -type f ! -path ./SHA256SUMS -printf '%P\n' | LC_ALL=C sort) >"$scratch/files"
+holds 'tarball: SHA256SUMS has each other file' diff "$scratch/files" <(sed 's/^[0-9a-f]*  //' "$release/SHA256SUMS")
+tar -tvf "$scratch"/one/*.tar.xz --full-time | awk '{ print $2, $4, $5 }' | sort -u >"$scratch/times"
+holds 'tarball: its files have one owner and one time' test "$(wc -l <"$scratch/times")" = 1
+holds 'tarball: it has the proved program' cmp "$drain" "$release/bin/drain"
+holds 'tarball: PROVED begins with the record of the proof' diff "$drain.proved" <(head -n "$(wc -l <"$drain.proved")" "$release/PROVED")
+holds 'tarball: its demo runs' sh -c "cd '$release' && tools/demo.sh"
+holds 'tarball: its man page has the commands' grep -q '^.SH "DRAIN AUDIT"' "$release/share/man/man1/drain.1"
+for file in README.md LICENSE docs/RELEASING.md samples/README.md samples/LICENSE-matplotlib.txt; do
+    holds "tarball: it has $file" cmp "$top/$file" "$release/$file"
+done
+
+# The static program, in a root that holds only it and samples. Both programs get the same arguments, and have to answer the same.
+if [ "$static" != - ]; then
+    holds 'the tarball has the static program' cmp "$static" "$release/bin/drain-static"
+    holds 'tarball: its demo runs by the static program' sh -c "cd '$release' && tools/demo.sh bin/drain-static"
+    holds "PROVED has the static program's sum" grep -qx "static   $(sha256sum <"$static" | cut -d ' ' -f 1)" "$release/PROVED"
+    holds 'tarball: its object is linked again' gcc -static -o "$scratch/relinked" "$release/share/relink/drain-static.o"
+    holds 'tarball: its object gives the static program' cmp "$static" "$scratch/relinked"
+    root=$scratch/root
+    mkdir -p "$root/made" "$scratch/plain/made"
+    cp -r "$top/samples" "$root/"
+    cp -r "$top/samples" "$scratch/plain/"
+    cp "$static" "$root/drain"
+    if [ "$(id -u)" = 0 ] && chroot "$root" /drain --version >/dev/null 2>&1; then
+        by_static() { env -i "$(command -v chroot)" "$root" /drain "$@"; }
+    else
+        echo "the static program isn't run in an empty root, but beside the C library: only root changes the root"
+        by_static() { (cd "$root" && env -i ./drain "$@"); }
+    fi
+    by_plain() { (cd "$scratch/plain" && "$drain" "$@"); }
+    # Usage: answers_the_same INPUT ARGUMENT...
+    answers_the_same() {
+        local input=$1 plain=0 other=0
+        shift
+        by_plain "$@" <"$input" >"$scratch/plain.out" 2>"$scratch/plain.err" || plain=$?
+        by_static "$@" <"$input" >"$scratch/static.out" 2>"$scratch/static.err" || other=$?
+        echo "status $plain, by the static program $other"
+        [ "$plain" = "$other" ] && diff "$scratch/plain.out" "$scratch/static.out" && diff "$scratch/plain.err" "$scratch/static.err"
+    }
+    tile=samples/other-tools/N36W085.hgt
+    for set in "$top"/samples/other-tools/*/; do
+        set=samples/other-tools/$(basename "$set")
+        holds "static: audit of $set" answers_the_same /dev/null audit --side 51 --products "$set" $tile
+        holds "static: explain $set" answers_the_same /dev/null explain --side 51 --products "$set" $tile
+        holds "static: explain $set as JSON" answers_the_same /dev/null explain --json --side 51 --products "$set" $tile
+    done
+    holds 'static: check' answers_the_same /dev/null check --side 121 --products samples/jacksboro samples/jacksboro/N36W085.hgt
+    holds 'static: fill' answers_the_same "$top/samples/jacksboro-121.fill" fill --side 121
+    for header in "$top"/samples/headers/*.hdr; do
+        holds "static: header $(basename "$header")" answers_the_same /dev/null header "samples/headers/$(basename "$header")"
+    done
+    holds 'static: make' answers_the_same /dev/null make --side 344 --out made samples/N36W085.hgt
+    holds 'static: the files that it makes' diff -r "$root/made" "$scratch/plain/made"
+    holds 'static: version' answers_the_same /dev/null --version
+    holds 'static: help' answers_the_same /dev/null --help
+    holds 'static: no arguments' answers_the_same /dev/null
+    holds 'static: a file that is not there' answers_the_same /dev/null audit --side 51 --products samples $tile
+fi
+
+# The package.
+if command -v dpkg-deb >/dev/null; then
+    holds 'a package is made' "$top/tools/deb.sh" "$drain" "$scratch/deb"
+    sleep 1
+    holds 'a package is made again' otherwise "$top/tools/deb.sh" "$drain" "$scratch/deb2"
+    holds 'packages: the same bytes' diff -r "$scratch/deb" "$scratch/deb2"
+    deb=$(echo "$scratch"/deb/drain_*-1_amd64.deb)
+    dpkg-deb --fsys-tarfile "$deb" | tar -tvf - --full-time | awk '{ print $2, $4, $5 }' | sort -u >"$scratch/times"
+    holds 'package: its files have one owner and one time' test "$(wc -l <"$scratch/times")" = 1
+    there=$scratch/installed
+    mkdir -p "$there/var/lib/dpkg/info" "$there/var/lib/dpkg/updates"
+    : >"$there/var/lib/dpkg/status"
+    if [ "$(id -u)" = 0 ]; then
+        # The root has no C library, so its dependency is passed over.
+        holds 'package: it is installed' dpkg --root="$there" --force-depends --install "$deb"
+        holds 'package: its sums are looked at' ends 0 '' dpkg --root="$there" --verify drain
+        holds 'package: no sum differs' test ! -s "$scratch/printed"
+    else
+        echo "the package is unpacked, not installed: only root installs"
+        holds 'package: it is unpacked' dpkg-deb -x "$deb" "$there"
+    fi
+    holds 'package: it has the proved program' cmp "$drain" "$there/usr/bin/drain"
+    holds 'package: its program runs' "$there/usr/bin/drain" --version
+    holds 'package: its doc folder has the record of the proof' cmp "$drain.proved" "$there/usr/share/doc/drain/PROVED"
+    holds 'package: its demo runs' sh -c "cd '$there/usr/share/doc/drain/examples' && tools/demo.sh '$there/usr/bin/drain'"
+    holds 'package: its man page has the commands' sh -c "gzip -dc '$there/usr/share/man/man1/drain.1.gz' | grep -q '^.SH \"DRAIN AUDIT\"'"
+    if [ "$(id -u)" = 0 ]; then
+        holds 'package: it is removed' dpkg --root="$there" --remove drain
+        holds 'package: no file of it is left' test -z "$(find "$there" -type f -not -path '*/var/*')"
+    fi
+    if command -v lintian >/dev/null; then
+        holds 'package: lintian ends well' ends 0 '' lintian --allow-root --display-info --fail-on error,warning,info "$deb"
+        holds 'package: lintian has no hint' test -z "$(grep -v '^running with root' "$scratch/printed")"
+    else
+        echo "the package isn't looked at by lintian: it isn't installed"
+    fi
+else
+    echo "the package isn't tried: there is no dpkg-deb"
+fi
+
+# A program that isn't the proved one: a byte changed, another record, none.
+mkdir "$scratch/changed"
+cp "$drain" "$drain.proved" "$scratch/changed/"
+size=$(stat -c %s "$drain")
+byte=$(od -An -tu1 -j $((size / 2)) -N 1 "$drain")
+printf "\\x$(printf '%02x' $((byte ^ 1)))" | dd of="$scratch/changed/drain" bs=1 seek=$((size / 2)) conv=notrunc status=none
+refused() {
+    local name=$1 program=$2
+    holds "$name: no tarball" ends 1 "$program" "$top/tools/dist.sh" "$program" - "$scratch/refused"
+    holds "$name: no package" ends 1 "$program" "$top/tools/deb.sh" "$program" "$scratch/refused"
+    holds "$name: nothing is written" is_empty "$scratch/refused"
+}
+refused 'a changed byte of the program' "$scratch/changed/drain"
+cp "$drain" "$scratch/changed/drain"
+sed -i 's/^sources .*/sources  0000000000000000000000000000000000000000000000000000000000000000/' "$scratch/changed/drain.proved"
+refused 'a record of other sources' "$scratch/changed/drain"
+rm "$scratch/changed/drain.proved"
+refused 'no record' "$scratch/changed/drain"
+rm "$scratch/changed/drain"
+refused 'no program' "$scratch/changed/drain"
+if [ "$static" != - ]; then
+    for part in drain-static drain-static.o drain-static.linked; do cp "$scratch/build/$part" "$scratch/changed/"; done
+    echo >>"$scratch/changed/drain-static"
+    holds 'a changed byte of the static program: no tarball' \
+        ends 1 'is not what tools/static_program.sh linked' "$top/tools/dist.sh" "$drain" "$scratch/changed/drain-static" "$scratch/refused"
+    sed -i 's/^program .*/program  0/' "$scratch/changed/drain-static.linked"
+    holds 'a static program of another program: no tarball' \
+        ends 1 'was not linked from the object of' "$top/tools/dist.sh" "$drain" "$scratch/changed/drain-static" "$scratch/refused"
+    holds 'a wrong static program: nothing is written' is_empty "$scratch/refused"
+fi
+
+# A comparison with PROVED. Nothing is proved here: in the copy a stand-in takes the place of the prover, and gives the program of BUILD_DIR.
+copy=$scratch/copy
+mkdir -p "$copy"
+cp -r "$top/tools" "$copy/"
+(cd "$top" && find crates.txt HANDLES crates/*/src crates/*/specs crates/*/proofs -type f -print0 | xargs -0 cp --parents -t "$copy")
+cat >"$copy/tools/build_program.py" <<PY
+#!/bin/sh
+# A stand-in: build_program.py --anew drain TARGET
+[ "\$1 \$2" = '--anew drain' ] && cp '$drain' "\$3" && cp '$drain.proved' "\$3.proved"
+PY
+program_line="program  $(printf '0%.0s' {1..64})"
+holds 'PROVED of this program' ends 0 'the same bytes: ' "$copy/tools/same.sh" "$release/PROVED"
+sed "s/^program .*/$program_line/" "$drain.proved" >"$scratch/PROVED"
+holds 'PROVED of another program' ends 1 'not the same' "$copy/tools/same.sh" "$scratch/PROVED"
+holds 'PROVED of another program: its sum is shown' grep -q '0000000' "$scratch/printed"
+holds 'PROVED of another program: the built sum is shown' grep -q "$(sha256sum <"$drain" | cut -d ' ' -f 1)" "$scratch/printed"
+echo '// a changed source' >>"$copy/crates/drain_grid/src/lib.rt"
+holds 'PROVED of other sources' ends 1 'other sources: ' "$copy/tools/same.sh" "$drain.proved"
+holds 'no PROVED' ends 2 'is not there' "$copy/tools/same.sh" "$scratch/nothing"
+holds 'a file that is no PROVED' ends 2 "has no line 'sources'" "$copy/tools/same.sh" "$top/README.md"
+holds 'PROVED is not named' ends 2 'usage: ' "$copy/tools/same.sh" ''
+
+echo "$passed passed, $failed failed"
+[ "$failed" -eq 0 ]

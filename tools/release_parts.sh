@@ -1,0 +1,58 @@
+# What a tarball and a package have in common; tools/dist.sh and tools/deb.sh read this file. They set top, the repository, before.
+
+# The same inputs give the same bytes, so the user's settings play no part.
+export LC_ALL=C TZ=UTC
+unset TAR_OPTIONS XZ_OPT XZ_DEFAULTS GZIP
+umask 022
+room=$(mktemp -d)
+trap 'rm -rf "$room"' EXIT
+
+refuse() {
+    echo "$1" >&2
+    exit 1
+}
+
+sum_of() { sha256sum <"$1" | cut -d ' ' -f 1; }
+
+# Prints the value of a key in a file of lines 'KEY  VALUE'.
+value_of() { awk -v key="$1" '$1 == key { sub(/^[^ ]+ +/, ""); print }' "$2"; }
+
+# Takes a program that was proved and built of the sources as they are: $room/drain, with its record in $room/PROVED. Sets version and when.
+take_program() {
+    "$top/tools/is_proved.sh" "$1" || exit 1
+    install -m 755 "$1" "$room/drain"
+    install -m 644 "$1.proved" "$room/PROVED"
+    [ "$(sum_of "$room/drain")" = "$(value_of program "$room/PROVED")" ] || refuse "$1 changed while it was copied"
+    version=$("$room/drain" --version | awk 'NR == 1 { print $2 }')
+    [[ $version =~ ^[0-9]+(\.[0-9]+)*$ ]] || refuse "$1 names no version: its --version begins with no line 'drain NUMBERS'"
+    when=${SOURCE_DATE_EPOCH:-$(git -C "$top" log -1 --format=%ct 2>/dev/null || true)}
+    [[ $when =~ ^[0-9]+$ ]] || refuse 'no time for the files: outside a git checkout set SOURCE_DATE_EPOCH to seconds since 1970'
+    export SOURCE_DATE_EPOCH=$when
+    case $(value_of commit "$room/PROVED") in
+        *-changed) echo "note: the sources differed from their commit when they were proved, and PROVED says so" >&2 ;;
+    esac
+}
+
+# Copies files and folders of the repository, in a checkout those that git has. One that isn't there is left out.
+# Usage: copy_files TO PATH...
+copy_files() {
+    local to=$1 path there=()
+    shift
+    for path in "$@"; do [ ! -e "$top/$path" ] || there+=("$path"); done
+    mkdir -p "$to"
+    if git -C "$top" ls-files --error-unmatch crates.txt >/dev/null 2>&1; then
+        git -C "$top" ls-files -z -- "${there[@]}"
+    else
+        (cd "$top" && find "${there[@]}" -type f -print0)
+    fi >"$room/list"
+    tar -C "$top" --null -T "$room/list" -cf - | tar -C "$to" --no-same-owner -xf -
+    chmod -R u=rwX,go=rX "$to"
+}
+
+# Puts a file that is whole into the folder where it belongs.
+# Usage: put FILE FOLDER
+put() {
+    mkdir -p "$2"
+    cp "$1" "$2/.$(basename "$1").new"
+    mv "$2/.$(basename "$1").new" "$2/$(basename "$1")"
+}

@@ -1,0 +1,49 @@
+#!/usr/bin/env bash
+# Proves and builds the program from nothing, and compares it with the one that a PROVED file names. Ends with 0 where it is the same, to the byte; with 1
+# where it isn't, or where the file is of other sources than those here.
+# Usage: tools/same.sh PROVED    (of a release or package, or build/drain.proved)
+set -euo pipefail
+[ $# -eq 1 ] && [ -n "$1" ] || {
+    echo 'usage: tools/same.sh PROVED, or make same FILE=PROVED' >&2
+    exit 2
+}
+proved=$1
+top=$(cd "$(dirname "$0")/.." && pwd)
+scratch=$(mktemp -d)
+trap 'rm -rf "$scratch"' EXIT
+
+# Prints the value of a key in a file of lines 'KEY  VALUE'.
+value_of() { awk -v key="$1" '$1 == key { sub(/^[^ ]+ +/, ""); print }' "$2"; }
+
+[ -f "$proved" ] || {
+    echo "$proved is not there" >&2
+    exit 2
+}
+sources=$(value_of sources "$proved")
+sum=$(value_of program "$proved")
+[[ $sources =~ ^[0-9a-f]{64}$ && $sum =~ ^[0-9a-f]{64}$ ]] || {
+    echo "$proved has no line 'sources' or no line 'program' with a sum" >&2
+    exit 2
+}
+
+other_sources() {
+    echo "other sources: $proved has $sources, of commit $(value_of commit "$proved"); here are $1" >&2
+    exit 1
+}
+here=$("$top/tools/sources_sum.sh")
+[ "$here" = "$sources" ] || other_sources "$here"
+
+# Nothing is taken that an earlier proof kept on this machine.
+"$top/tools/build_program.py" --anew drain "$scratch/drain"
+here=$(value_of sources "$scratch/drain.proved")
+[ "$here" = "$sources" ] || other_sources "$here"
+
+built=$(sha256sum <"$scratch/drain" | cut -d ' ' -f 1)
+if [ "$built" = "$sum" ]; then
+    echo "the same bytes: $sum"
+    exit 0
+fi
+echo 'not the same'
+echo "$proved: $sum, by $(value_of kit "$proved")"
+echo "built here: $built, by $(value_of kit "$scratch/drain.proved")"
+exit 1
