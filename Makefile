@@ -1,6 +1,9 @@
 # make           proves what the program needs, and builds it to build/drain
 # make demo      shows it on the bundled samples, in two minutes; without a proved program it runs the sources unproved
 # make install   puts it and its man page below PREFIX (/usr/local; DESTDIR goes in front)
+# make dist      packs a release for users without the toolchain into build/release (docs/RELEASING.md)
+# make deb       packs a .deb there
+# make same      proves and builds from nothing, and compares with FILE=PROVED of a release
 # make test      passes everything: every proof and test, the edits of the gate, then the program's own tests
 # make edits     tries all edits, those that the gate leaves out too; CRATES=".." names the crates (all of them)
 # make bench     measures it beside its twins in plain Rust (docs/BENCH.md)
@@ -16,7 +19,7 @@ build/drain build/benches: FORCE
 build/drain.1: build/drain tools/man_page.py
 	@tools/man_page.py build/drain >$@
 
-.PHONY: FORCE demo install test edits bench clean
+.PHONY: FORCE demo install dist deb same test edits bench clean
 
 demo:
 	@tools/run_demo.sh build/drain
@@ -24,6 +27,16 @@ demo:
 install: build/drain build/drain.1
 	install -D -m 755 build/drain "$(DESTDIR)$(PREFIX)/bin/drain"
 	install -D -m 644 build/drain.1 "$(DESTDIR)$(PREFIX)/share/man/man1/drain.1"
+
+dist: build/drain
+	@tools/static_program.sh build/drain build/drain.o build/drain-static
+	@tools/dist.sh build/drain build/drain-static build/release
+
+deb: build/drain
+	@tools/deb.sh build/drain build/release
+
+same:
+	@tools/same.sh "$(FILE)"
 
 edits:
 	tools/try_edits.sh $(CRATES)

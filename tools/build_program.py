@@ -157,6 +157,13 @@ def prove_below(crate: str, uses: dict[str, list[str]], folder: Path, progress: 
             progress.show()
 
 
+def keep_object(made: Path, kept: Path) -> None:
+    """Keeps the object that the program was linked from, where it was compiled in this run: the static program is linked from it too."""
+    kept.unlink(missing_ok=True)
+    if made.is_file():
+        shutil.copy(made, kept)
+
+
 def build(crate: str, target: Path, anew: bool) -> None:
     """Proves and builds the program, and writes it and the record of its proof, where both are whole."""
     uses = with_all_below(crate, read_crates(TOP / "crates.txt"))
@@ -180,6 +187,7 @@ def build(crate: str, target: Path, anew: bool) -> None:
         new = target.with_name(f"{target.name}.new")
         shutil.copy(folder / "crates" / crate / "out" / crate, new)
         target.with_name(f"{target.name}.proved").unlink(missing_ok=True)
+        keep_object(folder / "crates" / crate / "out" / f"{crate}.o", target.with_name(f"{target.name}.o"))
         new.replace(target)
         subprocess.run([TOP / "tools/record_proof.sh", target, proved_sum], check=True)
     print(f"Proved and built in {progress.seconds()} seconds: {os.path.relpath(target, TOP)}")

@@ -24,10 +24,14 @@ time rt ci
 }
 for program in drain benches; do
     cp "crates/$program/out/$program" "build/$program"
+    # The object is there where the program was compiled in this run.
+    rm -f "build/$program.o"
+    [ ! -f "crates/$program/out/$program.o" ] || cp "crates/$program/out/$program.o" "build/$program.o"
     tools/record_proof.sh "build/$program" "$sources"
 done
 time tools/try_named_edits.py
 time tests/first_run.sh build/drain
+time tests/shipping.sh build
 time tests/program/run.sh build/drain build/benches
 time tests/refused_memory.sh byte_tests cell_tests rules_tests page_tests verdict_tests maker_tests cli_tests
 time tests/wrong_makers.sh
