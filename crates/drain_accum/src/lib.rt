@@ -1,10 +1,12 @@
 //! The rule of the accumulation at a cell: Accumulation.
 //!
-//! A cell's accumulation is 1, for itself, and what the data neighbours whose direction names it hand on. It is a crate of
+//! A cell's accumulation is 1, for the cell, plus that of each data neighbour whose direction names it. It is a crate
+//! of
 //! its own because no other rule adds numbers up. One call looks at one cell and takes no memory.
 //!
-//! Source: flow accumulation over D8 directions (O'Callaghan and Mark 1984), the cell itself counted; that voids and the
-//! outside hand on nothing, whatever their pixels say, is this project's own.
+//! Source: flow accumulation over D8 directions (O'Callaghan and Mark 1984), the cell itself counted; that voids and
+//! the
+//! outside pass on nothing, whatever their pixels are, is this project's own.
 #![tactic(auto)]
 
 ghost use Rattle.std.specs.Prelude.{◌≡◌, ◌≤ℤ◌, ◌&&◌, is_some, ◌+ℤ◌, ◌-ℤ◌, drop, map, neg_ℤ, pos};
@@ -16,7 +18,7 @@ ghost use Rattle.drain_grid.specs.Values.{IsPixel};
 
 use drain_grid::{CellValues, Direction, Patch, Rule};
 
-/// The rule, where it fails at the cell, none where it holds. A void keeps it.
+/// The rule, if it fails at the cell, none if it holds. A void keeps it.
 pub fn fault(patch: &Patch) -> Option<Rule>
     ensures least { IsLeastFault (IsOnly Rule.Accumulation) (flow_rules patch.now) result }
 {
@@ -27,7 +29,7 @@ pub fn fault(patch: &Patch) -> Option<Rule>
     }
 }
 
-/// What the neighbours hand on, added up from the last direction to the first.
+/// What the neighbours pass on, added up from the last direction to the first.
 fn inflows(patch: &Patch) -> i64
     ensures sum { result ≡ total (map (λ d. inflow (neighbor patch.now d) d) directions) }
     ensures low { neg_ℤ (pos 17179869184) ≤ℤ result }
@@ -52,7 +54,7 @@ fn last_inflows(patch: &Patch) -> i64
     with_inflow(patch, Direction::West, sum)
 }
 
-/// The sum so far, with what the neighbour in this direction hands on.
+/// The sum so far, with what the neighbour in this direction passes on.
 fn with_inflow(patch: &Patch, direction: Direction, sum: i64) -> i64
     requires low { neg_ℤ (pos 34359738368) ≤ℤ sum }
     requires high { sum ≤ℤ pos 34359738368 }
@@ -63,7 +65,7 @@ fn with_inflow(patch: &Patch, direction: Direction, sum: i64) -> i64
     inflow(patch, direction) + sum
 }
 
-/// What the neighbour in this direction hands on: its accumulation, where its direction leads back here.
+/// What the neighbour in this direction passes on: its accumulation, if its direction leads back here.
 fn inflow(patch: &Patch, direction: Direction) -> i64
     ensures handed_on { result ≡ inflow (neighbor patch.now direction) direction }
     ensures pixel { IsPixel result }

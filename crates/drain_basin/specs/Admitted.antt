@@ -3,7 +3,7 @@ use Rattle.std.specs.Prelude.{◌≡◌, ℕ, ℤ, ◌/◌, ◌%◌, List, nat_e
 use Rattle.std.specs.Int.{bit_at, cast_unsigned, w64}
 use Rattle.std.specs.Map.{lookup}
 
--- the word of a block, which has a bit for each of its labels; 0 where none of them was admitted
+-- the word of a block, which has a bit for each of its labels; 0 if none of them was admitted
 abbrev pub word : List (ℕ × ℕ) → ℕ → ℕ
 word blocks block = unwrap_or (lookup (nat_eq block) blocks) 0
 

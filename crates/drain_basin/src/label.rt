@@ -6,7 +6,7 @@ ghost use Rattle.drain_grid.specs.Rule.{IsOnly, IsLeastFault};
 
 use drain_grid::{CellValues, Patch, Rule};
 
-/// The rule Label, where it fails at the cell, none where it holds. A void keeps it.
+/// The rule Label, if it fails at the cell, none if it holds. A void keeps it.
 pub fn fault(patch: &Patch) -> Option<Rule>
     ensures least { IsLeastFault (IsOnly Rule.Label) (flow_rules patch.now) result }
 {

@@ -8,15 +8,17 @@ use std::alloc::Global;
 use std::collections::BTreeMap;
 use std::marker::Model;
 
-/// A set of labels. Contracts ask by `IsAdmitted` whether a label was admitted.
+/// A set of labels. In contracts `IsAdmitted` says whether a label was admitted.
 ///
-/// Labels that lie side by side share a word, since makers number outlets one after the other, or by their cells. The words
-/// stand in a tree, so that no choice of labels makes a call slower than the logarithm of how many there are, and they are short,
-/// since a node of a tree can be half empty: where there are many labels, each takes at most 28 bytes.
+/// Neighbouring labels share a word, since makers number outlets one after the other, or by their cells. The words are
+/// in
+/// a tree, so for any labels a call takes logarithmic time, and they are short, since a node of a tree can be half
+/// empty:
+/// with many labels, each takes at most 28 bytes.
 #[derive(Drop)]
 pub struct OutletLabels {
-    /// For each block of 16 labels, a word with a bit for each of them: 1 where it was admitted. A block of which none was
-    /// admitted has no word.
+    /// For each block of 16 labels, a word with a bit for each of them: 1 if it was admitted. A block without admitted
+    /// labels has no word.
     blocks: BTreeMap<u64, u16>,
 }
 
@@ -38,14 +40,14 @@ impl OutletLabels {
         }
     }
 
-    /// Admits a label: true where it is new, and false where it was admitted before, which never wants memory.
+    /// Admits a label: true if it is new, and false if it was admitted before, which never runs out of memory.
     pub fn admit(&mut self, label: i64) -> Result<bool, OutOfMemory>
         ensures new { IfOk result (λ is_new. IsTrue is_new ↔ ¬ IsAdmitted self.old label) }
         ensures known { IfOk result (λ is_new. ¬ IsTrue is_new → IsAdmitted self.old label) }
         ensures kept { OnOk result ((other : ℤ) →
             IsAdmitted self.new other ↔ ((other ≡ label) ⊎ IsAdmitted self.old other)) }
 
-        // Only a new label can want memory, and then nothing is changed.
+        // Only a new label can run out of memory, and then nothing is changed.
         ensures known_wants_none { IsAdmitted self.old label → IsOk result }
         ensures err { OnErr result (self.new ≡ self.old) }
     {

@@ -1,4 +1,4 @@
--- How the faults of many devices hang together with whether a read of them failed: none was called, one device, and one part after another.
+-- How the faults of many devices decide whether a read failed: no call, one device, and one part after another.
 use Rattle.std.proofs.Common.{◌↔◌, ℕ, zero, suc, ◌⊎◌, inl, inr, List, Option, Some, None, [], ◌∷◌, ◌++◌, arith, refl}
 use Rattle.std.specs.List.{Any}
 use Rattle.drain_device.specs.declared.counts.FaultCounts.{FaultCounts}
@@ -68,7 +68,7 @@ answered-then (a ∷ xs) [] us vs fs gs first more = absurd first
 answered-then (a ∷ xs) (b ∷ ys) us vs [] gs first more = absurd first
 answered-then (a ∷ xs) (b ∷ ys) us vs (f ∷ fs) gs first more = (first.0, answered-then xs ys us vs fs gs first.1 more)
 
--- the same said otherwise
+-- the same with an equivalent condition
 pub SomeReadFails-iff : {old new : List FaultCounts} {F G : Type 0} → F ↔ G → SomeReadFails old new F → SomeReadFails old new G
 SomeReadFails-iff same reads = record {
   faults = reads.faults;

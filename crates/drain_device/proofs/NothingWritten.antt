@@ -16,7 +16,7 @@ pub no_stall : (so_far n : ℕ) → stalls_after so_far (Ok n) [] ≡ so_far
 no_stall so_far zero = refl
 no_stall so_far (suc n) = refl
 
--- interruptions that are borne are no reason to give up
+-- interruptions within the patience don't make a call fail for good
 pub goes_on : (patience interruptions : ℕ) → interruptions ≤ patience → ¬ GivesUpWriting patience 0 interruptions 0
 goes_on patience interruptions borne (inl failed) = omega arith
 goes_on patience interruptions borne (inr (inl out)) = omega arith

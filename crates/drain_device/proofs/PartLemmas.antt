@@ -34,7 +34,7 @@ pub comes-both : (a b c : Option (List ℕ)) (xs ys : List ℕ) (m n : ℕ) → 
     (length (xs ++ ys) ≡ m + n) × Consumes a c (xs ++ ys)
 comes-both a b c xs ys m n is took is_then then = (omega (arith, length-append xs ys), Consumes-trans a b c xs ys took then)
 
--- a row that didn't come, for want of one of its parts
+-- a row that didn't come, because one of its parts didn't
 pub row-fails : (numbers : List ℕ → List ℤ) (n : ℕ) (old new : Option (List ℕ)) (fault : ReadFault) (out : List ℤ) (bytes : List ℕ) → PartComes n old new (Err fault) bytes →
     out ≡ [] → RowComes numbers n old new (Err fault) out bytes
 row-fails numbers n old new WrongLength out bytes came empty = (came, empty)

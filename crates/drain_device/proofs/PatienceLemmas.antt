@@ -1,15 +1,15 @@
--- What a call that gives up says of the patience that it began with.
+-- What a call that fails for good says of the patience that it began with.
 use Rattle.std.proofs.Common.{◌≡◌, ℕ, ◌+◌, ◌-◌, ◌<◌, ◌≤◌, inl, inr, arith}
 use Rattle.drain_device.specs.Patience.{GivesUp}
 
--- a call that doesn't give up met no failure, and no more interruptions than are borne
+-- a call that doesn't fail for good met no failure, and no more interruptions than its patience
 pub bears : (patience failures interruptions : ℕ) → (GivesUp patience failures interruptions → ⊥) → (failures ≡ 0) × (interruptions ≤ patience)
 bears patience failures interruptions goes_on =
     let fails : 0 < failures → ⊥ = λ h. goes_on (inl h) in
     let runs_out : patience < interruptions → ⊥ = λ h. goes_on (inr h) in
     (omega arith, omega arith)
 
--- giving up with the patience that is left is giving up with all of it and the interruptions before
+-- failing for good with the patience left is failing for good with all of it and the interruptions before
 pub gives_up-left : (full left failures interruptions : ℕ) → left ≤ full → GivesUp left failures interruptions → GivesUp full failures (full - left + interruptions)
 gives_up-left full left failures interruptions within (inl failed) = inl failed
 gives_up-left full left failures interruptions within (inr ran_out) = inr (omega arith)

@@ -11,7 +11,7 @@ use Rattle.drain_device.specs.ComingRows.{Coming}
 use Rattle.drain_device.specs.ComingRows.Coming.{Next, Wrong}
 use Rattle.drain_device.specs.RowSteps.{Gives, Steps, ReadsWithin}
 
--- a step on the bytes taken and whatever stands behind them
+-- a step on the bytes taken, whatever follows them
 gives-part : (before after : List ℕ → Coming) (old new : Option (List ℕ)) (answer : Result RowStep ReadFault) (out : List ℤ) (bytes : List ℕ) →
     Consumes old new bytes → ((rest : List ℕ) → Steps (before (bytes ++ rest)) answer out (after rest)) → Gives before after old new answer out
 gives-part before after None new answer out bytes took each = tt
@@ -28,7 +28,7 @@ gives-all before after (Some xs) (Some ys) answer out bytes took end step =
     let whole : xs ≡ bytes = took ∙ ap (λ (zs : List ℕ). bytes ++ zs) end ∙ append-nil bytes in
     subst (λ (zs : List ℕ). Steps (before zs) answer out (after ys)) (sym whole) (subst (λ (zs : List ℕ). Steps (before bytes) answer out (after zs)) (sym end) step)
 
--- a fault of the device or of memory says nothing of what is to come, where the device goes on telling its bytes
+-- a fault of the device or of memory says nothing of what is to come, if the device still gives its bytes
 gives-fault : (before after : List ℕ → Coming) (old new : Option (List ℕ)) (fault : ReadFault) (out : List ℤ) (n : ℕ) → TakesAtMost n old new →
     ((fault ≡ ReadFailed → ⊥) → fault ≡ OutOfMemory) → Gives before after old new (Err fault) out
 gives-fault before after None new fault out n took only = tt
@@ -65,7 +65,7 @@ within-row numbers n before after old new (Err ReadFailed) out bytes came fits =
 within-row numbers n before after old new (Err OutOfMemory) out bytes came fits = (came.0.0, came.0.1, omega (arith, came.0.2))
 within-row numbers n before after old new (Err AlreadyFailed) out bytes came fits = absurd came
 
--- the end that was looked for and wasn't found
+-- the end was expected and bytes are left
 pub gives-no_end : (before after : List ℕ → Coming) (old new : Option (List ℕ)) (fault : ReadFault) (out : List ℤ) → EndComes old new (Err fault) →
     ((xs rest : List ℕ) → length xs ≡ 1 → before (xs ++ rest) ≡ Wrong) → ((xs : List ℕ) → after xs ≡ Wrong) → Gives before after old new (Err fault) out
 gives-no_end before after old new WrongLength out came longer stopped =

@@ -13,7 +13,7 @@ ends_wrong (Next row after) = ends_wrong after
 ends_wrong End = false
 ends_wrong Wrong = true
 
--- what is to come after so many rows
+-- what is to come after n rows
 abbrev pub after_rows : ℕ → Coming → Coming
 after_rows zero coming = coming
 after_rows (suc n) (Next row after) = after_rows n after
@@ -29,7 +29,7 @@ nth_row (suc n) (Next row after) = nth_row n after
 nth_row (suc n) End = []
 nth_row (suc n) Wrong = []
 
--- so many rows came, then this one, and this is left to come
+-- n rows came, then this one, and this is left to come
 pub record IsNthRow (start : Coming) (n : ℕ) (row : List ℤ) (left : Coming) : Type 0 where
   pub row_is : row ≡ nth_row n start
   pub left_is : left ≡ after_rows (n + 1) start

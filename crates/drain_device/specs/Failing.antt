@@ -1,5 +1,4 @@
--- When a call that reads or writes to the end fails: what the device's counts show, for calls that bear interruptions with a patience of
--- their own.
+-- When a call that reads or writes to the end fails, by the device's counts, for calls with a patience of their own.
 use Rattle.std.specs.Prelude.{◌≡◌, ℕ, ◌↔◌}
 use Rattle.drain_device.specs.declared.counts.FaultCounts.{FaultCounts}
 use Rattle.drain_device.specs.Counts.{Answered, counted}
@@ -12,7 +11,7 @@ pub record ReadFails (old new : FaultCounts) (Fails : Type 0) : Type 0 where
   pub answered : Answered old new failures interruptions
   pub exactly : Fails ↔ GivesUp full_patience failures interruptions
 
--- between these counts the write failed exactly where the sink failed, was interrupted for the 1,000th time, or took no byte of some
+-- between these counts the write failed exactly if the sink failed, stalled, or was interrupted for the 1,000th time
 pub record WriteFails (counts_old counts_new : FaultCounts) (stalls_old stalls_new : ℕ) (Fails : Type 0) : Type 0 where
   pub failures : ℕ
   pub interruptions : ℕ

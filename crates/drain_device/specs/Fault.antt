@@ -11,6 +11,6 @@ abbrev pub fault_of_kind : ErrorKind → DeviceFault
 fault_of_kind kind.Interrupted = Interrupted
 fault_of_kind _ = Failed
 
--- the fault that an error of std stands for
+-- the fault for an error of std
 abbrev pub fault_of : Error → DeviceFault
 fault_of error = fault_of_kind (error_kind error)

@@ -15,7 +15,7 @@ is_about call line = nat_le line.first call && nat_le call line.last
 abbrev pub answer_of : {A : Type 0} → List (Scripted A) → ℕ → Option A
 answer_of script call = option_map (λ line. line.answer) (find (is_about call) script)
 
--- what a call answers that is to answer so
+-- what a call returns for this answer of the script
 abbrev pub answer_given : SinkAnswer → Result ℕ DeviceFault
 answer_given sink.Interrupted = Err Interrupted
 answer_given sink.Failed = Err Failed

@@ -1,12 +1,12 @@
 //! How many calls of a device answered each fault. Every device that can fail keeps these two numbers, and they
-//! stand here so that all of them count in one way.
+//! are defined here so that all of them count in one way.
 
 ghost use Rattle.std.specs.Prelude.{◌≡◌};
 ghost use Rattle.drain_device.specs.Counts.{counts_after_fault, no_faults};
 
 use crate::fault::DeviceFault;
 
-/// How many calls answered each fault. A count stays at the greatest number of 64 bits once it is there.
+/// How many calls answered each fault. A count stops at the greatest number of 64 bits.
 #[derive(Clone, Copy, PartialEq, Eq, Debug)]
 pub struct FaultCounts {
     pub failures: u64,
@@ -20,7 +20,7 @@ impl FaultCounts {
         interruptions: 0,
     };
 
-    /// Counts one call more, which answers this fault, and hands the fault back.
+    /// Counts one more call with this fault, and returns the fault.
     pub fn count(&mut self, fault: DeviceFault) -> DeviceFault
         ensures counted { self.new ≡ counts_after_fault self.old fault }
         ensures same { result ≡ fault }

@@ -1,7 +1,8 @@
 //! Devices over memory whose faults follow a script, for the tests of every crate that reads or writes.
 //!
 //! They give or take few bytes at a call, and answer a fault at the calls that the script names, so that a test can
-//! have each call of a run fail in turn. They tell their bytes and count their faults as any device does.
+//! make each call of a run fail in turn. Their contracts know their bytes, and they count their faults as any device
+//! does.
 
 pub mod script;
 pub mod script_sink;

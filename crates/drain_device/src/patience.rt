@@ -1,5 +1,5 @@
-//! How often an interrupted call is tried again. The rule stands here alone, for every reader and writer: 999
-//! interruptions of one device are borne, and the 1,000th is a failure.
+//! How often an interrupted call is tried again. Every reader and writer uses this one rule: 999 interruptions of one
+//! device are allowed, and the 1,000th is a failure.
 
 ghost use Rattle.std.specs.Prelude.{◌≡◌, ◌+◌, ◌-◌, ◌↔◌, IsErr};
 
@@ -14,7 +14,7 @@ pub const TOO_MANY_INTERRUPTIONS: u32 = 1000;
 #[error("the device gave up")]
 pub struct GaveUp;
 
-/// What one reader or writer still bears of one device. Contracts see it as the number of interruptions left to bear.
+/// How many more interruptions of one device a reader or writer allows. Contracts see it as that number.
 #[derive(Drop)]
 pub struct Patience {
     left: u32,
@@ -29,7 +29,7 @@ impl Model for Patience {
 }
 
 impl Patience {
-    /// All but the one too many are left to bear.
+    /// All interruptions but the one too many are left.
     pub fn new() -> Patience
         ensures { result + 1 ≡ TOO_MANY_INTERRUPTIONS }
     {
@@ -38,7 +38,7 @@ impl Patience {
         }
     }
 
-    /// Counts one interruption more, and says whether it is one too many.
+    /// Counts one more interruption, and returns whether it is one too many.
     pub fn bear(&mut self) -> Result<(), GaveUp>
         ensures too_many { IsErr result ↔ (self.old ≡ 0) }
         ensures left { self.new ≡ self.old - 1 }

@@ -8,8 +8,8 @@ use crate::fault::DeviceFault;
 use crate::patience::{GaveUp, TOO_MANY_INTERRUPTIONS};
 use crate::sink::ByteSink;
 
-/// Hands the sink no byte, again after an interruption. It gives up exactly where the sink failed, or was interrupted for the 1,000th time in
-/// this call.
+/// Passes no byte to the sink, again after an interruption. It fails for good exactly if the sink failed, or was
+/// interrupted for the 1,000th time in this call.
 pub fn write_nothing<W: ByteSink>(to: &mut W) -> Result<(), GaveUp>
     ensures bytes { Keeps (W.bytes_taken to.old) (W.bytes_taken to.new) }
     ensures faults { WriteFails (W.counts to.old) (W.counts to.new) (W.stalls to.old) (W.stalls to.new) (IsErr result) }

@@ -1,4 +1,4 @@
-//! A reader of std as a device: a file, a pipe, standard input. It adds to std's `Read` that its faults are counted.
+//! A reader of std as a device: a file, a pipe, standard input. It adds counts of faults to std's `Read`.
 
 ghost use Rattle.std.specs.Prelude.{◌≡◌};
 ghost use Rattle.drain_device.specs.Counts.{no_faults};

@@ -1,7 +1,7 @@
-//! Reading parts of a known length: a part into a slice, a part that is passed over, and the end.
+//! Reading parts of a known length: a part into a slice, a part that is skipped, and the end.
 //!
-//! Row sources are put together from these three. None of them asks its device for a byte behind its part, but for the end, which
-//! can only be seen by asking for one byte more.
+//! Row sources are put together from these three. None of them requests a byte after its part, except `read_end`: the
+//! end can only be seen by requesting one byte more.
 
 ghost use Rattle.std.specs.Prelude.{◌≡◌, ℕ, List, length, IsErrOf};
 ghost use Rattle.drain_device.specs.PartFailing.{PartFails};
@@ -12,10 +12,10 @@ use crate::read::read_full;
 use crate::row_source::ReadFault;
 use crate::source::ByteSource;
 
-/// How many bytes are passed over at once.
+/// How many bytes are skipped at once.
 const PASSED_BYTES: usize = 4096;
 
-/// Fills the slice, or answers `WrongLength` where the bytes end before that, `ReadFailed` where the device gives up.
+/// Fills the slice. Returns `WrongLength` if the bytes end before that, `ReadFailed` if the device fails for good.
 pub fn read_part<R: ByteSource>(
     from: &mut R,
     out: &mut [u8],
@@ -34,7 +34,7 @@ pub fn read_part<R: ByteSource>(
     Ok(())
 }
 
-/// Passes over so many bytes, or answers as `read_part` does. It holds few of them at a time.
+/// Skips `count` bytes, with the errors of `read_part`. It holds few of them at a time.
 pub fn pass_part<R: ByteSource>(
     from: &mut R,
     count: usize,
@@ -53,7 +53,7 @@ pub fn pass_part<R: ByteSource>(
     Ok(())
 }
 
-/// Looks for the end: `WrongLength` where there is a byte, which is then taken, and `ReadFailed` where the device gives up.
+/// Checks for the end: `WrongLength` if a byte is left, which is then read, `ReadFailed` if the device fails for good.
 pub fn read_end<R: ByteSource>(from: &mut R, patience: &mut Patience) -> Result<(), ReadFault>
     ensures bytes { EndComes (R.bytes_left from.old) (R.bytes_left from.new) result }
     ensures faults { PartFails (R.counts from.old) (R.counts from.new) patience.old patience.new (IsErrOf result ReadFault.ReadFailed) }

@@ -1,4 +1,4 @@
-//! The bytes of a slice as a device, for input that is in memory already. It tells its bytes and never fails.
+//! The bytes of a slice as a device, for input that is already in memory. Its contracts know its bytes; it never fails.
 
 ghost use Rattle.std.specs.Prelude.{◌≡◌, Some};
 ghost use Rattle.drain_device.specs.Counts.{no_faults};

@@ -1,4 +1,4 @@
-//! A vector as a device, for output that is to stay in memory. It tells its bytes, and fails only where the vector
+//! A vector as a device, for output that stays in memory. Its contracts know its bytes; it fails only if the vector
 //! can't grow.
 
 ghost use Rattle.std.specs.Prelude.{◌≡◌, Some};
@@ -8,7 +8,8 @@ use crate::counts::FaultCounts;
 use crate::fault::DeviceFault;
 use crate::sink::ByteSink;
 
-/// A vector that takes bytes at its end. A call that finds no memory answers `Failed`, and the vector stays as it was.
+/// A vector that takes bytes at its end. A call that runs out of memory returns `Failed` and leaves the vector as it
+/// was.
 #[derive(Drop)]
 pub struct VecSink {
     bytes: Vec<u8>,

@@ -9,7 +9,7 @@ use crate::fault::DeviceFault;
 use crate::patience::{GaveUp, Patience};
 use crate::sink::ByteSink;
 
-/// Writes all the bytes, or gives up before the last of them.
+/// Writes all the bytes, or fails for good before the last of them.
 pub fn write_all<W: ByteSink>(
     to: &mut W,
     bytes: &[u8],
@@ -17,7 +17,7 @@ pub fn write_all<W: ByteSink>(
 ) -> Result<(), GaveUp>
     ensures bytes { HandsOver (W.bytes_taken to.old) (W.bytes_taken to.new) result bytes.now }
 
-    // It gives up exactly where the sink failed, was interrupted more often than was left to bear, or took no byte.
+    // It fails for good exactly if the sink failed, stalled, or was interrupted more often than the patience allows.
     ensures faults { (failures : ℕ) × (interruptions : ℕ) × (stalls : ℕ)
         × Answered (W.counts to.old) (W.counts to.new) failures interruptions
         × (W.stalls to.new ≡ counted (W.stalls to.old) stalls)

@@ -1,4 +1,4 @@
-//! A writer of std as a device: a file, a pipe, standard output. It adds to std's `Write` that its faults are counted.
+//! A writer of std as a device: a file, a pipe, standard output. It adds counts of faults and stalls to std's `Write`.
 
 ghost use Rattle.std.specs.Prelude.{◌≡◌};
 ghost use Rattle.std.specs.Io.KnownBytes.{Keeps};
@@ -41,14 +41,14 @@ impl<W: Write> Writer<W> {
         inner
     }
 
-    /// How many calls took no byte of a slice that has some, without a fault.
+    /// How many calls took nothing of a non-empty slice, without a fault.
     pub fn stalls(&self) -> u64
         ensures { result ≡ ⟦<Writer<W> as ByteSink>⟧.stalls self.now }
     {
         self.stalls
     }
 
-    /// Hands on what the inner writer holds back. The bytes taken stay the same.
+    /// Writes what the inner writer buffers. The bytes taken stay the same.
     pub fn flush(&mut self) -> Result<(), DeviceFault>
         ensures bytes { Keeps (⟦<Writer<W> as ByteSink>⟧.bytes_taken self.old) (⟦<Writer<W> as ByteSink>⟧.bytes_taken self.new) }
         ensures counted { ⟦<Writer<W> as ByteSink>⟧.counts self.new ≡ counts_after (⟦<Writer<W> as ByteSink>⟧.counts self.old) result }

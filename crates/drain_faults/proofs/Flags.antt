@@ -1,4 +1,4 @@
--- What tests and least faults tell of whether a rule fails.
+-- What tests and least faults say of whether a rule fails.
 use Rattle.std.proofs.Common.{◌≡◌, ◌↔◌, ◌<◌, Bool, true, false, not, IsTrue, Option, Some, None, inl, inr, refl, sym, ap, subst, arith}
 use Rattle.std.proofs.lemmas.Bool.{false≢true, true≢false, cases_lt}
 use Rattle.drain_grid.specs.declared.cell.Cell.{Cell}

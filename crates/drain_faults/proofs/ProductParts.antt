@@ -1,4 +1,4 @@
--- The rules VoidCell and Missing hold exactly where each product by itself keeps what they ask of it.
+-- The rules VoidCell and Missing hold exactly where each product keeps its part of them.
 use Rattle.std.proofs.Common.{◌≡◌, ◌≢◌, ◌↔◌, Bool, false, IsNone, inl, refl, subst}
 use Rattle.drain_grid.specs.declared.held.Held.{Held}
 use Rattle.drain_grid.specs.declared.held.Held.TheVariants.{Con, Dir, Acc, Bas, Rnk}

@@ -1,4 +1,4 @@
--- What the rules VoidCell and Missing ask of each product by itself, and at how many cells of a list it doesn't keep that. Source: this project's own.
+-- What VoidCell and Missing require of each product, and at how many cells of a list it fails. This project's own.
 use Rattle.std.specs.Prelude.{◌≡◌, ◌≢◌, ℕ, IsNone, List}
 use Rattle.drain_grid.specs.declared.cell.Cell.{Cell}
 use Rattle.drain_grid.specs.declared.held.Held.{Held}
@@ -20,7 +20,7 @@ use Rattle.drain_faults.specs.declared.product_faults.ProductFaults.{ProductFaul
 use Rattle.drain_faults.specs.CellFaults.{IsNotedAt}
 use Rattle.drain_faults.specs.Faults.{AreCellsWithout}
 
--- the fact, where it is asked of the product: of ranks nothing is where they aren't asked for
+-- the fact, if it is required of the product: of ranks it isn't unless they are checked
 abbrev pub WhereAsked : Held → Ranks → Type 0 → Type 0
 WhereAsked Rnk Unasked P = Unit {0}
 WhereAsked product ranks P = P
@@ -44,7 +44,7 @@ pub record AreFaultsOfProduct (rules : Rules) (g : Grid) (ps : Products) (cs : L
 abbrev pub AreFaultsByProduct : Rules → Grid → Products → List Cell → PerProduct ProductFaults → Type 0
 AreFaultsByProduct rules g ps cs faults = (product : Held) → AreFaultsOfProduct rules g ps cs product (of_product faults product)
 
--- the product is noted at the cell that shows this patch
+-- the product is recorded at the cell with this patch
 pub record IsProductNotedAt (rules : Rules) (cell : Cell) (p : Patch) (product : Held) (old new : ProductFaults) : Type 0 where
   pub at_void : IsNotedAt (VoidCellHoldsOf rules product p) cell old.at_voids new.at_voids
   pub at_data : IsNotedAt (MissingHoldsOf rules product p) cell old.at_data new.at_data
@@ -58,7 +58,7 @@ abbrev pub OfRowByProduct : Rules → ℕ → ℕ → (ℕ → Patch) → PerPro
 OfRowByProduct rules row cols shown faults P =
     (g : Grid) (ps : Products) → AreRowPatches g ps row cols shown → AreFaultsByProduct rules g ps (cells_above g row) faults → P g ps
 
--- what the walk tells of each product is right of a grid and its products
+-- what the walk returns of each product is right of a grid and its products
 abbrev pub IsRightByProduct : Rules → Grid → Products → FaultWalk → Type 0
 IsRightByProduct rules g ps w = AreFaultsByProduct rules g ps (cells_above g w.rows) w.found.by_product
 

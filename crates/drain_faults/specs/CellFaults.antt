@@ -12,12 +12,12 @@ use Rattle.drain_faults.specs.declared.found.Found.{Found}
 use Rattle.drain_faults.specs.declared.rule_faults.RuleFaults.{RuleFaults}
 use Rattle.drain_faults.specs.PerRule.{of_rule}
 
--- the cell is counted, where the count fits 32 bits, and is the first where there was none
+-- the cell is counted, if the count fits 32 bits, and is the first if there was none
 pub record IsWithFault (cell : Cell) (old new : RuleFaults) : Type 0 where
   pub counted : old.cells + 1 < 2 ^ 32 → new.cells ≡ old.cells + 1
   pub first_is : new.first ≡ Some (unwrap_or old.first cell)
 
--- it is where the rule fails there, else nothing is changed
+-- it is if the rule fails there, else nothing is changed
 abbrev pub IsWith : Cell → Bool → RuleFaults → RuleFaults → Type 0
 IsWith cell true old new = IsWithFault cell old new
 IsWith cell false old new = new ≡ old
@@ -26,7 +26,7 @@ IsWith cell false old new = new ≡ old
 abbrev pub IsNotedAt : Type 0 → Cell → RuleFaults → RuleFaults → Type 0
 IsNotedAt P cell old new = (P × (new ≡ old)) ⊎ (¬ P × IsWithFault cell old new)
 
--- the first cell so far at which a rule fails stays; where there is none it is this cell with its patch, if a rule fails here, of which this is the least
+-- the first cell so far with a failing rule stays; without one it is this cell, with its patch and least such rule
 abbrev pub IsFirstNoted : Option Rule → Cell → Patch → Option FaultyPatch → Option FaultyPatch → Type 0
 IsFirstNoted least cell p (Some first) new = new ≡ Some first
 IsFirstNoted None cell p None new = new ≡ None
@@ -38,7 +38,7 @@ pub record IsLeastNoted (P : Rule → Type 0) (cell : Cell) (p : Patch) (old new
   pub least_is : IsLeastFault IsAnyRule P least
   pub first_is : IsFirstNoted least cell p old new
 
--- each rule is noted at the cell that shows this patch, SharedLabel by the labels so far; to these the cell's is added if it is an outlet by its code
+-- each rule is recorded here, SharedLabel by the labels so far; the label is added if the cell is an outlet by code
 pub record IsNoted (profile : Profile) (cell : Cell) (p : Patch) (old new : Found) : Type 0 where
   pub each : (r : Rule) → IsNotedAt (labelled_profile profile old.labels p r) cell (of_rule old.by_rule r) (of_rule new.by_rule r)
   pub first_is : IsLeastNoted (labelled_profile profile old.labels p) cell p old.first new.first

@@ -15,7 +15,7 @@ use Rattle.drain_faults.specs.declared.fault_walk.FaultWalk.{FaultWalk}
 use Rattle.drain_faults.specs.declared.found.Found.{Found}
 use Rattle.drain_faults.specs.FaultWalks.{IsFoundAbove}
 
--- that of the least rule that fails at the cell; where none fails that of a sound data cell, or of a sound void
+-- that of the least rule that fails at the cell; if none fails that of a sound data cell, or of a sound void
 abbrev pub pixel_of : Option Rule → Bool → ℕ
 pixel_of (Some r) has_data = number_of r
 pixel_of None true = SOUND
@@ -54,7 +54,7 @@ abbrev pub OfRowDrawn : Profile → ℕ → ℕ → (ℕ → Patch) → Found �
 OfRowDrawn profile row cols shown found map P =
     (g : Grid) (ps : Products) → AreRowPatches g ps row cols shown → IsFoundAbove profile g ps row found → IsMapOfCells profile g ps (cells_above g row) map → P g ps
 
--- the walk's map, where there is one, is right of a grid and its products
+-- the walk's map, if there is one, is right of a grid and its products
 abbrev pub IsMapOf : Profile → Grid → Products → FaultWalk → Type 0
 IsMapOf profile g ps w = IsMapOfCells profile g ps (cells_above g w.rows) w.map
 

@@ -57,7 +57,7 @@ IsRightOf profile g ps w = IsFoundAbove profile g ps w.rows w.found
 abbrev pub OfNextRow : Profile → FaultWalk → ℕ → (ℕ → Patch) → (Grid → Products → Type 0) → Type 0
 OfNextRow profile w cols shown P = OfRowFound profile w.rows cols shown w.found P
 
--- its counts are those of the rows that were passed
+-- its counts are those of the rows that were scanned
 abbrev pub IsCountedOf : Grid → Products → FaultWalk → Type 0
 IsCountedOf g ps w = CountsAbove g ps w.rows w.tally
 

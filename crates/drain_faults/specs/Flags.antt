@@ -1,7 +1,7 @@
--- Flags that tell whether rules fail.
+-- Flags of failing rules.
 use Rattle.std.specs.Prelude.{Bool, true, false}
 
--- the flag tells whether something fails: true where it doesn't hold, false where it holds
+-- the flag says whether something fails: true if it doesn't hold, false if it holds
 abbrev pub TellsFault : Bool → Type 0 → Type 0
 TellsFault true P = ¬ P
 TellsFault false P = P

@@ -16,7 +16,8 @@ use drain_grid::{OutOfMemory, Patch};
 use drain_kernel::Rules;
 use drain_rules::cell_rules::admits_label;
 
-/// For each rule whether it fails at a cell, as it is tried; and admits the cell's label if it is an outlet by its code, whatever fails there.
+/// For each rule whether it fails at a cell. Admits the cell's label if it is an outlet by its code, whatever fails
+/// there.
 ///
 /// `labels` are those of the outlets before the cell. `OutOfMemory` comes only at an outlet whose label is new.
 pub fn cell_faults(
@@ -34,7 +35,7 @@ pub fn cell_faults(
     }
 }
 
-/// The same with this told of SharedLabel.
+/// The same with this value for SharedLabel.
 fn with_shared_label(mut faults: PerRule<bool>, shared_label: bool) -> PerRule<bool>
     ensures own { result.shared_label ≡ shared_label }
     ensures others { (r : Rule) → IsPatchRule r → of_rule result r ≡ of_rule faults r }

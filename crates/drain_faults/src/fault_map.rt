@@ -1,6 +1,6 @@
-//! A map of the faults as far as it is drawn: a number for each cell, which tells the least rule that fails there.
+//! A map of the faults as far as it is drawn: a number for each cell, for the least rule that fails there.
 //!
-//! A walk draws it where one is wanted (`FaultWalk::drawing`): it takes a byte for each cell, and is seldom wanted.
+//! A walk draws it on demand (`FaultWalk::drawing`): it takes a byte per cell, and is seldom needed.
 
 ghost use Rattle.std.specs.Prelude.{◌≡◌, ◌∷◌, [], IfOk, IsSome, OnErr, OnOk, is_some, replicate};
 ghost use Rattle.drain_faults.specs.declared.fault_map.TheConstants.{SOUND};
@@ -42,7 +42,7 @@ impl FaultMap {
         }
     }
 
-    /// Draws so many cells more, at each of which every rule holds, and none of which is a void.
+    /// Draws this many more cells, at each of which every rule holds, and none of which is a void.
     fn push_sound(&mut self, cells: usize) -> Result<(), OutOfMemory>
         ensures { OnOk result (HasMore self.old self.new (replicate cells SOUND)) }
     {
@@ -56,7 +56,9 @@ impl FaultMap {
     }
 }
 
-/// Draws the next cell in row order, which shows this patch and at which this is the least rule that fails, where there is a map. `OutOfMemory` comes only where there is one.
+/// Draws the next cell in row order, with this patch and this least failing rule, if there is a map. `OutOfMemory`
+/// comes only
+/// with a map.
 pub(crate) fn draw_cell(
     map: &mut Option<FaultMap>,
     least: Option<Rule>,
@@ -71,7 +73,7 @@ pub(crate) fn draw_cell(
     }
 }
 
-/// Draws so many cells more that a row vouches for, where there is a map. `OutOfMemory` comes only where there is one.
+/// Draws this many more cells that a row cleared, if there is a map. `OutOfMemory` comes only with a map.
 pub(crate) fn draw_sound(map: &mut Option<FaultMap>, cells: u32) -> Result<(), OutOfMemory>
     ensures drawn { OnOk result (AreDrawn map.old map.new (replicate cells SOUND)) }
     ensures err { OnErr result (IsSome map.old) }

@@ -18,7 +18,7 @@ use drain_rules::tally::Tally;
 use drain_rules::{Counts, PatchRow, Verdict};
 use std::alloc::Global;
 
-/// How many rows were passed, their counts, what their cells came to, and a map of them where one is wanted.
+/// How many rows were scanned, their counts, the results at their cells, and a map of them if required.
 #[derive(Drop)]
 pub struct FaultWalk {
     rows: u32,
@@ -40,7 +40,7 @@ impl FaultWalk {
     ghost use Rattle.drain_faults.specs.FaultMaps.{AreMapPixels, IsMapOf, IsMapOfCells, OfNextRowDrawn};
     ghost use Rattle.drain_faults.specs.FaultWalks.{HasNewOutlet, IsCountedOf, IsRightOf, OfNextRow, OfNextRowCounted};
 
-    /// No row was passed, and no map is drawn. This takes no memory.
+    /// No row was scanned, and no map is drawn. This takes no memory.
     pub fn new(alloc: Global) -> FaultWalk
         ensures rows { result.rows ≡ 0 }
         ensures drawn { IsNone result.map }
@@ -62,7 +62,7 @@ impl FaultWalk {
         }
     }
 
-    /// No row was passed. A map is drawn, with room for a byte for each cell of a grid of this shape.
+    /// No row was scanned. A map is drawn, with room for a byte per cell of a grid of this shape.
     pub fn drawing(alloc: Global, shape: Shape) -> Result<FaultWalk, OutOfMemory>
         ensures rows { IfOk result (λ walk. walk.rows ≡ 0) }
         ensures drawn { IfOk result (λ walk. IsSome walk.map) }
@@ -77,9 +77,11 @@ impl FaultWalk {
         Ok(walk)
     }
 
-    /// Passes the next row. What was found is right of these rules where the rows above were passed with them too.
+    /// Scans the next row. The result is right for these rules if the rows above were scanned with them too.
     ///
-    /// `OutOfMemory` comes only where a map is drawn, or at a data cell with code 0 whose label no earlier one has: it found no room. Then the walk is over.
+    /// `OutOfMemory` comes only if a map is drawn, or at a data cell with code 0 whose label no earlier one has: no
+    /// memory for
+    /// it. Then the walk is over.
     pub fn note_row<R: PatchRow>(&mut self, patches: &R, rules: &Rules) -> Result<(), OutOfMemory>
         requires row { self.old.rows < MAX_LENGTH }
         ensures rows { OnOk result (self.new.rows ≡ self.old.rows + 1) }
@@ -100,7 +102,7 @@ impl FaultWalk {
         }
     }
 
-    /// The verdict on the grid of this shape whose rows all were passed: that of `drain_rules`.
+    /// The verdict on the grid of this shape, after all its rows were scanned: that of `drain_rules`.
     pub fn verdict(&self, shape: Shape) -> Verdict
         ensures { (rules : Rules) (g : Grid) (ps : Products) → g.extent ≡ shape → self.now.rows ≡ g.extent.rows → IsRightOf (tried rules) g ps self.now → IsCountedOf g ps self.now → IsVerdictOf (tried rules) g ps result }
     {
@@ -120,36 +122,38 @@ impl FaultWalk {
         }
     }
 
-    /// How many rows were passed.
+    /// How many rows were scanned.
     pub fn rows(&self) -> u32
         ensures { result ≡ self.now.rows }
     {
         self.rows
     }
 
-    /// For each rule at how many cells of these rows it fails, and at which first: of every grid and its products of which the walk is right.
+    /// For each rule at how many cells of these rows it fails, and at which first: for every grid and its products of
+    /// which the
+    /// walk is right.
     pub fn faults(&self) -> &PerRule<RuleFaults>
         ensures of_grids { (rules : Rules) (g : Grid) (ps : Products) → IsRightOf (tried rules) g ps self.now → AreFaultsOf (tried rules) g ps (cells_above g self.now.rows) result.now }
     {
         &self.found.by_rule
     }
 
-    /// For each product at how many voids of these rows it has a number of its own, and at how many data cells its no-data number, and at which first.
-    /// Where ranks weren't asked for, nothing is counted of rnk. Grids are meant of which the walk is right in this.
+    /// For each product at how many voids of these rows it has another number, and at how many data cells its no-data
+    /// number, and at which first. Without ranks rnk is not counted. This is for grids of which the walk is right.
     pub fn by_product(&self) -> &PerProduct<ProductFaults>
         ensures of_grids { (rules : Rules) (g : Grid) (ps : Products) → IsRightByProduct rules g ps self.now → AreFaultsByProduct rules g ps (cells_above g self.now.rows) result.now }
     {
         &self.found.by_product
     }
 
-    /// A number for each cell of these rows, in row order, where a map is drawn: of every grid and its products of which the map is right.
+    /// A number for each cell of these rows, in row order, if a map is drawn: for every grid of which the map is right.
     pub fn map(&self) -> Option<&FaultMap>
         ensures of_grids { (rules : Rules) (g : Grid) (ps : Products) → IsMapOf (tried rules) g ps self.now → IfSome result (λ map. AreMapPixels (tried rules) g ps (cells_above g self.now.rows) map.now.pixels.items) }
     {
         self.map.as_ref()
     }
 
-    /// The faults of each rule and of each product, and the map where one is drawn, for whoever needs the walk no more.
+    /// The faults of each rule and of each product, and the map if one is drawn; the walk is used up.
     pub fn into_faults(
         self,
     ) -> (
@@ -165,7 +169,9 @@ impl FaultWalk {
         (self.found.by_rule, self.found.by_product, self.map)
     }
 
-    /// The first cell of these rows at which any rule fails, and its patch; none where every rule holds at each of them. The same grids are meant.
+    /// The first cell of these rows at which any rule fails, and its patch; none if every rule holds at each of them.
+    /// For the
+    /// same grids.
     pub fn first_patch(&self) -> Option<FaultyPatch>
         ensures of_grids { (rules : Rules) (g : Grid) (ps : Products) → IsRightOf (tried rules) g ps self.now → IsFirstPatch (tried rules) g ps (cells_above g self.now.rows) result }
     {

@@ -1,4 +1,4 @@
-//! The first cell at which a rule fails, and what it shows.
+//! The first cell at which a rule fails, and its patch.
 
 ghost use Rattle.drain_faults.specs.CellFaults.{IsFirstNoted};
 
@@ -12,7 +12,7 @@ pub struct FaultyPatch {
     pub rule: Rule,
 }
 
-/// The first so far, or this cell where there was none and a rule fails here, of which this is the least. Cells come in row order.
+/// The first so far; without one this cell, if a rule fails here, with the least such rule. Cells come in row order.
 pub(crate) fn with_patch(
     first: Option<FaultyPatch>,
     cell: Cell,

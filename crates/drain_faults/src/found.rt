@@ -1,4 +1,4 @@
-//! What the cells that were passed came to.
+//! The results at the cells that were scanned.
 
 ghost use Rattle.std.specs.Prelude.{IfOk, OnErr, OnOk};
 ghost use Rattle.drain_grid.specs.Rule.{IsAnyRule, IsLeastFault};
@@ -17,8 +17,8 @@ use drain_basin::OutletLabels;
 use drain_grid::{Cell, OutOfMemory, Patch, PerProduct, Rule};
 use drain_kernel::Rules;
 
-/// The labels of the outlets among the cells that were passed, the cells at which each rule fails, those at which each product does by
-/// itself, and the first at which any rule does.
+/// The labels of the outlets among the cells scanned, the cells at which each rule fails, those at which each product
+/// fails alone, and the first at which any rule does.
 #[derive(Drop)]
 pub struct Found {
     pub labels: OutletLabels,
@@ -28,8 +28,8 @@ pub struct Found {
 }
 
 impl Found {
-    /// Passes one cell more, the next in row order, which shows this patch, and answers the least rule that fails there. `OutOfMemory` comes only at an
-    /// outlet whose label is new.
+    /// Scans one more cell, the next in row order, with this patch, and returns the least rule that fails there.
+    /// `OutOfMemory` comes only at an outlet whose label is new.
     pub(crate) fn note(
         &mut self,
         cell: Cell,

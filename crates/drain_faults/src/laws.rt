@@ -1,4 +1,4 @@
-//! What the definitions of this crate name, and what they say of each other.
+//! What the definitions of this crate name, and how they fit together.
 
 ghost use Rattle.std.specs.Prelude.{◌≡◌, ◌↔◌};
 ghost use Rattle.drain_grid.specs.declared.held.Held.{Held};
@@ -10,13 +10,15 @@ ghost use Rattle.drain_faults.specs.ByProduct.{MissingHoldsOf, VoidCellHoldsOf};
 
 use crate::fault_map::{SOUND, SOUND_VOID};
 
-/// The numerals of the constants that definitions name: the numbers on a map where no rule fails. This project's own; neither is the number of a rule.
+/// The numerals of the constants that definitions name: the numbers on a map where no rule fails, neither of them a
+/// rule's.
+/// This project's own.
 pub fn constants()
     ensures sound { SOUND ≡ 0 }
     ensures sound_void { SOUND_VOID ≡ 255 }
 {}
 
-/// The rules VoidCell and Missing, as they are tried, hold at a cell exactly where each product keeps what they ask of it.
+/// The rules VoidCell and Missing hold at a cell exactly if each product keeps its part of them.
 pub fn rules_by_product()
     ensures void_cell { (rules : Rules) (p : Patch) → tried rules p VoidCell ↔ ((product : Held) → VoidCellHoldsOf rules product p) }
     ensures missing { (rules : Rules) (p : Patch) → tried rules p Missing ↔ ((product : Held) → MissingHoldsOf rules product p) }

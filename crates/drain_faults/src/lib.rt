@@ -1,10 +1,16 @@
-//! Every rule that fails at each cell, and not the first alone: of each rule at how many cells it fails, and where first; of each
-//! product where it alone has numbers or none; the patch of the first fault; and a map of the least rule that fails at each cell.
+//! Every rule that fails at each cell, not only the first: of each rule at how many cells it fails, and where first; of
+//! each
+//! product where only it has numbers or none; the patch of the first fault; and a map of the least rule that fails at
+//! each
+//! cell.
 //!
-//! The verdict (`drain_rules`) stops at the first fault. Whoever has to repair products wants to see more, so here nothing stops at a
-//! fault. The rules are asked one by one, since of each group of rules the crates below tell the first that fails, and it may hide another.
-//! The walk looks at a row as the verdict's does: cells that a row vouches for keep every rule, and are passed at once. It counts as that one does,
-//! so it gives the verdict too.
+//! The verdict (`drain_rules`) stops at the first fault. To repair products one needs more, so this walk stops at no
+//! fault.
+//! The rules are checked one by one, since of each group of rules the crates below return the first that fails, which
+//! may
+//! hide another. The walk scans a row as the verdict's does: cells that a row clears keep every rule, and are passed at
+//! once.
+//! It counts as that one does, so it gives the verdict too.
 #![tactic(auto)]
 
 pub mod cell_faults;

@@ -1,6 +1,8 @@
-//! Which of the rules that look at a patch alone fail at a cell.
+//! Which of the rules that look at a patch only fail at a cell.
 //!
-//! Of each group of rules the crates below tell the least that fails. Where one can hide another of its group, that other is asked by itself.
+//! Of each group of rules the crates below return the least that fails. If one can hide another of its group, that
+//! other is
+//! checked alone.
 
 ghost use Rattle.std.specs.Prelude.{◌≡◌, ◌↔◌, false, IsTrue, Some};
 ghost use Rattle.drain_grid.specs.declared.rule.Rule.{Rule};
@@ -17,7 +19,7 @@ use drain_grid::{CellValues, Patch, Rule};
 use drain_kernel::Rules;
 use drain_rules::patch_rules::{flat_fault, presence_fault};
 
-/// For each rule whether it fails at the cell, as it is tried. SharedLabel doesn't look at the patch alone, and is told not to fail.
+/// For each rule whether it fails at the cell. SharedLabel doesn't look at the patch only, and counts as not failing.
 pub fn patch_faults(patch: &Patch, rules: &Rules) -> PerRule<bool>
     ensures each { (r : Rule) → IsPatchRule r → TellsFault (of_rule result r) (tried rules.now patch.now r) }
     ensures shared_label { result.shared_label ≡ false }

@@ -97,7 +97,7 @@ pub const RULES: [Rule; 15] = [
 ];
 
 impl PerRule<bool> {
-    /// The least rule whose flag is set, none where none is.
+    /// The least rule whose flag is set, none if none is.
     pub fn least(&self) -> Option<Rule>
         ensures { IsLeastFault IsAnyRule (λ r. of_rule self.now r ≡ false) result }
     {

@@ -1,6 +1,7 @@
-//! Of each product by itself: the voids at which it has a number of its own, and the data cells at which it has none.
+//! Of each product alone: the voids at which it has a number, and the data cells at which it has none.
 //!
-//! The rules VoidCell and Missing ask this of all products at once; whoever repairs products wants to know which one is wrong where.
+//! The rules VoidCell and Missing are about all products at once; to repair them one needs to know which is wrong
+//! where.
 
 ghost use Rattle.std.specs.Prelude.{◌≡◌, None};
 ghost use Rattle.drain_grid.specs.declared.held.Held.{Held};
@@ -36,7 +37,7 @@ impl ProductFaults {
         }
     }
 
-    /// With one cell more, which shows this patch, if the product fails there. Cells come in row order.
+    /// With one cell more, with this patch, if the product fails there. Cells come in row order.
     fn with(self, cell: Cell, patch: &Patch, rules: &Rules, product: Held) -> ProductFaults
         ensures { IsProductNotedAt rules.now cell patch.now product self result }
     {
@@ -64,7 +65,7 @@ pub(crate) fn no_faults() -> PerProduct<ProductFaults>
     }
 }
 
-/// Takes one cell more, which shows this patch and at which these rules fail. Where neither VoidCell nor Missing does, no product is looked at.
+/// Adds one cell, with this patch and these failing rules. Products are checked only if VoidCell or Missing fails.
 pub(crate) fn note_products(
     faults: &mut PerProduct<ProductFaults>,
     cell: Cell,

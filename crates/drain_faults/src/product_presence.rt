@@ -1,4 +1,4 @@
-//! Whether a product by itself keeps what the rules VoidCell and Missing ask of all products at once.
+//! Whether a product alone keeps its part of the rules VoidCell and Missing.
 
 ghost use Rattle.std.specs.Prelude.{◌≡◌, ◌≢◌, ◌↔◌, IsNone, IsSome, IsTrue};
 ghost use Rattle.drain_grid.specs.Held.{product_of};
@@ -8,7 +8,7 @@ ghost use Rattle.drain_faults.specs.ByProduct.{MissingHoldsOf, VoidCellHoldsOf};
 use drain_grid::{CellValues, Held, NoData, Patch};
 use drain_kernel::{Ranks, Rules};
 
-/// Whether the product has its no-data number, if the cell is a void. Where ranks aren't asked for, nothing is asked of rnk.
+/// Whether the product has its no-data number, if the cell is a void. Without ranks, true of rnk.
 pub(crate) fn keeps_void_cell(patch: &Patch, rules: &Rules, product: Held) -> bool
     ensures { IsTrue result ↔ VoidCellHoldsOf rules.now product patch.now }
 {
@@ -69,7 +69,7 @@ fn number_at(here: &CellValues, product: Held) -> i64
     }
 }
 
-/// The number that stands for no data in the product.
+/// The product's no-data number.
 fn nodata_of(nodata: &NoData, product: Held) -> i64
     ensures { result ≡ number_for nodata.now (product_of product) }
 {

@@ -17,10 +17,10 @@ use drain_kernel::Rules;
 use drain_rules::PatchRow;
 use drain_rules::tally::Tally;
 
-/// Passes the cells of a row, from west to east, behind those of the rows above, and answers their counts.
+/// Scans the cells of a row, from west to east, after those of the rows above, and returns their counts.
 ///
-/// What was found then is right of every grid whose row this is, and so is the map where there is one. `OutOfMemory` comes only at an outlet whose label is
-/// new, or where there is a map.
+/// The result is right for every grid with this row, and so is the map if there is one. `OutOfMemory` comes only at an
+/// outlet whose label is new, or with a map.
 pub(crate) fn note_row_of<R: PatchRow>(
     found: &mut Found,
     map: &mut Option<FaultMap>,

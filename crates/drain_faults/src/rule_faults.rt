@@ -13,7 +13,7 @@ use drain_grid::Cell;
 pub struct RuleFaults {
     /// How many they are.
     pub cells: u32,
-    /// The first of them in row order, none where there is none.
+    /// The first of them in row order, none if there is none.
     pub first: Option<Cell>,
 }
 

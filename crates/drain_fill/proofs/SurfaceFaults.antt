@@ -1,4 +1,4 @@
--- The rules on the conditioned elevation without spill parents, behind BelowGround: two of them ask something.
+-- The rules on the conditioned elevation without spill parents, after BelowGround: only two of them require something.
 use Rattle.std.proofs.Common.{◌<◌, arith}
 use Rattle.drain_grid.specs.declared.patch.Patch.{Patch}
 use Rattle.drain_grid.specs.declared.rule.Rule.{Rule}

@@ -1,12 +1,13 @@
 //! The rules of the conditioned elevation at a cell: BelowGround to NotLeast.
 //!
-//! Products keep these rules at every cell only where `con` is the least surface from which water gets out
-//! (`drain_grid`'s DESIGN.md, `least_from_rules`). They are a crate of their own because nothing else of a cell
-//! counts for them: no direction, sum or label. One call looks at one cell and takes no memory.
+//! Products keep these rules at every cell only if `con` is the least surface from which water gets out (`drain_grid`'s
+//! DESIGN.md, `least_from_rules`). They are a crate of their own because they depend on nothing else of a cell: no
+//! direction, sum or label. One call looks at one cell and takes no memory.
 //!
-//! Source: the rules are the local form of the surface that Priority-Flood makes (Barnes, Lehman and Mulla 2014).
-//! The spill parent is the cell from which that algorithm reaches a cell, and the rank falls along spill parents,
-//! as the order of the visits does. That a certificate shows both, and the rules' wording, are this project's own.
+//! Source: the rules are the local form of the surface that Priority-Flood makes (Barnes, Lehman and Mulla 2014). The
+//! spill parent is the cell from which that algorithm reaches a cell, and the rank falls along spill parents, as the
+//! order
+//! of the visits does. That a certificate shows both, and the rules' wording, are this project's own.
 #![tactic(auto)]
 
 pub mod below;
@@ -22,7 +23,7 @@ pub use below::first_below;
 use drain_grid::{CellValues, Patch, Rule};
 pub use surface::{fault_above_profile2, fault_profile2, is_unraised_where_open};
 
-/// The first of the six rules that fails at the cell, none where they all hold. A void keeps them all.
+/// The first of the six rules that fails at the cell, none if they all hold. A void keeps them all.
 pub fn fault(patch: &Patch) -> Option<Rule>
     ensures least { IsLeastFault IsFillRule (fill_rules patch.now) result }
 {
@@ -33,10 +34,10 @@ pub fn fault(patch: &Patch) -> Option<Rule>
     }
 }
 
-/// The first of the five rules after BelowGround that fails at a cell that is not below its ground, none where they
-/// all hold.
+/// The first of the five rules after BelowGround that fails at a cell that is not below its ground, none if they all
+/// hold.
 ///
-/// The cells of a row before the place that `first_below` answers are such cells.
+/// The cells of a row before the place that `first_below` returns are such cells.
 pub fn fault_above(patch: &Patch) -> Option<Rule>
     requires above { BelowGroundHolds patch.now }
     ensures least { IsLeastFault IsAboveRule (fill_rules patch.now) result }
@@ -64,7 +65,7 @@ pub fn is_above_ground(patch: &Patch) -> bool
     }
 }
 
-/// The first of them but NotLeast that fails at a data cell, none where they hold.
+/// The first of them except NotLeast that fails at a data cell, none if they hold.
 fn level_fault(patch: &Patch, ground: i16) -> Option<Rule>
     requires { patch.now.here.z ≡ Some ground }
     ensures least { IsLeastFault IsLevelRule (fill_rules patch.now) result }
@@ -88,7 +89,7 @@ fn is_unraised(patch: &Patch, ground: i16) -> bool
     patch.here.con == ground as i64 && patch.here.spl == 0
 }
 
-/// The first of the rules on spill parents that fails at a cell that is not open, none where they all hold.
+/// The first of the rules on spill parents that fails at a cell that is not open, none if they all hold.
 fn spill_fault(patch: &Patch, ground: i16) -> Option<Rule>
     requires elevation { patch.now.here.z ≡ Some ground }
     requires closed { ¬ IsOpen patch.now }

@@ -1,6 +1,7 @@
 //! The rules of the conditioned elevation without spill parents: BelowGround, OpenRaised and NotLeast.
 //!
-//! With the rules on directions they make `con` the least surface from which water gets out (`drain_grid`'s law `least_from_rules_profile2`).
+//! With the rules on directions they make `con` the least surface from which water gets out (law
+//! `least_from_rules_profile2` of `drain_grid`).
 
 ghost use Rattle.std.specs.Prelude.{◌≡◌, ◌↔◌, IsTrue, Some};
 ghost use Rattle.drain_grid.specs.PatchRules.{BelowGroundHolds, OpenRaisedWithoutSpill, surface_rules};
@@ -9,7 +10,7 @@ ghost use Rattle.drain_grid.specs.Rule.{IsAboveRule, IsFillRule, IsLeastFault};
 use crate::{is_above_ground, is_least};
 use drain_grid::{Patch, Rule};
 
-/// The first of the three rules that fails at the cell, none where they all hold. A void keeps them all.
+/// The first of the three rules that fails at the cell, none if they all hold. A void keeps them all.
 pub fn fault_profile2(patch: &Patch) -> Option<Rule>
     ensures least { IsLeastFault IsFillRule (surface_rules patch.now) result }
 {
@@ -20,7 +21,7 @@ pub fn fault_profile2(patch: &Patch) -> Option<Rule>
     }
 }
 
-/// The first of the two after BelowGround that fails at a cell that is not below its ground, none where they hold.
+/// The first of the two after BelowGround that fails at a cell that is not below its ground, none if they hold.
 pub fn fault_above_profile2(patch: &Patch) -> Option<Rule>
     requires above { BelowGroundHolds patch.now }
     ensures least { IsLeastFault IsAboveRule (surface_rules patch.now) result }

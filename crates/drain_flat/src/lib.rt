@@ -1,9 +1,11 @@
 //! The rule on flats at a cell: FlatStep.
 //!
 //! A closed cell with no lower neighbour has nowhere to fall to, so its direction leads along the flat, to a cell of
-//! its own height that is nearer to the way out. The rank says which is nearer: it falls at each such step, so no walk
-//! along a flat comes round to where it was. Any step of that kind keeps the rule. Whoever knows by other means that walks
-//! end asks for no ranks: then any step to a cell of the same height keeps it. One call looks at one cell and takes no memory.
+//! its
+//! own height that is nearer to the outlet. The rank says which is nearer: it falls at each such step, so no walk along
+//! a
+//! flat comes back to where it was. Any step of that kind keeps the rule. A caller that knows otherwise that walks end
+//! needs no ranks: then any step to a cell of the same height keeps it. One call looks at one cell and takes no memory.
 //!
 //! Source: directions on a flat go from cell to cell back to where Priority-Flood reached it (Barnes, Lehman and
 //! Mulla 2014). That a rank shows this at each cell, and the rule's wording, are this project's own.
@@ -20,7 +22,7 @@ ghost use Rattle.drain_grid.specs.Values.{Values};
 
 use drain_grid::{CellValues, Patch, Rule};
 
-/// FlatStep where it fails at the cell, none where it holds. An open cell, one with a lower neighbour and a void keep it.
+/// FlatStep if it fails at the cell, none if it holds. An open cell, one with a lower neighbour and a void keep it.
 pub fn fault(patch: &Patch) -> Option<Rule>
     ensures least { IsLeastFault (IsOnly Rule.FlatStep) (flow_rules patch.now) result }
 {
@@ -62,7 +64,7 @@ fn steps_level(patch: &Patch) -> bool
     }
 }
 
-/// The neighbour that the direction names, none where it names none in the grid.
+/// The neighbour that the direction names, none if it names none in the grid.
 fn named_neighbor(patch: &Patch) -> Option<CellValues>
     ensures there { IfSome result (λ n. (d : Direction) × Names patch.now.here.dir d × (neighbor patch.now d ≡ Some n)) }
     ensures nowhere { IsNone result → (d : Direction) → Names patch.now.here.dir d → neighbor patch.now d ≡ None }

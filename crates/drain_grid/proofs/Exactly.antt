@@ -1,7 +1,8 @@
--- What an audit rests on: products are correct exactly where every rule holds with the numbers of steps for ranks, and exactly
--- where every run ends and every rule without ranks holds. One way is that rules make products correct (AllRules), the other that
--- correct products keep the rules (FromCorrect); between them stand products that differ in ranks alone (Alike, WithoutRanks). Where the
--- rules without ranks hold every run ends anyway (RunsByCounts), so these rules alone say it.
+-- What an audit rests on: products are correct exactly where every rule holds with the numbers of steps for ranks, and
+-- exactly where every run ends and every rule without ranks holds. One way is that rules make products correct
+-- (AllRules), the other that correct products keep the rules (FromCorrect); in between, products differ only in ranks
+-- (Alike, WithoutRanks). Where the rules without ranks hold, every run ends anyway (RunsByCounts), so these rules are
+-- enough.
 use Rattle.std.proofs.Common.{◌≡◌, ◌*◌, ◌∷◌, ℤ, negsuc, refl, subst, arith}
 use Rattle.drain_grid.specs.declared.cell.Cell.{Cell}
 use Rattle.drain_grid.specs.PatchRules.{check_rules}

@@ -1,5 +1,5 @@
--- Correct products keep every rule that asks nothing of ranks, and every rule where each rank is the number of steps of the
--- cell's run. A lemma for each rule.
+-- Correct products keep every rule without ranks, and every rule where each rank is the number of steps of the cell's
+-- run. A lemma for each rule.
 --
 -- Rules 4, 5 and 9 say of a least surface that it covers the ground and can't be lowered (Lowered). Rules 10 to 12 say of a cell
 -- what correct codes do there: they lead to a steepest cell, stop at an outlet, or lead along a flat. Rule 13 is that what drains through a cell is the cell and what drains through the cells that flow in

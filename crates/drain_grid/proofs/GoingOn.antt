@@ -1,5 +1,5 @@
--- Runs that aren't over after so many steps, under rules 10 to 12 without ranks: where they aren't after one step more, the code leads to a
--- cell where they aren't after so many, and so it is of each data cell whose code leads there.
+-- Runs that go on for n steps, under rules 10 to 12 without ranks: the run of a data cell goes on for n + 1 steps
+-- exactly where its code leads to a cell whose run goes on for n.
 use Rattle.std.proofs.Common.{◌≡◌, ◌≢◌, ◌∙◌, ◌⊎◌, inl, inr, ℕ, suc, pos, Bool, true, Some, sym, ap, arith}
 use Rattle.drain_grid.specs.declared.cell.Cell.{Cell}
 use Rattle.drain_grid.specs.declared.direction.Direction.{Direction}

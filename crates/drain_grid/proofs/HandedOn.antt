@@ -1,4 +1,4 @@
--- What the cells that flow into a cell hand on: the sum that rule 13 takes.
+-- What the cells that flow into a cell pass on: the sum in rule 13.
 use Rattle.std.proofs.Common.{◌≡◌, ℕ, ◌≤◌, ◌∙◌, inl, inr, ℤ, pos, ◌+ℤ◌, Bool, true, false, cond, if◌then◌else◌, ◌&&◌, ◌==◌, Option, Some, None, is_some, option_map, List, [], ◌∷◌, map, refl, sym, ap, subst, arith}
 use Rattle.std.specs.List.{sum_by}
 use Rattle.std.proofs.Math.IntN.{pos-+ℤ-pos}
@@ -17,7 +17,7 @@ use Rattle.drain_grid.proofs.Patches.{neighbor-patch_at}
 use Rattle.drain_grid.proofs.CellSums.{sum_by_directions_one, sum_by_same, sum_by_zero, sum_by_swap, directions_at_most, same_place_same}
 use Rattle.drain_grid.proofs.Inflows.{FlowsFrom, share, share_cases, share_flow, share_sum, inflow_share}
 
--- what the cells that flow into c hand on
+-- what the cells that flow into c pass on
 pub handed_on : Grid → Products → Cell → (Cell → ℕ) → ℕ
 handed_on g ps c f = sum_by (λ d. share g ps (step g.extent c d) d f) directions
 

@@ -1,4 +1,4 @@
--- Runs tell the numbers of lines: which run tells a number, and what one run or one cell more changes.
+-- Runs give line numbers: which run gives a number, and what one more run or cell changes.
 use Rattle.std.proofs.Common.{◌≡◌, ℕ, zero, suc, ◌+◌, ◌-◌, ◌<◌, ◌≤◌, leb, le-leb, leb-true, leb-false, true, false, cond, List, [], ◌∷◌, ◌++◌, length, map, get_or, take, drop, Some, refl, sym, ap, ◌∙◌, arith}
 use Rattle.std.specs.List.{All, fold, slice_get}
 use Rattle.std.specs.List.Sorted.{IsPartitionPoint}
@@ -83,7 +83,7 @@ numbered-push i runs (x ∷ cells) c =
     ap (λ ys. record { line = number_at runs i; cell = x } ∷ ys) (numbered-push (i + 1) runs cells c
     ∙ ap (λ n. numbered_from (i + 1) runs cells ++ record { line = number_at runs n; cell = c } ∷ []) (omega arith))
 
--- the cells from the first on, where the next line's number is told
+-- the cells from the first on, where the next line's number is given
 pub numbered-more : (runs : List LineRun) (cells more : List Cell) (c : Cell) (line : ℕ) → more ≡ cells ++ c ∷ [] → number_at runs (length cells) ≡ line →
     numbered runs more ≡ numbered runs cells ++ record { line = line; cell = c } ∷ []
 numbered-more runs cells more c line is there =

@@ -15,7 +15,7 @@ either : (b : Bool) → (b ≡ true) ⊎ (b ≡ false)
 either true = inl refl
 either false = inr refl
 
--- a cell without data is told so
+-- the answer for a cell without data
 told_none : (g : Grid) (has : Cell → Bool) (s : SinkLine) → IsTold g has s → ¬ HasData g s.cell → has s.cell ≡ false
 told_none g has s told none = elim (either (has s.cell)) [ inl has_some ↦ absurd (none (told.0 has_some)) | inr has_none ↦ has_none ]
 

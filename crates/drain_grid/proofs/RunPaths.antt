@@ -1,4 +1,5 @@
--- Rules 4, 5 and 9, and 10 to 12: each data cell has a path whose crest is con, and along which con never rises. No spill parent is told.
+-- Rules 4, 5 and 9, and 10 to 12: each data cell has a path whose crest is con, and along which con never rises.
+-- Without spill parents.
 --
 -- Runs serve as paths. Where the code leads on to a lower neighbour, con here is above con there, so rule 9 can only hold if con
 -- here is no higher than the ground, and with rule 4 it is the ground. Where it leads on along a flat, con is the same there, and

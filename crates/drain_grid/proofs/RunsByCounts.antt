@@ -5,7 +5,7 @@
 -- they are, and the acc of those after one step more (Taken). So where all of them go on for one step more, there are none; else fewer do
 -- (none_goes, stopping_sum). A run may take as many steps as there are cells, and by then none is left (dwindles).
 --
--- Nothing is asked of the sign of acc: it is what is above 0 in it less what is below, so that sums are of numbers from 0 on.
+-- acc may have any sign: it is what is above 0 in it less what is below, so that sums are of numbers from 0 on.
 use Rattle.std.proofs.Common.{◌≡◌, ℕ, zero, suc, ◌+◌, ◌-◌, ◌≤◌, ◌∙◌, inl, inr, pos, Bool, true, false, cond, refl, ap, arith}
 use Rattle.std.specs.List.{sum_by}
 use Rattle.std.proofs.lemmas.Bool.{false≢true}

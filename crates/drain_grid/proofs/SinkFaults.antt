@@ -1,4 +1,4 @@
--- For a reviewer: the number that a listing tells is that of the first bad line, counted from the first line's number.
+-- For a reviewer: the number in a listing's error is that of the first bad line, counted from the first line's number.
 use Rattle.std.proofs.Common.{◌≡◌, ◌≢◌, ℕ, zero, suc, ◌+◌, ◌<◌, Bool, true, false, List, [], ◌∷◌, length, get_or, Result, Ok, Err, refl, sym, ap, ◌∙◌, arith}
 use Rattle.std.proofs.lemmas.Bool.{false≢true}
 use Rattle.drain_grid.specs.declared.cell.Cell.{Cell}

@@ -1,4 +1,4 @@
--- A row's columns are marked as the places of the row are passed, which stand together among the rising places of the listed cells.
+-- A row's columns are marked as the places of the row are passed, which are adjacent among the sorted places.
 use Rattle.std.proofs.Common.{◌≡◌, ℕ, ◌+◌, ◌-◌, ◌*◌, ◌^◌, ◌<◌, ◌≤◌, ◌==◌, ◌||◌, Bool, true, false, List, length, get_or, set, take, drop, ltb, ltb-true, ltb-false, length-take, sym, ap, subst, ◌∙◌, arith}
 use Rattle.std.specs.List.{list_any}
 use Rattle.std.specs.List.Sorted.{IsPartitionPoint}

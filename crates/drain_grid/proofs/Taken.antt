@@ -1,4 +1,5 @@
--- What cells hand on, added up over the cells that take it: each cell's number counts once, at the cell that its code leads to.
+-- What cells pass on, added up over the cells that take it: each cell's number counts once, at the cell that its code
+-- leads to.
 use Rattle.std.proofs.Common.{◌≡◌, ℕ, ◌∙◌, inl, inr, Bool, true, false, cond, List, Some, refl, sym, ap, subst}
 use Rattle.std.specs.List.{sum_by}
 use Rattle.std.proofs.lemmas.Bool.{cases_Bool, false≢true, false_from_ne_true}

@@ -1,10 +1,11 @@
 -- Rules 10 to 13: acc is the number of cells that drain through the cell.
 --
--- A data cell x drains through c exactly where x is c, or x drains through a cell that flows into c, and then through one only:
--- two such cells stand in the run of x, and their runs are longer than that of c by one, so they are one cell (Chains). As
--- numbers: counted at c is self and what the cells that flow in hand on of it (counted_parts). Summed over all x, with the sum
--- over cells and the sum over directions exchanged (CellSums), the number for c is one more than the sum of the numbers for the
--- cells that flow in, and that is rule 13's sum. The induction is on the number itself: what flows into c has a smaller one.
+-- A data cell x drains through c exactly where x is c, or x drains through a cell that flows into c, and then through
+-- one only: two such cells are in the run of x, and their runs are longer than that of c by one, so they are one cell
+-- (Chains). As numbers: counted at c is self and what the cells that flow in hand on of it (counted_parts). Summed over
+-- all x, with the sum over cells and the sum over directions exchanged (CellSums), the number for c is one more than
+-- the sum of the numbers for the cells that flow in, and that is rule 13's sum. The induction is on the number itself:
+-- what flows into c has a smaller one.
 use Rattle.std.proofs.Common.{◌≡◌, ℕ, zero, suc, ◌+◌, ◌<◌, ◌≤◌, ◌∙◌, inl, inr, pos, ◌+ℤ◌, true, false, cond, ◌&&◌, length, IsSome, is_some, refl, sym, ap, subst, arith}
 use Rattle.std.specs.List.{sum_by}
 use Rattle.std.proofs.Math.IntN.{pos-+ℤ-pos}

@@ -1,5 +1,5 @@
--- The rules without ranks don't look at ranks: they hold of products where they hold of the same products with other ranks. And the
--- numbers of steps, which ranks may be taken to be.
+-- The rules without ranks ignore ranks: they hold of products where they hold of the same products with other ranks.
+-- And the numbers of steps, which ranks may be taken to be.
 use Rattle.std.proofs.Common.{◌≡◌, ◌∙◌, ℕ, ℤ, pos, negsuc, ◌+ℤ◌, ◌≤ℤ◌, if◌then◌else◌, List, [], ◌∷◌, map, Option, Some, None, IsNone, IsSome, is_some, option_map, refl, sym, ap, subst}
 use Rattle.std.specs.Int.{int_max}
 use Rattle.std.proofs.lemmas.Bool.{false≢true}

@@ -1,5 +1,5 @@
 -- The rules worked on small grids: products that keep them all, so that the laws speak of something, and for each rule
--- products of which it is the first fault; 6 to 8 are asked only with spill parents.
+-- products of which it is the first fault; 6 to 8 only with spill parents.
 use Rattle.std.proofs.Common.{pos, ◌==◌, if◌then◌else◌, refl}
 use Rattle.drain_grid.specs.declared.cell.Cell.{Cell}
 use Rattle.drain_grid.specs.declared.rule.Rule.{Rule}

@@ -17,7 +17,7 @@ product_of held.Rnk = product.Rnk
 abbrev pub products : List Held
 products = held.Con ∷ held.Dir ∷ held.Acc ∷ held.Bas ∷ held.Rnk ∷ []
 
--- a product's place in that order; spill parents come behind them
+-- a product's place in that order; spill parents come after them
 abbrev pub place_of : Product → ℕ
 place_of product.Con = 0
 place_of product.Dir = 1

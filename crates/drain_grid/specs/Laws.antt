@@ -21,12 +21,12 @@ use Rattle.drain_grid.specs.Correct.{RunsAreSound, IsCorrect}
 abbrev pub LeastFromRules : Type 0
 LeastFromRules = (g : Grid) (ps : Products) → RulesHold fill_rules IsFillRule g ps → IsFilled g ps.con
 
--- the same without spill parents, whose place directions take: where rules 4, 5 and 9, and 10 to 12 hold at every cell
+-- the same without spill parents, by directions: where rules 4, 5 and 9, and 10 to 12 hold at every cell
 abbrev pub LeastFromRulesProfile2 : Type 0
 LeastFromRulesProfile2 =
     (g : Grid) (ps : Products) → RulesHold surface_rules IsFillRule g ps → RulesHold flow_rules IsWayRule g ps → IsFilled g ps.con
 
--- a rule that holds at a cell in the profile with spill parents holds there in the one without: so products keep their rules when spl is left out
+-- a rule that holds at a cell with spill parents holds there without: products keep their rules without spl
 abbrev pub Profile2FromProfile1 : Type 0
 Profile2FromProfile1 =
     (g : Grid) (ps : Products) (nodata : NoDataNumbers) (c : Cell) (r : Rule) →
@@ -48,20 +48,20 @@ LabelsAreBasins =
     (g : Grid) (ps : Products) → RulesHold flow_rules IsWayRule g ps → RulesHold flow_rules IsLabelRule g ps →
     (a b : Cell) → HasData g a → HasData g b → (ps.bas a ≡ ps.bas b) ↔ ShareBasin g ps a b
 
--- where all rules that a check tries hold at every cell, the products are correct, and every run is sound
+-- where all rules of a check hold at every cell, the products are correct, and every run is sound
 abbrev pub CorrectFromRules : Type 0
 CorrectFromRules =
     (g : Grid) (ps : Products) (nodata : NoDataNumbers) → RulesHold (check_rules nodata) IsAnyRule g ps →
     IsCorrect g ps nodata × RunsAreSound g ps
 
--- the converse: where the products are correct and each rank is the number of steps of the cell's run, every rule holds at every cell
+-- the converse: where products are correct and ranks are the numbers of steps of runs, every rule holds at every cell
 abbrev pub RulesFromCorrect : Type 0
 RulesFromCorrect =
     (g : Grid) (ps : Products) (nodata : NoDataNumbers) → IsCorrect g ps nodata → RanksAreSteps g ps nodata →
     RulesHold (check_rules nodata) IsAnyRule g ps
 
--- where every run ends, a rule holds at a cell with the numbers of steps for ranks, in place of whatever ranks the products have, exactly
--- where it holds without ranks
+-- where every run ends, a rule holds at a cell with the numbers of steps for ranks, whatever ranks the products have,
+-- exactly where it holds without ranks
 abbrev pub RanksPlayNoPart : Type 0
 RanksPlayNoPart =
     (g : Grid) (ps : Products) (nodata : NoDataNumbers) (ranks : Cell → ℤ) (rank_nodata : ℤ) →
@@ -69,7 +69,7 @@ RanksPlayNoPart =
     (c : Cell) (r : Rule) → IsInside g c →
     HoldsAt (check_rules (with_rank_nodata nodata rank_nodata)) g (with_ranks ps ranks) c r ↔ HoldsAt (unranked nodata) g ps c r
 
--- with the numbers of steps for ranks, in place of whatever ranks the products have, every rule holds at every cell exactly where
+-- with the numbers of steps for ranks, whatever ranks the products have, every rule holds at every cell exactly where
 -- the products are correct
 abbrev pub RulesAreCorrect : Type 0
 RulesAreCorrect =
@@ -83,7 +83,7 @@ CorrectIsLocal =
     (g : Grid) (ps : Products) (nodata : NoDataNumbers) →
     IsCorrect g ps nodata ↔ (((c : Cell) → HasData g c → RunEnds g ps c) × RulesHold (unranked nodata) IsAnyRule g ps)
 
--- where rules 10 to 13 hold without ranks at every cell, the run of every data cell ends: acc can't grow by one at each cell of a ring
+-- where rules 10 to 13 hold without ranks everywhere, each run ends: acc can't grow at each cell of a ring
 abbrev pub RunsEndByCounts : Type 0
 RunsEndByCounts =
     (g : Grid) (ps : Products) → RulesHold level_rules IsCountRule g ps → (c : Cell) → HasData g c → RunEnds g ps c
@@ -97,7 +97,7 @@ CorrectByRulesAlone =
 abbrev pub SoundFromCorrect : Type 0
 SoundFromCorrect = (g : Grid) (ps : Products) (nodata : NoDataNumbers) → IsCorrect g ps nodata → RunsAreSound g ps
 
--- a cell that isn't listed is open exactly where it has data and lies on the edge of the grid or beside a void
+-- a cell that isn't listed is open exactly where it has data and lies on the edge of the grid or next to a void
 abbrev pub OpenWithoutSinks : Type 0
 OpenWithoutSinks =
     (g : Grid) (c : Cell) → ¬ IsTrue (g.sink c) →

@@ -37,12 +37,12 @@ pub record IsFirstOffData (g : Grid) (sinks : List SinkLine) (line : ℕ) : Type
   pub off : IsOffData g sinks line
   pub first : (n : ℕ) → n < line → ¬ IsOffData g sinks n
 
--- it is found, and none where each line lists a data cell
+-- it is found, and none if each line lists a data cell
 abbrev pub IsOffAnswer : Grid → List SinkLine → Option ℕ → Type 0
 IsOffAnswer g sinks None = (n : ℕ) → ¬ IsOffData g sinks n
 IsOffAnswer g sinks (Some line) = IsFirstOffData g sinks line
 
--- where listed cells have data exactly as it is asked, what is found is right of the grid
+-- if these answers are right for each listed cell, the line found is right for the grid
 abbrev pub FoundOffDataIsRight : Type 0
 FoundOffDataIsRight =
     (g : Grid) (sinks : List SinkLine) (has : Cell → Bool) (found : Option ℕ) →

@@ -1,4 +1,4 @@
--- A list of sinks: the cells that a user lists as open, each with the number of its line. Inland sinks are this project's own.
+-- A list of sinks: the cells that a user lists as open, each with its line number. Inland sinks are this project's own.
 use Rattle.std.specs.Prelude.{◌+◌, ◌*◌, ◌^◌, ◌<◌, ℕ, Bool, List, map}
 use Rattle.std.specs.List.{All, list_any}
 use Rattle.std.specs.List.Sorted.{IsNonDecreasing, IsPermutation}
@@ -10,7 +10,7 @@ use Rattle.drain_grid.specs.Extent.{same_cell}
 abbrev pub is_listed : List SinkLine → Cell → Bool
 is_listed sinks c = list_any (λ s. same_cell c s.cell) sinks
 
--- the cell's place in row order, were there 2^32 columns: so each cell has a place of its own, whatever the grid
+-- the cell's place in row order on a grid of 2^32 columns: so each cell has a place of its own, whatever the grid
 abbrev pub wide_place : Cell → ℕ
 wide_place c = c.row * 2 ^ 32 + c.col
 

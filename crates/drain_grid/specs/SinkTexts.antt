@@ -12,25 +12,25 @@ abbrev pub numbers_say : Option ℕ → Option ℕ → LineSays
 numbers_say (Some row) (Some col) = Sink (record { row = row; col = col })
 numbers_say row col = NoSink
 
--- a line without words says nothing; one of two whole numbers lists a cell; any other is bad
+-- a line without words lists nothing; one of two whole numbers lists a cell; any other is bad
 abbrev pub words_say : List (List ℕ) → LineSays
 words_say [] = Nothing
 words_say (row ∷ []) = NoSink
 words_say (row ∷ (col ∷ [])) = numbers_say (whole_number row) (whole_number col)
 words_say (row ∷ (col ∷ (more ∷ rest))) = NoSink
 
--- a line says what its words say
+-- the meaning of a line is that of its words
 abbrev pub line_says : List ℕ → LineSays
 line_says line = words_say (words_of line)
 
--- a line before others: what it lists stands first, and where it is bad it is the first bad one
+-- a line before others: its cell comes first, and if it is bad it is the first bad one
 abbrev pub with_line : ℕ → LineSays → Result (List SinkLine) ℕ → Result (List SinkLine) ℕ
 with_line number Nothing rest = rest
 with_line number NoSink rest = Err number
 with_line number (Sink c) (Ok sinks) = Ok (record { line = number; cell = c } ∷ sinks)
 with_line number (Sink c) (Err bad) = Err bad
 
--- what lines list that are numbered from here on, or the number of the first bad one
+-- what lines list that are numbered from this number on, or the number of the first bad one
 abbrev pub listing : ℕ → List (List ℕ) → Result (List SinkLine) ℕ
 listing number [] = Ok []
 listing number (line ∷ more) = with_line number (line_says line) (listing (number + 1) more)
@@ -39,7 +39,7 @@ listing number (line ∷ more) = with_line number (line_says line) (listing (num
 abbrev pub sinks_of : List ℕ → Result (List SinkLine) ℕ
 sinks_of text = listing 1 (lines_of text)
 
--- the first bad line; want of memory says nothing of the text
+-- the first bad line; running out of memory says nothing of the text
 abbrev pub IsSinkFault : List ℕ → SinkFault → Type 0
 IsSinkFault text (BadSinkLine number) = sinks_of text ≡ Err number
 IsSinkFault text OutOfMemory = Unit {0}

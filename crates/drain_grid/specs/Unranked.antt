@@ -1,5 +1,5 @@
--- The rules without ranks: what an audit asks of each cell, while it finds out by itself which runs end. Rules 1 and 2 speak of con, dir, acc
--- and bas, and rule 12 says nothing of ranks. They are this project's own, as the rules are.
+-- The rules without ranks: what an audit checks at each cell, while it finds out which runs end. Rules 1 and 2 are
+-- about con, dir, acc and bas, and rule 12 ignores ranks. They are this project's own, as the rules are.
 use Rattle.std.specs.Prelude.{◌≡◌, ◌≢◌, IsNone}
 use Rattle.drain_grid.specs.declared.direction.Direction.{Direction}
 use Rattle.drain_grid.specs.declared.patch.Patch.{Patch}

@@ -1,6 +1,6 @@
-//! Where the values at the cells of a grid come from: the trait that patches are built over.
+//! Where the values at the cells of a grid come from: the trait for the inputs of patches.
 //!
-//! A source is apart from the rasters because it needn't hold them: it may read its values in place.
+//! A source is apart from the rasters because it need not keep them: it may read its values in place.
 
 ghost use Rattle.std.specs.Prelude.{◌≡◌};
 ghost use Rattle.drain_grid.specs.declared.cell.Cell.{Cell};
@@ -11,12 +11,12 @@ ghost use Rattle.drain_grid.specs.Values.{Values};
 use crate::cell::{Cell, Shape};
 use crate::values::CellValues;
 
-/// A grid that shows the values at each of its cells.
+/// A grid that gives the values at each of its cells.
 pub trait CellSource {
     /// The rows and columns of the grid.
     ghost size: { Self → Extent };
 
-    /// The values that the source shows at a cell.
+    /// The values that the source gives at a cell.
     ghost shown: { Self → Cell → Values };
 
     /// The rows and columns of the grid.

@@ -1,6 +1,6 @@
 //! What the local rules say of the whole grid.
 //!
-//! Each law is a function with nothing to do: its contract is the law, and a caller that calls it has the law at hand.
+//! A law is a function with an empty body: its contract is the law, and code that calls it can use the law.
 
 ghost use Rattle.std.specs.Prelude.{◌≡◌, pos, neg_ℤ};
 ghost use Rattle.drain_grid.specs.OffData.{FoundOffDataIsRight};
@@ -14,9 +14,11 @@ use crate::values::{GREATEST_PIXEL, LEAST_PIXEL};
 
 /// The numerals of the constants that definitions name.
 ///
-/// Sources: the SRTM HGT documentation for the void, for the numbers of samples, which are those of 16 signed bits, and for the greatest
-/// side, that of a 1 arc-second tile; the numbers that 32 bits spell, signed and not, for pixels; eight such tiles side by side, which share
-/// their edges, for the greatest length. The least side, the bounds of a no-data number and the units of a degree are this project's own.
+/// Sources: the SRTM HGT documentation for the void, for the range of samples (16 signed bits), and for the greatest
+/// side (a 1 arc-second tile); the range of 32 bits, signed and unsigned, for pixels; eight such tiles side by side,
+/// with
+/// shared edges, for the greatest length. The least side, the bounds of a no-data number and the units of a degree are
+/// this project's own.
 pub fn constants()
     ensures void { VOID ≡ neg_ℤ (pos 32768) }
     ensures least_sample { LEAST_SAMPLE ≡ neg_ℤ (pos 32768) }
@@ -46,8 +48,8 @@ pub fn profile2_from_profile1()
     ensures { Profile2FromProfile1 }
 {}
 
-/// Where rules 10 to 12 hold at every cell, no code climbs, each run visits a cell at most once and
-/// ends at an outlet, and the code is 0 exactly at the outlets.
+/// If rules 10 to 12 hold at every cell, no code climbs, each run visits a cell at most once and ends at an outlet, and
+/// the code is 0 exactly at the outlets.
 pub fn runs_end()
     ensures { RunsEnd }
 {}
@@ -57,61 +59,61 @@ pub fn counts_upstream()
     ensures { CountsUpstream }
 {}
 
-/// Where rules 10 to 12, 14 and 15 hold at every cell, two data cells have equal labels exactly where
-/// their runs end in the same cell.
+/// If rules 10 to 12, 14 and 15 hold at every cell, two data cells have equal labels exactly if their runs end in the
+/// same cell.
 pub fn labels_are_basins()
     ensures { LabelsAreBasins }
 {}
 
-/// Where all rules that a check tries hold at every cell, the products are correct, and besides no run visits a cell twice
-/// and each ends at an outlet.
+/// If all rules of a check hold at every cell, the products are correct, and no run visits a cell twice and each ends
+/// at an outlet.
 pub fn correct_from_rules()
     ensures { CorrectFromRules }
 {}
 
-/// Where the products are correct and each rank is the number of steps of the cell's run, every rule that a check tries holds at every
-/// cell: with such ranks a rejection means wrong products.
+/// If the products are correct and each rank is the number of steps of the cell's run, every rule of a check holds at
+/// every cell: with such ranks a rejection means wrong products.
 pub fn rules_from_correct()
     ensures { RulesFromCorrect }
 {}
 
-/// Where every run ends, a rule that a check tries holds at a cell with the numbers of steps for ranks exactly where it holds without ranks.
+/// If every run ends, a rule of a check holds at a cell with the numbers of steps as ranks exactly if it holds without.
 pub fn ranks_play_no_part()
     ensures { RanksPlayNoPart }
 {}
 
-/// With the numbers of steps for ranks, every rule that a check tries holds at every cell exactly where the products are correct.
+/// With the numbers of steps as ranks, every rule of a check holds at every cell exactly if the products are correct.
 pub fn rules_are_correct()
     ensures { RulesAreCorrect }
 {}
 
-/// Products are correct exactly where every run ends and every rule without ranks holds at every cell.
+/// Products are correct exactly if every run ends and every rule without ranks holds at every cell.
 pub fn correct_is_local()
     ensures { CorrectIsLocal }
 {}
 
-/// Where rules 10 to 13 hold without ranks at every cell, the run of every data cell ends, since `acc` can't grow by one at each cell of a
-/// ring.
+/// If rules 10 to 13 hold without ranks at every cell, the run of every data cell ends: `acc` can't grow by one at each
+/// cell of a ring.
 pub fn runs_end_by_counts()
     ensures { RunsEndByCounts }
 {}
 
-/// Products are correct exactly where every rule without ranks holds at every cell: no run has to be followed.
+/// Products are correct exactly if every rule without ranks holds at every cell: no run has to be followed.
 pub fn correct_by_rules_alone()
     ensures { CorrectByRulesAlone }
 {}
 
-/// Where products are correct no run visits a cell twice, and each ends at an outlet.
+/// If products are correct, no run visits a cell twice, and each ends at an outlet.
 pub fn sound_from_correct()
     ensures { SoundFromCorrect }
 {}
 
-/// The least line that lists a cell without data, as it was asked cell by cell, is that of the grid whose cells were told.
+/// The least line that lists a cell without data by cell-by-cell answers is that of the grid with these answers.
 pub fn found_off_data_is_right()
     ensures { FoundOffDataIsRight }
 {}
 
-/// Which cells are open where none is listed as a sink: those with data on the edge of the grid or beside a void.
+/// Which cells are open if none is listed as a sink: those with data on the edge of the grid or next to a void.
 pub fn open_without_sinks()
     ensures { OpenWithoutSinks }
 {}

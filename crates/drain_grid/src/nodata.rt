@@ -1,7 +1,7 @@
-//! The numbers that stand for no data.
+//! No-data numbers.
 //!
-//! They are apart from the values at a cell because they reach further: a raster's header may give any number
-//! from -10,000,000,000 to 10,000,000,000, also one that none of the raster's pixels can spell.
+//! They are apart from the values at a cell because their range is wider: a raster's header may give any number from
+//! -10,000,000,000 to 10,000,000,000, even one that no pixel of the raster can encode.
 
 ghost use Rattle.std.specs.Prelude.{◌≡◌};
 ghost use Rattle.drain_grid.specs.Product.{default_numbers};
@@ -9,13 +9,13 @@ ghost use Rattle.drain_grid.specs.Product.{default_numbers};
 use crate::product::Product;
 use std::marker::Model;
 
-/// The least number that can stand for no data.
+/// The least no-data number.
 pub const LEAST_NODATA: i64 = -10000000000;
 
-/// The greatest number that can stand for no data.
+/// The greatest no-data number.
 pub const GREATEST_NODATA: i64 = 10000000000;
 
-/// For each product the number that stands for no data.
+/// The no-data number of each product.
 #[derive(Clone, Copy, PartialEq, Eq, Debug)]
 pub struct NoData {
     pub con: i64,
@@ -39,7 +39,7 @@ impl Model for NoData {
 }
 
 impl NoData {
-    /// The numbers that hold where nothing else is said.
+    /// The default no-data numbers.
     pub fn defaults() -> NoData
         ensures { result ≡ default_numbers }
     {

@@ -1,6 +1,6 @@
-//! Cells with the numbers of their lines.
+//! Cells with their line numbers.
 //!
-//! Lines mostly follow one another, so a number is kept only where one doesn't follow that of the cell before.
+//! Most lines follow one another, so a line number is kept only if it doesn't follow that of the cell before.
 
 ghost use Rattle.std.specs.Prelude.{◌≡◌, ◌↔◌, ℕ, ◌+◌, ◌-◌, ◌<◌, ◌≤◌, [], ◌∷◌, ◌++◌, length, map, slice_get, slice_index_or, Some, IsTrue, IsErr, OnOk};
 ghost use Rattle.std.specs.List.{All};
@@ -14,7 +14,7 @@ use crate::sink_line::SinkLine;
 use std::alloc::Global;
 use std::marker::Model;
 
-/// Cells whose lines follow one another: how many cells come before the first of them, and the number of its line.
+/// The first of some cells on consecutive lines: how many cells come before it, and its line number.
 #[derive(Clone, Copy, PartialEq, Eq, Debug)]
 pub struct LineRun {
     pub first: usize,
@@ -51,7 +51,7 @@ impl NumberedCells {
         }
     }
 
-    /// Adds a cell that stands on the line of this number.
+    /// Adds a cell with its line number.
     pub(crate) fn push(&mut self, line: u64, cell: Cell) -> Result<(), OutOfMemory>
         ensures added { OnOk result (self.new ≡ self.old ++ record { line = line; cell = cell } ∷ []) }
         ensures kept { IsErr result → self.new ≡ self.old }
@@ -78,7 +78,7 @@ impl NumberedCells {
         &self.cells
     }
 
-    /// The cell at this place, with the number of its line.
+    /// The cell at this place, with its line number.
     pub(crate) fn get(&self, i: usize) -> SinkLine
         requires { i < length self.now }
         ensures { slice_get self.now i ≡ Some result }
@@ -91,7 +91,7 @@ impl NumberedCells {
     }
 }
 
-/// Makes the runs tell this number for the line of the next cell. They stay as they are where they tell it already.
+/// Makes the runs give this line number for the next cell. They stay as they are if they give it already.
 fn run_on(runs: &mut Vec<LineRun>, count: usize, line: u64) -> Result<(), OutOfMemory>
     requires { AreRuns runs.old.items count }
     ensures runs { AreRuns runs.new.items count }
@@ -109,7 +109,7 @@ fn run_on(runs: &mut Vec<LineRun>, count: usize, line: u64) -> Result<(), OutOfM
     Ok(())
 }
 
-/// Whether the last run tells this number for the line of the next cell.
+/// Whether the last run gives this line number for the next cell.
 fn follows(runs: &[LineRun], count: usize, line: u64) -> bool
     requires { All (λ run. run.first ≤ count) runs.now }
     ensures { IsTrue result ↔ ((0 < length runs.now) × (number_at runs.now count ≡ line)) }

@@ -7,7 +7,7 @@ ghost use Rattle.drain_grid.specs.OffData.{IsLeastOff};
 use crate::cell::Cell;
 use crate::sinks::Sinks;
 
-/// Where it is asked whether a listed sink has data.
+/// Says whether a listed sink has data.
 pub trait SinkData {
     /// Whether a cell has data, if it is listed.
     ghost has: { Self → Cell → Bool };
@@ -17,7 +17,7 @@ pub trait SinkData {
         ensures { result ≡ has self.now cell };
 }
 
-/// The least line that lists a cell without data; none where each lists a data cell.
+/// The least line that lists a cell without data; none if each lists a data cell.
 pub fn first_off_data<D: SinkData>(sinks: &Sinks, cells: &D) -> Option<u64>
     ensures { IsLeastOff (D.has cells.now) sinks.now (length sinks.now) result }
 {

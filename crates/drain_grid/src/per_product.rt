@@ -33,7 +33,7 @@ impl<T> PerProduct<T> {
 }
 
 impl<T: Drop> PerProduct<T> {
-    /// What `give` answers for each product, asked in their order. The first error ends it.
+    /// What `give` returns for each product, called in their order. The first error ends it.
     pub fn from_each<E, F: Fn(Held) -> Result<T, E>>(give: &F) -> Result<PerProduct<T>, E>
         requires { F.IsAlwaysCallable give.now }
         ensures each { IfOk result (λ things. (p : Held) → F.post give.now p (Ok (of_product things p))) }

@@ -1,4 +1,4 @@
-//! The rules VoidCell, Missing and BadCode without ranks: con, dir, acc and bas are asked for, and nothing else.
+//! The rules VoidCell, Missing and BadCode without ranks: they check con, dir, acc and bas only.
 
 ghost use Rattle.std.specs.Prelude.{◌↔◌, IsTrue};
 
@@ -12,7 +12,7 @@ impl Patch {
     ghost use Rattle.drain_grid.specs.Rule.{IsLeastFault, IsPresenceRule};
     ghost use Rattle.drain_grid.specs.Unranked.{unranked};
 
-    /// The first of the three rules without ranks that fails at the cell, none where they all hold. Of spl and rnk it asks nothing.
+    /// The first of the three rules that fails at the cell, spl and rnk ignored; none if they all hold.
     pub fn presence_fault_without_ranks(&self, nodata: &NoData) -> Option<Rule>
         ensures least { IsLeastFault IsPresenceRule (unranked nodata.now self.now) result }
     {

@@ -1,4 +1,4 @@
-//! Numbers of a few bits, copied as numbers of 64.
+//! Numbers of a few bits, copied as numbers of 64 bits.
 
 ghost use Rattle.std.specs.Prelude.{◌≡◌, ◌≤◌, ◌<◌, ◌+◌, ℕ, pos, All, length, slice_index, slice_index_or};
 ghost use Rattle.drain_grid.specs.Tile.{IsSample};

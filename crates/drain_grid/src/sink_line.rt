@@ -13,7 +13,7 @@ pub struct SinkLine {
     pub cell: Cell,
 }
 
-/// What a line says.
+/// The meaning of a line.
 #[derive(Clone, Copy, PartialEq, Eq, Debug)]
 pub enum LineSays {
     /// The line has no word.
@@ -24,7 +24,7 @@ pub enum LineSays {
     NoSink,
 }
 
-/// What a line says: two words, each a whole number, are the row and the column of a cell.
+/// The meaning of a line: two words, each a whole number, are the row and the column of a cell.
 pub(crate) fn read_line(line: &[u8]) -> LineSays
     ensures { result ≡ line_says line.now }
 {

@@ -57,7 +57,7 @@ fn read_lines(alloc: Global, text: &[u8]) -> Result<NumberedCells, SinkFault>
         let Some(next) = after else {
             return Ok(lines);
         };
-        // A text has fewer than 2^64 lines, so the count never stays behind.
+        // A text has fewer than 2^64 lines, so the count stays exact.
         number = number.saturating_add(1);
         rest = next;
     }

@@ -1,8 +1,8 @@
 //! Cells that a user lists as sinks: inland places where water may leave the grid.
 //!
-//! A check asks of each cell whether it is one, so the list is kept twice: as its cells with the numbers of their lines, for who tells a
-//! line by its number, and as the rising places of the cells, where a search by halves finds a cell. A place is one number of 64 bits, so the search
-//! compares no pairs, and an empty list is answered without any comparison.
+//! A check looks up each cell, so the list is kept twice: as its cells with their line numbers, for reports that name a
+//! line, and as the sorted places of the cells, for a binary search. A place is one number of 64 bits, so the search
+//! compares no pairs, and an empty list needs no comparison.
 
 ghost use Rattle.std.specs.Prelude.{◌≡◌, ℕ, ◌+◌, ◌*◌, ◌^◌, ◌<◌, ◌≤◌, [], false, length, map, slice_get, slice_index_or, Some, IfOk};
 ghost use Rattle.drain_grid.specs.SinkLines.{is_listed, wide_place, AreNarrow, ArePlaces};
@@ -15,8 +15,8 @@ use std::marker::Model;
 
 /// The lines of a sink list that are not empty, in order.
 ///
-/// A sink takes 16 bytes, 8 for its cell and 8 for its place. Each run of lines takes 16 more: one for the first sink, and one wherever
-/// empty lines stand between two sinks.
+/// A sink takes 16 bytes, 8 for its cell and 8 for its place. Each run of lines takes 16 more: one for the first sink,
+/// and one after each gap of empty lines between two sinks.
 #[derive(Drop)]
 pub struct Sinks {
     lines: NumberedCells,
@@ -69,7 +69,7 @@ impl Sinks {
         self.places.binary_search(&place_of(cell)).is_ok()
     }
 
-    /// Marks the columns of a row that are listed, and unmarks all others.
+    /// Marks the listed columns of a row, and unmarks all others.
     pub fn mark_row(&self, row: u32, marks: &mut [bool])
         requires within { length marks.old ≤ 2 ^ 32 }
         ensures counted { length marks.new ≡ length marks.old }
@@ -104,7 +104,7 @@ impl Sinks {
     }
 }
 
-/// The place of a cell in row order, were there 2^32 columns.
+/// The place of a cell in row order on a grid of 2^32 columns.
 fn place_of(cell: Cell) -> u64
     ensures { result ≡ wide_place cell }
 {

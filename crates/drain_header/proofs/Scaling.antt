@@ -1,4 +1,4 @@
--- Digits that are cut behind those that count, and shifted by powers of ten.
+-- Digits that are cut after those that count, and shifted by powers of ten.
 use Rattle.std.proofs.Common.{◌≡◌, ℕ, zero, suc, ◌+◌, ◌-◌, ◌*◌, ◌^◌, ◌<◌, ◌≤◌, Bool, true, false, List, [], ◌∷◌, ◌++◌, length, take, drop, min, arith, refl, sym, ap, ◌∙◌, eq-eqb}
 use Rattle.std.specs.Prelude.{◌&&◌, ◌==◌, nat_lt}
 use Rattle.std.specs.Str.Parse.{digits_value, digits_value_after, AllDigits}

@@ -4,7 +4,7 @@ use Rattle.drain_header.specs.declared.fault.HeaderFault.{HeaderFault}
 use Rattle.drain_header.specs.declared.fault.HeaderFault.TheVariants.{TooLong, RepeatedKey, BadValue, MissingKey, NotOneBand, BadBits, BadPixelType, RowTooShort}
 use Rattle.drain_header.specs.Lines.{name_of}
 
--- the words of a fault, and the line or the keyword that it is about
+-- the name of a fault, and its line or keyword
 abbrev pub fault_text : HeaderFault → List ℕ
 fault_text TooLong = codes "TooLong"
 fault_text (RepeatedKey n) = codes "RepeatedKey " ++ decimal n

@@ -22,7 +22,7 @@ number_or key default seen = unwrap_or (said_by number_of key seen) default
 abbrev pub coordinate_or_zero : Key → Seen → ℤ
 coordinate_or_zero key seen = unwrap_or (said_by coordinate_in key seen) (pos 0)
 
--- how many bytes the pixels of a row take
+-- how many bytes the pixels of a row need
 abbrev pub packed_row_in : Seen → ℕ
 packed_row_in seen = number_or Ncols 0 seen * number_or Nbits 8 seen / 8
 
@@ -30,12 +30,12 @@ packed_row_in seen = number_or Ncols 0 seen * number_or Nbits 8 seen / 8
 abbrev pub row_bytes_in : Seen → ℕ
 row_bytes_in seen = number_or TotalRowBytes (number_or BandRowBytes (packed_row_in seen) seen) seen
 
--- the pixel type is another word than the two that are known
+-- the pixel type is neither of the two known words
 abbrev pub is_other_type : Value → Bool
 is_other_type (Signed signed) = is_none signed
 is_other_type value = false
 
--- a value stands there, and it is such a pixel type
+-- there is a value, and it is such a pixel type
 abbrev pub is_other_type_in : Option Value → Bool
 is_other_type_in None = false
 is_other_type_in (Some value) = is_other_type value
@@ -44,7 +44,7 @@ is_other_type_in (Some value) = is_other_type value
 abbrev pub is_pixel_size : ℕ → Bool
 is_pixel_size bits = (bits == 8) || ((bits == 16) || (bits == 32))
 
--- the header that the values describe
+-- the header of the values
 abbrev pub header_in : Seen → Fields
 header_in seen = record {
   rows = number_or Nrows 0 seen;
@@ -63,7 +63,7 @@ header_in seen = record {
   nodata = said_by nodata_in keys.Nodata seen;
 }
 
--- that header, or the first of the faults that are of no line
+-- that header, or the first of the faults that belong to no line
 abbrev pub finished : Seen → Result Fields HeaderFault
 finished seen =
     if not (number_or Nbands 1 seen == 1) then Err NotOneBand
@@ -71,7 +71,7 @@ finished seen =
     else (if is_other_type_in (slice_index_or seen (key_order PixelType) None) then Err BadPixelType
     else (if nat_lt (row_bytes_in seen) (packed_row_in seen) then Err RowTooShort else Ok (header_in seen))))
 
--- a number of rows or of columns that a header can have
+-- a valid number of rows or of columns
 pub record IsSize (n : ℕ) : Type 0 where
   pub low : 1 ≤ n
   pub high : n ≤ 28801

@@ -1,4 +1,4 @@
--- A decimal's parts, without where they lie in memory.
+-- A decimal's parts, apart from their place in memory.
 use Rattle.std.specs.Prelude.{◌≡◌, ℕ, ◌+◌, ◌-◌, ◌*◌, ◌^◌, ◌<◌, ◌≤◌, ◌==◌, ◌++◌, min, Bool, true, false, ◌⊎◌, length}
 use Rattle.std.specs.Str.Parse.{AllDigits}
 use Rattle.std.specs.Float.Numeral.{Parts, numeral_digits, tens_up, tens_down}
@@ -26,8 +26,8 @@ pub record IsOfDigits (n : Numeral) : Type 0 where
 abbrev pub decimal_from_parts : Bool × Numeral → Decimal
 decimal_from_parts found = decimal_from found.0 (parts_of found.1)
 
--- A magnitude is units units of 10 ^ -places and a rest below one. The number told is that of the units, or the greatest of
--- 128 bits where that is less, and the test whether there is no rest.
+-- A magnitude is `units` units of 10 ^ -places and a rest below one. The number is that of the units, or the greatest
+-- of 128 bits if that is less, and the test says whether there is no rest.
 pub record IsScaled (parts : Parts) (places told : ℕ) (is_exact : Bool) : Type 0 where
   pub units : ℕ
   pub rest : ℕ
@@ -36,7 +36,7 @@ pub record IsScaled (parts : Parts) (places told : ℕ) (is_exact : Bool) : Type
   pub sum : numeral_digits parts * 10 ^ tens_up parts * 10 ^ places ≡ units * 10 ^ tens_down parts + rest
   pub below : rest < 10 ^ tens_down parts
 
--- what a test tells of a magnitude's whole units against a limit
+-- what a test says of a magnitude's whole units against a limit
 abbrev pub Compares : ℕ → Bool → ℕ → Bool → Type 0
 Compares units is_exact limit true = (units < limit) ⊎ ((units ≡ limit) × (is_exact ≡ true))
 Compares units is_exact limit false = (limit < units) ⊎ ((units ≡ limit) × (is_exact ≡ false))

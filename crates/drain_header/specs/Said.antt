@@ -1,4 +1,4 @@
--- What the values of the keywords say, by their kinds.
+-- The keywords' values by their kinds.
 use Rattle.std.specs.Prelude.{ℕ, ℤ, Bool, Option, Some, None, option_and_then, slice_index_or}
 use Rattle.drain_header.specs.declared.header.ByteOrdering.{ByteOrdering}
 use Rattle.drain_header.specs.declared.key.Key.{Key}
@@ -17,7 +17,7 @@ abbrev pub ordering_in : Value → Option ByteOrdering
 ordering_in (Ordering order) = Some order
 ordering_in value = None
 
--- whether pixels are signed, where the pixel type is one of the two words that are known
+-- whether pixels are signed, if the pixel type is one of the two known words
 abbrev pub sign_in : Value → Option Bool
 sign_in (Signed signed) = signed
 sign_in value = None
@@ -32,6 +32,6 @@ abbrev pub nodata_in : Value → Option ℤ
 nodata_in (Nodata z) = Some z
 nodata_in value = None
 
--- what a keyword's value says, if a line has the keyword
+-- the meaning of a keyword's value, if a line has the keyword
 abbrev pub said_by : {A : Type 0} → (Value → Option A) → Key → Seen → Option A
 said_by kind key seen = option_and_then kind (slice_index_or seen (key_order key) None)

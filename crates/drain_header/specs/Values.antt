@@ -1,4 +1,4 @@
--- What words say as values of keywords.
+-- The meaning of words as values of keywords.
 use Rattle.std.specs.Prelude.{ℕ, List, Option, Some, None, option_map, if◌then◌else◌}
 use Rattle.drain_text.specs.Text.{whole_number}
 use Rattle.drain_header.specs.declared.key.Key.{Key}
@@ -8,7 +8,7 @@ use Rattle.drain_header.specs.declared.value.Value.TheVariants as values
 use Rattle.drain_header.specs.Decimals.{coordinate_of, nodata_of}
 use Rattle.drain_header.specs.Lines.{size_of, ordering_of, is_layout, signedness_of}
 
--- what a word says as the value of the keyword, if the keyword takes it
+-- the meaning of a word as the value of the keyword, if it is valid
 abbrev pub value_read : Key → List ℕ → Option Value
 value_read Nrows word = option_map (λ n. values.Number n) (size_of word)
 value_read Ncols word = option_map (λ n. values.Number n) (size_of word)

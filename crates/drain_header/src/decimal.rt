@@ -1,8 +1,8 @@
 //! Decimals of a header, as whole numbers of a unit.
 //!
-//! A decimal may have as many digits as the text holds. Its digits are read once: those that count in the unit are
-//! added up, where a sum past 128 bits stays there, and of the others only whether all are noughts is kept. So a
-//! decimal is compared with its limit before its further places are dropped, in one step a digit.
+//! A decimal may have any number of digits. Its digits are read once: those that count in the unit are added up, and a
+//! sum past 128 bits stops there; of the others only whether all are zeros is kept. So a decimal is compared with its
+//! limit before its further places are dropped, in one step per digit.
 
 ghost use Rattle.std.specs.Prelude.{◌≡◌, ◌+◌, ◌*◌, ◌-◌, ◌^◌, ◌<◌, ◌≤◌, ◌==◌, if◌then◌else◌, length, ℕ, min, option_map, IfSome};
 ghost use Rattle.std.specs.Str.Parse.{digits_value, digits_value_after, AllDigits};
@@ -17,7 +17,7 @@ const MAX_COORDINATE: u128 = 10_000_000_000_000_000_000_000_000;
 /// The greatest magnitude of a no-data number.
 const MAX_NODATA: u128 = 10_000_000_000;
 
-/// The coordinate that a word spells, in units of 10^-15 without further places.
+/// The coordinate of a word, in units of 10^-15 without further places.
 pub fn coordinate(word: &[u8]) -> Option<i128>
     ensures { result ≡ coordinate_of word.now }
 {
@@ -29,7 +29,7 @@ pub fn coordinate(word: &[u8]) -> Option<i128>
     Some(signed(negative, units))
 }
 
-/// The no-data number that a word spells: a decimal that is a whole number.
+/// The no-data number of a word: a decimal that is a whole number.
 pub fn nodata(word: &[u8]) -> Option<i64>
     ensures { result ≡ nodata_of word.now }
 {
@@ -71,7 +71,7 @@ fn small_signed(negative: bool, magnitude: u64) -> i64
     if negative { -number } else { number }
 }
 
-/// Whether the decimal that a word spells has the sign `-`, and its parts.
+/// Whether a decimal has the sign `-`, and its parts.
 fn decimal(word: &[u8]) -> Option<(bool, Numeral<'_>)>
     ensures value { option_map decimal_from_parts result ≡ decimal_of word.now }
     ensures digits { IfSome result (λ found. IsOfDigits found.1) }
@@ -89,7 +89,7 @@ fn decimal(word: &[u8]) -> Option<(bool, Numeral<'_>)>
     Some((negative, numeral))
 }
 
-/// A decimal without its sign in units of 10^-places, `u128::MAX` where it is greater, and whether it has no further places.
+/// A decimal without its sign in units of 10^-places, at most `u128::MAX`, and whether it has no further places.
 fn in_units(numeral: &Numeral<'_>, places: usize) -> (u128, bool)
     requires digits { IsOfDigits numeral.now }
     requires places { places ≤ 15 }
@@ -123,7 +123,7 @@ fn power(exponent: &[u8]) -> usize
     append_digits(0, exponent) as usize
 }
 
-/// By how many powers of ten the digits are to be raised and lowered.
+/// By how many powers of ten the digits are raised and lowered.
 fn scales(negative: bool, power: usize, places: usize, fraction_length: usize) -> (usize, usize)
     requires { (power < 1000) × (places ≤ 15) × (fraction_length < 2 ^ 63) }
     ensures up { result.0 ≡ (if negative then 0 else power) + places }
@@ -136,7 +136,7 @@ fn scales(negative: bool, power: usize, places: usize, fraction_length: usize) -
     }
 }
 
-/// A number with digits behind it, `u128::MAX` where that is greater.
+/// A number with digits appended, at most `u128::MAX`.
 fn append_digits(number: u128, digits: &[u8]) -> u128
     requires { AllDigits 10 digits.now }
     ensures { (n : ℕ) → number ≡ min n (2 ^ 128 - 1) → result ≡ min (digits_value_after 10 n digits.now) (2 ^ 128 - 1) }
@@ -150,7 +150,7 @@ fn append_digits(number: u128, digits: &[u8]) -> u128
     value
 }
 
-/// A number with noughts behind it, `u128::MAX` where that is greater.
+/// A number with zeros appended, at most `u128::MAX`.
 fn append_noughts(number: u128, count: usize) -> u128
     ensures { (n : ℕ) → number ≡ min n (2 ^ 128 - 1) → result ≡ min (n * 10 ^ count) (2 ^ 128 - 1) }
 {
@@ -161,7 +161,7 @@ fn append_noughts(number: u128, count: usize) -> u128
     value
 }
 
-/// Whether the digits are all noughts.
+/// Whether the digits are all zeros.
 fn are_noughts(digits: &[u8]) -> bool
     requires { AllDigits 10 digits.now }
     ensures { result ≡ (digits_value 10 digits.now == 0) }

@@ -1,4 +1,4 @@
-//! What can be wrong with a header, and the words that tell it.
+//! What can be wrong with a header, and its text.
 
 ghost use Rattle.std.specs.Prelude.{◌≡◌, ◌+◌, ◌≤◌, ◌++◌, length, codes, decimal};
 ghost use Rattle.drain_header.specs.FaultText.{fault_text};
@@ -11,7 +11,7 @@ use thiserror::Error;
 /// The longest text of a fault has fewer bytes.
 pub const FAULT_LENGTH: usize = 64;
 
-/// A fault of a header, in the order in which faults are told. Lines are counted from 1.
+/// A fault of a header, in the order in which faults are reported. Lines are counted from 1.
 #[derive(Clone, Copy, PartialEq, Eq, Debug, Error)]
 pub enum HeaderFault {
     /// The header has more than 65,536 bytes.
@@ -20,22 +20,22 @@ pub enum HeaderFault {
     /// The line has a keyword that an earlier line has.
     #[error("line {0} repeats a keyword")]
     RepeatedKey(u32),
-    /// The line has a keyword, and no value that the keyword takes.
+    /// The line has a keyword, and no valid value for it.
     #[error("line {0} has a bad value")]
     BadValue(u32),
     /// No line has the keyword.
     #[error("a keyword is missing")]
     MissingKey(Key),
-    /// The raster has another number of bands than one.
+    /// The number of bands is not one.
     #[error("the raster is not of one band")]
     NotOneBand,
-    /// A pixel has another size than 8, 16 or 32 bits.
+    /// The pixel size is not 8, 16 or 32 bits.
     #[error("a pixel is not of 8, 16 or 32 bits")]
     BadBits,
-    /// The pixel type is another word than the two that are known.
+    /// The pixel type is neither of the two known words.
     #[error("the pixel type is not known")]
     BadPixelType,
-    /// A row has fewer bytes than its pixels take.
+    /// A row has fewer bytes than its pixels need.
     #[error("a row is too short for its pixels")]
     RowTooShort,
 }

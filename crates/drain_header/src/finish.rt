@@ -12,7 +12,7 @@ use crate::lines::Seen;
 use crate::said::{coordinate, nodata, number, ordering, sign};
 use crate::value::Value;
 
-/// The header that the values describe, or the first of the faults that are of no line.
+/// The header of the values, or the first of the faults that belong to no line.
 pub fn finish(seen: &Seen) -> Result<Header, HeaderFault>
     requires { AreTaken seen.now }
     ensures { result ≡ finished seen.now }
@@ -68,7 +68,7 @@ fn place(seen: &Seen) -> Place
     }
 }
 
-/// The bits of a pixel, where they are of a size that pixels can have.
+/// The bits of a pixel, if that is a valid size.
 fn pixel_size(bits: u32) -> Option<u8>
     ensures { result ≡ if is_pixel_size bits then some bits else none }
 {
@@ -90,7 +90,7 @@ fn has_other_type(seen: &Seen) -> bool
     }
 }
 
-/// How many bytes the pixels of a row take.
+/// How many bytes the pixels of a row need.
 fn packed_row(cols: u32, bits: u8) -> u32
     requires { cols ≤ 28801 }
     ensures { result ≡ cols * bits / 8 }
@@ -105,7 +105,7 @@ fn row_bytes(seen: &Seen, packed: u32) -> u32
     number_or(seen, Key::TotalRowBytes, band_row_bytes)
 }
 
-/// Whether pixels are signed: where no line says so, those of 16 bits are.
+/// Whether pixels are signed: by default, those of 16 bits are.
 fn is_signed(seen: &Seen, bits: u8) -> bool
     ensures { result ≡ unwrap_or (said_by sign_in Key.PixelType seen.now) (bits == 16) }
 {

@@ -1,4 +1,4 @@
-//! What a header says. The type keeps each number within its bounds.
+//! The content of a header. The type keeps each number within its bounds.
 
 use std::marker::Model;
 

@@ -3,7 +3,7 @@
 ghost use Rattle.std.specs.Prelude.{◌≡◌};
 ghost use Rattle.drain_header.specs.Lines.{name_of};
 
-/// A keyword, in the order of the table of keywords. Missing ones are told in this order.
+/// A keyword, in the order of the table of keywords. Missing ones are reported in this order.
 #[derive(Clone, Copy, PartialEq, Eq, Debug)]
 pub enum Key {
     Nrows,

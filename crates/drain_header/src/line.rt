@@ -40,7 +40,7 @@ pub fn key_and_value(line: &[u8]) -> (Option<Key>, Option<&[u8]>)
     }
 }
 
-/// The keyword that a word names, in either letter case.
+/// The keyword of a word, in either letter case.
 fn named_by(word: &[u8]) -> Option<Key>
     ensures { result ≡ named_key word.now }
 {

@@ -12,10 +12,10 @@ use crate::line::key_and_value;
 use crate::value::{Value, read_value};
 use drain_text::first_line;
 
-/// A keyword's value stands at its place in the table, none where no line so far has the keyword.
+/// A keyword's value is at its place in the table, none if no line so far has the keyword.
 pub type Seen = [Option<Value>; 15];
 
-/// The values that the lines of a text say, or the fault of the first line that has one.
+/// The values in the lines of a text, or the fault of the first line that has one.
 pub fn read_lines(text: &[u8]) -> Result<Seen, HeaderFault>
     requires { length text.now ≤ 65536 }
     ensures { result ≡ lines_added nothing 1 (lines_of text.now) }

@@ -4,7 +4,7 @@ ghost use Rattle.std.specs.Prelude.{◌≡◌, ◌+◌, ◌≤◌, ◌<◌, ◌&
 ghost use Rattle.std.specs.Float.Numeral.{minus, scan_numeral, digits_end as end_of_digits, exponent_start, has_exponent};
 ghost use Rattle.drain_header.specs.Numerals.{parts_of};
 
-/// The parts of a decimal, each a part of the text itself.
+/// The parts of a decimal, each a part of the text.
 #[derive(Clone, Copy)]
 pub struct Numeral<'a> {
     pub whole: &'a [u8],
@@ -66,7 +66,7 @@ fn with_exponent<'a>(
     }
 }
 
-/// Where the digits of the exponent at the index begin, or 0 where there is none.
+/// Where the digits of the exponent at the index begin, or 0 if there is none.
 fn find_exponent(bytes: &[u8], at: usize) -> usize
     requires { at ≤ length bytes.now }
     ensures found { nat_lt 0 result ≡ has_exponent bytes.now at }
@@ -89,7 +89,7 @@ fn find_exponent(bytes: &[u8], at: usize) -> usize
     }
 }
 
-/// Where the digits end that stand at the index.
+/// Where the digits at the index end.
 fn digits_end(bytes: &[u8], from: usize) -> usize
     requires { from ≤ length bytes.now }
     ensures end { result ≡ end_of_digits bytes.now from }

@@ -1,4 +1,4 @@
-//! What the values of the keywords say, by their kinds: none where no line has the keyword.
+//! The keywords' values by their kinds: none if no line has the keyword.
 
 ghost use Rattle.std.specs.Prelude.{◌≡◌};
 ghost use Rattle.drain_header.specs.Said.{said_by, number_of, ordering_in, sign_in, coordinate_in, nodata_in};

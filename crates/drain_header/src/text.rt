@@ -11,12 +11,13 @@ use drain_grid::{OutOfMemory, UNITS_PER_DEGREE};
 use itoa::Buffer;
 use std::alloc::Global;
 
-/// The text of a header, in ASCII: one line for each keyword, which is the keyword, a space, its value and a line feed.
+/// The text of a header, in ASCII. Each keyword has one line: the keyword, a space, its value and a line feed.
 ///
-/// LAYOUT is BIL and NBANDS 1; BANDROWBYTES and TOTALROWBYTES both tell the bytes from one row to the next. ULXMAP, ULYMAP,
-/// XDIM and YDIM are degrees with 15 digits behind the point. The line of NODATA stands where there is a no-data number.
+/// LAYOUT is BIL and NBANDS 1; BANDROWBYTES and TOTALROWBYTES are both the bytes from one row to the next. ULXMAP,
+/// ULYMAP,
+/// XDIM and YDIM are degrees with 15 digits after the point. NODATA has a line if there is a no-data number.
 ///
-/// Only the returned text takes memory; where it can't grow the answer is `OutOfMemory`.
+/// Only the returned text takes memory; if it can't grow, `OutOfMemory` is returned.
 ///
 /// Source: the Esri BIL header description; the order of the lines and the 15 digits are this project's own.
 pub fn header_text(alloc: Global, header: &Header) -> Result<Vec<u8>, OutOfMemory>
@@ -41,7 +42,7 @@ fn push_shape(text: &mut Vec<u8>, header: &Header) -> Result<(), OutOfMemory>
     push_number(text, Key::Nbands, 1)
 }
 
-/// Appends the lines of the pixels and of the bytes that rows of them take.
+/// Appends the lines of the pixels and of the bytes of their rows.
 fn push_pixels(text: &mut Vec<u8>, header: &Header) -> Result<(), OutOfMemory>
     ensures { OnOk result (text.new.items ≡ text.old.items ++ pixel_lines header.now) }
 {
@@ -96,7 +97,7 @@ fn push_number(text: &mut Vec<u8>, key: Key, number: u32) -> Result<(), OutOfMem
     push_line(text, key, digits.format(number))
 }
 
-/// Appends the line of the no-data number, where there is one.
+/// Appends the line of the no-data number, if there is one.
 fn push_nodata(text: &mut Vec<u8>, nodata: Option<i64>) -> Result<(), OutOfMemory>
     ensures { OnOk result (text.new.items ≡ text.old.items ++ nodata_line nodata) }
 {
@@ -122,13 +123,13 @@ fn push_degrees(text: &mut Vec<u8>, key: Key, units: i128) -> Result<(), OutOfMe
     push(text, b"\n")
 }
 
-/// Appends the 15 digits behind the point of a magnitude in units of 10^-15 degree.
+/// Appends the 15 digits after the point of a magnitude in units of 10^-15 degree.
 fn push_fraction(text: &mut Vec<u8>, magnitude: u128) -> Result<(), OutOfMemory>
     ensures { OnOk result (text.new.items ≡ text.old.items ++ fraction_text magnitude) }
 {
     let fraction = (magnitude % UNITS_PER_DEGREE) as u64;
     let mut digits = Buffer::new();
-    // A one in front keeps the noughts behind it, and is left out.
+    // A leading one keeps the zeros after it; it is dropped.
     let led = digits.format(UNITS_PER_DEGREE as u64 + fraction);
     push(text, &led.as_bytes()[1..])
 }

@@ -1,4 +1,4 @@
-//! The values that keywords take.
+//! The valid values of keywords.
 
 ghost use Rattle.std.specs.Prelude.{◌≡◌};
 ghost use Rattle.drain_header.specs.Lines.{size_of as size_that, ordering_of as ordering_that, is_layout as layout_that, signedness_of as signedness_that};
@@ -13,19 +13,19 @@ use drain_text::whole_number;
 /// The most rows, and the most columns.
 const MAX_SIZE: u32 = 28801;
 
-/// What the value of a keyword says.
+/// The meaning of a keyword's value.
 #[derive(Clone, Copy)]
 pub enum Value {
     Number(u32),
     Ordering(ByteOrdering),
     Layout,
-    /// Whether pixels are signed, none where the word is another than the two that are known.
+    /// Whether pixels are signed, none if the word is neither of the two known.
     Signed(Option<bool>),
     Coordinate(i128),
     Nodata(i64),
 }
 
-/// What a word says as the value of a keyword, none where the keyword does not take it.
+/// The meaning of a word as the value of a keyword, none if it is not valid for the keyword.
 pub fn read_value(key: Key, word: &[u8]) -> Option<Value>
     ensures { result ≡ value_read key word.now }
 {

@@ -9,7 +9,7 @@ use Rattle.drain_hgt.specs.Laws.{NamesGiveCorners}
 use Rattle.drain_hgt.proofs.Reading.{few_degrees}
 use Rattle.drain_hgt.proofs.Spelling.{HasPlaces, places}
 
--- so many degrees on one side of zero
+-- a number of degrees on one side of zero
 abbrev on_side : Bool → ℕ → ℤ
 on_side true count = neg_ℤ (pos count)
 on_side false count = pos count
@@ -31,7 +31,7 @@ on_its_side (negsuc n) =
 abbrev worth : List ℕ → ℕ → ℕ
 worth bytes place = get_or bytes place 0 - 48
 
--- the corner that the letters and digits spell
+-- the corner of the letters and digits
 abbrev pub corner_read : List ℕ → Corner
 corner_read bytes = record {
   lat = on_side (eq_ignore_ascii_case (get_or bytes 0 0) 83) (10 * worth bytes 1 + worth bytes 2);

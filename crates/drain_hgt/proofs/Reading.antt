@@ -15,7 +15,7 @@ use Rattle.drain_hgt.proofs.Spelling.{HasPlaces, places, spells_same}
 abbrev pub IsWorth : ℕ → ℕ → Type 0
 IsWorth byte worth = (n : ℕ) → n < 10 → byte ≡ ZERO + n → worth ≡ n
 
--- the letters and digits that stand in a name's places
+-- the letters and digits in a name's places
 pub record IsRead (bytes : List ℕ) (south : Bool) (lat : ℕ) (west : Bool) (lon : ℕ) : Type 0 where
   pub worths : ℕ × ℕ × ℕ × ℕ × ℕ
   pub at_0 : south ≡ eq_ignore_ascii_case (get_or bytes 0 0) 83
@@ -49,7 +49,7 @@ read_back bytes south lat west lon is_south a is_west m r p =
       lon_is = omega (arith, r.lon_is);
     }
 
--- bytes that have the form spell it again
+-- bytes of the form are its spelling
 pub spelled_again : (bytes : List ℕ) (south : Bool) (lat : ℕ) (west : Bool) (lon : ℕ) → IsRead bytes south lat west lon → HasForm bytes → IsSameText bytes (spelled south lat west lon)
 spelled_again bytes south lat west lon r form =
     let s = read_back bytes south lat west lon form.south form.lat form.west form.lon r (places bytes form.south form.lat form.west form.lon form.text) in

@@ -11,7 +11,7 @@ use mir.Val.{to_z, of_z}
 use Rattle.drain_grid.specs.Tile.{IsSample}
 use Rattle.drain_hgt.specs.Samples.{samples_of}
 
--- the sample that the first two bytes spell
+-- the sample of the first two bytes
 abbrev pub sample : List ℕ → ℤ
 sample ys = cast_signed w16 (big_number 2 ys)
 
@@ -26,7 +26,7 @@ written_over new old n same whole = grind (arith, common_steps)
 pub lent_back : {old held new : List ℤ} {n : ℕ} → held ≡ old → length held ≡ n → length new ≡ length held → take n (new ++ drop (length new) old) ≡ new
 lent_back {old = old} {held = held} {new = new} {n = n} same full long = let e : length held ≡ length old = ap length same in written_over new old n (long ∙ e) (sym full ∙ e)
 
--- a vector that grew has as many numbers as were wanted
+-- a vector that grew has the required length
 pub grown : {long wanted : ℕ} (was : ℕ) {ok failed : Bool} → long ≡ cond ok wanted was → ok ≡ not failed → failed ≡ false → long ≡ wanted
 grown {wanted = wanted} was is unless well = is ∙ ap (λ b. cond b wanted was) (unless ∙ ap not well)
 

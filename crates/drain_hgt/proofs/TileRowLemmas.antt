@@ -25,7 +25,7 @@ tile_rows-short : (side left : ℕ) (xs : List ℕ) → (left ≡ 0 → ⊥) →
 tile_rows-short side zero xs some short = absurd (some refl)
 tile_rows-short side (suc left) xs some short = rw (lt-ltb (length xs) (2 * side) (omega arith)) refl
 
--- there is a byte behind the last row
+-- there is a byte after the last row
 tile_rows-longer : (side : ℕ) (xs rest : List ℕ) → length xs ≡ 1 → tile_rows side 0 (xs ++ rest) ≡ Wrong
 tile_rows-longer side [] rest one = absurd (omega arith)
 tile_rows-longer side (x ∷ xs) rest one = refl

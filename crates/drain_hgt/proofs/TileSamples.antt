@@ -24,7 +24,7 @@ samples-length (suc n) [] even = absurd (omega arith)
 samples-length (suc n) (x ∷ []) even = absurd (omega arith)
 samples-length (suc n) (high ∷ low ∷ more) even = omega (arith, samples-length n more (omega arith))
 
--- a row and the samples behind it
+-- a row and the samples after it
 split : (side : ℕ) (body : List ℕ) → 2 * side ≤ length body → samples_of body ≡ samples_of (take (2 * side) body) ++ samples_of (drop (2 * side) body)
 split side body long = ap samples_of (sym (take-append-drop (2 * side) body)) ∙ samples-append side (take (2 * side) body) (drop (2 * side) body) (length-take-le (2 * side) body long)
 

@@ -7,7 +7,7 @@ pub record Corner : Type 0 where
   pub lat : ℤ
   pub lon : ℤ
 
--- so many degrees from zero, and less than that on the positive side, where one degree more is the tile's other edge
+-- n degrees from zero, and fewer on the positive side, where one degree more is the tile's other edge
 pub record IsWithin (limit : ℕ) (x : ℤ) : Type 0 where
   pub low : neg_ℤ (pos limit) ≤ℤ x
   pub high : x <ℤ pos limit

@@ -7,17 +7,17 @@ use Rattle.drain_hgt.specs.declared.name.NameFault.{NameFault}
 use Rattle.drain_hgt.specs.declared.name.NameFault.TheVariants.{BadForm, BadRange}
 use Rattle.drain_hgt.specs.Corner.{Corner, IsOnMap}
 
--- a letter, so many degrees in two digits, a letter, so many in three, and .hgt
+-- a letter, degrees in two digits, a letter, degrees in three digits, and .hgt
 abbrev pub spelled : Bool → ℕ → Bool → ℕ → List ℕ
 spelled south lat west lon =
     (if south then codes "S" else codes "N") ++ last_digits 2 lat ++ (if west then codes "W" else codes "E") ++ last_digits 3 lon ++ codes ".hgt"
 
--- so many degrees on this side of zero: zero itself is on the side of the positive numbers
+-- n degrees on this side of zero: zero itself is on the side of the positive numbers
 pub record AreDegrees (negative : Bool) (count : ℕ) (x : ℤ) : Type 0 where
   pub same_side : is_negative x ≡ negative
   pub as_many : nat_abs x ≡ count
 
--- the corner lies so many degrees to the south or north, and to the west or east
+-- the corner is at these degrees to the south or north, and to the west or east
 pub record IsAt (south : Bool) (lat : ℕ) (west : Bool) (lon : ℕ) (c : Corner) : Type 0 where
   pub latitude : AreDegrees south lat c.lat
   pub longitude : AreDegrees west lon c.lon
@@ -35,7 +35,7 @@ pub record Names (bytes : List ℕ) (c : Corner) : Type 0 where
   pub on_map : IsOnMap c
   pub text : IsSameText bytes (name_of c)
 
--- the bytes have the form of a name, whatever the degrees
+-- the bytes have the form of a name, with any degrees
 pub record HasForm (bytes : List ℕ) : Type 0 where
   pub south : Bool
   pub lat : ℕ
@@ -43,7 +43,7 @@ pub record HasForm (bytes : List ℕ) : Type 0 where
   pub lon : ℕ
   pub text : IsSameText bytes (spelled south lat west lon)
 
--- what the bytes name: a corner where they name it, or why they name none
+-- the meaning of the bytes: a corner if they name it, or why they name none
 abbrev pub MeansName : List ℕ → Result Corner NameFault → Type 0
 MeansName bytes (Ok c) = Names bytes c
 MeansName bytes (Err BadForm) = ¬ HasForm bytes

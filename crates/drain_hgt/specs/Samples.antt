@@ -11,7 +11,7 @@ tile_length side = 2 * (side * side)
 abbrev pub IsTile : ℕ → List ℕ → Type 0
 IsTile side bytes = length bytes ≡ tile_length side
 
--- the numbers that pairs of bytes spell in two's complement, the most significant byte first
+-- the numbers of pairs of bytes in two's complement, the most significant byte first
 abbrev pub samples_of : List ℕ → List ℤ
 samples_of (high ∷ low ∷ more) = twos_complement 2 (256 * high + low) ∷ samples_of more
 samples_of (single ∷ []) = []

@@ -6,7 +6,7 @@ use Rattle.drain_device.specs.RowSteps.{coming_at, most_at}
 use Rattle.drain_hgt.specs.declared.tile_rows.TileRows.{TileRows}
 use Rattle.drain_hgt.specs.Samples.{samples_of}
 
--- the rows of a tile that has so many to go, and what follows them: the end, or a byte too many; a row that isn't whole is wrong
+-- the rows of a tile with n to go, and then the end, or a byte too many; a row that isn't whole is wrong
 abbrev pub tile_rows : ℕ → ℕ → List ℕ → Coming
 tile_rows side zero [] = End
 tile_rows side zero (byte ∷ more) = Wrong
@@ -19,6 +19,6 @@ tile_rows side (suc left) bytes =
 abbrev pub tile_coming : TileRows → List ℕ → Coming
 tile_coming rows bytes = coming_at rows.progress (tile_rows rows.side rows.left bytes)
 
--- how many bytes it still reads at most: those of the rows left, and one behind them
+-- how many bytes it still reads at most: those of the rows left, and one after them
 abbrev pub tile_most_bytes : TileRows → ℕ
 tile_most_bytes rows = most_at rows.progress (2 * rows.side * rows.left + 1)

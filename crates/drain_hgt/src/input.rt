@@ -1,4 +1,4 @@
-//! A tile as it is handed in.
+//! A tile as an input.
 
 use drain_device::ByteList;
 

@@ -1,6 +1,6 @@
 //! What the names and the rows of tiles promise.
 //!
-//! Each law is a function with nothing to do: its contract is the law, and a caller that calls it has the law at hand.
+//! A law is a function with an empty body: its contract is the law, and code that calls it can use the law.
 
 ghost use Rattle.std.specs.Prelude.{◌≡◌};
 ghost use Rattle.drain_hgt.specs.Laws.{NameReadsBack, NamesGiveCorners, OneName, TileRowsAreSamples, TileRowsTellLengths};

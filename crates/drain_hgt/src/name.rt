@@ -1,10 +1,11 @@
 //! Names of tiles.
 //!
-//! A name says where a tile's south-west corner lies, as `N37W105.hgt`: `N` or `S` and two digits of degrees of latitude,
-//! `E` or `W` and three digits of degrees of longitude, and `.hgt`. Source: the SRTM HGT documentation; that letters are read
-//! in either case, and that `S00`, `W000` and `E180` name nothing, is this project's choice.
+//! A name gives a tile's south-west corner, as `N37W105.hgt`: `N` or `S` and two digits of degrees of latitude, `E` or
+//! `W` and three digits of degrees of longitude, and `.hgt`. Source: the SRTM HGT documentation; that letters are read
+//! in
+//! either case, and that `S00`, `W000` and `E180` name nothing, is this project's choice.
 //!
-//! The form stands once, in `spelled`: bytes have it where the letters and digits in their places spell them again.
+//! Only `spelled` defines the form: bytes have it if the letters and digits in their places give them again.
 
 ghost use Rattle.std.specs.Prelude.{◌≡◌, ◌+◌, ◌%◌, ◌<◌, ◌≤◌, MatchOption, ℕ, ℤ};
 ghost use Rattle.drain_hgt.specs.Corner.{Corner, IsOnMap, IsWithin};
@@ -17,13 +18,13 @@ use thiserror::Error;
 /// How many bytes a name has.
 pub const NAME_LENGTH: usize = 11;
 
-/// The digit nought.
+/// The digit zero.
 const ZERO: u8 = b'0';
 
-/// How many degrees a pole lies from the equator.
+/// Degrees from the equator to a pole.
 pub const POLE: u32 = 90;
 
-/// How many degrees the map reaches to the east and to the west.
+/// Degrees of the map to the east and to the west.
 pub const HALF_TURN: u32 = 180;
 
 /// Why bytes name no tile.
@@ -59,8 +60,9 @@ impl TileName {
 
     /// The tile that the bytes name.
     ///
-    /// Answers `BadForm` where they don't have a name's form, and `BadRange` where they have it, and the degrees are no
-    /// tile's: latitudes go from S90 to S01 and from N00 to N89, longitudes from W180 to W001 and from E000 to E179.
+    /// Returns `BadForm` if they don't have a name's form, else `BadRange` if no tile has these degrees: latitudes go
+    /// from S90
+    /// to S01 and from N00 to N89, longitudes from W180 to W001 and from E000 to E179.
     pub fn parse(bytes: &[u8]) -> Result<TileName, NameFault>
         ensures { MeansName bytes.now result }
     {
@@ -107,7 +109,7 @@ impl TileName {
         )
     }
 
-    /// The tile at so many degrees to the south or north, and to the west or east; none where no tile lies there.
+    /// The tile at these degrees to the south or north, and to the west or east; none if no tile lies there.
     fn at(south: bool, lat: u32, west: bool, lon: u32) -> Option<TileName>
         ensures { MatchOption result ((c : Corner) → IsOnMap c → ¬ IsAt south lat west lon c) (λ c. IsOnMap c × IsAt south lat west lon c) }
     {
@@ -120,7 +122,7 @@ impl TileName {
     }
 }
 
-/// So many degrees as a number, below 0 on the negative side; none outside `-limit` to `limit - 1`, and for `-0`.
+/// The degrees as a number, below 0 on the negative side; none outside `-limit` to `limit - 1`, and for `-0`.
 fn degrees(negative: bool, count: u32, limit: u32) -> Option<i16>
     requires { limit ≤ HALF_TURN }
     ensures { MatchOption result ((x : ℤ) → IsWithin limit x → ¬ AreDegrees negative count x) (λ x. IsWithin limit x × AreDegrees negative count x) }
@@ -138,7 +140,7 @@ fn degrees(negative: bool, count: u32, limit: u32) -> Option<i16>
     }
 }
 
-/// The name's bytes for so many degrees, each with its letter.
+/// The name's bytes for these degrees, each with its letter.
 fn spelled(south: bool, lat: u32, west: bool, lon: u32) -> ArrayString<NAME_LENGTH>
     ensures { result.bytes ≡ spelled south lat west lon }
 {
@@ -161,7 +163,7 @@ fn digit(number: u32) -> char
     (ZERO + (number % 10) as u8) as char
 }
 
-/// What a digit is worth; of another byte some number below 256.
+/// The value of a digit; for another byte some number below 256.
 fn worth(byte: u8) -> u32
     ensures small { result < 256 }
     ensures digit { (n : ℕ) → n < 10 → byte ≡ ZERO + n → result ≡ n }

@@ -1,7 +1,7 @@
 //! Samples of tiles.
 //!
-//! A tile is a square of 16-bit signed samples, most significant byte first, row after row from the northernmost, each row
-//! from west to east, without a header. Source: the SRTM HGT documentation.
+//! A tile is a square of 16-bit signed samples, most significant byte first, row after row from the northernmost, each
+//! row from west to east, without a header. Source: the SRTM HGT documentation.
 
 ghost use Rattle.std.specs.Prelude.{◌≡◌, ◌*◌, ◌↔◌, IfOk, IsErrOf, length};
 ghost use Rattle.drain_grid.specs.Tile.{IsSide};
@@ -12,16 +12,16 @@ use drain_grid::tile::is_side;
 use std::alloc::{AllocError, Global};
 use thiserror::Error;
 
-/// Why bytes are no tile, in the order in which the faults are told.
+/// Why bytes are no tile, in the order in which the errors are returned.
 #[derive(Clone, Copy, PartialEq, Eq, Debug, Error)]
 pub enum TileFault {
-    /// No tile has so many samples along an edge.
+    /// No tile has this many samples along an edge.
     #[error("no tile has this side")]
     BadSide,
     /// The tile has another number of bytes.
     #[error("the tile has another length")]
     BadLength,
-    /// There is no memory for the samples.
+    /// Out of memory for the samples.
     #[error("out of memory")]
     OutOfMemory,
 }
@@ -34,10 +34,11 @@ pub fn tile_length(side: u32) -> usize
     2 * (side as usize * side as usize)
 }
 
-/// The samples of a tile in whole metres, -32768 for a void: `side` rows from the northernmost on, each from west to east.
+/// The samples of a tile in whole metres, -32768 for a void: `side` rows from the northernmost on, west to east.
 ///
-/// `side` is the number of samples along an edge, from 2 to 3601. Answers `BadSide` for another side, then `BadLength` where
-/// there are other than `2 * side * side` bytes; `OutOfMemory` where there is no memory for the samples.
+/// `side` is the number of samples along an edge, from 2 to 3601. Returns `BadSide` for another side, then `BadLength`
+/// if
+/// there are not `2 * side * side` bytes; `OutOfMemory` if memory for the samples runs out.
 pub fn read_tile(alloc: Global, side: u32, bytes: &[u8]) -> Result<Vec<i16>, TileFault>
     ensures samples { IfOk result (λ samples. samples.items ≡ samples_of bytes.now) }
     ensures counted { IfOk result (λ samples. length samples.items ≡ side * side) }
@@ -58,7 +59,7 @@ pub fn read_tile(alloc: Global, side: u32, bytes: &[u8]) -> Result<Vec<i16>, Til
     }
 }
 
-/// The samples that so many pairs of bytes spell. Memory is taken once.
+/// The samples of pairs of bytes. Memory is taken once.
 fn samples(alloc: Global, count: usize, bytes: &[u8]) -> Result<Vec<i16>, AllocError>
     requires { length bytes.now ≡ 2 * count }
     ensures samples { IfOk result (λ samples. samples.items ≡ samples_of bytes.now) }

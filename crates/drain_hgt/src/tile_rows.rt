@@ -22,8 +22,10 @@ const MAX_ROW_BYTES: usize = 2 * MAX_SIDE as usize;
 
 /// A reader of a tile's rows, the northernmost first, each from west to east, in whole metres with -32768 for a void.
 ///
-/// After the last row it reads one byte more, where there is one: a tile that is longer is of a wrong length too. It answers `WrongLength`
-/// at the row that isn't whole, or at that byte; `OutOfMemory` where there is no memory for a row, and then nothing is read.
+/// After the last row it reads one byte more, if there is one: a longer tile has a wrong length too. It returns
+/// `WrongLength` at the row that isn't whole, or at that byte; `OutOfMemory` if memory for a row runs out: then it
+/// reads
+/// nothing.
 ///
 /// Source: the SRTM HGT documentation.
 #[derive(Drop)]
@@ -52,7 +54,7 @@ impl TileRows {
         }
     }
 
-    /// Whether it has answered a fault.
+    /// Whether it has returned a fault.
     pub fn is_stopped(&self) -> bool
         ensures { IsTrue result ↔ (self.now.progress ≡ Progress.Stopped) }
     {
@@ -85,7 +87,8 @@ impl<R: ByteSource> RowSource<R> for TileRows {
         ensures within { ReadsWithin (tile_most_bytes self.old) (tile_most_bytes self.new) (R.bytes_left from.old) (R.bytes_left from.new) }
         ensures faults { PartFails (R.counts from.old) (R.counts from.new) self.old.patience self.new.patience (IsErrOf result ReadFault.ReadFailed) }
 
-        // Whatever the device: a row given leaves one fewer, its numbers are those of samples, and want of memory comes before a call of it.
+        // For any device: a row leaves one fewer, its numbers are samples, and memory runs out before the device is
+        // called.
         ensures left { result ≡ Ok RowStep.Row → self.new.left + 1 ≡ self.old.left }
         ensures samples { All IsSample out.new.items }
         ensures no_memory { IsErrOf result ReadFault.OutOfMemory → from.new ≡ from.old }
@@ -128,7 +131,7 @@ impl<R: ByteSource> RowSource<R> for TileRows {
     }
 }
 
-/// Reads so many samples. Memory is wanted before the first byte, and where it is refused nothing is read.
+/// Reads `count` samples. Memory is taken before the first byte; if it runs out, nothing is read.
 fn read_samples<R: ByteSource>(
     from: &mut R,
     count: u32,
@@ -142,7 +145,7 @@ fn read_samples<R: ByteSource>(
     ensures samples { All IsSample out.new.items }
     ensures no_memory { IsErrOf result ReadFault.OutOfMemory → from.new ≡ from.old }
 {
-    // A row as long as the one before is written over as it stands.
+    // A row of the same length as before reuses the buffer.
     if out.resize(count as usize, 0).is_err() {
         out.clear();
         return Err(ReadFault::OutOfMemory);
@@ -157,7 +160,7 @@ fn read_samples<R: ByteSource>(
     Ok(())
 }
 
-/// Puts the samples that the bytes spell in the place of the numbers.
+/// Replaces the numbers by the samples of the bytes.
 fn put_samples(out: &mut [i64], bytes: &[u8])
     requires { length bytes.now ≡ 2 * length out.old }
     ensures items { out.new ≡ samples_of bytes.now }
@@ -168,7 +171,7 @@ fn put_samples(out: &mut [i64], bytes: &[u8])
     }
 }
 
-/// The sample that the first two bytes spell.
+/// The sample of the first two bytes.
 fn sample(bytes: &[u8]) -> i64
     requires { 2 ≤ length bytes.now }
     ensures value { result ≡ cast_signed w16 (big_number 2 bytes.now) }

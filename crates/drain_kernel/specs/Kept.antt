@@ -1,4 +1,4 @@
--- What is known of a cell that is vouched for, of rules that look at its patch alone.
+-- What is known of a cleared cell, of rules that look at its patch only.
 use Rattle.std.specs.Prelude.{◌≢◌, pos, IsSome, None}
 use Rattle.drain_grid.specs.declared.patch.Patch.{Patch}
 use Rattle.drain_grid.specs.PatchRules.{Profile}

@@ -11,7 +11,7 @@ use Rattle.drain_kernel.specs.Counts.{raised_count}
 use Rattle.drain_kernel.specs.Shown.{Shows}
 use Rattle.drain_kernel.specs.Taken.{AreLanesOf}
 
--- what numbers of a row say at a column, of a cell that may be listed as a sink; of spill parents 0
+-- the values of a row's numbers at a column, of a cell that may be a listed sink; of spill parents 0
 abbrev pub values_from : List ℤ → PerProduct (List ℤ) → ℕ → Bool → Values
 values_from z products k sink = record {
   z = height_from (slice_index_or z k VOID);
@@ -24,7 +24,7 @@ values_from z products k sink = record {
   rnk = slice_index_or products.rnk k (pos 0);
 }
 
--- lanes show what the numbers say that they were taken of
+-- lanes show what the numbers say of which they were made
 abbrev pub LanesShowNumbers : Type 0
 LanesShowNumbers =
     (lanes : Lanes) (z : List ℤ) (products : PerProduct (List ℤ)) → AreLanesOf lanes z products → (k : ℕ) → k < length z → (sink : Bool) →

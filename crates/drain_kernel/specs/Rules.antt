@@ -6,7 +6,7 @@ use Rattle.drain_kernel.specs.declared.rules.Ranks.{Ranks}
 use Rattle.drain_kernel.specs.declared.rules.Ranks.TheVariants.{Asked, Unasked}
 use Rattle.drain_kernel.specs.declared.rules.Rules.{Rules}
 
--- the rules of a check where ranks are asked for, else the same without ranks
+-- the rules of a check if ranks are checked, else the same without ranks
 abbrev pub rules_with : Ranks → NoDataNumbers → Profile
 rules_with Asked nodata = check_rules nodata
 rules_with Unasked nodata = unranked nodata

@@ -33,8 +33,8 @@ pub record HaveRanks (above here below : Lanes) : Type 0 where
 abbrev pub HasDataAt : Lanes → ℕ → Type 0
 HasDataAt row k = slice_index row.z.items k ≢ 0
 
--- the row has these values at a column: of products only where it is no void, of the rank only where ranks were taken; of spill parents and
--- of lists of sinks it says nothing
+-- the row has these values at a column: of products only if it is no void, of the rank only if it has ranks; of spill
+-- parents and lists of sinks it says nothing
 pub record Shows (row : Lanes) (k : ℕ) (v : Values) : Type 0 where
   pub z_is : v.z ≡ height_of (slice_index row.z.items k)
   pub con_is : HasDataAt row k → v.con ≡ lowered (slice_index row.con.items k)

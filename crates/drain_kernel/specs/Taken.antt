@@ -5,7 +5,7 @@ use Rattle.drain_kernel.specs.declared.lanes.Lanes.{Lanes}
 use Rattle.drain_kernel.specs.Lanes.{AreLanes, AreElevationLanes, AreHeightLanes}
 use Rattle.drain_kernel.specs.Shown.{cols, HasRanks}
 
--- as many as there are numbers, and each lane holds the number of its column, at a void that of the elevation alone; ranks where they were taken
+-- as many lanes as numbers, each with its column's number, at a void only the elevation's; ranks if they were taken
 pub record AreLanesOf (lanes : Lanes) (z : List ℤ) (products : PerProduct (List ℤ)) : Type 0 where
   pub len : cols lanes ≡ length z
   pub elevations : AreElevationLanes z lanes.z.items (length z)

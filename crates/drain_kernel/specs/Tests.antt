@@ -40,7 +40,7 @@ keeps_direction con code cons label labels =
     ((is_direction_code code && nat_le con 65535) && (falls_steepest con code cons || steps_along con code cons)) &&
     named_in code labels == label
 
--- what a neighbour hands on, capped so that sums fit 32 bits
+-- what a neighbour passes on, capped so that sums fit 32 bits
 abbrev pub handed_on : ℕ → ℕ → ℕ → ℕ
 handed_on code back acc = if code == back then min acc 268435456 else 0
 

@@ -1,4 +1,4 @@
-//! The tests at one cell, without a branch, so that a loop of them can go many cells at a time.
+//! The tests at one cell, without a branch, so that a loop of them can take many cells at a time.
 
 ghost use Rattle.std.specs.Prelude.{◌≡◌, ◌≢◌, ◌≤◌, IsTrue, pos, ◌-ℤ◌};
 ghost use Rattle.drain_kernel.specs.Tests.{AreComplete, have_data, keeps_surface, keeps_direction, keeps_accumulation, falls_steepest, steps_along, square_of_drop, handed_on};
@@ -10,7 +10,7 @@ use drain_grid::NoData;
 /// Accumulations below this add up, eight of them, within 32 bits.
 const LARGE: u32 = 268435456;
 
-/// The greatest height, 32768 more than it is.
+/// The greatest height in a lane, where heights are 32768 more than they are.
 const HIGHEST: u32 = 65535;
 
 /// Whether a cell and its neighbours have data.
@@ -40,7 +40,7 @@ pub fn keeps_surface(height: u32, con: u32, cons: [u32; 8]) -> bool
     (height <= con) & (con <= height.max(least))
 }
 
-/// The square of a drop, 0 where there is none.
+/// The square of a drop, 0 if there is none.
 #[inline(always)]
 fn square_of_drop(con: u32, low: u32) -> u32
     ensures { result ≡ square_of_drop con low }
@@ -85,7 +85,7 @@ pub fn keeps_direction(con: u32, code: u32, cons: [u32; 8], label: u32, labels: 
     is_direction(code) & (con <= HIGHEST) & goes & (named(code, labels) == label)
 }
 
-/// What a neighbour hands on.
+/// What a neighbour passes on.
 #[inline(always)]
 fn handed_on(code: u32, back: u32, acc: u32) -> u32
     ensures number { result ≡ handed_on code back acc }
@@ -114,7 +114,8 @@ pub fn keeps_accumulation(acc: u32, codes: [u32; 8], accs: [u32; 8]) -> bool
     (low.max(high) < LARGE) & (acc == first + second + 1)
 }
 
-/// Whether a lane isn't this number, which is brought into a lane first: so lanes are compared with lanes, and in a loop that is done once.
+/// Whether a lane isn't this number, converted to a lane first: so lanes are compared with lanes, and a loop converts
+/// once.
 #[inline(always)]
 pub fn differs(here: u32, number: i64) -> bool
     ensures { IsTrue result → pos here ≢ number }
@@ -122,7 +123,7 @@ pub fn differs(here: u32, number: i64) -> bool
     !is_lane(number) | (here != lane(number))
 }
 
-/// Whether a conditioned elevation isn't the number that stands for no data.
+/// Whether a conditioned elevation isn't its no-data number.
 #[inline(always)]
 fn con_differs(con: u32, nodata: &NoData) -> bool
     ensures { IsTrue result → pos con -ℤ pos 32768 ≢ nodata.now.con }
@@ -130,7 +131,7 @@ fn con_differs(con: u32, nodata: &NoData) -> bool
     differs(con, nodata.con + 32768)
 }
 
-/// Whether a direction isn't.
+/// The same of a direction.
 #[inline(always)]
 fn dir_differs(dir: u32, nodata: &NoData) -> bool
     ensures { IsTrue result → pos dir ≢ nodata.now.dir }
@@ -138,7 +139,7 @@ fn dir_differs(dir: u32, nodata: &NoData) -> bool
     differs(dir, nodata.dir)
 }
 
-/// Whether an accumulation isn't.
+/// The same of an accumulation.
 #[inline(always)]
 fn acc_differs(acc: u32, nodata: &NoData) -> bool
     ensures { IsTrue result → pos acc ≢ nodata.now.acc }
@@ -146,7 +147,7 @@ fn acc_differs(acc: u32, nodata: &NoData) -> bool
     differs(acc, nodata.acc)
 }
 
-/// Whether a label isn't.
+/// The same of a label.
 #[inline(always)]
 fn bas_differs(bas: u32, nodata: &NoData) -> bool
     ensures { IsTrue result → pos bas ≢ nodata.now.bas }

@@ -13,14 +13,14 @@ use crate::lanes::Lanes;
 use crate::rules::{Ranks, Rules};
 use crate::strides::passed_strides;
 
-/// How many columns are tested at once. Long enough that loops of four or eight lanes pay, short enough that a stretch with
-/// an outlet or a void in it is not often met.
+/// How many columns are tested at once: long enough that loops of four or eight lanes pay, short enough that few
+/// stretches have an outlet or a void.
 const BLOCK: usize = 64;
 
-/// How many are tested at once where a block has been given up.
+/// How many are tested at once after a longer stretch failed.
 const GROUP: usize = 8;
 
-/// Whether ranks were taken of all three rows, where they are asked for.
+/// Whether all three rows have ranks, if ranks are checked.
 fn ranks_are_there(above: &Lanes, here: &Lanes, below: &Lanes, ranks: Ranks) -> bool
     ensures { IsTrue result → IfAsked ranks (HaveRanks above.now here.now below.now) }
 {
@@ -30,7 +30,7 @@ fn ranks_are_there(above: &Lanes, here: &Lanes, below: &Lanes, ranks: Ranks) -> 
     }
 }
 
-/// A column up to which every cell and its neighbours have data from this one on: the first without, where there is one before `end`.
+/// The first column from this one on whose cell or a neighbour has no data, if one is before `end`, else `end`.
 fn inland_until(above: &Lanes, here: &Lanes, below: &Lanes, from: usize, end: usize) -> usize
     requires inner { 1 ≤ from }
     requires ordered { from ≤ end }
@@ -47,8 +47,8 @@ fn inland_until(above: &Lanes, here: &Lanes, below: &Lanes, from: usize, end: us
     k
 }
 
-/// The columns from one up to another, before the last, in strides: of 64; where one is given up, of what lies before the next void, then of 8 of that,
-/// and then one by one.
+/// The columns from one up to another, before the last, in strides: of 64; if one fails, of what lies before the next
+/// void, then of 8 of that, and then one by one.
 fn passed_until(
     above: &Lanes,
     here: &Lanes,
@@ -75,9 +75,12 @@ fn passed_until(
     passed_strides(above, here, below, rules, by_groups, shore, 1)
 }
 
-/// The first column from this on for which nothing is vouched, at most `until`: at each column before it the patch that the three rows
-/// show, of a cell that isn't listed as a sink, keeps every rule from VoidCell to Label. It may be any such column, also `from` itself; so it tells of no
-/// fault. It is `from` at the first column and at the last, where the rows aren't equally long, and where ranks are asked for and one of them has none.
+/// A column to which cells can be cleared from this one on, at most `until`. At each column before it the patch of the
+/// three rows, for a cell that isn't a listed sink, keeps every rule from VoidCell to Label. It may be any such column,
+/// even
+/// `from`, so it shows no fault. It is `from` at the first and the last column, if the rows have different lengths, and
+/// if
+/// ranks are checked and one row has none.
 pub fn kept_until(
     above: &Lanes,
     here: &Lanes,
@@ -103,7 +106,7 @@ pub fn kept_until(
     if from == 0 || from == cols {
         return from;
     }
-    // A row of voids is given up here.
+    // A row of voids stops here.
     let end = until.min(cols - 1);
     if from >= end || !is_inland(above, here, below, from) {
         return from;

@@ -9,8 +9,10 @@ use crate::rules::Ranks;
 use drain_grid::PerProduct;
 use std::alloc::Global;
 
-/// The numbers of a row, side by side for each column. Heights, z and con, are 32768 more than they are, and z is 0 at a void.
-/// Ranks are held where they were asked for. At a void a product's lane is 0 where its number doesn't fit, and nothing is made of it.
+/// The numbers of a row, next to each other for each column. Heights, z and con, are 32768 more than they are, and z is
+/// 0
+/// at a void. Ranks are kept if they are checked. At a void a product's lane is 0 if its number doesn't fit; it is
+/// ignored.
 #[derive(Drop)]
 pub struct Lanes {
     pub(crate) z: Vec<u32>,
@@ -47,9 +49,11 @@ impl Lanes {
         }
     }
 
-    /// Takes a row's numbers in place of what is held, ranks where they are asked for, and tells whether it holds them now: z has to fit
-    /// 16 bits with a sign, and at each column that is no void con as well, the others 32 without; memory is wanted where there is room for
-    /// fewer. Else nothing is held.
+    /// Replaces the row by these numbers, with ranks if they are checked, and returns whether it has them now. At each
+    /// column
+    /// z must fit 16 signed bits, and except at voids con too, and the others 32 unsigned bits; memory is taken if
+    /// there is too
+    /// little room. Else it has no row.
     pub fn take(&mut self, z: &[i64], products: &PerProduct<&[i64]>, ranks: Ranks) -> bool
         requires { (p : Held) → length (of_product products.now p).now ≡ length z.now }
         ensures lanes { IsTrue result → AreLanesOf self.new z.now (per_product (λ p. (of_product products.now p).now)) }
@@ -81,7 +85,7 @@ impl Lanes {
         self.z.len()
     }
 
-    /// Whether ranks are held.
+    /// Whether it has ranks.
     pub(crate) fn has_ranks(&self) -> bool
         ensures { IsTrue result → HasRanks self.now }
     {
@@ -115,7 +119,7 @@ impl Lanes {
     }
 }
 
-/// Takes ranks where they are asked for, else none.
+/// Takes ranks if they are checked, else none.
 fn take_ranks(z: &[u32], numbers: &[i64], ranks: Ranks, out: &mut Vec<u32>) -> bool
     ensures len { IsTrue result → IfAsked ranks (vec_len out.new ≡ length numbers.now) }
     ensures lanes { IsTrue result → vec_len out.new ≡ length numbers.now → AreLanes z.now numbers.now out.new.items (length numbers.now) }

@@ -1,8 +1,8 @@
-//! What lanes show. A law is a function with nothing to do: its contract is the law, and a caller that calls it has the law at hand.
+//! What lanes show. A law is a function with an empty body: its contract is the law, and code that calls it can use it.
 
 ghost use Rattle.drain_kernel.specs.Laws.{LanesShowNumbers, RaisedAreCounted};
 
-/// Lanes show at each column what the numbers say that they were taken of.
+/// Lanes show at each column what the numbers say of which they were made.
 pub fn lanes_show_numbers()
     ensures { LanesShowNumbers }
 {}

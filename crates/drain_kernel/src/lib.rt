@@ -1,4 +1,4 @@
-//! A pass along a row that vouches for many cells at a time, and never names a fault.
+//! A pass along a row that clears many cells at a time, and never reports a fault.
 #![tactic(auto)]
 
 mod around;

@@ -1,4 +1,5 @@
-//! Numbers of 64 bits, brought into lanes of 32. At a void, where the lane of the elevation is 0, a product's number need not fit.
+//! Numbers of 64 bits, converted to lanes of 32. At a void, where the elevation's lane is 0, a product's number need
+//! not fit.
 
 ghost use Rattle.std.specs.Prelude.{◌≡◌, ◌≢◌, ◌↔◌, ◌<◌, ◌^◌, ◌+ℤ◌, IsTrue, pos, length, vec_len};
 ghost use Rattle.drain_kernel.specs.Lanes.{AreLanes, AreElevationLanes, AreHeightLanes, is_lane, is_height};
@@ -19,7 +20,7 @@ fn high_half(bits: u64) -> u32
     (bits >> 32) as u32
 }
 
-/// The number, where 32 bits hold it; else its lower 32 bits.
+/// The number, if 32 bits hold it; else its lower 32 bits.
 #[inline(always)]
 pub fn lane(number: i64) -> u32
     ensures { IsTrue (is_lane number) → pos result ≡ number }
@@ -27,7 +28,7 @@ pub fn lane(number: i64) -> u32
     low_half(number.cast_unsigned())
 }
 
-/// Whether 32 bits without a sign hold the number. Halves are compared, and no numbers of 64 bits, so that four numbers are looked at together.
+/// Whether 32 unsigned bits hold the number. Halves are compared, not numbers of 64 bits, so that four go at once.
 #[inline(always)]
 pub fn is_lane(number: i64) -> bool
     ensures { result ≡ is_lane number }
@@ -35,7 +36,7 @@ pub fn is_lane(number: i64) -> bool
     high_half(number.cast_unsigned()) == 0
 }
 
-/// Whether 32 bits without a sign hold the number, or it stands at a void, where the elevation's lane is 0.
+/// Whether 32 unsigned bits hold the number, or it is at a void, where the elevation's lane is 0.
 #[inline(always)]
 fn is_lane_at(z: u32, number: i64) -> bool
     ensures { IsTrue result → z ≢ 0 → IsTrue (is_lane number) }
@@ -43,7 +44,7 @@ fn is_lane_at(z: u32, number: i64) -> bool
     is_lane(number) | (z == 0)
 }
 
-/// Puts the numbers of a row into lanes, and tells whether all fit that don't stand at a void.
+/// Converts the numbers of a row to lanes, and returns whether all fit that aren't at a void.
 #[inline(never)]
 fn put_numbers(z: &[u32], numbers: &[i64], out: &mut [u32]) -> bool
     requires z_len { length z.now ≡ length numbers.now }
@@ -69,7 +70,7 @@ fn lifted(number: i64) -> u64
     number.cast_unsigned().wrapping_add(32768)
 }
 
-/// 32768 more than a height, where it is one of 16 bits.
+/// 32768 more than a height, if it has 16 bits.
 #[inline(always)]
 fn height_lane(number: i64) -> u32
     ensures { IsTrue (is_height number) → pos result ≡ number +ℤ pos 32768 }
@@ -77,7 +78,7 @@ fn height_lane(number: i64) -> u32
     low_half(lifted(number))
 }
 
-/// Whether 16 bits with a sign hold the number.
+/// Whether 16 signed bits hold the number.
 #[inline(always)]
 fn is_height(number: i64) -> bool
     ensures { result ≡ is_height number }
@@ -86,7 +87,7 @@ fn is_height(number: i64) -> bool
     (high_half(bits) == 0) & (low_half(bits) <= 65535)
 }
 
-/// Whether 16 bits with a sign hold the number, or it stands at a void.
+/// Whether 16 signed bits hold the number, or it is at a void.
 #[inline(always)]
 fn is_height_at(z: u32, number: i64) -> bool
     ensures { IsTrue result → z ≢ 0 → IsTrue (is_height number) }
@@ -94,7 +95,7 @@ fn is_height_at(z: u32, number: i64) -> bool
     is_height(number) | (z == 0)
 }
 
-/// Puts the heights of a row into lanes, 32768 more than they are, and tells whether all are heights of 16 bits that don't stand at a void.
+/// Converts the heights of a row to lanes, 32768 more than they are; returns whether all not at a void have 16 bits.
 #[inline(never)]
 fn put_heights(z: &[u32], numbers: &[i64], out: &mut [u32]) -> bool
     requires z_len { length z.now ≡ length numbers.now }
@@ -111,7 +112,7 @@ fn put_heights(z: &[u32], numbers: &[i64], out: &mut [u32]) -> bool
     all
 }
 
-/// Puts the elevations of a row into lanes, 32768 more than they are, and tells whether all are heights of 16 bits.
+/// Converts the elevations of a row to lanes, 32768 more than they are, and returns whether all have 16 bits.
 #[inline(never)]
 fn put_elevations(numbers: &[i64], out: &mut [u32]) -> bool
     requires { length out.old ≡ length numbers.now }
@@ -127,7 +128,7 @@ fn put_elevations(numbers: &[i64], out: &mut [u32]) -> bool
     all
 }
 
-/// Takes the elevations of a row in place of what is held, and tells whether all fit and there was memory for them.
+/// Replaces the lanes by the elevations of a row, and returns whether all fit and memory sufficed.
 pub fn take_elevations(numbers: &[i64], out: &mut Vec<u32>) -> bool
     ensures len { IsTrue result → vec_len out.new ≡ length numbers.now }
     ensures lanes { IsTrue result → AreElevationLanes numbers.now out.new.items (length numbers.now) }
@@ -138,7 +139,8 @@ pub fn take_elevations(numbers: &[i64], out: &mut Vec<u32>) -> bool
     put_elevations(numbers, out)
 }
 
-/// The same of a product's numbers, of which those at voids need not fit. It takes none where there aren't as many lanes of elevations.
+/// The same of a product's numbers, which need not fit at voids. It takes none if there are not as many elevation
+/// lanes.
 pub fn take_numbers(z: &[u32], numbers: &[i64], out: &mut Vec<u32>) -> bool
     ensures len { IsTrue result → vec_len out.new ≡ length numbers.now }
     ensures lanes { IsTrue result → AreLanes z.now numbers.now out.new.items (length numbers.now) }

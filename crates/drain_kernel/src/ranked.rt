@@ -36,7 +36,7 @@ fn is_ranked(above: &Lanes, here: &Lanes, below: &Lanes, k: usize) -> bool
     falls_or_nears(here.con[k], here.dir[k], cons, here.rnk[k], ranks)
 }
 
-/// Whether a rank isn't the number that stands for no data.
+/// Whether a rank isn't the no-data number.
 #[inline(always)]
 fn rnk_differs(rnk: u32, nodata: &NoData) -> bool
     ensures { IsTrue result → pos rnk ≢ nodata.now.rnk }
@@ -73,7 +73,7 @@ pub fn all_ranked(above: &Lanes, here: &Lanes, below: &Lanes, from: usize, end: 
     all
 }
 
-/// Whether no rank is the number that stands for no data.
+/// Whether no rank is the no-data number.
 #[inline(never)]
 pub fn all_have_ranks(here: &Lanes, nodata: &NoData, from: usize, end: usize) -> bool
     requires ordered { from ≤ end }

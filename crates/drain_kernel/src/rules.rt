@@ -2,15 +2,16 @@
 
 use drain_grid::NoData;
 
-/// The rules of a check, of products with these no-data numbers; ranks are among them, or nothing is asked of ranks.
+/// The rules of a check, for products with these no-data numbers, with or without ranks.
 #[derive(Clone, Copy, PartialEq, Eq, Debug)]
 pub struct Rules {
     pub nodata: NoData,
     pub ranks: Ranks,
 }
 
-/// Whether ranks are asked for: at each cell by rules 1 and 2, and by rule 12 along flats. Where they aren't, that runs end has to be known
-/// by other means.
+/// Whether ranks are checked: at each cell by rules 1 and 2, and along flats by rule 12. Without them, it has to be
+/// known
+/// otherwise that runs end.
 #[derive(Clone, Copy, PartialEq, Eq, Debug)]
 pub enum Ranks {
     Asked,

@@ -1,4 +1,4 @@
-//! Columns along a row, a stride of them at a time.
+//! Columns along a row, one stride at a time.
 
 ghost use Rattle.std.specs.Prelude.{◌≡◌, ◌≤◌, ◌<◌, IsTrue, vec_len};
 ghost use Rattle.drain_kernel.specs.Asked.{IfAsked};
@@ -10,7 +10,7 @@ use crate::ranked::{all_have_ranks, all_ranked};
 use crate::rules::{Ranks, Rules};
 use crate::stretches::{all_accumulation, all_complete, all_direction, all_inland, all_surface};
 
-/// Whether the tests of ranks pass, where ranks are asked for.
+/// Whether the tests of ranks pass, if ranks are checked.
 fn ranks_pass(
     above: &Lanes,
     here: &Lanes,
@@ -61,7 +61,7 @@ fn all_pass(
         && ranks_pass(above, here, below, rules, from, end)
 }
 
-/// Goes on from a column in strides of so many columns, the last of which may be shorter, as long as all tests pass along a whole one.
+/// Goes on from a column in strides of this size, the last maybe shorter, while all tests pass along a whole stride.
 pub fn passed_strides(
     above: &Lanes,
     here: &Lanes,

@@ -1,4 +1,4 @@
--- Each tile of a new mosaic stands at its place, with its first row to come.
+-- Each tile of a new mosaic is at its place, with its first row to come.
 use Rattle.std.proofs.Common.{◌≡◌, ℕ, ◌+◌, ◌<◌, List, [], ◌∷◌, ◌++◌, length, take, get_or, Bool, true, cond, Some, option_map, slice_get, sym, ap, ◌∙◌, subst}
 use Rattle.std.specs.List.{All, AllZip}
 use Rattle.std.proofs.lemmas.List.{take_more}

@@ -1,4 +1,4 @@
--- The rows of a new mosaic are those of the bodies that the devices tell.
+-- The rows of a new mosaic are those of the bodies that the devices give.
 use Rattle.std.proofs.Common.{◌≡◌, ℕ, ◌-◌, List, [], ◌∷◌, Option, Some, arith, refl, sym, ap, ◌∙◌, subst}
 use Rattle.std.specs.Prelude.{IsSome}
 use Rattle.std.specs.List.{AllZip}

@@ -1,4 +1,4 @@
--- The tile of wrong length that a mosaic tells is the first: by induction on the tiles.
+-- The tile of wrong length that a mosaic reports is the first: by induction on the tiles.
 use Rattle.std.proofs.Common.{◌≡◌, ℕ, zero, suc, ◌+◌, ◌*◌, ◌<◌, List, [], ◌∷◌, length, Option, Some, None, slice_get, MatchOption, true, false, cond, inl, inr, arith, refl, sym, ◌∙◌, subst}
 use Rattle.std.specs.List.{All}
 use Rattle.std.proofs.lemmas.Bool.{cases_lt, false≢true}

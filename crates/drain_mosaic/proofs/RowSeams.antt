@@ -1,4 +1,4 @@
--- The seam that a mosaic's rows tell is the first: a row's seams are its cells with two values, and the rows come in order.
+-- The seam that a mosaic's rows report is the first: a row's seams are its cells with two values; rows come in order.
 use Rattle.std.proofs.Common.{◌≡◌, ◌≢◌, ℕ, zero, suc, ◌+◌, ◌<◌, ◌≤◌, ℤ, List, [], ◌∷◌, map, Option, Some, None, Bool, true, false, ◌||◌, int_eq, cond, IsTrue, MatchOption, arith, refl, sym, ap, ◌∙◌, inl, inr, subst}
 use Rattle.std.specs.List.{list_any}
 use Rattle.std.specs.Option.{option_or}

@@ -1,4 +1,4 @@
--- The streams of a mosaic after so many rows: each tile goes on while it lies over them.
+-- The streams of a mosaic after n rows: each tile goes on while it lies over them.
 use Rattle.std.proofs.Common.{◌≡◌, ℕ, zero, suc, ◌+◌, ◌-◌, ◌<◌, ◌≤◌, ℤ, List, [], ◌∷◌, length, map, max, arith, refl, sym, ap, ◌∙◌, inl, inr, cond}
 use Rattle.std.specs.Prelude.{slice_index_or}
 use Rattle.std.proofs.lemmas.Bool.{cases_lt}

@@ -1,5 +1,5 @@
--- The same as a function: a cell has the value of the first tile that gives one. Where the tiles agree it is the cell's one value, by the
--- law AgreementGivesElevation.
+-- The same as a function: a cell has the value of the first tile that gives one. If the tiles agree it is the cell's
+-- one value, by the law AgreementGivesElevation.
 use Rattle.std.specs.Prelude.{◌+◌, ◌&&◌, ℤ, nat_le, nat_lt, List, [], ◌∷◌, Option, None, if◌then◌else◌}
 use Rattle.std.specs.Option.{option_or}
 use Rattle.drain_grid.specs.declared.cell.Cell.{Cell}

@@ -1,4 +1,4 @@
--- One row of a mosaic, as far as tiles were laid over it.
+-- One row of a mosaic, after some tiles were laid over it.
 use Rattle.std.specs.Prelude.{◌≡◌, ◌≢◌, ◌⊎◌, ◌+◌, ◌-◌, ◌*◌, ◌≤◌, ◌<◌, ℕ, ℤ, min, List, length, slice_index_or, Option, Some, None, MatchOption, if◌then◌else◌}
 use Rattle.std.specs.Ordering.{int_eq}
 use Rattle.drain_grid.specs.declared.tile.TheConstants.{VOID}
@@ -11,7 +11,7 @@ use Rattle.drain_mosaic.specs.Joined.{first_value}
 abbrev pub IsLeastOf : (ℕ → Type 0) → ℕ → Option ℕ → Type 0
 IsLeastOf P n found = MatchOption found ((k : ℕ) → k < n → ¬ P k) (λ s. (s < n) × P s × ((k : ℕ) → k < s → ¬ P k))
 
--- the lesser of two places, where there are two
+-- the lesser of two places, each of which may be missing
 abbrev pub first_of : Option ℕ → Option ℕ → Option ℕ
 first_of None b = b
 first_of (Some a) None = Some a

@@ -9,7 +9,7 @@ use Rattle.drain_mosaic.specs.declared.layout.LayoutFault.{LayoutFault}
 use Rattle.drain_mosaic.specs.declared.layout.LayoutFault.TheVariants.{NoTiles, RepeatedTile, BoxTooLarge, OutOfMemory}
 use Rattle.drain_mosaic.specs.Tiling.{Tiling, west_of, north_of, extent_of, tiles_down, tiles_across}
 
--- the tile in this place stands in an earlier place too
+-- the tile in this place is in an earlier place too
 pub record IsRepeatedAt (corners : List Corner) (i : ℕ) (c : Corner) : Type 0 where
   pub earlier : ℕ
   pub before : earlier < i
@@ -22,14 +22,14 @@ pub record IsFirstRepeated (corners : List Corner) (c : Corner) : Type 0 where
   pub repeated : IsRepeatedAt corners place c
   pub first : (i : ℕ) (d : Corner) → i < place → ¬ IsRepeatedAt corners i d
 
--- what each fault says; want of memory says nothing of the tiles
+-- the meaning of each fault; running out of memory says nothing of the tiles
 abbrev pub HasLayoutFault : Tiling → LayoutFault → Type 0
 HasLayoutFault t NoTiles = t.corners ≡ []
 HasLayoutFault t (RepeatedTile c) = IsFirstRepeated t.corners c
 HasLayoutFault t BoxTooLarge = (MAX_BOX < tiles_down t) ⊎ (MAX_BOX < tiles_across t)
 HasLayoutFault t OutOfMemory = ⊥
 
--- the order in which faults are told
+-- the order in which faults are reported
 abbrev pub order_of : LayoutFault → ℕ × ℕ
 order_of NoTiles = (0, 0)
 order_of (RepeatedTile c) = (1, 0)

@@ -1,4 +1,4 @@
--- What is to come of a mosaic's rows, and what it will tell.
+-- What is to come of a mosaic's rows, and what it will report.
 use Rattle.std.specs.Prelude.{◌≡◌, ◌-◌, ℕ, List, Option, None}
 use Rattle.std.specs.List.{AllZip}
 use Rattle.std.specs.Option.{option_or}
@@ -17,7 +17,7 @@ use Rattle.drain_mosaic.specs.declared.mosaic_rows.MosaicRows.{MosaicRows}
 abbrev pub frame_of_rows : MosaicRows → Frame
 frame_of_rows m = record { side = m.side; rows = m.shape.rows; cols = m.shape.cols }
 
--- it is to give the first row of a mosaic of these tiles, each from its first byte on
+-- its next row is the first row of a mosaic of these tiles, each from its first byte on
 pub record IsBegun (t : Tiling) (m : MosaicRows) : Type 0 where
   pub side_is : m.side ≡ t.side
   pub shape_is : m.shape ≡ extent_of t
@@ -26,11 +26,11 @@ pub record IsBegun (t : Tiling) (m : MosaicRows) : Type 0 where
   pub no_seam : m.seam ≡ None
   pub tiles_are : AllZip (IsAtStart t) t.corners m.tiles.items
 
--- the rows to come, where the devices tell their bytes
+-- the rows to come, if the devices' bytes are known
 abbrev pub coming_of : {R : Type 0} → (R → Option (List ℕ)) → MosaicRows → List (TileInput R) → Coming
 coming_of bytes_left m from = coming_at m.progress (mosaic_rows (frame_of_rows m) (m.shape.rows - m.row) m.row (streams_of bytes_left m.tiles.items from))
 
--- the seam that it will tell: that of the rows given, or the first of those to come
+-- the seam that it will report: that of the rows given, or the first of those to come
 abbrev pub seam_to_tell : {R : Type 0} → (R → Option (List ℕ)) → MosaicRows → List (TileInput R) → Option Cell
 seam_to_tell bytes_left m from = option_or m.seam (seam_from (frame_of_rows m) (m.shape.rows - m.row) m.row (streams_of bytes_left m.tiles.items from))
 
@@ -38,12 +38,12 @@ seam_to_tell bytes_left m from = option_or m.seam (seam_from (frame_of_rows m) (
 abbrev pub wrong_to_tell : {R : Type 0} → (R → Option (List ℕ)) → MosaicRows → List (TileInput R) → Option ℕ
 wrong_to_tell bytes_left m from = wrong_from 0 (streams_of bytes_left m.tiles.items from)
 
--- behind the last row the seam that it has found is the one to tell, and a tile is of wrong length exactly where it has stopped
+-- after the last row the seam found is the one to report, and a tile has a wrong length exactly where it has stopped
 pub record IsToldAtEnd {R : Type 0} (bytes_left : R → Option (List ℕ)) (m : MosaicRows) (from : List (TileInput R)) : Type 0 where
   pub seam_is : seam_to_tell bytes_left m from ≡ m.seam
   pub wrong_is : wrong_to_tell bytes_left m from ≡ first_stopped 0 m.tiles.items
 
--- the rows to come, the seam and the tile of wrong length are those of these bodies, which the devices tell
+-- the rows to come, the seam and the tile of wrong length are those of these bodies, which the devices give
 pub record AreRowsOf {R : Type 0} (bytes_left : R → Option (List ℕ)) (t : Tiling) (m : MosaicRows) (from : List (TileInput R)) (bodies : List (List ℕ)) : Type 0 where
   pub told : AreTold bytes_left from
   pub rows_are : coming_of bytes_left m from ≡ mosaic_coming t bodies

@@ -1,4 +1,4 @@
--- The tiles of a mosaic's rows: where they lie, how far they are, and what was read of each.
+-- The tiles of a mosaic's rows: where they lie, their state, and what was read of each.
 use Rattle.std.specs.Prelude.{◌≡◌, ◌≢◌, ◌+◌, ◌-◌, ◌≤◌, ◌<◌, ℕ, ℤ, IsTrue, List, [], ◌∷◌, length, slice_index_or, Option, Some, None, MatchOption, Result, Ok, Err, IsSome, unwrap_or}
 use Rattle.std.specs.List.{All}
 use Rattle.drain_grid.specs.declared.tile.TheConstants.{VOID}
@@ -19,7 +19,7 @@ use Rattle.drain_mosaic.specs.JoinedRows.{IsLeastOf, filled}
 use Rattle.drain_mosaic.specs.Streams.{Stream, first_sample, in_conflict, is_seam, sample_given}
 use Rattle.drain_mosaic.specs.declared.placed_rows.PlacedRows.{PlacedRows}
 
--- the tile has this side and lies within so many rows and columns
+-- the tile has this side and lies within these rows and columns
 pub record IsWithin (side rows cols : ℕ) (p : PlacedRows) : Type 0 where
   pub side_is : p.rows.side ≡ side
   pub above : p.place.row + side ≤ rows
@@ -33,7 +33,7 @@ AreWithin side rows cols tiles = All (IsWithin side rows cols) tiles
 pub record IsAt (side row : ℕ) (p : PlacedRows) : Type 0 where
   pub left_is : p.rows.progress ≡ Going → p.rows.left ≡ side - (row - p.place.row)
 
--- the tile at this corner stands at its place, and its first row is to come
+-- the tile at this corner is at its place, and its first row is to come
 pub record IsAtStart (t : Tiling) (c : Corner) (p : PlacedRows) : Type 0 where
   pub place_is : p.place ≡ top_left_of t c
   pub side_is : p.rows.side ≡ t.side
@@ -41,7 +41,7 @@ pub record IsAtStart (t : Tiling) (c : Corner) (p : PlacedRows) : Type 0 where
   pub going : p.rows.progress ≡ Going
   pub patience_is : p.rows.patience ≡ full_patience
 
--- the fault of an answer that ends a mosaic's rows: of a device or of memory; a tile of wrong length ends none
+-- the fault of an answer that ends a mosaic's rows: of a device or of memory; a tile of wrong length doesn't end them
 abbrev pub stop_of : Result RowStep ReadFault → Option ReadFault
 stop_of (Ok step) = None
 stop_of (Err WrongLength) = None
@@ -49,7 +49,7 @@ stop_of (Err ReadFailed) = Some ReadFailed
 stop_of (Err OutOfMemory) = Some OutOfMemory
 stop_of (Err AlreadyFailed) = None
 
--- each device tells its bytes
+-- each device's bytes are known
 abbrev pub AreTold : {R : Type 0} → (R → Option (List ℕ)) → List (TileInput R) → Type 0
 AreTold bytes_left from = All (λ t. IsSome (bytes_left t.body)) from
 
@@ -63,13 +63,13 @@ streams_of bytes_left [] from = []
 streams_of bytes_left (p ∷ tiles) [] = []
 streams_of bytes_left (p ∷ tiles) (t ∷ from) = stream_of p (bytes_left t.body) ∷ streams_of bytes_left tiles from
 
--- one call for a tile: its device gave at most what was still to be read of the tile, less what still is; so many of its faults were borne;
--- and the call failed exactly where the device gave up
+-- one call for a tile: its device gave at most what was still to be read of the tile, less what still is; this many of
+-- its faults were allowed; and the call failed exactly if the device failed for good
 pub record HasRead (known_before known_after : Option (List ℕ)) (before after : FaultCounts) (old new : PlacedRows) (Fails : Type 0) : Type 0 where
   pub within : ReadsWithin (tile_most_bytes old.rows) (tile_most_bytes new.rows) known_before known_after
   pub faults : PartFails before after old.rows.patience new.rows.patience Fails
 
--- one call for each tile: the first device that gave up, if one did, ended it
+-- one call for each tile; it ended at the first device that failed for good, if one did
 pub record HaveRead {R : Type 0} (bytes_left : R → Option (List ℕ)) (counts : R → FaultCounts) (old new : List PlacedRows) (from from_then : List (TileInput R)) (Fails : Type 0) : Type 0 where
   pub failed : Option ℕ
   pub exactly : MatchOption failed (Fails → ⊥) (λ k. (k < length old) × Fails)
@@ -95,7 +95,7 @@ HasEnded p = p.rows.progress ≢ Going
 abbrev pub HaveEnded : List PlacedRows → Type 0
 HaveEnded tiles = All HasEnded tiles
 
--- this tile, where it has stopped, and else the later one
+-- this tile, if it has stopped, and else the later one
 abbrev pub if_stopped : ℕ → Progress → Option ℕ → Option ℕ
 if_stopped k Going later = later
 if_stopped k Done later = later

@@ -17,7 +17,7 @@ use Rattle.drain_mosaic.specs.GivenTiles.{frame_of, given_tiles, mosaic_coming, 
 use Rattle.drain_mosaic.specs.MosaicRows.{AreRowsOf, IsBegun}
 use Rattle.drain_mosaic.specs.declared.mosaic_rows.MosaicRows.{MosaicRows}
 
--- new rows are those of the bodies that the devices tell
+-- new rows are those of the bodies that the devices give
 abbrev pub NewRowsAreOfBodies : {R : Type 0} → (R → Option (List ℕ)) → Type 0
 NewRowsAreOfBodies {R} bytes_left =
     (t : Tiling) (m : MosaicRows) (from : List (TileInput R)) (bodies : List (List ℕ)) → IsBegun t m → AreBodies bytes_left from bodies → AreRowsOf bytes_left t m from bodies
@@ -26,7 +26,7 @@ NewRowsAreOfBodies {R} bytes_left =
 abbrev pub RowsEnd : Type 0
 RowsEnd = (t : Tiling) (bodies : List (List ℕ)) → after_rows (extent_of t).rows (mosaic_coming t bodies) ≡ End
 
--- each row has a number for each column, and behind the last there is no row
+-- each row has a number for each column, and after the last there is no row
 pub record AreWholeRows (t : Tiling) (bodies : List (List ℕ)) : Type 0 where
   pub long : (row : ℕ) → row < (extent_of t).rows → length (nth_row row (mosaic_coming t bodies)) ≡ (extent_of t).cols
   pub none_behind : nth_row (extent_of t).rows (mosaic_coming t bodies) ≡ []
@@ -39,12 +39,12 @@ abbrev pub RowsAreFirstValues : Type 0
 RowsAreFirstValues = (t : Tiling) (bodies : List (List ℕ)) (row col : ℕ) → IsLayout t → row < (extent_of t).rows → col < (extent_of t).cols →
     height_from (slice_index_or (nth_row row (mosaic_coming t bodies)) col VOID) ≡ first_value t (given_tiles t bodies) (record { row = row; col = col })
 
--- the seam that rows tell is the first; none is told where the tiles agree
+-- the seam that rows report is the first; none is reported if the tiles agree
 abbrev pub RowsTellSeams : Type 0
 RowsTellSeams = (t : Tiling) (bodies : List (List ℕ)) → IsLayout t →
     MatchOption (seam_from (frame_of t) (extent_of t).rows 0 (tile_streams t t.corners bodies)) (TilesAgree t (given_tiles t bodies)) (IsFirstSeam t (given_tiles t bodies))
 
--- the tile that they tell is the first of another length; none is told where each has the right one
+-- the tile that they report is the first of another length; none is reported if each has the right one
 abbrev pub RowsTellLengths : Type 0
 RowsTellLengths = (t : Tiling) (bodies : List (List ℕ)) → IsLayout t → length bodies ≡ length t.corners →
     MatchOption (wrong_from 0 (tile_streams t t.corners bodies)) (All (IsTile t.side) bodies) (IsFirstBadLength t.side bodies)

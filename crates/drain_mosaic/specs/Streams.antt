@@ -46,7 +46,7 @@ in_conflict z s = not (int_eq z VOID) && (not (int_eq s VOID) && not (int_eq z s
 abbrev pub is_seam : ℕ → ℕ → List Stream → ℕ → Bool
 is_seam side row streams col = list_any (λ s. in_conflict (first_sample side row col streams) (sample_given side row col s)) streams
 
--- the first of so many places from k on that p holds at
+-- the first of n places from k on that p holds at
 abbrev pub first_from : (ℕ → Bool) → ℕ → ℕ → Option ℕ
 first_from p k zero = None
 first_from p k (suc n) = if p k then Some k else first_from p (k + 1) n
@@ -63,11 +63,11 @@ next_stream side row s = record { place = s.place; coming = if is_over side row 
 abbrev pub next_streams : Frame → ℕ → List Stream → List Stream
 next_streams f row streams = map (next_stream f.side row) streams
 
--- a tile that is asked once more, below the last row
+-- a tile that is read once more, below the last row
 abbrev pub end_stream : Stream → Stream
 end_stream s = record { place = s.place; coming = after_rows 1 s.coming }
 
--- what is to come of a mosaic that has so many rows to go, from this row on
+-- what is to come of a mosaic with n rows to go, from this row on
 abbrev pub mosaic_rows : Frame → ℕ → ℕ → List Stream → Coming
 mosaic_rows f zero row streams = End
 mosaic_rows f (suc left) row streams = Next (mosaic_row f row streams) (mosaic_rows f left (row + 1) (next_streams f row streams))

@@ -1,4 +1,4 @@
-//! Where a mosaic lies and how far apart its samples are, in the units of a header's place.
+//! The edges of a mosaic and its sample spacing, in the units of a header's place.
 
 ghost use Rattle.std.specs.Prelude.{◌≡◌, ◌≤◌, ◌*◌, nat_abs};
 ghost use Rattle.drain_mosaic.specs.Tiling.{west_edge, north_edge, spacing_of};

@@ -1,6 +1,6 @@
 //! The first seam, found without memory and without a buffer.
 //!
-//! Each cell is asked of each tile. This is slow, so `join` comes here only where the samples of the mosaic find no memory.
+//! Each cell looks at each tile. This is slow, so `join` uses it only if memory for the mosaic's samples runs out.
 
 ghost use Rattle.std.specs.Prelude.{◌≡◌, ◌↔◌, ◌⊎◌, ◌+◌, ◌-◌, ◌*◌, ◌≤◌, ◌<◌, map, length, IsTrue, MatchOption, None};
 ghost use Rattle.drain_grid.specs.Tile.{height_from};
@@ -12,7 +12,7 @@ use crate::layout::Layout;
 use drain_grid::Cell;
 use drain_grid::tile::height_from;
 
-/// The first cell in row order with two values, none where the tiles agree. This takes no memory.
+/// The first cell in row order with two values, none if the tiles agree. This takes no memory.
 pub fn first_seam(layout: &Layout, tiles: &[Vec<i16>]) -> Option<Cell>
     requires { AreTiles layout.now (map (λ tile. tile.items) tiles.now) }
     ensures { MatchOption result (TilesAgree layout.now (tiles_of layout.now.corners (map (λ tile. tile.items) tiles.now))) (IsFirstSeam layout.now (tiles_of layout.now.corners (map (λ tile. tile.items) tiles.now))) }
@@ -57,7 +57,7 @@ fn has_two_values(layout: &Layout, tiles: &[Vec<i16>], cell: Cell) -> bool
     false
 }
 
-/// The value that a tile gives the cell, none where it gives none. `place` is the tile's north-west cell.
+/// The value that a tile gives the cell, none if it gives none. `place` is the tile's north-west cell.
 fn value_at(place: Cell, side: u32, tile: &[i16], cell: Cell) -> Option<i16>
     requires { length tile.now ≡ side * side }
     ensures over { place.row ≤ cell.row → cell.row < place.row + side → place.col ≤ cell.col → cell.col < place.col + side → result ≡ height_from (sample_at side tile.now (cell.row - place.row) (cell.col - place.col)) }

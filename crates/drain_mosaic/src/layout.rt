@@ -1,8 +1,8 @@
 //! Which tiles a mosaic has, and where they lie in it.
 //!
-//! A mosaic is the bounding box of its tiles. Adjacent tiles share their edge rows and columns, so a box of `a` tiles from
-//! north to south has `a * (side - 1) + 1` rows. Source: the SRTM HGT documentation; that a box is at most 8 by 8 tiles is this
-//! project's choice.
+//! A mosaic is the bounding box of its tiles. Adjacent tiles share their edge rows and columns, so a box of `a` tiles
+//! from north to south has `a * (side - 1) + 1` rows. Source: the SRTM HGT documentation; that a box is at most 8 by 8
+//! tiles is this project's choice.
 
 ghost use Rattle.std.specs.Prelude.{◌≡◌, ◌≢◌, ◌+◌, ◌-◌, ◌*◌, ◌≤◌, ◌<◌, ℕ, map, MatchOption, IfOk, IfErr, IsOk, Some, slice_get, length, option_map, nat_abs, ◌-ℤ◌};
 ghost use Rattle.drain_text.specs.First.{IsFirst};
@@ -21,24 +21,24 @@ use thiserror::Error;
 /// The greatest number of tiles from north to south, and from west to east.
 pub const MAX_BOX: u32 = 8;
 
-/// Why tiles make no mosaic, in the order in which the faults are told.
+/// Why tiles make no mosaic, in the order in which the errors are returned.
 #[derive(Clone, Copy, PartialEq, Eq, Debug, Error)]
 pub enum LayoutFault {
-    /// No tile is named.
+    /// The list is empty.
     #[error("no tile is named")]
     NoTiles,
-    /// The tile was named before.
+    /// The tile is in the list already.
     #[error("a tile is named twice")]
     RepeatedTile(TileName),
     /// The tiles lie further apart than 8 by 8.
     #[error("the tiles lie too far apart")]
     BoxTooLarge,
-    /// The list has no fault, and there is no memory for the names.
+    /// The list has no fault, and memory for the names runs out.
     #[error("out of memory")]
     OutOfMemory,
 }
 
-/// The tiles of a mosaic, in the order in which they were named. Contracts see their side and their corners.
+/// The tiles of a mosaic, in the order of the list. Contracts see their side and their corners.
 #[derive(Drop)]
 pub struct Layout {
     side: u32,
@@ -60,15 +60,17 @@ impl Model for Layout {
 }
 
 impl Layout {
-    /// The layout of the tiles, or the first fault of their list: `NoTiles` where it is empty, `RepeatedTile` with the first tile
-    /// that equals an earlier one, `BoxTooLarge` where they lie in no box of 8 by 8. `OutOfMemory` comes only where there is no fault.
+    /// The layout of the tiles, or the first fault of their list: `NoTiles` if it is empty, `RepeatedTile` with the
+    /// first
+    /// tile that equals an earlier one, `BoxTooLarge` if no box of 8 by 8 holds them. `OutOfMemory` only without such a
+    /// fault.
     pub fn new(alloc: Global, side: u32, names: &[TileName]) -> Result<Layout, LayoutFault>
         requires { IsSide side }
         ensures layout { IfOk result (λ layout. layout ≡ record { side = side; corners = names.now }) }
         ensures sound { IfOk result (λ layout. (fault : LayoutFault) → ¬ HasLayoutFault layout fault) }
         ensures first_fault { IfErr result (λ fault. fault ≢ LayoutFault.OutOfMemory → IsFirst order_of (HasLayoutFault (record { side = side; corners = names.now })) fault) }
 
-        // Want of memory never stands in place of a fault.
+        // Running out of memory never hides a fault.
         ensures wants_memory { result ≡ Err LayoutFault.OutOfMemory → (fault : LayoutFault) → ¬ HasLayoutFault (record { side = side; corners = names.now }) fault }
     {
         let Bounds {
@@ -97,7 +99,7 @@ impl Layout {
     pub fn makes_a_mosaic(&self)
         ensures { IsLayout self.now }
     {
-        // The proof knows what a layout keeps once a field of it was read.
+        // The proof knows the layout's invariant once a field of it was read.
         let _side = self.side;
     }
 
@@ -132,14 +134,14 @@ impl Layout {
         self.north
     }
 
-    /// How many tiles are named.
+    /// The number of tiles.
     pub fn len(&self) -> usize
         ensures { result ≡ length self.now.corners }
     {
         self.names.len()
     }
 
-    /// The name of a tile, counted from 0 in the order in which they were named.
+    /// The name of a tile, counted from 0 in the order of the list.
     pub fn name(&self, i: usize) -> TileName
         requires { i < length self.now.corners }
         ensures { Some result ≡ slice_get self.now.corners i }

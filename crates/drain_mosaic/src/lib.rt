@@ -1,4 +1,4 @@
-//! Mosaics: which tiles make one, and the elevation that they give together, whole or row by row.
+//! Mosaics: which tiles make one, and their joined elevation, whole or row by row.
 #![tactic(auto)]
 
 mod edges;

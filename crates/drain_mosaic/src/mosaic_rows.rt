@@ -1,7 +1,8 @@
 //! The rows of a mosaic, one at a time, from tiles that go on together.
 //!
-//! A row is made of voids, and the next row of each tile that lies over it is laid over that. So no more than a row of the mosaic and a row of
-//! a tile are held, and each tile's device is read a row at a time.
+//! A row starts as voids, and the next row of each tile over it fills them. So only one row of the mosaic and one row
+//! of
+//! a tile are in memory, and each tile's device is read a row at a time.
 
 ghost use Rattle.std.specs.Prelude.{◌≡◌, ◌≢◌, ◌≤◌, ◌<◌, ◌^◌, [], None, length, IfOk, IfErr, IfSome, IsErrOf, MatchOption, Ok, OnOk};
 ghost use Rattle.std.specs.List.{All};
@@ -24,9 +25,9 @@ use std::alloc::Global;
 
 /// A reader of a mosaic's rows, the northernmost first, each from west to east, in whole metres with -32768 for a void.
 ///
-/// Where tiles differ a row holds the value of the tile listed first. A tile of wrong length ends nothing: it gives voids from its first row
-/// that isn't whole on, and once every tile was read to its end `wrong_length` tells the first such tile. So `WrongLength` is no answer of
-/// this reader.
+/// Where tiles differ a row holds the value of the tile listed first. A tile of wrong length doesn't end the mosaic:
+/// it gives voids from its first row that isn't whole on, and after the last row `wrong_length` reports the first such
+/// tile. So this reader never returns `WrongLength`.
 #[derive(Drop)]
 pub struct MosaicRows {
     side: u32,
@@ -79,7 +80,7 @@ impl MosaicRows {
         self.seam
     }
 
-    /// The first tile whose length was found to be wrong, counted from 0; none after a fault.
+    /// The first tile found to have a wrong length, counted from 0; none after a fault.
     pub fn wrong_length(&self) -> Option<usize>
         ensures stopped { self.now.progress ≡ Progress.Stopped → result ≡ None }
         ensures told { self.now.progress ≢ Progress.Stopped → result ≡ first_stopped 0 self.now.tiles.items }
@@ -96,11 +97,14 @@ impl MosaicRows {
         None
     }
 
-    /// Gives the next row in the vector, which holds nothing else then; or says that there is none, and the vector is empty.
+    /// Reads the next row into the vector, which then holds only that row; or returns that none is left, with an empty
+    /// vector.
     ///
-    /// `from` has the tiles in the layout's order, at each call the same. After the last row every tile is read to its end, and the answer
-    /// is `Ended`. `ReadFailed` comes where a device gives up, `OutOfMemory` where there is no memory for a row; after either every later
-    /// call answers `AlreadyFailed`, and after `Ended` it answers `Ended`. Then nothing is read.
+    /// `from` has the tiles in the layout's order, the same at each call. After the last row every tile is read to its
+    /// end, and
+    /// `Ended` is returned. `ReadFailed` comes if a device fails for good, `OutOfMemory` if memory for a row runs out.
+    /// After
+    /// either every later call returns `AlreadyFailed`, and after `Ended` it returns `Ended`; these read nothing.
     pub fn next_row<R: ByteSource>(
         &mut self,
         from: &mut [TileInput<R>],
@@ -108,13 +112,14 @@ impl MosaicRows {
     ) -> Result<RowStep, ReadFault>
         requires named { length from.old ≡ length self.old.tiles.items }
 
-        // Where the devices tell their bytes: a row is the next one of the mosaic, and the seam and the tile to tell stay.
+        // If the devices' bytes are known: a row is the next one of the mosaic, and the seam and the tile to report
+        // stay.
         ensures rows { AreTold R.bytes_left from.old → Steps (coming_of R.bytes_left self.old from.old) result out.new.items (coming_of R.bytes_left self.new from.new) }
         ensures seam { AreTold R.bytes_left from.old → OnOk result (seam_to_tell R.bytes_left self.new from.new ≡ seam_to_tell R.bytes_left self.old from.old) }
         ensures wrong { AreTold R.bytes_left from.old → OnOk result (wrong_to_tell R.bytes_left self.new from.new ≡ wrong_to_tell R.bytes_left self.old from.old) }
         ensures at_end { result ≡ Ok RowStep.Ended → IsToldAtEnd R.bytes_left self.new from.new }
 
-        // Whatever the devices: a row has a sample for each column, and the end and a fault stay.
+        // For any devices: a row has a sample for each column, and the end and a fault stay.
         ensures long { IsLong self.old.shape.cols result out.new.items }
         ensures samples { All IsSample out.new.items }
         ensures empty { IsEmptyUnlessRow result out.new.items }
@@ -123,7 +128,7 @@ impl MosaicRows {
         ensures after { self.new.progress ≡ progress_after result }
         ensures never { ¬ IsErrOf result ReadFault.WrongLength }
 
-        // What is read of each tile, and that the read fails exactly where one of their devices gives up.
+        // What is read of each tile, and that the read fails exactly if one of their devices fails for good.
         ensures read { HaveRead R.bytes_left R.counts self.old.tiles.items self.new.tiles.items from.old from.new (IsErrOf result ReadFault.ReadFailed) }
         ensures reads_nothing { self.old.progress ≢ Progress.Going → from.new ≡ from.old }
 
@@ -190,7 +195,7 @@ fn put_voids(out: &mut Vec<i64>, count: usize) -> Result<(), OutOfMemory>
     Ok(())
 }
 
-/// The first cell, where there is one, and else the other.
+/// The first cell if there is one, else the other.
 fn first_cell(first: Option<Cell>, other: Option<Cell>) -> Option<Cell>
     ensures { result ≡ option_or first other }
 {

@@ -1,4 +1,4 @@
-//! Laying a part over a row of numbers: `seams` does the same with the samples of whole tiles.
+//! Laying a part over a row of numbers; `seams` does the same with the samples of whole tiles.
 
 ghost use Rattle.std.specs.Prelude.{◌≡◌, ◌≤◌, ◌+◌, length, EachIndex, slice_index_or};
 ghost use Rattle.drain_grid.specs.declared.tile.TheConstants.{VOID};
@@ -6,7 +6,7 @@ ghost use Rattle.drain_mosaic.specs.JoinedRows.{ConflictAt, IsLaidOver, IsLeastO
 
 use drain_grid::VOID;
 
-/// The number that stands for a void.
+/// The number of a void.
 pub const VOID_NUMBER: i64 = VOID as i64;
 
 /// Lays a part over a row from `left` on: it fills the voids there. Finds the first column where both have data and differ.
@@ -36,7 +36,7 @@ fn first_conflict(here: &[i64], other: &[i64]) -> Option<usize>
     None
 }
 
-/// Puts the other number in the place of each void.
+/// Replaces each void by the other number.
 fn fill_voids(here: &mut [i64], other: &[i64])
     requires { length here.old ≡ length other.now }
     ensures { EachIndex here.new (λ k. slice_index_or here.new k VOID ≡ filled (slice_index_or here.old k VOID) (slice_index_or other.now k VOID)) }
@@ -50,7 +50,7 @@ fn fill_voids(here: &mut [i64], other: &[i64])
     }
 }
 
-/// The lesser of two places, where there are two.
+/// The lesser of two places, each of which may be missing.
 pub fn first_of(one: Option<usize>, other: Option<usize>) -> Option<usize>
     ensures { result ≡ first_of one other }
 {

@@ -1,6 +1,6 @@
 //! The tiles of a mosaic that go on together: one call for each tile that lies over a row, and one for each at the end.
 //!
-//! A tile of wrong length ends nothing: it gives no row from then on, and the others go on.
+//! A tile of wrong length doesn't end the mosaic: it gives no row from then on, and the others go on.
 
 ghost use Rattle.std.specs.Prelude.{◌≡◌, ◌<◌, ◌+◌, ℕ, None, Some, Err, length, map, IfOk, IfErr, IsErrOf, IsSome, MatchOption};
 ghost use Rattle.std.specs.List.{All};
@@ -105,7 +105,8 @@ pub fn read_ends<R: ByteSource>(
     Ok(())
 }
 
-/// The fault of an answer that ends the mosaic's rows: of a device or of memory. A tile of wrong length ends none.
+/// The fault of an answer that ends the mosaic's rows: of a device or of memory. A tile of wrong length doesn't end
+/// them.
 fn stop_of(answer: Result<RowStep, ReadFault>) -> Option<ReadFault>
     ensures { result ≡ stop_of answer }
 {

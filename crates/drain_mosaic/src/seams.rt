@@ -1,9 +1,11 @@
-//! The elevation that tiles give together.
+//! The joined elevation of tiles.
 //!
-//! A row of the mosaic is made of voids, and each tile that lies over it fills the voids that it has samples for. So a cell gets the
-//! value of the first tile that gives one, and a later tile that gives another value is a seam fault.
+//! A row of the mosaic starts as voids, and each tile over it fills the voids that it has samples for. So a cell gets
+//! the
+//! value of the first tile that has one, and a later tile with another value is a seam fault.
 //!
-//! Want of memory hides no seam: whether tiles agree is found without memory too, so that a seam fault comes exactly where there is one.
+//! Running out of memory hides no seam: the check for seams also works without memory, so a seam fault comes exactly if
+//! there is one.
 
 ghost use Rattle.std.specs.Prelude.{◌≡◌, ◌⊎◌, ◌+◌, ◌-◌, ◌*◌, ◌≤◌, ◌<◌, map, length, slice_range, IfOk, IfErr, IsOk, EachIndex, slice_index_or};
 ghost use Rattle.drain_grid.specs.Whole.{elevation_at};
@@ -18,21 +20,22 @@ use drain_grid::{Cell, Elevation, VOID};
 use std::alloc::Global;
 use thiserror::Error;
 
-/// Why tiles give no elevation.
+/// Why tiles have no joined elevation.
 #[derive(Clone, Copy, PartialEq, Eq, Debug, Error)]
 pub enum SeamFault {
     /// Two tiles give the cell different values.
     #[error("two tiles differ at a cell")]
     SeamMismatch(Cell),
-    /// The tiles agree, and there is no memory for the samples.
+    /// The tiles agree, and memory for the samples runs out.
     #[error("out of memory")]
     OutOfMemory,
 }
 
-/// The elevation that the tiles give: at each cell the one data value of the tiles that cover it, void where none gives data.
+/// The joined elevation: at each cell the one data value of the tiles that cover it, void if none has data.
 ///
-/// `tiles` has the samples of each tile, in the order of the layout's names. Answers `SeamMismatch` with the first cell in row order
-/// to which two tiles give different values, wherever there is one, and `OutOfMemory` only where the tiles agree.
+/// `tiles` has the samples of each tile, in the order of the layout's names. Returns `SeamMismatch` with the first cell
+/// in
+/// row order with two different values, if there is one, and `OutOfMemory` only if the tiles agree.
 pub fn join(alloc: Global, layout: &Layout, tiles: &[Vec<i16>]) -> Result<Elevation, SeamFault>
     requires tiles { AreTiles layout.now (map (λ tile. tile.items) tiles.now) }
     ensures shape { IfOk result (λ elevation. elevation.extent ≡ extent_of layout.now) }
@@ -40,7 +43,7 @@ pub fn join(alloc: Global, layout: &Layout, tiles: &[Vec<i16>]) -> Result<Elevat
     ensures values { IfOk result (λ elevation. IsElevation layout.now (tiles_of layout.now.corners (map (λ tile. tile.items) tiles.now)) (elevation_at elevation)) }
     ensures seam { (cell : Cell) → result ≡ Err (SeamFault.SeamMismatch cell) → IsFirstSeam layout.now (tiles_of layout.now.corners (map (λ tile. tile.items) tiles.now)) cell }
 
-    // Want of memory never stands in place of a seam.
+    // Running out of memory never hides a seam.
     ensures wants_memory { result ≡ Err SeamFault.OutOfMemory → TilesAgree layout.now (tiles_of layout.now.corners (map (λ tile. tile.items) tiles.now)) }
 {
     match vec![in alloc; VOID; layout.shape().cells()] {
@@ -55,7 +58,7 @@ pub fn join(alloc: Global, layout: &Layout, tiles: &[Vec<i16>]) -> Result<Elevat
     }
 }
 
-/// The elevation that the tiles give, in the room of a sample for each cell; or the first cell with two values. This takes no memory.
+/// The joined elevation, in a buffer of a sample per cell; or the first cell with two values. This takes no memory.
 fn elevation_of(layout: &Layout, tiles: &[Vec<i16>], room: Vec<i16>) -> Result<Elevation, Cell>
     requires tiles { AreTiles layout.now (map (λ tile. tile.items) tiles.now) }
     requires room { length room.items ≡ (extent_of layout.now).rows * (extent_of layout.now).cols }
@@ -137,7 +140,7 @@ fn first_conflict(here: &[i16], other: &[i16]) -> Option<usize>
     None
 }
 
-/// Puts the other sample in the place of each void.
+/// Replaces each void by the other sample.
 fn fill_voids(here: &mut [i16], other: &[i16])
     requires { length here.old ≡ length other.now }
     ensures { EachIndex here.new (λ k. slice_index_or here.new k VOID ≡ filled (slice_index_or here.old k VOID) (slice_index_or other.now k VOID)) }

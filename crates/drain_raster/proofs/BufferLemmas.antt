@@ -1,4 +1,4 @@
--- What stands at the front of a buffer, pixel by pixel, and lists of zeros.
+-- What is at the front of a buffer, pixel by pixel, and lists of zeros.
 use Rattle.std.proofs.Common.{◌≡◌, ℕ, zero, suc, ◌+◌, ◌-◌, ◌*◌, ◌<◌, ◌≤◌, ℤ, List, [], ◌∷◌, ◌++◌, length, map, take, drop, replicate, All, set, refl, arith, sym, ap, subst, ◌∙◌, append_assoc, append-nil, length-append, length-drop}
 use Rattle.std.specs.List.{flat_map, range_with_len}
 use Rattle.std.proofs.lemmas.List.{take_at, map-append, take_more_set}

@@ -1,4 +1,4 @@
--- Each cell of a grid stands in the list of cells in its place in row order, so what is made of the cells is found at their places.
+-- Each cell of a grid is in the list of cells at its place in row order, so its value is found at its place.
 use Rattle.std.proofs.Common.{◌≡◌, ℕ, zero, suc, ◌+◌, ◌-◌, ◌*◌, ◌<◌, pos, length, get_or, map, ap, ◌∙◌, arith}
 use Rattle.std.specs.List.{flat_map, range_with_len}
 use Rattle.std.proofs.lemmas.List.{get_or-map, get_or_append_left, get_or-append_right, length-append}

@@ -1,6 +1,6 @@
--- The bytes of a raster, and the numbers that its pixels can spell.
--- Source: the Esri description of BIL files and their headers (NBITS, PIXELTYPE, BYTEORDER, SKIPBYTES, TOTALROWBYTES), of one band; that
--- bytes without a pixel are zeros is this project's own
+-- The bytes of a raster, and the range of its pixels.
+-- Source: the Esri description of BIL files and their headers (NBITS, PIXELTYPE, BYTEORDER, SKIPBYTES, TOTALROWBYTES),
+-- of one band; that bytes without a pixel are zeros is this project's own
 use Rattle.std.specs.Prelude.{◌≡◌, ℕ, ◌-◌, ◌*◌, ◌^◌, ◌<◌, ℤ, pos, negsuc, neg_ℤ, ◌≤ℤ◌, Bool, true, false, List, ◌++◌, map, replicate}
 use Rattle.std.specs.List.{flat_map, range_with_len}
 use Rattle.byteorder.specs.Endian.{big_bytes, little_bytes}
@@ -13,7 +13,7 @@ use Rattle.drain_header.specs.declared.header.ByteOrdering.TheVariants.{Least, M
 use Rattle.drain_header.specs.Fields.{Fields}
 use Rattle.drain_raster.specs.Pixels.{pixel_len}
 
--- the least number that so many bits spell, in two's complement where signed
+-- the least number of n bits, in two's complement if signed
 abbrev pub least_number : Bool → ℕ → ℤ
 least_number true bits = neg_ℤ (pos (2 ^ (bits - 1)))
 least_number false bits = pos 0
@@ -23,7 +23,7 @@ abbrev pub greatest_number : Bool → ℕ → ℤ
 greatest_number true bits = pos (2 ^ (bits - 1) - 1)
 greatest_number false bits = pos (2 ^ bits - 1)
 
--- so many bits can spell the number
+-- n bits can encode the number
 pub record CanSpellIn (signed : Bool) (bits : ℕ) (z : ℤ) : Type 0 where
   pub low : least_number signed bits ≤ℤ z
   pub high : z ≤ℤ greatest_number signed bits
@@ -50,11 +50,11 @@ pixel_bytes h z = bytes_in h.order (pixel_len h) (complement_of h.bits z)
 abbrev pub cells_bytes : (ℤ → List ℕ) → Pixels → List Cell → List ℕ
 cells_bytes bytes p cs = flat_map (λ c. bytes (number_at p c)) cs
 
--- so many cells of a row from a column on
+-- n cells of a row from a column on
 abbrev pub cells_from : ℕ → ℕ → ℕ → List Cell
 cells_from r k n = map (λ col. record { row = r; col = col }) (range_with_len k n)
 
--- the bytes of a row that no pixel takes
+-- the bytes of a row outside its pixels
 abbrev pub padding_len : Fields → ℕ
 padding_len h = h.row_bytes - h.cols * pixel_len h
 
@@ -66,7 +66,7 @@ bytes_of_row h p r = cells_bytes (pixel_bytes h) p (row_cells h.cols r) ++ repli
 abbrev pub raster_bytes : Fields → Pixels → List ℕ
 raster_bytes h p = replicate h.skip 0 ++ flat_map (bytes_of_row h p) (range_with_len 0 h.rows)
 
--- so many bits can spell each number
+-- n bits can encode each number
 abbrev pub CanSpellAllIn : Bool → ℕ → Pixels → Type 0
 CanSpellAllIn signed bits p = (c : Cell) → IsCellOf p.extent c → CanSpellIn signed bits (number_at p c)
 
@@ -74,23 +74,23 @@ CanSpellAllIn signed bits p = (c : Cell) → IsCellOf p.extent c → CanSpellIn 
 abbrev pub CanSpellAll : Fields → Pixels → Type 0
 CanSpellAll h p = CanSpellAllIn h.signed h.bits p
 
--- a pixel can spell each number of a row up to a column
+-- a pixel can encode each number of a row up to a column
 abbrev pub CanSpellTo : Fields → Pixels → ℕ → ℕ → Type 0
 CanSpellTo h p r n = (k : ℕ) → k < n → CanSpell h (number_at p (record { row = r; col = k }))
 
--- the first column of a row whose number a pixel can't spell
+-- the first column of a row whose number a pixel can't encode
 pub record IsFirstAlong (h : Fields) (p : Pixels) (r k : ℕ) : Type 0 where
   pub inside : k < h.cols
   pub unspelled : ¬ CanSpell h (number_at p (record { row = r; col = k }))
   pub first : CanSpellTo h p r k
 
--- the first cell whose number a pixel can't spell
+-- the first cell whose number a pixel can't encode
 pub record IsFirstOutOfRange (h : Fields) (p : Pixels) (c : Cell) : Type 0 where
   pub inside : IsCellOf p.extent c
   pub unspelled : ¬ CanSpell h (number_at p c)
   pub first : (b : Cell) → IsCellOf p.extent b → IsEarlier b c → CanSpell h (number_at p b)
 
--- pixels of so many bytes and bits, signed or not, whose numbers have these bytes, are those of the header
+-- pixels of n bytes and some bits, signed or not, whose numbers have these bytes, are those of the header
 pub record AreWritten (h : Fields) (len bits : ℕ) (signed : Bool) (bytes : ℤ → List ℕ) : Type 0 where
   pub len_is : len ≡ pixel_len h
   pub bits_are : bits ≡ h.bits

@@ -1,4 +1,4 @@
--- A raster's bytes read back, what the raster and the rows of a body say at a cell, and how rows end.
+-- A raster's bytes read back, the value of the raster and of a body's rows at a cell, and how rows end.
 use Rattle.std.specs.Prelude.{◌≡◌, ◌↔◌, ◌<◌, ℕ, ℤ, pos, List, [], IsTrue, length, slice_index_or}
 use Rattle.drain_device.specs.ComingRows.{after_rows, ends_wrong, nth_row}
 use Rattle.drain_device.specs.ComingRows.Coming.{Wrong}
@@ -11,12 +11,12 @@ use Rattle.drain_raster.specs.Pixels.{IsShort, extent_of, needed_len, pixel_at, 
 use Rattle.drain_raster.specs.Bytes.{CanSpellAll, raster_bytes}
 use Rattle.drain_raster.specs.RasterRows.{bytes_of_rows, raster_rows}
 
--- the bytes are long enough, and spell the same numbers
+-- the bytes are long enough, and encode the same numbers
 pub record ReadBack (h : Fields) (p : Pixels) : Type 0 where
   pub long : ¬ IsShort h (raster_bytes h p)
   pub numbers : (raster_of h p.nodata (raster_bytes h p)).numbers ≡ p.numbers
 
--- the bytes of a raster whose numbers pixels can spell are the raster again
+-- the bytes of a raster whose numbers pixels can encode are the raster again
 abbrev pub BytesReadBack : Type 0
 BytesReadBack =
     (h : Fields) (p : Pixels) → AreWithinBounds h → ArePixels p → p.extent ≡ extent_of h → CanSpellAll h p → ReadBack h p
@@ -36,11 +36,11 @@ RasterRowsArePixels =
 abbrev pub RasterRowsTellLengths : Type 0
 RasterRowsTellLengths = (h : Fields) (body : List ℕ) → AreWithinBounds h → IsTrue (ends_wrong (raster_rows h h.rows h.skip body)) ↔ IsShort h body
 
--- all rows of a raster take the bytes that it needs, and no more
+-- all rows of a raster read the bytes that it needs, and no more
 abbrev pub RasterRowsTakeWhatIsNeeded : Type 0
 RasterRowsTakeWhatIsNeeded = (h : Fields) → AreWithinBounds h → bytes_of_rows h h.rows h.skip ≡ needed_len h
 
--- the rows of a raster that isn't short have a number for each column; behind the last there is none, and there a short one was found out
+-- rows of a raster that isn't short have a number per column; none follows the last, and there a short one is found
 pub record AreAllRows (h : Fields) (body : List ℕ) : Type 0 where
   pub long : (row : ℕ) → row < h.rows → ¬ IsShort h body → length (nth_row row (raster_rows h h.rows h.skip body)) ≡ h.cols
   pub none_behind : nth_row h.rows (raster_rows h h.rows h.skip body) ≡ []

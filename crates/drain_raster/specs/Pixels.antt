@@ -1,5 +1,6 @@
--- The pixels of a raster's bytes: where they stand, and the numbers that they spell.
--- Source: the Esri description of BIL files and their headers (NROWS, NCOLS, NBITS, PIXELTYPE, BYTEORDER, SKIPBYTES, TOTALROWBYTES), of one band
+-- The pixels of a raster's bytes: where they are, and their numbers.
+-- Source: the Esri description of BIL files and their headers (NROWS, NCOLS, NBITS, PIXELTYPE, BYTEORDER, SKIPBYTES,
+-- TOTALROWBYTES), of one band
 use Rattle.std.specs.Prelude.{◌≡◌, ℕ, ◌+◌, ◌-◌, ◌*◌, ◌/◌, ◌<◌, ℤ, pos, Bool, true, false, List, length, drop, map, unwrap_or}
 use Rattle.byteorder.specs.Endian.{big_number, little_number, twos_complement}
 use Rattle.drain_grid.specs.declared.cell.Cell.{Cell}
@@ -26,12 +27,12 @@ needed_len h = pixel_place h (h.rows - 1) h.cols
 abbrev pub IsShort : Fields → List ℕ → Type 0
 IsShort h body = length body < needed_len h
 
--- the number that the first n bytes spell in this order
+-- the number of the first n bytes in this order
 abbrev pub number_in : ByteOrdering → ℕ → List ℕ → ℕ
 number_in Least n bytes = little_number n bytes
 number_in Most n bytes = big_number n bytes
 
--- the number that the first n bytes spell, in two's complement where pixels are signed
+-- the number of the first n bytes, in two's complement if pixels are signed
 abbrev pub spelled_by : Bool → ByteOrdering → ℕ → List ℕ → ℤ
 spelled_by true order n bytes = twos_complement n (number_in order n bytes)
 spelled_by false order n bytes = pos (number_in order n bytes)
@@ -44,7 +45,7 @@ pixel_of h bytes = spelled_by h.signed h.order (pixel_len h) bytes
 abbrev pub pixel_at : Fields → List ℕ → Cell → ℤ
 pixel_at h body c = pixel_of h (drop (pixel_place h c.row c.col) body)
 
--- pixels of so many bytes, whose bytes spell this number, are those of the header
+-- pixels of n bytes, whose bytes encode this number, are those of the header
 pub record AreSpelled (h : Fields) (len : ℕ) (number : List ℕ → ℤ) : Type 0 where
   pub len_is : len ≡ pixel_len h
   pub number_is : (bytes : List ℕ) → number bytes ≡ pixel_of h bytes

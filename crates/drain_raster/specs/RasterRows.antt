@@ -9,7 +9,7 @@ use Rattle.drain_raster.specs.declared.raster_rows.RasterRows.{RasterRows}
 use Rattle.drain_raster.specs.Bytes.{padding_len}
 use Rattle.drain_raster.specs.Pixels.{pixel_len, pixel_of}
 
--- so many numbers of so many bytes each, from the front of the bytes
+-- count numbers of equal size, from the front of the bytes
 abbrev pub numbers_of : ℕ → (List ℕ → ℤ) → ℕ → List ℕ → List ℤ
 numbers_of len number zero bytes = []
 numbers_of len number (suc n) bytes = number (take len bytes) ∷ numbers_of len number n (drop len bytes)
@@ -22,11 +22,11 @@ pixels_of h bytes = numbers_of (pixel_len h) (pixel_of h) h.cols bytes
 abbrev pub packed_len : Fields → ℕ
 packed_len h = h.cols * pixel_len h
 
--- the pixels of a row that stand behind so many bytes
+-- the pixels of a row after skipped bytes
 abbrev pub pixels_behind : Fields → ℕ → List ℕ → List ℤ
 pixels_behind h gap bytes = pixels_of h (drop gap bytes)
 
--- the rows of a raster that has so many to go, where so many bytes stand before the next; a row whose pixels aren't all there is wrong
+-- the rows of a raster with some to go, after the bytes to skip; a row with a missing byte of a pixel is wrong
 abbrev pub raster_rows : Fields → ℕ → ℕ → List ℕ → Coming
 raster_rows h zero gap bytes = End
 raster_rows h (suc left) gap bytes =
@@ -34,7 +34,7 @@ raster_rows h (suc left) gap bytes =
     then Wrong
     else Next (pixels_behind h gap (take (gap + packed_len h) bytes)) (raster_rows h left (padding_len h) (drop (gap + packed_len h) bytes))
 
--- how many bytes those rows take at most: none behind the last pixel
+-- how many bytes those rows take at most: none after the last pixel
 abbrev pub bytes_of_rows : Fields → ℕ → ℕ → ℕ
 bytes_of_rows h zero gap = 0
 bytes_of_rows h (suc left) gap = gap + packed_len h + bytes_of_rows h left (padding_len h)

@@ -1,11 +1,11 @@
--- What a write of many calls left: the bytes that the sink took, and how the sink's faults, the patience and the answer hang together.
+-- What a write of many calls left: the bytes that the sink took, and how its faults decide the patience and the answer.
 use Rattle.std.specs.Prelude.{◌≡◌, ◌↔◌, ℕ, ◌-◌, List, Option, Result, IsErr}
 use Rattle.drain_device.specs.declared.counts.FaultCounts.{FaultCounts}
 use Rattle.drain_device.specs.Counts.{Answered, counted}
 use Rattle.drain_device.specs.Patience.{GivesUpWriting}
 use Rattle.drain_device.specs.Writes.{HandsOver}
 
--- a part of a write, which began with so much patience and left so much: it handed the bytes over, or gave up before the last of them
+-- a part of a write with one patience before and another after: it wrote the bytes, or failed for good before the end
 pub record Hands {E : Type 0} (taken_old taken_new : Option (List ℕ)) (counts_old counts_new : FaultCounts) (stalls_old stalls_new : ℕ)
     (patience left : ℕ) (result : Result (Unit {0}) E) (bytes : List ℕ) : Type 0 where
   pub handed : HandsOver taken_old taken_new result bytes

@@ -9,7 +9,7 @@ pub enum RasterFault {
     /// A byte of some pixel is missing.
     #[error("the raster is too short")]
     Short,
-    /// There was no memory for the numbers.
+    /// Out of memory for the numbers.
     #[error("out of memory")]
     OutOfMemory,
 }
@@ -17,10 +17,10 @@ pub enum RasterFault {
 /// Why a raster is not written.
 #[derive(Clone, Copy, PartialEq, Eq, Debug, Error)]
 pub enum WriteFault {
-    /// The number at the cell is one that a pixel of this size can't spell. Nothing was written.
+    /// A pixel of this size can't encode the number at the cell. Nothing was written.
     #[error("a number is out of range")]
     OutOfRange(Cell),
-    /// The sink gave up. A part of the bytes was written, from the first on.
+    /// The sink failed for good. A part of the bytes was written, from the first on.
     #[error("the write failed")]
     WriteFailed,
 }

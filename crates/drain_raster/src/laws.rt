@@ -1,10 +1,10 @@
-//! What the definitions of this crate say together.
+//! How the definitions of this crate fit together.
 //!
-//! A law is a function with nothing to do: its contract is the law, and a caller that calls it has the law at hand.
+//! A law is a function with an empty body: its contract is the law, and code that calls it can use the law.
 
 ghost use Rattle.drain_raster.specs.Laws.{BytesReadBack, NumbersArePixels, RasterRowsArePixels, RasterRowsEnd, RasterRowsTakeWhatIsNeeded, RasterRowsTellLengths};
 
-/// The bytes of a raster, where its pixels can spell each number, are long enough and are read back to the same numbers.
+/// If a raster's pixels can encode each number, its bytes are long enough and read back to the same numbers.
 pub fn bytes_read_back()
     ensures { BytesReadBack }
 {}
@@ -19,17 +19,18 @@ pub fn raster_rows_are_pixels()
     ensures { RasterRowsArePixels }
 {}
 
-/// A raster's rows end wrong exactly where it is short.
+/// A raster's rows end wrong exactly if it is short.
 pub fn raster_rows_tell_lengths()
     ensures { RasterRowsTellLengths }
 {}
 
-/// All rows of a raster take the bytes that it needs, and no more.
+/// All rows of a raster read the bytes that it needs, and no more.
 pub fn raster_rows_take_what_is_needed()
     ensures { RasterRowsTakeWhatIsNeeded }
 {}
 
-/// The rows of a raster that isn't short are as long as it has columns, and none comes behind the last; there a short raster was found out.
+/// The rows of a raster that isn't short have a number per column, and none follows the last; there a short one is
+/// found.
 pub fn raster_rows_end()
     ensures { RasterRowsEnd }
 {}

@@ -1,7 +1,7 @@
 //! Rasters of pixels as bytes: reading them into memory, or a row at a time, and writing them to a device.
 //!
-//! A raster is the body of an Esri BIL file of one band. Its header says how many pixels there are, how each is
-//! spelled and where each stands.
+//! A raster is the body of an Esri BIL file of one band. Its header says how many pixels there are, and how and where
+//! each is encoded.
 #![tactic(auto)]
 
 mod fault;

@@ -1,4 +1,4 @@
-//! The numbers that a header's pixels can spell.
+//! The range of a header's pixels.
 
 ghost use Rattle.std.specs.Prelude.{◌≡◌, ◌<◌, ◌≤ℤ◌, ◌↔◌, IsTrue, MatchOption};
 ghost use Rattle.drain_raster.specs.Pixels.{extent_of};
@@ -7,7 +7,7 @@ ghost use Rattle.drain_raster.specs.Bytes.{least_number, greatest_number, CanSpe
 use drain_grid::{Cell, Raster};
 use drain_header::Header;
 
-/// The least and the greatest number that pixels can spell.
+/// The least and the greatest number that pixels can encode.
 #[derive(Clone, Copy)]
 struct Spelled {
     least: i64,
@@ -15,7 +15,7 @@ struct Spelled {
 }
 
 impl Spelled {
-    /// Those of pixels of so many bits.
+    /// The range of pixels of this many bits.
     fn by(header: &Header) -> Spelled
         ensures least { result.least ≡ least_number header.now.signed header.now.bits }
         ensures greatest { result.greatest ≡ greatest_number header.now.signed header.now.bits }
@@ -48,7 +48,7 @@ impl Spelled {
         }
     }
 
-    /// Whether the number is one of them.
+    /// Whether the number is in the range.
     fn holds(self, number: i64) -> bool
         ensures { IsTrue result ↔ (self.least ≤ℤ number) × (number ≤ℤ self.greatest) }
     {
@@ -56,7 +56,7 @@ impl Spelled {
     }
 }
 
-/// The first column of a row with a number that a pixel can't spell.
+/// The first column of a row with a number that a pixel can't encode.
 fn first_in_row(header: &Header, spelled: Spelled, raster: &Raster, row: u32) -> Option<u32>
     requires shape { raster.now.extent ≡ extent_of header.now }
     requires least { spelled.least ≡ least_number header.now.signed header.now.bits }
@@ -72,7 +72,7 @@ fn first_in_row(header: &Header, spelled: Spelled, raster: &Raster, row: u32) ->
     None
 }
 
-/// The first cell with a number that a pixel can't spell.
+/// The first cell with a number that a pixel can't encode.
 pub fn first_out_of_range(header: &Header, raster: &Raster) -> Option<Cell>
     requires shape { raster.now.extent ≡ extent_of header.now }
     ensures { MatchOption result (CanSpellAll header.now raster.now) (IsFirstOutOfRange header.now raster.now) }

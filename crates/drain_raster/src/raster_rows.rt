@@ -22,14 +22,14 @@ use drain_header::Header;
 /// How many pixels are read at once: 16 KiB of the largest.
 const CHUNK_PIXELS: usize = 4096;
 
-/// Room for so many pixels of the greatest size.
+/// Room for this many pixels of the greatest size.
 const CHUNK_BYTES: usize = 4 * CHUNK_PIXELS;
 
 /// A reader of a raster's rows, the northernmost first, each from west to east.
 ///
-/// The bytes before the first row, and those between one row's pixels and the next row, are passed over when that row is asked for, so
-/// that no byte behind the last pixel is read. It answers `WrongLength` at the row that a byte of some pixel is missing of; `OutOfMemory`
-/// where there is no memory for a row, and then nothing is read.
+/// The bytes before the first row, and those between one row's pixels and the next row, are skipped when that row is
+/// read, so no byte after the last pixel is read. It returns `WrongLength` at the row in which a byte of some pixel is
+/// missing; `OutOfMemory` if memory for a row runs out, and then it reads nothing.
 ///
 /// Source: the Esri description of BIL files.
 #[derive(Drop)]
@@ -61,7 +61,7 @@ impl RasterRows {
         }
     }
 
-    /// Whether it has answered a fault.
+    /// Whether it has returned a fault.
     pub fn is_stopped(&self) -> bool
         ensures { IsTrue result ↔ (self.now.progress ≡ Progress.Stopped) }
     {
@@ -92,7 +92,7 @@ impl<R: ByteSource> RowSource<R> for RasterRows {
         ensures within { ReadsWithin (raster_most_bytes self.old) (raster_most_bytes self.new) (R.bytes_left from.old) (R.bytes_left from.new) }
         ensures faults { PartFails (R.counts from.old) (R.counts from.new) self.old.patience self.new.patience (IsErrOf result ReadFault.ReadFailed) }
 
-        // Whatever the device: the numbers of a row are those of pixels, and want of memory comes before a call of it.
+        // For any device: the numbers of a row are those of pixels, and memory runs out before the device is called.
         ensures pixels { All IsPixel out.new.items }
         ensures no_memory { IsErrOf result ReadFault.OutOfMemory → from.new ≡ from.old }
     {
@@ -126,14 +126,14 @@ impl<R: ByteSource> RowSource<R> for RasterRows {
     }
 }
 
-/// How many bytes stand between one row's pixels and the next row.
+/// How many bytes are between one row's pixels and the next row.
 fn padding(header: &Header) -> u32
     ensures { result ≡ padding_len header.now }
 {
     header.row_bytes - header.cols * (u32::from(header.bits) / 8)
 }
 
-/// Reads the pixels of a row behind so many bytes. Memory is wanted before the first byte, and where it is refused nothing is read.
+/// Skips bytes and reads a row's pixels. Memory is taken before the first byte; if it runs out, nothing is read.
 fn read_row<R: ByteSource>(
     from: &mut R,
     header: &Header,
@@ -147,7 +147,7 @@ fn read_row<R: ByteSource>(
     ensures pixels { All IsPixel out.new.items }
     ensures no_memory { IsErrOf result ReadFault.OutOfMemory → from.new ≡ from.old }
 {
-    // A row as long as the one before is written over as it stands.
+    // A row of the same length as before reuses the buffer.
     if out.resize(header.cols as usize, 0).is_err() {
         out.clear();
         return Err(ReadFault::OutOfMemory);
@@ -202,7 +202,7 @@ fn read_numbers<P: Pixel, T: ByteOrder, R: ByteSource>(
     ensures faults { PartFails (R.counts from.old) (R.counts from.new) patience.old patience.new (IsErrOf result ReadFault.ReadFailed) }
     ensures pixels { OnOk result (All IsPixel out.new) }
 {
-    // The proof knows what a header keeps once a field of it was read.
+    // The proof knows the header's invariant once a field of it was read.
     let _bits = header.bits;
     let len = P::len();
     let mut chunk = [0; CHUNK_BYTES];
@@ -217,7 +217,7 @@ fn read_numbers<P: Pixel, T: ByteOrder, R: ByteSource>(
     Ok(())
 }
 
-/// Puts the numbers that the bytes spell in the place of the numbers.
+/// Replaces the numbers by those of the bytes.
 fn put_numbers<P: Pixel, T: ByteOrder>(out: &mut [i64], bytes: &[u8])
     requires { length bytes.now ≡ length out.old * P.len }
     ensures items { out.new ≡ numbers_of P.len (P.reads T.number_of) (length out.old) bytes.now }

@@ -15,12 +15,13 @@ use drain_grid::{Product, Raster, Shape};
 use drain_header::{ByteOrdering, Header};
 use std::alloc::Global;
 
-/// How many numbers are decoded before they are appended together: a loop without a vector that may grow is the fast one.
+/// How many numbers are decoded before they are appended together: a loop without a growing vector is the fast one.
 const BUFFER_NUMBERS: u32 = 512;
 
-/// How many bytes a raster needs: those up to the end of its last pixel, with the header's `skip` bytes before the first.
+/// How many bytes a raster needs: those up to the end of its last pixel, with the header's `skip` bytes before the
+/// first.
 ///
-/// It is `skip + (rows - 1) * row_bytes + cols * bits / 8`; `read_raster` answers `Short` to fewer, and looks at no byte behind them.
+/// It is `skip + (rows - 1) * row_bytes + cols * bits / 8`; with fewer, `read_raster` returns `Short`; it ignores more.
 pub fn needed_len(header: &Header) -> usize
     ensures { result ≡ needed_len header.now }
 {
@@ -29,7 +30,7 @@ pub fn needed_len(header: &Header) -> usize
     header.skip as usize + rows_above * header.row_bytes as usize + header.cols as usize * pixel_len
 }
 
-/// The number that stands for no data in a product's raster: the header's, or else the product's default.
+/// The no-data number of a product's raster: the header's, or else the product's default.
 pub fn nodata(header: &Header, product: Product) -> i64
     ensures number { result ≡ unwrap_or header.now.nodata (default_no_data product) }
     ensures in_range { IsNoData result }
@@ -132,11 +133,12 @@ fn push_pixels(numbers: &mut Vec<i64>, header: &Header, body: &[u8])
     }
 }
 
-/// The raster that the bytes spell. The no-data number is the header's, or else the product's default.
+/// The raster of the bytes. The no-data number is the header's, or else the product's default.
 ///
 /// The bytes are those of a BIL file of one band: `skip` bytes of anything, then each row's pixels and bytes of
-/// anything up to `row_bytes`. Bytes behind the last pixel are not looked at. `Short` comes where a byte of some
-/// pixel is missing, and else `OutOfMemory` where there is no memory for a number a pixel, which is taken once.
+/// anything
+/// up to `row_bytes`. Bytes after the last pixel are ignored. Returns `Short` if a byte of some pixel is missing, else
+/// `OutOfMemory` if memory for one number per pixel, taken once, runs out.
 ///
 /// Source: the Esri description of BIL files.
 pub fn read_raster(

@@ -21,7 +21,7 @@ use drain_device::{ByteSink, GaveUp, Patience, write_all};
 use drain_grid::{Cell, Raster};
 use drain_header::{ByteOrdering, Header};
 
-/// How many bytes a call of the sink is lent at most.
+/// The most bytes in one call of the sink.
 const BUFFER_BYTES: usize = 4096;
 
 /// How many pixels of any size the buffer has room for.
@@ -34,7 +34,7 @@ fn hand<W: ByteSink>(to: &mut W, bytes: &[u8], patience: &mut Patience) -> Resul
     write_all(to, bytes, patience)
 }
 
-/// Writes so many zeros.
+/// Writes `count` zeros.
 fn write_zeros<W: ByteSink>(to: &mut W, count: usize, patience: &mut Patience) -> Result<(), GaveUp>
     ensures { Hands (W.bytes_taken to.old) (W.bytes_taken to.new) (W.counts to.old) (W.counts to.new) (W.stalls to.old) (W.stalls to.new) patience.old patience.new result (replicate count 0) }
 {
@@ -133,7 +133,7 @@ fn write_rows<P: Pixel, T: ByteOrder, W: ByteSink>(
     Ok(())
 }
 
-/// Writes all rows, of pixels as the header has them.
+/// Writes all rows, with the header's pixels.
 fn write_body<W: ByteSink>(
     to: &mut W,
     header: &Header,
@@ -191,9 +191,10 @@ fn write_all_bytes<W: ByteSink>(
 
 /// Writes the raster's bytes: `skip` zeros, then each row's pixels and zeros up to `row_bytes`, the last row too.
 ///
-/// `OutOfRange` names the first cell, in row order, with a number that a pixel of this size and sign can't spell, and
-/// comes before any byte is written. `WriteFailed` comes where the sink failed, was interrupted for the 1,000th time
-/// in this call, or took no byte of some; then a part of the bytes was written, from the first on. It takes no memory.
+/// `OutOfRange` gives the first cell, in row order, with a number that a pixel of this size and sign can't encode, and
+/// comes before any byte is written. `WriteFailed` comes if the sink failed, stalled, or was interrupted for the
+/// 1,000th
+/// time in this call; then a part of the bytes was written, from the first on. It takes no memory.
 ///
 /// Source: the Esri description of BIL files.
 pub fn write_raster<W: ByteSink>(
@@ -206,10 +207,10 @@ pub fn write_raster<W: ByteSink>(
     ensures untouched { (c : Cell) → result ≡ Err (WriteFault.OutOfRange c) → to.new ≡ to.old }
     ensures bytes { HandsOver (W.bytes_taken to.old) (W.bytes_taken to.new) result (raster_bytes header.now raster.now) }
 
-    // The write fails exactly where the sink failed, was interrupted for the 1,000th time, or took no byte of some.
+    // The write fails exactly if the sink failed, stalled, or was interrupted for the 1,000th time.
     ensures faults { WriteFails (W.counts to.old) (W.counts to.new) (W.stalls to.old) (W.stalls to.new) (IsErrOf result WriteFault.WriteFailed) }
 {
-    // The proof knows what a header keeps once a field of it was read.
+    // The proof knows the header's invariant once a field of it was read.
     let _rows = header.rows;
     if let Some(cell) = first_out_of_range(header, raster) {
         return Err(WriteFault::OutOfRange(cell));

@@ -8,7 +8,7 @@ use Rattle.drain_grid.specs.Values.{Values}
 use Rattle.drain_kernel.specs.Asked.{IfAsked}
 use Rattle.drain_kernel.specs.declared.rules.Rules.{Rules}
 
--- a void at which every rule holds that looks at its patch alone
+-- a void at which every rule holds that looks at its patch only
 pub record IsRightVoid (profile : Profile) (p : Patch) : Type 0 where
   pub holds : IsLeastFault IsPatchRule (profile p) None
   pub is_void : IsNone p.here.z

@@ -8,7 +8,7 @@ use Rattle.drain_grid.specs.Size.{Extent}
 use Rattle.drain_grid.specs.Tile.{height_from}
 use Rattle.drain_grid.specs.Grid.{Grid, Products, no_sink}
 
--- the number that n bytes spell, among numbers of n bytes that begin at start
+-- the number of n bytes, among numbers of n bytes that begin at start
 abbrev pub number_at : List ℕ → ℕ → ℕ → ℕ → ℕ
 number_at bytes start n place = big_number n (drop (start + n * place) bytes)
 

@@ -27,7 +27,7 @@ abbrev pub IsFillVerdict : Grid → Products → FillVerdict → Type 0
 IsFillVerdict g ps (Accepted counts) = RulesHold fill_rules IsFillRule g ps × (counts ≡ fill_counts g ps)
 IsFillVerdict g ps (Rejected rule row col) = IsFirstFault fill_rules IsFillRule g ps (record { row = row; col = col }) rule
 
--- the first refusal that stands, else the verdict
+-- the first refusal that applies, else the verdict
 abbrev pub IsFillAnswer : ℕ → List ℕ → Result FillVerdict FillRefusal → Type 0
 IsFillAnswer side bytes (Err BadSide) = ¬ IsSide side
 IsFillAnswer side bytes (Err BadLength) = IsSide side × ¬ IsFillLength side bytes

@@ -1,4 +1,4 @@
--- What the rows above a row came to: every rule kept, and counted; or the first fault.
+-- The result of the rows above a row: every rule kept, and counted; or the first fault.
 use Rattle.std.specs.Prelude.{◌≡◌, ℕ, ◌*◌, ◌<◌, List}
 use Rattle.std.specs.List.{count_by, flat_map, range_with_len}
 use Rattle.drain_grid.specs.declared.cell.Cell.{Cell}
@@ -34,7 +34,7 @@ pub record AreSound (profile : Profile) (g : Grid) (ps : Products) (row : ℕ) (
   pub counted : CountsAbove g ps row tally
   pub before : AreLabelsBefore g ps (place row 0) labels
 
--- this is what the rows above came to
+-- this is the result of the rows above
 abbrev pub IsFinding : Profile → Grid → Products → ℕ → List (ℕ × ℕ) → Finding → Type 0
 IsFinding profile g ps row labels (Sound tally) = AreSound profile g ps row labels tally
 IsFinding profile g ps row labels (Faulty cell rule) = IsFirstFault profile IsAnyRule g ps cell rule
@@ -49,6 +49,6 @@ abbrev pub tally_of : Finding → Tally
 tally_of (Sound tally) = tally
 tally_of (Faulty cell rule) = record { data_cells = 0; raised = 0; outlets = 0 }
 
--- they are those of so many rows
+-- they are those of n rows
 abbrev pub IsBounded : ℕ → Finding → Type 0
 IsBounded rows finding = IsAtMost (rows * MAX_LENGTH) (tally_of finding)

@@ -22,8 +22,8 @@ pub record IsLabelOf (v : Values) (label : ℤ) : Type 0 where
   pub outlet : IsOutletByCode v
   pub label_is : label ≡ v.bas
 
--- a new label has to be admitted at the cell: it is a data cell with code 0, and every rule that is tried holds there and at each earlier cell. So by
--- SharedLabel no earlier one has its label
+-- a new label has to be admitted at the cell: it is a data cell with code 0, and every rule that is tried holds there
+-- and at each earlier cell. So by SharedLabel no earlier one has its label
 pub record IsNewLabelAt (profile : Profile) (g : Grid) (ps : Products) (c : Cell) : Type 0 where
   pub has_data : HasData g c
   pub code : ps.dir c ≡ pos 0

@@ -1,4 +1,4 @@
--- Rows of numbers with lanes beside them.
+-- Rows of numbers with lanes.
 use Rattle.std.specs.Prelude.{Option, IfSome}
 use Rattle.drain_kernel.specs.declared.lanes.Lanes.{Lanes}
 use Rattle.drain_kernel.specs.Taken.{AreLanesOf}

@@ -1,4 +1,4 @@
--- What a verdict rests on: what a grid and its products say at the cells of the grid, and nothing else.
+-- What a verdict depends on: the values of a grid and its products at the cells of the grid, and nothing else.
 use Rattle.std.specs.Prelude.{◌≡◌}
 use Rattle.drain_grid.specs.declared.cell.Cell.{Cell}
 use Rattle.drain_grid.specs.Values.{NoDataNumbers}

@@ -1,4 +1,4 @@
--- A row of a grid and its products as lists of numbers, and of marks at listed sinks; and what it says at a column.
+-- A row of a grid and its products as lists of numbers, and of marks at listed sinks; and its values at a column.
 use Rattle.std.specs.Prelude.{◌≡◌, ℕ, zero, suc, ◌<◌, pos, nat_lt, Bool, false, List, length, slice_index_or, Option, Some, None, if◌then◌else◌}
 use Rattle.drain_grid.specs.declared.tile.TheConstants.{VOID}
 use Rattle.drain_grid.specs.Tile.{height_from}
@@ -12,7 +12,7 @@ pub record MarkedRow : Type 0 where
   pub numbers : RowNumbers
   pub sinks : List Bool
 
--- what the row says at a column; of spill parents it says 0
+-- the values of the row at a column; of spill parents 0
 abbrev pub values_in : MarkedRow → ℕ → Values
 values_in row col = record {
   z = height_from (slice_index_or row.numbers.z col VOID);
@@ -25,7 +25,7 @@ values_in row col = record {
   rnk = slice_index_or row.numbers.products.rnk col (pos 0);
 }
 
--- none past its last column, and none where there is no row
+-- none past its last column, and none if there is no row
 abbrev pub beside : MarkedRow → ℕ → Option Values
 beside row col = if nat_lt col (length row.numbers.z) then Some (values_in row col) else None
 

@@ -1,4 +1,4 @@
--- What the code's input of the right length stands for.
+-- The meaning of the code's input of the right length.
 use Rattle.drain_rules.specs.declared.fill_input.FillInput.{FillInput}
 use Rattle.drain_grid.specs.Grid.{Grid, Products}
 use Rattle.drain_rules.specs.Fill.{fill_grid, fill_products}

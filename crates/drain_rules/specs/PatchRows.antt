@@ -6,7 +6,7 @@ use Rattle.drain_rules.specs.declared.tally.Tally.{Tally}
 use Rattle.drain_rules.specs.Labels.{AreLabelsBefore}
 use Rattle.drain_rules.specs.Rows.{place}
 
--- so many patches, and they are those of the row's cells
+-- n patches, and they are those of the row's cells
 pub record AreRowPatches (g : Grid) (ps : Products) (row cols : ℕ) (shown : ℕ → Patch) : Type 0 where
   pub inside : row < g.extent.rows
   pub cols_are : cols ≡ g.extent.cols
@@ -17,7 +17,7 @@ abbrev pub OfRow : ℕ → (ℕ → Patch) → List (ℕ × ℕ) → (Grid → P
 OfRow cols shown labels P =
     (g : Grid) (ps : Products) (row : ℕ) → AreRowPatches g ps row cols shown → AreLabelsBefore g ps (place row 0) labels → P g ps row
 
--- the counts of so many cells
+-- the counts of n cells
 pub record IsAtMost (cells : ℕ) (tally : Tally) : Type 0 where
   pub data_cells : tally.data_cells ≤ cells
   pub raised : tally.raised ≤ tally.data_cells

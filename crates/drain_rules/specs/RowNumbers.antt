@@ -11,7 +11,7 @@ use Rattle.drain_grid.specs.Values.{IsPixel}
 use Rattle.drain_grid.specs.Grid.{Grid, Products, held_in}
 use Rattle.drain_rules.specs.Rows.{place}
 
--- the elevations, with the number of a void where there is none, and each product's numbers
+-- the elevations, with the number of a void if there is none, and each product's numbers
 pub record RowNumbers : Type 0 where
   pub z : List ℤ
   pub products : PerProduct (List ℤ)
@@ -20,7 +20,7 @@ pub record RowNumbers : Type 0 where
 abbrev pub blank : RowNumbers
 blank = record { z = []; products = per_product (λ p. []) }
 
--- as many numbers of each, at most 28,801, that samples and pixels spell
+-- as many numbers of each, at most 28,801, that samples and pixels encode
 pub record AreRowNumbers (row : RowNumbers) : Type 0 where
   pub narrow : length row.z ≤ MAX_LENGTH
   pub long : (p : Held) → length (of_product row.products p) ≡ length row.z

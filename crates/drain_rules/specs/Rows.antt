@@ -38,7 +38,7 @@ pub record IsNewLabelAlong (profile : Profile) (g : Grid) (ps : Products) (row c
   pub code : ps.dir (place row col) ≡ pos 0
   pub holds : HoldAlong profile IsAnyRule g ps row (col + 1)
 
--- a walk along the row stops at its first fault, or for want of memory where a new label has to be admitted
+-- a walk along the row stops at its first fault, or out of memory where a new label has to be admitted
 abbrev pub IsStopAt : Profile → Grid → Products → ℕ → ℕ → Stop → Type 0
 IsStopAt profile g ps row col (Fault rule) = IsRowFault profile IsAnyRule g ps row col rule
 IsStopAt profile g ps row col OutOfMemory = IsNewLabelAlong profile g ps row col

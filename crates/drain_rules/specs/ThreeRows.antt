@@ -1,4 +1,4 @@
--- Three rows of a grid as the code holds them: the patch round a column of the middle one, and which rows of a grid they are.
+-- Three rows of a grid in memory: the patch round a column of the middle one, and which rows of a grid they are.
 use Rattle.std.specs.Prelude.{◌≡◌, ℕ, ◌+◌, ◌<◌, [], ◌∷◌, length}
 use Rattle.drain_grid.specs.declared.patch.Patch.{Patch}
 use Rattle.drain_grid.specs.Grid.{Grid, Products}
@@ -14,7 +14,7 @@ patch_in rows col = record {
       ∷ west_of rows.here col ∷ west_of rows.above col ∷ beside rows.above col ∷ beside rows.above (col + 1) ∷ [];
 }
 
--- they are a row of the grid and those above and below it, none where the grid ends
+-- they are a row of the grid and those above and below it, none at the grid's edge
 pub record AreRowsAround (g : Grid) (ps : Products) (row : ℕ) (rows : ThreeRows) : Type 0 where
   pub here : IsRowOf g ps row rows.here
   pub below : row + 1 < g.extent.rows → IsRowOf g ps (row + 1) rows.below

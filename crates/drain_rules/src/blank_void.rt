@@ -1,4 +1,4 @@
-//! Voids at which no rule fails, told by the cell alone.
+//! Voids at which no rule fails, found from the cell only.
 
 ghost use Rattle.std.specs.Prelude.{◌≡◌, IsTrue};
 ghost use Rattle.drain_grid.specs.Unranked.{IsBlankWithoutRank};
@@ -25,7 +25,7 @@ fn is_blank(here: &CellValues, nodata: &NoData) -> bool
         && here.bas == nodata.bas
 }
 
-/// Whether the rank is its no-data number, or isn't asked for.
+/// Whether the rank is its no-data number, or isn't checked.
 fn has_no_rank(here: &CellValues, rules: &Rules) -> bool
     ensures { IsTrue result → IfAsked rules.now.ranks (here.now.rnk ≡ rules.now.nodata.rnk) }
 {

@@ -14,7 +14,7 @@ use drain_basin::OutletLabels;
 use drain_grid::{CellValues, OutOfMemory, Patch, Rule};
 use drain_kernel::Rules;
 
-/// Why a walk goes no further.
+/// Why a walk stops.
 #[derive(Clone, Copy, PartialEq, Eq, Debug)]
 pub enum Stop {
     /// The first rule that fails at the cell.
@@ -24,8 +24,11 @@ pub enum Stop {
 
 /// Tries every rule at a cell, and admits its label if it is an outlet by its code.
 ///
-/// Where the cell is known not to be below its ground (`is_above`), that isn't asked again. `labels` are those of the outlets before the cell. A label is admitted only where the other rules hold; an answer
-/// `OutOfMemory` comes only from that, at an outlet whose label is new.
+/// If the cell is known not to be below its ground (`is_above`), that isn't checked again. `labels` are those of the
+/// outlets
+/// before the cell. A label is admitted only if the other rules hold; `OutOfMemory` comes only from that, at an outlet
+/// whose
+/// label is new.
 pub fn check_cell(
     patch: &Patch,
     rules: &Rules,
@@ -47,7 +50,8 @@ pub fn check_cell(
     }
 }
 
-/// Admits the label of an outlet, and answers whether it is new. Another cell has no label to admit, and none that is known.
+/// Admits the label of an outlet, and returns whether it is new. Another cell has no label to admit, and none that is
+/// known.
 pub fn admits_label(labels: &mut OutletLabels, here: &CellValues) -> Result<bool, OutOfMemory>
     ensures is_new { IfOk result (λ is_new. IsTrue is_new ↔ (IsOutletByCode here.now → ¬ IsAdmitted labels.old here.now.bas)) }
     ensures labels { OnOk result ((label : ℤ) → IsAdmitted labels.new label ↔ (IsLabelOf here.now label ⊎ IsAdmitted labels.old label)) }

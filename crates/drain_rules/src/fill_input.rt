@@ -1,5 +1,6 @@
-//! The four parts of a fill input, read in place: the tile, its conditioned elevations, spill parents
-//! and ranks. Nothing is copied but the nine cells of one patch.
+//! The four parts of a fill input, read in place: the tile, its conditioned elevations, spill parents and ranks. Only
+//! the
+//! nine cells of one patch are copied.
 
 ghost use Rattle.std.specs.Prelude.{◌≡◌, ◌*◌, length};
 ghost use Rattle.drain_grid.specs.Tile.{IsSide};

@@ -37,7 +37,7 @@ pub enum FillVerdict {
 /// Why there is no verdict.
 #[derive(Clone, Copy, PartialEq, Eq, Debug, Error)]
 pub enum FillRefusal {
-    /// A tile has no such number of samples along an edge.
+    /// A tile can't have this number of samples along an edge.
     #[error("the side is not from 2 to 3601")]
     BadSide,
     /// There are not nine bytes for each cell.
@@ -97,10 +97,11 @@ fn fill_verdict(input: &FillInput<'_>) -> FillVerdict
 
 /// The verdict on a fill input, or why there is none.
 ///
-/// `side` is the number of samples along an edge of the tile, from 2 to 3601. The input is exactly nine
-/// bytes for each cell: the tile (two bytes a cell), the conditioned elevations (two, signed), the spill
-/// parents' codes (one) and the ranks (four), each part row after row, most significant byte first.
-/// It takes no memory.
+/// `side` is the number of samples along an edge of the tile, from 2 to 3601. The input is exactly nine bytes per cell:
+/// the
+/// tile (two bytes per cell), the conditioned elevations (two, signed), the spill parents' codes (one) and the ranks
+/// (four),
+/// each part row after row, most significant byte first. It takes no memory.
 pub fn check_fill(side: u32, bytes: &[u8]) -> Result<FillVerdict, FillRefusal>
     ensures answer { IsFillAnswer side bytes.now result }
 

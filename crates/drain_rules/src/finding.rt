@@ -1,4 +1,4 @@
-//! What the rows above a row came to, and one row more.
+//! What the rows above a row gave, and one row more.
 
 ghost use Rattle.std.specs.Prelude.{◌<◌, ◌+◌, ◌*◌, IfOk, OnErr};
 ghost use Rattle.drain_grid.specs.declared.cell.TheConstants.{MAX_LENGTH};
@@ -15,7 +15,7 @@ use drain_basin::OutletLabels;
 use drain_grid::{Cell, OutOfMemory, Rule};
 use drain_kernel::Rules;
 
-/// What the rows so far came to.
+/// The result of the rows so far.
 #[derive(Clone, Copy, PartialEq, Eq, Debug)]
 pub enum Finding {
     /// Every rule holds at their cells, and these are their counts.
@@ -24,7 +24,8 @@ pub enum Finding {
     Faulty(Cell, Rule),
 }
 
-/// What the rows come to with one more, where those above are sound. `total` counts their cells, and `labels` are those of their outlets.
+/// The result with one more row, if those above are sound. `total` counts their cells; `labels` are those of their
+/// outlets.
 pub fn find_in_row<R: PatchRow>(
     total: Tally,
     row: u32,

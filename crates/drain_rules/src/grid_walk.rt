@@ -11,7 +11,7 @@ use drain_grid::{OutOfMemory, Shape};
 use drain_kernel::Rules;
 use std::alloc::Global;
 
-/// How many rows were checked, the labels of their outlets, and what they came to.
+/// How many rows were checked, the labels of their outlets, and the result.
 #[derive(Drop)]
 pub struct GridWalk {
     rows: u32,
@@ -42,11 +42,13 @@ impl GridWalk {
         }
     }
 
-    /// Checks the next row. Once a fault was found it looks at no row more. What the rows came to is right of these rules where the rows above were
-    /// tried by them too.
+    /// Checks the next row. After a fault it looks at no more rows. The result is right for these rules if the rows
+    /// above
+    /// were checked with them too.
     ///
-    /// `OutOfMemory` comes only at a data cell with code 0 whose label is new, where every rule holds, as at each earlier cell: its label
-    /// found no room. Then the walk is over.
+    /// `OutOfMemory` comes only at a data cell with code 0 whose label is new, if every rule holds there and at each
+    /// earlier
+    /// cell: no memory for its label. Then the walk is over.
     pub fn check_row<R: PatchRow>(&mut self, patches: &R, rules: &Rules) -> Result<(), OutOfMemory>
         requires row { self.old.rows < MAX_LENGTH }
         ensures rows { OnOk result (self.new.rows ≡ self.old.rows + 1) }
@@ -63,7 +65,7 @@ impl GridWalk {
         Ok(())
     }
 
-    /// The verdict on the grid of this shape whose rows all were checked.
+    /// The verdict on the grid of this shape, after all its rows were checked.
     pub fn verdict(&self, shape: Shape) -> Verdict
         ensures verdict { (rules : Rules) (g : Grid) (ps : Products) → g.extent ≡ shape → self.now.rows ≡ g.extent.rows → IsRightOf (tried rules) g ps self.now → IsVerdictOf (tried rules) g ps result }
     {

@@ -1,11 +1,11 @@
-//! Cells of a row that are vouched for together.
+//! Cells of a row that are cleared together.
 
 ghost use Rattle.std.specs.Prelude.{◌≡◌};
 
-/// How far from a column on cells are vouched for together, and how many of those are raised. There may be more that would pass.
+/// How many cells from a column on are cleared together, and how many of them are raised. More cells might pass.
 #[derive(Clone, Copy, PartialEq, Eq, Debug)]
 pub struct Kept {
-    /// The first column that isn't vouched for.
+    /// The first column that isn't cleared.
     pub end: u32,
     pub raised: u32,
 }

@@ -1,11 +1,11 @@
 //! What the definition of a verdict promises.
 //!
-//! A law is a function with nothing to do: its contract is the law, and a caller that calls it has the law at hand.
+//! A law is a function with an empty body: its contract is the law, and code that calls it can use the law.
 
 ghost use Rattle.drain_rules.specs.Laws.{EqualGridsHaveOneVerdict};
 ghost use Rattle.drain_rules.specs.ThreeRows.{ThreeRowsShowPatches};
 
-/// Grids and products that are equal at the cells of the grid have one verdict, whatever they say elsewhere.
+/// Grids and products that are equal at the cells of the grid have one verdict, whatever their values elsewhere.
 pub fn equal_grids_have_one_verdict()
     ensures { EqualGridsHaveOneVerdict }
 {}

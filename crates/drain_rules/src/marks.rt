@@ -1,11 +1,12 @@
-//! Marks along a row, a number of them at a time.
+//! Marks along a row, several at a time.
 
 ghost use Rattle.std.specs.Prelude.{◌≡◌, ◌<◌, ◌≤◌, ℕ, false, slice_index_or};
 
-/// How many marks are looked at in one go. So a row whose cells are asked one by one is not gone over from each of them to its end.
+/// How many marks are looked at in one go. So a row whose cells are checked one by one isn't scanned to its end each
+/// time.
 const REACH: usize = 128;
 
-/// A place up to which nothing is marked from `from` on, at most `end`: that of the next mark, where it is among the next 128.
+/// A place, at most `end`, with no mark from `from` up to it: that of the next mark, if it is among the next 128.
 pub fn unmarked_until(marks: &[bool], from: usize, end: usize) -> usize
     requires { from ≤ end }
     ensures forward { from ≤ result }

@@ -1,4 +1,4 @@
-//! Outlets, as the code tells them.
+//! Outlets, by their code.
 
 ghost use Rattle.std.specs.Prelude.{◌≡◌, ◌↔◌, ◌&&◌, IsTrue, is_some, pos};
 ghost use Rattle.std.specs.Ordering.{int_eq};

@@ -1,6 +1,6 @@
-//! Where the patches of a row come from: the trait that the walk along a row is written over.
+//! Where the patches of a row come from: the trait for the walk along a row.
 //!
-//! A row of patches is apart from the rasters because it needn't hold them: three rows of numbers show as much.
+//! A row of patches is apart from the rasters because it need not keep them: three rows of numbers show as much.
 
 ghost use Rattle.std.specs.Prelude.{◌≡◌, ◌<◌, ◌≤◌, ℕ};
 ghost use Rattle.drain_grid.specs.declared.cell.TheConstants.{MAX_LENGTH};
@@ -28,12 +28,13 @@ pub trait PatchRow {
         ensures count { result ≡ len self.now }
         ensures narrow { result ≤ MAX_LENGTH };
 
-    /// How many of its first cells are seen together not to be below their ground. It may answer less than there are.
+    /// A number of first cells that are together found not to be below their ground. It may be less than there are.
     fn cells_above_ground(&self) -> u32
         ensures { (col : ℕ) → col < result → col < len self.now → BelowGroundHolds (shown self.now col) };
 
-    /// How far from a column on every rule but SharedLabel is seen to hold at data cells that are no outlets, and how many of them are
-    /// raised. It may answer fewer cells than there are, and none.
+    /// How far from a column on every rule but SharedLabel is found to hold at data cells that are no outlets, and how
+    /// many
+    /// of them are raised. It may be fewer cells than there are, even none.
     fn kept_from(&self, rules: &Rules, from: u32) -> Kept
         requires { from ≤ len self.now }
         ensures forward { from ≤ result.end }
@@ -41,7 +42,9 @@ pub trait PatchRow {
         ensures kept { (col : ℕ) → from ≤ col → col < result.end → IsKept (tried rules.now) (shown self.now col) }
         ensures raised { result.raised ≡ raised_between (shown self.now) from result.end };
 
-    /// A column up to which from one on all cells are seen to be voids at which no rule fails. It may answer an earlier one, and the column itself.
+    /// A column up to which, from one on, all cells are found to be voids at which no rule fails. It may be an earlier
+    /// one, even
+    /// that column.
     fn voids_until(&self, rules: &Rules, from: u32) -> u32
         requires { from ≤ len self.now }
         ensures forward { from ≤ result }

@@ -1,4 +1,4 @@
-//! The first rule that fails at a cell, of those that look at its patch alone.
+//! The first rule that fails at a cell, of those that look at its patch only.
 
 ghost use Rattle.std.specs.Prelude.{IsTrue};
 ghost use Rattle.drain_grid.specs.PatchRules.{surface_rules, BelowGroundHolds};
@@ -8,16 +8,16 @@ ghost use Rattle.drain_kernel.specs.Rules.{tried};
 use drain_grid::{Patch, Rule};
 use drain_kernel::{Ranks, Rules};
 
-/// The first of the rules from VoidCell to Label that fails at the cell, as they are tried, none where they all hold.
+/// The first of the rules from VoidCell to Label that fails at the cell, none if they all hold.
 ///
-/// SharedLabel is the one rule that is left: it is about the labels of other cells, wherever they lie.
+/// Only SharedLabel is left: it is about the labels of other cells, wherever they lie.
 pub fn patch_fault(patch: &Patch, rules: &Rules) -> Option<Rule>
     ensures least { IsLeastFault IsPatchRule (tried rules.now patch.now) result }
 {
     screened_fault(patch, rules, false)
 }
 
-/// The same, of a cell that may be known not to be below its ground (`is_above`): then that isn't asked again.
+/// The same, of a cell that may be known not to be below its ground (`is_above`): then that isn't checked again.
 pub fn screened_fault(patch: &Patch, rules: &Rules, is_above: bool) -> Option<Rule>
     requires { IsTrue is_above → BelowGroundHolds patch.now }
     ensures least { IsLeastFault IsPatchRule (tried rules.now patch.now) result }
@@ -40,7 +40,7 @@ pub fn screened_fault(patch: &Patch, rules: &Rules, is_above: bool) -> Option<Ru
     drain_basin::fault(patch)
 }
 
-/// The first of the rules on which numbers are there that fails at the cell, none where they all hold.
+/// The first of the rules on which numbers are there that fails at the cell, none if they all hold.
 pub fn presence_fault(patch: &Patch, rules: &Rules) -> Option<Rule>
     ensures least { IsLeastFault IsPresenceRule (tried rules.now patch.now) result }
 {
@@ -50,7 +50,7 @@ pub fn presence_fault(patch: &Patch, rules: &Rules) -> Option<Rule>
     }
 }
 
-/// FlatStep where it fails at the cell, none where it holds.
+/// FlatStep if it fails at the cell, none if it holds.
 pub fn flat_fault(patch: &Patch, rules: &Rules) -> Option<Rule>
     ensures least { IsLeastFault (IsOnly Rule.FlatStep) (tried rules.now patch.now) result }
 {
@@ -60,7 +60,7 @@ pub fn flat_fault(patch: &Patch, rules: &Rules) -> Option<Rule>
     }
 }
 
-/// The first of the rules on the conditioned elevation that fails at such a cell, none where they all hold.
+/// The first of the rules on the conditioned elevation that fails at such a cell, none if they all hold.
 fn fill_fault(patch: &Patch, is_above: bool) -> Option<Rule>
     requires { IsTrue is_above → BelowGroundHolds patch.now }
     ensures least { IsLeastFault IsFillRule (surface_rules patch.now) result }

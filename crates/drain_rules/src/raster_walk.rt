@@ -1,4 +1,4 @@
-//! The check of products on a grid of elevations, all held whole.
+//! The check of products on a grid of elevations, all whole in memory.
 
 ghost use Rattle.std.specs.Prelude.{◌≡◌, ◌<◌, IfOk, OnErr};
 ghost use Rattle.drain_grid.specs.Correct.{IsCorrect, RunsAreSound};
@@ -16,8 +16,11 @@ use drain_grid::{Cell, Elevation, OutOfMemory, Patch, ProductSet, Sinks};
 use drain_kernel::{Ranks, Rules};
 use std::alloc::Global;
 
-/// The verdict on the products of a grid, whose data cells that are listed as sinks are open too. `OutOfMemory` comes only at a data cell with code 0 whose label is new, where every rule
-/// holds, as at each earlier cell: its label found no room. So want of memory never stands in place of a fault.
+/// The verdict on the products of a grid; its data cells that are listed sinks are open too. `OutOfMemory` comes only
+/// at
+/// a data cell with code 0 whose label is new, if every rule holds there and at each earlier cell: no memory for its
+/// label.
+/// So running out of memory never hides a fault.
 pub fn verdict_of(
     alloc: Global,
     elevation: &Elevation,
@@ -37,7 +40,7 @@ pub fn verdict_of(
     walk(alloc, elevation, sinks, products)
 }
 
-/// Goes over the rows, from north to south.
+/// Scans the rows, from north to south.
 fn walk(
     alloc: Global,
     elevation: &Elevation,
@@ -90,7 +93,7 @@ impl<'a> PatchRow for RasterRow<'a> {
         self.elevation.shape().cols()
     }
 
-    /// None: each cell of rasters held whole is asked by itself.
+    /// None: each cell of whole rasters is checked alone.
     fn cells_above_ground(&self) -> u32 {
         0
     }

@@ -18,8 +18,9 @@ use drain_grid::{CellValues, Held, PerProduct};
 use drain_kernel::Lanes;
 use std::marker::Model;
 
-/// One row: elevations, -32768 at a void, and each product's numbers, as many of each; marks, true at a listed sink; and the lanes of its
-/// numbers where they were taken. It has no numbers where there is no row, and no mark stands for false.
+/// One row: elevations, -32768 at a void, and each product's numbers, as many of each; marks, true at a listed sink;
+/// and
+/// the lanes of its numbers if they were made. It has no numbers if there is no row; a missing mark means false.
 #[derive(Drop)]
 pub struct RowView<'a> {
     z: &'a [i64],
@@ -73,8 +74,8 @@ impl<'a> RowView<'a> {
         self.z.len() as u32
     }
 
-    /// The first column whose conditioned elevation is below its ground, the number of columns where there is none. Where a conditioned
-    /// elevation doesn't fit 16 bits the answer may be a column before.
+    /// The first column whose conditioned elevation is below its ground, else the number of columns. If a conditioned
+    /// elevation doesn't fit 16 bits it may be a column before.
     pub fn cells_above_ground(&self) -> u32
         ensures within { result ≤ length self.now.numbers.z }
         ensures above { (col : ℕ) → col < result → ¬ IsBelowAt self.now.numbers.products.con self.now.numbers.z col }
@@ -83,8 +84,9 @@ impl<'a> RowView<'a> {
         cells_above_ground(self.products.con, self.z) as u32
     }
 
-    /// A column up to which no cell is marked from this one on: that of the next mark, where it is among the next 128; of a row without
-    /// marks the number of columns.
+    /// A column up to which no cell is marked from this one on: that of the next mark, if it is among the next 128; of
+    /// a row
+    /// without marks the number of columns.
     pub fn unmarked_until(&self, from: usize) -> usize
         requires { from ≤ length self.now.numbers.z }
         ensures forward { from ≤ result }
@@ -94,7 +96,7 @@ impl<'a> RowView<'a> {
         unmarked_until(self.sinks, from, self.z.len())
     }
 
-    /// The lanes of its numbers, at most 28,801 of each, where they were taken.
+    /// The lanes of its numbers, at most 28,801 of each, if they were made.
     pub fn lanes(&self) -> Option<&'a Lanes>
         ensures laned { AreLanesIfAny self.now.numbers (option_copied result) }
         ensures narrow { length self.now.numbers.z ≤ MAX_LENGTH }
@@ -102,7 +104,7 @@ impl<'a> RowView<'a> {
         self.lanes
     }
 
-    /// What the row says at a column; of spill parents, which no set holds, it says 0.
+    /// The values of the row at a column; for spill parents, which no set holds, 0.
     pub fn values(&self, col: usize) -> CellValues
         requires { col < length self.now.numbers.z }
         ensures { result ≡ values_in self.now col }
@@ -130,7 +132,7 @@ impl<'a> RowView<'a> {
         }
     }
 
-    /// What the row says to the west of a column, none at the first.
+    /// The values to the west of a column, none at the first.
     pub fn west_of(&self, col: usize) -> Option<CellValues>
         ensures { result ≡ west_of self.now col }
     {
@@ -168,7 +170,7 @@ impl<'a> RowView<'a> {
     }
 }
 
-/// The elevation that a number gives, none for that of a void.
+/// The elevation of a number, none for that of a void.
 fn height_of(sample: i64) -> Option<i16>
     requires { IsSample sample }
     ensures height { result ≡ height_from sample }

@@ -23,7 +23,7 @@ pub struct RowStop {
 
 /// Tries every rule at the cells of a row, from west to east. `labels` are those of the outlets in the rows above.
 ///
-/// What it answers holds of every grid whose row this is. `OutOfMemory` comes only at an outlet whose label is new.
+/// The result holds for every grid with this row. `OutOfMemory` comes only at an outlet whose label is new.
 pub fn check_row<R: PatchRow>(
     row: &R,
     rules: &Rules,

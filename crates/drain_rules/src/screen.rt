@@ -1,4 +1,4 @@
-//! How many of a row's first cells are not below their ground, seen sixteen cells at a time.
+//! How many of a row's first cells are not below their ground, compared sixteen cells at a time.
 
 ghost use Rattle.std.specs.Prelude.{◌≡◌, ◌<◌, ◌≤◌, ◌↔◌, ℕ, FitsSigned, IsTrue, length};
 ghost use Rattle.std.specs.Int.{w16};
@@ -9,9 +9,10 @@ use drain_fill::first_below;
 /// How many cells are looked at in one go: their heights are on the stack.
 const BLOCK: usize = 256;
 
-/// The place of the first conditioned elevation below its ground, their number where there is none.
+/// The place of the first conditioned elevation below its ground, the number of cells if there is none.
 ///
-/// A void counts with its sample, -32768, which nothing is below. Where a number doesn't fit 16 bits the answer may be a place before.
+/// A void counts with its sample, -32768, which nothing is below. If a number doesn't fit 16 bits it may be a place
+/// before.
 pub fn cells_above_ground(con: &[i64], ground: &[i64]) -> usize
     requires { length con.now ≡ length ground.now }
     ensures within { result ≤ length con.now }
@@ -30,7 +31,7 @@ pub fn cells_above_ground(con: &[i64], ground: &[i64]) -> usize
     at
 }
 
-/// The same of at most 256 places, none where a number doesn't fit 16 bits.
+/// The same of at most 256 places, none if a number doesn't fit 16 bits.
 fn cells_of_block(con: &[i64], ground: &[i64]) -> usize
     requires same { length con.now ≡ length ground.now }
     requires short { length con.now ≤ BLOCK }
@@ -49,7 +50,7 @@ fn cells_of_block(con: &[i64], ground: &[i64]) -> usize
     }
 }
 
-/// Puts the numbers in their places in 16 bits each, and answers whether all of them fit. It has no branch, so that many are put at a time.
+/// Converts the numbers to 16 bits each, and returns whether all of them fit. Without a branch, so it is vectorised.
 fn narrow(out: &mut [i16], numbers: &[i64]) -> bool
     requires { length numbers.now ≡ length out.old }
     ensures all { IsTrue result ↔ AreHeights numbers.now }
@@ -64,7 +65,7 @@ fn narrow(out: &mut [i16], numbers: &[i64]) -> bool
     all
 }
 
-/// Whether 16 bits with a sign hold the number.
+/// Whether 16 signed bits hold the number.
 #[inline(always)]
 fn fits(number: i64) -> bool
     ensures { IsTrue result ↔ FitsSigned w16 number }
@@ -72,7 +73,7 @@ fn fits(number: i64) -> bool
     number >= -32768 && number <= 32767
 }
 
-/// The number, where 16 bits hold it; else 0.
+/// The number, if 16 bits hold it; else 0.
 #[inline(always)]
 fn narrowed(number: i64) -> i16
     ensures { FitsSigned w16 number → result ≡ number }

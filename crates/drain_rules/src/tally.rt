@@ -46,7 +46,7 @@ impl Tally {
         }
     }
 
-    /// Counts so many data cells more, of which so many are raised and none is an outlet.
+    /// Counts this many more data cells, of which this many are raised and none is an outlet.
     pub fn add_kept(&mut self, cells: u32, raised: u32)
         requires data_fit { self.old.data_cells + cells < 2 ^ 32 }
         requires raised_fit { self.old.raised + raised < 2 ^ 32 }

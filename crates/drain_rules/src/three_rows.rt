@@ -8,7 +8,7 @@ use drain_grid::Patch;
 use drain_kernel::laws::{lanes_show_numbers, raised_are_counted};
 use drain_kernel::{Rules, kept_until};
 
-/// A row, and those above and below it; empty where the grid ends.
+/// A row, and those above and below it; empty at the grid's edge.
 #[derive(Drop)]
 pub struct ThreeRows<'a> {
     pub above: RowView<'a>,
@@ -28,7 +28,8 @@ impl PatchRow for ThreeRows<'_> {
         self.here.cols()
     }
 
-    /// Those that the screen of the row sees; of a row with lanes none, since the pass along them compares each cell with its ground.
+    /// Those that the screen of the row finds; of a row with lanes none, since the kernel compares each cell with its
+    /// ground.
     fn cells_above_ground(&self) -> u32 {
         match self.here.lanes() {
             Some(_) => 0,
@@ -36,7 +37,7 @@ impl PatchRow for ThreeRows<'_> {
         }
     }
 
-    /// Those for which the lanes of the three rows vouch, up to a marked cell; none where a row has no lanes.
+    /// Those that the lanes of the three rows clear, up to a marked cell; none if a row has no lanes.
     fn kept_from(&self, rules: &Rules, from: u32) -> Kept {
         let (Some(above), Some(here), Some(below)) = (
             self.above.lanes(),
@@ -45,7 +46,7 @@ impl PatchRow for ThreeRows<'_> {
         ) else {
             return Kept::none(from);
         };
-        // The laws that tell what lanes show, and of what they count those that are raised.
+        // The laws on what lanes show, and how they count raised cells.
         lanes_show_numbers();
         raised_are_counted();
         let first = from as usize;

@@ -14,8 +14,8 @@ pub struct Counts {
     pub outlets: u32,
 }
 
-/// Accepted where every rule holds at every cell, else rejected with the first fault: of the cells where a rule fails the
-/// first in row order, and of the rules that fail there the first.
+/// Accepted if every rule holds at every cell, else rejected with the first fault: of the cells at which a rule fails
+/// the first in row order, and of the rules that fail there the first.
 #[derive(Clone, Copy, PartialEq, Eq, Debug)]
 pub enum Verdict {
     Accepted(Counts),

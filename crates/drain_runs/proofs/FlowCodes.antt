@@ -1,4 +1,4 @@
--- What the flow of a cell tells of its elevation and its code.
+-- What the flow of a cell says of its elevation and its code.
 use Rattle.std.proofs.Common.{◌≡◌, ◌≢◌, ◌∙◌, inl, inr, ℤ, pos, Bool, true, false, if◌then◌else◌, Option, Some, None, refl, sym, subst, rules}
 use Rattle.std.specs.Ordering.{int_eq}
 use Rattle.std.specs.Option.{option_map_or}

@@ -1,4 +1,4 @@
--- Flows that were taken row by row are those of the grid: for whoever takes rows, and then asks which runs end.
+-- Flows taken row by row are those of the grid: for a caller that takes rows, and then finds which runs end.
 use Rattle.std.proofs.Common.{◌≡◌, ◌<◌, ◌≤◌, ◌+◌, ◌*◌, ℕ, ◌∙◌, inl, inr, ℤ, pos, List, [], ◌++◌, length, get_or, length-append, sym, ap, arith}
 use Rattle.std.proofs.Math.Nat.{mul-le-mul_right}
 use Rattle.std.proofs.lemmas.Bool.{cases_order}

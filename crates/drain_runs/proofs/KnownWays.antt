@@ -1,5 +1,5 @@
--- Flows that are known, one after another: those of a grid are, and so they are once a cell whose run ends is put down as such. And
--- what they tell of the way from a cell.
+-- Flows that are known, one after another: those of a grid are, and so they are once a cell whose run ends is recorded
+-- as such. And what they say of the way from a cell.
 use Rattle.std.proofs.Common.{◌≡◌, ◌≢◌, ◌<◌, ℕ, ◌∙◌, inl, inr, ℤ, List, length, Option, Some, None, IsSome, IsNone, get_or, set, get_or-set_other, get_or-set_same, refl, sym, ap, subst}
 use Rattle.std.proofs.lemmas.Bool.{cases_eq}
 use Rattle.drain_grid.specs.declared.cell.Cell.{Cell}

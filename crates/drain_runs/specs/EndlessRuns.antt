@@ -1,4 +1,5 @@
--- What a run comes to that doesn't end: a ring, or a cell from which it leads nowhere. Source: this project's own words for where the codes of D8 lead.
+-- Where a run without an end leads: to a ring, or to a cell from which it leads nowhere. This project's own terms for
+-- D8.
 use Rattle.std.specs.Prelude.{◌≡◌, ◌≢◌, ◌<◌, ◌++◌, ◌∷◌, [], ℕ, zero, suc, min, nat_lt, if◌then◌else◌, List, length, slice_get, Option, Some, None, IsNone, option_and_then}
 use Rattle.drain_grid.specs.declared.cell.Cell.{Cell}
 use Rattle.drain_grid.specs.declared.direction.Direction.{Direction}
@@ -12,7 +13,7 @@ use Rattle.drain_runs.specs.declared.endless_run.LostBy.{LostBy}
 use Rattle.drain_runs.specs.declared.endless_run.LostBy.TheVariants.{NoCode, Outside, Void}
 use Rattle.drain_runs.specs.declared.endless_run.TheConstants.{RING_TOLD}
 
--- the cell to which the codes lead from a cell in so many steps, none where they lead nowhere before
+-- the cell to which the codes lead from a cell in n steps, none if they lead nowhere before
 abbrev pub cell_after : Grid → Products → ℕ → Cell → Option Cell
 cell_after g ps zero c = Some c
 cell_after g ps (suc k) c = option_and_then (cell_after g ps k) (next g ps c)
@@ -32,7 +33,7 @@ IsLostBy g ps c NoCode = ¬ IsCode (ps.dir c)
 IsLostBy g ps c Outside = (d : Direction) × Names (ps.dir c) d × (step g.extent c d ≡ None)
 IsLostBy g ps c Void = (d : Direction) × (n : Cell) × Names (ps.dir c) d × (step g.extent c d ≡ Some n) × IsNone (g.elevation n)
 
--- from the cell the codes come back to it in so many steps, and in no fewer
+-- from the cell the codes come back to it in n steps, and in no fewer
 pub record IsRingFrom (g : Grid) (ps : Products) (c : Cell) (steps : ℕ) : Type 0 where
   pub some : 0 < steps
   pub closed : cell_after g ps steps c ≡ Some c
@@ -43,7 +44,7 @@ pub record AreCellsFrom (g : Grid) (ps : Products) (c : Cell) (steps : ℕ) (cel
   pub each : (k : ℕ) → k < length cells → cell_after g ps k c ≡ slice_get cells k
   pub told : length cells ≡ min steps RING_TOLD
 
--- the cells with that to which so many steps lead, where it is one of the first 20
+-- the cells with that after n steps, if it is one of the first 20
 abbrev pub told_with : ℕ → Cell → List Cell → List Cell
 told_with steps c cells = if nat_lt steps RING_TOLD then cells ++ c ∷ [] else cells
 
@@ -52,7 +53,7 @@ abbrev pub IsRing : Grid → Products → Cell → EndlessRun → Type 0
 IsRing g ps c (Ring cells steps) = IsRingFrom g ps c steps × AreCellsFrom g ps c steps cells.items
 IsRing g ps c (Lost d by) = ⊥
 
--- the run of the cell comes to this
+-- the run of the cell reaches this
 abbrev pub IsEndlessRun : Grid → Products → Cell → EndlessRun → Type 0
 IsEndlessRun g ps start (Ring cells steps) = (c : Cell) × IsReached g ps start c × IsRing g ps c (Ring cells steps)
 IsEndlessRun g ps start (Lost c by) = IsReached g ps start c × IsLostBy g ps c by

@@ -1,4 +1,4 @@
--- What is kept of each cell to ask which runs end: whether it has data, and where its code leads.
+-- What is kept of each cell to find which runs end: whether it has data, and where its code leads.
 use Rattle.std.specs.Prelude.{◌≡◌, ℕ, ◌*◌, ◌<◌, ℤ, pos, List, length, [], ◌∷◌, Option, Some, None, slice_index_or, if◌then◌else◌}
 use Rattle.std.specs.Option.{option_map_or}
 use Rattle.std.specs.Ordering.{int_eq}
@@ -39,11 +39,11 @@ direction_of ToNorthWest = Some NorthWest
 direction_of ToNorth = Some North
 direction_of ToNorthEast = Some NorthEast
 
--- what a number says at a data cell: 0 ends the run, the number of a direction leads that way, and any other is no code
+-- the meaning of a number at a data cell: 0 ends the run, a direction's code leads that way, and any other is no code
 abbrev pub code_flow : ℤ → Flow
 code_flow number = if int_eq number (pos 0) then Ends else option_map_or flow_to (named_direction number) Lost
 
--- what a cell's elevation and number say: at a void the number says nothing
+-- the meaning of a cell's elevation and number: at a void the number has none
 abbrev pub cell_flow : Option ℤ → ℤ → Flow
 cell_flow None number = Void
 cell_flow (Some z) number = code_flow number

@@ -1,4 +1,4 @@
--- What flows tell once cells whose runs were found to end are put down as such: less than codes, and as much as walks ask for.
+-- What flows say once cells whose runs end are recorded as such: less than codes, and as much as walks need.
 use Rattle.std.specs.Prelude.{◌≡◌, ◌≢◌, List, Some, None, IsSome, IsNone}
 use Rattle.drain_grid.specs.declared.cell.Cell.{Cell}
 use Rattle.drain_grid.specs.declared.direction.Direction.{Direction}
@@ -33,7 +33,7 @@ IsKnownWay g ps c way.Ends = RunEnds g ps c
 IsKnownWay g ps c (On n) = next g ps c ≡ Some n
 IsKnownWay g ps c way.Lost = ¬ RunEnds g ps c
 
--- a cell that it leads to lies in the grid
+-- a cell that it leads to is in the grid
 abbrev pub IsWayWithin : Extent → Way → Type 0
 IsWayWithin e way.Ends = Unit {0}
 IsWayWithin e (On n) = IsCellOf e n

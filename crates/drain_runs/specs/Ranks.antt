@@ -1,4 +1,4 @@
--- What certifying directions answers.
+-- The answers of certifying directions.
 use Rattle.std.specs.Prelude.{◌≡◌, pos, IsNone}
 use Rattle.drain_grid.specs.declared.cell.Cell.{Cell}
 use Rattle.drain_grid.specs.Rasters.{Pixels}
@@ -18,7 +18,7 @@ pub record AreRanks (g : Grid) (ps : Products) (ranks : Pixels) : Type 0 where
   pub steps : (c : Cell) → HasData g c → number_at ranks c ≡ pos (run_steps g ps c)
   pub voids : (c : Cell) → IsInside g c → IsNone (g.elevation c) → number_at ranks c ≡ pos UNKNOWN
 
--- the first data cell whose run doesn't end. Want of memory says nothing
+-- the first data cell whose run doesn't end; running out of memory says nothing
 abbrev pub IsRefusal : Grid → Products → CertifyRefusal → Type 0
 IsRefusal g ps (NoEnd c) = IsFirstEndless g ps c
 IsRefusal g ps OutOfMemory = Unit {0}

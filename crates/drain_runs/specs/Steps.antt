@@ -1,4 +1,4 @@
--- Numbers of steps that are known so far.
+-- Numbers of steps known so far.
 use Rattle.std.specs.Prelude.{◌≡◌, ◌≢◌, ℕ, ◌*◌, ◌<◌, List, length, slice_index_or}
 use Rattle.drain_grid.specs.declared.cell.Cell.{Cell}
 use Rattle.drain_grid.specs.Size.{Extent}
@@ -33,6 +33,6 @@ pub record AreRight (g : Grid) (ps : Products) (s : Numbers) : Type 0 where
 pub record KnowsMore (g : Grid) (before after : Numbers) : Type 0 where
   pub kept : (c : Cell) → IsInside g c → steps_at before c ≢ UNKNOWN → steps_at after c ≢ UNKNOWN
 
--- the numbers of the data cells that so many cells at most come before are known
+-- the numbers of the data cells with at most n cells before them are known
 pub record KnowsBefore (g : Grid) (s : Numbers) (k : ℕ) : Type 0 where
   pub known : (c : Cell) → HasData g c → index_of g.extent c < k → steps_at s c ≢ UNKNOWN

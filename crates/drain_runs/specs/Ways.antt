@@ -1,4 +1,4 @@
--- Where codes lead, of elevations and directions told alone.
+-- Where codes lead, from elevations and directions only.
 use Rattle.std.specs.Prelude.{◌≡◌, ◌≢◌, pos, [], Some, None}
 use Rattle.drain_grid.specs.declared.cell.Cell.{Cell}
 use Rattle.drain_grid.specs.Rasters.{Heights, Pixels}
@@ -13,7 +13,7 @@ use Rattle.drain_runs.specs.declared.way.Way.TheVariants.{Ends, On, Lost}
 abbrev pub ground_of : Heights → Grid
 ground_of h = grid_of h []
 
--- products of which the directions alone are told; runs look at no other
+-- products of which only the directions are given; runs look at no other
 abbrev pub directions_of : Pixels → Products
 directions_of dir = record {
   con = λ c. pos 0;

@@ -1,4 +1,4 @@
-//! Which way each cell of a grid leads, a byte a cell, taken row by row.
+//! Which way each cell of a grid leads, a byte per cell, taken row by row.
 
 ghost use Rattle.std.specs.Prelude.{◌≡◌, ◌≢◌, ◌<◌, ◌++◌, [], length, All, OnOk, OnErr, slice_index_or};
 ghost use Rattle.drain_grid.specs.Tile.{IsSample};
@@ -38,7 +38,8 @@ impl CellFlows {
         }
     }
 
-    /// Takes the next row: of each cell its sample, where -32768 is a void, and its direction number. Where memory is refused nothing is changed.
+    /// Takes the next row: each cell's sample (-32768 is a void) and direction number. Without memory nothing is
+    /// changed.
     pub fn push_row(&mut self, samples: &[i64], dir: &[i64]) -> Result<(), OutOfMemory>
         requires cells { length samples.now ≡ length dir.now }
         requires samples { All IsSample samples.now }
@@ -65,7 +66,7 @@ impl CellFlows {
         self.flows.len()
     }
 
-    /// The flow of the cell that so many come before.
+    /// The flow of the cell with this many cells before it.
     pub(crate) fn at(&self, index: usize) -> Flow
         requires { index < length self.now }
         ensures { result ≡ slice_index_or self.now index Void }
@@ -73,7 +74,7 @@ impl CellFlows {
         self.flows[index]
     }
 
-    /// Puts down that the run of the cell that so many come before is known to end.
+    /// Records that the run of the cell with this many cells before it is known to end.
     pub(crate) fn set_ended(&mut self, index: usize)
         requires { index < length self.old }
         ensures { self.new ≡ slice_set self.old index Flow.Ends }

@@ -14,10 +14,12 @@ use crate::flow_walk::{put_ends, steps_to_end};
 use drain_grid::{Cell, Shape};
 
 impl CellFlows {
-    /// The first data cell in row order whose run doesn't come to a code 0, of the flows of all cells of a grid; none where every run ends.
+    /// The first data cell in row order whose run doesn't reach a code 0, from the flows of all cells; none if every
+    /// run ends.
     ///
-    /// Each walk goes on to a cell whose run is known to end, and then puts that down for all cells that it passed: so a cell is
-    /// passed at most twice, and no other memory is taken. Afterwards the flows no longer tell the codes.
+    /// Each walk goes on to a cell whose run is known to end, and then records that for all cells that it passed: so a
+    /// cell is
+    /// passed at most twice, and no other memory is taken. Afterwards the flows no longer have the codes.
     pub fn first_endless(&mut self, shape: Shape) -> Option<Cell>
         requires { length self.old ≡ shape.rows * shape.cols }
         ensures first { (g : Grid) → (ps : Products) → AreFlowsOf g ps shape self.old →

@@ -1,4 +1,4 @@
-//! What the run of a cell comes to where it doesn't end: a ring of cells, or a cell from which it leads nowhere.
+//! Where a run without an end leads: to a ring of cells, or to a cell from which it leads nowhere.
 
 ghost use Rattle.std.specs.Prelude.{◌≡◌, ◌*◌, length, IfOk, IfSome, OnOk};
 ghost use Rattle.drain_grid.specs.Extent.{IsCellOf};
@@ -13,7 +13,7 @@ use crate::way::Way;
 use drain_grid::{Cell, OutOfMemory, Shape};
 use std::alloc::Global;
 
-/// How many cells of a ring are told.
+/// The most cells of a ring that are reported.
 pub const RING_TOLD: usize = 20;
 
 /// Why a run leads nowhere from a data cell whose code isn't 0.
@@ -27,7 +27,7 @@ pub enum LostBy {
     Void,
 }
 
-/// What a run comes to that doesn't end.
+/// Where a run without an end leads.
 #[derive(PartialEq, Eq, Debug, Drop)]
 pub enum EndlessRun {
     /// It goes round for ever.
@@ -37,7 +37,7 @@ pub enum EndlessRun {
         /// How many the ring has.
         length: usize,
     },
-    /// It comes to this cell, and no further.
+    /// It reaches this cell, and goes no further.
     Lost {
         cell: Cell,
         by: LostBy,
@@ -45,7 +45,7 @@ pub enum EndlessRun {
 }
 
 impl CellFlows {
-    /// What the run of a data cell comes to, of the flows of all cells of a grid, where it doesn't end.
+    /// Where the run of a data cell leads, from the flows of all cells of a grid, if it doesn't end.
     pub fn endless_run(
         &self,
         alloc: Global,
@@ -66,8 +66,8 @@ impl CellFlows {
     }
 }
 
-/// The cell that a walk from a data cell comes to in as many steps as there are cells, or from which it leads nowhere before; none where the run
-/// is found to end.
+/// The cell that a walk from a data cell reaches in as many steps as there are cells, or from which it leads nowhere
+/// before; none if the run is found to end.
 fn last_of_walk(flows: &CellFlows, shape: Shape, start: Cell) -> Option<Cell>
     requires counted { length flows.now ≡ shape.rows * shape.cols }
     requires inside { IsCellOf shape start }
@@ -85,7 +85,7 @@ fn last_of_walk(flows: &CellFlows, shape: Shape, start: Cell) -> Option<Cell>
     Some(here)
 }
 
-/// Why the code of a data cell leads nowhere; none where it leads on, or where the run is known to end.
+/// Why the code of a data cell leads nowhere; none if it leads on, or if the run is known to end.
 fn lost_by(flows: &CellFlows, shape: Shape, cell: Cell) -> Option<LostBy>
     requires counted { length flows.now ≡ shape.rows * shape.cols }
     requires inside { IsCellOf shape cell }
@@ -139,7 +139,7 @@ fn ring_from(
     Ok(None)
 }
 
-/// Puts the cell that so many steps led to behind those before it, where it is one of the first 20.
+/// Appends the cell after n steps to those before it, if it is one of the first 20.
 fn tell(cells: &mut Vec<Cell>, here: Cell, walked: usize) -> Result<(), OutOfMemory>
     ensures { OnOk result (cells.new.items ≡ told_with walked here cells.old.items) }
 {

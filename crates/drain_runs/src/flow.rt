@@ -67,8 +67,8 @@ pub(crate) fn flow_table() -> [Flow; 130]
     table
 }
 
-/// The flow of a cell, of its sample, where -32768 is a void, and its direction number, whatever number that is. Which way a cell leads can't be foretold,
-/// so there is no jump by it: it is looked up in the table.
+/// The flow of a cell, from its sample (-32768 is a void) and its direction number, whatever that is. Which way a
+/// cell leads is unpredictable, so the flow is looked up in a table, without a branch.
 #[inline(always)]
 pub(crate) fn flow_of(table: &[Flow; 130], sample: i64, number: i64) -> Flow
     requires { IsFlowTable table.now }

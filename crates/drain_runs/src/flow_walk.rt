@@ -11,8 +11,8 @@ use crate::flow::Flow;
 use crate::way::Way;
 use drain_grid::{Cell, Shape};
 
-/// How many steps lead from a data cell to one whose run is known to end, none where its own run doesn't end. Codes that go round are
-/// told by the length of the walk: a run that ends makes fewer steps than there are cells.
+/// How many steps lead from a data cell to one whose run is known to end, none if its own run doesn't end. Codes that
+/// go round are found by the length of the walk: a run that ends makes fewer steps than there are cells.
 pub fn steps_to_end(flows: &CellFlows, shape: Shape, start: Cell) -> Option<usize>
     requires counted { length flows.now ≡ shape.rows * shape.cols }
     requires inside { IsCellOf shape start }
@@ -30,7 +30,7 @@ pub fn steps_to_end(flows: &CellFlows, shape: Shape, start: Cell) -> Option<usiz
     None
 }
 
-/// Puts down, for so many cells along the walk from a cell whose run ends, that their runs end.
+/// Records, for n cells along the walk from a cell whose run ends, that their runs end.
 pub fn put_ends(flows: &mut CellFlows, shape: Shape, start: Cell, steps: usize)
     requires counted { length flows.old ≡ shape.rows * shape.cols }
     requires inside { IsCellOf shape start }

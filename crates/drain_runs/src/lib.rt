@@ -1,4 +1,4 @@
-//! Which runs end, of elevations and directions alone: with a byte a cell, and with the number of steps of each run.
+//! Which runs end, from elevations and directions only: with a byte per cell, and with the number of steps of each run.
 #![tactic(auto)]
 
 pub mod cell_flows;

@@ -14,14 +14,15 @@ use thiserror::Error;
 /// Why there are no ranks.
 #[derive(Clone, Copy, PartialEq, Eq, Debug, Error)]
 pub enum CertifyRefusal {
-    /// The first data cell whose run doesn't come to a code 0.
+    /// The first data cell whose run doesn't reach a code 0.
     #[error("a run doesn't end")]
     NoEnd(Cell),
     #[error("out of memory")]
     OutOfMemory,
 }
 
-/// The number of steps of each data cell's run. In row order, so that the first cell whose walk comes to no end is the first of all.
+/// The number of steps of each data cell's run. It goes in row order, so the first walk without an end is the first of
+/// all.
 pub fn steps_of(alloc: Global, elevation: &Elevation, dir: &Raster) -> Result<Steps, CertifyRefusal>
     requires same_shape { elevation.now.extent ≡ dir.now.extent }
     ensures shape { IfOk result (λ s. s.extent ≡ elevation.now.extent) }

@@ -1,4 +1,4 @@
-//! How many steps the runs of a grid's cells make, as far as they are known.
+//! How many steps the runs of a grid's cells make, as far as known.
 
 ghost use Rattle.std.specs.Prelude.{◌≡◌, ◌≢◌, pos, map, All, IfOk};
 ghost use Rattle.drain_grid.specs.Values.{IsPixel};
@@ -9,10 +9,10 @@ use drain_grid::{Cell, OutOfMemory, Raster, Shape};
 use std::alloc::{AllocError, Global};
 use std::marker::Model;
 
-/// Stands for no number. No run makes so many steps.
+/// Marks a number that is not known. No run makes that many steps.
 pub const UNKNOWN: u32 = u32::MAX;
 
-/// A number for each cell, in row order: four bytes a cell.
+/// A number for each cell, in row order: four bytes per cell.
 #[derive(Drop)]
 pub struct Steps {
     shape: Shape,
@@ -62,7 +62,7 @@ impl Steps {
         self.numbers[index] = number;
     }
 
-    /// The numbers as a raster, whose no-data number is the one that stands for no number.
+    /// The numbers as a raster; its no-data number is the one that means no number.
     pub fn raster(&self, alloc: Global) -> Result<Raster, OutOfMemory>
         ensures { IfOk result (λ r. r ≡ record { extent = self.now.extent; nodata = pos UNKNOWN; numbers = map pos self.now.items }) }
     {

@@ -12,11 +12,11 @@ use crate::steps::{Steps, UNKNOWN};
 use crate::way::{Way, way_from};
 use drain_grid::{Cell, Elevation, Raster, Shape};
 
-/// No grid has more cells: 28,801 by 28,801. So no number of steps stands for no number, and two of them add up.
+/// No grid has more cells: 28,801 by 28,801. So no number of steps equals `UNKNOWN`, and the sum of two fits.
 pub const MOST_CELLS: u32 = 829_497_601;
 
-/// How many steps the run of a cell makes, none where it doesn't end. Codes that go round are told by the length of the walk:
-/// a run that ends makes at most as many steps as there are cells.
+/// How many steps the run of a cell makes, none if it doesn't end. Codes that go round are found by the length of the
+/// walk: a run that ends makes at most as many steps as there are cells.
 pub fn count_steps(elevation: &Elevation, dir: &Raster, steps: &Steps, start: Cell) -> Option<u32>
     requires same_shape { elevation.now.extent ≡ dir.now.extent }
     requires steps_shape { steps.now.extent ≡ elevation.now.extent }
@@ -43,7 +43,7 @@ pub fn count_steps(elevation: &Elevation, dir: &Raster, steps: &Steps, start: Ce
     None
 }
 
-/// Puts the numbers along the walk from a cell whose run makes so many steps, up to the first that is known.
+/// Records the numbers along the walk from a cell whose run makes n steps, up to the first that is known.
 pub fn put_steps(elevation: &Elevation, dir: &Raster, steps: &mut Steps, start: Cell, total: u32)
     requires same_shape { elevation.now.extent ≡ dir.now.extent }
     requires steps_shape { steps.old.extent ≡ elevation.now.extent }

@@ -41,7 +41,7 @@ pub fn way_from(elevation: &Elevation, dir: &Raster, cell: Cell) -> Way
     }
 }
 
-/// What the number at a cell says.
+/// The meaning of the number at a cell.
 fn code_at(dir: &Raster, cell: Cell) -> Option<Code>
     requires { IsCellOf dir.now.extent cell }
     ensures { MeansCode (number_at dir.now cell) result }

@@ -1,8 +1,8 @@
 //! The rules on slopes at a cell, Slope and OutletCode, and the first of the steepest ways down.
 //!
 //! Slopes are compared by whole numbers. Over a drop `d` the slope is `d` along a row or a column and `d / √2` across a
-//! corner, so twice its square is `2 * d * d` and `d * d`: its key. Two slopes stand as their keys do, with no rounding.
-//! Pixels run from -2147483648 to 4294967295, so a key can need 67 bits, and is held in 128. A key of 0 says that the
+//! corner, so twice its square is `2 * d * d` and `d * d`: its key. Slopes compare as their keys do, with no rounding.
+//! Pixels run from -2147483648 to 4294967295, so a key can need 67 bits, and is kept in 128. A key of 0 means that the
 //! neighbour is not lower. One call looks at one cell and takes no memory.
 //!
 //! Source: the steepest of eight neighbours with the diagonal at root two is D8 (O'Callaghan and Mark 1984). The keys,
@@ -19,7 +19,8 @@ ghost use Rattle.drain_slope.specs.Key.{key_of, key_at, IsGreatestKey, IsSteepes
 
 use drain_grid::{CellValues, Direction, Patch, Rule};
 
-/// The first of the steepest lower neighbours, in the order of directions; none where no neighbour is lower, and at a void.
+/// The first of the steepest lower neighbours, in the order of directions; none if no neighbour is lower, and at a
+/// void.
 pub fn steepest(patch: &Patch) -> Option<Direction>
     ensures { IsFirstSteepest patch.now result }
 {
@@ -27,7 +28,7 @@ pub fn steepest(patch: &Patch) -> Option<Direction>
     first_with_key(patch, steepest)
 }
 
-/// The first of the two rules that fails at the cell, none where they both hold. A void keeps them both.
+/// The first of the two rules that fails at the cell, none if they both hold. A void keeps them both.
 pub fn fault(patch: &Patch) -> Option<Rule>
     ensures least { IsLeastFault IsSlopeRule (flow_rules patch.now) result }
 {
@@ -49,7 +50,7 @@ pub fn fault(patch: &Patch) -> Option<Rule>
     }
 }
 
-/// Whether the cell is no open one, or has the code of an outlet.
+/// Whether the cell is not open, or has the code of an outlet.
 fn keeps_outlet_code(patch: &Patch) -> bool
     ensures { IsTrue result ↔ (IsOpen patch.now → patch.now.here.dir ≡ pos 0) }
 {
@@ -79,7 +80,7 @@ fn first_with_key(patch: &Patch, wanted: u128) -> Option<Direction>
     None
 }
 
-/// The key of the steepest ways down; none where no neighbour is lower, and at a void.
+/// The key of the steepest ways down; none if no neighbour is lower, and at a void.
 fn steepest_key(patch: &Patch) -> Option<u128>
     ensures { MatchOption result (¬ HasLower patch.now) (IsSteepestKey patch.now) }
 {
@@ -103,7 +104,7 @@ pub fn greatest_key(patch: &Patch) -> u128
     greatest
 }
 
-/// The key of the way down in this direction, 0 where no neighbour there is lower.
+/// The key of the way down in this direction, 0 if no neighbour there is lower.
 fn key(patch: &Patch, direction: Direction) -> u128
     ensures { pos result ≡ key_at patch.now direction }
 {
@@ -113,7 +114,7 @@ fn key(patch: &Patch, direction: Direction) -> u128
     }
 }
 
-/// The key of the way to these values, 0 where they are not those of a lower data cell.
+/// The key of the way to these values, 0 if they are not those of a lower data cell.
 fn key_to(patch: &Patch, direction: Direction, there: &CellValues) -> u128
     ensures { pos result ≡ key_of patch.now direction (Some there.now) }
 {

@@ -14,7 +14,7 @@ pub both : (a b : Bool) → (a && b) ≡ true → (a ≡ true) × (b ≡ true)
 both true b e = (refl, e)
 both false b e = cc
 
--- a digit is worth what it is above the digit nought
+-- a digit's value is its distance from the digit zero
 pub digit_worth : (c : ℕ) → is_ascii_digit c ≡ true → (48 ≤ c) × (c ≤ 57) × (digit_value c ≡ c - 48)
 digit_worth c is =
     let r = both _ _ is in
@@ -26,7 +26,7 @@ digit_worth c is =
 pub all_digits_more : (word : List ℕ) (i : ℕ) → i < length word → is_ascii_digit (get_or word i 0) ≡ true → list_all is_ascii_digit (drop i word) ≡ list_all is_ascii_digit (drop (i + 1) word)
 all_digits_more word i inside is = at_drop_more (list_all is_ascii_digit) word i 0 inside ∙ ap (λ b. b && list_all is_ascii_digit (drop (i + 1) word)) is
 
--- a byte that is no nought stands within the text
+-- a byte that is no zero is within the text
 pub within : (bs : List ℕ) (i : ℕ) → zero < get_or bs i 0 → i < length bs
 within [] i h = absurd (omega arith)
 within (x ∷ xs) zero h = omega arith

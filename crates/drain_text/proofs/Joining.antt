@@ -1,7 +1,7 @@
 -- A text put together from words, spaces and line feeds is taken apart into them again.
 --
--- The bytes of a word stand above the space, so no line feed, carriage return, space or tab is among them. A split goes by
--- recursion along the text up to the first byte that passes.
+-- The bytes of a word are above the space, so no line feed, carriage return, space or tab is among them. A split goes
+-- by recursion along the text up to the first byte that passes.
 use Rattle.std.proofs.Common.{◌≡◌, ℕ, zero, suc, ◌-◌, ◌<◌, Bool, true, false, List, [], ◌∷◌, ◌++◌, length, take, arith, refl, ap, ◌∙◌}
 use Rattle.std.specs.Prelude.{cond, nat_lt, ◌==◌, ◌||◌, filter, map, slice_index}
 use Rattle.std.specs.List.{slice_split, onto_first, list_all}
@@ -11,7 +11,7 @@ use Rattle.drain_text.specs.Parts.{is_blank}
 use Rattle.drain_text.specs.Text.{lines_of, words_of}
 use Rattle.drain_text.proofs.Digits.{both}
 
--- each byte stands above the space
+-- each byte is above the space
 abbrev pub AllInk : List ℕ → Type 0
 AllInk [] = Unit {0}
 AllInk (x ∷ xs) = (32 < x) × AllInk xs

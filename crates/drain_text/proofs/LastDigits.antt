@@ -1,4 +1,4 @@
--- The lowest digits of a number, with the noughts in front: how many they are, what they are worth, and how they are printed.
+-- The lowest digits of a number, with leading zeros: how many there are, their value, and how they are printed.
 use Rattle.std.proofs.Common.{◌≡◌, ℕ, zero, suc, ◌+◌, ◌*◌, ◌/◌, ◌%◌, ◌^◌, ◌<◌, ◌∷◌, length, arith, refl, sym, ap, ◌∙◌}
 use Rattle.std.specs.Prelude.{decimal}
 use Rattle.std.specs.Char.{digit_value}

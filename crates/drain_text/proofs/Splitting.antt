@@ -1,7 +1,7 @@
 -- The first part of a text that is split, and so its first line and its first word.
 --
--- `parts` says what a split is from the front: the elements before the first that passes, and the parts of what follows
--- it. It falls by recursion along the text. Lines and words are both read off it.
+-- `parts` describes a split from the front: the elements before the first that passes, and the parts of what follows
+-- it. It falls by recursion along the text. Lines and words both follow from it.
 use Rattle.std.proofs.Common.{◌≡◌, ℕ, ◌+◌, ◌<◌, Bool, true, false, List, [], ◌∷◌, length, take, drop, get_or, arith, refl, sym, ap, ◌∙◌}
 use Rattle.std.specs.Prelude.{not, cond, filter, map, nat_lt, ◌==◌}
 use Rattle.std.specs.List.{slice_split, onto_first, prefix_len}
@@ -18,7 +18,7 @@ abbrev pub later_parts : {X : Type 0} → (X → Bool) → List X → List (List
 later_parts p [] = []
 later_parts p (x ∷ xs) = slice_split p xs
 
--- how many elements stand before the first that passes
+-- how many elements come before the first that passes
 abbrev pub first_length : {X : Type 0} → (X → Bool) → List X → ℕ
 first_length p xs = prefix_len (λ x. not (p x)) xs
 
@@ -66,7 +66,7 @@ word_starts (x ∷ xs) some = elim (is_blank x) as (λ b. is_blank x ≡ b → 0
   | false ↦ λ e _. rw e (omega arith)
 ] refl some
 
--- a line's first word stands behind its leading blanks
+-- a line's first word follows its leading blanks
 pub words_of_rest : (line rest : List ℕ) → rest ≡ drop (prefix_len is_blank line) line → 0 < length rest → words_of line ≡ take (prefix_len is_inked rest) rest ∷ words_of (drop (prefix_len is_inked rest) rest)
 words_of_rest line rest is some =
     let ink : 0 < prefix_len is_inked rest = rw is (word_starts line (rw is at some)) in

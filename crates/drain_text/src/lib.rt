@@ -1,7 +1,7 @@
-//! Texts: their lines, the words of a line, and the whole number that a word spells.
+//! Texts: their lines, the words of a line, and the whole number of a word.
 //!
-//! A text is bytes, and each line and each word is a part of the text itself, so nothing here takes memory. What the
-//! words of a line mean is told by the crate that reads them.
+//! A text is bytes, and each line and each word is a part of the text, so nothing here takes memory. The crate that
+//! reads a line defines the meaning of its words.
 #![tactic(auto)]
 
 pub mod lines;

@@ -1,4 +1,4 @@
-//! Lines of a text, each a part of the text itself.
+//! Lines of a text, each a part of the text.
 //!
 //! A line ends at a line feed, and the last one at the end of the text. A carriage return at its end is no part of it.
 
@@ -8,9 +8,9 @@ ghost use Rattle.drain_text.specs.Parts.{IsFirstLine};
 
 use memchr::memchr;
 
-/// The first line, without a carriage return at its end, and the text after its line feed where it has one.
+/// The first line, without a carriage return at its end, and the text after its line feed if it has one.
 ///
-/// Of two carriage returns only the last is left out. An empty text has one line, which is empty.
+/// Of two carriage returns only the last is dropped. An empty text has one line, which is empty.
 pub fn first_line(text: &[u8]) -> (&[u8], Option<&[u8]>)
     ensures first { IsFirstLine text.now result.0.now (option_map (λ rest. rest.now) result.1) }
     ensures shorter { IfSome result.1 (λ rest. length rest.now < length text.now) }

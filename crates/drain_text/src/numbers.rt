@@ -1,11 +1,11 @@
-//! Whole numbers that words spell: digits alone, below 2^32.
+//! Whole numbers as words: only digits, below 2^32.
 
 ghost use Rattle.std.specs.Prelude.{◌≡◌};
 ghost use Rattle.drain_text.specs.Text.{whole_number as whole_number_of};
 
-/// The number that a word of digits spells, none where it is no such word or the number takes more than 32 bits.
+/// The number of a word of digits; none if another byte is in it, if it is empty, or if the number takes over 32 bits.
 ///
-/// Noughts may stand in front, as many as there are; a sign or a point may not.
+/// Any number of leading zeros is allowed; a sign or a point is not.
 pub fn whole_number(word: &[u8]) -> Option<u32>
     ensures { result ≡ whole_number_of word.now }
 {
@@ -17,7 +17,7 @@ pub fn whole_number(word: &[u8]) -> Option<u32>
         if !byte.is_ascii_digit() {
             return None;
         }
-        // A number past 64 bits stays there: it is refused all the same.
+        // A number past 64 bits stops there: it is rejected all the same.
         value = value
             .saturating_mul(10)
             .saturating_add((*byte - b'0') as u64);

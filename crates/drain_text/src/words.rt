@@ -1,13 +1,13 @@
-//! Words of a line, each a part of the line itself.
+//! Words of a line, each a part of the line.
 //!
-//! Words stand between spaces and tabs; any other byte is part of a word.
+//! Words are separated by spaces and tabs; any other byte is part of a word.
 
 ghost use Rattle.std.specs.Prelude.{◌≡◌, ◌∷◌, [], MatchOption};
 ghost use Rattle.std.specs.List.{prefix_len};
 ghost use Rattle.drain_text.specs.Parts.{is_blank as is_blank_byte, is_inked};
 ghost use Rattle.drain_text.specs.Text.{words_of};
 
-/// The first word of a line and what follows it, none where the line has no word.
+/// The first word of a line and what follows it, none if the line has no word.
 pub fn first_word(line: &[u8]) -> Option<(&[u8], &[u8])>
     ensures { MatchOption result (words_of line.now ≡ [])
         (λ found. words_of line.now ≡ found.0.now ∷ words_of found.1.now) }
@@ -38,7 +38,7 @@ fn blanks(line: &[u8]) -> usize
     line.len()
 }
 
-/// How many bytes stand before the first space or tab of a line.
+/// How many bytes come before the first space or tab of a line.
 fn word_length(line: &[u8]) -> usize
     ensures { result ≡ prefix_len is_inked line.now }
 {

@@ -1,4 +1,4 @@
-//! What a scripted device answers at which of its calls.
+//! What a scripted device answers at which call.
 
 ghost use Rattle.std.specs.Prelude.{◌≡◌};
 ghost use Rattle.drain_device.specs.Script.{answer_of};
@@ -11,18 +11,18 @@ pub struct Scripted<A> {
     pub answer: A,
 }
 
-/// What a scripted sink answers in place of taking bytes.
+/// What a scripted sink answers instead of taking bytes.
 #[derive(Clone, Copy, PartialEq, Eq, Debug)]
 pub enum SinkAnswer {
     /// The call may be tried again.
     Interrupted,
     /// The device failed.
     Failed,
-    /// The call took no byte, and says so.
+    /// The call took no byte, and returned 0.
     TookNone,
 }
 
-/// The answer that the script has for a call: that of the first line with the call in it.
+/// The script's answer to a call: that of the first line that covers it.
 pub fn answer_at<A: Copy>(script: &[Scripted<A>], call: u64) -> Option<A>
     ensures { result ≡ answer_of script.now call }
 {

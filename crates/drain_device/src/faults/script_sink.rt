@@ -12,8 +12,8 @@ use crate::counts::FaultCounts;
 use crate::fault::DeviceFault;
 use crate::sink::ByteSink;
 
-/// A sink that takes few bytes at a call, and faults or takes none by its script. A call that finds no memory answers
-/// `Failed`.
+/// A sink that takes few bytes at a call, and by its script answers a fault or takes none. A call that runs out of
+/// memory answers `Failed`.
 #[derive(Drop)]
 pub struct ScriptSink<'a> {
     bytes: Vec<u8>,
@@ -26,7 +26,7 @@ pub struct ScriptSink<'a> {
 }
 
 impl<'a> ScriptSink<'a> {
-    /// A sink behind these bytes, of which a call takes at most so many.
+    /// A sink after these bytes; a call takes at most `most` of them.
     pub fn new(bytes: Vec<u8>, most: usize, script: &'a [Scripted<SinkAnswer>]) -> ScriptSink<'a>
         requires { 0 < most }
         ensures bytes { ⟦<ScriptSink<'a> as ByteSink>⟧.bytes_taken result ≡ Some bytes.items }
@@ -46,14 +46,14 @@ impl<'a> ScriptSink<'a> {
         }
     }
 
-    /// The bytes that it has taken, behind those that the vector held before.
+    /// The bytes that it has taken, after those that the vector held before.
     pub fn as_slice(&self) -> &[u8]
         ensures { ⟦<ScriptSink<'a> as ByteSink>⟧.bytes_taken self.now ≡ Some result.now }
     {
         self.bytes.as_slice()
     }
 
-    /// How many calls took no byte of a slice that has some, without a fault.
+    /// How many calls took nothing of a non-empty slice, without a fault.
     pub fn stalls(&self) -> u64
         ensures { result ≡ ⟦<ScriptSink<'a> as ByteSink>⟧.stalls self.now }
     {
@@ -74,7 +74,7 @@ impl ByteSink for ScriptSink<'_> {
         ensures counted { self.new.counts ≡ counts_after self.old.counts result }
         ensures stalled { self.new.stalls ≡ stalls_after self.old.stalls result bytes.now }
 
-        // It answers what the script has for the call; where that has nothing it takes some, or wants memory.
+        // It answers what the script has for the call; without a line for it, it takes some, or runs out of memory.
         ensures scripted { (answer : SinkAnswer) → answer_of self.old.script.now self.new.calls ≡ Some answer
             → result ≡ answer_given answer }
         ensures unscripted { answer_of self.old.script.now self.new.calls ≡ None

@@ -11,7 +11,7 @@ use crate::counts::FaultCounts;
 use crate::fault::DeviceFault;
 use crate::source::ByteSource;
 
-/// A source that gives few bytes at a call, and faults by its script.
+/// A source that gives few bytes at a call, with faults by its script.
 #[derive(Drop)]
 pub struct ScriptSource<'a> {
     rest: &'a [u8],
@@ -23,7 +23,7 @@ pub struct ScriptSource<'a> {
 }
 
 impl<'a> ScriptSource<'a> {
-    /// A source of these bytes, of which a call gives at most so many.
+    /// A source of these bytes; a call gives at most `most` of them.
     pub fn new(
         bytes: &'a [u8],
         most: usize,
@@ -57,7 +57,7 @@ impl ByteSource for ScriptSource<'_> {
         ensures bytes { ReadConsumes (Some self.old.rest.now) (Some self.new.rest.now) result out.new }
         ensures counted { self.new.counts ≡ counts_after self.old.counts result }
 
-        // It answers a fault exactly where the script has that for the call.
+        // It answers a fault exactly if the script has one for the call.
         ensures scripted { (fault : DeviceFault) → IsErrOf result fault
             ↔ (answer_of self.old.script.now self.new.calls ≡ Some fault) }
         ensures calls { self.new.calls ≡ counted self.old.calls 1 }

@@ -4,7 +4,7 @@ use Rattle.drain_device.specs.Counts.{Answered}
 use Rattle.drain_device.specs.Patience.{full_patience}
 use Rattle.drain_device.proofs.read.read_body.Given as goal
 
--- the body holds what came, has room up to the limit, and there was nothing but interruptions, all of them counted
+-- the body holds what came, has room up to the limit, and there were only interruptions, all of them counted
 abbrev pub invariant-chunks : goal.invariant-chunks
 invariant-chunks g l =
     let bytes_left = g.R.ByteSource.bytes_left in

@@ -3,7 +3,7 @@ use Rattle.std.specs.Io.KnownBytes.{Consumes}
 use Rattle.drain_device.specs.PartFailing.{PartFails}
 use Rattle.drain_device.proofs.row_bytes.pass_part.Given as goal
 
--- what was passed over came, the rest is left, and nothing gave up
+-- the skipped bytes came, the rest is left, and no call failed for good
 abbrev pub invariant-loop-left : goal.invariant-loop-left
 invariant-loop-left g l =
     let bytes_left = g.R.ByteSource.bytes_left in

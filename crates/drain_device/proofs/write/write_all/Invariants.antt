@@ -3,7 +3,7 @@ use Rattle.std.specs.Io.KnownBytes.{Appends}
 use Rattle.drain_device.specs.Counts.{Answered}
 use Rattle.drain_device.proofs.write.write_all.Given as goal
 
--- so many bytes were taken, with nothing but interruptions, all of them counted
+-- this many bytes were taken, with only interruptions, all of them counted
 abbrev pub invariant-loop-at : goal.invariant-loop-at
 invariant-loop-at g l =
     let bytes_taken = g.W.ByteSink.bytes_taken in

@@ -9,7 +9,7 @@ use Rattle.drain_device.proofs.PartLemmas.{fails-later, row-fails}
 use Rattle.drain_raster.proofs.RasterRowLemmas.{row-comes}
 use Rattle.drain_raster.proofs.raster_rows.read_row.Goals as goal
 
--- a vector that grew has as many numbers as were wanted
+-- a vector that grew has the required length
 grown : {long wanted : ℕ} (was : ℕ) {ok failed : Bool} → long ≡ cond ok wanted was → ok ≡ not failed → failed ≡ false → long ≡ wanted
 grown {wanted = wanted} was is unless well = is ∙ ap (λ b. cond b wanted was) (unless ∙ ap not well)
 

@@ -5,7 +5,7 @@ use Rattle.drain_raster.specs.Bytes.{cells_from}
 use Rattle.drain_raster.specs.Pixels.{pixel_at}
 use Rattle.drain_raster.proofs.read.push_row.Given as goal
 
--- the numbers of the pixels that were passed stand behind the others, and there is room for the rest
+-- the numbers of the pixels passed come after the others, and there is room for the rest
 abbrev pub invariant-loop-first : goal.invariant-loop-first
 invariant-loop-first g l = record {
   within : l.first ≤ l.header.cols;

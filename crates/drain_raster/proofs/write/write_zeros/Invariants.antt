@@ -3,7 +3,7 @@ use Rattle.drain_device.specs.declared.patience.GaveUp.{GaveUp}
 use Rattle.drain_raster.specs.Writing.{Hands}
 use Rattle.drain_raster.proofs.write.write_zeros.Given as goal
 
--- so many zeros were written
+-- n zeros were written
 abbrev pub invariant-loop-written : goal.invariant-loop-written
 invariant-loop-written g l =
     let bytes_taken = g.W.ByteSink.bytes_taken in

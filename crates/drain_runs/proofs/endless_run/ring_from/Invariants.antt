@@ -1,4 +1,4 @@
--- The walk hasn't come back, and the cells that it passed are told.
+-- The walk hasn't come back, and the cells that it passed are in the list.
 use Rattle.std.proofs.Common.{◌≡◌, length}
 use Rattle.std.specs.Prelude.{min}
 use Rattle.drain_grid.specs.Extent.{IsCellOf}

@@ -1,4 +1,5 @@
--- The run of this cell has so many steps left. All numbers that are known are right, and the start's is, or this is the start.
+-- The run of this cell has n steps left. All numbers that are known are right, and the start's is, or this is the
+-- start.
 use Rattle.std.proofs.Common.{◌≡◌, ◌≢◌, ◌⊎◌}
 use Rattle.drain_grid.specs.Grid.{HasData}
 use Rattle.drain_grid.specs.Certificate.{EndsAfter}
