@@ -22,7 +22,7 @@ refuse() {
 }
 
 for file in "$program" "$object"; do
-    [ -f "$file" ] || refuse "$file is not there"
+    [ -f "$file" ] || refuse "$file is not there: tools/build_program.py --anew drain build/drain makes both"
 done
 for tool in rt gcc; do
     command -v "$tool" >/dev/null || refuse "a static program needs $tool on the PATH"
