@@ -208,8 +208,8 @@ pub fn changed(
     Ok(copy)
 }
 
-/// Ends the test if the two verdicts differ, and reports the case. A call of it is cheaper to prove than an assertion in
-/// place.
+/// Ends the test if the two verdicts differ, and reports the case. A call of it is cheaper to prove than an assertion
+/// in place.
 pub fn same(rt: &impl Abort, case: &str, given: Verdict, wanted: Verdict) {
     assert_eq!(rt; given, wanted, "{case}");
 }

@@ -90,7 +90,8 @@ fn level_verdict(
     verdict_listing(alloc, text.as_bytes(), 5, 5, &shafts.numbers(alloc)?)
 }
 
-/// Expected of a cell inside if the list swaps its row and column: then another cell is the sink, and directions show it.
+/// Expected of a cell inside if the list swaps its row and column: then another cell is the sink, and directions show
+/// it.
 fn turned(row: u8, col: u8) -> Verdict {
     if row < col {
         rejected(Rule::FlatStep, row, col)
@@ -131,8 +132,8 @@ fn each_cell_of_a_level_grid(rt: HostRuntime) -> Result<(), Fail> {
 /// Columns of the middle one of three long rows.
 static LISTED: [u16; 7] = [1, 255, 256, 257, 511, 512, 598];
 
-/// The verdicts on three long rows that are right if these columns of the middle one are listed: by rasters and by rows.
-/// One of them is missing in the list, and these lines come first.
+/// The verdicts on three long rows that are right if these columns of the middle one are listed: by rasters and by
+/// rows. One of them is missing in the list, and these lines come first.
 fn long_verdicts(alloc: Global, left_out: u16, more: &str) -> Result<[Verdict; 2], Fail> {
     let shafts = Shafts {
         rows: 3,
