@@ -108,7 +108,7 @@ pub fn sound_from_correct()
     ensures { SoundFromCorrect }
 {}
 
-/// The least line that lists a cell without data by cell-by-cell answers is that of the grid with these answers.
+/// If each listed cell's answer is right for a grid, the least line without data by these answers is right for it too.
 pub fn found_off_data_is_right()
     ensures { FoundOffDataIsRight }
 {}
