@@ -160,7 +160,7 @@ type Answer = Result<RowStep, ReadFault>;
 /// What five calls answer, memory being granted again before the last, and whether it gave out.
 type Answers = ([Answer; 5], bool);
 
-/// What five calls owe: two rows and then the end; where memory gave out, some rows, a word of it, and nothing after that.
+/// Expected of five calls: two rows and then the end; if memory ran out, some rows, that error, and nothing after it.
 fn owed_answers(given: &Answers) -> [Answer; 5] {
     let (answers, gave_out) = given;
     let ended = Ok(RowStep::Ended);
