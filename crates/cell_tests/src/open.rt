@@ -1,6 +1,5 @@
 //! Data cells that are listed sinks are open for each rule that looks, and voids are not. Each cell has the results of
-//! the
-//! rules of three crates, listed and not. Its neighbours have height 5 and rank 0.
+//! the rules of three crates, listed and not. Its neighbours have height 5 and rank 0.
 
 use crate::agree::same;
 use drain_fill::{fault as fill_fault, fault_profile2};

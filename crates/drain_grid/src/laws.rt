@@ -16,9 +16,8 @@ use crate::values::{GREATEST_PIXEL, LEAST_PIXEL};
 ///
 /// Sources: the SRTM HGT documentation for the void, for the range of samples (16 signed bits), and for the greatest
 /// side (a 1 arc-second tile); the range of 32 bits, signed and unsigned, for pixels; eight such tiles side by side,
-/// with
-/// shared edges, for the greatest length. The least side, the bounds of a no-data number and the units of a degree are
-/// this project's own.
+/// with shared edges, for the greatest length. The least side, the bounds of a no-data number and the units of a degree
+/// are this project's own.
 pub fn constants()
     ensures void { VOID ≡ neg_ℤ (pos 32768) }
     ensures least_sample { LEAST_SAMPLE ≡ neg_ℤ (pos 32768) }

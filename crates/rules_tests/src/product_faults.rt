@@ -1,6 +1,5 @@
 //! The voids at which a single product has a number, and the data cells at which it has none, on worked grids; with
-//! ranks
-//! and without. All were worked out by hand from the rules.
+//! ranks and without. All were worked out by hand from the rules.
 
 use crate::every_fault::{Given, example, walk_over};
 use crate::examples::{Part, changed, equal};
