@@ -17,7 +17,7 @@ const LARGE: u32 = 1 << 28;
 /// How many cells of a row are tested at once.
 pub const BLOCK: usize = 128;
 
-/// A row of the grid, with a void before it and one or more behind it, so that whole blocks of cells can be looked at.
+/// A row of the grid, with a void before it and one or more after it, so that whole blocks of cells can be looked at.
 pub struct Row {
     side: usize,
     pub z: Vec<i32>,

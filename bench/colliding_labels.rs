@@ -1,7 +1,7 @@
 // Prints labels, one a line, that a set over a hash of fixed seed keeps slowly: each in a block of 64 labels of its own, and all
-// these blocks at home in a few groups that stand side by side, so that whoever looks for one walks past most of them.
+// these blocks at home in a few adjacent groups, so that a search for one walks past most of them.
 //
-// The hash is that of the Rattle library's HashMap (FoldHasher, its 64 bits joined to 32): the low bits tell the group of 16
+// The hash is that of the Rattle library's HashMap (FoldHasher, its 64 bits joined to 32): the low bits give the group of 16
 // places, and a table has a group for each 9 keys, rounded up to a power of two.
 //
 // Usage: colliding_labels COUNT
@@ -20,7 +20,7 @@ fn hash(block: u64) -> u64 {
 fn main() -> io::Result<()> {
     let count: u64 = std::env::args().nth(1).and_then(|word| word.parse().ok()).unwrap_or(180_000);
     let groups = count.div_ceil(9).next_power_of_two();
-    // So few groups that they are the homes of about as many blocks as are asked for, and a few more.
+    // So few groups that they are the homes of about as many blocks as are required, and a few more.
     let homes = (count * groups / BLOCKS + 1) * 17 / 16 + 1;
     let chosen = (0..BLOCKS).filter(|block| hash(*block) % groups < homes);
     let mut out = BufWriter::new(io::stdout().lock());

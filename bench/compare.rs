@@ -65,7 +65,7 @@ impl Grid {
     }
 
     /// Random ground, flooded from the open cells. It is right where the lowest cell is always taken
-    /// first; in any other order water may stand too high, which only NotLeast sees.
+    /// first; in any other order water may be too high, which only NotLeast finds.
     fn flooded(dice: &mut Dice, side: usize, lowest_first: bool) -> Grid {
         let cells = side * side;
         let ground: &[i16] = dice.pick(&[

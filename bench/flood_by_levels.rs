@@ -5,7 +5,7 @@ use crate::{Flood, UNREACHED, back};
 
 const LEVELS: usize = 65536;
 
-/// Stands behind the last cell of a level, and for the first of a level that has none.
+/// Marks the end of a level's cells, and a level without cells.
 const END: u32 = u32::MAX;
 
 /// Cells that wait at levels: the lowest comes first, and the first put in among the lowest.

@@ -1,5 +1,5 @@
 //! The flood of `twin_make` with a heap of packed numbers: level, turn and cell in 64 bits. A cell that isn't above the flood never goes through it, but
-//! behind the cells of the flood's level (Barnes, Lehman and Mulla 2014).
+//! after the cells of the flood's level (Barnes, Lehman and Mulla 2014).
 
 use crate::{Flood, UNREACHED, back};
 use std::cmp::Reverse;

@@ -1,4 +1,4 @@
-//! The flood of `twin_make` with a pool of cells for each level: a cell that isn't above the flood is put behind those of the flood's own pool, which is
+//! The flood of `twin_make` with a pool of cells for each level: a cell that isn't above the flood is appended to the flood's own pool, which is
 //! gone through as it grows (the plain queue of Barnes, Lehman and Mulla 2014), and a higher one into the pool of its level.
 
 mod level_pools;

@@ -1,4 +1,4 @@
-//! The flood of `twin_make`: whole slopes at once, and pools only for cells beside which a lower one was left (Zhou, Sun and Fu 2016).
+//! The flood of `twin_make`: whole slopes at once, and pools only for cells next to which a lower one was left (Zhou, Sun and Fu 2016).
 
 mod level_pools;
 
@@ -11,7 +11,7 @@ pub fn spread(found: &mut Flood, open: Vec<u32>, steps: &[usize; 8]) {
     let mut trail = open;
     trace(found, &mut pools, &mut trail, None, steps);
     for level in i16::MIN..=i16::MAX {
-        // Who is left beside these is raised to the level, so no cell is put into its pool any more.
+        // Each cell left next to these is raised to the level, so no cell is put into its pool any more.
         for cell in pools.take(level) {
             trail.push(cell);
             trace(found, &mut pools, &mut trail, Some(level), steps);
@@ -19,7 +19,7 @@ pub fn spread(found: &mut Flood, open: Vec<u32>, steps: &[usize; 8]) {
     }
 }
 
-/// Goes over all that isn't lower, in rings. Where the flood stands at a cell's level, what is lower beside it is raised.
+/// Spreads over all that isn't lower, in rings. If the flood is at a cell's level, lower cells next to it are raised.
 fn trace(
     found: &mut Flood,
     pools: &mut LevelPools,

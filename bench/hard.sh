@@ -16,7 +16,7 @@ for name in make_check_input hard_terrains measure; do
     rustc --edition 2024 -O -C target-cpu=x86-64-v2 -o "$out/$name" "$bench/$name.rs"
 done
 
-# The median seconds of a processor for a million cells, of three runs of the words.
+# The median seconds of a processor for a million cells, of three runs with these arguments.
 seconds() {
     "$out/measure" 3 $((side * side)) /dev/null "$drain" -- "$@" | awk '$1 == "drain" { print $4 }'
 }

@@ -37,7 +37,7 @@ fn height(kind: &str, side: usize, row: usize, col: usize) -> Option<i16> {
         "needles" => if mixed(row, col) % 16 == 0 { 5_000 } else { 0 },
         // Each second cell is a void, so that each other one is an outlet.
         "voids" => if (row + col) % 2 == 0 { return None } else { 7 },
-        // Down to the west, behind a wall along all edges.
+        // Down to the west, inside a wall along all edges.
         _ => if depth == 0 { 32_767 } else { col.min(30_000) as i16 },
     })
 }

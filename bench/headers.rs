@@ -1,6 +1,6 @@
-//! The headers that stand beside the rasters of a tile's products, as this program writes them.
+//! The headers of the rasters of a tile's products, as this program writes them.
 
-/// What is told of a product's pixels: its name, their bits, whether they are signed, and the number for no data.
+/// A product's pixels: its name, their bits, whether they are signed, and the no-data number.
 pub struct Pixels {
     pub name: &'static str,
     bits: usize,

@@ -1,5 +1,5 @@
 #!/usr/bin/env bash
-# Times labels admitted by drain_basin's OutletLabels, and tells the memory that they take: labels in order, scattered, in the orders
+# Times labels admitted by drain_basin's OutletLabels, and their memory: labels in order, scattered, in the orders
 # that leave a tree's nodes half empty, and chosen so that a hash of fixed seed would put them side by side (colliding_labels.rs).
 # MiB is the program's greatest; the bytes of each label leave out what the program takes without a label, and a list of labels.
 # Usage: bench/labels.sh BENCHES    (crates/benches, built)
@@ -15,7 +15,7 @@ mkfifo "$scratch/end" "$scratch/line"
 colliding=180000
 "$out/colliding_labels" "$colliding" >"$scratch/colliding"
 
-# Runs the program on so many labels, with the step between them or the file that lists them, and sets ns and peak to the time
+# Runs the program on n labels, with the step between them or the file that lists them, and sets ns and peak to the time
 # and the KiB that it takes.
 run() {
     local count=$1 labels=$2 started line
@@ -31,7 +31,7 @@ run() {
     exec 3<&-
 }
 
-# Prints a line of the table: the words of the run, and what the labels are.
+# Prints a line of the table: the run's arguments, and what the labels are.
 measure() {
     local each=0
     run "$1" "$2"

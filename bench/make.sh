@@ -29,7 +29,7 @@ for shape in "${shapes[@]}"; do
     rustc --edition 2024 -O -C target-cpu=x86-64-v2 --cfg "flood=\"$shape\"" -o "$out/twin_make_$shape" "$bench/twin_make.rs"
 done
 
-# Whether two programs made the same files; it tells those that differ.
+# Whether two programs made the same files; it prints those that differ.
 # Usage: same PROGRAM PROGRAM FILE...
 same() {
     local one=$scratch/${1##*/} other=$scratch/${2##*/} name

@@ -78,7 +78,7 @@ fn name(program: &str) -> String {
     name.to_string_lossy().into_owned()
 }
 
-/// What is asked for: so many runs over so many million cells, a file for standard input, the programs, and their words.
+/// The request: how many runs over how many million cells, a file for standard input, the programs, and their arguments.
 struct Task<'a> {
     rounds: usize,
     millions: f64,

@@ -24,7 +24,7 @@ for lat in 0 1 2 3 4 5 6 7; do
     done
 done
 
-# A product of so many bits a pixel, and its pixel type.
+# A product of this many bits per pixel, and its pixel type.
 product() {
     {
         printf 'BYTEORDER I\nNROWS %d\nNCOLS %d\nNBITS %d\nPIXELTYPE %s\n' "$cols" "$cols" "$2" "$3"

@@ -5,7 +5,7 @@
 use std::fs::{read, write};
 use std::io;
 
-/// The row or column that stands at this place, in a tile of this side between two mirrors.
+/// The row or column at this place, in a tile of this side between two mirrors.
 fn mirrored(side: usize, place: usize) -> usize {
     let period = 2 * (side - 1);
     let within = place % period;

@@ -1,5 +1,5 @@
 #!/usr/bin/env bash
-# Times drain_hgt's read_tile and drain_mosaic's join over four tiles of side 3601, beside their twin in plain loops.
+# Times drain_hgt's read_tile and drain_mosaic's join over four tiles of side 3601, and their twin in plain loops.
 # It exits with 1 where what they print differs; times never make it fail.
 # Usage: bench/mosaic.sh BENCHES    (crates/benches, built)
 set -euo pipefail
@@ -15,7 +15,7 @@ for small in 2 3 121 1201; do
     [ "$("$program" mosaic "$small" 2)" = "$("$out/twin_mosaic" "$small" 2)" ] || { echo "they differ at side $small" >&2; exit 1; }
 done
 
-# Prints the processor seconds of so many rounds.
+# Prints the processor seconds of n rounds.
 # Usage: seconds ROUNDS PROGRAM [WORD]
 seconds() {
     local TIMEFORMAT='%U %S' rounds=$1

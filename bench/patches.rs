@@ -1,5 +1,5 @@
 //! Cells, directions and patches as the twins in the program's shape have them: a patch is made by value from a grid that
-//! tells the values at a cell. What makes a patch and reads it is inlined by force: left to itself, rustc makes calls of it,
+//! gives the values at a cell. What makes a patch and reads it is inlined by force: by default rustc makes calls of it,
 //! and the twins far slower.
 
 /// The sample of a void.
@@ -116,7 +116,7 @@ impl Patch {
         self.around[direction as usize]
     }
 
-    /// Whether the cell is on the edge of the grid or beside a void.
+    /// Whether the cell is on the edge of the grid or next to a void.
     #[inline(always)]
     pub fn is_open(&self) -> bool {
         self.around

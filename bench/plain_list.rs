@@ -1,4 +1,4 @@
-//! What a list of sinks costs whoever reads it: a plain program that reads the file, takes two numbers off each line, and puts the columns of each row side
+//! What reading a list of sinks costs: a plain program that reads the file, takes two numbers off each line, and puts the columns of each row side
 //! by side, as a check needs them. It looks at no cell. It takes lines of two numbers with one space between, and no others.
 //!
 //! Usage: plain_list FILE ROWS    (prints how many lines there were, and the greatest column of any row)

@@ -1,5 +1,5 @@
 #!/usr/bin/env bash
-# Shows how fast `drain fill` is beside its two twins: builds the twins, compares all programs on small
+# Compares the speed of `drain fill` with its two twins: builds the twins, compares all programs on small
 # random inputs and on a tile of side 3601 with and without changes, then times them on that tile.
 # It exits with 1 where lines differ; times never make it fail.
 #
@@ -39,7 +39,7 @@ if [[ ! -f $input || $bench/make_input.rs -nt $input || $bench/hills.rs -nt $inp
     mv "$input.part" "$input"
 fi
 
-# Prints the line of all programs on the output of a command; it should begin as told.
+# Prints the line of all programs on the output of a command; it should begin as given.
 # Usage: same WHAT BEGINNING COMMAND...
 same() {
     local what=$1 beginning=$2 line= other program

@@ -18,7 +18,7 @@ for name in make_check_input measure plain_list; do
 done
 "$out/make_check_input" "$side" "$side" "$scratch/terrain"
 
-# Writes a list of so many data cells of a tile, in no order.
+# Writes a list of n data cells of a tile, in no order.
 # Usage: list TILE COUNT
 list() {
     python3 - "$1" "$side" "$2" <<'PY'
@@ -66,7 +66,7 @@ time_lists() {
     "$out/measure" 7 $((side * side)) /dev/null "${checks[@]}" "$scratch/plain_list" --
 }
 
-# Writes the conditioned elevation that was made as a tile, whose bytes stand the other way round.
+# Writes the conditioned elevation that was made as a tile, with the bytes in the other order.
 # Usage: filled_tile CON TILE
 filled_tile() {
     python3 - "$1" "$2" <<'PY'

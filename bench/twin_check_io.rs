@@ -1,4 +1,4 @@
-//! What the twins of `drain check` and `drain audit` share: the words of the command line, the rules' names, and the one line and exit
+//! What the twins of `drain check` and `drain audit` share: the arguments, the rules' names, and the one line and exit
 //! status of the answer. They take one tile, and rasters in the form that this program writes; headers they don't read.
 //! With `--cfg audit` the command is `audit`.
 
@@ -7,13 +7,13 @@ use std::io;
 use std::path::{Path, PathBuf};
 use std::process::ExitCode;
 
-/// The numbers that stand for no data, in the order con, dir, acc, bas, rnk.
+/// The no-data numbers, in the order con, dir, acc, bas, rnk.
 pub const NO_DATA: [i64; 5] = [-32768, 255, 0, 0, 4294967295];
 
 /// The command that the twin is of.
 pub const COMMAND: &str = if cfg!(audit) { "audit" } else { "check" };
 
-/// Whether ranks are asked for.
+/// Whether ranks are checked.
 #[allow(dead_code)]
 pub const RANKED: bool = !cfg!(audit);
 
@@ -69,7 +69,7 @@ impl Files {
     }
 }
 
-/// Runs a twin: has the files judged, prints the line and gives the exit status.
+/// Runs a twin: checks the files, prints the line and gives the exit status.
 pub fn run(judge: impl FnOnce(&Files) -> io::Result<Verdict>) -> ExitCode {
     let Some(files) = Files::from_words() else {
         eprintln!("usage: {COMMAND} --side N --products FOLDER TILE");

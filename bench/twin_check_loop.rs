@@ -286,7 +286,7 @@ impl Window {
     }
 }
 
-/// Tests the rules row by row. An audit notes which way each cell leads, and asks which runs end where a rule fails; where none fails every run
+/// Tests the rules row by row. An audit records which way each cell leads, and finds which runs end if a rule fails; where none fails every run
 /// ends, since accumulations add up.
 fn judge(files: &Files) -> io::Result<Verdict> {
     let side = files.side as usize;

@@ -56,7 +56,7 @@ impl Products {
     }
 }
 
-/// The numbers that the bytes of a file spell.
+/// The numbers in the bytes of a file.
 fn decode<const WIDTH: usize, T>(
     path: &Path,
     number: impl Fn([u8; WIDTH]) -> T,

@@ -1,4 +1,4 @@
-//! What the two twins share: the words of the command line, the bytes of the input, the rules' names,
+//! What the two twins share: the arguments, the bytes of the input, the rules' names,
 //! and the one line and exit status of the answer. They are those of `drain fill --side N`.
 
 use crate::rules::Rule;
@@ -11,7 +11,7 @@ pub enum Verdict {
     Rejected { rule: Rule, row: u32, col: u32 },
 }
 
-/// Runs a twin: reads the input, has it judged, prints the line and gives the exit status.
+/// Runs a twin: reads the input, checks it, prints the line and gives the exit status.
 pub fn run(judge: impl FnOnce(u32, &[u8]) -> Verdict) -> ExitCode {
     let Some(side) = side_from_words() else {
         eprintln!("usage: fill --side N < input");
@@ -45,7 +45,7 @@ pub fn run(judge: impl FnOnce(u32, &[u8]) -> Verdict) -> ExitCode {
     }
 }
 
-/// The side in `fill --side N`, none where the words are others.
+/// The side in `fill --side N`, none for other arguments.
 fn side_from_words() -> Option<u32> {
     let words: Vec<String> = std::env::args().skip(1).collect();
     match words.as_slice() {
@@ -54,7 +54,7 @@ fn side_from_words() -> Option<u32> {
     }
 }
 
-/// Standard input as a whole, and no more than one byte beyond the length that is wanted.
+/// Standard input as a whole, and no more than one byte beyond the expected length.
 fn read_input(length: usize) -> io::Result<Vec<u8>> {
     let mut bytes = Vec::with_capacity(length + 1);
     io::stdin()

@@ -66,11 +66,11 @@ fn decode(row: &mut [i16], bytes: &[u8]) {
 }
 
 /// The rows above, at and below the one that is tested. A row has a void before it and one or more
-/// behind it, so that whole groups of cells can be loaded.
+/// after it, so that whole groups of cells can be loaded.
 struct Window {
     z: [Vec<i16>; 3],
     con: [Vec<i16>; 3],
-    /// The spill codes of the row, with zeros behind them.
+    /// The spill codes of the row, with zeros after them.
     codes: Vec<u8>,
     /// The codes that SpillRank follows: those of the cells that have data and are not open, else 0.
     spill: Vec<u8>,
@@ -152,7 +152,7 @@ impl Window {
             self.spill[start..start + LANES]
                 .copy_from_slice(&_mm_cvtsi128_si64(spill).to_le_bytes());
         }
-        // Each lane of `data_cells` is minus the number of its voids, those behind the row among them.
+        // Each lane of `data_cells` is minus the number of its voids, those after the row among them.
         (_mm_movemask_epi8(bad) == 0).then(|| Tally {
             data_cells: (self.codes.len() as i32 + sum(data_cells)) as u32,
             raised: sum(raised) as u32,
@@ -230,7 +230,7 @@ fn sum(numbers: __m128i) -> i32 {
     lanes.into_iter().map(i32::from).sum()
 }
 
-/// The steps in cells that the codes stand for; 0 for all other numbers.
+/// The steps in cells of the codes; 0 for all other numbers.
 fn steps_of(side: usize) -> [isize; 256] {
     let mut steps = [0; 256];
     for (bit, &(down, right)) in STEPS.iter().enumerate() {

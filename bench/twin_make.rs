@@ -5,7 +5,7 @@
 //! the same bytes. The others take cells strictly by level, and those of a level in the order in which they were found: among themselves they write the
 //! same bytes, con is the program's, and the rest is as right, with other ways over flats.
 //!
-//! Numbers are kept as wide as their pixels. A frame of voids stands around the tile, so every cell has eight neighbours.
+//! Numbers are kept as wide as their pixels. A frame of voids is around the tile, so every cell has eight neighbours.
 //!
 //! Usage: make --side N --out FOLDER TILE
 
@@ -49,7 +49,7 @@ impl Terrain {
         Terrain { side, z }
     }
 
-    /// How far the neighbours E SE S SW W NW N NE lie behind a cell, the later four in front of it by wrapping.
+    /// How far the neighbours E SE S SW W NW N NE lie after a cell, the later four before it by wrapping.
     fn steps(&self) -> [usize; 8] {
         let width = self.side + 2;
         let behind = [1, width + 1, width, width - 1];
@@ -159,7 +159,7 @@ fn next(steps: &[usize; 8], dir: &[u8], cell: usize) -> Option<usize> {
     (code != 0).then(|| cell.wrapping_add(steps[code.trailing_zeros() as usize & 7]))
 }
 
-/// How many cells drain through each cell: a cell hands its count on once all that flow into it have.
+/// How many cells drain through each cell: a cell passes its count on once all that flow into it have.
 fn accumulation(terrain: &Terrain, dir: &[u8]) -> Vec<u32> {
     const HANDED_ON: u8 = u8::MAX;
     let steps = terrain.steps();
@@ -210,7 +210,7 @@ fn labels(terrain: &Terrain, dir: &[u8]) -> Vec<u32> {
     bas
 }
 
-/// The folder of the products, and what their headers tell of the tile.
+/// The folder of the products, and what their headers say of the tile.
 struct Output {
     folder: PathBuf,
     side: usize,
@@ -251,7 +251,7 @@ struct Products {
     rnk: Vec<u32>,
 }
 
-/// Makes them. It isn't put into its caller, so that a profile tells making from reading and writing.
+/// Makes them. It isn't put into its caller, so that a profile separates making from reading and writing.
 #[inline(never)]
 fn products(terrain: &Terrain) -> Products {
     let Flood { con, spl, rnk } = flood(terrain);
@@ -275,7 +275,7 @@ fn make(terrain: &Terrain, output: &Output) -> io::Result<()> {
     output.write(&RNK, &made.rnk, u32::to_le_bytes)
 }
 
-/// The north-west corner of the tile of this name, which tells the south-west one.
+/// The north-west corner of the tile of this name, which gives the south-west one.
 fn corner_of(tile: &Path) -> Option<Corner> {
     let (latitude, others) = tile.file_name()?.to_str()?.split_at_checked(3)?;
     let south = degrees(latitude, "S")?;

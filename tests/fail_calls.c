@@ -1,11 +1,11 @@
-/* Is loaded before the C library into a run of the program, and lets one of its calls end otherwise. By variables of the environment:
+/* Is loaded before the C library into a run of the program, and changes the outcome of one of its calls. Variables:
 
-   FAIL_CALL  open, read, write, look or allocation: which calls are counted; a look is one that asks what is at a path
-   FAIL_AT    the number of the call that is meant, from 1
+   FAIL_CALL  open, read, write, look or allocation: which calls are counted; a look is one that queries a path
+   FAIL_AT    the number of the call to change, from 1
    FAIL_HOW   refused: it fails; later: it and each later one; interrupted: it is interrupted once; short: it moves one byte; killed: the
-              process is killed in place of it; cut: FAIL_FILE is cut to half its length before it; turned: FAIL_FILE is written over
+              process is killed instead; cut: FAIL_FILE is cut to half its length before it; turned: FAIL_FILE is written over
               with bytes of 255 before it
-   FAIL_MARK  a file that is made when the call comes, so that one sees that there are as many
+   FAIL_MARK  a file that is made when the call comes, which shows that there are that many
 
    It includes no header, and so needs none but the compiler. */
 

@@ -1,13 +1,13 @@
-/* Is loaded before the C library into a run of one test. At each allocation copies of the process go on in turn: one that is
-   refused this allocation alone; where that passes, as a growth does that is tried again with the exact size, one that is refused
-   this and the next; and one that is refused this and every later one. A line on standard error tells how each ended, behind what
-   the copy wrote; then the allocation is granted. So one run refuses each allocation of the test in every way, and no count of
-   them is needed. Behind the first 1,000 of a test each 127th is refused: a test of so many does the same thing again and again. A copy that does
-   without the memory, as rows do without lanes, ends well where 3,000 more were granted. A test that read a file or had a thread couldn't be copied so. It includes no header, and so needs none but the
-   compiler.
+/* Is loaded before the C library into a run of one test. At each allocation copies of the process go on in turn: one with
+   only this allocation refused; if that passes, as a growth does that is tried again with the exact size, one with this and
+   the next refused; and one with this and every later one refused. A line on standard error says how each ended, after the
+   output of the copy; then the allocation is granted. So one run refuses each allocation of the test in every way, and no
+   count of them is needed. After the first 1,000 of a test each 127th is refused: a test with that many repeats itself. A
+   copy that does without the memory, as rows do without lanes, ends well after 3,000 more were granted. A test that reads a
+   file or has a thread can't be copied this way. The library includes no header, and so needs only the compiler.
 
-   A test may ask whether its last allocation was refused, by an allocation of ASKED bytes (crates/refused_memory), which is refused
-   where it was. From there on each is granted, and no copy is made. */
+   A test may query whether its last allocation was refused, by an allocation of ASKED bytes (crates/refused_memory), which
+   is refused if that one was. From there on each is granted, and no copy is made. */
 
 typedef __SIZE_TYPE__ size_t;
 

@@ -1,11 +1,12 @@
 #!/usr/bin/env bash
-# Refuses each allocation of each test of a crate: alone; where the test still passes, as one allocation may be tried again, together with
-# the next; and together with every later one. It looks that a test that doesn't pass tells of want of memory, and of nothing else: by its
-# error, or by the left side of an assertion. Only where an allocation is refused alone may a test pass; those of seams_without_memory.txt
-# may where their last one is: it is room for a mosaic whose tiles differ, and that is told without the room; and those of the crates that go over
-# rows may, since rows do without lanes: there only some have to tell of want of memory. A test .._after_refused_memory
-# looks itself that its first call tells of it, and then calls again: it has to pass each time. The tests are those that `rt ci` or
-# `rt test` left in out/; tests/refuse_memory.c refuses.
+# Refuses each allocation of each test of a crate: alone; if the test still passes, as one allocation may be tried again,
+# together with the next; and together with every later one. A test that doesn't pass must report that memory ran out, and
+# nothing else: by its error, or by the left side of an assertion. A test may pass only if an allocation is refused alone,
+# with two exceptions. Those of seams_without_memory.txt may if their last one is refused: it is room for a mosaic whose
+# tiles differ, and a seam is found without the room. Those of the crates that scan rows may, since rows can do without
+# lanes: only some of them have to report that memory ran out. A test .._after_refused_memory checks that its first call
+# reports it, and then calls again: it has to pass each time. The tests are those that `rt ci` or `rt test` left in out/;
+# tests/refuse_memory.c refuses.
 # Usage: tests/refused_memory.sh CRATE...
 set -u
 [ $# -gt 0 ] || { echo "usage: $0 CRATE..." >&2; exit 2; }
@@ -17,7 +18,7 @@ trap 'rm -rf "$scratch"' EXIT
 ulimit -c 0
 "$compiler" -O2 -Wall -shared -fPIC -nostdlib -o "$scratch/refuse_memory.so" "$top/tests/refuse_memory.c" || exit 1
 
-# Judges what the runs of a crate's tests wrote: a line '== test NAME', what each copy wrote with a line that tells how it
+# Checks what the runs of a crate's tests wrote: a line '== test NAME', the output of each copy with a line on how it
 # ended, as waitpid has it, and a line '== ended STATUS'.
 judge() {
     awk -v crate="$1" '
@@ -52,13 +53,13 @@ judge() {
             else if ($NF == 0) told_seams++
             else if ($NF == 14) fails(what ", it does not end")
             else if ($NF != 101 * 256 && $NF != 6) fails(what ", it crashes, with status " $NF)
-            else if (!told) fails(what ", it does not tell of want of memory")
+            else if (!told) fails(what ", it does not report that memory ran out")
             else wants++
             forget()
             next
         }
         /^(error| *left): .*(OutOfMemory|AllocError|AllocFailed)/ { told = 1 }
-        # Without memory for lanes they vouch for no cell, which is what these tests ask.
+        # Without memory for lanes they clear no cell, which is what these tests check.
         /^ *left: Kept / && test ~ /^kept_runs::/ { told = 1 }
         NF { text = text "    " $0 "\n" }
         END {
@@ -100,5 +101,5 @@ failed=0
 for each in "${running[@]}"; do
     wait "$each" || failed=1
 done
-[ "$failed" != 0 ] || echo "ok: no test swallows a want of memory"
+[ "$failed" != 0 ] || echo "ok: no test hides that memory ran out"
 exit "$failed"

@@ -1,11 +1,13 @@
 #!/usr/bin/env bash
-# Shows that the tests of maker_tests fail for makers that build wrong products. No proof refuses these: such a maker answers MakerFault, as
-# it tests what it built, and no contract says that it succeeds. Each file of tests/wrong_makers is such a maker, in the form of a must-fail edit
-# (file, old text, new text) that names the test that has to fail for it (fails: MODULE::TEST).
+# Shows that the tests of maker_tests fail for makers that build wrong products. No proof refuses these: such a maker
+# returns MakerFault, as it checks what it built, and no contract says that it succeeds. Each file of tests/wrong_makers is
+# such a maker, in the form of a must-fail edit (file, old text, new text) that names the test that has to fail for it
+# (fails: MODULE::TEST).
 #
-# In a copy each maker becomes a crate of its own beside the right one, and maker_tests has a module for each maker: its named test, with what that test's
-# module and the modules without a test have besides tests. So all are built and run at once, unproved and with checks. Each named test has to fail for its
-# wrong maker, and to pass for the right one. The funnel is smaller there: still wide enough that a count of 16 bits doesn't hold its cells.
+# In a copy each maker becomes a crate of its own next to the right one, and maker_tests has a module for each maker: its
+# named test, with the helpers of that test's module and of the modules without a test. So all are built and run at once,
+# unproved and with checks. Each named test has to fail for its wrong maker, and to pass for the right one. The funnel is
+# smaller there: still wide enough that a count of 16 bits doesn't hold its cells.
 # Usage: tests/wrong_makers.sh
 set -euo pipefail
 top=$(cd "$(dirname "$0")/.." && pwd)
@@ -21,7 +23,7 @@ mv "$tests" "$sources"
 mkdir "$tests"
 printf '//! The tests that wrong makers have to fail.\n#![tactic(auto)]\n' >"$tests/lib.rt"
 
-# Makes a crate of the maker under another name, and puts the new text of an edit in the place of the old, which stands once in its file.
+# Makes a crate of the maker under another name, with the old text of an edit, found once in its file, replaced.
 # Usage: make_crate NAME EDIT
 make_crate() {
     cp -r "$crates/drain_maker" "$crates/$1"
@@ -82,7 +84,7 @@ if diff <(sort "$scratch/wanted") <(sort "$scratch/came") >"$scratch/differences
     sed 's/^test //' "$scratch/wanted"
     echo "ok: each wrong maker fails the test that it names, and the right one passes them"
 else
-    echo 'FAILED: < is wanted, > came'
+    echo 'FAILED: < expected, > actual'
     cat "$scratch/differences"
     exit 1
 fi

@@ -1,10 +1,11 @@
 #!/usr/bin/env python3
-"""Looks that each crate's README names its files, and no others.
+"""Checks that each crate's README names its files, and no others.
 
-They are named in the first column of tables with the head '| Where | What |': `src/read.rt`, `specs/Reads`, `proofs/Reading`. In one cell a
-name without a folder lies where the one before it does. Of proofs/ only the files at its top are meant, not those of a function's own folder;
-lib.rt, main.rt and Lib.antt need no name. Elsewhere in a README what is written as a path into these folders has to be there.
-Usage: tools/check_readmes.py    (prints each name that is missing or stale, and ends with 1 where there is one)
+They are named in the first column of tables with the head '| Where | What |': `src/read.rt`, `specs/Reads`,
+`proofs/Reading`. In one cell a name without a folder is in the folder of the one before it. Of proofs/ only the files at its
+top count, not those of a function's own folder; lib.rt, main.rt and Lib.antt need no name. Elsewhere in a README a path into
+these folders has to exist.
+Usage: tools/check_readmes.py    (prints each name that is missing or stale, and then exits with 1)
 """
 import pathlib
 import re

@@ -1,9 +1,11 @@
 #!/usr/bin/env python3
-"""Writes the input of `drain fill` for one tile from right con and dir rasters, as `drain make` writes them: con in 16 bits, dir in 8, 255 for a void.
+"""Writes the input of `drain fill` for one tile from right con and dir rasters, as `drain make` writes them: con in 16 bits,
+dir in 8, 255 for a void.
 
 fill_input.py SIDE TILE FOLDER     FOLDER has con.bil and dir.bil; the input goes to standard output
 
-The spill parent of a cell that isn't open is its direction, and its rank the number of steps to the outlet. There are no listed sinks, as in `drain fill`.
+The spill parent of a cell that isn't open is its direction, and its rank the number of steps to the outlet. There are no
+listed sinks, as in `drain fill`.
 """
 
 import array

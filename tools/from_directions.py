@@ -1,11 +1,12 @@
 #!/usr/bin/env python3
-"""Counts accumulation and labels out of directions: reads FOLDER/dir.bil and writes acc.bil, bas.bil and rnk.bil beside it.
+"""Computes accumulation, labels and ranks from directions: reads FOLDER/dir.bil, writes acc.bil, bas.bil and rnk.bil there.
 
 from_directions.py FOLDER ROWS COLS
 
-dir.bil has 8 bits a cell, the codes of docs/FORMATS.md, and 255 in voids; the others get 32 bits, the least significant byte first, and 0, 0 and
-4294967295 in voids. Headers aren't written. A rank is the number of steps to the outlet, and a label the number of the outlet's cell, from 1. Where a
-run of directions doesn't end, what is written there means nothing. Wants numpy, and a gigabyte for a tile of side 3601.
+dir.bil has 8 bits per cell, the codes of docs/FORMATS.md, and 255 in voids; the others get 32 bits, the least significant
+byte first, and 0, 0 and 4294967295 in voids. Headers aren't written. A rank is the number of steps to the outlet, and a
+label the number of the outlet's cell, from 1. The numbers of a cell whose path of directions doesn't end mean nothing.
+Needs numpy, and a gigabyte for a tile of side 3601.
 """
 
 import sys
@@ -25,7 +26,7 @@ rank, end = (next_cell != here).astype("i8"), next_cell
 for _ in range(30):
     rank, end = np.minimum(rank + rank[end], 2**31), end[end]
 
-# The furthest cells hand on first.
+# The furthest cells pass on first.
 acc = np.ones(codes.size, "i8")
 order = np.argsort(-rank, kind="stable")
 for cells in np.split(order, np.flatnonzero(np.diff(rank[order])) + 1):

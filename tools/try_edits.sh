@@ -1,7 +1,7 @@
 #!/usr/bin/env bash
-# Tries every edit of the crates, and the prover has to refuse each; the gate tries some of them, on their function alone. Run it on a crate that was changed
-# before the change lands; it takes 10 to 30 seconds an edit.
-# Usage: tools/try_edits.sh [CRATE...]    (all of them where none is named)
+# Tries every edit of the crates; the prover has to refuse each. The gate tries some of them, on their function only. Run it
+# on a changed crate before the change lands; it takes 10 to 30 seconds per edit.
+# Usage: tools/try_edits.sh [CRATE...]    (default: all)
 set -euo pipefail
 top=$(cd "$(dirname "$0")/.." && pwd)
 scratch=$(mktemp -d)

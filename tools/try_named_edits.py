@@ -1,12 +1,12 @@
 #!/usr/bin/env python3
-"""Tries the edits that name their function by a line 'only: PATH': those of a crate are put into one copy of it, each in a file of its own, and the
-prover, asked for these functions alone, has to refuse each for a goal of its own. A function's proof sees the contracts of what it calls and no body, so no
-edit helps another to be refused. The checks stand on the libraries that rt ci built, so an edit takes some twenty seconds, where a try of the whole
-crate takes minutes.
+"""Tries the edits that name their function by a line 'only: PATH'. Those of a crate are put into one copy of it, each in a
+file of its own. The prover checks only these functions, and has to refuse each for a goal of its own. A function's proof
+sees the contracts of what it calls and no body, so no edit helps another to be refused. The checks use the libraries that
+rt ci built, so an edit takes some twenty seconds, while a try of the whole crate takes minutes.
 
-An edit is a file of must-fail/ or more-edits/ as rt reads it, which passes over the line 'only:'.
+An edit is a file of must-fail/ or more-edits/ as rt reads it; rt ignores the line 'only:'.
 
-Usage: tools/try_named_edits.py [CRATE...]    (all of them where none is named)
+Usage: tools/try_named_edits.py [CRATE...]    (default: all)
 """
 import concurrent.futures
 import os
@@ -41,7 +41,7 @@ class Edit:
         self.file = self.changes[0][0]
 
     def applied(self, crate, texts):
-        """The changed texts of the crate's files, of which some may be changed already; none where an old text doesn't stand there once."""
+        """The changed texts of the crate's files, some maybe changed before; none if an old text isn't found exactly once."""
         texts = dict(texts)
         for path, old, new in self.changes:
             text = texts.get(path) or (crate / path).read_text()
@@ -57,7 +57,7 @@ class Round:
     def __init__(self, crate, edit):
         self.crate, self.edits, self.texts = TOP / "crates" / crate, [], {}
         if not self.takes(edit):
-            sys.exit(f"{edit.name}: an old text of it doesn't stand in its file, or not once")
+            sys.exit(f"{edit.name}: an old text of it isn't found exactly once in its file")
 
     def takes(self, edit):
         """Puts the edit in, unless another one is in its file."""
@@ -81,7 +81,7 @@ def rounds_of(crate):
 
 
 def libraries():
-    """What each crate of crates.txt stands on, by its name: crates of the repository and of the kit."""
+    """What each crate of crates.txt uses, by its name: crates of the repository and of the kit."""
     found = {}
     for line in (TOP / "crates.txt").read_text().splitlines():
         name, colon, below = line.partition("#")[0].partition(":")
@@ -91,7 +91,7 @@ def libraries():
 
 
 def words_of(crate, below):
-    """The words of a check of a crate over the libraries that were built."""
+    """The arguments of a check of a crate over the libraries that were built."""
     words = ["--extern", f"std={KIT}/rlibs/std.rlib", "-L", f"dependency={KIT}/rlibs"]
     found, left = [], [crate]
     while left:
@@ -110,8 +110,8 @@ def words_of(crate, below):
 
 
 def tried(together, below):
-    """Tries the edits of a round: of each what the prover said, and whether it refused it. One that calls a function which another edit of the round made
-    wrong isn't looked at, so what isn't refused beside others is tried alone."""
+    """Tries the edits of a round: of each the prover's output, and whether it refused it. The prover skips a function that
+    calls one which another edit made wrong, so an edit that isn't refused with others is tried alone."""
     said = said_of(together, below)
     told = {edit.name: (is_refused(together.crate.name, edit, said), said) for edit in together.edits}
     if len(together.edits) > 1:
@@ -137,7 +137,7 @@ def said_of(together, below):
 
 
 def is_refused(crate, edit, said):
-    """Whether the prover came to its end, and said that a goal of the edit's own function isn't met: not only that it calls one which isn't proved."""
+    """Whether the prover finished, and said that a goal of the edit's own function isn't met, not only that of a callee."""
     if not re.search(r"^only=\d+ proved=\d+$", said, re.M):
         return False
     found = re.search(rf"^fn {crate}::(?:\S+::)?{re.escape(edit.only)}: (not proved|no proof.*)$", said, re.M)

@@ -1,5 +1,5 @@
 #!/usr/bin/env python3
-"""Prints the line that `drain audit` owes to four rasters, by docs/RULES.md: slow and plain, for grids of up to some 200,000 cells.
+"""Prints the right line of `drain audit` for four rasters, by docs/RULES.md: slow and plain, for up to some 200,000 cells.
 
 audit.py --side N --products DIR [--sinks FILE] TILE..     ends with the status that goes with the line
 
@@ -19,7 +19,7 @@ STATUSES = ["accepted", "rejected", "refused", "failed"]
 
 
 class AuditRules(Rules):
-    """The rules of an audit: those of a check, but that they ask nothing of ranks."""
+    """The rules of an audit: those of a check without ranks."""
 
     def __init__(self, terrain, products, nodata):
         super().__init__(terrain, products)

@@ -1,5 +1,5 @@
 # Runs of `drain audit`: the pit of check.sh without ranks, runs of directions that don't end, refusals in their order, and sets of other tools.
-# Read by run.sh behind sinks.sh; audit.py is the other program.
+# Read by run.sh after sinks.sh; audit.py is the other program.
 
 auditor=$here/audit.py
 tile=$check/N00E000.hgt
@@ -10,7 +10,7 @@ make_bare() {
     rm "$check"/out/rnk.*
 }
 
-# Compares one run of the words: its name, the status and the line that are wanted.
+# Compares one run with these arguments: its name, the expected status and line.
 judge_audit() {
     judge_words "$1" "$2" "$3" audit "${@:4}"
 }
@@ -108,7 +108,7 @@ a cell that leads to one that leads off the grid|0 0 0 1 1 1 0 0 0|row=1 col=0
 a cell that leads to a number that is no code|0 0 2 0 0 0 0 7 16|row=0 col=2
 END
 
-# A void: a direction into it has no end, and what stands at the void has no part in a run.
+# A void: a direction into it has no end, and the numbers at the void are ignored.
 make_bare
 printf '\0\5\0\5\0\5\0\5\0\1\200\0\0\5\0\5\0\5' >"$tile"
 printf '\5\0\5\0\5\0\5\0\1\0\0\200\5\0\5\0\5\0' >"$check/out/con.bil"
@@ -136,7 +136,8 @@ rm "$check/out/bas.bil"
 judge_audit 'an audit without its last raster and without its list' 3 "failed Open $check/out/bas.bil" \
     --side 3 --products "$check/out" --sinks="$check/sinks.txt" "$tile"
 
-# Refusals in their order: all stand, and one after the other is mended. Behind them a run without an end is told, and then a rule.
+# Refusals in their order: all apply at first, and are fixed one by one. Then a path without an end is reported, then a
+# rule.
 make_bare
 numbers 1 3 1 1 1 1 1 1 1 1 1 1 1 1 1 1 >"$check/out/dir.bil"
 printf '\0\6\0\6\0\6\0\6\0\6\0\6\0\6\0\6\0\6' >"$check/N01E000.hgt"
@@ -147,7 +148,7 @@ for name in con dir acc bas; do truncate -s 14 "$check/out/$name.bil" && sed -i 
 printf '9 9\nx\n' >"$check/sinks.txt"
 side=1 tiles='x N00E000.hgt'
 
-# Judges the line, and that of the other program, and then mends what it tells.
+# Checks the line, and that of the other program, and then fixes what it reports.
 judge_and_mend() {
     local paths=() name
     for name in $tiles; do paths+=("$check/$name"); done
@@ -205,7 +206,7 @@ for name in N00E000.hgt out/con.hdr out/bas.bil; do
     judge_bare "an audit with a folder for $name" 3 'failed ReadFailed'
 done
 
-# Pipes that stay open. Of a raster no byte behind the last that it needs is waited for, of a tile one.
+# Pipes that stay open. It waits for no byte of a raster after the last needed one, and for one of a tile.
 make_bare
 for name in con.bil dir.bil acc.bil bas.bil; do
     mv "$check/out/$name" "$scratch/bytes"

@@ -4,7 +4,7 @@ check=$scratch/check
 tile=$check/N00E000.hgt
 pit_checked='accepted rows=3 cols=3 data=9 raised=1 outlets=8'
 
-# The bytes of these numbers below 256, each in so many bytes, the least first.
+# The bytes of these numbers below 256, each in this many bytes, the least first.
 numbers() {
     local width=$1 number
     shift
@@ -14,7 +14,7 @@ numbers() {
     done
 }
 
-# A header of the tile with so many bits, the line of its pixel type where one is needed, and these places.
+# A header of the tile with this many bits, the line of its pixel type if one is needed, and these places.
 header_of() {
     printf 'BYTEORDER I\nNROWS 3\nNCOLS 3\nNBITS %s\n' "$1"
     [ -z "$2" ] || printf 'PIXELTYPE %s\n' "$2"
@@ -36,7 +36,7 @@ make_pit() {
     numbers 4 0 0 0 0 1 0 0 0 0 >"$check/out/rnk.bil"
 }
 
-# Compares one run of the words: its name, the status and the line that are wanted.
+# Compares one run with these arguments: its name, the expected status and line.
 judge_check() {
     judge_words "$1" "$2" "$3" check "${@:4}"
 }
@@ -81,7 +81,7 @@ numbers 4 1 2 3 4 6 7 5 6 7 >"$check/out/bas.bil"
 numbers 4 0 0 0 0 0 0 0 0 0 >"$check/out/rnk.bil"
 judge_pit 'a pit raised too high' 1 'rejected rule=9 NotLeast row=1 col=1'
 
-# Spill parents, which `drain fill` alone asks for, may lie in the folder: whatever stands there isn't opened.
+# Spill parents, which only `drain fill` needs, may be in the folder: they aren't opened.
 put_spill_parents() {
     local hdr=$check/out/spl.hdr bil=$check/out/spl.bil
     case $1 in
@@ -176,7 +176,7 @@ rm "$check/out/con.hdr" "$tile"
 judge_check 'the first file that is not there' 3 "failed Open $tile" --side 3 --products "$check/out" "$check/x" "$tile"
 judge_check 'no folder of products' 3 "failed Open $check/none/con.hdr" --side 3 --products "$check/none" "$check/x"
 
-# The files of products are opened one after the other: each is the first that is told as long as it isn't there.
+# The files of products are opened one after the other: each is reported first while it is missing.
 make_pit
 mkdir "$check/filling"
 for name in {con,dir,acc,bas,rnk}.{hdr,bil}; do
@@ -193,7 +193,7 @@ for name in N00E000.hgt out/con.hdr out/bas.bil; do
     judge_pit "a folder for $name" 3 'failed ReadFailed'
 done
 
-# Pipes that stay open. Of a raster no byte behind the last that it needs is waited for, of a tile one.
+# Pipes that stay open. It waits for no byte of a raster after the last needed one, and for one of a tile.
 make_pit
 for name in con.bil dir.bil rnk.bil; do
     mv "$check/out/$name" "$scratch/bytes"

@@ -96,7 +96,7 @@ class Cuts:
         (self.scratch / ("N00E000.hgt" if name == "tile" else f"products/{name}")).write_bytes(contents)
 
     def judge(self, name, example, line):
-        """A check owes this line, and so does an audit, unless it is about ranks: then it owes that of the whole files."""
+        """A check has to print this line, and so has an audit, unless it is about ranks: then that of the whole files."""
         self.judge_command("check", name, example, line)
         self.judge_command("audit", name, example, example.line if line.endswith(" rnk") else line)
 
@@ -126,7 +126,7 @@ class Cuts:
         self.cut("con.hdr", SLOPE.headers["con"], lambda text: line_of_cut(text.decode()))
 
     def replaced(self, example, line, answer):
-        """Replaces the line of this keyword in con's header, or puts one more behind it."""
+        """Replaces the line of this keyword in con's header, or appends one."""
         keyword = line.split(" ")[0]
         lines = [line if old.split(" ")[0] == keyword else old for old in header("con", example.side)]
         self.put(example)

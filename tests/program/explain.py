@@ -48,7 +48,7 @@ def same(what, told, wanted):
 
 
 class Explanation:
-    """What the program tells of a set, beside what there is to tell."""
+    """What the program reports of a set, next to what is expected."""
 
     def __init__(self, drain, words, plain, scratch):
         self.drain, self.words, self.plain = drain, words, plain
@@ -120,14 +120,14 @@ class Explanation:
         else:
             same("the length of a ring", told["ring"]["length"], len(cells))
             same("how many cells of a ring", len(told["ring"]["cells"]), min(len(cells), RING_TOLD))
-            # Which cell of the ring is told first is the program's choice; the others follow along it.
+            # Which cell of the ring is first is the program's choice; the others follow along it.
             first = told["ring"]["cells"][0]
             start = cells.index(first["row"] * self.plain.terrain.cols + first["col"])
             for cell, wanted in zip(told["ring"]["cells"], cells[start:] + cells[:start]):
                 self.compare_cell(cell, self.plain.place(wanted))
 
     def compare_table(self, lines, page):
-        """The lines of rules that fail tell what the object tells."""
+        """The lines of rules that fail have what the object has."""
         table = {}
         for line in lines:
             found = re.fullmatch(r"(\d+) (\w+) +(\d+) +(\d+) +(\d+) +(-?\d+\.\d{7}) +(-?\d+\.\d{7})", line)

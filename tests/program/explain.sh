@@ -1,10 +1,10 @@
 # Runs of `drain explain`: with ranks and without, pages of refusals, maps, and files and outputs that fail.
-# Read by run.sh behind audit.sh; explain.py compares pages and maps with a plain count.
+# Read by run.sh after audit.sh; explain.py compares pages and maps with a plain count.
 
 faults=$check/faults.bil
 faults_header=$check/faults.hdr
 
-# Compares one run of the words: its name, the status, and the page that is wanted on standard input.
+# Compares one run with these arguments: its name, the expected status, and the expected page on standard input.
 judge_page() {
     local name=$1 status=$2
     shift 2
@@ -13,7 +13,7 @@ judge_page() {
     judge "$name" "$status" "$scratch/want" $?
 }
 
-# The first line alone: its name, the status and the line that are wanted.
+# Only the first line: its name, the expected status and line.
 judge_first_line() {
     local name=$1 status=$2 line=$3 came
     shift 3
@@ -29,14 +29,14 @@ judge_explained() {
     judge_first_line "$1" "$2" "$3" --side 3 --products "$check/out" "${@:4}" "$tile"
 }
 
-# What stands in a folder, by name.
+# The files in a folder, by name.
 judge_folder() {
     ls -A "$2" >"$scratch/out" 2>"$scratch/err"
     printf '%s\n' "${@:3}" | LC_ALL=C sort | sed '/^$/d' >"$scratch/want"
     judge "$1" 0 "$scratch/want" 0
 }
 
-# Ranks are asked for where a file of theirs is there.
+# Ranks are checked if their files are there.
 make_bare
 judge_explained 'a pit without ranks, explained' 0 "$pit_checked"
 grep -qx 'ranks: not checked' "$scratch/page" || echo 'the page does not say that ranks were not checked' >>"$scratch/err"
@@ -57,7 +57,7 @@ for what in 'in links to nothing'; do
     judge_explained "ranks $what, explained" 0 "$pit_checked"
 done
 
-# The words in any order; a map by another ending, or by none, is a fault of the words.
+# Arguments in any order; a map with another ending, or none, is a usage error.
 judge_first_line 'options of an explanation behind the tile' 0 "$pit_checked" "$tile" --products="$check/out/" --side=3
 for words in '--map=' '--map faults' '--map faults.hdr' '--map faults.BIL' '--map' '--map a.bil --map b.bil' '--json --json' '--out a'; do
     want -
@@ -194,7 +194,7 @@ found: dir with 3 rows and 3 columns
 END
 sed -i 's/^NROWS 3/NROWS 5/' "$check/out/dir.hdr"
 
-# A tile or a raster in a pipe isn't opened again: nothing is told of it but the line.
+# A tile or a raster in a pipe isn't opened again: nothing is reported of it but the line.
 mv "$check/N01E000.hgt" "$scratch/bytes"
 mkfifo "$check/N01E000.hgt"
 cat "$scratch/bytes" >"$check/N01E000.hgt" &
@@ -235,7 +235,7 @@ for file in "$faults" "$faults_header"; do
     rm "$faults" "$faults_header"
 done
 
-# A map over a file that is read, by whatever way, is a fault of the words, and the files stay as they are.
+# A map over a file that is read, by any path, is a usage error, and the files stay as they are.
 make_pit
 rm -f "$faults" "$faults_header"
 printf '1 1\n' >"$check/list.hdr"

@@ -1,11 +1,13 @@
 #!/usr/bin/env python3
-"""Lets each open, read, write, look at a path and allocation of the program end otherwise, one after the other, and looks at what it answers.
+"""Changes the outcome of each open, read, write, query of a path and allocation of the program, one after the other, and
+checks its answer.
 
 faults.py DRAIN SHIM     SHIM is tests/fail_calls.c as a shared library
 
-A call is refused, alone or with every later one; is interrupted; moves one byte; or the process is killed in its place. Files of a check are
-cut or written over between its reads. A run has to print the right line, or to tell of the failure with status 3: never to crash or to
-hang. What is left of a set that wasn't made is accepted by a check only where each of its files is whole. Prints how many runs passed.
+A call is refused, alone or with every later one; is interrupted; moves one byte; or the process is killed in its place.
+Files of a check are cut or written over between its reads. A run has to print the right line, or to report the failure with
+status 3: never to crash or to hang. What is left of a set that wasn't made is accepted by a check only if each of its files
+is whole. Prints how many runs passed.
 """
 
 import os
@@ -32,7 +34,7 @@ TELLS = {
 
 
 class Run:
-    """A command of the program, what stands on its standard input, and the line that it owes."""
+    """A command of the program, its standard input, and the expected line."""
 
     def __init__(self, drain, words, line, status=0, stdin=os.devnull):
         self.drain, self.words, self.line, self.status, self.stdin = drain, words, line, status, stdin
@@ -101,8 +103,8 @@ class Faults:
             yield f"{run.words[0]}: {call} {number} {how}", ended
 
     def refused(self, run):
-        """Each call fails, alone and with every later one. What is refused alone may be asked for again in another way; and without memory for lanes
-        a check, an audit and a make try each cell by itself."""
+        """Each call fails, alone and with every later one. A call refused alone may be made again in another way; and without
+        memory for lanes a check, an audit and a make try each cell alone."""
         for call, tells in TELLS.items():
             for how in ("refused", "later"):
                 if call == "open" and run is self.fill or call == "look" and run not in (self.explain, self.explain_object):
@@ -138,7 +140,7 @@ class Faults:
                         self.judge(f"{name} ({file.name})", 0 <= ended[0] <= FAILED and ended[1].startswith(begins), ended)
 
     def look_at_what_is_left(self, run, name, ended):
-        """A set that is told as made is whole, and what a check accepts of another is whole too."""
+        """A set that is reported as made is whole, and what a check accepts of another is whole too."""
         if run not in self.right:
             return
         whole = all(self.same(run, file) for file in FILES)

@@ -22,7 +22,7 @@ want 'failed ReadFailed'
 "$drain" header "$scratch" >"$scratch/out" 2>"$scratch/err"
 judge 'a folder as header file' 3 "$scratch/want" $?
 
-# The longest header, and a byte more, from a pipe that stays open: no byte behind that is waited for.
+# The longest header, and a byte more, from a pipe that stays open: it waits for no byte after that.
 head -c 65536 /dev/zero | tr '\0' '\n' >"$scratch/longest.hdr"
 want 'refused MissingKey NROWS'
 "$drain" header "$scratch/longest.hdr" >"$scratch/out" 2>"$scratch/err"

@@ -1,4 +1,5 @@
-# Runs of `drain make`, and `drain check` on what it made. Read by run.sh behind terrain.sh and check.sh, whose functions it calls.
+# Runs of `drain make`, and `drain check` on its output. Read by run.sh after terrain.sh and check.sh; it calls their
+# functions.
 
 work=$scratch/make
 made=$work/out
@@ -18,19 +19,19 @@ numbers_of_32_bits() {
     python3 -c 'import struct, sys; sys.stdout.buffer.write(struct.pack(f"<{len(sys.argv) - 1}I", *map(int, sys.argv[1:])))' "$@"
 }
 
-# An empty folder for products, beside no tile but the pit.
+# An empty folder for products, and only the tile of the pit.
 make_ground() {
     rm -rf "$work"
     mkdir -p "$made"
     heights 5 5 5 5 1 5 5 5 5 >"$ground"
 }
 
-# Compares one run of the words: its name, the status and the line that are wanted.
+# Compares one run with these arguments: its name, the expected status and line.
 judge_make() {
     judge_words "$1" "$2" "$3" make "${@:4}"
 }
 
-# The same on the pit, with a line that tells of no products, and then the folder is still empty.
+# The same on the pit, with a line without products, and then the folder is still empty.
 judge_nothing_made() {
     judge_make "$@"
     want -
@@ -108,7 +109,7 @@ mkfifo "$made/spl.hdr" "$made/spl.bil"
 judge_make 'made beside pipes for spill parents' 0 "$pit_made" --side 3 --out "$made" "$ground"
 judge_check 'the products made beside pipes for spill parents' 0 "$pit_checked" --side 3 --products "$made" "$ground"
 
-# Real terrain, judged by another program too, with the counts that another maker's products of it have.
+# Real terrain, also checked by another program, with the counts of another maker's products for it.
 real=samples/N36W085.hgt
 make_ground
 judge_make 'real terrain of side 344' 0 'made rows=344 cols=344' --side 344 --out "$made" "$real"
@@ -124,7 +125,7 @@ case $(cat "$scratch/line") in
 esac
 judge_check 'a sum changed that was made of real terrain' 1 "$line" --side 344 --products "$made" "$real"
 
-# The same terrain, lowered so that its heights go from below the sea to above it: nothing but the heights changes.
+# The same terrain, lowered so that its heights go from below the sea to above it: only the heights change.
 make_ground
 mkdir "$work/lowered"
 python3 - "$real" "$work/lowered/N36W085.hgt" <<'PYTHON'
@@ -140,7 +141,7 @@ for name in dir acc bas rnk; do
     judge_file 'lowered terrain' "$made/$name.bil" <"$work/lowered/$name.bil"
 done
 
-# Rough ground of heights from -3 to 3, a void among eleven cells, judged by the other program too.
+# Rough ground of heights from -3 to 3, a void among eleven cells, also checked by the other program.
 for seed in 1 2 3; do
     make_ground
     python3 - "$seed" "$ground" <<'PYTHON'
@@ -172,7 +173,7 @@ numbers_of_32_bits 1442401 >"$scratch/want"
 judge 'the count at the outlet of a funnel' 0 "$scratch/want" 0
 rm -rf "$work"
 
-# Mosaics: a tile missing between two, in either order of the words; a seam that agrees; voids alone.
+# Mosaics: a tile missing between two, in either order of the arguments; a seam that agrees; only voids.
 for order in 'N00E000 N00E002' 'N00E002 N00E000'; do
     make_ground
     heights 0 0 0 0 0 0 0 0 0 | tee "$ground" >"$work/N00E002.hgt"
@@ -245,7 +246,7 @@ judge_nothing_made 'made of a tile that is not there' 3 "failed Open $work/N01E0
 judge_nothing_made 'made of a second tile that is not there' 3 "failed Open $work/x" --side 3 --out "$made" "$ground" "$work/x"
 judge_nothing_made 'made of a folder' 3 'failed ReadFailed' --side 3 --out "$made" "$ground" "$work/N00E001.hgt"
 
-# Files that can't be opened, which is tried behind every refusal.
+# Files that can't be opened, which comes after every refusal.
 for folder in "$work/none" "$work/none/" "$ground"; do
     judge_nothing_made "no folder at $folder" 3 "failed Open ${folder%/}/con.hdr" --side 3 --out "$folder" "$ground"
     judge_nothing_made "a bad tile, and no folder at $folder" 2 'refused BadTileLength N00E000.hgt' --side 2 --out "$folder" "$ground"
@@ -269,7 +270,7 @@ for name in $files; do
     done
 done
 
-# Pipes: for the tile, of which one byte behind its end is waited for, and for a raster, read to its end or not.
+# Pipes: for the tile, whose end needs one byte more, and for a raster, read to its end or not.
 make_ground
 mv "$ground" "$scratch/bytes"
 mkfifo "$ground"

@@ -1,13 +1,13 @@
 #!/usr/bin/env python3
-"""Makes the five products of one tile, or judges such products: slow and plain, for sides up to about 400.
+"""Makes the five products of one tile, or checks such products: slow and plain, for sides up to about 400.
 
 make_products.py [--sinks LIST] SIDE TILE FOLDER             writes con, dir, acc, bas and rnk, each a .hdr and a .bil
-make_products.py --verify [--sinks LIST] SIDE TILE FOLDER    prints the line that `drain check` owes to these rasters
+make_products.py --verify [--sinks LIST] SIDE TILE FOLDER    prints the right line of `drain check` for these rasters
 
 LIST is a file of lines ROW COL, each a data cell that is open too.
 
-Conditioned elevations come from Priority-Flood (Barnes, Lehman and Mulla 2014), which starts at the open cells. Judging
-is written rule by rule from docs/RULES.md and knows nothing of floods; it reads rasters of the form written here alone.
+Conditioned elevations come from Priority-Flood (Barnes, Lehman and Mulla 2014), which starts at the open cells. The check
+is written rule by rule from docs/RULES.md and knows nothing of floods; it reads only rasters of the form written here.
 """
 
 import heapq
@@ -19,7 +19,7 @@ VOID = -32768
 STEPS = {1: (0, 1), 2: (1, 1), 4: (1, 0), 8: (1, -1), 16: (0, -1), 32: (-1, -1), 64: (-1, 0), 128: (-1, 1)}
 STRAIGHT = (1, 4, 16, 64)
 
-# Name, bits of a pixel, whether it is signed, its form for struct, and the number that stands for no data.
+# Name, bits of a pixel, whether it is signed, its form for struct, and the no-data number.
 PRODUCTS = [
     ("con", 16, True, "h", -32768),
     ("dir", 8, False, "B", 255),
@@ -56,7 +56,7 @@ class Terrain:
         return row * self.cols + col if 0 <= row < self.rows and 0 <= col < self.cols else None
 
     def data_neighbors(self, cell):
-        """The neighbours with data, each after the code that leads to it; kept, since every rule asks for them."""
+        """The neighbours with data, each after the code that leads to it; kept, since every rule needs them."""
         if cell not in self.around:
             found = ((code, self.beside(cell, code)) for code in STEPS)
             self.around[cell] = [(code, other) for code, other in found if other is not None and self.z[other] is not None]
@@ -175,7 +175,7 @@ def write(side, tile, products, folder):
 
 
 def read(side, folder):
-    """The numbers of each product as they stand, those for no data too."""
+    """The numbers of each product as they are, no-data numbers too."""
     products = {}
     for name, _, _, form, _ in PRODUCTS:
         with open(os.path.join(folder, name + ".bil"), "rb") as file:

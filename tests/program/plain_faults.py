@@ -12,7 +12,7 @@ SOUND, SOUND_VOID = 0, 255
 
 
 class CheckRules(Rules):
-    """The rules of a check, with the no-data numbers that headers tell."""
+    """The rules of a check, with the no-data numbers of headers."""
 
     def __init__(self, terrain, products, nodata):
         super().__init__(terrain, products)
@@ -20,7 +20,7 @@ class CheckRules(Rules):
 
 
 class Explained:
-    """What there is to tell of products that aren't refused: of five with ranks, of four without."""
+    """What there is to report of products that aren't refused: of five with ranks, of four without."""
 
     def __init__(self, side, folder, sinks, tiles, ranks):
         self.ranks = ranks
@@ -72,7 +72,7 @@ class Explained:
         return STATUSES.index(self.line().split(" ")[0])
 
     def ring_or_lost(self):
-        """The first run without an end: the ring that it comes to, from the cell where it comes to it on, or the cell from which it leads nowhere."""
+        """The first run without an end: the ring that it reaches, from its first cell on, or the cell where it leads nowhere."""
         run, seen = [], {}
         here = self.endless
         while here is not None and here not in seen:

@@ -1,4 +1,4 @@
-"""Reads tiles, headers, rasters and lists of sinks as docs/FORMATS.md tells their forms: slow and plain.
+"""Reads tiles, headers, rasters and lists of sinks in the forms of docs/FORMATS.md: slow and plain.
 
 What can't be read is raised as Refused, with the words that stand behind `refused`.
 """
@@ -18,7 +18,7 @@ PLACE_KEYS = ["ULXMAP", "ULYMAP", "XDIM", "YDIM"]
 NEEDED_KEYS = ["NROWS", "NCOLS", *PLACE_KEYS]
 WORD_KEYS = {"BYTEORDER": ["I", "M"], "LAYOUT": ["BIL", "BIP", "BSQ"]}
 
-# Decimals of a header may have more digits than Python reads by itself.
+# Decimals of a header may have more digits than Python reads by default.
 getattr(sys, "set_int_max_str_digits", int)(0)
 
 
@@ -30,7 +30,7 @@ class Refused(Exception):
 
 
 def corner_of(name):
-    """The latitude and longitude of the corner that a tile's name tells, None where it names no tile."""
+    """The latitude and longitude of the corner in a tile's name, None if it names no tile."""
     found = re.fullmatch(rb"([NS])([0-9]{2})([EW])([0-9]{3})\.HGT", name.upper())
     if not found:
         return None
@@ -98,7 +98,7 @@ class Mosaic:
 
 
 def decimal_of(word):
-    """The number that a decimal tells, None where it is none."""
+    """The number of a decimal, None if it is none."""
     found = re.fullmatch(r"([+-]?)([0-9]*)\.?([0-9]*)(?:[eE]([+-]?[0-9]{1,3}))?", word)
     if not found or not found[2] + found[3]:
         return None
@@ -191,7 +191,7 @@ class Header:
 
 
 def listed_sinks(text):
-    """The cells that a list of sinks names, each a row and a column behind the number of its line."""
+    """The cells that a list of sinks names, each a row and a column after its line number."""
     listed = []
     for number, line in enumerate(text.decode("latin-1").split("\n"), 1):
         words = [word for word in re.split("[ \t]+", line[:-1] if line.endswith("\r") else line) if word]

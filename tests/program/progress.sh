@@ -1,5 +1,5 @@
-# Runs with --progress: standard output and the status are the same, and standard error tells rows to the last, at most two lines in any one second.
-# Read by run.sh behind audit.sh.
+# Runs with --progress: standard output and the status are the same, and standard error reports rows to the last, at
+# most two lines in any one second. Read by run.sh after audit.sh.
 
 told=$scratch/told
 mkdir "$told" "$told/out" "$told/other"

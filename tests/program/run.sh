@@ -12,8 +12,8 @@ trap 'rm -rf "$scratch"' EXIT
 passed=0
 failed=0
 
-# Compares one run: its name, the status and standard output that are wanted, the status that came, and whether standard
-# error is to have text (words) or none (silent). The run has left its streams in $scratch/out and $scratch/err.
+# Compares one run: its name, the expected status and standard output, the actual status, and whether standard error has to
+# have text (words) or none (silent). The run has left its streams in $scratch/out and $scratch/err.
 judge() {
     local name=$1 status=$2 wanted=$3 came=$4 errors=${5:-silent} what=
     [ "$came" = "$status" ] || what+=" status $came for $status;"
@@ -30,7 +30,7 @@ judge() {
     fi
 }
 
-# What is wanted on standard output: a file of expected/ for @NAME, nothing for -, else the one line.
+# The expected standard output: a file of expected/ for @NAME, nothing for -, else the one line.
 want() {
     case $1 in
         @*) cp "$here/expected/${1#@}" "$scratch/want" ;;
@@ -39,7 +39,7 @@ want() {
     esac
 }
 
-# Compares one run of a command without input: its name, the status and the line that are wanted, and its words.
+# Compares one run of a command without input: its name, the expected status and line, and its arguments.
 judge_words() {
     local name=$1 status=$2 line=$3
     shift 3
@@ -66,7 +66,8 @@ done < <(sed -E 's/ *\| */|/g; s/^ +| +$//g' "$here/table.txt")
 . "$here/explain.sh"
 . "$here/progress.sh"
 
-# Adds the runs that another program judged: it prints those that failed, and in its last line 'NAME: N passed, M failed'.
+# Adds the runs that another program checked: it prints those that failed, and in its last line 'NAME: N passed, M
+# failed'.
 add_runs() {
     "$@" >"$scratch/out" 2>"$scratch/err"
     sed '$d' "$scratch/out"
@@ -84,7 +85,7 @@ add_runs "$here/cut_inputs.py" "$drain"
 add_runs "$here/random_audits.py" "$drain"
 add_runs "$here/explain.py" "$drain"
 
-# Calls of the program are made to fail by a library that is loaded before the C library's, so this needs a C compiler. A static
+# A library that is loaded before the C library's makes calls of the program fail, so a C compiler is needed. A static
 # program loads no library.
 is_static() { ! LC_ALL=C readelf -lW "$drain" | grep -qw INTERP; }
 compiler=$(dirname "$(readlink -f "$(command -v rt)")")/../toolchain/bin/clang

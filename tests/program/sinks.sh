@@ -1,15 +1,16 @@
-# Runs of `drain make` and `drain check` with a list of sinks. Read by run.sh behind make.sh, whose functions and files it uses.
+# Runs of `drain make` and `drain check` with a list of sinks. Read by run.sh after make.sh; it uses its functions and
+# files.
 
 list=$work/sinks.txt
 sunk_checked='accepted rows=3 cols=3 data=9 raised=0 outlets=1'
 
-# The pit beside an empty folder, and a list of these lines.
+# The pit with an empty folder, and a list of these lines.
 make_listed() {
     make_ground
     printf '%b' "$1" >"$list"
 }
 
-# Compares a check of the pit with the products that were made: its name, the status and the line that are wanted, and further words.
+# Compares a check of the pit with the products made: its name, the expected status and line, and further arguments.
 judge_listed() {
     judge_check "$1" "$2" "$3" --side 3 --products "$made" "${@:4}" "$ground"
 }
@@ -62,7 +63,7 @@ empty lines alone|\n \r\n\t\n
 listed cells of the edge|0 0\n2 2\n1 0\n
 END
 
-# Lists that are refused: of lines that aren't empty the first bad one is told, and only then one without data.
+# Lists that are refused: the first bad line is reported, ignoring empty lines, and only then one without data.
 while IFS='|' read -r text line; do
     make_listed "$text"
     cp samples/pit-3/*.hdr samples/pit-3/*.bil "$made"
@@ -85,7 +86,7 @@ make_listed '1 1\n\n0 0'
 heights - - - - >"$ground"
 judge_nothing_made 'a listed void' 2 'refused SinkNotData 1' --side 2 --out "$made" --sinks "$list" "$ground"
 
-# A list is judged behind the tiles, and behind the lengths of rasters.
+# A list is checked after the tiles, and after the lengths of rasters.
 make_listed 'x'
 judge_nothing_made 'a bad list and a bad side' 2 'refused BadSide' --side 1 --out "$made" --sinks "$list" "$ground"
 judge_nothing_made 'a bad list and no tile' 2 'refused NoTiles' --side 3 --out "$made" --sinks "$list"
@@ -95,7 +96,7 @@ heights 9 5 4 6 >"$work/N00E001.hgt"
 judge_nothing_made 'a bad list and tiles that differ at a cell' 2 'refused SeamMismatch row=0 col=1' \
     --side 2 --out "$made" --sinks "$list" "$ground" "$work/N00E001.hgt"
 
-# A list that isn't there is told before any refusal: for a check behind the rasters, for the maker behind the tiles.
+# A missing list is reported before any refusal: for a check after the rasters, for the maker after the tiles.
 make_listed ''
 rm "$list"
 cp samples/pit-3/*.hdr samples/pit-3/*.bil "$made"
@@ -128,7 +129,7 @@ judge_make 'made with a list in a pipe' 0 "$pit_made" --side 3 --out "$made" --s
 wait $!
 judge_file 'made with a list in a pipe' "$made/con.bil" <"$scratch/listed/con.bil"
 
-# A list of more than a chunk: its last line alone counts.
+# A list of more than a chunk: only its last line counts.
 make_listed ''
 { yes '0 0' | head -n 20000; echo '1 1'; } >"$list"
 judge_make 'made with a list of 20,001 lines' 0 "$pit_made" --side 3 --out "$made" --sinks "$list" "$ground"
@@ -137,7 +138,7 @@ echo '3 3' >>"$list"
 mkdir "$work/anew"
 judge_make 'a list whose line 20,002 is outside' 2 'refused SinkNotData 20002' --side 3 --out "$work/anew" --sinks "$list" "$ground"
 
-# Real terrain with local minima listed, judged by the other program too.
+# Real terrain with local minima listed, also checked by the other program.
 make_ground
 python3 - samples/jacksboro/N36W085.hgt "$list" <<'PYTHON'
 import struct, sys

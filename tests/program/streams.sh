@@ -21,7 +21,7 @@ want "$pit_line"
 dd if="$pit" bs=1 status=none | timeout 20 "$drain" fill --side 3 >"$scratch/out" 2>"$scratch/err"
 judge 'an input that comes in single bytes' 0 "$scratch/want" $?
 
-# Nothing is taken from the descriptor behind the one byte more.
+# Nothing is read from the descriptor after the one byte more.
 printf '36\n' >"$scratch/want"
 { head -c 36 /dev/zero; cat "$pit"; } >"$scratch/long"
 { "$drain" fill --side 2 >/dev/null; cat | wc -c; } <"$scratch/long" >"$scratch/rest" 2>"$scratch/err"

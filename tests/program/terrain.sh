@@ -1,4 +1,4 @@
-# `drain check` on real terrain, beside make_products.py, which makes products and judges them by the rules. Read by run.sh.
+# `drain check` on real terrain; make_products.py makes products and checks them by the rules. Read by run.sh.
 
 maker=$here/make_products.py
 terrain=$scratch/terrain
@@ -40,7 +40,7 @@ want 'accepted rows=344 cols=344 data=118336 raised=5200 outlets=115'
 timeout 60 "$drain" check --side 344 --products "$scratch/wide" samples/N36W085.hgt </dev/null >"$scratch/out" 2>"$scratch/err"
 judge 'real terrain of side 344' 0 "$scratch/want" $?
 
-# Directions give spill parents and ranks: con is accepted with them by itself, and a metre higher at one cell it isn't.
+# Directions give spill parents and ranks: con is accepted with them alone, and a metre higher at one cell it isn't.
 tools/fill_input.py 121 "$tile" "$terrain" >"$scratch/input" 2>"$scratch/err"
 want 'accepted rows=121 cols=121 data=14641 raised=690'
 timeout 20 "$drain" fill --side 121 <"$scratch/input" >"$scratch/out" 2>>"$scratch/err"

@@ -1,6 +1,6 @@
 //! What no contract says: that the calls of this crate can succeed, over std's readers and writers too, which error
 //! of std becomes which fault, and at which call a scripted device answers what. Sinks mostly have their memory
-//! first, so that want of it is told as such.
+//! first, so that running out of it is reported as such.
 
 use crate::agree::same;
 use drain_device::faults::{ScriptSink, ScriptSource, Scripted, SinkAnswer};
@@ -66,7 +66,7 @@ fn a_list_shows_its_bytes(rt: HostRuntime) -> Result<(), Fail> {
 #[test]
 fn a_vector_takes_all(rt: HostRuntime) -> Result<(), Fail> {
     let mut sink = VecSink::new(b"a ".to_vec(rt.alloc())?);
-    // It fails only for want of memory.
+    // It fails only if memory runs out.
     let Ok(taken) = sink.write_some(TEXT) else {
         return Err(BodyFault::OutOfMemory.into());
     };
@@ -208,7 +208,7 @@ static READS: [(u64, u64, DeviceFault, usize, Result<usize, BodyFault>); 9] = [
     ),
 ];
 
-/// A source of `TEXT` that gives one byte at a call is asked nine times for all of it, the last time for the end.
+/// A source of `TEXT` that gives one byte per call is called nine times for all of it, the last time for the end.
 #[test]
 fn a_read_gives_up_where_its_source_does(rt: HostRuntime) -> Result<(), Fail> {
     for &(first, last, answer, limit, want) in &READS {
@@ -238,8 +238,8 @@ fn a_read_with_no_memory_for_its_limit_reads_nothing(rt: HostRuntime) -> Result<
     Ok(())
 }
 
-/// What a write of `TEXT` answers, one byte at a call; how many bytes were taken, and whether they are its first; and whether the sink tells
-/// that it gave up.
+/// The result of a write of `TEXT`, one byte per call; how many bytes were taken, and whether they are its first; and
+/// whether the sink's counts show a failure for good.
 fn write(
     alloc: Global,
     script: &[Scripted<SinkAnswer>],

@@ -8,7 +8,7 @@ use std::alloc::Global;
 use std::process::Abort;
 use std::test::Fail;
 
-/// Decimals, each with its value in units of 15 digits behind the point; none where it has none.
+/// Decimals, each with its value in units of 15 digits after the point; none if it has none.
 static COORDINATES: [(&str, Option<i128>); 15] = [
     ("-105", Some(-105_000_000_000_000_000)),
     ("1e-3", Some(1_000_000_000_000)),

@@ -63,7 +63,7 @@ fn text(alloc: Global, end: &str, changes: &[(usize, &str)]) -> Result<Vec<u8>, 
     Ok(text)
 }
 
-/// What that text says without its last so many bytes.
+/// The result for that text without its last n bytes.
 fn parsed(
     alloc: Global,
     end: &str,
@@ -75,7 +75,7 @@ fn parsed(
     Ok(parse_header(&bytes[..length]))
 }
 
-/// What is replaced in the lines, and the fault that is told.
+/// What is replaced in the lines, and the expected fault.
 static FAULTS: [(&str, &[(usize, &str)], HeaderFault); 13] = [
     (
         "three bands of four bits",
@@ -137,7 +137,7 @@ fn the_last_faults(rt: HostRuntime) -> Result<(), Fail> {
     Ok(())
 }
 
-/// The lines in small letters, with tabs, and with numbers spelled otherwise.
+/// The lines in small letters, with tabs, and with numbers written differently.
 const SMALL_LETTERS: [(usize, &str); 15] = [
     (1, "\tbyteorder\ti"),
     (2, "layout bsq"),
@@ -175,10 +175,10 @@ fn small_or(fault: Option<HeaderFault>) -> Result<Header, HeaderFault> {
     }
 }
 
-/// A line's end behind further words, and two lines more.
+/// A line's end after further words, and two lines more.
 const MORE: &str = " and more\nmoretext x\n\n";
 
-/// The end of each line, what is replaced in the lines, how many bytes are cut off, and the fault that is told.
+/// The end of each line, what is replaced in the lines, how many bytes are cut off, and the expected fault.
 static SPELLINGS: [(&str, &str, &[(usize, &str)], usize, Option<HeaderFault>); 10] = [
     ("as it is", "\n", &[], 0, None),
     ("carriage returns", "\r\n", &[], 0, None),
@@ -241,7 +241,7 @@ fn a_usual_tool(rt: HostRuntime) -> Result<(), Fail> {
     Ok(())
 }
 
-/// How many line feeds a text has, and the fault that is told.
+/// How many line feeds a text has, and the expected fault.
 static LINE_FEEDS: [(usize, HeaderFault); 3] = [
     (0, HeaderFault::MissingKey(Key::Nrows)),
     (65536, HeaderFault::MissingKey(Key::Nrows)),

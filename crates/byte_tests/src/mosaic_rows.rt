@@ -1,4 +1,4 @@
-//! Rows of two tiles beside one another, worked out by hand, from sources that are whole, slow, interrupted or fail.
+//! Rows of two tiles next to one another, worked out by hand, from sources that are whole, slow, interrupted or fail.
 
 ghost use Rattle.std.specs.Prelude.{◌≡◌, ◌<◌, IfOk, length};
 
@@ -16,7 +16,7 @@ use std::test::Fail;
 /// The samples 1 2 and 3 4.
 pub const WEST: [u8; 8] = [0, 1, 0, 2, 0, 3, 0, 4];
 
-/// The same and a byte behind them.
+/// The same and a byte after them.
 const LONG_WEST: [u8; 9] = [0, 1, 0, 2, 0, 3, 0, 4, 0];
 
 /// The same without their last byte.
@@ -31,7 +31,7 @@ const SHORT_EAST: [u8; 7] = [0, 2, 0, 5, 0, 4, 0];
 /// The same with a 9 in place of the first.
 const OTHER: [u8; 8] = [0, 9, 0, 5, 0, 4, 0, 6];
 
-/// These and a byte behind them.
+/// These and a byte after them.
 const LONG_OTHER: [u8; 9] = [0, 9, 0, 5, 0, 4, 0, 6, 0];
 
 /// The names of a tile and of that east of it.
@@ -51,7 +51,7 @@ pub fn input<'a>(alloc: Global, body: ScriptSource<'a>) -> TileInput<ScriptSourc
     }
 }
 
-/// What a call answers. The numbers that it leaves in the row are put behind those of the calls before.
+/// What a call returns. The numbers that it leaves in the row are appended to those of the calls before.
 fn call(
     rows: &mut MosaicRows,
     from: &mut [TileInput<ScriptSource<'_>>],
@@ -205,7 +205,8 @@ fn rows_of_a_tile_above_another(rt: HostRuntime) -> Result<(), Fail> {
     Ok(())
 }
 
-/// A device that fails at its first, its second or its last call ends the rows, and then no tile is told, though the west tile is too long.
+/// A device that fails at its first, second or last call ends the rows: then no tile is reported, though the west one
+/// is long.
 #[test]
 fn a_device_that_fails(rt: HostRuntime) -> Result<(), Fail> {
     for call in 1..4 {
@@ -240,7 +241,7 @@ fn a_device_that_fails(rt: HostRuntime) -> Result<(), Fail> {
     Ok(())
 }
 
-/// The first answer where the western tile's device is interrupted 999 times, and the eastern one's so many times.
+/// The first answer if the western tile's device is interrupted 999 times, and the eastern one's n times.
 fn interrupted(alloc: Global, times: u64) -> Result<Answer, Fail> {
     let often = [Scripted {
         first: 1,

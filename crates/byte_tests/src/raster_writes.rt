@@ -1,5 +1,5 @@
-//! Writing to sinks that are whole, slow, interrupted or fail, and numbers that pixels can't spell. Sinks have their memory
-//! first, so that want of it is told as such.
+//! Writing to sinks that are whole, slow, interrupted or fail, and numbers that pixels can't encode. Sinks have their
+//! memory first, so that running out of it is reported as such.
 
 ghost use Rattle.std.specs.Prelude.{◌≡◌, IfOk};
 ghost use Rattle.drain_raster.specs.Pixels.{extent_of};
@@ -24,7 +24,7 @@ fn worked(alloc: Global) -> Result<Raster, Fail>
     Ok(read_raster(alloc, Product::Con, &padded(ByteOrdering::Least), &PADDED)?)
 }
 
-/// The bytes that are written of the worked raster, where there are eleven, and the numbers that they spell, where there are four.
+/// The bytes written of the worked raster, if there are eleven, and their numbers, if there are four.
 fn written_and_read_back(alloc: Global) -> Result<(Option<[u8; 11]>, Option<[i64; 4]>), Fail> {
     let raster = worked(alloc)?;
     let header = padded(ByteOrdering::Least);
@@ -170,7 +170,7 @@ fn interruptions_add_up_over_a_write(rt: HostRuntime) -> Result<(), Fail> {
     Ok(())
 }
 
-/// Rows longer than what a call of the sink is lent at once, with as long a part to skip and behind each row.
+/// Rows longer than one call of the sink takes, with as long a part to skip and after each row.
 fn long() -> Header
     ensures { extent_of result ≡ record { rows = 2; cols = 3000 } }
 {
@@ -187,7 +187,8 @@ fn long() -> Header
     }
 }
 
-/// Bytes of that raster: its skipped ones and those behind a row are zeros, and each pixel's are its row, its column and a 7.
+/// Bytes of that raster: its skipped ones and those after a row are zeros, and each pixel's are its row, its column and
+/// a 7.
 fn long_bytes(alloc: Global) -> Result<Vec<u8>, AllocError> {
     let mut bytes = Vec::new(alloc);
     for _ in 0..5000 {
@@ -210,7 +211,7 @@ fn last_of(alloc: Global, raster: &Raster) -> Result<Option<i64>, AllocError> {
     Ok(numbers_of(alloc, raster)?.last().copied())
 }
 
-/// The last number that these bytes spell, and whether the same bytes are written.
+/// The last number of these bytes, and whether the same bytes are written.
 fn read_and_written(alloc: Global, bytes: &[u8]) -> Result<(Option<i64>, bool), Fail> {
     let header = long();
     let raster = read_raster(alloc, Product::Acc, &header, bytes)?;

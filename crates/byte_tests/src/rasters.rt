@@ -1,4 +1,4 @@
-//! Worked rasters: bytes with the numbers that they spell, and numbers with their bytes, each worked out by hand.
+//! Worked rasters: bytes with their numbers, and numbers with their bytes, each worked out by hand.
 
 ghost use Rattle.std.specs.Prelude.{◌≡◌, IfOk, IfSome};
 ghost use Rattle.drain_raster.specs.Pixels.{extent_of};
@@ -12,7 +12,7 @@ use drain_raster::{RasterFault, WriteFault, read_raster, write_raster};
 use std::alloc::{AllocError, Global};
 use std::test::Fail;
 
-/// Two by two pixels of 16 bits, a byte to skip, and one behind each row.
+/// Two by two pixels of 16 bits, a byte to skip, and one after each row.
 pub const PADDED: [u8; 10] = [0xff, 1, 0, 0xfe, 0xff, 0xaa, 0, 0x80, 2, 0];
 
 pub const NOWHERE: Place = Place {
@@ -80,7 +80,7 @@ pub fn raster_of(
     Ok(Some(Raster::new(shape, 0, Vec::from_slice(alloc, numbers)?)))
 }
 
-/// The raster's numbers, row by row, where there are so many; else none.
+/// The raster's numbers, row by row, if there are this many; else none.
 pub fn numbers_in<const N: usize>(
     alloc: Global,
     raster: &Raster,
@@ -134,7 +134,7 @@ fn four_numbers(alloc: Global, bytes: &[u8]) -> Result<Result<[i64; 4], RasterFa
     }
 }
 
-/// Its last pixel ends at byte 10; the byte behind its last row isn't needed, nor looked at.
+/// Its last pixel ends at byte 10; the byte after its last row isn't needed, and is ignored.
 #[test]
 fn a_raster_is_short_before_its_last_pixel_ends(rt: HostRuntime) -> Result<(), Fail> {
     let mut bytes = [0xaa; 16];
@@ -184,7 +184,7 @@ fn the_no_data_number_is_that_of_the_header_or_the_product(rt: HostRuntime) -> R
 /// A pixel's bits and sign, a number, and its bytes with the least significant first and with the most significant first.
 type Spelling = (u8, bool, i64, [u8; 4], [u8; 4]);
 
-/// The least and the greatest number of each kind of pixel; behind a pixel stand zeros.
+/// The least and the greatest number of each kind of pixel; after a pixel come zeros.
 static BOUNDS: [Spelling; 12] = [
     (8, false, 0, [0, 0, 0, 0], [0, 0, 0, 0]),
     (8, false, 255, [0xff, 0, 0, 0], [0xff, 0, 0, 0]),
@@ -212,7 +212,7 @@ static BOUNDS: [Spelling; 12] = [
     ),
 ];
 
-/// What is written of a raster, where there is room for so many bytes at first.
+/// What is written of a raster, with room for this many bytes at first.
 pub fn written(
     alloc: Global,
     header: &Header,
@@ -226,7 +226,7 @@ pub fn written(
     Ok(sink.into_inner())
 }
 
-/// The one number that the bytes spell, and the four bytes that are written of it; none where there are more or fewer.
+/// The one number of the bytes, and the four bytes that are written of it; none if there are more or fewer.
 fn spelled(
     alloc: Global,
     header: &Header,
@@ -272,7 +272,7 @@ fn refused(
     Ok((written, sink.as_slice().len()))
 }
 
-/// Numbers outside the bounds of a pixel of so many bits, with or without a sign.
+/// Numbers outside the bounds of a pixel of this many bits, signed or not.
 static OUTSIDE: [(u8, bool, i64); 12] = [
     (8, false, -1),
     (8, false, 256),

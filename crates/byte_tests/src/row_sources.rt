@@ -15,7 +15,7 @@ use std::test::Fail;
 /// Two rows of two samples.
 pub const TILE: [u8; 8] = [0x00, 0x01, 0x80, 0x00, 0xff, 0xff, 0x7f, 0xff];
 
-/// The same and a byte behind them.
+/// The same and a byte after them.
 const LONG_TILE: [u8; 9] = [0x00, 0x01, 0x80, 0x00, 0xff, 0xff, 0x7f, 0xff, 0x00];
 
 /// The same without their last byte.
@@ -71,7 +71,7 @@ pub fn first<const N: usize>(numbers: &[i64]) -> [i64; N] {
     first
 }
 
-/// The answers to four calls, and the numbers that each call left in the vector, one call's behind the other's.
+/// The answers to four calls, and the numbers that each call left in the vector, one call's after the other's.
 fn four_calls<'a, S: RowSource<ScriptSource<'a>>>(
     alloc: Global,
     rows: &mut S,

@@ -1,4 +1,5 @@
-//! Calls that come after one that found no memory: they give what is right. Of itself memory is there; `tests/refuse_memory.c` refuses it.
+//! Calls after one that ran out of memory give the right result. Alone, the tests have memory; `tests/refuse_memory.c`
+//! refuses it.
 
 ghost use Rattle.std.specs.Prelude.{◌≡◌, IfOk, length};
 
@@ -121,7 +122,7 @@ fn first_six(elevation: &Elevation) -> [i16; 6] {
     heights
 }
 
-/// A tile's samples. Their want of memory is told as that of a join.
+/// A tile's samples. Running out of memory is reported as that of a join.
 fn tile_of(alloc: Global, samples: [i16; 4]) -> Result<Vec<i16>, SeamFault>
     ensures { IfOk result (λ tile. length tile.items ≡ 4) }
 {
@@ -159,7 +160,7 @@ type Answer = Result<RowStep, ReadFault>;
 /// What five calls answer, memory being granted again before the last, and whether it gave out.
 type Answers = ([Answer; 5], bool);
 
-/// What five calls owe: two rows and then the end; where memory gave out, some rows, a word of it, and nothing after that.
+/// Expected of five calls: two rows and then the end; if memory ran out, some rows, that error, and nothing after it.
 fn owed_answers(given: &Answers) -> [Answer; 5] {
     let (answers, gave_out) = given;
     let ended = Ok(RowStep::Ended);
@@ -229,7 +230,7 @@ fn rows_of_a_raster_after_refused_memory(rt: HostRuntime) -> Result<(), Fail> {
     Ok(())
 }
 
-/// New rows of two tiles of side 2. Want of memory is told as that of their first row.
+/// New rows of two tiles of side 2. Running out of memory is reported as that of their first row.
 fn rows_of_pair(alloc: Global, names: [TileName; 2]) -> Result<MosaicRows, ReadFault>
     ensures { IfOk result (λ rows. length rows.tiles.items ≡ 2) }
 {

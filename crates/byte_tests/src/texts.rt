@@ -4,7 +4,7 @@ use crate::agree::same;
 use drain_text::{first_line, first_word, whole_number};
 use std::test::Fail;
 
-/// Texts, each with its first line and what is behind that.
+/// Texts, each with its first line and what follows it.
 static TEXTS: [(&str, &[u8], Option<&[u8]>); 8] = [
     ("", b"", None),
     ("a b", b"a b", None),
@@ -24,7 +24,7 @@ fn first_lines(rt: HostRuntime) -> Result<(), Fail> {
     Ok(())
 }
 
-/// Lines, each with its first word and what is behind that.
+/// Lines, each with its first word and what follows it.
 static WORDS: [(&str, Option<(&[u8], &[u8])>); 5] = [
     ("", None),
     (" \t ", None),

@@ -4,7 +4,7 @@ use drain_grid::Rule;
 use std::fmt::Debug;
 use std::process::Abort;
 
-/// Ends the test where the two differ, and tells of which case they are.
+/// Ends the test if the two differ, and reports the case.
 pub fn same<C: Debug + Drop, T: PartialEq + Debug + Drop>(
     rt: &impl Abort,
     case: C,

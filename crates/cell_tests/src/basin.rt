@@ -94,7 +94,8 @@ fn far_apart(number: u8) -> i64 {
     i64::from(number) * 16
 }
 
-/// Enough labels that the tree of words grows. Where a call finds no memory, those admitted before are told without any, and it is made again.
+/// Enough labels that the tree of words grows. A call that runs out of memory keeps the earlier labels, and is made
+/// again.
 #[test]
 fn holds_its_labels_after_refused_memory(rt: HostRuntime) -> Result<(), Fail> {
     let mut labels = OutletLabels::new(rt.alloc());

@@ -1,4 +1,4 @@
-//! What runs come to that don't end, worked out by hand.
+//! Where runs without an end lead, worked out by hand.
 
 use crate::agree::same;
 use crate::run_grids::endless_run;

@@ -10,7 +10,7 @@ use drain_grid::{CellValues, Patch, Rule};
 use std::process::Abort;
 use std::test::Fail;
 
-/// What stands beside the cell.
+/// The values next to the cell.
 #[derive(Clone, Copy)]
 enum Beside {
     Rim,
@@ -58,7 +58,8 @@ fn is_above_ground(patch: &Patch) -> bool
     }
 }
 
-/// The first of the rules after BelowGround that fails, spill parents aside. Where the cell is below its ground, they aren't asked.
+/// The first of the rules after BelowGround that fails, spill parents aside. They aren't checked if the cell is below
+/// ground.
 fn fault_above(patch: &Patch) -> Option<Option<Rule>> {
     if is_above_ground(patch) {
         Some(fault_above_profile2(patch))
@@ -90,7 +91,7 @@ const RANK: Option<Rule> = Some(Rule::SpillRank);
 
 const NOT_LEAST: Option<Rule> = Some(Rule::NotLeast);
 
-/// What stands in the east, the numbers con, spl and rnk, and the rule that fails with spill parents and without.
+/// The values in the east, the numbers con, spl and rnk, and the rule that fails with spill parents and without.
 static PIT: [(&str, Beside, i64, i64, i64, Option<Rule>, Option<Rule>); 25] = [
     ("a filled pit", Rim, 5, 1, 1, None, None),
     ("under its ground", Sunk, 5, 1, 1, None, None),
@@ -119,7 +120,8 @@ static PIT: [(&str, Beside, i64, i64, i64, Option<Rule>, Option<Rule>); 25] = [
     ("as a void", Void, -32768, 1, 1, BELOW, BELOW),
 ];
 
-/// The code of the spill parent and the rank stand before the rule that fails with spill parents, and that which fails without.
+/// The code of the spill parent and the rank, then the rule that fails with spill parents, and that which fails
+/// without.
 #[test]
 fn cells_in_a_pit(rt: HostRuntime) -> Result<(), Fail> {
     for &(name, east, con, spl, rnk, wanted, without_spill) in &PIT {
@@ -133,10 +135,10 @@ fn cells_in_a_pit(rt: HostRuntime) -> Result<(), Fail> {
     Ok(())
 }
 
-/// The greatest number that a pixel spells.
+/// The greatest number of a pixel.
 const MOST: i64 = 4294967295;
 
-/// An elevation, the numbers con, spl and rnk, what stands beside the cell, and the rule that fails.
+/// An elevation, the numbers con, spl and rnk, the values next to the cell, and the rule that fails.
 static AT_BOUNDS: [(&str, Option<i16>, i64, i64, i64, Beside, Option<Rule>); 5] = [
     ("a void", None, -32768, 255, MOST, Least, None),
     ("a void with numbers", None, 0, 3, 0, Outside, None),
@@ -190,7 +192,7 @@ fn places_below_the_ground(rt: HostRuntime) -> Result<(), Fail> {
     Ok(())
 }
 
-/// The first place below the ground among so many sevens, at most 67, two of which are sixes.
+/// The first place below the ground among n sevens, at most 67, two of which are sixes.
 fn first_of_two(len: usize, place: usize, second: usize) -> Option<Option<usize>>
     requires place { place < 67 }
     requires second { second < 67 }

@@ -11,7 +11,7 @@ type Told = [Option<Rule>; 2];
 /// It fails with ranks and without.
 const FAILS: Told = [Some(Rule::FlatStep); 2];
 
-/// It fails with ranks alone.
+/// It fails only with ranks.
 const BY_RANK: Told = [Some(Rule::FlatStep), None];
 
 /// It holds.
@@ -87,7 +87,7 @@ fn cells_of_a_flat(rt: HostRuntime) -> Result<(), Fail> {
     Ok(())
 }
 
-/// What stands in the east of a cell of rank 3.
+/// The values in the east of a cell of rank 3.
 #[derive(Clone, Copy)]
 enum East {
     Near,
@@ -115,7 +115,7 @@ fn east_values(east: East) -> Option<CellValues> {
     }
 }
 
-/// Codes beside what stands in the east, each with what the rule says.
+/// Codes next to the values in the east, each with the rule's result.
 static DIRECTIONS: [(&str, i64, East, Told); 16] = [
     ("nearer", 1, East::Near, HOLDS),
     ("equal rank", 1, East::Equal, BY_RANK),

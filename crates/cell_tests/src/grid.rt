@@ -176,7 +176,7 @@ pub fn values(
     }
 }
 
-/// The names of the products in their order, and the numbers that stand for no data.
+/// The names of the products in their order, and their default no-data numbers.
 static DEFAULTS: [(&str, i64); 6] = [
     ("con", -32768),
     ("dir", 255),
@@ -206,7 +206,7 @@ fn products_and_their_defaults(rt: HostRuntime) {
     }
 }
 
-/// A set holds all of them but spill parents, in their order.
+/// A set has all of them but spill parents, in their order.
 #[test]
 fn products_that_a_set_holds(rt: HostRuntime) {
     let given = Held::ALL.map(|held| held.product().name());

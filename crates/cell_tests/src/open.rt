@@ -1,5 +1,5 @@
-//! Data cells that are listed as sinks are open at each rule that asks, and voids are not; each cell with what the rules of three crates say
-//! of it, listed and not. Its neighbours stand at height 5 with rank 0.
+//! Data cells that are listed sinks are open for each rule that looks, and voids are not. Each cell has the results of
+//! the rules of three crates, listed and not. Its neighbours have height 5 and rank 0.
 
 use crate::agree::same;
 use drain_fill::{fault as fill_fault, fault_profile2};
@@ -17,7 +17,7 @@ type Faults = [Option<Rule>; 4];
 /// Whether a cell is open, and which of these rules fail.
 type Told = (bool, Faults);
 
-/// What is told of a cell whose neighbours are listed or not.
+/// The results for a cell whose neighbours are listed or not.
 fn told_beside(here: CellValues, are_listed: bool) -> Told {
     let beside = CellValues::new(Some(5), are_listed, 5, 0, 0, 0, 0, 0);
     let patch = Patch {
@@ -33,7 +33,7 @@ fn told_beside(here: CellValues, are_listed: bool) -> Told {
     (patch.is_open(), faults)
 }
 
-/// What is told of a cell of these numbers that is listed or not, as its neighbours are.
+/// The results for a cell of these numbers that is listed or not, as its neighbours are.
 fn told((z, numbers): Numbers, is_listed: bool, are_listed: bool) -> Option<Told> {
     let [con, dir, spl, rnk] = numbers;
     match CellValues::new(z, is_listed, con, dir, 0, 0, spl, rnk) {

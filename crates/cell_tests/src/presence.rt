@@ -10,7 +10,7 @@ use std::test::Fail;
 /// The first rule that fails with spill parents, without, and without ranks too.
 type Told = [Option<Rule>; 3];
 
-/// What is told of a cell with this in each direction.
+/// The results for a cell with this in each direction.
 fn told(here: CellValues, beside: Option<CellValues>) -> Told {
     let patch = Patch {
         here,
@@ -24,7 +24,7 @@ fn told(here: CellValues, beside: Option<CellValues>) -> Told {
     ]
 }
 
-/// Ends the test where something else is told of a cell of these numbers, whatever stands beside it.
+/// Ends the test if a cell of these numbers has another result, whatever is next to it.
 fn same_presence(
     rt: &impl Abort,
     name: &str,
@@ -49,13 +49,13 @@ const BAD_CODE: Told = [Some(Rule::BadCode); 3];
 /// The number for no rank.
 const UNRANKED: i64 = 4294967295;
 
-/// It fails with spill parents alone.
+/// It fails only with spill parents.
 const SPILL: Told = [Some(Rule::VoidCell), None, None];
 
-/// It fails with ranks alone.
+/// It fails only with ranks.
 const RANK: Told = [Some(Rule::VoidCell), Some(Rule::VoidCell), None];
 
-/// Numbers of a void, each with what is told of them.
+/// Numbers of a void, each with its result.
 static OF_VOIDS: [(&str, [i64; 6], Told); 11] = [
     ("the six numbers", [-32768, 255, 0, 0, 255, UNRANKED], NONE),
     ("a height", [0, 255, 0, 0, 255, UNRANKED], VOID_CELL),
@@ -86,7 +86,7 @@ const NO_NUMBER: Option<Rule> = Some(Rule::Missing);
 
 const NO_CODE: Option<Rule> = Some(Rule::BadCode);
 
-/// Numbers of a data cell, each with what is told of them.
+/// Numbers of a data cell, each with its result.
 static OF_DATA: [(&str, [i64; 6], Told); 17] = [
     ("an outlet", [5, 0, 1, 1, 0, 0], NONE),
     ("a spill parent", [5, 64, 1, 1, 128, 2], NONE),

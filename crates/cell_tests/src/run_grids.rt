@@ -1,4 +1,4 @@
-//! Grids of worked directions, and what is asked of their runs.
+//! Grids of worked directions, and questions about their runs.
 
 ghost use Rattle.std.specs.Prelude.{◌≡◌, ◌<◌, IfOk};
 
@@ -7,7 +7,7 @@ use drain_runs::{CellFlows, CertifyRefusal, EndlessRun, steps_of};
 use std::alloc::Global;
 use std::test::Fail;
 
-/// What stands for no rank.
+/// Means no rank.
 pub const NONE: i64 = 4_294_967_295;
 
 /// The directions of a grid.
@@ -108,7 +108,7 @@ pub fn first_endless(
     Ok(flows.first_endless(grid.shape))
 }
 
-/// What the run of this cell comes to where it doesn't end, on the same grid.
+/// Where the run of this cell leads if it doesn't end, on the same grid.
 pub fn endless_run(
     alloc: Global,
     rows: u32,
@@ -132,7 +132,7 @@ fn endless_of(
     if flows.len() != shape.cells() || start.row >= shape.rows() || start.col >= shape.cols() {
         return Err("a flow for each cell, and one of them".into());
     }
-    // flows no longer tell the codes of runs that end
+    // flows no longer have the codes of runs that end
     let _first = flows.first_endless(shape);
     if flows.len() != shape.cells() {
         return Err("as many flows".into());

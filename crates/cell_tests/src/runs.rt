@@ -1,4 +1,4 @@
-//! Runs of worked directions, worked out by hand from the definitions: how many steps each makes, and which is the first without an end.
+//! Runs of worked directions, worked out by hand from the definitions: their steps, and the first without an end.
 
 use crate::agree::same;
 use crate::run_grids::{NONE, are_ranks, certified, first_endless, to_and_fro};

@@ -32,7 +32,7 @@ fn lines(entries: &[(u64, u32, u32)]) -> Listed {
     Ok((entries.len(), first))
 }
 
-/// Ends the test where the two differ, and tells of which case they are.
+/// Ends the test if the two differ, and reports the case.
 fn same_list(rt: &impl Abort, case: &[u8], given: Listed, wanted: Listed) {
     assert_eq!(rt; given, wanted, "{case:?}");
 }
@@ -323,7 +323,7 @@ fn faults_of_lists_as_texts(rt: HostRuntime) -> Result<(), Fail> {
     Ok(())
 }
 
-/// Twelve lines that list a cell, with empty ones between: so what is held grows more than once.
+/// Twelve lines that list a cell, with empty ones between: so the buffers grow more than once.
 const TWELVE: &str = "0 0\n\n1 1\n2 2\n3 3\n4 4\n5 5\n\n6 6\n7 7\n8 8\n9 9\n10 10\n11 11\n";
 
 #[test]
@@ -335,7 +335,7 @@ fn a_list_after_refused_memory(rt: HostRuntime) {
     same_list(&rt, b"again", listed(rt.alloc(), TWELVE.as_bytes()), right);
 }
 
-/// A bad line behind good ones: it is told, but where memory gave out before it.
+/// A bad line after good ones: it is reported, unless memory ran out before it.
 #[test]
 fn a_bad_line_after_refused_memory(rt: HostRuntime) {
     let text = b"0 0\n1 1\n2 2\n3 3\n4 4\n5 5\n6 6\n7 7\n8 8\n9\n";

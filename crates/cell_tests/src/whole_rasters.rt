@@ -1,4 +1,4 @@
-//! What rasters, product sets and elevations that are held whole tell, and the patches that they show.
+//! Values of whole rasters, product sets and elevations, and the patches that they show.
 
 ghost use Rattle.std.specs.Prelude.{◌≡◌, IfOk};
 
@@ -21,7 +21,7 @@ fn two_by_two(alloc: Global, shape: Shape, numbers: [u16; 4]) -> Result<Raster, 
     Ok(Raster::new(shape, -1, pixels))
 }
 
-/// Products whose numbers tell the product, by their tens, and the cell.
+/// Products whose numbers show the product, by their tens, and the cell.
 fn numbered(alloc: Global, shape: Shape) -> Result<ProductSet, AllocError>
     requires { shape ≡ record { rows = 2; cols = 2 } }
     ensures { IfOk result (λ products. products.con.extent ≡ shape) }
@@ -52,7 +52,7 @@ static BESIDE_THE_SECOND: [(Direction, Option<i16>, [i64; 6]); 3] = [
     (Direction::South, Some(9), [13, 23, 33, 43, 0, 53]),
 ];
 
-/// Of spill parents, which no set holds, they show 0.
+/// For spill parents, which no set holds, they give 0.
 #[test]
 fn what_whole_rasters_show(rt: HostRuntime) -> Result<(), Fail> {
     let patch = numbered_patch(rt.alloc(), &Sinks::none(rt.alloc()))?;
@@ -109,7 +109,8 @@ fn number(raster: &Raster, cell: Cell) -> Option<i64> {
     }
 }
 
-/// What a product set tells: con's shape, con's number at the second cell and that of each raster, and the number for no data of each product.
+/// A product set's values: con's shape, con's number at the second cell and that of each raster, and each no-data
+/// number.
 fn numbers_told(alloc: Global) -> Result<(Shape, [Option<i64>; 6], NoData), Fail> {
     let Some(shape) = Shape::new(2, 2) else {
         return Err("a shape".into());
@@ -127,7 +128,7 @@ fn numbers_told(alloc: Global) -> Result<(Shape, [Option<i64>; 6], NoData), Fail
     Ok((products.con.shape(), numbers, products.nodata()))
 }
 
-/// Of spill parents, which no set holds, the number for no data is the default one.
+/// For spill parents, which no set holds, the no-data number is the default one.
 #[test]
 fn what_a_product_set_tells(rt: HostRuntime) -> Result<(), Fail> {
     let (shape, numbers, nodata) = numbers_told(rt.alloc())?;
@@ -140,7 +141,7 @@ fn what_a_product_set_tells(rt: HostRuntime) -> Result<(), Fail> {
     Ok(())
 }
 
-/// What elevations tell: their shape, and the heights of their two cells, of which one is a void.
+/// Elevations: their shape, and the heights of their two cells, of which one is a void.
 fn heights_told(alloc: Global) -> Result<(Shape, [Option<i16>; 2]), Fail> {
     let Some(shape) = Shape::new(1, 2) else {
         return Err("a shape".into());

@@ -1,12 +1,10 @@
 //! The rule of the accumulation at a cell: Accumulation.
 //!
 //! A cell's accumulation is 1, for the cell, plus that of each data neighbour whose direction names it. It is a crate
-//! of
-//! its own because no other rule adds numbers up. One call looks at one cell and takes no memory.
+//! of its own because no other rule adds numbers up. One call looks at one cell and takes no memory.
 //!
 //! Source: flow accumulation over D8 directions (O'Callaghan and Mark 1984), the cell itself counted; that voids and
-//! the
-//! outside pass on nothing, whatever their pixels are, is this project's own.
+//! the outside pass on nothing, whatever their pixels are, is this project's own.
 #![tactic(auto)]
 
 ghost use Rattle.std.specs.Prelude.{◌≡◌, ◌≤ℤ◌, ◌&&◌, is_some, ◌+ℤ◌, ◌-ℤ◌, drop, map, neg_ℤ, pos};

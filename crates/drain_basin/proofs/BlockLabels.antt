@@ -45,7 +45,7 @@ bit_apart old new block bit q r within put apart =
       | inr other ↦ ap (λ n. bit_at n r) (word_apart old new block _ q put other)
     ]
 
--- block and bit tell a place
+-- block and bit give a place
 same_place : (m n : ℕ) → m / 16 ≡ n / 16 → m % 16 ≡ n % 16 → m ≡ n
 same_place m n blocks bits = omega arith
 

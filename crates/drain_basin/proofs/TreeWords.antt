@@ -1,4 +1,4 @@
--- What the word that a tree has for a label's block tells of the label, and what is admitted once its bit is written.
+-- What a tree's word for a label's block says of the label, and what is admitted once its bit is written.
 use Rattle.std.proofs.Common.{◌≡◌, ◌≢◌, ◌<◌, ◌/◌, ◌%◌, ◌^◌, ℕ, ℤ, cond, List, None, Some, nat_eq, unwrap_or, bit_and, FitsSigned, IsTrue, ◌↔◌, ◌⊎◌, sym, ◌∙◌, ap, subst, arith, w64, of_z, to_z}
 use Rattle.std.specs.BTreeMap.{is_at}
 use Rattle.std.specs.Int.{bit_at, cast_unsigned}

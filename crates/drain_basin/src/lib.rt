@@ -1,9 +1,8 @@
 //! The rules of basin labels: Label at a cell, and the labels of outlets for SharedLabel.
 //!
 //! A basin is all that drains to one outlet. Label passes a cell's label on along its direction, and SharedLabel
-//! requires
-//! that no two outlets have one label. The second is about the whole grid, so it needs a set of the outlets' labels so
-//! far.
+//! requires that no two outlets have one label. The second is about the whole grid, so it needs a set of the outlets'
+//! labels so far.
 //!
 //! Source: basins of D8 directions (O'Callaghan and Mark 1984); the rules are this project's own.
 #![tactic(auto)]

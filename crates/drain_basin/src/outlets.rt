@@ -11,10 +11,8 @@ use std::marker::Model;
 /// A set of labels. In contracts `IsAdmitted` says whether a label was admitted.
 ///
 /// Neighbouring labels share a word, since makers number outlets one after the other, or by their cells. The words are
-/// in
-/// a tree, so for any labels a call takes logarithmic time, and they are short, since a node of a tree can be half
-/// empty:
-/// with many labels, each takes at most 28 bytes.
+/// in a tree, so for any labels a call takes logarithmic time, and they are short, since a node of a tree can be half
+/// empty: with many labels, each takes at most 28 bytes.
 #[derive(Drop)]
 pub struct OutletLabels {
     /// For each block of 16 labels, a word with a bit for each of them: 1 if it was admitted. A block without admitted

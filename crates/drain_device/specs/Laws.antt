@@ -3,6 +3,6 @@ use Rattle.std.specs.Prelude.{◌≡◌, ℕ, ℤ, List}
 use Rattle.drain_device.specs.ComingRows.{Coming, IsNthRow, after_rows}
 use Rattle.drain_device.specs.ComingRows.Coming.{Next}
 
--- where so many rows came, a row that comes is the next one
+-- after n rows, a row that comes is the next one
 abbrev pub RowsComeInOrder : Type 0
 RowsComeInOrder = (start now left : Coming) (n : ℕ) (row : List ℤ) → now ≡ after_rows n start → now ≡ Next row left → IsNthRow start n row left

@@ -28,7 +28,7 @@ by_rule P a b c d e f g h i j k l m n o Accumulation = m
 by_rule P a b c d e f g h i j k l m n o Label = n
 by_rule P a b c d e f g h i j k l m n o SharedLabel = o
 
--- flags that tell of each rule of a patch whether it fails
+-- flags that say of each rule of a patch whether it fails
 pub tells_each : (P : Rule → Type 0) (flags : PerRule Bool) → TellsFault flags.void_cell (P VoidCell) → TellsFault flags.missing (P Missing) →
     TellsFault flags.bad_code (P BadCode) → TellsFault flags.below_ground (P BelowGround) → TellsFault flags.open_raised (P OpenRaised) →
     TellsFault flags.no_spill (P NoSpill) → TellsFault flags.spill_height (P SpillHeight) → TellsFault flags.spill_rank (P SpillRank) →

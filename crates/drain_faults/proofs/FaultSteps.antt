@@ -1,4 +1,4 @@
--- What was found, with one cell more or a run of cells that a row vouches for; and from row to row.
+-- What was found, with one cell more or a run of cells that a row clears; and from row to row.
 use Rattle.std.proofs.Common.{◌≡◌, ℕ, zero, suc, ◌+◌, ◌-◌, ◌<◌, ◌≤◌, refl, sym, ◌∙◌, ap, subst, arith}
 use Rattle.drain_basin.specs.Admitted.{IsAdmitted}
 use Rattle.drain_grid.specs.declared.cell.Cell.{Cell}
@@ -25,7 +25,7 @@ use Rattle.drain_faults.proofs.FirstPatches.{patch_noted, patch_past}
 use Rattle.drain_faults.proofs.Flags.{noted_same}
 use Rattle.drain_faults.proofs.NumbersWithout.{holding_more, noted_more}
 
--- every rule holds at a cell that is vouched for
+-- every rule holds at a cleared cell
 pub kept_holds : (profile : Profile) (g : Grid) (ps : Products) (c : Cell) → IsKept profile (patch_at g ps c) → (r : Rule) → HoldsAt profile g ps c r
 kept_holds profile g ps c kept SharedLabel = λ here code. absurd (kept.no_outlet code)
 kept_holds profile g ps c kept r = kept.holds r (omega arith, omega arith)
@@ -52,7 +52,7 @@ module _ (profile : Profile) (g : Grid) (ps : Products) (row cols : ℕ) (shown 
         before = AreLabelsBefore-row g ps row found.labels whole.before;
       }
 
-  -- one cell more that is vouched for
+  -- one more cleared cell
   kept_one : (found : Found) (col : ℕ) → col < cols → IsKept profile (shown col) → IsFoundBefore profile g ps row col found →
       IsFoundBefore profile g ps row (col + 1) found
   kept_one found col less kept so_far =
@@ -77,7 +77,7 @@ module _ (profile : Profile) (g : Grid) (ps : Products) (row cols : ℕ) (shown 
       let next : from + n + 1 ≡ from + suc n = omega arith in
       subst (λ col. IsFoundBefore profile g ps row col found) next (kept_one found (from + n) (omega (arith, within)) (kept (from + n) (omega arith) (omega arith)) before)
 
-  -- the cells that a row vouches for
+  -- the cells that a row clears
   pub found_kept : (found : Found) (from end : ℕ) → from ≤ end → end ≤ cols → ((col : ℕ) → from ≤ col → col < end → IsKept profile (shown col)) →
       IsFoundBefore profile g ps row from found → IsFoundBefore profile g ps row end found
   found_kept found from end forward within kept so_far =

@@ -9,12 +9,12 @@ use Rattle.drain_faults.specs.declared.rule_faults.RuleFaults.{RuleFaults}
 use Rattle.drain_faults.specs.CellFaults.{IsNotedAt, IsWith}
 use Rattle.drain_faults.specs.Flags.{TellsFault}
 
--- a test that a rule holds tells, turned round, whether it fails
+-- the negation of a test that a rule holds says whether it fails
 pub tells_not : (b : Bool) (P : Type 0) → IsTrue b ↔ P → TellsFault (not b) P
 tells_not true P test = test.0 refl
 tells_not false P test = λ holds. false≢true (test.1 holds)
 
--- what tells it of a fact tells it of one that holds alike
+-- a flag of a fact is one of an equivalent fact
 pub tells_same : (b : Bool) (P Q : Type 0) → P ↔ Q → TellsFault b P → TellsFault b Q
 tells_same true P Q same fails = λ holds. fails (same.1 holds)
 tells_same false P Q same holds = same.0 holds
@@ -24,7 +24,7 @@ pub tells_iff : (b : Bool) (P : Type 0) → TellsFault b P → (b ≡ false) ↔
 tells_iff true P fails = (λ e. absurd (true≢false e), λ holds. absurd (fails holds))
 tells_iff false P holds = (λ e. holds, λ h. refl)
 
--- whether the least fault is this rule tells whether it fails, where no lesser one's fault hides that it fails
+-- a rule fails exactly where it is the least fault, if no lesser rule's fault can hide it
 pub tells_least : (IsOwn P : Rule → Type 0) (r : Rule) (o : Option Rule) (b : Bool) → IsOwn r →
     ((q : Rule) → IsOwn q → number_of q < number_of r → ¬ P q → P r) → IsLeastFault IsOwn P o → IsTrue b ↔ (o ≡ Some r) → TellsFault b (P r)
 tells_least IsOwn P r None true own hides least test = absurd (let is : None ≡ Some r = test.0 refl in cc)
@@ -42,7 +42,7 @@ tells_least IsOwn P r (Some q) false own hides least test =
       ]
     ]
 
--- a cell is noted as its flag tells
+-- a cell is recorded by its flag
 pub noted_by : (b : Bool) (P : Type 0) (cell : Cell) (old new : RuleFaults) → TellsFault b P → IsWith cell b old new → IsNotedAt P cell old new
 noted_by true P cell old new tells with = inr (tells, with)
 noted_by false P cell old new tells with = inl (tells, with)

@@ -1,4 +1,4 @@
--- The numbers of a map, with one cell more or a run of cells that a row vouches for; and from row to row.
+-- The numbers of a map, with one cell more or a run of cells that a row clears; and from row to row.
 use Rattle.std.proofs.Common.{◌≡◌, ℕ, zero, suc, ◌+◌, ◌-◌, ◌<◌, ◌≤◌, is_some, List, [], ◌∷◌, ◌++◌, Option, Some, None, sym, ◌∙◌, ap, subst, arith, append_assoc}
 use Rattle.std.specs.Prelude.{replicate, ◌↔◌, IsSome}
 use Rattle.std.proofs.lemmas.List.{append-nil}
@@ -58,13 +58,13 @@ module _ (profile : Profile) (g : Grid) (ps : Products) (row cols : ℕ) (shown 
       subst (λ n. IsMapOfCells profile g ps (cells_before g row n) map) (last ∙ are.cols_are) so_far in
       subst (λ cs. IsMapOfCells profile g ps cs map) (cells_before-all g row) whole
 
-  -- the number of a cell that is vouched for
+  -- the number of a cleared cell
   sound_pixel : (col : ℕ) → col < cols → IsKept profile (shown col) → IsMapPixel profile g ps (place row col) SOUND
   sound_pixel col less kept =
       let at : IsKept profile (patch_at g ps (place row col)) = subst (IsKept profile) (are.patches_are col less) kept in
       record { rule = None; least = λ r own. kept_holds profile g ps (place row col) at r; number_is = sym (ap (pixel_of None) at.has_data) }
 
-  -- those of a run of such cells, by induction over the run, behind any numbers
+  -- those of a run of such cells, by induction over the run, after any numbers
   sound_run : (ns : List ℕ) (from n : ℕ) → from + n ≤ cols → ((col : ℕ) → from ≤ col → col < from + n → IsKept profile (shown col)) →
       AreMapPixels profile g ps (cells_before g row from) ns → AreMapPixels profile g ps (cells_before g row (from + n)) (ns ++ replicate n SOUND)
   sound_run ns from zero within kept so_far =
@@ -81,7 +81,7 @@ module _ (profile : Profile) (g : Grid) (ps : Products) (row cols : ℕ) (shown 
       subst (λ col. AreMapPixels profile g ps (cells_before g row col) (ns ++ replicate (suc n) SOUND)) next
       (subst (AreMapPixels profile g ps (cells_before g row (from + 1 + n))) (append_assoc ns (SOUND ∷ []) (replicate n SOUND)) rest)
 
-  -- the cells that a row vouches for
+  -- the cells that a row clears
   pub map_sound : (old new : Option FaultMap) (from end n : ℕ) → from ≤ end → end ≤ cols → n ≡ end - from →
       ((col : ℕ) → from ≤ col → col < end → IsKept profile (shown col)) → AreDrawn old new (replicate n SOUND) →
       IsMapOfCells profile g ps (cells_before g row from) old → IsMapOfCells profile g ps (cells_before g row end) new

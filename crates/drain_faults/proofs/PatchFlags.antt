@@ -39,14 +39,14 @@ module _ (rules : Rules) (p : Patch) where
       (λ q own below fails. void_hides rules.ranks rules.nodata p (subst (λ r. ¬ tried rules p r) (same_rule q VoidCell (omega (arith, own.0, below))) fails))
       least test
 
-  -- what tells of a rule by itself tells of it as it is tried
+  -- a flag of a rule alone is a flag of it as it is tried
   pub bad_code_told : (b : Bool) → TellsFault b (BadCodeWithoutSpill p) → TellsFault b (tried rules p BadCode)
   bad_code_told b told = tells_same b (BadCodeWithoutSpill p) (tried rules p BadCode) (bad_code_with rules.ranks rules.nodata p) told
 
   pub fill_rule_told : (r : Rule) (b : Bool) → IsFillRule r → TellsFault b (surface_rules p r) → TellsFault b (tried rules p r)
   fill_rule_told r b own told = tells_same b (surface_rules p r) (tried rules p r) (surface_with rules.ranks rules.nodata p r own) told
 
-  -- those on spill parents ask nothing
+  -- those on spill parents require nothing
   pub no_spill_holds : tried rules p NoSpill
   no_spill_holds = (surface_with rules.ranks rules.nodata p NoSpill (omega arith, omega arith)).0 tt
 

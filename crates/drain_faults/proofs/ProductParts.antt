@@ -19,7 +19,7 @@ use Rattle.drain_faults.specs.ByProduct.{AreProductsNotedAt, MissingHoldsOf, Voi
 use Rattle.drain_faults.specs.Flags.{TellsFault}
 
 module _ (nodata : NoDataNumbers) (p : Patch) where
-  -- what is asked of one product
+  -- what is required of one product
   abbrev void_of : Ranks → Held → Type 0
   void_of ranks product = WhereAsked product ranks (IsNone p.here.z → value_of p.here (product_of product) ≡ number_for nodata (product_of product))
 

@@ -1,4 +1,4 @@
--- The faults of each product, with one cell more or a run of cells that a row vouches for; and from row to row.
+-- The faults of each product, with one cell more or a run of cells that a row clears; and from row to row.
 use Rattle.std.proofs.Common.{◌≡◌, ℕ, zero, suc, ◌+◌, ◌-◌, ◌<◌, ◌≤◌, sym, ◌∙◌, subst, arith}
 use Rattle.drain_grid.specs.declared.patch.Patch.{Patch}
 use Rattle.drain_grid.specs.declared.per_product.PerProduct.{PerProduct}
@@ -36,7 +36,7 @@ module _ (rules : Rules) (g : Grid) (ps : Products) (row cols : ℕ) (shown : �
       subst (λ n. AreFaultsOfProduct rules g ps (cells_before g row n) product (of_product faults product)) (last ∙ are.cols_are) (so_far product) in
       subst (λ cs. AreFaultsOfProduct rules g ps cs product (of_product faults product)) (cells_before-all g row) whole
 
-  -- one cell more that is vouched for
+  -- one more cleared cell
   kept_one : (faults : PerProduct ProductFaults) (col : ℕ) → col < cols → IsKept (tried rules) (shown col) → before col faults → before (col + 1) faults
   kept_one faults col less kept so_far = λ product.
       let cell = place row col in
@@ -58,7 +58,7 @@ module _ (rules : Rules) (g : Grid) (ps : Products) (row cols : ℕ) (shown : �
       let next : from + n + 1 ≡ from + suc n = omega arith in
       subst (λ col. before col faults) next (kept_one faults (from + n) (omega (arith, within)) (kept (from + n) (omega arith) (omega arith)) up_to)
 
-  -- the cells that a row vouches for
+  -- the cells that a row clears
   pub products_kept : (faults : PerProduct ProductFaults) (from end : ℕ) → from ≤ end → end ≤ cols →
       ((col : ℕ) → from ≤ col → col < end → IsKept (tried rules) (shown col)) → before from faults → before end faults
   products_kept faults from end forward within kept so_far =

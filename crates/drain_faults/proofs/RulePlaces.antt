@@ -6,7 +6,7 @@ use Rattle.drain_grid.specs.Rule.{IsAnyRule, number_of}
 use Rattle.drain_grid.proofs.Decisions.{each_below, same_number}
 use Rattle.drain_grid.proofs.RuleNumbers.{numbered, rules}
 
--- what stands at a place has the number after it
+-- what is at a place has the number after it
 pub place_at : (k : ℕ) → k < 15 → number_of (get_or rules k VoidCell) ≡ k + 1
 place_at = (each_below (λ k. same_number (number_of (get_or rules k VoidCell)) (k + 1)) 15).sound refl
 

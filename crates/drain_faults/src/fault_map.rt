@@ -57,8 +57,7 @@ impl FaultMap {
 }
 
 /// Draws the next cell in row order, with this patch and this least failing rule, if there is a map. `OutOfMemory`
-/// comes only
-/// with a map.
+/// comes only with a map.
 pub(crate) fn draw_cell(
     map: &mut Option<FaultMap>,
     least: Option<Rule>,

@@ -80,8 +80,7 @@ impl FaultWalk {
     /// Scans the next row. The result is right for these rules if the rows above were scanned with them too.
     ///
     /// `OutOfMemory` comes only if a map is drawn, or at a data cell with code 0 whose label no earlier one has: no
-    /// memory for
-    /// it. Then the walk is over.
+    /// memory for it. Then the walk is over.
     pub fn note_row<R: PatchRow>(&mut self, patches: &R, rules: &Rules) -> Result<(), OutOfMemory>
         requires row { self.old.rows < MAX_LENGTH }
         ensures rows { OnOk result (self.new.rows ≡ self.old.rows + 1) }
@@ -130,8 +129,7 @@ impl FaultWalk {
     }
 
     /// For each rule at how many cells of these rows it fails, and at which first: for every grid and its products of
-    /// which the
-    /// walk is right.
+    /// which the walk is right.
     pub fn faults(&self) -> &PerRule<RuleFaults>
         ensures of_grids { (rules : Rules) (g : Grid) (ps : Products) → IsRightOf (tried rules) g ps self.now → AreFaultsOf (tried rules) g ps (cells_above g self.now.rows) result.now }
     {
@@ -170,8 +168,7 @@ impl FaultWalk {
     }
 
     /// The first cell of these rows at which any rule fails, and its patch; none if every rule holds at each of them.
-    /// For the
-    /// same grids.
+    /// For the same grids.
     pub fn first_patch(&self) -> Option<FaultyPatch>
         ensures of_grids { (rules : Rules) (g : Grid) (ps : Products) → IsRightOf (tried rules) g ps self.now → IsFirstPatch (tried rules) g ps (cells_above g self.now.rows) result }
     {

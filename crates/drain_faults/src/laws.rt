@@ -11,8 +11,7 @@ ghost use Rattle.drain_faults.specs.ByProduct.{MissingHoldsOf, VoidCellHoldsOf};
 use crate::fault_map::{SOUND, SOUND_VOID};
 
 /// The numerals of the constants that definitions name: the numbers on a map where no rule fails, neither of them a
-/// rule's.
-/// This project's own.
+/// rule's. This project's own.
 pub fn constants()
     ensures sound { SOUND ≡ 0 }
     ensures sound_void { SOUND_VOID ≡ 255 }

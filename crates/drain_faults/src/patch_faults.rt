@@ -1,8 +1,7 @@
 //! Which of the rules that look at a patch only fail at a cell.
 //!
 //! Of each group of rules the crates below return the least that fails. If one can hide another of its group, that
-//! other is
-//! checked alone.
+//! other is checked alone.
 
 ghost use Rattle.std.specs.Prelude.{◌≡◌, ◌↔◌, false, IsTrue, Some};
 ghost use Rattle.drain_grid.specs.declared.rule.Rule.{Rule};

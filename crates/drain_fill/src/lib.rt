@@ -6,8 +6,7 @@
 //!
 //! Source: the rules are the local form of the surface that Priority-Flood makes (Barnes, Lehman and Mulla 2014). The
 //! spill parent is the cell from which that algorithm reaches a cell, and the rank falls along spill parents, as the
-//! order
-//! of the visits does. That a certificate shows both, and the rules' wording, are this project's own.
+//! order of the visits does. That a certificate shows both, and the rules' wording, are this project's own.
 #![tactic(auto)]
 
 pub mod below;

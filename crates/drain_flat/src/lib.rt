@@ -1,11 +1,10 @@
 //! The rule on flats at a cell: FlatStep.
 //!
 //! A closed cell with no lower neighbour has nowhere to fall to, so its direction leads along the flat, to a cell of
-//! its
-//! own height that is nearer to the outlet. The rank says which is nearer: it falls at each such step, so no walk along
-//! a
-//! flat comes back to where it was. Any step of that kind keeps the rule. A caller that knows otherwise that walks end
-//! needs no ranks: then any step to a cell of the same height keeps it. One call looks at one cell and takes no memory.
+//! its own height that is nearer to the outlet. The rank says which is nearer: it falls at each such step, so no walk
+//! along a flat comes back to where it was. Any step of that kind keeps the rule. A caller that knows otherwise that
+//! walks end needs no ranks: then any step to a cell of the same height keeps it. One call looks at one cell and takes
+//! no memory.
 //!
 //! Source: directions on a flat go from cell to cell back to where Priority-Flood reached it (Barnes, Lehman and
 //! Mulla 2014). That a rank shows this at each cell, and the rule's wording, are this project's own.

@@ -44,7 +44,7 @@ zero_or_on g ps rules c here =
           ]
     ]
 
--- the run of the data cell isn't over after so many steps
+-- the run of the data cell isn't over after n steps
 abbrev pub GoesOnFor : Grid → Products → ℕ → Cell → Type 0
 GoesOnFor g ps k c = HasData g c × (ps.dir (last_from c (steps_from g ps k c)) ≢ pos 0)
 
@@ -54,7 +54,7 @@ data_cell g c =
     (λ h. record { inside = h.0; is_data = h.1 })
     (λ h. (h.inside, h.is_data))
 
--- whether it is can be told
+-- and this can be decided
 going : (g : Grid) (ps : Products) (k : ℕ) (c : Cell) → Decision (GoesOnFor g ps k c)
 going g ps k c = both (data_cell g c) (no (same (ps.dir (last_from c (steps_from g ps k c))) (pos 0)))
 

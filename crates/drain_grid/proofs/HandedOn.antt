@@ -59,7 +59,7 @@ handed_at_least g ps c f d m from_m =
     subst (λ n. n ≤ sum_by (λ e. share g ps (step g.extent c e) e f) directions) (share_flow g ps c d m f from_m)
     (directions_at_most (λ e. share g ps (step g.extent c e) e f) d)
 
--- sums that are handed on are the sum of what is handed on
+-- sums that are passed on are the sum of what is passed on
 pub handed_sum : (g : Grid) (ps : Products) (c : Cell) (f : Cell → Cell → ℕ) (xs : List Cell) →
     sum_by (λ x. handed_on g ps c (λ m. f m x)) xs ≡ handed_on g ps c (λ m. sum_by (f m) xs)
 unfolding handed_on

@@ -22,7 +22,7 @@ none_counted i number [] later = refl
 none_counted i number (run ∷ runs) later =
     none_counted i (counted_on i number run) runs (λ k d less. later (suc k) d (omega arith)) ∙ not_counted i number run (later 0 run (omega arith))
 
--- the run at k tells the number where it is the last that begins at the cell or before it
+-- the run at k gives the number where it is the last that begins at the cell or before it
 pub number_of_run : (runs : List LineRun) (i k : ℕ) (d : LineRun) → k < length runs → (get_or runs k d).first ≤ i →
     ((j : ℕ) (d : LineRun) → k < j → j < length runs → i < (get_or runs j d).first) →
     number_at runs i ≡ (get_or runs k d).line + (i - (get_or runs k d).first)
@@ -90,7 +90,7 @@ numbered-more runs cells more c line is there =
     ap (numbered runs) is ∙ numbered-push 0 runs cells c
     ∙ ap (λ n. numbered runs cells ++ record { line = n; cell = c } ∷ []) (ap (number_at runs) (omega arith) ∙ there)
 
--- runs that tell the same numbers
+-- runs that give the same numbers
 pub numbered-same : (i : ℕ) (runs others : List LineRun) (cells : List Cell) →
     ((k : ℕ) → k < i + length cells → number_at others k ≡ number_at runs k) → numbered_from i others cells ≡ numbered_from i runs cells
 numbered-same i runs others [] same = refl

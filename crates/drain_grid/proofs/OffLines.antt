@@ -7,7 +7,7 @@ use Rattle.drain_grid.specs.declared.sink_line.SinkLine.{SinkLine}
 use Rattle.drain_grid.specs.Grid.{Grid, HasData}
 use Rattle.drain_grid.specs.OffData.{FoundOffDataIsRight}
 
--- it is asked of a cell whether it has data
+-- whether a listed cell has data
 abbrev IsTold : Grid → (Cell → Bool) → SinkLine → Type 0
 IsTold g has s = (has s.cell ≡ true → HasData g s.cell) × (has s.cell ≡ false → ¬ HasData g s.cell)
 

@@ -32,7 +32,7 @@ module _ (g : Grid) (ps : Products) (rules : RulesHold level_rules IsCountRule g
   ways : RulesHold level_rules IsWayRule g ps
   ways = RulesHold-within level_rules IsWayRule IsCountRule g ps (λ r own. (own.0, omega (arith, own.1))) rules
 
-  -- the sum over what goes on for so many steps
+  -- the sum over what goes on for n steps
   among : ℕ → (Cell → ℕ) → ℕ
   among k f = sum_by (λ c. cond (goes g ps k c) (f c) 0) (cells g.extent)
 
@@ -86,7 +86,7 @@ module _ (g : Grid) (ps : Products) (rules : RulesHold level_rules IsCountRule g
       let first = among_add k (λ c. 1) (λ c. handed_on g ps c (λ m. up (ps.acc m))) in
       omega (arith, whole, left, right, first, among_handed k (λ m. up (ps.acc m)), among_handed k (λ m. down (ps.acc m)))
 
-  -- how many go on for so many steps, and no further
+  -- how many go on for n steps, and no further
   stopping : ℕ → Cell → ℕ
   stopping k c = cond (goes g ps k c) (cond (goes g ps (suc k) c) 0 1) 0
 

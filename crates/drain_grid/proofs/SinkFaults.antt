@@ -7,7 +7,7 @@ use Rattle.drain_grid.specs.declared.sink_line.LineSays.{LineSays}
 use Rattle.drain_grid.specs.declared.sink_line.LineSays.TheVariants.{Nothing, Sink, NoSink}
 use Rattle.drain_grid.specs.SinkTexts.{line_says, with_line, listing}
 
--- k lines stand before the first bad one, which has this number
+-- k lines come before the first bad one, which has this number
 pub record IsFirstBad (number : ℕ) (lines : List (List ℕ)) (bad k : ℕ) : Type 0 where
   pub inside : k < length lines
   pub counted : bad ≡ number + k

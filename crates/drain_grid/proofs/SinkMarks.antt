@@ -15,11 +15,11 @@ use Rattle.drain_grid.proofs.SinkSearch.{listed_by_places}
 abbrev pub is_passed : ℕ → ℕ → List ℕ → Bool
 is_passed first col places = list_any (λ y. y == first + col) places
 
--- the marks tell the columns whose places were passed
+-- the marks are at the columns whose places were passed
 abbrev pub AreMarked : ℕ → List Bool → List ℕ → Type 0
 AreMarked first marks passed = (col : ℕ) → col < length marks → get_or marks col false ≡ is_passed first col passed
 
--- the places from the row on, which tell the row's listed columns
+-- the places from the row on, which give the row's listed columns
 pub record IsFromRow (sinks : List SinkLine) (row first : ℕ) (tail : List ℕ) : Type 0 where
   pub reached : (k d : ℕ) → k < length tail → first ≤ get_or tail k d
   pub rising : (i j d : ℕ) → i ≤ j → j < length tail → get_or tail i d ≤ get_or tail j d

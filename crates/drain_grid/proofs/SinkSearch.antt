@@ -45,7 +45,7 @@ found_by_halves xs x (Err i) h rising =
         let same : get_or xs k d ≡ get_or xs k 0 = get_or_default xs k d 0 less in
         grind (arith, nat_tests, gap.1 k, gap.2 k)
 
--- the places of the list tell which cells are listed
+-- the places of the list give which cells are listed
 pub listed_by_places : (sinks : List SinkLine) (places : List ℕ) (c : Cell) → ArePlaces sinks places → c.col < 2 ^ 32 →
     list_any (λ y. y == wide_place c) places ≡ is_listed sinks c
 listed_by_places sinks places c known narrow =
@@ -53,7 +53,7 @@ listed_by_places sinks places c known narrow =
     ∙ any_over_map (λ y. y == wide_place c) (λ s. wide_place s.cell) sinks
     ∙ listed_by_place sinks c narrow (recursion_from_All (λ s. s.cell.col < 2 ^ 32) sinks known.narrow)
 
--- the places that are searched and the place that is asked for are those of the list and the cell
+-- the places searched and the place looked for are those of the list and the cell
 pub listed_by_search : (sinks : List SinkLine) (places searched_in : List ℕ) (c : Cell) (x : ℕ) → ArePlaces sinks places → c.col < 2 ^ 32 →
     searched_in ≡ places → x ≡ wide_place c → (r : Result ℕ ℕ) → IsBinarySearchResult (λ y. nat_cmp y x) searched_in r →
     is_ok r ≡ is_listed sinks c

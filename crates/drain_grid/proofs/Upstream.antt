@@ -2,7 +2,7 @@
 --
 -- A data cell x drains through c exactly where x is c, or x drains through a cell that flows into c, and then through
 -- one only: two such cells are in the run of x, and their runs are longer than that of c by one, so they are one cell
--- (Chains). As numbers: counted at c is self and what the cells that flow in hand on of it (counted_parts). Summed over
+-- (Chains). As numbers: counted at c is self and what the cells that flow in pass on of it (counted_parts). Summed over
 -- all x, with the sum over cells and the sum over directions exchanged (CellSums), the number for c is one more than
 -- the sum of the numbers for the cells that flow in, and that is rule 13's sum. The induction is on the number itself:
 -- what flows into c has a smaller one.
@@ -74,7 +74,7 @@ join_rest : (b s n : ℕ) → n ≡ 1 → b ≡ 0 → s ≡ 1 → n ≡ b + s
 join_rest b s n whole first rest = omega arith
 
 module _ (g : Grid) (ps : Products) (chains : AreChains (HasData g) (next g ps) (run g ps)) where
-  -- a cell that flows into c doesn't stand in the run of c
+  -- a cell that flows into c isn't in the run of c
   not_from_self : (c : Cell) (d : Direction) (m : Cell) → HasData g c → FlowsFrom g ps c d m → drains_through g ps m c ≡ false
   not_from_self c d m here from_m =
       false_from_ne_true (drains_through g ps m c) (λ reaches.

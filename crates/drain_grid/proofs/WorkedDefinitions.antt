@@ -80,7 +80,7 @@ ring_end = refl
 ring_runs_on : ¬ RunEnds ring_grid ring_products (cell 1 1)
 ring_runs_on h = let one : pos 1 ≡ pos 0 = h in cc
 
--- a cell is open through the void beside it, and the cell behind it is not
+-- a cell is open because of the void next to it, and the next cell is not
 gap_beside : IsOpenCell gap_grid (cell 1 2)
 gap_beside = (open_cell gap_grid (cell 1 2)).sound refl
 

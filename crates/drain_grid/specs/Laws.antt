@@ -83,7 +83,7 @@ CorrectIsLocal =
     (g : Grid) (ps : Products) (nodata : NoDataNumbers) →
     IsCorrect g ps nodata ↔ (((c : Cell) → HasData g c → RunEnds g ps c) × RulesHold (unranked nodata) IsAnyRule g ps)
 
--- where rules 10 to 13 hold without ranks everywhere, each run ends: acc can't grow at each cell of a ring
+-- where rules 10 to 13 hold everywhere without ranks, each data cell's run ends: acc can't grow all round a ring
 abbrev pub RunsEndByCounts : Type 0
 RunsEndByCounts =
     (g : Grid) (ps : Products) → RulesHold level_rules IsCountRule g ps → (c : Cell) → HasData g c → RunEnds g ps c

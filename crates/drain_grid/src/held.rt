@@ -1,8 +1,7 @@
 //! The products that a set of products holds.
 //!
 //! They have an enumeration of their own because [`Product`] also names the spill parents, which are read only by a
-//! check
-//! of the conditioned elevation alone, and which no set holds.
+//! check of the conditioned elevation alone, and which no set holds.
 
 ghost use Rattle.std.specs.Prelude.{◌≡◌};
 ghost use Rattle.drain_grid.specs.Held.{product_of};

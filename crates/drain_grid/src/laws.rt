@@ -16,9 +16,8 @@ use crate::values::{GREATEST_PIXEL, LEAST_PIXEL};
 ///
 /// Sources: the SRTM HGT documentation for the void, for the range of samples (16 signed bits), and for the greatest
 /// side (a 1 arc-second tile); the range of 32 bits, signed and unsigned, for pixels; eight such tiles side by side,
-/// with
-/// shared edges, for the greatest length. The least side, the bounds of a no-data number and the units of a degree are
-/// this project's own.
+/// with shared edges, for the greatest length. The least side, the bounds of a no-data number and the units of a degree
+/// are this project's own.
 pub fn constants()
     ensures void { VOID ≡ neg_ℤ (pos 32768) }
     ensures least_sample { LEAST_SAMPLE ≡ neg_ℤ (pos 32768) }
@@ -108,7 +107,7 @@ pub fn sound_from_correct()
     ensures { SoundFromCorrect }
 {}
 
-/// The least line that lists a cell without data by cell-by-cell answers is that of the grid with these answers.
+/// If each listed cell's answer is right for a grid, the least line without data by these answers is right for it too.
 pub fn found_off_data_is_right()
     ensures { FoundOffDataIsRight }
 {}

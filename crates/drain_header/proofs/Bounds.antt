@@ -1,4 +1,4 @@
--- Coordinates and no-data numbers that words spell are within the bounds of a header.
+-- Coordinates and no-data numbers of words are within the bounds of a header.
 use Rattle.std.proofs.Common.{◌≡◌, ℕ, ◌≤◌, Bool, true, false, List, arith, refl}
 use Rattle.std.specs.Prelude.{ℤ, pos, neg_ℤ, ◌≤ℤ◌, ◌&&◌, cond, Option, Some, None, option_and_then}
 use Rattle.std.proofs.lemmas.Int.{ints}

@@ -25,7 +25,7 @@ abbrev pub entries_lines : List (Key × List ℕ) → List (List ℕ)
 entries_lines [] = [] ∷ []
 entries_lines (e ∷ es) = bare e.0 e.1 ∷ entries_lines es
 
--- where a keyword's line stands in the text of a header, counted from 0
+-- where a keyword's line is in the text of a header, counted from 0
 abbrev pub line_number : Key → ℕ
 line_number ByteOrder = 0
 line_number Layout = 1

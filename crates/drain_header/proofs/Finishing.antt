@@ -30,7 +30,7 @@ six_there true b c d e f none = cc
 six_there false true c d e f none = cc
 six_there false false c d e f none = (refl, refl)
 
--- a size that a word spells
+-- the size of a word
 pub record IsSized (word : Option (List ℕ)) : Type 0 where
   pub n : ℕ
   pub size : option_and_then size_of word ≡ Some n
@@ -53,7 +53,7 @@ sized (Some w) e = (let r = inner (whole_number w) e in record { n = r.0; size =
     inner None none = cc
     inner (Some m) some = (let r = range m (nat_le 1 m) (nat_le m 28801) refl refl some in (m, r.0, refl, r.1))
 
--- a coordinate that a word spells, or zero, is within its bounds
+-- the coordinate of a word, or zero, is within its bounds
 zero_within : IsCoordinate (pos 0)
 zero_within = record { low = omega arith; high = omega arith }
 

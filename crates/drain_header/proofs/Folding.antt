@@ -56,7 +56,7 @@ taken_some : (key : Key) (word : Option (List ℕ)) → takes_some key word ≡ 
 taken_some key None = refl
 taken_some key (Some word) = taken key word
 
--- the line behind the front
+-- the line after the front
 line_behind : (front : List (List ℕ)) (line : List ℕ) (rest : List (List ℕ)) → slice_get (front ++ line ∷ rest) (length front) ≡ Some line
 line_behind [] line rest = refl
 line_behind (x ∷ xs) line rest = line_behind xs line rest

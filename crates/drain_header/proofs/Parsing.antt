@@ -19,7 +19,7 @@ use Rattle.drain_header.proofs.Folding.{IsSeen, Outcome, lines_read}
 use Rattle.drain_header.proofs.Missing.{missing_is}
 use Rattle.drain_header.proofs.Finishing
 
--- the answer of a call whose fault is handed on
+-- the answer of a call whose fault is passed on
 pub handed_on : (text : List ℕ) (r : Result Fields HeaderFault) (fault : HeaderFault) → IsErrAnd r (λ told. told ≡ fault) → Answers text (Err fault) → Answers text r
 handed_on text (Ok h) fault is answers = absurd is
 handed_on text (Err told) fault is answers = rw is answers

@@ -116,7 +116,7 @@ nodata_read z small =
     ap nodata_of (signed_text z)
     ∙ sym (nodata_is (sign_text (is_negative z) ++ decimal (unsigned_abs z)) d z (sym (unpointed_decimal (is_negative z) (decimal (unsigned_abs z)) numeral.0)) low whole units)
 
--- what the digits behind the point are
+-- what the digits after the point are
 pub record IsFraction (n : ℕ) : Type 0 where
   pub digits : AllDigits 10 (fraction_text n)
   pub count : length (fraction_text n) ≡ 15

@@ -76,7 +76,7 @@ raised d v r up down parts below = elim (nat_lt up down) as (λ b. nat_lt up dow
       rw (nought, all) (omega (arith, ap (λ (x : ℕ). v * x) tens), omega arith))
 ] refl
 
--- a rest is nought just where both its parts are
+-- a rest is zero exactly where both its parts are
 pub no_rest : (a b r n up : ℕ) → r ≡ a * 10 ^ n + b → ((a == 0) && (b == 0)) ≡ (r * 10 ^ up == 0)
 no_rest zero zero r n up is = let e : r ≡ 0 = omega arith in sym (eq-eqb (r * 10 ^ up) 0 (rw e (omega arith)))
 no_rest zero (suc b) r n up is =
@@ -91,7 +91,7 @@ no_rest (suc a) b r n up is =
     let f = mul-le-mul_right (10 ^ up) e in
     ap (λ t. t && (b == 0)) (ne_eqb (suc a) 0 (λ h. absurd (omega arith))) ∙ sym (ne_eqb (r * 10 ^ up) 0 (λ h. absurd (omega arith)))
 
--- what the digits that count and those behind them tell of a decimal
+-- what the digits that count and those after them say of a decimal
 pub scaled : (parts : Parts) (places up down kept kw kf told : ℕ) (ex : Bool) → AllDigits 10 (parts.whole ++ parts.fraction)
     → up ≡ tens_up parts + places → down ≡ tens_down parts
     → kept ≡ (length parts.whole + length parts.fraction) - (down - up) → kw ≡ min kept (length parts.whole) → kf ≡ kept - kw

@@ -1,7 +1,7 @@
 -- The text of a header within its bounds describes the header.
 --
--- The text is that of a list of entries, each of which its keyword takes. So its lines are known, each keyword stands on one
--- line alone, and the value at each keyword is the one that was printed.
+-- The text is that of a list of entries, each of which its keyword takes. So its lines are known, each keyword is on
+-- one line alone, and the value at each keyword is the one that was printed.
 use Rattle.std.proofs.Common.{◌≡◌, inl, inr, ℕ, zero, suc, ◌*◌, ◌/◌, ◌≤◌, Bool, true, false, List, [], ◌∷◌, ◌++◌, length, arith, refl, sym, ap, ◌∙◌, append-nil, append_assoc}
 use Rattle.std.specs.Prelude.{ℤ, pos, unsigned_abs, ◌==◌, IfSome, Option, Some, None, is_some, option_and_then, slice_get, unwrap_or, decimal, codes}
 use Rattle.std.specs.Fmt.{signed_decimal}
@@ -175,7 +175,7 @@ entries_good h within =
       ),
     )
 
--- what stands at a keyword says what was printed
+-- what is at a keyword means what was printed
 said_is : {A : Type 0} (read : List ℕ → Option A) (key : Key) (default : A) (lines : List (List ℕ)) (word : List ℕ) (a : A) → value_at key lines ≡ Some word → read word ≡ Some a → said read key default lines ≡ a
 said_is read key default lines word a is reads = ap (λ o. unwrap_or (option_and_then read o) default) is ∙ ap (λ o. unwrap_or o default) reads
 
@@ -236,7 +236,7 @@ key_line h lines of (suc i) key has =
       taken = ap (λ ls. takes_some key (option_and_then value_of (slice_get ls i))) of.same ∙ told.taken;
     }
 
--- a keyword that must stand does
+-- a keyword that must be there is
 required_stands : (h : Fields) (lines : List (List ℕ)) → AreWithinBounds h → AreLinesOf h lines → (key : Key) → IsRequired key → HasKey lines (suc (line_number key)) key
 required_stands h lines within of Nrows needed = ap (λ ls. option_and_then key_of (line_at ls 3)) of.same ∙ key_bare Nrows (decimal h.rows) of.good.1.1.0.word
 required_stands h lines within of Ncols needed = ap (λ ls. option_and_then key_of (line_at ls 4)) of.same ∙ key_bare Ncols (decimal h.cols) of.good.1.1.1.0.word

@@ -32,11 +32,11 @@ past_limit a c q r m k sum below why = elim (nat_lt (k * c) a) as (λ b. nat_lt 
       ])
 ] refl
 
--- the greatest number that 128 bits tell
+-- the greatest number of 128 bits
 abbrev top : ℕ
 top = 2 ^ 128 - 1
 
--- what is told within the limit is the value
+-- a result within the limit is the value
 pub small_units : (negative : Bool) (parts : Parts) (places told limit : ℕ) (ex : Bool) → IsScaled parts places told ex
     → limit ≡ 10000000000 * 10 ^ places → limit < 2 ^ 127 → ((told < limit) ⊎ ((told ≡ limit) × (ex ≡ true)))
     → (is_small (decimal_from negative parts) ≡ true) × (in_units places (decimal_from negative parts) ≡ with_sign negative told)
@@ -49,7 +49,7 @@ small_units negative parts places told limit ex s is fits why =
       ap (λ (x : ℕ). with_sign negative (x / 10 ^ tens_down parts)) s.sum ∙ ap (with_sign negative) (div-mul-add s.units (10 ^ tens_down parts) s.rest s.below ∙ same),
     )
 
--- and what is told past the limit is too great
+-- and a result past the limit is too great
 pub great_units : (negative : Bool) (parts : Parts) (places told limit : ℕ) (ex : Bool) → IsScaled parts places told ex
     → limit ≡ 10000000000 * 10 ^ places → limit < 2 ^ 127 → ((limit < told) ⊎ ((told ≡ limit) × (ex ≡ false)))
     → is_small (decimal_from negative parts) ≡ false

@@ -13,12 +13,9 @@ pub const MAX_HEADER_BYTES: usize = 65536;
 /// The header that a text describes, or its first fault.
 ///
 /// The text is split into lines at line feeds, and lines into words at spaces and tabs. A line's first word is its
-/// keyword,
-/// in either letter case, and its second the keyword's value; a line with any other first word is skipped. Faults come
-/// in
-/// this order: `TooLong`, that of the least line that has one (on one line `RepeatedKey` before `BadValue`),
-/// `MissingKey`,
-/// `NotOneBand`, `BadBits`, `BadPixelType`, `RowTooShort`.
+/// keyword, in either letter case, and its second the keyword's value; a line with any other first word is skipped.
+/// Faults come in this order: `TooLong`, that of the least line that has one (on one line `RepeatedKey` before
+/// `BadValue`), `MissingKey`, `NotOneBand`, `BadBits`, `BadPixelType`, `RowTooShort`.
 ///
 /// Source: the Esri BIL header description for the keywords; the exact grammar and the defaults are this project's.
 pub fn parse_header(text: &[u8]) -> Result<Header, HeaderFault>

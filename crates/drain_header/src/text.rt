@@ -14,8 +14,7 @@ use std::alloc::Global;
 /// The text of a header, in ASCII. Each keyword has one line: the keyword, a space, its value and a line feed.
 ///
 /// LAYOUT is BIL and NBANDS 1; BANDROWBYTES and TOTALROWBYTES are both the bytes from one row to the next. ULXMAP,
-/// ULYMAP,
-/// XDIM and YDIM are degrees with 15 digits after the point. NODATA has a line if there is a no-data number.
+/// ULYMAP, XDIM and YDIM are degrees with 15 digits after the point. NODATA has a line if there is a no-data number.
 ///
 /// Only the returned text takes memory; if it can't grow, `OutOfMemory` is returned.
 ///

@@ -63,7 +63,7 @@ places bytes south lat west lon same =
       at_6 = same_digit (get_or bytes 6 0) (lon % 10) (omega arith) (same_at bytes text 6 like (omega arith));
     }
 
--- the last digits of degrees spell what the degrees spell
+-- the last digits of degrees are those of the degrees
 pub spells_same : (south : Bool) (a b : ℕ) (west : Bool) (m n : ℕ) → a ≡ 10 * (b / 10 % 10) + b % 10 → m ≡ 100 * (n / 100 % 10) + 10 * (n / 10 % 10) + n % 10 → spelled south a west m ≡ spelled south b west n
 spells_same south a b west m n two three =
     let first : a / 10 % 10 ≡ b / 10 % 10 = omega arith in

@@ -2,8 +2,7 @@
 //!
 //! A name gives a tile's south-west corner, as `N37W105.hgt`: `N` or `S` and two digits of degrees of latitude, `E` or
 //! `W` and three digits of degrees of longitude, and `.hgt`. Source: the SRTM HGT documentation; that letters are read
-//! in
-//! either case, and that `S00`, `W000` and `E180` name nothing, is this project's choice.
+//! in either case, and that `S00`, `W000` and `E180` name nothing, is this project's choice.
 //!
 //! Only `spelled` defines the form: bytes have it if the letters and digits in their places give them again.
 
@@ -61,8 +60,7 @@ impl TileName {
     /// The tile that the bytes name.
     ///
     /// Returns `BadForm` if they don't have a name's form, else `BadRange` if no tile has these degrees: latitudes go
-    /// from S90
-    /// to S01 and from N00 to N89, longitudes from W180 to W001 and from E000 to E179.
+    /// from S90 to S01 and from N00 to N89, longitudes from W180 to W001 and from E000 to E179.
     pub fn parse(bytes: &[u8]) -> Result<TileName, NameFault>
         ensures { MeansName bytes.now result }
     {

@@ -37,8 +37,7 @@ pub fn tile_length(side: u32) -> usize
 /// The samples of a tile in whole metres, -32768 for a void: `side` rows from the northernmost on, west to east.
 ///
 /// `side` is the number of samples along an edge, from 2 to 3601. Returns `BadSide` for another side, then `BadLength`
-/// if
-/// there are not `2 * side * side` bytes; `OutOfMemory` if memory for the samples runs out.
+/// if there are not `2 * side * side` bytes; `OutOfMemory` if memory for the samples runs out.
 pub fn read_tile(alloc: Global, side: u32, bytes: &[u8]) -> Result<Vec<i16>, TileFault>
     ensures samples { IfOk result (λ samples. samples.items ≡ samples_of bytes.now) }
     ensures counted { IfOk result (λ samples. length samples.items ≡ side * side) }

@@ -24,8 +24,7 @@ const MAX_ROW_BYTES: usize = 2 * MAX_SIDE as usize;
 ///
 /// After the last row it reads one byte more, if there is one: a longer tile has a wrong length too. It returns
 /// `WrongLength` at the row that isn't whole, or at that byte; `OutOfMemory` if memory for a row runs out: then it
-/// reads
-/// nothing.
+/// reads nothing.
 ///
 /// Source: the SRTM HGT documentation.
 #[derive(Drop)]

@@ -75,7 +75,7 @@ of_unranked nodata here n around passed Accumulation = passed.sum
 of_unranked nodata here n around passed Label = passed.direction.label
 of_unranked nodata here n around passed SharedLabel = tt
 
--- what the tests of ranks give beside it
+-- what the tests of ranks give besides
 record Ranked (nodata : NoDataNumbers) (here : Numbers) (n : Direction → Numbers) : Type 0 where
   nears : FallsOrNears here n
   differs : here.rnk ≢ nodata.rnk
@@ -128,7 +128,7 @@ not_zero code d is differs h = differs (same_natural d 0 (sym is ∙ h))
     same_natural : (a b : ℕ) → pos a ≡ pos b → a ≡ b
     same_natural a b e = cc
 
--- where ranks are asked for, they were taken, and the tests of them give what is wanted of the numbers
+-- where ranks are checked, they were taken, and their tests give what is required of the numbers
 ranked_from : (ranks : Ranks) (nodata : NoDataNumbers) (above here below : Lanes) (k : ℕ) (p : Patch) (shown : IsShown above here below k p) →
     HaveDataAt above here below k → IfAsked ranks (HaveRanks above here below) → IfAsked ranks (RanksPassAt nodata above here below k) →
     IfAsked ranks (Ranked nodata (numbers_in here k p.here) (numbers_beside above here below k p shown))

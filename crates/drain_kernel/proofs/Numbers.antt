@@ -7,7 +7,7 @@ use Rattle.drain_grid.specs.Values.{Values}
 use Rattle.drain_kernel.specs.declared.lanes.Lanes.{Lanes}
 use Rattle.drain_kernel.specs.Shown.{lowered, height_of, HasDataAt, Shows, IsShown, row_beside, col_beside}
 
--- what lanes say of a cell, and beside it what they needn't say
+-- what lanes say of a cell, and what they needn't say
 pub record Numbers : Type 0 where
   pub z : ℕ
   pub con : ℕ

@@ -77,10 +77,8 @@ fn passed_until(
 
 /// A column to which cells can be cleared from this one on, at most `until`. At each column before it the patch of the
 /// three rows, for a cell that isn't a listed sink, keeps every rule from VoidCell to Label. It may be any such column,
-/// even
-/// `from`, so it shows no fault. It is `from` at the first and the last column, if the rows have different lengths, and
-/// if
-/// ranks are checked and one row has none.
+/// even `from`, so it shows no fault. It is `from` at the first and the last column, if the rows have different
+/// lengths, and if ranks are checked and one row has none.
 pub fn kept_until(
     above: &Lanes,
     here: &Lanes,

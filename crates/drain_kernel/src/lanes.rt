@@ -10,8 +10,7 @@ use drain_grid::PerProduct;
 use std::alloc::Global;
 
 /// The numbers of a row, next to each other for each column. Heights, z and con, are 32768 more than they are, and z is
-/// 0
-/// at a void. Ranks are kept if they are checked. At a void a product's lane is 0 if its number doesn't fit; it is
+/// 0 at a void. Ranks are kept if they are checked. At a void a product's lane is 0 if its number doesn't fit; it is
 /// ignored.
 #[derive(Drop)]
 pub struct Lanes {
@@ -50,10 +49,8 @@ impl Lanes {
     }
 
     /// Replaces the row by these numbers, with ranks if they are checked, and returns whether it has them now. At each
-    /// column
-    /// z must fit 16 signed bits, and except at voids con too, and the others 32 unsigned bits; memory is taken if
-    /// there is too
-    /// little room. Else it has no row.
+    /// column z must fit 16 signed bits, and except at voids con too, and the others 32 unsigned bits; memory is taken
+    /// if there is too little room. Else it has no row.
     pub fn take(&mut self, z: &[i64], products: &PerProduct<&[i64]>, ranks: Ranks) -> bool
         requires { (p : Held) → length (of_product products.now p).now ≡ length z.now }
         ensures lanes { IsTrue result → AreLanesOf self.new z.now (per_product (λ p. (of_product products.now p).now)) }

@@ -10,8 +10,7 @@ pub struct Rules {
 }
 
 /// Whether ranks are checked: at each cell by rules 1 and 2, and along flats by rule 12. Without them, it has to be
-/// known
-/// otherwise that runs end.
+/// known otherwise that runs end.
 #[derive(Clone, Copy, PartialEq, Eq, Debug)]
 pub enum Ranks {
     Asked,

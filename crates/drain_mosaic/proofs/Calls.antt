@@ -226,7 +226,7 @@ found-more n seam found both is a b = subst (λ (o : Option ℕ). MatchOption o 
     least n (Some x) None a b = a
     least n (Some x) (Some y) a b = omega (arith, a, b)
 
--- one tile more was asked for its end
+-- one tile more was read to its end
 module _ (R : Type 0) (bl : R → Option (List ℕ)) (ct : R → FaultCounts) where
   pub ends-more : (i : ℕ) (old cur : List PlacedRows) (from now : List (TileInput R)) (p0 q : PlacedRows) (t0 u : TileInput R) → i < length old → length cur ≡ length old → length now ≡ length from → length from ≡ length old →
       (IsSome (bl (get_or now i t0).body) → stream_of q (bl u.body) ≡ end_stream (stream_of (get_or cur i p0) (bl (get_or now i t0).body))) → Gone bl ct i old cur from now →

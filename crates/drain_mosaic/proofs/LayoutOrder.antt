@@ -37,7 +37,7 @@ sound t down across named p q few small OutOfMemory h = h
 pub is_some : (corners : List Corner) (empty : Bool) → empty ≡ false → empty ≡ (length corners == 0) → corners ≢ []
 is_some corners empty full is none = false≢true (sym full ∙ is ∙ ap (λ cs. length cs == 0) none)
 
--- want of memory says nothing of the tiles, so it is never their first fault
+-- running out of memory says nothing of the tiles, so it is never their first fault
 pub not_memory : (t : Tiling) (fault : LayoutFault) → IsFirst order_of (HasLayoutFault t) fault → fault ≢ OutOfMemory
 not_memory t fault first e = subst (HasLayoutFault t) e first.holds
 

@@ -45,7 +45,7 @@ all_lent {old = old} {held = held} P same h = All-same P held old same h
 pub all_back : {X : Type 0} {old held cur : List X} {n : ℕ} (P : X → Type 0) → IsLent old held cur n → All P cur → All P (back old cur n)
 all_back {old = old} {cur = cur} {n = n} P l h = All-same P (back old cur n) cur (is_back l) h
 
--- the same calls, told of the vector's tiles
+-- the same calls, for the vector's tiles
 have-back : {R : Type 0} {bl : R → Option (List ℕ)} {ct : R → FaultCounts} {old held cur : List PlacedRows} {n : ℕ} {from now : List (TileInput R)} {F G : Type 0} → IsLent old held cur n → (F → G) → (G → F) →
     HaveRead bl ct held cur from now F → HaveRead bl ct old (back old cur n) from now G
 have-back {bl = bl} {ct = ct} {old = old} {held = held} {cur = cur} {n = n} {from = from} {now = now} {F = F} {G = G} l there here read =

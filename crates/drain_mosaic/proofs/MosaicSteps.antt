@@ -18,7 +18,7 @@ use Rattle.drain_mosaic.specs.declared.placed_rows.PlacedRows.{PlacedRows}
 use Rattle.drain_device.specs.declared.row_source.Progress.{Progress}
 use Rattle.drain_device.specs.declared.row_source.Progress.TheVariants.{Going, Done, Stopped}
 
--- the same calls, told in other words
+-- the same calls, stated otherwise
 pub have-so : {R : Type 0} (bl : R → Option (List ℕ)) (ct : R → FaultCounts) (old cur new : List PlacedRows) (from now : List (TileInput R)) (F G : Type 0) → new ≡ cur → (F → G) → (G → F) → HaveRead bl ct old cur from now F → HaveRead bl ct old new from now G
 have-so bl ct old cur new from now F G is there back read = subst (λ (x : List PlacedRows). HaveRead bl ct old x from now G) (sym is) (record {
   failed = read.failed;
@@ -50,7 +50,7 @@ seam-row f rows row xs ys seam both found inside next first is =
     ∙ ap (λ (ss : List Stream). option_or seam (option_or (cell_at row (first_from (is_seam f.side row xs) 0 f.cols)) (seam_from f (rows - (row + 1)) (row + 1) ss))) next
     ∙ sym (ap (λ n. option_or seam (seam_from f n row xs)) (less-one rows row inside))
 
--- behind the last row
+-- after the last row
 pub rows-end : (f : Frame) (rows row : ℕ) (xs : List Stream) → row ≡ rows → mosaic_rows f (rows - row) row xs ≡ End
 rows-end f rows row xs is = let none : rows - row ≡ 0 = omega arith in ap (λ n. mosaic_rows f n row xs) none
 

@@ -7,7 +7,7 @@ use Rattle.drain_hgt.specs.declared.input.TileInput.{TileInput}
 use Rattle.drain_hgt.specs.declared.tile_rows.TileRows.{TileRows}
 use Rattle.drain_mosaic.specs.PlacedRows.{AreWithin, IsWithin}
 
--- no matter what stands for a missing element
+-- for any default of a missing element
 pub any_default : {X : Type 0} (xs : List X) (i : ℕ) (d e : X) → i < length xs → get_or xs i d ≡ get_or xs i e
 any_default [] i d e inside = absurd (omega arith)
 any_default (x ∷ xs) zero d e inside = refl

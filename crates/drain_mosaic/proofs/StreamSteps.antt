@@ -109,7 +109,7 @@ all-rows f (suc left) row ss = all-rows f left (row + 1) (map (next_stream f.sid
 pub rows_end : RowsEnd
 rows_end t bodies = all-rows (frame_of t) (extent_of t).rows 0 (tile_streams t t.corners bodies)
 
--- behind the last there is none
+-- after the last there is none
 none-behind : (f : Frame) (left row : ℕ) (ss : List Stream) → nth_row left (mosaic_rows f left row ss) ≡ []
 none-behind f zero row ss = refl
 none-behind f (suc left) row ss = none-behind f left (row + 1) (map (next_stream f.side row) ss)

@@ -31,7 +31,7 @@ pub part-room : (side left wide : ℕ) (part : List ℤ) → left + side ≤ wid
 part-room side left wide part fits (inl long) = omega arith
 part-room side left wide part fits (inr none) = omega (arith, ap length none)
 
--- a step that ends no mosaic leaves what comes behind the row, and the part is the row
+-- a step that doesn't end the mosaic leaves what follows the row, and the part is the row
 pub step-goes : (progress progress_then : Progress) (c c_then : Coming) (answer : Result RowStep ReadFault) (part : List ℤ) → stop_of answer ≡ None → progress_then ≡ progress_after answer →
     (answer ≡ Err AlreadyFailed → progress ≡ Stopped) → IsEmptyUnlessRow answer part → Steps (coming_at progress c) answer part (coming_at progress_then c_then) →
     (coming_at progress_then c_then ≡ after_rows 1 (coming_at progress c)) × (part ≡ nth_row 0 (coming_at progress c))
@@ -45,7 +45,7 @@ step-goes progress progress_then c c_then (Err AlreadyFailed) part goes then alr
     let after : coming_at progress_then c_then ≡ Wrong = ap (λ s. coming_at s c_then) then in
     (after ∙ sym (ap (after_rows 1) before), empty ∙ sym (ap (nth_row 0) before))
 
--- the same of a device that tells its bytes
+-- the same of a device with known bytes
 pub tile-goes : (old new : TileRows) (known known_then : Option (List ℕ)) (answer : Result RowStep ReadFault) (part : List ℤ) → stop_of answer ≡ None → new.progress ≡ progress_after answer →
     (answer ≡ Err AlreadyFailed → old.progress ≡ Stopped) → IsEmptyUnlessRow answer part →
     Gives (tile_coming old) (tile_coming new) known known_then answer part → IsSome known →
@@ -68,7 +68,7 @@ stream-stays side row s not_over = ap (λ (y : Coming). the_stream y) (sym (ap (
     the_stream : Coming → Stream
     the_stream y = record { place = s.place; coming = y }
 
--- a device that tells its bytes goes on telling them
+-- a device's bytes stay known
 pub told-kept : (most most_then : ℕ) (known known_then : Option (List ℕ)) → ReadsWithin most most_then known known_then → IsSome known → IsSome known_then
 told-kept most most_then None known_then within told = absurd (false≢true told)
 told-kept most most_then (Some xs) None within told = absurd within.1
@@ -81,7 +81,7 @@ read-none known counts p Fails never = record {
   faults = PartFails-none counts p.rows.patience Fails never;
 }
 
--- the same call, told in other words
+-- the same call, stated otherwise
 pub read-so : (known known_then : Option (List ℕ)) (counts counts_then : FaultCounts) (old new : PlacedRows) (F G : Type 0) → (F → G) → (G → F) → HasRead known known_then counts counts_then old new F → HasRead known known_then counts counts_then old new G
 read-so known known_then counts counts_then old new F G there back read = record {
   within = read.within;

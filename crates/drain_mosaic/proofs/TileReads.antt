@@ -56,14 +56,14 @@ module _ (R : Type 0) (bl : R → Option (List ℕ)) (ct : R → FaultCounts) wh
         (get_or a k p) (get_or b k p) (get_or c k p) (one.failed ≡ Some k) (other.failed ≡ Some k) (none-failed (length a) k F one.failed well one.exactly) (one.each k p t inside) (other.each k p t (omega (arith, inside, same)));
   }
 
-  -- devices that tell their bytes go on telling them
+  -- the bytes of devices stay known
   pub reads-told : (old cur : List PlacedRows) (from now : List (TileInput R)) (G : Type 0) → length now ≡ length from → length from ≡ length old → HaveRead bl ct old cur from now G → AreTold bl from → AreTold bl now
   reads-told [] cur from now G same named read told k t inside = absurd (omega (arith, same, named, inside))
   reads-told (p ∷ old) cur from now G same named read told k t inside =
       let h = read.each k p t (omega (arith, same, named, inside)) in
       told-kept (tile_most_bytes (get_or (p ∷ old) k p).rows) (tile_most_bytes (get_or cur k p).rows) (bl (get_or from k t).body) (bl (get_or now k t).body) h.within (told k t (omega (arith, same, inside)))
 
-  -- so many bytes at most, of a tile that was at its start
+  -- at most this many bytes, of a tile that was at its start
   most-taken : (t : Tiling) (c : Corner) (p q : PlacedRows) (known after : Option (List ℕ)) → IsAtStart t c p → ReadsWithin (tile_most_bytes p.rows) (tile_most_bytes q.rows) known after → TakesAtMost (tile_length t.side + 1) known after
   most-taken t c p q known after start within =
       let most : tile_most_bytes p.rows ≡ 2 * t.side * t.side + 1 =
@@ -93,7 +93,7 @@ module _ (R : Type 0) (bl : R → Option (List ℕ)) (ct : R → FaultCounts) wh
       HaveRead bl ct old new from after F → TilesTakeAtMost bl t.side from after
   reads-within t old new from after F starts a b c read = each-within t t.corners old new from after (λ k. read.failed ≡ Some k) starts a b c read.each
 
-  -- the faults of each device, and that one gave up where a tile's read failed
+  -- the faults of each device, and that one failed for good where a tile's read failed
   pub record FaultsOfEach (n : ℕ) (xs ys : List (TileInput R)) (failed : ℕ → Type 0) : Type 0 where
     pub faults : List Faults
     pub answered : AnsweredEach (map ct (tile_devices xs)) (map ct (tile_devices ys)) faults

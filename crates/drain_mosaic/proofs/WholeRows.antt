@@ -21,7 +21,7 @@ use Rattle.drain_hgt.proofs.TileSamples.{samples-append, samples-length}
 none_whole : (side : ℕ) (body : List ℕ) → length body < 2 * side → whole_rows side body ≡ []
 none_whole side body short = let none : length body / (2 * side) ≡ 0 = div-eq_of_lt short in let nothing : 0 * (2 * side) ≡ 0 = omega arith in ap (λ n. take (n * (2 * side)) body) none ∙ ap (λ n. take n body) nothing
 
--- a row, and the whole rows behind it
+-- a row, and the whole rows after it
 one_more : (side : ℕ) (body : List ℕ) → 0 < side → 2 * side ≤ length body → whole_rows side body ≡ take (2 * side) body ++ whole_rows side (drop (2 * side) body)
 one_more side body some long =
     let d = 2 * side in

@@ -61,9 +61,8 @@ impl Model for Layout {
 
 impl Layout {
     /// The layout of the tiles, or the first fault of their list: `NoTiles` if it is empty, `RepeatedTile` with the
-    /// first
-    /// tile that equals an earlier one, `BoxTooLarge` if no box of 8 by 8 holds them. `OutOfMemory` only without such a
-    /// fault.
+    /// first tile that equals an earlier one, `BoxTooLarge` if no box of 8 by 8 holds them. `OutOfMemory` only without
+    /// such a fault.
     pub fn new(alloc: Global, side: u32, names: &[TileName]) -> Result<Layout, LayoutFault>
         requires { IsSide side }
         ensures layout { IfOk result (λ layout. layout ≡ record { side = side; corners = names.now }) }

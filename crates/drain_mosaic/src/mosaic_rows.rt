@@ -1,8 +1,7 @@
 //! The rows of a mosaic, one at a time, from tiles that go on together.
 //!
 //! A row starts as voids, and the next row of each tile over it fills them. So only one row of the mosaic and one row
-//! of
-//! a tile are in memory, and each tile's device is read a row at a time.
+//! of a tile are in memory, and each tile's device is read a row at a time.
 
 ghost use Rattle.std.specs.Prelude.{◌≡◌, ◌≢◌, ◌≤◌, ◌<◌, ◌^◌, [], None, length, IfOk, IfErr, IfSome, IsErrOf, MatchOption, Ok, OnOk};
 ghost use Rattle.std.specs.List.{All};
@@ -101,10 +100,9 @@ impl MosaicRows {
     /// vector.
     ///
     /// `from` has the tiles in the layout's order, the same at each call. After the last row every tile is read to its
-    /// end, and
-    /// `Ended` is returned. `ReadFailed` comes if a device fails for good, `OutOfMemory` if memory for a row runs out.
-    /// After
-    /// either every later call returns `AlreadyFailed`, and after `Ended` it returns `Ended`; these read nothing.
+    /// end, and `Ended` is returned. `ReadFailed` comes if a device fails for good, `OutOfMemory` if memory for a row
+    /// runs out. After either every later call returns `AlreadyFailed`, and after `Ended` it returns `Ended`; these
+    /// read nothing.
     pub fn next_row<R: ByteSource>(
         &mut self,
         from: &mut [TileInput<R>],

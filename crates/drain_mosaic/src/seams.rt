@@ -1,8 +1,7 @@
 //! The joined elevation of tiles.
 //!
 //! A row of the mosaic starts as voids, and each tile over it fills the voids that it has samples for. So a cell gets
-//! the
-//! value of the first tile that has one, and a later tile with another value is a seam fault.
+//! the value of the first tile that has one, and a later tile with another value is a seam fault.
 //!
 //! Running out of memory hides no seam: the check for seams also works without memory, so a seam fault comes exactly if
 //! there is one.
@@ -34,8 +33,7 @@ pub enum SeamFault {
 /// The joined elevation: at each cell the one data value of the tiles that cover it, void if none has data.
 ///
 /// `tiles` has the samples of each tile, in the order of the layout's names. Returns `SeamMismatch` with the first cell
-/// in
-/// row order with two different values, if there is one, and `OutOfMemory` only if the tiles agree.
+/// in row order with two different values, if there is one, and `OutOfMemory` only if the tiles agree.
 pub fn join(alloc: Global, layout: &Layout, tiles: &[Vec<i16>]) -> Result<Elevation, SeamFault>
     requires tiles { AreTiles layout.now (map (λ tile. tile.items) tiles.now) }
     ensures shape { IfOk result (λ elevation. elevation.extent ≡ extent_of layout.now) }

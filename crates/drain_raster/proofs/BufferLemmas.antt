@@ -92,7 +92,7 @@ number-put f r first n col stepped buffer x stored here is_next inside so_far pi
       subst (All IsPixel) (sym grown) (All-push IsPixel (take n buffer) x pixels is_pixel),
     )
 
--- numbers of some cells more behind others
+-- numbers of some more cells after others
 pub numbers-pushed : (f : Cell → ℤ) (r first end : ℕ) (old before new part : List ℤ) → first ≤ end → before ≡ old ++ map f (cells_from r 0 first) →
     part ≡ map f (cells_from r first (end - first)) → new ≡ before ++ part → new ≡ old ++ map f (cells_from r 0 end)
 numbers-pushed f r first end old before new part within so_far is pushed =

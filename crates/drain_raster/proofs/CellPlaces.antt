@@ -18,7 +18,7 @@ length-rows cols a (suc n) =
     let rest = length-rows cols (a + 1) n in
     omega (arith, length-append (row_cells cols a) (flat_map (row_cells cols) (range_with_len (a + 1) n)), row, rest)
 
--- the cell of a row and a column stands in its place in row order
+-- the cell of a row and a column is in its place in row order
 cell_in_rows : (cols a n i k : ℕ) (d : Cell) → i < n → k < cols →
     get_or (flat_map (row_cells cols) (range_with_len a n)) (i * cols + k) d ≡ record { row = a + i; col = k }
 cell_in_rows cols a zero i k d low wide = absurd (omega arith)

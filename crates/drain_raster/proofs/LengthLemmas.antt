@@ -73,7 +73,7 @@ pub raster-some : (h : Fields) (p : Pixels) → AreWithinBounds h → 0 < length
 raster-some h p ok =
     omega (arith, length-raster h p ok, mul-le-mul {n₁ = 1} {m₁ = 1} {n₂ = h.rows} {m₂ = h.row_bytes} ok.some_row (row-some h ok))
 
--- the pixels of a row and the zeros behind them
+-- the pixels of a row and the zeros after them
 pub row-bytes : (h inside : Fields) (len l bits : ℕ) (signed : Bool) (bytes : ℤ → List ℕ) (p : Pixels) (r : ℕ) → AreWritten h len bits signed bytes → inside ≡ h → l ≡ len →
     cells_bytes bytes p (row_cells inside.cols r) ++ replicate (inside.row_bytes - inside.cols * l) 0 ≡ bytes_of_row h p r
 row-bytes h inside len l bits signed bytes p r written view same =

@@ -1,4 +1,4 @@
--- Where the pixels of a row stand, and which kind of pixel a header has.
+-- Where the pixels of a row are, and which kind of pixel a header has.
 use Rattle.std.proofs.Common.{◌≡◌, ◌≢◌, ℕ, ◌+◌, ◌-◌, ◌*◌, ◌/◌, ◌<◌, ◌≤◌, inl, inr, ℤ, pos, Bool, true, false, Option, Some, IfSome, List, length, take, drop, refl, arith, rules, sym, ap, ◌∙◌}
 use Rattle.std.proofs.lemmas.Bool.{cases_lt}
 use Rattle.std.proofs.lemmas.List.{length-drop, take_rest}
@@ -53,7 +53,7 @@ pixel-room h len number body at row col spelled row_in col_in enough is_at =
 pub pixel-stored : (n : ℤ) → IsPixel n → to_z w64 (of_z w64 n) ≡ n
 pixel-stored n ok = to_z-of_z w64 n (grind (arith, ints, ok.low, ok.high))
 
--- a number that stands for no data does too
+-- a no-data number does too
 pub nodata-stored : (n : ℤ) → IsNoData n → IsNoData (to_z w64 (of_z w64 n))
 nodata-stored n ok = rw (to_z-of_z w64 n (grind (arith, ints, ok.low, ok.high))) ok
 
@@ -65,7 +65,7 @@ spelled-so h inside bits signed order view is_bits is_signed is_order = rw (← 
   number_is = λ bytes. rw (is_bits, is_signed, is_order) refl;
 })
 
--- one byte spells the same number in either order
+-- one byte is the same number in either order
 one_byte : (order : ByteOrdering) (bytes : List ℕ) → number_in order 1 bytes ≡ little_number 1 bytes
 one_byte Least bytes = refl
 one_byte Most bytes = omega arith

@@ -22,7 +22,7 @@ ends h (suc left) gap body = elim (cases_lt (length body) (gap + packed_len h)) 
       ))
 ]
 
--- so many rows more than one
+-- n rows and one more
 taken : (h : Fields) (more gap : ℕ) → packed_len h ≤ h.row_bytes → bytes_of_rows h (suc more) gap ≡ gap + more * h.row_bytes + packed_len h
 taken h zero gap fits = omega arith
 taken h (suc more) gap fits = omega (arith, fits, taken h more (h.row_bytes - packed_len h) fits)
@@ -40,7 +40,7 @@ raster_rows_tell_lengths h body ok =
     let same = raster_rows_take_what_is_needed h ok in
     (λ wrong. omega (arith, all.0 wrong, same), λ short. all.1 (omega (arith, short, same)))
 
--- behind the last row of a raster that is short the answer is that it is
+-- after the last row of a short raster the answer is that it is short
 behind : (h : Fields) (left gap : ℕ) (body : List ℕ) → (after_rows left (raster_rows h left gap body) ≡ Wrong) ↔ (length body < bytes_of_rows h left gap)
 behind h zero gap body = (λ wrong. absurd (let no = wrong in cc), λ short. absurd (omega arith))
 behind h (suc left) gap body = elim (cases_lt (length body) (gap + packed_len h)) [
@@ -61,7 +61,7 @@ none_behind h (suc left) gap body = elim (cases_lt (length body) (gap + packed_l
   | inr whole ↦ rw (le-ltb (length body) (gap + packed_len h) (omega (arith, whole))) (none_behind h left (h.row_bytes - packed_len h) (drop (gap + packed_len h) body))
 ]
 
--- so many numbers
+-- this many numbers
 numbers_long : (len : ℕ) (number : List ℕ → ℤ) (n : ℕ) (bytes : List ℕ) → length (numbers_of len number n bytes) ≡ n
 numbers_long len number zero bytes = refl
 numbers_long len number (suc n) bytes = ap suc (numbers_long len number n (drop len bytes))

@@ -64,7 +64,7 @@ pub raster-within-no_row : (progress : Progress) → progress ≡ Going → (h :
 raster-within-no_row progress going h left gap old new fault out bytes some came =
     rw going (within-row (pixels_behind h gap) (gap + packed_len h) (bytes_of_rows h left gap) 0 old new (Err fault) out bytes came (omega (arith, bytes_of_rows-next h left gap some)))
 
--- the pixels behind the bytes that were passed over
+-- the pixels after the skipped bytes
 pub row-comes : (h : Fields) (gap : ℕ) (old between new : Option (List ℕ)) (out : List ℤ) (xs ys : List ℕ) → length xs ≡ gap → Consumes old between xs → length ys ≡ packed_len h →
     Consumes between new ys → out ≡ pixels_of h ys → RowComes (pixels_behind h gap) (gap + packed_len h) old new (Ok tt) out (xs ++ ys)
 row-comes h gap old between new out xs ys is took is_then then are =

@@ -1,4 +1,4 @@
--- The numbers of a row, read in parts: so many pixels, and then a chunk more.
+-- The numbers of a row, read in parts: some pixels, and then one more chunk.
 use Rattle.std.proofs.Common.{◌≡◌, ℕ, zero, suc, ◌+◌, ◌-◌, ◌*◌, ◌<◌, ◌≤◌, ℤ, List, [], ◌∷◌, ◌++◌, length, take, drop, All, set, arith, refl, sym, ap, subst, ◌∙◌}
 use Rattle.std.proofs.lemmas.List.{take_all, take_more_set, take-append-le, drop-append-le, drop-drop, length-drop, length-take}
 use Rattle.std.proofs.lemmas.List.Elements.{All-append, All-push}
@@ -57,13 +57,13 @@ chunk_put len number first came k stepped before chunk out part is_next within l
       subst (All IsPixel) (sym grown) (All-append IsPixel (take first out) part pixels are),
     )
 
--- the number that a slice of as many bytes as a pixel spells
+-- the number in a slice with as many bytes as a pixel
 pub number-found : (f : List ℕ → ℤ) (bytes : List ℕ) (k len a : ℕ) → a ≡ len → f (take (k * a + a - k * a) (drop (k * a) bytes)) ≡ f (take len (drop (k * len) bytes))
 number-found f bytes k len a is =
     let one : k * a + a - k * a ≡ len = omega (arith, is) in
     ap (λ n. f (take n (drop (k * a) bytes))) one ∙ ap (λ l. f (take len (drop (k * l) bytes))) is
 
--- so many pixels fit in a chunk
+-- this many pixels fit in a chunk
 pub chunk_fits : (h inside : Fields) (came len other : ℕ) → came ≤ 4096 → len ≡ other → other ≡ pixel_len h → inside ≡ h → ∥ IsPixelSize inside.bits ∥₁ → came * len ≤ 16384
 chunk_fits h inside came len other few is is_then view size =
     let most : len ≤ 4 = omega (arith, is ∙ is_then ∙ ap pixel_len (sym view), pixel_len-most inside.bits size) in

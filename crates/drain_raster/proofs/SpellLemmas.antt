@@ -1,4 +1,4 @@
--- What a pixel's bytes spell is the number that they were made of.
+-- A pixel's bytes encode the number that they were made of.
 use Rattle.std.proofs.Common.{◌≡◌, ℕ, ◌-◌, ◌*◌, ◌/◌, ◌^◌, ◌<◌, ◌≤◌, inl, inr, ℤ, pos, negsuc, ◌-ℤ◌, Bool, true, false, List, ◌++◌, refl, arith, ap, ◌∙◌}
 use Rattle.std.proofs.lemmas.Bool.{lt-ltb, le-ltb}
 use Rattle.std.proofs.lemmas.Int.{ints}
@@ -12,24 +12,24 @@ use Rattle.drain_header.specs.Fields.{Fields, IsPixelSize}
 use Rattle.drain_raster.specs.Pixels.{number_in, spelled_by, pixel_of}
 use Rattle.drain_raster.specs.Bytes.{CanSpell, CanSpellIn, complement_of, bytes_in, pixel_bytes}
 
--- the number that a whole number stands for
+-- the number that a whole number encodes
 abbrev spelled_by_number : Bool → ℕ → ℕ → ℤ
 spelled_by_number true len number = twos_complement len number
 spelled_by_number false len number = pos number
 
--- a whole number's bytes, and more bytes behind them
+-- a whole number's bytes, and more bytes after them
 number_in-bytes_in : (order : ByteOrdering) (n x : ℕ) (rest : List ℕ) → x < 256 ^ n → number_in order n (bytes_in order n x ++ rest) ≡ x
 number_in-bytes_in Least n x rest fits = little_number-reads_back n x rest fits
 number_in-bytes_in Most n x rest fits = big_number-reads_back n x rest fits
 
--- a number below the half is itself, and one above it stands for a negative number
+-- a number below the half is itself, and one above it encodes a negative number
 twos-low : (len n : ℕ) → n < 2 ^ (8 * len - 1) → twos_complement len n ≡ pos n
 twos-low len n low = rw (lt-ltb n (2 ^ (8 * len - 1)) low) refl
 
 twos-high : (len x : ℕ) → 2 ^ (8 * len - 1) ≤ x → twos_complement len x ≡ pos x -ℤ pos (2 ^ (8 * len))
 twos-high len x high = rw (le-ltb x (2 ^ (8 * len - 1)) high) refl
 
--- the number whose bits spell z in two's complement is z, for each size
+-- the number with the bits of z in two's complement is z, for each size
 back-8 : (z : ℤ) → CanSpellIn true 8 z → (complement_of 8 z < 256 ^ 1) × (twos_complement 1 (complement_of 8 z) ≡ z)
 back-8 (pos n) ok = let low : n < 128 = omega (arith, ints, ok.high) in (omega arith, twos-low 1 n low)
 back-8 (negsuc n) ok =
@@ -61,7 +61,7 @@ same-32 : (z : ℤ) → CanSpellIn false 32 z → (complement_of 32 z < 256 ^ 4)
 same-32 (pos n) ok = (omega (arith, ints, ok.high), refl)
 same-32 (negsuc n) ok = absurd (omega (arith, ints, ok.low))
 
--- bytes of a number that bits can spell, and more bytes behind them
+-- bytes of a number that the bits can encode, and more bytes after them
 spelled-back : (signed : Bool) (order : ByteOrdering) (len bits : ℕ) (z : ℤ) (rest : List ℕ) → complement_of bits z < 256 ^ len →
     spelled_by signed order len (bytes_in order len (complement_of bits z) ++ rest) ≡ spelled_by_number signed len (complement_of bits z)
 spelled-back true order len bits z rest fits = ap (twos_complement len) (number_in-bytes_in order len (complement_of bits z) rest fits)
@@ -76,7 +76,7 @@ back-by false bits z (inl is) ok = rw is (same-8 z (rw is at ok))
 back-by false bits z (inr (inl is)) ok = rw is (same-16 z (rw is at ok))
 back-by false bits z (inr (inr is)) ok = rw is (same-32 z (rw is at ok))
 
--- a pixel's bytes spell its number, whatever stands behind them
+-- a pixel's bytes encode its number, whatever follows them
 pub pixel_of-pixel_bytes : (h : Fields) (z : ℤ) (rest : List ℕ) → ∥ IsPixelSize h.bits ∥₁ → CanSpell h z → pixel_of h (pixel_bytes h z ++ rest) ≡ z
 pixel_of-pixel_bytes h z rest size ok = ∥∥₁_elim size (hlevel props) (λ is.
     let back = back-by h.signed h.bits z is ok in

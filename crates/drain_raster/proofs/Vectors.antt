@@ -7,7 +7,7 @@ use Rattle.drain_header.specs.Fields.{Fields}
 use Rattle.drain_raster.specs.Pixels.{needed_len, extent_of, raster_of}
 use Rattle.drain_raster.specs.Bytes.{raster_bytes}
 
--- two by two pixels of 16 bits, a byte to skip, and one behind each row
+-- two by two pixels of 16 bits, a byte to skip, and one after each row
 abbrev header : ByteOrdering → Fields
 header order = record {
   rows = 2;

@@ -13,7 +13,7 @@ use Rattle.drain_device.proofs.CountLemmas.{answered_more}
 use Rattle.drain_device.specs.Failing.{WriteFails}
 use Rattle.drain_raster.specs.Writing.{Hands}
 
--- a call that didn't give up met no failure and no stall, and no more interruptions than are borne
+-- a call that didn't fail for good met no failure and no stall, and no more interruptions than its patience
 pub went_on : (patience failures interruptions stalls : ℕ) → (GivesUpWriting patience failures interruptions stalls → ⊥) →
     (failures ≡ 0) × (interruptions ≤ patience) × (stalls ≡ 0)
 went_on patience failures interruptions stalls goes_on =
@@ -82,7 +82,7 @@ Hands-then old now new counts_old counts_now counts_new stalls_old stalls_now st
       );
     }
 
--- a write that gave up writes no more
+-- a write that failed for good writes no more
 pub Hands-stopped : {E F : Type 0} (old new : Option (List ℕ)) (counts_old counts_new : FaultCounts) (stalls_old stalls_new : ℕ)
     (patience left : ℕ) (e : E) (result : Result (Unit {0}) F) (xs ys : List ℕ) → IsErr result →
     Hands old new counts_old counts_new stalls_old stalls_new patience left (Err e) xs →
@@ -108,7 +108,7 @@ Hands-both old now new counts_old counts_now counts_new stalls_old stalls_now st
     subst (Hands old new counts_old counts_new stalls_old stalls_new patience least result) are
     (Hands-then old now new counts_old counts_now counts_new stalls_old stalls_now stalls_new patience left least result xs ys first second)
 
--- the first part of a write gave up
+-- the first part of a write failed for good
 pub Hands-halted : {E F : Type 0} (old new : Option (List ℕ)) (counts_old counts_new : FaultCounts) (stalls_old stalls_new : ℕ)
     (patience left : ℕ) (e : E) (result : Result (Unit {0}) F) (xs rest zs : List ℕ) → IsErr result →
     Hands old new counts_old counts_new stalls_old stalls_new patience left (Err e) xs → xs ++ rest ≡ zs →
@@ -127,7 +127,7 @@ Hands-more {F = F} old now new counts_old counts_now counts_new stalls_old stall
     subst (Hands {E = F} old new counts_old counts_new stalls_old stalls_new patience least (Ok (tt {0}))) are
     (Hands-then old now new counts_old counts_now counts_new stalls_old stalls_now stalls_new patience left least (Ok (tt {0})) xs ys first second)
 
--- the second part of a write gave up
+-- the second part of a write failed for good
 pub Hands-ended : {E F G : Type 0} (old now new : Option (List ℕ)) (counts_old counts_now counts_new : FaultCounts) (stalls_old stalls_now stalls_new : ℕ)
     (patience left least : ℕ) (e : F) (result : Result (Unit {0}) G) (xs ys rest zs : List ℕ) → IsErr result →
     Hands {E = E} old now counts_old counts_now stalls_old stalls_now patience left (Ok (tt {0})) xs →

@@ -32,7 +32,7 @@ pub record CanSpellIn (signed : Bool) (bits : ℕ) (z : ℤ) : Type 0 where
 abbrev pub CanSpell : Fields → ℤ → Type 0
 CanSpell h z = CanSpellIn h.signed h.bits z
 
--- the whole number whose bits spell z in two's complement
+-- the whole number with the bits of z in two's complement
 abbrev pub complement_of : ℕ → ℤ → ℕ
 complement_of bits (pos n) = n
 complement_of bits (negsuc n) = 2 ^ bits - 1 - n

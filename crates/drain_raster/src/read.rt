@@ -136,9 +136,8 @@ fn push_pixels(numbers: &mut Vec<i64>, header: &Header, body: &[u8])
 /// The raster of the bytes. The no-data number is the header's, or else the product's default.
 ///
 /// The bytes are those of a BIL file of one band: `skip` bytes of anything, then each row's pixels and bytes of
-/// anything
-/// up to `row_bytes`. Bytes after the last pixel are ignored. Returns `Short` if a byte of some pixel is missing, else
-/// `OutOfMemory` if memory for one number per pixel, taken once, runs out.
+/// anything up to `row_bytes`. Bytes after the last pixel are ignored. Returns `Short` if a byte of some pixel is
+/// missing, else `OutOfMemory` if memory for one number per pixel, taken once, runs out.
 ///
 /// Source: the Esri description of BIL files.
 pub fn read_raster(

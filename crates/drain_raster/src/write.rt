@@ -193,8 +193,7 @@ fn write_all_bytes<W: ByteSink>(
 ///
 /// `OutOfRange` gives the first cell, in row order, with a number that a pixel of this size and sign can't encode, and
 /// comes before any byte is written. `WriteFailed` comes if the sink failed, stalled, or was interrupted for the
-/// 1,000th
-/// time in this call; then a part of the bytes was written, from the first on. It takes no memory.
+/// 1,000th time in this call; then a part of the bytes was written, from the first on. It takes no memory.
 ///
 /// Source: the Esri description of BIL files.
 pub fn write_raster<W: ByteSink>(

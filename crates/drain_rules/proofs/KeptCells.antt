@@ -1,4 +1,4 @@
--- Cells that are vouched for are passed at once: no rule fails at them, and they have no label, since they are no outlets.
+-- Cleared cells are passed at once: no rule fails at them, and they have no label, since they are no outlets.
 use Rattle.std.proofs.Common.{◌≡◌, ◌≢◌, ℕ, zero, suc, ℤ, ◌+◌, ◌-◌, ◌<◌, ◌≤◌, ◌↔◌, ◌⊎◌, cond, ◌&&◌, true, false, is_some, IsSome, pos, List, Option, Some, None, map, inl, inr, refl, sym, ◌∙◌, ap, subst, arith, add-one}
 use Rattle.std.specs.List.{range_with_len}
 use Rattle.std.specs.Ordering.{int_eq}
@@ -49,7 +49,7 @@ counts_none (Some h) dir other = elim (int_eq dir (pos 0)) as (λ b. int_eq dir 
   | false ↦ λ differs. refl
 ] refl
 
--- every rule holds at a cell that is vouched for, whatever labels were admitted
+-- every rule holds at a cleared cell, whatever labels were admitted
 kept_holds : (profile : Profile) (labels : List (ℕ × ℕ)) (p : Patch) → IsKept profile p → (r : Rule) → IsAnyRule r → labelled_profile profile labels p r
 kept_holds profile labels p kept SharedLabel own = λ outlet. absurd (kept.no_outlet outlet.code)
 kept_holds profile labels p kept r own = kept.holds r (omega arith, omega arith)
@@ -69,7 +69,7 @@ no_label profile labels p kept label = (
 module _ (profile : Profile) (cols : ℕ) (shown : ℕ → Patch) (P : ℕ → Tally → Type 0)
     (one : (col : ℕ) (old new : Tally) → col < cols → P col old → IsKept profile (shown col) → new.data_cells ≡ old.data_cells + 1 →
     new.raised ≡ old.raised + cond (shows_raised (shown col)) 1 0 → new.outlets ≡ old.outlets → P (col + 1) new) where
-  -- so many such cells leave it so
+  -- n such cells leave it so
   kept_some : (from n : ℕ) (old new : Tally) → from + n ≤ cols → P from old → ((col : ℕ) → from ≤ col → col < from + n → IsKept profile (shown col)) →
       new.data_cells ≡ old.data_cells + n → new.raised ≡ old.raised + raised_between shown from (from + n) → new.outlets ≡ old.outlets → P (from + n) new
   kept_some from zero old new within so_far kept data_cells raised outlets =
@@ -89,7 +89,7 @@ module _ (profile : Profile) (cols : ℕ) (shown : ℕ → Patch) (P : ℕ → T
       subst (λ col. P col new) next
       (one (from + n) before new (omega (arith, within)) earlier (kept (from + n) (omega arith) (omega arith)) (omega (arith, data_cells)) (omega (arith, raised, more)) outlets)
 
-  -- and so do the cells that a row vouches for
+  -- and so do the cells that a row clears
   kept_run : (from : ℕ) (kept : Kept) (old new : Tally) → from ≤ kept.end → kept.end ≤ cols → P from old →
       ((col : ℕ) → from ≤ col → col < kept.end → IsKept profile (shown col)) → kept.raised ≡ raised_between shown from kept.end →
       new.data_cells ≡ old.data_cells + (kept.end - from) → new.raised ≡ old.raised + kept.raised → new.outlets ≡ old.outlets → P kept.end new
@@ -100,7 +100,7 @@ module _ (profile : Profile) (cols : ℕ) (shown : ℕ → Patch) (P : ℕ → T
       (kept_some from (kept.end - from) old new (omega (arith, within)) so_far (λ col past less. all col past (omega (arith, less))) data_cells all_raised outlets)
 
 module _ (profile : Profile) (g : Grid) (ps : Products) (row cols : ℕ) (shown : ℕ → Patch) where
-  -- the cells that a row vouches for are counted
+  -- the cells that a row clears are counted
   pub counted-kept : (from : ℕ) (kept : Kept) (old new : Tally) → AreRowPatches g ps row cols shown → from ≤ kept.end → kept.end ≤ cols →
       CountsAlong g ps row from old → ((col : ℕ) → from ≤ col → col < kept.end → IsKept profile (shown col)) →
       kept.raised ≡ raised_between shown from kept.end → new.data_cells ≡ old.data_cells + (kept.end - from) → new.raised ≡ old.raised + kept.raised →

@@ -112,7 +112,7 @@ module _ (profile : Profile) (g : Grid) (ps : Products) (row cols : ℕ) (shown 
       (omega (arith, void_counts p.here.z (int_lt (unwrap_or p.here.z (pos 0)) p.here.con) right.is_void))
       (omega (arith, void_counts p.here.z (int_eq p.here.dir (pos 0)) right.is_void)) (void_label profile labels p right)
 
-  -- so many such cells are
+  -- n such cells are
   void_some : (from n : ℕ) → AreRowPatches g ps row cols shown → from + n ≤ cols → IsPassed profile g ps row from tally labels →
       ((col : ℕ) → from ≤ col → col < from + n → IsRightVoid profile (shown col)) → IsPassed profile g ps row (from + n) tally labels
   void_some from zero are within passed right =

@@ -10,11 +10,11 @@ pub record ArePut (numbers out : List ℤ) (place : ℕ) : Type 0 where
   pub fit : (k : ℕ) → k < place → FitsSigned w16 (slice_index_or numbers k (pos 0))
   pub same : (k : ℕ) → k < place → slice_index_or out k (pos 0) ≡ slice_index_or numbers k (pos 0)
 
--- a number of a part of a list is that of the list, so many places on
+-- a number of a part of a list is that of the list, at a later place
 in_part : (xs : List ℤ) (at end k : ℕ) → k < end - at → slice_index_or (slice_range xs at end) k (pos 0) ≡ slice_index_or xs (at + k) (pos 0)
 in_part xs at end k less = get_or-take (end - at) (drop at xs) k (pos 0) less ∙ get_or-drop at xs k (pos 0)
 
--- where no place before is below the ground, and none of so many in the next part, none of them all is
+-- where no place before is below the ground, and none in the next part, none of them all is
 pub clear_on : (con ground : List ℤ) (at end above : ℕ) → above ≤ end - at → ((place : ℕ) → place < at → ¬ IsBelowAt con ground place) →
     ((place : ℕ) → place < above → ¬ IsBelowAt (slice_range con at end) (slice_range ground at end) place) →
     (place : ℕ) → place < at + above → ¬ IsBelowAt con ground place

@@ -25,10 +25,8 @@ pub enum Stop {
 /// Tries every rule at a cell, and admits its label if it is an outlet by its code.
 ///
 /// If the cell is known not to be below its ground (`is_above`), that isn't checked again. `labels` are those of the
-/// outlets
-/// before the cell. A label is admitted only if the other rules hold; `OutOfMemory` comes only from that, at an outlet
-/// whose
-/// label is new.
+/// outlets before the cell. A label is admitted only if the other rules hold; `OutOfMemory` comes only from that, at an
+/// outlet whose label is new.
 pub fn check_cell(
     patch: &Patch,
     rules: &Rules,

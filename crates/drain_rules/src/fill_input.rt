@@ -1,6 +1,5 @@
 //! The four parts of a fill input, read in place: the tile, its conditioned elevations, spill parents and ranks. Only
-//! the
-//! nine cells of one patch are copied.
+//! the nine cells of one patch are copied.
 
 ghost use Rattle.std.specs.Prelude.{◌≡◌, ◌*◌, length};
 ghost use Rattle.drain_grid.specs.Tile.{IsSide};

@@ -98,10 +98,8 @@ fn fill_verdict(input: &FillInput<'_>) -> FillVerdict
 /// The verdict on a fill input, or why there is none.
 ///
 /// `side` is the number of samples along an edge of the tile, from 2 to 3601. The input is exactly nine bytes per cell:
-/// the
-/// tile (two bytes per cell), the conditioned elevations (two, signed), the spill parents' codes (one) and the ranks
-/// (four),
-/// each part row after row, most significant byte first. It takes no memory.
+/// the tile (two bytes per cell), the conditioned elevations (two, signed), the spill parents' codes (one) and the
+/// ranks (four), each part row after row, most significant byte first. It takes no memory.
 pub fn check_fill(side: u32, bytes: &[u8]) -> Result<FillVerdict, FillRefusal>
     ensures answer { IsFillAnswer side bytes.now result }
 

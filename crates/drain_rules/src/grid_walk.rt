@@ -43,12 +43,10 @@ impl GridWalk {
     }
 
     /// Checks the next row. After a fault it looks at no more rows. The result is right for these rules if the rows
-    /// above
-    /// were checked with them too.
+    /// above were checked with them too.
     ///
     /// `OutOfMemory` comes only at a data cell with code 0 whose label is new, if every rule holds there and at each
-    /// earlier
-    /// cell: no memory for its label. Then the walk is over.
+    /// earlier cell: no memory for its label. Then the walk is over.
     pub fn check_row<R: PatchRow>(&mut self, patches: &R, rules: &Rules) -> Result<(), OutOfMemory>
         requires row { self.old.rows < MAX_LENGTH }
         ensures rows { OnOk result (self.new.rows ≡ self.old.rows + 1) }

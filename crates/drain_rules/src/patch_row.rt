@@ -33,8 +33,7 @@ pub trait PatchRow {
         ensures { (col : ℕ) → col < result → col < len self.now → BelowGroundHolds (shown self.now col) };
 
     /// How far from a column on every rule but SharedLabel is found to hold at data cells that are no outlets, and how
-    /// many
-    /// of them are raised. It may be fewer cells than there are, even none.
+    /// many of them are raised. It may be fewer cells than there are, even none.
     fn kept_from(&self, rules: &Rules, from: u32) -> Kept
         requires { from ≤ len self.now }
         ensures forward { from ≤ result.end }
@@ -43,8 +42,7 @@ pub trait PatchRow {
         ensures raised { result.raised ≡ raised_between (shown self.now) from result.end };
 
     /// A column up to which, from one on, all cells are found to be voids at which no rule fails. It may be an earlier
-    /// one, even
-    /// that column.
+    /// one, even that column.
     fn voids_until(&self, rules: &Rules, from: u32) -> u32
         requires { from ≤ len self.now }
         ensures forward { from ≤ result }

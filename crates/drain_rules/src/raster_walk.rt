@@ -17,10 +17,8 @@ use drain_kernel::{Ranks, Rules};
 use std::alloc::Global;
 
 /// The verdict on the products of a grid; its data cells that are listed sinks are open too. `OutOfMemory` comes only
-/// at
-/// a data cell with code 0 whose label is new, if every rule holds there and at each earlier cell: no memory for its
-/// label.
-/// So running out of memory never hides a fault.
+/// at a data cell with code 0 whose label is new, if every rule holds there and at each earlier cell: no memory for its
+/// label. So running out of memory never hides a fault.
 pub fn verdict_of(
     alloc: Global,
     elevation: &Elevation,

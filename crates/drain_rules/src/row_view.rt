@@ -19,8 +19,7 @@ use drain_kernel::Lanes;
 use std::marker::Model;
 
 /// One row: elevations, -32768 at a void, and each product's numbers, as many of each; marks, true at a listed sink;
-/// and
-/// the lanes of its numbers if they were made. It has no numbers if there is no row; a missing mark means false.
+/// and the lanes of its numbers if they were made. It has no numbers if there is no row; a missing mark means false.
 #[derive(Drop)]
 pub struct RowView<'a> {
     z: &'a [i64],
@@ -85,8 +84,7 @@ impl<'a> RowView<'a> {
     }
 
     /// A column up to which no cell is marked from this one on: that of the next mark, if it is among the next 128; of
-    /// a row
-    /// without marks the number of columns.
+    /// a row without marks the number of columns.
     pub fn unmarked_until(&self, from: usize) -> usize
         requires { from ≤ length self.now.numbers.z }
         ensures forward { from ≤ result }

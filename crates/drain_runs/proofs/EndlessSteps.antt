@@ -49,7 +49,7 @@ pub record HasWalked (g : Grid) (ps : Products) (first here : Cell) (walked : �
   pub led : cell_after g ps walked first ≡ Some here
   pub away : (k : ℕ) → 0 < k → k ≤ walked → cell_after g ps k first ≢ Some first
 
--- and the cells that it passed, as far as they are told
+-- and the cells that it passed, as far as they are in the list
 abbrev pub ArePassed : Grid → Products → Cell → List Cell → Type 0
 ArePassed g ps first cells = (k : ℕ) → k < length cells → cell_after g ps k first ≡ slice_get cells k
 
@@ -87,7 +87,7 @@ ring-closed g ps first here n walked so_far on same = record {
 pub passed-none : (g : Grid) (ps : Products) (first : Cell) → ArePassed g ps first []
 passed-none g ps first = λ k less. absurd (omega (arith, less))
 
--- with the cell that the walk has come to
+-- with the cell that the walk has reached
 pub passed-more : (g : Grid) (ps : Products) (first here : Cell) (cells : List Cell) → ArePassed g ps first cells → cell_after g ps (length cells) first ≡ Some here →
     ArePassed g ps first (cells ++ here ∷ [])
 passed-more g ps first here cells passed led = λ k less. elim (cases_order k (length cells)) [
@@ -105,7 +105,7 @@ not_below a b h = grind (arith, nat_tests)
 min-left : (a b : ℕ) → a < b → min a b ≡ a
 min-left a b less = omega (arith, less)
 
--- so many are told then
+-- then the list has this many
 pub told-long : (here : Cell) (cells : List Cell) (walked : ℕ) → length cells ≡ min walked RING_TOLD → length (told_with walked here cells) ≡ min (walked + 1) RING_TOLD
 told-long here cells walked told = elim (cases_Bool (nat_lt walked RING_TOLD)) [
   | inl few ↦
@@ -132,7 +132,7 @@ told-more g ps first here cells walked passed told led = elim (cases_Bool (nat_l
   | inr many ↦ rw many passed
 ]
 
--- a ring that the run of the start comes to
+-- a ring that the run of the start reaches
 pub ring-of : (Known : Grid → Products → Type 0) (start here : Cell) → ((g : Grid) (ps : Products) → Known g ps → HasData g start → IsReached g ps start here) →
     (result : Result (Option EndlessRun) OutOfMemory) → IfOk result (λ told. (g : Grid) (ps : Products) → Known g ps → HasData g here → IfSome told (IsRing g ps here)) →
     IfOk result (λ told. (g : Grid) (ps : Products) → Known g ps → HasData g start → IfSome told (IsEndlessRun g ps start))

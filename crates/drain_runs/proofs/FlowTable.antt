@@ -5,7 +5,7 @@ use Rattle.drain_runs.specs.declared.flow.Flow.TheVariants.{Void}
 use Rattle.drain_runs.specs.FlowTable.{IsFlowTable}
 use Rattle.drain_runs.specs.Flows.{code_flow}
 
--- those of so many numbers, from the first on
+-- those of n numbers, from the first on
 abbrev pub flows_from : ℕ → ℕ → List Flow
 flows_from first zero = []
 flows_from first (suc more) = code_flow (pos first) ∷ flows_from (suc first) more

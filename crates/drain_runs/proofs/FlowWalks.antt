@@ -18,7 +18,7 @@ use Rattle.drain_runs.proofs.KnownWays.{known_at}
 use Rattle.drain_runs.proofs.NextCells.{no_void}
 use Rattle.drain_runs.proofs.Shorter.{IsEnded}
 
--- so many steps lead from the start to a data cell
+-- n steps lead from the start to a data cell
 pub record HasCome (g : Grid) (ps : Products) (steps : ℕ) (start here : Cell) : Type 0 where
   pub to_data : HasData g here
   pub walk : IsWalk g ps steps start here
@@ -40,7 +40,7 @@ pub record FirstEnd (g : Grid) (ps : Products) (e : Extent) (flows : List Flow) 
   pub known : AreKnownFlows g ps e flows
   pub ended : (c : Cell) → HasData g c → index_of e c < passed → RunEnds g ps c
 
--- a walk of more steps than there are cells tells that the run doesn't end
+-- a walk of more steps than there are cells shows that the run doesn't end
 pub too_far : (g : Grid) (ps : Products) (e : Extent) (steps : ℕ) (start here : Cell) → g.extent ≡ e → HasCome g ps steps start here →
     e.rows * e.cols < steps → ¬ RunEnds g ps start
 too_far g ps e steps start here extent come long =
@@ -73,7 +73,7 @@ FirstEnd-pass g ps e flows k f first is passed =
       | inr ends ↦ known.ends ends
     ]))
 
--- past a cell from which a walk came to an end
+-- past a cell from which a walk ended
 pub FirstEnd-walk : (g : Grid) (ps : Products) (e : Extent) (flows after : List Flow) (k : ℕ) (c : Cell) → FirstEnd g ps e flows k →
     IsInside g c → index_of e c ≡ k → RunEnds g ps c → AreKnownFlows g ps e after → FirstEnd g ps e after (k + 1)
 FirstEnd-walk g ps e flows after k c first inside at ends known =
@@ -87,7 +87,7 @@ data_at g ps e flows c k f known inside at is some =
     let inside_g : IsInside g c = subst (λ (x : Extent). IsCellOf x c) (sym known.extent) inside in
     record { inside = inside_g; is_data = (known_at g ps e flows c k f known inside_g (sym at) is).has_data some }
 
--- the first cell from which no walk comes to an end
+-- the first cell from which no walk ends
 pub FirstEnd-endless : (g : Grid) (ps : Products) (e : Extent) (flows : List Flow) (k : ℕ) (c : Cell) → FirstEnd g ps e flows k →
     HasData g c → index_of e c ≡ k → ¬ RunEnds g ps c → IsFirstEndless g ps c
 FirstEnd-endless g ps e flows k c first here at endless = record {

@@ -2,7 +2,7 @@
 -- definition of a run is never in the way.
 --
 -- No cell stands twice in such a run, as the run from a later cell is shorter. So each step of the run has one cell of the grid more
--- standing in it (room, by induction on the number of steps): as many stand in it as it has, and no more than there are.
+-- in it (room, by induction on the number of steps): as many are in it as it has, and no more than there are.
 use Rattle.std.proofs.Common.{◌≡◌, ℕ, zero, suc, ◌+◌, ◌<◌, ◌≤◌, ◌⊎◌, inl, inr, Bool, true, false, [], ◌∷◌, length, Option, Some, None, refl, sym, ap, subst, arith}
 use Rattle.std.proofs.lemmas.Bool.{false_from_ne_true}
 use Rattle.drain_grid.specs.declared.cell.Cell.{Cell}
@@ -47,7 +47,7 @@ ended_are_chains g ps c ended = by_next (next g ps c) refl
       },
     )
 
--- whether the cell at a place stands in the run
+-- whether the cell at a place is in the run
 stands_at : (g : Grid) (ps : Products) (c : Cell) → ℕ → Bool
 stands_at g ps c k = stands (cell_at g.extent k) (run g ps c)
 
@@ -56,7 +56,7 @@ tally-none zero = refl
 tally-none (suc n) = tally-none n
 
 module _ (g : Grid) (ps : Products) where
-  -- the first cell stands in its run
+  -- the first cell is in its run
   stands_first : (c : Cell) → IsEnded g ps c → stands_at g ps c (index_of g.extent c) ≡ true
   unfolding stands_at
   stands_first c ended =
@@ -75,7 +75,7 @@ module _ (g : Grid) (ps : Products) where
       (subst (λ x. stands x (run g ps n) ≡ true) place there) in
       absurd (omega (arith, longer, no_longer))))
 
-  -- what stands in the run of the next cell stands in this one's
+  -- what is in the run of the next cell is in this one's
   stands_later : (c n : Cell) → next g ps c ≡ Some n → IsEnded g ps c → (k : ℕ) → stands_at g ps n k ≡ true →
       stands_at g ps c k ≡ true
   unfolding stands_at
@@ -83,7 +83,7 @@ module _ (g : Grid) (ps : Products) where
       stands_onward (IsEnded g ps) (next g ps) (run g ps) (ended_are_chains g ps) (cell_at g.extent k) c n
       (record { leads = leads; to_data = IsEnded-next g ps c n leads ended; follows = ended-run g ps c n ended.ends leads }) there
 
-  -- more cells of the grid stand in the run than it makes steps
+  -- more cells of the grid are in the run than it makes steps
   room : (j : ℕ) (c : Cell) → IsEnded g ps c → run_steps g ps c ≡ j → j < tally (stands_at g ps c) (cell_count g)
   room zero c ended steps =
       let less = tally-less (λ k. false) (stands_at g ps c) (cell_count g) (index_of g.extent c) (λ k h. absurd (false_true h))
@@ -127,6 +127,6 @@ module _ (g : Grid) (ps : Products) where
   leads-before zero c d same ends = subst (RunEnds g ps) (sym same) ends
   leads-before (suc k) c d way ends = RunEnds-before c way.0 way.1 (leads-before k way.0 d way.2 ends)
 
-  -- where a walk comes to a cell whose run ends, the run that it is on ends
+  -- where a walk reaches a cell whose run ends, the run that it is on ends
   pub RunEnds-walk : (k : ℕ) (c d : Cell) → IsWalk g ps k c d → RunEnds g ps d → RunEnds g ps c
   RunEnds-walk k c d walk ends = leads-before k c d walk.leads ends

@@ -18,8 +18,7 @@ impl CellFlows {
     /// run ends.
     ///
     /// Each walk goes on to a cell whose run is known to end, and then records that for all cells that it passed: so a
-    /// cell is
-    /// passed at most twice, and no other memory is taken. Afterwards the flows no longer have the codes.
+    /// cell is passed at most twice, and no other memory is taken. Afterwards the flows no longer have the codes.
     pub fn first_endless(&mut self, shape: Shape) -> Option<Cell>
         requires { length self.old ≡ shape.rows * shape.cols }
         ensures first { (g : Grid) → (ps : Products) → AreFlowsOf g ps shape self.old →

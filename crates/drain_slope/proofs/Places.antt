@@ -5,7 +5,7 @@ use Rattle.drain_grid.specs.declared.direction.Direction.TheVariants.{East, Sout
 use Rattle.drain_grid.specs.Direction.{directions, order_of}
 use Rattle.drain_grid.proofs.Decisions.{each_below, same_number}
 
--- a direction stands at its place, which is below 8
+-- a direction is at its place, which is below 8
 at_place : (d : Direction) → (get_or directions (order_of d) East ≡ d) × (order_of d < 8)
 at_place East = (refl, omega arith)
 at_place SouthEast = (refl, omega arith)
@@ -16,7 +16,7 @@ at_place NorthWest = (refl, omega arith)
 at_place North = (refl, omega arith)
 at_place NorthEast = (refl, omega arith)
 
--- what stands at a place has that place
+-- what is at a place has that place
 pub place_at : (k : ℕ) → k < 8 → order_of (get_or directions k East) ≡ k
 place_at = (each_below (λ k. same_number (order_of (get_or directions k East)) k) 8).sound refl
 

@@ -77,7 +77,7 @@ words_of_rest line rest is some =
 pub no_words : (line rest : List ℕ) → rest ≡ drop (prefix_len is_blank line) line → length rest ≡ 0 → words_of line ≡ []
 no_words line rest is none = sym (words_skip line) ∙ ap words_of (sym is ∙ nil_from_length rest none)
 
--- a text whose first line feed stands at a place
+-- a text whose first line feed is at a place
 pub line_ends : (text : List ℕ) (at : ℕ) → at < length text → first_length (λ b. b == 10) text ≡ at → lines_of text ≡ strip_carriage_return (take at text) ∷ lines_of (drop (at + 1) text)
 line_ends text at inside is =
     let more : drop at text ≡ get_or text at 0 ∷ drop (at + 1) text = drop_more text at 0 inside in

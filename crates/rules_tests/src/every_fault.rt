@@ -48,7 +48,7 @@ fn rules_of(example: &Given, ranks: Ranks) -> Rules {
     }
 }
 
-/// The walk over all rows; ranks are asked for or not, and a map is drawn.
+/// The walk over all rows; ranks are checked or not, and a map is drawn.
 pub fn walk_over(alloc: Global, example: &Given, ranks: Ranks) -> Result<FaultWalk, OutOfMemory> {
     let rules = rules_of(example, ranks);
     let shape = example.elevation.shape();
@@ -76,7 +76,7 @@ fn found_of(walk: &FaultWalk, rule: Rule) -> RuleFaults {
     *walk.faults().of(rule)
 }
 
-/// What is told of a rule that isn't named: no cell.
+/// The result for a rule that isn't named: no cell.
 fn wanted_of(wanted: &[Told], rule: Rule) -> RuleFaults {
     for (named, cells, (row, col)) in wanted {
         if *named == rule {
@@ -251,7 +251,7 @@ static INSIDE: [Told; 3] = [
     (Rule::SharedLabel, 1, (1, 300)),
 ];
 
-/// The numbers of three long rows, in which a cell inside is an outlet. Lanes vouch for the cells beside it.
+/// The numbers of three long rows, in which a cell inside is an outlet. Lanes clear the cells next to it.
 fn long_rows(alloc: Global) -> Result<Vec<i64>, Fail> {
     let shafts = Shafts {
         rows: 3,

@@ -24,14 +24,14 @@ pub enum Part {
     Rnk,
 }
 
-/// Whether some pixel of at most 32 bits spells the number.
+/// Whether some pixel of at most 32 bits encodes the number.
 pub fn is_pixel(number: i64) -> bool
     ensures { IsTrue result ↔ IsPixel number }
 {
     (LEAST_PIXEL..=GREATEST_PIXEL).contains(&number)
 }
 
-/// A raster of the numbers, each of which must be one that a pixel spells.
+/// A raster of the numbers, each of which a pixel must be able to encode.
 fn raster(alloc: Global, shape: Shape, nodata: i64, numbers: &[i64]) -> Result<Raster, Fail>
     requires { IsNoData nodata }
     ensures { IfOk result (λ raster. raster.extent ≡ shape) }
@@ -63,13 +63,13 @@ pub fn elevation(alloc: Global, shape: Shape, numbers: &[i64]) -> Result<Elevati
     Ok(Elevation::new(shape, samples))
 }
 
-/// So many numbers behind as many for each place before, where there are as many.
+/// The numbers at a place, with `count` numbers at each, if there are that many.
 pub fn numbers_at(numbers: &[i64], place: usize, count: usize) -> Option<&[i64]> {
     let start = place.saturating_mul(count);
     numbers.get(start..start.saturating_add(count))
 }
 
-/// The numbers of a part, of so many cells; none where there are fewer parts.
+/// The numbers of a part, of this many cells; none if there are fewer parts.
 fn part_of(numbers: &[i64], cells: usize, part: Part) -> &[i64] {
     numbers_at(numbers, part as usize, cells).unwrap_or(&[])
 }
@@ -87,7 +87,8 @@ fn product_of(product: Held, con_nodata: i16) -> (Part, i64)
     }
 }
 
-/// The products of an example, whose parts stand one after the other. The number for no data of con is given; the others are the defaults.
+/// The products of an example, whose parts come one after the other. Con's no-data number is given; the others are
+/// defaults.
 pub fn products(
     alloc: Global,
     shape: Shape,
@@ -207,8 +208,8 @@ pub fn changed(
     Ok(copy)
 }
 
-/// Ends the test where the two verdicts differ, and tells of which case they are. A proof of a call of it costs less than that of an
-/// assertion in place.
+/// Ends the test if the two verdicts differ, and reports the case. A call of it is cheaper to prove than an assertion
+/// in place.
 pub fn same(rt: &impl Abort, case: &str, given: Verdict, wanted: Verdict) {
     assert_eq!(rt; given, wanted, "{case}");
 }

@@ -1,4 +1,4 @@
-//! For which cells of three long rows their lanes vouch: that they do for most is what no contract says.
+//! Which cells of three long rows their lanes clear: no contract says that they clear most.
 
 use crate::examples::equal;
 use crate::rows_of_numbers::{COLS, kept_by_lanes};
@@ -13,7 +13,7 @@ fn level(end: u32) -> Kept {
 
 /// A list, a row, the column from which cells are kept, and the column before which they are.
 static LEVEL_ROWS: [(&str, u8, u32, u32); 12] = [
-    // Cells inside, so many as are looked for marks at a time.
+    // Cells inside, as many as are scanned for marks at a time.
     ("", 1, 1, 129),
     ("", 1, 470, 598),
     // The edge of the grid.
@@ -23,7 +23,7 @@ static LEVEL_ROWS: [(&str, u8, u32, u32); 12] = [
     ("", 1, 600, 600),
     ("", 0, 1, 1),
     ("", 2, 1, 1),
-    // Listed sinks, in the row and beside it.
+    // Listed sinks, in the row and next to it.
     ("1 50", 1, 1, 50),
     ("1 50", 1, 50, 50),
     ("1 50", 1, 51, 179),
@@ -54,7 +54,7 @@ fn put_void(numbers: &mut [i64], number: i64) {
     }
 }
 
-/// Numbers that stand for no data, whether they fit 16 bits or 32, with a sign or without.
+/// No-data numbers, and whether they fit 16 bits or 32, signed or not.
 static NO_DATA: [i64; 8] = [-32768, -9999, -1, 0, 255, 65535, -2147483648, 4294967295];
 
 /// The column from which cells are kept, and the column before which they are.

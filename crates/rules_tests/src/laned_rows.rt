@@ -1,4 +1,5 @@
-//! Three long rows with one number changed, at the first and the last column of a stride: the fault is told where it is, with lanes beside the rows and without.
+//! Three long rows with one number changed, at a stride's first and last column: the fault is found there, with or
+//! without lanes.
 
 use crate::examples::{Part, accepted, same};
 use crate::rows_of_numbers::{COLS, verdict_by_rows};
@@ -51,7 +52,7 @@ fn a_label_at_the_ends_of_strides(rt: HostRuntime) -> Result<(), Fail> {
     Ok(())
 }
 
-/// Water that goes nowhere, where the cell above counts it: that is told first.
+/// Water that goes nowhere, and the cell above counts it: that is reported first.
 #[test]
 fn a_code_at_the_ends_of_strides(rt: HostRuntime) -> Result<(), Fail> {
     for &col in &COLUMNS {
@@ -64,7 +65,7 @@ fn a_code_at_the_ends_of_strides(rt: HostRuntime) -> Result<(), Fail> {
 /// Ranks that fit no lane.
 static UNFIT: [(&str, i64); 2] = [("less than 0", -1), ("the least pixel", -2147483648)];
 
-/// Ranks of 33 bits and less than 0 fit no lane: then each cell is tried by itself, and where ranks aren't asked for nothing is changed.
+/// Ranks of 33 bits and below 0 fit no lane: then each cell is checked alone, and without ranks nothing changes.
 #[test]
 fn ranks_that_fit_no_lane(rt: HostRuntime) -> Result<(), Fail> {
     for &(name, rank) in &UNFIT {

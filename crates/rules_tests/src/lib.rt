@@ -1,4 +1,4 @@
-//! Tests of the rules at every cell of rasters held whole, and of a fill input.
+//! Tests of the rules at every cell of whole rasters, and of a fill input.
 #![tactic(auto)]
 
 #[cfg(test)]

@@ -15,7 +15,7 @@ static OF_LISTED_PIT: [(&str, bool); 6] = [
     ("1 1\n1 1\n01 1", true),
     ("0 0\n\n9 9\n1 1\n0 4\n4 0\n2 2", true),
     ("", false),
-    // Cells beside it and outside the grid, one of which has its place were there no end of a row.
+    // Cells next to it and outside the grid, one of which has its place if rows had no end.
     ("0 0\n0 1\n0 2\n1 0\n1 2\n2 0\n2 1\n2 2", false),
     ("0 4\n4 0\n3 3\n11 1\n1 11\n1 4294967295", false),
 ];
@@ -90,7 +90,8 @@ fn level_verdict(
     verdict_listing(alloc, text.as_bytes(), 5, 5, &shafts.numbers(alloc)?)
 }
 
-/// What is owed of a cell inside where the list has its row for its column: it is no sink then, and another one is, which shows a direction.
+/// Expected of a cell inside if the list swaps its row and column: then another cell is the sink, and directions show
+/// it.
 fn turned(row: u8, col: u8) -> Verdict {
     if row < col {
         rejected(Rule::FlatStep, row, col)
@@ -131,8 +132,8 @@ fn each_cell_of_a_level_grid(rt: HostRuntime) -> Result<(), Fail> {
 /// Columns of the middle one of three long rows.
 static LISTED: [u16; 7] = [1, 255, 256, 257, 511, 512, 598];
 
-/// The verdicts on three long rows that are right where these columns of the middle one are listed: by rasters and by rows. One of them
-/// is left out of the list, and these lines stand in front.
+/// The verdicts on three long rows that are right if these columns of the middle one are listed: by rasters and by
+/// rows. One of them is missing in the list, and these lines come first.
 fn long_verdicts(alloc: Global, left_out: u16, more: &str) -> Result<[Verdict; 2], Fail> {
     let shafts = Shafts {
         rows: 3,

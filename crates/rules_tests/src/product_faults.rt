@@ -1,5 +1,5 @@
-//! The voids at which a product by itself has a number, and the data cells at which it has none, on worked grids; ranks are asked for or not. All were
-//! worked out by hand from the rules.
+//! The voids at which a single product has a number, and the data cells at which it has none, on worked grids; with
+//! ranks and without. All were worked out by hand from the rules.
 
 use crate::every_fault::{Given, example, walk_over};
 use crate::examples::{Part, changed, equal};
@@ -14,7 +14,7 @@ use std::test::Fail;
 use worked_grids::shafts::Shafts;
 use worked_grids::{slope, voids};
 
-/// The products, their parts, and the numbers that stand for no data in them.
+/// The products, their parts, and their no-data numbers.
 static PRODUCTS: [(Held, Part, i64); 5] = [
     (Held::Con, Part::Con, -32768),
     (Held::Dir, Part::Dir, 255),
@@ -58,12 +58,12 @@ fn walk_along(alloc: Global, given: &Given, ranks: Ranks) -> Result<FaultWalk, F
     Ok(walk_over(alloc, given, ranks)?)
 }
 
-/// Looks that the walk tells these faults of a product.
+/// Checks that the walk returns these faults of a product.
 fn expect(rt: &impl Abort, walk: &FaultWalk, product: Held, wanted: ProductFaults) {
     equal(rt, product, *walk.by_product().of(product), wanted);
 }
 
-/// Looks that it tells these faults of one product, and none of any other.
+/// Checks that it returns these faults of one product, and none of any other.
 fn expect_alone(rt: &impl Abort, walk: &FaultWalk, product: Held, wanted: ProductFaults) {
     for held in Held::ALL {
         let none = ProductFaults::none();
@@ -71,7 +71,7 @@ fn expect_alone(rt: &impl Abort, walk: &FaultWalk, product: Held, wanted: Produc
     }
 }
 
-/// Looks that these faults are told of one product alone, but where it is rnk and ranks aren't asked for.
+/// Checks that only one product has these faults; without ranks rnk has none.
 fn expect_faults(
     rt: &impl Abort,
     alloc: Global,
@@ -148,7 +148,7 @@ fn a_product_without_numbers_inside_long_rows(rt: HostRuntime) -> Result<(), Fai
         listed: &[],
     };
     let mut numbers = shafts.numbers(rt.alloc())?;
-    // Lanes vouch for the cells beside them.
+    // Lanes clear the cells next to them.
     put(&mut numbers, (Part::Bas, (1, 300), 0))?;
     put(&mut numbers, (Part::Bas, (2, 9), 0))?;
     for is_laned in [true, false] {

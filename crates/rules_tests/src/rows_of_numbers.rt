@@ -41,7 +41,7 @@ fn are_samples(numbers: &[i64]) -> bool
         .all(|number| (-32768..=32767).contains(number))
 }
 
-/// Whether there are so many numbers, each of which a pixel spells.
+/// Whether there are this many numbers, each of which a pixel encodes.
 fn are_pixels(numbers: &[i64], count: usize) -> bool
     ensures { IsTrue result ↔ ((length numbers.now ≡ count) × All IsPixel numbers.now) }
 {
@@ -225,7 +225,7 @@ fn note_rows(walk: &mut FaultWalk, given: Given<'_>, room: &mut Room) -> Result<
     note_row(walk, given, 2, room)
 }
 
-/// The faults of the numbers of the six parts, where ranks are asked for, with lanes or without.
+/// The faults of the numbers of the six parts, with ranks, with lanes or without.
 pub fn faults_by_rows(alloc: Global, numbers: &[i64], is_laned: bool) -> Result<FaultWalk, Fail> {
     let marks = marks_of(&Sinks::none(alloc));
     let given = Given {
@@ -239,7 +239,7 @@ pub fn faults_by_rows(alloc: Global, numbers: &[i64], is_laned: bool) -> Result<
     Ok(walk)
 }
 
-/// The cells of a row for which lanes vouch from a column on.
+/// The cells of a row that lanes clear from a column on.
 pub fn kept_by_lanes(
     alloc: Global,
     text: &[u8],
@@ -269,7 +269,8 @@ fn kept_in_row(given: Given<'_>, row: u8, from: u32, room: &mut Room) -> Option<
     Some(rows.kept_from(&rules_with(Ranks::Asked), from))
 }
 
-/// The verdict on the numbers of the six parts, with the sinks that a text lists, the same with lanes and without; ranks are asked for or not.
+/// The verdict on the numbers of the six parts, with the sinks of a text, the same with lanes and without; with ranks
+/// or not.
 pub fn verdict_by_rows(
     alloc: Global,
     text: &[u8],

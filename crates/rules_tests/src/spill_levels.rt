@@ -1,5 +1,5 @@
-//! Beside the proof that an accepted `con` shows spill levels, a slow plain twin, which finds the spill level of a closed cell by
-//! itself.
+//! Besides the proof that an accepted `con` has spill levels: a slow plain twin, which finds the spill level of a
+//! closed cell on its own.
 
 use crate::examples::equal;
 use drain_rules::{FillVerdict, check_fill};

@@ -1,4 +1,5 @@
-//! Three long rows with ranks that keep no rule, gone over by rows: ranks are asked for, and they aren't. The verdicts were worked out by hand from the rules.
+//! Three long rows with ranks that keep no rule, scanned by rows, with ranks checked and not. Worked out by hand from
+//! the rules.
 
 use crate::examples::{Part, accepted, rejected, same};
 use crate::rows_of_numbers::{COLS, verdict_by_rows};
@@ -49,7 +50,7 @@ fn verdict_changed(alloc: Global, one: Change, other: Change) -> Result<Verdict,
 /// The number for no rank.
 const UNRANKED: i64 = 4294967295;
 
-/// The rank of each cell, whether ranks are asked for, and the rule that fails with the row and the column, if any.
+/// The rank of each cell, whether ranks are checked, and the rule that fails with the row and the column, if any.
 static RANKS: [(&str, i64, Ranks, Option<(Rule, u8, u8)>); 4] = [
     (
         "equal ranks, asked for",

@@ -1,5 +1,5 @@
-//! Small grids with products, worked out by hand from the rules, for the tests of every crate that judges products: the elevations, then con, dir, acc, bas
-//! and rnk, each in row order.
+//! Small grids with products, worked out by hand from the rules, for the tests of every crate that checks products: the
+//! elevations, then con, dir, acc, bas and rnk, each in row order.
 #![tactic(auto)]
 
 pub mod shafts;

@@ -1,4 +1,4 @@
-//! Level grids at elevation 0 whose right products are plain to tell: each cell inside drains north, as far as the edge or a listed cell.
+//! Level grids at elevation 0 with simple right products: each cell inside drains north, to the edge or a listed cell.
 
 use std::alloc::{AllocError, Global};
 

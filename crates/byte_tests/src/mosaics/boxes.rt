@@ -1,4 +1,4 @@
-//! Boxes of eight tiles, worked by hand, and a wide and a tall mosaic: that they find memory is no clause.
+//! Boxes of eight tiles, worked by hand, and a wide and a tall mosaic: that memory suffices for them is no clause.
 
 ghost use Rattle.std.specs.Prelude.{◌≡◌, ◌*◌, IfOk, All, map, length};
 ghost use Rattle.drain_grid.specs.Tile.{IsSide};

@@ -10,7 +10,7 @@ use drain_mosaic::{Layout, LayoutFault};
 use std::alloc::Global;
 use std::test::Fail;
 
-/// What the layout of two tiles tells: its rows and columns, its west and north, its side and length, and its last tile.
+/// The layout of two tiles: its rows and columns, its west and north, its side and length, and its last tile.
 fn told(
     alloc: Global,
     side: u32,
@@ -111,7 +111,7 @@ fn tiles_that_make_no_mosaic(rt: HostRuntime) -> Result<(), Fail> {
     Ok(())
 }
 
-/// Puts the tile of this name behind the others; none where the name is empty.
+/// Appends the tile of this name to the others; none if the name is empty.
 fn push_named(tiles: &mut Vec<TileName>, name: &str) -> Result<(), Fail> {
     if !name.is_empty() {
         tiles.push(TileName::parse(name.as_bytes())?)?;
@@ -163,7 +163,7 @@ fn fault_of_box(alloc: Global, front: &str, back: &str) -> Result<Option<LayoutF
     Ok(fault_of(alloc, &names))
 }
 
-/// The names of tiles in front of a full box and behind it, and which tile comes again; none where the box is too large.
+/// The names of tiles before a full box and after it, and which tile comes again; none if the box is too large.
 static BESIDE_A_BOX: [(&str, &str, &str, Option<&str>); 12] = [
     ("first tile first", "N00E000.hgt", "", Some("N00E000.hgt")),
     ("first tile last", "", "N00E000.hgt", Some("N00E000.hgt")),

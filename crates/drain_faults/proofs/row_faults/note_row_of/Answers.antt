@@ -23,7 +23,7 @@ loop-col-init g c = record {
   drawn = (λ some. some, λ some. some);
 }
 
--- the cells that are vouched for, up to the end of the row
+-- the cleared cells, up to the end of the row
 pub loop-col-preserved : goal.loop-col-preserved
 loop-col-preserved g c =
     let kept = c.kept_from-kept.ensures in
@@ -49,7 +49,7 @@ loop-col-preserved g c =
           (λ some. so_far.0 (now.0 some), λ some. now.1 (so_far.1 some));
     }
 
--- and the one behind them
+-- and the one after them
 pub loop-col-preserved-then-col-cols : goal.loop-col-preserved-then-col-cols
 loop-col-preserved-then-col-cols g c =
     let kept = c.kept_from-kept.ensures in

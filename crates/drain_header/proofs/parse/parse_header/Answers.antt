@@ -2,7 +2,7 @@ use Rattle.std.proofs.Common.{sym, ◌∙◌}
 use Rattle.drain_header.proofs.Parsing
 use Rattle.drain_header.proofs.parse.parse_header.Goals as goal
 
--- a fault of a line is handed on
+-- a fault of a line is passed on
 pub returns-in_err-seen : goal.returns-in_err-seen
 returns-in_err-seen c = record {
   answer = Parsing.handed_on c.args.text.now c.from_residual.result c.in_err-seen.field-0.0 c.from_residual.ensures.1

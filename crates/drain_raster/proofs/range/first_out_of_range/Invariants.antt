@@ -2,6 +2,6 @@ use Rattle.std.proofs.Common.{ℕ, ◌<◌}
 use Rattle.drain_raster.specs.Bytes.{CanSpellTo}
 use Rattle.drain_raster.proofs.range.first_out_of_range.Given as goal
 
--- a pixel can spell the numbers of the rows that were passed
+-- a pixel can encode the numbers of the rows that were passed
 abbrev pub invariant-loop-row : goal.invariant-loop-row
 invariant-loop-row l = (r : ℕ) → r < l.row → CanSpellTo l.header l.raster r l.header.cols

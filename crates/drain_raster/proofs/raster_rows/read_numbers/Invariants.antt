@@ -5,7 +5,7 @@ use Rattle.drain_device.specs.PartFailing.{PartFails}
 use Rattle.drain_raster.specs.RasterRows.{numbers_of}
 use Rattle.drain_raster.proofs.raster_rows.read_numbers.Given as goal
 
--- the numbers that were passed came, and nothing gave up
+-- the numbers that were passed came, and nothing failed for good
 abbrev pub invariant-loop-first : goal.invariant-loop-first
 invariant-loop-first g l =
     let bytes_left = g.R.ByteSource.bytes_left in

@@ -5,7 +5,7 @@ use Rattle.drain_kernel.specs.Rules.{tried}
 use Rattle.drain_rules.proofs.PatchFaults.{fill_to, flow_to, fault_of_patch}
 use Rattle.drain_rules.proofs.patch_rules.screened_fault.Goals as goal
 
--- what one crate's rules say is put behind what those before it say
+-- what one crate's rules say comes after what those before it say
 pub returns-in-Some-fill_fault : goal.returns-in-Some-fill_fault
 returns-in-Some-fill_fault c = record {
   least = let rules = c.args.rules.now in

@@ -34,7 +34,7 @@ add-requires-clause-raised_within g c =
     (bounds-kept (g.R.PatchRow.shown c.args.row.now) c.loop-col.col c.kept_from-kept.result c.loop-col.tally c.add_kept.new.self kept.forward
     c.loop-col.invariant.bounds kept.raised add.data_cells add.raised add.outlets).raised
 
--- the cells that are vouched for, and the voids behind them
+-- the cleared cells, and the voids after them
 before_next : (profile : Profile) (g : Grid) (ps : Products) (row cols : ℕ) (shown : ℕ → Patch) (labels : List (ℕ × ℕ)) (from end : ℕ) (kept : Kept) (old new : Tally) →
     AreRowPatches g ps row cols shown → from ≤ kept.end → kept.end ≤ cols → IsPassed profile g ps row from old labels →
     ((col : ℕ) → from ≤ col → col < kept.end → IsKept profile (shown col)) → kept.raised ≡ raised_between shown from kept.end →
@@ -55,7 +55,7 @@ returns-in-Err-clause-stopped g c = λ grid ps row are before.
     c.voids_until-col.result c.kept_from-kept.result c.loop-col.tally c.add_kept.new.self are kept.forward kept.within (c.loop-col.invariant.passed grid ps row are before)
     kept.kept kept.raised run.data_cells run.raised run.outlets voids.forward voids.within voids.right) c.in-Err.ensures.stopped
 
--- and the cell behind them
+-- and the cell after them
 pub loop-col-preserved-then-col-cols : goal.loop-col-preserved-then-col-cols
 loop-col-preserved-then-col-cols g c =
     let kept = c.kept_from-kept.ensures in

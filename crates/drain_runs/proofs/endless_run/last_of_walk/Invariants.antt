@@ -1,4 +1,4 @@
--- The walk has come to a data cell.
+-- The walk has reached a data cell.
 use Rattle.drain_grid.specs.Extent.{IsCellOf}
 use Rattle.drain_grid.specs.Grid.{Grid, Products, HasData}
 use Rattle.drain_runs.specs.EndlessRuns.{IsReached}

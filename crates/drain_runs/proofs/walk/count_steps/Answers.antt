@@ -7,7 +7,7 @@ use Rattle.drain_runs.specs.Ways.{ground_of, directions_of}
 use Rattle.drain_runs.proofs.StepLemmas.{known_ends}
 use Rattle.drain_runs.proofs.walk.count_steps.Goals as goal
 
--- so many cells, by the shape that was asked for
+-- this many cells, by the required shape
 cells_are : (e s : Extent) (most : ℕ) → s ≡ e → most ≡ s.rows * s.cols → most ≡ e.rows * e.cols
 cells_are e s most same total = total ∙ ap (λ (x : Extent). x.rows * x.cols) same
 

@@ -43,7 +43,7 @@ asked_len : (ranks : Ranks) (lanes numbers cols z : ℕ) → IfAsked ranks (lane
 asked_len Asked lanes numbers cols z own long here = same_len lanes numbers cols z own long here
 asked_len Unasked lanes numbers cols z own long here = tt
 
--- the elevations that the others are taken beside are those that are held
+-- the elevations with which the others are taken are those in the lanes
 no_void : (z held : List ℕ) → z ≡ held → (k : ℕ) → slice_index held k ≢ 0 → slice_index z k ≢ 0
 no_void z held same k there = subst (λ zs. slice_index zs k ≢ 0) (sym same) there
 

@@ -11,7 +11,7 @@ use Rattle.drain_mosaic.proofs.mosaic_rows.MosaicRows.next_row.Goals as goal
 abbrev frame : ℕ → ℕ → ℕ → Frame
 frame side rows cols = record { side = side; rows = rows; cols = cols }
 
--- behind the last row
+-- after the last row
 pub invariant_of-self : goal.invariant_of-self
 invariant_of-self g c =
     let s = c.args.self.now in

@@ -1,7 +1,7 @@
 use Rattle.drain_rules.proofs.grid_walk.GridWalk.check_row.Goals as goal
 use Rattle.drain_rules.proofs.grid_walk.GridWalk.check_row.Goals.{in-Sound+in-Ok, in_default}
 
--- a row more of sound rows comes to what was found in it, and a fault stays the first
+-- one more row after sound rows gives what was found in it, and a fault stays the first
 pub returns-clause-finding : goal.returns-clause-finding
 returns-clause-finding g c =
     elim c.match-self.branch [
