@@ -1,5 +1,5 @@
 -- What an audit answers: whether four products are correct, with ranks of its own in place of a certificate.
--- Source: correct products are in the words of the literature; that paths without an end come first is this project's own.
+-- Source: correct products are in the words of the literature; that paths without an end come first is our own.
 use Rattle.std.specs.Prelude.{◌≡◌, ℕ, ℤ, pos, is_some, List, Option, Some, None, if◌then◌else◌, Result, Ok, Err}
 use Rattle.drain_grid.specs.declared.cell.Cell.{Cell}
 use Rattle.drain_grid.specs.Grid.{Grid, Products, HasData}

@@ -26,8 +26,8 @@ abbrev pub gave_up : Option Refusal → Option Refusal → Bool
 gave_up None (Some ReadFailed) = true
 gave_up before told = false
 
--- calls for a raster: its device gave at most what was to be read, less what still is; this number of its faults was retried;
--- and the last call failed exactly if the device failed for good
+-- calls for a raster: its device gave at most what was to be read, less what still is; this number of its faults was
+-- retried; and the last call failed exactly if the device failed for good
 pub record RasterHasRead (known_before known_after : Option (List ℕ)) (before after : FaultCounts) (old new : RasterRows) (Fails : Type 0) : Type 0 where
   pub within : ReadsWithin (raster_most_bytes old) (raster_most_bytes new) known_before known_after
   pub faults : PartFails before after old.patience new.patience Fails

@@ -37,8 +37,8 @@ lines_in (Err bad) = []
 abbrev pub listed_in : Inputs → List SinkLine
 listed_in i = lines_in (sinks_of i.sinks)
 
--- the grid of the elevations and the listed sinks: a cell has the value of the first tile that gives one, its only value if
--- tiles agree
+-- the grid of the elevations and the listed sinks: a cell has the value of the first tile that gives one, its only
+-- value if tiles agree
 abbrev pub grid_of : Inputs → grid.Grid
 grid_of i = record {
   extent = extent_of (tiling_of i);

@@ -1,4 +1,5 @@
--- What each refusal of a check says of the bytes, and the order in which refusals are reported. Both are this project's own.
+-- What each refusal of a check says of the bytes, and the order in which refusals are reported. Both are this project's
+-- own.
 use Rattle.std.specs.Prelude.{◌≡◌, ℕ, suc, ◌+◌, ◌-◌, ◌*◌, ◌^◌, ℤ, pos, ◌-ℤ◌, ◌*ℤ◌, nat_abs, ◌≤◌, ◌<◌, ◌&&◌, List, [], ◌∷◌, slice_get, Some, Err, if◌then◌else◌}
 use Rattle.std.specs.Ordering.{int_eq}
 use Rattle.drain_grid.specs.declared.cell.Cell.{Cell}
@@ -57,7 +58,7 @@ pub record HasBadLength (i : Inputs) (c : Corner) : Type 0 where
 abbrev pub IsSeamFault : Inputs → Cell → Type 0
 IsSeamFault i c = IsCellOf (tiling.extent_of (tiling_of i)) c × HasTwoValues (tiling_of i) (tiles_of i) c
 
--- what each refusal says, of a product only if a check reads it; out of memory and a failed read are no facts of the bytes
+-- what each refusal says, of a product only if a check reads it; out of memory and a failed read don't concern the bytes
 abbrev pub Stands : Inputs → Refusal → Type 0
 Stands i BadSide = ¬ IsSide i.side
 Stands i (BadName k) = IsBadName i.names k
@@ -75,7 +76,7 @@ Stands i (SinkNotData n) = IsOffData (grid_of i) (listed_in i) n
 Stands i OutOfMemory = ⊥
 Stands i ReadFailed = ⊥
 
--- a refusal that comes once bodies are read: of their bytes, seams or the list of sinks, or out of memory, or a failed read
+-- a refusal that comes once bodies are read: of bytes, seams or the list of sinks, or out of memory, or a failed read
 abbrev pub IsOfBodies : Refusal → Type 0
 IsOfBodies (BadTileLength c) = Unit {0}
 IsOfBodies (RasterShort p) = Unit {0}

@@ -1,4 +1,5 @@
--- What the stages of a check find: the layout, the headers and, if only tiles are read, the tiles; or the first refusal of their kind.
+-- What the stages of a check find: the layout, the headers and, if only tiles are read, the tiles; or the first refusal
+-- of their kind.
 use Rattle.std.specs.Prelude.{◌≡◌, ℕ, ◌<◌, ℤ, List, map, slice_get, Option, Some, Err}
 use Rattle.std.specs.List.{All, AllZip}
 use Rattle.drain_grid.specs.declared.held.Held.{Held}

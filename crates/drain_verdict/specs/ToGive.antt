@@ -36,7 +36,7 @@ pub record IsRowGiven (t : ToGive) (n : ℕ) (row : RowNumbers) : Type 0 where
   pub even : IsEven (given t n) → row ≡ given t n
   pub uneven : ¬ IsEven (given t n) → row ≡ blank
 
--- this number of rows of a raster was requested: the others are to come, and it has stopped exactly if the last one was wrong
+-- n rows of a raster were requested: the others are to come, and it has stopped exactly if the last one was wrong
 pub record IsRasterAfter (raster : RasterRows) (bytes : List ℕ) (start : Coming) (n : ℕ) : Type 0 where
   pub coming_is : raster_coming raster bytes ≡ after_rows n start
   pub stopped : (m : ℕ) → n ≡ m + 1 → (raster.progress ≡ Stopped) ↔ (after_rows m start ≡ Wrong)
@@ -74,7 +74,7 @@ pub record AreGiven {R : Type 0} (bytes_left : R → Option (List ℕ)) (s : Rea
   pub after : IsAfter bytes_left (readers s) (tiles_lent s) (products_lent s) to_give n
   pub rows_are : (k : ℕ) → IsRowGiven to_give k (rows k)
 
--- this number of calls for all of them, from one state to the other: what they read, and that as many rows more were requested
+-- n calls for all of them, from one state to the other: what they read, and that n rows more were requested
 pub record HaveCome {R : Type 0} (bytes_left : R → Option (List ℕ)) (counts : R → FaultCounts) (start now : Reading R) (calls : ℕ) (told : Option Refusal) : Type 0 where
   pub reads : InputsHaveRead bytes_left counts start now told
   pub after : told ≡ None → (t : ToGive) (n : ℕ) → IsAfter bytes_left (readers start) (tiles_lent start) (products_lent start) t n →

@@ -52,8 +52,8 @@ use drain_raster::laws::{
 use drain_rules::{Ranks, Rules, Verdict};
 use std::alloc::Global;
 
-/// The answer to inputs of this mosaic: to the headers of its products, the bytes of its tiles and rasters, and a list of
-/// sinks. Each row of the grid is noted, and rules are checked with ranks or without.
+/// The answer to inputs of this mosaic: to the headers of its products, the bytes of its tiles and rasters, and a list
+/// of sinks. Each row of the grid is noted, and rules are checked with ranks or without.
 ///
 /// See `check` for the order of refusals, and for how far it reads.
 pub fn answer_on<R: ByteSource, P: ProductInputs<R>, K: RowVerdicts>(
@@ -128,7 +128,8 @@ fn answer_to_bodies<R: ByteSource, P: ProductInputs<R>, K: RowVerdicts>(
     )
 }
 
-/// The verdict on the rows of new readers, or the refusal that they report after the last row, or that of the list of sinks.
+/// The verdict on the rows of new readers, or the refusal that they report after the last row, or that of the list of
+/// sinks.
 fn answer_to_rows<R: ByteSource, P: ProductInputs<R>, K: RowVerdicts>(
     alloc: Global,
     layout: &Layout,

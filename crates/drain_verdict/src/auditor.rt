@@ -1,8 +1,8 @@
 //! The audit of products without a certificate, against the tiles that they were made from.
 //!
-//! It reads the rows of all inputs once, checks the rules that ignore ranks, and keeps the direction of each cell, in a byte.
-//! After the last row it looks which paths end, but only if a rule failed: if none did, all end. That this separates
-//! correct products from all others is a law of `drain_grid`.
+//! It reads the rows of all inputs once, checks the rules that ignore ranks, and keeps the direction of each cell, in a
+//! byte. After the last row it looks which paths end, but only if a rule failed: if none did, all end. That this
+//! separates correct products from all others is a law of `drain_grid`.
 
 ghost use Rattle.std.specs.Prelude.{◌≡◌, ◌↔◌, ◌*◌, [], length, map, IfErr, IfOk, IsErrOf, OnOk};
 ghost use Rattle.drain_device.specs.FaultLists.{SomeReadFails};
@@ -45,10 +45,11 @@ use std::alloc::Global;
 /// Whether the four products of the tiles are correct, or the first refusal.
 ///
 /// `side`, `tiles` and `sinks` are those of `check`, and so are the refusals, of con, dir, acc and bas in this order.
-/// If none applies: `NoEnd` with the first data cell in row order whose path reaches no code 0, as it meets a number that
-/// is no code, goes round, or leads off the grid or into a void; else `Rejected` with the first fault of the rules, with
-/// the numbers of steps of paths for ranks; else `Accepted`. The tool that made the products is not trusted: a rejection
-/// means that they aren't correct. Memory: a byte for each cell of the mosaic, the labels of outlets and three rows.
+/// If none applies: `NoEnd` with the first data cell in row order whose path reaches no code 0, as it meets a number
+/// that is no code, goes round, or leads off the grid or into a void; else `Rejected` with the first fault of the
+/// rules, with the numbers of steps of paths for ranks; else `Accepted`. The tool that made the products is not
+/// trusted: a rejection means that they aren't correct. Memory: a byte for each cell of the mosaic, the labels of
+/// outlets and three rows.
 pub fn audit<R: ByteSource>(
     alloc: Global,
     side: u32,

@@ -8,9 +8,11 @@ use drain_grid::{Elevation, OutOfMemory, Raster};
 use drain_runs::{CertifyRefusal, steps_of};
 use std::alloc::Global;
 
-/// Ranks that fall at each step along the codes: for each data cell the number of steps to its path's end, for voids 4294967295, the no-data number.
+/// Ranks that fall at each step along the codes: for each data cell the number of steps to its path's end, for voids
+/// 4294967295, the no-data number.
 ///
-/// `NoEnd` names the first data cell in row order whose path reaches no code 0, exactly if there is one; `OutOfMemory` if memory was refused.
+/// `NoEnd` names the first data cell in row order whose path reaches no code 0, exactly if there is one; `OutOfMemory`
+/// if memory was refused.
 pub fn certify(alloc: Global, elevation: &Elevation, dir: &Raster) -> Result<Raster, CertifyRefusal>
     requires same_shape { elevation.now.extent ≡ dir.now.extent }
     ensures ranks { IfOk result (AreRanks (ground_of elevation.now) (directions_of dir.now)) }

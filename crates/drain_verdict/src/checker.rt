@@ -27,13 +27,14 @@ use std::alloc::Global;
 
 /// The verdict on products of the tiles, or the first refusal.
 ///
-/// `side` is the number of samples along an edge of each tile, from 2 to 3601. `sinks` lists inland sinks, a line `ROW COL`
-/// each; empty lines don't count. Refusals come in this order, and rules are checked only if none
-/// applies: `BadSide`; `BadName` with the place of the first bad name; `NoTiles`, `RepeatedTile`, `BoxTooLarge`; product by product
-/// `BadHeader`, `WrongShape`, `Misplaced`; `BadTileLength` with the first such tile; `RasterShort` with the first such product;
-/// `SeamMismatch` with the first such cell; `BadSinkLine` with the first such line, counted from 1; `SinkNotData` with the first line whose cell
-/// is a void or outside the mosaic. `OutOfMemory` and `ReadFailed` may come at any point; the latter exactly where a source failed or
-/// was interrupted for the 1,000th time. Of a tile at most one byte past its end is read, of a raster nothing past its last needed byte.
+/// `side` is the number of samples along an edge of each tile, from 2 to 3601. `sinks` lists inland sinks, a line `ROW
+/// COL` each; empty lines don't count. Refusals come in this order, and rules are checked only if none applies:
+/// `BadSide`; `BadName` with the place of the first bad name; `NoTiles`, `RepeatedTile`, `BoxTooLarge`; product by
+/// product `BadHeader`, `WrongShape`, `Misplaced`; `BadTileLength` with the first such tile; `RasterShort` with the
+/// first such product; `SeamMismatch` with the first such cell; `BadSinkLine` with the first such line, counted from 1;
+/// `SinkNotData` with the first line whose cell is a void or outside the mosaic. `OutOfMemory` and `ReadFailed` may
+/// come at any point; the latter exactly where a source failed or was interrupted for the 1,000th time. Of a tile at
+/// most one byte past its end is read, of a raster nothing past its last needed byte.
 ///
 /// The contract is about the bytes that the sources had left, for sources whose bytes are known.
 pub fn check<R: ByteSource>(

@@ -44,9 +44,9 @@ fn read_header(layout: &Layout, product: Product, text: &[u8]) -> Result<Header,
 /// The header of each product, or the first refusal: all refusals of one product's header come before those
 /// of the next product.
 ///
-/// A header is refused for its own first fault (`BadHeader`), then if its rows or columns aren't those of the mosaic (`WrongShape`),
-/// then if its corner lies more than 10^-6 degree from the mosaic's or its pixels differ from samples by more than 10^-9 degree
-/// (`Misplaced`).
+/// A header is refused for its own first fault (`BadHeader`), then if its rows or columns aren't those of the mosaic
+/// (`WrongShape`), then if its corner lies more than 10^-6 degree from the mosaic's or its pixels differ from samples
+/// by more than 10^-9 degree (`Misplaced`).
 pub fn read_headers(
     layout: &Layout,
     texts: &PerProduct<&[u8]>,

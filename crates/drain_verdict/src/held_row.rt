@@ -15,8 +15,8 @@ use std::alloc::Global;
 /// The elevations of one row, and each product's numbers, both empty if there is no row; marks at its listed sinks; and
 /// the numbers once more in lanes.
 ///
-/// It may be filled one vector after the other. Only a whole row can be viewed: as many numbers of each. No marks mean no
-/// sinks. Lanes are useful if the numbers fit them, and must be filled again for each row.
+/// It may be filled one vector after the other. Only a whole row can be viewed: as many numbers of each. No marks mean
+/// no sinks. Lanes are useful if the numbers fit them, and must be filled again for each row.
 #[derive(Drop)]
 pub struct HeldRow {
     pub z: Vec<i64>,
@@ -74,7 +74,8 @@ impl HeldRow {
             && products.rnk.len() == len
     }
 
-    /// Marks the listed sinks of the row of this number, and notes those that are voids. Without sinks it needs no memory.
+    /// Marks the listed sinks of the row of this number, and notes those that are voids. Without sinks it needs no
+    /// memory.
     pub fn mark(
         &mut self,
         row: u32,

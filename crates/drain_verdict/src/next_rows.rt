@@ -1,4 +1,5 @@
-//! Reads the next row of the mosaic and of each product. After the last row there are no numbers; a reader keeps its fault.
+//! Reads the next row of the mosaic and of each product. After the last row there are no numbers; a reader keeps its
+//! fault.
 
 ghost use Rattle.std.specs.Prelude.{◌≡◌, ◌≤◌, ℕ, None, Err, length, IfErr, IsTrue, OnOk};
 ghost use Rattle.std.specs.List.{All};

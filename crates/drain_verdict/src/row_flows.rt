@@ -39,9 +39,10 @@ impl RowNotes for CellFlows {
     }
 }
 
-/// The first data cell whose path doesn't end, from the flows of all cells of a grid and this verdict of the rules without
-/// ranks. Paths are followed only after a rejection: if every rule holds every path ends, since accumulation can't grow
-/// along a ring. None if flows and cells differ in number, which never happens if the sources' bytes are known.
+/// The first data cell whose path doesn't end, from the flows of all cells of a grid and this verdict of the rules
+/// without ranks. Paths are followed only after a rejection: if every rule holds every path ends, since accumulation
+/// can't grow along a ring. None if flows and cells differ in number, which never happens if the sources' bytes are
+/// known.
 pub fn first_endless(flows: &mut CellFlows, shape: Shape, verdict: &Verdict) -> Option<Cell>
     ensures first { (g : Grid) (ps : Products) (nodata : NoDataNumbers) → IsVerdictOf (unranked nodata) g ps verdict.now → length flows.old ≡ shape.rows * shape.cols → AreFlowsOf g ps shape flows.old → MatchOption result (AllRunsEnd g ps) (IsFirstEndless g ps) }
     ensures known { (g : Grid) (ps : Products) → AreFlowsOf g ps shape flows.old → AreKnownFlows g ps shape flows.new }

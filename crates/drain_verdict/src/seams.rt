@@ -10,8 +10,9 @@ use drain_grid::Elevation;
 use drain_mosaic::{Layout, SeamFault, join};
 use std::alloc::Global;
 
-/// The elevation of all tiles together, or `SeamMismatch` with the first cell where they differ; `OutOfMemory` if they agree
-/// and memory is refused. `samples` are those of the tiles, in the order of the layout's names, freed once joined.
+/// The elevation of all tiles together, or `SeamMismatch` with the first cell where they differ; `OutOfMemory` if they
+/// agree and memory is refused. `samples` are those of the tiles, in the order of the layout's names, freed once
+/// joined.
 pub fn elevation_of(
     alloc: Global,
     layout: &Layout,

@@ -21,8 +21,9 @@ use std::alloc::Global;
 
 /// Reads the samples of each tile, in the layout's order, each northernmost row first, in whole metres.
 ///
-/// Returns `BadTileLength` with the first tile whose body has another length than a tile of the layout's side, `ReadFailed`
-/// if its device fails for good, `OutOfMemory` without memory for its bytes or samples. Devices of later tiles aren't read.
+/// Returns `BadTileLength` with the first tile whose body has another length than a tile of the layout's side,
+/// `ReadFailed` if its device fails for good, `OutOfMemory` without memory for its bytes or samples. Devices of later
+/// tiles aren't read.
 pub fn read_tiles<R: ByteSource>(
     alloc: Global,
     layout: &Layout,

@@ -18,8 +18,8 @@ use drain_grid::{Elevation, OutOfMemory, ProductSet, Shape, Sinks};
 use drain_rules::{GridWalk, Ranks, Rules, Verdict};
 use std::alloc::Global;
 
-/// The verdict of `drain_rules::verdict_of`, by three rows at a time, in a fraction of its time. `OutOfMemory` if there is
-/// no memory for rows, for a new label or, with sinks, for their marks.
+/// The verdict of `drain_rules::verdict_of`, by three rows at a time, in a fraction of its time. `OutOfMemory` if there
+/// is no memory for rows, for a new label or, with sinks, for their marks.
 pub fn verdict_row_by_row(
     alloc: Global,
     elevation: &Elevation,
