@@ -58,7 +58,7 @@ pub record HasBadLength (i : Inputs) (c : Corner) : Type 0 where
 abbrev pub IsSeamFault : Inputs → Cell → Type 0
 IsSeamFault i c = IsCellOf (tiling.extent_of (tiling_of i)) c × HasTwoValues (tiling_of i) (tiles_of i) c
 
--- what each refusal says, of a product only if a check reads it; out of memory and a failed read don't concern the bytes
+-- what each refusal says, of a product only if a check reads it; out of memory and a failed read aren't about bytes
 abbrev pub Stands : Inputs → Refusal → Type 0
 Stands i BadSide = ¬ IsSide i.side
 Stands i (BadName k) = IsBadName i.names k

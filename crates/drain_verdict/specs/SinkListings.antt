@@ -14,7 +14,7 @@ abbrev pub IsBadLine : Result (List SinkLine) ℕ → Option ℕ → Type 0
 IsBadLine lines None = (sinks : List SinkLine) × (lines ≡ Ok sinks)
 IsBadLine lines (Some bad) = lines ≡ Err bad
 
--- the bad line is reported, or else the least line whose cell is outside the grid or one of these voids; none if none is
+-- the bad line is reported, or else the least line whose cell is outside the grid or one of these voids; if any
 abbrev pub IsToldOfSinks : SinkListing → Extent → List Cell → Option Refusal → Type 0
 IsToldOfSinks listing e voids None = (listing.bad ≡ None) × IsLeastOff (has_data_but e voids) listing.sinks (length listing.sinks) None
 IsToldOfSinks listing e voids (Some (BadSinkLine bad)) = listing.bad ≡ Some bad
