@@ -9,7 +9,7 @@ use drain_verdict::AuditProducts;
 use std::alloc::Global;
 use std::test::Fail;
 
-/// What an audit of the tile of this name and side with these products prints.
+/// The output of an audit of the tile of this name and side with these products.
 fn audit<'a>(
     alloc: Global,
     side: u32,
@@ -35,7 +35,7 @@ fn printed<'a>(
     audit(alloc, side, name, &mut products, out)
 }
 
-/// The same where it prints into a sink that takes all that it is given.
+/// The same, printed into a sink that accepts all.
 fn told<'a>(
     alloc: Global,
     side: u32,
@@ -115,7 +115,7 @@ fn prints_the_answer_to_an_audit(rt: HostRuntime) -> Result<(), Fail> {
     Ok(())
 }
 
-/// What an audit of right products prints into a sink that takes a byte at a call, and fails at the ninth.
+/// The output of an audit of right products into a sink that accepts one byte a call, and fails at the ninth.
 fn told_into_failing(alloc: Global) -> Result<Printed, Fail> {
     let mut out = slow_sink(alloc, &AT_THE_NINTH)?;
     printed(alloc, 2, TILE, &[0; 4], &[1, 2, 3, 4], &mut out)

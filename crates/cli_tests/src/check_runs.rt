@@ -9,7 +9,7 @@ use drain_verdict::Products;
 use std::alloc::Global;
 use std::test::Fail;
 
-/// What a check of the tile of this name and side with these products prints.
+/// The output of a check of the tile of this name and side with these products.
 fn check<'a>(
     alloc: Global,
     side: u32,
@@ -34,7 +34,7 @@ fn printed(
     check(alloc, side, name, &mut products, out)
 }
 
-/// The same where it prints into a sink that takes all that it is given.
+/// The same, printed into a sink that accepts all.
 fn told(alloc: Global, side: u32, name: &str, labels: &[u8]) -> Result<Printed, Fail> {
     let mut out = whole_sink(alloc)?;
     printed(alloc, side, name, labels, &mut out)
@@ -79,7 +79,7 @@ fn prints_the_answer_to_products(rt: HostRuntime) -> Result<(), Fail> {
     Ok(())
 }
 
-/// What a check of right products prints into a sink that takes a byte at a call, and fails at the ninth.
+/// The output of a check of right products into a sink that accepts one byte a call, and fails at the ninth.
 fn told_into_failing(alloc: Global) -> Result<Printed, Fail> {
     let mut out = slow_sink(alloc, &AT_THE_NINTH)?;
     printed(alloc, 2, TILE, &[1, 2, 3, 4], &mut out)

@@ -19,7 +19,7 @@ use std::test::Fail;
 const MAP_HEADER: &str =
     "BYTEORDER I\nLAYOUT BIL\nNROWS 2\nNCOLS 2\nNBANDS 1\nNBITS 8\nBANDROWBYTES 2\nTOTALROWBYTES 2\nSKIPBYTES 0\nPIXELTYPE UNSIGNEDINT\nULXMAP 0.000000000000000\nULYMAP 1.000000000000000\nXDIM 1.000000000000000\nYDIM 1.000000000000000\nNODATA 255\n";
 
-/// What stands beside the inputs: a note for a bad side alone, and two files in memory for a map.
+/// What comes besides the inputs: a note for a bad side only, and two files in memory for a map.
 #[derive(Drop)]
 struct InMemory<'a> {
     alloc: Global,
@@ -50,7 +50,7 @@ impl<'a> Beside for InMemory<'a> {
     }
 }
 
-/// What a run printed first, the status, and what its files took.
+/// The first output of a run, the status, and what its files accepted.
 #[derive(Clone, Copy)]
 struct Explained {
     page: Printed,
@@ -58,7 +58,7 @@ struct Explained {
     raster: Text,
 }
 
-/// What a run printed, of which so many bytes, and what its files took; or that it told of want of memory.
+/// The given number of bytes of a run's output, and what its files accepted; or that it reported that memory ran out.
 fn outcome(
     page: &[u8],
     length: usize,
@@ -75,7 +75,8 @@ fn outcome(
     })
 }
 
-/// Whether a run told of want of memory, by its line or in an object, or by two bytes of its line where the third can't be written.
+/// Whether a run reported that memory ran out, by its line or in an object, or by two bytes of its line if the third
+/// can't be written.
 fn tells_want_of_memory(printed: &[u8]) -> bool {
     printed == b"fa".as_slice()
         || printed.starts_with(b"failed O")
@@ -97,7 +98,7 @@ const RIGHT: Given = Given {
     labels: &[1, 2, 3, 4],
 };
 
-/// What a run without ranks prints in this form, of which so many bytes, and what its files take.
+/// The output of a run without ranks in this form, of the given number of bytes, and what its files accept.
 fn explain<'a>(
     alloc: Global,
     side: u32,
@@ -135,7 +136,7 @@ fn explain_given(
     explain(alloc, given.side, &mut products, form, length, beside, out)
 }
 
-/// Files that take all that they are given.
+/// Files that accept all.
 fn in_memory(alloc: Global) -> Result<InMemory<'static>, AllocError> {
     Ok(InMemory {
         alloc,
@@ -147,13 +148,13 @@ fn in_memory(alloc: Global) -> Result<InMemory<'static>, AllocError> {
 /// The most bytes that a page of these tests has.
 const PAGE_ROOM: usize = 8000;
 
-/// A sink with room for a page, so that it wants no memory, which takes all that it is given.
+/// A sink with room for a page, so that it needs no memory, which accepts all.
 fn page_sink(alloc: Global) -> Result<ScriptSink<'static>, AllocError> {
     let room = Vec::with_capacity(alloc, PAGE_ROOM)?;
     Ok(ScriptSink::new(room, 1000, &[]))
 }
 
-/// The same where the page can be written.
+/// The same if the page can be written.
 fn explain_beside(
     alloc: Global,
     given: Given,
@@ -165,7 +166,7 @@ fn explain_beside(
     explain_given(alloc, given, form, length, beside, &mut out)
 }
 
-/// The same where the files can be written too.
+/// The same if the files can be written too.
 fn told(alloc: Global, given: Given, form: Form, length: usize) -> Result<Explained, Fail> {
     let mut beside = in_memory(alloc)?;
     explain_beside(alloc, given, form, length, &mut beside)
@@ -279,7 +280,8 @@ const AT_THE_THIRD: [Scripted<SinkAnswer>; 1] = [Scripted {
     answer: SinkAnswer::Failed,
 }];
 
-/// What a run on right products prints, of which so many bytes, and what its files take, which fault by these scripts.
+/// The output of a run on right products, of the given number of bytes, and what its files accept, which fault by these
+/// scripts.
 fn told_in(
     alloc: Global,
     header: &[Scripted<SinkAnswer>],
@@ -290,7 +292,7 @@ fn told_in(
     explain_beside(alloc, RIGHT, Form::Text, length, &mut beside)
 }
 
-/// Files that take a byte at a call, and fault by these scripts.
+/// Files that accept one byte a call, and fault by these scripts.
 fn in_slow_memory<'a>(
     alloc: Global,
     header: &'a [Scripted<SinkAnswer>],
@@ -303,7 +305,7 @@ fn in_slow_memory<'a>(
     })
 }
 
-/// Which file fails, the scripts of header and raster, and what they took.
+/// Which file fails, the scripts of header and raster, and what they accepted.
 static FAILING_FILES: [(
     &str,
     &[Scripted<SinkAnswer>],
@@ -327,7 +329,8 @@ fn a_map_that_cannot_be_written_is_told_in_place_of_the_page(rt: HostRuntime) ->
     Ok(())
 }
 
-/// What a run on right products prints in this form, of which so many bytes, into a sink that takes a byte at a call and faults by the script.
+/// The output of a run on right products in this form, of the given number of bytes, into a sink that accepts one byte
+/// a call and faults by the script.
 fn told_into(
     alloc: Global,
     form: Form,
@@ -348,7 +351,7 @@ fn ends_with_status_3_where_a_page_cannot_be_written(rt: HostRuntime) -> Result<
     Ok(())
 }
 
-/// What a run with ranks prints, of which so many bytes, and what its files take.
+/// The output of a run with ranks, of the given number of bytes, and what its files accept.
 fn explain_with_ranks<'a>(
     alloc: Global,
     products: &mut Products<SliceSource<'a>>,
@@ -371,7 +374,7 @@ fn explain_with_ranks<'a>(
     Ok(outcome(out.as_slice(), length, status, beside)?)
 }
 
-/// The same of products of which two outlets share a label, where page and files can be written.
+/// The same of products of which two outlets share a label, if page and files can be written.
 fn told_with_ranks(alloc: Global, length: usize) -> Result<Explained, Fail> {
     let mut beside = in_memory(alloc)?;
     let mut out = page_sink(alloc)?;

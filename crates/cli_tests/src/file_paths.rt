@@ -52,7 +52,7 @@ fn takes_the_name_of_a_tile_from_its_path(rt: HostRuntime) -> Result<(), Fail> {
     Ok(())
 }
 
-/// The path of a map, and what stands before its ending.
+/// The path of a map, and the part before its ending.
 static STEMS: [(&str, Option<&str>); 7] = [
     ("faults.bil", Some("faults")),
     ("a/b.c.bil", Some("a/b.c")),

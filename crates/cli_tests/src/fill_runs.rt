@@ -17,14 +17,14 @@ const PIT: [u8; 81] = [
     0, 1, 0, 0, 0, 0, 0, 0, 0, 0, 0, 0, 0, 0, 0, 0, 0, 0, // rnk
 ];
 
-/// The pit, where it stands once for all that read it.
+/// The pit, once for all that read it.
 fn pit() -> &'static [u8; 81] {
     &PIT
 }
 
 const PIT_LINE: &str = "accepted rows=3 cols=3 data=9 raised=1\n";
 
-/// What a run over the input prints.
+/// The output of a run over the input.
 fn printed<R: ByteSource>(
     alloc: Global,
     side: u32,
@@ -35,13 +35,13 @@ fn printed<R: ByteSource>(
     Ok(Printed::new(out.as_slice(), status)?)
 }
 
-/// What a run over these bytes prints.
+/// The output of a run over these bytes.
 fn told(alloc: Global, side: u32, bytes: &[u8]) -> Result<Printed, Fail> {
     let out = whole_sink(alloc)?;
     printed(alloc, side, &mut SliceSource::new(bytes), out)
 }
 
-/// What a run over the pit prints, whose source gives at most so many bytes at a call, and faults by the script.
+/// The output of a run over the pit, whose source gives at most this number of bytes a call, and faults by the script.
 fn told_slowly(
     alloc: Global,
     most: usize,
@@ -139,7 +139,7 @@ fn nines_round_a_void(middle: Option<u8>) -> [u8; 225] {
 /// Bytes of zeros: those of a flat tile of side 2, or one too many for side 3.
 const ZEROS: [u8; 82] = [0; 82];
 
-/// A tile of side 3 of voids, and zeros behind it.
+/// A tile of side 3 of voids, and zeros after it.
 fn all_void() -> [u8; 81] {
     let mut voids = [0; 81];
     for place in voids[..18].iter_mut().step_by(2) {
@@ -208,7 +208,7 @@ fn fault(first: u64, last: u64, answer: DeviceFault) -> [Scripted<DeviceFault>; 
     }]
 }
 
-/// How many bytes a source gives at a call, at which calls it faults, the status and the line.
+/// How many bytes a source gives a call, at which calls it faults, the status and the line.
 static FAULTS: [(&str, usize, u64, u64, DeviceFault, u8, &str); 5] = [
     ("one byte a call", 1, 0, 0, DeviceFault::Failed, 0, PIT_LINE),
     (
@@ -269,14 +269,14 @@ fn never_takes_a_failed_input_for_its_end(rt: HostRuntime) -> Result<(), Fail> {
     Ok(())
 }
 
-/// What a run over the pit prints into a sink that takes one byte at a call, and faults by the script.
+/// The output of a run over the pit into a sink that accepts one byte a call, and faults by the script.
 fn told_into(alloc: Global, script: &[Scripted<SinkAnswer>]) -> Result<Printed, Fail> {
     let out = slow_sink(alloc, script)?;
     let mut input = SliceSource::new(pit());
     printed(alloc, 3, &mut input, out)
 }
 
-/// What a sink answers at which calls, how many bytes of the line it takes, and the status.
+/// The answers of a sink at which calls, how many bytes of the line it accepts, and the status.
 static SINKS: [(&str, SinkAnswer, u64, u64, usize, u8); 5] = [
     ("a failure at once", SinkAnswer::Failed, 1, 1, 0, 3),
     (

@@ -1,4 +1,4 @@
-//! Runs of `drain header` over sources and sinks in memory: texts with what is printed of them, and devices that are
+//! Runs of `drain header` over sources and sinks in memory: texts with their output, and devices that are
 //! slow, interrupted or fail.
 
 use crate::printed::{Printed, same_line, same_number, same_run, slow_sink, whole_sink};
@@ -81,21 +81,21 @@ fn told(alloc: Global, bytes: &[u8]) -> Result<(Printed, usize), Fail> {
     }
 }
 
-/// What a run over the small header prints, whose source gives one byte at a call, and faults by the script.
+/// The output of a run over the small header, whose source gives one byte a call, and faults by the script.
 fn told_slowly(alloc: Global, script: &[Scripted<DeviceFault>]) -> Result<Printed, Fail> {
     let out = whole_sink(alloc)?;
     let mut input = ScriptSource::new(SMALL.as_bytes(), 1, script);
     printed(alloc, &mut input, out)
 }
 
-/// What a run over the small header prints into a sink that takes one byte at a call, and faults by the script.
+/// The output of a run over the small header into a sink that accepts one byte a call, and faults by the script.
 fn told_into(alloc: Global, script: &[Scripted<SinkAnswer>]) -> Result<Printed, Fail> {
     let out = slow_sink(alloc, script)?;
     let mut input = SliceSource::new(SMALL.as_bytes());
     printed(alloc, &mut input, out)
 }
 
-/// A header, the status and what is printed.
+/// A header, the status and the output.
 static HEADERS: [(&str, &str, u8, &str); 5] = [
     ("its own form", SMALL, 0, SMALL),
     ("a usual tool's", USUAL, 0, USUAL_WRITTEN),
@@ -147,7 +147,7 @@ fn reads_one_byte_past_the_longest_header(rt: HostRuntime) -> Result<(), Fail> {
     Ok(())
 }
 
-/// What a source answers at which calls, the status and the text.
+/// The answers of a source at which calls, the status and the text.
 static FAULTS: [(DeviceFault, u64, u64, u8, &str); 3] = [
     (DeviceFault::Interrupted, 3, 1001, 0, SMALL),
     (DeviceFault::Interrupted, 3, 1002, 3, "failed ReadFailed\n"),
@@ -168,7 +168,7 @@ fn bears_999_interruptions_of_its_file(rt: HostRuntime) -> Result<(), Fail> {
     Ok(())
 }
 
-/// What a sink answers from its hundredth call on.
+/// The answers of a sink from its hundredth call on.
 static SINK_ANSWERS: [(u64, SinkAnswer); 3] = [
     (0, SinkAnswer::Failed),
     (1, SinkAnswer::TookNone),

@@ -1,4 +1,4 @@
-//! Lists of sinks that are read whole, from sources that are slow, interrupted or fail.
+//! Lists of sinks read to their end, from sources that are slow, interrupted or fail.
 
 use drain_cli::sink_file::read_list;
 use drain_device::faults::{ScriptSource, Scripted};
@@ -25,7 +25,8 @@ fn bytes() -> [u8; LONGEST] {
     bytes
 }
 
-/// How many bytes were read of a list of so many, if they are the list's own. The source gives at most so many bytes at a call, and faults by the script.
+/// How many bytes were read of a list of this length, if they are the list's own. The source gives at most this number
+/// of bytes a call, and faults by the script.
 fn came(
     alloc: Global,
     length: usize,
@@ -48,7 +49,7 @@ fn came(
     })
 }
 
-/// Ends the test where something else came than has to.
+/// Fails the test if the result isn't the expected one.
 fn same_read(
     rt: &impl Abort,
     case: u64,
@@ -58,7 +59,7 @@ fn same_read(
     assert_eq!(rt; came, wanted, "{case}");
 }
 
-/// The bytes of lists, and how many a source gives at a call.
+/// The bytes of lists, and how many a source gives a call.
 static LENGTHS: [usize; 7] = [0, 1, 16_383, 16_384, 16_385, 32_768, LONGEST];
 
 static MOST_AT_A_CALL: [usize; 4] = [1, 7, 16_384, 100_000];
@@ -87,7 +88,8 @@ const WHOLE: Result<Option<usize>, BodyFault> = Ok(Some(LONGEST));
 
 const FAILED: Result<Option<usize>, BodyFault> = Err(BodyFault::ReadFailed);
 
-/// What a source answers at which calls, and what came. 42 calls give all, as the last of a chunk gives less, and the next finds the end.
+/// The answers of a source at which calls, and the result. 42 calls give all, as the last of a chunk gives less, and
+/// the next finds the end.
 static FAULTS: [(u64, u64, u64, DeviceFault, Result<Option<usize>, BodyFault>); 10] = [
     (1, 1, 999, DeviceFault::Interrupted, WHOLE),
     (2, 1, 1000, DeviceFault::Interrupted, FAILED),
@@ -110,7 +112,7 @@ fn bears_999_interruptions_of_a_list(rt: HostRuntime) -> Result<(), Fail> {
     Ok(())
 }
 
-/// The last call at which a second chunk is interrupted, and what came.
+/// The last call at which a second chunk is interrupted, and the result.
 static SECOND_FAULTS: [(u64, u64, Result<Option<usize>, BodyFault>); 2] = [
     (1, 1000, WHOLE),
     (2, 1001, FAILED),
@@ -138,7 +140,7 @@ fn counts_interruptions_over_all_chunks(rt: HostRuntime) -> Result<(), Fail> {
     Ok(())
 }
 
-/// Of itself memory is there; `tests/refuse_memory.c` refuses it.
+/// Normally memory is there; `tests/refuse_memory.c` refuses it.
 #[test]
 fn a_list_after_refused_memory(rt: HostRuntime) -> Result<(), Fail> {
     let right = Ok(Some(LONGEST));

@@ -16,12 +16,12 @@ const WORDS: &[u8] =
 /// That of the other products.
 const BYTES: &[u8] = b"NROWS 3\nNCOLS 3\nULXMAP 0\nULYMAP 1\nXDIM 0.5\nYDIM 0.5\n";
 
-/// Con and dir of the pit where its centre is listed.
+/// Con and dir of the pit with its centre listed.
 const LISTED_CON: &[u8] = &[5, 0, 5, 0, 5, 0, 5, 0, 1, 0, 5, 0, 5, 0, 5, 0, 5, 0];
 
 const LISTED_DIR: &[u8] = &[2, 4, 8, 1, 0, 16, 128, 64, 32];
 
-/// The right products of the pit where its centre is listed.
+/// The right products of the pit with its centre listed.
 const LISTED: PerProduct<Parts<'_>> = PerProduct {
     con: Parts {
         header: WORDS,
@@ -45,7 +45,7 @@ const LISTED: PerProduct<Parts<'_>> = PerProduct {
     },
 };
 
-/// Its right products where none is listed.
+/// Its right products with none listed.
 const FILLED: PerProduct<Parts<'_>> = PerProduct {
     con: Parts {
         header: WORDS,
@@ -107,13 +107,13 @@ fn prints_the_answer_to_products_and_a_list(rt: HostRuntime) -> Result<(), Fail>
     Ok(())
 }
 
-/// What making products of tiles of side 2 prints, with this list.
+/// The output of making products of tiles of side 2, with this list.
 fn made(alloc: Global, side: u32, tiles: &[Tile<'_>], list: &str) -> Result<Printed, Fail> {
     let mut files = empty_files(alloc, ROOM)?;
     make(alloc, side, tiles, list.as_bytes(), files.as_mut_slice())
 }
 
-/// Tiles of side 2, one beside the other, with other heights at the seam; one of voids, and one of side 3.
+/// Tiles of side 2, side by side, with other heights at the seam; one of voids, and one of side 3.
 const WEST: Tile<'_> = Tile {
     name: "N00E000.hgt",
     bytes: &[0, 1, 0, 2, 0, 3, 0, 4],

@@ -21,7 +21,7 @@ fn is(run: &Printed, line: &str, status: u8) -> bool {
     run.text() == line.as_bytes() && run.status == status
 }
 
-/// Whether making tells one line, and checking what was made the other, and both end with 0.
+/// Whether making prints one line, and checking the result the other, and both end with 0.
 fn tells(
     alloc: Global,
     side: u32,
@@ -147,7 +147,7 @@ fn what_is_made_of_every_tile_of_nine_inner_samples_is_accepted(
     Ok(())
 }
 
-/// Whether nothing is made of the tiles, and the line tells why.
+/// Whether nothing is made of the tiles, and the line says why.
 fn refuses(alloc: Global, side: u32, tiles: &[Tile<'_>], line: &str) -> Result<bool, Fail> {
     let mut files = empty_files(alloc, ROOM)?;
     let making = make(alloc, side, tiles, &[], files.as_mut_slice())?;
@@ -176,7 +176,7 @@ const FAR: Tile<'_> = Tile {
     bytes: &[0, 1, 0, 2, 0, 3, 0, 4],
 };
 
-/// A side and tiles, and the line that tells why nothing is made of them.
+/// A side and tiles, and the line that says why nothing is made of them.
 static REFUSED_TILES: [(u32, &[Tile<'_>], &str); 7] = [
     (1, &[NONE], "refused BadSide\n"),
     (2, &[ZERO, NONE], "refused BadName 1\n"),
@@ -196,7 +196,7 @@ fn tells_why_nothing_is_made(rt: HostRuntime) -> Result<(), Fail> {
     Ok(())
 }
 
-/// A file that takes five bytes at a call, and faults by the script or never.
+/// A file that accepts five bytes a call, and faults by the script or never.
 fn scripted_file<'a>(
     alloc: Global,
     faults: bool,
@@ -224,7 +224,7 @@ fn scripted_files<'a>(
     Ok(files)
 }
 
-/// How many bytes each file took.
+/// How many bytes each file accepted.
 fn lengths_of(files: &[ScriptSink<'_>]) -> [usize; FILE_COUNT] {
     let mut lengths = [0; FILE_COUNT];
     for (length, file) in lengths.iter_mut().zip(files) {
@@ -233,7 +233,8 @@ fn lengths_of(files: &[ScriptSink<'_>]) -> [usize; FILE_COUNT] {
     lengths
 }
 
-/// What writing the pit's files printed, where the one in this place takes some bytes and then fails, and how many bytes each took.
+/// The output of writing the pit's files, where the one in this place accepts some bytes and then fails, and how many
+/// bytes each accepted.
 fn lengths_where_one_fails(
     alloc: Global,
     place: usize,
@@ -248,7 +249,8 @@ fn lengths_where_one_fails(
     Ok((run, lengths_of(files.as_slice())))
 }
 
-/// The place of the first file that took another number of bytes than it has to where the one in this place fails; the number of files where none did.
+/// The place of the first file that accepted a wrong number of bytes when the one in this place fails; the number of
+/// files if none did.
 fn first_wrong(place: usize, lengths: &[usize; FILE_COUNT], whole: &[usize; FILE_COUNT]) -> usize {
     let wrong = lengths.iter().zip(whole.iter()).enumerate().position(|(k, (length, all))| {
         let is_right = if k == place {
@@ -261,7 +263,7 @@ fn first_wrong(place: usize, lengths: &[usize; FILE_COUNT], whole: &[usize; FILE
     wrong.unwrap_or(FILE_COUNT)
 }
 
-/// Ends the test where the first header and the rasters have other lengths than they have to.
+/// Fails the test if the first header or a raster has a wrong length.
 fn same_lengths(rt: &impl Abort, given: [usize; 6], wanted: [usize; 6]) {
     assert_eq!(rt; given, wanted);
 }

@@ -21,7 +21,8 @@ pub fn pit() -> [Tile<'static>; 1] {
     at_zero(&PIT)
 }
 
-/// Makes products of the tiles with this list of sinks, and writes them as these files. Where none are made the files stay as they are.
+/// Makes products of the tiles with this list of sinks, and writes them as these files. If none are made the files are
+/// unchanged.
 fn set_status<F: ByteSink>(
     alloc: Global,
     side: u32,
@@ -39,7 +40,7 @@ fn set_status<F: ByteSink>(
     }
 }
 
-/// What a run prints that makes products of the tiles with this list of sinks, and writes them as these files.
+/// The output of a run that makes products of the tiles with this list of sinks, and writes them as these files.
 pub fn make<F: ByteSink>(
     alloc: Global,
     side: u32,

@@ -1,4 +1,4 @@
-//! What a run printed, and where it prints into.
+//! The output of a run, and its sink.
 
 ghost use Rattle.std.specs.Prelude.{◌≡◌, length, IfOk};
 
@@ -16,12 +16,12 @@ use std::test::Fail;
 /// The most bytes that a run of a test prints.
 pub const ROOM: usize = 300;
 
-/// Room for all that a run prints, so that no sink wants memory.
+/// Room for all output of a run, so that no sink needs memory.
 pub fn room(alloc: Global) -> Result<Vec<u8>, AllocError> {
     Vec::with_capacity(alloc, ROOM)
 }
 
-/// A sink that takes all that it is given.
+/// A sink that accepts all.
 pub fn whole_sink(alloc: Global) -> Result<ScriptSink<'static>, AllocError> {
     Ok(ScriptSink::new(room(alloc)?, 1000, &[]))
 }
@@ -33,7 +33,7 @@ pub static AT_THE_NINTH: [Scripted<SinkAnswer>; 1] = [Scripted {
     answer: SinkAnswer::Failed,
 }];
 
-/// A sink that takes one byte at a call, and faults by the script.
+/// A sink that accepts one byte a call, and faults by the script.
 pub fn slow_sink<'a>(
     alloc: Global,
     script: &'a [Scripted<SinkAnswer>],
@@ -45,7 +45,7 @@ fn empty_file(alloc: Global, capacity: usize) -> Result<VecSink, AllocError> {
     Ok(VecSink::new(Vec::with_capacity(alloc, capacity)?))
 }
 
-/// Files for the products of one mosaic, each with room for so many bytes.
+/// Files for the products of one mosaic, each with room for this number of bytes.
 pub fn empty_files(alloc: Global, capacity: usize) -> Result<Vec<VecSink>, Fail>
     ensures { IfOk result (λ files. length files.items ≡ FILE_COUNT) }
 {
@@ -74,7 +74,7 @@ pub fn files_of<'a>(files: &'a [VecSink], product: Held) -> Result<(&'a [u8], &'
     Ok((header.as_slice(), raster.as_slice()))
 }
 
-/// A copy of a few bytes that owns no memory, so that a test that holds some is cheap to prove.
+/// A copy of a few bytes that owns no memory, so that a test with some is cheap to prove.
 #[derive(Clone, Copy)]
 pub struct Text {
     bytes: [u8; ROOM],
@@ -93,13 +93,13 @@ impl Text {
         }
     }
 
-    /// The bytes; none where there were more than a run prints.
+    /// The bytes; none if there were more than a run prints.
     pub fn as_slice(&self) -> &[u8] {
         self.bytes.get(..self.length).unwrap_or(&[])
     }
 }
 
-/// What a run printed, and the status that it ended with.
+/// The output of a run, and the status that it ended with.
 #[derive(Clone, Copy)]
 pub struct Printed {
     printed: Text,
@@ -107,7 +107,7 @@ pub struct Printed {
 }
 
 impl Printed {
-    /// What a run printed, unless that tells of want of memory.
+    /// The output of a run, unless it reports that memory ran out.
     pub fn new(printed: &[u8], status: u8) -> Result<Printed, BodyFault> {
         if printed.starts_with(b"failed O") {
             return Err(BodyFault::OutOfMemory);
@@ -118,19 +118,19 @@ impl Printed {
         })
     }
 
-    /// The bytes that were printed; none where there were more than a run prints.
+    /// The bytes that were printed; none if there were more than a run prints.
     pub fn text(&self) -> &[u8] {
         self.printed.as_slice()
     }
 }
 
-/// Ends the test where a run printed other bytes or ended with another status, and tells of which case it is: by its number. A proof of a call of it costs
-/// less than that of an assertion in place.
+/// Fails the test if a run printed other bytes or ended with another status, and names the case by its number. A call
+/// of it is cheaper to prove than an assertion in place.
 pub fn same_run(rt: &impl Abort, case: u64, run: &Printed, text: &[u8], status: u8) {
     assert_eq!(rt; (run.text(), run.status), (text, status), "{case}");
 }
 
-/// Ends the test where a run printed another line or ended with another status, and tells of which case it is.
+/// Fails the test if a run printed another line or ended with another status, and names the case.
 pub fn same_line(rt: &impl Abort, case: &str, run: &Printed, line: &str, status: u8) {
     assert_eq!(rt;
         (run.text(), run.status),
@@ -139,27 +139,27 @@ pub fn same_line(rt: &impl Abort, case: &str, run: &Printed, line: &str, status:
     );
 }
 
-/// Ends the test where bytes aren't those that are wanted, and tells of which case it is.
+/// Fails the test if bytes aren't the expected ones, and names the case.
 pub fn same_bytes(rt: &impl Abort, case: &str, bytes: &[u8], wanted: &[u8]) {
     assert_eq!(rt; bytes, wanted, "{case}");
 }
 
-/// Ends the test where a number isn't the one that is wanted, and tells of which case it is: by its number.
+/// Fails the test if a number isn't the expected one, and names the case by its number.
 pub fn same_number(rt: &impl Abort, case: u64, given: u64, wanted: u64) {
     assert_eq!(rt; given, wanted, "{case}");
 }
 
-/// Ends the test where something doesn't hold, and tells of which case it is: by its number.
+/// Fails the test if something doesn't hold, and names the case by its number.
 pub fn holds_at(rt: &impl Abort, case: u64, is_so: bool) {
     assert!(rt; is_so, "{case}");
 }
 
-/// Ends the test where something doesn't hold, and tells of which case it is.
+/// Fails the test if something doesn't hold, and names the case.
 pub fn holds(rt: &impl Abort, case: &str, is_so: bool) {
     assert!(rt; is_so, "{case}");
 }
 
-/// What a check with this list of sinks prints.
+/// The output of a check with this list of sinks.
 pub fn check_printed<R: ByteSource>(
     alloc: Global,
     side: u32,

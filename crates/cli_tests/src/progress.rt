@@ -1,5 +1,5 @@
-//! What `--progress` tells, and when: where rows end, the words of a line, when one is due; and a device that nobody watches hands on what it is given.
-//! Lines on standard error are shown by tests/program/progress.sh.
+//! When and what `--progress` prints: where rows end, the text of a line, when one is due; and a device without a watch
+//! passes on its bytes. Lines on standard error are shown by tests/program/progress.sh.
 
 use crate::printed::{holds, holds_at, same_bytes, same_number};
 use drain_cli::gauge::Gauge;
@@ -18,7 +18,7 @@ use std::test::Fail;
 const HEADER: &[u8] =
     b"NROWS 3\nNCOLS 4\nNBITS 16\nSKIPBYTES 5\nTOTALROWBYTES 10\nULXMAP 0\nULYMAP 1\nXDIM 1\nYDIM 1\n";
 
-/// How many rows end within so many bytes.
+/// How many rows end within this number of bytes.
 static ROWS_WITHIN: [(u64, u64); 6] = [(0, 0), (12, 0), (13, 1), (22, 1), (23, 2), (33, 3)];
 
 #[test]
@@ -50,7 +50,7 @@ fn lines_tell_which_rows_are_counted(rt: HostRuntime) {
     }
 }
 
-/// Milliseconds, and whether a line is due then: where one was told at the start, and where one was told at 600.
+/// Milliseconds, and whether a line is due then: after one that was printed at the start, and after one printed at 600.
 static DUES: [(u64, bool); 5] = [
     (999, false),
     (1000, true),
@@ -61,7 +61,7 @@ static DUES: [(u64, bool); 5] = [
 
 static DUES_BEHIND_600: [(u64, bool); 2] = [(1599, false), (1600, true)];
 
-/// Ends the test where a line is due when none is to be, or none when one is.
+/// Fails the test if a line is due when none is expected, or none when one is.
 fn expect_dues(rt: &impl Abort, mut pace: Pace, dues: &[(u64, bool)]) {
     for &(time, is_due) in dues {
         holds_at(rt, time, pace.is_due(time) == is_due);
@@ -94,7 +94,7 @@ fn an_unwatched_device_hands_on_its_bytes(rt: HostRuntime) -> Result<(), Fail> {
     Ok(())
 }
 
-/// How many bytes a sink takes that nobody watches, and how many failures and interruptions it counts.
+/// How many bytes a sink without a watch accepts, and how many failures and interruptions it counts.
 fn taken(alloc: Global) -> Result<(usize, u64, u64), Fail> {
     let mut sink = Watched::new(VecSink::new(Vec::with_capacity(alloc, 8)?));
     match sink.write_some(b"drainage") {

@@ -1,4 +1,4 @@
-//! Inputs go on together: no source gives a row's first byte long before the others have given the rows above it.
+//! Inputs advance together: no source gives a row's first byte long before the others have given the rows above it.
 
 ghost use Rattle.std.specs.Prelude.{None};
 ghost use Rattle.drain_device.specs.Counts.{no_faults};
@@ -23,7 +23,7 @@ const ZEROS: [u8; 2 * SIDE * SIDE] = [0; 2 * SIDE * SIDE];
 /// For each row a number of the common clock.
 type Stamps = [u64; SIDE];
 
-/// A source that gives one byte at a call. For each row it notes when the first byte and when the last was given.
+/// A source that gives one byte a call. For each row it notes when the first byte and when the last was given.
 #[derive(Drop)]
 struct Stamped<'a> {
     rest: &'a [u8],

@@ -1,4 +1,4 @@
--- The line that tells the answer of an audit. Its words are this project's own.
+-- The line for the answer of an audit. Its words are this project's own.
 use Rattle.std.specs.Prelude.{ℕ, List, ◌++◌, Result, Ok, Err, codes, decimal}
 use Rattle.drain_answer.specs.Lines.{accepted_line, refusal_line, rejected_line}
 use Rattle.drain_answer.specs.declared.audit_verdict.AuditVerdict.{AuditVerdict}
@@ -9,7 +9,7 @@ use Rattle.drain_answer.specs.declared.refusal.Refusal.{Refusal}
 abbrev pub no_end_line : ℕ → ℕ → List ℕ
 no_end_line row col = codes "rejected NoEnd row=" ++ decimal row ++ codes " col=" ++ decimal col
 
--- the line of a verdict; but for runs without an end it is that of a check
+-- the line of a verdict; except for paths without an end it is that of a check
 abbrev pub audit_line : AuditVerdict → List ℕ
 audit_line (Accepted counts) = accepted_line counts
 audit_line (Rejected rule row col) = rejected_line rule row col

@@ -1,4 +1,4 @@
--- The line that tells the answer to a fill input. Its words are this project's own.
+-- The line for the answer to a fill input. Its words are this project's own.
 use Rattle.std.specs.Prelude.{ℕ, List, ◌++◌, Result, Ok, Err, codes, decimal}
 use Rattle.drain_rules.specs.declared.fill_walk.FillCounts.{FillCounts}
 use Rattle.drain_rules.specs.declared.fill_walk.FillVerdict.{FillVerdict}

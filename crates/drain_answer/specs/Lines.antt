@@ -1,4 +1,4 @@
--- The line that tells the answer of a check. Its words are this project's own.
+-- The line for the answer of a check. Its words are this project's own.
 use Rattle.std.specs.Prelude.{ℕ, List, ◌++◌, Result, Ok, Err, codes, decimal}
 use Rattle.drain_grid.specs.declared.rule.Rule.{Rule}
 use Rattle.drain_grid.specs.Rule.{number_of, name_of}
@@ -27,7 +27,7 @@ abbrev pub verdict_line : Verdict → List ℕ
 verdict_line (Accepted counts) = accepted_line counts
 verdict_line (Rejected rule row col) = rejected_line rule row col
 
--- refused WORD, and what it is about; failed WORD where memory or a source gave out
+-- refused WORD, and what it is about; failed WORD if memory ran out or a source failed
 abbrev pub refusal_line : Refusal → List ℕ
 refusal_line BadSide = codes "refused BadSide"
 refusal_line (BadName i) = codes "refused BadName " ++ decimal i

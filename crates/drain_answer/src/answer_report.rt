@@ -1,4 +1,4 @@
-//! The line that tells the answer of a check.
+//! The line for the answer of a check.
 
 ghost use Rattle.std.specs.Prelude.{◌≡◌, ◌++◌, ◌≤◌, length, codes, decimal};
 ghost use Rattle.drain_grid.specs.Product.{name_of as product_name};
@@ -79,7 +79,7 @@ fn of_line(text: &str, number: u64) -> Line
     line
 }
 
-/// That the name in this place is no tile's.
+/// The name in this place is no tile's.
 fn bad_name(place: usize) -> Line
     ensures { result.bytes ≡ codes "refused BadName " ++ decimal place }
 {
@@ -89,7 +89,7 @@ fn bad_name(place: usize) -> Line
     line
 }
 
-/// That a product's header has a fault.
+/// A product's header has a fault.
 fn bad_header(product: Product, fault: HeaderFault) -> Line
     ensures { result.bytes ≡ refusal_line (Refusal.BadHeader product fault) }
 {
@@ -99,7 +99,7 @@ fn bad_header(product: Product, fault: HeaderFault) -> Line
     line
 }
 
-/// That two tiles differ at a cell.
+/// Two tiles differ at a cell.
 fn seam_mismatch(cell: Cell) -> Line
     ensures { result.bytes ≡ refusal_line (Refusal.SeamMismatch cell) }
 {

@@ -1,4 +1,4 @@
-//! The line that tells the answer of an audit.
+//! The line for the answer of an audit.
 
 ghost use Rattle.std.specs.Prelude.{◌≡◌};
 ghost use Rattle.drain_answer.specs.AuditLines.{audit_report_line, audit_line, no_end_line};
@@ -10,7 +10,7 @@ use crate::refusal::Refusal;
 use crate::verdict_report::{accepted, rejected};
 use arrayvec::ArrayString;
 
-/// The line of an answer, without a line end, in ASCII. But for runs without an end it is that of a check.
+/// The line of an answer, without a line end, in ASCII. Except for paths without an end it is that of a check.
 pub fn audit_report(answer: &Result<AuditVerdict, Refusal>) -> ArrayString<LINE_LENGTH>
     ensures { result.bytes ≡ audit_report_line answer.now }
 {
@@ -31,7 +31,7 @@ fn line_of(verdict: &AuditVerdict) -> Line
     }
 }
 
-/// That the run of a cell doesn't end.
+/// The path of a cell doesn't end.
 fn no_end(row: u32, col: u32) -> Line
     ensures { result.bytes ≡ no_end_line row col }
 {

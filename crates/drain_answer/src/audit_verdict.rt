@@ -3,8 +3,9 @@
 use drain_grid::Rule;
 use drain_rules::Counts;
 
-/// Accepted exactly where the four products are correct. Else the first data cell whose run of directions doesn't come to a code 0; or, where every run
-/// ends, the first fault: of the cells where a rule fails the first in row order, and of the rules that fail there the first.
+/// Accepted exactly if the four products are correct. Else the first data cell whose path reaches no code 0; or, if
+/// every path ends, the first fault: of the cells where a rule fails the first in row order, and of its failing rules
+/// the first.
 #[derive(Clone, Copy, PartialEq, Eq, Debug)]
 pub enum AuditVerdict {
     Accepted(Counts),

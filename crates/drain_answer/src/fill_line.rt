@@ -1,4 +1,4 @@
-//! The line that tells the answer to a fill input.
+//! The line for the answer to a fill input.
 
 ghost use Rattle.std.specs.Prelude.{◌≡◌};
 ghost use Rattle.drain_answer.specs.FillLines.{fill_line, accepted_line};

@@ -1,4 +1,4 @@
-//! What the lines rest on. A law is a function with nothing to do: its contract is the law.
+//! What the lines rest on. A law is a function with an empty body: its contract is the law.
 
 ghost use Rattle.std.specs.Prelude.{◌≡◌};
 

@@ -1,4 +1,4 @@
-//! A line that tells a verdict, without its line end: words and numbers, put together on the stack.
+//! The line of a verdict, without its line end: words and numbers, put together on the stack.
 
 ghost use Rattle.std.specs.Prelude.{◌≡◌, ◌+◌, ◌≤◌, ◌++◌, length, decimal};
 ghost use Rattle.arrayvec.specs.ArrayString.{array_string_len};
@@ -9,7 +9,7 @@ use itoa::Buffer;
 /// The longest line has fewer bytes.
 pub const LINE_LENGTH: usize = 160;
 
-/// A line that grows at its end.
+/// A line to which words are appended.
 pub type Line = ArrayString<LINE_LENGTH>;
 
 /// Appends a whole number of 32 bits, in decimal digits without leading zeros.

@@ -5,10 +5,11 @@ use drain_header::HeaderFault;
 use drain_hgt::TileName;
 use thiserror::Error;
 
-/// Why there is no verdict, in the order in which refusals are told. Those of one product's header come before those of the next.
+/// Why there is no verdict, in the order in which refusals are reported. Those of one product's header come before
+/// those of the next.
 #[derive(Clone, Copy, PartialEq, Eq, Debug, Error)]
 pub enum Refusal {
-    /// No tile has so many samples along an edge.
+    /// No tile has this number of samples along an edge.
     #[error("no tile has this side")]
     BadSide,
     /// The name in this place, counted from 0, names no tile.
@@ -29,7 +30,7 @@ pub enum Refusal {
     /// The product has other rows or columns than the mosaic.
     #[error("a product has another shape")]
     WrongShape(Product),
-    /// The product lies elsewhere than the mosaic.
+    /// The product has another place than the mosaic.
     #[error("a product lies elsewhere")]
     Misplaced(Product),
     /// The tile has another number of bytes.

@@ -1,4 +1,4 @@
-//! The line that tells a verdict.
+//! The line of a verdict.
 
 ghost use Rattle.std.specs.Prelude.{◌≡◌};
 ghost use Rattle.drain_answer.specs.Lines.{verdict_line, accepted_line, rejected_line};

@@ -1,4 +1,4 @@
--- From what was printed to what a run of an explanation tells.
+-- From what was printed to what a run of an explanation reports.
 use Rattle.std.proofs.Common.{◌≡◌, ℕ, List, map, Result, Ok, Err, inl, inr, refl}
 use Rattle.std.specs.Prelude.{◌↔◌, IfErr, IsErrOf}
 use Rattle.drain_device.specs.Devices.{Sink, Source}

@@ -1,4 +1,4 @@
--- The first 65,537 bytes of a text have its answer, and what a read of them leaves.
+-- The first 65,537 bytes of a text have its answer, and what is left after reading them.
 use Rattle.std.proofs.Common.{◌≡◌, ℕ, ◌<◌, ◌++◌, List, [], length, true, false, arith, refl, sym, ap, ◌∙◌, take, inl, inr}
 use Rattle.std.specs.Prelude.{◌↔◌, nat_le, Option, Some, None, Result, Ok, Err, IsErrOf}
 use Rattle.std.proofs.lemmas.Bool.{leb-true, leb-false}

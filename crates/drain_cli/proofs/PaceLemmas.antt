@@ -1,4 +1,5 @@
--- How many lines come in one second, by induction over the times at which it is asked: none behind a line that comes in or after it.
+-- How many lines come in one second, by induction over the times of the tests: none after a line that comes in or after
+-- it.
 use Rattle.std.proofs.Common.{◌≡◌, ℕ, ◌+◌, ◌≤◌, ◌<◌, Bool, true, false, not, cond, List, [], ◌∷◌, refl, ap, arith}
 use Rattle.std.specs.Prelude.{nat_lt}
 use Rattle.std.specs.List.{count_by}

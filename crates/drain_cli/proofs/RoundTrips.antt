@@ -1,4 +1,4 @@
--- What was written into empty files is what a check is given, and so is accepted.
+-- A check reads what was written into empty files, and so accepts it.
 use Rattle.std.proofs.Common.{◌≡◌, ℕ, suc, ◌<◌, List, [], ◌∷◌, map, length, slice_index_or, Option, Some, None, Ok, inl, inr, arith, refl, sym, ap, ◌∙◌, subst}
 use Rattle.std.specs.Io.KnownBytes.{Appends}
 use Rattle.drain_device.specs.Devices.{Sink}

@@ -1,4 +1,4 @@
--- How many rows end within so many bytes, by a division.
+-- How many rows end within n bytes, by a division.
 use Rattle.std.proofs.Common.{◌≡◌, ℕ, ◌+◌, ◌*◌, ◌-◌, ◌/◌, ◌%◌, ◌≤◌, ◌<◌, min, arith}
 use Rattle.std.proofs.lemmas.Nat.{div-add-mod', mod_below, mul-le}
 use Rattle.drain_cli.specs.RowEnds.{IsRowCount}

@@ -16,14 +16,14 @@ use Rattle.drain_cli.specs.Statuses.{refusal_status}
 use Rattle.drain_cli.specs.declared.status.Status.{Status}
 use Rattle.drain_cli.specs.declared.status.Status.TheVariants as status
 
--- the status that the run ends with, where its line is printed
+-- the status that the run ends with, if its line is printed
 abbrev pub check_status : Result Verdict Refusal → Status
 check_status (Ok (Accepted counts)) = status.Done
 check_status (Ok (Rejected rule row col)) = status.Rejected
 check_status (Err refusal) = refusal_status refusal
 
--- the answer is that of the bytes that the devices had left, where they tell them, and says that a read failed exactly where one did; where it
--- refuses side, names, layout or headers every device is as it was
+-- the answer is that of the bytes that the devices had left, if they are known, and says that a read failed exactly if
+-- one did; if it refuses side, names, layout or headers every device is as it was
 pub record IsCheckOutcome {R : Type 0} (source : Source R) (side : ℕ) (tiles_old tiles_new : List (TileInput R)) (sinks : List ℕ)
     (products_old products_new : Products R) (outcome : Result Verdict Refusal) : Type 0 where
   pub answer : (i : Inputs) → Tell source.bytes_left side tiles_old sinks products_old i → IsAnswer i outcome

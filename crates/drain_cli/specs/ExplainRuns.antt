@@ -1,4 +1,4 @@
--- What a run of `drain explain` prints, and the status that it leaves.
+-- What a run of `drain explain` prints, and its status.
 use Rattle.std.specs.Prelude.{◌≡◌, ◌⊎◌, ℕ, ◌++◌, List, [], ◌∷◌, codes}
 use Rattle.drain_device.specs.Devices.{Sink}
 use Rattle.drain_device.specs.declared.read.BodyFault.TheVariants.{OutOfMemory}
@@ -12,21 +12,21 @@ use Rattle.drain_cli.specs.OpenFailures.{IsOpenFailure}
 use Rattle.drain_page.specs.JsonLines.{line_feed}
 use Rattle.drain_cli.specs.Printing.{PrintsText}
 
--- a page begins with the line of its answer; of one JSON object no more is said than that it is printed
+-- a page begins with the line of its answer; of one JSON object only its printing is claimed
 abbrev pub BeginsWith : Form → List ℕ → List ℕ → Type 0
 BeginsWith Text line page = (rest : List ℕ) × (page ≡ line ++ line_feed ∷ rest)
 BeginsWith Json line page = Unit {0}
 
--- what is printed where there is no memory for a page
+-- what is printed if there is no memory for a page
 abbrev pub no_page : Form → List ℕ
 no_page Text = failure_text OutOfMemory
 no_page Json = NO_OBJECT.now
 
--- what is printed where a map of the faults can't be written
+-- what is printed if a map of the faults can't be written
 abbrev pub map_failure : List ℕ
 map_failure = codes "failed WriteFailed" ++ line_feed ∷ []
 
--- there is no page: for want of memory, or since the map's files can't be created or written
+-- there is no page: memory ran out, or the map's files can't be created or written
 abbrev pub IsNoPage : Form → List ℕ → Type 0
 IsNoPage form text = (text ≡ no_page form) ⊎ ((text ≡ failure_text OutOfMemory) ⊎ ((text ≡ map_failure) ⊎ ((path : List ℕ) × IsOpenFailure path text)))
 

@@ -1,4 +1,4 @@
--- The paths of products' files, and what of a tile's path is its name.
+-- The paths of products' files, and the name in a tile's path.
 use Rattle.std.specs.Prelude.{◌≡◌, ◌≢◌, ◌⊎◌, ◌==◌, ℕ, List, [], ◌∷◌, ◌++◌, codes, if◌then◌else◌}
 use Rattle.std.specs.List.{All, ends_with}
 use Rattle.drain_grid.specs.declared.product.Product.{Product}
@@ -9,7 +9,7 @@ use Rattle.drain_maker.specs.declared.product_files.Part.TheVariants.{Header, Ra
 abbrev pub slash : ℕ
 slash = 47
 
--- what stands between the path of a folder and the name of a file in it: a slash, or nothing behind a slash
+-- what separates the path of a folder from the name of a file in it: a slash, or nothing after a slash
 abbrev pub separator : List ℕ → List ℕ
 separator folder = if ends_with (λ a b. a == b) folder (slash ∷ []) then [] else slash ∷ []
 

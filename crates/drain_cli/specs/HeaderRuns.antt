@@ -1,4 +1,5 @@
--- How a run of `drain header` ends: with the answer to its bytes, or without one for want of memory or by the source.
+-- How a run of `drain header` ends: with the answer to its bytes, or without one as memory ran out or the source
+-- failed.
 use Rattle.std.specs.Prelude.{◌≡◌, ◌⊎◌, ℕ, ◌++◌, List, [], ◌∷◌, Option, Some, None, Result, Ok, Err, IsErrOf, codes}
 use Rattle.drain_device.specs.Devices.{Source}
 use Rattle.drain_device.specs.declared.read.BodyFault.{BodyFault}
@@ -24,24 +25,24 @@ header_printed (Ok (Ok h)) = text_of h
 header_printed (Ok (Err fault)) = codes "refused " ++ fault_text fault ++ line_feed ∷ []
 header_printed (Err fault) = failure_text fault
 
--- the status that the run ends with, where that is printed
+-- the status that the run ends with, if that is printed
 abbrev pub header_status : HeaderOutcome → Status
 header_status (Ok (Ok h)) = status.Done
 header_status (Ok (Err fault)) = status.Refused
 header_status (Err fault) = status.Failed
 
--- an answer is the one of the bytes that the source had left, where the source tells them
+-- an answer is the one of the bytes that the source had left, if they are known
 abbrev pub AnswersHeaderTold : Option (List ℕ) → HeaderOutcome → Type 0
 AnswersHeaderTold None outcome = Unit {0}
 AnswersHeaderTold (Some bytes) (Ok answer) = Answers bytes answer
 AnswersHeaderTold (Some bytes) (Err fault) = Unit {0}
 
--- the answer told, or want of memory for the text of its header
+-- the answer printed, or out of memory for the text of its header
 abbrev pub IsAnswerToldAs : Result Fields HeaderFault → HeaderOutcome → Type 0
 IsAnswerToldAs (Ok h) told = (told ≡ Ok (Ok h)) ⊎ (told ≡ Err OutOfMemory)
 IsAnswerToldAs (Err fault) told = told ≡ Ok (Err fault)
 
--- the outcome told: that of the read, but for such a want of memory
+-- the outcome printed: that of the read, unless memory ran out for that text
 abbrev pub IsToldAs : HeaderOutcome → HeaderOutcome → Type 0
 IsToldAs (Ok answer) told = IsAnswerToldAs answer told
 IsToldAs (Err fault) told = told ≡ Err fault

@@ -1,4 +1,4 @@
--- What products made of tiles are, and why there are none.
+-- The products made of tiles, and why there are none.
 use Rattle.std.specs.Prelude.{◌≡◌, ℕ, List, map, Option, Ok, Err}
 use Rattle.drain_device.specs.Devices.{Source}
 use Rattle.drain_grid.specs.declared.product_set.ProductSet.{ProductSet}
@@ -18,7 +18,7 @@ use Rattle.drain_maker.specs.Made.{AreMade, IsSinkAnswer}
 use Rattle.drain_cli.specs.declared.make_set.NoSet.{NoSet}
 use Rattle.drain_cli.specs.declared.make_set.NoSet.TheVariants.{Tiles, Sinks, Maker}
 
--- products that were made for the mosaic of the tiles that the devices told, and for the sinks that the text lists
+-- products that were made for the mosaic of the tiles in the devices' bytes, and for the sinks that the text lists
 pub record IsSetOf {R : Type 0} (bytes_left : R → Option (List ℕ)) (side : ℕ) (tiles : List (TileInput R)) (sinks : List ℕ) (t : Tiling) (ps : ProductSet) : Type 0 where
   pub elevation : Heights
   pub extent_is : elevation.extent ≡ extent_of t
@@ -27,7 +27,7 @@ pub record IsSetOf {R : Type 0} (bytes_left : R → Option (List ℕ)) (side : �
   pub listed_are : sinks_of sinks ≡ Ok listed
   pub made : AreMade t elevation listed ps
 
--- the maker made none for that mosaic and those sinks: a sink without data is told exactly where there is one
+-- the maker made none for that mosaic and those sinks: a sink without data is reported exactly if there is one
 pub record IsRefusalOf {R : Type 0} (bytes_left : R → Option (List ℕ)) (side : ℕ) (tiles : List (TileInput R)) (sinks : List ℕ) (refusal : MakeRefusal) : Type 0 where
   pub elevation : Heights
   pub tiling : Tiling
@@ -40,8 +40,8 @@ pub record IsRefusalOf {R : Type 0} (bytes_left : R → Option (List ℕ)) (side
 abbrev pub NoTileFails : {R : Type 0} → Source R → List (TileInput R) → List (TileInput R) → Type 0
 NoTileFails source old new = SomeReadFails (map source.counts (tile_devices old)) (map source.counts (tile_devices new)) ⊥
 
--- the first refusal of the tiles, of which a failed read is told exactly where one failed, and which leaves every device as it was where it is of side,
--- names or layout; or else the fault of the list of sinks; or else the maker's refusal
+-- the first refusal of the tiles, with a failed read reported exactly if one failed, and every device unchanged if it
+-- is of side, names or layout; or else the fault of the list of sinks; or else the maker's refusal
 abbrev pub IsNoSet : {R : Type 0} → Source R → ℕ → List (TileInput R) → List (TileInput R) → List ℕ → NoSet → Type 0
 IsNoSet source side old new sinks (Tiles refusal) =
     ((i : Inputs) → TellTiles source.bytes_left side old i → IsMosaicRefusal i refusal)

@@ -6,7 +6,7 @@ use Rattle.drain_header.specs.Fields.{Fields}
 use Rattle.drain_maker.specs.Headers.{mosaic_place}
 use Rattle.drain_mosaic.specs.Tiling.{Tiling, extent_of}
 
--- a byte without a sign for each pixel, nothing to skip, rows without padding, 255 where there is no data
+-- a byte without a sign for each pixel, nothing to skip, rows without padding, 255 for no data
 abbrev pub map_header : Tiling → Fields
 map_header t = record {
   rows = (extent_of t).rows;

@@ -1,13 +1,13 @@
--- When lines about progress are told. Times are milliseconds.
+-- When lines about progress are printed. Times are milliseconds.
 use Rattle.std.specs.Prelude.{ℕ, ◌+◌, ◌≤◌, Bool, ◌&&◌, not, nat_lt, List, [], ◌∷◌, ◌++◌, if◌then◌else◌}
 use Rattle.std.specs.List.{count_by}
 use Rattle.drain_cli.specs.declared.pace.TheConstants.{APART}
 
--- when the last line was told, after it was asked at this time whether one is due
+-- when the last line was printed, after a test at this time whether one is due
 abbrev pub told_last : ℕ → ℕ → ℕ
 told_last last now = if nat_lt now (last + APART) then last else now
 
--- when lines are told, where the last was told at that time and it is asked at these
+-- when lines are printed, if the last was printed at that time and tests come at these
 abbrev pub told_times : ℕ → List ℕ → List ℕ
 told_times last [] = []
 told_times last (now ∷ later) = if nat_lt now (last + APART) then told_times last later else now ∷ told_times now later
@@ -16,11 +16,11 @@ told_times last (now ∷ later) = if nat_lt now (last + APART) then told_times l
 abbrev pub is_in_second : ℕ → ℕ → Bool
 is_in_second start time = not (nat_lt time start) && nat_lt time (start + 1000)
 
--- of lines that are told when they are due at most one comes in any one second
+-- of lines that are printed when they are due at most one comes in any one second
 abbrev pub AtMostOneLineInASecond : Type 0
 AtMostOneLineInASecond = (last : ℕ) (asked : List ℕ) (start : ℕ) → count_by (is_in_second start) (told_times last asked) ≤ 1
 
--- and at most two with a line among them that is told at any time
+-- and at most two with a line among them that is printed at any time
 abbrev pub AtMostTwoLinesInASecond : Type 0
 AtMostTwoLinesInASecond = (last : ℕ) (before : List ℕ) (now : ℕ) (after : List ℕ) (start : ℕ) →
     count_by (is_in_second start) (told_times last before ++ now ∷ told_times now after) ≤ 2

@@ -1,4 +1,4 @@
--- What is printed, and the status that it leaves.
+-- What is printed, and its status.
 use Rattle.std.specs.Prelude.{◌≡◌, ℕ, ◌++◌, List, [], ◌∷◌, Result, Ok, Err, IsErr}
 use Rattle.drain_device.specs.declared.patience.GaveUp.{GaveUp}
 use Rattle.drain_device.specs.Devices.{Sink}
@@ -9,12 +9,12 @@ use Rattle.drain_cli.specs.declared.status.Status.{Status}
 use Rattle.drain_cli.specs.declared.status.Status.TheVariants.{Failed}
 use Rattle.drain_cli.specs.Statuses.{code_of}
 
--- the status of a run stands where its line was written
+-- the status of a run is kept if its line was written
 abbrev pub status_after : {T E : Type 0} → Result T E → Status → Status
 status_after (Ok done) status = status
 status_after (Err fault) status = Failed
 
--- the text was written and the status stands, or a proper part of it was written and the status is that of a failure
+-- the text was written and the status kept, or a proper part of it was written and the status is that of a failure
 pub record PrintsText {W : Type 0} (sink : Sink W) (old new : W) (text : List ℕ) (status : Status) (code : ℕ) : Type 0 where
   pub done : Result (Unit {0}) GaveUp
   pub written : HandsOver (sink.bytes_taken old) (sink.bytes_taken new) done text

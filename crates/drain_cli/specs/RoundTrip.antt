@@ -20,8 +20,8 @@ use Rattle.drain_cli.specs.MadeSets.{IsSetOf}
 unfoldable pub files_given : Inputs → List (List ℕ)
 files_given i = flat_map (λ p. i.header p ∷ i.raster p ∷ []) products
 
--- products that were made of tiles and a list of sinks and written into empty files are accepted when they are checked with the same; only want of
--- memory or a failed read keep that answer back
+-- products that were made of tiles and a list of sinks and written into empty files are accepted when checked with the
+-- same, unless memory runs out or a read fails
 abbrev pub WhatIsWrittenIsAccepted : {R F : Type 0} → (R → Option (List ℕ)) → Sink F → Type 0
 WhatIsWrittenIsAccepted {R} {F} bytes_left sink =
     (side : ℕ) (tiles : List (TileInput R)) (sinks : List ℕ) (t : Tiling) (ps : ProductSet) (empty written : List F) (i : Inputs) →

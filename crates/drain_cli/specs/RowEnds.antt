@@ -1,11 +1,11 @@
 -- Where rows end among the bytes of a file.
 use Rattle.std.specs.Prelude.{ℕ, ◌+◌, ◌*◌, ◌≤◌, ◌<◌}
 
--- behind how many bytes a row ends, counted from 0, where the first ends behind so many and each further one so many bytes on
+-- after how many bytes a row ends, counted from 0: the first after a given number, each other one a given number later
 abbrev pub row_end : ℕ → ℕ → ℕ → ℕ
 row_end first each row = first + row * each
 
--- so many rows end within these bytes: each of them does, and the next doesn't, but where rows have no bytes
+-- n rows end within these bytes: each of them does, and the next doesn't, unless rows have no bytes
 pub record IsRowCount (first each bytes rows : ℕ) : Type 0 where
   pub ended : (row : ℕ) → row < rows → row_end first each row ≤ bytes
   pub not_ended : 0 < first → 0 < each → bytes < row_end first each rows

@@ -13,18 +13,18 @@ use Rattle.drain_maker.specs.declared.product_files.SetFault.TheVariants.{WriteF
 use Rattle.drain_cli.specs.declared.make_set.NoSet.{NoSet}
 use Rattle.drain_cli.specs.declared.make_set.NoSet.TheVariants.{Tiles, Sinks, Maker}
 
--- the line that tells what came of writing: made rows=R cols=C
+-- the line for the result of writing: made rows=R cols=C
 abbrev pub written_line : Tiling → Result (Unit {0}) SetFault → List ℕ
 written_line t (Ok done) = codes "made rows=" ++ decimal (extent_of t).rows ++ codes " cols=" ++ decimal (extent_of t).cols
 written_line t (Err WriteFailed) = codes "failed WriteFailed"
 written_line t (Err OutOfMemory) = codes "failed OutOfMemory"
 
--- the status that it leaves
+-- its status
 abbrev pub written_status : Result (Unit {0}) SetFault → Status
 written_status (Ok done) = Done
 written_status (Err fault) = Failed
 
--- the line that tells why there is no product set
+-- the line that says why there is no product set
 abbrev pub no_set_line : NoSet → List ℕ
 no_set_line (Tiles refusal) = refusal_line refusal
 no_set_line (Sinks (sink.BadSinkLine n)) = refusal_line (refusal.BadSinkLine n)
@@ -33,7 +33,7 @@ no_set_line (Maker (maker.SinkNotData n)) = refusal_line (refusal.SinkNotData n)
 no_set_line (Maker maker.MakerFault) = codes "refused MakerFault"
 no_set_line (Maker maker.OutOfMemory) = codes "failed OutOfMemory"
 
--- the status that it leaves: failed for want of memory or by a device, else refused
+-- its status: failed if memory ran out or a device failed, else refused
 abbrev pub no_set_status : NoSet → Status
 no_set_status (Tiles refusal) = refusal_status refusal
 no_set_status (Sinks sink.OutOfMemory) = Failed

@@ -1,4 +1,4 @@
--- The numbers that the program ends with, and the status that a refusal leaves. They are this project's own.
+-- The numbers that the program ends with, and the status of a refusal. They are this project's own.
 use Rattle.std.specs.Prelude.{ℕ}
 use Rattle.drain_answer.specs.declared.refusal.Refusal.{Refusal}
 use Rattle.drain_answer.specs.declared.refusal.Refusal.TheVariants.{OutOfMemory, ReadFailed}
@@ -11,7 +11,7 @@ code_of Rejected = 1
 code_of Refused = 2
 code_of Failed = 3
 
--- failed for want of memory or by a device, else refused
+-- failed if memory ran out or a device failed, else refused
 abbrev pub refusal_status : Refusal → Status
 refusal_status OutOfMemory = Failed
 refusal_status ReadFailed = Failed

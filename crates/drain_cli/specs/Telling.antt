@@ -1,9 +1,9 @@
--- The words of the lines that tell how far a run is.
+-- The text of progress lines.
 use Rattle.std.specs.Prelude.{ℕ, List, codes}
 use Rattle.drain_cli.specs.declared.telling.Counted.{Counted}
 use Rattle.drain_cli.specs.declared.telling.Counted.TheVariants.{Judged, Read, Written}
 
--- what stands before the number of rows
+-- the text before the number of rows
 abbrev pub before_row : Counted → List ℕ
 before_row Judged = codes "drain: row "
 before_row Read = codes "drain: reading row "

@@ -1,4 +1,4 @@
-//! The words of the command line: which command is asked for.
+//! The command-line arguments: which command is required.
 
 use crate::commands::{DEFAULT_SIDE, EXPLAIN, command, program};
 use crate::explain_texts;
@@ -7,16 +7,17 @@ use clap::error::ErrorKind;
 use clap::{ArgMatches, Error};
 use std::alloc::{AllocError, Global};
 
-/// What the words ask for.
+/// The request of the arguments.
 #[derive(Drop)]
 pub enum Request<'a> {
     /// `drain audit`: check the four products in this folder, without ranks.
     Audit(Judged<'a>),
     /// `drain check`: check the five products in this folder.
     Check(Judged<'a>),
-    /// `drain explain`: tell what is wrong with the products in this folder, where, and how much of it.
+    /// `drain explain`: report what is wrong with the products in this folder, where, and how much of it.
     Explain(Explained<'a>),
-    /// `drain make`: make products of the tiles at these paths, with the sinks that the file at this path lists, and write them into this folder.
+    /// `drain make`: make products of the tiles at these paths, with the sinks listed in the file at this path, and
+    /// write them into this folder.
     Make {
         side: u32,
         folder: &'a str,
@@ -28,14 +29,14 @@ pub enum Request<'a> {
     Fill {
         side: u32,
     },
-    /// `drain header`: print what the header file at this path says.
+    /// `drain header`: print the header file at this path.
     Header {
         path: &'a str,
     },
 }
 
-/// What is to be judged: the products in this folder against the tiles at these paths, with the sinks that the file at this path lists; and
-/// whether it is told how far it is.
+/// The inputs to be checked: the products in this folder, the tiles at these paths, the list of sinks at this path; and
+/// whether progress is reported.
 #[derive(Drop)]
 pub struct Judged<'a> {
     pub side: u32,
@@ -45,7 +46,7 @@ pub struct Judged<'a> {
     pub progress: bool,
 }
 
-/// What is to be explained, as a text or as JSON; and where a map of the faults goes, by its path without `.bil`.
+/// What is to be explained, as a text or as JSON; and the path of a map of the faults, without `.bil`.
 #[derive(Drop)]
 pub struct Explained<'a> {
     pub judged: Judged<'a>,
@@ -53,9 +54,9 @@ pub struct Explained<'a> {
     pub json: bool,
 }
 
-/// What the words ask for. The first word is the program's own name.
+/// The request of the arguments. The first argument is the program's own name.
 ///
-/// Help and the version come as an error of their kind, as in `clap`, and so does a fault of the words.
+/// Help and the version come as an error of their kind, as in `clap`, and so does a usage error.
 pub fn parse<'a>(alloc: Global, words: &'a [String]) -> Result<Request<'a>, Error> {
     let matches = program(alloc)?.try_get_matches_from(words)?;
     match matches.subcommand_matches("explain") {
@@ -64,12 +65,12 @@ pub fn parse<'a>(alloc: Global, words: &'a [String]) -> Result<Request<'a>, Erro
     }
 }
 
-/// What is asked for, or that there was no memory for it.
+/// The request, or that there was no memory for it.
 fn told(request: Result<Request<'_>, AllocError>) -> Result<Request<'_>, Error> {
     Ok(request?)
 }
 
-/// What the words that were given ask for, but for those of an explanation.
+/// The request of the given arguments, except those of an explanation.
 fn asked_for<'a>(alloc: Global, matches: &ArgMatches<'a>) -> Result<Request<'a>, AllocError> {
     if let Some(audit) = matches.subcommand_matches("audit") {
         return audit_request(alloc, audit);
@@ -83,7 +84,7 @@ fn asked_for<'a>(alloc: Global, matches: &ArgMatches<'a>) -> Result<Request<'a>,
     Ok(other_request(matches))
 }
 
-/// What is asked for where no rasters are to be judged or made.
+/// The request, if no rasters are to be checked or made.
 fn other_request<'a>(matches: &ArgMatches<'a>) -> Request<'a> {
     if let Some(header) = matches.subcommand_matches("header") {
         return Request::Header {
@@ -105,7 +106,7 @@ fn check_request<'a>(alloc: Global, given: &ArgMatches<'a>) -> Result<Request<'a
     Ok(Request::Check(to_judge(alloc, given)?))
 }
 
-/// What is to be judged, by the words of an audit or a check.
+/// The inputs to be checked, by the arguments of an audit or a check.
 fn to_judge<'a>(alloc: Global, given: &ArgMatches<'a>) -> Result<Judged<'a>, AllocError> {
     Ok(Judged {
         side: side_given(given),
@@ -116,7 +117,7 @@ fn to_judge<'a>(alloc: Global, given: &ArgMatches<'a>) -> Result<Judged<'a>, All
     })
 }
 
-/// What is to be explained. A map whose name doesn't end in `.bil` is a fault of the words.
+/// What is to be explained. A map whose name doesn't end in `.bil` is a usage error.
 fn explain_request<'a>(alloc: Global, given: &ArgMatches<'a>) -> Result<Request<'a>, Error> {
     let map = match given.get_str("map") {
         Some(path) => match map_stem(path) {
@@ -132,7 +133,7 @@ fn explain_request<'a>(alloc: Global, given: &ArgMatches<'a>) -> Result<Request<
     }))
 }
 
-/// The fault of words that name a map by another ending.
+/// The usage error for a map with another ending.
 fn bad_map(alloc: Global) -> Result<Error, AllocError> {
     let mut command = command(alloc, &EXPLAIN)?.bin_name("drain explain")?;
     command.error(ErrorKind::ValueValidation, explain_texts::BAD_MAP)
@@ -148,7 +149,7 @@ fn make_request<'a>(alloc: Global, given: &ArgMatches<'a>) -> Result<Request<'a>
     })
 }
 
-/// The side that is asked for.
+/// The requested side.
 fn side_given(given: &ArgMatches<'_>) -> u32 {
     given.get_one::<u32>("side").unwrap_or(DEFAULT_SIDE)
 }

@@ -1,11 +1,11 @@
-//! The program and its commands, as `clap` is told of them: their names, their texts of help, and the words that each takes.
+//! The program and its commands, as described to `clap`: their names, help texts and arguments.
 
 use crate::{explain_texts, help_texts};
 use clap::builder::ValueParser;
 use clap::{Arg, ArgAction, Command};
 use std::alloc::{AllocError, Global};
 
-/// A command: its name, its texts of help, and what it takes, in the order of its help.
+/// A command: its name, its help texts, and its arguments, in the order of its help.
 pub(crate) struct Described {
     name: &'static str,
     about: &'static str,
@@ -14,7 +14,7 @@ pub(crate) struct Described {
     words: &'static [Word],
 }
 
-/// What a command takes: an option, a flag, or paths without a name of their own.
+/// An argument of a command: an option, a flag, or paths without a name of their own.
 #[derive(Clone, Copy)]
 enum Word {
     Side,
@@ -28,7 +28,7 @@ enum Word {
     Header,
 }
 
-/// The side of a tile where none is given: that of 3 arc seconds, as a number and as it is written in the help.
+/// The default side of a tile: that of 3 arc seconds, as a number and as written in the help.
 pub(crate) const DEFAULT_SIDE: u32 = 1201;
 
 const DEFAULT_SIDE_WORD: &str = "1201";
@@ -123,7 +123,7 @@ pub(crate) fn program<'a>(alloc: Global) -> Result<Command<'a>, AllocError> {
     Ok(program)
 }
 
-/// The program with one command more.
+/// The program with one more command.
 fn with<'a>(
     alloc: Global,
     program: Command<'a>,
@@ -142,7 +142,7 @@ fn without_commands<'a>(alloc: Global) -> Result<Command<'a>, AllocError> {
         .bin_name("drain")
 }
 
-/// A command and what it takes.
+/// A command and its arguments.
 pub(crate) fn command<'a>(
     alloc: Global,
     described: &'static Described,
@@ -186,7 +186,7 @@ fn side<'a>(alloc: Global) -> Arg<'a> {
         .help(help_texts::SIDE_HELP)
 }
 
-/// An option that names a folder, and has to be there.
+/// A required option that names a folder.
 fn folder<'a>(alloc: Global, name: &'static str, help: &'static str) -> Arg<'a> {
     path(alloc, name, "DIR", help).long(name).required(true)
 }
@@ -211,7 +211,7 @@ fn header<'a>(alloc: Global) -> Arg<'a> {
     path(alloc, "file", "FILE", help_texts::FILE_HELP).required(true)
 }
 
-/// A path, which isn't the empty word.
+/// A path, which isn't empty.
 fn path<'a>(alloc: Global, name: &'static str, value: &'static str, help: &'static str) -> Arg<'a> {
     Arg::new(alloc, name)
         .value_name(value)

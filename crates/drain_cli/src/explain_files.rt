@@ -1,4 +1,4 @@
-//! Explaining the products of a folder: its files are opened as those of a check or an audit are, and opened again where there is more to tell.
+//! Explaining the products of a folder: its files are opened as for a check or an audit, and opened again for details.
 
 use crate::command_line::Explained;
 use crate::explain_page::{Beside, Form, MapFault};
@@ -23,10 +23,10 @@ use std::fs;
 use std::fs::File;
 use std::io::ErrorKind;
 
-/// Explains the products of a folder, and answers the exit status.
+/// Explains the products of a folder, and returns the exit status.
 ///
-/// Where a map is wanted and standard output is closed nothing is opened: the map would take its place. A map over a file that is read is a fault of
-/// the words, and nothing is opened either.
+/// If a map is required and standard output is closed nothing is opened: the map would take its place. A map over an
+/// input file is a usage error, and nothing is opened either.
 pub fn explain_files(rt: &HostRuntime, asked: &Explained<'_>, out: &mut impl ByteSink) -> u8 {
     let Some(stem) = asked.map else {
         return explain_opened(rt, asked, out);
@@ -44,7 +44,7 @@ pub fn explain_files(rt: &HostRuntime, asked: &Explained<'_>, out: &mut impl Byt
     }
 }
 
-/// Opens the files and explains them, and answers the exit status. Ranks are asked for where a file of theirs is there.
+/// Opens the files and explains them, and returns the exit status. Ranks are checked if a file of theirs is there.
 fn explain_opened(rt: &HostRuntime, asked: &Explained<'_>, out: &mut impl ByteSink) -> u8 {
     match has_ranks(rt, asked.judged.products) {
         Ok(true) => with_ranks(rt, asked, out),
@@ -53,7 +53,7 @@ fn explain_opened(rt: &HostRuntime, asked: &Explained<'_>, out: &mut impl ByteSi
     }
 }
 
-/// Whether the folder has a header or a raster of ranks. Want of memory is never taken for their absence.
+/// Whether the folder has a header or a raster of ranks. Out of memory is never taken for their absence.
 fn has_ranks(rt: &HostRuntime, folder: &str) -> Result<bool, OpenFault> {
     let header = header_path(rt.alloc(), folder, Product::Rnk)?;
     if is_there(rt, header.as_str())? {
@@ -139,12 +139,12 @@ fn mapping(asked: &Explained<'_>) -> Mapping {
     }
 }
 
-/// How the explanation is told.
+/// The form of the explanation.
 fn form(asked: &Explained<'_>) -> Form {
     if asked.json { Form::Json } else { Form::Text }
 }
 
-/// The words, the list of sinks, and the files at their paths.
+/// The arguments, the list of sinks, and the files at their paths.
 #[derive(Drop)]
 struct AtHand<'a> {
     rt: &'a HostRuntime,
@@ -165,7 +165,7 @@ impl<'a> Beside for AtHand<'a> {
     }
 }
 
-/// Creates the two files of a map and writes them. A file that is there is emptied. The first fault ends it.
+/// Creates the two files of a map and writes them. An existing file is emptied. The first fault ends it.
 fn save(rt: &HostRuntime, stem: &str, layout: &Layout, pixels: &[u8]) -> Result<(), MapFault> {
     let mut header = create(rt, stem, Part::Header)?;
     let mut raster = create(rt, stem, Part::Raster)?;

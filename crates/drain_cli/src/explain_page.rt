@@ -14,7 +14,7 @@ use drain_page::{Facts, RefusalNote, page_json, page_text};
 use drain_verdict::Refusal;
 use std::alloc::Global;
 
-/// How an explanation is told.
+/// The form of an explanation.
 #[derive(Clone, Copy)]
 pub enum Form {
     /// As a page to read.
@@ -23,7 +23,7 @@ pub enum Form {
     Json,
 }
 
-/// The object that is printed where there is no memory for one. It has the members of every page.
+/// The object that is printed if there is no memory for one. It has the members of every page.
 const NO_OBJECT: &str =
     "{\"answer\":\"failed OutOfMemory\",\"refusal\":null,\"rows\":null,\"cols\":null,\"ranks\":null,\"rules\":[],\"products\":[],\"patch\":null,\"expected\":null,\"run\":null}\n";
 
@@ -32,15 +32,15 @@ const NO_OBJECT: &str =
 pub enum MapFault {
     /// The file at this path can't be created.
     Open(String),
-    /// A file failed, was interrupted for the 1,000th time, or took no byte of some.
+    /// A file failed, was interrupted for the 1,000th time, or accepted no byte of some.
     WriteFailed,
     /// Memory was refused.
     OutOfMemory,
 }
 
-/// What stands beside the inputs of an explanation: more to tell of a refusal, and where a map goes.
+/// What an explanation needs besides its inputs: details of a refusal, and the place of a map.
 pub trait Beside {
-    /// What was expected and found, where inputs were refused; none where there is no more to tell, or it can't be found again.
+    /// What was expected and found in refused inputs; none if there are no details, or they can't be found again.
     fn note_of(&mut self, refusal: Refusal) -> Option<RefusalNote>;
 
     /// Saves the map of the faults.
@@ -54,9 +54,10 @@ pub struct DrawnMap {
     pub pixels: Vec<u8>,
 }
 
-/// Saves the map, where there is one, then prints the page, and answers the exit status: that of the answer, or that of a failure.
+/// Saves the map, if there is one, then prints the page, and returns the exit status: that of the answer, or that of a
+/// failure.
 ///
-/// Where the map can't be saved it prints why in place of the page, and where memory is refused for the page it prints that.
+/// If the map can't be saved it prints why in place of the page, and if memory is refused for the page it prints that.
 pub fn tell<B: Beside, W: ByteSink>(
     alloc: Global,
     facts: &Facts,
@@ -74,7 +75,7 @@ pub fn tell<B: Beside, W: ByteSink>(
     }
 }
 
-/// Saves the map, where there is one.
+/// Saves the map, if there is one.
 fn save<B: Beside>(map: &Option<DrawnMap>, beside: &mut B) -> Result<(), MapFault> {
     match map {
         Some(drawn) => beside.save_map(&drawn.layout, &drawn.pixels),
@@ -82,7 +83,7 @@ fn save<B: Beside>(map: &Option<DrawnMap>, beside: &mut B) -> Result<(), MapFaul
     }
 }
 
-/// Prints why a map wasn't saved, and answers the status of a failure.
+/// Prints why a map wasn't saved, and returns the status of a failure.
 fn print_map_fault<W: ByteSink>(alloc: Global, fault: MapFault, form: Form, out: &mut W) -> u8
     ensures { (line : List ℕ) (wanted : Status) → Tells W.ByteSink out.old out.new form line wanted result }
 {
@@ -115,7 +116,7 @@ fn print_page<W: ByteSink>(
     }
 }
 
-/// Prints that there is no memory for the page, and answers the status of a failure.
+/// Prints that there is no memory for the page, and returns the status of a failure.
 fn print_no_page<W: ByteSink>(form: Form, out: &mut W) -> u8
     ensures { PrintsText W.ByteSink out.old out.new (no_page form) Status.Failed result }
 {

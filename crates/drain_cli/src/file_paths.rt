@@ -1,4 +1,4 @@
-//! Where the files of a check and of a map lie, and what of a tile's path is its name.
+//! The paths of the files of a check and of a map, and the name in a tile's path.
 
 ghost use Rattle.std.specs.Prelude.{◌≡◌, ◌++◌, IfOk, IfSome, string_bytes};
 ghost use Rattle.drain_cli.specs.FilePaths.{product_path, separator, header_ending, raster_ending, ending_of, IsLastPart};
@@ -22,7 +22,7 @@ pub fn raster_path(alloc: Global, folder: &str, product: Product) -> Result<Stri
     product_path(alloc, folder, product, ".bil")
 }
 
-/// The path of a product's file with this ending: the folder as it is given, one slash, and the file's name.
+/// The path of a product's file with this ending: the folder as given, one slash, and the file's name.
 pub fn product_path(
     alloc: Global,
     folder: &str,
@@ -48,14 +48,14 @@ fn separator(folder: &str) -> &'static str
     }
 }
 
-/// What stands before the `.bil` of a map's path, none where the path ends otherwise.
+/// The part of a map's path before `.bil`, none if the path ends otherwise.
 pub fn map_stem(path: &str) -> Option<&str>
     ensures { IfSome result (λ stem. path.now ≡ stem.now ++ raster_ending) }
 {
     path.strip_suffix(".bil")
 }
 
-/// The path of a map's file: the header lies beside the raster, with `.hdr` in place of `.bil`.
+/// The path of a map's file: the header is next to the raster, with `.hdr` in place of `.bil`.
 pub fn map_path(alloc: Global, stem: &str, part: Part) -> Result<String, AllocError>
     ensures { IfOk result (λ path. string_bytes path ≡ stem.now ++ ending_of part) }
 {

@@ -1,6 +1,7 @@
-//! How far a run is, told on standard error: the rows of a device are counted as its bytes come or go, and a line is told when it is due.
+//! Progress, on standard error: the rows of a device are counted as its bytes are read or written, and a line is
+//! printed when it is due.
 //!
-//! Whether a line can be written, and whether the clock can be read, changes nothing of the run.
+//! Whether a line can be written or the clock read doesn't change the run.
 
 use crate::pace::Pace;
 use crate::print::print_line;
@@ -12,7 +13,7 @@ use drain_device::{Writer, write_nothing};
 use std::cell::Cell;
 use std::time::Instant;
 
-/// What a run is told by, and since when it goes; nothing is told where that isn't known.
+/// How progress of a run is reported, and since when it runs; nothing is reported if that isn't known.
 #[derive(Drop)]
 pub struct Gauge<'a> {
     rt: &'a HostRuntime,
@@ -29,7 +30,7 @@ pub struct Rows {
     pub all: u32,
 }
 
-/// The rows of one device, how many of its bytes came or went, and how many rows so.
+/// The rows of one device, how many of its bytes were read or written, and how many rows so.
 #[derive(Drop)]
 pub struct Watch<'a> {
     gauge: &'a Gauge<'a>,
@@ -39,8 +40,8 @@ pub struct Watch<'a> {
 }
 
 impl<'a> Gauge<'a> {
-    /// A gauge of a run that starts now. It tells nothing where that isn't asked for, where standard error is closed (the first file that is opened
-    /// would take its place), and where the clock can't be read.
+    /// A gauge of a run that starts now. It reports nothing if not requested, if standard error is closed (the first
+    /// file opened would take its place), or if the clock can't be read.
     pub fn new(rt: &'a HostRuntime, asked: bool) -> Gauge<'a> {
         Gauge {
             rt,
@@ -49,12 +50,12 @@ impl<'a> Gauge<'a> {
         }
     }
 
-    /// Whether anything is told.
+    /// Whether progress is reported.
     pub fn is_on(&self) -> bool {
         self.start.is_some()
     }
 
-    /// A watch over these rows, where anything is told.
+    /// A watch over these rows, if progress is reported.
     pub fn watch(&'a self, rows: Rows) -> Option<Watch<'a>> {
         if !self.is_on() {
             return None;
@@ -67,8 +68,8 @@ impl<'a> Gauge<'a> {
         })
     }
 
-    /// Tells that so many rows are reached, where that is due. The last row to be judged is told in any case; where the last row was read to
-    /// make products, they are made now.
+    /// Reports this number of rows, if a line is due. The last row to be checked is always reported; if the last row
+    /// was read to make products, they are made now.
     fn reach(&self, counted: Counted, row: u32, rows: u32) {
         let Some(now) = self.now() else {
             return;
@@ -92,7 +93,7 @@ impl<'a> Gauge<'a> {
         self.pace.set(pace);
     }
 
-    /// How many milliseconds the run takes so far.
+    /// How many milliseconds the run has taken so far.
     fn now(&self) -> Option<u64> {
         let passed = self.start?.elapsed(self.rt).ok()?;
         u64::try_from(passed.as_millis()).ok()
@@ -104,7 +105,7 @@ impl<'a> Gauge<'a> {
 }
 
 impl<'a> Watch<'a> {
-    /// So many bytes more came or went.
+    /// This number of bytes more was read or written.
     pub fn pass(&mut self, bytes: usize) {
         self.bytes = self.bytes.saturating_add(bytes as u64);
         let rows = u32::try_from(self.rows.ends.rows_within(self.bytes)).unwrap_or(u32::MAX);
@@ -116,7 +117,7 @@ impl<'a> Watch<'a> {
     }
 }
 
-/// When a run starts, where standard error is open and there is a clock.
+/// When a run starts, if standard error is open and there is a clock.
 fn start(rt: &HostRuntime) -> Option<Instant> {
     if write_nothing(&mut Writer::new(rt.stderr())).is_err() {
         return None;

@@ -1,4 +1,5 @@
-//! The program `drain` as functions: its words, the files that it opens, and a run for each command, over any source and any sink.
+//! The program `drain` as functions: its arguments, the files that it opens, and a run for each command, over any
+//! source and any sink.
 #![tactic(auto)]
 
 pub mod command_line;

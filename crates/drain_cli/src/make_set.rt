@@ -27,13 +27,14 @@ pub enum NoSet {
     Tiles(Refusal),
     /// Of the list of sinks.
     Sinks(SinkFault),
-    /// The maker made none.
+    /// The maker returned none.
     Maker(MakeRefusal),
 }
 
-/// Reads the tiles and makes the products of their mosaic. Where there are none, it prints why and answers the exit status: 2 for
-/// `refused BadSide`, `BadName`, `NoTiles`, `RepeatedTile`, `BoxTooLarge`, `BadTileLength`, `SeamMismatch`, `BadSinkLine`, `SinkNotData` and
-/// `MakerFault`, in this order; 3 for `failed OutOfMemory` and `failed ReadFailed`, and where the line can't be written.
+/// Reads the tiles and makes the products of their mosaic. If there are none, it prints why and returns the exit
+/// status: 2 for `refused BadSide`, `BadName`, `NoTiles`, `RepeatedTile`, `BoxTooLarge`, `BadTileLength`,
+/// `SeamMismatch`, `BadSinkLine`, `SinkNotData` and `MakerFault`, in this order; 3 for `failed OutOfMemory` and `failed
+/// ReadFailed`, and if the line can't be written.
 ///
 /// `side` is the number of samples along an edge of each tile, and `sinks` a list of inland sinks, a line `ROW COL` each. Of a tile at most one byte past its end is read.
 pub fn make_set<R: ByteSource, W: ByteSink>(
@@ -49,7 +50,7 @@ pub fn make_set<R: ByteSource, W: ByteSink>(
     ensures refused { IfErr result (λ code. (why : NoSet) × IsNoSet R.ByteSource side tiles.old tiles.new sinks.now why
         × Prints W.ByteSink out.old out.new (no_set_line why) (no_set_status why) code) }
 
-    // How far it reads, and that names stay.
+    // How far it reads, and that names are unchanged.
     ensures within { TilesTakeAtMost R.bytes_left side tiles.old tiles.new }
     ensures names { names_of tiles.new ≡ names_of tiles.old }
 {
@@ -86,7 +87,7 @@ fn read_and_make<R: ByteSource>(
     }
 }
 
-/// The line that tells why there are no products.
+/// The line that says why there are no products.
 fn line_of(why: &NoSet) -> Line
     ensures { result.bytes ≡ no_set_line why.now }
 {
@@ -100,7 +101,7 @@ fn line_of(why: &NoSet) -> Line
     }
 }
 
-/// The line of a refusal, as a check tells it.
+/// The line of a refusal, as in a check.
 fn refused(refusal: Refusal) -> Line
     ensures { result.bytes ≡ refusal_line refusal }
 {
@@ -108,7 +109,7 @@ fn refused(refusal: Refusal) -> Line
     report(&answer)
 }
 
-/// The exit status that it leaves.
+/// Its exit status.
 fn status_of(why: &NoSet) -> Status
     ensures { result ≡ no_set_status why.now }
 {

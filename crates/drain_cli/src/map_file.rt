@@ -13,7 +13,7 @@ use drain_maker::product_header;
 use drain_mosaic::Layout;
 use std::alloc::Global;
 
-/// The header of a map of this mosaic: a byte without a sign for each pixel, 255 where there is no data, as in directions.
+/// The header of a map of this mosaic: a byte without a sign for each pixel, 255 for no data, as in directions.
 pub fn map_header(layout: &Layout) -> Header
     ensures { result ≡ map_header layout.now }
 {

@@ -1,6 +1,6 @@
 //! Whether a map would be written over a file that is read.
 //!
-//! Creating the files of a map empties what is there, so this is looked for before any file is opened.
+//! Creating the files of a map empties existing ones, so this is tested before any file is opened.
 
 use crate::command_line::Judged;
 use crate::file_paths::{header_path, map_path, raster_path};
@@ -12,7 +12,8 @@ use std::fs;
 use std::io::ErrorKind;
 use std::path::PathBuf;
 
-/// The path of the first file of a map that is a file which is read: a tile, the list of sinks, or a header or raster of a product.
+/// The path of the first file of a map that is also an input: a tile, the list of sinks, or a header or raster of a
+/// product.
 ///
 /// Links are followed, so another way to the same file counts. A second name of it (a hard link) doesn't.
 pub fn map_over_input(
@@ -29,7 +30,7 @@ pub fn map_over_input(
     Ok(None)
 }
 
-/// Whether a file at this path is read.
+/// Whether the file at this path is an input.
 fn is_read(rt: &HostRuntime, judged: &Judged<'_>, path: &str) -> Result<bool, OpenFault> {
     let Some(file) = file_at(rt, path)? else {
         return Ok(false);
@@ -87,7 +88,7 @@ fn leads_to(rt: &HostRuntime, path: &str, file: &PathBuf) -> Result<bool, OpenFa
     }
 }
 
-/// The file that a path leads to, none where nothing is there. Want of memory is never taken for its absence.
+/// The file that a path leads to, none if nothing is there. Out of memory is never taken for its absence.
 fn file_at(rt: &HostRuntime, path: &str) -> Result<Option<PathBuf>, OpenFault> {
     match fs::canonicalize(rt, path) {
         Ok(file) => Ok(Some(file)),

@@ -1,4 +1,4 @@
-//! What is printed of a file that can't be opened.
+//! The line for a file that can't be opened.
 
 ghost use Rattle.std.specs.Prelude.{◌≡◌, IfOk, List, ℕ};
 ghost use Rattle.drain_cli.specs.OpenFailures.{open_failure_line, IsOpenFailure};
@@ -9,7 +9,8 @@ use crate::status::Status;
 use drain_device::{BodyFault, ByteSink};
 use std::alloc::{AllocError, Global};
 
-/// Prints `failed Open` and the path, and answers the status of a failure. Where there is no memory for the text, it prints that.
+/// Prints `failed Open` and the path, and returns the status of a failure. If there is no memory for the text, it
+/// prints that.
 pub fn print_open_failure<W: ByteSink>(alloc: Global, out: &mut W, path: &str) -> u8
     ensures { (text : List ℕ) × IsOpenFailure path.now text
         × PrintsText W.ByteSink out.old out.new text Status.Failed result }

@@ -19,7 +19,7 @@ use drain_mosaic::Layout;
 use std::alloc::AllocError;
 use std::fs::File;
 
-/// A file that is read, and one that is written; each may be watched.
+/// A file to read, and one to write; rows of each may be counted.
 pub type InputFile<'a> = Watched<'a, Reader<File>>;
 
 pub type OutputFile<'a> = Watched<'a, Writer<File>>;
@@ -39,7 +39,7 @@ impl From<AllocError> for OpenFault {
     }
 }
 
-/// Opens the tiles at these paths, in their order; each has the name that its path ends in. The first fault ends it.
+/// Opens the tiles at these paths, in their order; each has the name at the end of its path. The first fault ends it.
 pub fn open_tiles<'a>(
     rt: &HostRuntime,
     paths: &[&str],
@@ -74,7 +74,7 @@ pub fn open(rt: &HostRuntime, path: &str) -> Result<Reader<File>, OpenFault> {
     }
 }
 
-/// The bytes of the list of sinks at this path; none where no list is named.
+/// The bytes of the list of sinks at this path; none if no list is named.
 pub fn list_at(rt: &HostRuntime, path: Option<&str>) -> Result<Vec<u8>, OpenFault> {
     let Some(path) = path else {
         return Ok(Vec::new(rt.alloc()));
@@ -86,7 +86,8 @@ pub fn list_at(rt: &HostRuntime, path: Option<&str>) -> Result<Vec<u8>, OpenFaul
     }
 }
 
-/// Creates the files of a product set in this folder, in the order of `SET_FILES`. A file that is there is emptied. The first fault ends it.
+/// Creates the files of a product set in this folder, in the order of `SET_FILES`. An existing file is emptied. The
+/// first fault ends it.
 pub fn create_files<'a>(
     rt: &HostRuntime,
     folder: &str,
@@ -107,7 +108,7 @@ pub fn create_files<'a>(
     Ok(files)
 }
 
-/// Creates a file, of which the rows are watched where it is a raster's.
+/// Creates a file, and has its rows counted if it is a raster's.
 fn create<'a>(
     rt: &HostRuntime,
     folder: &str,

@@ -1,5 +1,5 @@
-//! Opening the files that are judged: the tiles in the order given, then of each product its header, which is read whole, and its raster; then
-//! the list of sinks, which is read whole.
+//! Opening the files to be checked: the tiles in the order given, then each product's header, which is read whole, and
+//! raster; then the list of sinks, which is read whole.
 
 use crate::command_line::Judged;
 use crate::file_paths::{header_path, raster_path};
@@ -13,7 +13,7 @@ use drain_header::{MAX_HEADER_BYTES, parse_header};
 use drain_hgt::TileInput;
 use drain_verdict::{AuditProducts, Products, RasterInput};
 
-/// The files of a check or an audit, of which nothing but the headers and the list of sinks has been read.
+/// The files of a check or an audit, of which only the headers and the list of sinks have been read.
 #[derive(Drop)]
 pub struct OpenFiles<'a, P> {
     pub tiles: Vec<TileInput<InputFile<'a>>>,
@@ -21,7 +21,7 @@ pub struct OpenFiles<'a, P> {
     pub sinks: Vec<u8>,
 }
 
-/// Opens the files of an audit: those of no ranks. The first fault ends it. The rows of con are watched.
+/// Opens the files of an audit: all but ranks. The first fault ends it. The rows of con are counted for progress.
 pub fn open_audit<'a>(
     rt: &HostRuntime,
     judged: &Judged<'_>,
@@ -60,7 +60,8 @@ fn open_two<'a>(
     Ok((first, second))
 }
 
-/// Opens the files of a check: those of all five products. The first fault ends it. The rows of con are watched.
+/// Opens the files of a check: those of all five products. The first fault ends it. The rows of con are counted for
+/// progress.
 pub fn open_check<'a>(
     rt: &HostRuntime,
     judged: &Judged<'_>,
@@ -77,7 +78,7 @@ pub fn open_check<'a>(
     })
 }
 
-/// Has the rows of con watched, where anything is told and the header says where they end.
+/// Has the rows of con counted, if progress is reported and the header says where they end.
 fn watch_con<'a>(con: &mut RasterInput<InputFile<'a>>, gauge: &'a Gauge<'a>) {
     if !gauge.is_on() {
         return;
@@ -106,7 +107,7 @@ fn open_product<'a>(
     Ok(RasterInput { header, body })
 }
 
-/// The bytes of a header, of which one more than a header can have tells that it is too long.
+/// The bytes of a header; one more than a header can have means that it is too long.
 fn read_header(rt: &HostRuntime, path: &str) -> Result<ByteList, OpenFault> {
     let mut file = open(rt, path)?;
     match read_body(rt.alloc(), &mut file, MAX_HEADER_BYTES + 1) {

@@ -1,14 +1,14 @@
-//! When a line about progress is due: seldom enough that of all lines at most two come in any one second.
+//! When a line about progress is due: seldom enough that in any one second at most two of all lines come.
 
 ghost use Rattle.std.specs.Prelude.{◌≡◌, ◌+◌, ◌≤◌, ◌↔◌, IsTrue};
 ghost use Rattle.drain_cli.specs.Pace.{AtMostOneLineInASecond, AtMostTwoLinesInASecond, told_last};
 
 use std::marker::Model;
 
-/// How far apart lines are that come when they are due, in milliseconds: a second, so that one line more may come beside them.
+/// The time between due lines, in milliseconds: a second, so that one more line may come in between.
 pub const APART: u64 = 1000;
 
-/// When the last line was told, in milliseconds. Contracts see it as that number.
+/// When the last line was printed, in milliseconds. Contracts see it as that number.
 #[derive(Clone, Copy)]
 pub struct Pace {
     last: u64,
@@ -25,14 +25,14 @@ impl Model for Pace {
 }
 
 impl Pace {
-    /// As if a line were told at this time.
+    /// As if a line were printed at this time.
     pub fn new(now: u64) -> Pace
         ensures { result ≡ now }
     {
         Pace { last: now }
     }
 
-    /// Whether a line is due: where a second has passed since the last. It then counts as told.
+    /// Whether a line is due: if a second has passed since the last. It then counts as printed.
     pub fn is_due(&mut self, now: u64) -> bool
         ensures due { IsTrue result ↔ (self.old + APART ≤ now) }
         ensures told { self.new ≡ told_last self.old now }
@@ -44,7 +44,7 @@ impl Pace {
         due
     }
 
-    /// Counts a line that is told though it may not be due.
+    /// Counts a line that is printed though it may not be due.
     pub fn tell(&mut self, now: u64)
         ensures { self.new ≡ now }
     {
@@ -52,10 +52,10 @@ impl Pace {
     }
 }
 
-/// Whenever it is asked whether a line is due, and if the clock went back: at most one of the lines that are due comes in any one second, and at most
-/// two with a line among them that is told without being due.
+/// At all times of asking, even if the clock went back: at most one of the due lines comes in any one second, and at
+/// most two if among them is a line that is printed without being due.
 ///
-/// A law is a function with nothing to do: its contract is the law.
+/// A law is a function with an empty body: its contract is the law.
 pub fn at_most_two_lines_in_a_second()
     ensures when_due { AtMostOneLineInASecond }
     ensures with_one_more { AtMostTwoLinesInASecond }

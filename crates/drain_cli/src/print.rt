@@ -1,4 +1,4 @@
-//! Printing what a run tells: one line, or the text of a header.
+//! Printing the result of a run: one line, or the text of a header.
 
 ghost use Rattle.std.specs.Prelude.{◌≡◌};
 ghost use Rattle.drain_cli.specs.Failures.{failure_text};
@@ -9,8 +9,8 @@ use arrayvec::ArrayString;
 use drain_answer::line::{LINE_LENGTH, Line};
 use drain_device::{BodyFault, ByteSink, Patience, write_all};
 
-/// Prints the line and its line end, and answers the exit status: that of the run, or that of a failure
-/// where the sink gives up before the last byte.
+/// Prints the line and its line end, and returns the exit status: that of the run, or that of a failure
+/// if the sink fails for good before the last byte.
 pub fn print_line<W: ByteSink>(out: &mut W, line: &Line, status: Status) -> u8
     ensures { Prints W.ByteSink out.old out.new line.now.bytes status result }
 {
@@ -20,7 +20,7 @@ pub fn print_line<W: ByteSink>(out: &mut W, line: &Line, status: Status) -> u8
     print_text(out, text.as_str().as_bytes(), status)
 }
 
-/// Prints the text as it is, and answers the exit status as `print_line` does.
+/// Prints the text as it is, and returns the exit status as `print_line` does.
 pub fn print_text<W: ByteSink>(out: &mut W, text: &[u8], status: Status) -> u8
     ensures { PrintsText W.ByteSink out.old out.new text.now status result }
 {

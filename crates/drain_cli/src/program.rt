@@ -1,5 +1,5 @@
-//! What the program `drain` does: the words are read, the standard streams and the named files opened as devices and handed to a
-//! run, and its status answered. What a run does is in the other modules, each with its contract.
+//! The program `drain`: it reads the arguments, opens the standard streams and the named files as devices, passes them
+//! to a run, and returns its status. What a run does is in the other modules, each with its contract.
 
 ghost use Rattle.std.specs.Prelude.{◌≡◌, IfOk};
 ghost use Rattle.drain_maker.specs.Made.{CanBeWritten};
@@ -29,7 +29,7 @@ use drain_mosaic::Layout;
 use std::fs::File;
 use std::io;
 
-/// Does what the words of the command line ask for, and answers the exit status.
+/// Does what the command line requests, and returns the exit status.
 pub fn run_program(rt: &HostRuntime) -> u8 {
     let mut out = Writer::new(rt.stdout());
     match asked_words(rt) {
@@ -45,12 +45,12 @@ pub fn run_program(rt: &HostRuntime) -> u8 {
     }
 }
 
-/// The words of the command line.
+/// The arguments of the command line.
 fn asked_words(rt: &HostRuntime) -> io::Result<Vec<String>> {
     Ok(std::env::args(rt)?.collect(rt.alloc())?)
 }
 
-/// Does what the words ask for, and answers the exit status.
+/// Does what the arguments request, and returns the exit status.
 fn run(rt: &HostRuntime, asked: &[String], out: &mut impl ByteSink) -> u8 {
     match command_line::parse(rt.alloc(), asked) {
         Ok(Request::Audit(judged)) => audit_of_files(rt, &judged, out),
@@ -83,7 +83,7 @@ fn run(rt: &HostRuntime, asked: &[String], out: &mut impl ByteSink) -> u8 {
     }
 }
 
-/// Opens the file and prints its header, and answers the exit status.
+/// Opens the file and prints its header, and returns the exit status.
 fn header_of_file(rt: &HostRuntime, path: &str, out: &mut impl ByteSink) -> u8 {
     match File::open(rt, path) {
         Ok(file) => run_header(rt.alloc(), &mut Reader::new(file), out),
@@ -91,7 +91,7 @@ fn header_of_file(rt: &HostRuntime, path: &str, out: &mut impl ByteSink) -> u8 {
     }
 }
 
-/// Opens the tiles and the four products of a folder, audits them, and answers the exit status.
+/// Opens the tiles and the four products of a folder, audits them, and returns the exit status.
 fn audit_of_files(rt: &HostRuntime, judged: &Judged<'_>, out: &mut impl ByteSink) -> u8 {
     let gauge = Gauge::new(rt, judged.progress);
     match open_audit(rt, judged, &gauge) {
@@ -113,7 +113,7 @@ fn audit_of_files(rt: &HostRuntime, judged: &Judged<'_>, out: &mut impl ByteSink
     }
 }
 
-/// Opens the tiles and the five products of a folder, checks them, and answers the exit status.
+/// Opens the tiles and the five products of a folder, checks them, and returns the exit status.
 fn check_of_files(rt: &HostRuntime, judged: &Judged<'_>, out: &mut impl ByteSink) -> u8 {
     let gauge = Gauge::new(rt, judged.progress);
     match open_check(rt, judged, &gauge) {
@@ -135,9 +135,11 @@ fn check_of_files(rt: &HostRuntime, judged: &Judged<'_>, out: &mut impl ByteSink
     }
 }
 
-/// Makes products of tiles and writes them into a folder, and answers the exit status. The files are created once nothing is left to refuse.
+/// Makes products of tiles and writes them into a folder, and returns the exit status. The files are created once
+/// nothing is left to refuse.
 ///
-/// Where standard output is closed nothing is opened: the first file would take its place, and the line would go into that file.
+/// If standard output is closed nothing is opened: the first file would take its place, and the line would go into that
+/// file.
 fn make_from_files<'a>(
     rt: &HostRuntime,
     gauge: &'a Gauge<'a>,
@@ -156,7 +158,8 @@ fn make_from_files<'a>(
     }
 }
 
-/// The products of the tiles at these paths, which are closed again; or it prints why there are none, and answers the exit status.
+/// The products of the tiles at these paths, which are closed again; or it prints why there are none, and returns the
+/// exit status.
 fn made_of_files<'a>(
     rt: &HostRuntime,
     gauge: &'a Gauge<'a>,
@@ -185,7 +188,7 @@ fn made_of_files<'a>(
     }
 }
 
-/// Creates the files of the products in a folder and writes them, and answers the exit status.
+/// Creates the files of the products in a folder and writes them, and returns the exit status.
 fn write_into<'a>(
     rt: &HostRuntime,
     gauge: &'a Gauge<'a>,
@@ -203,7 +206,7 @@ fn write_into<'a>(
     }
 }
 
-/// Prints why files aren't open, and answers the exit status.
+/// Prints why files aren't open, and returns the exit status.
 pub(crate) fn print_open_fault(rt: &HostRuntime, fault: OpenFault, out: &mut impl ByteSink) -> u8 {
     match fault {
         OpenFault::Open(path) => print_open_failure(rt.alloc(), out, path.as_str()),
@@ -211,8 +214,8 @@ pub(crate) fn print_open_fault(rt: &HostRuntime, fault: OpenFault, out: &mut imp
     }
 }
 
-/// Shows help, the version or a fault of the words, and answers the exit status. Help and the version go to standard output, where an
-/// interrupted call is tried again.
+/// Prints help, the version or a usage error, and returns the exit status. Help and the version go to standard output;
+/// there an interrupted call is tried again.
 fn tell(rt: &HostRuntime, error: &Error, out: &mut impl ByteSink) -> u8 {
     if error.use_stderr() {
         let _ = error.print(rt);

@@ -1,5 +1,5 @@
-//! What was expected and found where inputs are refused, gathered behind the refusal: from the words, the list of sinks, and the files at their
-//! paths, which are looked at again. Where a file is a pipe or is no longer there, nothing is told.
+//! What was expected and found in refused inputs, collected after the refusal: from the arguments, the list of sinks,
+//! and the files at their paths, which are read again. If a file is a pipe or is no longer there, nothing is reported.
 
 use crate::command_line::Judged;
 use crate::file_paths::{header_path, raster_path, tile_name};
@@ -19,7 +19,7 @@ use std::alloc::Global;
 use std::fs;
 use std::fs::File;
 
-/// What there is to tell of a refusal beyond its line.
+/// The details of a refusal beyond its line.
 pub fn refusal_note(
     rt: &HostRuntime,
     judged: &Judged<'_>,
@@ -73,7 +73,7 @@ fn shape_note(rt: &HostRuntime, judged: &Judged<'_>, product: Product) -> Option
     })
 }
 
-/// Where the mosaic lies, and where the product.
+/// The place of the mosaic, and that of the product.
 fn position_note(rt: &HostRuntime, judged: &Judged<'_>, product: Product) -> Option<RefusalNote> {
     let layout = layout_of(rt.alloc(), judged)?;
     let header = header_of(rt, judged, product)?;
@@ -90,7 +90,7 @@ fn position_note(rt: &HostRuntime, judged: &Judged<'_>, product: Product) -> Opt
     })
 }
 
-/// The bytes that a tile has, and those of the file.
+/// The size of a tile in bytes, and that of the file.
 fn tile_length_note(rt: &HostRuntime, judged: &Judged<'_>, tile: TileName) -> Option<RefusalNote> {
     if !is_side(judged.side) {
         return None;
@@ -122,7 +122,7 @@ fn raster_length_note(
     })
 }
 
-/// The mosaic of the tiles that the words name.
+/// The mosaic of the tiles in the arguments.
 fn layout_of(alloc: Global, judged: &Judged<'_>) -> Option<Layout> {
     if !is_side(judged.side) {
         return None;
@@ -135,7 +135,7 @@ fn layout_of(alloc: Global, judged: &Judged<'_>) -> Option<Layout> {
     Layout::new(alloc, judged.side, &names).ok()
 }
 
-/// What the header of the product says.
+/// The contents of the product's header.
 fn header_of(rt: &HostRuntime, judged: &Judged<'_>, product: Product) -> Option<Header> {
     let path = header_path(rt.alloc(), judged.products, product).ok()?;
     let mut file = Reader::new(open_again(rt, path.as_str())?);
@@ -153,7 +153,7 @@ fn length_of(rt: &HostRuntime, path: &str) -> Option<u64> {
     }
 }
 
-/// The file at this path. A pipe isn't opened again: nothing may ever come of it.
+/// The file at this path. A pipe isn't opened again: it may never yield anything.
 pub(crate) fn open_again(rt: &HostRuntime, path: &str) -> Option<File> {
     length_of(rt, path)?;
     File::open(rt, path).ok()

@@ -1,4 +1,4 @@
-//! Where rows end among the bytes of a file: so how many rows there are in the bytes that were read or written.
+//! Where rows end among the bytes of a file, and so how many rows were read or written.
 
 ghost use Rattle.std.specs.Prelude.{◌≡◌, ◌+◌};
 ghost use Rattle.drain_raster.specs.RasterRows.{packed_len};
@@ -6,7 +6,7 @@ ghost use Rattle.drain_cli.specs.RowEnds.{IsRowCount};
 
 use drain_header::Header;
 
-/// The first row ends behind so many bytes, and each further one so many bytes on.
+/// The first row ends after the first number of bytes, and each further one the second number of bytes later.
 #[derive(Clone, Copy)]
 pub struct RowEnds {
     pub first: u64,
@@ -14,7 +14,7 @@ pub struct RowEnds {
 }
 
 impl RowEnds {
-    /// How many rows end within so many bytes. Rows of no bytes count as none.
+    /// How many rows end within this number of bytes. Rows of no bytes count as none.
     pub fn rows_within(&self, bytes: u64) -> u64
         ensures { IsRowCount self.now.first self.now.each bytes result }
     {

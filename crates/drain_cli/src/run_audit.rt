@@ -21,11 +21,12 @@ use drain_hgt::TileInput;
 use drain_verdict::{AuditProducts, AuditVerdict, Refusal, audit, audit_report};
 use std::alloc::Global;
 
-/// Audits products against their tiles, prints the line of the answer and answers the exit status.
+/// Audits products against their tiles, prints the line of the answer and returns the exit status.
 ///
-/// `side` is the number of samples along an edge of each tile, and `sinks` a list of inland sinks, a line `ROW COL` each. Of a tile at most one byte past its end is read, and of a raster nothing
-/// past its last needed byte. The statuses: 0 accepted, 1 rejected, 2 refused, 3 where memory was refused (`failed OutOfMemory`), a
-/// source gave up (`failed ReadFailed`), or the line couldn't be written.
+/// `side` is the number of samples along an edge of each tile, and `sinks` a list of inland sinks, a line `ROW COL`
+/// each. Of a tile at most one byte past its end is read, and of a raster nothing past its last needed byte. The
+/// statuses: 0 accepted, 1 rejected, 2 refused, 3 if memory was refused (`failed OutOfMemory`), a source failed for
+/// good (`failed ReadFailed`), or the line couldn't be written.
 pub fn run_audit<R: ByteSource, W: ByteSink>(
     alloc: Global,
     side: u32,
@@ -38,11 +39,11 @@ pub fn run_audit<R: ByteSource, W: ByteSink>(
         × IsAuditOutcome R.ByteSource side tiles.old tiles.new sinks.now products.old products.new answer
         × Prints W.ByteSink out.old out.new (audit_report_line answer) (audit_status answer) result }
 
-    // A run ends with 0 only where the tiles agree and the products are correct, and with 1 only where the products aren't.
+    // A run ends with 0 only if the tiles agree and the products are correct, and with 1 only if the products aren't.
     ensures correct { result ≡ 0 → OfFour R.bytes_left side tiles.old sinks.now products.old IsRight }
     ensures not_correct { result ≡ 1 → OfFour R.bytes_left side tiles.old sinks.now products.old (λ inputs. ¬ AreCorrect inputs) }
 
-    // How far it reads, and that names and headers stay.
+    // How far it reads, and that names and headers are unchanged.
     ensures tiles_within { TilesTakeAtMost R.bytes_left side tiles.old tiles.new }
     ensures rasters_within { (p : Held) → RasterTakesAtMost R.bytes_left (with_con_for_ranks products.old) (with_con_for_ranks products.new) p }
     ensures names { names_of tiles.new ≡ names_of tiles.old }

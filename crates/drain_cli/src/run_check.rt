@@ -19,11 +19,12 @@ use drain_hgt::TileInput;
 use drain_verdict::{Products, Refusal, Verdict, check, report};
 use std::alloc::Global;
 
-/// Checks products against their tiles, prints the line of the answer and answers the exit status.
+/// Checks products against their tiles, prints the line of the answer and returns the exit status.
 ///
-/// `side` is the number of samples along an edge of each tile, and `sinks` a list of inland sinks, a line `ROW COL` each. Of a tile at most one byte past its end is read, and of a raster nothing
-/// past its last needed byte. The statuses: 0 accepted, 1 rejected, 2 refused, 3 where memory was refused (`failed OutOfMemory`), a
-/// source gave up (`failed ReadFailed`), or the line couldn't be written.
+/// `side` is the number of samples along an edge of each tile, and `sinks` a list of inland sinks, a line `ROW COL`
+/// each. Of a tile at most one byte past its end is read, and of a raster nothing past its last needed byte. The
+/// statuses: 0 accepted, 1 rejected, 2 refused, 3 if memory was refused (`failed OutOfMemory`), a source failed for
+/// good (`failed ReadFailed`), or the line couldn't be written.
 pub fn run_check<R: ByteSource, W: ByteSink>(
     alloc: Global,
     side: u32,
@@ -36,10 +37,10 @@ pub fn run_check<R: ByteSource, W: ByteSink>(
         × IsCheckOutcome R.ByteSource side tiles.old tiles.new sinks.now products.old products.new answer
         × Prints W.ByteSink out.old out.new (report_line answer) (check_status answer) result }
 
-    // A run ends with 0 only where the tiles agree and the products are correct.
+    // A run ends with 0 only if the tiles agree and the products are correct.
     ensures correct { result ≡ 0 → OfInputs R.bytes_left side tiles.old sinks.now products.old IsRight }
 
-    // How far it reads, and that names and headers stay.
+    // How far it reads, and that names and headers are unchanged.
     ensures tiles_within { TilesTakeAtMost R.bytes_left side tiles.old tiles.new }
     ensures rasters_within { (p : Held) → RasterTakesAtMost R.bytes_left products.old products.new p }
     ensures names { names_of tiles.new ≡ names_of tiles.old }

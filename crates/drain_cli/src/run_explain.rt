@@ -27,10 +27,11 @@ use drain_page::{Answer, Facts, Findings, MosaicPlace, RefusalNote};
 use drain_verdict::{AuditProducts, Products, Refusal};
 use std::alloc::Global;
 
-/// Explains the answer of a check: prints a page that begins with the check's line, and answers the check's exit status.
+/// Explains the answer of a check: prints a page that begins with the check's line, and returns the check's exit
+/// status.
 ///
-/// What is read and told, and when, is what `run_check` reads and tells. Where a map is wanted it is saved before the page is printed. The status is 3 where
-/// memory is refused for the page, where the map can't be saved, or where the page can't be written.
+/// It reads and reports what `run_check` does, at the same times. A map is saved before the page is printed. The status
+/// is 3 if memory is refused for the page, the map can't be saved, or the page can't be written.
 pub fn run_explain_check<R: ByteSource, B: Beside, W: ByteSink>(
     alloc: Global,
     side: u32,
@@ -46,7 +47,7 @@ pub fn run_explain_check<R: ByteSource, B: Beside, W: ByteSink>(
         × IsCheckOutcome R.ByteSource side tiles.old tiles.new sinks.now products.old products.new answer
         × Tells W.ByteSink out.old out.new form (report_line answer) (check_status answer) result }
 
-    // How far it reads, and that names and headers stay.
+    // How far it reads, and that names and headers are unchanged.
     ensures tiles_within { TilesTakeAtMost R.bytes_left side tiles.old tiles.new }
     ensures rasters_within { (p : Held) → RasterTakesAtMost R.bytes_left products.old products.new p }
     ensures names { names_of tiles.new ≡ names_of tiles.old }
@@ -67,7 +68,8 @@ pub fn run_explain_check<R: ByteSource, B: Beside, W: ByteSink>(
     tell(alloc, &facts, &map, form, status, beside, out)
 }
 
-/// Explains the answer of an audit: prints a page that begins with the audit's line, and answers the audit's exit status.
+/// Explains the answer of an audit: prints a page that begins with the audit's line, and returns the audit's exit
+/// status.
 ///
 /// The rest is as in `run_explain_check`.
 pub fn run_explain_audit<R: ByteSource, B: Beside, W: ByteSink>(
@@ -85,7 +87,7 @@ pub fn run_explain_audit<R: ByteSource, B: Beside, W: ByteSink>(
         × IsAuditOutcome R.ByteSource side tiles.old tiles.new sinks.now products.old products.new answer
         × Tells W.ByteSink out.old out.new form (audit_report_line answer) (audit_status answer) result }
 
-    // How far it reads, and that names and headers stay.
+    // How far it reads, and that names and headers are unchanged.
     ensures tiles_within { TilesTakeAtMost R.bytes_left side tiles.old tiles.new }
     ensures rasters_within { (p : Held) → RasterTakesAtMost R.bytes_left (with_con_for_ranks products.old) (with_con_for_ranks products.new) p }
     ensures names { names_of tiles.new ≡ names_of tiles.old }
@@ -106,7 +108,7 @@ pub fn run_explain_audit<R: ByteSource, B: Beside, W: ByteSink>(
     tell(alloc, &facts, &map, form, status, beside, out)
 }
 
-/// What there is to tell of a refusal beyond its line.
+/// The details of a refusal beyond its line.
 fn note_of<V, B: Beside>(beside: &mut B, answer: &Result<V, Refusal>) -> Option<RefusalNote> {
     match answer {
         Ok(_) => None,
@@ -122,7 +124,7 @@ struct Parts<V> {
     map: Option<DrawnMap>,
 }
 
-/// The answer, and what explains it.
+/// The answer and its explanation.
 fn parts_of<V>(explained: Result<Explanation<V>, Refusal>) -> Parts<V>
     ensures { result.answer ≡ answer_in explained }
 {
@@ -166,7 +168,7 @@ fn parted<V>(explanation: Explanation<V>) -> Parts<V>
     }
 }
 
-/// Where the mosaic lies.
+/// The place of the mosaic.
 fn place_of(layout: &Layout) -> MosaicPlace {
     MosaicPlace {
         north: layout.north(),
@@ -175,7 +177,7 @@ fn place_of(layout: &Layout) -> MosaicPlace {
     }
 }
 
-/// The map, where one was drawn, with its mosaic.
+/// The map, if one was drawn, with its mosaic.
 fn drawn_on(layout: Layout, map: Option<FaultMap>) -> Option<DrawnMap> {
     match map {
         Some(map) => Some(DrawnMap {

@@ -19,11 +19,11 @@ use std::alloc::Global;
 /// An answer, or why there is none.
 type FillOutcome = Result<Result<FillVerdict, FillRefusal>, BodyFault>;
 
-/// Reads a fill input, prints the line of its answer and answers the exit status.
+/// Reads a fill input, prints the line of its answer and returns the exit status.
 ///
 /// `side` is the number of samples along an edge of the tile. At most one byte more than an input of this
-/// side has is read, and none where no tile has this side. The statuses: 0 accepted, 1 rejected, 2 refused,
-/// 3 where memory was refused (`failed OutOfMemory`), the source gave up (`failed ReadFailed`), or the line
+/// side has is read, and nothing if no tile has this side. The statuses: 0 accepted, 1 rejected, 2 refused,
+/// 3 if memory was refused (`failed OutOfMemory`), the source failed for good (`failed ReadFailed`), or the line
 /// couldn't be written.
 pub fn run_fill<R: ByteSource, W: ByteSink>(
     alloc: Global,
@@ -37,7 +37,7 @@ pub fn run_fill<R: ByteSource, W: ByteSink>(
     ensures within { TakesAtMost (9 * (side * side) + 1) (R.bytes_left input.old) (R.bytes_left input.new) }
     ensures bad_side_reads_nothing { ¬ IsSide side → input.new ≡ input.old }
 
-    // A run ends with 0 only where `con` is the filled surface.
+    // A run ends with 0 only if `con` is the filled surface.
     ensures filled { result ≡ 0 → IsFilledIfTold side (R.bytes_left input.old) }
 {
     // The law that turns an acceptance into the filled surface.

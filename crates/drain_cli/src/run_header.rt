@@ -17,10 +17,10 @@ use std::alloc::Global;
 type HeaderOutcome = Result<Result<Header, HeaderFault>, BodyFault>;
 
 /// Reads the text of a header, prints the header's lines as this program writes them, or `refused` and the fault, and
-/// answers the exit status.
+/// returns the exit status.
 ///
-/// At most one byte more than a header can have is read. The statuses: 0 printed, 2 refused, 3 where memory was refused
-/// (`failed OutOfMemory`), the source gave up (`failed ReadFailed`), or the text couldn't be written.
+/// At most one byte more than a header can have is read. The statuses: 0 printed, 2 refused, 3 if memory was refused
+/// (`failed OutOfMemory`), the source failed for good (`failed ReadFailed`), or the text couldn't be written.
 pub fn run_header<R: ByteSource, W: ByteSink>(alloc: Global, input: &mut R, out: &mut W) -> u8
     ensures run { (outcome : HeaderOutcome)
         × IsHeaderOutcome R.ByteSource input.old input.new outcome
@@ -40,7 +40,7 @@ fn read_header<R: ByteSource>(alloc: Global, input: &mut R) -> HeaderOutcome
     Ok(parse_header(body.as_slice()))
 }
 
-/// Prints what an outcome tells, or that there was no memory for the text of its header.
+/// Prints an outcome, or that there was no memory for the text of its header.
 fn print_outcome<W: ByteSink>(alloc: Global, out: &mut W, outcome: HeaderOutcome) -> u8
     ensures { (told : HeaderOutcome) × IsToldAs outcome told
         × PrintsText W.ByteSink out.old out.new (header_printed told) (header_status told) result }

@@ -1,4 +1,4 @@
-//! What two tiles give that differ at a cell.
+//! The values of two tiles that differ at a cell.
 
 use crate::refusal_facts::open_again;
 use drain_grid::{Cell, VOID};
@@ -31,7 +31,7 @@ pub fn seam_note(
     None
 }
 
-/// What the tile gives at the cell, none where the tile doesn't reach it or has a void there.
+/// The value of the tile at the cell, none if the tile doesn't reach it or has a void there.
 fn value_at(
     rt: &HostRuntime,
     layout: &Layout,

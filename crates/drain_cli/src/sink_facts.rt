@@ -1,11 +1,11 @@
-//! What a line of a list of sinks says that is refused.
+//! The contents of a refused line of a list of sinks.
 
 use drain_mosaic::Layout;
 use drain_page::{NoData, RefusalNote};
 use drain_text::{first_line, first_word, whole_number};
 use std::alloc::Global;
 
-/// The line as it stands in the list.
+/// The line as in the list.
 pub fn sink_line_note(alloc: Global, list: &[u8], number: u64) -> Option<RefusalNote> {
     let text = Vec::from_slice(alloc, line_of(list, number)?).ok()?;
     Some(RefusalNote::SinkLine { number, text })

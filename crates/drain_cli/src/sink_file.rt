@@ -1,4 +1,4 @@
-//! Reading a list of sinks whole.
+//! Reading a whole list of sinks.
 
 ghost use Rattle.std.specs.Prelude.{◌≡◌, ◌+◌, ◌<◌, ◌≤◌, ◌⊎◌, ℕ, IfErr, IfOk, IsErrOf, OnErr, vec_len};
 ghost use Rattle.std.specs.Io.KnownBytes.{Consumes, IsAtEnd};
@@ -13,17 +13,18 @@ use std::alloc::Global;
 /// The most bytes that a list of sinks may have, 2^32.
 pub const MAX_LIST_BYTES: usize = 4294967296;
 
-/// How many bytes are asked for at once.
+/// How many bytes are requested at once.
 pub const CHUNK_BYTES: usize = 16384;
 
-/// Reads a list of sinks to its end. More than `MAX_LIST_BYTES` can't be read, and are told as `ReadFailed`; so is a source that failed, or was
-/// interrupted for the 1,000th time. `OutOfMemory` comes where there is no room for a chunk more.
+/// Reads a list of sinks to its end. More than `MAX_LIST_BYTES` can't be read, which is `ReadFailed`; so is a source
+/// that failed, or was interrupted for the 1,000th time. `OutOfMemory` comes if there is no memory for one more chunk.
 pub fn read_list<R: ByteSource>(alloc: Global, from: &mut R) -> Result<Vec<u8>, BodyFault>
     ensures whole { IfOk result (λ list. Consumes (R.bytes_left from.old) (R.bytes_left from.new) list.items × IsAtEnd (R.bytes_left from.new)) }
     ensures bound { IfOk result (λ list. vec_len list ≤ MAX_LIST_BYTES) }
     ensures within { OnErr result (TakesAtMost (MAX_LIST_BYTES + CHUNK_BYTES) (R.bytes_left from.old) (R.bytes_left from.new)) }
 
-    // A read fails where the source failed, or was interrupted for the 1,000th time in this call; else only where more bytes came than a list may have.
+    // A read fails if the source failed, or was interrupted for the 1,000th time in this call; else only if a list
+    // can't have that many bytes.
     ensures faults { (failures : ℕ) × (interruptions : ℕ)
         × Answered (R.counts from.old) (R.counts from.new) failures interruptions
         × (GivesUp full_patience failures interruptions → IsErrOf result BodyFault.ReadFailed)

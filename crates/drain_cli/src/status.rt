@@ -1,4 +1,4 @@
-//! The exit statuses of the program, and which of them a refusal leaves.
+//! The exit statuses of the program, and that of each refusal.
 
 ghost use Rattle.std.specs.Prelude.{◌≡◌};
 ghost use Rattle.drain_cli.specs.Statuses.{code_of, refusal_status};
@@ -12,9 +12,9 @@ pub enum Status {
     Done,
     /// Rejected: the input can be read, and breaks a rule.
     Rejected,
-    /// Refused: the input has no verdict, or the words of the command line have a fault.
+    /// Refused: the input has no verdict, or there is a usage error.
     Refused,
-    /// Failed for want of memory, or by a device.
+    /// Failed, as memory ran out or a device failed.
     Failed,
 }
 
@@ -26,7 +26,7 @@ impl Status {
         self as u8
     }
 
-    /// The status that a refusal leaves.
+    /// The status of a refusal.
     pub fn of_refusal(refusal: Refusal) -> Status
         ensures { result ≡ refusal_status refusal }
     {

@@ -1,4 +1,4 @@
-//! The words of the lines that tell how far a run is.
+//! The text of progress lines.
 
 ghost use Rattle.std.specs.Prelude.{◌≡◌, ◌++◌, codes, decimal};
 ghost use Rattle.drain_cli.specs.Telling.{before_row};
@@ -8,7 +8,7 @@ use drain_answer::line::{Line, push_number, words};
 /// Which rows are counted.
 #[derive(Clone, Copy)]
 pub enum Counted {
-    /// Rows of con that were read to be judged.
+    /// Rows of con that were read for a check.
     Judged,
     /// Rows of tiles that were read to make products of them.
     Read,
@@ -16,7 +16,7 @@ pub enum Counted {
     Written,
 }
 
-/// The line that tells how many rows there were so far, of how many: `drain: row 1200 of 3601`.
+/// The line with the number of rows so far, and of all: `drain: row 1200 of 3601`.
 pub fn row_line(counted: Counted, row: u32, rows: u32) -> Line
     ensures { result.bytes ≡ before_row counted ++ decimal row ++ codes " of " ++ decimal rows }
 {

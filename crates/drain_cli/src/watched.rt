@@ -1,4 +1,5 @@
-//! A device that is watched: each call is handed on as it is, and a watch told how many bytes came or went, where there is one.
+//! A device with progress: each call is passed on as it is, and a watch, if there is one, gets the number of bytes read
+//! or written.
 
 ghost use Rattle.std.specs.Prelude.{◌≡◌};
 
@@ -13,14 +14,14 @@ pub struct Watched<'a, S> {
 }
 
 impl<'a, S> Watched<'a, S> {
-    /// The device, which nobody watches yet.
+    /// The device, without a watch.
     pub fn new(inner: S) -> Watched<'a, S>
         ensures { result.inner ≡ inner }
     {
         Watched { inner, watch: None }
     }
 
-    /// Has the device watched from here on, or not.
+    /// Gives the device this watch from here on, or none.
     pub fn watch(&mut self, watch: Option<Watch<'a>>)
         ensures { self.new.inner ≡ self.old.inner }
     {

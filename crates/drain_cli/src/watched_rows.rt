@@ -1,4 +1,4 @@
-//! Which rows of a file are watched: those of con where products are judged, those of tiles and of written rasters where products are made.
+//! Which rows of a file are counted: those of con in a check, those of tiles and of written rasters in `make`.
 
 use crate::gauge::{Gauge, Rows};
 use crate::open_files::InputFile;
@@ -10,7 +10,7 @@ use drain_hgt::TileInput;
 use drain_maker::product_header;
 use drain_mosaic::Layout;
 
-/// The rows of a raster that is judged, by its header.
+/// The rows of a raster to be checked, by its header.
 pub fn judged_rows(header: &Header) -> Rows {
     Rows {
         counted: Counted::Judged,
@@ -20,7 +20,7 @@ pub fn judged_rows(header: &Header) -> Rows {
     }
 }
 
-/// The rows of a product's raster that is written, behind those of the products that are written before it.
+/// The rows of a product's raster to be written, after those of the products before it.
 pub fn file_rows(layout: &Layout, product: Held) -> Rows {
     let header = product_header(layout, product.product());
     let place: u32 = match product {
@@ -38,7 +38,7 @@ pub fn file_rows(layout: &Layout, product: Held) -> Rows {
     }
 }
 
-/// Has the rows of tiles of this side watched that are read one after the other.
+/// Has the rows of tiles of this side counted, which are read one after the other.
 pub fn watch_tiles<'a>(tiles: &mut [TileInput<InputFile<'a>>], side: u32, gauge: &'a Gauge<'a>) {
     let all = side.saturating_mul(u32::try_from(tiles.len()).unwrap_or(u32::MAX));
     let mut before: u32 = 0;
@@ -48,7 +48,7 @@ pub fn watch_tiles<'a>(tiles: &mut [TileInput<InputFile<'a>>], side: u32, gauge:
     }
 }
 
-/// The rows of one tile of so many rows, behind those of the tiles before it.
+/// The rows of one tile with this number of rows, after those of the tiles before it.
 fn tile_rows(side: u32, before: u32, all: u32) -> Rows {
     let row_bytes = 2 * u64::from(side);
     Rows {

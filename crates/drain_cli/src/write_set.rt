@@ -1,4 +1,4 @@
-//! The last part of a run of `drain make`: the files are written, and what came of it is printed.
+//! The last part of a run of `drain make`: the files are written, and the result is printed.
 
 ghost use Rattle.std.specs.Prelude.{◌≡◌, ◌++◌, length, Result, codes, decimal};
 ghost use Rattle.drain_mosaic.specs.Tiling.{Tiling, extent_of};
@@ -18,11 +18,12 @@ use drain_maker::product_files::{SetFault, write_files};
 use drain_mosaic::Layout;
 use std::alloc::Global;
 
-/// Writes header and raster of each product, in the order of `SET_FILES`, prints `made rows=R cols=C` and answers the exit status.
+/// Writes header and raster of each product, in the order of `SET_FILES`, prints `made rows=R cols=C` and returns the
+/// exit status.
 ///
-/// The first file that can't be written ends it: then a part of its bytes was written, from the first on, the files behind it weren't
-/// touched, the line is `failed WriteFailed` and the status 3. Where memory is refused for a header's text the line is
-/// `failed OutOfMemory` and the status 3; so is the status where the line can't be written.
+/// The first file that can't be written ends it: then a first part of its bytes was written, later files weren't
+/// touched, the line is `failed WriteFailed` and the status 3. If memory is refused for a header's text the line is
+/// `failed OutOfMemory` and the status 3; the status is also 3 if the line can't be written.
 pub fn write_set<F: ByteSink, W: ByteSink>(
     alloc: Global,
     layout: &Layout,
@@ -41,7 +42,7 @@ pub fn write_set<F: ByteSink, W: ByteSink>(
     print_line(out, &line_of(layout.shape(), &done), status_of(&done))
 }
 
-/// The line of what came of writing products of this shape.
+/// The line for the result of writing products of this shape.
 fn line_of(shape: Shape, done: &Result<(), SetFault>) -> Line
     ensures { (t : Tiling) → shape ≡ extent_of t → result.bytes ≡ written_line t done.now }
 {
@@ -62,7 +63,7 @@ fn made_line(shape: Shape) -> Line
     line
 }
 
-/// The exit status of what came of writing.
+/// The exit status for the result of writing.
 fn status_of(done: &Result<(), SetFault>) -> Status
     ensures { result ≡ written_status done.now }
 {

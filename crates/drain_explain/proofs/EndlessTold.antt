@@ -1,4 +1,4 @@
--- What the run comes to that an audit names.
+-- Where the path without an end leads that an audit names.
 use Rattle.std.proofs.Common.{Option, Some, None, Ok, subst}
 use Rattle.std.specs.Prelude.{IfSome}
 use Rattle.drain_grid.specs.declared.cell.Cell.{Cell}

@@ -1,4 +1,4 @@
--- What explains an answer. Source: this project's own.
+-- The explanation of an answer. Source: this project's own.
 use Rattle.std.specs.Prelude.{◌≡◌, Result, Ok, Err}
 use Rattle.drain_grid.specs.declared.cell.Cell.{Cell}
 use Rattle.drain_grid.specs.Extent.{cells}
@@ -23,8 +23,9 @@ abbrev pub answer_in : {V : Type 0} → Result (Explanation V) Refusal → Resul
 answer_in (Ok explanation) = Ok explanation.verdict
 answer_in (Err refusal) = Err refusal
 
--- of the inputs' grid and products, where ranks are asked for or not: the rules; for each rule and each product the number of cells at which it fails, and the first; the first cell
--- at which any rule fails, and its patch; and, where there is a map, the number of each cell
+-- of the inputs' grid and products, with ranks or without: the rules; for each rule and each product the number of
+-- cells at which it fails, and the first; the first cell at which any rule fails, and its patch; and, where there is a
+-- map, the number of each cell
 pub record IsExplanationOf {V : Type 0} (ranks : Ranks) (i : Inputs) (e : Explanation V) : Type 0 where
   pub rules : e.rules ≡ rules_at ranks i
   pub each_rule : AreFaultsOf (tried (rules_at ranks i)) (grid_of i) (products_of i) (cells (grid_of i).extent) e.by_rule
@@ -32,7 +33,7 @@ pub record IsExplanationOf {V : Type 0} (ranks : Ranks) (i : Inputs) (e : Explan
   pub first_patch : IsFirstPatch (tried (rules_at ranks i)) (grid_of i) (products_of i) (cells (grid_of i).extent) e.first
   pub map : IsMapOfCells (tried (rules_at ranks i)) (grid_of i) (products_of i) (cells (grid_of i).extent) e.map
 
--- the verdict names a cell with data, and its run comes to this
+-- the verdict names a cell with data, and its path leads there
 pub record IsEndlessAt (g : Grid) (ps : Products) (verdict : AuditVerdict) (told : Cell × EndlessRun) : Type 0 where
   pub named : verdict ≡ NoEnd told.0.row told.0.col
   pub run : HasData g told.0 → IsEndlessRun g ps told.0 told.1

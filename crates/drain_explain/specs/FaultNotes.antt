@@ -9,7 +9,7 @@ use Rattle.drain_faults.specs.FaultWalks.{IsCountedOf, IsRightOf}
 use Rattle.drain_faults.specs.declared.fault_walk.FaultWalk.{FaultWalk}
 use Rattle.drain_explain.specs.declared.fault_notes.FaultNotes.{FaultNotes}
 
--- the faults of the rules and of the products, the counts, and the map where there is one, are those of so many rows
+-- the faults of the rules and of the products, the counts, and the map if there is one, are those of n rows
 pub record IsWalkNoted (rules : Rules) (g : Grid) (ps : Products) (rows : ℕ) (walk : FaultWalk) : Type 0 where
   pub rows_are : walk.rows ≡ rows
   pub by_rule : IsRightOf (tried rules) g ps walk

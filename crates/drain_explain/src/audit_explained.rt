@@ -30,10 +30,10 @@ use drain_verdict::layout::layout_of;
 use drain_verdict::{AuditProducts, AuditVerdict, Refusal};
 use std::alloc::Global;
 
-/// The verdict of `audit` with what explains it, or its refusal.
+/// The verdict of `audit` with its explanation, or its refusal.
 ///
-/// What is said of `explain_check` holds here too. Memory is an audit's, with a byte for each cell more where a map is wanted. Where the verdict is `NoEnd`, it tells what the run comes to: a ring,
-/// or a cell that leads nowhere.
+/// All that `explain_check` says holds here too. Memory is an audit's, and a byte a cell more for a map. If the verdict
+/// is `NoEnd`, it says where the path leads: to a ring, or a cell that leads nowhere.
 pub fn explain_audit<R: ByteSource>(
     alloc: Global,
     side: u32,
@@ -45,13 +45,13 @@ pub fn explain_audit<R: ByteSource>(
     // The answer is an audit's.
     ensures answer { OfFour R.bytes_left side tiles.old sinks.now products.old (λ inputs. IsAuditAnswer inputs (answer_in result)) }
 
-    // Of a verdict, what every cell showed, with a map where one is wanted; and what the run comes to that it names.
+    // For a verdict, what every cell showed, with a map if one is required; and where the path without an end leads.
     ensures explained { IfOk result (λ e. OfFour R.bytes_left side tiles.old sinks.now products.old (λ inputs. IsExplanationOf Unasked inputs e)) }
     ensures endless { IfOk result (λ e. OfFour R.bytes_left side tiles.old sinks.now products.old (λ inputs. IfSome e.endless (IsEndlessOf inputs e.verdict))) }
     ensures drawn { IfOk result (λ e. IsSome e.map ↔ (mapping ≡ Drawn)) }
     ensures layout { IfOk result (λ e. IsLayoutOf side (names_of tiles.old) e.layout) }
 
-    // How far it reads, when a read fails, and that names and headers stay: as of an audit.
+    // How far it reads, when a read fails, and that names and headers are unchanged: as for an audit.
     ensures tiles_within { TilesTakeAtMost R.bytes_left side tiles.old tiles.new }
     ensures rasters_within { (p : Held) → RasterTakesAtMost R.bytes_left (with_con_for_ranks products.old) (with_con_for_ranks products.new) p }
     ensures faults { SomeReadFails (map R.counts (audit_devices tiles.old products.old)) (map R.counts (audit_devices tiles.new products.new)) (IsErrOf result Refusal.ReadFailed) }
@@ -59,7 +59,7 @@ pub fn explain_audit<R: ByteSource>(
     ensures headers { (p : Held) → (of_product (with_con_for_ranks products.new) p).header ≡ (of_product (with_con_for_ranks products.old) p).header }
     ensures untouched { IfErr result (λ refusal. ¬ IsOfBodies refusal → (tiles.new ≡ tiles.old) × (products.new ≡ products.old)) }
 {
-    // The laws that bytes name one tile, and that ranks play no part where runs end.
+    // The laws that bytes name one tile, and that ranks play no part if paths end.
     one_name();
     ranks_play_no_part();
     let layout = layout_of(alloc, side, tiles)?;

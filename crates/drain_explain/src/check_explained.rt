@@ -26,10 +26,11 @@ use drain_verdict::layout::layout_of;
 use drain_verdict::{Products, Refusal};
 use std::alloc::Global;
 
-/// The verdict of `check` with what explains it, or its refusal.
+/// The verdict of `check` with its explanation, or its refusal.
 ///
-/// It reads what `check` reads, in the same order, and tells the same refusals. It goes on over all rows where a check would stop looking at rules, so it takes longer on products that are
-/// rejected. Memory is a check's, with a byte for each cell more where a map is wanted; `OutOfMemory` may come where a check finds memory.
+/// It reads what `check` reads, in the same order, and has the same refusals. It scans all rows, where a check stops
+/// looking at rules, so it takes longer on rejected products. Memory is a check's, and a byte a cell more for a map;
+/// `OutOfMemory` may come where a check finds memory.
 pub fn explain_check<R: ByteSource>(
     alloc: Global,
     side: u32,
@@ -41,12 +42,12 @@ pub fn explain_check<R: ByteSource>(
     // The answer is a check's.
     ensures answer { (inputs : Inputs) → Tell R.bytes_left side tiles.old sinks.now products.old inputs → IsAnswer inputs (answer_in result) }
 
-    // Of a verdict, what every cell showed, with a map where one is wanted.
+    // For a verdict, what every cell showed, with a map if one is required.
     ensures explained { IfOk result (λ e. (inputs : Inputs) → Tell R.bytes_left side tiles.old sinks.now products.old inputs → IsExplanationOf Asked inputs e) }
     ensures drawn { IfOk result (λ e. IsSome e.map ↔ (mapping ≡ Drawn)) }
     ensures layout { IfOk result (λ e. IsLayoutOf side (names_of tiles.old) e.layout) }
 
-    // How far it reads, when a read fails, and that names and headers stay: as of a check.
+    // How far it reads, when a read fails, and that names and headers are unchanged: as for a check.
     ensures tiles_within { TilesTakeAtMost R.bytes_left side tiles.old tiles.new }
     ensures rasters_within { (p : Held) → RasterTakesAtMost R.bytes_left products.old products.new p }
     ensures faults { SomeReadFails (map R.counts (devices_of tiles.old products.old)) (map R.counts (devices_of tiles.new products.new)) (IsErrOf result Refusal.ReadFailed) }

@@ -1,4 +1,4 @@
-//! What the run comes to that an audit names.
+//! Where the path without an end leads that an audit names.
 
 ghost use Rattle.std.specs.Prelude.{◌≡◌, ◌*◌, length, IfOk, IfSome};
 ghost use Rattle.drain_explain.specs.Explanations.{IsEndlessAt};
@@ -10,7 +10,8 @@ use drain_runs::{CellFlows, EndlessRun};
 use drain_verdict::AuditVerdict;
 use std::alloc::Global;
 
-/// The cell whose run doesn't end, where the verdict names one, and what its run comes to, of the flows of the grid's cells.
+/// The cell whose path doesn't end, if the verdict names one, and where its path leads, from the flows of the grid's
+/// cells.
 pub fn endless_of(
     alloc: Global,
     flows: &CellFlows,
@@ -26,7 +27,7 @@ pub fn endless_of(
         row: *row,
         col: *col,
     };
-    // flows of sources that tell their bytes are those of the cells, and the cell is one of them
+    // flows of sources whose bytes are known are those of the cells, and the cell is one of them
     if flows.len() != shape.cells() || cell.row >= shape.rows() || cell.col >= shape.cols() {
         return Ok(None);
     }

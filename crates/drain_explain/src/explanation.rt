@@ -1,4 +1,4 @@
-//! What explains an answer.
+//! The explanation of an answer.
 
 ghost use Rattle.std.specs.Prelude.{◌≡◌, ◌↔◌, IsSome};
 ghost use Rattle.drain_kernel.specs.declared.rules.Ranks as declared;
@@ -21,17 +21,18 @@ pub struct Explanation<V> {
     pub verdict: V,
     /// The mosaic.
     pub layout: Layout,
-    /// The rules that were tried: with ranks or without, and the numbers that stand for no data.
+    /// The rules that were checked: with ranks or without, and the no-data numbers.
     pub rules: Rules,
-    /// For each rule at how many cells it fails, and at which first.
+    /// For each rule the number of cells at which it fails, and the first.
     pub by_rule: PerRule<RuleFaults>,
-    /// For each product at how many cells it breaks rule VoidCell or Missing, and at which first.
+    /// For each product the number of cells at which it breaks rule VoidCell or Missing, and the first.
     pub by_product: PerProduct<ProductFaults>,
     /// The first cell at which any rule fails, and what it shows.
     pub first: Option<FaultyPatch>,
-    /// Where a map was wanted, a number for each cell in row order: that of the least rule that fails there; where none does 0, and 255 at a void.
+    /// With a map, a number for each cell in row order: that of the least rule that fails there; 0 if none does, and
+    /// 255 at a void.
     pub map: Option<FaultMap>,
-    /// Of an audit, the first data cell whose run doesn't end, and what its run comes to.
+    /// Of an audit, the first data cell whose path doesn't end, and where its path leads.
     pub endless: Option<(Cell, EndlessRun)>,
 }
 

@@ -1,4 +1,4 @@
-//! The faults of a grid's rows, which give the verdict too.
+//! The faults of a grid's rows, which also give the verdict.
 
 ghost use Rattle.std.specs.Prelude.{◌≡◌, ◌↔◌, IfOk, IsSome};
 ghost use Rattle.drain_grid.specs.Grid.{Grid, Products};
@@ -13,14 +13,14 @@ use drain_verdict::held_row::HeldRow;
 use drain_verdict::row_notes::{RowNotes, RowVerdicts};
 use std::alloc::Global;
 
-/// Whether a map of the faults is wanted, which takes a byte for each cell.
+/// Whether a map of the faults is required, which takes a byte for each cell.
 #[derive(Clone, Copy, PartialEq, Eq, Debug)]
 pub enum Mapping {
     Drawn,
     Undrawn,
 }
 
-/// What the rows so far came to, with the map of them where one is wanted; the rules that were tried at the last row.
+/// The result of the rows so far, with their map if one is required; the rules checked at the last row.
 #[derive(Drop)]
 pub struct FaultNotes {
     pub walk: FaultWalk,
@@ -28,7 +28,7 @@ pub struct FaultNotes {
 }
 
 impl FaultNotes {
-    /// No row. It takes a byte for each cell of the shape where a map is wanted, and else no memory.
+    /// No row. It takes a byte for each cell of the shape for a map, else no memory.
     pub fn new(
         alloc: Global,
         shape: Shape,
@@ -50,7 +50,7 @@ impl FaultNotes {
     }
 }
 
-/// A walk that passed no row, which draws a map where one is wanted.
+/// A walk that passed no row, which draws a map if one is required.
 fn new_walk(alloc: Global, shape: Shape, mapping: Mapping) -> Result<FaultWalk, OutOfMemory>
     ensures rows { IfOk result (λ walk. walk.rows ≡ 0) }
     ensures begun { IfOk result (λ walk. (rules : Rules) (g : Grid) (ps : Products) → IsWalkNoted rules g ps 0 walk) }
@@ -62,7 +62,7 @@ fn new_walk(alloc: Global, shape: Shape, mapping: Mapping) -> Result<FaultWalk, 
     }
 }
 
-/// The numbers that stand for no data where headers give none.
+/// The no-data numbers, if headers give none.
 fn default_numbers() -> NoData {
     NoData {
         con: Product::Con.default_no_data(),

@@ -1,8 +1,8 @@
-//! The answer of a check or an audit, and what explains it: of every rule at how many cells it fails and where first, what the first fault shows, and a
-//! map.
+//! The answer of a check or an audit with its explanation: for every rule at how many cells it fails and where first,
+//! what the first fault shows, and a map.
 //!
-//! It is the answer of `drain_verdict`, which is found in the same pass over the rows; beside it each row is noted (`drain_faults`). Of an audit that
-//! finds a run without an end, it tells what that comes to.
+//! The answer is that of `drain_verdict`, found in the same pass over the rows, which also notes each row
+//! (`drain_faults`). If an audit finds a path without an end, it says where that path leads.
 #![tactic(auto)]
 
 pub mod audit_explained;

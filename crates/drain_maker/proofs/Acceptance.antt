@@ -1,4 +1,4 @@
--- The files of products that were made: no refusal stands of them, and they are accepted.
+-- The files of products of `make`: no refusal of them applies, and they are accepted.
 use Rattle.std.proofs.Common.{◌≡◌, ℕ, ◌<◌, ℤ, pos, get_or, slice_get, inl, inr, List, Option, Some, IsSome, Result, Ok, Err, unwrap_or, refl, sym, ap, subst, ◌∙◌, arith}
 use Rattle.drain_grid.specs.declared.cell.Cell.{Cell}
 use Rattle.drain_grid.specs.declared.held.Held.{Held}

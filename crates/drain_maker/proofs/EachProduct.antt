@@ -1,4 +1,4 @@
--- What can be spelled of each product's raster can be of all.
+-- What can be encoded of each product's raster can be of all.
 use Rattle.std.proofs.Common.{true, false}
 use Rattle.drain_grid.specs.declared.product_set.ProductSet.{ProductSet}
 use Rattle.drain_grid.specs.declared.held.Held.TheVariants.{Con, Dir, Acc, Bas, Rnk}

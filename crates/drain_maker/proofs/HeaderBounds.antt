@@ -1,4 +1,4 @@
--- The header of a product is within the bounds of a header, and lies where the mosaic does.
+-- The header of a product is within the bounds of a header, and has the mosaic's place.
 use Rattle.std.proofs.Common.{ℕ, ◌+◌, ◌-◌, ◌*◌, ◌/◌, ◌^◌, ◌≤◌, inl, inr, ℤ, pos, negsuc, nat_abs, ◌-ℤ◌, ◌*ℤ◌, refl, arith, rules}
 use Rattle.std.proofs.lemmas.Int.{ints}
 use Rattle.std.proofs.Math.Nat.{mul-le-mul_right}

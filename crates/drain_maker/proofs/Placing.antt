@@ -1,4 +1,4 @@
--- Where a mosaic that can be read lies: bounds of its edges, and the spacing of its samples, rounded down.
+-- The place of a mosaic that can be read: bounds of its edges, and the spacing of its samples, rounded down.
 use Rattle.std.proofs.Common.{ℕ, zero, suc, ◌/◌, ◌≤◌, ℤ, pos, negsuc, nat_abs, ◌+ℤ◌, ◌-ℤ◌, ◌*ℤ◌, List, [], ◌∷◌, map, fold, refl, arith}
 use Rattle.std.proofs.lemmas.Int.{ints, clamps}
 use Rattle.std.specs.Int.{int_min, int_max}

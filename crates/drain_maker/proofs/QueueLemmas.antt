@@ -1,4 +1,4 @@
--- What is linked by some items of each level is linked by those that its chains spell, and is seen as their pairs.
+-- What is linked by some items of each level is linked by those of its chains, and is seen as their pairs.
 use Rattle.std.proofs.Common.{◌≡◌, ◌≢◌, ℕ, ◌<◌, ◌≤◌, cond, not, ◌==◌, nat_lt, IsTrue, ℤ, List, [], length, get_or, Contains, refl, sym, ap, ◌∙◌, subst, inl, inr, arith}
 use Rattle.std.specs.List.{All}
 use Rattle.std.proofs.lemmas.Bool.{cases_eq, cases_lt, eq-eqb, ne_eqb, eqb-false, ltb-true, not-true, not_from_false}

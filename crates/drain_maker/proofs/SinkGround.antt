@@ -1,4 +1,4 @@
--- What elevations held whole say of listed sinks.
+-- What elevations in memory say of listed sinks.
 use Rattle.std.proofs.Common.{◌≡◌, is_some, ℕ, true, false, List, length, Option, Err, inl, inr, arith, refl, sym, ◌∙◌}
 use Rattle.std.proofs.lemmas.Bool.{cases_lt, lt-ltb, le-ltb}
 use Rattle.drain_grid.specs.declared.cell.Cell.{Cell}

@@ -1,4 +1,4 @@
--- What holds of each number of a raster holds of the number at each cell; and numbers of so many bits are spelled in them.
+-- What holds of each number of a raster holds of the number at each cell; and numbers of n bits fit them.
 use Rattle.std.proofs.Common.{◌≡◌, ◌*◌, ◌^◌, ◌<◌, ℕ, ℤ, pos, List, false, map, length, get_or, arith}
 use Rattle.std.specs.List.{All}
 use Rattle.std.proofs.lemmas.Int.{ints}

@@ -1,4 +1,4 @@
--- Products that were made for a mosaic are accepted: what the files are, and what the answer to them is.
+-- Products made for a mosaic are accepted: what the files are, and the answer to them.
 use Rattle.std.specs.Prelude.{◌≡◌, List, Result, Ok, Err}
 use Rattle.std.specs.List.{AllZip}
 use Rattle.drain_grid.specs.declared.held.Held.{Held}
@@ -24,7 +24,7 @@ use Rattle.drain_verdict.specs.Answers.{IsAnswer}
 use Rattle.drain_maker.specs.Headers.{header_of}
 use Rattle.drain_maker.specs.Made.{AreMade}
 
--- where each name names a tile, the corners are those of the tiles that are named
+-- if each name names a tile, the corners are those of the named tiles
 abbrev pub AreNamed : Inputs → Type 0
 AreNamed i = AreNames i.names → AllZip Names i.names i.corners
 
@@ -33,7 +33,7 @@ pub record AreFilesOf (i : Inputs) (ps : ProductSet) : Type 0 where
   pub headers_are : (p : Held) → i.header p ≡ text_of (header_of (tiling_of i) (product_of p))
   pub rasters_are : (p : Held) → i.raster p ≡ raster_bytes (header_of (tiling_of i) (product_of p)) (raster_in ps p)
 
--- accepted with the counts of these products; only want of memory or a failed read keep that answer back
+-- accepted with the counts of these products, unless memory runs out or a read fails
 abbrev pub IsAcceptance : Grid → Products → Result Verdict Refusal → Type 0
 IsAcceptance g ps (Ok (Accepted counts)) = counts ≡ counts_of g ps
 IsAcceptance g ps (Ok (Rejected rule row col)) = ⊥
@@ -41,7 +41,7 @@ IsAcceptance g ps (Err OutOfMemory) = Unit {0}
 IsAcceptance g ps (Err ReadFailed) = Unit {0}
 IsAcceptance g ps (Err refusal) = ⊥
 
--- products that were made for a mosaic and listed sinks are accepted with its tiles and that list
+-- products made for a mosaic and listed sinks are accepted with its tiles and that list
 abbrev pub MadeIsAccepted : Type 0
 MadeIsAccepted =
     (i : Inputs) (e : Heights) (sinks : List SinkLine) (ps : ProductSet) → AreNamed i → IsMosaicOf i (tiling_of i) e → sinks_of i.sinks ≡ Ok sinks →

@@ -1,9 +1,9 @@
--- How linked items spell the queue of each level.
+-- How linked items encode the queue of each level.
 use Rattle.std.specs.Prelude.{◌≡◌, ◌≢◌, ℕ, zero, suc, ◌+◌, ◌<◌, ◌≤◌, ℤ, pos, ◌-ℤ◌, nat_lt, if◌then◌else◌, List, [], ◌∷◌, ◌++◌, length, map, get_or, Contains}
 use Rattle.std.specs.List.{All}
 use Rattle.drain_maker.specs.declared.level_queue.TheConstants.{ABSENT, END, LEVELS, MAX_CELLS}
 
--- the items from `at` on, each followed by the one behind it, at most so many
+-- the items from `at` on, each followed by the next, at most the given number
 abbrev pub chain : List ℕ → ℕ → ℕ → List ℕ
 chain behind zero at = []
 chain behind (suc n) at = if nat_lt at (length behind) then at ∷ chain behind n (get_or behind at END) else []
@@ -20,7 +20,7 @@ level_of place = pos place -ℤ pos 32768
 abbrev pub pairs_at : ℕ → List ℕ → List (ℤ × ℕ)
 pairs_at place items = map (λ item. (level_of place, item)) items
 
--- the pairs of so many levels from a place on, given the items of each
+-- the pairs of n levels from a place on, given the items of each
 abbrev pub pairs_from : (ℕ → List ℕ) → ℕ → ℕ → List (ℤ × ℕ)
 pairs_from items place zero = []
 pairs_from items place (suc n) = pairs_at place (items place) ++ pairs_from items (place + 1) n
@@ -29,7 +29,7 @@ pairs_from items place (suc n) = pairs_at place (items place) ++ pairs_from item
 unfoldable pub pairs_of : List ℕ → List ℕ → List (ℤ × ℕ)
 pairs_of firsts behind = pairs_from (items_at firsts behind) 0 (length firsts)
 
--- the items are linked one to the next and to the end, and no two are one
+-- the items are linked one to the next and to the end, and no two are equal
 abbrev pub IsChain : List ℕ → ℕ → List ℕ → Type 0
 IsChain behind at [] = at ≡ END
 IsChain behind at (x ∷ xs) = (at ≡ x) × (x < length behind) × (get_or behind x END ≢ ABSENT) × All (λ y. y ≢ x) xs × IsChain behind (get_or behind x END) xs
@@ -39,7 +39,7 @@ abbrev pub last_or : ℕ → List ℕ → ℕ
 last_or d [] = d
 last_or d (x ∷ xs) = last_or x xs
 
--- each level's items are a chain from its first to its last, no item is in two, and what isn't absent is in one
+-- each level's items are a chain from its first to its last, no item is in two, and each that isn't absent is in one
 pub record AreLinked (items : ℕ → List ℕ) (firsts lasts behind : List ℕ) (lowest : ℕ) : Type 0 where
   pub firsts_are : length firsts ≡ LEVELS
   pub lasts_are : length lasts ≡ LEVELS

@@ -1,4 +1,4 @@
--- The headers of the rasters that a maker writes.
+-- The headers of the rasters of `make`.
 -- Source: the Esri description of BIL headers; sizes, byte order and no-data numbers are this project's own
 use Rattle.std.specs.Prelude.{ℕ, ◌*◌, ◌/◌, Bool, true, false, Some}
 use Rattle.drain_grid.specs.declared.product.Product.{Product}
@@ -9,7 +9,7 @@ use Rattle.drain_header.specs.declared.header.Place.{Place}
 use Rattle.drain_header.specs.Fields.{Fields}
 use Rattle.drain_mosaic.specs.Tiling.{Tiling, west_edge, north_edge, spacing_of, extent_of}
 
--- heights take 16 bits, codes 8, counts, labels and ranks 32
+-- heights have 16 bits, codes 8, counts, labels and ranks 32
 abbrev pub bits_of : Product → ℕ
 bits_of Con = 16
 bits_of Dir = 8
@@ -18,7 +18,7 @@ bits_of Bas = 32
 bits_of Spl = 8
 bits_of Rnk = 32
 
--- heights alone can be negative
+-- only heights can be negative
 abbrev pub is_signed : Product → Bool
 is_signed Con = true
 is_signed p = false

@@ -1,4 +1,4 @@
--- What products that were made are: of the mosaic's shape, right by every rule, and fit to be written.
+-- The products of `make`: of the mosaic's shape, right by every rule, and fit to be written.
 use Rattle.std.specs.Prelude.{◌≡◌, ℕ, List, Result, Ok, Err}
 use Rattle.drain_grid.specs.declared.held.Held.{Held}
 use Rattle.drain_grid.specs.Held.{product_of}
@@ -21,7 +21,7 @@ use Rattle.drain_maker.specs.Headers.{header_of, bits_of, is_signed}
 abbrev pub KeepsEveryRule : Heights → List SinkLine → ProductSet → Type 0
 KeepsEveryRule e sinks ps = RulesHold (check_rules default_numbers) IsAnyRule (grid_of e sinks) (products_of ps)
 
--- the pixels of each product's header can spell each of its numbers
+-- the pixels of each product's header can encode each of its numbers
 abbrev pub CanBeWritten : Tiling → ProductSet → Type 0
 CanBeWritten t ps = (p : Held) → CanSpellAll (header_of t (product_of p)) (raster_in ps p)
 
@@ -29,7 +29,7 @@ CanBeWritten t ps = (p : Held) → CanSpellAll (header_of t (product_of p)) (ras
 abbrev pub AreSpelled : ProductSet → Type 0
 AreSpelled ps = (p : Held) → CanSpellAllIn (is_signed (product_of p)) (bits_of (product_of p)) (raster_in ps p)
 
--- each raster has a number for each cell, and numbers that some pixel spells
+-- each raster has a number for each cell, and numbers that some pixel encodes
 abbrev pub AreRasters : ProductSet → Type 0
 AreRasters ps = (p : Held) → ArePixels (raster_in ps p)
 
@@ -37,14 +37,14 @@ AreRasters ps = (p : Held) → ArePixels (raster_in ps p)
 abbrev pub AreOnData : Heights → List SinkLine → Type 0
 AreOnData e sinks = (line : ℕ) → ¬ IsOffData (grid_of e sinks) sinks line
 
--- products and a fault of the maker come only where each listed cell has data, and else the first line whose cell has none is told
+-- products and maker faults come only if each listed cell has data, else the first line whose cell has none is reported
 abbrev pub IsSinkAnswer : Heights → List SinkLine → Result ProductSet MakeRefusal → Type 0
 IsSinkAnswer e sinks (Ok ps) = AreOnData e sinks
 IsSinkAnswer e sinks (Err MakerFault) = AreOnData e sinks
 IsSinkAnswer e sinks (Err OutOfMemory) = Unit {0}
 IsSinkAnswer e sinks (Err (SinkNotData line)) = IsFirstOffData (grid_of e sinks) sinks line
 
--- a refusal of products that were built: they break a rule, or memory was wanted
+-- a refusal of products that were built: they break a rule, or memory ran out
 abbrev pub IsTestRefusal : MakeRefusal → Type 0
 IsTestRefusal MakerFault = Unit {0}
 IsTestRefusal OutOfMemory = Unit {0}

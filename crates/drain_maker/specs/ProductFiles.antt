@@ -1,4 +1,4 @@
--- The files of a product set: their bytes, and what came of writing them one after the other.
+-- The files of a product set: their bytes, and the result of writing them one after the other.
 use Rattle.std.specs.Prelude.{◌≡◌, ℕ, ◌⊎◌, List, [], ◌∷◌, Result, Ok, Err, IsErr}
 use Rattle.std.specs.List.{flat_map}
 use Rattle.drain_device.specs.Devices.{Sink}
@@ -31,12 +31,12 @@ file_bytes t ps file = part_bytes file.part (header_of t (product_of file.produc
 unfoldable pub set_bytes : Tiling → ProductSet → List (List ℕ)
 set_bytes t ps = flat_map (λ p. text_of (header_of t (product_of p)) ∷ raster_bytes (header_of t (product_of p)) (raster_in ps p) ∷ []) products
 
--- the file took its bytes, or a proper part of them, from the first on; the write failed exactly where the file gave up
+-- the file took its bytes, or a proper first part of them; the write failed exactly if the file failed for good
 pub record WritesFile {F : Type 0} (sink : Sink F) (old new : F) (bytes : List ℕ) (done : Result (Unit {0}) SetFault) : Type 0 where
   pub written : HandsOver (sink.bytes_taken old) (sink.bytes_taken new) done bytes
   pub faults : WriteFails (sink.counts old) (sink.counts new) (sink.stalls old) (sink.stalls new) (done ≡ Err WriteFailed)
 
--- the files took their bytes one after the other; the first that didn't ended it, and those behind it are as they were
+-- the files took their bytes one after the other; the first that didn't ended it, and later ones are as they were
 abbrev pub WritesFiles : {F : Type 0} → Sink F → List F → List F → List (List ℕ) → Result (Unit {0}) SetFault → Type 0
 WritesFiles sink [] [] [] done = done ≡ Ok tt
 WritesFiles sink (old ∷ olds) (new ∷ news) (bytes ∷ more) done =

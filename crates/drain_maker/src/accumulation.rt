@@ -8,10 +8,10 @@ use crate::place::{Place, Steps};
 use drain_grid::{OutOfMemory, Product};
 use std::alloc::Global;
 
-/// Stands for the inflows of a cell that has handed its count on.
+/// The inflows of a cell that has passed its count on.
 const HANDED_ON: u8 = u8::MAX;
 
-/// The counts, 0 at voids. A cell hands its count on as soon as all that flow into it have.
+/// The counts, 0 at voids. A cell passes its count on as soon as all that flow into it have.
 pub fn accumulation(alloc: Global, dir: &Layer<u8>) -> Result<Layer<u32>, OutOfMemory>
     ensures { IfOk result (λ acc. acc.shape ≡ dir.now.shape) }
 {
@@ -38,7 +38,7 @@ fn inflows(alloc: Global, dir: &Layer<u8>, steps: &Steps) -> Result<Layer<u8>, O
     Ok(inflows)
 }
 
-/// Hands counts on from a place, as far as no more are waited for.
+/// Passes counts on from a place, until one has to wait for more.
 fn hand_on(
     dir: &Layer<u8>,
     steps: &Steps,

@@ -1,11 +1,12 @@
-//! What a layer holds where a product has no number of its own: at voids the number for no data, as the product's pixels spell it.
+//! The value of a layer where a product has no number of its own: at voids the no-data number, as the product's pixels
+//! encode it.
 
 use drain_grid::{Product, VOID};
 
 /// The code of an outlet.
 pub const OUTLET: u8 = 0;
 
-/// Stands for the code of a cell without data.
+/// The code of a cell without data.
 pub const NO_CODE: u8 = 255;
 
 /// The height of a cell without data.

@@ -1,4 +1,4 @@
-//! The direction of each data cell: down the steepest way where a neighbour is lower, else over the spill parent.
+//! The direction of each data cell: the steepest descent if a neighbour is lower, else to the spill parent.
 
 ghost use Rattle.std.specs.Prelude.{◌≡◌, IfOk};
 ghost use Rattle.drain_grid.specs.Extent.{IsCellOf};
@@ -9,7 +9,8 @@ use crate::place::{Place, Step, Steps};
 use drain_grid::{Cell, Direction, OutOfMemory};
 use std::alloc::Global;
 
-/// The codes of directions, none at voids. On a flat each cell leads to its spill parent, over which the flood came to it.
+/// The codes of directions, none at voids. On a flat each cell leads to its spill parent, from which the flood reached
+/// it.
 pub fn directions(
     alloc: Global,
     con: &Layer<i16>,
@@ -38,7 +39,7 @@ pub fn directions(
     Ok(dir)
 }
 
-/// The code of the first of the steepest ways down, none where no neighbour is lower, of a cell off the first and the last column.
+/// The code of the first steepest descent, none if no neighbour is lower, for a cell off the first and the last column.
 fn steepest(con: &Layer<i16>, steps: &Steps, place: Place) -> Option<u8> {
     let mut way = Way::from(con, place);
     for step in steps.all {
@@ -47,7 +48,7 @@ fn steepest(con: &Layer<i16>, steps: &Steps, place: Place) -> Option<u8> {
     way.code
 }
 
-/// The same of any cell.
+/// The same for any cell.
 fn steepest_at_side(con: &Layer<i16>, steps: &Steps, cell: Cell) -> Option<u8>
     requires { IsCellOf con.now.shape cell }
 {
@@ -61,11 +62,12 @@ fn steepest_at_side(con: &Layer<i16>, steps: &Steps, cell: Cell) -> Option<u8>
     way.code
 }
 
-/// The steepest way down from a cell that was found so far.
+/// The steepest descent from a cell found so far.
 #[derive(Clone, Copy)]
 struct Way {
     level: i16,
-    /// Twice the square of its slope: that of a drop d is d along a row or a column, and d / √2 across a corner. 0 where no way was found.
+    /// Twice the square of its slope: that of a drop d is d along a row or a column, and d / √2 across a corner. 0 if
+    /// none was found.
     key: u64,
     code: Option<u8>,
 }
@@ -80,7 +82,7 @@ impl Way {
         }
     }
 
-    /// Looks at a neighbour: the way to it is taken where it is steeper.
+    /// Looks at a neighbour: the step to it is taken if it is steeper.
     fn look(&mut self, con: &Layer<i16>, next: Place, step: Step) {
         let there = con.get(next).unwrap_or(blank_height());
         if there == blank_height() || there >= self.level {

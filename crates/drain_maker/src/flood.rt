@@ -1,9 +1,10 @@
 //! The flood: from the open cells inwards, by traces.
 //!
-//! A trace goes over all that can be reached without going down, each cell at its own ground: first from all open cells at once. So whole slopes are
-//! reached without a queue. A cell beside which a lower one was left waits in the queue at its level; those that wait are taken lowest first, and what
-//! was left beside them is raised to their level, which is the lowest way out. So the level at which a cell is reached is its conditioned elevation,
-//! and the neighbour over which it was reached is its spill parent. Time goes with the cells.
+//! A trace visits all that can be reached without going down, each cell at its own ground, first from all open cells at
+//! once. So whole slopes are reached without a queue. A cell next to an unreached lower one waits in the queue at its
+//! level; waiting cells are taken lowest first, and their unreached neighbours are raised to their level, which is the
+//! lowest outlet. So the level at which a cell is reached is its conditioned elevation, and the neighbour from which it
+//! was reached is its spill parent. Time is linear in the cells.
 //!
 //! Source: Priority-Flood (Barnes, Lehman and Mulla 2014), with traces as in Zhou, Sun and Fu (2016).
 
@@ -17,10 +18,10 @@ use crate::place::{Place, Step, Steps};
 use drain_grid::{Cell, Elevation, OutOfMemory, Product, Shape, Sinks};
 use std::alloc::Global;
 
-/// Stands for the spill parent of a data cell that wasn't reached.
+/// The spill parent of a data cell that wasn't reached.
 const UNREACHED: u8 = 254;
 
-/// What a flood leaves. Voids have the no-data numbers.
+/// The result of a flood. Voids have the no-data numbers.
 #[derive(Drop)]
 pub struct Flooded {
     pub con: Layer<i16>,
@@ -31,12 +32,12 @@ pub struct Flooded {
     ghost rnk_shape: { rnk.shape ≡ con.shape },
 }
 
-/// A flood under way.
+/// A flood in progress.
 #[derive(Drop)]
 struct Flood {
     done: Flooded,
     steps: Steps,
-    /// The cells of the trace under way.
+    /// The cells of the current trace.
     trail: Vec<Place>,
     queue: LevelQueue,
 }
@@ -74,7 +75,7 @@ impl Flood {
         })
     }
 
-    /// Puts each data cell at its ground, unreached.
+    /// Sets each data cell to its ground, unreached.
     fn lay_ground(&mut self, elevation: &Elevation)
         ensures { self.new.done.con.shape ≡ self.old.done.con.shape }
     {
@@ -91,7 +92,7 @@ impl Flood {
         }
     }
 
-    /// Reaches the open cells, those that are listed, on the edge of the grid or beside a void, and begins a trace with them.
+    /// Reaches the open cells (listed, on the edge of the grid, or next to a void), and begins a trace with them.
     fn open(&mut self, alloc: Global, shape: Shape, sinks: &Sinks) -> Result<(), OutOfMemory>
         ensures { self.new.done.con.shape ≡ self.old.done.con.shape }
     {
@@ -122,7 +123,8 @@ impl Flood {
         Ok(())
     }
 
-    /// Comes to the cells that wait, lowest first, and traces from each over what was left beside it. Each waits at most once.
+    /// Takes the waiting cells, lowest first, and traces from each over its unreached neighbours. Each waits at most
+    /// once.
     fn spread(&mut self) -> Result<(), OutOfMemory>
         ensures { self.new.done.con.shape ≡ self.old.done.con.shape }
     {
@@ -137,8 +139,8 @@ impl Flood {
         Ok(())
     }
 
-    /// Goes on from the cells of the trail: reaches all that can be reached without going down, and, where the flood stands at a cell's level, what is
-    /// lower beside it.
+    /// Continues from the cells of the trail: reaches all that can be reached without going down, and, if the flood is
+    /// at a cell's level, its lower neighbours.
     fn trace(&mut self, flooded: Option<i16>) -> Result<(), OutOfMemory>
         ensures { self.new.done.con.shape ≡ self.old.done.con.shape }
     {
@@ -156,7 +158,7 @@ impl Flood {
         Ok(())
     }
 
-    /// Reaches the cells around one, but for lower ones where it doesn't raise them. Says whether such a one was left.
+    /// Reaches the cells around one, except lower ones that it doesn't raise. Returns whether such a one was left.
     fn reach_around(&mut self, place: Place, level: i16, raises: bool) -> Result<bool, OutOfMemory>
         ensures { self.new.done.con.shape ≡ self.old.done.con.shape }
     {
@@ -176,7 +178,8 @@ impl Flood {
         Ok(leaves)
     }
 
-    /// The ground of a data cell that wasn't reached. A step over a side of the grid is none: the cells at its sides are open.
+    /// The ground of a data cell that wasn't reached. A step across a side of the grid finds none: the cells at its
+    /// sides are open.
     fn unreached(&self, place: Place) -> Option<i16> {
         if self.done.spl.get(place) == Some(UNREACHED) {
             self.done.con.get(place)
@@ -190,7 +193,7 @@ impl Flood {
         self.steps.all.iter().any(|step| self.done.spl.get(place.after(*step)) == Some(NO_CODE))
     }
 
-    /// Reaches a cell over a neighbour, or as an open cell, and puts it at the end of the trail.
+    /// Reaches a cell from a neighbour, or as an open cell, and puts it at the end of the trail.
     fn reach(&mut self, place: Place, parent: u8, rank: u32) -> Result<(), OutOfMemory>
         ensures { self.new.done.con.shape ≡ self.old.done.con.shape }
     {
@@ -209,7 +212,7 @@ impl Flood {
         }
     }
 
-    /// Puts a cell in the queue. That it is one, and doesn't wait yet, no proof has kept, so it is asked.
+    /// Puts a cell in the queue. It tests that it is one and doesn't wait yet, since no proof has kept that.
     fn wait(&mut self, place: Place, level: i16)
         ensures { self.new.done.con.shape ≡ self.old.done.con.shape }
     {

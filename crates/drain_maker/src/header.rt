@@ -1,4 +1,4 @@
-//! The headers of the rasters that a maker writes.
+//! The headers of the rasters of `make`.
 
 ghost use Rattle.std.specs.Prelude.{◌≡◌};
 ghost use Rattle.drain_header.specs.Fields.{IsCoordinate};
@@ -12,7 +12,7 @@ use drain_mosaic::Layout;
 ///
 /// Pixels of 16 bits signed for con, 8 for dir and spl, 32 for acc, bas and rnk; the least significant byte first, nothing to skip and
 /// rows without padding. The place is the mosaic's north-west corner and the spacing of its samples, in units of 10^-15 degree, the
-/// spacing rounded down. The no-data number is the product's default. It takes no memory.
+/// spacing rounded down. The no-data number is the product's default. It needs no memory.
 pub fn product_header(layout: &Layout, product: Product) -> Header
     ensures { result ≡ header_of layout.now product }
 {
@@ -31,7 +31,7 @@ pub fn product_header(layout: &Layout, product: Product) -> Header
     }
 }
 
-/// How many bits a pixel of the product takes.
+/// How many bits a pixel of the product has.
 fn bits_of(product: Product) -> u8
     ensures { result ≡ bits_of product }
 {
@@ -49,11 +49,11 @@ fn is_signed(product: Product) -> bool
     product == Product::Con
 }
 
-/// Where the mosaic lies, and the spacing of its samples.
+/// The mosaic's place, and the spacing of its samples.
 fn mosaic_place(layout: &Layout) -> Place
     ensures place { result ≡ mosaic_place layout.now }
 
-    // Each number is one that a header can hold.
+    // Each number fits a header.
     ensures ulx_ok { IsCoordinate result.ulx }
     ensures uly_ok { IsCoordinate result.uly }
     ensures xdim_ok { IsCoordinate result.xdim }

@@ -8,7 +8,8 @@ use crate::place::{Place, Steps};
 use drain_grid::{OutOfMemory, Product};
 use std::alloc::Global;
 
-/// The labels, 0 at voids. Outlets have 1, 2, 3 and so on in row order, and each cell that of the outlet where its way ends.
+/// The labels, 0 at voids. Outlets have 1, 2, 3 and so on in row order, and each cell that of the outlet where its path
+/// ends.
 pub fn labels(alloc: Global, dir: &Layer<u8>) -> Result<Layer<u32>, OutOfMemory>
     ensures { IfOk result (λ bas. bas.shape ≡ dir.now.shape) }
 {
@@ -39,7 +40,7 @@ fn outlet_labels(alloc: Global, dir: &Layer<u8>) -> Result<Layer<u32>, OutOfMemo
     Ok(bas)
 }
 
-/// The first label on the way from a place, 0 where there is none.
+/// The first label on the path from a place, 0 if there is none.
 fn label_ahead(dir: &Layer<u8>, steps: &Steps, bas: &Layer<u32>, from: Place) -> u32 {
     let mut place = from;
     for _ in 0..dir.shape().cells() {
@@ -55,7 +56,7 @@ fn label_ahead(dir: &Layer<u8>, steps: &Steps, bas: &Layer<u32>, from: Place) ->
     0
 }
 
-/// Gives a label to the cells on the way from a place, as far as they have none.
+/// Gives a label to the cells on the path from a place, as far as they have none.
 fn label_way(dir: &Layer<u8>, steps: &Steps, bas: &mut Layer<u32>, from: Place, label: u32)
     ensures { bas.new.shape ≡ bas.old.shape }
 {

@@ -1,6 +1,7 @@
-//! What the definitions of this crate say together.
+//! Laws on the definitions of this crate.
 //!
-//! A law is a function with nothing to do but to have other laws at hand: its contract is the law, and a caller that calls it has it at hand.
+//! A law is a function whose body only calls other laws: its contract is the law, and a caller gets the law by calling
+//! it.
 
 ghost use Rattle.std.specs.Prelude.{◌≡◌};
 ghost use Rattle.drain_maker.specs.declared.level_queue.TheConstants.{MAX_CELLS};

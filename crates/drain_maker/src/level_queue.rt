@@ -1,6 +1,7 @@
-//! Items that wait at levels: the least level comes out first, and of one level the item that has waited longest.
+//! Items that wait at levels: the least level comes out first, and within a level the item that has waited longest.
 //!
-//! Source: a queue of buckets, one for each key (Dial 1969), as Priority-Flood takes one for integer elevations (Barnes, Lehman and Mulla 2014).
+//! Source: a queue of buckets, one for each key (Dial 1969), as in Priority-Flood for integer elevations (Barnes,
+//! Lehman and Mulla 2014).
 
 ghost use Rattle.std.specs.Prelude.{◌≡◌, ◌≢◌, ℕ, ◌<◌, ◌≤◌, ◌↔◌, [], ◌∷◌, All, IfOk, IsTrue, IfNone, IfSome, MatchOption, length, slice_index_or};
 ghost use Rattle.drain_maker.specs.Waiting.{Waiting, Holds, IsPut, Rises};
@@ -16,15 +17,15 @@ const LEVELS: usize = 65536;
 /// The most cells that a mosaic has.
 pub const MAX_CELLS: usize = 829_497_601;
 
-/// Stands behind an item that isn't held.
+/// The link of an item that isn't in the queue.
 const ABSENT: u32 = u32::MAX;
 
-/// Stands behind the last item of a level, and for the first of a level that has none.
+/// The link of the last item of a level, and the first of an empty level.
 const END: u32 = u32::MAX - 1;
 
 /// Items below a number of cells, each at most once, each at a level.
 ///
-/// The items of a level are linked: each names the one behind it. So 4 bytes an item and 8 a level are taken once and for all.
+/// The items of a level are linked: each names the next. So 4 bytes an item and 8 a level are allocated once.
 #[derive(Drop)]
 pub struct LevelQueue {
     firsts: Vec<u32>,
@@ -63,7 +64,7 @@ impl LevelQueue {
         })
     }
 
-    /// Puts an item behind the last of its level.
+    /// Puts an item after the last of its level.
     pub fn push(&mut self, level: i16, item: u32)
         requires is_cell { item < self.old.cells }
         requires not_held { ¬ Holds self.old item }
@@ -83,7 +84,7 @@ impl LevelQueue {
         self.lowest = self.lowest.min(place);
     }
 
-    /// Takes out the first pair, none where no item is held.
+    /// Takes out the first pair, none if the queue is empty.
     pub fn pop(&mut self) -> Option<(i16, u32)>
         ensures cells { self.new.cells ≡ self.old.cells }
         ensures pairs { MatchOption result (self.old.pairs ≡ []) (λ pair. self.old.pairs ≡ pair ∷ self.new.pairs) }
@@ -111,7 +112,7 @@ impl LevelQueue {
         self.behind.len()
     }
 
-    /// Whether a pair with this item is held.
+    /// Whether a pair with this item is in the queue.
     pub fn holds(&self, item: u32) -> bool
         ensures { IsTrue result ↔ Holds self.now item }
     {
@@ -120,7 +121,7 @@ impl LevelQueue {
     }
 }
 
-/// The same number so many times.
+/// The same number, n times.
 fn same_numbers(alloc: Global, number: u32, len: usize) -> Result<Vec<u32>, OutOfMemory>
     ensures counted { IfOk result (λ numbers. length numbers.items ≡ len) }
     ensures same { IfOk result (λ numbers. All (λ x. x ≡ number) numbers.items) }

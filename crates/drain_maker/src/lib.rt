@@ -1,4 +1,4 @@
-//! Products made from elevations: a flood from the outlets inwards, and a test of all that it built before anything is handed out.
+//! Products made from elevations: a flood from the outlets inwards, and a test of the result before it is returned.
 //!
 //! Source: the flood is Priority-Flood (Barnes, Lehman and Mulla 2014); directions are D8 (O'Callaghan and Mark 1984).
 #![tactic(auto)]

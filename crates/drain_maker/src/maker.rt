@@ -1,4 +1,4 @@
-//! Making products, and testing them before they are handed out.
+//! Making products, and testing them before they are returned.
 
 ghost use Rattle.std.specs.Prelude.{◌≡◌, IfOk, OnOk};
 ghost use Rattle.drain_grid.specs.Correct.{IsCorrect, RunsAreSound};
@@ -23,7 +23,7 @@ use thiserror::Error;
 /// Why there are no products.
 #[derive(Clone, Copy, PartialEq, Eq, Debug, Error)]
 pub enum MakeRefusal {
-    /// What was built failed the maker's own test. No input is known that comes to this.
+    /// The result failed the maker's own test. No input is known that leads to this.
     #[error("the products that were made break a rule")]
     MakerFault,
     /// Memory was refused.
@@ -36,10 +36,11 @@ pub enum MakeRefusal {
 
 /// The products of a mosaic's elevations with these sinks, with the default no-data numbers.
 ///
-/// `SinkNotData` tells the least line that lists a cell without data, and comes before all else. All rules were tried at every cell of what it
-/// hands out, and every number can be spelled by the pixels of `product_header`; else the answer is `MakerFault`. `OutOfMemory` comes where
-/// memory was refused. Labels count the outlets in row order from 1; a rank is the number of steps to an open cell along spill parents; off
-/// flats the direction is the first steepest, on flats the spill parent's.
+/// `SinkNotData` has the least line that lists a cell without data, and comes before all else. All rules hold at every
+/// cell of what it returns, and the pixels of `product_header` can encode every number; else the answer is
+/// `MakerFault`. `OutOfMemory` comes if memory was refused. Labels count the outlets in row order from 1; a rank is the
+/// number of steps to an open cell along spill parents; off flats the direction is the first steepest, on flats the
+/// spill parent's.
 pub fn make(
     alloc: Global,
     layout: &Layout,
@@ -53,7 +54,7 @@ pub fn make(
     ensures written { IfOk result (CanBeWritten layout.now) }
     ensures rasters { IfOk result AreRasters }
 
-    // Every listed cell has data, or the first line whose cell has none is told.
+    // Every listed cell has data, or the first line whose cell has none is reported.
     ensures sinks { IsSinkAnswer elevation.now sinks.now result }
 
     // What every rule at every cell means: the products are correct, and every run is sound.
@@ -75,14 +76,14 @@ pub fn make(
     }
 }
 
-/// Why products that were built aren't handed out.
+/// Why products that were built aren't returned.
 #[derive(Clone, Copy, PartialEq, Eq, Debug)]
 enum TestFault {
     BreaksRule,
     OutOfMemory,
 }
 
-/// The refusal that tells a fault of the test.
+/// The refusal for a fault of the test.
 fn refusal_of(fault: TestFault) -> MakeRefusal
     ensures { IsTestRefusal result }
 {
@@ -92,7 +93,7 @@ fn refusal_of(fault: TestFault) -> MakeRefusal
     }
 }
 
-/// Tries every rule at every cell of products with the default no-data numbers.
+/// Checks every rule at every cell of products with the default no-data numbers.
 fn test_products(
     alloc: Global,
     elevation: &Elevation,
@@ -112,8 +113,8 @@ fn test_products(
     }
 }
 
-/// Builds the products: a flood, then directions, and what follows from these. They aren't tested yet. It isn't put into its caller, so that a profile
-/// tells what is built from what is tested.
+/// Builds the products: a flood, then directions, and what follows from these. They aren't tested yet. It isn't
+/// inlined, so that a profile separates building from testing.
 #[inline(never)]
 #[tactic(auto, using(crate::proofs::EachProduct::each_spelled))]
 fn products_from(

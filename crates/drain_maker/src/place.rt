@@ -17,8 +17,8 @@ impl Place {
         Place(shape.index(cell) as u32)
     }
 
-    /// The place after a step. A step over a side of the grid comes to the other side, in the row above, the same or the one below; and one from the
-    /// first row up or from the last one down to no place of a cell.
+    /// The place after a step. A step across a side of the grid leads to the other side, in the row above, the same or
+    /// the one below; one from the first row up or from the last one down leads to no cell's place.
     pub fn after(self, step: Step) -> Place {
         Place(self.0.wrapping_add(step.by))
     }
@@ -44,7 +44,7 @@ pub struct Steps {
 }
 
 impl Steps {
-    /// The steps in a grid with so many columns.
+    /// The steps in a grid with this number of columns.
     pub fn new(cols: u32) -> Steps {
         Steps {
             all: [
@@ -60,7 +60,8 @@ impl Steps {
         }
     }
 
-    /// The place to which the direction at a place leads, none where there is no direction: codes are 1, 2, 4 and so on, in the order of directions.
+    /// The place to which the direction at a place leads, none without a direction: codes are 1, 2, 4 and so on, in the
+    /// order of directions.
     pub fn next(&self, dir: &Layer<u8>, place: Place) -> Option<Place> {
         let code = dir.get(place)?;
         if code.count_ones() != 1 {
@@ -71,7 +72,7 @@ impl Steps {
     }
 }
 
-/// The step in a direction that adds so much to a place.
+/// The step in a direction that adds this number to a place.
 fn step_to(direction: Direction, by: u32) -> Step {
     Step {
         by,

@@ -1,4 +1,4 @@
-//! The files of a product set: which they are, in which order they stand, and writing them.
+//! The files of a product set: which they are, their order, and writing them.
 
 ghost use Rattle.std.specs.Prelude.{◌≡◌, length};
 ghost use Rattle.drain_header.specs.Text.{text_of};
@@ -16,7 +16,7 @@ use drain_mosaic::Layout;
 use drain_raster::write_raster;
 use std::alloc::Global;
 
-/// What of a product a file holds.
+/// What a file holds of a product.
 #[derive(Clone, Copy, PartialEq, Eq, Debug)]
 pub enum Part {
     Header,
@@ -80,7 +80,7 @@ pub const SET_FILES: [SetFile; FILE_COUNT] = [
 /// Why not every file was written.
 #[derive(Clone, Copy, PartialEq, Eq, Debug)]
 pub enum SetFault {
-    /// A sink failed, was interrupted for the 1,000th time, or took no byte of some.
+    /// A sink failed, was interrupted for the 1,000th time, or accepted no byte of some.
     WriteFailed,
     /// Memory was refused for the text of a header.
     OutOfMemory,
@@ -136,7 +136,7 @@ fn write_header<F: ByteSink>(alloc: Global, header: &Header, to: &mut F) -> Resu
     }
 }
 
-/// Writes the bytes of a raster, each of whose numbers a pixel can spell.
+/// Writes the bytes of a raster, each of whose numbers fits a pixel.
 fn write_numbers<F: ByteSink>(header: &Header, raster: &Raster, to: &mut F) -> Result<(), SetFault>
     requires shape { raster.now.extent ≡ pixels.extent_of header.now }
     requires written { CanSpellAll header.now raster.now }

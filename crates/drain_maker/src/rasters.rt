@@ -1,4 +1,5 @@
-//! Rasters from what was computed at each cell. Each type has its pixels: 16 bits signed for heights, 8 bits for codes, 32 for counts.
+//! Rasters of what was computed at each cell. Each type has its pixels: 16 bits signed for heights, 8 bits for codes,
+//! 32 for counts.
 
 ghost use Rattle.std.specs.Prelude.{◌≡◌, ◌*◌, true, false, All, vec_len};
 ghost use Rattle.drain_grid.specs.Product.{default_no_data};
@@ -41,7 +42,7 @@ pub fn raster_of_counts(product: Product, counts: Layer<u32>) -> Raster
     counts_raster(counts.shape(), product, counts.into_values())
 }
 
-/// Each height is a number of 16 bits. There is nothing to do, but to tell the proof, which knows it of a height at hand.
+/// Each height is a number of 16 bits. The body only shows this to the prover, height by height.
 fn look_at_each(heights: &[i16])
     ensures { All (CanSpellIn true 16) heights.now }
 {

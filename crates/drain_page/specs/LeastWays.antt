@@ -6,7 +6,7 @@ use Rattle.drain_grid.specs.declared.patch.Patch.{Patch}
 use Rattle.drain_grid.specs.Patch.{height, neighbor}
 use Rattle.drain_grid.specs.Values.{Values}
 
--- the greater of the ground and the elevation there; none where no data is
+-- the greater of the ground and the elevation there; none without data there
 abbrev pub way_of : ℤ → Values → Option ℤ
 way_of elevation n = if is_some n.z then Some (int_max elevation n.con) else None
 

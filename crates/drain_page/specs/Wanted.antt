@@ -1,4 +1,4 @@
--- What a rule wants at a cell, of its patch.
+-- What a rule expects at a cell, from its patch.
 use Rattle.std.specs.Prelude.{◌≡◌, ℤ, ◌≤ℤ◌, ◌<ℤ◌}
 use Rattle.std.specs.Int.{int_max}
 use Rattle.drain_grid.specs.declared.direction.Direction.{Direction}
@@ -14,7 +14,7 @@ pub record IsLevelBeside (p : Patch) (d : Direction) (n : Values) : Type 0 where
   pub beside : IsDataNeighbor p d n
   pub level : n.con ≡ p.here.con
 
--- a way on along a flat: where ranks are asked for, also to a smaller rank
+-- a way on along a flat: if ranks are checked, also to a smaller rank
 abbrev pub IsFlatWay : Ranks → Patch → Direction → Type 0
 IsFlatWay Asked p d = (n : Values) × IsLevelBeside p d n × (n.rnk <ℤ p.here.rnk)
 IsFlatWay Unasked p d = (n : Values) × IsLevelBeside p d n

@@ -1,7 +1,7 @@
 //! The degrees of a cell: to seven places for the text, and as the nearest floating-point number for JSON.
 //!
-//! A row lies `row / steps` degrees south of the north edge, so `north * steps - row` is its latitude in steps; a column's longitude is
-//! `west * steps + col`. A place with no steps is taken for one of a step a degree.
+//! A row is `row / steps` degrees south of the north edge, so `north * steps - row` is its latitude in steps; a
+//! column's longitude is `west * steps + col`. A place with no steps is taken for one of a step a degree.
 
 ghost use Rattle.std.specs.Prelude.{◌≡◌, ◌<◌, ◌≤ℤ◌, ◌+ℤ◌, ◌-ℤ◌, ◌*ℤ◌, neg_ℤ, pos};
 ghost use Rattle.drain_page.specs.Degrees.{IsRounded, steps_of};
@@ -12,10 +12,10 @@ use crate::place::MosaicPlace;
 /// A degree in units of the seventh place.
 pub const PLACES: u128 = 10_000_000;
 
-/// No cell of a place lies more steps from the equator, nor from the meridian.
+/// No cell of a place is more steps from the equator or the meridian.
 pub const MOST_STEPS: u64 = 140_741_783_322_624;
 
-/// Nor do whole degrees make more steps than this.
+/// Whole degrees make no more steps than this.
 const MOST_WHOLE_STEPS: u64 = 140_737_488_355_328;
 
 impl MosaicPlace {
@@ -55,7 +55,7 @@ impl MosaicPlace {
         self.longitude_in_steps(col) as f64 / f64::from(self.steps_a_degree())
     }
 
-    /// A row's latitude with seven places behind the point, the nearest, and of two the one further from 0.
+    /// A row's latitude with seven places after the point, the nearest, and of two the one further from 0.
     pub(crate) fn latitude_text(&self, row: u32) -> Shown {
         shown_degrees(self.latitude_in_steps(row), self.steps_a_degree())
     }
@@ -75,7 +75,8 @@ fn in_steps(degrees: i16, steps: u32) -> i64
     i64::from(degrees) * i64::from(steps)
 }
 
-/// A number of steps, whatever its sign, in units of the seventh place of a degree, rounded to the nearest, and of two the greater.
+/// A number of steps of either sign, in units of the seventh place of a degree, rounded to the nearest, and of two the
+/// greater.
 pub fn in_places(count: u64, steps: u32) -> u128
     requires { 0 < steps }
     ensures { IsRounded count steps result }
@@ -85,7 +86,7 @@ pub fn in_places(count: u64, steps: u32) -> u128
     (2 * count + steps) / (2 * steps)
 }
 
-/// So many steps in degrees, with seven places behind the point.
+/// This number of steps in degrees, with seven places after the point.
 fn shown_degrees(count: i64, steps: u32) -> Shown
     requires { 0 < steps }
 {
@@ -99,7 +100,7 @@ fn shown_degrees(count: i64, steps: u32) -> Shown
     shown
 }
 
-/// The noughts that fill a number up to seven digits.
+/// The zeros that fill a number up to seven digits.
 fn leading_noughts(number: u128) -> &'static str {
     match number {
         0..=9 => "000000",

@@ -1,4 +1,4 @@
-//! What an explanation tells, gathered for a page.
+//! The facts of an explanation, for a page.
 
 use crate::place::MosaicPlace;
 use crate::refusal_note::RefusalNote;
@@ -17,13 +17,13 @@ pub enum Answer {
     Audit(Result<AuditVerdict, Refusal>),
 }
 
-/// An answer and what explains it.
+/// An answer and its explanation.
 #[derive(Drop)]
 pub struct Facts {
     pub answer: Answer,
-    /// What was expected and found, where there is more to tell of a refusal than its line does.
+    /// What was expected and found, if a refusal has more details than its line.
     pub refusal: Option<RefusalNote>,
-    /// What the rules say of every cell, where there is a verdict.
+    /// What the rules say of every cell, if there is a verdict.
     pub findings: Option<Findings>,
 }
 
@@ -32,14 +32,14 @@ pub struct Facts {
 pub struct Findings {
     pub place: MosaicPlace,
     pub shape: Shape,
-    /// The rules that were tried: with ranks or without, and the no-data numbers.
+    /// The rules that were checked: with ranks or without, and the no-data numbers.
     pub rules: Rules,
-    /// For each rule at how many cells it fails, and at which first.
+    /// For each rule the number of cells at which it fails, and the first.
     pub by_rule: PerRule<RuleFaults>,
     /// The same of rules VoidCell and Missing for each product.
     pub by_product: PerProduct<ProductFaults>,
-    /// The first cell at which any rule fails, and what it shows.
+    /// The first cell at which any rule fails, and its values.
     pub first: Option<FaultyPatch>,
-    /// The first data cell whose run doesn't end, and what its run comes to.
+    /// The first data cell whose path doesn't end, and where its path leads.
     pub endless: Option<(Cell, EndlessRun)>,
 }

@@ -1,4 +1,4 @@
-//! The accumulation that rule Accumulation wants at a cell: 1 and what the data neighbours whose direction leads here hand on.
+//! The accumulation that rule Accumulation expects at a cell: 1 and what the data neighbours that flow here pass on.
 
 ghost use Rattle.std.specs.Prelude.{◌≡◌, ◌≤ℤ◌, ◌&&◌, is_some, ◌+ℤ◌, ◌-ℤ◌, drop, map, neg_ℤ, pos};
 ghost use Rattle.drain_grid.specs.Direction.{directions, names};
@@ -8,14 +8,14 @@ ghost use Rattle.drain_grid.specs.Values.{IsPixel};
 
 use drain_grid::{CellValues, Direction, Patch};
 
-/// The accumulation that the neighbours make.
+/// The accumulation that follows from the neighbours.
 pub fn expected_accumulation(patch: &Patch) -> i64
     ensures { result ≡ pos 1 +ℤ total (map (λ d. inflow (neighbor patch.now d) d) directions) }
 {
     1 + inflows(patch)
 }
 
-/// What the neighbours hand on, added up from the last direction to the first.
+/// What the neighbours pass on, added up from the last direction to the first.
 fn inflows(patch: &Patch) -> i64
     ensures sum { result ≡ total (map (λ d. inflow (neighbor patch.now d) d) directions) }
     ensures low { neg_ℤ (pos 17179869184) ≤ℤ result }
@@ -40,7 +40,7 @@ fn last_inflows(patch: &Patch) -> i64
     with_inflow(patch, Direction::West, sum)
 }
 
-/// The sum so far, with what the neighbour in this direction hands on.
+/// The sum so far, with what the neighbour in this direction passes on.
 fn with_inflow(patch: &Patch, direction: Direction, sum: i64) -> i64
     requires low { neg_ℤ (pos 34359738368) ≤ℤ sum }
     requires high { sum ≤ℤ pos 34359738368 }
@@ -51,7 +51,7 @@ fn with_inflow(patch: &Patch, direction: Direction, sum: i64) -> i64
     inflow(patch, direction) + sum
 }
 
-/// What the neighbour in this direction hands on: its accumulation, where its direction leads back here.
+/// What the neighbour in this direction passes on: its accumulation, if its direction leads back here.
 fn inflow(patch: &Patch, direction: Direction) -> i64
     ensures handed_on { result ≡ inflow (neighbor patch.now direction) direction }
     ensures pixel { IsPixel result }

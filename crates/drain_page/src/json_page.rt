@@ -15,7 +15,8 @@ use drain_grid::OutOfMemory;
 use drain_rules::Ranks;
 use std::alloc::Global;
 
-/// The page as one JSON object on one line, which ends with a line feed. Its members are always there: null or an empty list where there is nothing to tell.
+/// The page as one JSON object on one line, which ends with a line feed. Its members are always there: null or an empty
+/// list if there is nothing to report.
 pub fn page_json(alloc: Global, facts: &Facts) -> Result<String, OutOfMemory>
     ensures { IfOk result (λ line. IsJsonLine (string_bytes line)) }
 {
@@ -52,7 +53,7 @@ fn write_findings(
     write_run(json, findings)
 }
 
-/// The same members where there is no verdict.
+/// The same members if there is no verdict.
 fn write_no_findings(json: &mut JsonText) -> Result<(), OutOfMemory> {
     json.null("rows")?;
     json.null("cols")?;

@@ -1,4 +1,5 @@
-//! A JSON text that grows at its end, a token at a time: members of an object with their names, and items of a list. Whoever writes it closes what it opens.
+//! A JSON text that is appended token by token: members of an object with their names, and items of a list. The caller
+//! closes what it opens.
 
 ghost use Rattle.std.specs.Prelude.{IfOk, string_bytes};
 ghost use Rattle.drain_page.specs.JsonLines.{IsJsonLine};
@@ -149,7 +150,7 @@ impl JsonText {
         self.digits(Buffer::new().format(number))
     }
 
-    /// The value that these digits are; a whole number's always are one.
+    /// The value that these digits encode; a whole number's always encode one.
     fn digits(&mut self, digits: &str) -> Result<(), OutOfMemory> {
         if is_number(digits) {
             written(self.writer.number(digits))
@@ -158,7 +159,7 @@ impl JsonText {
         }
     }
 
-    /// A member that is the nearest decimal number, or null where it isn't finite.
+    /// A member that is the nearest decimal number, or null if it isn't finite.
     pub(crate) fn decimal(&mut self, name: &str, number: f64) -> Result<(), OutOfMemory> {
         self.key(name)?;
         if number.is_finite() {
@@ -174,7 +175,7 @@ impl JsonText {
     }
 }
 
-/// A write fails for want of memory alone.
+/// A write fails only if memory runs out.
 fn written(answer: Result<(), AllocError>) -> Result<(), OutOfMemory> {
     match answer {
         Ok(()) => Ok(()),

@@ -1,10 +1,10 @@
-//! What the definitions of this crate name.
+//! Laws on the constants in definitions of this crate.
 
 ghost use Rattle.std.specs.Prelude.{◌≡◌};
 
 use crate::degrees::PLACES;
 
-/// The numeral of the constant that definitions name: degrees are told to seven places. This project's own.
+/// The numeral of the constant in definitions: degrees are printed to seven places. This project's own.
 pub fn constants()
     ensures places { PLACES ≡ 10000000 }
 {}

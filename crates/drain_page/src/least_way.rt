@@ -9,8 +9,8 @@ ghost use Rattle.drain_page.specs.Wanted.{IsGreatestAllowed};
 
 use drain_grid::{CellValues, Direction, Patch};
 
-/// The greatest that would do at a data cell by its neighbours: the least, over its data neighbours, of the greater of the ground here and the
-/// elevation there. None where no neighbour has data.
+/// The greatest allowed at a data cell by its neighbours: the least, over its data neighbours, of the greater of the
+/// ground here and the elevation there. None if no neighbour has data.
 pub fn greatest_allowed(patch: &Patch) -> Option<i64>
     ensures { MatchOption result ((d : Direction) (n : Values) → ¬ IsDataNeighbor patch.now d n) (IsGreatestAllowed patch.now) }
 {
@@ -21,7 +21,7 @@ pub fn greatest_allowed(patch: &Patch) -> Option<i64>
     least
 }
 
-/// The lesser of two, where none is more than any.
+/// The lesser of two, with none greater than any.
 fn lesser(one: Option<i64>, other: Option<i64>) -> Option<i64>
     ensures below_one { IsNotAbove result one }
     ensures below_other { IsNotAbove result other }
@@ -34,7 +34,7 @@ fn lesser(one: Option<i64>, other: Option<i64>) -> Option<i64>
     }
 }
 
-/// What the neighbour in this direction allows; none where it has no data.
+/// What the neighbour in this direction allows; none if it has no data.
 fn way(patch: &Patch, direction: Direction) -> Option<i64>
     ensures { result ≡ way patch.now direction }
 {
@@ -52,7 +52,7 @@ fn ground(patch: &Patch) -> i64
     }
 }
 
-/// The greater of the ground and the elevation there; none where no data is.
+/// The greater of the ground and the elevation there; none without data there.
 fn over(ground: i64, there: &CellValues) -> Option<i64>
     ensures { result ≡ way_of ground there.now }
 {

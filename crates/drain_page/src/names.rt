@@ -25,7 +25,7 @@ pub(crate) fn letters(direction: Direction) -> &'static str {
     }
 }
 
-/// The letters and the code of a direction, `outlet 0`, or a question mark and what is no code.
+/// The letters and the code of a direction, `outlet 0`, or a question mark and the number that is no code.
 pub(crate) fn shown_code(code: i64) -> Shown {
     let mut shown = Shown::new();
     append(
@@ -41,7 +41,7 @@ pub(crate) fn shown_code(code: i64) -> Shown {
     shown
 }
 
-/// The number of a product at a cell; `no data` where that is what it stands for.
+/// The number of a product at a cell; `no data` for its no-data number.
 pub(crate) fn shown_number(values: &CellValues, held: Held, nodata: &NoData) -> Shown {
     let number = number(values, held);
     let mut shown = Shown::new();
@@ -55,7 +55,7 @@ pub(crate) fn shown_number(values: &CellValues, held: Held, nodata: &NoData) -> 
     shown
 }
 
-/// The ground at a cell, with a star where it is listed as a sink; `void` where there is none.
+/// The ground at a cell, with a star if it is listed as a sink; `void` if there is none.
 pub(crate) fn shown_ground(values: &CellValues) -> Shown {
     let mut shown = Shown::new();
     if values.sink {
@@ -77,7 +77,7 @@ pub(crate) fn shown_rule(rule: Rule) -> Shown {
     shown
 }
 
-/// Appends words, where there is room for them.
+/// Appends words, if there is room for them.
 pub(crate) fn append(shown: &mut Shown, words: &str) {
     let _ = shown.try_push_str(words);
 }

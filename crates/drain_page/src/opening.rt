@@ -5,14 +5,14 @@ ghost use Rattle.drain_grid.specs.Patch.{IsOpen};
 
 use drain_grid::{Direction, Patch};
 
-/// Why a data cell is open: the first of these that is so.
+/// Why a data cell is open: the first reason that applies.
 #[derive(Clone, Copy, PartialEq, Eq, Debug)]
 pub enum Opening {
     /// It is listed as a sink.
     Sink,
-    /// It lies on the edge of the mosaic.
+    /// It is on the edge of the mosaic.
     Edge,
-    /// It lies beside a void.
+    /// It is next to a void.
     Void,
 }
 
@@ -27,7 +27,7 @@ impl Opening {
     }
 }
 
-/// Why the cell is open; none where it isn't.
+/// Why the cell is open; none if it isn't.
 pub fn opening_of(patch: &Patch) -> Option<Opening>
     ensures none { IsNone result ↔ ¬ IsOpen patch.now }
     ensures sink { IfSome result (λ opening. (opening ≡ Opening.Sink) ↔ (patch.now.here.sink ≡ true)) }

@@ -1,4 +1,4 @@
-//! The first cell at which a rule fails, with what it and its neighbours show, as JSON.
+//! The first cell at which a rule fails, with its values and its neighbours', as JSON.
 
 use crate::facts::Findings;
 use crate::json_text::JsonText;
@@ -9,7 +9,7 @@ use drain_faults::FaultyPatch;
 use drain_grid::{CellValues, Direction, Held, OutOfMemory, Patch};
 use drain_rules::{Ranks, Rules};
 
-/// The cell, and three rows of three cells with it in the middle; null where there is none.
+/// The cell, and three rows of three cells with it in the middle; null if there is none.
 pub(crate) fn write_patch(json: &mut JsonText, findings: &Findings) -> Result<(), OutOfMemory> {
     match &findings.first {
         Some(first) => write_first(json, findings, first),
@@ -49,7 +49,7 @@ fn write_row(
     json.end_list()
 }
 
-/// What a cell shows; null outside the mosaic.
+/// The values of a cell; null outside the mosaic.
 fn write_place(
     json: &mut JsonText,
     patch: &Patch,
@@ -77,7 +77,7 @@ fn write_values(
     json.end_object()
 }
 
-/// A product's number; none where it stands for no data, and of rnk also where nothing is asked of ranks.
+/// A product's number; none if it is the no-data number, and for rnk also if ranks are not checked.
 fn told_number(values: &CellValues, rules: &Rules, held: Held) -> Option<i64> {
     let number = number(values, held);
     if number == no_data(&rules.nodata, held) || !is_asked(rules.ranks, held) {

@@ -1,4 +1,4 @@
-//! The first cell at which a rule fails: where it lies, what it and its neighbours show, and what the rule wanted.
+//! The first cell at which a rule fails: its place, its values and its neighbours', and what the rule expected.
 
 use crate::facts::Findings;
 use crate::names::{shown_ground, shown_number};

@@ -8,7 +8,7 @@ pub(crate) fn push_cell(text: &mut Vec<u8>, cell: Cell) -> Result<(), OutOfMemor
     push_row_col(text, u64::from(cell.row), u64::from(cell.col))
 }
 
-/// Appends a row and a column in words, which may lie outside the mosaic.
+/// Appends a row and a column in words, which may be outside the mosaic.
 pub(crate) fn push_row_col(text: &mut Vec<u8>, row: u64, col: u64) -> Result<(), OutOfMemory> {
     push(text, "row ")?;
     push_count(text, row)?;

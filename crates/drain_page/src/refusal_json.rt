@@ -1,4 +1,4 @@
-//! What was expected and found, where inputs are refused, as JSON.
+//! What was expected and found in refused inputs, as JSON.
 
 use crate::json_text::JsonText;
 use crate::refusal_note::{Extent, NoData, RefusalNote, TileValue};
@@ -9,7 +9,7 @@ use drain_header::Place;
 use drain_hgt::TileName;
 use std::alloc::Global;
 
-/// What is told of a refusal; null where there is no more than its line. `about` names its kind.
+/// The details of a refusal; null if there are none beyond its line. `about` names its kind.
 pub(crate) fn write_refusal(
     alloc: Global,
     json: &mut JsonText,

@@ -1,15 +1,15 @@
-//! What was expected and found, where inputs are refused.
+//! What was expected and found in refused inputs.
 
 use drain_grid::Product;
 use drain_header::Place;
 use drain_hgt::TileName;
 
-/// What there is to tell of a refusal beyond its line.
+/// The details of a refusal beyond its line.
 #[derive(PartialEq, Eq, Debug, Drop)]
 pub enum RefusalNote {
-    /// `BadSide`: the side that was asked for, where 2 to 3601 are sides.
+    /// `BadSide`: the given side, where 2 to 3601 are sides.
     Side(u32),
-    /// `BadName`: the name as it was given, in place of one such as N36W085.hgt.
+    /// `BadName`: the name as given, in place of one such as N36W085.hgt.
     Name(Vec<u8>),
     /// `WrongShape`: the rows and columns of the mosaic, and those of the product's header.
     Shape {
@@ -35,12 +35,12 @@ pub enum RefusalNote {
         expected: u64,
         found: u64,
     },
-    /// `SeamMismatch`: the first tile with the cell and what it gives there, and the first that gives another value.
+    /// `SeamMismatch`: the first tile with the cell and its value there, and the first that gives another value.
     Seam {
         first: TileValue,
         other: TileValue,
     },
-    /// `BadSinkLine`: the line as it stands in the list.
+    /// `BadSinkLine`: the line as in the list.
     SinkLine {
         number: u64,
         text: Vec<u8>,
@@ -61,7 +61,7 @@ pub struct Extent {
     pub cols: u32,
 }
 
-/// What a tile gives at a cell: metres, or none at a void.
+/// The value of a tile at a cell: metres, or none at a void.
 #[derive(Clone, Copy, PartialEq, Eq, Debug)]
 pub struct TileValue {
     pub tile: TileName,
@@ -73,6 +73,6 @@ pub struct TileValue {
 pub enum NoData {
     /// It is a void.
     Void,
-    /// It lies outside the mosaic.
+    /// It is outside the mosaic.
     Outside,
 }

@@ -1,4 +1,4 @@
-//! What was expected and found, where inputs are refused: a line each.
+//! What was expected and found in refused inputs: a line each.
 
 use crate::place_text::{push_count, push_metres, push_row_col};
 use crate::refusal_note::{Extent, NoData, RefusalNote, TileValue};
@@ -93,7 +93,7 @@ fn push_shape(text: &mut Vec<u8>, product: Product, extent: &Extent) -> Result<(
     push(text, " columns")
 }
 
-/// A product's place, as its header has it.
+/// A product's place, as in its header.
 fn push_position(text: &mut Vec<u8>, product: Product, place: &Place) -> Result<(), OutOfMemory> {
     push(text, product.name())?;
     push_units(text, " at ULXMAP ", place.ulx)?;
@@ -125,7 +125,7 @@ fn push_bytes_long(text: &mut Vec<u8>, words: &str, bytes: u64) -> Result<(), Ou
     push(text, " bytes")
 }
 
-/// What a tile gives at the cell.
+/// The value of a tile at the cell.
 fn push_seam(text: &mut Vec<u8>, words: &str, value: &TileValue) -> Result<(), OutOfMemory> {
     push(text, words)?;
     push(text, value.tile.text().as_str())?;

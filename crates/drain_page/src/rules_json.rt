@@ -8,7 +8,7 @@ use crate::wanted::shown_products;
 use drain_faults::{ProductFaults, RULES, RuleFaults};
 use drain_grid::{Cell, Held, OutOfMemory, Rule};
 
-/// Each rule that was tried.
+/// Each rule that was checked.
 pub(crate) fn write_rules(json: &mut JsonText, findings: &Findings) -> Result<(), OutOfMemory> {
     json.begin_list("rules")?;
     for rule in RULES {
@@ -31,7 +31,7 @@ fn write_rule(
     end_with_faults(json, place, faults)
 }
 
-/// Each product that was looked at, with its faults by rules VoidCell and Missing.
+/// Each product that was checked, with its faults by rules VoidCell and Missing.
 pub(crate) fn write_products(json: &mut JsonText, findings: &Findings) -> Result<(), OutOfMemory> {
     json.begin_list("products")?;
     for held in shown_products(findings.rules.ranks) {

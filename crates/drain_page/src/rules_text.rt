@@ -1,4 +1,4 @@
-//! A table of the rules that fail, and lines of those that hold and of those that aren't tried.
+//! A table of the rules that fail, and lines of those that hold and of those not checked.
 
 use crate::facts::Findings;
 use crate::names::shown_rule;
@@ -59,7 +59,7 @@ fn push_table(text: &mut Vec<u8>, findings: &Findings) -> Result<(), OutOfMemory
     Ok(())
 }
 
-/// The line of a rule, and below those of its products, where it is VoidCell or Missing.
+/// The line of a rule, and below those of its products, if it is VoidCell or Missing.
 fn push_failing(text: &mut Vec<u8>, findings: &Findings, rule: Rule) -> Result<(), OutOfMemory> {
     push_left(text, shown_rule(rule).as_str(), RULE_WIDTH)?;
     push_faults(text, &findings.place, findings.by_rule.of(rule))?;

@@ -1,4 +1,4 @@
-//! The first run without an end, as JSON.
+//! The first path without an end, as JSON.
 
 use crate::facts::Findings;
 use crate::json_text::JsonText;
@@ -7,7 +7,7 @@ use crate::rules_json::{write_cell, write_cell_item};
 use drain_grid::{Cell, OutOfMemory};
 use drain_runs::{EndlessRun, LostBy};
 
-/// Where the run begins, and the ring or the cell to which it comes; null where there is none.
+/// Where the path begins, and the ring or the cell to which it leads; null if there is none.
 pub(crate) fn write_run(json: &mut JsonText, findings: &Findings) -> Result<(), OutOfMemory> {
     match &findings.endless {
         Some((cell, run)) => write_endless(json, &findings.place, *cell, run),
@@ -27,7 +27,7 @@ fn write_endless(
     json.end_object()
 }
 
-/// The ring or the cell to which the run comes; the other is null.
+/// The ring or the cell to which the path leads; the other is null.
 fn write_end(
     json: &mut JsonText,
     place: &MosaicPlace,
@@ -62,7 +62,7 @@ fn write_ring(
     json.end_object()
 }
 
-/// The cell from which a run leads nowhere, and why.
+/// The cell where a path stops, and why.
 fn write_lost(
     json: &mut JsonText,
     place: &MosaicPlace,

@@ -6,7 +6,8 @@ use std::alloc::Global;
 /// The digits of a number to the base 16.
 const HEXADECIMAL: [u8; 16] = *b"0123456789abcdef";
 
-/// The bytes as they stand, where they are printable ASCII; a backslash twice; another byte as `\x` and two digits to the base 16.
+/// The bytes unchanged, if they are printable ASCII; a backslash twice; another byte as `\x` and two digits to the base
+/// 16.
 pub(crate) fn shown_bytes(alloc: Global, bytes: &[u8]) -> Result<String, OutOfMemory> {
     let mut shown = String::new(alloc);
     for byte in bytes {

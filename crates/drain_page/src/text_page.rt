@@ -13,7 +13,8 @@ use crate::writing::{push, push_bytes};
 use drain_grid::OutOfMemory;
 use std::alloc::Global;
 
-/// The page: the answer's line, and then what explains it, part after part with an empty line between. Each line ends with a line feed.
+/// The page: the answer's line, and then its explanation, part after part with an empty line between. Each line ends
+/// with a line feed.
 pub fn page_text(alloc: Global, facts: &Facts) -> Result<Vec<u8>, OutOfMemory>
     ensures line_first { IfOk result (λ text. (rest : List ℕ) × (text.items ≡ line_of facts.now.answer ++ 10 ∷ rest)) }
 {
@@ -25,7 +26,7 @@ pub fn page_text(alloc: Global, facts: &Facts) -> Result<Vec<u8>, OutOfMemory>
     Ok(text)
 }
 
-/// What stands below the answer's line.
+/// The page below the answer's line.
 fn explanation(alloc: Global, facts: &Facts) -> Result<Vec<u8>, OutOfMemory> {
     let mut text = Vec::new(alloc);
     if let Some(note) = &facts.refusal {
@@ -38,7 +39,7 @@ fn explanation(alloc: Global, facts: &Facts) -> Result<Vec<u8>, OutOfMemory> {
     Ok(text)
 }
 
-/// The rules, the first cell at which one fails, and the first run without an end.
+/// The rules, the first cell at which one fails, and the first path without an end.
 fn push_findings(
     alloc: Global,
     text: &mut Vec<u8>,

@@ -1,8 +1,8 @@
-//! Which rules a check or an audit tries.
+//! The rules of a check or an audit.
 
 use drain_grid::Rule;
 
-/// Whether a check or an audit tries this rule: those of spill parents ask for a product that neither has.
+/// Whether a check or an audit has this rule: those of spill parents need a product that neither has.
 pub fn is_tried(rule: Rule) -> bool {
     !matches!(rule, Rule::NoSpill | Rule::SpillHeight | Rule::SpillRank)
 }

@@ -7,7 +7,7 @@ use itoa::Buffer;
 /// The longest decimal has fewer bytes.
 pub(crate) const DECIMAL_LENGTH: usize = 64;
 
-/// So many units with fifteen places behind the point.
+/// This number of units, with fifteen places after the point.
 pub(crate) fn units_text(units: i128) -> ArrayString<DECIMAL_LENGTH> {
     let magnitude = units.unsigned_abs();
     let mut shown = ArrayString::new();

@@ -1,4 +1,4 @@
-//! What the first rule that fails at a cell wanted there.
+//! What the first rule that fails at a cell expected there.
 
 use crate::inflow::expected_accumulation;
 use crate::least_way::greatest_allowed;
@@ -16,7 +16,7 @@ pub struct WayDown {
     pub key: u128,
 }
 
-/// What a rule wanted at a cell.
+/// What a rule expected at a cell.
 #[derive(PartialEq, Eq, Debug, Drop)]
 pub enum Wanted {
     /// `VoidCell`: the no-data number of these products.
@@ -32,7 +32,7 @@ pub enum Wanted {
         ground: i64,
         open: Option<Opening>,
     },
-    /// `NotLeast`: con at most this; none where no neighbour has data.
+    /// `NotLeast`: con at most this; none if no neighbour has data.
     AtMost(Option<i64>),
     /// `Slope`: a steepest one of these.
     Steepest(Vec<WayDown>),
@@ -45,15 +45,15 @@ pub enum Wanted {
     },
     /// `Accumulation`: this number.
     Sum(i64),
-    /// `Label`: this label; none where no cell is named.
+    /// `Label`: this label; none if no cell is named.
     Label(Option<i64>),
     /// `SharedLabel`: a label that no earlier outlet has.
     NewLabel,
-    /// Nothing: the rule isn't tried.
+    /// Nothing: the rule isn't checked.
     Nothing,
 }
 
-/// What this rule wanted at the cell of this patch.
+/// What this rule expected at the cell of this patch.
 pub fn wanted_by(
     alloc: Global,
     rule: Rule,
@@ -81,7 +81,7 @@ pub fn wanted_by(
     })
 }
 
-/// The products that have their no-data number at a cell, or those that don't; rnk only where ranks are asked for.
+/// The products that have their no-data number at a cell, or those that don't; rnk only if ranks are checked.
 fn products(
     alloc: Global,
     values: &CellValues,
@@ -147,7 +147,7 @@ fn ways_down(alloc: Global, patch: &Patch) -> Result<Vec<WayDown>, OutOfMemory> 
     Ok(ways)
 }
 
-/// How far the neighbour in this direction lies below.
+/// How far the neighbour in this direction is below.
 fn drop_to(patch: &Patch, direction: Direction) -> i64 {
     match patch.neighbor(direction) {
         Some(there) => difference(&patch.here, &there),
@@ -159,7 +159,7 @@ fn difference(here: &CellValues, there: &CellValues) -> i64 {
     here.con - there.con
 }
 
-/// The directions that rule FlatStep takes.
+/// The directions that rule FlatStep allows.
 fn along(alloc: Global, patch: &Patch, ranks: Ranks) -> Result<Wanted, OutOfMemory> {
     let mut directions = Vec::new(alloc);
     for direction in Direction::ALL {
@@ -170,7 +170,7 @@ fn along(alloc: Global, patch: &Patch, ranks: Ranks) -> Result<Wanted, OutOfMemo
     Ok(Wanted::Along { directions, ranks })
 }
 
-/// The greatest key of these ways, 0 where there is none.
+/// The greatest key of these ways, 0 if there is none.
 pub fn steepest(ways: &[WayDown]) -> u128 {
     let mut steepest = 0;
     for way in ways {

@@ -1,4 +1,4 @@
-//! What the first rule wanted at the first cell at which any fails, as JSON.
+//! What the first rule expected at the first cell at which any fails, as JSON.
 
 use crate::facts::Findings;
 use crate::json_text::JsonText;
@@ -12,7 +12,7 @@ use std::alloc::Global;
 /// The nine codes.
 const CODES: [i64; 9] = [0, 1, 2, 4, 8, 16, 32, 64, 128];
 
-/// What was wanted; null where no rule fails. A member that the rule has no use for is null or empty.
+/// What was expected; null if no rule fails. A member that the rule doesn't use is null or empty.
 pub(crate) fn write_wanted(
     alloc: Global,
     json: &mut JsonText,
@@ -101,7 +101,7 @@ fn write_names(json: &mut JsonText, products: &[Held]) -> Result<(), OutOfMemory
     Ok(())
 }
 
-/// The codes that would do, where dir is at fault.
+/// The allowed codes, if dir is at fault.
 fn write_codes(json: &mut JsonText, wanted: &Wanted) -> Result<(), OutOfMemory> {
     json.begin_list("codes")?;
     write_each_code(json, wanted)?;
@@ -166,7 +166,7 @@ fn write_way(json: &mut JsonText, way: &WayDown) -> Result<(), OutOfMemory> {
     json.end_object()
 }
 
-/// Why the cell is open, where this is why the rule asks.
+/// Why the cell is open, if that is the reason of the rule.
 fn write_opening(json: &mut JsonText, wanted: &Wanted) -> Result<(), OutOfMemory> {
     match opening(wanted) {
         Some(opening) => json.text("open", opening.name()),

@@ -1,4 +1,5 @@
-//! What the first rule wanted, in words: a line of what was expected, lines of ways where there are several, and a line of what was found.
+//! What the first rule expected, in words: a line of what was expected, lines of ways if there are several, and a line
+//! of what was found.
 
 use crate::names::{letters, shown_code, shown_number, shown_rule};
 use crate::opening::Opening;
@@ -49,7 +50,7 @@ fn push_expected(text: &mut Vec<u8>, wanted: &Wanted) -> Result<(), OutOfMemory>
     }
 }
 
-/// The product whose number was found to be wrong, where it is one.
+/// The product whose number is wrong, if it is one.
 pub(crate) fn found_product(wanted: &Wanted) -> Option<Held> {
     match wanted {
         Wanted::Blank(_) | Wanted::Numbers(_) | Wanted::Nothing => None,
@@ -122,7 +123,7 @@ fn push_label(text: &mut Vec<u8>, label: Option<i64>) -> Result<(), OutOfMemory>
     }
 }
 
-/// The steps along a flat that would do.
+/// The allowed steps along a flat.
 fn push_along(
     text: &mut Vec<u8>,
     directions: &[Direction],
@@ -144,7 +145,7 @@ fn push_along(
     push(text, if separator == "" { "there is none" } else { "" })
 }
 
-/// A line for each way down, where a steepest was wanted.
+/// A line for each way down, if a steepest was expected.
 fn push_ways(text: &mut Vec<u8>, wanted: &Wanted) -> Result<(), OutOfMemory> {
     match wanted {
         Wanted::Steepest(ways) => push_each_way(text, ways),

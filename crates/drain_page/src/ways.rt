@@ -1,4 +1,4 @@
-//! The ways on from a cell: down, with the key of each, and along a flat; and the label that its own way leads to.
+//! The ways on from a cell: down, with the key of each, and along a flat; and the label at the end of its own path.
 
 ghost use Rattle.std.specs.Prelude.{◌≡◌, ◌↔◌, ◌<◌, ◌<ℤ◌, ◌^◌, pos, IsSome, IsTrue, MatchOption, Some, ℤ};
 ghost use Rattle.drain_grid.specs.declared.direction.Direction.{Direction};
@@ -11,7 +11,7 @@ ghost use Rattle.drain_slope.specs.Key.{key_of, key_at};
 use drain_grid::{CellValues, Direction, Patch};
 use drain_rules::Ranks;
 
-/// The key of the way down in this direction, as rule Slope compares it; 0 where no neighbour there is lower.
+/// The key of the way down in this direction, as in rule Slope; 0 if no neighbour there is lower.
 pub fn key(patch: &Patch, direction: Direction) -> u128
     ensures { pos result ≡ key_at patch.now direction }
 {
@@ -21,7 +21,7 @@ pub fn key(patch: &Patch, direction: Direction) -> u128
     }
 }
 
-/// The key of the way to these values, 0 where they are not those of a lower data cell.
+/// The key of the way to these values, 0 if they are not those of a lower data cell.
 fn key_to(patch: &Patch, direction: Direction, there: &CellValues) -> u128
     ensures { pos result ≡ key_of patch.now direction (Some there.now) }
 {
@@ -42,7 +42,7 @@ fn key_of_drop(straight: bool, drop: u64) -> u128
     if straight { 2 * square } else { square }
 }
 
-/// Whether rule FlatStep takes a step in this direction.
+/// Whether rule FlatStep allows a step in this direction.
 pub fn is_flat_way(patch: &Patch, direction: Direction, ranks: Ranks) -> bool
     ensures { IsTrue result ↔ IsFlatWay ranks patch.now direction }
 {
@@ -52,7 +52,7 @@ pub fn is_flat_way(patch: &Patch, direction: Direction, ranks: Ranks) -> bool
     }
 }
 
-/// Whether a data neighbour of the same height and a smaller rank lies there.
+/// Whether a data neighbour of the same height and a smaller rank is there.
 fn is_nearer_way(patch: &Patch, direction: Direction) -> bool
     ensures { IsTrue result ↔ IsFlatWay Ranks.Asked patch.now direction }
 {
@@ -62,7 +62,7 @@ fn is_nearer_way(patch: &Patch, direction: Direction) -> bool
     }
 }
 
-/// Whether a data neighbour of the same height lies there.
+/// Whether a data neighbour of the same height is there.
 fn is_level_way(patch: &Patch, direction: Direction) -> bool
     ensures { IsTrue result ↔ IsFlatWay Ranks.Unasked patch.now direction }
 {
@@ -86,7 +86,7 @@ fn is_level(patch: &Patch, there: &CellValues) -> bool
     there.z.is_some() && there.con == patch.here.con
 }
 
-/// The label that rule Label wants: that of the data neighbour that the direction names, none where it names none.
+/// The label that rule Label expects: that of the data neighbour that the direction names, none if it names none.
 pub fn expected_label(patch: &Patch) -> Option<i64>
     ensures { MatchOption result ((label : ℤ) → ¬ IsLabelAhead patch.now label) (IsLabelAhead patch.now) }
 {

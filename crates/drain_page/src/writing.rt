@@ -1,4 +1,4 @@
-//! A text that grows at its end: words, numbers and columns.
+//! A text to which words, numbers and columns are appended.
 
 ghost use Rattle.std.specs.Prelude.{◌≡◌, ◌++◌, OnOk};
 
@@ -31,7 +31,7 @@ pub(crate) fn push_number(text: &mut Vec<u8>, number: i64) -> Result<(), OutOfMe
     push(text, digits.format(number))
 }
 
-/// Appends a whole number that may be longer.
+/// Appends a longer whole number.
 pub(crate) fn push_long(text: &mut Vec<u8>, number: u128) -> Result<(), OutOfMemory> {
     let mut digits = Buffer::new();
     push(text, digits.format(number))
@@ -53,13 +53,13 @@ pub(crate) fn push_right_number(
     push_right(text, digits.format(number), width)
 }
 
-/// Appends these words with spaces behind, as wide as the column.
+/// Appends these words with spaces after, as wide as the column.
 pub(crate) fn push_left(text: &mut Vec<u8>, words: &str, width: usize) -> Result<(), OutOfMemory> {
     push(text, words)?;
     push_spaces(text, width.saturating_sub(words.len()))
 }
 
-/// Appends so many spaces, at most 24.
+/// Appends this number of spaces, at most 24.
 fn push_spaces(text: &mut Vec<u8>, count: usize) -> Result<(), OutOfMemory> {
     push_bytes(text, &SPACES[..count.min(SPACES.len())])
 }

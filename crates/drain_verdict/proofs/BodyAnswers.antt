@@ -1,4 +1,4 @@
--- What tiles, rasters and seams say of the inputs: nothing of their kinds stands, or their refusal is the first.
+-- What tiles, rasters and seams say of the inputs: no refusal of their kinds applies, or theirs is the first.
 use Rattle.std.proofs.Common.{◌≡◌, ℕ, ◌<◌, List, slice_get, Some, arith, refl, subst}
 use Rattle.std.specs.List.{All}
 use Rattle.std.proofs.lemmas.Option.{get_or_from_slice_get, slice_get_within}

@@ -1,4 +1,4 @@
--- The devices of a check, and what is known of them where a part was not called.
+-- The devices of a check, and what is known of them if only a part was called.
 use Rattle.drain_verdict.specs.Inputs.{Products}
 use Rattle.std.proofs.Common.{◌↔◌, ◌⊎◌, ℕ, List, [], ◌∷◌, ◌++◌, map, Option}
 use Rattle.std.proofs.lemmas.List.{map-append}

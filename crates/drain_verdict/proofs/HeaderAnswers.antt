@@ -1,4 +1,4 @@
--- What the stage of the headers says of the inputs: nothing of its kind stands, or its refusal is the first.
+-- What the stage of the headers says of the inputs: no refusal of its kind applies, or its refusal is the first.
 use Rattle.std.proofs.Common.{◌≡◌, ◌↔◌, Err, ℕ, ◌+◌, ◌*◌, ◌<◌, arith, refl, sym, subst, below_more}
 use Rattle.drain_grid.specs.declared.held.Held.{Held}
 use Rattle.drain_grid.specs.declared.held.Held.TheVariants.{Con, Dir, Acc, Bas, Rnk}

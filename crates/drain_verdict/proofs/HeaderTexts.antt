@@ -1,4 +1,4 @@
--- What is told of the texts of headers.
+-- Statements on the texts of headers.
 use Rattle.std.proofs.Common.{◌≡◌, ℕ, List, subst}
 use Rattle.drain_grid.specs.declared.held.Held.{Held}
 use Rattle.drain_grid.specs.Held.{product_of}

@@ -1,4 +1,4 @@
--- Which product's device gave up, where each is read only while nothing was refused before.
+-- Which product's device failed for good, if each is read only while nothing was refused before.
 use Rattle.std.proofs.Common.{◌≡◌, ℕ, List, ◌↔◌, ◌⊎◌, inl, inr, Bool, IsTrue, Option, Some, None, Result, Ok, Err, IfErr, IfOk, OnOk, refl, ap, ◌∙◌, sym, subst}
 use Rattle.std.specs.Result.{IsErrAnd}
 use Rattle.drain_device.specs.declared.counts.FaultCounts.{FaultCounts}

@@ -1,4 +1,4 @@
--- What the stage of the layout says of the inputs: nothing of its kinds stands, or its refusal is the first.
+-- What the stage of the layout says of the inputs: no refusal of its kinds applies, or its refusal is the first.
 use Rattle.std.proofs.Common.{◌≡◌, ℕ, zero, suc, ◌<◌, length, get_or, List, [], ◌∷◌, Ok, arith, refl, subst, inl}
 use Rattle.std.specs.List.{AllZip}
 use Rattle.drain_text.specs.First.{IsFirst}

@@ -1,4 +1,5 @@
--- What the stages of tiles alone say of the inputs: their mosaic, or the first refusal of the tiles. The order of refusals is that of a check, with those of products left out.
+-- What the stages of tiles alone say of the inputs: their mosaic, or the first refusal of the tiles, in the order of a
+-- check without the products.
 use Rattle.std.proofs.Common.{◌≡◌, ℕ, ◌<◌, List, ℤ, arith, refl, ap, subst, ◌∙◌}
 use Rattle.std.specs.Prelude.{Option}
 use Rattle.std.specs.List.{All}

@@ -1,4 +1,4 @@
--- One call of a mosaic's rows more, where so many were asked for before.
+-- One more call of a mosaic's rows, after a given number.
 use Rattle.std.proofs.Common.{◌≡◌, ◌≤◌, ℕ, ℤ, List, length, Option, Ok, arith, refl, sym, ap, subst, ◌∙◌}
 use Rattle.drain_device.specs.ComingRows.{Coming, after_rows}
 use Rattle.drain_device.specs.ComingRows.Coming.{Next, End}

@@ -1,4 +1,4 @@
--- What the bytes of a tile say, where they were read up to a byte more than a tile has.
+-- The meaning of a tile's bytes, if they were read up to one byte more than a tile has.
 use Rattle.std.proofs.Common.{◌≡◌, ◌≢◌, ℕ, ◌+◌, inl, inr, ℤ, List, length, take, Option, None, Some, arith, sym, ap, ◌∙◌}
 use Rattle.std.proofs.lemmas.List.{length-take, take_all}
 use Rattle.std.proofs.lemmas.Bool.{cases_lt}

@@ -1,4 +1,4 @@
--- One call of a raster's rows more, where so many were asked for before.
+-- One more call of a raster's rows, after a given number.
 use Rattle.std.proofs.Common.{◌≡◌, ◌↔◌, ℕ, zero, suc, ◌+◌, ℤ, List, [], Option, Some, None, Ok, Err, refl, sym, ap, subst, ◌∙◌, arith}
 use Rattle.drain_device.specs.ComingRows.{Coming, after_rows, nth_row}
 use Rattle.drain_device.specs.ComingRows.Coming.{Next, End, Wrong}

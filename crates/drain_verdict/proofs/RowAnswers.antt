@@ -1,4 +1,4 @@
--- The answer to the bytes of a check, once all rows were read: the refusal that stands first, or the verdict.
+-- The answer to the bytes of a check, once all rows are read: the first refusal that applies, or the verdict.
 use Rattle.std.proofs.Common.{◌≡◌, ◌<◌, ℕ, pos, List, [], length, Option, Some, None, MatchOption, Ok, Err, arith, refl, sym, ap, subst, ◌∙◌}
 use Rattle.std.specs.Prelude.{slice_index_or, unwrap_or}
 use Rattle.std.specs.List.{All}

@@ -1,4 +1,4 @@
--- What was read of the devices of a check from new readers on: how much, and which gave up.
+-- What was read of the devices of a check since new readers: how much, and which failed for good.
 use Rattle.std.proofs.Common.{◌≡◌, ◌↔◌, ◌+◌, ℕ, inl, inr, IsTrue, false, List, [], ◌∷◌, length, map, Option, Some, None, arith, refl, sym, ap, subst, ◌∙◌}
 use Rattle.std.specs.List.{Any}
 use Rattle.drain_device.specs.FaultLists.{SomeReadFails}

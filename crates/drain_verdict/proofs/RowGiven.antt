@@ -1,4 +1,4 @@
--- One row more of all inputs: what came.
+-- One more row of all inputs: what came.
 use Rattle.std.proofs.Common.{◌≡◌, ◌⊎◌, ◌≤◌, ◌+◌, ℕ, ℤ, inl, inr, List, length, Option, Some, None, refl, sym, subst, ◌∙◌, arith}
 use Rattle.std.specs.List.{All}
 use Rattle.drain_device.specs.declared.counts.FaultCounts.{FaultCounts}

@@ -1,4 +1,4 @@
--- One row more of all inputs: what was read of each device.
+-- One more row of all inputs: what was read of each device.
 use Rattle.std.proofs.Common.{◌≡◌, ◌↔◌, ◌⊎◌, ℕ, false, inl, inr, IsTrue, List, [], length, Option, Some, None, refl, ap, subst, sym, ◌∙◌, arith, length-append, ◌++◌}
 use Rattle.std.proofs.KnownBytes.{Consumes-nil, Consumes-trans}
 use Rattle.drain_device.specs.declared.counts.FaultCounts.{FaultCounts}

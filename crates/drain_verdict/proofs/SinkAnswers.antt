@@ -1,4 +1,4 @@
--- What a list of sinks says of the inputs of a check: nothing of its kinds stands, or its refusal is the first.
+-- What a list of sinks says of the inputs of a check: no refusal of its kinds applies, or its refusal is the first.
 use Rattle.std.proofs.Common.{◌≡◌, ℕ, ◌<◌, is_none, is_some, not, true, false, ℤ, List, length, slice_get, Option, Some, None, Result, Ok, Err, inl, inr, arith, refl, sym, ap, subst, ◌∙◌}
 use Rattle.std.proofs.lemmas.Bool.{cases_lt, lt-ltb, le-ltb}
 use Rattle.std.proofs.lemmas.Bool.Decides.{nat_tests}

@@ -1,4 +1,4 @@
--- Inputs that a call tells: each part is read off what is handed in, and each name gives its corner.
+-- The inputs that a call encodes: each part is read off the arguments, and each name gives its corner.
 use Rattle.std.proofs.Common.{◌≡◌, ℕ, List, [], ◌∷◌, map, Option, Some, None, IsSome, refl, subst, sym}
 use Rattle.std.specs.List.{All, AllZip}
 use Rattle.std.proofs.lemmas.Bool.{false≢true}

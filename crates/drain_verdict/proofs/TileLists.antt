@@ -1,4 +1,5 @@
--- What the reads of some tiles came to: those that were read, the one that stopped them, and those behind it, whose devices weren't called.
+-- The results of reading some tiles: those read, the one that stopped, and those after it, whose devices weren't
+-- called.
 use Rattle.std.proofs.Common.{◌≡◌, ◌↔◌, ℕ, ◌+◌, ◌*◌, ◌<◌, ◌⊎◌, inl, inr, ℤ, List, [], ◌∷◌, ◌++◌, map, length, get_or, slice_index_or, All, Option, Some, arith, refl, sym, ap, ◌∙◌, length-append, append_assoc, append-nil}
 use Rattle.std.specs.Prelude.{slice_get, slice_set}
 use Rattle.std.specs.List.{AllZip}

@@ -1,4 +1,4 @@
--- The rows of rasters that are held whole are those of their grid.
+-- The rows of rasters in memory are those of their grid.
 use Rattle.std.proofs.Common.{◌≡◌, ℕ, ◌<◌, ◌≤◌, pos, List, length, get_or, arith, refl, sym, ap, ◌∙◌}
 use Rattle.std.specs.List.{All}
 use Rattle.std.proofs.lemmas.Bool.{lt-ltb, le-ltb}

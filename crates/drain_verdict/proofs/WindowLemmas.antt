@@ -1,4 +1,4 @@
--- The window as it goes down the rows.
+-- The window as it moves down the rows.
 use Rattle.std.proofs.Common.{◌≡◌, ℕ, ℤ, ◌+◌, ◌<◌, All, List, [], length, refl, sym, ap, subst, ◌∙◌, arith}
 use Rattle.drain_grid.specs.PerProduct.{of_product}
 use Rattle.drain_grid.proofs.ByProduct.{by_held}

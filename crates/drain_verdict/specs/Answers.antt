@@ -1,4 +1,4 @@
--- The answer to the bytes: the first refusal that stands, else the verdict; and what an acceptance means.
+-- The answer to the bytes: the first refusal that applies, else the verdict; and what an acceptance means.
 use Rattle.std.specs.Prelude.{ℕ, Result, Ok, Err}
 use Rattle.drain_grid.specs.Grid.{Grid, Products}
 use Rattle.drain_text.specs.First.{IsFirst}
@@ -14,29 +14,29 @@ use Rattle.drain_verdict.specs.Inputs.{Inputs}
 use Rattle.drain_verdict.specs.Meaning.{grid_of, products_of, nodata_numbers}
 use Rattle.drain_verdict.specs.Refusals.{Stands, refusal_order}
 
--- no refusal stands
+-- no refusal applies
 abbrev pub AreReadable : Inputs → Type 0
 AreReadable i = (refusal : Refusal) → ¬ Stands i refusal
 
--- the refusal is the first that stands; want of memory and a failed read say nothing of the bytes
+-- the refusal is the first that applies; out of memory and a failed read say nothing of the bytes
 abbrev pub IsRefusal : Inputs → Refusal → Type 0
 IsRefusal i OutOfMemory = Unit {0}
 IsRefusal i ReadFailed = Unit {0}
 IsRefusal i refusal = IsFirst (refusal_order i) (Stands i) refusal
 
--- the answer to the inputs, where ranks are asked for or not
+-- the answer to the inputs, with ranks checked or not
 abbrev pub IsAnswerWith : Ranks → Inputs → Result Verdict Refusal → Type 0
 IsAnswerWith ranks i (Ok verdict) = AreReadable i × IsVerdictOf (rules_with ranks (nodata_numbers i)) (grid_of i) (products_of i) verdict
 IsAnswerWith ranks i (Err refusal) = IsRefusal i refusal
 
--- the answer of a check, which asks for ranks
+-- the answer of a check, which checks ranks
 abbrev pub IsAnswer : Inputs → Result Verdict Refusal → Type 0
 IsAnswer = IsAnswerWith Asked
 
--- the rules that are tried of the inputs, where ranks are asked for or not
+-- the rules that are checked of the inputs, with ranks or not
 abbrev pub rules_at : Ranks → Inputs → Rules
 rules_at ranks i = record { nodata = nodata_numbers i; ranks = ranks }
 
--- notes of a grid's rows that are of all rows of the inputs' grid, where these rules are tried
+-- notes of a grid's rows that are of all rows of the inputs' grid, under these rules
 abbrev pub AreNotesOf : {K : Type 0} → (Rules → Grid → Products → ℕ → K → Type 0) → Ranks → Inputs → K → Type 0
 AreNotesOf are_of ranks i notes = are_of (rules_at ranks i) (grid_of i) (products_of i) (grid_of i).extent.rows notes

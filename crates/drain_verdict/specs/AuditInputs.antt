@@ -1,4 +1,4 @@
--- The four products of an audit, as the five that are read: con stands in the place of ranks, of which an audit asks nothing.
+-- The four products of an audit, as the five that are read: con takes the place of ranks, which an audit ignores.
 use Rattle.std.specs.Prelude.{List, [], ◌∷◌, ◌++◌}
 use Rattle.drain_hgt.specs.declared.input.TileInput.{TileInput}
 use Rattle.drain_hgt.specs.Inputs.{tile_devices}

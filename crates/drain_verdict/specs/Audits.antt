@@ -1,5 +1,5 @@
 -- What an audit answers: whether four products are correct, with ranks of its own in place of a certificate.
--- Source: correct products are in the words of the literature; that runs without an end are told first is this project's own.
+-- Source: correct products are in the words of the literature; that paths without an end come first is our own.
 use Rattle.std.specs.Prelude.{◌≡◌, ℕ, ℤ, pos, is_some, List, Option, Some, None, if◌then◌else◌, Result, Ok, Err}
 use Rattle.drain_grid.specs.declared.cell.Cell.{Cell}
 use Rattle.drain_grid.specs.Grid.{Grid, Products, HasData}
@@ -23,11 +23,11 @@ use Rattle.drain_verdict.specs.Answers.{AreReadable, IsRefusal}
 use Rattle.drain_verdict.specs.Inputs.{Inputs, Tell}
 use Rattle.drain_verdict.specs.Meaning.{grid_of, products_of, nodata_numbers}
 
--- the run of every data cell ends
+-- the path of every data cell ends
 abbrev pub AllRunsEnd : Grid → Products → Type 0
 AllRunsEnd g ps = (c : Cell) → HasData g c → RunEnds g ps c
 
--- ranks as `certify` gives them: the number of steps of each data cell's run, and 4294967295 at voids
+-- ranks as `certify` gives them: the number of steps of each data cell's path, and 4294967295 at voids
 abbrev pub certified_ranks : Grid → Products → Cell → ℤ
 certified_ranks g ps c = if is_some (g.elevation c) then pos (run_steps g ps c) else pos UNKNOWN
 
@@ -38,18 +38,18 @@ certified g ps = with_ranks ps (certified_ranks g ps)
 abbrev pub certified_nodata : NoDataNumbers → NoDataNumbers
 certified_nodata nodata = with_rank_nodata nodata (pos UNKNOWN)
 
--- the first run without an end; else, with certified ranks, the verdict of a check
+-- the first path without an end; else, with certified ranks, the verdict of a check
 abbrev pub IsAuditVerdict : Grid → Products → NoDataNumbers → AuditVerdict → Type 0
 IsAuditVerdict g ps nodata (NoEnd row col) = IsFirstEndless g ps (record { row = row; col = col })
 IsAuditVerdict g ps nodata (Accepted counts) = AllRunsEnd g ps × IsVerdict g (certified g ps) (certified_nodata nodata) (checked.Accepted counts)
 IsAuditVerdict g ps nodata (Rejected rule row col) = AllRunsEnd g ps × IsVerdict g (certified g ps) (certified_nodata nodata) (checked.Rejected rule row col)
 
--- the answer to the inputs: the first refusal that stands, else the verdict
+-- the answer to the inputs: the first refusal that applies, else the verdict
 abbrev pub IsAuditAnswer : Inputs → Result AuditVerdict Refusal → Type 0
 IsAuditAnswer i (Ok verdict) = AreReadable i × IsAuditVerdict (grid_of i) (products_of i) (nodata_numbers i) verdict
 IsAuditAnswer i (Err refusal) = IsRefusal i refusal
 
--- the same without a word on ranks: the first run without an end; else the verdict of the rules that ask nothing of them
+-- the same without ranks: the first path without an end; else the verdict of the rules that ignore them
 abbrev pub IsPlainVerdict : Grid → Products → NoDataNumbers → AuditVerdict → Type 0
 IsPlainVerdict g ps nodata (NoEnd row col) = IsFirstEndless g ps (record { row = row; col = col })
 IsPlainVerdict g ps nodata (Accepted counts) = AllRunsEnd g ps × IsVerdictOf (unranked nodata) g ps (checked.Accepted counts)
@@ -59,7 +59,7 @@ abbrev pub IsPlainAnswer : Inputs → Result AuditVerdict Refusal → Type 0
 IsPlainAnswer i (Ok verdict) = AreReadable i × IsExtent (grid_of i).extent × IsPlainVerdict (grid_of i) (products_of i) (nodata_numbers i) verdict
 IsPlainAnswer i (Err refusal) = IsRefusal i refusal
 
--- the verdict of the rules, and the first run without an end, if there is one, make this one
+-- the verdict of the rules, and the first path without an end, if there is one, make this one
 abbrev pub IsOfBoth : Verdict → Option Cell → AuditVerdict → Type 0
 IsOfBoth verdict (Some c) both = both ≡ NoEnd c.row c.col
 IsOfBoth (checked.Accepted counts) None both = both ≡ Accepted counts
@@ -71,7 +71,7 @@ IsAcceptance (Accepted counts) = Unit {0}
 IsAcceptance (Rejected rule row col) = ⊥
 IsAcceptance (NoEnd row col) = ⊥
 
--- the fact holds of the inputs that are handed in, where con's bytes stand for those of ranks, of which no fact says anything
+-- the fact holds of the inputs of the call, with con's bytes in place of ranks, of which no fact says anything
 abbrev pub OfFour : {R : Type 0} → (R → Option (List ℕ)) → ℕ → List (TileInput R) → List ℕ → AuditProducts R → (Inputs → Type 0) → Type 0
 OfFour bytes_left side tiles sinks ps Fact = (i : Inputs) → Tell bytes_left side tiles sinks (with_con_for_ranks ps) i → Fact i
 
@@ -82,7 +82,7 @@ IfAccepts (Ok (Rejected rule row col)) P = Unit {0}
 IfAccepts (Ok (NoEnd row col)) P = Unit {0}
 IfAccepts (Err refusal) P = Unit {0}
 
--- where the answer is an acceptance, the fact holds of the inputs that were handed in
+-- where the answer is an acceptance, the fact holds of the inputs of the call
 abbrev pub AuditMeans : {R : Type 0} → (Inputs → Type 0) → (R → Option (List ℕ)) → ℕ → List (TileInput R) → List ℕ → AuditProducts R → Result AuditVerdict Refusal → Type 0
 AuditMeans Fact bytes_left side tiles sinks ps answer = IfAccepts answer (OfFour bytes_left side tiles sinks ps Fact)
 

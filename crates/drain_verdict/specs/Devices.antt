@@ -20,10 +20,10 @@ product_devices ps = map (λ p. (of_product ps p).body) products
 abbrev pub devices_of : {R : Type 0} → List (TileInput R) → Products R → List R
 devices_of tiles ps = tile_devices tiles ++ product_devices ps
 
--- of the product's raster nothing past the last byte that this header needs was taken
+-- of the product's raster nothing past the last byte that this header needs was read
 abbrev pub BodyTakesAtMost : {R : Type 0} → (R → Option (List ℕ)) → Fields → Products R → Products R → Held → Type 0
 BodyTakesAtMost bytes_left h old new p = TakesAtMost (needed_len h) (bytes_left (of_product old p).body) (bytes_left (of_product new p).body)
 
--- the same of the header that is handed in
+-- the same of the header in the input
 abbrev pub RasterTakesAtMost : {R : Type 0} → (R → Option (List ℕ)) → Products R → Products R → Held → Type 0
 RasterTakesAtMost bytes_left old new p = BodyTakesAtMost bytes_left (header_of (lines_of (of_product old p).header)) old new p

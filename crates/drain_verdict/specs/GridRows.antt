@@ -9,7 +9,7 @@ use Rattle.drain_rules.specs.RowNumbers.{AreNumbersOf, RowNumbers, blank}
 use Rattle.drain_answer.specs.declared.refusal.Refusal.{Refusal}
 use Rattle.drain_answer.specs.declared.refusal.Refusal.TheVariants.{OutOfMemory}
 
--- these are all rows, behind the last there is none, and the grid's sinks are those that are listed
+-- these are all rows, after the last there is none, and the grid's sinks are the listed ones
 pub record AreRowsOf (g : Grid) (ps : Products) (sinks : List SinkLine) (rows : ℕ → RowNumbers) : Type 0 where
   pub row : (r : ℕ) → r < g.extent.rows → AreNumbersOf g ps r (rows r)
   pub last : rows g.extent.rows ≡ blank
@@ -20,15 +20,15 @@ abbrev pub OfGrid : ((ℕ → RowNumbers) → ℕ → Type 0) → Extent → Lis
 OfGrid gives extent sinks P =
     (rows : ℕ → RowNumbers) (g : Grid) (ps : Products) → gives rows 0 → g.extent ≡ extent → AreRowsOf g ps sinks rows → P g ps
 
--- of those that were to come this is the next, and the others are left
+-- of the rows to come this is the next, and the others are left
 abbrev pub IsNext : ((ℕ → RowNumbers) → ℕ → Type 0) → ((ℕ → RowNumbers) → ℕ → Type 0) → RowNumbers → Type 0
 IsNext before after row = (rows : ℕ → RowNumbers) (r : ℕ) → before rows r → (row ≡ rows r) × after rows (r + 1)
 
--- whatever was read before, so many calls more were made since, up to this refusal, if one came
+-- whatever was read before, this number of calls was made since, up to this refusal, if one came
 abbrev pub ReadsOn : {State : Type 0} → (State → State → ℕ → Option Refusal → Type 0) → State → State → ℕ → Option Refusal → Type 0
 ReadsOn {State} has_read before after calls told = (start : State) (n : ℕ) → has_read start before n None → has_read start after (n + calls) told
 
--- in so many calls more the source has refused; or it has read on, and memory was wanted for something else
+-- after this number of calls the source has refused, or it has read on and memory ran out elsewhere
 abbrev pub IsRowRefusal : {State : Type 0} → (State → State → ℕ → Option Refusal → Type 0) → State → State → ℕ → Type 0 → Refusal → Type 0
 IsRowRefusal has_read before after calls Wants refusal =
     ReadsOn has_read before after calls (Some refusal) ⊎ ((refusal ≡ OutOfMemory) × ReadsOn has_read before after calls None × Wants)

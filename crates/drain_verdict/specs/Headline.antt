@@ -13,11 +13,11 @@ use Rattle.drain_answer.specs.declared.refusal.Refusal.{Refusal}
 use Rattle.drain_verdict.specs.Inputs.{Inputs, Tell, Products}
 use Rattle.drain_verdict.specs.Meaning.{tiling_of, tiles_of, grid_of, products_of, nodata_numbers}
 
--- the fact holds of the inputs that are handed in
+-- the fact holds of the inputs of the call
 abbrev pub OfInputs : {R : Type 0} → (R → Option (List ℕ)) → ℕ → List (TileInput R) → List ℕ → Products R → (Inputs → Type 0) → Type 0
 OfInputs bytes_left side tiles sinks ps Fact = (i : Inputs) → Tell bytes_left side tiles sinks ps i → Fact i
 
--- where the answer is an acceptance, the fact holds of the inputs that were handed in
+-- where the answer is an acceptance, the fact holds of the inputs of the call
 abbrev pub AcceptedMeans : {R : Type 0} → (Inputs → Type 0) → (R → Option (List ℕ)) → ℕ → List (TileInput R) → List ℕ → Products R → Result Verdict Refusal → Type 0
 AcceptedMeans Fact bytes_left side tiles sinks ps answer = IfAccepted answer (OfInputs bytes_left side tiles sinks ps Fact)
 
@@ -25,7 +25,7 @@ AcceptedMeans Fact bytes_left side tiles sinks ps answer = IfAccepted answer (Of
 abbrev pub TilesAreOne : Inputs → Type 0
 TilesAreOne i = TilesAgree (tiling_of i) (tiles_of i)
 
--- the elevation of each cell is its one value in the tiles, and it is void where it has none
+-- the elevation of each cell is its one value in the tiles, and it is void if it has none
 abbrev pub ElevationIsTheirs : Inputs → Type 0
 ElevationIsTheirs i = IsElevation (tiling_of i) (tiles_of i) (grid_of i).elevation
 
@@ -45,7 +45,7 @@ DirectionsAreSteepest i = (c : Cell) → HasData (grid_of i) c → ¬ IsFlatCell
 abbrev pub CodesTellOutlets : Inputs → Type 0
 CodesTellOutlets i = (c : Cell) → HasData (grid_of i) c → ((products_of i).dir c ≡ pos 0) ↔ IsOutlet (grid_of i) (products_of i) c
 
--- every run ends
+-- every path ends
 abbrev pub RunsEnd : Inputs → Type 0
 RunsEnd i = (c : Cell) → HasData (grid_of i) c → RunEnds (grid_of i) (products_of i) c
 
@@ -53,7 +53,7 @@ RunsEnd i = (c : Cell) → HasData (grid_of i) c → RunEnds (grid_of i) (produc
 abbrev pub RunsEndAtOutlets : Inputs → Type 0
 RunsEndAtOutlets i = (c : Cell) → HasData (grid_of i) c → IsOutlet (grid_of i) (products_of i) (run_end (grid_of i) (products_of i) c)
 
--- no run visits a cell twice
+-- no path visits a cell twice
 abbrev pub RunsVisitOnce : Inputs → Type 0
 RunsVisitOnce i = (c : Cell) → HasData (grid_of i) c → VisitsOnce (run (grid_of i) (products_of i) c)
 

@@ -1,4 +1,4 @@
--- What a row in vectors says.
+-- The meaning of a row in vectors.
 use Rattle.std.specs.Prelude.{◌≡◌, ℕ, ◌<◌, false, IsTrue, List, length, slice_index_or}
 use Rattle.drain_grid.specs.declared.held.Held.{Held}
 use Rattle.drain_grid.specs.PerProduct.{of_product, per_product}
@@ -25,6 +25,6 @@ IsMarked sinks r row = (col : ℕ) → col < length row.numbers.z → slice_inde
 abbrev pub IsEven : RowNumbers → Type 0
 IsEven row = (p : Held) → length (of_product row.products p) ≡ length row.z
 
--- where its numbers fit lanes, these are its lanes
+-- if its numbers fit lanes, these are its lanes
 abbrev pub HasItsLanes : HeldRow → Type 0
 HasItsLanes row = IsTrue row.fit → AreLanesOf row.lanes row.z.items (numbers_of row).products

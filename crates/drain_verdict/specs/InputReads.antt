@@ -1,4 +1,4 @@
--- What was read of the tiles and products of a check between two of its rows, and which device gave up.
+-- What was read of the tiles and products of a check between two of its rows, and which device failed for good.
 use Rattle.std.specs.Prelude.{◌≡◌, ℕ, ◌⊎◌, ◌↔◌, List, length, Option, Some, None, MatchOption, Bool, true, false, IsTrue, Result, Ok, Err}
 use Rattle.drain_device.specs.PartFailing.{PartFails}
 use Rattle.drain_device.specs.RowSteps.{ReadsWithin}
@@ -21,18 +21,18 @@ abbrev pub told_by : Result (Unit {0}) Refusal → Option Refusal
 told_by (Ok done) = None
 told_by (Err refusal) = Some refusal
 
--- nothing was refused before, and now a device gave up
+-- nothing was refused before, and now a device failed for good
 abbrev pub gave_up : Option Refusal → Option Refusal → Bool
 gave_up None (Some ReadFailed) = true
 gave_up before told = false
 
--- calls for a raster: its device gave at most what was still to be read, less what still is; so many of its faults were borne; and the last
--- call failed exactly where the device gave up
+-- calls for a raster: its device gave at most what was to be read, less what still is; this number of its faults was
+-- retried; and the last call failed exactly if the device failed for good
 pub record RasterHasRead (known_before known_after : Option (List ℕ)) (before after : FaultCounts) (old new : RasterRows) (Fails : Type 0) : Type 0 where
   pub within : ReadsWithin (raster_most_bytes old) (raster_most_bytes new) known_before known_after
   pub faults : PartFails before after old.patience new.patience Fails
 
--- the readers, and the tiles and products that they are lent
+-- the readers, and the tiles and products that they borrow
 abbrev pub Reading : Type 0 → Type 0
 Reading R = InputRows × List (TileInput R) × Products R
 
@@ -49,7 +49,7 @@ products_lent s = s.2
 abbrev pub with_rasters : (PerProduct RasterRows → PerProduct RasterRows) → InputRows → InputRows
 with_rasters readers_of rows = record { mosaic = rows.mosaic; rasters = readers_of rows.rasters; narrow = rows.narrow }
 
--- readers, and the tiles and products that they are lent, as five products are read whichever are handed in
+-- readers, and the tiles and products that they borrow, as five products are read whichever are given
 abbrev pub as_read : {R P : Type 0} → (PerProduct RasterRows → PerProduct RasterRows) → (P → Products R) → InputRows × List (TileInput R) × P → Reading R
 as_read readers_of inputs_of s = (with_rasters readers_of s.0, s.1, inputs_of s.2)
 
@@ -57,11 +57,11 @@ as_read readers_of inputs_of s = (with_rasters readers_of s.0, s.1, inputs_of s.
 abbrev pub product_body : {R : Type 0} → Reading R → Held → R
 product_body s p = (of_product (products_lent s) p).body
 
--- a refusal of reading: memory was wanted, or a device gave up
+-- a refusal of reading: memory ran out, or a device failed for good
 abbrev pub IsOfReading : Option Refusal → Type 0
 IsOfReading told = MatchOption told (Unit {0}) (λ refusal. (refusal ≡ OutOfMemory) ⊎ (refusal ≡ ReadFailed))
 
--- calls for all products, from the one state on to the other: the device that gave up, if one did, ended the last
+-- calls for all products, from one state to the other: a device that failed for good ended the last
 pub record RastersHaveRead {R : Type 0} (bytes_left : R → Option (List ℕ)) (counts : R → FaultCounts) (old new : PerProduct RasterRows) (lent lent_then : Products R) (told : Option Refusal) : Type 0 where
   pub failed : Held → Bool
   pub exactly : (told ≡ Some ReadFailed) ↔ ((p : Held) × IsTrue (failed p))
@@ -70,7 +70,7 @@ pub record RastersHaveRead {R : Type 0} (bytes_left : R → Option (List ℕ)) (
       (of_product old p) (of_product new p) (IsTrue (failed p))
   pub headers : (p : Held) → (of_product lent_then p).header ≡ (of_product lent p).header
 
--- calls for all of them, from the one state on to the other: the device that gave up, if one did, ended the last
+-- calls for all of them, from one state to the other: a device that failed for good ended the last
 pub record InputsHaveRead {R : Type 0} (bytes_left : R → Option (List ℕ)) (counts : R → FaultCounts) (start now : Reading R) (told : Option Refusal) : Type 0 where
   pub tile_failed : Bool
   pub product_failed : Held → Bool
@@ -85,7 +85,7 @@ pub record InputsHaveRead {R : Type 0} (bytes_left : R → Option (List ℕ)) (c
   pub names : names_of (tiles_lent now) ≡ names_of (tiles_lent start)
   pub headers : (p : Held) → (of_product (products_lent now) p).header ≡ (of_product (products_lent start) p).header
 
--- the same where a check's answer tells whether some device gave up
+-- the same where a check's answer says whether some device failed for good
 pub record HaveBeenRead {R : Type 0} (bytes_left : R → Option (List ℕ)) (counts : R → FaultCounts) (start now : Reading R) (Fails : Type 0) : Type 0 where
   pub told : Option Refusal
   pub exactly : (told ≡ Some ReadFailed) ↔ Fails

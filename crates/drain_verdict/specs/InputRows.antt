@@ -1,4 +1,4 @@
--- Readers of a check's rows at their start, and what they tell once all rows were read.
+-- Readers of a check's rows at their start, and what they report once all rows are read.
 use Rattle.std.specs.Prelude.{◌≡◌, ℕ, ◌<◌, length, slice_get, Option, Some, None, MatchOption}
 use Rattle.drain_device.specs.Patience.{full_patience}
 use Rattle.drain_device.specs.declared.row_source.Progress.TheVariants.{Going, Stopped}
@@ -39,11 +39,11 @@ pub record IsFirstOf (Holds : Held → Type 0) (p : Held) : Type 0 where
   pub holds : Holds p
   pub before : (q : Held) → rank_of q < rank_of p → ¬ Holds q
 
--- the first product of which it holds, where there is one
+-- the first product of which it holds, if there is one
 abbrev pub IsFirstProduct : (Held → Type 0) → Option Held → Type 0
 IsFirstProduct Holds found = MatchOption found ((p : Held) → ¬ Holds p) (IsFirstOf Holds)
 
--- the refusal that tells a tile of wrong length, or else the first short product, or else a seam; none where there is none of them
+-- the refusal for a tile of wrong length, else the first short product, else a seam; none if there is none of them
 abbrev pub IsToldRefusal : Tiling → Option ℕ → (Held → Type 0) → Option Cell → Option Refusal → Type 0
 IsToldRefusal t wrong Short seam None = (wrong ≡ None) × ((p : Held) → ¬ Short p) × (seam ≡ None)
 IsToldRefusal t wrong Short seam (Some (BadTileLength c)) = (k : ℕ) × (wrong ≡ Some k) × (slice_get t.corners k ≡ Some c)

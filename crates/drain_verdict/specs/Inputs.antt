@@ -28,7 +28,7 @@ Products R = PerProduct (RasterInput R)
 abbrev pub AreNames : List (List ℕ) → Type 0
 AreNames names = All (λ name. (c : Corner) × Names name c) names
 
--- what is handed in spells these inputs, where the devices tell their bytes
+-- the arguments encode these inputs, where the bytes of devices are known
 pub record Tell {R : Type 0} (bytes_left : R → Option (List ℕ)) (side : ℕ) (tiles : List (TileInput R)) (sinks : List ℕ) (ps : Products R) (i : Inputs) : Type 0 where
   pub side_is : i.side ≡ side
   pub names_are : i.names ≡ names_of tiles

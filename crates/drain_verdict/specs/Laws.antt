@@ -6,7 +6,7 @@ use Rattle.drain_hgt.specs.declared.input.TileInput.{TileInput}
 use Rattle.drain_grid.specs.PerProduct.{of_product}
 use Rattle.drain_verdict.specs.Inputs.{Inputs, Tell, Products}
 
--- where each source tells its bytes, what is handed in tells some inputs
+-- if the bytes of each source are known, the arguments encode some inputs
 abbrev pub InputsAreTold : {R : Type 0} → (R → Option (List ℕ)) → Type 0
 InputsAreTold {R} bytes_left =
     (side : ℕ) (tiles : List (TileInput R)) (sinks : List ℕ) (ps : Products R) →

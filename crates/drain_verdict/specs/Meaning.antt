@@ -21,14 +21,14 @@ use Rattle.drain_mosaic.specs.Mosaic as mosaic
 use Rattle.drain_mosaic.specs.Joined.{first_value}
 use Rattle.drain_verdict.specs.Inputs.{Inputs}
 
--- the tiles that are named, and their samples
+-- the named tiles and their samples
 abbrev pub tiling_of : Inputs → Tiling
 tiling_of i = record { side = i.side; corners = i.corners }
 
 abbrev pub tiles_of : Inputs → List mosaic.Tile
 tiles_of i = mosaic.tiles_of i.corners (map samples_of i.tiles)
 
--- the lines of a list of sinks, none where one of them is bad
+-- the lines of a list of sinks, none if one of them is bad
 abbrev pub lines_in : Result (List SinkLine) ℕ → List SinkLine
 lines_in (Ok sinks) = sinks
 lines_in (Err bad) = []
@@ -37,8 +37,8 @@ lines_in (Err bad) = []
 abbrev pub listed_in : Inputs → List SinkLine
 listed_in i = lines_in (sinks_of i.sinks)
 
--- the grid of the elevations and the listed sinks: a cell has the value of the first tile that gives one, which is its one value where the
--- tiles agree
+-- the grid of the elevations and the listed sinks: a cell has the value of the first tile that gives one, its only
+-- value if tiles agree
 abbrev pub grid_of : Inputs → grid.Grid
 grid_of i = record {
   extent = extent_of (tiling_of i);
@@ -57,7 +57,7 @@ number_of i p c = pixel_at (fields_of i p) (i.raster p) c
 abbrev pub products_of : Inputs → grid.Products
 products_of i = grid.held_products (number_of i)
 
--- the number that stands for no data in a product: the header's, or else the product's default
+-- the no-data number of a product: the header's, or else the product's default
 abbrev pub nodata_of : Inputs → Held → ℤ
 nodata_of i p = unwrap_or (fields_of i p).nodata (default_no_data (product_of p))
 

@@ -1,4 +1,4 @@
--- What reading tiles alone answers: their mosaic, or the first refusal of the tiles.
+-- What reading only tiles returns: their mosaic, or the first refusal of the tiles.
 use Rattle.std.specs.Prelude.{◌≡◌, ℕ, List, Option, Some}
 use Rattle.std.specs.List.{AllZip}
 use Rattle.drain_grid.specs.declared.cell.Cell.{Cell}
@@ -16,7 +16,7 @@ use Rattle.drain_verdict.specs.Inputs.{Inputs, AreNames}
 use Rattle.drain_verdict.specs.Meaning.{tiling_of, grid_of}
 use Rattle.drain_verdict.specs.Refusals.{Stands, refusal_order}
 
--- what is handed in spells the tiles of these inputs, where the devices tell their bytes
+-- the arguments encode the tiles of these inputs, where the bytes of devices are known
 pub record TellTiles {R : Type 0} (bytes_left : R → Option (List ℕ)) (side : ℕ) (tiles : List (TileInput R)) (i : Inputs) : Type 0 where
   pub side_is : i.side ≡ side
   pub names_are : i.names ≡ names_of tiles
@@ -33,7 +33,7 @@ IsOfTiles (BadSinkLine n) = ⊥
 IsOfTiles (SinkNotData n) = ⊥
 IsOfTiles refusal = Unit {0}
 
--- such a refusal stands
+-- such a refusal applies
 abbrev pub StandsOfTiles : Inputs → Refusal → Type 0
 StandsOfTiles i refusal = IsOfTiles refusal × Stands i refusal
 
@@ -44,7 +44,7 @@ pub record IsMosaicOf (i : Inputs) (t : Tiling) (e : Heights) : Type 0 where
   pub extent_is : e.extent ≡ extent_of t
   pub elevation_is : (c : Cell) → IsCellOf e.extent c → elevation_at e c ≡ (grid_of i).elevation c
 
--- the refusal is the first that stands of the tiles; want of memory and a failed read say nothing of the bytes
+-- the refusal is the first of the tiles that applies; out of memory and a failed read say nothing of the bytes
 abbrev pub IsMosaicRefusal : Inputs → Refusal → Type 0
 IsMosaicRefusal i OutOfMemory = Unit {0}
 IsMosaicRefusal i ReadFailed = Unit {0}

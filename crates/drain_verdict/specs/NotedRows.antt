@@ -1,4 +1,4 @@
--- The rows of which notes are taken, and what the walk of a check has found of them.
+-- The rows that are noted, and what the walk of a check has found of them.
 use Rattle.std.specs.Prelude.{◌≡◌, ℕ}
 use Rattle.drain_grid.specs.declared.patch.Patch.{Patch}
 use Rattle.drain_grid.specs.Grid.{Grid, Products}
@@ -13,7 +13,7 @@ use Rattle.drain_rules.specs.RowNumbers.{AreNumbersOf, RowNumbers}
 abbrev pub OfNotedRow : RowNumbers → ℕ → (ℕ → Patch) → (Grid → Products → ℕ → Type 0) → Type 0
 OfNotedRow numbers cols shown P = (g : Grid) (ps : Products) (r : ℕ) → AreNumbersOf g ps r numbers → AreRowPatches g ps r cols shown → P g ps r
 
--- the walk has gone over so many rows, and what they came to is right where these rules are tried
+-- the walk has passed this number of rows, and its result is right under these rules
 pub record IsWalkOf (rules : Rules) (g : Grid) (ps : Products) (rows : ℕ) (walk : GridWalk) : Type 0 where
   pub rows_are : walk.rows ≡ rows
   pub right : IsRightOf (tried rules) g ps walk

@@ -1,4 +1,5 @@
--- What each refusal of a check says of the bytes, and the order in which refusals are told. Both are this project's own.
+-- What each refusal of a check says of the bytes, and the order in which refusals are reported. Both are this project's
+-- own.
 use Rattle.std.specs.Prelude.{◌≡◌, ℕ, suc, ◌+◌, ◌-◌, ◌*◌, ◌^◌, ℤ, pos, ◌-ℤ◌, ◌*ℤ◌, nat_abs, ◌≤◌, ◌<◌, ◌&&◌, List, [], ◌∷◌, slice_get, Some, Err, if◌then◌else◌}
 use Rattle.std.specs.Ordering.{int_eq}
 use Rattle.drain_grid.specs.declared.cell.Cell.{Cell}
@@ -30,7 +31,7 @@ pub record IsBadName (names : List (List ℕ)) (place : ℕ) : Type 0 where
   pub is_there : slice_get names place ≡ Some name
   pub names_none : (c : Corner) → ¬ Names name c
 
--- within so many units of one another
+-- within the given number of units of one another
 abbrev pub AreWithin : ℕ → ℤ → ℤ → Type 0
 AreWithin units a b = nat_abs (a -ℤ b) ≤ units
 
@@ -57,7 +58,7 @@ pub record HasBadLength (i : Inputs) (c : Corner) : Type 0 where
 abbrev pub IsSeamFault : Inputs → Cell → Type 0
 IsSeamFault i c = IsCellOf (tiling.extent_of (tiling_of i)) c × HasTwoValues (tiling_of i) (tiles_of i) c
 
--- what each refusal says, of a product only where a check reads it; want of memory and a failed read are no facts of the bytes
+-- what each refusal says, of a product only if a check reads it; out of memory and a failed read aren't about bytes
 abbrev pub Stands : Inputs → Refusal → Type 0
 Stands i BadSide = ¬ IsSide i.side
 Stands i (BadName k) = IsBadName i.names k
@@ -75,7 +76,7 @@ Stands i (SinkNotData n) = IsOffData (grid_of i) (listed_in i) n
 Stands i OutOfMemory = ⊥
 Stands i ReadFailed = ⊥
 
--- a refusal that comes once bodies are read: of their bytes, of seams, of the list of sinks, for want of memory or for a failed read
+-- a refusal that comes once bodies are read: of bytes, seams or the list of sinks, or out of memory, or a failed read
 abbrev pub IsOfBodies : Refusal → Type 0
 IsOfBodies (BadTileLength c) = Unit {0}
 IsOfBodies (RasterShort p) = Unit {0}
@@ -86,7 +87,7 @@ IsOfBodies OutOfMemory = Unit {0}
 IsOfBodies ReadFailed = Unit {0}
 IsOfBodies refusal = ⊥
 
--- the first place of the corner in the list, its length where it isn't there
+-- the first place of the corner in the list, its length if it isn't there
 abbrev pub place_among : List Corner → Corner → ℕ
 place_among [] c = 0
 place_among (d ∷ more) c = if int_eq c.lat d.lat && int_eq c.lon d.lon then 0 else suc (place_among more c)
@@ -109,6 +110,6 @@ refusal_order i (SinkNotData n) = (9, n)
 refusal_order i OutOfMemory = (10, 0)
 refusal_order i ReadFailed = (11, 0)
 
--- no refusal of a kind before this one stands
+-- no refusal of a kind before this one applies
 abbrev pub NoneStandsBefore : Inputs → ℕ → Type 0
 NoneStandsBefore i kind = (refusal : Refusal) → (refusal_order i refusal).0 < kind → ¬ Stands i refusal

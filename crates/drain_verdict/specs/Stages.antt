@@ -1,4 +1,5 @@
--- What the stages of a check find, the layout, the headers and, where tiles are read alone, the tiles. Each is right, or the first refusal of its kind is told.
+-- What the stages of a check find: the layout, the headers and, if only tiles are read, the tiles; or the first refusal
+-- of their kind.
 use Rattle.std.specs.Prelude.{◌≡◌, ℕ, ◌<◌, ℤ, List, map, slice_get, Option, Some, Err}
 use Rattle.std.specs.List.{All, AllZip}
 use Rattle.drain_grid.specs.declared.held.Held.{Held}
@@ -53,7 +54,7 @@ IsNameRefusal names (BadName k) = IsFirstBadName names k
 IsNameRefusal names OutOfMemory = Unit {0}
 IsNameRefusal names refusal = ⊥
 
--- the refusal that tells a fault of the list of tiles
+-- the refusal for a fault of the list of tiles
 abbrev pub IsLayoutFaultAs : LayoutFault → Refusal → Type 0
 IsLayoutFaultAs layout.NoTiles refusal = refusal ≡ NoTiles
 IsLayoutFaultAs (layout.RepeatedTile c) refusal = refusal ≡ RepeatedTile c
@@ -96,7 +97,7 @@ IsHeaderRefusal t p text (WrongShape q) = (q ≡ p) × HasWrongShape t text
 IsHeaderRefusal t p text (Misplaced q) = (q ≡ p) × IsElsewhere t text
 IsHeaderRefusal t p text refusal = ⊥
 
--- each text is a header that is right, and these are they
+-- each text is a correct header, and these are they
 abbrev pub AreHeadersOf : tiling.Tiling → (Held → List ℕ) → PerProduct Fields → Type 0
 AreHeadersOf t text hs = (p : Held) → IsHeaderFor t (text p) (of_product hs p)
 
@@ -143,13 +144,13 @@ pub record IsElevationOf (t : tiling.Tiling) (samples : List (List ℤ)) (e : He
   pub agree : TilesAgree t (tiles_of t.corners samples)
   pub values : IsElevation t (tiles_of t.corners samples) (elevation_at e)
 
--- why tiles give no elevation; memory is wanted only where they agree
+-- why tiles give no elevation; memory can run out only if they agree
 abbrev pub IsSeamRefusal : tiling.Tiling → List (List ℤ) → Refusal → Type 0
 IsSeamRefusal t samples (SeamMismatch c) = IsFirstSeam t (tiles_of t.corners samples) c
 IsSeamRefusal t samples OutOfMemory = TilesAgree t (tiles_of t.corners samples)
 IsSeamRefusal t samples refusal = ⊥
 
--- the refusal that tells a fault of the seams
+-- the refusal for a fault of the seams
 abbrev pub IsSeamFaultAs : SeamFault → Refusal → Type 0
 IsSeamFaultAs (seam.SeamMismatch c) refusal = refusal ≡ SeamMismatch c
 IsSeamFaultAs seam.OutOfMemory refusal = refusal ≡ OutOfMemory

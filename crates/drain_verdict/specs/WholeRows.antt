@@ -1,4 +1,4 @@
--- The rows of a grid and its products that are held whole.
+-- The rows of a grid and its products that are whole in memory.
 use Rattle.std.specs.Prelude.{◌≡◌, ℕ, nat_lt, min, Option, Some, None, if◌then◌else◌}
 use Rattle.drain_grid.specs.PerProduct.{per_product}
 use Rattle.drain_grid.specs.Rasters.{Heights}
@@ -19,7 +19,7 @@ AreOfShape e ps = (p : Held) → (raster_in ps p).extent ≡ e
 abbrev pub row_in : Heights → ProductSet → ℕ → RowNumbers
 row_in e ps r = record { z = sample_row e r; products = per_product (λ p. number_row (raster_in ps p) r) }
 
--- the same, and none behind the last
+-- the same, and none after the last
 abbrev pub row_or_blank : Heights → ProductSet → ℕ → RowNumbers
 row_or_blank e ps r = if nat_lt r e.extent.rows then row_in e ps r else blank
 
@@ -28,7 +28,7 @@ pub record AreLeft (e : Heights) (ps : ProductSet) (row : ℕ) (rows : ℕ → R
   pub row_is : (r : ℕ) → rows r ≡ row_or_blank e ps r
   pub next : row ≡ min from e.extent.rows
 
--- whatever is refused, memory was wanted
+-- whatever is refused, memory ran out
 abbrev pub IsWant : Option Refusal → Type 0
 IsWant None = Unit {0}
 IsWant (Some refusal) = refusal ≡ OutOfMemory

@@ -1,8 +1,8 @@
-//! The answer to the bytes of products as they are handed in: the five of a check, or the four of an audit.
+//! The answer to the bytes of products: the five of a check, or the four of an audit.
 //!
-//! Behind the stage of side, names and layout it goes in stages, in the order of their refusals: the headers, product by product; then the rows of
-//! all tiles and rasters together. Behind the last row the tiles, the rasters, the seams and the list of sinks are refused, in this order, and else the rules
-//! have the verdict. No device is called before every header is right.
+//! After side, names and layout come the stages, in the order of their refusals: the headers, product by product; then
+//! the rows of all tiles and rasters together. After the last row come refusals of tiles, rasters, seams and the list
+//! of sinks, in this order, else the verdict of the rules. No device is called before every header is right.
 
 ghost use Rattle.std.specs.Prelude.{◌≡◌, length, map, IfErr, IsErrOf, OnOk};
 ghost use Rattle.drain_grid.specs.declared.per_product.PerProduct.{PerProduct};
@@ -52,8 +52,8 @@ use drain_raster::laws::{
 use drain_rules::{Ranks, Rules, Verdict};
 use std::alloc::Global;
 
-/// The answer to inputs of this mosaic: to the headers of its products, to the bytes of its tiles and rasters, and to a list of sinks. Each
-/// row of the grid is noted, and rules are tried with ranks or without.
+/// The answer to inputs of this mosaic: to the headers of its products, the bytes of its tiles and rasters, and a list
+/// of sinks. Each row of the grid is noted, and rules are checked with ranks or without.
 ///
 /// See `check` for the order of refusals, and for how far it reads.
 pub fn answer_on<R: ByteSource, P: ProductInputs<R>, K: RowVerdicts>(
@@ -84,7 +84,7 @@ pub fn answer_on<R: ByteSource, P: ProductInputs<R>, K: RowVerdicts>(
     answer_to_bodies(alloc, layout, headers, sinks, tiles, products, ranks, notes)
 }
 
-/// The answer to the bodies, where the layout and the headers are right: the verdict on their rows, unless they are refused.
+/// The answer to the bodies once the layout and the headers are right: the verdict on their rows, or a refusal.
 fn answer_to_bodies<R: ByteSource, P: ProductInputs<R>, K: RowVerdicts>(
     alloc: Global,
     layout: &Layout,
@@ -114,7 +114,7 @@ fn answer_to_bodies<R: ByteSource, P: ProductInputs<R>, K: RowVerdicts>(
     ensures headers { (p : Held) → (of_product (P.inputs products.new) p).header ≡ (of_product (P.inputs products.old) p).header }
     ensures of_bodies { IfErr result IsOfBodies }
 {
-    // The law that the rows of a raster take the bytes that it needs.
+    // The law that the rows of a raster have the bytes that it needs.
     raster_rows_take_what_is_needed();
     let listing = match sink_listing(alloc, sinks) {
         Ok(listing) => listing,
@@ -128,7 +128,8 @@ fn answer_to_bodies<R: ByteSource, P: ProductInputs<R>, K: RowVerdicts>(
     )
 }
 
-/// The verdict on the rows that new readers give, or the refusal that they tell behind the last, or that of the list of sinks.
+/// The verdict on the rows of new readers, or the refusal that they report after the last row, or that of the list of
+/// sinks.
 fn answer_to_rows<R: ByteSource, P: ProductInputs<R>, K: RowVerdicts>(
     alloc: Global,
     layout: &Layout,
@@ -158,7 +159,7 @@ fn answer_to_rows<R: ByteSource, P: ProductInputs<R>, K: RowVerdicts>(
     ensures reads { HaveBeenRead R.bytes_left R.counts (as_read P.readers P.inputs (rows.old, tiles.old, products.old)) (as_read P.readers P.inputs (rows.new, tiles.new, products.new)) (IsErrOf result Refusal.ReadFailed) }
     ensures of_bodies { IfErr result IsOfBodies }
 {
-    // The laws that say which rows the bytes of tiles and rasters give, and what these tell of them.
+    // The laws that say which rows the bytes of tiles and rasters give, and what these rows say of the bytes.
     layout.makes_a_mosaic();
     new_rows_are_of_bodies::<R>();
     rows_end();

@@ -1,4 +1,4 @@
-//! The four products of an audit. No rule that it tries asks anything of ranks, so what con gives stands in their place.
+//! The four products of an audit. Its rules ignore ranks, so con's rows take their place.
 
 ghost use Rattle.std.specs.Prelude.{◌≡◌, ℕ, OnOk, Err, IfErr, IsTrue, IfOk};
 ghost use Rattle.std.specs.List.{All};
@@ -76,7 +76,7 @@ impl<R: ByteSource> ProductInputs<R> for AuditProducts<R> {
     }
 }
 
-/// The first product whose rows have stopped; those that stand in the place of ranks have where con's have.
+/// The first product whose rows have stopped; the substitute for ranks has stopped where con has.
 fn first_stopped(rasters: &PerProduct<RasterRows>) -> Option<Held>
     ensures { IsFirstProduct (λ p. (of_product (with_con_read_twice rasters.now) p).progress ≡ Progress.Stopped) result }
 {
@@ -88,7 +88,7 @@ fn first_stopped(rasters: &PerProduct<RasterRows>) -> Option<Held>
     None
 }
 
-/// The reader of a product, or the one that stands in its place.
+/// The reader of a product, or its substitute.
 fn reader_of(rasters: &PerProduct<RasterRows>, product: Held) -> &RasterRows
     ensures { result.now ≡ of_product (with_con_read_twice rasters.now) product }
 {
@@ -98,7 +98,7 @@ fn reader_of(rasters: &PerProduct<RasterRows>, product: Held) -> &RasterRows
     }
 }
 
-/// The numbers of a row once more, where nothing was refused before.
+/// A second copy of a row's numbers, if nothing was refused before.
 fn copy_row(told: Result<(), Refusal>, from: &[i64], out: &mut Vec<i64>) -> Result<(), Refusal>
     ensures copied { OnOk result (out.new.items ≡ from.now) }
     ensures stays { IfErr told (λ refusal. result ≡ Err refusal) }

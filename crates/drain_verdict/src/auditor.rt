@@ -1,8 +1,8 @@
-//! The audit of products that come without a certificate, against the tiles that they were made from.
+//! The audit of products without a certificate, against the tiles that they were made from.
 //!
-//! It goes once over the rows of all inputs, with the rules that ask nothing of ranks, and keeps of each cell which way its code leads, in a byte.
-//! Behind the last row it asks which runs end, but only where a rule failed: where none did, all do. That this tells correct products from all others is a
-//! law of `drain_grid`.
+//! It reads the rows of all inputs once, checks the rules that ignore ranks, and keeps the direction of each cell, in a
+//! byte. After the last row it looks which paths end, but only if a rule failed: if none did, all end. That this
+//! separates correct products from all others is a law of `drain_grid`.
 
 ghost use Rattle.std.specs.Prelude.{◌≡◌, ◌↔◌, ◌*◌, [], length, map, IfErr, IfOk, IsErrOf, OnOk};
 ghost use Rattle.drain_device.specs.FaultLists.{SomeReadFails};
@@ -44,11 +44,12 @@ use std::alloc::Global;
 
 /// Whether the four products of the tiles are correct, or the first refusal.
 ///
-/// `side`, `tiles` and `sinks` are those of `check`, and so are the refusals, of con, dir, acc and bas in this order. Where none stands: `NoEnd` with the first
-/// data cell in row order whose run of directions doesn't come to a code 0, since it comes to a number that is no code, goes round, off the grid
-/// or into a void; else `Rejected` with the first fault of the rules, where ranks are the numbers of steps of runs; else `Accepted`. Nothing is asked of
-/// whoever made the products: a rejection means that they aren't correct. One byte is held for each cell of the mosaic, beside the labels
-/// of outlets and three rows.
+/// `side`, `tiles` and `sinks` are those of `check`, and so are the refusals, of con, dir, acc and bas in this order.
+/// If none applies: `NoEnd` with the first data cell in row order whose path reaches no code 0, as it meets a number
+/// that is no code, goes round, or leads off the grid or into a void; else `Rejected` with the first fault of the
+/// rules, with the numbers of steps of paths for ranks; else `Accepted`. The tool that made the products is not
+/// trusted: a rejection means that they aren't correct. Memory: a byte for each cell of the mosaic, the labels of
+/// outlets and three rows.
 pub fn audit<R: ByteSource>(
     alloc: Global,
     side: u32,
@@ -56,10 +57,10 @@ pub fn audit<R: ByteSource>(
     sinks: &[u8],
     products: &mut AuditProducts<R>,
 ) -> Result<AuditVerdict, Refusal>
-    // Apart from want of memory and a failed read, the answer is that of the bytes.
+    // Unless memory ran out or a read failed, the answer is that of the bytes.
     ensures answer { OfFour R.bytes_left side tiles.old sinks.now products.old (λ inputs. IsAuditAnswer inputs result) }
 
-    // Where it gives a verdict, it accepts exactly where the products are correct.
+    // If it gives a verdict, it accepts exactly correct products.
     ensures exactly { IfOk result (λ verdict. OfFour R.bytes_left side tiles.old sinks.now products.old (λ inputs. IsAcceptance verdict ↔ AreCorrect inputs)) }
 
     // And then the tiles agree on one elevation raster.
@@ -89,7 +90,7 @@ pub fn audit<R: ByteSource>(
     ensures voids { AuditMeans VoidsAreBlank R.bytes_left side tiles.old sinks.now products.old result }
     ensures complete { AuditMeans DataIsComplete R.bytes_left side tiles.old sinks.now products.old result }
 
-    // How far it reads, when a read fails, and that names and headers stay.
+    // How far it reads, when a read fails, and that names and headers are unchanged.
     ensures tiles_within { TilesTakeAtMost R.bytes_left side tiles.old tiles.new }
     ensures rasters_within { (p : Held) → RasterTakesAtMost R.bytes_left (with_con_for_ranks products.old) (with_con_for_ranks products.new) p }
     ensures faults { SomeReadFails (map R.counts (audit_devices tiles.old products.old)) (map R.counts (audit_devices tiles.new products.new)) (IsErrOf result Refusal.ReadFailed) }
@@ -107,7 +108,7 @@ pub fn audit<R: ByteSource>(
     audit_of(alloc, side, tiles, sinks, products)
 }
 
-/// The answer to the bytes, without a word on ranks.
+/// The answer to the bytes, without ranks.
 fn audit_of<R: ByteSource>(
     alloc: Global,
     side: u32,
@@ -133,8 +134,8 @@ fn audit_of<R: ByteSource>(
     audit_on(alloc, &layout, sinks, tiles, products, &mut notes)
 }
 
-/// The answer to the bytes of inputs of this mosaic, without a word on ranks; each row of the grid is noted. Of a verdict the flows are known to be those of the grid, but
-/// for cells whose runs are found to end.
+/// The answer to the bytes of inputs of this mosaic, without ranks; each row of the grid is noted. After a verdict the
+/// flows are known to be those of the grid, except for cells whose paths were found to end.
 pub fn audit_on<R: ByteSource, K: RowVerdicts>(
     alloc: Global,
     layout: &Layout,

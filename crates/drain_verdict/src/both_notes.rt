@@ -6,7 +6,7 @@ use drain_grid::{OutOfMemory, Shape};
 use drain_kernel::Rules;
 use drain_rules::{ThreeRows, Verdict};
 
-/// Notes of one kind, and of another, which gives the verdict where it can.
+/// Notes of one kind, and of another, which gives the verdict if it can.
 #[derive(Drop)]
 pub struct BothNotes<A, B> {
     pub first: A,

@@ -1,4 +1,4 @@
-//! The verdict of an audit, out of the verdict of the rules and the first path without an end.
+//! The verdict of an audit, from the verdict of the rules and the first path without an end.
 
 ghost use Rattle.drain_verdict.specs.Audits.{IsOfBoth};
 
@@ -6,7 +6,7 @@ use drain_answer::AuditVerdict;
 use drain_grid::Cell;
 use drain_rules::Verdict;
 
-/// The first run without an end, if there is one, else the verdict of the rules.
+/// The first path without an end, if there is one, else the verdict of the rules.
 pub fn verdict_of_both(verdict: &Verdict, endless: Option<Cell>) -> AuditVerdict
     ensures { IsOfBoth verdict.now endless result }
 {

@@ -1,4 +1,4 @@
-//! Ranks for directions: how many steps each cell's run makes.
+//! Ranks for directions: the number of steps of each cell's path.
 
 ghost use Rattle.std.specs.Prelude.{◌≡◌, IfOk, IfErr};
 ghost use Rattle.drain_runs.specs.Ways.{ground_of, directions_of};
@@ -8,9 +8,11 @@ use drain_grid::{Elevation, OutOfMemory, Raster};
 use drain_runs::{CertifyRefusal, steps_of};
 use std::alloc::Global;
 
-/// Ranks by which each step along the codes goes down: each data cell's number of steps to its run's end, and 4294967295, which is the no-data number, at voids.
+/// Ranks that fall at each step along the codes: for each data cell the number of steps to its path's end, for voids
+/// 4294967295, the no-data number.
 ///
-/// `NoEnd` names the first data cell in row order whose run doesn't come to a code 0, and comes exactly where there is one; `OutOfMemory` where memory was refused.
+/// `NoEnd` names the first data cell in row order whose path reaches no code 0, exactly if there is one; `OutOfMemory`
+/// if memory was refused.
 pub fn certify(alloc: Global, elevation: &Elevation, dir: &Raster) -> Result<Raster, CertifyRefusal>
     requires same_shape { elevation.now.extent ≡ dir.now.extent }
     ensures ranks { IfOk result (AreRanks (ground_of elevation.now) (directions_of dir.now)) }

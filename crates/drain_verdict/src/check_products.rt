@@ -1,4 +1,4 @@
-//! The five products of a check: each is read by itself.
+//! The five products of a check, each with a reader of its own.
 
 ghost use Rattle.std.specs.Prelude.{◌≡◌, IfOk, IfErr};
 ghost use Rattle.drain_device.specs.declared.row_source.Progress.{Progress};

@@ -1,6 +1,6 @@
-//! The check of products against the tiles that they were made from: from the bytes that devices give to the answer.
+//! The check of products against the tiles that they were made from: from the bytes of devices to the answer.
 //!
-//! How the answer is found stands in `answer.rt`; here is what it means.
+//! `answer.rt` says how the answer is found; here is what it means.
 
 ghost use Rattle.std.specs.Prelude.{◌≡◌, map, IfErr, IsErrOf};
 ghost use Rattle.drain_grid.specs.declared.held.Held.{Held};
@@ -27,15 +27,16 @@ use std::alloc::Global;
 
 /// The verdict on products of the tiles, or the first refusal.
 ///
-/// `side` is the number of samples along an edge of each tile, from 2 to 3601. `sinks` lists inland sinks, a line `ROW COL` each; empty lines
-/// don't count. Refusals come in this order, and rules are tried only where
-/// none stands: `BadSide`; `BadName` with the place of the first bad name; `NoTiles`, `RepeatedTile`, `BoxTooLarge`; product by product
-/// `BadHeader`, `WrongShape`, `Misplaced`; `BadTileLength` with the first such tile; `RasterShort` with the first such product;
-/// `SeamMismatch` with the first such cell; `BadSinkLine` with the first such line, counted from 1; `SinkNotData` with the first line whose cell
-/// is a void or outside the mosaic. `OutOfMemory` and `ReadFailed` may come at any point; the latter exactly where a source failed or
-/// was interrupted for the 1,000th time. Of a tile at most one byte past its end is read, of a raster nothing past its last needed byte.
+/// `side` is the number of samples along an edge of each tile, from 2 to 3601. `sinks` lists inland sinks, a line `ROW
+/// COL` each; empty lines don't count. Refusals come in this order, and rules are checked only if none applies:
+/// `BadSide`; `BadName` with the place of the first bad name; `NoTiles`, `RepeatedTile`, `BoxTooLarge`; product by
+/// product `BadHeader`, `WrongShape`, `Misplaced`; `BadTileLength` with the first such tile; `RasterShort` with the
+/// first such product; `SeamMismatch` with the first such cell; `BadSinkLine` with the first such line, counted from 1;
+/// `SinkNotData` with the first line whose cell is a void or outside the mosaic. `OutOfMemory` and `ReadFailed` may
+/// come at any point; the latter exactly where a source failed or was interrupted for the 1,000th time. Of a tile at
+/// most one byte past its end is read, of a raster nothing past its last needed byte.
 ///
-/// The contract speaks of the bytes that the sources had left, where they tell them.
+/// The contract is about the bytes that the sources had left, for sources whose bytes are known.
 pub fn check<R: ByteSource>(
     alloc: Global,
     side: u32,
@@ -43,7 +44,7 @@ pub fn check<R: ByteSource>(
     sinks: &[u8],
     products: &mut Products<R>,
 ) -> Result<Verdict, Refusal>
-    // Apart from want of memory and a failed read, the answer is that of the bytes.
+    // Unless memory ran out or a read failed, the answer is that of the bytes.
     ensures answer { (inputs : Inputs) → Tell R.bytes_left side tiles.old sinks.now products.old inputs → IsAnswer inputs result }
 
     // Whenever it accepts, the tiles agree on one elevation raster.
@@ -73,7 +74,7 @@ pub fn check<R: ByteSource>(
     ensures voids { AcceptedMeans VoidsAreBlank R.bytes_left side tiles.old sinks.now products.old result }
     ensures complete { AcceptedMeans DataIsComplete R.bytes_left side tiles.old sinks.now products.old result }
 
-    // How far it reads, when a read fails, and that names and headers stay.
+    // How far it reads, when a read fails, and that names and headers are unchanged.
     ensures tiles_within { TilesTakeAtMost R.bytes_left side tiles.old tiles.new }
     ensures rasters_within { (p : Held) → RasterTakesAtMost R.bytes_left products.old products.new p }
     ensures faults { SomeReadFails (map R.counts (devices_of tiles.old products.old)) (map R.counts (devices_of tiles.new products.new)) (IsErrOf result Refusal.ReadFailed) }

@@ -1,4 +1,4 @@
-//! Where the rows of a grid and its products come from, together.
+//! The source of the rows of a grid and its products together.
 
 ghost use Rattle.std.specs.Prelude.{◌≡◌, ℕ, List, length, Option, Some, None, OnOk, IfErr};
 ghost use Rattle.drain_rules.specs.RowNumbers.{RowNumbers, AreRowNumbers};
@@ -9,7 +9,7 @@ ghost use Rattle.drain_verdict.specs.HeldRows.{numbers_of};
 use crate::held_row::HeldRow;
 use drain_answer::Refusal;
 
-/// A reader of a grid's rows, the northernmost first, from tiles and products that are lent at each call.
+/// A reader of a grid's rows, the northernmost first; each call borrows the tiles and products.
 pub trait GridRows<T, P> {
     /// How many tiles it reads.
     ghost count: { Self → ℕ };
@@ -17,10 +17,10 @@ pub trait GridRows<T, P> {
     /// From such tiles and products it gives these rows, from this one on.
     ghost gives: { Self × List T × P → (ℕ → RowNumbers) → ℕ → Type 0 };
 
-    /// From the one state on it has come to the other by so many calls, of which the last may have answered a refusal.
+    /// This number of calls leads from the one state to the other; the last may have returned a refusal.
     ghost has_read: { Self × List T × P → Self × List T × P → ℕ → Option Refusal → Type 0 };
 
-    /// Reads the next row, in place of what is held; none behind the last.
+    /// Reads the next row into the buffer; none after the last.
     fn read_row(
         &mut self,
         tiles: &mut [T],

@@ -1,4 +1,4 @@
-//! The headers of all products: each is read, and must give the shape and the place of the mosaic; and the no-data numbers that they give.
+//! The headers of all products: each is read, and must have the mosaic's shape and place; and their no-data numbers.
 
 ghost use Rattle.std.specs.Prelude.{◌≡◌, ◌↔◌, IsTrue, IfOk, IfErr};
 ghost use Rattle.drain_raster.specs.Pixels.{extent_of};
@@ -41,12 +41,12 @@ fn read_header(layout: &Layout, product: Product, text: &[u8]) -> Result<Header,
     Ok(header)
 }
 
-/// The header of each product, or the first that is refused: all that can be said of one product's header comes before what can be said
-/// of the next's.
+/// The header of each product, or the first refusal: all refusals of one product's header come before those
+/// of the next product.
 ///
-/// A header is refused for its own first fault (`BadHeader`), then where its rows or columns aren't those of the mosaic (`WrongShape`),
-/// then where its corner lies more than 10^-6 degree from the mosaic's or its pixels differ from samples by more than 10^-9 degree
-/// (`Misplaced`).
+/// A header is refused for its own first fault (`BadHeader`), then if its rows or columns aren't those of the mosaic
+/// (`WrongShape`), then if its corner lies more than 10^-6 degree from the mosaic's or its pixels differ from samples
+/// by more than 10^-9 degree (`Misplaced`).
 pub fn read_headers(
     layout: &Layout,
     texts: &PerProduct<&[u8]>,
@@ -61,7 +61,7 @@ pub fn read_headers(
     PerProduct::from_each(&read)
 }
 
-/// The numbers that stand for no data in the products with these headers; for spl, which no set holds, the default one.
+/// The no-data numbers of the products with these headers; for spl, which is in no set, the default one.
 pub fn nodata_of(headers: &PerProduct<Header>) -> NoData
     ensures { result ≡ nodata_in headers.now }
 {

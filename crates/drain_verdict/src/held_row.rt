@@ -1,4 +1,4 @@
-//! A row of a grid and its products in vectors, which are kept for their memory.
+//! A row of a grid and its products in vectors, which are reused for their memory.
 
 ghost use Rattle.std.specs.Prelude.{◌≡◌, ◌↔◌, ◌||◌, ℕ, [], false, slice_index_or, IsTrue, OnOk, OnErr};
 ghost use Rattle.drain_grid.specs.declared.cell.Cell.{Cell};
@@ -12,11 +12,11 @@ use drain_kernel::Lanes;
 use drain_rules::{Ranks, RowView};
 use std::alloc::Global;
 
-/// The elevations of one row, and each product's numbers, none of either where there is no row; marks at its listed sinks; and the numbers
-/// once more in lanes.
+/// The elevations of one row, and each product's numbers, both empty if there is no row; marks at its listed sinks; and
+/// the numbers once more in lanes.
 ///
-/// It may be filled one vector after the other. Only a whole row can be viewed: as many numbers of each. No mark stands for no sink. Lanes are
-/// of use where the numbers fit them, and have to be taken anew for each row.
+/// It may be filled one vector after the other. Only a whole row can be viewed: as many numbers of each. No marks mean
+/// no sinks. Lanes are useful if the numbers fit them, and must be filled again for each row.
 #[derive(Drop)]
 pub struct HeldRow {
     pub z: Vec<i64>,
@@ -29,7 +29,7 @@ pub struct HeldRow {
 impl HeldRow {
     ghost use Rattle.drain_verdict.specs.HeldRows.{IsEven, IsMarked, marked_of, numbers_of};
 
-    /// No row. This takes no memory.
+    /// No row. This needs no memory.
     pub fn new(alloc: Global) -> HeldRow
         ensures numbers { numbers_of result ≡ blank }
         ensures lanes { HasItsLanes result }
@@ -74,7 +74,8 @@ impl HeldRow {
             && products.rnk.len() == len
     }
 
-    /// Marks the listed sinks of the row, whose number this is, and notes those that are voids. With no sink it takes no memory.
+    /// Marks the listed sinks of the row of this number, and notes those that are voids. Without sinks it needs no
+    /// memory.
     pub fn mark(
         &mut self,
         row: u32,
@@ -102,7 +103,7 @@ impl HeldRow {
         voids.note_row(row, self.z.as_slice(), self.sinks.as_slice())
     }
 
-    /// Takes the lanes of the row, for rules with these ranks.
+    /// Fills the lanes of the row, for rules with these ranks.
     pub fn take_lanes(&mut self, ranks: Ranks)
         requires whole { AreRowNumbers (numbers_of self.old) }
         ensures marked { marked_of self.new ≡ marked_of self.old }
@@ -119,7 +120,7 @@ impl HeldRow {
         self.fit = self.lanes.take(self.z.as_slice(), &slices, ranks);
     }
 
-    /// The row as slices, with its lanes where they fit.
+    /// The row as slices, with its lanes if they fit.
     pub fn view(&self) -> RowView<'_>
         requires numbers { AreRowNumbers (numbers_of self.now) }
         requires lanes { HasItsLanes self.now }
@@ -141,7 +142,7 @@ impl HeldRow {
     }
 }
 
-/// Whether anything is marked. It has no branch, so that many marks are looked at together.
+/// Whether anything is marked. It has no branch, so many marks are tested together.
 fn is_any_marked(marks: &[bool]) -> bool
     ensures { result ≡ false → (place : ℕ) → slice_index_or marks.now place false ≡ false }
 {

@@ -1,9 +1,9 @@
-//! Products as they are handed in.
+//! Products as a caller passes them.
 
 use drain_device::ByteList;
 use drain_grid::PerProduct;
 
-/// A product's header, whole, and where its raster's bytes come from.
+/// A product's whole header, and the source of its raster's bytes.
 #[derive(Drop)]
 pub struct RasterInput<R> {
     pub header: ByteList,

@@ -1,4 +1,4 @@
-//! The rows of all inputs: of the mosaic, and of each product, a row of each at a time.
+//! The rows of all inputs: of the mosaic and of each product, one row at a time.
 
 ghost use Rattle.std.specs.Prelude.{◌≡◌, ◌≢◌, ◌≤◌, length, Some, IfOk, IfErr, IfSome};
 ghost use Rattle.drain_device.specs.declared.row_source.Progress.{Progress};
@@ -31,7 +31,7 @@ impl InputRows {
     ghost use Rattle.drain_verdict.specs.InputReads.{with_rasters};
     ghost use Rattle.drain_verdict.specs.InputRows.{AreBegun, HasStopped, IsToldRefusal};
 
-    /// The rows of the mosaic of these tiles, and of the products with these headers, from the first byte of each on.
+    /// The rows of the mosaic of these tiles, and of the products with these headers, each from its first byte on.
     pub fn new<R: ByteSource, P: ProductInputs<R>>(
         alloc: Global,
         layout: &Layout,
@@ -50,8 +50,8 @@ impl InputRows {
         Ok(InputRows { mosaic, rasters })
     }
 
-    /// What the inputs are refused for, once all rows were read: the first tile of wrong length, or else the first product that is short,
-    /// or else the first cell where tiles differ.
+    /// Why the inputs are refused once all rows are read: the first tile of wrong length, else the first product
+    /// that is short, else the first cell where tiles differ.
     pub fn refusal<R: ByteSource, P: ProductInputs<R>>(
         &self,
         layout: &Layout,

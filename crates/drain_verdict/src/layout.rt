@@ -1,4 +1,4 @@
-//! The first stage of a check: the side, the names of the tiles, and the mosaic that they make.
+//! The first stage of a check: the side, the names of the tiles, and their mosaic.
 
 ghost use Rattle.std.specs.Prelude.{IfOk, IfErr};
 ghost use Rattle.std.specs.List.{AllZip};
@@ -12,8 +12,8 @@ use drain_hgt::{TileInput, TileName};
 use drain_mosaic::{Layout, LayoutFault};
 use std::alloc::Global;
 
-/// The layout of the tiles that are named, or why there is none: `BadSide`, `BadName` with the first bad name, then the first
-/// fault of the list of tiles; `OutOfMemory` where there is no memory for the names.
+/// The layout of the named tiles, or why there is none: `BadSide`, `BadName` with the first bad name, then the first
+/// fault of the list of tiles; `OutOfMemory` if there is no memory for the names.
 pub fn layout_of<R>(alloc: Global, side: u32, tiles: &[TileInput<R>]) -> Result<Layout, Refusal>
     ensures layout { IfOk result (IsLayoutOf side (names_of tiles.now)) }
     ensures refusal { IfErr result (IsLayoutRefusal side (names_of tiles.now)) }
@@ -28,7 +28,7 @@ pub fn layout_of<R>(alloc: Global, side: u32, tiles: &[TileInput<R>]) -> Result<
     }
 }
 
-/// The tiles that are named, in their order, or the first name that names none.
+/// The named tiles, in their order, or the first name that names none.
 fn read_names<R>(alloc: Global, tiles: &[TileInput<R>]) -> Result<Vec<TileName>, Refusal>
     ensures names { IfOk result (λ names. AllZip Names (names_of tiles.now) names.items) }
     ensures refusal { IfErr result (IsNameRefusal (names_of tiles.now)) }
@@ -45,7 +45,7 @@ fn read_names<R>(alloc: Global, tiles: &[TileInput<R>]) -> Result<Vec<TileName>,
     Ok(names)
 }
 
-/// The refusal that tells a layout's fault.
+/// The refusal for a layout's fault.
 fn refusal_of(fault: LayoutFault) -> Refusal
     ensures { IsLayoutFaultAs fault result }
 {

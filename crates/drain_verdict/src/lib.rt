@@ -1,4 +1,4 @@
-//! The verdict on rasters that were made from tiles: from the bytes that readers give to an acceptance, a rejection or a refusal.
+//! The verdict on rasters made from tiles: from the bytes that readers give to an acceptance, a rejection or a refusal.
 #![tactic(auto)]
 
 pub mod answer;

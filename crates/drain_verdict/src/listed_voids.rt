@@ -1,4 +1,4 @@
-//! Listed sinks that are voids, noted as the rows of a grid are gone over.
+//! Listed sinks that are voids, noted row by row.
 
 ghost use Rattle.std.specs.Prelude.{◌≡◌, ◌<◌, ◌≤◌, ◌||◌, [], false, length, OnOk};
 ghost use Rattle.drain_grid.specs.declared.cell.Cell.{Cell};
@@ -11,7 +11,7 @@ use std::alloc::Global;
 use std::collections::BTreeSet;
 use std::marker::Model;
 
-/// Cells that are listed, and void.
+/// Cells that are listed and void.
 #[derive(Drop)]
 pub struct ListedVoids {
     cells: BTreeSet<Cell>,
@@ -27,7 +27,7 @@ impl Model for ListedVoids {
 }
 
 impl ListedVoids {
-    /// No cell. This takes no memory.
+    /// No cell. This needs no memory.
     pub fn new(alloc: Global) -> ListedVoids
         ensures { result ≡ [] }
     {
@@ -43,7 +43,7 @@ impl ListedVoids {
         self.cells.contains(&cell)
     }
 
-    /// Notes the cells of a row that are marked as listed, and void.
+    /// Notes the cells of a row that are marked as listed and are void.
     pub fn note_row(&mut self, row: u32, z: &[i64], marks: &[bool]) -> Result<(), OutOfMemory>
         requires narrow { length marks.now ≤ MAX_LENGTH }
         ensures noted { OnOk result ((c : Cell) → is_among self.new c ≡ (is_among self.old c || is_listed_void row z.now marks.now c)) }

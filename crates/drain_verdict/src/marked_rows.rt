@@ -1,4 +1,4 @@
-//! The next row of a grid and its products, with its listed sinks marked and its lanes taken.
+//! The next row of a grid and its products, with its listed sinks marked and its lanes filled.
 
 ghost use Rattle.std.specs.Prelude.{◌≡◌, ◌||◌, [], length, None, IfErr, OnOk};
 ghost use Rattle.drain_grid.specs.declared.cell.Cell.{Cell};
@@ -14,8 +14,8 @@ use drain_answer::Refusal;
 use drain_grid::{OutOfMemory, Sinks};
 use drain_rules::Ranks;
 
-/// Reads the next row, whose number this is, marks its listed sinks, notes those that are voids, and takes its lanes for rules with these ranks. A refusal is the source's own; or it
-/// is `OutOfMemory`, where there are sinks.
+/// Reads the next row, with this number, marks its listed sinks, notes those that are voids, and fills its lanes
+/// for rules with these ranks. A refusal is the source's own, or `OutOfMemory` where there are sinks.
 pub fn read_marked<T, P, S: GridRows<T, P>>(
     source: &mut S,
     tiles: &mut [T],

@@ -1,4 +1,4 @@
-//! Reading tiles alone: their mosaic, for whoever makes products of it.
+//! Reading tiles alone: their mosaic, to make products of it.
 
 ghost use Rattle.std.specs.Prelude.{◌≡◌, map, IfOk, IfErr, IsErrOf};
 ghost use Rattle.drain_mosaic.specs.Tiling.{extent_of};
@@ -20,7 +20,7 @@ use drain_mosaic::Layout;
 use drain_mosaic::laws::agreement_gives_elevation;
 use std::alloc::Global;
 
-/// Tiles put together: which they are and where they lie, and the elevations that they give.
+/// Tiles put together: which they are, where they lie, and their elevations.
 #[derive(Drop)]
 pub struct Mosaic {
     pub layout: Layout,
@@ -31,7 +31,7 @@ pub struct Mosaic {
 /// The mosaic of the tiles, or the first refusal of `check` that is about side, names or tiles: `BadSide`; `BadName`; `NoTiles`,
 /// `RepeatedTile`, `BoxTooLarge`; `BadTileLength`; `SeamMismatch`. `OutOfMemory` and `ReadFailed` come as with `check`.
 ///
-/// The contract speaks of the bytes that the sources had left, where they tell them.
+/// The contract is about the bytes that the sources had left, for sources whose bytes are known.
 pub fn read_mosaic<R: ByteSource>(
     alloc: Global,
     side: u32,
@@ -40,7 +40,7 @@ pub fn read_mosaic<R: ByteSource>(
     ensures mosaic { IfOk result (λ mosaic. (inputs : Inputs) → TellTiles R.bytes_left side tiles.old inputs → IsMosaicOf inputs mosaic.layout mosaic.elevation) }
     ensures refusal { IfErr result (λ refusal. (inputs : Inputs) → TellTiles R.bytes_left side tiles.old inputs → IsMosaicRefusal inputs refusal) }
 
-    // How far it reads, when a read fails, and that names stay.
+    // How far it reads, when a read fails, and that names are unchanged.
     ensures within { TilesTakeAtMost R.bytes_left side tiles.old tiles.new }
     ensures faults { SomeReadFails (map R.counts (tile_devices tiles.old)) (map R.counts (tile_devices tiles.new)) (IsErrOf result Refusal.ReadFailed) }
     ensures names { names_of tiles.new ≡ names_of tiles.old }

@@ -1,4 +1,5 @@
-//! The next row of the mosaic, and of each product: where there is none, no number, and the fault that it tells is kept by its reader.
+//! Reads the next row of the mosaic and of each product. After the last row there are no numbers; a reader keeps its
+//! fault.
 
 ghost use Rattle.std.specs.Prelude.{◌≡◌, ◌≤◌, ℕ, None, Err, length, IfErr, IsTrue, OnOk};
 ghost use Rattle.std.specs.List.{All};
@@ -21,7 +22,7 @@ use drain_hgt::TileInput;
 use drain_mosaic::MosaicRows;
 use drain_raster::RasterRows;
 
-/// Reads the next row of the mosaic: none behind the last.
+/// Reads the next row of the mosaic: none after the last.
 pub fn read_mosaic<R: ByteSource>(
     mosaic: &mut MosaicRows,
     tiles: &mut [TileInput<R>],
@@ -68,7 +69,7 @@ pub fn read_rasters<R: ByteSource>(
     read_raster(told, &mut rasters.rnk, &mut products.rnk.body, &mut out.rnk)
 }
 
-/// Reads the next row of a product, where nothing was refused before: none where its raster has ended, or is short.
+/// Reads the next row of a product, if nothing was refused before: none where its raster has ended or is short.
 pub fn read_raster<R: ByteSource>(
     told: Result<(), Refusal>,
     raster: &mut RasterRows,

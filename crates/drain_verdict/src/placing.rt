@@ -1,4 +1,4 @@
-//! Whether a raster lies where the mosaic does: its corner and the sizes of its pixels, within what tools round.
+//! Whether a raster has the mosaic's place: its corner and pixel sizes, within the rounding of common tools.
 
 ghost use Rattle.std.specs.Prelude.{◌-◌, ◌*◌, ◌^◌, ◌≤◌, ◌*ℤ◌, ◌↔◌, pos, nat_abs, IsTrue};
 ghost use Rattle.drain_mosaic.specs.Tiling as tiling;
@@ -17,7 +17,7 @@ const SIZE_TOLERANCE: u128 = 1_000_000;
 /// No distance that is compared is between numbers further from 0 than this.
 const FARTHEST: u128 = 100_000_000_000_000_000_000_000_000_000;
 
-/// Whether two distances are within so many units of one another.
+/// Whether two distances are within the given number of units of one another.
 fn are_within(units: u128, a: i128, b: i128) -> bool
     requires a { nat_abs a ≤ FARTHEST }
     requires b { nat_abs b ≤ FARTHEST }
@@ -64,7 +64,7 @@ fn is_as_high(layout: &Layout, header: &Header) -> bool
     )
 }
 
-/// Whether the header's raster lies where the mosaic does.
+/// Whether the header's raster has the mosaic's place.
 pub fn is_placed(layout: &Layout, header: &Header) -> bool
     ensures { IsTrue result ↔ IsPlaced layout.now header.now.place }
 {

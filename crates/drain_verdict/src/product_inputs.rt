@@ -1,4 +1,4 @@
-//! Products as they are handed in, and how the rows of their rasters are read: the five of a check, or the four of an audit.
+//! Products as a caller passes them, and how the rows of their rasters are read: five of a check, or four of an audit.
 
 ghost use Rattle.std.specs.Prelude.{◌≡◌, ℕ, List, OnOk, IfOk, IfErr};
 ghost use Rattle.std.specs.List.{All};
@@ -23,16 +23,16 @@ use drain_header::Header;
 use drain_mosaic::Layout;
 use drain_raster::RasterRows;
 
-/// Products that are handed in. They are read as five, whichever of them they are: where one isn't handed in, of which the rules that are
-/// tried ask nothing, another stands in its place.
+/// The products of a call. They are always read as five: for a missing product, which the rules then
+/// ignore, another is the substitute.
 pub trait ProductInputs<R: ByteSource> {
-    /// The five, each or what stands in its place.
+    /// The five, each or its substitute.
     ghost inputs: { Self → Products R };
 
-    /// The readers of the five, each or what stands in its place.
+    /// The readers of the five, each or its substitute.
     ghost readers: { PerProduct RasterRows → PerProduct RasterRows };
 
-    /// A product has the header of what stands in its place.
+    /// A product has the header of its substitute.
     ghost are_alike: { PerProduct Fields → Type 0 };
 
     /// The header of each product, or the first that is refused.
@@ -41,7 +41,7 @@ pub trait ProductInputs<R: ByteSource> {
         ensures alike { IfOk result (λ headers. are_alike headers) }
         ensures refusal { IfErr result (IsFirstHeaderRefusal layout.now (inputs self.now)) };
 
-    /// Readers of rasters with these headers, from the first byte of each on.
+    /// Readers of rasters with these headers, each from its first byte on.
     fn begin(&self, headers: PerProduct<Header>) -> PerProduct<RasterRows>
         requires alike { are_alike headers }
         ensures begun { (p : Held) → IsRasterBegun (of_product headers p) (of_product (readers result) p) };

@@ -1,4 +1,4 @@
-//! Which way each cell leads, noted row by row, and the first run without an end.
+//! The direction of each cell, noted row by row, and the first path without an end.
 
 ghost use Rattle.std.specs.Prelude.{◌≡◌, ◌*◌, length, MatchOption};
 ghost use Rattle.drain_grid.specs.Certificate.{IsFirstEndless};
@@ -39,15 +39,16 @@ impl RowNotes for CellFlows {
     }
 }
 
-/// The first data cell whose run doesn't end, of the flows of all cells of a grid, where this is the verdict of the rules without ranks. Runs are followed only
-/// where it is a rejection: where every rule holds every run ends, since accumulations can't grow along a ring. Where there aren't as many flows as
-/// cells, as never where the sources of the rows tell their bytes, it is none.
+/// The first data cell whose path doesn't end, from the flows of all cells of a grid and this verdict of the rules
+/// without ranks. Paths are followed only after a rejection: if every rule holds every path ends, since accumulation
+/// can't grow along a ring. None if flows and cells differ in number, which never happens if the sources' bytes are
+/// known.
 pub fn first_endless(flows: &mut CellFlows, shape: Shape, verdict: &Verdict) -> Option<Cell>
     ensures first { (g : Grid) (ps : Products) (nodata : NoDataNumbers) → IsVerdictOf (unranked nodata) g ps verdict.now → length flows.old ≡ shape.rows * shape.cols → AreFlowsOf g ps shape flows.old → MatchOption result (AllRunsEnd g ps) (IsFirstEndless g ps) }
     ensures known { (g : Grid) (ps : Products) → AreFlowsOf g ps shape flows.old → AreKnownFlows g ps shape flows.new }
     ensures counted { length flows.new ≡ length flows.old }
 {
-    // The law that where every rule holds without ranks, the products are correct.
+    // The law that products are correct if every rule holds without ranks.
     correct_by_rules_alone();
     if let Verdict::Accepted(_) = verdict {
         return None;

@@ -18,19 +18,19 @@ use drain_rules::{ThreeRows, Verdict};
 
 /// Notes of a grid's rows, taken from north to south.
 pub trait RowNotes {
-    /// So many rows were noted, where they are counted.
+    /// This number of rows was noted, if they are counted.
     ghost counts: { ℕ → Self → Type 0 };
 
-    /// They are of so many rows of the grid, the northernmost, where these rules are tried.
+    /// They are of this number of northernmost rows of the grid, under these rules.
     ghost are_of: { Rules → Grid → Products → ℕ → Self → Type 0 };
 
-    /// Memory may be wanted for them, of such a grid and its products.
+    /// They may need memory, for such a grid and its products.
     ghost wants: { Rules → Grid → Products → Type 0 };
 
-    /// A fact about the notes that no row changes, as that there is a map among them.
+    /// A fact about the notes that no row changes, such as that a map is among them.
     ghost lasting: { Self → Bool };
 
-    /// Notes the next row, where these rules are tried: `row` has its numbers, and `rows` shows it with those above and below it.
+    /// Notes the next row under these rules: `row` has its numbers, and `rows` shows it with those above and below it.
     fn note(
         &mut self,
         row: &HeldRow,
@@ -47,9 +47,9 @@ pub trait RowNotes {
             (λ g ps r. are_of rules.now g ps r self.old → wants rules.now g ps)) };
 }
 
-/// Notes that give the verdict, once every row was noted.
+/// Notes that give the verdict once every row is noted.
 pub trait RowVerdicts: RowNotes {
-    /// The verdict on the grid of this shape whose rows all were noted.
+    /// The verdict on the grid of this shape, all of whose rows are noted.
     fn verdict(&self, shape: Shape) -> Verdict
         ensures { (rules : Rules) (g : Grid) (ps : Products) → g.extent ≡ shape → Self.are_of rules g ps g.extent.rows self.now → IsVerdictOf (tried rules) g ps result };
 }

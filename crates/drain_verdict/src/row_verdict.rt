@@ -32,10 +32,10 @@ pub struct RowVerdict {
     pub voids: ListedVoids,
 }
 
-/// The verdict on the grid of this shape and with these sinks, whose rows the source gives: that of the notes which are taken of each.
+/// The verdict on the grid of this shape and with these sinks, whose rows the source gives: that of the notes.
 ///
-/// One row more is asked for than there are, and behind the last comes none. A refusal is the source's own; or it is `OutOfMemory`, where
-/// the notes want memory, or where there are sinks.
+/// It asks for one row more than there are, and gets none. A refusal is the source's own, or `OutOfMemory` where the
+/// notes need memory or there are sinks.
 pub fn verdict_by_rows<T, P, S: GridRows<T, P>, K: RowVerdicts>(
     alloc: Global,
     shape: Shape,
@@ -75,7 +75,7 @@ pub fn verdict_by_rows<T, P, S: GridRows<T, P>, K: RowVerdicts>(
     Ok(RowVerdict { verdict, voids })
 }
 
-/// Notes each row of the grid, and its listed sinks that are voids, by a window that holds no row and a list of none.
+/// Notes each row of the grid and its listed sinks that are voids, from an empty window and an empty list.
 fn note_rows<T, P, S: GridRows<T, P>, K: RowNotes>(
     shape: Shape,
     sinks: &Sinks,
@@ -101,7 +101,7 @@ fn note_rows<T, P, S: GridRows<T, P>, K: RowNotes>(
     ensures refuses { IfErr result (IsRowsRefusal S.has_read (source.old, tiles.old, products.old) (source.new, tiles.new, products.new)
         (OfGrid (S.gives (source.old, tiles.old, products.old)) shape sinks.now (K.wants rules.now) ⊎ ¬ (sinks.now ≡ []))) }
 {
-    // The law that makes a row's patches of three rows.
+    // The law that builds a row's patches from three rows.
     three_rows_show_patches();
     read_marked(
         source,

@@ -1,4 +1,4 @@
-//! The elevation that the tiles give together.
+//! The elevation of all tiles together.
 
 ghost use Rattle.std.specs.Prelude.{map, IfOk, IfErr};
 ghost use Rattle.drain_mosaic.specs.Mosaic.{AreTiles};
@@ -10,8 +10,9 @@ use drain_grid::Elevation;
 use drain_mosaic::{Layout, SeamFault, join};
 use std::alloc::Global;
 
-/// The elevation that the tiles give together, or `SeamMismatch` with the first cell where they differ; `OutOfMemory` where they agree
-/// and memory is refused. `samples` are those of the tiles, in the order of the layout's names; they are let go once the tiles are joined.
+/// The elevation of all tiles together, or `SeamMismatch` with the first cell where they differ; `OutOfMemory` if they
+/// agree and memory is refused. `samples` are those of the tiles, in the order of the layout's names, freed once
+/// joined.
 pub fn elevation_of(
     alloc: Global,
     layout: &Layout,
@@ -28,7 +29,7 @@ pub fn elevation_of(
     }
 }
 
-/// The refusal that tells a seam's fault.
+/// The refusal for a seam's fault.
 fn refusal_of(fault: SeamFault) -> Refusal
     ensures refusal { IsSeamFaultAs fault result }
     ensures of_bodies { IsOfBodies result }

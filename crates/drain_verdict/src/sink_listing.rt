@@ -8,14 +8,14 @@ ghost use Rattle.drain_verdict.specs.SinkListings.{IsBadLine};
 use drain_grid::{OutOfMemory, SinkFault, Sinks, parse_sinks};
 use std::alloc::Global;
 
-/// The sinks of a list, none where a line is bad; and the first bad line.
+/// The sinks of a list, none if a line is bad; and the first bad line.
 #[derive(Drop)]
 pub struct SinkListing {
     pub sinks: Sinks,
     pub bad: Option<u64>,
 }
 
-/// What a text lists.
+/// The sinks of a text.
 pub fn sink_listing(alloc: Global, text: &[u8]) -> Result<SinkListing, OutOfMemory>
     ensures sinks { IfOk result (λ listing. listing.sinks ≡ lines_in (sinks_of text.now)) }
     ensures bad { IfOk result (λ listing. IsBadLine (sinks_of text.now) listing.bad) }

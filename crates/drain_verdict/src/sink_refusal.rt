@@ -1,4 +1,4 @@
-//! What a list of sinks is refused for.
+//! Why a list of sinks is refused.
 
 ghost use Rattle.std.specs.Prelude.{◌≢◌, Some, IfSome};
 ghost use Rattle.drain_verdict.specs.Refusals.{IsOfBodies};
@@ -9,7 +9,7 @@ use crate::sink_listing::SinkListing;
 use drain_answer::Refusal;
 use drain_grid::{Cell, Shape, SinkData, first_off_data};
 
-/// The first bad line; or else the first that lists a cell outside the grid, or one of these voids.
+/// The first bad line, else the first that lists a cell outside the grid or one of these voids.
 pub fn sink_refusal(listing: &SinkListing, shape: Shape, voids: &ListedVoids) -> Option<Refusal>
     ensures told { IsToldOfSinks listing.now shape voids.now result }
     ensures of_bodies { IfSome result IsOfBodies }

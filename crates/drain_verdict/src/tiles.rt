@@ -1,4 +1,4 @@
-//! Reading the bodies of tiles: at most a byte more than a tile has from each, so that a body that is too long is seen.
+//! Reading the bodies of tiles: at most one byte more than a tile has from each, to detect a body that is too long.
 
 ghost use Rattle.std.specs.Prelude.{◌≡◌, ◌+◌, ◌*◌, ℕ, List, map, length, Some, IfOk, IfErr, IsErrOf};
 ghost use Rattle.std.specs.List.{AllZip};
@@ -21,8 +21,9 @@ use std::alloc::Global;
 
 /// Reads the samples of each tile, in the layout's order, each northernmost row first, in whole metres.
 ///
-/// Answers `BadTileLength` with the first tile whose body has another length than a tile of the layout's side, `ReadFailed` where its
-/// device gives up, `OutOfMemory` where there is no memory for its bytes or its samples. The devices behind that tile's aren't read.
+/// Returns `BadTileLength` with the first tile whose body has another length than a tile of the layout's side,
+/// `ReadFailed` if its device fails for good, `OutOfMemory` without memory for its bytes or samples. Devices of later
+/// tiles aren't read.
 pub fn read_tiles<R: ByteSource>(
     alloc: Global,
     layout: &Layout,
@@ -34,7 +35,7 @@ pub fn read_tiles<R: ByteSource>(
     ensures refusal { IfErr result (λ refusal. (bodies : List (List ℕ)) → AreBodies R.bytes_left tiles.old bodies → IsTileRefusal layout.now bodies refusal) }
     ensures of_bodies { IfErr result IsOfBodies }
 
-    // A read fails exactly where the device of some tile gives up; each gives at most a byte more than a tile has.
+    // A read fails exactly if the device of some tile fails for good; each gives at most one byte more than a tile has.
     ensures faults { SomeReadFails (map R.counts (tile_devices tiles.old)) (map R.counts (tile_devices tiles.new)) (IsErrOf result Refusal.ReadFailed) }
     ensures within { AllZip (λ old new. TakesAtMost (tile_length layout.now.side + 1) (R.bytes_left old.body) (R.bytes_left new.body)) tiles.old tiles.new }
     ensures names { names_of tiles.new ≡ names_of tiles.old }
@@ -54,7 +55,7 @@ pub fn read_tiles<R: ByteSource>(
     Ok(samples)
 }
 
-/// Reads the samples of the tile of this name, and one byte more where there is one.
+/// Reads the samples of the tile of this name, and one byte more if there is one.
 fn read_one<R: ByteSource>(
     alloc: Global,
     side: u32,

@@ -1,4 +1,4 @@
-//! The rows of a grid and its products that are held whole, and the verdict on them, row by row.
+//! The rows of a grid and its products that are whole in memory, and the verdict on them, row by row.
 
 ghost use Rattle.std.specs.Prelude.{◌≡◌, ◌<◌, ◌≤◌, IfOk, OnOk};
 ghost use Rattle.drain_grid.specs.Correct.{IsCorrect, RunsAreSound};
@@ -18,8 +18,8 @@ use drain_grid::{Elevation, OutOfMemory, ProductSet, Shape, Sinks};
 use drain_rules::{GridWalk, Ranks, Rules, Verdict};
 use std::alloc::Global;
 
-/// The verdict of `drain_rules::verdict_of`, by three rows at a time, which takes a fraction of its time. `OutOfMemory` comes where there is
-/// no memory for rows, for a new label or, where there are sinks, for their marks.
+/// The verdict of `drain_rules::verdict_of`, by three rows at a time, in a fraction of its time. `OutOfMemory` if there
+/// is no memory for rows, for a new label or, with sinks, for their marks.
 pub fn verdict_row_by_row(
     alloc: Global,
     elevation: &Elevation,
@@ -38,7 +38,7 @@ pub fn verdict_row_by_row(
     walk(alloc, elevation, sinks, products)
 }
 
-/// Goes over the rows, from north to south.
+/// Scans the rows, from north to south.
 fn walk(
     alloc: Global,
     elevation: &Elevation,
@@ -80,7 +80,7 @@ fn shape_of(products: &ProductSet) -> Shape
     products.con.shape()
 }
 
-/// The rows of rasters that are held whole, from this one on.
+/// The rows of rasters in memory, from this one on.
 #[derive(Drop)]
 struct WholeRows<'a> {
     elevation: &'a Elevation,
@@ -120,7 +120,7 @@ impl<'a> GridRows<(), ()> for WholeRows<'a> {
     }
 }
 
-/// Reads a row of rasters that are held whole.
+/// Reads a row of rasters in memory.
 fn read_whole(
     elevation: &Elevation,
     products: &ProductSet,

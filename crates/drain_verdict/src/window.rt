@@ -1,4 +1,4 @@
-//! A window of three rows, which goes down the rows of a grid.
+//! A window of three rows that moves down the rows of a grid.
 
 ghost use Rattle.std.specs.Prelude.{◌≡◌};
 ghost use Rattle.drain_rules.specs.RowNumbers.{AreRowNumbers, blank};
@@ -18,7 +18,7 @@ pub struct Window {
 }
 
 impl Window {
-    /// No rows. This takes no memory.
+    /// No rows. This needs no memory.
     pub fn new(alloc: Global) -> Window
         ensures above { numbers_of result.above ≡ blank }
         ensures here { numbers_of result.here ≡ blank }
@@ -31,7 +31,7 @@ impl Window {
         }
     }
 
-    /// Moves the window one row down. What stands below afterwards is of no use but for its memory.
+    /// Moves the window one row down. The lower row is then only memory to read into.
     pub fn turn(&mut self)
         ensures above { self.new.above ≡ self.old.here }
         ensures here { self.new.here ≡ self.old.below }

@@ -1,5 +1,5 @@
-//! How the library is called: rasters are judged against tiles of side 1201, and made of them. Sources may be files (`Reader`), or bytes in memory
-//! (`SliceSource`).
+//! How to call the library: rasters are checked against tiles of side 1201, and made of them. Sources may be files
+//! (`Reader`), or bytes in memory (`SliceSource`).
 #![tactic(auto)]
 
 ghost use Rattle.std.specs.Prelude.{[], ◌↔◌, IsTrue, IfOk};
@@ -20,7 +20,7 @@ use std::alloc::Global;
 
 const SIDE: u32 = 1201;
 
-/// Whether rasters are right for these tiles without listed sinks, whoever made them.
+/// Whether rasters are right for these tiles without listed sinks, whichever tool made them.
 pub fn are_right<R: ByteSource>(
     alloc: Global,
     tiles: &mut [TileInput<R>],
@@ -51,7 +51,7 @@ pub fn are_shown_right<R: ByteSource>(
     }
 }
 
-/// Rasters made of a mosaic that `read_mosaic` gave, without listed sinks, which are right where they are handed out.
+/// Rasters made of a mosaic of `read_mosaic`, without listed sinks; if they are returned they are right.
 pub fn rasters_of(alloc: Global, mosaic: &Mosaic) -> Result<ProductSet, MakeRefusal>
     ensures right { IfOk result (λ set. IsCorrect (grid_of mosaic.now.elevation []) (products_of set) default_numbers) }
 {

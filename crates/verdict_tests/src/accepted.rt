@@ -1,4 +1,4 @@
-//! Right products, and what an acceptance leaves behind.
+//! Right products, and what an acceptance leaves.
 
 use crate::agree::{same, same_line};
 use crate::example::{Example, one_tile};
@@ -64,7 +64,7 @@ fn bytes_left<R: ByteSource>(tiles: &mut [TileInput<R>], products: &mut Products
     ]
 }
 
-/// The first product that hasn't the header that it was made with.
+/// The first product without the header that it was made with.
 fn other_header<R>(products: &Products<R>, made: &Example) -> Option<Held> {
     for product in Held::ALL {
         let header = products.of(product).header.as_slice();
@@ -75,7 +75,7 @@ fn other_header<R>(products: &Products<R>, made: &Example) -> Option<Held> {
     None
 }
 
-/// The place of the first tile that hasn't the name that it was made with.
+/// The place of the first tile without the name that it was made with.
 fn other_name<R>(tiles: &[TileInput<R>], made: &Example) -> Option<usize> {
     for (place, (tile, made)) in tiles.iter().zip(made.tiles()).enumerate() {
         if tile.name.as_slice() != made.name.as_slice() {
@@ -85,7 +85,7 @@ fn other_name<R>(tiles: &[TileInput<R>], made: &Example) -> Option<usize> {
     None
 }
 
-/// What a check tells, the bytes that it leaves, and a product with another header and a tile with another name than it was handed.
+/// The line of a check, the bytes that it leaves, and a product with a changed header and a tile with a changed name.
 type Leftovers = (Line, BytesLeft, (Option<Held>, Option<usize>));
 
 fn left_by<R: ByteSource>(
@@ -100,14 +100,14 @@ fn left_by<R: ByteSource>(
     (line, bytes, changed)
 }
 
-/// What a check of an example leaves behind.
+/// What a check of an example leaves.
 fn checked(alloc: Global, example: &Example) -> Result<Leftovers, AllocError> {
     let mut tiles = tiles_at_once(alloc, example.tiles())?;
     let mut products = products_at_once(alloc, ConHeaded::by_itself(example))?;
     Ok(left_by(alloc, example, &mut tiles, &mut products))
 }
 
-/// Of a tile one byte past its end is read, of a raster none; names and headers stay as they were.
+/// Of a tile one byte past its end is read, of a raster none; names and headers are unchanged.
 #[test]
 fn leaves_the_bytes_behind_a_raster(rt: HostRuntime) -> Result<(), Fail> {
     let mut example = one_tile(3, &pit());
@@ -120,7 +120,7 @@ fn leaves_the_bytes_behind_a_raster(rt: HostRuntime) -> Result<(), Fail> {
     Ok(())
 }
 
-/// The rasters are read on to their ends, since all inputs go on together.
+/// The rasters are read to their ends, since all inputs advance together.
 #[test]
 fn reads_one_byte_past_the_end_of_a_tile(rt: HostRuntime) -> Result<(), Fail> {
     let mut example = one_tile(3, &pit());

@@ -69,7 +69,7 @@ fn rejects_a_changed_slope(rt: HostRuntime) -> Result<(), Fail> {
     changes_tell(&rt, rt.alloc(), Asked::Audit, (4, ""), &slope(), &CHANGES)
 }
 
-/// A run without an end is told before the rules: con is too high in the second of these.
+/// A path without an end is reported before the rules: con is too high in the second of these.
 #[test]
 fn rejects_flats_that_lead_nowhere(rt: HostRuntime) -> Result<(), Fail> {
     let mut short_ring = one_tile(4, &ring());
@@ -91,7 +91,7 @@ fn put_first(example: &mut Example, product: Held, line: &str) {
     example.raster_mut(product).header = header;
 }
 
-/// A number for no data that isn't a direction's own, and one that is the elevation everywhere.
+/// A no-data number that isn't a direction's own, and one that is the elevation everywhere.
 #[test]
 fn rejects_beside_other_numbers_of_nodata(rt: HostRuntime) -> Result<(), Fail> {
     let mut wrong_code = one_tile(4, &changed(&slope(), &[(32, 255)]));
@@ -123,7 +123,7 @@ fn put_fault(example: &mut Example, fault: usize) {
     }
 }
 
-/// Faults, the last that is told first, each with its line.
+/// Faults, the last that is reported first, each with its line.
 static FAULTS: [(usize, &str); 7] = [
     (6, "refused SinkNotData 2"),
     (5, "refused BadSinkLine 2"),
@@ -134,7 +134,7 @@ static FAULTS: [(usize, &str); 7] = [
     (0, "refused BadSide"),
 ];
 
-/// Each fault by itself, and with all that come behind it.
+/// Each fault alone, and with all later ones.
 #[test]
 fn refuses_by_the_first_fault(rt: HostRuntime) -> Result<(), Fail> {
     let mut together = one_tile(3, &pit());
@@ -161,13 +161,13 @@ static MIDDLES: [(Owner, u64); 5] = [
     (Owner::Raster(Held::Bas), 33),
 ];
 
-/// How often a source faults, how, and the line that is told.
+/// How often a source faults, how, and the expected line.
 static DEVICE_FAULTS: [Times; 2] = [
     (1, DeviceFault::Failed, "failed ReadFailed"),
     (999, DeviceFault::Interrupted, SLOPE_LINE),
 ];
 
-/// Each body of the slope faults in its middle, and then goes on.
+/// Each body of the slope faults in its middle, and then continues.
 #[test]
 fn bodies_that_go_on_after_a_fault(rt: HostRuntime) -> Result<(), Fail> {
     let slope = one_tile(4, &slope());

@@ -3,8 +3,8 @@
 /// The most bytes of a header, of a tile, of a raster or of a list in these tests.
 const ROOM: usize = 6200;
 
-/// Bytes that own no memory and may be copied, so that a test that holds some is cheap to prove (arrayvec's vectors are dropped, and not copied).
-/// Where there are more than there is room for, it has none.
+/// Bytes that own no memory and may be copied, so that a test with some is cheap to prove (arrayvec's vectors are
+/// dropped, and not copied). If there are more than it has room for, it has none.
 #[derive(Clone, Copy)]
 pub struct Bytes {
     room: [u8; ROOM],
@@ -38,7 +38,7 @@ impl Bytes {
         }
     }
 
-    /// The first of these bytes, so many of them.
+    /// The first n of these bytes.
     pub fn first(&self, length: usize) -> Bytes {
         Bytes {
             room: self.room,
@@ -46,7 +46,7 @@ impl Bytes {
         }
     }
 
-    /// Takes the last byte away.
+    /// Removes the last byte.
     pub fn pop(&mut self) {
         self.length = self.length.saturating_sub(1);
     }

@@ -1,4 +1,4 @@
-//! Ranks for the directions of worked products, held whole. They were worked out by hand.
+//! Ranks for the directions of worked products in memory. They were worked out by hand.
 
 ghost use Rattle.std.specs.Prelude.{◌≡◌, IfOk};
 
@@ -11,7 +11,7 @@ use std::process::Abort;
 use std::test::Fail;
 use worked_grids::{parted, pit, ring, slope};
 
-/// The ranks of a grid in row order, with -1 behind them, or why there are none.
+/// The ranks of a grid in row order, with -1 after them, or why there are none.
 type Told = Result<[i64; 21], CertifyRefusal>;
 
 /// A sixth of a worked grid's numbers: the elevations, or those of one product.
@@ -55,7 +55,7 @@ fn elevation_of(alloc: Global, shape: Shape, numbers: &[i64]) -> Result<Elevatio
     Ok(Elevation::new(shape, samples))
 }
 
-/// The directions of a worked grid: its numbers behind the elevations and con.
+/// The directions of a worked grid: its numbers after the elevations and con.
 fn dir_of(alloc: Global, shape: Shape, numbers: &[i64]) -> Result<Raster, AllocError>
     ensures { IfOk result (λ dir. dir.extent ≡ shape) }
 {
@@ -67,7 +67,7 @@ fn dir_of(alloc: Global, shape: Shape, numbers: &[i64]) -> Result<Raster, AllocE
     Ok(Raster::of_bytes(shape, 255, codes))
 }
 
-/// What is told of these elevations and directions.
+/// The result for these elevations and directions.
 fn certified_by(alloc: Global, elevation: &Elevation, dir: &Raster) -> Told
     requires { elevation.now.extent ≡ dir.now.extent }
 {
@@ -77,7 +77,7 @@ fn certified_by(alloc: Global, elevation: &Elevation, dir: &Raster) -> Told
     }
 }
 
-/// What is told of a worked grid's elevations and directions. Its inputs' want of memory is told as its own.
+/// The result for a worked grid's elevations and directions. If its inputs run out of memory, that is the result.
 fn told(alloc: Global, shape: Shape, numbers: &[i64]) -> Told {
     let Ok(elevation) = elevation_of(alloc, shape, numbers) else {
         return Err(CertifyRefusal::OutOfMemory);
@@ -88,7 +88,7 @@ fn told(alloc: Global, shape: Shape, numbers: &[i64]) -> Told {
     certified_by(alloc, &elevation, &dir)
 }
 
-/// The same of a grid of so many rows and columns.
+/// The same of a grid of this number of rows and columns.
 fn certified(alloc: Global, rows: u32, cols: u32, numbers: &[i64]) -> Result<Told, Fail> {
     match Shape::new(rows, cols) {
         Some(shape) => Ok(told(alloc, shape, numbers)),
@@ -96,7 +96,7 @@ fn certified(alloc: Global, rows: u32, cols: u32, numbers: &[i64]) -> Result<Tol
     }
 }
 
-/// The ranks of these grids count the steps of runs.
+/// The ranks of these grids count the steps of paths.
 #[test]
 fn ranks_of_worked_grids(rt: HostRuntime) -> Result<(), Fail> {
     let (pit, slope, parted) = (pit(), slope(), parted());
@@ -108,7 +108,7 @@ fn ranks_of_worked_grids(rt: HostRuntime) -> Result<(), Fail> {
     Ok(())
 }
 
-/// What is owed of the ring.
+/// The expected result for the ring.
 fn ring_refusal() -> Told {
     Err(CertifyRefusal::NoEnd(Cell { row: 1, col: 1 }))
 }
@@ -120,7 +120,8 @@ fn no_ranks_of_the_ring(rt: HostRuntime) -> Result<(), Fail> {
     Ok(())
 }
 
-/// Ends the test where another thing is told of a grid of 4 by 4 cells than is owed, or afterwards, on fresh inputs, another than is right.
+/// Fails the test if the result for a grid of 4 by 4 cells isn't the expected one, or afterwards, on fresh inputs,
+/// isn't right.
 fn certified_twice(
     rt: &impl Abort,
     alloc: Global,

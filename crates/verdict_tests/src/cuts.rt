@@ -25,7 +25,7 @@ fn a_tile_at_each_length(rt: HostRuntime) -> Result<(), Fail> {
     Ok(())
 }
 
-/// A product, how many bytes its raster has, and the line where there are fewer.
+/// A product, how many bytes its raster has, and the line if there are fewer.
 static RASTERS: [(Held, usize, &str); 5] = [
     (Held::Con, 32, "refused RasterShort con"),
     (Held::Dir, 16, "refused RasterShort dir"),
@@ -80,8 +80,9 @@ const NO_WIDTH: &str = "refused BadHeader con MissingKey XDIM";
 
 const NO_HEIGHT: &str = "refused BadHeader con MissingKey YDIM";
 
-/// What is told of a header that is cut in this line, counted from 1, with so many bytes of it or more. A keyword that is cut says nothing, one without
-/// a value is told, and what is left of a number is a number; that of YDIM is near enough to a third from nine digits on.
+/// The report of a header that is cut in this line, counted from 1, after this number of its bytes or more. A keyword
+/// that is cut is ignored, one without a value is reported, and the rest of a number is a number; that of YDIM is near
+/// enough to a third from nine digits on.
 static TOLD: [(usize, usize, &str); 32] = [
     (1, 0, NO_ROWS),
     (1, 9, "refused BadHeader con BadValue 1"),
@@ -117,7 +118,7 @@ static TOLD: [(usize, usize, &str); 32] = [
     (15, 9, SLOPE_LINE),
 ];
 
-/// The row of the table that tells of a cut in this line, with so many bytes of it: the one behind this row, where that begins here.
+/// The row of the table for a cut in this line after this number of bytes: the one after this row, if that begins here.
 fn row_at(row: usize, line: usize, bytes: usize) -> usize {
     let next = row.saturating_add(1);
     match TOLD.get(next) {
@@ -126,7 +127,7 @@ fn row_at(row: usize, line: usize, bytes: usize) -> usize {
     }
 }
 
-/// What this row of the table tells.
+/// The report of this row of the table.
 fn told_by(row: usize) -> &'static str {
     match TOLD.get(row) {
         Some((_, _, told)) => *told,

@@ -1,4 +1,4 @@
-//! What a check reads, made from small arrays of numbers.
+//! The inputs of a check, made from small arrays of numbers.
 
 use crate::bytes::Bytes;
 use drain_grid::Held;
@@ -17,7 +17,7 @@ pub struct RasterBytes {
     pub body: Bytes,
 }
 
-/// The first so many of these tiles, the list of sinks, and their products.
+/// The given number of first tiles, the list of sinks, and their products.
 #[derive(Clone, Copy)]
 pub struct Example {
     pub side: u32,
@@ -47,7 +47,7 @@ impl Example {
         self
     }
 
-    /// Puts a tile behind the others. Where there are more than there is room for, it has none.
+    /// Appends a tile. If there is no room for it, it has none.
     pub fn push_tile(&mut self, tile: TileBytes) {
         if let Some(place) = self.tiles.get_mut(self.tile_count) {
             *place = tile;
@@ -76,7 +76,7 @@ impl Example {
     }
 }
 
-/// The lines of a header on the tile N00E000 of this side; of side 4 where it is another than 2 or 3.
+/// The lines of a header for the tile N00E000 of this side; of side 4 if it is another than 2 or 3.
 pub fn grid_of(side: u32) -> &'static str {
     match side {
         2 => "NROWS 2\nNCOLS 2\nULXMAP 0\nULYMAP 1\nXDIM 1\nYDIM 1\n",
@@ -165,7 +165,7 @@ pub fn one_tile(side: u32, numbers: &[i64]) -> Example {
     tile_on(side, "N00E000.hgt", grid_of(side), numbers)
 }
 
-/// Tiles of these names and products that all have this header, with no byte behind them.
+/// Tiles of these names and products that all have this header, with no byte after them.
 pub fn bare(side: u32, names: &[&str], header: &str) -> Example {
     let raster = RasterBytes {
         header: Bytes::of(header.as_bytes()),

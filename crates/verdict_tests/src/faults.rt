@@ -1,4 +1,5 @@
-//! What tests of sources that fault do: they ask of an example whose sources give one byte at a call, and look that the line that is owed is told.
+//! Tests of sources that fault: an example whose sources give one byte a call is checked, and the line must be the
+//! expected one.
 
 use crate::agree::same_line;
 use crate::example::Example;
@@ -10,7 +11,7 @@ use std::alloc::Global;
 use std::process::Abort;
 use std::test::Fail;
 
-/// Which calls of an owner's source answer a fault: from the first to the last of them.
+/// Which calls of an owner's source return a fault: from the first to the last of them.
 #[derive(Clone, Copy)]
 pub struct FaultyCalls {
     pub owner: Owner,
@@ -19,7 +20,7 @@ pub struct FaultyCalls {
     pub answer: DeviceFault,
 }
 
-/// Ends the test where another line is told than is owed when a source faults, and tells of which case it is.
+/// Fails the test if a line isn't the expected one when a source faults, and names the case.
 pub fn tells_beside(
     rt: &impl Abort,
     alloc: Global,
@@ -44,7 +45,8 @@ pub fn tells_beside(
     Ok(())
 }
 
-/// The same of checks in which each call of an owner's source fails in turn. Where that is none of those that it is asked, the right line is told.
+/// The same of checks in which each call of an owner's source fails in turn. If the source has no such call, the line
+/// is the right one.
 pub fn fails_at_each_call(
     rt: &impl Abort,
     alloc: Global,
@@ -71,10 +73,10 @@ pub fn fails_at_each_call(
     Ok(())
 }
 
-/// How often a source faults, how, and the line that is told.
+/// How often a source faults, how, and the expected line.
 pub type Times = (u64, DeviceFault, &'static str);
 
-/// The same where an owner's source faults so often from this call on, and then goes on.
+/// The same if an owner's source faults this often from this call on, and then continues.
 pub fn goes_on_after(
     rt: &impl Abort,
     alloc: Global,

@@ -1,4 +1,4 @@
-//! Headers of the pit's products on the tile S01E007: which are right, and which fault is told of those that aren't.
+//! Headers of the pit's products on the tile S01E007: which are right, and which fault is reported of the others.
 
 use crate::example::{Example, header_on, tile_on};
 use crate::runs::Asked;
@@ -22,7 +22,7 @@ const TOO_FAR_EAST: &str =
 
 const TOO_NARROW: &str = "NROWS 3\nNCOLS 3\nULXMAP 7\nULYMAP 0\nXDIM 0.499999998999999\nYDIM 0.5\n";
 
-/// The pit whose con and acc have headers with these lines on their grid, where the others are right.
+/// The pit with these lines on the grid in the headers of con and acc, and the other headers right.
 fn pit_headed(con: &str, acc: &str) -> Example {
     let mut example = tile_on(3, "S01E007.hgt", RIGHT, &pit());
     example.con.header = header_on(Held::Con, con);
@@ -30,7 +30,7 @@ fn pit_headed(con: &str, acc: &str) -> Example {
     example
 }
 
-/// The lines on the grid of con and of acc, what they are, and the line that is told.
+/// The lines on the grid of con and of acc, what they are, and the expected line.
 static HEADERS: [(&str, &str, &str, &str); 7] = [
     (RIGHT, RIGHT, "right", PIT_LINE),
     (JUST_PLACED, RIGHT, "just placed", PIT_LINE),

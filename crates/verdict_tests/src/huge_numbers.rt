@@ -66,7 +66,7 @@ impl HeaderLine {
     }
 }
 
-/// Puts a line behind a header.
+/// Appends a line to a header.
 fn push_line(header: &mut Vec<u8>, line: HeaderLine) -> Result<(), AllocError> {
     header.extend_from_slice(line.begin.as_bytes())?;
     if let Some(digit) = line.digit {
@@ -108,7 +108,7 @@ fn line_with(
     told_of_header(alloc, example, &header)
 }
 
-/// Ends the test where another line is told of an example with such a header than is owed.
+/// Fails the test if the line for an example with such a header isn't the expected one.
 fn header_tells(
     rt: &impl Abort,
     alloc: Global,
@@ -122,7 +122,7 @@ fn header_tells(
     Ok(())
 }
 
-/// The number of a line of the header, what stands in its place, and the line that is told.
+/// The number of a line of the header, its replacement, and the expected line.
 static AT_BOUNDS: [(usize, &str, &str); 8] = [
     (9, "SKIPBYTES 4294967295", "refused RasterShort con"),
     (8, "TOTALROWBYTES 4294967295", "refused RasterShort con"),
@@ -152,7 +152,7 @@ fn numbers_at_their_bounds(rt: HostRuntime) -> Result<(), Fail> {
     Ok(())
 }
 
-/// How a line begins, the digit that is repeated, how it ends, and the line that is told.
+/// How a line begins, the digit that is repeated, how it ends, and the expected line.
 static LONG_DECIMALS: [(&str, u8, &str, &str); 3] = [
     (
         "ULXMAP 1",

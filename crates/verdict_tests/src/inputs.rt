@@ -1,4 +1,5 @@
-//! The tiles and the products of an example as they are read: from sources that give all bytes at once, and from those that give one at a call.
+//! The tiles and the products of an example as they are read: from sources that give all bytes at once, or one byte a
+//! call.
 
 use crate::example::{Example, RasterBytes, TileBytes};
 use drain_device::faults::{ScriptSource, Scripted};
@@ -69,7 +70,7 @@ fn raster_at_once<'a>(
     })
 }
 
-/// An example with this header of con, which may have more bytes than there is room for in it.
+/// An example with this header of con, which may be longer than an example has room for.
 #[derive(Clone, Copy)]
 pub struct ConHeaded<'a> {
     pub example: &'a Example,
@@ -109,7 +110,7 @@ pub fn products_at_once<'a>(
     PerProduct::from_each(&input)
 }
 
-/// A source that gives one byte at a call.
+/// A source that gives one byte a call.
 fn slow<'a>(bytes: &'a [u8], owner: Owner, faulty: Faulty<'a>) -> ScriptSource<'a> {
     if owner == faulty.owner {
         ScriptSource::new(bytes, 1, faulty.script)
@@ -129,7 +130,7 @@ fn slow_tile<'a>(
     })
 }
 
-/// The tiles, whose sources give one byte at a call, and fault as it says.
+/// The tiles, whose sources give one byte a call, and fault by this script.
 pub fn slow_tiles<'a>(
     alloc: Global,
     bytes: &'a [TileBytes],
@@ -142,7 +143,7 @@ pub fn slow_tiles<'a>(
     Ok(tiles)
 }
 
-/// An example whose sources give one byte at a call, and fault as it says.
+/// An example whose sources give one byte a call, and fault by this script.
 #[derive(Clone, Copy)]
 pub struct SlowExample<'a> {
     pub example: &'a Example,
@@ -165,7 +166,7 @@ fn slow_raster<'a>(
     })
 }
 
-/// The products, whose sources give one byte at a call, and fault as it says.
+/// The products, whose sources give one byte a call, and fault by this script.
 pub fn slow_products<'a>(
     alloc: Global,
     slowly: SlowExample<'a>,

@@ -1,4 +1,5 @@
-//! Tests of checks and audits of small products, from their bytes to the line that tells the answer. The lines were worked out by hand from the rules.
+//! Tests of checks and audits of small products, from their bytes to the line of the answer. The lines were worked out
+//! by hand from the rules.
 #![tactic(auto)]
 
 #[cfg(test)]

@@ -24,7 +24,7 @@ pub fn filled_pit_with(text: &str) -> Example {
     one_tile(3, &pit()).listing(text)
 }
 
-/// Lists beside the listed pit, each with the line that is told.
+/// Lists for the listed pit, each with the expected line.
 static LISTED_PIT_LISTS: [(&str, &str); 7] = [
     ("1 1\n1 1", LISTED_PIT_LINE),
     ("1 1\n", LISTED_PIT_LINE),
@@ -40,7 +40,7 @@ fn a_pit_that_is_listed_and_not(rt: HostRuntime) -> Result<(), Fail> {
     lists_tell(&rt, rt.alloc(), &listed_pit_with(""), &LISTED_PIT_LISTS)
 }
 
-/// Lists beside the filled pit, each with the line that is told.
+/// Lists for the filled pit, each with the expected line.
 static FILLED_PIT_LISTS: [(&str, &str); 4] = [
     ("", PIT_LINE),
     ("0 0", PIT_LINE),
@@ -78,7 +78,7 @@ pub fn round_a_void() -> Example {
 /// The line of the land round a void.
 const RIGHT: &str = "accepted rows=5 cols=5 data=24 raised=0 outlets=24";
 
-/// Lists beside land with a void inside, each with the line that is told.
+/// Lists for land with a void inside, each with the expected line.
 static VOID_LISTS: [(&str, &str); 8] = [
     ("", RIGHT),
     ("1 1\n4 4", RIGHT),
@@ -95,7 +95,7 @@ fn a_void_inside_the_land(rt: HostRuntime) -> Result<(), Fail> {
     lists_tell(&rt, rt.alloc(), &round_a_void(), &VOID_LISTS)
 }
 
-/// How two tiles of side 3 lie, the second beside the first or below it.
+/// The places of two tiles of side 3, the second next to the first or below it.
 #[derive(Clone, Copy)]
 pub enum Lie {
     Beside,
@@ -132,7 +132,7 @@ fn two_level_tiles(lie: Lie, products: &[i64], text: &str) -> Example {
     example.listing(text)
 }
 
-/// Two level tiles whose products are right where this cell is listed, with this list.
+/// Two level tiles whose products are right if this cell is listed, with this list.
 pub fn two_tiles(alloc: Global, lie: Lie, cell: (u8, u16), text: &str) -> Result<Example, Fail> {
     let (rows, cols, _, _) = lie.mosaic();
     let shafts = Shafts {
@@ -153,7 +153,7 @@ const RIGHT_BELOW: &str = "accepted rows=5 cols=3 data=15 raised=0 outlets=13";
 
 const OPEN_OF_ITSELF: &str = "accepted rows=3 cols=5 data=15 raised=0 outlets=12";
 
-/// How the tiles lie, the cell at which the products are right, the list, and the line that is told.
+/// The places of the tiles, the cell at which the products are right, the list, and the expected line.
 static TWO_TILES: [(Lie, (u8, u16), &str, &str); 18] = [
     (Lie::Beside, (1, 1), "1 1", RIGHT_BESIDE),
     (Lie::Beside, (1, 2), "1 2", RIGHT_BESIDE),
@@ -205,7 +205,7 @@ fn sinks_of_two_tiles(rt: HostRuntime) -> Result<(), Fail> {
     Ok(())
 }
 
-/// The lists beside which a source fails, and the line that is told where it doesn't.
+/// The lists for which a source fails, and the expected line if it doesn't.
 static BESIDE_A_FAULT: [(&str, &str); 4] = [
     (LISTED_PIT_SINKS, LISTED_PIT_LINE),
     ("2 2\n", UNLISTED_PIT_LINE),
@@ -213,7 +213,7 @@ static BESIDE_A_FAULT: [(&str, &str); 4] = [
     ("1 1\n\n3 3", "refused SinkNotData 3"),
 ];
 
-/// Owners of sources, each with how often its source is asked.
+/// Owners of sources, each with the number of calls of its source.
 static CALLS: [(Owner, u64); 4] = [
     (Owner::Tile, 19),
     (Owner::Raster(Held::Con), 18),
@@ -232,7 +232,7 @@ fn sources_that_fail_beside_a_list(rt: HostRuntime) -> Result<(), Fail> {
     Ok(())
 }
 
-/// An owner, the first and the last call of its source that is interrupted, and whether that is borne.
+/// An owner, the first and the last call of its source that is interrupted, and whether that is retried.
 static INTERRUPTIONS: [(Owner, u64, u64, bool); 8] = [
     (Owner::Tile, 1, 999, true),
     (Owner::Tile, 5, 1003, true),
@@ -272,7 +272,7 @@ static RULES: [Changes; 6] = [
     (&[(36, 2)], "rejected rule=14 Label row=0 col=0"),
 ];
 
-/// Rules that don't look at sinks, at the listed pit with one number changed; its samples and its products are 9 each.
+/// Rules that ignore sinks, at the listed pit with one number changed; its samples and its products are 9 each.
 #[test]
 fn rules_beside_a_list(rt: HostRuntime) -> Result<(), Fail> {
     changes_tell(

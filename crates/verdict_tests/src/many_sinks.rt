@@ -1,4 +1,4 @@
-//! Lists of a thousand lines over a level tile of side 34, each of whose cells is an outlet with a label of its own.
+//! Lists of a thousand lines for a level tile of side 34, each of whose cells is an outlet with a label of its own.
 
 use crate::agree::same_line;
 use crate::bytes::Bytes;
@@ -31,7 +31,7 @@ fn digits(number: u32) -> [u8; 2] {
     [b'0'.saturating_add(tens), b'0'.saturating_add(ones)]
 }
 
-/// Puts the line of a cell behind a list.
+/// Appends the line of a cell to a list.
 fn push_cell(list: &mut Bytes, row: u32, col: u32) {
     list.extend(&digits(row));
     list.push(b' ');
@@ -39,7 +39,7 @@ fn push_cell(list: &mut Bytes, row: u32, col: u32) {
     list.push(b'\n');
 }
 
-/// A list of the 1,024 cells that don't lie on the edge, out of their order, but of this one; and a line behind them.
+/// A list of the 1,024 cells off the edge, out of order, without this one; and a line after them.
 fn list(left_out: (u32, u32), last: &str) -> Bytes {
     let mut list = Bytes::new();
     for number in 0..1024u32 {
@@ -57,7 +57,7 @@ fn list(left_out: (u32, u32), last: &str) -> Bytes {
 /// The line of the level tile.
 const RIGHT: &str = "accepted rows=34 cols=34 data=1156 raised=0 outlets=1156";
 
-/// The cell that is left out, the last line, and the line that is told.
+/// The cell that is left out, the last line, and the expected line.
 static LISTS: [((u32, u32), &str, &str); 10] = [
     ((0, 0), "", RIGHT),
     ((0, 0), "33 33\n0 33\n17 20", RIGHT),

@@ -40,7 +40,7 @@ fn samples_of(elevation: &Elevation) -> ([i16; 6], usize) {
 /// A mosaic's west, its north, its first six samples and how many it has.
 type Joined = (i16, i16, [i16; 6], usize);
 
-/// What the tiles make together.
+/// The mosaic of the tiles.
 fn joined(alloc: Global, bytes: &[TileBytes]) -> Result<Joined, Fail> {
     let mut tiles = tiles_at_once(alloc, bytes)?;
     let mosaic = read_mosaic(alloc, 2, &mut tiles)?;
@@ -74,7 +74,7 @@ fn refused_at_once(alloc: Global, side: u32, bytes: &[TileBytes]) -> Result<Line
     refused(alloc, side, &mut tiles)
 }
 
-/// Ends the test where another line is told of tiles of this side than is owed.
+/// Fails the test if the line for tiles of this side isn't the expected one.
 fn refuses(
     rt: &impl Abort,
     alloc: Global,

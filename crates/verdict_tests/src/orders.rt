@@ -1,4 +1,4 @@
-//! Inputs with two faults, of which the earlier is told.
+//! Inputs with two faults, of which the earlier is reported.
 
 use crate::bytes::Bytes;
 use crate::example::{Example, bare, one_tile, products_on, tile};
@@ -15,7 +15,7 @@ const ELSEWHERE_AND_HIGHER: &str = "NROWS 4\nNCOLS 3\nULXMAP 1\nULYMAP 1\nXDIM 0
 
 const TWO_BANDS: &str = "NBANDS 2\nNROWS 3\nNCOLS 3\nULXMAP 0\nULYMAP 1\nXDIM 0.5\nYDIM 0.5\n";
 
-/// A side, names of tiles, and the line that is told where no header is right.
+/// A side, names of tiles, and the expected line if no header is right.
 static NAMES: [(u32, &[&str], &str); 6] = [
     (1, &["x"], "refused BadSide"),
     (3, &["x"], "refused BadName 0"),
@@ -38,7 +38,7 @@ fn tells_the_side_before_the_names_before_the_headers(rt: HostRuntime) -> Result
     Ok(())
 }
 
-/// An empty tile of side 3, whose products have this header but for con, dir and rnk.
+/// An empty tile of side 3, whose products have this header, except con, dir and rnk.
 fn headed(con: &str, dir: &str, rnk: &str) -> Example {
     let mut example = bare(3, &["N00E000.hgt"], RIGHT);
     example.con.header = Bytes::of(con.as_bytes());
@@ -47,7 +47,7 @@ fn headed(con: &str, dir: &str, rnk: &str) -> Example {
     example
 }
 
-/// The headers of con, dir and rnk, and the line that is told.
+/// The headers of con, dir and rnk, and the expected line.
 static PRODUCTS: [(&str, &str, &str, &str); 5] = [
     (ELSEWHERE, TWO_BANDS, RIGHT, "refused Misplaced con"),
     (ELSEWHERE_AND_HIGHER, RIGHT, RIGHT, "refused WrongShape con"),
@@ -71,7 +71,8 @@ fn tells_a_product_before_the_next_and_the_tiles(rt: HostRuntime) -> Result<(), 
     Ok(())
 }
 
-/// Two tiles of side 2 that differ in the middle of the first row; every other cell is void, and no product has the number for no data.
+/// Two tiles of side 2 that differ in the middle of the first row; every other cell is void, and no product has the
+/// no-data number.
 fn torn() -> Example {
     let grid = "NROWS 2\nNCOLS 3\nULXMAP 0\nULYMAP 1\nXDIM 1\nYDIM 1\n";
     let v = -32768;

@@ -16,7 +16,7 @@ fn pit_on(product: Held, grid: &str) -> Example {
     example
 }
 
-/// A product, the lines on its grid, and the line that is told.
+/// A product, the lines on its grid, and the expected line.
 static PLACES_AND_SHAPES: [(Held, &str, &str); 6] = [
     (
         Held::Con,
@@ -94,7 +94,7 @@ fn refuses_tiles_that_differ(rt: HostRuntime) -> Result<(), Fail> {
     tells(&rt, rt.alloc(), Asked::Check, "a seam", &example, line)
 }
 
-/// A usual tool's header of the tile N37W105, but for its spaces.
+/// A usual tool's header of the tile N37W105, except its spaces.
 const USUAL: &str = "BYTEORDER I
 LAYOUT BIL
 NROWS 1201

@@ -68,7 +68,7 @@ fn rejects_by_the_other_rules(rt: HostRuntime) -> Result<(), Fail> {
     each_tells(&rt, rt.alloc(), Asked::Check, &cases)
 }
 
-/// Cells with data, whose number is that which the header gives for no data.
+/// Cells with data, whose number is the header's no-data number.
 #[test]
 fn rejects_the_number_of_nodata(rt: HostRuntime) -> Result<(), Fail> {
     let mut example = one_tile(2, &level());

@@ -1,4 +1,4 @@
-//! Runs of a check or an audit over an example, and the line that is told.
+//! Runs of a check or an audit over an example, and their lines.
 
 use crate::example::Example;
 use crate::inputs::{
@@ -11,11 +11,11 @@ use drain_verdict::{AuditProducts, Products, audit, audit_report, check, report}
 use std::alloc::{AllocError, Global};
 use std::test::Fail;
 
-/// What is asked of an example.
+/// What is run on an example.
 #[derive(Clone, Copy)]
 pub enum Asked {
     Check,
-    /// The ranks aren't handed in.
+    /// The ranks aren't passed.
     Audit,
 }
 
@@ -50,7 +50,7 @@ fn audit_line_of<R: ByteSource>(
     audit_report(&audit(alloc, example.side, tiles, sinks, products))
 }
 
-/// The line that is told of these tiles and products, with the side and the list of the example.
+/// The line for these tiles and products, with the side and the list of the example.
 fn answered<R: ByteSource + Drop>(
     alloc: Global,
     asked: Asked,
@@ -70,7 +70,7 @@ fn told_of(alloc: Global, asked: Asked, headed: ConHeaded<'_>) -> Result<Line, A
     Ok(answered(alloc, asked, headed.example, &mut tiles, products))
 }
 
-/// The line where sources give all bytes at once.
+/// The line when sources give all bytes at once.
 pub fn told_at_once(alloc: Global, asked: Asked, example: &Example) -> Result<Line, AllocError> {
     told_of(alloc, asked, ConHeaded::by_itself(example))
 }
@@ -80,7 +80,7 @@ pub fn told_of_header(alloc: Global, example: &Example, header: &[u8]) -> Result
     told_of(alloc, Asked::Check, ConHeaded { example, header })
 }
 
-/// The line where sources give one byte at a call, and fault as it says.
+/// The line when sources give one byte a call, and fault by this script.
 pub fn told_slowly(
     alloc: Global,
     asked: Asked,
@@ -92,14 +92,15 @@ pub fn told_slowly(
     Ok(answered(alloc, asked, example, &mut tiles, products))
 }
 
-/// The line where sources never fault: the same whether they give all bytes at once or one at a call.
+/// The line when sources never fault: the same whether they give all bytes at once or one byte a call.
 pub fn told(alloc: Global, asked: Asked, example: &Example) -> Result<Line, Fail> {
     let line = told_at_once(alloc, asked, example)?;
     let slow = told_slowly(alloc, asked, example, Faulty::never())?;
     agreed(line, &slow)
 }
 
-/// The line that was told where bytes come at once, if it is the same where they come one at a call, and doesn't tell of want of memory.
+/// The line when bytes come at once, if it is the same when they come one at a call, and doesn't say that memory ran
+/// out.
 fn agreed(line: Line, slow: &Line) -> Result<Line, Fail> {
     if wants_memory(&line) || wants_memory(slow) {
         return Err("failed OutOfMemory".into());

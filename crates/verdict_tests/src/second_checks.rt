@@ -1,4 +1,5 @@
-//! Checks that come after one that found no memory: they tell what is right. Of itself memory is there; `tests/refuse_memory.c` refuses it.
+//! Checks after one that ran out of memory: they report what is right. Normally memory is there;
+//! `tests/refuse_memory.c` refuses it.
 
 use crate::example::one_tile;
 use crate::listed_sinks::{filled_pit_with, listed_pit_with};
@@ -53,7 +54,7 @@ fn slope_after_refused_memory(rt: HostRuntime) {
     );
 }
 
-/// Enough sinks that what holds them grows.
+/// Enough sinks that their vector grows.
 const SINKS: &str = "1 1\n0 0\n0 1\n0 2\n1 0\n1 2\n2 0\n2 1\n2 2\n1 1\n";
 
 #[test]

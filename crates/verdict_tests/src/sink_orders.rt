@@ -1,4 +1,4 @@
-//! Lists of sinks that are refused, and which of two faults is told.
+//! Lists of sinks that are refused, and which of two faults is reported.
 
 use crate::agree::same_line;
 use crate::bytes::Bytes;
@@ -9,7 +9,7 @@ use drain_verdict::{Refusal, report};
 use std::test::Fail;
 use worked_grids::{PIT_LINE, UNLISTED_PIT_LINE, listed_pit, parted, voids};
 
-/// Lists beside the filled pit, each with the line that is told.
+/// Lists for the filled pit, each with the expected line.
 static BAD_LINES: [(&str, &str); 12] = [
     ("0 0", PIT_LINE),
     ("1 1\nx", "refused BadSinkLine 2"),
@@ -20,7 +20,7 @@ static BAD_LINES: [(&str, &str); 12] = [
     ("0 4294967296", "refused BadSinkLine 1"),
     ("0 0\r\r\n", "refused BadSinkLine 1"),
     ("\n\n0 0\n\r\n0\x0b0\n0", "refused BadSinkLine 5"),
-    // Every line is judged before any cell.
+    // Every line is checked before any cell.
     ("9 9\nx", "refused BadSinkLine 2"),
     ("9 9\n\n9 9\n0 0 0\nx", "refused BadSinkLine 4"),
     ("4294967295 4294967295\n0,0", "refused BadSinkLine 2"),
@@ -31,7 +31,7 @@ fn lines_that_are_bad(rt: HostRuntime) -> Result<(), Fail> {
     lists_tell(&rt, rt.alloc(), &filled_pit_with(""), &BAD_LINES)
 }
 
-/// Lists beside the filled pit, each with the line that is told.
+/// Lists for the filled pit, each with the expected line.
 static OUTSIDE: [(&str, &str); 8] = [
     ("0 0\n3 0", "refused SinkNotData 2"),
     ("0 3", "refused SinkNotData 1"),
@@ -48,7 +48,7 @@ fn cells_that_are_outside(rt: HostRuntime) -> Result<(), Fail> {
     lists_tell(&rt, rt.alloc(), &filled_pit_with(""), &OUTSIDE)
 }
 
-/// Lists beside voids, each with the line that is told.
+/// Lists for voids, each with the expected line.
 static VOIDS: [(&str, &str); 6] = [
     ("0 0", "refused SinkNotData 1"),
     ("1 1\n0 0", "refused SinkNotData 1"),
@@ -63,7 +63,7 @@ fn voids_that_are_listed(rt: HostRuntime) -> Result<(), Fail> {
     lists_tell(&rt, rt.alloc(), &one_tile(2, &voids()), &VOIDS)
 }
 
-/// Two flats with a column of voids between them, which no tile covers; some numbers of the products may be others.
+/// Two flats with a column of voids between them, which no tile covers; some numbers of the products may be changed.
 pub fn with_a_gap(changes: &[(usize, i64)]) -> Example {
     let grid = "NROWS 3\nNCOLS 7\nULXMAP 0\nULYMAP 1\nXDIM 0.5\nYDIM 0.5\n";
     let numbers = changed(&parted(), changes);
@@ -77,7 +77,7 @@ pub fn with_a_gap(changes: &[(usize, i64)]) -> Example {
 /// The line of the flats with a gap.
 const RIGHT: &str = "accepted rows=3 cols=7 data=18 raised=0 outlets=16";
 
-/// Lists beside flats with a gap, each with the line that is told.
+/// Lists for flats with a gap, each with the expected line.
 static OFF_THE_DATA: [(&str, &str); 9] = [
     ("0 0\n2 6\n1 2", RIGHT),
     ("0 3", "refused SinkNotData 1"),
@@ -90,7 +90,7 @@ static OFF_THE_DATA: [(&str, &str); 9] = [
     ("\n0 7\n1 3", "refused SinkNotData 2"),
 ];
 
-/// Lists beside the same with a raised corner, each with the line that is told.
+/// Lists for the same with a raised corner, each with the expected line.
 static RAISED_CORNER: [(&str, &str); 6] = [
     ("", "rejected rule=5 OpenRaised row=0 col=0"),
     ("0 0\n2 6", "rejected rule=5 OpenRaised row=0 col=0"),
@@ -100,27 +100,27 @@ static RAISED_CORNER: [(&str, &str); 6] = [
     ("0 0\n\n-", "refused BadSinkLine 3"),
 ];
 
-/// The least line is told, wherever its cell lies, and before any rule.
+/// The least line is reported, wherever its cell is, and before any rule.
 #[test]
 fn the_first_of_the_lines_off_the_data(rt: HostRuntime) -> Result<(), Fail> {
     lists_tell(&rt, rt.alloc(), &with_a_gap(&[]), &OFF_THE_DATA)?;
     lists_tell(&rt, rt.alloc(), &with_a_gap(&[(21, 1)]), &RAISED_CORNER)
 }
 
-/// Lists beside the listed pit, each with the line that is told.
+/// Lists for the listed pit, each with the expected line.
 static BEFORE_THE_RULES: [(&str, &str); 3] = [
     ("2 2", UNLISTED_PIT_LINE),
     ("2 2\nx", "refused BadSinkLine 2"),
     ("2 2\n\n2 3", "refused SinkNotData 3"),
 ];
 
-/// A rejection comes behind a list that is refused.
+/// A rejection comes after a list that is refused.
 #[test]
 fn tells_a_list_before_the_rules(rt: HostRuntime) -> Result<(), Fail> {
     lists_tell(&rt, rt.alloc(), &listed_pit_with(""), &BEFORE_THE_RULES)
 }
 
-/// What is wrong with an example beside its list.
+/// What is wrong with an example besides its list.
 #[derive(Clone, Copy)]
 enum Wrong {
     Side,
@@ -143,7 +143,7 @@ fn wrong_pit(wrong: Wrong) -> Example {
     pit
 }
 
-/// What is wrong, and the line that is told of it.
+/// What is wrong, and its expected line.
 static WRONG_PITS: [(Wrong, &str); 5] = [
     (Wrong::Side, "refused BadSide"),
     (Wrong::NoHeader, "refused BadHeader rnk MissingKey NROWS"),

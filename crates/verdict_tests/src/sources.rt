@@ -11,7 +11,7 @@ use worked_grids::{PIT_LINE, SLOPE_LINE, pit, slope};
 
 const FAILED: &str = "failed ReadFailed";
 
-/// The first and the last call that is interrupted, and the line that is told.
+/// The first and the last call that is interrupted, and the expected line.
 static INTERRUPTIONS: [(u64, u64, &str); 5] = [
     (1, 999, PIT_LINE),
     (5, 1003, PIT_LINE),
@@ -41,7 +41,7 @@ fn bears_999_interruptions_of_each_source(rt: HostRuntime) -> Result<(), Fail> {
     Ok(())
 }
 
-/// Owners of sources, each with how often its source is asked.
+/// Owners of sources, each with the number of calls of its source.
 static CALLS: [(Owner, u64); 6] = [
     (Owner::Tile, 19),
     (Owner::Raster(Held::Con), 18),
@@ -51,7 +51,7 @@ static CALLS: [(Owner, u64); 6] = [
     (Owner::Raster(Held::Rnk), 36),
 ];
 
-/// A tile of 18 bytes is asked once more, for its end; a raster isn't.
+/// A tile of 18 bytes is read once more, for its end; a raster isn't.
 #[test]
 fn never_takes_a_failed_source_for_its_end(rt: HostRuntime) -> Result<(), Fail> {
     let pit = one_tile(3, &pit());
@@ -71,14 +71,14 @@ static MIDDLES: [(Owner, u64); 6] = [
     (Owner::Raster(Held::Rnk), 33),
 ];
 
-/// How often a source faults, how, and the line that is told.
+/// How often a source faults, how, and the expected line.
 static DEVICE_FAULTS: [Times; 3] = [
     (1, DeviceFault::Failed, FAILED),
     (999, DeviceFault::Interrupted, SLOPE_LINE),
     (1000, DeviceFault::Interrupted, FAILED),
 ];
 
-/// Each body of the slope faults in its middle, and then goes on.
+/// Each body of the slope faults in its middle, and then continues.
 #[test]
 fn bodies_that_go_on_after_a_fault(rt: HostRuntime) -> Result<(), Fail> {
     let slope = one_tile(4, &slope());

@@ -1,4 +1,4 @@
-//! What every test does: it asks of an example, and looks that the line that is owed is told.
+//! What every test does: it checks an example, and tests that the line is the expected one.
 
 use crate::agree::same_line;
 use crate::example::{Example, changed, one_tile};
@@ -10,7 +10,7 @@ use std::alloc::Global;
 use std::process::Abort;
 use std::test::Fail;
 
-/// Ends the test where another line is told than is owed, and tells of which case it is.
+/// Fails the test if a line isn't the expected one, and names the case.
 pub fn tells(
     rt: &impl Abort,
     alloc: Global,
@@ -24,7 +24,7 @@ pub fn tells(
     Ok(())
 }
 
-/// The same of each of these, each beside its line.
+/// The same of each of these, each with its line.
 pub fn each_tells(
     rt: &impl Abort,
     alloc: Global,
@@ -51,7 +51,7 @@ pub fn lists_tell(
     Ok(())
 }
 
-/// The same of checks of an example with each of these lists, where the line is always this one.
+/// The same of checks of an example with each of these lists, always with this line.
 pub fn any_list_tells(
     rt: &impl Abort,
     alloc: Global,
@@ -65,7 +65,7 @@ pub fn any_list_tells(
     Ok(())
 }
 
-/// Some of an example's numbers that are changed, each by its place, and the line that is told.
+/// Some of an example's numbers that are changed, each by its place, and the expected line.
 pub type Changes = (&'static [(usize, i64)], &'static str);
 
 /// The same of a tile of this side, with this list and these numbers, with each of these changes.
@@ -85,7 +85,7 @@ pub fn changes_tell<const N: usize>(
     Ok(())
 }
 
-/// The line that is told where bytes come at once. The inputs' want of memory is told as its own.
+/// The line when bytes come at once. If the inputs run out of memory, that is its line.
 fn line_told(alloc: Global, asked: Asked, example: &Example) -> Line {
     match told_at_once(alloc, asked, example) {
         Ok(line) => line,
@@ -93,7 +93,7 @@ fn line_told(alloc: Global, asked: Asked, example: &Example) -> Line {
     }
 }
 
-/// Ends the test where another line is told than is owed, or after it, on fresh inputs, another than the right one.
+/// Fails the test if a line isn't the expected one, or if after it, on fresh inputs, a line isn't the right one.
 pub fn tells_twice(rt: &impl Abort, alloc: Global, asked: Asked, example: &Example, right: &str) {
     let first = line_told(alloc, asked, example);
     let line = owed_unless_right(alloc, first.as_str(), "failed OutOfMemory", right);

@@ -1,4 +1,4 @@
-//! The verdict on rasters held whole, row by row.
+//! The verdict on rasters in memory, row by row.
 
 ghost use Rattle.std.specs.Prelude.{◌≡◌, IfOk};
 

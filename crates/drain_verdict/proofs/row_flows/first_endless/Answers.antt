@@ -1,4 +1,4 @@
--- Where every rule holds the products are correct, and so every run ends.
+-- Where every rule holds the products are correct, and so every path ends.
 use Rattle.std.proofs.Common.{subst}
 use Rattle.drain_grid.specs.Unranked.{unranked}
 use Rattle.drain_rules.specs.Verdicts.{IsVerdictOf}
