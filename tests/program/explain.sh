@@ -157,14 +157,14 @@ printf '5 6\n\n1 1 1\n' >"$check/sinks.txt"
 listed=1 refused 'a line of sinks' <<'END'
 refused BadSinkLine 3
 
-expected: line 3 with a row and a column, as 12 7
+expected: line 3: a row and a column, such as 12 7
 found: line 3: 1 1 1
 END
 printf '\n5 6\n' >"$check/sinks.txt"
 listed=1 refused 'a sink outside' <<'END'
 refused SinkNotData 2
 
-expected: line 2 with a data cell
+expected: line 2: a data cell
 found: row 5, column 6, outside the mosaic
 END
 printf '1 2\n' >"$check/sinks.txt"
@@ -172,7 +172,7 @@ printf '\0\5\0\5\0\5\0\5\0\1\200\0\0\5\0\5\0\5' >"$tile"
 listed=1 refused 'a sink at a void' <<'END'
 refused SinkNotData 1
 
-expected: line 1 with a data cell
+expected: line 1: a data cell
 found: row 1, column 2, a void
 END
 make_bare
@@ -182,8 +182,8 @@ tiles=("$tile" "$check/N01E000.hgt")
 refused 'a seam' <<'END'
 refused SeamMismatch row=2 col=0
 
-expected: one value at the cell: N00E000.hgt gives 5
-found: N01E000.hgt gives 6
+expected: one height at the cell: N00E000.hgt has 5
+found: N01E000.hgt has 6
 END
 sed -i 's/^NROWS 5/NROWS 3/' "$check/out/dir.hdr"
 refused 'rows and columns of two tiles' <<'END'

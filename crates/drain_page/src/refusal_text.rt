@@ -48,14 +48,14 @@ fn push_expected(text: &mut Vec<u8>, note: &RefusalNote) -> Result<(), OutOfMemo
             expected,
             ..
         } => push_raster_length(text, *product, *expected),
-        RefusalNote::Seam { first, .. } => push_seam(text, "one value at the cell: ", first),
+        RefusalNote::Seam { first, .. } => push_seam(text, "one height at the cell: ", first),
         RefusalNote::SinkLine { number, .. } => {
             push_line_number(text, *number)?;
-            push(text, " with a row and a column, as 12 7")
+            push(text, ": a row and a column, such as 12 7")
         }
         RefusalNote::SinkCell { number, .. } => {
             push_line_number(text, *number)?;
-            push(text, " with a data cell")
+            push(text, ": a data cell")
         }
     }
 }
@@ -129,7 +129,7 @@ fn push_bytes_long(text: &mut Vec<u8>, words: &str, bytes: u64) -> Result<(), Ou
 fn push_seam(text: &mut Vec<u8>, words: &str, value: &TileValue) -> Result<(), OutOfMemory> {
     push(text, words)?;
     push(text, value.tile.text().as_str())?;
-    push(text, " gives ")?;
+    push(text, " has ")?;
     push_metres(text, value.metres)
 }
 

@@ -31,13 +31,13 @@ pub(crate) fn push_wanted(
 /// Appends what was expected.
 fn push_expected(text: &mut Vec<u8>, wanted: &Wanted) -> Result<(), OutOfMemory> {
     match wanted {
-        Wanted::Blank(products) => push_products(text, "no data at a void, of ", products),
-        Wanted::Numbers(products) => push_products(text, "a number at a data cell, of ", products),
+        Wanted::Blank(products) => push_products(text, "no data at a void, in ", products),
+        Wanted::Numbers(products) => push_products(text, "a number at a data cell, in ", products),
         Wanted::Code => push(text, "dir 0, 1, 2, 4, 8, 16, 32, 64 or 128"),
         Wanted::AtLeast(ground) => push_with(text, "con at least the ground, ", *ground),
         Wanted::Ground { ground, open } => push_ground(text, *ground, *open),
         Wanted::AtMost(most) => push_most(text, *most),
-        Wanted::Steepest(_) => push(text, "dir of a steepest way down"),
+        Wanted::Steepest(_) => push(text, "dir of a steepest descent"),
         Wanted::Outlet(open) => {
             push(text, "dir 0, with no lower neighbour")?;
             push_opening(text, *open)
@@ -95,7 +95,7 @@ fn push_with(text: &mut Vec<u8>, words: &str, number: i64) -> Result<(), OutOfMe
 }
 
 fn push_ground(text: &mut Vec<u8>, ground: i64, open: Option<Opening>) -> Result<(), OutOfMemory> {
-    push_with(text, "con on the ground, ", ground)?;
+    push_with(text, "con equal to the ground, ", ground)?;
     push_opening(text, open)
 }
 
@@ -104,7 +104,7 @@ fn push_opening(text: &mut Vec<u8>, open: Option<Opening>) -> Result<(), OutOfMe
     match open {
         Some(Opening::Sink) => push(text, ", at a listed sink"),
         Some(Opening::Edge) => push(text, ", on the edge of the mosaic"),
-        Some(Opening::Void) => push(text, ", beside a void"),
+        Some(Opening::Void) => push(text, ", next to a void"),
         None => Ok(()),
     }
 }
@@ -118,7 +118,7 @@ fn push_most(text: &mut Vec<u8>, most: Option<i64>) -> Result<(), OutOfMemory> {
 
 fn push_label(text: &mut Vec<u8>, label: Option<i64>) -> Result<(), OutOfMemory> {
     match label {
-        Some(label) => push_with(text, "bas of the cell that dir names, ", label),
+        Some(label) => push_with(text, "bas of the cell that dir points to, ", label),
         None => push(text, "any bas"),
     }
 }
@@ -142,7 +142,7 @@ fn push_along(
         push(text, shown_code(direction.code()).as_str())?;
         separator = ", ";
     }
-    push(text, if separator == "" { "there is none" } else { "" })
+    push(text, if separator == "" { "none" } else { "" })
 }
 
 /// A line for each way down, if a steepest was expected.
@@ -175,8 +175,8 @@ fn push_way(text: &mut Vec<u8>, way: &WayDown) -> Result<(), OutOfMemory> {
     push(text, letters(way.direction))?;
     push(text, " ")?;
     push_number(text, way.direction.code())?;
-    push(text, ": ")?;
+    push(text, ": drop ")?;
     push_number(text, way.drop)?;
-    push(text, " down, key ")?;
+    push(text, ", key ")?;
     push_long(text, way.key)
 }

@@ -142,19 +142,19 @@ static WANTED: [(&str, &str); 11] = [
         r#""refusal":{"about":"raster_length","product":"rnk","expected":36,"found":0},"rows""#,
     ),
     (
-        "\nexpected: one value at the cell: N36W085.hgt gives -3\nfound: N36W085.hgt gives a void\n",
+        "\nexpected: one height at the cell: N36W085.hgt has -3\nfound: N36W085.hgt has a void\n",
         r#""refusal":{"about":"seam","first":{"tile":"N36W085.hgt","metres":-3},"other":{"tile":"N36W085.hgt","metres":null}},"rows""#,
     ),
     (
-        "\nexpected: line 2 with a row and a column, as 12 7\nfound: line 2: 1\\x092\n",
+        "\nexpected: line 2: a row and a column, such as 12 7\nfound: line 2: 1\\x092\n",
         r#""refusal":{"about":"sink_line","line":2,"found":"1\\x092"},"rows""#,
     ),
     (
-        "\nexpected: line 2 with a data cell\nfound: row 4294967296, column 7, a void\n",
+        "\nexpected: line 2: a data cell\nfound: row 4294967296, column 7, a void\n",
         r#""refusal":{"about":"sink_cell","line":2,"row":4294967296,"col":7,"found":"void"},"rows""#,
     ),
     (
-        "\nexpected: line 3 with a data cell\nfound: row 4, column 7, outside the mosaic\n",
+        "\nexpected: line 3: a data cell\nfound: row 4, column 7, outside the mosaic\n",
         r#""refusal":{"about":"sink_cell","line":3,"row":4,"col":7,"found":"outside"},"rows""#,
     ),
     (

@@ -50,7 +50,7 @@ static ROWS: [Row; 14] = [
         here: (6, 0, 1, 7, 9),
         east: (9, 0, 1, 7, 9),
         southeast: (9, 0, 1, 7, 9),
-        text: "rule 5 OpenRaised\nexpected: con on the ground, 5, at a listed sink\nfound: con 6\n",
+        text: "rule 5 OpenRaised\nexpected: con equal to the ground, 5, at a listed sink\nfound: con 6\n",
         json: r#"{"rule":5,"name":"OpenRaised","product":"con","found":6,"number":5,"products":[],"codes":[],"ways":[],"open":"sink"}"#,
     },
     Row {
@@ -83,7 +83,7 @@ static ROWS: [Row; 14] = [
         here: (9, 0, 1, 7, 9),
         east: (7, 0, 1, 7, 9),
         southeast: (6, 0, 1, 7, 9),
-        text: "rule 10 Slope\nexpected: dir of a steepest way down\n  E 1: 2 down, key 8\n  SE 2: 3 down, key 9, steepest\nfound: dir outlet 0\n",
+        text: "rule 10 Slope\nexpected: dir of a steepest descent\n  E 1: drop 2, key 8\n  SE 2: drop 3, key 9, steepest\nfound: dir outlet 0\n",
         json: r#"{"rule":10,"name":"Slope","product":"dir","found":0,"number":null,"products":[],"codes":[2],"ways":[{"code":1,"drop":2,"key":8},{"code":2,"drop":3,"key":9}],"open":null}"#,
     },
     Row {
@@ -127,7 +127,7 @@ static ROWS: [Row; 14] = [
         here: (5, 1, 1, 7, 1),
         east: (5, 0, 1, 7, 2),
         southeast: (5, 0, 1, 7, 1),
-        text: "rule 12 FlatStep\nexpected: dir to a neighbour with the same con and a smaller rnk: there is none\nfound: dir E 1\n",
+        text: "rule 12 FlatStep\nexpected: dir to a neighbour with the same con and a smaller rnk: none\nfound: dir E 1\n",
         json: r#"{"rule":12,"name":"FlatStep","product":"dir","found":1,"number":null,"products":[],"codes":[],"ways":[],"open":null}"#,
     },
     Row {
@@ -149,7 +149,7 @@ static ROWS: [Row; 14] = [
         here: (9, 1, 4, 7, 9),
         east: (7, 0, 10, 8, 9),
         southeast: (9, 0, 1, 7, 9),
-        text: "rule 14 Label\nexpected: bas of the cell that dir names, 8\nfound: bas 7\n",
+        text: "rule 14 Label\nexpected: bas of the cell that dir points to, 8\nfound: bas 7\n",
         json: r#"{"rule":14,"name":"Label","product":"bas","found":7,"number":8,"products":[],"codes":[],"ways":[],"open":null}"#,
     },
     Row {
@@ -171,7 +171,7 @@ static ROWS: [Row; 14] = [
         here: (5, 255, 0, 7, 4294967295),
         east: (9, 0, 1, 7, 9),
         southeast: (9, 0, 1, 7, 9),
-        text: "rule 2 Missing\nexpected: a number at a data cell, of dir, acc\n",
+        text: "rule 2 Missing\nexpected: a number at a data cell, in dir, acc\n",
         json: r#"{"rule":2,"name":"Missing","product":null,"found":null,"number":null,"products":["dir","acc"],"codes":[],"ways":[],"open":null}"#,
     },
 ];
@@ -222,12 +222,12 @@ static OPEN: [(&str, bool, &str); 2] = [
     (
         "the edge",
         false,
-        "expected: con on the ground, 5, on the edge of the mosaic\n",
+        "expected: con equal to the ground, 5, on the edge of the mosaic\n",
     ),
     (
         "a void",
         true,
-        "expected: con on the ground, 5, beside a void\n",
+        "expected: con equal to the ground, 5, next to a void\n",
     ),
 ];
 
@@ -259,12 +259,12 @@ static NUMBERED: [(&str, Ranks, &str); 2] = [
     (
         "ranks asked",
         Ranks::Asked,
-        "expected: no data at a void, of con, rnk\n",
+        "expected: no data at a void, in con, rnk\n",
     ),
     (
         "ranks unasked",
         Ranks::Unasked,
-        "expected: no data at a void, of con\n",
+        "expected: no data at a void, in con\n",
     ),
 ];
 

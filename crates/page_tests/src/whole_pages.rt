@@ -37,7 +37,7 @@ rnk
       no data            3            1
             4            5            6
 rule 2 Missing
-expected: a number at a data cell, of acc
+expected: a number at a data cell, in acc
 ";
 
 /// The same as JSON, without its line end.
