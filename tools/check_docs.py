@@ -1,0 +1,321 @@
+#!/usr/bin/env python3
+"""Checks the documents: README.md, CONTRIBUTING.md, docs/*.md and the README of each crate.
+
+It reports, each with its file and line:
+- a path, a link, a target of `make`, or a command or option of `drain` that doesn't exist;
+- a line of README.md over 100 characters, a README.md over 80 lines, and a line of docs/ or CONTRIBUTING.md over
+  120 characters (200 in a table; code is exempt);
+- a word that readers don't know (WORDS), outside code; and docs/ over 30,000 words in all;
+- with PROGRAM, an example whose output isn't what the program prints.
+
+An example is a fenced block with a line `$ drain ..` or `$ build/drain ..`. All its lines `$ ..` are run, in order, by
+one shell, and the lines below each are compared with what it prints. A line `..` or `...` stands for any lines, and a
+tail `  # ..` is a comment. The blocks of one document run in one scratch folder, which has copies of samples/ and
+tools/; each block starts at its top. So a block that can't be run everywhere carries no `$ `.
+
+Usage: tools/check_docs.py [--write] [PROGRAM]    (--write puts what the program prints into the examples that differ)
+The exit status is 0 if there is nothing to report, else 1.
+"""
+
+import argparse
+import dataclasses
+import os
+import pathlib
+import re
+import shutil
+import subprocess
+import sys
+import tempfile
+from collections.abc import Iterator
+
+README_LINE, README_LINES, DOCS_LINE, TABLE_LINE, DOCS_WORDS = 100, 80, 120, 200, 30_000
+WORDS = re.compile(
+    r"\b(noughts?|want\s+of\s+memory|(?:is|are|was|were)\s+(?:told|asked\s+for)|hand(?:s|ed)\s+out|whoever"
+    r"|a\s+word\s+on|faults?\s+of\s+the\s+words)\b",
+    re.IGNORECASE,
+)
+FOLDERS = "docs|crates|tools|tests|samples|bench"
+PATH = re.compile(rf"(?<![\w./*-])(?:{FOLDERS})/[\w.*/+-]*")
+CRATE_PATH = re.compile(r"(?<![\w./*-])\w+/(?:src|specs|proofs|more-edits)/[\w./]*")
+DOCUMENT = re.compile(r"(?<![\w./-])[A-Z][A-Z_]+\.md\b")
+LINK = re.compile(r"\[[^\]]*\]\(([^)\s]+)\)")
+SPAN = re.compile(r"`([^`]+)`")
+DRAIN = re.compile(r"(?<![\w./-])(?:build/)?drain\s+([a-z]+|--[a-z-]+)(?![\w/:=.])([^|]*)")
+EXAMPLE = re.compile(r"^\$ (?:.*\s)?(?:build/)?drain ")
+MARK = "@@ end of a command @@"
+
+
+@dataclasses.dataclass(frozen=True)
+class Line:
+    number: int
+    text: str
+    is_code: bool
+
+
+@dataclasses.dataclass
+class Shown:
+    """A command of an example, and the lines below it."""
+
+    number: int
+    command: str
+    output: list[str]
+
+
+def lines_of(text: str) -> list[Line]:
+    """The lines of a document. Code is what stands in a fence, or is indented after an empty line."""
+    lines: list[Line] = []
+    fenced = indented = False
+    before = ""
+    for number, line in enumerate(text.splitlines(), 1):
+        fence = line.lstrip().startswith("```")
+        if not fenced and not fence and line.strip():
+            indented = line.startswith("    ") and (indented or not before.strip())
+        lines.append(Line(number, line, fenced or fence or (indented and bool(line.strip()))))
+        fenced ^= fence
+        before = line
+    return lines
+
+
+def slugs_of(text: str) -> set[str]:
+    """The anchors of a document's headings, as GitHub makes them."""
+    slugs: dict[str, int] = {}
+    found = set()
+    for line in lines_of(text):
+        if line.text.startswith("#") and not line.is_code:
+            slug = re.sub(r"[^\w\- ]", "", line.text.lstrip("#").strip().lower()).replace(" ", "-")
+            found.add(f"{slug}-{slugs[slug]}" if slug in slugs else slug)
+            slugs[slug] = slugs.get(slug, 0) + 1
+    return found
+
+
+def is_there(root: pathlib.Path, path: str) -> bool:
+    """Whether a path exists, as it is or without its ending. A part in capitals, as NAME, is any name."""
+    parts = path.rstrip("/").split("/")
+    if "out" in parts or (root / path).exists():
+        return True
+    pattern = "/".join("*" if re.fullmatch(r"[A-Z]+", part) else part for part in parts)
+    return any(next(root.glob(pattern + ending), None) for ending in ("", ".rt", ".antt", ".md"))
+
+
+def path_faults(root: pathlib.Path, document: pathlib.Path, line: Line) -> Iterator[str]:
+    for found in PATH.findall(line.text):
+        if not is_there(root, found.rstrip(".")):
+            yield f"no {found.rstrip('.')}"
+    for found in CRATE_PATH.findall(line.text):
+        if (root / "crates" / found.split("/")[0]).is_dir() and not is_there(root / "crates", found.rstrip(".")):
+            yield f"no crates/{found.rstrip('.')}"
+    for found in DOCUMENT.findall(line.text):
+        if not any((folder / found).is_file() for folder in (document.parent, root, root / "docs")):
+            yield f"no {found}"
+
+
+def link_faults(document: pathlib.Path, line: Line) -> Iterator[str]:
+    if line.is_code:
+        return
+    for target in LINK.findall(SPAN.sub(lambda span: span[0].replace("](", ""), line.text)):
+        if re.match(r"[a-z]+:", target):
+            continue
+        path, _, anchor = target.partition("#")
+        linked = document.parent / path if path else document
+        if not linked.exists():
+            yield f"no link target {target}"
+        elif anchor and anchor not in slugs_of(linked.read_text(encoding="utf-8")):
+            yield f"no heading #{anchor} in {linked.name}"
+
+
+def code_of(line: Line) -> list[str]:
+    return [without_tail(line.text).strip()] if line.is_code else SPAN.findall(line.text)
+
+
+def make_faults(targets: set[str], line: Line) -> Iterator[str]:
+    for code in code_of(line):
+        match = re.match(r"(?:\$ )?make(?:\s+(.*))?$", code)
+        for word in (match[1] or "").split() if match else []:
+            if word.startswith("#") or not re.match(r"[\w-]", word):
+                break
+            if "=" not in word and not word.startswith("-") and word not in targets:
+                yield f"no target {word} of make"
+
+
+def drain_faults(options: dict[str, set[str]], line: Line) -> Iterator[str]:
+    for code in code_of(line):
+        for command, rest in DRAIN.findall(code):
+            if command.startswith("--"):
+                known = command in options[""]
+            else:
+                known = command in options
+            if not known:
+                yield f"no command drain {command}"
+            for option in re.findall(r"(?<!\S)--[a-z-]+", rest.split("#")[0]) if known else []:
+                if option not in options.get(command, set()):
+                    yield f"no option {option} of drain {command}"
+
+
+def options_of(root: pathlib.Path) -> dict[str, set[str]]:
+    """The options of each command, by its help that the tests compare; those of no command under ""."""
+    helps = sorted((root / "tests/program/expected").glob("*help.txt"))
+    found: dict[str, set[str]] = {"": set(), "help": set()}
+    for path in helps:
+        command = re.sub(r"(-short)?-?help\.txt$", "", path.name)
+        found.setdefault(command, set()).update(re.findall(r"--[a-z]+", path.read_text(encoding="utf-8")))
+    return found
+
+
+def width_faults(name: str, line: Line) -> Iterator[str]:
+    if name == "README.md":
+        limit = README_LINE
+    elif name.startswith("crates/") or line.is_code:
+        return
+    else:
+        limit = TABLE_LINE if line.text.startswith("|") else DOCS_LINE
+    if len(line.text) > limit:
+        yield f"{len(line.text)} characters, more than {limit}"
+
+
+def word_faults(lines: list[Line]) -> Iterator[tuple[int, str]]:
+    prose = "\n".join("" if line.is_code else SPAN.sub("", line.text) for line in lines)
+    for match in WORDS.finditer(prose):
+        yield prose.count("\n", 0, match.start()) + 1, f'"{" ".join(match[0].split())}"'
+
+
+def examples_of(lines: list[Line]) -> Iterator[list[Shown]]:
+    """The examples of a document: the commands of each block that has one of drain's."""
+    block: list[Shown] = []
+    fenced = False
+    for line in lines:
+        if line.text.startswith("```"):
+            if fenced and any(EXAMPLE.match("$ " + shown.command) for shown in block):
+                yield block
+            fenced, block = not fenced, []
+        elif fenced and line.text.startswith("$ "):
+            block.append(Shown(line.number, line.text[2:], []))
+        elif fenced and block and block[-1].command.endswith("\\") and not block[-1].output:
+            block[-1].command += "\n" + line.text
+        elif fenced and block and is_open(block[-1].command) and not block[-1].output:
+            block[-1].command += "\n" + line.text
+        elif fenced and block:
+            block[-1].output.append(line.text)
+
+
+def is_open(command: str) -> bool:
+    """Whether a quotation goes on in the next line."""
+    return command.count("'") % 2 == 1
+
+
+def without_tail(line: str) -> str:
+    return re.sub(r"\s+# .*$", "", line).rstrip()
+
+
+def agree(shown: list[str], printed: list[str]) -> bool:
+    """Whether lines of an example are those that were printed."""
+    if not shown:
+        return not printed
+    if shown[0] in ("..", "..."):
+        return any(agree(shown[1:], printed[start:]) for start in range(len(printed) + 1))
+    return bool(printed) and shown[0] in (printed[0], without_tail(printed[0])) and agree(shown[1:], printed[1:])
+
+
+def printed_by(block: list[Shown], folder: pathlib.Path) -> list[list[str]]:
+    """What each command of an example prints."""
+    script = 'mark() { local status=$?; printf "\\n%s\\n" "$MARK"; return $status; }\n'
+    script += "".join(f"{shown.command}\nmark\n" for shown in block)
+    known = {"HOME": str(folder), "MARK": MARK, "PATH": f"{folder}/build:{os.environ['PATH']}", "LC_ALL": "C.UTF-8"}
+    run = subprocess.run(
+        ["bash", "-c", script],
+        cwd=folder,
+        env={**os.environ, **known},
+        stdin=subprocess.DEVNULL,
+        stdout=subprocess.PIPE,
+        stderr=subprocess.STDOUT,
+        timeout=600,
+        check=False,
+    )
+    parts = run.stdout.decode("utf-8", "replace").split(f"\n{MARK}\n")[:-1]
+    parts += [""] * (len(block) - len(parts))
+    return [[line.rstrip() for line in part.splitlines()] for part in parts]
+
+
+def example_faults(root: pathlib.Path, program: pathlib.Path, lines: list[Line]) -> Iterator[tuple[Shown, list[str]]]:
+    """The commands of a document's examples that print something else than it shows, with what they print."""
+    blocks = list(examples_of(lines))
+    if not blocks:
+        return
+    with tempfile.TemporaryDirectory() as scratch:
+        folder = pathlib.Path(scratch)
+        shutil.copytree(root / "samples", folder / "samples")
+        shutil.copytree(root / "tools", folder / "tools")
+        (folder / "build").mkdir()
+        (folder / "build/drain").symlink_to(program)
+        for block in blocks:
+            for shown, printed in zip(block, printed_by(block, folder)):
+                if not agree([without_tail(line) for line in shown.output], printed):
+                    yield shown, printed
+
+
+def write_examples(document: pathlib.Path, faults: list[tuple[Shown, list[str]]]) -> None:
+    """Puts what was printed in place of what a document shows, but where it leaves lines out."""
+    lines = document.read_text(encoding="utf-8").splitlines()
+    for shown, printed in reversed(faults):
+        if not {"..", "..."} & set(shown.output):
+            start = shown.number + shown.command.count("\n")
+            lines[start : start + len(shown.output)] = printed
+    document.write_text("\n".join(lines) + "\n", encoding="utf-8")
+
+
+def documents_of(root: pathlib.Path) -> list[pathlib.Path]:
+    tops = [root / "README.md", root / "CONTRIBUTING.md"]
+    return [path for path in tops if path.is_file()] + sorted(root.glob("docs/*.md")) + sorted(root.glob("crates/*/README.md"))
+
+
+def faults_of(root: pathlib.Path, program: pathlib.Path | None = None, write: bool = False) -> list[str]:
+    """What is wrong with the documents below a folder."""
+    targets = set(re.findall(r"^([\w./-]+):", (root / "Makefile").read_text(encoding="utf-8"), re.MULTILINE))
+    options = options_of(root)
+    faults: list[str] = []
+    words = 0
+    for document in documents_of(root):
+        name = document.relative_to(root).as_posix()
+        text = document.read_text(encoding="utf-8")
+        lines = lines_of(text)
+        found = list(word_faults(lines))
+        for line in lines:
+            for fault in (
+                *path_faults(root, document, line),
+                *link_faults(document, line),
+                *make_faults(targets, line),
+                *drain_faults(options, line),
+                *width_faults(name, line),
+            ):
+                found.append((line.number, fault))
+        if name == "README.md" and len(lines) > README_LINES:
+            found.append((README_LINES + 1, f"{len(lines)} lines, more than {README_LINES}"))
+        if program:
+            differing = list(example_faults(root, program, lines))
+            if write and differing:
+                write_examples(document, differing)
+            found += [(shown.number, "prints: " + " / ".join(printed)[:300]) for shown, printed in differing]
+        faults += [f"{name}:{number}: {fault}" for number, fault in sorted(found)]
+        words += len(text.split()) if name.startswith("docs/") else 0
+    if words > DOCS_WORDS:
+        faults.append(f"docs: {words} words, more than {DOCS_WORDS}")
+    return faults
+
+
+def main() -> int:
+    about, _, more = (__doc__ or "").partition("\n")
+    parser = argparse.ArgumentParser(description=about, epilog=more, formatter_class=argparse.RawDescriptionHelpFormatter)
+    parser.add_argument("program", nargs="?", type=pathlib.Path, metavar="PROGRAM")
+    parser.add_argument("--write", action="store_true")
+    arguments = parser.parse_args()
+    program = arguments.program.resolve() if arguments.program else None
+    if program and not program.is_file():
+        print(f"{program}: no such program")
+        return 1
+    faults = faults_of(pathlib.Path(__file__).resolve().parent.parent, program, arguments.write)
+    examples = "their examples print what they show" if program else "examples not run"
+    print("\n".join(faults) if faults else f"ok: the documents name what is there; {examples}")
+    return 1 if faults else 0
+
+
+if __name__ == "__main__":
+    sys.exit(main())
