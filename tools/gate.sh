@@ -1,7 +1,7 @@
 #!/usr/bin/env bash
-# The merge gate: that each crate's README names its files; every proof from nothing and the tests (rt ci); the edits that name
-# their function; then the program that came of it and its own tests, tests with memory refused, and wrong makers. Each step but the first ends with a line
-# that tells its seconds: those that passed, and those of processors.
+# The merge gate: what documents name is there; every proof from nothing and the tests (rt ci); the edits that name their function;
+# then the program and its own tests, the documents' examples, a first run, releases, tests with memory refused, and wrong makers.
+# Each step from rt ci on ends with a line of its seconds: on the clock, and of processors.
 # Usage: tools/gate.sh
 set -euo pipefail
 cd "$(dirname "$0")/.."
@@ -16,6 +16,8 @@ export RT_JOBS
 
 mkdir -p build
 tools/check_readmes.py
+tools/library_example.py
+tools/check_docs.py
 sources=$(tools/sources_sum.sh)
 time rt ci
 [ "$(tools/sources_sum.sh)" = "$sources" ] || {
@@ -30,6 +32,7 @@ for program in drain benches; do
     tools/record_proof.sh "build/$program" "$sources"
 done
 time tools/try_named_edits.py
+time tools/check_docs.py build/drain
 time tests/first_run.sh build/drain
 time tests/shipping.sh build
 time tests/program/run.sh build/drain build/benches
