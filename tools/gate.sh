@@ -17,6 +17,7 @@ export RT_JOBS
 mkdir -p build
 tools/check_readmes.py
 tools/library_example.py
+tests/check_docs.py
 tools/check_docs.py
 sources=$(tools/sources_sum.sh)
 time rt ci
