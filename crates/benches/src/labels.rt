@@ -1,11 +1,11 @@
 //! Admits labels as a check of products does, to be timed from outside (bench/labels.sh).
 //!
-//! Where memory is refused it looks whether the labels before are held and further calls go on (tests/program).
+//! If memory is refused it tests whether the earlier labels are kept and further calls work (tests/program).
 //!
-//! The words behind `labels` are how many labels, and the step from one to the next: 1 for labels that follow each other, as a maker that counts
-//! outlets gives them, and a large odd number for labels that lie anywhere. A word that is no number in place of the step is a
-//! file that lists the labels, one a line. When it is done it waits for the end of its standard input, so that its memory can be
-//! looked up.
+//! The arguments after `labels` are how many labels, and the step from one to the next: 1 for labels that follow each
+//! other, as a maker that counts outlets gives them, and a large odd number for scattered labels. An argument that is
+//! no number in place of the step is a file that lists the labels, one a line. When it is done it waits for the end of
+//! its standard input, so that its memory can be measured.
 
 ghost use Rattle.std.specs.Prelude.{◌<◌, ◌≤◌, IfErr, IfOk};
 
@@ -25,7 +25,7 @@ struct Asked {
 enum Labels {
     /// From 0 on, each this much above the one before, modulo 2^32.
     Stepped(u32),
-    /// These, and 0 where there are no more.
+    /// These, and 0 if there are no more.
     Listed(Vec<i64>),
 }
 
@@ -39,7 +39,7 @@ impl Asked {
     }
 }
 
-/// Admits the labels that the words ask for.
+/// Admits the labels of the arguments.
 pub fn run(rt: &HostRuntime, words: &[String]) -> io::Result<()> {
     let count = number(words, 1).unwrap_or(1000);
     let asked = Asked {
@@ -72,7 +72,7 @@ fn read_labels(rt: &HostRuntime, path: &str, count: u32) -> io::Result<Vec<i64>>
     Ok(labels)
 }
 
-/// How many of the labels are new: of all that were asked, or of those before memory was refused.
+/// How many of the labels are new: of all requested ones, or of those before memory was refused.
 fn admit_all(labels: &mut OutletLabels, asked: &Asked) -> Result<u32, u32>
     ensures all { IfOk result (λ admitted. admitted ≤ asked.now.count) }
     ensures some { IfErr result (λ admitted. admitted < asked.now.count) }
@@ -88,7 +88,7 @@ fn admit_all(labels: &mut OutletLabels, asked: &Asked) -> Result<u32, u32>
     Ok(admitted)
 }
 
-/// Whether the first labels are still held after a refusal, and further calls go on.
+/// Whether the first labels are kept after a refusal, and further calls work.
 fn are_held(labels: &mut OutletLabels, asked: &Asked, count: u32) -> bool {
     for turn in 0..count {
         if labels.admit(asked.label(turn)) != Ok(false) {

@@ -1,8 +1,8 @@
 //! Looks for the first place where one row is below another, by `first_below` or by a plain loop, to be timed from outside
 //! (bench/lanes.sh).
 //!
-//! The words behind `lanes` are `lanes` or `plain`, the length of a row, and how many rounds. Each round raises one place of the upper
-//! row, and none is below. It prints how many rounds found a place: 0.
+//! The arguments after `lanes` are `lanes` or `plain`, the length of a row, and how many rounds. Each round raises one
+//! place of the upper row, and none is below. It prints how many rounds found a place: 0.
 
 ghost use Rattle.std.specs.Prelude.{◌≡◌, length};
 
@@ -11,7 +11,7 @@ use drain_fill::first_below;
 use std::alloc::{AllocError, Global};
 use std::io;
 
-/// Looks as the words ask.
+/// Searches by the arguments.
 pub fn run(rt: &HostRuntime, words: &[String]) -> io::Result<()> {
     let in_lanes = words.get(1).is_none_or(|word| word.as_str() != "plain");
     let len = number(words, 2).unwrap_or(67) as usize;
@@ -39,7 +39,7 @@ fn search(alloc: Global, in_lanes: bool, len: usize, rounds: u32) -> Result<u32,
     Ok(found)
 }
 
-/// A row of so many heights that follow no pattern.
+/// A row of this number of heights without a pattern.
 fn heights(alloc: Global, len: usize) -> Result<Vec<i16>, AllocError> {
     let mut heights = Vec::with_capacity(alloc, len)?;
     let mut state = 1u32;

@@ -1,4 +1,5 @@
-//! What is measured beside twins in plain Rust: the first word says which, and the others are those of its module. Without a word each is run once, on little.
+//! What is measured against twins in plain Rust: the first argument says which, and the others are its module's.
+//! Without arguments each runs once, on little.
 #![tactic(auto)]
 
 mod labels;

@@ -1,6 +1,7 @@
-//! Reads four tiles and joins them, some rounds long, to be timed from outside (bench/mosaic.sh).
+//! Reads four tiles and joins them, for some rounds, to be timed from outside (bench/mosaic.sh).
 //!
-//! The words behind `mosaic` are the side of the tiles and how many rounds. The tiles lie in a square and agree; one sample of 64 is a void.
+//! The arguments after `mosaic` are the side of the tiles and how many rounds. The tiles form a square and agree; one
+//! sample of 64 is a void.
 
 use crate::words::number;
 use drain_grid::tile::is_side;
@@ -10,7 +11,7 @@ use drain_mosaic::{Layout, join};
 use std::alloc::{AllocError, Global};
 use std::io;
 
-/// Joins as the words ask.
+/// Joins by the arguments.
 pub fn run(rt: &HostRuntime, words: &[String]) -> io::Result<()> {
     let side = number(words, 1).unwrap_or(121);
     let rounds = number(words, 2).unwrap_or(1);
@@ -21,7 +22,7 @@ pub fn run(rt: &HostRuntime, words: &[String]) -> io::Result<()> {
     Ok(())
 }
 
-/// The sum of what the rounds gave, none where a call refused.
+/// The sum of the rounds' results, none if a call refused.
 fn join_rounds(alloc: Global, side: u32, rounds: u32) -> Option<i64> {
     if !is_side(side) {
         return None;
@@ -50,7 +51,7 @@ fn join_rounds(alloc: Global, side: u32, rounds: u32) -> Option<i64> {
     Some(sum)
 }
 
-/// The sum of what four tiles give, none where a call refused.
+/// The sum of what four tiles give, none if a call refused.
 fn join_once(alloc: Global, layout: &Layout, square: [&[u8]; 4]) -> Option<i64> {
     let [north_west, north_east, south_west, south_east] = square;
     let side = layout.side();
@@ -67,7 +68,7 @@ fn join_once(alloc: Global, layout: &Layout, square: [&[u8]; 4]) -> Option<i64> 
     Some(diagonal(&elevation))
 }
 
-/// The bytes of a tile whose first sample lies in this row and column of the mosaic.
+/// The bytes of a tile whose first sample is in this row and column of the mosaic.
 fn tile_bytes(alloc: Global, side: u32, top: u32, left: u32) -> Result<Vec<u8>, AllocError> {
     let mut bytes = Vec::with_capacity(alloc, 2 * (side as usize % 3602) * (side as usize % 3602))?;
     for row in 0..side {

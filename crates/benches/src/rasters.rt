@@ -1,7 +1,7 @@
 //! Reads or writes a square raster over memory, to be timed from outside (bench/rasters.sh).
 //!
-//! The words behind `rasters` are `read` or `write`, the bits of a pixel, `signed` or `unsigned`, the byte order `I` or `M`, how many
-//! rounds, and the side. It prints the words' first three and a number that depends on each round.
+//! The arguments after `rasters` are `read` or `write`, the bits of a pixel, `signed` or `unsigned`, the byte order `I`
+//! or `M`, how many rounds, and the side. It prints the first three arguments and a number that depends on each round.
 
 use crate::words::{is, number};
 use drain_device::VecSink;
@@ -22,7 +22,7 @@ struct Asked {
     side: u32,
 }
 
-/// Reads or writes as the words ask.
+/// Reads or writes by the arguments.
 pub fn run(rt: &HostRuntime, words: &[String]) -> io::Result<()> {
     let asked = Asked {
         writes: is(words, 1, "write"),
@@ -88,7 +88,7 @@ fn header(asked: &Asked) -> Option<Header> {
     }
 }
 
-/// So many bytes that follow no pattern.
+/// This number of bytes without a pattern.
 fn body(alloc: Global, len: usize) -> Result<Vec<u8>, AllocError> {
     let mut bytes = Vec::with_capacity(alloc, len)?;
     let mut state = 1u32;

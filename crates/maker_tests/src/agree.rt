@@ -1,9 +1,9 @@
-//! The assertions of these tests, in functions: a proof of a call of one costs less than that of an assertion in place.
+//! The assertions of these tests, in functions: a call of one is cheaper to prove than an assertion in place.
 
 use std::fmt::Debug;
 use std::process::Abort;
 
-/// Ends the test where the two differ, and tells of which case they are.
+/// Fails the test if the two differ, and names the case.
 pub fn same<C: Debug + Drop, T: PartialEq + Debug + Drop>(
     rt: &impl Abort,
     case: C,

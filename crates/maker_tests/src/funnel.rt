@@ -35,7 +35,7 @@ fn greatest(raster: &Raster) -> i64 {
     greatest
 }
 
-/// The verdict on the products that are made of the funnel, and their greatest accumulation.
+/// The verdict on the products made of the funnel, and their greatest accumulation.
 fn verdict_and_greatest(alloc: Global) -> Result<(Verdict, i64), Fail> {
     let layout = one_tile(alloc, SIDE)?;
     let elevation = elevation(&layout, samples(alloc)?)?;

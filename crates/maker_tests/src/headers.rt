@@ -24,7 +24,8 @@ fn text_of_heights(rt: HostRuntime) -> Result<(), Fail> {
     Ok(())
 }
 
-/// What the header of one tile's product says of its pixels: their bits, the bytes of a row, whether they have signs, and no data.
+/// The pixels of one tile's product by its header: their bits, the bytes of a row, whether they have signs, and no
+/// data.
 fn pixels_of(alloc: Global, product: Product) -> Result<(u8, u32, bool, Option<i64>), Fail> {
     let layout = one_tile(alloc, 3)?;
     let header = product_header(&layout, product);

@@ -10,7 +10,8 @@ use std::test::Fail;
 /// The first five that come out.
 type FirstFive = [Option<(i16, u32)>; 5];
 
-/// The first five that come out of an empty queue, once these pairs were put in; none where an item is put in twice, or is beyond the cells.
+/// The first five that come out of an empty queue, after these pairs were put in; none if an item is put in twice, or
+/// is beyond the cells.
 fn come_out(mut queue: LevelQueue, pushed: &[(i16, u32)]) -> Option<FirstFive> {
     for (level, item) in pushed.iter() {
         if (*item as usize) < queue.cells() && !queue.holds(*item) {
@@ -28,7 +29,7 @@ fn come_out(mut queue: LevelQueue, pushed: &[(i16, u32)]) -> Option<FirstFive> {
     ])
 }
 
-/// The first five that come out of a queue of so many cells, once these pairs were put in.
+/// The first five that come out of a queue of this number of cells, after these pairs were put in.
 fn popped(alloc: Global, cells: u8, pushed: &[(i16, u32)]) -> Result<FirstFive, Fail> {
     let queue = LevelQueue::new(alloc, usize::from(cells))?;
     match come_out(queue, pushed) {
@@ -40,7 +41,7 @@ fn popped(alloc: Global, cells: u8, pushed: &[(i16, u32)]) -> Result<FirstFive, 
 /// The greatest level, and the least.
 static ENDS: [(i16, u32); 2] = [(32767, 0), (-32768, 1)];
 
-/// Four pairs, and in which order they come out.
+/// Four pairs, and the order in which they come out.
 static FOUR: [(i16, u32); 4] = [(5, 0), (3, 1), (5, 2), (3, 3)];
 
 const IN_ORDER: FirstFive = [Some((3, 1)), Some((3, 3)), Some((5, 0)), Some((5, 2)), None];
@@ -56,13 +57,13 @@ fn takes_out_by_level_and_then_by_time(rt: HostRuntime) -> Result<(), Fail> {
     Ok(())
 }
 
-/// What a queue of three cells holds once the item 2 went in, and what comes out.
+/// The contents of a queue of three cells after the item 2 went in, and what comes out.
 type Holds = (bool, bool, bool, Option<(i16, u32)>);
 
-/// What comes out once the item 2 went in again, and whether it is held then.
+/// What comes out after the item 2 went in again, and whether it is in the queue then.
 type Last = (Option<(i16, u32)>, Option<(i16, u32)>, bool);
 
-/// What is told of a queue of three cells into which the item 2 goes twice.
+/// The results for a queue of three cells into which the item 2 goes twice.
 fn put_in_twice(alloc: Global) -> Result<(Holds, Last), OutOfMemory> {
     let mut queue = LevelQueue::new(alloc, 3)?;
     queue.push(7, 2);
@@ -73,7 +74,7 @@ fn put_in_twice(alloc: Global) -> Result<(Holds, Last), OutOfMemory> {
     Ok((held, (queue.pop(), queue.pop(), queue.holds(2))))
 }
 
-/// An item that came out can go in again, and below the level that was come to.
+/// An item that came out can go in again, and below the current level.
 #[test]
 fn takes_items_in_again(rt: HostRuntime) -> Result<(), Fail> {
     let (held, last) = put_in_twice(rt.alloc())?;
@@ -88,7 +89,7 @@ fn four_popped(alloc: Global) -> Result<Option<FirstFive>, OutOfMemory> {
     Ok(come_out(queue, &FOUR))
 }
 
-/// Of itself memory is there; `tests/refuse_memory.c` refuses it.
+/// Normally memory is there; `tests/refuse_memory.c` refuses it.
 #[test]
 fn a_queue_after_refused_memory(rt: HostRuntime) -> Result<(), Fail> {
     let right = Ok(Some(IN_ORDER));

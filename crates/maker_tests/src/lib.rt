@@ -1,4 +1,4 @@
-//! Tests of what is made: worked mosaics, worked out by hand from the definitions, and terrains of which the products pass.
+//! Tests of `make`: mosaics worked out by hand from the definitions, and terrains whose products pass.
 #![tactic(auto)]
 
 #[cfg(test)]

@@ -18,13 +18,13 @@ use std::test::Fail;
 /// A tile's side and its samples.
 type Tile<'a> = (u32, &'a [i16]);
 
-/// The numbers of a product that is made of one tile with the sinks that the text lists.
+/// The numbers of a product made of one tile with the sinks of the text.
 fn made(alloc: Global, tile: Tile, list: &str, product: Held) -> Result<Numbers, Fail> {
     let sinks = parse_sinks(alloc, list.as_bytes())?;
     numbers_made(alloc, tile, &sinks, product)
 }
 
-/// Ends the test where a product that is made of one tile with the sinks that the text lists has other numbers.
+/// Fails the test if a product made of one tile with the sinks of the text has other numbers.
 fn gives(
     rt: &impl Abort,
     alloc: Global,
@@ -112,7 +112,7 @@ static OF_SLOPE: [(Held, [i64; 4]); 3] = [
 /// Rows that fall from west to east.
 static SLOPE: [i16; 16] = [4, 3, 2, 1, 4, 3, 2, 1, 4, 3, 2, 1, 4, 3, 2, 1];
 
-/// Cells of a slope that are listed drain on: they are open, and no outlets.
+/// Listed cells of a slope drain on: they are open, and no outlets.
 #[test]
 fn listed_cells_of_a_slope_drain_on(rt: HostRuntime) -> Result<(), Fail> {
     for &(product, row) in &OF_SLOPE {
@@ -132,7 +132,7 @@ static WITH_A_VOID: [i16; 25] = [
 /// Lists of cells that are open without them.
 static OPEN_CELLS: [&str; 4] = ["0 0", "4 4\n\n0 3\n2 0\n0 3", "3 3", "2 3\n3 3\n1 0"];
 
-/// What is open without a list stays as it is: cells of the edge, and a cell beside a void.
+/// What is open without a list is unchanged: cells of the edge, and a cell next to a void.
 #[test]
 fn listed_cells_that_are_open_change_nothing(rt: HostRuntime) -> Result<(), Fail> {
     for product in Held::ALL {
@@ -145,7 +145,7 @@ fn listed_cells_that_are_open_change_nothing(rt: HostRuntime) -> Result<(), Fail
     Ok(())
 }
 
-/// Why nothing is made of these elevations with the sinks that the text lists.
+/// Why nothing is made of these elevations with the sinks of the text.
 fn refusal_of(
     alloc: Global,
     layout: &Layout,
@@ -191,7 +191,8 @@ fn the_least_line_without_data_is_told(rt: HostRuntime) -> Result<(), Fail> {
     Ok(())
 }
 
-/// The first nine numbers of con that is made of the pit with these sinks. Its inputs' want of memory is told as the maker's own.
+/// The first nine numbers of con made of the pit with these sinks. If its inputs run out of memory, that counts as the
+/// maker's own.
 fn con_with(alloc: Global, name: TileName, list: &str) -> Result<Option<[i64; 9]>, MakeRefusal> {
     match parse_sinks(alloc, list.as_bytes()) {
         Ok(sinks) => con_of_nine(alloc, name, &PIT, &sinks),
@@ -200,7 +201,7 @@ fn con_with(alloc: Global, name: TileName, list: &str) -> Result<Option<[i64; 9]
     }
 }
 
-/// Of itself memory is there; `tests/refuse_memory.c` refuses it.
+/// Normally memory is there; `tests/refuse_memory.c` refuses it.
 #[test]
 fn a_listed_pit_after_refused_memory(rt: HostRuntime) -> Result<(), Fail> {
     let name = TileName::parse(b"N00E000.hgt")?;
@@ -212,7 +213,7 @@ fn a_listed_pit_after_refused_memory(rt: HostRuntime) -> Result<(), Fail> {
     Ok(())
 }
 
-/// The same with a list whose second line lies outside the tile.
+/// The same with a list whose second line is outside the tile.
 #[test]
 fn a_sink_outside_after_refused_memory(rt: HostRuntime) -> Result<(), Fail> {
     let name = TileName::parse(b"N00E000.hgt")?;

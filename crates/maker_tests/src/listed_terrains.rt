@@ -72,7 +72,7 @@ fn is_local_minimum(elevation: &Elevation, cell: Cell) -> bool {
     true
 }
 
-/// What is found at the listed cells of a tile.
+/// The findings at the listed cells of a tile.
 #[derive(Clone, Copy)]
 struct Tally {
     /// How many are local minima.
@@ -83,7 +83,7 @@ struct Tally {
     draining: u32,
 }
 
-/// Goes over the listed cells of a tile.
+/// Scans the listed cells of a tile.
 fn found(elevation: &Elevation, products: &ProductSet, side: u32) -> Tally {
     let mut found = Tally {
         minima: 0,
@@ -114,7 +114,7 @@ fn sinks_of(alloc: Global, elevation: &Elevation, side: u32) -> Result<Sinks, Fa
     Ok(parse_sinks(alloc, list.as_bytes())?)
 }
 
-/// What is found at the listed cells of a tile once products of it were made, and whether they are accepted.
+/// The findings at the listed cells of a tile after products of it were made, and whether they are accepted.
 fn tile_made(
     alloc: Global,
     layout: &Layout,

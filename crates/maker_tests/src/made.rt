@@ -34,7 +34,7 @@ pub fn elevation(layout: &Layout, samples: Vec<i16>) -> Result<Elevation, Fail>
     Ok(Elevation::new(shape, samples))
 }
 
-/// The products that are made of one tile with these sinks.
+/// The products made of one tile with these sinks.
 fn made_of_tile(
     alloc: Global,
     side: u32,
@@ -46,7 +46,7 @@ fn made_of_tile(
     Ok(make(alloc, &layout, &elevation, sinks)?)
 }
 
-/// The numbers of a product that is made of one tile with these sinks.
+/// The numbers of a product made of one tile with these sinks.
 pub fn numbers_made(
     alloc: Global,
     (side, samples): (u32, &[i16]),
@@ -57,7 +57,7 @@ pub fn numbers_made(
     Ok(Numbers::of(products.raster(product)))
 }
 
-/// The products that are made of these elevations with these sinks, and the verdict on them.
+/// The products made of these elevations with these sinks, and the verdict on them.
 pub fn judged(
     alloc: Global,
     layout: &Layout,
@@ -71,7 +71,7 @@ pub fn judged(
     Ok((products, verdict))
 }
 
-/// Makes products without listed sinks, and counts what the verdict on them counts. They must be accepted.
+/// Makes products without listed sinks, and returns the counts of the verdict on them. They must be accepted.
 pub fn accepted(alloc: Global, layout: &Layout, samples: Vec<i16>) -> Result<Counts, Fail> {
     let elevation = elevation(layout, samples)?;
     let (_, verdict) = judged(alloc, layout, &elevation, &Sinks::none(alloc))?;
@@ -81,7 +81,7 @@ pub fn accepted(alloc: Global, layout: &Layout, samples: Vec<i16>) -> Result<Cou
     }
 }
 
-/// The first nine numbers of con that is made of these elevations with these sinks.
+/// The first nine numbers of con made of these elevations with these sinks.
 fn nine_of_con(
     alloc: Global,
     layout: &Layout,
@@ -94,7 +94,8 @@ fn nine_of_con(
     Ok(Numbers::of(&products.con).as_slice().try_into().ok())
 }
 
-/// The first nine numbers of con that is made of a tile of side 3 with these sinks. Its inputs' want of memory is told as the maker's own.
+/// The first nine numbers of con made of a tile of side 3 with these sinks. If its inputs run out of memory, that
+/// counts as the maker's own.
 pub fn con_of_nine(
     alloc: Global,
     name: TileName,

@@ -12,12 +12,12 @@ use std::alloc::Global;
 use std::process::Abort;
 use std::test::Fail;
 
-/// The numbers of a product that is made of one tile.
+/// The numbers of a product made of one tile.
 fn made(alloc: Global, tile: (u32, &[i16]), product: Held) -> Result<Numbers, Fail> {
     numbers_made(alloc, tile, &Sinks::none(alloc), product)
 }
 
-/// Ends the test where a product that is made of one tile has other numbers.
+/// Fails the test if a product made of one tile has other numbers.
 fn gives(
     rt: &impl Abort,
     alloc: Global,
@@ -80,7 +80,7 @@ static OF_FLAT: [i64; 25] = [
     0, 0, 0, 0, 0, 0, 1, 1, 1, 0, 0, 1, 2, 1, 0, 0, 1, 1, 1, 0, 0, 0, 0, 0, 0,
 ];
 
-/// A flat at the edge of the grid is crossed by the shortest way.
+/// A flat at the edge of the grid is crossed by the shortest path.
 #[test]
 fn ranks_on_a_flat(rt: HostRuntime) -> Result<(), Fail> {
     gives(&rt, rt.alloc(), (5, &[7; 25]), Held::Rnk, &OF_FLAT)
@@ -89,14 +89,14 @@ fn ranks_on_a_flat(rt: HostRuntime) -> Result<(), Fail> {
 /// A pit in the middle, lower than the edge.
 static PIT: [i16; 9] = [5, 5, 5, 5, 1, 5, 5, 5, 5];
 
-/// A product, its number at the edge, and in the middle; none where that is another than 0.
+/// A product, its number at the edge, and in the middle; none if that isn't 0.
 static OF_PIT: [(Held, i64, Option<i64>); 3] = [
     (Held::Con, 5, Some(5)),
     (Held::Dir, 0, None),
     (Held::Rnk, 0, Some(1)),
 ];
 
-/// A pit of one cell is filled, and drains to one of the eight cells of the edge: which of them no definition says.
+/// A pit of one cell is filled, and drains to one of the eight cells of the edge: which of them isn't defined.
 #[test]
 fn pit_in_the_middle(rt: HostRuntime) -> Result<(), Fail> {
     for &(product, edge, middle) in &OF_PIT {
@@ -126,18 +126,18 @@ fn accumulation_at_a_pit(rt: HostRuntime) -> Result<(), Fail> {
     Ok(())
 }
 
-/// The first nine numbers of con that is made of the pit without listed sinks.
+/// The first nine numbers of con made of the pit without listed sinks.
 fn con_without_sinks(alloc: Global, name: TileName) -> Result<Option<[i64; 9]>, MakeRefusal> {
     con_of_nine(alloc, name, &PIT, &Sinks::none(alloc))
 }
 
-/// What is counted of the products that are made of the pit.
+/// The counts of the products made of the pit.
 fn counts_of_pit(alloc: Global) -> Result<Counts, Fail> {
     let layout = one_tile(alloc, 3)?;
     accepted(alloc, &layout, Vec::from_slice(alloc, &PIT)?)
 }
 
-/// Of itself memory is there; `tests/refuse_memory.c` refuses it.
+/// Normally memory is there; `tests/refuse_memory.c` refuses it.
 #[test]
 fn pit_after_refused_memory(rt: HostRuntime) -> Result<(), Fail> {
     let name = TileName::parse(b"N00E000.hgt")?;

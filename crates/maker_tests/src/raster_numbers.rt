@@ -5,7 +5,7 @@ use drain_grid::{Cell, Raster};
 /// The most numbers of a product here.
 const ROOM: usize = 25;
 
-/// The numbers of a product in row order. They own no memory, so that a test that holds some is cheap to prove.
+/// The numbers of a product in row order. They own no memory, so that a test with some is cheap to prove.
 #[derive(Clone, Copy)]
 pub struct Numbers {
     pub list: [i64; ROOM],
@@ -29,7 +29,7 @@ impl Numbers {
         Numbers { list, count }
     }
 
-    /// The numbers; none where there are more than there is room for.
+    /// The numbers; none if there are more than there is room for.
     pub fn as_slice(&self) -> &[i64] {
         self.list.get(..self.count).unwrap_or(&[])
     }

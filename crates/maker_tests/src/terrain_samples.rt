@@ -42,7 +42,7 @@ impl Terrain {
     }
 }
 
-/// The samples of a tile, each lowered by so many metres.
+/// The samples of a tile, each lowered by this number of metres.
 pub fn samples(alloc: Global, side: u32, terrain: Terrain, lowered: i16) -> Result<Vec<i16>, Fail> {
     let mut samples = Vec::new(alloc);
     let mut state: u32 = side;

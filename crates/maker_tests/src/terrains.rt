@@ -28,7 +28,7 @@ fn with_edge(alloc: Global, choice: u32) -> Result<Vec<i16>, Fail> {
     Ok(samples)
 }
 
-/// How many zeros the tile of a choice has, and what the verdict on its products counts.
+/// How many zeros the tile of a choice has, and the counts of the verdict on its products.
 fn choice_made(alloc: Global, choice: u32) -> Result<(usize, Counts), Fail> {
     let samples = with_edge(alloc, choice)?;
     let zeros = samples.iter().filter(|sample| **sample == 0).count();
@@ -36,9 +36,9 @@ fn choice_made(alloc: Global, choice: u32) -> Result<(usize, Counts), Fail> {
     Ok((zeros, accepted(alloc, &layout, samples)?))
 }
 
-/// The first choice of an eighth of them that the verdict counts otherwise, and what it counts.
+/// The first choice of an eighth of them that has other counts in the verdict, and these counts.
 ///
-/// A test of all of them would go over the first ones again for each allocation that is refused in it.
+/// A test of all of them would repeat the first ones for each allocation that is refused in it.
 fn first_wrong(alloc: Global, eighth: u8) -> Result<Option<(u32, Counts)>, Fail> {
     for place in 0..64 {
         let choice = 64 * u32::from(eighth) + place;
@@ -57,7 +57,7 @@ fn first_wrong(alloc: Global, eighth: u8) -> Result<Option<(u32, Counts)>, Fail>
     Ok(None)
 }
 
-/// Ends the test where the verdict counts a choice of an eighth of them otherwise.
+/// Fails the test if the verdict has other counts for a choice of an eighth of them.
 fn none_wrong(rt: &impl Abort, alloc: Global, eighth: u8) -> Result<(), Fail> {
     same(rt, eighth, first_wrong(alloc, eighth)?, None);
     Ok(())
@@ -103,7 +103,7 @@ fn tiles_of_nine_inner_samples_from_448(rt: HostRuntime) -> Result<(), Fail> {
     none_wrong(&rt, rt.alloc(), 7)
 }
 
-/// What the verdict on the products of two tiles with a gap between them counts.
+/// The counts of the verdict on the products of two tiles with a gap between them.
 fn apart_made(alloc: Global) -> Result<Counts, Fail> {
     let first = TileName::parse(b"N00E000.hgt")?;
     let last = TileName::parse(b"N00E002.hgt")?;
@@ -128,7 +128,7 @@ fn tiles_apart(rt: HostRuntime) -> Result<(), Fail> {
     Ok(())
 }
 
-/// What the verdict on the products of a terrain counts.
+/// The counts of the verdict on the products of a terrain.
 fn terrain_made(alloc: Global, side: u32, terrain: Terrain, lowered: i16) -> Result<Counts, Fail> {
     let layout = one_tile(alloc, side)?;
     let samples = samples(alloc, side, terrain, lowered)?;

@@ -32,7 +32,7 @@ fn place(west: i32) -> Place {
     }
 }
 
-/// Facts of so many kinds, by number.
+/// Facts of this number of kinds, by number.
 fn facts(alloc: Global, kind: usize) -> Result<Facts, Fail> {
     let tile = TileName::parse(b"N36W085.hgt")?;
     Ok(match kind {

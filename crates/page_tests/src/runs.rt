@@ -1,4 +1,4 @@
-//! Runs without an end: rings and runs that lead nowhere.
+//! Paths without an end: rings and paths that lead nowhere.
 
 use crate::worked::{json_has, no_fault, text_has};
 use drain_answer::AuditVerdict;
@@ -9,7 +9,7 @@ use drain_runs::{EndlessRun, LostBy};
 use std::alloc::Global;
 use std::test::Fail;
 
-/// The facts of an audit where the run of row 0, column 3 doesn't end.
+/// The facts of an audit in which the path of row 0, column 3 doesn't end.
 fn no_end(run: EndlessRun) -> Result<Facts, Fail> {
     let mut findings = no_fault(Ranks::Unasked)?;
     findings.endless = Some((Cell { row: 0, col: 3 }, run));
@@ -20,14 +20,14 @@ fn no_end(run: EndlessRun) -> Result<Facts, Fail> {
     })
 }
 
-/// A ring of so many cells, of which two are told.
+/// A ring of this number of cells, of which two are printed.
 fn ring(alloc: Global, length: usize) -> Result<Facts, Fail> {
     let told = [Cell { row: 1, col: 1 }, Cell { row: 1, col: 2 }];
     let cells = told.to_vec(alloc)?;
     no_end(EndlessRun::Ring { cells, length })
 }
 
-/// A case of a ring, how many cells it has, and what is told of it.
+/// A case of a ring, how many cells it has, and its text.
 static RINGS: [(&str, usize, &str); 2] = [
     (
         "two cells",
@@ -41,7 +41,7 @@ static RINGS: [(&str, usize, &str); 2] = [
     ),
 ];
 
-/// What is told of the ring of three cells as JSON.
+/// The JSON of the ring of three cells.
 static RING_AS_JSON: &str =
     r#""run":{"from":{"row":0,"col":3,"longitude":-104.0,"latitude":38.0},"ring":{"length":3,"cells":[{"row":1,"col":1,"longitude":-104.66666666666667,"latitude":37.666666666666664},{"row":1,"col":2,"longitude":-104.33333333333333,"latitude":37.666666666666664}]},"lost":null}}"#;
 
@@ -55,7 +55,7 @@ fn rings(rt: HostRuntime) -> Result<(), Fail> {
     json_has(&rt, rt.alloc(), "as JSON", facts, RING_AS_JSON)
 }
 
-/// Why a run leads nowhere, with its words and its name.
+/// Why a path leads nowhere, with its words and its name.
 static LOST: [(LostBy, &str, &str); 3] = [
     (
         LostBy::NoCode,
@@ -74,7 +74,7 @@ static LOST: [(LostBy, &str, &str); 3] = [
     ),
 ];
 
-/// What is told of each of them as JSON.
+/// The JSON of each of them.
 static LOST_AS_JSON: &str =
     r#""ring":null,"lost":{"cell":{"row":3,"col":0,"longitude":-105.0,"latitude":37.0},"by":""#;
 

@@ -1,4 +1,4 @@
-//! What each rule wanted, at a cell of ground 5 with neighbours in the east and the southeast, and others that stand at 9.
+//! What each rule expected, at a cell of ground 5 with neighbours in the east and the southeast, and others at 9.
 
 use crate::worked::{Numbers, cell, json_has, one_fault, rejected, text_has, values, void};
 use drain_grid::{CellValues, Patch, Rule};
@@ -217,7 +217,7 @@ fn open_beside(north: Option<CellValues>) -> Result<Facts, &'static str> {
     Ok(rejected(Rule::OpenRaised, 1, 2, findings))
 }
 
-/// Whether a void lies in the north, and what is expected of the cell.
+/// Whether a void is in the north, and what is expected of the cell.
 static OPEN: [(&str, bool, &str); 2] = [
     (
         "the edge",
@@ -254,7 +254,7 @@ fn numbered_void(ranks: Ranks) -> Result<Facts, &'static str> {
     ))
 }
 
-/// Whether ranks are asked, and what is expected of the void.
+/// Whether ranks are checked, and what is expected of the void.
 static NUMBERED: [(&str, Ranks, &str); 2] = [
     (
         "ranks asked",

@@ -20,7 +20,7 @@ static NEIGHBOURS: [(i16, bool, Numbers); 4] = [
     (6, false, (6, 3, 1, 7, 4)),
 ];
 
-/// A cell on the northern edge beside a void and a listed sink.
+/// A cell on the northern edge next to a void and a listed sink.
 fn edge() -> Result<Patch, &'static str> {
     let mut around = [None; 8];
     for (place, &(ground, sink, numbers)) in around.iter_mut().zip(&NEIGHBOURS) {
@@ -88,7 +88,7 @@ fn an_acceptance(rt: HostRuntime) -> Result<(), Fail> {
     text_is(&rt, rt.alloc(), "an acceptance", accepted()?, ACCEPTED)
 }
 
-/// The facts of a refusal of which there is no more to tell.
+/// The facts of a refusal without details.
 fn no_tiles() -> Facts {
     Facts {
         answer: Answer::Check(Err(Refusal::NoTiles)),

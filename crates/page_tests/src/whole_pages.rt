@@ -1,6 +1,6 @@
 //! A page with two rules that fail, written by hand: as text and as JSON.
 
-/// A cell on the northern edge beside a void and a listed sink, whose acc is no data.
+/// A cell on the northern edge next to a void and a listed sink, whose acc is no data.
 pub static TEXT: &str = "rejected rule=2 Missing row=0 col=1
 
 rule                cells    row column     longitude      latitude

@@ -1,4 +1,5 @@
-//! Facts to make pages of: a mosaic of 4 by 4 cells at three steps a degree, whose north-west corner lies at 38 degrees north and 105 west.
+//! Facts to make pages of: a mosaic of 4 by 4 cells at three steps a degree, with its north-west corner at 38 degrees
+//! north and 105 west.
 
 use crate::agree::{has, same_text};
 use drain_faults::{FaultyPatch, PerRule, ProductFaults, RuleFaults};
@@ -9,7 +10,7 @@ use std::alloc::Global;
 use std::process::Abort;
 use std::test::Fail;
 
-/// Where it lies.
+/// Its place.
 pub const PLACE: MosaicPlace = MosaicPlace {
     north: 38,
     west: -105,
@@ -38,7 +39,7 @@ pub fn cell(ground: i16, sink: bool, numbers: Numbers) -> Result<CellValues, &'s
     values(Some(ground), sink, numbers, 0)
 }
 
-/// A void with the numbers that stand for no data.
+/// A void with the no-data numbers.
 pub fn void() -> Result<CellValues, &'static str> {
     values(None, false, (-32768, 255, 0, 0, 4294967295), 255)
 }
@@ -51,7 +52,7 @@ pub fn no_cell() -> RuleFaults {
     }
 }
 
-/// So many cells, the first of them this.
+/// This number of cells, the first of them this.
 pub fn cells(cells: u32, row: u32, col: u32) -> RuleFaults {
     RuleFaults {
         cells,
@@ -140,7 +141,7 @@ pub fn json_of(alloc: Global, facts: &Facts) -> Result<String, Fail> {
     Ok(page_json(alloc, facts)?)
 }
 
-/// Ends the test where the page as text doesn't hold this, and tells of which case it is.
+/// Fails the test if the page as text doesn't contain this, and names the case.
 pub fn text_has(
     rt: &impl Abort,
     alloc: Global,
@@ -152,7 +153,7 @@ pub fn text_has(
     Ok(())
 }
 
-/// Ends the test where the page as JSON doesn't hold this, and tells of which case it is.
+/// Fails the test if the page as JSON doesn't contain this, and names the case.
 pub fn json_has(
     rt: &impl Abort,
     alloc: Global,
@@ -164,7 +165,7 @@ pub fn json_has(
     Ok(())
 }
 
-/// Ends the test where the page as text is another, and tells of which case it is.
+/// Fails the test if the page as text is another, and names the case.
 pub fn text_is(
     rt: &impl Abort,
     alloc: Global,
