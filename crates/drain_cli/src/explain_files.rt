@@ -37,7 +37,7 @@ pub fn explain_files(rt: &HostRuntime, asked: &Explained<'_>, out: &mut impl Byt
     match map_over_input(rt, &asked.judged, stem) {
         Ok(None) => explain_opened(rt, asked, out),
         Ok(Some(path)) => {
-            let _ = eprintln!(rt; "error: the map would be written over {path}, which is read");
+            let _ = eprintln!(rt; "error: the map would overwrite {path}, which is an input");
             Status::Refused.code()
         }
         Err(fault) => print_open_fault(rt, fault, out),
