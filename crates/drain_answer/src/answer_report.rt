@@ -79,7 +79,7 @@ fn of_line(text: &str, number: u64) -> Line
     line
 }
 
-/// The name in this place is no tile's.
+/// The line that the name in this place is no tile's.
 fn bad_name(place: usize) -> Line
     ensures { result.bytes ≡ codes "refused BadName " ++ decimal place }
 {
@@ -89,7 +89,7 @@ fn bad_name(place: usize) -> Line
     line
 }
 
-/// A product's header has a fault.
+/// The line that a product's header has a fault.
 fn bad_header(product: Product, fault: HeaderFault) -> Line
     ensures { result.bytes ≡ refusal_line (Refusal.BadHeader product fault) }
 {
@@ -99,7 +99,7 @@ fn bad_header(product: Product, fault: HeaderFault) -> Line
     line
 }
 
-/// Two tiles differ at a cell.
+/// The line that two tiles differ at a cell.
 fn seam_mismatch(cell: Cell) -> Line
     ensures { result.bytes ≡ refusal_line (Refusal.SeamMismatch cell) }
 {

@@ -31,7 +31,7 @@ fn line_of(verdict: &AuditVerdict) -> Line
     }
 }
 
-/// The path of a cell doesn't end.
+/// The line that the path of a cell doesn't end.
 fn no_end(row: u32, col: u32) -> Line
     ensures { result.bytes ≡ no_end_line row col }
 {

@@ -29,7 +29,7 @@ pub of_verdict : (answer : Result AuditVerdict Refusal) → code_of (audit_statu
 of_verdict (Ok verdict) zero Fact holds = holds
 of_verdict (Err refusal) zero Fact holds = absurd (omega (arith, zero, refused_above_1 refusal))
 
--- where that status is 1, what comes exactly with an acceptance doesn't hold, of any inputs that were handed in
+-- if that status is 1, what comes exactly with an acceptance doesn't hold, of any inputs of the call
 pub not_of_rejected : (answer : Result AuditVerdict Refusal) → code_of (audit_status answer) ≡ 1 → (Told Fact : Inputs → Type 0) →
     IfOk answer (λ verdict. (i : Inputs) → Told i → IsAcceptance verdict ↔ Fact i) → (i : Inputs) → Told i → ¬ Fact i
 not_of_rejected (Ok (Accepted counts)) one Told Fact exactly i told = absurd (omega (arith, one))

@@ -46,7 +46,7 @@ tells_failure {W} {sink} {old} {new} {form} {line} {text} {wanted} {code} none p
   printed = prints;
 }
 
--- the answer tells of a failed read exactly where the explanation does
+-- the answer reports a failed read exactly if the explanation does
 fails_alike : {V : Type 0} (explained : Result (Explanation V) Refusal) → IsErrOf explained ReadFailed ↔ IsErrOf (answer_in explained) ReadFailed
 fails_alike (Ok e) = ((λ fails. cc), (λ fails. cc))
 fails_alike (Err refusal) = ((λ fails. cc), (λ fails. cc))

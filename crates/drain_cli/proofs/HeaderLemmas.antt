@@ -58,7 +58,7 @@ answer_told (Some xs) (Some ys) items body answer same reads is = first_bytes_an
 pub read_told : {T U : Type 0} (read : Result T BodyFault) (body : T) (answer : U) (Fails : Type 0) → read ≡ Ok body → (IsErrOf read ReadFailed ↔ Fails) → IsErrOf {T = U} (Ok answer) ReadFailed ↔ Fails
 read_told read body answer Fails is exactly = (λ e. cc, λ f. (let p = exactly.1 f in cc))
 
--- what is told of an answer or an outcome
+-- what is said of an answer or an outcome
 pub told_header : (answer : Result Fields HeaderFault) (h : Fields) → answer ≡ Ok h → IsAnswerToldAs answer (Ok (Ok h))
 told_header answer h is = rw is (inl refl)
 

@@ -53,7 +53,7 @@ none_later start last (now ∷ later) since =
         let here : one_line start now ≡ 0 = one_line-behind start now (omega (arith, late, since)) in
         omega (arith, lines_in-cons start now (told_times now later), here, rest)
 
--- a line, and those behind it
+-- a line, and later ones
 with_first : (start now : ℕ) (times : List ℕ) → (start ≤ now → lines_in start times ≡ 0) → lines_in start times ≤ 1 → lines_in start (now ∷ times) ≤ 1
 with_first start now times since fits = by_place (nat_lt now start) refl
   where

@@ -5,7 +5,7 @@ use Rattle.std.proofs.lemmas.List.{drop_more, get_or-drop}
 use Rattle.std.proofs.lemmas.List.Elements.{All-from_get_or}
 use Rattle.drain_cli.specs.FilePaths.{slash, IsLastPart}
 
--- the path is what stands before its slash in this place, the slash, and what follows
+-- the path is what precedes its slash in this place, the slash, and what follows
 split_at_slash : (path : List ℕ) (at : ℕ) → at < length path → get_or path at 0 ≡ slash → path ≡ take at path ++ slash ∷ drop (at + 1) path
 split_at_slash path at within is =
     sym (take-append-drop at path) ∙ ap (λ rest. take at path ++ rest) (drop_more path at 0 within ∙ ap (λ byte. byte ∷ drop (at + 1) path) is)

@@ -10,7 +10,7 @@ none_ends first each bytes short = record {
   not_ended = λ some long. omega (arith, short);
 }
 
--- the first, and as many further ones as there are lengths of a row behind it; the count stays at the greatest number
+-- the first, and as many further ones as there are lengths of a row after it; the count stays at the greatest number
 pub further_end : (first each bytes behind further most rows : ℕ) → first ≤ bytes → behind ≡ bytes - first → 0 < each → further ≡ behind / each → bytes ≤ most →
     rows ≡ min (further + 1) most → IsRowCount first each bytes rows
 further_end first each bytes behind further most rows whole behind_is long further_is fits rows_are =

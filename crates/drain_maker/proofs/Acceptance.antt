@@ -111,7 +111,7 @@ module _ (i : Inputs) (ps : ProductSet) (read : AreReadBack i ps) where
       (read.back p).long (subst (λ (h : Fields). pixels.IsShort h (raster_bytes (header_of (tiling_of i) (product_of p)) (raster_in ps p))) (sym (says i ps read p))
       (subst (λ (body : List ℕ). pixels.IsShort (fields_of i p) body) (read.rasters_are p) stands))
 
--- no refusal stands
+-- no refusal applies
 none_stands : (i : Inputs) (e : Heights) (sinks : List SinkLine) (ps : ProductSet) → IsMosaicOf i (tiling_of i) e → sinks_of i.sinks ≡ Ok sinks → AreOnData e sinks → AreReadBack i ps → AreReadable i
 none_stands i e sinks ps mosaic listed on_data read (BadHeader p fault) stands = none_of_held (λ h. Answers (i.header h) (Err fault)) (λ h. no_fault i ps read h fault) p stands
 none_stands i e sinks ps mosaic listed on_data read (WrongShape p) stands = none_of_held (λ h. ¬ HasShape i h) (shaped i ps read) p stands

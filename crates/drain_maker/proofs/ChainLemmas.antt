@@ -92,7 +92,7 @@ module _ (behind : List ℕ) (last item : ℕ) (within : item < length behind) (
   not_absent : (x : ℕ) → get_or behind x END ≢ ABSENT → x ≢ item
   not_absent x some e = some (ap (λ i. get_or behind i END) e ∙ absent)
 
-  -- an item that was absent, put behind the last one
+  -- an item that was absent, put after the last one
   pub IsChain-push : (x : ℕ) (xs : List ℕ) (at : ℕ) → IsChain behind at (x ∷ xs) → last_or x xs ≡ last → IsChain (set (set behind last item) item END) at (x ∷ (xs ++ item ∷ []))
   IsChain-push x [] at linked is =
       let other : x ≢ item = not_absent x linked.2 in

@@ -27,13 +27,13 @@ appends-nothing : (taken : Option (List ℕ)) → Appends taken taken []
 appends-nothing None = tt
 appends-nothing (Some xs) = sym (append-nil xs)
 
--- without a fault no sink gives up
+-- without a fault no sink fails for good
 never-gives-up : GivesUpWriting full_patience 0 0 0 → ⊥
 never-gives-up (inl failed) = omega (arith, failed)
 never-gives-up (inr (inl interrupted)) = omega (arith, interrupted)
 never-gives-up (inr (inr stalled)) = omega (arith, stalled)
 
--- a file that wasn't called, for want of memory
+-- a file that wasn't called, as memory ran out
 pub no_memory : {F : Type 0} (sink : Sink F) (file : F) (bytes : List ℕ) → 0 < length bytes →
     WritesFile sink file file bytes (Err OutOfMemory)
 no_memory sink file bytes some = record {
@@ -61,7 +61,7 @@ text-some h =
     some-more (shape_lines h ++ pixel_lines h ++ place_lines h.place) (nodata_line h.nodata)
     (some-more (shape_lines h ++ pixel_lines h) (place_lines h.place) (some-more (shape_lines h) (pixel_lines h) (shape-some h)))
 
--- after so many files: those before took their bytes, and the rest is untouched
+-- after n files: those before took their bytes, and the rest is untouched
 pub record WritesSoFar {F : Type 0} (sink : Sink F) (start now : List F) (texts : List (List ℕ)) (k : ℕ) : Type 0 where
   pub olds : List F
   pub news : List F
@@ -211,7 +211,7 @@ pub set_so_far-all : {F : Type 0} (sink : Sink F) (start now : List F) (t : Tili
 set_so_far-all sink start now t ps k so_far all texts_all =
     so_far-all sink start now (set_bytes t ps) k so_far all (omega (arith, set_bytes-len t ps, texts_all))
 
--- a raster each of whose numbers can be spelled is written, or its file gave up
+-- a raster each of whose numbers can be encoded is written, or its file failed for good
 pub numbers-failed : {F : Type 0} (sink : Sink F) (old new : F) (h : Fields) (p : Pixels) (fault : WriteFault) →
     CanSpellAll h p → ((c : Cell) → IsErrOf {T = Unit {0}} (Err fault) (write.OutOfRange c) ↔ IsFirstOutOfRange h p c) →
     HandsOver {T = Unit {0}} (sink.bytes_taken old) (sink.bytes_taken new) (Err fault) (raster_bytes h p) →

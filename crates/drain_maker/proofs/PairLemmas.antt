@@ -71,7 +71,7 @@ parted items later p (suc n) a same low high = elim (cases_eq a p) [
 less_or_equal : (x y : ℤ) → x <ℤ y → x ≤ℤ y
 less_or_equal x y less = omega (arith, ints)
 
--- one item more at the end of a level is one pair more behind the last of its level or a lower one
+-- one more item at the end of a level is one more pair after the last of its level or a lower one
 pub put_pair : (items later : ℕ → List ℕ) (p n item : ℕ) → ((m : ℕ) → m ≢ p → later m ≡ items m) → later p ≡ items p ++ item ∷ [] → p < n →
     IsPut (level_of p) item (pairs_from items 0 n) (pairs_from later 0 n)
 put_pair items later p n item same more within =
@@ -118,7 +118,7 @@ no_pairs items zero a none = refl
 no_pairs items (suc n) a none =
     ap (λ xs. pairs_at a xs ++ pairs_from items (a + 1) n) (none a (omega arith)) ∙ no_pairs items n (a + 1) (λ m less. none m (omega arith))
 
--- an item of a level stands in a pair of it
+-- an item of a level is in a pair of it
 among_pairs : (a x : ℕ) (xs : List ℕ) → Contains xs x → Contains (pairs_at a xs) (level_of a, x)
 among_pairs a x xs (k, less, is) =
     let long : length (pairs_at a xs) ≡ length xs = length-map {B = ℤ × ℕ} xs (λ item. (level_of a, item)) in

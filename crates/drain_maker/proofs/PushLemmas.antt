@@ -178,7 +178,7 @@ module _ (firsts lasts behind : List ℕ) (lowest p item lowest' : ℕ) (linked 
   pub last_within : get_or firsts p END ≢ END → get_or lasts p END < length behind
   last_within some = (has_link items firsts lasts behind lowest p (get_or lasts p END) by (last_held (items p) (get_or firsts p END) (get_or lasts p END) (by.linked p) some (by.ended p))).0
 
-  -- behind the last of a level
+  -- after the last of a level
   pub pushed_behind : get_or firsts p END ≢ END → ArePushed firsts lasts behind p item firsts (set (set behind (get_or lasts p END) item) item END) lowest'
   pushed_behind some =
       let last = get_or lasts p END in
@@ -240,7 +240,7 @@ module _ (firsts lasts behind : List ℕ) (lowest p item lowest' : ℕ) (w : Wai
             (subst (λ (u : Waiting). IsPut (level_of p) item u.pairs (pairs_of firsts (set (set behind (get_or lasts p END) item) item END))) view_is pushed.pairs);
       })
 
-  -- the last of a level that has one can be written behind
+  -- the link of the last item of a level that has one can be written
   pub last_below : (first last : ℕ) → first ≡ get_or firsts p first → (first ≡ END → ⊥) → last ≡ get_or lasts p last → last < length behind
   last_below first last read some read_last =
       let there : get_or firsts p END ≢ END = λ e. some (get_or_read firsts p first (omega (arith, linked.firsts_are, in_levels)) read END ∙ e) in

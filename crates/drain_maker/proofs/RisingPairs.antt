@@ -10,7 +10,7 @@ use Rattle.drain_maker.specs.Waiting.{Rises}
 use Rattle.drain_maker.specs.Chains.{items_at, level_of, pairs_at, pairs_from, pairs_of}
 use Rattle.drain_maker.proofs.PairLemmas.{at_level, higher_from}
 
--- pairs of one level, and behind them a rising list of higher ones
+-- pairs of one level, and after them a rising list of higher ones
 joined : (low : ℤ) (xs ys : List (ℤ × ℕ)) → All (λ q. q.0 ≡ low) xs → All (λ q. low <ℤ q.0) ys → Rises ys → Rises (xs ++ ys)
 joined low xs ys level higher rise i j d ordered within =
     let total = length-append xs ys in

@@ -12,7 +12,7 @@ use Rattle.drain_maker.specs.Made.{AreOnData, IsSinkAnswer, IsTestRefusal}
 use Rattle.drain_maker.specs.declared.maker.MakeRefusal.{MakeRefusal}
 use Rattle.drain_maker.specs.declared.maker.MakeRefusal.TheVariants.{MakerFault, OutOfMemory, SinkNotData}
 
--- what is asked of a cell is whether it has data
+-- the test of a cell is whether it has data
 told : (e : Heights) (sinks : List SinkLine) (c : Cell) → (has_data e c ≡ true → HasData (grid_of e sinks) c) × (has_data e c ≡ false → ¬ HasData (grid_of e sinks) c)
 told e sinks c = elim (cases_lt c.row e.extent.rows) [
   | inr past ↦ (

@@ -2,9 +2,9 @@
 //!
 //! A trace visits all that can be reached without going down, each cell at its own ground, first from all open cells at
 //! once. So whole slopes are reached without a queue. A cell next to an unreached lower one waits in the queue at its
-//! level; waiting cells are taken lowest first, and their unreached neighbours are raised to their level, which is the
-//! lowest outlet. So the level at which a cell is reached is its conditioned elevation, and the neighbour from which it
-//! was reached is its spill parent. Time is linear in the cells.
+//! level; waiting cells are taken lowest first, and their unreached neighbours are raised to their level, which is
+//! their spill level. So the level at which a cell is reached is its conditioned elevation, and the neighbour from
+//! which it was reached is its spill parent. Time is linear in the cells.
 //!
 //! Source: Priority-Flood (Barnes, Lehman and Mulla 2014), with traces as in Zhou, Sun and Fu (2016).
 

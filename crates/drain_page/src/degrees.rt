@@ -12,7 +12,7 @@ use crate::place::MosaicPlace;
 /// A degree in units of the seventh place.
 pub const PLACES: u128 = 10_000_000;
 
-/// No cell of a place is more steps from the equator or the meridian.
+/// No cell of a place is more steps than this from the equator or the meridian.
 pub const MOST_STEPS: u64 = 140_741_783_322_624;
 
 /// Whole degrees make no more steps than this.

@@ -18,7 +18,7 @@ use Rattle.drain_verdict.specs.Answers.{AreReadable, IsAnswer}
 same_value : (v w : ℤ) → ¬ (¬ (v ≡ w)) → v ≡ w
 same_value v w h = elim (ℤ_discrete v w) [ yes same ↦ same | no differ ↦ absurd (h differ) ]
 
--- where no refusal stands, the tiles agree
+-- if no refusal applies, the tiles agree
 pub tiles_agree : (i : Inputs) → AreReadable i → TilesAgree (tiling_of i) (tiles_of i)
 tiles_agree i readable c v w inside is_v is_w =
     same_value v w (λ differ. readable (SeamMismatch c) (inside, record { one = v; other = w; is_one = is_v; is_other = is_w; differ = differ }))

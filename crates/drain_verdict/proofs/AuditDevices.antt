@@ -27,7 +27,7 @@ gave_up_or_not f = elim (cases_order 0 f.failures) [
   | inr (inr less) ↦ absurd (omega (arith, less))
 ]
 
--- faults of one device, told twice, are told once
+-- faults of one device, counted twice, are the same faults
 pub record AreOf (old new : FaultCounts) (one other f : Faults) : Type 0 where
   pub answered : Answered old new f.failures f.interruptions
   pub gives_up : gave_up f ↔ (gave_up one ⊎ gave_up other)
@@ -110,7 +110,7 @@ module _ (a b c d at bt ct dt : FaultCounts) where
         ],
       ) left right
 
--- whether a read failed is told alike by answers of any two kinds
+-- answers of any two kinds say alike whether a read failed
 pub failed_alike : {A B : Type 0} (refusal : Refusal) → IsErrOf {T = A} (Err refusal) ReadFailed ↔ IsErrOf {T = B} (Err refusal) ReadFailed
 failed_alike refusal = (λ is. (let same : refusal ≡ ReadFailed = cc in ap Err same), λ is. (let same : refusal ≡ ReadFailed = cc in ap Err same))
 

@@ -13,13 +13,13 @@ use Rattle.drain_verdict.specs.declared.audit_products.AuditProducts.{AuditProdu
 use Rattle.drain_answer.specs.declared.refusal.Refusal.TheVariants.{OutOfMemory}
 use Rattle.drain_verdict.proofs.InputLemmas.{Answer, Stay, failed_at, some_failed}
 
--- where memory alone was wanted, no device gave up
+-- if only memory ran out, no device failed for good
 pub no_device : (before after : Answer) → OnOk before (IfErr after (λ refusal. refusal ≡ OutOfMemory)) → ¬ IsTrue (gave_up (told_by before) (told_by after))
 no_device (Ok done) (Ok done_then) only up = let no = up in cc
 no_device (Ok done) (Err refusal) only up = let no : IsTrue (gave_up None (Some OutOfMemory)) = subst (λ r. IsTrue (gave_up None (Some r))) only up in cc
 no_device (Err refusal) after only up = let no = up in cc
 
--- whether the product's device gave up; that of con stands for the ranks
+-- whether the product's device failed for good; that of con takes the place of the ranks
 abbrev failed_of_four : (con dir acc bas last : Answer) → Held → Bool
 failed_of_four con dir acc bas last Rnk = failed_at con dir acc bas last Con
 failed_of_four con dir acc bas last p = failed_at con dir acc bas last p

@@ -6,7 +6,7 @@ use Rattle.drain_mosaic.specs.Tiling.{Tiling}
 use Rattle.drain_verdict.specs.Stages.{IsFirstRefusalOf, IsHeaderFor, IsHeaderRefusal}
 use Rattle.drain_answer.specs.declared.refusal.Refusal.{Refusal}
 
--- what is told of texts is told of the same texts by other names
+-- what is said of texts is said of the same texts by other names
 pub told_of_same : (t : Tiling) (text other : Held → List ℕ) (e : Refusal) → IsFirstRefusalOf t text e → ((p : Held) → text p ≡ other p) → IsFirstRefusalOf t other e
 told_of_same t text other e found same = record {
   product = found.product;

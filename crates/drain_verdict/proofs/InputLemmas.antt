@@ -35,7 +35,7 @@ pub on-ok : {T E : Type 0} (r : Result T E) {P Q : Type 0} → (P → Q) → OnO
 on-ok (Ok x) follows holds = follows holds
 on-ok (Err told) follows holds = tt
 
--- a refusal by which a device gave up
+-- a refusal by which a device failed for good
 pub only_failed : (refusal : Refusal) → IsTrue (gave_up None (Some refusal)) → refusal ≡ ReadFailed
 only_failed BadSide up = absurd (let no = up in cc)
 only_failed (BadName k) up = absurd (let no = up in cc)
@@ -68,7 +68,7 @@ fails_then (Err refusal) after stays = (
   λ either. elim either [ inl failed ↦ ap told_by stays ∙ failed | inr up ↦ absurd (let no = up in cc) ],
 )
 
--- whether the product's device gave up
+-- whether the product's device failed for good
 abbrev pub failed_at : (con dir acc bas rnk : Answer) → Held → Bool
 failed_at con dir acc bas rnk Con = gave_up None (told_by con)
 failed_at con dir acc bas rnk Dir = gave_up (told_by con) (told_by dir)
@@ -76,14 +76,14 @@ failed_at con dir acc bas rnk Acc = gave_up (told_by dir) (told_by acc)
 failed_at con dir acc bas rnk Bas = gave_up (told_by acc) (told_by bas)
 failed_at con dir acc bas rnk Rnk = gave_up (told_by bas) (told_by rnk)
 
--- what was told before stays the answer
+-- an earlier answer stays the answer
 pub record Stay (con dir acc bas rnk : Answer) : Type 0 where
   pub at_dir : IfErr con (λ refusal. dir ≡ Err refusal)
   pub at_acc : IfErr dir (λ refusal. acc ≡ Err refusal)
   pub at_bas : IfErr acc (λ refusal. bas ≡ Err refusal)
   pub at_rnk : IfErr bas (λ refusal. rnk ≡ Err refusal)
 
--- the last answer tells that a device gave up exactly where that of some product did
+-- the last answer says that a device failed for good exactly if that of some product did
 pub some_failed : (con dir acc bas rnk : Answer) → Stay con dir acc bas rnk → HasFailed rnk ↔ ((p : Held) × IsTrue (failed_at con dir acc bas rnk p))
 some_failed con dir acc bas rnk stay =
     let at_con = fails_then (Ok tt) con tt in

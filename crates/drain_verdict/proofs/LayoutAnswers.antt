@@ -50,7 +50,7 @@ one_list one (n ∷ names) (c ∷ cs) (d ∷ ds) is_c is_d =
 same_corners : OneName → (i : Inputs) → (AreNames i.names → AllZip Names i.names i.corners) → (corners : List Corner) → AllZip Names i.names corners → corners ≡ i.corners
 same_corners one i told corners named = one_list one i.names corners i.corners named (told (are_names i.names corners named))
 
--- where the side is a tile's and the names are those of tiles, nothing of the first two kinds stands
+-- if the side is a tile's and the names are those of tiles, no refusal of the first two kinds applies
 named_none : (i : Inputs) (corners : List Corner) → IsSide i.side → AllZip Names i.names corners → NoneStandsBefore i 3
 named_none i corners in_range named =
     none_more i (Stands i) 2 (none_more i (Stands i) 1 (none_first i) (at_side i (λ b. ¬ Stands i b) (λ stands. stands in_range)))

@@ -34,7 +34,7 @@ use Rattle.drain_verdict.proofs.FirstValues.{elevation_is_first_value}
 lengths_of : (i : Inputs) (t : Tiling) (samples : List (List ℤ)) → t ≡ tiling_of i → AreSamplesOf t.side i.tiles samples → AreSamplesOf i.side i.tiles samples
 lengths_of i t samples is those = subst (λ (u : Tiling). AreSamplesOf u.side i.tiles samples) is those
 
--- no refusal of the tiles of a kind before this one stands
+-- no refusal of the tiles of a kind before this one applies
 abbrev pub NoneOfTilesBefore : Inputs → ℕ → Type 0
 NoneOfTilesBefore i kind = (refusal : Refusal) → (refusal_order i refusal).0 < kind → ¬ StandsOfTiles i refusal
 
@@ -82,7 +82,7 @@ layout_told one bytes_left side tiles i refusal tell bad =
     layout_theirs i side (names_of tiles) refusal bad
     (layout_refused one i tell.corners_are refusal (told_of_inputs (λ side names. IsLayoutRefusal side names refusal) i side (names_of tiles) tell.side_is tell.names_are bad))
 
--- the layout is that of the inputs, and nothing of the tiles stands before their lengths
+-- the layout is that of the inputs, and no refusal of the tiles before their lengths applies
 pub laid_out : OneName → {R : Type 0} (bytes_left : R → Option (List ℕ)) (side : ℕ) (tiles : List (TileInput R)) (i : Inputs) (t : Tiling) → TellTiles bytes_left side tiles i →
     IsLayoutOf side (names_of tiles) t → (t ≡ tiling_of i) × NoneOfTilesBefore i 5
 laid_out one bytes_left side tiles i t tell is =

@@ -11,7 +11,7 @@ reads-front limit None new body reads bytes is = cc
 reads-front limit (Some xs) None body reads bytes is = absurd reads
 reads-front limit (Some xs) (Some ys) body reads bytes is = let same : xs ≡ bytes = cc in reads.0 ∙ ap (take limit) same
 
--- a byte more than a tile has tells a tile from what is longer
+-- one byte more than a tile has shows that it is longer
 front-tile : (n : ℕ) (bytes : List ℕ) → length (take (n + 1) bytes) ≡ n → length bytes ≡ n
 front-tile n bytes is = omega (arith, length-take (n + 1) bytes, is)
 

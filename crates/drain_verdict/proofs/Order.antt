@@ -29,7 +29,7 @@ at_layout i P none repeated large (RepeatedTile c) e = repeated c
 at_layout i P none repeated large BoxTooLarge e = large
 at_layout i P none repeated large b e = absurd (omega arith)
 
--- of those that name a product where it holds of each that names a held product, and of each that doesn't stand
+-- of those that name a product where it holds of each that names a held product, and of each that doesn't apply
 pub at_header : (i : Inputs) (P : Refusal → Type 0) → ((b : Refusal) → ¬ Stands i b → P b) → ((p : Held) (fault : HeaderFault) → P (BadHeader (product_of p) fault))
     → ((p : Held) → P (WrongShape (product_of p))) → ((p : Held) → P (Misplaced (product_of p))) → (b : Refusal) → (refusal_order i b).0 ≡ 4 → P b
 at_header i P unless header shape place (BadHeader p fault) e = by_held_or_spill (λ p. P (BadHeader p fault)) (λ p. header p fault) (unless (BadHeader Spl fault) (λ h. h)) p
@@ -57,7 +57,7 @@ pub at_off_data : (i : Inputs) (P : Refusal → Type 0) → ((n : ℕ) → P (Si
 at_off_data i P line (SinkNotData n) e = line n
 at_off_data i P line b e = absurd (omega arith)
 
--- nothing stands before the first kind
+-- no refusal before the first kind applies
 pub none_first : (i : Inputs) → NoneStandsBefore i 1
 none_first i BadSide less = omega arith
 none_first i (BadName k) less = omega arith
@@ -81,7 +81,7 @@ pub none_more : (i : Inputs) (Holds : Refusal → Type 0) (kind : ℕ) → ((b :
 none_more i Holds kind before here b less =
     below_more (λ n. (refusal_order i b).0 ≡ n → ¬ Holds b) kind (λ n earlier e. before b (omega (arith, earlier, e))) (λ e. here b e) ((refusal_order i b).0) less refl
 
--- where nothing of all the kinds stands, the bytes are readable
+-- if no refusal of any kind applies, the bytes are readable
 pub readable : (i : Inputs) → NoneStandsBefore i 10 → AreReadable i
 readable i none OutOfMemory stands = stands
 readable i none ReadFailed stands = stands

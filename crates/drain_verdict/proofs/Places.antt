@@ -53,7 +53,7 @@ place_is (d ∷ cs) c (suc k) there none =
         absurd (none 0 (omega arith) (ap (λ x. Some x) (sym it)))
     further false is rest = ap suc rest
 
--- in a list without repetitions a corner's place is where it stands
+-- in a list without repetitions a corner's place is its position
 pub place_of_tile : (cs : List Corner) → ((c : Corner) → ¬ IsFirstRepeated cs c) → (c : Corner) (k : ℕ) → slice_get cs k ≡ Some c → place_among cs c ≡ k
 place_of_tile cs none c k there = place_is cs c k there (λ j less at. none_repeated cs none (suc k) k (omega arith) c (record { earlier = j; before = less; here = there; there = at }))
 

@@ -94,7 +94,7 @@ module _ (laws : Laws) (i : Inputs) (hs : PerProduct Fields) (fields : (p : Held
   none_short : ((p : Held) → ¬ Short p) → (p : Held) → ¬ IsShort (fields_of i p) (i.raster p)
   none_short none p short = none p (short_back p short)
 
-  -- the refusal that is told stands first
+  -- the reported refusal is the first that applies
   pub told_refusal : (refusal : Refusal) → IsToldRefusal t wrong Short seam (Some refusal) → NoneStandsBefore i 5 → IsAnswer i (Err refusal)
   told_refusal (BadTileLength c) (k, is, named) none =
       tile_refused i (BadTileLength c)
@@ -147,7 +147,7 @@ module _ (laws : Laws) (i : Inputs) (hs : PerProduct Fields) (fields : (p : Held
     no_spill = λ col across. refl;
   }
 
-  -- behind the last row there is none
+  -- after the last row there is none
   none_given : given rows_to_give (extent_of t).rows ≡ blank
   none_given =
       let each = λ (p : Held). subst (λ n. nth_row n (rows_to_give.product p) ≡ []) (rows_are p) (laws.raster_end (of_product hs p) (i.raster p) (at.bounds p)).none_behind in
@@ -179,7 +179,7 @@ module _ (laws : Laws) (i : Inputs) (hs : PerProduct Fields) (fields : (p : Held
     rnk = nodata_at Rnk k;
   }
 
-  -- where nothing is told, nothing stands before the list of sinks
+  -- if nothing is reported, no refusal before the list of sinks applies
   pub told_none : IsToldRefusal t wrong Short seam None → NoneStandsBefore i 5 → NoneStandsBefore i 8
   told_none (none_wrong, none, no_seam) before =
       seams_none i (tiles_agree none_wrong no_seam) (rasters_none i (none_short none) (tiles_none i (whole_tiles none_wrong) before))

@@ -47,7 +47,7 @@ use Rattle.drain_verdict.proofs.RowDevices.{come_none}
 use Rattle.drain_verdict.proofs.RowEnd.{AreAtEnd, Laws, at_end, mosaic_goes}
 use Rattle.drain_verdict.proofs.RowStart.{after_none, row_given, start_given, to_give}
 
--- new readers gave all rows, and then told this
+-- new readers gave all rows, and then reported this
 pub record Read {R : Type 0} (bl : R → Option (List ℕ)) (ct : R → FaultCounts) (i : Inputs) (hs : PerProduct Fields) (rows rows_then : InputRows) (tiles tiles_then : List (TileInput R)) (ps ps_then : Products R) (e : Extent) (told : Option Refusal) (t : Tiling) : Type 0 where
   pub extent_is : e ≡ extent_of t
   pub laws : Laws
@@ -62,7 +62,7 @@ pub record Read {R : Type 0} (bl : R → Option (List ℕ)) (ct : R → FaultCou
   pub rasters : AreRasterBodies bl ps i.raster
 
 module _ {R : Type 0} (bl : R → Option (List ℕ)) (ct : R → FaultCounts) (i : Inputs) (hs : PerProduct Fields) (rows rows_then : InputRows) (tiles tiles_then : List (TileInput R)) (ps ps_then : Products R) (e : Extent) where
-  -- as many rows as there are and one more were asked for
+  -- as many rows as there are and one more were requested
   asked : (told : Option Refusal) (t : Tiling) → Read bl ct i hs rows rows_then tiles tiles_then ps ps_then e told t → IsAfter bl rows_then tiles_then ps_then (to_give t hs i.tiles i.raster) ((extent_of t).rows + 1)
   asked told t read =
       let rows_are = ap (λ (x : Extent). x.rows) read.extent_is in
@@ -76,14 +76,14 @@ module _ {R : Type 0} (bl : R → Option (List ℕ)) (ct : R → FaultCounts) (i
   goes : (told : Option Refusal) (t : Tiling) → Read bl ct i hs rows rows_then tiles tiles_then ps ps_then e told t → (rows_then.mosaic.progress ≡ Stopped → ⊥)
   goes told t read = mosaic_goes bl t hs i rows_then tiles_then ps_then (asked told t read) read.laws.rows_end
 
-  -- the refusal that was told is the answer
+  -- the reported refusal is the answer
   pub refusal_answers : (refusal : Refusal) (t : Tiling) → t ≡ tiling_of i → ((p : Held) → of_product hs p ≡ fields_of i p) → NoneStandsBefore i 5 →
       Read bl ct i hs rows rows_then tiles tiles_then ps ps_then e (Some refusal) t → IsAnswer i (Err refusal)
   refusal_answers refusal t is fields none read =
       let here = subst (Read bl ct i hs rows rows_then tiles tiles_then ps ps_then e (Some refusal)) is read in
       told_refusal here.laws i hs fields (ended (Some refusal) (tiling_of i) here) refusal (here.tells (goes (Some refusal) (tiling_of i) here)) none
 
-  -- where none was told, what holds of the grid that is given by rows holds of that of the inputs
+  -- if none was reported, what holds of the grid that is given by rows holds of that of the inputs
   pub given_holds : (sinks : List SinkLine) (P : Grid → grid.Products → Type 0) (t : Tiling) → t ≡ tiling_of i → ((p : Held) → of_product hs p ≡ fields_of i p) → sinks ≡ listed_in i →
       OfGrid (AreGiven bl (rows, tiles, ps)) e sinks P → Read bl ct i hs rows rows_then tiles tiles_then ps ps_then e None t → P (grid_of i) (products_of i)
   given_holds sinks P t is fields sinks_are of_grid read =
@@ -93,7 +93,7 @@ module _ {R : Type 0} (bl : R → Option (List ℕ)) (ct : R → FaultCounts) (i
       (start_given bl (tiling_of i) hs rows tiles ps i.tiles i.raster here.of_bodies here.begun here.bodies here.rasters) (sym here.extent_is)
       (rows_of_bytes here.laws i hs fields (ended None (tiling_of i) here) sinks sinks_are told.0 told.1)
 
-  -- and nothing stands before the list of sinks
+  -- and no refusal before the list of sinks applies
   none_before : (t : Tiling) → t ≡ tiling_of i → ((p : Held) → of_product hs p ≡ fields_of i p) → NoneStandsBefore i 5 →
       Read bl ct i hs rows rows_then tiles tiles_then ps ps_then e None t → NoneStandsBefore i 8
   none_before t is fields none read =
@@ -138,16 +138,16 @@ module _ {R : Type 0} (bl : R → Option (List ℕ)) (ct : R → FaultCounts) (i
       rules_with_nodata : Rules → NoDataNumbers → Rules
       rules_with_nodata rules n = record { nodata = n; ranks = rules.ranks }
 
--- a refusal of reading, by readers of five products, whichever are handed in
+-- a refusal of reading, by readers of five products, whichever are given
 module _ {R S : Type 0} (bl : R → Option (List ℕ)) (ct : R → FaultCounts) (view : S → Reading R) (before after : S) where
   abbrev HasCome : S → S → ℕ → Option Refusal → Type 0
   HasCome a b calls told = HaveCome bl ct (view a) (view b) calls told
 
-  -- so many rows came
+  -- this number of rows came
   pub came : (n : ℕ) (told : Option Refusal) → ReadsOn HasCome before after n told → HaveCome bl ct (view before) (view after) (0 + n) told
   came n told reads = reads before 0 (come_none bl ct (readers (view before)) (tiles_lent (view before)) (products_lent (view before)))
 
-  -- all rows were read, and no device gave up
+  -- all rows were read, and no device failed for good
   pub all_read : {H : Type 0} (n : ℕ) → ReadsOn HasCome before after n None → (H → ⊥) → HaveBeenRead bl ct (view before) (view after) H
   all_read n reads never = record {
     told = None;
@@ -176,7 +176,7 @@ module _ {R S : Type 0} (bl : R → Option (List ℕ)) (ct : R → FaultCounts) 
     )
   ]
 
--- want of memory and a failed read may come at any point
+-- out of memory and a failed read may come at any point
 pub of_reading_answers : (i : Inputs) (refusal : Refusal) → (refusal ≡ OutOfMemory) ⊎ (refusal ≡ ReadFailed) → IsAnswer i (Err refusal)
 of_reading_answers i refusal why = elim why [
   | inl is ↦ subst (IsRefusal i) (sym is) tt

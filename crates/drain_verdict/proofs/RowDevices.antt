@@ -109,7 +109,7 @@ module _ {R : Type 0} (bl : R → Option (List ℕ)) (ct : R → FaultCounts) (t
       (SomeReadFails-each (λ p. ct (of_product ps p).body) (λ p. ct (of_product ps_then p).body) (λ p. IsTrue (read.product_failed p)) products
       (λ p. as_one_read (ct (of_product ps p).body) (ct (of_product ps_then p).body) (of_product rows.rasters p).patience (of_product rows_then.rasters p).patience (IsTrue (read.product_failed p)) (begun.raster p).patience_is (read.products p).faults))
 
-  -- a read failed exactly where one of the devices gave up
+  -- a read failed exactly if one of the devices failed for good
   pub devices_fail : AreBegun t hs rows → length tiles ≡ length t.corners → HaveBeenRead → {H : Type 0} → (told ≡ Some ReadFailed) ↔ H → SomeReadFails (map ct (devices_of tiles ps)) (map ct (devices_of tiles_then ps_then)) H
   devices_fail begun named read {H} same =
       devices_then ct tiles tiles_then ps ps_then ((λ either. same.0 (read.exactly.1 either)), (λ h. read.exactly.0 (same.1 h)))

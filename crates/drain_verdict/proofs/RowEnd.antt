@@ -62,7 +62,7 @@ stopped_is_short law h body raster (Some bytes) rows ok same after =
       λ is. told.1 (subst (λ n. after_rows n (raster_rows h h.rows h.skip body) ≡ Wrong) same (short.1 is)),
     )
 
--- a mosaic that has come to its end has not been stopped
+-- a mosaic that has reached its end has not been stopped
 not_stopped : (progress : Progress) (rest : Coming) → coming_at progress rest ≡ End → (progress ≡ Stopped → ⊥)
 not_stopped progress rest ended stopped =
     let wrong : Wrong ≡ coming_at progress rest = ap (λ (p : Progress). coming_at p rest) (sym stopped) in

@@ -39,7 +39,7 @@ raster_then a b c counts between after r s t F G never one other = record {
 abbrev nothing : Option Refusal
 nothing = None
 
--- where nothing is refused no device gave up
+-- if nothing is refused no device failed for good
 none_failed : {A B : Type 0} → (nothing ≡ Some ReadFailed) ↔ (A ⊎ B) → (A → ⊥) × (B → ⊥)
 none_failed exactly = (
   λ a. let wrong = exactly.1 (inl a) in cc,

@@ -80,7 +80,7 @@ raster_after_none h raster bytes known begun told =
     } in
     subst (λ (k : Option (List ℕ)). IsAfterTold raster k (raster_rows h h.rows h.skip bytes) 0) (sym told) start
 
--- no row was asked for
+-- no row was requested
 pub after_none : {R : Type 0} (bl : R → Option (List ℕ)) (t : Tiling) (hs : PerProduct Fields) (rows : InputRows) (tiles : List (TileInput R)) (ps : Products R) (bodies : List (List ℕ)) (rasters : Held → List ℕ) →
     NewRowsAreOfBodies bl → AreBegun t hs rows → AreBodies bl tiles bodies → AreRasterBodies bl ps rasters → IsAfter bl rows tiles ps (to_give t hs bodies rasters) 0
 after_none bl t hs rows tiles ps bodies rasters law begun are raster_are =

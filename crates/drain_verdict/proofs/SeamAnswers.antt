@@ -18,7 +18,7 @@ of_inputs P i t samples tiling_is samples_are holds =
     subst (λ (s : List (List ℤ)). P (tiling_of i) (mosaic.tiles_of i.corners s)) samples_are
     (subst (λ (u : Tiling). P u (mosaic.tiles_of u.corners samples)) tiling_is holds)
 
--- a fault of the seams is told as their refusal
+-- a fault of the seams gives their refusal
 pub fault_refused : (t : Tiling) (samples : List (List ℤ)) (fault : SeamFault) (refusal : Refusal) → IsSeamFaultAs fault refusal →
     ((c : Cell) → fault ≡ seam.SeamMismatch c → mosaic.IsFirstSeam t (mosaic.tiles_of t.corners samples) c) →
     (fault ≡ seam.OutOfMemory → mosaic.TilesAgree t (mosaic.tiles_of t.corners samples)) → IsSeamRefusal t samples refusal

@@ -43,7 +43,7 @@ no_bad lines n fine bad = let no : Ok fine.0 ≡ Err n = sym fine.1 ∙ bad in c
 
 module _ (i : Inputs) (listing : SinkListing) (e : Extent) (voids : List Cell) (sinks_are : listing.sinks ≡ listed_in i) (bad_is : IsBadLine (sinks_of i.sinks) listing.bad)
     (extent_is : e ≡ (grid_of i).extent) (voids_are : AreListedVoids (grid_of i) voids) where
-  -- the first bad line is told first
+  -- the first bad line is reported first
   bad_refused : (n : ℕ) → listing.bad ≡ Some n → NoneStandsBefore i 8 → IsRefusal i (BadSinkLine n)
   bad_refused n is none =
       let bad = subst (IsBadLine (sinks_of i.sinks)) is bad_is in
@@ -89,13 +89,13 @@ module _ (i : Inputs) (listing : SinkListing) (e : Extent) (voids : List Cell) (
       first_of i (Stands i) 9 n (SinkNotData n) refl first.off none
       (at_off_data i (λ b. (refusal_order i b).1 < n → ¬ Stands i b) (λ m less stands. first.first m less stands))
 
-  -- the refusal that is told stands first
+  -- the reported refusal is the first that applies
   pub sinks_refused : FoundOffDataIsRight → (refusal : Refusal) → IsToldOfSinks listing e voids (Some refusal) → NoneStandsBefore i 8 → IsRefusal i refusal
   sinks_refused law (BadSinkLine n) told none = bad_refused n told none
   sinks_refused law (SinkNotData n) told none = off_refused law n told.1 (lines_none told.0 none)
   sinks_refused law refusal told none = absurd told
 
-  -- where none is told, none stands
+  -- if none is reported, none applies
   pub sinks_none : FoundOffDataIsRight → IsToldOfSinks listing e voids None → NoneStandsBefore i 8 → AreReadable i
   sinks_none law told none =
       let never : IsOffAnswer (grid_of i) (listed_in i) None = off_is law None told.1 in

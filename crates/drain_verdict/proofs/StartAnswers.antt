@@ -42,7 +42,7 @@ layout_told bytes_left side tiles sinks ps i t tell is = told_of_inputs (λ side
 pub laid : (side : ℕ) (names : List (List ℕ)) (t : Tiling) → IsLayoutOf side names t → IsLayoutOf t.side names t
 laid side names t is = subst (λ s. IsLayoutOf s names t) (sym is.side_is) is
 
--- and what is told of the side is told of that
+-- and what is said of the side is said of that
 pub at_side : {R : Type 0} (bytes_left : R → Option (List ℕ)) (side : ℕ) (tiles : List (TileInput R)) (sinks : List ℕ) (ps : Products R) (i : Inputs) (t : Tiling) →
     IsLayoutOf side (names_of tiles) t → Tell bytes_left side tiles sinks ps i → Tell bytes_left t.side tiles sinks ps i
 at_side bytes_left side tiles sinks ps i t is tell = subst (λ s. Tell bytes_left s tiles sinks ps i) (sym is.side_is) tell
@@ -78,7 +78,7 @@ header_reads_none t ps refusal bad is =
     let same : refusal ≡ ReadFailed = cc in
     subst (IsHeaderRefusal t (product_of bad.product) (of_product ps bad.product).header) same bad.refused
 
--- the layout is that of the inputs, the headers are what theirs say, and nothing stands before the tiles
+-- the layout is that of the inputs, the headers are theirs, and no refusal before the tiles applies
 pub started : OneName → {R : Type 0} (bytes_left : R → Option (List ℕ)) (side : ℕ) (tiles : List (TileInput R)) (sinks : List ℕ) (ps : Products R) (i : Inputs) (t : Tiling) (hs : PerProduct Fields) →
     Tell bytes_left side tiles sinks ps i → IsLayoutOf side (names_of tiles) t → AreHeadersFor t ps hs →
     (t ≡ tiling_of i) × ((p : Held) → of_product hs p ≡ fields_of i p) × NoneStandsBefore i 5

@@ -12,7 +12,7 @@ use Rattle.drain_grid.specs.PerProduct.{of_product}
 use Rattle.drain_verdict.specs.Inputs.{AreNames}
 use Rattle.drain_verdict.specs.Laws.{InputsAreTold}
 
--- what is told, and nothing where nothing is
+-- the known bytes, and none if they aren't known
 abbrev told : Option (List ℕ) → List ℕ
 told (Some bytes) = bytes
 told None = []
@@ -30,7 +30,7 @@ corners_named corner_of gives (name ∷ names) all =
     let here : (c : Corner) × Names name c = All-head P name names all in
     (subst (Names name) (sym (gives name here.0 here.1)) here.1, corners_named corner_of gives names (All-tail P name names all))
 
--- each tile's body is what its source tells
+-- each tile's body is its source's bytes
 bodies_told : {R : Type 0} (bytes_left : R → Option (List ℕ)) (tiles : List (TileInput R)) → All (λ tile. IsSome (bytes_left tile.body)) tiles →
     AllZip (λ t body. bytes_left t.body ≡ Some body) tiles (map (λ t. told (bytes_left t.body)) tiles)
 bodies_told bytes_left [] all = tt

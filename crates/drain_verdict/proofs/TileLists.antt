@@ -104,7 +104,7 @@ are_read-then bytes_left counts side olds news us vs F G H either first more = r
   names = map-append (λ t. t.name) news vs ∙ ap (λ l. l ++ names_of vs) first.names ∙ ap (λ l. names_of olds ++ l) more.names ∙ sym (map-append (λ t. t.name) olds us);
 }
 
--- after so many tiles of a list: those before are read, and give these samples; the rest is untouched
+-- after n tiles of a list: those before are read, and give these samples; the rest is untouched
 pub record SoFar {R : Type 0} (bytes_left : R → Option (List ℕ)) (counts : R → FaultCounts) (side i : ℕ) (start now : List (TileInput R)) (samples : List (List ℤ)) : Type 0 where
   pub olds : List (TileInput R)
   pub news : List (TileInput R)

@@ -41,7 +41,7 @@ voids-more g ps r voids next row is before noted c inside =
         subst (λ (d : Cell). is_listed_void r row.numbers.z row.sinks d ≡ (g.sink d && is_none (g.elevation d))) at (in-row g ps r c.col row (is there) inside.col) in
         rw (le-ltb c.row r (omega (arith, same)), lt-ltb c.row (r + 1) (omega (arith, same))) own
 
--- behind the last row all were noted
+-- after the last row all were noted
 pub voids-all : (g : Grid) (r : ℕ) (voids : List Cell) → g.extent.rows < r → AreVoidsBefore g r voids → AreListedVoids g voids
 voids-all g r voids behind before c inside =
     let passed = inside.row in

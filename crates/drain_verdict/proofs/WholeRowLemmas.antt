@@ -22,7 +22,7 @@ use Rattle.drain_rules.specs.RowNumbers.{AreNumbersOf, AreRowNumbers, RowNumbers
 use Rattle.drain_verdict.specs.GridRows.{AreRowsOf}
 use Rattle.drain_verdict.specs.WholeRows.{AreOfShape, row_in, row_or_blank}
 
--- before the last row there is one, and behind it none
+-- before the last row there is one, and after it none
 is_row : (e : Heights) (ps : ProductSet) (r : ℕ) → r < e.extent.rows → row_or_blank e ps r ≡ row_in e ps r
 is_row e ps r less = rw (lt-ltb r e.extent.rows less) refl
 

@@ -45,7 +45,7 @@ row-marked g ps sinks rows r row all is marked inside =
           ∙ sym (all.sinks_are (place r col) (record { row = inside; col = across }));
     }
 
--- with the row below, three rows of the grid stand in the window
+-- with the row below, three rows of the grid are in the window
 pub rows-around : (g : Grid) (ps : Products) (sinks : List SinkLine) (rows : ℕ → RowNumbers) (row : ℕ) (three : ThreeRows) → AreRowsOf g ps sinks rows → row < g.extent.rows →
     AreHeld rows row three.above.numbers three.here.numbers → three.below.numbers ≡ rows (row + 1) →
     ((r : ℕ) → row ≡ r + 1 → IsMarked sinks r three.above) → IsMarked sinks row three.here → IsMarked sinks (row + 1) three.below → AreRowsAround g ps row three

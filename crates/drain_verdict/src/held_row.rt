@@ -142,7 +142,7 @@ impl HeldRow {
     }
 }
 
-/// Whether anything is marked. It has no branch, so many marks are tested together.
+/// Whether anything is marked. It has no branch, so that many marks are tested together.
 fn is_any_marked(marks: &[bool]) -> bool
     ensures { result ≡ false → (place : ℕ) → slice_index_or marks.now place false ≡ false }
 {

@@ -167,7 +167,7 @@ fn tells_side_names_headers_and_bodies_before_a_list(rt: HostRuntime) -> Result<
     any_list_tells(&rt, rt.alloc(), &no_tiles, &LISTS, "refused NoTiles")
 }
 
-/// Lists beside tiles that differ, of which some are wrong.
+/// Lists for tiles that differ, of which some are wrong.
 static BESIDE_A_SEAM: [&str; 4] = ["x", "9 9", "0 1", "0 1\n0 0 0"];
 
 /// Two tiles of side 2 that differ in the middle of the first row, with a list.
