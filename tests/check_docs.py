@@ -1,65 +1,158 @@
 #!/usr/bin/env python3
-"""Tests of tools/check_docs.py: small documents, each with what has to be reported of it. Ends with 1 where one differs."""
+"""Tests of tools/check_docs.py and tools/library_example.py: what each finds in a small project, and what it passes.
+
+Usage: tests/check_docs.py
+"""
 
 import importlib.util
 import pathlib
 import sys
 import tempfile
+import types
+import unittest
 
-TOP = pathlib.Path(__file__).resolve().parent.parent
+ROOT = pathlib.Path(__file__).resolve().parent.parent
 sys.dont_write_bytecode = True
-spec = importlib.util.spec_from_file_location("check_docs", TOP / "tools/check_docs.py")
-assert spec and spec.loader
-check_docs = importlib.util.module_from_spec(spec)
-sys.modules["check_docs"] = check_docs
-spec.loader.exec_module(check_docs)
 
-# A case, the text of docs/PAGE.md, and what is reported of it.
-CASES: list[tuple[str, str, list[str]]] = [
-    ("a page without a fault", "See docs/PAGE.md and `make demo`.\n", []),
-    ("a path that isn't there", "See docs/GONE.md.\n", ["1: no docs/GONE.md"]),
-    ("a link that leads nowhere", "[x](GONE.html)\n", ["1: no link target GONE.html"]),
-    ("a heading that isn't there", "# One\n\n[x](#two)\n", ["3: no heading #two in PAGE.md"]),
-    ("a target of make", "Run `make nothing`.\n", ["1: no target nothing of make"]),
-    ("a command of drain", "Run `drain judge`.\n", ["1: no command drain judge"]),
-    ("an option of drain", "Run `drain audit --fast`.\n", ["1: no option --fast of drain audit"]),
-    ("a word that readers don't know", "The ranks are\nasked for.\n", ['1: "are asked for"']),
-    ("such a word in code", "The text `noughts` stays.\n", []),
-    ("a long line", "a" * 121 + "\n", ["1: 121 characters, more than 120"]),
-    ("a long row of a table", "|" + "a" * 200 + "\n", ["1: 201 characters, more than 200"]),
-    ("an example that prints what it shows", "```\n$ drain audit\naccepted\n```\n", []),
-    ("an example that prints something else", "```\n$ drain audit\nrejected\n```\n", ["2: prints: accepted"]),
-    ("an example that leaves lines out", "```\n$ drain audit\n..\n```\n", []),
-    ("an example without its output", "```\n$ drain audit\n```\n", ["2: prints: accepted"]),
+
+def tool(name: str) -> types.ModuleType:
+    spec = importlib.util.spec_from_file_location(name, ROOT / "tools" / f"{name}.py")
+    assert spec and spec.loader
+    module = importlib.util.module_from_spec(spec)
+    spec.loader.exec_module(module)
+    return module
+
+
+check_docs = tool("check_docs")
+library_example = tool("library_example")
+
+PROGRAM = """#!/bin/sh
+echo "accepted $*"
+echo data
+echo "on standard error" >&2
+"""
+
+# What a guide says, and what is reported of it.
+TEXTS = [
+    ("nothing", "See docs/GUIDE.md, [here](#a-title) and `crates/drain_grid/src/cell.rt`.", []),
+    ("a path that isn't there", "See docs/NONE.md.", ["no docs/NONE.md"]),
+    ("a document alone", "See NONE.md.", ["no NONE.md"]),
+    ("a path in a crate", "In `drain_grid/src/none.rt`.", ["no crates/drain_grid/src/none.rt"]),
+    ("a path without its ending", "In `drain_grid/src/cell`.", []),
+    ("a name after a path", "In `drain_grid/src/cell.rt`, `none.rt`.", ["no none.rt in drain_grid"]),
+    ("any crate", "In crates/NAME/src.", []),
+    ("a link", "[this](none.md)", ["no link target none.md"]),
+    ("a heading", "[this](#none)", ["no heading #none in GUIDE.md"]),
+    ("a link in code", "`[this](none.md)`", []),
+    ("a target of make", "`make none`", ["no target none of make"]),
+    ("targets and a variable", "`make demo PREFIX=x`", []),
+    ("make in prose", "to make none of it", []),
+    ("a command", "`drain none`", ["no command drain none"]),
+    ("an option", "`drain audit --none`", ["no option --none of drain audit"]),
+    ("an option of another program", "`drain audit --side 3 | tail --none`", []),
+    ("a long line", "x" * 121, ["121 characters, more than 120"]),
+    ("a line of a table", "|" + "x" * 199, []),
+    ("a long line of a table", "|" + "x" * 200, ["201 characters, more than 200"]),
+    ("a long line of code", "```\n" + "x" * 250 + "\n```", []),
+    ("a word", "It is\ntold.", ['"is told"']),
+    ("a word after another", "The ranks are\nasked for.", ['"are asked for"']),
+    ("a word in code", "`noughts`", []),
+    ("a command in code", "```\ndrain none\n```", ["no command drain none"]),
+]
+
+# An example, and what is reported of it.
+EXAMPLES = [
+    ("as printed", "$ drain audit x\naccepted audit x\ndata\non standard error", []),
+    ("by its path", "$ build/drain audit x\naccepted audit x\ndata\non standard error", []),
+    ("other output", "$ drain audit x\naccepted", ["prints: accepted audit x / data / on standard error"]),
+    ("no output", "$ drain audit x", ["prints: accepted audit x / data / on standard error"]),
+    ("a comment", "$ drain audit x  # this\naccepted audit x    # that\n..", []),
+    ("lines left out", "$ drain audit x\n...\non standard error", []),
+    ("too few lines", "$ drain audit x\n..\ndata", ["prints: accepted audit x / data / on standard error"]),
+    ("two commands", "$ x='a b'\n$ drain audit $x 2>/dev/null | head -n 1\naccepted audit a b", []),
+    ("a status", "$ drain audit 2>/dev/null | grep -q none\n$ echo $?\n1", []),
+    ("a quotation", "$ drain audit 'a\nb' 2>/dev/null | tail -n 2\nb\ndata", []),
+    ("not run", "drain audit x\nother", []),
 ]
 
 
-def reported(page: str) -> list[str]:
-    """What is reported of a project with this one page, and a program that prints 'accepted'."""
-    with tempfile.TemporaryDirectory() as scratch:
-        root = pathlib.Path(scratch)
-        for folder in ("docs", "samples", "tools", "tests/program/expected"):
-            (root / folder).mkdir(parents=True)
-        (root / "Makefile").write_text("demo:\n")
-        (root / "README.md").write_text("Read docs/PAGE.md.\n")
-        (root / "tests/program/expected/audit-help.txt").write_text("  --side <N>\n")
-        (root / "docs/PAGE.md").write_text(page)
-        program = root / "program"
-        program.write_text("#!/bin/sh\necho accepted\n")
-        program.chmod(0o755)
-        return [fault.removeprefix("docs/PAGE.md:") for fault in check_docs.faults_of(root, program)]
+def project(folder: pathlib.Path, guide: str) -> pathlib.Path:
+    files = {
+        "Makefile": "demo: build/drain\n",
+        "README.md": "# drain\n",
+        "docs/GUIDE.md": f"# A title\n\n{guide}\n",
+        "crates/drain_grid/src/cell.rt": "",
+        "samples/one": "",
+        "tools/one": "",
+        "tests/program/expected/help.txt": "--version\n",
+        "tests/program/expected/audit-help.txt": "--side\n",
+        "program": PROGRAM,
+    }
+    for name, text in files.items():
+        (folder / name).parent.mkdir(parents=True, exist_ok=True)
+        (folder / name).write_text(text, encoding="utf-8")
+    (folder / "program").chmod(0o755)
+    return folder
 
 
-def main() -> int:
-    failed = 0
-    for name, page, expected in CASES:
-        found = reported(page)
-        if found != expected:
-            failed += 1
-            print(f"FAILED {name}: {found}")
-    print(f"{len(CASES) - failed} passed, {failed} failed")
-    return 1 if failed else 0
+class Documents(unittest.TestCase):
+    def faults(self, guide: str, run: bool = False, write: bool = False) -> tuple[list[str], str]:
+        with tempfile.TemporaryDirectory() as scratch:
+            folder = project(pathlib.Path(scratch), guide)
+            faults = check_docs.faults_of(folder, folder / "program" if run else None, write)
+            text = (folder / "docs/GUIDE.md").read_text(encoding="utf-8")
+        return [fault.split(": ", 1)[1] for fault in faults], text
+
+    def test_texts(self) -> None:
+        for name, guide, expected in TEXTS:
+            with self.subTest(name):
+                self.assertEqual(self.faults(guide)[0], expected)
+
+    def test_examples(self) -> None:
+        for name, example, expected in EXAMPLES:
+            with self.subTest(name):
+                self.assertEqual(self.faults(f"```\n{example}\n```", run=True)[0], expected)
+
+    def test_examples_are_not_run_without_a_program(self) -> None:
+        self.assertEqual(self.faults("```\n$ drain audit x\nother\n```")[0], [])
+
+    def test_output_is_written(self) -> None:
+        faults, text = self.faults("```\n$ drain audit x\nother\n```\n\nend", run=True, write=True)
+        self.assertEqual(len(faults), 1)
+        self.assertEqual(
+            text, "# A title\n\n```\n$ drain audit x\naccepted audit x\ndata\non standard error\n```\n\nend\n"
+        )
+
+    def test_a_line_is_named(self) -> None:
+        with tempfile.TemporaryDirectory() as scratch:
+            folder = project(pathlib.Path(scratch), "one\n\n`drain none`")
+            self.assertEqual(check_docs.faults_of(folder), ["docs/GUIDE.md:5: no command drain none"])
+
+    def test_readme(self) -> None:
+        with tempfile.TemporaryDirectory() as scratch:
+            folder = project(pathlib.Path(scratch), "")
+            (folder / "README.md").write_text("x" * 101 + "\n" * 81, encoding="utf-8")
+            expected = ["README.md:1: 101 characters, more than 100", "README.md:81: 81 lines, more than 80"]
+            self.assertEqual(check_docs.faults_of(folder), expected)
+
+    def test_words_are_counted(self) -> None:
+        expected = ["60000 characters, more than 120", "30003 words, more than 30000"]
+        self.assertEqual(self.faults("x " * 30_000)[0], expected)
+
+
+class Example(unittest.TestCase):
+    def test_the_first_comment_is_left_out(self) -> None:
+        self.assertEqual(library_example.example_of("//! a\n//! b\n\nfn c() {}\n"), "fn c() {}\n")
+
+    def test_the_block_is_replaced(self) -> None:
+        for inside in ("", "old\n"):
+            document = f"a\n{library_example.FENCE}{inside}```\nb\n```\nc\n```\n"
+            expected = f"a\n{library_example.FENCE}new\n```\nb\n```\nc\n```\n"
+            self.assertEqual(library_example.with_example(document, "new\n"), expected)
+
+    def test_a_document_without_the_block(self) -> None:
+        self.assertIsNone(library_example.with_example("a\n```\nb\n```\n", "new\n"))
 
 
 if __name__ == "__main__":
-    sys.exit(main())
+    unittest.main()

@@ -38,7 +38,7 @@ FOLDERS = "docs|crates|tools|tests|samples|bench"
 PATH = re.compile(rf"(?<![\w./*-])(?:{FOLDERS})/[\w.*/+-]*")
 CRATE_PATH = re.compile(r"(?<![\w./*-])\w+/(?:src|specs|proofs|more-edits)/[\w./]*")
 DOCUMENT = re.compile(r"(?<![\w./-])[A-Z][A-Z_]+\.md\b")
-LINK = re.compile(r"\[[^\]]*\]\(([^)\s]+)\)")
+LINK = re.compile(r"\]\(([^)\s]+)\)")
 SPAN = re.compile(r"`([^`]+)`")
 DRAIN = re.compile(r"(?<![\w./-])(?:build/)?drain\s+([a-z]+|--[a-z-]+)(?![\w/:=.])([^|]*)")
 EXAMPLE = re.compile(r"^\$ (?:.*\s)?(?:build/)?drain ")
@@ -109,10 +109,24 @@ def path_faults(root: pathlib.Path, document: pathlib.Path, line: Line) -> Itera
             yield f"no {found}"
 
 
+def neighbour_faults(root: pathlib.Path, lines: list[Line]) -> Iterator[tuple[int, str]]:
+    """Files of a crate that are named alone, after one with its crate: `drain_grid/src/cell.rt`, `rule.rt`."""
+    crate: pathlib.Path | None = None
+    for line in lines:
+        if not line.text.strip() or line.text.startswith(("|", "#")):
+            crate = None
+        for span in [] if line.is_code else SPAN.findall(line.text):
+            named = re.match(r"(?:crates/)?(\w+)/", span)
+            if named and (root / "crates" / named[1]).is_dir():
+                crate = root / "crates" / named[1]
+            elif crate and re.fullmatch(r"[\w/]+\.(?:rt|antt)", span) and not any(crate.rglob(span)):
+                yield line.number, f"no {span} in {crate.name}"
+
+
 def link_faults(document: pathlib.Path, line: Line) -> Iterator[str]:
     if line.is_code:
         return
-    for target in LINK.findall(SPAN.sub(lambda span: span[0].replace("](", ""), line.text)):
+    for target in LINK.findall(SPAN.sub("", line.text)):
         if re.match(r"[a-z]+:", target):
             continue
         path, _, anchor = target.partition("#")
@@ -189,17 +203,15 @@ def examples_of(lines: list[Line]) -> Iterator[list[Shown]]:
             fenced, block = not fenced, []
         elif fenced and line.text.startswith("$ "):
             block.append(Shown(line.number, line.text[2:], []))
-        elif fenced and block and block[-1].command.endswith("\\") and not block[-1].output:
-            block[-1].command += "\n" + line.text
-        elif fenced and block and is_open(block[-1].command) and not block[-1].output:
+        elif fenced and block and goes_on(block[-1].command) and not block[-1].output:
             block[-1].command += "\n" + line.text
         elif fenced and block:
             block[-1].output.append(line.text)
 
 
-def is_open(command: str) -> bool:
-    """Whether a quotation goes on in the next line."""
-    return command.count("'") % 2 == 1
+def goes_on(command: str) -> bool:
+    """Whether a command goes on in the next line: by a backslash, or within a quotation."""
+    return command.endswith("\\") or without_tail(command).count("'") % 2 == 1
 
 
 def without_tail(line: str) -> str:
@@ -263,8 +275,8 @@ def write_examples(document: pathlib.Path, faults: list[tuple[Shown, list[str]]]
 
 
 def documents_of(root: pathlib.Path) -> list[pathlib.Path]:
-    tops = [root / "README.md", root / "CONTRIBUTING.md"]
-    return [path for path in tops if path.is_file()] + sorted(root.glob("docs/*.md")) + sorted(root.glob("crates/*/README.md"))
+    patterns = ("README.md", "CONTRIBUTING.md", "docs/*.md", "crates/*/README.md")
+    return [path for pattern in patterns for path in sorted(root.glob(pattern))]
 
 
 def faults_of(root: pathlib.Path, program: pathlib.Path | None = None, write: bool = False) -> list[str]:
@@ -277,7 +289,7 @@ def faults_of(root: pathlib.Path, program: pathlib.Path | None = None, write: bo
         name = document.relative_to(root).as_posix()
         text = document.read_text(encoding="utf-8")
         lines = lines_of(text)
-        found = list(word_faults(lines))
+        found = [*word_faults(lines), *neighbour_faults(root, lines)]
         for line in lines:
             for fault in (
                 *path_faults(root, document, line),
@@ -294,7 +306,7 @@ def faults_of(root: pathlib.Path, program: pathlib.Path | None = None, write: bo
             if write and differing:
                 write_examples(document, differing)
             found += [(shown.number, "prints: " + " / ".join(printed)[:300]) for shown, printed in differing]
-        faults += [f"{name}:{number}: {fault}" for number, fault in sorted(found)]
+        faults += [f"{name}:{number}: {fault}" for number, fault in sorted(set(found))]
         words += len(text.split()) if name.startswith("docs/") else 0
     if words > DOCS_WORDS:
         faults.append(f"docs: {words} words, more than {DOCS_WORDS}")
@@ -303,7 +315,8 @@ def faults_of(root: pathlib.Path, program: pathlib.Path | None = None, write: bo
 
 def main() -> int:
     about, _, more = (__doc__ or "").partition("\n")
-    parser = argparse.ArgumentParser(description=about, epilog=more, formatter_class=argparse.RawDescriptionHelpFormatter)
+    form = argparse.RawDescriptionHelpFormatter
+    parser = argparse.ArgumentParser(description=about, epilog=more, formatter_class=form)
     parser.add_argument("program", nargs="?", type=pathlib.Path, metavar="PROGRAM")
     parser.add_argument("--write", action="store_true")
     arguments = parser.parse_args()
