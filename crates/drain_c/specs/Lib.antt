@@ -1,0 +1,4 @@
+pub mod Given
+pub mod Sources
+pub mod Found
+pub mod Shown

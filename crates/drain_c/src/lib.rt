@@ -1,0 +1,9 @@
+//! An audit and a check of bytes in memory, for C and what calls C. `include/drain.h` declares both.
+#![tactic(auto)]
+
+pub mod answer;
+pub mod exports;
+pub mod found;
+pub mod given;
+mod judge;
+mod sources;
