@@ -1,7 +1,8 @@
 #!/usr/bin/env bash
-# Proves the crate drain_c and the crates below it, compiles it, and makes one static library of it that needs the C library alone: crates/drain_c/out/libdrain_c.a,
-# which rt or rattle writes, and the kit's liblibc_c.a, which calls malloc, realloc and free. Where the gate has just proved these very sources, the libraries
-# that it left are taken, and drain_c alone is proved again.
+# Proves the crate drain_c and the crates below it, compiles it, and makes one static library that needs the C library
+# alone: crates/drain_c/out/libdrain_c.a, which rt or rattle writes, and the kit's liblibc_c.a, which calls malloc, realloc
+# and free. Where the gate has just proved these very sources, the libraries that it left are taken, and drain_c alone is
+# proved again.
 # Usage: tools/build_library.sh TARGET    (as build/libdrain.a)
 set -euo pipefail
 target=$(realpath -m "$1")
@@ -14,7 +15,8 @@ command -v rt >/dev/null || {
 }
 kit=$(dirname "$(dirname "$(readlink -f "$(command -v rt)")")")
 
-# The crates and the kit's libraries below drain_c, each as 'NAME here|kit direct|below', by the crates after the colons of crates.txt.
+# The crates below drain_c and the kit's libraries that it names, each as 'NAME here|kit direct|below', by the crates
+# after the colons of crates.txt.
 below() {
     awk '{ sub(/#.*/, ""); colon = index($0, ":"); if (!colon) next; split(substr($0, 1, colon - 1), words, " "); list[words[1]] = substr($0, colon + 1); here[words[1]] }
         END { names[1] = "drain_c"; count = 1; found["drain_c"]
@@ -24,7 +26,8 @@ below() {
                     if (at == 1 || is_here) print deps[i], is_here ? "here" : "kit", at == 1 ? "direct" : "below" } } }' "$top/crates.txt"
 }
 
-# Whether the libraries below are those of a gate that passed, was run by this toolchain, and began after the last change of a source (tools/gate.sh).
+# Whether the libraries below are those of a gate that passed, was run by this toolchain, and began after the last change
+# of a source (tools/gate.sh).
 is_from_gate() {
     local passed=$top/build/gate_passed changed name where
     [ -f "$passed" ] && [ "$(rt version)" = "$(cat "$passed")" ] || return 1
@@ -39,7 +42,7 @@ scratch=$(mktemp -d)
 trap 'rm -rf "$scratch"' EXIT
 log=$scratch/log
 started=$SECONDS
-tell() {
+show_log() {
     grep -E ': error|no proof|did not prove|not proved|NOT PROVED' "$log" | head -n 20 >&2 || tail -n 20 "$log" >&2
     exit 1
 }
@@ -55,10 +58,10 @@ if is_from_gate; then
     done < <(below)
     words+=(--antt-project "$kit/rattle/logic/antt-project.json" --logic-built "$kit/logic_built" --links drain_c= --crate-type staticlib)
     mkdir -p out
-    "$kit/bin/rattle" build "${words[@]}" --toolchain "$kit/toolchain" --backend llvm -o out/libdrain_c.a >"$log" 2>&1 </dev/null || tell
+    "$kit/bin/rattle" build "${words[@]}" --toolchain "$kit/toolchain" --backend llvm -o out/libdrain_c.a >"$log" 2>&1 </dev/null || show_log
 else
     echo "Proving drain_c and the crates below it: a quarter to three quarters of an hour the first time, as the machine is ..."
-    rt lib >"$log" 2>&1 </dev/null || tell
+    rt lib >"$log" 2>&1 </dev/null || show_log
 fi
 
 mkdir -p "$(dirname "$target")"

@@ -1,4 +1,4 @@
--- Sources of a call's bytes tell the inputs that are these bytes, so what an audit and a check say of the former is said of the latter.
+-- What an audit and a check say of the sources of a call holds of the bytes of the call.
 use Rattle.std.proofs.Common.{◌≡◌, ℕ, ◌+◌, ◌<◌, List, [], ◌∷◌, ◌++◌, length, map, take, get_or, Option, Some, Result, Ok, Err, IfOk, refl, sym, ap, subst, ◌∙◌}
 use Rattle.std.proofs.lemmas.List.{take_more}
 use Rattle.std.proofs.lemmas.Slice.Zip.{all_zipped_more}
@@ -40,7 +40,7 @@ bodies bytes_left [] (tile ∷ tiles) are = absurd are
 bodies bytes_left (g ∷ given) [] are = absurd are
 bodies bytes_left (g ∷ given) (tile ∷ tiles) are = (are.0.1, bodies bytes_left given tiles are.1)
 
--- the sources tell the inputs that are the bytes
+-- the sources have the bytes of the inputs
 pub tells : {R : Type 0} (bytes_left : R → Option (List ℕ)) (side : ℕ) (given : List TileBytes) (sinks : List ℕ) (raster : Held → RasterBytes)
     (tiles : List (TileInput R)) (ps : Products R) → AreTilesOf bytes_left given tiles → AreRastersOf bytes_left raster ps →
     (i : Inputs) → AreOfBytes side given sinks raster i → Tell bytes_left side tiles sinks ps i
@@ -54,7 +54,7 @@ tells bytes_left side given sinks raster tiles ps are_tiles are_rasters i are = 
   rasters_are = λ p. (are_rasters p).1 ∙ ap Some (sym (are.rasters_are p));
 }
 
--- a fact of what sources tell is one of the bytes
+-- a fact of the sources is one of the bytes
 pub of_bytes : {R : Type 0} (Fact : Inputs → Type 0) (bytes_left : R → Option (List ℕ)) (side : ℕ) (given : List TileBytes) (sinks : List ℕ)
     (raster : Held → RasterBytes) (tiles : List (TileInput R)) (ps : Products R) → AreTilesOf bytes_left given tiles → AreRastersOf bytes_left raster ps →
     OfInputs bytes_left side tiles sinks ps Fact → OfBytes side given sinks raster Fact

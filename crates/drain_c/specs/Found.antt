@@ -13,7 +13,7 @@ use Rattle.drain_verdict.specs.declared.refusal.Refusal.TheVariants.{OutOfMemory
 abbrev pub status_only : ℕ → Found
 status_only status = record { status = status; rule = 0; row = 0; col = 0 }
 
--- 3 where memory or a source gave out, else 2
+-- 3 where memory or a read failed, else 2
 abbrev pub refusal_found : Refusal → Found
 refusal_found OutOfMemory = status_only 3
 refusal_found ReadFailed = status_only 3

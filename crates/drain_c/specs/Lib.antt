@@ -2,3 +2,4 @@ pub mod Given
 pub mod Sources
 pub mod Found
 pub mod Shown
+pub mod Laws

@@ -1,4 +1,4 @@
--- The bytes of a call as sources that tell them.
+-- The bytes of a call as sources.
 use Rattle.std.specs.Prelude.{◌≡◌, ℕ, List, Option, Some}
 use Rattle.std.specs.List.{AllZip}
 use Rattle.drain_c.specs.declared.given.TileBytes.{TileBytes}

@@ -17,7 +17,8 @@ use crate::judge::{judge_audit, judge_check};
 use drain_verdict::{audit_report, report};
 use std::alloc::Global;
 
-/// Whether the four rasters are correct for the tiles: 0 where they are, 1 where they aren't; 2 where the bytes have no verdict, and 3 where memory gave out.
+/// Whether the four rasters are correct for the tiles: 0 where they are, 1 where they aren't, 2 where the bytes have no
+/// verdict, 3 where the call is out of memory.
 #[unsafe(no_mangle)]
 pub extern "C" fn drain_audit<'a>(
     alloc: Global,
@@ -43,7 +44,8 @@ pub extern "C" fn drain_audit<'a>(
     answer.status
 }
 
-/// Whether the ranks show that the rasters are correct: 0 where they do, else 1; 2 where the bytes have no verdict, and 3 where memory gave out.
+/// Whether ranks show that the rasters are correct: 0 where they do, 1 where they don't, 2 where the bytes have no
+/// verdict, 3 where the call is out of memory.
 #[unsafe(no_mangle)]
 pub extern "C" fn drain_check<'a>(
     alloc: Global,
@@ -57,10 +59,11 @@ pub extern "C" fn drain_check<'a>(
     ensures answer { OfBytes side tiles.now sinks.now (check_raster rasters.now) (λ inputs. Reports (IsAnswer inputs) check_found report_line answer.new) }
     ensures status { answer.new.status ≡ result }
 
-    // Where it is 0, the tiles agree on one elevation raster. The conditioned raster is the least surface above it from which every cell reaches an edge,
-    // void or listed sink without climbing. No direction climbs, and off flats it is the steepest descent. Every run of directions ends at an outlet, and
-    // visits no cell twice. Accumulation counts exactly the cells that drain through each cell. Two cells share a label exactly where they share an
-    // outlet. Voids have the no-data numbers, and no data cell has one.
+    // Where it is 0, the tiles agree on one elevation raster. The conditioned raster is the least surface above it from
+    // which every cell reaches an edge, void or listed sink without climbing. No direction climbs, and off flats it is the
+    // steepest descent. Every run of directions ends at an outlet, and visits no cell twice. Accumulation counts exactly the
+    // cells that drain through each cell. Two cells share a label exactly where they share an outlet. Voids have the no-data
+    // numbers, and no data cell has one.
     ensures headline { result ≡ 0 → OfBytes side tiles.now sinks.now (check_raster rasters.now) IsHeadline }
 {
     let judged = judge_check(alloc, side, tiles, sinks, rasters);

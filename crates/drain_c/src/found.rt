@@ -6,7 +6,8 @@ ghost use Rattle.drain_c.specs.Found.{audit_found, check_found, refusal_found, s
 use drain_rules::Verdict;
 use drain_verdict::{AuditVerdict, Refusal};
 
-/// The status, as the program exits with it; of a rejection the number of the rule that fails and the cell. What an answer lacks is 0.
+/// The status, as the program exits with it; of a rejection the number of the rule that fails, and the cell. What an
+/// answer lacks is 0.
 #[derive(Clone, Copy)]
 pub struct Found {
     pub status: u32,

@@ -1,6 +1,6 @@
 //! The bytes that C passes in: each slice is a pointer and a length there.
 
-/// A tile: its name, as N36W085 or a path that ends so, and its samples, two bytes each, the high one first.
+/// A tile: its name, as N36W085.hgt, and its samples, two bytes each, the high one first.
 #[repr(C)]
 pub struct TileBytes<'a> {
     pub name: &'a [u8],

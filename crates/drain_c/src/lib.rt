@@ -6,4 +6,5 @@ pub mod exports;
 pub mod found;
 pub mod given;
 mod judge;
+pub mod laws;
 mod sources;

@@ -1,4 +1,5 @@
-//! The bytes of a call as the sources that an audit and a check read. Names and headers are copied; samples and pixels are not.
+//! The bytes of a call as the sources that an audit and a check read. Names and headers are copied; samples and pixels
+//! are not.
 
 ghost use Rattle.std.specs.Prelude.{◌≡◌, IfOk, IfErr};
 ghost use Rattle.drain_c.specs.Given.{audit_raster, check_raster};
