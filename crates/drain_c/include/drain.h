@@ -1,15 +1,16 @@
 /* libdrain: whether drainage rasters are correct for the elevation tiles that they were made from.
  *
- * Two functions, each proved to answer right for the bytes that it is passed (crates/drain_c/src/exports.rt has the
- * contracts). They read memory only: no file, no output, no state between calls.
+ * Two functions, each proved to give the right answer to the bytes that it is passed (the contracts are in
+ * crates/drain_c/src/exported_audit.rt and exported_check.rt). They read memory only: no file, no output, no state
+ * between calls.
  *
  * What is proved holds where the caller keeps the rules below. Nothing checks a caller in C.
  *
  * Bytes. A drain_bytes is an address and a length in bytes. The address is never NULL, also where the length is 0:
- *   drain_bytes_of(at, length) takes NULL too. No alignment is needed. Arrays of tiles have the alignment of drain_tile.
+ *   drain_bytes_of(at, length) takes NULL too. Bytes need no alignment; an array of tiles has that of drain_tile.
  * Memory. The library reads samples and pixels where they lie, copies names and headers, and keeps nothing after it
- *   returns. It calls malloc, realloc and free; malloc aligns as the C standard says. An audit takes a byte for each
- *   cell, beside some rows and the labels of outlets; a check takes the rows and the labels.
+ *   returns. It calls malloc, realloc and free, which align and behave as the C standard says. An audit takes a byte
+ *   for each cell, beside some rows, the labels of outlets and the list of sinks; a check takes those alone.
  *   *answer overlaps no other argument, and nothing else writes to any argument during a call.
  * Threads. Calls may run at the same time, each with an answer of its own. Call neither function from a signal handler,
  *   nor in a child that was forked while several threads ran.

@@ -2,7 +2,8 @@
 #![tactic(auto)]
 
 pub mod answer;
-pub mod exports;
+pub mod exported_audit;
+pub mod exported_check;
 pub mod found;
 pub mod given;
 mod judge;

@@ -1,6 +1,6 @@
 use Rattle.std.proofs.Common.{ap, ◌∙◌}
 use Rattle.drain_c.proofs.Statuses.{at_zero}
-use Rattle.drain_c.proofs.exports.drain_check.Goals as goal
+use Rattle.drain_c.proofs.exported_check.drain_check.Goals as goal
 
 pub returns-clause-headline : goal.returns-clause-headline
 returns-clause-headline c zero =
