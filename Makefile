@@ -1,6 +1,7 @@
 # make           proves what the program needs, and builds it to build/drain
 # make demo      shows it on the bundled samples, in two minutes; without a proved program it runs the sources unproved
-# make install   puts it and its man page below PREFIX (/usr/local; DESTDIR goes in front)
+# make library   builds build/libdrain.a, for C and Python (docs/LIBRARY.md)
+# make install   puts program, man page, library and its header below PREFIX (/usr/local; DESTDIR goes in front)
 # make dist      packs a release for users without the toolchain into build/release (docs/RELEASING.md)
 # make deb       packs a .deb there
 # make same      proves and builds from nothing, and compares with FILE=PROVED of a release
@@ -19,14 +20,21 @@ build/drain build/benches: FORCE
 build/drain.1: build/drain tools/man_page.py
 	@tools/man_page.py build/drain >$@
 
-.PHONY: FORCE demo install dist deb same test edits bench clean
+build/libdrain.a: FORCE
+	@tools/build_library.sh $@
+
+.PHONY: FORCE library demo install dist deb same test edits bench clean
 
 demo:
 	@tools/run_demo.sh build/drain
 
-install: build/drain build/drain.1
+library: build/libdrain.a
+
+install: build/drain build/drain.1 build/libdrain.a
 	install -D -m 755 build/drain "$(DESTDIR)$(PREFIX)/bin/drain"
 	install -D -m 644 build/drain.1 "$(DESTDIR)$(PREFIX)/share/man/man1/drain.1"
+	install -D -m 644 build/libdrain.a "$(DESTDIR)$(PREFIX)/lib/libdrain.a"
+	install -D -m 644 crates/drain_c/include/drain.h "$(DESTDIR)$(PREFIX)/include/drain.h"
 
 dist: build/drain
 	@tools/static_program.sh build/drain build/drain.o build/drain-static

@@ -34,6 +34,8 @@ for program in drain benches; do
 done
 time tools/try_named_edits.py
 time tools/check_docs.py build/drain
+time tools/build_library.sh build/libdrain.a
+time tests/library.sh build/libdrain.a
 time tests/first_run.sh build/drain
 time tests/shipping.sh build
 time tests/program/run.sh build/drain build/benches

@@ -86,8 +86,13 @@ def libraries():
     for line in (TOP / "crates.txt").read_text().splitlines():
         name, colon, below = line.partition("#")[0].partition(":")
         if colon:
-            found[name.strip()] = below.split()
+            found[name.split()[0]] = below.split()
     return found
+
+
+def is_static(crate):
+    """Whether crates.txt has the crate as a static library."""
+    return re.search(rf"^{crate} +staticlib *:", (TOP / "crates.txt").read_text(), re.M) is not None
 
 
 def words_of(crate, below):
@@ -106,7 +111,8 @@ def words_of(crate, below):
         words += ["--extern", f"{name}={rlib}"] if name in below[crate] or name == "core" else ["-L", f"dependency={rlib.parent}"]
     root = "src/main.rt" if (TOP / "crates" / crate / "src/main.rt").exists() else "src/lib.rt"
     logic = ["--antt-project", f"{KIT}/rattle/logic/antt-project.json", "--logic-built", f"{KIT}/logic_built"]
-    return ["--crate-name", crate, root, *words, *logic, "--jobs", "1"]
+    kind = ["--crate-type", "staticlib"] if is_static(crate) else []
+    return ["--crate-name", crate, root, *words, *logic, *kind, "--jobs", "1"]
 
 
 def tried(together, below):

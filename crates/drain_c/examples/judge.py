@@ -1,0 +1,106 @@
+#!/usr/bin/env python3
+"""Audits or checks rasters in files by libdrain, called by ctypes: prints the line of the answer and ends with its status.
+
+    cc -shared -o libdrain.so -Wl,--whole-archive libdrain.a -Wl,--no-whole-archive
+    judge.py LIBDRAIN.so audit|check SIDE DIRECTORY TILE...
+
+DIRECTORY has con.hdr, con.bil and so on, and for a check rnk.hdr and rnk.bil too. `Drain` serves as a module too.
+"""
+from __future__ import annotations
+
+import ctypes
+import sys
+from collections.abc import Sequence
+from dataclasses import dataclass
+from pathlib import Path
+
+AUDITED = ("con", "dir", "acc", "bas")
+CHECKED = (*AUDITED, "rnk")
+
+
+class Bytes(ctypes.Structure):
+    """drain_bytes: bytes that Python holds. They live as long as this object."""
+
+    _fields_ = [("at", ctypes.c_char_p), ("length", ctypes.c_size_t)]
+
+    def __init__(self, data: bytes) -> None:
+        super().__init__(data, len(data))
+
+
+class Pair(ctypes.Structure):
+    """drain_tile, a name and samples, or drain_raster, a header and pixels."""
+
+    _fields_ = [("text", Bytes), ("data", Bytes)]
+
+    def __init__(self, text: bytes, data: bytes) -> None:
+        super().__init__(Bytes(text), Bytes(data))
+
+
+class RawAnswer(ctypes.Structure):
+    """drain_answer."""
+
+    _fields_ = [(name, ctypes.c_uint32) for name in ("status", "rule", "row", "col")] + [("line", ctypes.c_char * 164)]
+
+
+@dataclass(frozen=True)
+class Answer:
+    """The status (0 accepted, 1 rejected, 2 refused, 3 out of memory), the rule and the cell of a rejection, the line."""
+
+    status: int
+    rule: int
+    row: int
+    col: int
+    line: str
+
+
+class Drain:
+    """The library, from a shared object."""
+
+    def __init__(self, path: str) -> None:
+        self._library = ctypes.CDLL(path)
+        for function in (self._library.drain_audit, self._library.drain_check):
+            function.restype = ctypes.c_uint32
+            function.argtypes = [
+                ctypes.c_uint32, ctypes.POINTER(Pair), ctypes.c_size_t, ctypes.c_char_p, ctypes.c_size_t,
+                ctypes.c_void_p, ctypes.POINTER(RawAnswer),
+            ]
+
+    def audit(self, side: int, tiles: Sequence[tuple[str, bytes]], rasters: Sequence[tuple[bytes, bytes]],
+              sinks: bytes = b"") -> Answer:
+        """Audits con, dir, acc and bas, each a header and pixels, for tiles, each a name and samples."""
+        return self._call(self._library.drain_audit, len(AUDITED), side, tiles, rasters, sinks)
+
+    def check(self, side: int, tiles: Sequence[tuple[str, bytes]], rasters: Sequence[tuple[bytes, bytes]],
+              sinks: bytes = b"") -> Answer:
+        """Checks con, dir, acc, bas and rnk."""
+        return self._call(self._library.drain_check, len(CHECKED), side, tiles, rasters, sinks)
+
+    @staticmethod
+    def _call(function, count: int, side: int, tiles: Sequence[tuple[str, bytes]],
+              rasters: Sequence[tuple[bytes, bytes]], sinks: bytes) -> Answer:
+        if len(rasters) != count:
+            raise ValueError(f"{count} rasters are needed")
+        # An array of no tiles still has an address, which C needs.
+        given = (Pair * max(len(tiles), 1))(*(Pair(name.encode(), samples) for name, samples in tiles))
+        products = (Pair * count)(*(Pair(header, pixels) for header, pixels in rasters))
+        raw = RawAnswer()
+        function(side, given, len(tiles), sinks, len(sinks), products, raw)
+        return Answer(raw.status, raw.rule, raw.row, raw.col, raw.line.decode("ascii"))
+
+
+def main(words: Sequence[str]) -> int:
+    if len(words) < 5 or words[1] not in ("audit", "check"):
+        print("usage: judge.py LIBDRAIN.so audit|check SIDE DIRECTORY TILE...", file=sys.stderr)
+        return 2
+    library, command, side, directory, *paths = words
+    drain = Drain(library)
+    products = AUDITED if command == "audit" else CHECKED
+    rasters = [tuple(Path(directory, product + end).read_bytes() for end in (".hdr", ".bil")) for product in products]
+    tiles = [(Path(path).name, Path(path).read_bytes()) for path in paths]
+    answer = (drain.audit if command == "audit" else drain.check)(int(side), tiles, rasters)
+    print(answer.line)
+    return answer.status
+
+
+if __name__ == "__main__":
+    sys.exit(main(sys.argv[1:]))

@@ -1,0 +1,114 @@
+/* libdrain: whether drainage rasters are correct for the elevation tiles that they were made from.
+ *
+ * Two functions, each proved to give the right answer to the bytes that it is passed (the contracts are in
+ * crates/drain_c/src/exported_audit.rt and exported_check.rt). They read memory only: no file, no output, no state
+ * between calls.
+ *
+ * What is proved holds where the caller keeps the rules below. Nothing checks a caller in C.
+ *
+ * Bytes. A drain_bytes is an address and a length in bytes. The address is never NULL, also where the length is 0:
+ *   drain_bytes_of(at, length) takes NULL too. Bytes need no alignment; an array of tiles has that of drain_tile.
+ * Memory. The library reads samples and pixels where they lie, copies names and headers, and keeps nothing after it
+ *   returns. It calls malloc, realloc and free, which align and behave as the C standard says. An audit takes a byte
+ *   for each cell, beside some rows, the labels of outlets and the list of sinks; a check takes those alone.
+ *   *answer overlaps no other argument, and nothing else writes to any argument during a call.
+ * Threads. Calls may run at the same time, each with an answer of its own. Call neither function from a signal handler,
+ *   nor in a child that was forked while several threads ran.
+ * Machine. x86-64-v2 or newer, Linux. The library doesn't test the processor.
+ */
+#ifndef DRAIN_H
+#define DRAIN_H
+
+#include <stddef.h>
+#include <stdint.h>
+
+#ifdef __cplusplus
+extern "C" {
+#endif
+
+/* length bytes from at on; at is never NULL. */
+typedef struct drain_bytes {
+    const uint8_t *at;
+    size_t length;
+} drain_bytes;
+
+/* A tile. name: its name, as N36W085.hgt, without a path or a zero byte. samples: 2 * side * side bytes, row by row
+ * from the north, each row from west to east; a sample is a signed number of 16 bits, high byte first, in metres;
+ * -32768 is a void. */
+typedef struct drain_tile {
+    drain_bytes name;
+    drain_bytes samples;
+} drain_tile;
+
+/* A raster. header: the text of an Esri BIL header (.hdr), in degrees. pixels: the bytes that it describes (.bil);
+ * 8, 16 or 32 bits each, signed or not. Rows and columns are those of the mosaic: with a tiles from north to south and
+ * b from west to east, a * (side - 1) + 1 and b * (side - 1) + 1. */
+typedef struct drain_raster {
+    drain_bytes header;
+    drain_bytes pixels;
+} drain_raster;
+
+/* The rasters of an audit: conditioned elevation, flow direction, flow accumulation and basin labels. */
+typedef struct drain_audit_rasters {
+    drain_raster con;
+    drain_raster dir;
+    drain_raster acc;
+    drain_raster bas;
+} drain_audit_rasters;
+
+/* The rasters of a check: the same, and ranks that show that every run of directions ends. */
+typedef struct drain_check_rasters {
+    drain_raster con;
+    drain_raster dir;
+    drain_raster acc;
+    drain_raster bas;
+    drain_raster rnk;
+} drain_check_rasters;
+
+/* The statuses: those that the program `drain` exits with. */
+enum {
+    DRAIN_ACCEPTED = 0, /* of an audit: the rasters are correct; of a check: correct, and the ranks show it */
+    DRAIN_REJECTED = 1, /* of an audit: the rasters aren't correct; of a check: or the ranks don't show it */
+    DRAIN_REFUSED = 2,  /* there is no verdict: the side, a name, a header, a length, a seam or the list of sinks */
+    DRAIN_FAILED = 3    /* out of memory */
+};
+
+/* The bytes for a line: at most 160, and zeros behind them. */
+enum { DRAIN_LINE_SIZE = 164 };
+
+/* An answer. Every member is written by each call. */
+typedef struct drain_answer {
+    uint32_t status; /* one of the statuses above */
+    uint32_t rule;   /* where a rule fails: its number, 1 to 15 (docs/RULES.md); else 0, also where a run doesn't end */
+    uint32_t row;    /* of a rejection: the cell's row, from 0 at the north; else 0 */
+    uint32_t col;    /* of a rejection: the cell's column, from 0 at the west; else 0 */
+    char line[DRAIN_LINE_SIZE]; /* the line that the program `drain` prints, in ASCII, without a line end */
+} drain_answer;
+
+/* Whether the four rasters are correct for the tiles.
+ *
+ * side: samples along the edge of each tile, 2 to 3601. tiles: tile_count of them, at least 1, each name once, at most
+ * 8 by 8 degrees; never NULL, also where tile_count is 0. sinks: the text of the list of inland sinks, a line `ROW COL`
+ * each, cells of the mosaic from 0; sinks_length bytes, 0 for none; never NULL.
+ * Returns answer->status. */
+uint32_t drain_audit(uint32_t side, const drain_tile *tiles, size_t tile_count, const uint8_t *sinks,
+                     size_t sinks_length, const drain_audit_rasters *rasters, drain_answer *answer);
+
+/* Whether ranks show that the rasters are correct for the tiles. The arguments are those of drain_audit.
+ * Returns answer->status. */
+uint32_t drain_check(uint32_t side, const drain_tile *tiles, size_t tile_count, const uint8_t *sinks,
+                     size_t sinks_length, const drain_check_rasters *rasters, drain_answer *answer);
+
+/* These bytes; at may be NULL where length is 0. */
+static inline drain_bytes drain_bytes_of(const void *at, size_t length) {
+    drain_bytes bytes;
+    bytes.at = at ? (const uint8_t *)at : (const uint8_t *)"";
+    bytes.length = at ? length : 0;
+    return bytes;
+}
+
+#ifdef __cplusplus
+}
+#endif
+
+#endif

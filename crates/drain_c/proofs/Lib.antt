@@ -1,0 +1,3 @@
+pub mod GivenInputs
+pub mod Spelling
+pub mod Statuses

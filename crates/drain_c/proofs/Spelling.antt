@@ -1,0 +1,111 @@
+-- What an audit and a check say of the sources of a call holds of the bytes of the call.
+use Rattle.std.proofs.Common.{◌≡◌, ℕ, ◌+◌, ◌<◌, List, [], ◌∷◌, ◌++◌, length, map, take, get_or, Option, Some, Result, Ok, Err, IfOk, refl, sym, ap, subst, ◌∙◌}
+use Rattle.std.proofs.lemmas.List.{take_more}
+use Rattle.std.proofs.lemmas.Slice.Zip.{all_zipped_more}
+use Rattle.drain_c.specs.declared.given.TileBytes.{TileBytes}
+use Rattle.drain_c.specs.declared.given.RasterBytes.{RasterBytes}
+use Rattle.drain_c.specs.Given.{AreOfBytes, OfBytes, IsHeadline}
+use Rattle.drain_c.specs.Sources.{IsTileOf, AreTilesOf, AreRastersOf}
+use Rattle.drain_grid.specs.declared.held.Held.{Held}
+use Rattle.drain_hgt.specs.declared.input.TileInput.{TileInput}
+use Rattle.drain_hgt.specs.Inputs.{names_of, AreBodies}
+use Rattle.drain_rules.specs.declared.verdict.Verdict.{Verdict}
+use Rattle.drain_rules.specs.declared.verdict.Verdict.TheVariants.{Accepted, Rejected}
+use Rattle.drain_rules.specs.Verdicts.{IfAccepted}
+use Rattle.drain_answer.specs.declared.refusal.Refusal.{Refusal}
+use Rattle.drain_verdict.specs.Inputs.{Inputs, Tell, Products}
+use Rattle.drain_verdict.specs.Headline.{OfInputs, AcceptedMeans, TilesAreOne, ElevationIsTheirs, ConIsLeast, NoDirectionClimbs, DirectionsAreSteepest, CodesTellOutlets, RunsEnd, RunsEndAtOutlets, RunsVisitOnce, AccCountsUpstream, LabelsTellBasins, VoidsAreBlank, DataIsComplete}
+
+-- one tile more is taken
+pub one_tile_more : {R : Type 0} (bytes_left : R → Option (List ℕ)) (given : List TileBytes) (tiles : List (TileInput R)) (i : ℕ) (d : TileBytes) (tile : TileInput R) →
+    i < length given → AreTilesOf bytes_left (take i given) tiles → IsTileOf bytes_left (get_or given i d) tile →
+    AreTilesOf bytes_left (take (i + 1) given) (tiles ++ tile ∷ [])
+one_tile_more bytes_left given tiles i d tile below are is =
+    rw (take_more given i d below) (all_zipped_more (IsTileOf bytes_left) (take i given) tiles (get_or given i d) tile are is)
+
+same_names : {R : Type 0} (bytes_left : R → Option (List ℕ)) (given : List TileBytes) (tiles : List (TileInput R)) → AreTilesOf bytes_left given tiles →
+    map (λ t. t.name.now) given ≡ names_of tiles
+same_names bytes_left [] [] are = refl
+same_names bytes_left [] (tile ∷ tiles) are = absurd are
+same_names bytes_left (g ∷ given) [] are = absurd are
+same_names bytes_left (g ∷ given) (tile ∷ tiles) are =
+    let here : tile.name ≡ g.name.now = are.0.0 in
+    let rest : map (λ t. t.name.now) given ≡ names_of tiles = same_names bytes_left given tiles are.1 in
+    cc
+
+bodies : {R : Type 0} (bytes_left : R → Option (List ℕ)) (given : List TileBytes) (tiles : List (TileInput R)) → AreTilesOf bytes_left given tiles →
+    AreBodies bytes_left tiles (map (λ t. t.samples.now) given)
+bodies bytes_left [] [] are = tt
+bodies bytes_left [] (tile ∷ tiles) are = absurd are
+bodies bytes_left (g ∷ given) [] are = absurd are
+bodies bytes_left (g ∷ given) (tile ∷ tiles) are = (are.0.1, bodies bytes_left given tiles are.1)
+
+-- the sources have the bytes of the inputs
+pub tells : {R : Type 0} (bytes_left : R → Option (List ℕ)) (side : ℕ) (given : List TileBytes) (sinks : List ℕ) (raster : Held → RasterBytes)
+    (tiles : List (TileInput R)) (ps : Products R) → AreTilesOf bytes_left given tiles → AreRastersOf bytes_left raster ps →
+    (i : Inputs) → AreOfBytes side given sinks raster i → Tell bytes_left side tiles sinks ps i
+tells bytes_left side given sinks raster tiles ps are_tiles are_rasters i are = record {
+  side_is = are.side_is;
+  names_are = are.names_are ∙ same_names bytes_left given tiles are_tiles;
+  corners_are = are.corners_are;
+  tiles_are = subst (AreBodies bytes_left tiles) (sym are.tiles_are) (bodies bytes_left given tiles are_tiles);
+  sinks_are = are.sinks_are;
+  headers_are = λ p. are.headers_are p ∙ sym (are_rasters p).0;
+  rasters_are = λ p. (are_rasters p).1 ∙ ap Some (sym (are.rasters_are p));
+}
+
+-- a fact of the sources is one of the bytes
+pub of_bytes : {R : Type 0} (Fact : Inputs → Type 0) (bytes_left : R → Option (List ℕ)) (side : ℕ) (given : List TileBytes) (sinks : List ℕ)
+    (raster : Held → RasterBytes) (tiles : List (TileInput R)) (ps : Products R) → AreTilesOf bytes_left given tiles → AreRastersOf bytes_left raster ps →
+    OfInputs bytes_left side tiles sinks ps Fact → OfBytes side given sinks raster Fact
+of_bytes Fact bytes_left side given sinks raster tiles ps are_tiles are_rasters fact i are =
+    fact i (tells bytes_left side given sinks raster tiles ps are_tiles are_rasters i are)
+
+-- where there is a verdict, the same
+pub of_bytes_if : {R V : Type 0} (Fact : V → Inputs → Type 0) (answer : Result V Refusal) (bytes_left : R → Option (List ℕ)) (side : ℕ) (given : List TileBytes)
+    (sinks : List ℕ) (raster : Held → RasterBytes) (tiles : List (TileInput R)) (ps : Products R) → AreTilesOf bytes_left given tiles →
+    AreRastersOf bytes_left raster ps → IfOk answer (λ v. OfInputs bytes_left side tiles sinks ps (Fact v)) →
+    IfOk answer (λ v. OfBytes side given sinks raster (Fact v))
+of_bytes_if Fact (Ok v) bytes_left side given sinks raster tiles ps are_tiles are_rasters fact =
+    of_bytes (Fact v) bytes_left side given sinks raster tiles ps are_tiles are_rasters fact
+of_bytes_if Fact (Err refusal) bytes_left side given sinks raster tiles ps are_tiles are_rasters fact = tt
+
+-- the thirteen facts of an acceptance
+pub record Meanings {R : Type 0} (bytes_left : R → Option (List ℕ)) (side : ℕ) (tiles : List (TileInput R)) (sinks : List ℕ) (ps : Products R) (answer : Result Verdict Refusal) : Type 0 where
+  pub tiles_agree : AcceptedMeans TilesAreOne bytes_left side tiles sinks ps answer
+  pub elevation : AcceptedMeans ElevationIsTheirs bytes_left side tiles sinks ps answer
+  pub least_surface : AcceptedMeans ConIsLeast bytes_left side tiles sinks ps answer
+  pub never_climbs : AcceptedMeans NoDirectionClimbs bytes_left side tiles sinks ps answer
+  pub steepest : AcceptedMeans DirectionsAreSteepest bytes_left side tiles sinks ps answer
+  pub outlets : AcceptedMeans CodesTellOutlets bytes_left side tiles sinks ps answer
+  pub runs_end : AcceptedMeans RunsEnd bytes_left side tiles sinks ps answer
+  pub runs_end_at_outlets : AcceptedMeans RunsEndAtOutlets bytes_left side tiles sinks ps answer
+  pub runs_visit_once : AcceptedMeans RunsVisitOnce bytes_left side tiles sinks ps answer
+  pub accumulation : AcceptedMeans AccCountsUpstream bytes_left side tiles sinks ps answer
+  pub labels : AcceptedMeans LabelsTellBasins bytes_left side tiles sinks ps answer
+  pub voids : AcceptedMeans VoidsAreBlank bytes_left side tiles sinks ps answer
+  pub complete : AcceptedMeans DataIsComplete bytes_left side tiles sinks ps answer
+
+-- of the bytes, all of them
+pub headline : {R : Type 0} (answer : Result Verdict Refusal) (bytes_left : R → Option (List ℕ)) (side : ℕ) (given : List TileBytes) (sinks : List ℕ)
+    (raster : Held → RasterBytes) (tiles : List (TileInput R)) (ps : Products R) → AreTilesOf bytes_left given tiles → AreRastersOf bytes_left raster ps →
+    Meanings bytes_left side tiles sinks ps answer → IfAccepted answer (OfBytes side given sinks raster IsHeadline)
+headline (Ok (Accepted counts)) bytes_left side given sinks raster tiles ps are_tiles are_rasters m = λ i are.
+    let told = tells bytes_left side given sinks raster tiles ps are_tiles are_rasters i are in
+    record {
+      tiles_agree = m.tiles_agree i told;
+      elevation = m.elevation i told;
+      least_surface = m.least_surface i told;
+      never_climbs = m.never_climbs i told;
+      steepest = m.steepest i told;
+      outlets = m.outlets i told;
+      runs_end = m.runs_end i told;
+      runs_end_at_outlets = m.runs_end_at_outlets i told;
+      runs_visit_once = m.runs_visit_once i told;
+      accumulation = m.accumulation i told;
+      labels = m.labels i told;
+      voids = m.voids i told;
+      complete = m.complete i told;
+    }
+headline (Ok (Rejected rule row col)) bytes_left side given sinks raster tiles ps are_tiles are_rasters m = tt
+headline (Err refusal) bytes_left side given sinks raster tiles ps are_tiles are_rasters m = tt

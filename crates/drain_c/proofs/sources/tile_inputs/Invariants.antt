@@ -1,0 +1,8 @@
+use Rattle.std.proofs.Common.{take}
+use Rattle.drain_device.specs.contracts.slice_source.SliceSourceByteSource.TheImpl.{bytes_left-value}
+use Rattle.drain_c.specs.Sources.{AreTilesOf}
+use Rattle.drain_c.proofs.sources.tile_inputs.Given as goal
+
+-- the tiles before this one are taken
+abbrev pub invariant-loop-tile : goal.invariant-loop-tile
+invariant-loop-tile l = AreTilesOf bytes_left-value.it (take l.tile-index l.fn.given) l.tiles.items

@@ -1,0 +1,44 @@
+//! An answer as C reads it: numbers, and the line that the program prints.
+
+ghost use Rattle.std.specs.Prelude.{◌≡◌, ◌-◌, ◌≤◌, ◌++◌, length, replicate};
+ghost use Rattle.drain_c.specs.Shown.{Shows};
+
+use crate::found::Found;
+
+/// How many bytes an answer has for its line: 160 at most, and zeros behind it.
+pub const LINE_SIZE: usize = 164;
+
+/// The status, of a rejection the rule and the cell, and the line, in ASCII, with zeros behind it.
+#[derive(Clone, Copy)]
+#[repr(C)]
+pub struct Answer {
+    pub status: u32,
+    pub rule: u32,
+    pub row: u32,
+    pub col: u32,
+    pub line: [u8; 164],
+}
+
+/// Writes these numbers and this line.
+pub fn show(answer: &mut Answer, found: Found, line: &str)
+    requires { length line.now ≤ 160 }
+    ensures { Shows found line.now answer.new }
+{
+    *answer = Answer {
+        status: found.status,
+        rule: found.rule,
+        row: found.row,
+        col: found.col,
+        line: with_zeros(line.as_bytes()),
+    };
+}
+
+/// These bytes and zeros behind them.
+fn with_zeros(bytes: &[u8]) -> [u8; 164]
+    requires { length bytes.now ≤ 160 }
+    ensures { result ≡ bytes.now ++ replicate (164 - length bytes.now) 0 }
+{
+    let mut line = [0; 164];
+    line[..bytes.len()].copy_from_slice(bytes);
+    line
+}

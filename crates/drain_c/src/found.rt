@@ -1,0 +1,77 @@
+//! An answer in numbers: its status, and where a rule fails.
+
+ghost use Rattle.std.specs.Prelude.{◌≡◌};
+ghost use Rattle.drain_c.specs.Found.{audit_found, check_found, refusal_found, status_only};
+
+use drain_rules::Verdict;
+use drain_verdict::{AuditVerdict, Refusal};
+
+/// The status, as the program exits with it; of a rejection the number of the rule that fails, and the cell. What an
+/// answer lacks is 0.
+#[derive(Clone, Copy)]
+pub struct Found {
+    pub status: u32,
+    pub rule: u32,
+    pub row: u32,
+    pub col: u32,
+}
+
+/// The numbers of the answer of an audit. A run without an end is of no rule: rule 0.
+pub fn audit_found(answer: &Result<AuditVerdict, Refusal>) -> Found
+    ensures { result ≡ audit_found answer.now }
+{
+    match answer {
+        Ok(AuditVerdict::Accepted(_)) => status_only(0),
+        Ok(AuditVerdict::Rejected { rule, row, col }) => Found {
+            status: 1,
+            rule: u32::from(rule.number()),
+            row: *row,
+            col: *col,
+        },
+        Ok(AuditVerdict::NoEnd { row, col }) => Found {
+            status: 1,
+            rule: 0,
+            row: *row,
+            col: *col,
+        },
+        Err(refusal) => refusal_found(*refusal),
+    }
+}
+
+/// The numbers of the answer of a check.
+pub fn check_found(answer: &Result<Verdict, Refusal>) -> Found
+    ensures { result ≡ check_found answer.now }
+{
+    match answer {
+        Ok(Verdict::Accepted(_)) => status_only(0),
+        Ok(Verdict::Rejected { rule, row, col }) => Found {
+            status: 1,
+            rule: u32::from(rule.number()),
+            row: *row,
+            col: *col,
+        },
+        Err(refusal) => refusal_found(*refusal),
+    }
+}
+
+/// The numbers of a refusal, or of a failure.
+fn refusal_found(refusal: Refusal) -> Found
+    ensures { result ≡ refusal_found refusal }
+{
+    match refusal {
+        Refusal::OutOfMemory | Refusal::ReadFailed => status_only(3),
+        _ => status_only(2),
+    }
+}
+
+/// A status, without a rule or a cell.
+fn status_only(status: u32) -> Found
+    ensures { result ≡ status_only status }
+{
+    Found {
+        status,
+        rule: 0,
+        row: 0,
+        col: 0,
+    }
+}

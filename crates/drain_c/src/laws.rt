@@ -1,0 +1,13 @@
+//! What the clauses of the two functions rest on. A law is a function with nothing to do: its contract is the law.
+
+ghost use Rattle.drain_c.specs.Laws.{BytesAreInputs};
+
+use drain_hgt::laws::names_give_corners;
+
+/// Whatever bytes are passed in, there are inputs that are these bytes: what the clauses say of such inputs they say of
+/// each call.
+pub fn bytes_are_inputs()
+    ensures { BytesAreInputs }
+{
+    names_give_corners();
+}

@@ -1,0 +1,98 @@
+//! The bytes of a call as the sources that an audit and a check read. Names and headers are copied; samples and pixels
+//! are not.
+
+ghost use Rattle.std.specs.Prelude.{◌≡◌, IfOk, IfErr};
+ghost use Rattle.drain_c.specs.Given.{audit_raster, check_raster};
+ghost use Rattle.drain_c.specs.Sources.{AreTilesOf, AreRastersOf, IsRasterOf, IsTileOf};
+ghost use Rattle.drain_verdict.specs.AuditInputs.{with_con_for_ranks};
+
+use crate::given::{AuditBytes, CheckBytes, RasterBytes, TileBytes};
+use drain_device::{ByteList, ByteSource, SliceSource};
+use drain_hgt::TileInput;
+use drain_verdict::{AuditProducts, Products, RasterInput, Refusal};
+use std::alloc::Global;
+
+/// The tiles, in their order.
+pub fn tile_inputs<'a>(
+    alloc: Global,
+    given: &[TileBytes<'a>],
+) -> Result<Vec<TileInput<SliceSource<'a>>>, Refusal>
+    ensures same { IfOk result (λ tiles. AreTilesOf ⟦<SliceSource<'a> as ByteSource>⟧.bytes_left given.now tiles.items) }
+    ensures memory { IfErr result (λ refusal. refusal ≡ Refusal.OutOfMemory) }
+{
+    let mut tiles = Vec::new(alloc);
+    for tile in given {
+        let input = tile_input(alloc, tile)?;
+        if tiles.push(input).is_err() {
+            return Err(Refusal::OutOfMemory);
+        }
+    }
+    Ok(tiles)
+}
+
+/// A tile.
+fn tile_input<'a>(
+    alloc: Global,
+    given: &TileBytes<'a>,
+) -> Result<TileInput<SliceSource<'a>>, Refusal>
+    ensures same { IfOk result (λ tile. IsTileOf ⟦<SliceSource<'a> as ByteSource>⟧.bytes_left given.now tile) }
+    ensures memory { IfErr result (λ refusal. refusal ≡ Refusal.OutOfMemory) }
+{
+    match given.name.to_vec(alloc) {
+        Ok(name) => Ok(TileInput {
+            name: ByteList::new(name),
+            body: SliceSource::new(given.samples),
+        }),
+        Err(_) => Err(Refusal::OutOfMemory),
+    }
+}
+
+/// A raster.
+fn raster_input<'a>(
+    alloc: Global,
+    given: &RasterBytes<'a>,
+) -> Result<RasterInput<SliceSource<'a>>, Refusal>
+    ensures same { IfOk result (λ raster. IsRasterOf ⟦<SliceSource<'a> as ByteSource>⟧.bytes_left given.now raster) }
+    ensures memory { IfErr result (λ refusal. refusal ≡ Refusal.OutOfMemory) }
+{
+    match given.header.to_vec(alloc) {
+        Ok(header) => Ok(RasterInput {
+            header: ByteList::new(header),
+            body: SliceSource::new(given.pixels),
+        }),
+        Err(_) => Err(Refusal::OutOfMemory),
+    }
+}
+
+/// The four rasters of an audit.
+pub fn audit_inputs<'a>(
+    alloc: Global,
+    given: &AuditBytes<'a>,
+) -> Result<AuditProducts<SliceSource<'a>>, Refusal>
+    ensures same { IfOk result (λ products. AreRastersOf ⟦<SliceSource<'a> as ByteSource>⟧.bytes_left (audit_raster given.now) (with_con_for_ranks products)) }
+    ensures memory { IfErr result (λ refusal. refusal ≡ Refusal.OutOfMemory) }
+{
+    Ok(AuditProducts {
+        con: raster_input(alloc, &given.con)?,
+        dir: raster_input(alloc, &given.dir)?,
+        acc: raster_input(alloc, &given.acc)?,
+        bas: raster_input(alloc, &given.bas)?,
+    })
+}
+
+/// The five rasters of a check.
+pub fn check_inputs<'a>(
+    alloc: Global,
+    given: &CheckBytes<'a>,
+) -> Result<Products<SliceSource<'a>>, Refusal>
+    ensures same { IfOk result (λ products. AreRastersOf ⟦<SliceSource<'a> as ByteSource>⟧.bytes_left (check_raster given.now) products) }
+    ensures memory { IfErr result (λ refusal. refusal ≡ Refusal.OutOfMemory) }
+{
+    Ok(Products {
+        con: raster_input(alloc, &given.con)?,
+        dir: raster_input(alloc, &given.dir)?,
+        acc: raster_input(alloc, &given.acc)?,
+        bas: raster_input(alloc, &given.bas)?,
+        rnk: raster_input(alloc, &given.rnk)?,
+    })
+}
