@@ -3,7 +3,7 @@
 # alone: of crates/drain_c/out/libdrain_c.a and the kit's liblibc_c.a, which calls malloc, realloc and free. Where rt check
 # has worked in the crate's folder before, only what changed since is proved again, by rt lib. Else rt ci proves a copy of
 # these crates: it takes what it passed on this machine before, as when it built the program, and proves the rest side by
-# side. drain_c itself is proved once more where it is compiled.
+# side. drain_c itself is proved once more where it is compiled. Nothing is done where TARGET.proved fits the sources and TARGET.
 # Usage: tools/build_library.sh TARGET    (as build/libdrain.a)
 set -euo pipefail
 target=$(realpath -m "$1")
@@ -13,7 +13,12 @@ command -v rt >/dev/null || {
     echo "the library is built by the Rattle toolchain: put its command rt on the PATH" >&2
     exit 1
 }
+if "$top/tools/is_proved.sh" "$target" 2>/dev/null; then
+    echo "Unchanged since it was proved and built: ${target#"$top/"}"
+    exit 0
+fi
 kit=$(dirname "$(rt doc)")
+sources=$("$top/tools/sources_sum.sh")
 scratch=$(mktemp -d)
 trap 'rm -rf "$scratch"' EXIT
 log=$scratch/log
@@ -79,5 +84,9 @@ fi
 
 mkdir -p "$(dirname "$target")"
 printf '%s\n' "create $scratch/libdrain.a" "addlib $made" "addlib $kit/c/liblibc_c.a" save end | "$kit/toolchain/bin/llvm-ar" -M
+rm -f "$target.proved"
 mv "$scratch/libdrain.a" "$target"
+if [ "$("$top/tools/sources_sum.sh")" = "$sources" ]; then
+    "$top/tools/record_proof.sh" "$target" "$sources"
+fi
 echo "Proved and built in $((SECONDS - started)) seconds: ${target#"$top/"}"
