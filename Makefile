@@ -2,7 +2,7 @@
 # make demo      shows it on the bundled samples, in two minutes; without a proved program it runs the sources unproved
 # make library   builds build/libdrain.a, for C and Python (docs/LIBRARY.md)
 # make install   puts program, man page, library and its header below PREFIX (/usr/local; DESTDIR goes in front)
-# make dist      packs a release for users without the toolchain into build/release (docs/RELEASING.md)
+# make dist      packs a release for users without the toolchain into build/release (RELEASING.md)
 # make deb       packs a .deb there
 # make same      proves and builds from nothing, and compares with FILE=PROVED of a release
 # make test      passes everything: every proof and test, the edits of the gate, then the program's own tests

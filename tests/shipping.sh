@@ -78,7 +78,7 @@ holds 'tarball: it has the proved program' cmp "$drain" "$release/bin/drain"
 holds 'tarball: PROVED begins with the record of the proof' diff "$drain.proved" <(head -n "$(wc -l <"$drain.proved")" "$release/PROVED")
 holds 'tarball: its demo runs' sh -c "cd '$release' && tools/demo.sh"
 holds 'tarball: its man page has the commands' grep -q '^.SH "DRAIN AUDIT"' "$release/share/man/man1/drain.1"
-for file in README.md LICENSE docs/RELEASING.md samples/README.md samples/LICENSE-matplotlib.txt; do
+for file in README.md LICENSE RELEASING.md samples/README.md samples/LICENSE-matplotlib.txt; do
     holds "tarball: it has $file" cmp "$top/$file" "$release/$file"
 done
 

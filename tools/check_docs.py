@@ -1,9 +1,9 @@
 #!/usr/bin/env python3
-"""Checks the documents: README.md, CONTRIBUTING.md, docs/*.md and the README of each crate.
+"""Checks the documents: README.md and the other pages beside it, docs/*.md and the README of each crate.
 
 It reports, each with its file and line:
 - a path, a link, a target of `make`, or a command or option of `drain` that doesn't exist;
-- a line of README.md over 100 characters, a README.md over 80 lines, and a line of docs/ or CONTRIBUTING.md over
+- a line of README.md over 100 characters, a README.md over 80 lines, and a line of the other pages or of docs/ over
   120 characters (200 in a table; code is exempt);
 - a word that readers don't know (WORDS), outside code; and docs/ over 30,000 words in all;
 - with PROGRAM, an example whose output isn't what the program prints.

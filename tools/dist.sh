@@ -20,7 +20,7 @@ take_program "$program"
 
 name=drain-$version-linux-x86_64
 root=$room/$name
-copy_files "$root" README.md LICENSE CHANGELOG.md docs samples tools/demo.sh tools/demo.txt
+copy_files "$root" README.md LICENSE CHANGELOG.md CONTRIBUTING.md RELEASING.md SECURITY.md docs samples tools/demo.sh tools/demo.txt
 install -D -m 755 "$room/drain" "$root/bin/drain"
 install -d "$root/share/man/man1"
 "$top/tools/man_page.py" "$root/bin/drain" >"$root/share/man/man1/drain.1"
