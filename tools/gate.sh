@@ -39,5 +39,10 @@ time tests/library.sh build/libdrain.a
 time tests/first_run.sh build/drain
 time tests/shipping.sh build
 time tests/program/run.sh build/drain build/benches
+# The static program, where the object that it is linked from was made in this run.
+if [ -f build/drain.o ] && command -v gcc >/dev/null; then
+    tools/static_program.sh build/drain build/drain.o build/drain-static
+    time tests/program/run.sh build/drain-static build/benches
+fi
 time tests/refused_memory.sh byte_tests cell_tests rules_tests page_tests verdict_tests maker_tests cli_tests
 time tests/wrong_makers.sh
