@@ -3,25 +3,42 @@
 ghost use Rattle.std.specs.Prelude.{None};
 ghost use Rattle.drain_device.specs.Counts.{no_faults};
 
-use crate::inputs::at_zero;
+use crate::inputs::Tile;
 use crate::making::make;
-use crate::printed::{check_printed, empty_files, files_of};
+use crate::printed::{check_printed, empty_files, files_of, whole_sink};
+use drain_cli::run_audit::run_audit;
 use drain_device::{ByteList, ByteSource, DeviceFault, SliceSource, VecSink};
 use drain_grid::{Held, PerProduct};
 use drain_hgt::TileInput;
-use drain_verdict::{Products, RasterInput};
+use drain_verdict::{AuditProducts, Products, RasterInput};
 use std::alloc::{AllocError, Global};
 use std::cell::Cell;
+use std::process::Abort;
 use std::test::Fail;
 
-/// How many rows and columns the tile has, and each product.
+/// How many rows and columns a tile has. Each product has as many rows.
 const SIDE: usize = 64;
 
 /// A tile of zeros.
 const ZEROS: [u8; 2 * SIDE * SIDE] = [0; 2 * SIDE * SIDE];
 
+/// Two tiles of zeros, side by side.
+static TILES: [Tile<'static>; 2] = [
+    Tile {
+        name: "N00E000.hgt",
+        bytes: &ZEROS,
+    },
+    Tile {
+        name: "N00E001.hgt",
+        bytes: &ZEROS,
+    },
+];
+
 /// For each row a number of the common clock.
 type Stamps = [u64; SIDE];
+
+/// The stamps of each row's first byte, and of its last.
+type Given = (Stamps, Stamps);
 
 /// A source that gives one byte a call. For each row it notes when the first byte and when the last was given.
 #[derive(Drop)]
@@ -90,10 +107,10 @@ impl ByteSource for Stamped<'_> {
     }
 }
 
-/// The files of the products that are made of the tile of zeros.
+/// The files of the products that are made of the tiles.
 fn made(alloc: Global) -> Result<Vec<VecSink>, Fail> {
-    let mut files = empty_files(alloc, 4 * SIDE * SIDE)?;
-    let run = make(alloc, 64, &at_zero(&ZEROS), &[], files.as_mut_slice())?;
+    let mut files = empty_files(alloc, 8 * SIDE * SIDE)?;
+    let run = make(alloc, 64, &TILES, &[], files.as_mut_slice())?;
     match run.status {
         0 => Ok(files),
         _ => Err("the files were not made and written".into()),
@@ -128,60 +145,109 @@ fn products<'a>(alloc: Global, watched: Watched<'a>) -> Result<Products<Stamped<
     PerProduct::from_each(&input)
 }
 
-/// The stamps of each row's first byte, and of its last.
-fn stamps_of(source: &Stamped<'_>) -> (Stamps, Stamps) {
+/// The products of an audit among them.
+fn audit_products<'a>(
+    alloc: Global,
+    watched: Watched<'a>,
+) -> Result<AuditProducts<Stamped<'a>>, Fail> {
+    Ok(AuditProducts {
+        con: product_of(alloc, watched, Held::Con)?,
+        dir: product_of(alloc, watched, Held::Dir)?,
+        acc: product_of(alloc, watched, Held::Acc)?,
+        bas: product_of(alloc, watched, Held::Bas)?,
+    })
+}
+
+/// One of the tiles, as a source.
+fn tile<'a>(
+    alloc: Global,
+    tile: &Tile<'a>,
+    clock: &'a Cell<u64>,
+) -> Result<TileInput<Stamped<'a>>, AllocError> {
+    Ok(TileInput {
+        name: ByteList::new(Vec::from_slice(alloc, tile.name.as_bytes())?),
+        body: Stamped::new(tile.bytes, clock),
+    })
+}
+
+/// Both tiles.
+fn tiles<'a>(
+    alloc: Global,
+    clock: &'a Cell<u64>,
+) -> Result<[TileInput<Stamped<'a>>; 2], AllocError> {
+    let west = tile(alloc, &TILES[0], clock)?;
+    let east = tile(alloc, &TILES[1], clock)?;
+    Ok([west, east])
+}
+
+/// The stamps of a source.
+fn stamps_of(source: &Stamped<'_>) -> Given {
     (source.first, source.last)
 }
 
-/// For each source, the tile's first, the stamps of each row's first byte, and of its last.
-fn stamps_of_each(tile: &Stamped<'_>, products: &Products<Stamped<'_>>) -> [(Stamps, Stamps); 6] {
-    [
-        stamps_of(tile),
+/// The stamps of the tiles and of each product, after a check.
+fn checked<'a>(
+    alloc: Global,
+    clock: &'a Cell<u64>,
+    products: &mut Products<Stamped<'a>>,
+) -> Result<[Given; 7], Fail> {
+    let mut tiles = tiles(alloc, clock)?;
+    let run = check_printed(alloc, 64, &mut tiles, &[], products)?;
+    if run.status != 0 {
+        return Err("not accepted".into());
+    }
+    Ok([
+        stamps_of(&tiles[0].body),
+        stamps_of(&tiles[1].body),
         stamps_of(&products.con.body),
         stamps_of(&products.dir.body),
         stamps_of(&products.acc.body),
         stamps_of(&products.bas.body),
         stamps_of(&products.rnk.body),
-    ]
+    ])
 }
 
-/// The tile of zeros.
-fn tile<'a>(alloc: Global, clock: &'a Cell<u64>) -> Result<TileInput<Stamped<'a>>, AllocError> {
-    Ok(TileInput {
-        name: ByteList::new(Vec::from_slice(alloc, b"N00E000.hgt")?),
-        body: Stamped::new(&ZEROS, clock),
-    })
-}
-
-/// The stamps of the sources of a check of the tile of zeros with these products.
-fn stamps_beside<'a>(
+/// The stamps of the tiles and of each product, after an audit.
+fn audited<'a>(
     alloc: Global,
     clock: &'a Cell<u64>,
-    products: &mut Products<Stamped<'a>>,
-) -> Result<[(Stamps, Stamps); 6], Fail> {
-    let mut tiles = [tile(alloc, clock)?];
-    let run = check_printed(alloc, 64, &mut tiles, &[], products)?;
-    if run.status != 0 {
+    products: &mut AuditProducts<Stamped<'a>>,
+) -> Result<[Given; 6], Fail> {
+    let mut tiles = tiles(alloc, clock)?;
+    let mut out = whole_sink(alloc)?;
+    if run_audit(alloc, 64, &mut tiles, &[], products, &mut out) != 0 {
         return Err("not accepted".into());
     }
-    Ok(stamps_of_each(&tiles[0].body, products))
+    Ok([
+        stamps_of(&tiles[0].body),
+        stamps_of(&tiles[1].body),
+        stamps_of(&products.con.body),
+        stamps_of(&products.dir.body),
+        stamps_of(&products.acc.body),
+        stamps_of(&products.bas.body),
+    ])
 }
 
-/// The same with the products whose headers and rasters are the files.
-fn stamps(alloc: Global, files: &[VecSink]) -> Result<[(Stamps, Stamps); 6], Fail> {
+/// The stamps of a check of the tiles with these files.
+fn stamps_of_a_check(alloc: Global, files: &[VecSink]) -> Result<[Given; 7], Fail> {
     let clock = Cell::new(0);
     let watched = Watched {
         files,
         clock: &clock,
     };
     let mut products = products(alloc, watched)?;
-    stamps_beside(alloc, &clock, &mut products)
+    checked(alloc, &clock, &mut products)
 }
 
-/// The stamps of a check of the tile of zeros with the products that are made of it.
-fn stamps_of_a_check(alloc: Global) -> Result<[(Stamps, Stamps); 6], Fail> {
-    let files = made(alloc)?;
-    stamps(alloc, files.as_slice())
+/// The stamps of an audit of the tiles with these files.
+fn stamps_of_an_audit(alloc: Global, files: &[VecSink]) -> Result<[Given; 6], Fail> {
+    let clock = Cell::new(0);
+    let watched = Watched {
+        files,
+        clock: &clock,
+    };
+    let mut products = audit_products(alloc, watched)?;
+    audited(alloc, &clock, &mut products)
 }
 
 /// The first row of which a source gave a byte before the other had given the last of the row four above.
@@ -189,13 +255,27 @@ fn too_early(first: &Stamps, last: &Stamps) -> Option<usize> {
     (4..SIDE).find(|&row| first[row] <= last[row - 4] || last[row - 4] == 0)
 }
 
-#[test]
-fn no_source_is_four_rows_ahead_of_another(rt: HostRuntime) -> Result<(), Fail> {
-    let stamps = stamps_of_a_check(rt.alloc())?;
+/// Fails the test if a source was read four rows ahead of another.
+fn advance_together(rt: &impl Abort, stamps: &[Given]) {
     for (k, (first, _)) in stamps.iter().enumerate() {
         for (j, (_, last)) in stamps.iter().enumerate() {
             assert_eq!(rt; too_early(first, last), None, "{k} {j}");
         }
     }
+}
+
+#[test]
+fn no_source_of_a_check_is_four_rows_ahead_of_another(rt: HostRuntime) -> Result<(), Fail> {
+    let files = made(rt.alloc())?;
+    let stamps = stamps_of_a_check(rt.alloc(), files.as_slice())?;
+    advance_together(&rt, &stamps);
+    Ok(())
+}
+
+#[test]
+fn no_source_of_an_audit_is_four_rows_ahead_of_another(rt: HostRuntime) -> Result<(), Fail> {
+    let files = made(rt.alloc())?;
+    let stamps = stamps_of_an_audit(rt.alloc(), files.as_slice())?;
+    advance_together(&rt, &stamps);
     Ok(())
 }

@@ -21,6 +21,7 @@ use Rattle.drain_verdict.specs.Refusals.{IsOfBodies}
 use Rattle.drain_cli.specs.AuditRuns.{IsAuditOutcome}
 use Rattle.drain_cli.specs.CheckRuns.{IsCheckOutcome}
 use Rattle.drain_cli.specs.declared.explain_page.Form.{Form}
+use Rattle.drain_cli.specs.declared.no_page.NoPage.{NoPage}
 use Rattle.drain_cli.specs.declared.status.Status.{Status}
 use Rattle.drain_cli.specs.declared.status.Status.TheVariants.{Failed}
 use Rattle.drain_cli.specs.ExplainRuns.{BeginsWith, IsNoPage, Tells}
@@ -37,12 +38,12 @@ tells_page {W} {sink} {old} {new} {form} {line} {text} {wanted} {code} begins pr
 }
 
 -- why there is none
-pub tells_failure : {W : Type 0} {sink : Sink W} {old new : W} {form : Form} {line text : List ℕ} {wanted : Status} {code : ℕ} →
-    IsNoPage form text → PrintsText sink old new text Failed code → Tells sink old new form line wanted code
-tells_failure {W} {sink} {old} {new} {form} {line} {text} {wanted} {code} none prints = record {
+pub tells_failure : {W : Type 0} {sink : Sink W} {old new : W} {form : Form} {line text : List ℕ} {wanted : Status} {code : ℕ} (why : NoPage) →
+    IsNoPage form why text → PrintsText sink old new text Failed code → Tells sink old new form line wanted code
+tells_failure {W} {sink} {old} {new} {form} {line} {text} {wanted} {code} why none prints = record {
   text = text;
   status = Failed;
-  told = inr (none, refl);
+  told = inr (why, none, refl);
   printed = prints;
 }
 

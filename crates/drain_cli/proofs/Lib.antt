@@ -1,7 +1,9 @@
 pub mod AuditLemmas
 pub mod CheckLemmas
+pub mod ClashLemmas
 pub mod ExplainLemmas
 pub mod HeaderLemmas
+pub mod LineSteps
 pub mod PaceLemmas
 pub mod PathLemmas
 pub mod PrintLemmas

@@ -1,6 +1,6 @@
--- What follows the last slash of a path.
-use Rattle.std.proofs.Common.{◌≡◌, ℕ, ◌+◌, ◌<◌, ◌≤◌, List, ◌∷◌, ◌++◌, length, drop, take, get_or, inl, inr, refl, sym, ap, ◌∙◌, arith, length-drop, take-append-drop}
-use Rattle.std.specs.Prelude.{◌≢◌}
+-- What follows the last slash of a path, and what precedes it.
+use Rattle.std.proofs.Common.{◌≡◌, ℕ, ◌+◌, ◌-◌, ◌<◌, ◌≤◌, List, ◌∷◌, ◌++◌, length, drop, take, get_or, inl, inr, refl, sym, ap, ◌∙◌, arith, length-drop, take-append-drop}
+use Rattle.std.specs.Prelude.{◌≢◌, slice_range}
 use Rattle.std.proofs.lemmas.List.{drop_more, get_or-drop}
 use Rattle.std.proofs.lemmas.List.Elements.{All-from_get_or}
 use Rattle.drain_cli.specs.FilePaths.{slash, IsLastPart}
@@ -23,3 +23,9 @@ after_last_slash path at within is none = record {
   has_no_slash = All-from_get_or (λ byte. byte ≢ slash) (drop (at + 1) path) 0
       (λ i inside same. none (at + 1 + i) (omega arith) (omega (arith, inside, length-drop (at + 1) path)) (sym (get_or-drop (at + 1) path i 0) ∙ same));
 }
+
+-- a path is its first bytes and the rest
+pub first_part : (path : List ℕ) (n : ℕ) → slice_range path 0 n ++ drop n path ≡ path
+first_part path n =
+    let same : n - 0 ≡ n = omega arith in
+    ap (λ k. take k path ++ drop n path) same ∙ take-append-drop n path

@@ -1,10 +1,13 @@
 -- The paths of products' files, and the name in a tile's path.
-use Rattle.std.specs.Prelude.{◌≡◌, ◌≢◌, ◌⊎◌, ◌==◌, ℕ, List, [], ◌∷◌, ◌++◌, codes, if◌then◌else◌}
+use Rattle.std.specs.Prelude.{◌≡◌, ◌≢◌, ◌⊎◌, ◌==◌, ℕ, List, [], ◌∷◌, ◌++◌, codes, decimal, if◌then◌else◌}
 use Rattle.std.specs.List.{All, ends_with}
 use Rattle.drain_grid.specs.declared.product.Product.{Product}
+use Rattle.drain_grid.specs.declared.product.Product.TheVariants.{Con, Dir, Acc, Bas, Rnk}
 use Rattle.drain_grid.specs.Product.{name_of}
+use Rattle.drain_grid.specs.Held.{product_of}
 use Rattle.drain_maker.specs.declared.product_files.Part.{Part}
 use Rattle.drain_maker.specs.declared.product_files.Part.TheVariants.{Header, Raster}
+use Rattle.drain_maker.specs.declared.product_files.SetFile.{SetFile}
 
 abbrev pub slash : ℕ
 slash = 47
@@ -32,3 +35,15 @@ ending_of Raster = raster_ending
 pub record IsLastPart (path name : List ℕ) : Type 0 where
   pub ends : (path ≡ name) ⊎ ((folder : List ℕ) × (path ≡ folder ++ slash ∷ name))
   pub has_no_slash : All (λ byte. byte ≢ slash) name
+
+-- the path of a file of a product set in this folder
+abbrev pub IsPathOf : List ℕ → SetFile → List ℕ → Type 0
+IsPathOf folder file path = path ≡ product_path folder (product_of file.product) (ending_of file.part)
+
+-- the name of an output that isn't whole yet, as drain-1.part
+abbrev pub part_name : ℕ → List ℕ
+part_name number = codes "drain-" ++ decimal number ++ codes ".part"
+
+-- the name of a product that a check reads
+abbrev pub IsProductName : List ℕ → Type 0
+IsProductName name = (name ≡ name_of Con) ⊎ ((name ≡ name_of Dir) ⊎ ((name ≡ name_of Acc) ⊎ ((name ≡ name_of Bas) ⊎ (name ≡ name_of Rnk))))

@@ -1,7 +1,9 @@
 pub mod AuditRuns
 pub mod CheckRuns
+pub mod Clusters
 pub mod ExplainRuns
 pub mod Failures
+pub mod FileIds
 pub mod FilePaths
 pub mod FillRuns
 pub mod HeaderRuns
@@ -10,9 +12,12 @@ pub mod MadeSets
 pub mod MapFiles
 pub mod OpenFailures
 pub mod Pace
+pub mod Placings
 pub mod Printing
+pub mod Requests
 pub mod RoundTrip
 pub mod RowEnds
 pub mod SetRuns
+pub mod SinkNotes
 pub mod Statuses
 pub mod Telling

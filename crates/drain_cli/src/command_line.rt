@@ -1,8 +1,14 @@
 //! The command-line arguments: which command is required.
 
-use crate::commands::{DEFAULT_SIDE, EXPLAIN, command, program};
+ghost use Rattle.std.specs.Prelude.{IfOk, codes};
+ghost use Rattle.clap.specs.Matches.{found_of};
+ghost use Rattle.drain_cli.specs.Requests.{IsJudged, IsMap, IsRequestOf};
+
+use crate::clusters::first_cluster;
+use crate::commands::{EXPLAIN, command, program};
 use crate::explain_texts;
 use crate::file_paths::map_stem;
+use crate::given::{flag_given, option_given, side_given, text_given, tiles_given};
 use clap::error::ErrorKind;
 use clap::{ArgMatches, Error};
 use std::alloc::{AllocError, Global};
@@ -56,81 +62,103 @@ pub struct Explained<'a> {
 
 /// The request of the arguments. The first argument is the program's own name.
 ///
-/// Help and the version come as an error of their kind, as in `clap`, and so does a usage error.
+/// Help and the version come as an error of their kind, as in `clap`, and so does a usage error. An argument such as
+/// `-h.hgt` is one: `clap` would take it for `-h`.
 pub fn parse<'a>(alloc: Global, words: &'a [String]) -> Result<Request<'a>, Error> {
+    if let Some(word) = first_cluster(words.get(1..).unwrap_or(&[])) {
+        return Err(bad_cluster(alloc, word)?);
+    }
     let matches = program(alloc)?.try_get_matches_from(words)?;
-    match matches.subcommand_matches("explain") {
-        Some(explain) => explain_request(alloc, explain),
-        None => told(asked_for(alloc, &matches)),
+    match matches.subcommand() {
+        Some((name, given)) => request_of(alloc, name, given),
+        None => Err(no_command(alloc)?),
     }
 }
 
-/// The request, or that there was no memory for it.
-fn told(request: Result<Request<'_>, AllocError>) -> Result<Request<'_>, Error> {
-    Ok(request?)
+/// The usage error for an argument of several letters behind one hyphen.
+fn bad_cluster(alloc: Global, word: &str) -> Result<Error, AllocError> {
+    let message = format!(in alloc;
+        "{word:?} is no option; for a file write ./ before its name, or -- before all files"
+    )?;
+    let mut program = program(alloc)?;
+    program.error(ErrorKind::UnknownArgument, message.as_str())
 }
 
-/// The request of the given arguments, except those of an explanation.
-fn asked_for<'a>(alloc: Global, matches: &ArgMatches<'a>) -> Result<Request<'a>, AllocError> {
-    if let Some(audit) = matches.subcommand_matches("audit") {
-        return audit_request(alloc, audit);
+/// The usage error where no command of the program is named.
+fn no_command(alloc: Global) -> Result<Error, AllocError> {
+    let mut program = program(alloc)?;
+    program.error(ErrorKind::MissingSubcommand, "a command is required")
+}
+
+/// The request of the command of this name, with these values of its arguments.
+///
+/// A map whose name doesn't end in `.bil` is a usage error, and so is a name that is no command's.
+pub fn request_of<'a>(
+    alloc: Global,
+    name: &str,
+    given: &ArgMatches<'a>,
+) -> Result<Request<'a>, Error>
+    ensures { IfOk result (IsRequestOf name.now (found_of given.now)) }
+{
+    match name {
+        "audit" => Ok(Request::Audit(to_judge(alloc, given)?)),
+        "check" => Ok(Request::Check(to_judge(alloc, given)?)),
+        "explain" => explain_request(alloc, given),
+        "make" => Ok(make_request(alloc, given)?),
+        "fill" => Ok(Request::Fill {
+            side: side_given(given),
+        }),
+        "header" => Ok(Request::Header {
+            path: text_given(given, "file"),
+        }),
+        _ => Err(no_command(alloc)?),
     }
-    if let Some(check) = matches.subcommand_matches("check") {
-        return check_request(alloc, check);
-    }
-    if let Some(make) = matches.subcommand_matches("make") {
-        return make_request(alloc, make);
-    }
-    Ok(other_request(matches))
 }
 
-/// The request, if no rasters are to be checked or made.
-fn other_request<'a>(matches: &ArgMatches<'a>) -> Request<'a> {
-    if let Some(header) = matches.subcommand_matches("header") {
-        return Request::Header {
-            path: header.get_str("file").unwrap_or(""),
-        };
-    }
-    let side = match matches.subcommand_matches("fill") {
-        Some(fill) => side_given(fill),
-        None => DEFAULT_SIDE,
-    };
-    Request::Fill { side }
-}
-
-fn audit_request<'a>(alloc: Global, given: &ArgMatches<'a>) -> Result<Request<'a>, AllocError> {
-    Ok(Request::Audit(to_judge(alloc, given)?))
-}
-
-fn check_request<'a>(alloc: Global, given: &ArgMatches<'a>) -> Result<Request<'a>, AllocError> {
-    Ok(Request::Check(to_judge(alloc, given)?))
-}
-
-/// The inputs to be checked, by the arguments of an audit or a check.
-fn to_judge<'a>(alloc: Global, given: &ArgMatches<'a>) -> Result<Judged<'a>, AllocError> {
+/// The inputs to be checked.
+fn to_judge<'a>(alloc: Global, given: &ArgMatches<'a>) -> Result<Judged<'a>, AllocError>
+    ensures { IfOk result (IsJudged (found_of given.now)) }
+{
+    let tiles = tiles_given(alloc, given)?;
     Ok(Judged {
         side: side_given(given),
-        products: given.get_str("products").unwrap_or(""),
-        sinks: given.get_str("sinks"),
-        tiles: given_tiles(alloc, given)?,
-        progress: given.get_flag("progress"),
+        products: text_given(given, "products"),
+        sinks: option_given(given, "sinks"),
+        tiles,
+        progress: flag_given(given, "progress"),
     })
 }
 
-/// What is to be explained. A map whose name doesn't end in `.bil` is a usage error.
-fn explain_request<'a>(alloc: Global, given: &ArgMatches<'a>) -> Result<Request<'a>, Error> {
-    let map = match given.get_str("map") {
-        Some(path) => match map_stem(path) {
-            Some(stem) => Some(stem),
-            None => return Err(bad_map(alloc)?),
-        },
-        None => None,
+/// What is to be explained.
+fn explain_request<'a>(alloc: Global, given: &ArgMatches<'a>) -> Result<Request<'a>, Error>
+    ensures { IfOk result (IsRequestOf (codes "explain") (found_of given.now)) }
+{
+    let Ok(map) = map_given(given) else {
+        return Err(bad_map(alloc)?);
     };
+    let judged = to_judge(alloc, given)?;
     Ok(Request::Explain(Explained {
-        judged: to_judge(alloc, given)?,
+        judged,
         map,
-        json: given.get_flag("json"),
+        json: flag_given(given, "json"),
     }))
+}
+
+/// The path of a map has another ending.
+#[derive(Clone, Copy)]
+struct OtherEnding;
+
+/// The path of a map, without `.bil`.
+fn map_given<'a>(given: &ArgMatches<'a>) -> Result<Option<&'a str>, OtherEnding>
+    ensures { IfOk result (IsMap (found_of given.now)) }
+{
+    let Some(path) = option_given(given, "map") else {
+        return Ok(None);
+    };
+    match map_stem(path) {
+        Some(stem) => Ok(Some(stem)),
+        None => Err(OtherEnding),
+    }
 }
 
 /// The usage error for a map with another ending.
@@ -139,25 +167,16 @@ fn bad_map(alloc: Global) -> Result<Error, AllocError> {
     command.error(ErrorKind::ValueValidation, explain_texts::BAD_MAP)
 }
 
-fn make_request<'a>(alloc: Global, given: &ArgMatches<'a>) -> Result<Request<'a>, AllocError> {
+/// What is to be made.
+fn make_request<'a>(alloc: Global, given: &ArgMatches<'a>) -> Result<Request<'a>, AllocError>
+    ensures { IfOk result (IsRequestOf (codes "make") (found_of given.now)) }
+{
+    let tiles = tiles_given(alloc, given)?;
     Ok(Request::Make {
         side: side_given(given),
-        folder: given.get_str("out").unwrap_or(""),
-        sinks: given.get_str("sinks"),
-        tiles: given_tiles(alloc, given)?,
-        progress: given.get_flag("progress"),
+        folder: text_given(given, "out"),
+        sinks: option_given(given, "sinks"),
+        tiles,
+        progress: flag_given(given, "progress"),
     })
-}
-
-/// The requested side.
-fn side_given(given: &ArgMatches<'_>) -> u32 {
-    given.get_one::<u32>("side").unwrap_or(DEFAULT_SIDE)
-}
-
-/// The paths of the tiles, in the order given.
-fn given_tiles<'a>(alloc: Global, given: &ArgMatches<'a>) -> Result<Vec<&'a str>, AllocError> {
-    match given.get_strs("tiles") {
-        Some(tiles) => Vec::from_slice(alloc, tiles),
-        None => Ok(Vec::new(alloc)),
-    }
 }

@@ -1,14 +1,12 @@
 //! Printing an explanation: the map of the faults is saved first, then the page is printed, as a text or as JSON.
 
-ghost use Rattle.std.specs.Prelude.{ℕ, List};
 ghost use Rattle.drain_page.specs.Lines.{line_of};
-ghost use Rattle.drain_cli.specs.ExplainRuns.{Tells, no_page};
-ghost use Rattle.drain_cli.specs.Printing.{PrintsText};
+ghost use Rattle.drain_cli.specs.ExplainRuns.{Tells};
 
-use crate::open_failure::print_open_failure;
-use crate::print::{print_failure, print_text};
+use crate::no_page::{NoPage, print_no_page};
+use crate::print::print_text;
 use crate::status::Status;
-use drain_device::{BodyFault, ByteSink};
+use drain_device::ByteSink;
 use drain_mosaic::Layout;
 use drain_page::{Facts, RefusalNote, page_json, page_text};
 use drain_verdict::Refusal;
@@ -22,10 +20,6 @@ pub enum Form {
     /// As one JSON object.
     Json,
 }
-
-/// The object that is printed if there is no memory for one. It has the members of every page.
-const NO_OBJECT: &str =
-    "{\"answer\":\"failed OutOfMemory\",\"refusal\":null,\"rows\":null,\"cols\":null,\"ranks\":null,\"rules\":[],\"products\":[],\"patch\":null,\"expected\":null,\"run\":null}\n";
 
 /// Why a map wasn't saved.
 #[derive(Drop)]
@@ -57,7 +51,8 @@ pub struct DrawnMap {
 /// Saves the map, if there is one, then prints the page, and returns the exit status: that of the answer, or that of a
 /// failure.
 ///
-/// If the map can't be saved it prints why in place of the page, and if memory is refused for the page it prints that.
+/// If the map can't be saved it prints why in place of the page, and if memory is refused for the page it prints that:
+/// in the form of the page.
 pub fn tell<B: Beside, W: ByteSink>(
     alloc: Global,
     facts: &Facts,
@@ -71,7 +66,7 @@ pub fn tell<B: Beside, W: ByteSink>(
 {
     match save(map, beside) {
         Ok(()) => print_page(alloc, facts, form, status, out),
-        Err(fault) => print_map_fault(alloc, fault, form, out),
+        Err(fault) => print_no_page(alloc, &fault.into(), form, out),
     }
 }
 
@@ -80,17 +75,6 @@ fn save<B: Beside>(map: &Option<DrawnMap>, beside: &mut B) -> Result<(), MapFaul
     match map {
         Some(drawn) => beside.save_map(&drawn.layout, &drawn.pixels),
         None => Ok(()),
-    }
-}
-
-/// Prints why a map wasn't saved, and returns the status of a failure.
-fn print_map_fault<W: ByteSink>(alloc: Global, fault: MapFault, form: Form, out: &mut W) -> u8
-    ensures { (line : List ℕ) (wanted : Status) → Tells W.ByteSink out.old out.new form line wanted result }
-{
-    match fault {
-        MapFault::Open(path) => print_open_failure(alloc, out, path.as_str()),
-        MapFault::WriteFailed => print_text(out, b"failed WriteFailed\n", Status::Failed),
-        MapFault::OutOfMemory => print_failure(out, BodyFault::OutOfMemory),
     }
 }
 
@@ -107,21 +91,11 @@ fn print_page<W: ByteSink>(
     match form {
         Form::Text => match page_text(alloc, facts) {
             Ok(page) => print_text(out, &page, status),
-            Err(_) => print_no_page(form, out),
+            Err(_) => print_no_page(alloc, &NoPage::OutOfMemory, form, out),
         },
         Form::Json => match page_json(alloc, facts) {
             Ok(page) => print_text(out, page.as_bytes(), status),
-            Err(_) => print_no_page(form, out),
+            Err(_) => print_no_page(alloc, &NoPage::OutOfMemory, form, out),
         },
-    }
-}
-
-/// Prints that there is no memory for the page, and returns the status of a failure.
-fn print_no_page<W: ByteSink>(form: Form, out: &mut W) -> u8
-    ensures { PrintsText W.ByteSink out.old out.new (no_page form) Status.Failed result }
-{
-    match form {
-        Form::Text => print_failure(out, BodyFault::OutOfMemory),
-        Form::Json => print_text(out, NO_OBJECT.as_bytes(), Status::Failed),
     }
 }

@@ -1,8 +1,10 @@
-//! The paths of the files of a check and of a map, and the name in a tile's path.
+//! The paths of the files of a check and of a map, the name in a tile's path, and the folder of an output.
 
-ghost use Rattle.std.specs.Prelude.{◌≡◌, ◌++◌, IfOk, IfSome, string_bytes};
-ghost use Rattle.drain_cli.specs.FilePaths.{product_path, separator, header_ending, raster_ending, ending_of, IsLastPart};
+ghost use Rattle.std.specs.Prelude.{◌≡◌, ◌++◌, ◌↔◌, IfOk, IfSome, IsTrue, List, string_bytes, ℕ};
+ghost use Rattle.drain_grid.specs.Product.{name_of};
+ghost use Rattle.drain_cli.specs.FilePaths.{product_path, separator, header_ending, raster_ending, ending_of, IsLastPart, IsProductName, part_name};
 
+use drain_answer::line::{push_number, words};
 use drain_grid::Product;
 use drain_maker::product_files::Part;
 use memchr::memrchr;
@@ -81,4 +83,43 @@ pub fn tile_name(path: &[u8]) -> &[u8]
         Some(slash) => &path[slash + 1..],
         None => path,
     }
+}
+
+/// The folder in a path: what ends in its last slash, empty if it has none.
+pub(crate) fn folder_of(path: &str) -> &str
+    ensures { (name : List ℕ) × (path.now ≡ result.now ++ name) }
+{
+    match path.rfind('/') {
+        Some(slash) => &path[..slash + 1],
+        None => "",
+    }
+}
+
+/// The path of an output that isn't whole yet, as `DIR/drain-1.part`: beside the output, with no product's name.
+pub fn part_path(alloc: Global, folder: &str, number: u32) -> Result<String, AllocError>
+    ensures { IfOk result (λ path. string_bytes path ≡ folder.now ++ part_name number) }
+{
+    let mut name = words("drain-");
+    push_number(&mut name, number);
+    name.push_str(".part");
+    let mut path = String::from_str(alloc, folder)?;
+    path.push_str(name.as_str())?;
+    Ok(path)
+}
+
+/// Whether this is the name of a product that a check reads, as `rnk`.
+pub fn is_product_name(name: &[u8]) -> bool
+    ensures { IsTrue result ↔ IsProductName name.now }
+{
+    is_name_of(Product::Con, name)
+        || is_name_of(Product::Dir, name)
+        || is_name_of(Product::Acc, name)
+        || is_name_of(Product::Bas, name)
+        || is_name_of(Product::Rnk, name)
+}
+
+fn is_name_of(product: Product, name: &[u8]) -> bool
+    ensures { IsTrue result ↔ (name.now ≡ name_of product) }
+{
+    name == product.name().as_bytes()
 }

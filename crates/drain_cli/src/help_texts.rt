@@ -93,7 +93,7 @@ pub const MAKE_AFTER: &str = "Lines and exit statuses:
      refused SinkNotData LINE, or refused MakerFault, which means a bug of this program: what it made
      failed its own test, and nothing was written
   3  failed Open PATH, failed ReadFailed, failed WriteFailed, failed OutOfMemory, or standard output
-     couldn't be written; once files were created, their earlier content is lost
+     couldn't be written; files that were there before stay as they were
 
 Example:
   drain make --side 1201 --out rasters N37W105.hgt N37W106.hgt";

@@ -6,7 +6,8 @@ ghost use Rattle.std.specs.Prelude.{◌≡◌};
 ghost use Rattle.drain_cli.specs.RoundTrip.{WhatIsWrittenIsAccepted};
 
 use crate::pace::APART;
-use crate::sink_file::{CHUNK_BYTES, MAX_LIST_BYTES};
+use crate::sink_file::MAX_LIST_BYTES;
+use crate::whole_input::CHUNK_BYTES;
 use drain_device::{ByteSink, ByteSource};
 use drain_maker::laws::made_is_accepted;
 

@@ -1,100 +1,81 @@
-//! Whether a map would be written over a file that is read.
-//!
-//! Creating the files of a map empties existing ones, so this is tested before any file is opened.
+//! Whether a map must not be written where it is required: over an input, over its own other file, or under the name of a
+//! product in the folder of the products. It is tested when the inputs are open and before they are read.
 
-use crate::command_line::Judged;
-use crate::file_paths::{header_path, map_path, raster_path};
+ghost use Rattle.std.specs.Prelude.{◌≡◌, ◌++◌, ◌∷◌, [], IfOk, map, string_bytes, vec_len};
+ghost use Rattle.drain_cli.specs.FilePaths.{header_ending, raster_ending};
+
+use crate::file_id::{FileId, Target, first_clash, is_input};
+use crate::file_paths::{folder_of, is_product_name, map_path, tile_name};
 use crate::open_files::OpenFault;
-use drain_device::BodyFault;
-use drain_grid::{Held, Product};
+use crate::outputs::{look, target_at};
 use drain_maker::product_files::Part;
-use std::fs;
-use std::io::ErrorKind;
-use std::path::PathBuf;
+use std::alloc::{AllocError, Global};
 
-/// The path of the first file of a map that is also an input: a tile, the list of sinks, or a header or raster of a
-/// product.
-///
-/// Links are followed, so another way to the same file counts. A second name of it (a hard link) doesn't.
-pub fn map_over_input(
+/// Why a map must not be written there.
+#[derive(Clone, Copy)]
+pub enum MapClash {
+    /// The file at its path is an input.
+    Input,
+    /// Its header and its raster are one file.
+    Output,
+    /// A later check or audit would take it for a product.
+    Product,
+}
+
+/// The paths of the files of a map: its header and its raster.
+pub fn map_paths(alloc: Global, stem: &str) -> Result<Vec<String>, AllocError>
+    ensures paths { IfOk result (λ paths. map string_bytes paths.items ≡ (stem.now ++ header_ending) ∷ (stem.now ++ raster_ending) ∷ []) }
+    ensures count { IfOk result (λ paths. vec_len paths ≡ 2) }
+{
+    let mut paths = Vec::new(alloc);
+    paths.push(map_path(alloc, stem, Part::Header)?)?;
+    paths.push(map_path(alloc, stem, Part::Raster)?)?;
+    Ok(paths)
+}
+
+/// The path of the first file of a map that must not be written there, and why; `products` is the folder of the products. Device and inode of the files decide,
+/// so any other way to the same file counts.
+pub fn map_clash(
     rt: &HostRuntime,
-    judged: &Judged<'_>,
+    products: &str,
     stem: &str,
-) -> Result<Option<String>, OpenFault> {
-    for part in [Part::Header, Part::Raster] {
-        let path = map_path(rt.alloc(), stem, part)?;
-        if is_read(rt, judged, path.as_str())? {
-            return Ok(Some(path));
+    inputs: &[FileId],
+) -> Result<Option<(String, MapClash)>, OpenFault> {
+    let mut paths = map_paths(rt.alloc(), stem)?;
+    let mut targets = Vec::new(rt.alloc());
+    for path in paths.as_slice() {
+        if targets.push(target_at(rt, path.as_str())?).is_err() {
+            return Err(OpenFault::no_memory());
         }
+    }
+    let (place, clash) = match first_clash(targets.as_slice(), inputs) {
+        Some(place) => (place, clash_of(targets.as_slice(), place, inputs)),
+        None if is_named_as_product(rt, products, stem)? => (1, MapClash::Product),
+        None => return Ok(None),
+    };
+    if place < paths.len() {
+        return Ok(Some((paths.swap_remove(place), clash)));
     }
     Ok(None)
 }
 
-/// Whether the file at this path is an input.
-fn is_read(rt: &HostRuntime, judged: &Judged<'_>, path: &str) -> Result<bool, OpenFault> {
-    let Some(file) = file_at(rt, path)? else {
+/// Why the file in this place clashes.
+fn clash_of(targets: &[Target], place: usize, inputs: &[FileId]) -> MapClash {
+    match targets.get(place) {
+        Some(target) if is_input(*target, inputs) => MapClash::Input,
+        _ => MapClash::Output,
+    }
+}
+
+/// Whether the map has the name of a product and lies in this folder.
+fn is_named_as_product(rt: &HostRuntime, products: &str, stem: &str) -> Result<bool, OpenFault> {
+    if !is_product_name(tile_name(stem.as_bytes())) {
         return Ok(false);
-    };
-    Ok(is_tile_or_list(rt, judged, &file)? || is_of_products(rt, judged.products, &file)?)
-}
-
-/// Whether the file is a tile or the list of sinks.
-fn is_tile_or_list(
-    rt: &HostRuntime,
-    judged: &Judged<'_>,
-    file: &PathBuf,
-) -> Result<bool, OpenFault> {
-    for tile in judged.tiles.as_slice() {
-        if leads_to(rt, tile, file)? {
-            return Ok(true);
-        }
     }
-    match judged.sinks {
-        Some(sinks) => leads_to(rt, sinks, file),
-        None => Ok(false),
-    }
-}
-
-/// Whether the file is a header or a raster of a product in this folder.
-fn is_of_products(rt: &HostRuntime, folder: &str, file: &PathBuf) -> Result<bool, OpenFault> {
-    for held in Held::ALL {
-        if is_of_product(rt, folder, held.product(), file)? {
-            return Ok(true);
-        }
-    }
-    Ok(false)
-}
-
-/// Whether the file is the header or the raster of the product.
-fn is_of_product(
-    rt: &HostRuntime,
-    folder: &str,
-    product: Product,
-    file: &PathBuf,
-) -> Result<bool, OpenFault> {
-    let header = header_path(rt.alloc(), folder, product)?;
-    if leads_to(rt, header.as_str(), file)? {
-        return Ok(true);
-    }
-    let raster = raster_path(rt.alloc(), folder, product)?;
-    leads_to(rt, raster.as_str(), file)
-}
-
-/// Whether the path leads to this file.
-fn leads_to(rt: &HostRuntime, path: &str, file: &PathBuf) -> Result<bool, OpenFault> {
-    match file_at(rt, path)? {
-        Some(found) => Ok(found == *file),
-        None => Ok(false),
-    }
-}
-
-/// The file that a path leads to, none if nothing is there. Out of memory is never taken for its absence.
-fn file_at(rt: &HostRuntime, path: &str) -> Result<Option<PathBuf>, OpenFault> {
-    match fs::canonicalize(rt, path) {
-        Ok(file) => Ok(Some(file)),
-        Err(error) if error.kind() == ErrorKind::OutOfMemory => {
-            Err(OpenFault::Body(BodyFault::OutOfMemory))
-        }
-        Err(_) => Ok(None),
+    let folder = folder_of(stem);
+    let folder = if folder.is_empty() { "." } else { folder };
+    match (look(rt, folder)?, look(rt, products)?) {
+        (Some(here), Some(there)) => Ok(FileId::of(&here).is(FileId::of(&there))),
+        _ => Ok(false),
     }
 }

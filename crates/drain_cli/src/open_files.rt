@@ -1,14 +1,16 @@
 //! Opening files to read, tiles and a list of sinks among them, and creating files to write.
 
-ghost use Rattle.std.specs.Prelude.{◌≡◌, IfOk, string_bytes, vec_len};
+ghost use Rattle.std.specs.Prelude.{◌≡◌, IfOk, length, string_bytes, vec_len};
 ghost use Rattle.std.specs.List.{AllZip};
 ghost use Rattle.drain_hgt.specs.Inputs.{names_of};
-ghost use Rattle.drain_grid.specs.Held.{product_of};
-ghost use Rattle.drain_cli.specs.FilePaths.{IsLastPart, ending_of, product_path};
-ghost use Rattle.drain_maker.specs.declared.product_files.TheConstants.{FILE_COUNT};
+ghost use Rattle.drain_cli.specs.FilePaths.{IsLastPart, IsPathOf};
+ghost use Rattle.drain_maker.specs.declared.product_files.TheConstants.{FILE_COUNT, SET_FILES};
 
+use crate::file_id::FileId;
 use crate::file_paths::{header_path, raster_path, tile_name};
 use crate::gauge::Gauge;
+use crate::outputs::{OutputSink, Outputs};
+use crate::reason::Reason;
 use crate::sink_file::read_list;
 use crate::watched::Watched;
 use crate::watched_rows::file_rows;
@@ -16,124 +18,200 @@ use drain_device::{BodyFault, ByteList, Reader, Writer};
 use drain_hgt::TileInput;
 use drain_maker::product_files::{Part, SET_FILES, SetFile};
 use drain_mosaic::Layout;
-use std::alloc::AllocError;
+use std::alloc::{AllocError, Global};
 use std::fs::File;
+use std::io;
+use std::io::ErrorKind;
 
 /// A file to read, and one to write; rows of each may be counted.
 pub type InputFile<'a> = Watched<'a, Reader<File>>;
 
-pub type OutputFile<'a> = Watched<'a, Writer<File>>;
+pub type OutputFile<'g, 'a> = Watched<'g, Writer<OutputSink<'a>>>;
+
+/// Opens files to read, and keeps which plain files these are.
+#[derive(Drop)]
+pub struct Opener<'a> {
+    rt: &'a HostRuntime,
+    ids: Vec<FileId>,
+}
+
+impl<'a> Opener<'a> {
+    pub fn new(rt: &'a HostRuntime) -> Opener<'a> {
+        Opener {
+            rt,
+            ids: Vec::new(rt.alloc()),
+        }
+    }
+
+    pub fn rt(&self) -> &'a HostRuntime {
+        self.rt
+    }
+
+    /// Where its memory comes from.
+    pub fn alloc(&self) -> Global {
+        self.rt.alloc()
+    }
+
+    /// The plain files that were opened.
+    pub fn ids(&self) -> &[FileId] {
+        self.ids.as_slice()
+    }
+
+    pub fn into_ids(self) -> Vec<FileId> {
+        let Opener { rt: _, ids } = self;
+        ids
+    }
+
+    /// Opens a file to read.
+    pub fn open(&mut self, path: &str) -> Result<Reader<File>, OpenFault> {
+        match self.opened(path) {
+            Ok(file) => Ok(Reader::new(file)),
+            Err(error) => Err(OpenFault::at(self.rt, path, &error)),
+        }
+    }
+
+    fn opened(&mut self, path: &str) -> io::Result<File> {
+        let file = File::open(self.rt, path)?;
+        if let Some(id) = FileId::of_plain(&file.metadata()?) {
+            self.ids.push(id)?;
+        }
+        Ok(file)
+    }
+}
 
 /// Why the files aren't open.
 #[derive(Drop)]
 pub enum OpenFault {
-    /// The file at this path can't be opened.
-    Open(String),
+    /// The file at this path can't be opened, for this reason.
+    Open(String, Reason),
     /// A header or a list of sinks can't be read, or memory was refused.
     Body(BodyFault),
 }
 
+impl OpenFault {
+    /// That the file at this path can't be opened, or that memory was refused.
+    pub fn at(rt: &HostRuntime, path: &str, error: &io::Error) -> OpenFault {
+        if error.kind() == ErrorKind::OutOfMemory {
+            return OpenFault::no_memory();
+        }
+        OpenFault::because(rt, path, Reason::of(error))
+    }
+
+    /// That the file at this path can't be opened, for this reason.
+    pub fn because(rt: &HostRuntime, path: &str, reason: Reason) -> OpenFault {
+        match String::from_str(rt.alloc(), path) {
+            Ok(path) => OpenFault::Open(path, reason),
+            Err(_) => OpenFault::no_memory(),
+        }
+    }
+
+    pub fn no_memory() -> OpenFault {
+        OpenFault::Body(BodyFault::OutOfMemory)
+    }
+}
+
 impl From<AllocError> for OpenFault {
     fn from(_fault: AllocError) -> OpenFault {
-        OpenFault::Body(BodyFault::OutOfMemory)
+        OpenFault::no_memory()
     }
 }
 
 /// Opens the tiles at these paths, in their order; each has the name at the end of its path. The first fault ends it.
 pub fn open_tiles<'a>(
-    rt: &HostRuntime,
+    opener: &mut Opener<'_>,
     paths: &[&str],
 ) -> Result<Vec<TileInput<InputFile<'a>>>, OpenFault>
     ensures { IfOk result (λ tiles. AllZip (λ path name. IsLastPart path.now name) paths.now (names_of tiles.items)) }
 {
-    let mut tiles = Vec::new(rt.alloc());
+    let mut tiles = Vec::new(opener.alloc());
     for path in paths {
-        if tiles.push(open_tile(rt, path)?).is_err() {
-            return Err(OpenFault::Body(BodyFault::OutOfMemory));
+        if tiles.push(open_tile(opener, path)?).is_err() {
+            return Err(OpenFault::no_memory());
         }
     }
     Ok(tiles)
 }
 
-fn open_tile<'a>(rt: &HostRuntime, path: &str) -> Result<TileInput<InputFile<'a>>, OpenFault>
+fn open_tile<'a>(opener: &mut Opener<'_>, path: &str) -> Result<TileInput<InputFile<'a>>, OpenFault>
     ensures { IfOk result (λ tile. IsLastPart path.now tile.name) }
 {
-    let name = Vec::from_slice(rt.alloc(), tile_name(path.as_bytes()))?;
-    let body = Watched::new(open(rt, path)?);
+    let name = Vec::from_slice(opener.alloc(), tile_name(path.as_bytes()))?;
+    let body = Watched::new(opener.open(path)?);
     Ok(TileInput {
         name: ByteList::new(name),
         body,
     })
 }
 
-/// Opens a file to read.
-pub fn open(rt: &HostRuntime, path: &str) -> Result<Reader<File>, OpenFault> {
-    match File::open(rt, path) {
-        Ok(file) => Ok(Reader::new(file)),
-        Err(_) => Err(OpenFault::Open(String::from_str(rt.alloc(), path)?)),
-    }
-}
-
 /// The bytes of the list of sinks at this path; none if no list is named.
-pub fn list_at(rt: &HostRuntime, path: Option<&str>) -> Result<Vec<u8>, OpenFault> {
+pub fn list_at(opener: &mut Opener<'_>, path: Option<&str>) -> Result<Vec<u8>, OpenFault> {
+    let alloc = opener.alloc();
     let Some(path) = path else {
-        return Ok(Vec::new(rt.alloc()));
+        return Ok(Vec::new(alloc));
     };
-    let mut file = open(rt, path)?;
-    match read_list(rt.alloc(), &mut file) {
+    let mut file = opener.open(path)?;
+    match read_list(alloc, &mut file) {
         Ok(list) => Ok(list),
         Err(fault) => Err(OpenFault::Body(fault)),
     }
 }
 
-/// Creates the files of a product set in this folder, in the order of `SET_FILES`. An existing file is emptied. The
-/// first fault ends it.
-pub fn create_files<'a>(
-    rt: &HostRuntime,
-    folder: &str,
+/// The paths of the files of a product set in this folder, in the order of `SET_FILES`.
+pub fn set_paths(alloc: Global, folder: &str) -> Result<Vec<String>, AllocError>
+    ensures paths { IfOk result (λ paths. AllZip (λ file path. IsPathOf folder.now file (string_bytes path)) SET_FILES paths.items) }
+    ensures count { IfOk result (λ paths. vec_len paths ≡ FILE_COUNT) }
+{
+    let mut paths = Vec::new(alloc);
+    for file in SET_FILES {
+        paths.push(path_of(alloc, folder, file)?)?;
+    }
+    Ok(paths)
+}
+
+/// Creates the files of a product set at these paths, in the order of `SET_FILES`, and has the rows of rasters counted.
+/// The first fault ends it.
+pub fn create_files<'g, 'a>(
+    outputs: &mut Outputs<'a>,
+    paths: &'a [String],
+    inputs: &[FileId],
     layout: &Layout,
-    gauge: &'a Gauge<'a>,
-) -> Result<Vec<OutputFile<'a>>, OpenFault>
+    gauge: &'g Gauge<'g>,
+) -> Result<Vec<OutputFile<'g, 'a>>, OpenFault>
+    requires { length paths.now ≡ FILE_COUNT }
     ensures { IfOk result (λ files. vec_len files ≡ FILE_COUNT) }
 {
-    let mut files = Vec::new(rt.alloc());
-    for file in SET_FILES {
-        if files
-            .push(create(rt, folder, file, layout, gauge)?)
-            .is_err()
-        {
-            return Err(OpenFault::Body(BodyFault::OutOfMemory));
+    let begun = outputs.begin(paths, inputs)?;
+    let mut files = Vec::new(outputs.alloc());
+    for file in begun {
+        let place = SET_FILES[files.len()];
+        if files.push(counted(file, place, layout, gauge)).is_err() {
+            return Err(OpenFault::no_memory());
         }
     }
     Ok(files)
 }
 
-/// Creates a file, and has its rows counted if it is a raster's.
-fn create<'a>(
-    rt: &HostRuntime,
-    folder: &str,
+/// The file, whose rows are counted if it is a raster's.
+fn counted<'g, 'a>(
+    begun: Writer<OutputSink<'a>>,
     file: SetFile,
     layout: &Layout,
-    gauge: &'a Gauge<'a>,
-) -> Result<OutputFile<'a>, OpenFault> {
-    let path = path_of(rt, folder, file)?;
-    let Ok(created) = File::create(rt, path.as_str()) else {
-        return Err(OpenFault::Open(path));
-    };
-    let mut created = Watched::new(Writer::new(created));
+    gauge: &'g Gauge<'g>,
+) -> OutputFile<'g, 'a> {
+    let mut created = Watched::new(begun);
     if let Part::Raster = file.part {
         created.watch(gauge.watch(file_rows(layout, file.product)));
     }
-    Ok(created)
+    created
 }
 
 /// The path of a file of a product set in this folder.
-fn path_of(rt: &HostRuntime, folder: &str, file: SetFile) -> Result<String, AllocError>
-    ensures { IfOk result (λ path. string_bytes path ≡ product_path folder.now (product_of file.product) (ending_of file.part)) }
+fn path_of(alloc: Global, folder: &str, file: SetFile) -> Result<String, AllocError>
+    ensures { IfOk result (λ path. IsPathOf folder.now file (string_bytes path)) }
 {
     let product = file.product.product();
     match file.part {
-        Part::Header => header_path(rt.alloc(), folder, product),
-        Part::Raster => raster_path(rt.alloc(), folder, product),
+        Part::Header => header_path(alloc, folder, product),
+        Part::Raster => raster_path(alloc, folder, product),
     }
 }

@@ -4,11 +4,11 @@
 use crate::command_line::Judged;
 use crate::file_paths::{header_path, raster_path};
 use crate::gauge::Gauge;
-use crate::open_files::{InputFile, OpenFault, list_at, open, open_tiles};
+use crate::open_files::{InputFile, OpenFault, Opener, list_at, open_tiles};
 use crate::watched::Watched;
 use crate::watched_rows::judged_rows;
 use drain_device::{ByteList, read_body};
-use drain_grid::{Held, PerProduct, Product};
+use drain_grid::{PerProduct, Product};
 use drain_header::{MAX_HEADER_BYTES, parse_header};
 use drain_hgt::TileInput;
 use drain_verdict::{AuditProducts, Products, RasterInput};
@@ -23,14 +23,14 @@ pub struct OpenFiles<'a, P> {
 
 /// Opens the files of an audit: all but ranks. The first fault ends it. The rows of con are counted for progress.
 pub fn open_audit<'a>(
-    rt: &HostRuntime,
+    opener: &mut Opener<'_>,
     judged: &Judged<'_>,
     gauge: &'a Gauge<'a>,
 ) -> Result<OpenFiles<'a, AuditProducts<InputFile<'a>>>, OpenFault> {
-    let tiles = open_tiles(rt, judged.tiles.as_slice())?;
-    let mut products = open_four(rt, judged.products)?;
+    let tiles = open_tiles(opener, judged.tiles.as_slice())?;
+    let mut products = open_four(opener, judged.products)?;
     watch_con(&mut products.con, gauge);
-    let sinks = list_at(rt, judged.sinks)?;
+    let sinks = list_at(opener, judged.sinks)?;
     Ok(OpenFiles {
         tiles,
         products,
@@ -40,37 +40,37 @@ pub fn open_audit<'a>(
 
 /// Opens the products of an audit.
 fn open_four<'a>(
-    rt: &HostRuntime,
+    opener: &mut Opener<'_>,
     folder: &str,
 ) -> Result<AuditProducts<InputFile<'a>>, OpenFault> {
-    let (con, dir) = open_two(rt, folder, Product::Con, Product::Dir)?;
-    let (acc, bas) = open_two(rt, folder, Product::Acc, Product::Bas)?;
+    let (con, dir) = open_two(opener, folder, Product::Con, Product::Dir)?;
+    let (acc, bas) = open_two(opener, folder, Product::Acc, Product::Bas)?;
     Ok(AuditProducts { con, dir, acc, bas })
 }
 
 /// Opens two products, one after the other.
 fn open_two<'a>(
-    rt: &HostRuntime,
+    opener: &mut Opener<'_>,
     folder: &str,
     first: Product,
     second: Product,
 ) -> Result<(RasterInput<InputFile<'a>>, RasterInput<InputFile<'a>>), OpenFault> {
-    let first = open_product(rt, folder, first)?;
-    let second = open_product(rt, folder, second)?;
+    let first = open_product(opener, folder, first)?;
+    let second = open_product(opener, folder, second)?;
     Ok((first, second))
 }
 
 /// Opens the files of a check: those of all five products. The first fault ends it. The rows of con are counted for
 /// progress.
 pub fn open_check<'a>(
-    rt: &HostRuntime,
+    opener: &mut Opener<'_>,
     judged: &Judged<'_>,
     gauge: &'a Gauge<'a>,
 ) -> Result<OpenFiles<'a, Products<InputFile<'a>>>, OpenFault> {
-    let tiles = open_tiles(rt, judged.tiles.as_slice())?;
-    let mut products = open_products(rt, judged.products)?;
+    let tiles = open_tiles(opener, judged.tiles.as_slice())?;
+    let mut products = open_products(opener, judged.products)?;
     watch_con(&mut products.con, gauge);
-    let sinks = list_at(rt, judged.sinks)?;
+    let sinks = list_at(opener, judged.sinks)?;
     Ok(OpenFiles {
         tiles,
         products,
@@ -88,29 +88,38 @@ fn watch_con<'a>(con: &mut RasterInput<InputFile<'a>>, gauge: &'a Gauge<'a>) {
     }
 }
 
-fn open_products<'a>(rt: &HostRuntime, folder: &str) -> Result<Products<InputFile<'a>>, OpenFault> {
-    let open = |product: Held| -> Result<RasterInput<InputFile<'_>>, OpenFault> {
-        open_product(rt, folder, product.product())
-    };
-    PerProduct::from_each(&open)
+/// Opens the products of a check.
+fn open_products<'a>(
+    opener: &mut Opener<'_>,
+    folder: &str,
+) -> Result<Products<InputFile<'a>>, OpenFault> {
+    let AuditProducts { con, dir, acc, bas } = open_four(opener, folder)?;
+    let rnk = open_product(opener, folder, Product::Rnk)?;
+    Ok(PerProduct {
+        con,
+        dir,
+        acc,
+        bas,
+        rnk,
+    })
 }
 
 fn open_product<'a>(
-    rt: &HostRuntime,
+    opener: &mut Opener<'_>,
     folder: &str,
     product: Product,
 ) -> Result<RasterInput<InputFile<'a>>, OpenFault> {
-    let header = header_path(rt.alloc(), folder, product)?;
-    let header = read_header(rt, header.as_str())?;
-    let raster = raster_path(rt.alloc(), folder, product)?;
-    let body = Watched::new(open(rt, raster.as_str())?);
+    let header = header_path(opener.alloc(), folder, product)?;
+    let header = read_header(opener, header.as_str())?;
+    let raster = raster_path(opener.alloc(), folder, product)?;
+    let body = Watched::new(opener.open(raster.as_str())?);
     Ok(RasterInput { header, body })
 }
 
 /// The bytes of a header; one more than a header can have means that it is too long.
-fn read_header(rt: &HostRuntime, path: &str) -> Result<ByteList, OpenFault> {
-    let mut file = open(rt, path)?;
-    match read_body(rt.alloc(), &mut file, MAX_HEADER_BYTES + 1) {
+fn read_header(opener: &mut Opener<'_>, path: &str) -> Result<ByteList, OpenFault> {
+    let mut file = opener.open(path)?;
+    match read_body(opener.alloc(), &mut file, MAX_HEADER_BYTES + 1) {
         Ok(bytes) => Ok(ByteList::new(bytes)),
         Err(fault) => Err(OpenFault::Body(fault)),
     }

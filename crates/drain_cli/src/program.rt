@@ -1,26 +1,33 @@
 //! The program `drain`: it reads the arguments, opens the standard streams and the named files as devices, passes them
 //! to a run, and returns its status. What a run does is in the other modules, each with its contract.
 
-ghost use Rattle.std.specs.Prelude.{◌≡◌, IfOk};
+ghost use Rattle.std.specs.Prelude.{◌≡◌, IfOk, length};
+ghost use Rattle.drain_maker.specs.declared.product_files.TheConstants.{FILE_COUNT};
 ghost use Rattle.drain_maker.specs.Made.{CanBeWritten};
 ghost use Rattle.drain_mosaic.specs.Tiling.{extent_of};
 
+use crate::asked_form::asked_form;
 use crate::command_line;
 use crate::command_line::{Judged, Request};
 use crate::explain_files::explain_files;
+use crate::explain_page::Form;
+use crate::file_id::{FileId, is_input};
 use crate::gauge::Gauge;
 use crate::make_set::make_set;
+use crate::no_page::print_no_object;
 use crate::open_failure::print_open_failure;
-use crate::open_files::{OpenFault, create_files, list_at, open_tiles};
+use crate::open_files::{OpenFault, Opener, create_files, list_at, open_tiles, set_paths};
 use crate::open_judged::{OpenFiles, open_audit, open_check};
+use crate::outputs::{Failure, Outputs, target_at};
 use crate::print::{print_failure, print_text};
+use crate::reason::{Reason, print_reason};
 use crate::run_audit::run_audit;
 use crate::run_check::run_check;
 use crate::run_fill::run_fill;
 use crate::run_header::run_header;
 use crate::status::Status;
 use crate::watched_rows::watch_tiles;
-use crate::write_set::write_set;
+use crate::write_set::write_and_place;
 use clap::Error;
 use clap::error::ErrorKind;
 use drain_device::{BodyFault, ByteSink, Reader, Writer, write_nothing};
@@ -34,10 +41,7 @@ pub fn run_program(rt: &HostRuntime) -> u8 {
     let mut out = Writer::new(rt.stdout());
     match asked_words(rt) {
         Ok(asked) => run(rt, asked.as_slice(), &mut out),
-        Err(error) if error.kind() == io::ErrorKind::OutOfMemory => print_failure(
-            &mut out,
-            BodyFault::OutOfMemory,
-        ),
+        Err(error) if error.kind() == io::ErrorKind::OutOfMemory => print_no_memory(rt, &mut out),
         Err(error) => {
             let _ = eprintln!(rt; "error: the command line can't be read: {error}");
             Status::Refused.code()
@@ -75,11 +79,16 @@ fn run(rt: &HostRuntime, asked: &[String], out: &mut impl ByteSink) -> u8 {
         ),
         Ok(Request::Fill { side }) => run_fill(rt.alloc(), side, &mut Reader::new(rt.stdin()), out),
         Ok(Request::Header { path }) => header_of_file(rt, path, out),
-        Err(error) if error.kind() == ErrorKind::OutOfMemory => print_failure(
-            out,
-            BodyFault::OutOfMemory,
-        ),
+        Err(error) if error.kind() == ErrorKind::OutOfMemory => print_no_memory(rt, out),
         Err(error) => tell(rt, &error, out),
+    }
+}
+
+/// Prints that there is no memory for the request, in its form, and returns the exit status.
+fn print_no_memory(rt: &HostRuntime, out: &mut impl ByteSink) -> u8 {
+    match asked_form(rt) {
+        Form::Text => print_failure(out, BodyFault::OutOfMemory),
+        Form::Json => print_no_object(out),
     }
 }
 
@@ -87,14 +96,18 @@ fn run(rt: &HostRuntime, asked: &[String], out: &mut impl ByteSink) -> u8 {
 fn header_of_file(rt: &HostRuntime, path: &str, out: &mut impl ByteSink) -> u8 {
     match File::open(rt, path) {
         Ok(file) => run_header(rt.alloc(), &mut Reader::new(file), out),
-        Err(_) => print_open_failure(rt.alloc(), out, path),
+        Err(error) => {
+            let status = print_open_failure(rt.alloc(), out, path);
+            print_reason(rt, path, Reason::of(&error));
+            status
+        }
     }
 }
 
 /// Opens the tiles and the four products of a folder, audits them, and returns the exit status.
 fn audit_of_files(rt: &HostRuntime, judged: &Judged<'_>, out: &mut impl ByteSink) -> u8 {
     let gauge = Gauge::new(rt, judged.progress);
-    match open_audit(rt, judged, &gauge) {
+    match open_audit(&mut Opener::new(rt), judged, &gauge) {
         Ok(
             OpenFiles {
                 mut tiles,
@@ -116,7 +129,7 @@ fn audit_of_files(rt: &HostRuntime, judged: &Judged<'_>, out: &mut impl ByteSink
 /// Opens the tiles and the five products of a folder, checks them, and returns the exit status.
 fn check_of_files(rt: &HostRuntime, judged: &Judged<'_>, out: &mut impl ByteSink) -> u8 {
     let gauge = Gauge::new(rt, judged.progress);
-    match open_check(rt, judged, &gauge) {
+    match open_check(&mut Opener::new(rt), judged, &gauge) {
         Ok(
             OpenFiles {
                 mut tiles,
@@ -152,64 +165,127 @@ fn make_from_files<'a>(
     if write_nothing(out).is_err() {
         return Status::Failed.code();
     }
-    match made_of_files(rt, gauge, side, sinks, tiles, out) {
-        Ok((layout, products)) => write_into(rt, gauge, folder, &layout, &products, out),
+    let Ok(paths) = set_paths(rt.alloc(), folder) else {
+        return print_failure(out, BodyFault::OutOfMemory);
+    };
+    let mut opener = Opener::new(rt);
+    match made_of_files(
+        &mut opener,
+        gauge,
+        side,
+        sinks,
+        tiles,
+        paths.as_slice(),
+        out,
+    ) {
+        Ok((layout, products)) => write_at(
+            rt,
+            gauge,
+            paths.as_slice(),
+            opener.ids(),
+            &layout,
+            &products,
+            out,
+        ),
         Err(status) => status,
     }
 }
 
 /// The products of the tiles at these paths, which are closed again; or it prints why there are none, and returns the
-/// exit status.
+/// exit status. Files at the paths of outputs that are inputs are a usage error.
 fn made_of_files<'a>(
-    rt: &HostRuntime,
+    opener: &mut Opener<'_>,
     gauge: &'a Gauge<'a>,
     side: u32,
     sinks: Option<&str>,
     tiles: &[&str],
+    outputs: &[String],
     out: &mut impl ByteSink,
 ) -> Result<(Layout, ProductSet), u8>
     ensures same_shape { IfOk result (λ set. set.1.con.extent ≡ extent_of set.0) }
     ensures written { IfOk result (λ set. CanBeWritten set.0 set.1) }
 {
-    let mut tiles = match open_tiles(rt, tiles) {
+    let mut tiles = match open_tiles(opener, tiles) {
         Ok(tiles) => tiles,
-        Err(fault) => return Err(print_open_fault(rt, fault, out)),
+        Err(fault) => return Err(print_open_fault(opener.rt(), fault, out)),
     };
     watch_tiles(tiles.as_mut_slice(), side, gauge);
-    match list_at(rt, sinks) {
-        Ok(sinks) => make_set(
-            rt.alloc(),
-            side,
-            tiles.as_mut_slice(),
-            sinks.as_slice(),
-            out,
-        ),
-        Err(fault) => Err(print_open_fault(rt, fault, out)),
+    match list_at(opener, sinks) {
+        Ok(sinks) => {
+            if let Some(path) = over_input(opener.rt(), outputs, opener.ids()) {
+                return Err(print_overwritten(opener.rt(), path));
+            }
+            make_set(
+                opener.alloc(),
+                side,
+                tiles.as_mut_slice(),
+                sinks.as_slice(),
+                out,
+            )
+        }
+        Err(fault) => Err(print_open_fault(opener.rt(), fault, out)),
     }
 }
 
-/// Creates the files of the products in a folder and writes them, and returns the exit status.
-fn write_into<'a>(
+/// The first of these paths that leads to an input. Where that can't be found out, the file is tested when it is
+/// created.
+fn over_input<'a>(rt: &HostRuntime, paths: &'a [String], inputs: &[FileId]) -> Option<&'a str> {
+    for path in paths {
+        if let Ok(target) = target_at(rt, path.as_str()) {
+            if is_input(target, inputs) {
+                return Some(path.as_str());
+            }
+        }
+    }
+    None
+}
+
+/// Prints the usage error for an output over an input, and returns the exit status.
+fn print_overwritten(rt: &HostRuntime, path: &str) -> u8 {
+    let _ = eprintln!(rt; "error: the products would overwrite {path}, which is an input");
+    Status::Refused.code()
+}
+
+/// Creates the files of the products at these paths and writes them, and returns the exit status.
+fn write_at<'g>(
     rt: &HostRuntime,
-    gauge: &'a Gauge<'a>,
-    folder: &str,
+    gauge: &'g Gauge<'g>,
+    paths: &[String],
+    inputs: &[FileId],
     layout: &Layout,
     products: &ProductSet,
     out: &mut impl ByteSink,
 ) -> u8
+    requires paths { length paths.now ≡ FILE_COUNT }
     requires same_shape { products.now.con.extent ≡ extent_of layout.now }
     requires written { CanBeWritten layout.now products.now }
 {
-    match create_files(rt, folder, layout, gauge) {
-        Ok(mut files) => write_set(rt.alloc(), layout, products, files.as_mut_slice(), out),
+    let failure = Failure::none();
+    let mut outputs = Outputs::new(rt, &failure);
+    let status = match create_files(&mut outputs, paths, inputs, layout, gauge) {
+        Ok(mut files) => write_and_place(
+            rt.alloc(),
+            layout,
+            products,
+            files.as_mut_slice(),
+            &mut outputs,
+            out,
+        ),
         Err(fault) => print_open_fault(rt, fault, out),
-    }
+    };
+    outputs.abandon();
+    outputs.print_failure();
+    status
 }
 
 /// Prints why files aren't open, and returns the exit status.
-pub(crate) fn print_open_fault(rt: &HostRuntime, fault: OpenFault, out: &mut impl ByteSink) -> u8 {
+fn print_open_fault(rt: &HostRuntime, fault: OpenFault, out: &mut impl ByteSink) -> u8 {
     match fault {
-        OpenFault::Open(path) => print_open_failure(rt.alloc(), out, path.as_str()),
+        OpenFault::Open(path, reason) => {
+            let status = print_open_failure(rt.alloc(), out, path.as_str());
+            print_reason(rt, path.as_str(), reason);
+            status
+        }
         OpenFault::Body(fault) => print_failure(out, fault),
     }
 }

@@ -8,8 +8,9 @@ ghost use Rattle.drain_cli.specs.Printing.{Prints};
 
 use crate::print::print_line;
 use crate::status::Status;
+use crate::whole_input::read_whole;
 use drain_answer::line::{Line, words};
-use drain_device::{BodyFault, ByteSink, ByteSource, read_body};
+use drain_device::{BodyFault, ByteSink, ByteSource};
 use drain_grid::laws::least_from_rules;
 use drain_grid::tile::is_side;
 use drain_rules::fill_length;
@@ -22,9 +23,9 @@ type FillOutcome = Result<Result<FillVerdict, FillRefusal>, BodyFault>;
 /// Reads a fill input, prints the line of its answer and returns the exit status.
 ///
 /// `side` is the number of samples along an edge of the tile. At most one byte more than an input of this
-/// side has is read, and nothing if no tile has this side. The statuses: 0 accepted, 1 rejected, 2 refused,
-/// 3 if memory was refused (`failed OutOfMemory`), the source failed for good (`failed ReadFailed`), or the line
-/// couldn't be written.
+/// side has is read, and nothing if no tile has this side. Memory grows with what comes. The statuses: 0 accepted,
+/// 1 rejected, 2 refused, 3 if memory was refused (`failed OutOfMemory`), the source failed for good (`failed
+/// ReadFailed`), or the line couldn't be written.
 pub fn run_fill<R: ByteSource, W: ByteSink>(
     alloc: Global,
     side: u32,
@@ -55,7 +56,7 @@ fn read_and_check<R: ByteSource>(alloc: Global, side: u32, input: &mut R) -> Fil
     if !is_side(side) {
         return Ok(check_fill(side, &[]));
     }
-    let body = read_body(alloc, input, fill_length(side) + 1)?;
+    let body = read_whole(alloc, input, fill_length(side) + 1)?;
     Ok(check_fill(side, body.as_slice()))
 }
 

@@ -1,10 +1,11 @@
 //! The values of two tiles that differ at a cell.
 
 use crate::refusal_facts::open_again;
+use drain_device::{Patience, Reader, read_full};
 use drain_grid::{Cell, VOID};
 use drain_mosaic::Layout;
 use drain_page::{RefusalNote, TileValue};
-use std::os::unix::fs::FileExt;
+use std::io::{Seek, SeekFrom};
 
 /// The first tile with data at the cell, and the first that gives another height there.
 pub fn seam_note(
@@ -50,15 +51,23 @@ fn value_at(
         return None;
     }
     let place = 2 * (u64::from(row) * u64::from(side) + u64::from(col));
-    let mut sample = [0; 2];
-    open_again(rt, path)?
-        .read_exact_at(&mut sample, place)
-        .ok()?;
-    match i16::from_be_bytes(sample) {
+    match sample_at(rt, path, place)? {
         VOID => None,
         metres => Some(TileValue {
             tile: layout.name(i),
             metres: Some(metres),
         }),
     }
+}
+
+/// The sample that begins at this byte of a file.
+fn sample_at(rt: &HostRuntime, path: &str, place: u64) -> Option<i16> {
+    let mut file = open_again(rt, path)?;
+    file.seek(SeekFrom::Start(place)).ok()?;
+    let mut sample = [0; 2];
+    let came = read_full(&mut Reader::new(file), &mut sample, &mut Patience::new()).ok()?;
+    if came < sample.len() {
+        return None;
+    }
+    Some(i16::from_be_bytes(sample))
 }

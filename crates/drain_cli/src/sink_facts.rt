@@ -1,28 +1,47 @@
 //! The contents of a refused line of a list of sinks.
 
+ghost use Rattle.std.specs.Prelude.{◌≡◌, ◌-◌, ◌&&◌, IfSome, nat_lt, option_map, slice_get, take, if◌then◌else◌};
+ghost use Rattle.drain_cli.specs.SinkNotes.{IsCellNote, IsLineNote};
+ghost use Rattle.drain_text.specs.Text.{lines_of};
+
+use drain_grid::Shape;
 use drain_mosaic::Layout;
-use drain_page::{NoData, RefusalNote};
+use drain_page::{NoData, RefusalNote, SHOWN_BYTES};
 use drain_text::{first_line, first_word, whole_number};
 use std::alloc::Global;
 
-/// The line as in the list.
-pub fn sink_line_note(alloc: Global, list: &[u8], number: u64) -> Option<RefusalNote> {
-    let text = Vec::from_slice(alloc, line_of(list, number)?).ok()?;
-    Some(RefusalNote::SinkLine { number, text })
+/// The first bytes of the line, as in the list, and how many it has; none if memory runs out.
+pub fn sink_line_note(alloc: Global, list: &[u8], number: u64) -> Option<RefusalNote>
+    ensures { IfSome result (IsLineNote list.now number) }
+{
+    let line = line_of(list, number)?;
+    let start = Vec::from_slice(alloc, shown_of(line)).ok()?;
+    Some(RefusalNote::SinkLine {
+        number,
+        start,
+        bytes: line.len() as u64,
+    })
+}
+
+/// The bytes of a line that are shown.
+fn shown_of(line: &[u8]) -> &[u8]
+    ensures { result.now ≡ take SHOWN_BYTES line.now }
+{
+    if line.len() <= SHOWN_BYTES {
+        return line;
+    }
+    &line[..SHOWN_BYTES]
 }
 
 /// The cell that the line lists, and why it has no data.
-pub fn sink_cell_note(layout: &Layout, list: &[u8], number: u64) -> Option<RefusalNote> {
+pub fn sink_cell_note(layout: &Layout, list: &[u8], number: u64) -> Option<RefusalNote>
+    ensures { IfSome result (IsCellNote layout.now list.now number) }
+{
     let (first, after) = first_word(line_of(list, number)?)?;
     let (second, _) = first_word(after)?;
     let row = whole_number(first)?;
     let col = whole_number(second)?;
-    let shape = layout.shape();
-    let why = if row < shape.rows() && col < shape.cols() {
-        NoData::Void
-    } else {
-        NoData::Outside
-    };
+    let why = why_no_data(layout.shape(), row, col);
     Some(RefusalNote::SinkCell {
         number,
         row: u64::from(row),
@@ -31,11 +50,27 @@ pub fn sink_cell_note(layout: &Layout, list: &[u8], number: u64) -> Option<Refus
     })
 }
 
-/// The line of this number, counted from 1.
-fn line_of(list: &[u8], number: u64) -> Option<&[u8]> {
+/// Why a cell has no data, by where it lies.
+fn why_no_data(shape: Shape, row: u32, col: u32) -> NoData
+    ensures { result ≡ (if nat_lt row shape.rows && nat_lt col shape.cols then NoData.Void else NoData.Outside) }
+{
+    if row < shape.rows() && col < shape.cols() {
+        NoData::Void
+    } else {
+        NoData::Outside
+    }
+}
+
+/// The line of this number, counted from 1, if the list has it.
+fn line_of(list: &[u8], number: u64) -> Option<&[u8]>
+    ensures { option_map (λ line. line.now) result ≡ slice_get (lines_of list.now) (number - 1) }
+{
     let mut rest = list;
     for _ in 1..number {
-        rest = first_line(rest).1?;
+        match first_line(rest).1 {
+            Some(after) => rest = after,
+            None => return None,
+        }
     }
     Some(first_line(rest).0)
 }

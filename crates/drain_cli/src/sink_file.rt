@@ -7,21 +7,20 @@ ghost use Rattle.drain_device.specs.Patience.{GivesUp, full_patience};
 ghost use Rattle.drain_device.specs.Reads.{TakesAtMost};
 ghost use Rattle.drain_cli.specs.LongLists.{TakesMoreThan};
 
-use drain_device::{BodyFault, ByteSource, Patience, read_full};
+use crate::whole_input::read_whole;
+use drain_device::{BodyFault, ByteSource};
 use std::alloc::Global;
 
 /// The most bytes that a list of sinks may have, 2^32.
 pub const MAX_LIST_BYTES: usize = 4294967296;
 
-/// How many bytes are requested at once.
-pub const CHUNK_BYTES: usize = 16384;
-
-/// Reads a list of sinks to its end. More than `MAX_LIST_BYTES` can't be read, which is `ReadFailed`; so is a source
-/// that failed, or was interrupted for the 1,000th time. `OutOfMemory` comes if there is no memory for one more chunk.
+/// Reads a list of sinks to its end, or one byte more than a list may have. More than `MAX_LIST_BYTES` can't be read,
+/// which is `ReadFailed`; so is a source that failed, or was interrupted for the 1,000th time. `OutOfMemory` comes if
+/// there is no memory for more.
 pub fn read_list<R: ByteSource>(alloc: Global, from: &mut R) -> Result<Vec<u8>, BodyFault>
     ensures whole { IfOk result (λ list. Consumes (R.bytes_left from.old) (R.bytes_left from.new) list.items × IsAtEnd (R.bytes_left from.new)) }
     ensures bound { IfOk result (λ list. vec_len list ≤ MAX_LIST_BYTES) }
-    ensures within { OnErr result (TakesAtMost (MAX_LIST_BYTES + CHUNK_BYTES) (R.bytes_left from.old) (R.bytes_left from.new)) }
+    ensures within { OnErr result (TakesAtMost (MAX_LIST_BYTES + 1) (R.bytes_left from.old) (R.bytes_left from.new)) }
 
     // A read fails if the source failed, or was interrupted for the 1,000th time in this call; else only if a list
     // can't have that many bytes.
@@ -30,21 +29,10 @@ pub fn read_list<R: ByteSource>(alloc: Global, from: &mut R) -> Result<Vec<u8>, 
         × (GivesUp full_patience failures interruptions → IsErrOf result BodyFault.ReadFailed)
         × (IsErrOf result BodyFault.ReadFailed → GivesUp full_patience failures interruptions ⊎ TakesMoreThan MAX_LIST_BYTES (R.bytes_left from.old) (R.bytes_left from.new)) }
 {
-    let mut list = Vec::new(alloc);
-    let mut patience = Patience::new();
-    let mut chunk = [0; CHUNK_BYTES];
-    'chunks: while list.len() <= MAX_LIST_BYTES {
-        let Ok(came) = read_full(from, &mut chunk, &mut patience) else {
-            return Err(BodyFault::ReadFailed);
-        };
-        let Ok(()) = list.extend_from_slice(&chunk[..came]) else {
-            return Err(BodyFault::OutOfMemory);
-        };
-        if came < CHUNK_BYTES {
-            return unless_too_long(list);
-        }
+    match read_whole(alloc, from, MAX_LIST_BYTES + 1) {
+        Ok(list) => unless_too_long(list),
+        Err(fault) => Err(fault),
     }
-    Err(BodyFault::ReadFailed)
 }
 
 /// The list, unless it has more bytes than a list may have.

@@ -1,19 +1,17 @@
--- What was found, with one cell more or a run of cells that a row clears; and from row to row.
+-- What was found, with one cell more or a run of sound cells; and from row to row.
 use Rattle.std.proofs.Common.{◌≡◌, ℕ, zero, suc, ◌+◌, ◌-◌, ◌<◌, ◌≤◌, refl, sym, ◌∙◌, ap, subst, arith}
 use Rattle.drain_basin.specs.Admitted.{IsAdmitted}
-use Rattle.drain_grid.specs.declared.cell.Cell.{Cell}
 use Rattle.drain_grid.specs.declared.patch.Patch.{Patch}
-use Rattle.drain_grid.specs.declared.rule.Rule.{Rule}
 use Rattle.drain_grid.specs.declared.rule.Rule.TheVariants.{SharedLabel}
 use Rattle.drain_grid.specs.Grid.{Grid, Products, IsInside, patch_at, values_at}
 use Rattle.drain_grid.specs.GridRules.{HoldsAt}
 use Rattle.drain_grid.specs.PatchRules.{Profile}
 use Rattle.drain_kernel.specs.Kept.{IsKept}
+use Rattle.drain_rules.specs.BlankVoids.{IsRightVoid}
 use Rattle.drain_rules.specs.Labels.{IsOutletByCode, labelled_profile}
 use Rattle.drain_rules.specs.PatchRows.{AreRowPatches}
 use Rattle.drain_rules.specs.Rows.{place}
 use Rattle.drain_rules.proofs.Faults.{IsLeastFault-cell, labelled-HoldsAt}
-use Rattle.drain_rules.proofs.KeptCells.{no_label}
 use Rattle.drain_rules.proofs.LabelsBefore.{AreLabelsBefore-more, AreLabelsBefore-row}
 use Rattle.drain_faults.specs.declared.found.Found.{Found}
 use Rattle.drain_faults.specs.CellFaults.{IsNoted}
@@ -24,11 +22,7 @@ use Rattle.drain_faults.proofs.CellsBefore.{cells_before-all, cells_before-few, 
 use Rattle.drain_faults.proofs.FirstPatches.{patch_noted, patch_past}
 use Rattle.drain_faults.proofs.Flags.{noted_same}
 use Rattle.drain_faults.proofs.NumbersWithout.{holding_more, noted_more}
-
--- every rule holds at a cleared cell
-pub kept_holds : (profile : Profile) (g : Grid) (ps : Products) (c : Cell) → IsKept profile (patch_at g ps c) → (r : Rule) → HoldsAt profile g ps c r
-kept_holds profile g ps c kept SharedLabel = λ here code. absurd (kept.no_outlet code)
-kept_holds profile g ps c kept r = kept.holds r (omega arith, omega arith)
+use Rattle.drain_faults.proofs.SoundCells.{IsSound, no_label, of_kept, of_void, sound_holds}
 
 module _ (profile : Profile) (g : Grid) (ps : Products) (row cols : ℕ) (shown : ℕ → Patch) (are : AreRowPatches g ps row cols shown) where
   pub inside_row : (col : ℕ) → col < cols → IsInside g (place row col)
@@ -52,38 +46,46 @@ module _ (profile : Profile) (g : Grid) (ps : Products) (row cols : ℕ) (shown 
         before = AreLabelsBefore-row g ps row found.labels whole.before;
       }
 
-  -- one more cleared cell
-  kept_one : (found : Found) (col : ℕ) → col < cols → IsKept profile (shown col) → IsFoundBefore profile g ps row col found →
+  -- one more sound cell
+  sound_one : (found : Found) (col : ℕ) → col < cols → IsSound profile (shown col) → IsFoundBefore profile g ps row col found →
       IsFoundBefore profile g ps row (col + 1) found
-  kept_one found col less kept so_far =
-      let at : IsKept profile (patch_at g ps (place row col)) = subst (IsKept profile) (are.patches_are col less) kept in
+  sound_one found col less sound so_far =
+      let at : IsSound profile (patch_at g ps (place row col)) = subst (IsSound profile) (are.patches_are col less) sound in
       record {
         faults = λ r. subst (λ cs. AreCellsWithout (λ c. HoldsAt profile g ps c r) cs (of_rule found.by_rule r)) (sym (cells_before-more g row col))
             (holding_more (λ c. HoldsAt profile g ps c r) (cells_before g row col) (place row col) (of_rule found.by_rule r)
-            (kept_holds profile g ps (place row col) at r) (so_far.faults r));
+            (sound_holds profile g ps (place row col) at r) (so_far.faults r));
         first_patch = subst (λ cs. IsFirstPatch profile g ps cs found.first) (sym (cells_before-more g row col))
-            (patch_past profile g ps (cells_before g row col) (place row col) found.first (kept_holds profile g ps (place row col) at) so_far.first_patch);
+            (patch_past profile g ps (cells_before g row col) (place row col) found.first (sound_holds profile g ps (place row col) at) so_far.first_patch);
         before = AreLabelsBefore-more g ps row col (values_at g ps (place row col)) found.labels found.labels (inside_row col less) refl so_far.before
             (no_label profile found.labels (patch_at g ps (place row col)) at);
       }
 
-  kept_some : (found : Found) (from n : ℕ) → from + n ≤ cols → ((col : ℕ) → from ≤ col → col < from + n → IsKept profile (shown col)) →
+  sound_some : (found : Found) (from n : ℕ) → from + n ≤ cols → ((col : ℕ) → from ≤ col → col < from + n → IsSound profile (shown col)) →
       IsFoundBefore profile g ps row from found → IsFoundBefore profile g ps row (from + n) found
-  kept_some found from zero within kept so_far =
+  sound_some found from zero within sound so_far =
       let here : from + 0 ≡ from = omega arith in
       subst (λ col. IsFoundBefore profile g ps row col found) (sym here) so_far
-  kept_some found from (suc n) within kept so_far =
-      let before = kept_some found from n (omega (arith, within)) (λ col past less. kept col past (omega (arith, less))) so_far in
+  sound_some found from (suc n) within sound so_far =
+      let before = sound_some found from n (omega (arith, within)) (λ col past less. sound col past (omega (arith, less))) so_far in
       let next : from + n + 1 ≡ from + suc n = omega arith in
-      subst (λ col. IsFoundBefore profile g ps row col found) next (kept_one found (from + n) (omega (arith, within)) (kept (from + n) (omega arith) (omega arith)) before)
+      subst (λ col. IsFoundBefore profile g ps row col found) next (sound_one found (from + n) (omega (arith, within)) (sound (from + n) (omega arith) (omega arith)) before)
 
-  -- the cells that a row clears
-  pub found_kept : (found : Found) (from end : ℕ) → from ≤ end → end ≤ cols → ((col : ℕ) → from ≤ col → col < end → IsKept profile (shown col)) →
+  -- a run of sound cells
+  found_sound : (found : Found) (from end : ℕ) → from ≤ end → end ≤ cols → ((col : ℕ) → from ≤ col → col < end → IsSound profile (shown col)) →
       IsFoundBefore profile g ps row from found → IsFoundBefore profile g ps row end found
-  found_kept found from end forward within kept so_far =
+  found_sound found from end forward within sound so_far =
       let up_to : from + (end - from) ≡ end = omega arith in
       subst (λ col. IsFoundBefore profile g ps row col found) up_to
-      (kept_some found from (end - from) (omega (arith, within)) (λ col past less. kept col past (omega (arith, less))) so_far)
+      (sound_some found from (end - from) (omega (arith, within)) (λ col past less. sound col past (omega (arith, less))) so_far)
+
+  -- the cells that a row clears, and the voids after them
+  pub found_passed : (found : Found) (from end last : ℕ) → from ≤ end → end ≤ cols → ((col : ℕ) → from ≤ col → col < end → IsKept profile (shown col)) →
+      end ≤ last → last ≤ cols → ((col : ℕ) → end ≤ col → col < last → IsRightVoid profile (shown col)) →
+      IsFoundBefore profile g ps row from found → IsFoundBefore profile g ps row last found
+  found_passed found from end last forward within kept behind inside right so_far =
+      found_sound found end last behind inside (λ col past less. of_void profile (shown col) (right col past less))
+      (found_sound found from end forward within (λ col past less. of_kept profile (shown col) (kept col past less)) so_far)
 
   -- one cell more that was noted
   pub found_noted : (old new : Found) (col : ℕ) (p : Patch) → row < 28801 → cols ≤ 28801 → col < cols → p ≡ shown col →

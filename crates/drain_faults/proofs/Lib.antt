@@ -11,3 +11,4 @@ pub mod ProductParts
 pub mod ProductSteps
 pub mod RowOrder
 pub mod RulePlaces
+pub mod SoundCells

@@ -1,4 +1,4 @@
--- The numbers of a map, with one cell more or a run of cells that a row clears; and from row to row.
+-- The numbers of a map, with one cell more or a run of cells of one number; and from row to row.
 use Rattle.std.proofs.Common.{◌≡◌, ℕ, zero, suc, ◌+◌, ◌-◌, ◌<◌, ◌≤◌, is_some, List, [], ◌∷◌, ◌++◌, Option, Some, None, sym, ◌∙◌, ap, subst, arith, append_assoc}
 use Rattle.std.specs.Prelude.{replicate, ◌↔◌, IsSome}
 use Rattle.std.proofs.lemmas.List.{append-nil}
@@ -9,18 +9,20 @@ use Rattle.drain_grid.specs.Grid.{Grid, Products, patch_at}
 use Rattle.drain_grid.specs.PatchRules.{Profile}
 use Rattle.drain_grid.specs.Rule.{IsAnyRule, IsLeastFault}
 use Rattle.drain_kernel.specs.Kept.{IsKept}
+use Rattle.drain_rules.specs.BlankVoids.{IsRightVoid}
 use Rattle.drain_rules.specs.Findings.{cells_above}
 use Rattle.drain_rules.specs.Labels.{labelled_profile}
 use Rattle.drain_rules.specs.PatchRows.{AreRowPatches}
 use Rattle.drain_rules.specs.Rows.{place}
 use Rattle.drain_rules.proofs.Faults.{IsLeastFault-cell}
 use Rattle.drain_faults.specs.declared.fault_map.FaultMap.{FaultMap}
-use Rattle.drain_faults.specs.declared.fault_map.TheConstants.{SOUND}
+use Rattle.drain_faults.specs.declared.fault_map.TheConstants.{SOUND, SOUND_VOID}
 use Rattle.drain_faults.specs.declared.found.Found.{Found}
 use Rattle.drain_faults.specs.FaultMaps.{AreDrawn, AreMapPixels, IsMapOfCells, IsMapPixel, pixel_of}
 use Rattle.drain_faults.specs.FaultWalks.{IsFoundBefore, cells_before}
 use Rattle.drain_faults.proofs.CellsBefore.{cells_before-all, cells_before-more, cells_before-none}
-use Rattle.drain_faults.proofs.FaultSteps.{inside_row, kept_holds}
+use Rattle.drain_faults.proofs.FaultSteps.{inside_row}
+use Rattle.drain_faults.proofs.SoundCells.{of_kept, of_void, sound_holds}
 
 -- there is a map still where there was one
 pub drawn_still : (old new : Option FaultMap) (more : List ℕ) → AreDrawn old new more → IsSome new ↔ IsSome old
@@ -59,40 +61,65 @@ module _ (profile : Profile) (g : Grid) (ps : Products) (row cols : ℕ) (shown 
       subst (λ cs. IsMapOfCells profile g ps cs map) (cells_before-all g row) whole
 
   -- the number of a cleared cell
-  sound_pixel : (col : ℕ) → col < cols → IsKept profile (shown col) → IsMapPixel profile g ps (place row col) SOUND
-  sound_pixel col less kept =
+  kept_pixel : (col : ℕ) → col < cols → IsKept profile (shown col) → IsMapPixel profile g ps (place row col) SOUND
+  kept_pixel col less kept =
       let at : IsKept profile (patch_at g ps (place row col)) = subst (IsKept profile) (are.patches_are col less) kept in
-      record { rule = None; least = λ r own. kept_holds profile g ps (place row col) at r; number_is = sym (ap (pixel_of None) at.has_data) }
+      record {
+        rule = None;
+        least = λ r own. sound_holds profile g ps (place row col) (of_kept profile (patch_at g ps (place row col)) at) r;
+        number_is = sym (ap (pixel_of None) at.has_data);
+      }
 
-  -- those of a run of such cells, by induction over the run, after any numbers
-  sound_run : (ns : List ℕ) (from n : ℕ) → from + n ≤ cols → ((col : ℕ) → from ≤ col → col < from + n → IsKept profile (shown col)) →
-      AreMapPixels profile g ps (cells_before g row from) ns → AreMapPixels profile g ps (cells_before g row (from + n)) (ns ++ replicate n SOUND)
-  sound_run ns from zero within kept so_far =
+  -- and that of a void at which no rule fails
+  void_pixel : (col : ℕ) → col < cols → IsRightVoid profile (shown col) → IsMapPixel profile g ps (place row col) SOUND_VOID
+  void_pixel col less right =
+      let at : IsRightVoid profile (patch_at g ps (place row col)) = subst (IsRightVoid profile) (are.patches_are col less) right in
+      record {
+        rule = None;
+        least = λ r own. sound_holds profile g ps (place row col) (of_void profile (patch_at g ps (place row col)) at) r;
+        number_is = sym (ap (pixel_of None) at.is_void);
+      }
+
+  -- those of a run of cells of one number, by induction over the run, after any numbers
+  pixel_run : (pixel : ℕ) (ns : List ℕ) (from n : ℕ) → from + n ≤ cols → ((col : ℕ) → from ≤ col → col < from + n → IsMapPixel profile g ps (place row col) pixel) →
+      AreMapPixels profile g ps (cells_before g row from) ns → AreMapPixels profile g ps (cells_before g row (from + n)) (ns ++ replicate n pixel)
+  pixel_run pixel ns from zero within each so_far =
       let here : from + 0 ≡ from = omega arith in
       subst (λ col. AreMapPixels profile g ps (cells_before g row col) (ns ++ [])) (sym here)
       (subst (AreMapPixels profile g ps (cells_before g row from)) (sym (append-nil ns)) so_far)
-  sound_run ns from (suc n) within kept so_far =
-      let one : AreMapPixels profile g ps (cells_before g row (from + 1)) (ns ++ SOUND ∷ []) =
-      subst (λ cs. AreMapPixels profile g ps cs (ns ++ SOUND ∷ [])) (sym (cells_before-more g row from))
-      (pixels_more profile g ps (cells_before g row from) ns (place row from) SOUND (sound_pixel from (omega (arith, within)) (kept from (omega arith) (omega arith))) so_far) in
-      let rest : AreMapPixels profile g ps (cells_before g row (from + 1 + n)) ((ns ++ SOUND ∷ []) ++ replicate n SOUND) =
-      sound_run (ns ++ SOUND ∷ []) (from + 1) n (omega (arith, within)) (λ col past less. kept col (omega (arith, past)) (omega (arith, less))) one in
+  pixel_run pixel ns from (suc n) within each so_far =
+      let one : AreMapPixels profile g ps (cells_before g row (from + 1)) (ns ++ pixel ∷ []) =
+      subst (λ cs. AreMapPixels profile g ps cs (ns ++ pixel ∷ [])) (sym (cells_before-more g row from))
+      (pixels_more profile g ps (cells_before g row from) ns (place row from) pixel (each from (omega arith) (omega arith)) so_far) in
+      let rest : AreMapPixels profile g ps (cells_before g row (from + 1 + n)) ((ns ++ pixel ∷ []) ++ replicate n pixel) =
+      pixel_run pixel (ns ++ pixel ∷ []) (from + 1) n (omega (arith, within)) (λ col past less. each col (omega (arith, past)) (omega (arith, less))) one in
       let next : from + 1 + n ≡ from + suc n = omega arith in
-      subst (λ col. AreMapPixels profile g ps (cells_before g row col) (ns ++ replicate (suc n) SOUND)) next
-      (subst (AreMapPixels profile g ps (cells_before g row (from + 1 + n))) (append_assoc ns (SOUND ∷ []) (replicate n SOUND)) rest)
+      subst (λ col. AreMapPixels profile g ps (cells_before g row col) (ns ++ replicate (suc n) pixel)) next
+      (subst (AreMapPixels profile g ps (cells_before g row (from + 1 + n))) (append_assoc ns (pixel ∷ []) (replicate n pixel)) rest)
 
-  -- the cells that a row clears
-  pub map_sound : (old new : Option FaultMap) (from end n : ℕ) → from ≤ end → end ≤ cols → n ≡ end - from →
-      ((col : ℕ) → from ≤ col → col < end → IsKept profile (shown col)) → AreDrawn old new (replicate n SOUND) →
+  -- a run of such cells that is drawn
+  map_run : (pixel : ℕ) (old new : Option FaultMap) (from end n : ℕ) → from ≤ end → end ≤ cols → n ≡ end - from →
+      ((col : ℕ) → from ≤ col → col < end → IsMapPixel profile g ps (place row col) pixel) → AreDrawn old new (replicate n pixel) →
       IsMapOfCells profile g ps (cells_before g row from) old → IsMapOfCells profile g ps (cells_before g row end) new
-  map_sound None None from end n forward within many kept drawn so_far = tt
-  map_sound None (Some new) from end n forward within many kept drawn so_far = absurd drawn
-  map_sound (Some old) None from end n forward within many kept drawn so_far = absurd drawn
-  map_sound (Some old) (Some new) from end n forward within many kept drawn so_far =
+  map_run pixel None None from end n forward within many each drawn so_far = tt
+  map_run pixel None (Some new) from end n forward within many each drawn so_far = absurd drawn
+  map_run pixel (Some old) None from end n forward within many each drawn so_far = absurd drawn
+  map_run pixel (Some old) (Some new) from end n forward within many each drawn so_far =
       let up_to : from + n ≡ end = omega (arith, many, forward) in
       subst (λ col. AreMapPixels profile g ps (cells_before g row col) new.pixels.items) up_to
       (subst (AreMapPixels profile g ps (cells_before g row (from + n))) (sym drawn)
-      (sound_run old.pixels.items from n (omega (arith, up_to, within)) (λ col past less. kept col past (omega (arith, up_to, less))) so_far))
+      (pixel_run pixel old.pixels.items from n (omega (arith, up_to, within)) (λ col past less. each col past (omega (arith, up_to, less))) so_far))
+
+  -- the cells that a row clears, and the voids after them
+  pub map_passed : (old mid new : Option FaultMap) (from end last n m : ℕ) → from ≤ end → end ≤ cols → n ≡ end - from →
+      ((col : ℕ) → from ≤ col → col < end → IsKept profile (shown col)) → AreDrawn old mid (replicate n SOUND) →
+      end ≤ last → last ≤ cols → m ≡ last - end →
+      ((col : ℕ) → end ≤ col → col < last → IsRightVoid profile (shown col)) → AreDrawn mid new (replicate m SOUND_VOID) →
+      IsMapOfCells profile g ps (cells_before g row from) old → IsMapOfCells profile g ps (cells_before g row last) new
+  map_passed old mid new from end last n m forward within many kept drawn behind inside more right void_drawn so_far =
+      map_run SOUND_VOID mid new end last m behind inside more
+      (λ col past less. void_pixel col (omega (arith, less, inside)) (right col past less)) void_drawn
+      (map_run SOUND old mid from end n forward within many (λ col past less. kept_pixel col (omega (arith, less, within)) (kept col past less)) drawn so_far)
 
   -- a cell that was noted
   pub map_noted : (found : Found) (least : Option Rule) (old new : Option FaultMap) (col : ℕ) (p : Patch) → col < cols → p ≡ shown col →

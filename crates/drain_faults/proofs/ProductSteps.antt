@@ -1,4 +1,4 @@
--- The faults of each product, with one cell more or a run of cells that a row clears; and from row to row.
+-- The faults of each product, with one cell more or a run of sound cells; and from row to row.
 use Rattle.std.proofs.Common.{◌≡◌, ℕ, zero, suc, ◌+◌, ◌-◌, ◌<◌, ◌≤◌, sym, ◌∙◌, subst, arith}
 use Rattle.drain_grid.specs.declared.patch.Patch.{Patch}
 use Rattle.drain_grid.specs.declared.per_product.PerProduct.{PerProduct}
@@ -8,6 +8,7 @@ use Rattle.drain_grid.specs.PerProduct.{of_product}
 use Rattle.drain_kernel.specs.declared.rules.Rules.{Rules}
 use Rattle.drain_kernel.specs.Kept.{IsKept}
 use Rattle.drain_kernel.specs.Rules.{tried}
+use Rattle.drain_rules.specs.BlankVoids.{IsRightVoid}
 use Rattle.drain_rules.specs.Findings.{cells_above}
 use Rattle.drain_rules.specs.PatchRows.{AreRowPatches}
 use Rattle.drain_rules.specs.Rows.{place}
@@ -17,6 +18,7 @@ use Rattle.drain_faults.specs.FaultWalks.{cells_before}
 use Rattle.drain_faults.proofs.CellsBefore.{cells_before-all, cells_before-few, cells_before-more, cells_before-none}
 use Rattle.drain_faults.proofs.NumbersWithout.{holding_more, noted_more}
 use Rattle.drain_faults.proofs.ProductParts.{missing_by_product, void_cell_by_product}
+use Rattle.drain_faults.proofs.SoundCells.{IsSound, of_kept, of_void}
 
 module _ (rules : Rules) (g : Grid) (ps : Products) (row cols : ℕ) (shown : ℕ → Patch) (are : AreRowPatches g ps row cols shown) where
   -- of the cells before a place
@@ -36,11 +38,11 @@ module _ (rules : Rules) (g : Grid) (ps : Products) (row cols : ℕ) (shown : �
       subst (λ n. AreFaultsOfProduct rules g ps (cells_before g row n) product (of_product faults product)) (last ∙ are.cols_are) (so_far product) in
       subst (λ cs. AreFaultsOfProduct rules g ps cs product (of_product faults product)) (cells_before-all g row) whole
 
-  -- one more cleared cell
-  kept_one : (faults : PerProduct ProductFaults) (col : ℕ) → col < cols → IsKept (tried rules) (shown col) → before col faults → before (col + 1) faults
-  kept_one faults col less kept so_far = λ product.
+  -- one more sound cell
+  sound_one : (faults : PerProduct ProductFaults) (col : ℕ) → col < cols → IsSound (tried rules) (shown col) → before col faults → before (col + 1) faults
+  sound_one faults col less sound so_far = λ product.
       let cell = place row col in
-      let at : IsKept (tried rules) (patch_at g ps cell) = subst (IsKept (tried rules)) (are.patches_are col less) kept in
+      let at : IsSound (tried rules) (patch_at g ps cell) = subst (IsSound (tried rules)) (are.patches_are col less) sound in
       subst (λ cs. AreFaultsOfProduct rules g ps cs product (of_product faults product)) (sym (cells_before-more g row col)) (record {
         at_voids = holding_more (λ c. VoidCellHoldsOf rules product (patch_at g ps c)) (cells_before g row col) cell (of_product faults product).at_voids
             ((void_cell_by_product rules (patch_at g ps cell)).0 (at.holds VoidCell (omega arith, omega arith)) product) (so_far product).at_voids;
@@ -48,23 +50,31 @@ module _ (rules : Rules) (g : Grid) (ps : Products) (row cols : ℕ) (shown : �
             ((missing_by_product rules (patch_at g ps cell)).0 (at.holds Missing (omega arith, omega arith)) product) (so_far product).at_data;
       })
 
-  kept_some : (faults : PerProduct ProductFaults) (from n : ℕ) → from + n ≤ cols →
-      ((col : ℕ) → from ≤ col → col < from + n → IsKept (tried rules) (shown col)) → before from faults → before (from + n) faults
-  kept_some faults from zero within kept so_far =
+  sound_some : (faults : PerProduct ProductFaults) (from n : ℕ) → from + n ≤ cols →
+      ((col : ℕ) → from ≤ col → col < from + n → IsSound (tried rules) (shown col)) → before from faults → before (from + n) faults
+  sound_some faults from zero within sound so_far =
       let here : from + 0 ≡ from = omega arith in
       subst (λ col. before col faults) (sym here) so_far
-  kept_some faults from (suc n) within kept so_far =
-      let up_to = kept_some faults from n (omega (arith, within)) (λ col past less. kept col past (omega (arith, less))) so_far in
+  sound_some faults from (suc n) within sound so_far =
+      let up_to = sound_some faults from n (omega (arith, within)) (λ col past less. sound col past (omega (arith, less))) so_far in
       let next : from + n + 1 ≡ from + suc n = omega arith in
-      subst (λ col. before col faults) next (kept_one faults (from + n) (omega (arith, within)) (kept (from + n) (omega arith) (omega arith)) up_to)
+      subst (λ col. before col faults) next (sound_one faults (from + n) (omega (arith, within)) (sound (from + n) (omega arith) (omega arith)) up_to)
 
-  -- the cells that a row clears
-  pub products_kept : (faults : PerProduct ProductFaults) (from end : ℕ) → from ≤ end → end ≤ cols →
-      ((col : ℕ) → from ≤ col → col < end → IsKept (tried rules) (shown col)) → before from faults → before end faults
-  products_kept faults from end forward within kept so_far =
+  -- a run of sound cells
+  products_sound : (faults : PerProduct ProductFaults) (from end : ℕ) → from ≤ end → end ≤ cols →
+      ((col : ℕ) → from ≤ col → col < end → IsSound (tried rules) (shown col)) → before from faults → before end faults
+  products_sound faults from end forward within sound so_far =
       let up_to : from + (end - from) ≡ end = omega arith in
       subst (λ col. before col faults) up_to
-      (kept_some faults from (end - from) (omega (arith, within)) (λ col past less. kept col past (omega (arith, less))) so_far)
+      (sound_some faults from (end - from) (omega (arith, within)) (λ col past less. sound col past (omega (arith, less))) so_far)
+
+  -- the cells that a row clears, and the voids after them
+  pub products_passed : (faults : PerProduct ProductFaults) (from end last : ℕ) → from ≤ end → end ≤ cols →
+      ((col : ℕ) → from ≤ col → col < end → IsKept (tried rules) (shown col)) → end ≤ last → last ≤ cols →
+      ((col : ℕ) → end ≤ col → col < last → IsRightVoid (tried rules) (shown col)) → before from faults → before last faults
+  products_passed faults from end last forward within kept behind inside right so_far =
+      products_sound faults end last behind inside (λ col past less. of_void (tried rules) (shown col) (right col past less))
+      (products_sound faults from end forward within (λ col past less. of_kept (tried rules) (shown col) (kept col past less)) so_far)
 
   -- one cell more that was noted
   pub products_noted : (old new : PerProduct ProductFaults) (col : ℕ) (p : Patch) → row < 28801 → cols ≤ 28801 → col < cols → p ≡ shown col →

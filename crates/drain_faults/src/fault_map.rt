@@ -3,7 +3,6 @@
 //! A walk draws it on demand (`FaultWalk::drawing`): it takes a byte per cell, and is seldom needed.
 
 ghost use Rattle.std.specs.Prelude.{◌≡◌, ◌∷◌, [], IfOk, IsSome, OnErr, OnOk, is_some, replicate};
-ghost use Rattle.drain_faults.specs.declared.fault_map.TheConstants.{SOUND};
 ghost use Rattle.drain_faults.specs.FaultMaps.{AreDrawn, HasMore, pixel_of};
 
 use drain_grid::{OutOfMemory, Patch, Rule, Shape};
@@ -42,14 +41,14 @@ impl FaultMap {
         }
     }
 
-    /// Draws this many more cells, at each of which every rule holds, and none of which is a void.
-    fn push_sound(&mut self, cells: usize) -> Result<(), OutOfMemory>
-        ensures { OnOk result (HasMore self.old self.new (replicate cells SOUND)) }
+    /// Draws this many more cells, each with this number.
+    fn push_run(&mut self, pixel: u8, cells: usize) -> Result<(), OutOfMemory>
+        ensures { OnOk result (HasMore self.old self.new (replicate cells pixel)) }
     {
         let Some(len) = self.pixels.len().checked_add(cells) else {
             return Err(OutOfMemory);
         };
-        match self.pixels.resize(len, SOUND) {
+        match self.pixels.resize(len, pixel) {
             Ok(()) => Ok(()),
             Err(_) => Err(OutOfMemory),
         }
@@ -72,13 +71,13 @@ pub(crate) fn draw_cell(
     }
 }
 
-/// Draws this many more cells that a row cleared, if there is a map. `OutOfMemory` comes only with a map.
-pub(crate) fn draw_sound(map: &mut Option<FaultMap>, cells: u32) -> Result<(), OutOfMemory>
-    ensures drawn { OnOk result (AreDrawn map.old map.new (replicate cells SOUND)) }
+/// Draws this many more cells, each with this number, if there is a map. `OutOfMemory` comes only with a map.
+pub(crate) fn draw_run(map: &mut Option<FaultMap>, pixel: u8, cells: u32) -> Result<(), OutOfMemory>
+    ensures drawn { OnOk result (AreDrawn map.old map.new (replicate cells pixel)) }
     ensures err { OnErr result (IsSome map.old) }
 {
     match map {
-        Some(map) => map.push_sound(cells as usize),
+        Some(map) => map.push_run(pixel, cells as usize),
         None => Ok(()),
     }
 }

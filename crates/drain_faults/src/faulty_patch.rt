@@ -12,24 +12,26 @@ pub struct FaultyPatch {
     pub rule: Rule,
 }
 
-/// The first so far; without one this cell, if a rule fails here, with the least such rule. Cells come in row order.
-pub(crate) fn with_patch(
-    first: Option<FaultyPatch>,
+/// Keeps the first so far; without one it is this cell, if a rule fails here, with the least such rule. Cells come in
+/// row order.
+pub(crate) fn note_patch(
+    first: &mut Option<FaultyPatch>,
     cell: Cell,
     patch: &Patch,
     least: Option<Rule>,
-) -> Option<FaultyPatch>
-    ensures { IsFirstNoted least cell patch.now first result }
+)
+    ensures { IsFirstNoted least cell patch.now first.old first.new }
 {
     match first {
-        Some(found) => Some(found),
-        None => match least {
-            Some(rule) => Some(FaultyPatch {
-                cell,
-                patch: *patch,
-                rule,
-            }),
-            None => None,
-        },
+        Some(_) => {}
+        None => {
+            if let Some(rule) = least {
+                *first = Some(FaultyPatch {
+                    cell,
+                    patch: *patch,
+                    rule,
+                });
+            }
+        }
     }
 }

@@ -9,10 +9,10 @@ ghost use Rattle.drain_faults.specs.ByProduct.{AreProductsNotedAt};
 ghost use Rattle.drain_faults.specs.CellFaults.{IsNoted};
 
 use crate::cell_faults::cell_faults;
-use crate::faulty_patch::{FaultyPatch, with_patch};
+use crate::faulty_patch::{FaultyPatch, note_patch};
 use crate::per_rule::PerRule;
 use crate::product_faults::{ProductFaults, note_products};
-use crate::rule_faults::{RuleFaults, with_cell};
+use crate::rule_faults::{RuleFaults, note_rules};
 use drain_basin::OutletLabels;
 use drain_grid::{Cell, OutOfMemory, Patch, PerProduct, Rule};
 use drain_kernel::Rules;
@@ -43,10 +43,10 @@ impl Found {
     {
         match cell_faults(patch, rules, &mut self.labels) {
             Ok(fails) => {
-                self.by_rule = with_cell(&self.by_rule, cell, &fails);
+                note_rules(&mut self.by_rule, cell, &fails);
                 note_products(&mut self.by_product, cell, patch, rules, &fails);
                 let least = fails.least();
-                self.first = with_patch(self.first, cell, patch, least);
+                note_patch(&mut self.first, cell, patch, least);
                 Ok(least)
             }
             Err(OutOfMemory) => Err(OutOfMemory),

@@ -10,7 +10,7 @@ ghost use Rattle.drain_faults.specs.ByProduct.{AreFaultsByProduct, OfRowByProduc
 ghost use Rattle.drain_faults.specs.FaultMaps.{IsMapOfCells, OfRowDrawn};
 ghost use Rattle.drain_faults.specs.FaultWalks.{HasNewOutlet, IsFoundAbove, OfRowFound, OfRowPatches};
 
-use crate::fault_map::{FaultMap, draw_cell, draw_sound};
+use crate::fault_map::{FaultMap, SOUND, SOUND_VOID, draw_cell, draw_run};
 use crate::found::Found;
 use drain_grid::{Cell, OutOfMemory};
 use drain_kernel::Rules;
@@ -42,9 +42,10 @@ pub(crate) fn note_row_of<R: PatchRow>(
     let mut col = 0;
     while col < cols {
         let kept = patches.kept_from(rules, col);
-        draw_sound(map, kept.end - col)?;
+        draw_run(map, SOUND, kept.end - col)?;
         tally.add_kept(kept.end - col, kept.raised);
-        col = kept.end;
+        col = patches.voids_until(rules, kept.end);
+        draw_run(map, SOUND_VOID, col - kept.end)?;
         if col < cols {
             let patch = patches.patch(col);
             match found.note(Cell { row, col }, &patch, rules) {

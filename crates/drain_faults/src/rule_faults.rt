@@ -42,12 +42,17 @@ impl RuleFaults {
     }
 }
 
+/// Adds one cell, at which these rules fail. Where none does nothing is written.
+pub(crate) fn note_rules(faults: &mut PerRule<RuleFaults>, cell: Cell, fails: &PerRule<bool>)
+    ensures { (r : Rule) → IsWith cell (of_rule fails.now r) (of_rule faults.old r) (of_rule faults.new r) }
+{
+    if fails.least().is_some() {
+        *faults = with_cell(faults, cell, fails);
+    }
+}
+
 /// The same of each rule.
-pub(crate) fn with_cell(
-    so_far: &PerRule<RuleFaults>,
-    cell: Cell,
-    fails: &PerRule<bool>,
-) -> PerRule<RuleFaults>
+fn with_cell(so_far: &PerRule<RuleFaults>, cell: Cell, fails: &PerRule<bool>) -> PerRule<RuleFaults>
     ensures { (r : Rule) → IsWith cell (of_rule fails.now r) (of_rule so_far.now r) (of_rule result r) }
 {
     PerRule {

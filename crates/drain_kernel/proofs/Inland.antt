@@ -37,7 +37,7 @@ of_each P e se s sw w nw nth ne NorthWest = nw
 of_each P e se s sw w nw nth ne North = nth
 of_each P e se s sw w nw nth ne NorthEast = ne
 
-no_void : (z : ℕ) → not (z == 0) ≡ true → z ≢ 0
+pub no_void : (z : ℕ) → not (z == 0) ≡ true → z ≢ 0
 no_void z h void = by_test (z == 0) h ((Decides-eqb z 0).1 void)
   where
     by_test : (b : Bool) → not b ≡ true → b ≢ true
@@ -58,7 +58,7 @@ all_have_data z zs h =
     let e = and_parts _ _ se.0 in
     (no_void z e.0, λ d. no_void (zs d) (of_each (λ d. not (zs d == 0) ≡ true) e.1 se.1 s.1 sw.1 w.1 nw.1 nth.1 ne.1 d))
 
-some_height : (z : ℕ) → z ≢ 0 → height_of z ≡ Some (lowered z)
+pub some_height : (z : ℕ) → z ≢ 0 → height_of z ≡ Some (lowered z)
 some_height z there = by_test (z == 0) (Decides-eqb z 0).0
   where
     by_test : (b : Bool) → (b ≡ true → z ≡ 0) → (if b then None else Some (lowered z)) ≡ Some (lowered z)

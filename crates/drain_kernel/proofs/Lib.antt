@@ -9,3 +9,4 @@ pub mod Ways
 pub mod Meaning
 pub mod Readings
 pub mod Raised
+pub mod Fallen

@@ -1,5 +1,5 @@
 -- A cell whose numbers pass every test is kept.
-use Rattle.std.proofs.Common.{◌≡◌, ◌≢◌, ◌<◌, ℕ, pos, true, ◌==◌, max, map, List, Option, slice_index, IsNone, is_some, inr, sym, ◌∙◌, ap, subst, arith}
+use Rattle.std.proofs.Common.{◌≡◌, ◌≢◌, ◌⊎◌, ◌<◌, ℕ, pos, true, ◌==◌, max, map, List, Option, slice_index, IsNone, is_some, inl, inr, sym, ◌∙◌, ap, subst, arith}
 use Rattle.std.proofs.lemmas.Bool.{false≢true, and_parts}
 use Rattle.std.proofs.lemmas.Bool.Decides.{Decides-eqb, Decides-ltb}
 use Rattle.drain_grid.specs.declared.direction.Direction.{Direction}
@@ -23,10 +23,10 @@ use Rattle.drain_kernel.specs.Columns.{is_inland_at, PassesAt, RanksPassAt}
 use Rattle.drain_kernel.specs.Kept.{IsKept}
 use Rattle.drain_kernel.specs.Rules.{rules_with, tried}
 use Rattle.drain_kernel.specs.Shown.{height_of, HaveRanks, IsShown, HasRanks, row_beside, col_beside}
-use Rattle.drain_kernel.specs.Tests.{AreComplete, keeps_accumulation}
+use Rattle.drain_kernel.specs.Tests.{AreComplete, keeps_accumulation, adds_up}
 use Rattle.drain_kernel.proofs.Inland.{IsInland, all_have_data, inland_from, of_each, not_open, OfSurface, of_surface}
 use Rattle.drain_kernel.proofs.Numbers.{Numbers, HaveDataAt, values_of, patch_of, numbers_in, numbers_beside, patch_is, neighbor_is}
-use Rattle.drain_kernel.proofs.Sums.{inflow_is, total_is}
+use Rattle.drain_kernel.proofs.Sums.{inflow_is, inflow_passed, total_is}
 use Rattle.drain_kernel.proofs.Ways.{OfDirection, of_direction, FallsOrNears, falls_or_nears_from, flat_step_from}
 
 -- what the test of the accumulation gives
@@ -42,6 +42,23 @@ of_accumulation here n around known h =
     inflow_is (is_some (height_of (n d).z)) ((n d).dir == code_of (opposite d)) (n d).acc (ap is_some (known.beside_is d)) (small d) in
     λ _. total_is here.acc _ _ _ _ _ _ _ _ _ _ _ _ _ _ _ _ (from East) (from SouthEast) (from South) (from SouthWest) (from West) (from NorthWest)
     (from North) (from NorthEast) ((Decides-eqb _ _).0 parts.1)
+
+-- and what that of large numbers gives
+of_sum : (here : Numbers) (n : Direction → Numbers) (around : List (Option Values)) → IsInland here n around →
+    adds_up here.acc (map (λ d. (n d).dir) directions) (map (λ d. (n d).acc) directions) ≡ true → AccumulationHolds (patch_of here around)
+unfolding adds_up
+of_sum here n around known h =
+    let from = λ (d : Direction). ap (λ o. inflow o d) (known.neighbor_is d) ∙
+    inflow_passed (is_some (height_of (n d).z)) ((n d).dir == code_of (opposite d)) (n d).acc (ap is_some (known.beside_is d)) in
+    λ _. total_is here.acc _ _ _ _ _ _ _ _ _ _ _ _ _ _ _ _ (from East) (from SouthEast) (from South) (from SouthWest) (from West) (from NorthWest)
+    (from North) (from NorthEast) ((Decides-eqb _ _).0 h)
+
+-- one of the two passes
+of_either : (here : Numbers) (n : Direction → Numbers) (around : List (Option Values)) → IsInland here n around →
+    (keeps_accumulation here.acc (map (λ d. (n d).dir) directions) (map (λ d. (n d).acc) directions) ≡ true) ⊎
+    (adds_up here.acc (map (λ d. (n d).dir) directions) (map (λ d. (n d).acc) directions) ≡ true) → AccumulationHolds (patch_of here around)
+of_either here n around known (inl small) = of_accumulation here n around known small
+of_either here n around known (inr any) = of_sum here n around known any
 
 -- what the tests without ranks give together
 record Passed (nodata : NoDataNumbers) (here : Numbers) (n : Direction → Numbers) (around : List (Option Values)) : Type 0 where
@@ -80,7 +97,7 @@ record Ranked (nodata : NoDataNumbers) (here : Numbers) (n : Direction → Numbe
   nears : FallsOrNears here n
   differs : here.rnk ≢ nodata.rnk
 
-is_complete : (nodata : NoDataNumbers) (here : Numbers) → AreComplete nodata here.con here.dir here.acc here.bas → here.rnk ≢ nodata.rnk →
+pub is_complete : (nodata : NoDataNumbers) (here : Numbers) → AreComplete nodata here.con here.dir here.acc here.bas → here.rnk ≢ nodata.rnk →
     (p : Held) → value_of (values_of here) (product_of p) ≢ number_for nodata (product_of p)
 is_complete nodata here complete differs Con = complete.con_differs
 is_complete nodata here complete differs Dir = complete.dir_differs
@@ -113,7 +130,7 @@ of_rules Asked nodata here n around passed ranked = of_check nodata here n aroun
 of_rules Unasked nodata here n around passed ranked = of_unranked nodata here n around passed
 
 -- no direction's code is that of an outlet
-no_outlet : (d : Direction) → code_of d ≢ 0
+pub no_outlet : (d : Direction) → code_of d ≢ 0
 no_outlet = of_each (λ d. code_of d ≢ 0) (λ e. cc) (λ e. cc) (λ e. cc) (λ e. cc) (λ e. cc) (λ e. cc) (λ e. cc) (λ e. cc)
 
 -- the test of voids, of the nine columns
@@ -122,7 +139,7 @@ have_data_from above here below k h =
     let known = all_have_data (slice_index here.z.items k) (λ d. slice_index (row_beside above here below d).z.items (col_beside k d)) h in
     record { here_has = known.0; beside_has = known.1 }
 
-not_zero : (code d : ℕ) → pos code ≡ pos d → d ≢ 0 → pos code ≢ pos 0
+pub not_zero : (code d : ℕ) → pos code ≡ pos d → d ≢ 0 → pos code ≢ pos 0
 not_zero code d is differs h = differs (same_natural d 0 (sym is ∙ h))
   where
     same_natural : (a b : ℕ) → pos a ≡ pos b → a ≡ b
@@ -158,7 +175,7 @@ is_kept rules above here below k p shown have passes =
       inland = known;
       surface = of_surface at n p.around known passes.surface;
       direction = direction;
-      sum = of_accumulation at n p.around known passes.accumulation;
+      sum = of_either at n p.around known passes.accumulation;
       complete = passes.complete;
     } in
     let ranked = ranked_from rules.ranks rules.nodata above here below k p shown nine have passes.ranks in

@@ -6,7 +6,7 @@ use Rattle.std.proofs.lemmas.Int.{ints}
 use Rattle.drain_grid.specs.declared.direction.Direction.{Direction}
 use Rattle.drain_grid.specs.Direction.{directions, Names, NamesSome, is_straight}
 use Rattle.drain_grid.specs.Values.{Values}
-use Rattle.drain_grid.specs.Patch.{IsLower, HasLower}
+use Rattle.drain_grid.specs.Patch.{IsDataNeighbor, IsLower, HasLower}
 use Rattle.drain_grid.specs.Slope.{slope_key, IsSteepest}
 use Rattle.drain_grid.specs.PatchRules.{SlopeHolds, FlatStepHolds, LabelHolds}
 use Rattle.drain_grid.specs.Unranked.{IsLevelStep, LevelStepHolds}
@@ -25,32 +25,44 @@ lt_lowered a b h = omega (arith, ints)
 lt_from_lowered : (a b : ℕ) → lowered a <ℤ lowered b → a < b
 lt_from_lowered a b h = omega (arith, ints)
 
+-- data neighbours have these numbers, and each neighbour has data whose con is no higher than any height
+pub record AreSeen (here : Numbers) (n : Direction → Numbers) (around : List (Option Values)) : Type 0 where
+  pub data_is : (d : Direction) (m : Values) → IsDataNeighbor (patch_of here around) d m → values_of (n d) ≡ m
+  pub has_data : (d : Direction) → (n d).con ≤ 65535 → IsDataNeighbor (patch_of here around) d (values_of (n d))
+
+seen_inland : (here : Numbers) (n : Direction → Numbers) (around : List (Option Values)) → IsInland here n around → AreSeen here n around
+seen_inland here n around known = record {
+  data_is = λ d m beside. same_some (values_of (n d)) m (sym (known.neighbor_is d) ∙ beside.is);
+  has_data = λ d low. is_beside here n around known d;
+}
+
 -- a neighbour with a smaller number is lower
-lower_beside : (here : Numbers) (n : Direction → Numbers) (around : List (Option Values)) → IsInland here n around → (d : Direction) →
+lower_beside : (here : Numbers) (n : Direction → Numbers) (around : List (Option Values)) → AreSeen here n around → here.con ≤ 65535 → (d : Direction) →
     (n d).con < here.con → IsLower (patch_of here around) d (values_of (n d))
-lower_beside here n around known d less = record { beside = is_beside here n around known d; below = lt_lowered (n d).con here.con less }
+lower_beside here n around seen fits d less = record { beside = seen.has_data d (omega (arith, less, fits)); below = lt_lowered (n d).con here.con less }
 
 -- and a lower one has a smaller number
-number_of_lower : (here : Numbers) (n : Direction → Numbers) (around : List (Option Values)) → IsInland here n around → (d : Direction) (m : Values) →
+number_of_lower : (here : Numbers) (n : Direction → Numbers) (around : List (Option Values)) → AreSeen here n around → (d : Direction) (m : Values) →
     IsLower (patch_of here around) d m → (n d).con < here.con
-number_of_lower here n around known d m lower =
-    lt_from_lowered (n d).con here.con
-    (subst (λ (v : Values). v.con <ℤ lowered here.con) (sym (same_some (values_of (n d)) m (sym (known.neighbor_is d) ∙ lower.beside.is))) lower.below)
+number_of_lower here n around seen d m lower =
+    lt_from_lowered (n d).con here.con (subst (λ (v : Values). v.con <ℤ lowered here.con) (sym (seen.data_is d m lower.beside)) lower.below)
 
 -- the keys of lower neighbours, and that of a steepest
-is_steepest : (here : Numbers) (n : Direction → Numbers) (around : List (Option Values)) → IsInland here n around → (d : Direction) → (n d).con < here.con →
+is_steepest : (here : Numbers) (n : Direction → Numbers) (around : List (Option Values)) → AreSeen here n around → here.con ≤ 65535 → (d : Direction) →
+    (n d).con < here.con →
     ((e : Direction) → weight (is_straight e) ((here.con - (n e).con) * (here.con - (n e).con)) ≤
     weight (is_straight d) ((here.con - (n d).con) * (here.con - (n d).con))) → IsSteepest (patch_of here around) d
-is_steepest here n around known d less most = (
+is_steepest here n around seen fits d less most = (
   values_of (n d),
   record {
-    lower = lower_beside here n around known d less;
+    lower = lower_beside here n around seen fits d less;
     greatest = λ e m lower.
-        let below = number_of_lower here n around known e m lower in
+        let below = number_of_lower here n around seen e m lower in
         let there : (n e).con ≤ here.con = omega arith in
         let own : (n d).con ≤ here.con = omega arith in
-        of_beside here n around known e m (λ v. slope_key (is_straight e) (lowered here.con -ℤ v.con) ≤ℤ slope_key (is_straight d) (lowered here.con -ℤ lowered (n d).con))
-        (le_of_keys _ _ _ _ (key_is (is_straight e) here.con (n e).con there) (key_is (is_straight d) here.con (n d).con own) (most e)) lower.beside;
+        subst (λ (v : Values). slope_key (is_straight e) (lowered here.con -ℤ v.con) ≤ℤ slope_key (is_straight d) (lowered here.con -ℤ lowered (n d).con))
+        (seen.data_is e m lower.beside)
+        (le_of_keys _ _ _ _ (key_is (is_straight e) here.con (n e).con there) (key_is (is_straight d) here.con (n d).con own) (most e));
   },
 )
   where
@@ -58,17 +70,17 @@ is_steepest here n around known d less most = (
     le_of_keys a b x y is_x is_y h = omega (arith, ints)
 
 -- the code leads down the steepest way
-steepest_from : (here : Numbers) (n : Direction → Numbers) (around : List (Option Values)) → IsInland here n around → (d : Direction) →
+pub steepest_from : (here : Numbers) (n : Direction → Numbers) (around : List (Option Values)) → AreSeen here n around → (d : Direction) →
     Names (pos here.dir) d → here.con ≤ 65535 → falls_steepest here.con here.dir (map (λ d. (n d).con) directions) ≡ true →
     IsSteepest (patch_of here around) d
 unfolding falls_steepest
-steepest_from here n around known d named fits h =
+steepest_from here n around seen d named fits h =
     let cons = λ (e : Direction). (n e).con in
     let parts = and_parts _ _ h in
     let next = named_is cons here.dir d named in
     let less : (n d).con < here.con = subst (λ x. x < here.con) next ((Decides-ltb _ _).0 parts.0) in
     let way = straight_is here.dir d named in
-    is_steepest here n around known d less (λ e. elim (or_cases _ _ parts.1) [
+    is_steepest here n around seen fits d less (λ e. elim (or_cases _ _ parts.1) [
       | inl straight ↦ (
           let bound = and_parts _ _ straight in
           let goes = and_parts _ _ bound.0 in
@@ -98,7 +110,7 @@ step_from here n around known d named h =
     let level = and_parts _ _ h in
     let least = le_from _ _ level.1 in (
       (λ lower. let e = lower.1.0 in
-          let below = number_of_lower here n around known e lower.1.1.0 lower.1.1.1 in
+          let below = number_of_lower here n around (seen_inland here n around known) e lower.1.1.0 lower.1.1.1 in
           let bound = least_bound (λ d. (n d).con) e in
           absurd (omega arith)),
       record {
@@ -130,7 +142,7 @@ of_direction here n around known h =
     (ap pos (sym ((Decides-eqb _ _).0 labelled.1) ∙ named_is (λ d. (n d).bas) here.dir e named)) beside in
     elim (or_cases _ _ goes.1) [
       | inl falls ↦ (
-          let steepest = steepest_from here n around known d code.1 most falls in
+          let steepest = steepest_from here n around (seen_inland here n around known) d code.1 most falls in
           record {
             named = code;
             slope = λ _. (d, code.1, steepest);

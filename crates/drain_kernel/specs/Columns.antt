@@ -1,11 +1,11 @@
 -- The tests at a column of three rows of lanes.
-use Rattle.std.specs.Prelude.{◌≢◌, ℕ, ◌≤◌, ◌<◌, pos, Bool, IsTrue, slice_index}
+use Rattle.std.specs.Prelude.{◌≢◌, ◌⊎◌, ℕ, ◌≤◌, ◌<◌, pos, Bool, IsTrue, slice_index}
 use Rattle.drain_grid.specs.Values.{NoDataNumbers}
 use Rattle.drain_kernel.specs.declared.lanes.Lanes.{Lanes}
 use Rattle.drain_kernel.specs.declared.rules.Rules.{Rules}
 use Rattle.drain_kernel.specs.Around.{around_in}
 use Rattle.drain_kernel.specs.Asked.{IfAsked}
-use Rattle.drain_kernel.specs.Tests.{AreComplete, have_data, keeps_surface, keeps_direction, keeps_accumulation, falls_or_nears}
+use Rattle.drain_kernel.specs.Tests.{AreComplete, have_data, keeps_surface, keeps_direction, keeps_accumulation, adds_up, falls_or_nears}
 
 abbrev pub is_inland_at : Lanes → Lanes → Lanes → ℕ → Bool
 is_inland_at a h b k = have_data (slice_index h.z.items k) (around_in a.z.items h.z.items b.z.items k)
@@ -23,6 +23,14 @@ abbrev pub keeps_accumulation_at : Lanes → Lanes → Lanes → ℕ → Bool
 keeps_accumulation_at a h b k =
     keeps_accumulation (slice_index h.acc.items k) (around_in a.dir.items h.dir.items b.dir.items k)
     (around_in a.acc.items h.acc.items b.acc.items k)
+
+abbrev pub adds_up_at : Lanes → Lanes → Lanes → ℕ → Bool
+adds_up_at a h b k =
+    adds_up (slice_index h.acc.items k) (around_in a.dir.items h.dir.items b.dir.items k) (around_in a.acc.items h.acc.items b.acc.items k)
+
+-- one of the two tests of the accumulation passes
+abbrev pub SumPassesAt : Lanes → Lanes → Lanes → ℕ → Type 0
+SumPassesAt a h b k = IsTrue (keeps_accumulation_at a h b k) ⊎ IsTrue (adds_up_at a h b k)
 
 abbrev pub is_ranked_at : Lanes → Lanes → Lanes → ℕ → Bool
 is_ranked_at a h b k =
@@ -48,7 +56,7 @@ pub record PassesAt (rules : Rules) (a h b : Lanes) (k : ℕ) : Type 0 where
   pub inland : IsTrue (is_inland_at a h b k)
   pub surface : IsTrue (keeps_surface_at a h b k)
   pub direction : IsTrue (keeps_direction_at a h b k)
-  pub accumulation : IsTrue (keeps_accumulation_at a h b k)
+  pub accumulation : SumPassesAt a h b k
   pub complete : IsCompleteAt rules.nodata h k
   pub ranks : IfAsked rules.ranks (RanksPassAt rules.nodata a h b k)
 

@@ -9,3 +9,4 @@ pub mod Tests
 pub mod Columns
 pub mod Counts
 pub mod Laws
+pub mod Falls

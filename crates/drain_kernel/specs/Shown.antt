@@ -77,7 +77,12 @@ pub record IsShownAt (above here below : Lanes) (k : ℕ) (p : Patch) (d : Direc
   pub is : neighbor p d ≡ Some v
   pub shown : Shows (row_beside above here below d) (col_beside k d) v
 
--- the patch round a column with eight neighbours, of a cell that is not listed as a sink
+-- the patch round a column with eight neighbours
+pub record IsShownRound (above here below : Lanes) (k : ℕ) (p : Patch) : Type 0 where
+  pub cell : Shows here k p.here
+  pub around_is : (d : Direction) → (v : Values) × IsShownAt above here below k p d v
+
+-- the same of a cell that is not listed as a sink
 pub record IsShown (above here below : Lanes) (k : ℕ) (p : Patch) : Type 0 where
   pub cell : Shows here k p.here
   pub not_listed : p.here.sink ≡ false

@@ -44,7 +44,7 @@ keeps_direction con code cons label labels =
 abbrev pub handed_on : ℕ → ℕ → ℕ → ℕ
 handed_on code back acc = if code == back then min acc 268435456 else 0
 
--- the rule of the accumulation
+-- the rule of the accumulation, where no neighbour's number is too large for such sums
 unfoldable pub keeps_accumulation : ℕ → List ℕ → List ℕ → Bool
 keeps_accumulation acc codes accs =
     nat_lt (max (max (max (slice_index accs 0) (slice_index accs 1)) (max (slice_index accs 2) (slice_index accs 3)))
@@ -53,6 +53,18 @@ keeps_accumulation acc codes accs =
     handed_on (slice_index codes 2) 64 (slice_index accs 2)) + handed_on (slice_index codes 3) 128 (slice_index accs 3)) +
     (((handed_on (slice_index codes 4) 1 (slice_index accs 4) + handed_on (slice_index codes 5) 2 (slice_index accs 5)) +
     handed_on (slice_index codes 6) 4 (slice_index accs 6)) + handed_on (slice_index codes 7) 8 (slice_index accs 7)) + 1
+
+-- what a neighbour passes on, however large it is
+abbrev pub passed_on : ℕ → ℕ → ℕ → ℕ
+passed_on code back acc = if code == back then acc else 0
+
+-- the rule of the accumulation, however large the numbers are
+unfoldable pub adds_up : ℕ → List ℕ → List ℕ → Bool
+adds_up acc codes accs =
+    acc == (((passed_on (slice_index codes 0) 16 (slice_index accs 0) + passed_on (slice_index codes 1) 32 (slice_index accs 1)) +
+    passed_on (slice_index codes 2) 64 (slice_index accs 2)) + passed_on (slice_index codes 3) 128 (slice_index accs 3)) +
+    (((passed_on (slice_index codes 4) 1 (slice_index accs 4) + passed_on (slice_index codes 5) 2 (slice_index accs 5)) +
+    passed_on (slice_index codes 6) 4 (slice_index accs 6)) + passed_on (slice_index codes 7) 8 (slice_index accs 7)) + 1
 
 -- the code leads to a smaller conditioned elevation, or to a smaller rank
 unfoldable pub falls_or_nears : ℕ → ℕ → List ℕ → ℕ → List ℕ → Bool

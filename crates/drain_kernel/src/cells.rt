@@ -1,7 +1,7 @@
 //! The tests at one cell, without a branch, so that a loop of them can take many cells at a time.
 
-ghost use Rattle.std.specs.Prelude.{◌≡◌, ◌≢◌, ◌≤◌, IsTrue, pos, ◌-ℤ◌};
-ghost use Rattle.drain_kernel.specs.Tests.{AreComplete, have_data, keeps_surface, keeps_direction, keeps_accumulation, falls_steepest, steps_along, square_of_drop, handed_on};
+ghost use Rattle.std.specs.Prelude.{◌≡◌, ◌≢◌, ◌≤◌, ◌<◌, ◌^◌, IsTrue, pos, ◌-ℤ◌};
+ghost use Rattle.drain_kernel.specs.Tests.{AreComplete, have_data, keeps_surface, keeps_direction, keeps_accumulation, adds_up, falls_steepest, steps_along, square_of_drop, handed_on, passed_on};
 
 use crate::around::{is_direction, is_straight, least_across, least_straight, named};
 use crate::narrowing::{is_lane, lane};
@@ -11,7 +11,7 @@ use drain_grid::NoData;
 const LARGE: u32 = 268435456;
 
 /// The greatest height in a lane, where heights are 32768 more than they are.
-const HIGHEST: u32 = 65535;
+pub(crate) const HIGHEST: u32 = 65535;
 
 /// Whether a cell and its neighbours have data.
 #[inline(always)]
@@ -52,7 +52,7 @@ fn square_of_drop(con: u32, low: u32) -> u32
 /// Whether the code leads down the steepest way.
 #[inline(always)]
 #[tactic(auto, unfolding(crate::specs::Tests::falls_steepest))]
-fn falls_steepest(con: u32, code: u32, cons: [u32; 8]) -> bool
+pub(crate) fn falls_steepest(con: u32, code: u32, cons: [u32; 8]) -> bool
     ensures { result ≡ falls_steepest con code cons }
 {
     let next = named(code, cons);
@@ -112,6 +112,32 @@ pub fn keeps_accumulation(acc: u32, codes: [u32; 8], accs: [u32; 8]) -> bool
     let low = accs[0].max(accs[1]).max(accs[2].max(accs[3]));
     let high = accs[4].max(accs[5]).max(accs[6].max(accs[7]));
     (low.max(high) < LARGE) & (acc == first + second + 1)
+}
+
+/// What a neighbour passes on, however large it is.
+#[inline(always)]
+fn passed_on(code: u32, back: u32, acc: u32) -> u64
+    ensures number { result ≡ passed_on code back acc }
+    ensures small { result < 2 ^ 32 }
+{
+    if code == back { u64::from(acc) } else { 0 }
+}
+
+/// The rule of the accumulation, at a cell where all have data, by sums of 64 bits, however large the numbers are.
+#[inline(always)]
+#[tactic(auto, unfolding(crate::specs::Tests::adds_up))]
+pub fn adds_up(acc: u32, codes: [u32; 8], accs: [u32; 8]) -> bool
+    ensures { result ≡ adds_up acc codes accs }
+{
+    let first = passed_on(codes[0], 16, accs[0])
+        + passed_on(codes[1], 32, accs[1])
+        + passed_on(codes[2], 64, accs[2])
+        + passed_on(codes[3], 128, accs[3]);
+    let second = passed_on(codes[4], 1, accs[4])
+        + passed_on(codes[5], 2, accs[5])
+        + passed_on(codes[6], 4, accs[6])
+        + passed_on(codes[7], 8, accs[7]);
+    u64::from(acc) == first + second + 1
 }
 
 /// Whether a lane isn't this number, converted to a lane first: so lanes are compared with lanes, and a loop converts

@@ -1,10 +1,12 @@
 //! The tests at a column of three rows.
 
 ghost use Rattle.std.specs.Prelude.{◌≡◌, ◌≤◌, ◌<◌, ◌+◌, IsTrue, vec_len};
-ghost use Rattle.drain_kernel.specs.Columns.{is_inland_at, keeps_surface_at, keeps_direction_at, keeps_accumulation_at, IsCompleteAt};
+ghost use Rattle.drain_kernel.specs.Columns.{is_inland_at, keeps_surface_at, keeps_direction_at, keeps_accumulation_at, adds_up_at, IsCompleteAt};
 
 use crate::around::around;
-use crate::cells::{are_complete, have_data, keeps_accumulation, keeps_direction, keeps_surface};
+use crate::cells::{
+    adds_up, are_complete, have_data, keeps_accumulation, keeps_direction, keeps_surface,
+};
 use crate::lanes::Lanes;
 use drain_grid::NoData;
 
@@ -59,6 +61,20 @@ pub fn accumulation_holds(above: &Lanes, here: &Lanes, below: &Lanes, k: usize) 
     let codes = around(&above.dir, &here.dir, &below.dir, k);
     let accs = around(&above.acc, &here.acc, &below.acc, k);
     keeps_accumulation(here.acc[k], codes, accs)
+}
+
+/// The rule of the accumulation, however large the numbers are.
+#[inline(always)]
+pub fn sum_holds(above: &Lanes, here: &Lanes, below: &Lanes, k: usize) -> bool
+    requires inner { 1 ≤ k }
+    requires above_len { k + 1 < vec_len above.now.z }
+    requires here_len { k + 1 < vec_len here.now.z }
+    requires below_len { k + 1 < vec_len below.now.z }
+    ensures { result ≡ adds_up_at above.now here.now below.now k }
+{
+    let codes = around(&above.dir, &here.dir, &below.dir, k);
+    let accs = around(&above.acc, &here.acc, &below.acc, k);
+    adds_up(here.acc[k], codes, accs)
 }
 
 /// Whether no product but the rank has its no-data number.

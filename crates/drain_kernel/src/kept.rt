@@ -21,7 +21,7 @@ const BLOCK: usize = 64;
 const GROUP: usize = 8;
 
 /// Whether all three rows have ranks, if ranks are checked.
-fn ranks_are_there(above: &Lanes, here: &Lanes, below: &Lanes, ranks: Ranks) -> bool
+pub(crate) fn ranks_are_there(above: &Lanes, here: &Lanes, below: &Lanes, ranks: Ranks) -> bool
     ensures { IsTrue result → IfAsked ranks (HaveRanks above.now here.now below.now) }
 {
     match ranks {

@@ -4,6 +4,7 @@
 mod around;
 mod cells;
 mod columns;
+pub mod falls;
 pub mod kept;
 pub mod lanes;
 pub mod laws;
@@ -13,6 +14,7 @@ pub mod rules;
 mod stretches;
 mod strides;
 
+pub use falls::falls_at;
 pub use kept::kept_until;
 pub use lanes::Lanes;
 pub use rules::{Ranks, Rules};

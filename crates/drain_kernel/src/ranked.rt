@@ -46,7 +46,7 @@ fn rnk_differs(rnk: u32, nodata: &NoData) -> bool
 
 /// Whether the rank at a column isn't.
 #[inline(always)]
-fn has_rank(here: &Lanes, nodata: &NoData, k: usize) -> bool
+pub(crate) fn has_rank(here: &Lanes, nodata: &NoData, k: usize) -> bool
     requires here_ranks { k < vec_len here.now.rnk }
     ensures { IsTrue result → HasRankAt nodata.now here.now k }
 {

@@ -2,13 +2,15 @@
 
 ghost use Rattle.std.specs.Prelude.{◌≡◌, ◌≤◌, ◌<◌, IsTrue, vec_len};
 ghost use Rattle.drain_kernel.specs.Asked.{IfAsked};
-ghost use Rattle.drain_kernel.specs.Columns.{Along, PassesAt, RanksPassAt};
+ghost use Rattle.drain_kernel.specs.Columns.{Along, PassesAt, RanksPassAt, SumPassesAt};
 ghost use Rattle.drain_kernel.specs.Shown.{HaveRanks};
 
 use crate::lanes::Lanes;
 use crate::ranked::{all_have_ranks, all_ranked};
 use crate::rules::{Ranks, Rules};
-use crate::stretches::{all_accumulation, all_complete, all_direction, all_inland, all_surface};
+use crate::stretches::{
+    all_accumulation, all_complete, all_direction, all_inland, all_sums, all_surface,
+};
 
 /// Whether the tests of ranks pass, if ranks are checked.
 fn ranks_pass(
@@ -36,6 +38,18 @@ fn ranks_pass(
     }
 }
 
+/// Whether the rule of the accumulation holds: by sums of 32 bits, else by sums of 64.
+fn sums_pass(above: &Lanes, here: &Lanes, below: &Lanes, from: usize, end: usize) -> bool
+    requires inner { 1 ≤ from }
+    requires ordered { from ≤ end }
+    requires above_len { end < vec_len above.now.z }
+    requires here_len { end < vec_len here.now.z }
+    requires below_len { end < vec_len below.now.z }
+    ensures { IsTrue result → Along from end (SumPassesAt above.now here.now below.now) }
+{
+    all_accumulation(above, here, below, from, end) || all_sums(above, here, below, from, end)
+}
+
 /// Whether all tests pass. The test of voids comes first: at right products little else fails, and it is the cheapest.
 fn all_pass(
     above: &Lanes,
@@ -56,7 +70,7 @@ fn all_pass(
     all_inland(above, here, below, from, end)
         && all_surface(above, here, below, from, end)
         && all_direction(above, here, below, from, end)
-        && all_accumulation(above, here, below, from, end)
+        && sums_pass(above, here, below, from, end)
         && all_complete(here, &rules.nodata, from, end)
         && ranks_pass(above, here, below, rules, from, end)
 }

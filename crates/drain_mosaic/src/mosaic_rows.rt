@@ -102,7 +102,7 @@ impl MosaicRows {
     /// `from` has the tiles in the layout's order, the same at each call. After the last row every tile is read to its
     /// end, and `Ended` is returned. `ReadFailed` comes if a device fails for good, `OutOfMemory` if memory for a row
     /// runs out. After either every later call returns `AlreadyFailed`, and after `Ended` it returns `Ended`; these
-    /// read nothing.
+    /// read nothing. Only a row that is given changes `seam`.
     pub fn next_row<R: ByteSource>(
         &mut self,
         from: &mut [TileInput<R>],
@@ -132,6 +132,7 @@ impl MosaicRows {
 
         // What stays.
         ensures names { names_of from.new ≡ names_of from.old }
+        ensures keeps_seam { result ≢ Ok RowStep.Row → self.new.seam ≡ self.old.seam }
         ensures keeps_shape { self.new.shape ≡ self.old.shape }
         ensures keeps_tiles { length self.new.tiles.items ≡ length self.old.tiles.items }
     {

@@ -27,6 +27,25 @@ pub fn page_json(alloc: Global, facts: &Facts) -> Result<String, OutOfMemory>
     }
 }
 
+/// The same object for a failure: its answer is this line, and all other members are null or empty.
+pub fn failure_json(alloc: Global, line: &str) -> Result<String, OutOfMemory>
+    ensures { IfOk result (λ line. IsJsonLine (string_bytes line)) }
+{
+    let mut json = JsonText::new(alloc);
+    match write_failure(&mut json, line) {
+        Ok(()) => json.into_line(),
+        Err(e) => Err(e),
+    }
+}
+
+fn write_failure(json: &mut JsonText, line: &str) -> Result<(), OutOfMemory> {
+    json.begin_object_item()?;
+    json.text("answer", line)?;
+    json.null("refusal")?;
+    write_no_findings(json)?;
+    json.end_object()
+}
+
 fn write_page(alloc: Global, json: &mut JsonText, facts: &Facts) -> Result<(), OutOfMemory> {
     json.begin_object_item()?;
     json.text("answer", answer_line(&facts.answer).as_str())?;

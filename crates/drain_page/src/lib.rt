@@ -33,7 +33,7 @@ pub mod ways;
 mod writing;
 
 pub use facts::{Answer, Facts, Findings};
-pub use json_page::page_json;
+pub use json_page::{failure_json, page_json};
 pub use place::MosaicPlace;
-pub use refusal_note::{Extent, NoData, RefusalNote, TileValue};
+pub use refusal_note::{Extent, NoData, RefusalNote, SHOWN_BYTES, TileValue};
 pub use text_page::page_text;

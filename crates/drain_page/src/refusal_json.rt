@@ -71,7 +71,11 @@ fn write_members(
             found,
         } => write_raster_length(json, *product, *expected, *found),
         RefusalNote::Seam { first, other } => write_seam(json, first, other),
-        RefusalNote::SinkLine { number, text } => write_sink_line(alloc, json, *number, text),
+        RefusalNote::SinkLine {
+            number,
+            start,
+            bytes,
+        } => write_sink_line(alloc, json, *number, start, *bytes),
         RefusalNote::SinkCell {
             number,
             row,
@@ -176,14 +180,17 @@ fn write_value(json: &mut JsonText, name: &str, value: &TileValue) -> Result<(),
     json.end_object()
 }
 
+/// The first bytes of a line, and how many the line has.
 fn write_sink_line(
     alloc: Global,
     json: &mut JsonText,
     line: u64,
     found: &[u8],
+    bytes: u64,
 ) -> Result<(), OutOfMemory> {
     json.count("line", line)?;
-    write_shown(alloc, json, found)
+    write_shown(alloc, json, found)?;
+    json.count("bytes", bytes)
 }
 
 fn write_sink_cell(

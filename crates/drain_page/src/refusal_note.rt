@@ -4,6 +4,9 @@ use drain_grid::Product;
 use drain_header::Place;
 use drain_hgt::TileName;
 
+/// How many bytes of a bad line of a list of sinks are shown.
+pub const SHOWN_BYTES: usize = 80;
+
 /// The details of a refusal beyond its line.
 #[derive(PartialEq, Eq, Debug, Drop)]
 pub enum RefusalNote {
@@ -40,10 +43,12 @@ pub enum RefusalNote {
         first: TileValue,
         other: TileValue,
     },
-    /// `BadSinkLine`: the line as in the list.
+    /// `BadSinkLine`: the first `SHOWN_BYTES` bytes of the line as in the list, or all of a shorter one, and how many
+    /// bytes the line has.
     SinkLine {
         number: u64,
-        text: Vec<u8>,
+        start: Vec<u8>,
+        bytes: u64,
     },
     /// `SinkNotData`: the cell that the line lists, by row and column, and why it isn't a data cell.
     SinkCell {

@@ -71,10 +71,15 @@ fn push_found(alloc: Global, text: &mut Vec<u8>, note: &RefusalNote) -> Result<(
             push_raster_length(text, *product, *found)
         }
         RefusalNote::Seam { other, .. } => push_seam(text, "", other),
-        RefusalNote::SinkLine { number, text: line } => {
+        RefusalNote::SinkLine {
+            number,
+            start,
+            bytes,
+        } => {
             push_line_number(text, *number)?;
+            push_how_much(text, start.len() as u64, *bytes)?;
             push(text, ": ")?;
-            push(text, shown_bytes(alloc, line)?.as_str())
+            push(text, shown_bytes(alloc, start)?.as_str())
         }
         RefusalNote::SinkCell { row, col, why, .. } => {
             push_row_col(text, *row, *col)?;
@@ -136,6 +141,16 @@ fn push_seam(text: &mut Vec<u8>, words: &str, value: &TileValue) -> Result<(), O
 fn push_line_number(text: &mut Vec<u8>, number: u64) -> Result<(), OutOfMemory> {
     push(text, "line ")?;
     push_count(text, number)
+}
+
+/// How much of a line is shown, if it isn't the whole line.
+fn push_how_much(text: &mut Vec<u8>, shown: u64, bytes: u64) -> Result<(), OutOfMemory> {
+    if shown >= bytes {
+        return Ok(());
+    }
+    push(text, ", the first ")?;
+    push_count(text, shown)?;
+    push_bytes_long(text, " of ", bytes)
 }
 
 fn push_no_data(text: &mut Vec<u8>, why: NoData) -> Result<(), OutOfMemory> {

@@ -6,7 +6,7 @@ use Rattle.drain_grid.specs.declared.direction.Direction.TheVariants.{East, Sout
 use Rattle.drain_grid.specs.Values.{Values}
 use Rattle.drain_kernel.specs.declared.lanes.Lanes.{Lanes}
 use Rattle.drain_kernel.specs.Laws.{LanesShowNumbers}
-use Rattle.drain_kernel.specs.Shown.{IsInner, IsShown, IsShownAt, Shows}
+use Rattle.drain_kernel.specs.Shown.{IsInner, IsShown, IsShownAt, IsShownRound, Shows}
 use Rattle.drain_kernel.specs.Taken.{AreLanesOf}
 use Rattle.drain_rules.specs.declared.three_rows.ThreeRows.{ThreeRows}
 use Rattle.drain_rules.specs.MarkedRows.{MarkedRow, beside, values_in, west_of}
@@ -58,7 +58,11 @@ module _ (show : LanesShowNumbers) (rows : ThreeRows) (above here below : Lanes)
       let less : col + 1 < length rows.above.numbers.z = omega (arith, inner.above_right, over.len) in
       (values_in rows.above (col + 1), record { is = beside_is rows.above (col + 1) less; shown = row_shown show above rows.above over (col + 1) less })
 
-  -- so the patch is, of a cell that isn't marked
+  -- so the patch is
+  pub patch_shown_round : IsShownRound above here below col (patch_in rows col)
+  patch_shown_round = record { cell = row_shown show here rows.here at col (omega (arith, inner.here_right, at.len)); around_is = around }
+
+  -- and of a cell that isn't marked
   pub patch_shown : slice_index_or rows.here.sinks col false ≡ false → IsShown above here below col (patch_in rows col)
   patch_shown unmarked = record {
     cell = row_shown show here rows.here at col (omega (arith, inner.here_right, at.len));

@@ -1,12 +1,18 @@
 //! A row of a grid and its products, with the rows above and below it; and the patch round a column.
 
+ghost use Rattle.std.specs.Prelude.{◌≤◌, ◌<◌, ℕ, length};
+ghost use Rattle.drain_kernel.specs.Kept.{IsKept};
+ghost use Rattle.drain_kernel.specs.Rules.{tried};
+ghost use Rattle.drain_kernel.specs.Taken.{AreLanesOf};
+ghost use Rattle.drain_rules.specs.ThreeRows.{patch_in};
+
 use crate::blank_void::is_blank_void;
 use crate::kept::Kept;
 use crate::patch_row::PatchRow;
 use crate::row_view::RowView;
 use drain_grid::Patch;
 use drain_kernel::laws::{lanes_show_numbers, raised_are_counted};
-use drain_kernel::{Rules, kept_until};
+use drain_kernel::{Lanes, Rules, falls_at, kept_until};
 
 /// A row, and those above and below it; empty at the grid's edge.
 #[derive(Drop)]
@@ -37,7 +43,7 @@ impl PatchRow for ThreeRows<'_> {
         }
     }
 
-    /// Those that the lanes of the three rows clear, up to a marked cell; none if a row has no lanes.
+    /// Those that the lanes of the three rows clear; none if a row has no lanes.
     fn kept_from(&self, rules: &Rules, from: u32) -> Kept {
         let (Some(above), Some(here), Some(below)) = (
             self.above.lanes(),
@@ -50,8 +56,7 @@ impl PatchRow for ThreeRows<'_> {
         lanes_show_numbers();
         raised_are_counted();
         let first = from as usize;
-        let until = self.here.unmarked_until(first);
-        let end = kept_until(above, here, below, rules, first, until);
+        let end = cleared_until(self, above, here, below, rules, first);
         Kept {
             end: end as u32,
             raised: here.raised_between(first, end),
@@ -84,4 +89,37 @@ impl PatchRow for ThreeRows<'_> {
             ],
         }
     }
+}
+
+/// How far from a column on the lanes of the three rows clear cells: many at once up to a marked cell or a void, and
+/// one by one those that lie on their ground and fall, whatever is beside them.
+fn cleared_until(
+    rows: &ThreeRows<'_>,
+    above: &Lanes,
+    here: &Lanes,
+    below: &Lanes,
+    rules: &Rules,
+    from: usize,
+) -> usize
+    requires above_lanes { AreLanesOf above.now rows.now.above.numbers.z rows.now.above.numbers.products }
+    requires here_lanes { AreLanesOf here.now rows.now.here.numbers.z rows.now.here.numbers.products }
+    requires below_lanes { AreLanesOf below.now rows.now.below.numbers.z rows.now.below.numbers.products }
+    requires inside { from ≤ length rows.now.here.numbers.z }
+    ensures forward { from ≤ result }
+    ensures within { result ≤ length rows.now.here.numbers.z }
+    ensures kept { (col : ℕ) → from ≤ col → col < result → IsKept (tried rules.now) (patch_in rows.now col) }
+{
+    // The law on what lanes show.
+    lanes_show_numbers();
+    let cols = here.cols();
+    let mut col = from;
+    while col < cols {
+        let until = rows.here.unmarked_until(col);
+        let end = kept_until(above, here, below, rules, col, until);
+        if !falls_at(above, here, below, rules, end) {
+            return end;
+        }
+        col = end + 1;
+    }
+    col
 }

@@ -1,6 +1,6 @@
 -- Steps along a run that doesn't end.
 use Rattle.std.proofs.Common.{nat_lt, true, false, ◌≡◌, ◌≢◌, ◌<◌, ◌≤◌, ◌+◌, ◌++◌, ◌∷◌, ◌∙◌, ℕ, zero, suc, inl, inr, List, [], length, slice_get, Option, Some, None, option_and_then, refl, sym, ap, subst, arith}
-use Rattle.std.specs.Prelude.{min, Result, Ok, Err, IfOk, IfSome}
+use Rattle.std.specs.Prelude.{min}
 use Rattle.std.proofs.lemmas.Bool.{cases_Bool, cases_order}
 use Rattle.std.proofs.lemmas.Bool.Decides.{nat_tests}
 use Rattle.std.proofs.lemmas.List.{length-append}
@@ -10,10 +10,7 @@ use Rattle.drain_grid.specs.Grid.{Grid, Products, HasData}
 use Rattle.drain_grid.specs.Run.{next}
 use Rattle.drain_grid.proofs.EndedRuns.{HasData-next}
 use Rattle.drain_grid.proofs.Options.{none_some, same_some}
-use Rattle.drain_grid.specs.declared.memory.OutOfMemory.{OutOfMemory}
-use Rattle.drain_runs.specs.EndlessRuns.{IsEndlessRun, IsReached, IsRing, IsRingFrom, cell_after, told_with}
-use Rattle.drain_runs.specs.declared.endless_run.EndlessRun.{EndlessRun}
-use Rattle.drain_runs.specs.declared.endless_run.EndlessRun.TheVariants.{Ring, Lost}
+use Rattle.drain_runs.specs.EndlessRuns.{IsReached, IsRingFrom, cell_after, told_with}
 use Rattle.drain_runs.specs.declared.endless_run.TheConstants.{RING_TOLD}
 
 -- one step more
@@ -33,15 +30,21 @@ led-more g ps c d e k led on = subst (λ n. cell_after g ps n c ≡ Some e) (suc
     suc_is : (k : ℕ) → suc k ≡ k + 1
     suc_is k = omega arith
 
--- the start is reached, and what follows a cell that is
-pub reached-start : (g : Grid) (ps : Products) (c : Cell) → HasData g c → IsReached g ps c c
-reached-start g ps c here = record { has_data = here; led = (0, refl) }
+-- n steps have led from the start to a data cell
+pub record HasCome (g : Grid) (ps : Products) (start here : Cell) (walked : ℕ) : Type 0 where
+  pub has_data : HasData g here
+  pub led : cell_after g ps walked start ≡ Some here
 
-pub reached-more : (g : Grid) (ps : Products) (start c n : Cell) → IsReached g ps start c → next g ps c ≡ Some n → IsReached g ps start n
-reached-more g ps start c n reached on = record {
-  has_data = HasData-next g ps c n on;
-  led = (suc reached.led.0, after-more g ps reached.led.0 start c n reached.led.1 on);
-}
+pub come-none : (g : Grid) (ps : Products) (start : Cell) → HasData g start → HasCome g ps start start 0
+come-none g ps start here = record { has_data = here; led = refl }
+
+pub come-more : (g : Grid) (ps : Products) (start here n : Cell) (walked : ℕ) → HasCome g ps start here walked → next g ps here ≡ Some n →
+    HasCome g ps start n (walked + 1)
+come-more g ps start here n walked come on = record { has_data = HasData-next g ps here n on; led = led-more g ps start here n walked come.led on }
+
+-- so the cell is reached
+pub reached-after : (g : Grid) (ps : Products) (start here : Cell) (walked : ℕ) → HasCome g ps start here walked → IsReached g ps start here
+reached-after g ps start here walked come = record { has_data = come.has_data; led = (walked, come.led) }
 
 -- a walk that hasn't come back yet
 pub record HasWalked (g : Grid) (ps : Products) (first here : Cell) (walked : ℕ) : Type 0 where
@@ -131,14 +134,3 @@ told-more g ps first here cells walked passed told led = elim (cases_Bool (nat_l
       rw few (passed-more g ps first here cells passed (ap (λ k. cell_after g ps k first) long ∙ led)))
   | inr many ↦ rw many passed
 ]
-
--- a ring that the run of the start reaches
-pub ring-of : (Known : Grid → Products → Type 0) (start here : Cell) → ((g : Grid) (ps : Products) → Known g ps → HasData g start → IsReached g ps start here) →
-    (result : Result (Option EndlessRun) OutOfMemory) → IfOk result (λ told. (g : Grid) (ps : Products) → Known g ps → HasData g here → IfSome told (IsRing g ps here)) →
-    IfOk result (λ told. (g : Grid) (ps : Products) → Known g ps → HasData g start → IfSome told (IsEndlessRun g ps start))
-ring-of Known start here reached (Err e) rings = tt
-ring-of Known start here reached (Ok None) rings = λ g ps known has. tt
-ring-of Known start here reached (Ok (Some (Ring cells steps))) rings = λ g ps known has.
-    let came = reached g ps known has in
-    (here, came, rings g ps known came.has_data)
-ring-of Known start here reached (Ok (Some (Lost c by))) rings = λ g ps known has. absurd (rings g ps known (reached g ps known has).has_data)

@@ -1,6 +1,6 @@
 -- Flows that are known, one after another: those of a grid are, and so they are once a cell whose run ends is recorded
 -- as such. And what they say of the way from a cell.
-use Rattle.std.proofs.Common.{◌≡◌, ◌≢◌, ◌<◌, ℕ, ◌∙◌, inl, inr, ℤ, List, length, Option, Some, None, IsSome, IsNone, get_or, set, get_or-set_other, get_or-set_same, refl, sym, ap, subst}
+use Rattle.std.proofs.Common.{◌≡◌, ◌≢◌, ◌<◌, ℕ, ◌∙◌, inl, inr, ℤ, pos, List, length, Option, Some, None, IsSome, IsNone, get_or, set, get_or-set_other, get_or-set_same, refl, sym, ap, subst}
 use Rattle.std.proofs.lemmas.Bool.{cases_eq}
 use Rattle.drain_grid.specs.declared.cell.Cell.{Cell}
 use Rattle.drain_grid.specs.declared.direction.Direction.{Direction}
@@ -11,7 +11,7 @@ use Rattle.drain_grid.specs.Run.{next, RunEnds}
 use Rattle.drain_grid.specs.Size.{Extent}
 use Rattle.drain_grid.proofs.Codes.{code-not_zero, next-named}
 use Rattle.drain_grid.proofs.Options.{none_some}
-use Rattle.drain_grid.proofs.Walks.{EndsAfter-zero, endless-stuck}
+use Rattle.drain_grid.proofs.Walks.{EndsAfter-zero}
 use Rattle.drain_runs.specs.declared.flow.Flow.{Flow}
 use Rattle.drain_runs.specs.declared.flow.Flow.TheVariants.{Void, Lost, Ends, ToEast, ToSouthEast, ToSouth, ToSouthWest, ToWest, ToNorthWest, ToNorth, ToNorthEast}
 use Rattle.drain_runs.specs.Flows.{direction_of, cell_flow, flow_at, AreFlowsOf}
@@ -92,33 +92,31 @@ pub known_at : (g : Grid) (ps : Products) (e : Extent) (flows : List Flow) (c : 
 known_at g ps e flows c index f known inside at is =
     subst (IsKnownFlow g ps c) (sym (is ∙ ap (λ k. get_or flows k Void) at)) (known.each c inside)
 
--- a data cell that leads nowhere, and isn't known to end, has a run that doesn't end
-pub endless_nowhere : (g : Grid) (ps : Products) (c : Cell) (f : Flow) → IsKnownFlow g ps c f → HasData g c → direction_of f ≡ None → f ≢ Ends → ¬ RunEnds g ps c
-endless_nowhere g ps c Void known here nowhere other = absurd (no_void (g.elevation c) (known.void refl) here.is_data)
-endless_nowhere g ps c Lost known here nowhere other = endless-stuck g ps c (next-of_no_code g ps c (known.lost refl)) (λ is. known.lost refl (inl is))
-endless_nowhere g ps c Ends known here nowhere other = absurd (other refl)
-endless_nowhere g ps c ToEast known here nowhere other = absurd (none_some East (sym nowhere))
-endless_nowhere g ps c ToSouthEast known here nowhere other = absurd (none_some SouthEast (sym nowhere))
-endless_nowhere g ps c ToSouth known here nowhere other = absurd (none_some South (sym nowhere))
-endless_nowhere g ps c ToSouthWest known here nowhere other = absurd (none_some SouthWest (sym nowhere))
-endless_nowhere g ps c ToWest known here nowhere other = absurd (none_some West (sym nowhere))
-endless_nowhere g ps c ToNorthWest known here nowhere other = absurd (none_some NorthWest (sym nowhere))
-endless_nowhere g ps c ToNorth known here nowhere other = absurd (none_some North (sym nowhere))
-endless_nowhere g ps c ToNorthEast known here nowhere other = absurd (none_some NorthEast (sym nowhere))
+-- a data cell that leads nowhere, and isn't known to end, goes nowhere with another code than 0
+pub stuck_nowhere : (g : Grid) (ps : Products) (c : Cell) (f : Flow) → IsKnownFlow g ps c f → HasData g c → direction_of f ≡ None → f ≢ Ends → (next g ps c ≡ None) × (ps.dir c ≢ pos 0)
+stuck_nowhere g ps c Void known here nowhere other = absurd (no_void (g.elevation c) (known.void refl) here.is_data)
+stuck_nowhere g ps c Lost known here nowhere other = (next-of_no_code g ps c (known.lost refl), λ is. known.lost refl (inl is))
+stuck_nowhere g ps c Ends known here nowhere other = absurd (other refl)
+stuck_nowhere g ps c ToEast known here nowhere other = absurd (none_some East (sym nowhere))
+stuck_nowhere g ps c ToSouthEast known here nowhere other = absurd (none_some SouthEast (sym nowhere))
+stuck_nowhere g ps c ToSouth known here nowhere other = absurd (none_some South (sym nowhere))
+stuck_nowhere g ps c ToSouthWest known here nowhere other = absurd (none_some SouthWest (sym nowhere))
+stuck_nowhere g ps c ToWest known here nowhere other = absurd (none_some West (sym nowhere))
+stuck_nowhere g ps c ToNorthWest known here nowhere other = absurd (none_some NorthWest (sym nowhere))
+stuck_nowhere g ps c ToNorth known here nowhere other = absurd (none_some North (sym nowhere))
+stuck_nowhere g ps c ToNorthEast known here nowhere other = absurd (none_some NorthEast (sym nowhere))
 
 module _ (g : Grid) (ps : Products) (e : Extent) (extent : g.extent ≡ e) (c : Cell) (f : Flow) (known : IsKnownFlow g ps c f) where
-  pub endless_outside : (d : Direction) → direction_of f ≡ Some d → step e c d ≡ None → ¬ RunEnds g ps c
-  endless_outside d leads outside =
+  pub stuck_outside : (d : Direction) → direction_of f ≡ Some d → step e c d ≡ None → (next g ps c ≡ None) × (ps.dir c ≢ pos 0)
+  stuck_outside d leads outside =
       let named = known.leads d leads in
-      endless-stuck g ps c (next-outside g ps c d named (ap (λ (x : Extent). step x c d) extent ∙ outside))
-      (code-not_zero (ps.dir c) d named)
+      (next-outside g ps c d named (ap (λ (x : Extent). step x c d) extent ∙ outside), code-not_zero (ps.dir c) d named)
 
-  pub endless_void : (d : Direction) (n : Cell) (there : Flow) → direction_of f ≡ Some d → step e c d ≡ Some n →
-      IsKnownFlow g ps n there → there ≡ Void → ¬ RunEnds g ps c
-  endless_void d n there leads to_n known_there void =
+  pub stuck_void : (d : Direction) (n : Cell) (there : Flow) → direction_of f ≡ Some d → step e c d ≡ Some n →
+      IsKnownFlow g ps n there → there ≡ Void → (next g ps c ≡ None) × (ps.dir c ≢ pos 0)
+  stuck_void d n there leads to_n known_there void =
       let named = known.leads d leads in
-      endless-stuck g ps c (next-void g ps c n d named (ap (λ (x : Extent). step x c d) extent ∙ to_n) (known_there.void void))
-      (code-not_zero (ps.dir c) d named)
+      (next-void g ps c n d named (ap (λ (x : Extent). step x c d) extent ∙ to_n) (known_there.void void), code-not_zero (ps.dir c) d named)
 
   pub leads_on : (d : Direction) (n : Cell) (there : Flow) → direction_of f ≡ Some d → step e c d ≡ Some n →
       IsKnownFlow g ps n there → there ≢ Void → next g ps c ≡ Some n

@@ -8,6 +8,7 @@ pub mod GridFlows
 pub mod KnownWays
 pub mod NextCells
 pub mod RankLemmas
+pub mod Rings
 pub mod RowFlows
 pub mod Shorter
 pub mod StepLemmas

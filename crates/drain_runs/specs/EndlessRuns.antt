@@ -1,17 +1,19 @@
 -- Where a run without an end leads: to a ring, or to a cell from which it leads nowhere. This project's own terms for
 -- D8.
-use Rattle.std.specs.Prelude.{◌≡◌, ◌≢◌, ◌<◌, ◌++◌, ◌∷◌, [], ℕ, zero, suc, min, nat_lt, if◌then◌else◌, List, length, slice_get, Option, Some, None, IsNone, option_and_then}
+use Rattle.std.specs.Prelude.{◌≡◌, ◌≢◌, ◌<◌, ◌≤◌, ◌*◌, ◌⊎◌, ◌++◌, ◌∷◌, [], ℕ, zero, suc, min, nat_lt, if◌then◌else◌, List, length, slice_get, Option, Some, None, IsNone, option_and_then}
 use Rattle.drain_grid.specs.declared.cell.Cell.{Cell}
 use Rattle.drain_grid.specs.declared.direction.Direction.{Direction}
 use Rattle.drain_grid.specs.Direction.{IsCode, Names}
 use Rattle.drain_grid.specs.Extent.{step}
 use Rattle.drain_grid.specs.Grid.{Grid, Products, HasData}
-use Rattle.drain_grid.specs.Run.{next}
+use Rattle.drain_grid.specs.Run.{next, RunEnds}
 use Rattle.drain_runs.specs.declared.endless_run.EndlessRun.{EndlessRun}
 use Rattle.drain_runs.specs.declared.endless_run.EndlessRun.TheVariants.{Ring, Lost}
 use Rattle.drain_runs.specs.declared.endless_run.LostBy.{LostBy}
 use Rattle.drain_runs.specs.declared.endless_run.LostBy.TheVariants.{NoCode, Outside, Void}
 use Rattle.drain_runs.specs.declared.endless_run.TheConstants.{RING_TOLD}
+use Rattle.drain_runs.specs.declared.way.Way.TheVariants as way
+use Rattle.drain_runs.specs.Ways.{IsWay}
 
 -- the cell to which the codes lead from a cell in n steps, none if they lead nowhere before
 abbrev pub cell_after : Grid → Products → ℕ → Cell → Option Cell
@@ -27,6 +29,15 @@ pub record IsReached (g : Grid) (ps : Products) (start c : Cell) : Type 0 where
   pub has_data : HasData g c
   pub led : LeadsTo g ps start c
 
+-- it is reached, and either leads nowhere with another code than 0, or is reached in as many steps as there are cells
+pub record IsFarthest (g : Grid) (ps : Products) (start c : Cell) : Type 0 where
+  pub reached : IsReached g ps start c
+  pub far : IsWay g ps c way.Lost ⊎ (cell_after g ps (g.extent.rows * g.extent.cols) start ≡ Some c)
+
+-- the code of a cell leads on, or its run ends
+abbrev pub LeadsOnOrEnds : Grid → Products → Cell → Type 0
+LeadsOnOrEnds g ps c = ((n : Cell) × (next g ps c ≡ Some n)) ⊎ RunEnds g ps c
+
 -- why the code of a cell leads nowhere
 abbrev pub IsLostBy : Grid → Products → Cell → LostBy → Type 0
 IsLostBy g ps c NoCode = ¬ IsCode (ps.dir c)
@@ -38,6 +49,10 @@ pub record IsRingFrom (g : Grid) (ps : Products) (c : Cell) (steps : ℕ) : Type
   pub some : 0 < steps
   pub closed : cell_after g ps steps c ≡ Some c
   pub first : (k : ℕ) → 0 < k → k < steps → cell_after g ps k c ≢ Some c
+
+-- the codes don't come back to the cell within as many steps as there are cells
+abbrev pub IsOnNoRing : Grid → Products → Cell → Type 0
+IsOnNoRing g ps c = (k : ℕ) → 0 < k → k ≤ g.extent.rows * g.extent.cols → cell_after g ps k c ≢ Some c
 
 -- the first cells of the ring: all, or 20 where there are more
 pub record AreCellsFrom (g : Grid) (ps : Products) (c : Cell) (steps : ℕ) (cells : List Cell) : Type 0 where

@@ -1,5 +1,5 @@
 -- What flows say once cells whose runs end are recorded as such: less than codes, and as much as walks need.
-use Rattle.std.specs.Prelude.{◌≡◌, ◌≢◌, List, Some, None, IsSome, IsNone}
+use Rattle.std.specs.Prelude.{◌≡◌, ◌≢◌, List, Some, IsSome, IsNone}
 use Rattle.drain_grid.specs.declared.cell.Cell.{Cell}
 use Rattle.drain_grid.specs.declared.direction.Direction.{Direction}
 use Rattle.drain_grid.specs.Direction.{IsCode, Names}
@@ -13,6 +13,7 @@ use Rattle.drain_runs.specs.declared.way.Way.{Way}
 use Rattle.drain_runs.specs.declared.way.Way.TheVariants.{On}
 use Rattle.drain_runs.specs.declared.way.Way.TheVariants as way
 use Rattle.drain_runs.specs.Flows.{direction_of, flow_at}
+use Rattle.drain_runs.specs.Ways.{IsWay}
 
 -- what the flow says of the cell is so: a void where there is no elevation, an end where the run ends, else what the code says
 pub record IsKnownFlow (g : Grid) (ps : Products) (c : Cell) (f : Flow) : Type 0 where
@@ -31,7 +32,7 @@ pub record AreKnownFlows (g : Grid) (ps : Products) (e : Extent) (flows : List F
 abbrev pub IsKnownWay : Grid → Products → Cell → Way → Type 0
 IsKnownWay g ps c way.Ends = RunEnds g ps c
 IsKnownWay g ps c (On n) = next g ps c ≡ Some n
-IsKnownWay g ps c way.Lost = ¬ RunEnds g ps c
+IsKnownWay g ps c way.Lost = IsWay g ps c way.Lost
 
 -- a cell that it leads to is in the grid
 abbrev pub IsWayWithin : Extent → Way → Type 0

@@ -1,9 +1,10 @@
 //! Where a run without an end leads: to a ring of cells, or to a cell from which it leads nowhere.
 
-ghost use Rattle.std.specs.Prelude.{◌≡◌, ◌*◌, length, IfOk, IfSome, OnOk};
+ghost use Rattle.std.specs.Prelude.{◌≡◌, ◌*◌, length, IfOk, IfSome, MatchOption, OnOk};
 ghost use Rattle.drain_grid.specs.Extent.{IsCellOf};
 ghost use Rattle.drain_grid.specs.Grid.{Grid, Products, HasData};
-ghost use Rattle.drain_runs.specs.EndlessRuns.{IsEndlessRun, IsLostBy, IsReached, IsRing, told_with};
+ghost use Rattle.drain_grid.specs.Run.{RunEnds};
+ghost use Rattle.drain_runs.specs.EndlessRuns.{IsEndlessRun, IsFarthest, IsLostBy, IsOnNoRing, IsRing, LeadsOnOrEnds, told_with};
 ghost use Rattle.drain_runs.specs.KnownFlows.{AreKnownFlows};
 
 use crate::cell_flows::CellFlows;
@@ -45,7 +46,7 @@ pub enum EndlessRun {
 }
 
 impl CellFlows {
-    /// Where the run of a data cell leads, from the flows of all cells of a grid, if it doesn't end.
+    /// Where the run of a data cell leads, from the flows of all cells of a grid; none exactly if it ends.
     pub fn endless_run(
         &self,
         alloc: Global,
@@ -54,7 +55,7 @@ impl CellFlows {
     ) -> Result<Option<EndlessRun>, OutOfMemory>
         requires counted { length self.now ≡ shape.rows * shape.cols }
         requires inside { IsCellOf shape start }
-        ensures { IfOk result (λ told. (g : Grid) → (ps : Products) → AreKnownFlows g ps shape self.now → HasData g start → IfSome told (IsEndlessRun g ps start)) }
+        ensures { IfOk result (λ told. (g : Grid) → (ps : Products) → AreKnownFlows g ps shape self.now → HasData g start → MatchOption told (RunEnds g ps start) (IsEndlessRun g ps start)) }
     {
         let Some(here) = last_of_walk(self, shape, start) else {
             return Ok(None);
@@ -67,15 +68,15 @@ impl CellFlows {
 }
 
 /// The cell that a walk from a data cell reaches in as many steps as there are cells, or from which it leads nowhere
-/// before; none if the run is found to end.
+/// before; none if the run ends.
 fn last_of_walk(flows: &CellFlows, shape: Shape, start: Cell) -> Option<Cell>
     requires counted { length flows.now ≡ shape.rows * shape.cols }
     requires inside { IsCellOf shape start }
     ensures inside { IfSome result (IsCellOf shape) }
-    ensures reached { (g : Grid) → (ps : Products) → AreKnownFlows g ps shape flows.now → HasData g start → IfSome result (IsReached g ps start) }
+    ensures reached { (g : Grid) → (ps : Products) → AreKnownFlows g ps shape flows.now → HasData g start → MatchOption result (RunEnds g ps start) (IsFarthest g ps start) }
 {
     let mut here = start;
-    for _ in 0..shape.cells() {
+    for _walked in 0..shape.cells() {
         match way_of(flows, shape, here) {
             Way::Ends => return None,
             Way::On(next) => here = next,
@@ -89,7 +90,7 @@ fn last_of_walk(flows: &CellFlows, shape: Shape, start: Cell) -> Option<Cell>
 fn lost_by(flows: &CellFlows, shape: Shape, cell: Cell) -> Option<LostBy>
     requires counted { length flows.now ≡ shape.rows * shape.cols }
     requires inside { IsCellOf shape cell }
-    ensures { (g : Grid) → (ps : Products) → AreKnownFlows g ps shape flows.now → HasData g cell → IfSome result (IsLostBy g ps cell) }
+    ensures { (g : Grid) → (ps : Products) → AreKnownFlows g ps shape flows.now → HasData g cell → MatchOption result (LeadsOnOrEnds g ps cell) (IsLostBy g ps cell) }
 {
     let flow = flows.at(shape.index(cell));
     if flow == Flow::Lost {
@@ -110,7 +111,7 @@ fn lost_by(flows: &CellFlows, shape: Shape, cell: Cell) -> Option<LostBy>
     }
 }
 
-/// The ring that a data cell is on, if the codes come back to it within as many steps as there are cells.
+/// The ring that a data cell is on; none if the codes don't come back to it within as many steps as there are cells.
 fn ring_from(
     alloc: Global,
     flows: &CellFlows,
@@ -119,7 +120,7 @@ fn ring_from(
 ) -> Result<Option<EndlessRun>, OutOfMemory>
     requires counted { length flows.now ≡ shape.rows * shape.cols }
     requires inside { IsCellOf shape first }
-    ensures { IfOk result (λ told. (g : Grid) → (ps : Products) → AreKnownFlows g ps shape flows.now → HasData g first → IfSome told (IsRing g ps first)) }
+    ensures { IfOk result (λ told. (g : Grid) → (ps : Products) → AreKnownFlows g ps shape flows.now → HasData g first → MatchOption told (IsOnNoRing g ps first) (IsRing g ps first)) }
 {
     let Ok(mut cells) = Vec::with_capacity(alloc, RING_TOLD) else {
         return Err(OutOfMemory);

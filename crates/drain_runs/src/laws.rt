@@ -1,6 +1,11 @@
 //! What the definitions of this crate name.
 
 ghost use Rattle.std.specs.Prelude.{◌≡◌};
+ghost use Rattle.drain_grid.specs.declared.cell.Cell.{Cell};
+ghost use Rattle.drain_grid.specs.Grid.{Grid, Products};
+ghost use Rattle.drain_grid.specs.Run.{RunEnds};
+ghost use Rattle.drain_runs.specs.declared.endless_run.EndlessRun.{EndlessRun};
+ghost use Rattle.drain_runs.specs.EndlessRuns.{IsEndlessRun};
 
 use crate::endless_run::RING_TOLD;
 use crate::steps::UNKNOWN;
@@ -10,4 +15,9 @@ use crate::steps::UNKNOWN;
 pub fn constants()
     ensures unknown { UNKNOWN ≡ 4294967295 }
     ensures ring_told { RING_TOLD ≡ 20 }
+{}
+
+/// A run that is reported as one without an end has none.
+pub fn endless_runs_do_not_end()
+    ensures { (g : Grid) → (ps : Products) → (start : Cell) → (run : EndlessRun) → IsEndlessRun g ps start run → ¬ RunEnds g ps start }
 {}

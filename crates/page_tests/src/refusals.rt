@@ -87,7 +87,8 @@ fn facts(alloc: Global, kind: usize) -> Result<Facts, Fail> {
             Refusal::BadSinkLine(2),
             RefusalNote::SinkLine {
                 number: 2,
-                text: bytes(alloc, b"1\t2")?,
+                start: bytes(alloc, b"1\t2")?,
+                bytes: 3,
             },
         ),
         8 => refused(
@@ -108,6 +109,14 @@ fn facts(alloc: Global, kind: usize) -> Result<Facts, Fail> {
                 why: NoData::Outside,
             },
         ),
+        10 => refused(
+            Refusal::BadSinkLine(7),
+            RefusalNote::SinkLine {
+                number: 7,
+                start: bytes(alloc, b"1 \xc3")?,
+                bytes: 100000000,
+            },
+        ),
         _ => refused(
             Refusal::BadName(1),
             RefusalNote::Name(bytes(alloc, b"\"\\\x7f\0/")?),
@@ -116,7 +125,7 @@ fn facts(alloc: Global, kind: usize) -> Result<Facts, Fail> {
 }
 
 /// For each of them the text below its line, and its JSON.
-static WANTED: [(&str, &str); 11] = [
+static WANTED: [(&str, &str); 12] = [
     (
         "\nexpected: a side from 2 to 3601\nfound: 7000\n",
         r#""refusal":{"about":"side","least":2,"greatest":3601,"found":7000},"rows""#,
@@ -147,7 +156,7 @@ static WANTED: [(&str, &str); 11] = [
     ),
     (
         "\nexpected: line 2: a row and a column, such as 12 7\nfound: line 2: 1\\x092\n",
-        r#""refusal":{"about":"sink_line","line":2,"found":"1\\x092"},"rows""#,
+        r#""refusal":{"about":"sink_line","line":2,"found":"1\\x092","bytes":3},"rows""#,
     ),
     (
         "\nexpected: line 2: a data cell\nfound: row 4294967296, column 7, a void\n",
@@ -156,6 +165,10 @@ static WANTED: [(&str, &str); 11] = [
     (
         "\nexpected: line 3: a data cell\nfound: row 4, column 7, outside the mosaic\n",
         r#""refusal":{"about":"sink_cell","line":3,"row":4,"col":7,"found":"outside"},"rows""#,
+    ),
+    (
+        "\nexpected: line 7: a row and a column, such as 12 7\nfound: line 7, the first 3 of 100000000 bytes: 1 \\xc3\n",
+        r#""refusal":{"about":"sink_line","line":7,"found":"1 \\xc3","bytes":100000000},"rows""#,
     ),
     (
         "\nexpected: the name of a tile, such as N36W085.hgt\nfound: \"\\\\\\x7f\\x00/\n",

@@ -13,6 +13,8 @@ mod bytes;
 #[cfg(test)]
 mod certified;
 #[cfg(test)]
+mod certified_path;
+#[cfg(test)]
 mod cuts;
 #[cfg(test)]
 mod example;

@@ -4,10 +4,10 @@ use Rattle.drain_kernel.specs.Rules.{tried}
 use Rattle.drain_rules.specs.Rows.{CountsAlong, place}
 use Rattle.drain_rules.proofs.KeptCells.{bounds-kept, counted-kept, raised_between-fits}
 use Rattle.drain_rules.proofs.RowLemmas.{CountsAlong-more}
-use Rattle.drain_faults.proofs.CountSteps.{counted_none, none_at_most}
-use Rattle.drain_faults.proofs.FaultSteps.{found_begins, found_ends, found_kept, found_new, found_noted}
-use Rattle.drain_faults.proofs.MapSteps.{drawn_still, map_begins, map_ends, map_noted, map_sound}
-use Rattle.drain_faults.proofs.ProductSteps.{products_begin, products_end, products_kept, products_noted}
+use Rattle.drain_faults.proofs.CountSteps.{counted_none, counted_voids, none_at_most}
+use Rattle.drain_faults.proofs.FaultSteps.{found_begins, found_ends, found_new, found_noted, found_passed}
+use Rattle.drain_faults.proofs.MapSteps.{drawn_still, map_begins, map_ends, map_noted, map_passed}
+use Rattle.drain_faults.proofs.ProductSteps.{products_begin, products_end, products_noted, products_passed}
 use Rattle.drain_faults.proofs.row_faults.note_row_of.Goals as goal
 
 pub loop-col-init : goal.loop-col-init
@@ -23,30 +23,36 @@ loop-col-init g c = record {
   drawn = (λ some. some, λ some. some);
 }
 
--- the cleared cells, up to the end of the row
+-- the cleared cells and the voids after them, up to the end of the row
 pub loop-col-preserved : goal.loop-col-preserved
 loop-col-preserved g c =
     let kept = c.kept_from-kept.ensures in
     let run = c.add_kept.ensures in
+    let voids = c.voids_until-col.ensures in
+    let bounds = bounds-kept (g.R.PatchRow.shown c.args.patches.now) c.loop-col.col c.kept_from-kept.result c.loop-col.tally c.add_kept.new.self kept.forward
+    c.loop-col.invariant.bounds kept.raised run.data_cells run.raised run.outlets in
     record {
-      within = kept.within;
+      within = voids.within;
       counted = λ grid ps are.
-          counted-kept (tried c.args.rules.now) grid ps c.args.row (g.R.PatchRow.len c.args.patches.now) (g.R.PatchRow.shown c.args.patches.now) c.loop-col.col c.kept_from-kept.result c.loop-col.tally c.add_kept.new.self are
-          kept.forward kept.within (c.loop-col.invariant.counted grid ps are) kept.kept kept.raised run.data_cells run.raised run.outlets;
-      bounds = bounds-kept (g.R.PatchRow.shown c.args.patches.now) c.loop-col.col c.kept_from-kept.result c.loop-col.tally c.add_kept.new.self kept.forward
-          c.loop-col.invariant.bounds kept.raised run.data_cells run.raised run.outlets;
+          counted_voids (tried c.args.rules.now) grid ps c.args.row (g.R.PatchRow.len c.args.patches.now) (g.R.PatchRow.shown c.args.patches.now) are c.add_kept.new.self
+          c.kept_from-kept.result.end c.voids_until-col.result voids.forward voids.within voids.right
+          (counted-kept (tried c.args.rules.now) grid ps c.args.row (g.R.PatchRow.len c.args.patches.now) (g.R.PatchRow.shown c.args.patches.now) c.loop-col.col c.kept_from-kept.result c.loop-col.tally c.add_kept.new.self are
+          kept.forward kept.within (c.loop-col.invariant.counted grid ps are) kept.kept kept.raised run.data_cells run.raised run.outlets);
+      bounds = record { data_cells = omega (arith, bounds.data_cells, voids.forward); raised = bounds.raised; outlets = bounds.outlets };
       found = λ grid ps are above.
-          found_kept (tried c.args.rules.now) grid ps c.args.row (g.R.PatchRow.len c.args.patches.now) (g.R.PatchRow.shown c.args.patches.now) are c.loop-col.found
-          c.loop-col.col c.kept_from-kept.result.end kept.forward kept.within kept.kept (c.loop-col.invariant.found grid ps are above);
+          found_passed (tried c.args.rules.now) grid ps c.args.row (g.R.PatchRow.len c.args.patches.now) (g.R.PatchRow.shown c.args.patches.now) are c.loop-col.found
+          c.loop-col.col c.kept_from-kept.result.end c.voids_until-col.result kept.forward kept.within kept.kept voids.forward voids.within voids.right (c.loop-col.invariant.found grid ps are above);
       by_product = λ grid ps are above.
-          products_kept c.args.rules.now grid ps c.args.row (g.R.PatchRow.len c.args.patches.now) (g.R.PatchRow.shown c.args.patches.now) are c.loop-col.found.by_product
-          c.loop-col.col c.kept_from-kept.result.end kept.forward kept.within kept.kept (c.loop-col.invariant.by_product grid ps are above);
+          products_passed c.args.rules.now grid ps c.args.row (g.R.PatchRow.len c.args.patches.now) (g.R.PatchRow.shown c.args.patches.now) are c.loop-col.found.by_product
+          c.loop-col.col c.kept_from-kept.result.end c.voids_until-col.result kept.forward kept.within kept.kept voids.forward voids.within voids.right (c.loop-col.invariant.by_product grid ps are above);
       map = λ grid ps are above drawn.
-          map_sound (tried c.args.rules.now) grid ps c.args.row (g.R.PatchRow.len c.args.patches.now) (g.R.PatchRow.shown c.args.patches.now) are c.loop-col.map c.draw_sound.new.map
-          c.loop-col.col c.kept_from-kept.result.end _ kept.forward kept.within (omega arith) kept.kept c.in_ok-draw_sound.ensures.drawn (c.loop-col.invariant.map grid ps are above drawn);
-      drawn = let now = drawn_still c.loop-col.map c.draw_sound.new.map _ c.in_ok-draw_sound.ensures.drawn in
+          map_passed (tried c.args.rules.now) grid ps c.args.row (g.R.PatchRow.len c.args.patches.now) (g.R.PatchRow.shown c.args.patches.now) are c.loop-col.map c.draw_run.new.map c.draw_run-in-loop-col.new.map
+          c.loop-col.col c.kept_from-kept.result.end c.voids_until-col.result _ _ kept.forward kept.within (omega arith) kept.kept c.in_ok-draw_run.ensures.drawn
+          voids.forward voids.within (omega arith) voids.right c.in_ok-draw_run-2.ensures.drawn (c.loop-col.invariant.map grid ps are above drawn);
+      drawn = let first = drawn_still c.loop-col.map c.draw_run.new.map _ c.in_ok-draw_run.ensures.drawn in
+          let second = drawn_still c.draw_run.new.map c.draw_run-in-loop-col.new.map _ c.in_ok-draw_run-2.ensures.drawn in
           let so_far = c.loop-col.invariant.drawn in
-          (λ some. so_far.0 (now.0 some), λ some. now.1 (so_far.1 some));
+          (λ some. so_far.0 (first.0 (second.0 some)), λ some. second.1 (first.1 (so_far.1 some)));
     }
 
 -- and the one after them
@@ -54,46 +60,51 @@ pub loop-col-preserved-then-col-cols : goal.loop-col-preserved-then-col-cols
 loop-col-preserved-then-col-cols g c =
     let kept = c.kept_from-kept.ensures in
     let run = c.add_kept.ensures in
+    let voids = c.voids_until-col.ensures in
     let add = c.add.ensures in
     let bounds = bounds-kept (g.R.PatchRow.shown c.args.patches.now) c.loop-col.col c.kept_from-kept.result c.loop-col.tally c.add_kept.new.self kept.forward
     c.loop-col.invariant.bounds kept.raised run.data_cells run.raised run.outlets in
     record {
       within = omega (arith, c.if-col-cols.true, c.cols-cols.ensures.count);
       counted = λ grid ps are.
-          CountsAlong-more grid ps c.args.row c.kept_from-kept.result.end c.patch-patch.result.here c.add_kept.new.self c.add.new.self
-          (ap (λ (p : Patch). p.here) (c.patch-patch.ensures ∙ are.patches_are c.kept_from-kept.result.end (omega (arith, c.if-col-cols.true, c.cols-cols.ensures.count))))
+          CountsAlong-more grid ps c.args.row c.voids_until-col.result c.patch-patch.result.here c.add_kept.new.self c.add.new.self
+          (ap (λ (p : Patch). p.here) (c.patch-patch.ensures ∙ are.patches_are c.voids_until-col.result (omega (arith, c.if-col-cols.true, c.cols-cols.ensures.count))))
+          (counted_voids (tried c.args.rules.now) grid ps c.args.row (g.R.PatchRow.len c.args.patches.now) (g.R.PatchRow.shown c.args.patches.now) are c.add_kept.new.self
+          c.kept_from-kept.result.end c.voids_until-col.result voids.forward voids.within voids.right
           (counted-kept (tried c.args.rules.now) grid ps c.args.row (g.R.PatchRow.len c.args.patches.now) (g.R.PatchRow.shown c.args.patches.now) c.loop-col.col c.kept_from-kept.result c.loop-col.tally c.add_kept.new.self are
-          kept.forward kept.within (c.loop-col.invariant.counted grid ps are) kept.kept kept.raised run.data_cells run.raised run.outlets)
+          kept.forward kept.within (c.loop-col.invariant.counted grid ps are) kept.kept kept.raised run.data_cells run.raised run.outlets))
           add.data_cells add.raised add.outlets;
       bounds = record {
-        data_cells = grind (arith, add.data_cells, bounds.data_cells);
+        data_cells = grind (arith, add.data_cells, bounds.data_cells, voids.forward);
         raised = grind (arith, add.raised, add.data_cells, bounds.raised);
         outlets = grind (arith, add.outlets, add.data_cells, bounds.outlets);
       };
       found = λ grid ps are above.
           found_noted (tried c.args.rules.now) grid ps c.args.row (g.R.PatchRow.len c.args.patches.now) (g.R.PatchRow.shown c.args.patches.now) are c.loop-col.found
-          c.note.new.self c.kept_from-kept.result.end c.patch-patch.result c.requires (omega (arith, c.cols-cols.ensures.count, c.cols-cols.ensures.narrow))
+          c.note.new.self c.voids_until-col.result c.patch-patch.result c.requires (omega (arith, c.cols-cols.ensures.count, c.cols-cols.ensures.narrow))
           (omega (arith, c.if-col-cols.true, c.cols-cols.ensures.count)) c.patch-patch.ensures c.in-Ok.ensures.noted
-          (found_kept (tried c.args.rules.now) grid ps c.args.row (g.R.PatchRow.len c.args.patches.now) (g.R.PatchRow.shown c.args.patches.now) are c.loop-col.found
-          c.loop-col.col c.kept_from-kept.result.end kept.forward kept.within kept.kept (c.loop-col.invariant.found grid ps are above));
+          (found_passed (tried c.args.rules.now) grid ps c.args.row (g.R.PatchRow.len c.args.patches.now) (g.R.PatchRow.shown c.args.patches.now) are c.loop-col.found
+          c.loop-col.col c.kept_from-kept.result.end c.voids_until-col.result kept.forward kept.within kept.kept voids.forward voids.within voids.right (c.loop-col.invariant.found grid ps are above));
       by_product = λ grid ps are above.
           products_noted c.args.rules.now grid ps c.args.row (g.R.PatchRow.len c.args.patches.now) (g.R.PatchRow.shown c.args.patches.now) are c.loop-col.found.by_product
-          c.note.new.self.by_product c.kept_from-kept.result.end c.patch-patch.result c.requires
+          c.note.new.self.by_product c.voids_until-col.result c.patch-patch.result c.requires
           (omega (arith, c.cols-cols.ensures.count, c.cols-cols.ensures.narrow))
           (omega (arith, c.if-col-cols.true, c.cols-cols.ensures.count)) c.patch-patch.ensures c.in-Ok.ensures.by_product
-          (products_kept c.args.rules.now grid ps c.args.row (g.R.PatchRow.len c.args.patches.now) (g.R.PatchRow.shown c.args.patches.now) are c.loop-col.found.by_product
-          c.loop-col.col c.kept_from-kept.result.end kept.forward kept.within kept.kept (c.loop-col.invariant.by_product grid ps are above));
+          (products_passed c.args.rules.now grid ps c.args.row (g.R.PatchRow.len c.args.patches.now) (g.R.PatchRow.shown c.args.patches.now) are c.loop-col.found.by_product
+          c.loop-col.col c.kept_from-kept.result.end c.voids_until-col.result kept.forward kept.within kept.kept voids.forward voids.within voids.right (c.loop-col.invariant.by_product grid ps are above));
       map = λ grid ps are above drawn.
-          map_noted (tried c.args.rules.now) grid ps c.args.row (g.R.PatchRow.len c.args.patches.now) (g.R.PatchRow.shown c.args.patches.now) are c.loop-col.found c.in-Ok.least c.draw_sound.new.map c.draw_cell.new.map c.kept_from-kept.result.end c.patch-patch.result
+          map_noted (tried c.args.rules.now) grid ps c.args.row (g.R.PatchRow.len c.args.patches.now) (g.R.PatchRow.shown c.args.patches.now) are c.loop-col.found c.in-Ok.least c.draw_run-in-loop-col.new.map c.draw_cell.new.map c.voids_until-col.result c.patch-patch.result
           (omega (arith, c.if-col-cols.true, c.cols-cols.ensures.count)) c.patch-patch.ensures c.in-Ok.ensures.least c.in_ok-draw_cell-in-Ok.ensures.drawn
-          (found_kept (tried c.args.rules.now) grid ps c.args.row (g.R.PatchRow.len c.args.patches.now) (g.R.PatchRow.shown c.args.patches.now) are c.loop-col.found
-          c.loop-col.col c.kept_from-kept.result.end kept.forward kept.within kept.kept (c.loop-col.invariant.found grid ps are above))
-          (map_sound (tried c.args.rules.now) grid ps c.args.row (g.R.PatchRow.len c.args.patches.now) (g.R.PatchRow.shown c.args.patches.now) are c.loop-col.map c.draw_sound.new.map
-          c.loop-col.col c.kept_from-kept.result.end _ kept.forward kept.within (omega arith) kept.kept c.in_ok-draw_sound.ensures.drawn (c.loop-col.invariant.map grid ps are above drawn));
-      drawn = let behind = drawn_still c.draw_sound.new.map c.draw_cell.new.map _ c.in_ok-draw_cell-in-Ok.ensures.drawn in
-          let now = drawn_still c.loop-col.map c.draw_sound.new.map _ c.in_ok-draw_sound.ensures.drawn in
+          (found_passed (tried c.args.rules.now) grid ps c.args.row (g.R.PatchRow.len c.args.patches.now) (g.R.PatchRow.shown c.args.patches.now) are c.loop-col.found
+          c.loop-col.col c.kept_from-kept.result.end c.voids_until-col.result kept.forward kept.within kept.kept voids.forward voids.within voids.right (c.loop-col.invariant.found grid ps are above))
+          (map_passed (tried c.args.rules.now) grid ps c.args.row (g.R.PatchRow.len c.args.patches.now) (g.R.PatchRow.shown c.args.patches.now) are c.loop-col.map c.draw_run.new.map c.draw_run-in-loop-col.new.map
+          c.loop-col.col c.kept_from-kept.result.end c.voids_until-col.result _ _ kept.forward kept.within (omega arith) kept.kept c.in_ok-draw_run.ensures.drawn
+          voids.forward voids.within (omega arith) voids.right c.in_ok-draw_run-2.ensures.drawn (c.loop-col.invariant.map grid ps are above drawn));
+      drawn = let first = drawn_still c.loop-col.map c.draw_run.new.map _ c.in_ok-draw_run.ensures.drawn in
+          let second = drawn_still c.draw_run.new.map c.draw_run-in-loop-col.new.map _ c.in_ok-draw_run-2.ensures.drawn in
           let so_far = c.loop-col.invariant.drawn in
-          (λ some. so_far.0 (now.0 (behind.0 some)), λ some. behind.1 (now.1 (so_far.1 some)));
+          let third = drawn_still c.draw_run-in-loop-col.new.map c.draw_cell.new.map _ c.in_ok-draw_cell-in-Ok.ensures.drawn in
+          (λ some. so_far.0 (first.0 (second.0 (third.0 some))), λ some. third.1 (second.1 (first.1 (so_far.1 some))));
     }
 
 pub add_kept-requires-clause-raised_fit : goal.add_kept-requires-clause-raised_fit
@@ -123,12 +134,13 @@ returns-clause-tally g c = λ grid ps are.
 
 pub returns-in-Err-clause-err : goal.returns-in-Err-clause-err
 returns-in-Err-clause-err g c = inr (λ grid ps are above.
-    let kept = c.kept_from-kept.ensures in (
-      place c.args.row c.kept_from-kept.result.end,
+    let kept = c.kept_from-kept.ensures in
+    let voids = c.voids_until-col.ensures in (
+      place c.args.row c.voids_until-col.result,
       found_new (tried c.args.rules.now) grid ps c.args.row (g.R.PatchRow.len c.args.patches.now) (g.R.PatchRow.shown c.args.patches.now) are c.loop-col.found
-          c.kept_from-kept.result.end c.patch-patch.result (omega (arith, c.if-col-cols.true, c.cols-cols.ensures.count)) c.patch-patch.ensures
-          (found_kept (tried c.args.rules.now) grid ps c.args.row (g.R.PatchRow.len c.args.patches.now) (g.R.PatchRow.shown c.args.patches.now) are c.loop-col.found
-          c.loop-col.col c.kept_from-kept.result.end kept.forward kept.within kept.kept (c.loop-col.invariant.found grid ps are above)) c.in-Err.ensures.err,
+          c.voids_until-col.result c.patch-patch.result (omega (arith, c.if-col-cols.true, c.cols-cols.ensures.count)) c.patch-patch.ensures
+          (found_passed (tried c.args.rules.now) grid ps c.args.row (g.R.PatchRow.len c.args.patches.now) (g.R.PatchRow.shown c.args.patches.now) are c.loop-col.found
+          c.loop-col.col c.kept_from-kept.result.end c.voids_until-col.result kept.forward kept.within kept.kept voids.forward voids.within voids.right (c.loop-col.invariant.found grid ps are above)) c.in-Err.ensures.err,
     ))
 
 pub returns-clause-found : goal.returns-clause-found

@@ -1,5 +1,6 @@
 use Rattle.std.proofs.Common.{◌∙◌, length, ap, sym, subst, rules}
 use Rattle.drain_runs.proofs.EndlessSteps.{ArePassed, passed-none, ring-closed, told-long, told-more, walked-more, walked-none}
+use Rattle.drain_runs.proofs.Rings.{no_ring-way}
 use Rattle.drain_runs.proofs.endless_run.ring_from.Goals as goal
 
 pub returns-then-eq : goal.returns-then-eq
@@ -33,3 +34,9 @@ loop-walked-preserved c = record {
       subst (ArePassed g ps c.args.first) (sym c.in_ok-tell.ensures)
       (told-more g ps c.args.first c.loop-walked.here c.loop-walked.cells.items c.loop-walked.walked (c.loop-walked.invariant.passed g ps known here) c.loop-walked.invariant.told walked.led));
 }
+
+pub returns-in_default-way_of : goal.returns-in_default-way_of
+returns-in_default-way_of c = λ g ps known here.
+    (let walked = c.loop-walked.invariant.walked g ps known here in
+    no_ring-way g ps c.args.first c.loop-walked.here c.loop-walked.walked c.way_of.result walked (c.way_of.ensures.way g ps known walked.has_data)
+    c.in_default-way_of.not-On)

@@ -1,5 +1,5 @@
 use Rattle.std.proofs.Common.{arith}
-use Rattle.drain_grid.proofs.Walks.{IsWalk-endless}
+use Rattle.drain_grid.proofs.Walks.{IsWalk-endless, endless-stuck}
 use Rattle.drain_runs.proofs.FlowWalks.{HasCome-more, too_far}
 use Rattle.drain_runs.proofs.Shorter.{RunEnds-walk}
 use Rattle.drain_runs.proofs.flow_walk.steps_to_end.Goals as goal
@@ -12,7 +12,8 @@ returns-in-Ends c = λ g ps known here.
 pub returns-in-Lost : goal.returns-in-Lost
 returns-in-Lost c = λ g ps known here.
     (let come = c.loop-walked.invariant.come g ps known here in
-    IsWalk-endless g ps c.loop-walked.walked c.args.start c.loop-walked.here come.walk (c.in-Lost.ensures.way g ps known come.to_data))
+    IsWalk-endless g ps c.loop-walked.walked c.args.start c.loop-walked.here come.walk
+    (let stuck = c.in-Lost.ensures.way g ps known come.to_data in endless-stuck g ps c.loop-walked.here stuck.0 stuck.1))
 
 pub loop-walked-preserved : goal.loop-walked-preserved
 loop-walked-preserved c = record {

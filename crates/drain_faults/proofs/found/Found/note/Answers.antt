@@ -18,8 +18,8 @@ pub returns-in-Ok-clause-noted : goal.returns-in-Ok-clause-noted
 returns-in-Ok-clause-noted c = record {
   each = λ r.
       noted_by (of_rule c.in-Ok.fails r) (labelled_profile (tried c.args.rules.now) c.args.self.now.labels c.args.patch.now r) c.args.cell
-      (of_rule c.args.self.now.by_rule r) (of_rule c.with_cell-self.result r) (c.in-Ok.ensures.each r) (c.with_cell-self.ensures r);
-  first_is = record { least = c.least-least.result; least_is = returns-in-Ok-clause-least c; first_is = c.with_patch-self.ensures };
+      (of_rule c.args.self.now.by_rule r) (of_rule c.note_rules.new.faults r) (c.in-Ok.ensures.each r) (c.note_rules.ensures r);
+  first_is = record { least = c.least-least.result; least_is = returns-in-Ok-clause-least c; first_is = c.note_patch.ensures };
   admitted = c.in-Ok.ensures.labels;
 }
 

@@ -1,0 +1,7 @@
+mod AlikePatches
+mod MadePadding
+mod PaddedCells
+mod PaddedCounts
+mod PaddedRules
+mod PaddedRuns
+mod PaddedVerdicts

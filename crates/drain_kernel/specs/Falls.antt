@@ -1,0 +1,49 @@
+-- The tests of a cell that lies on its ground and falls, whatever lies beside it: voids are passed over.
+use Rattle.std.specs.Prelude.{ℕ, Bool, not, ◌&&◌, ◌==◌, nat_le, IsTrue, List, [], ◌∷◌, slice_index, if◌then◌else◌}
+use Rattle.drain_kernel.specs.declared.lanes.Lanes.{Lanes}
+use Rattle.drain_kernel.specs.declared.rules.Rules.{Rules}
+use Rattle.drain_kernel.specs.Around.{around_in, is_direction_code, named_in}
+use Rattle.drain_kernel.specs.Asked.{IfAsked}
+use Rattle.drain_kernel.specs.Columns.{HasRankAt, IsCompleteAt}
+use Rattle.drain_kernel.specs.Tests.{adds_up, falls_steepest}
+
+-- a neighbour's conditioned elevation: at a void higher than any height
+abbrev pub seen_con : ℕ → ℕ → ℕ
+seen_con z con = if z == 0 then 4294967295 else con
+
+-- its direction: at a void none
+abbrev pub seen_code : ℕ → ℕ → ℕ
+seen_code z code = if z == 0 then 0 else code
+
+-- those of eight neighbours
+abbrev pub each_seen : (ℕ → ℕ → ℕ) → List ℕ → List ℕ → List ℕ
+each_seen seen zs xs =
+    seen (slice_index zs 0) (slice_index xs 0) ∷ seen (slice_index zs 1) (slice_index xs 1) ∷ seen (slice_index zs 2) (slice_index xs 2) ∷
+    seen (slice_index zs 3) (slice_index xs 3) ∷ seen (slice_index zs 4) (slice_index xs 4) ∷ seen (slice_index zs 5) (slice_index xs 5) ∷
+    seen (slice_index zs 6) (slice_index xs 6) ∷ seen (slice_index zs 7) (slice_index xs 7) ∷ []
+
+-- the cell has data and is not raised, and its code leads down the steepest way, to a cell of its label
+unfoldable pub keeps_fall : ℕ → ℕ → ℕ → List ℕ → ℕ → List ℕ → Bool
+keeps_fall height con code cons label labels =
+    ((((not (height == 0) && con == height) && nat_le con 65535) && is_direction_code code) && falls_steepest con code cons) &&
+    named_in code labels == label
+
+abbrev pub keeps_fall_at : Lanes → Lanes → Lanes → ℕ → Bool
+keeps_fall_at a h b k =
+    keeps_fall (slice_index h.z.items k) (slice_index h.con.items k) (slice_index h.dir.items k)
+    (each_seen seen_con (around_in a.z.items h.z.items b.z.items k) (around_in a.con.items h.con.items b.con.items k))
+    (slice_index h.bas.items k) (around_in a.bas.items h.bas.items b.bas.items k)
+
+-- its accumulation is one more than what its data neighbours pass on
+abbrev pub seen_sum_at : Lanes → Lanes → Lanes → ℕ → Bool
+seen_sum_at a h b k =
+    adds_up (slice_index h.acc.items k)
+    (each_seen seen_code (around_in a.z.items h.z.items b.z.items k) (around_in a.dir.items h.dir.items b.dir.items k))
+    (around_in a.acc.items h.acc.items b.acc.items k)
+
+-- these tests pass at a column, and no number is its product's no-data number
+pub record FallsAt (rules : Rules) (a h b : Lanes) (k : ℕ) : Type 0 where
+  pub fall : IsTrue (keeps_fall_at a h b k)
+  pub sum : IsTrue (seen_sum_at a h b k)
+  pub complete : IsCompleteAt rules.nodata h k
+  pub rank : IfAsked rules.ranks (HasRankAt rules.nodata h k)
