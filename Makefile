@@ -1,11 +1,13 @@
-# make           proves what the program needs, and builds it to build/drain
+# make           proves what the program needs, and builds it to build/drain, with build/libdrain.a
 # make demo      shows it on the bundled samples, in two minutes; without a proved program it runs the sources unproved
-# make library   builds build/libdrain.a, for C and Python (docs/LIBRARY.md)
-# make install   puts program, man page, library and its header below PREFIX (/usr/local; DESTDIR goes in front)
+# make library   builds build/libdrain.a alone, for C and Python (docs/LIBRARY.md)
+# make install   puts program, man page, library and its header below PREFIX (/usr/local; DESTDIR goes in front), and
+#                does make install-companion: the program drain-gis, which needs python3-gdal and python3-numpy to run
 # make dist      packs a release for users without the toolchain into build/release (RELEASING.md)
 # make deb       packs a .deb there
 # make same      proves and builds from nothing, and compares with FILE=PROVED of a release
 # make test      passes everything: every proof and test, the edits of the gate, then the program's own tests
+# make companion-test   passes the companion's tests with build/drain, or with DRAIN=PROGRAM
 # make edits     tries all edits, those that the gate leaves out too; CRATES=".." names the crates (all of them)
 # make bench     measures it beside its twins in plain Rust (docs/BENCH.md)
 # make clean     drops what these made
@@ -13,8 +15,11 @@
 PREFIX ?= /usr/local
 CRATES ?=
 
-# The program and its record build/drain.proved; nothing is done where they fit the sources, by their sums.
-build/drain build/benches: FORCE
+# The program and its record build/drain.proved, with the library; nothing is done where they fit the sources, by their sums.
+build/drain: FORCE
+	@tools/build_program.py --library build/libdrain.a drain $@
+
+build/benches: FORCE
 	@tools/build_program.py $(@F) $@
 
 build/drain.1: build/drain tools/man_page.py
@@ -23,18 +28,23 @@ build/drain.1: build/drain tools/man_page.py
 build/libdrain.a: FORCE
 	@tools/build_library.sh $@
 
-.PHONY: FORCE library demo install dist deb same test edits bench clean
+.PHONY: FORCE library demo install install-companion dist deb same test companion-test edits bench clean
 
 demo:
 	@tools/run_demo.sh build/drain
 
 library: build/libdrain.a
 
-install: build/drain build/drain.1 build/libdrain.a
+install: build/drain build/drain.1 build/libdrain.a install-companion
 	install -D -m 755 build/drain "$(DESTDIR)$(PREFIX)/bin/drain"
 	install -D -m 644 build/drain.1 "$(DESTDIR)$(PREFIX)/share/man/man1/drain.1"
 	install -D -m 644 build/libdrain.a "$(DESTDIR)$(PREFIX)/lib/libdrain.a"
 	install -D -m 644 crates/drain_c/include/drain.h "$(DESTDIR)$(PREFIX)/include/drain.h"
+
+install-companion:
+	install -D -m 755 companion/drain-gis "$(DESTDIR)$(PREFIX)/bin/drain-gis"
+	install -d "$(DESTDIR)$(PREFIX)/lib/drain/companion/drain_gis"
+	install -m 644 companion/drain_gis/*.py "$(DESTDIR)$(PREFIX)/lib/drain/companion/drain_gis"
 
 dist: build/drain
 	@tools/static_program.sh build/drain build/drain.o build/drain-static
@@ -51,6 +61,9 @@ edits:
 
 test:
 	tools/gate.sh
+
+companion-test:
+	tests/companion.sh $(or $(DRAIN),build/drain)
 
 bench: build/drain build/benches
 	bench/run.sh build/drain

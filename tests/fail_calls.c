@@ -1,10 +1,11 @@
 /* Is loaded before the C library into a run of the program, and changes the outcome of one of its calls. Variables:
 
-   FAIL_CALL  open, read, write, look or allocation: which calls are counted; a look is one that queries a path
+   FAIL_CALL  open, read, write, look, rename or allocation: which calls are counted; a look asks for a file's metadata
    FAIL_AT    the number of the call to change, from 1
-   FAIL_HOW   refused: it fails; later: it and each later one; interrupted: it is interrupted once; short: it moves one byte; killed: the
-              process is killed instead; cut: FAIL_FILE is cut to half its length before it; turned: FAIL_FILE is written over
-              with bytes of 255 before it
+   FAIL_ERROR the number of the error of a call that is refused, if not the one that is usual for its kind
+   FAIL_HOW   refused: it fails; later: it and each later one; interrupted: it is interrupted once; endless: it and each later one is
+              interrupted; short: it moves one byte; killed: the process is killed instead; cut: FAIL_FILE is cut to half its length
+              before it; turned: FAIL_FILE is written over with bytes of 255 before it
    FAIL_MARK  a file that is made when the call comes, which shows that there are that many
 
    It includes no header, and so needs none but the compiler. */
@@ -21,9 +22,8 @@ extern char *getenv(const char *);
 extern long strtol(const char *, char **, int);
 extern int strcmp(const char *, const char *);
 extern long syscall(long, ...);
-extern char *__realpath_chk(const char *, char *, size_t);
 
-enum { READ = 0, WRITE = 1, CLOSE = 3, LSEEK = 8, GETPID = 39, KILL = 62, TRUNCATE = 76, OPENAT = 257, STATX = 332 };
+enum { READ = 0, WRITE = 1, CLOSE = 3, LSEEK = 8, PREAD = 17, GETPID = 39, KILL = 62, TRUNCATE = 76, RENAME = 82, OPENAT = 257, STATX = 332 };
 enum { HERE = -100, WRITE_ONLY = 1, READ_WRITE = 2, CREATE = 64, TO_END = 2, KILLED = 9 };
 enum { INTERRUPTED = 4, IO_ERROR = 5, NO_MEMORY = 12, NOT_PERMITTED = 13, NO_SPACE = 28 };
 
@@ -59,7 +59,8 @@ static int fate(const char *kind, int error) {
         return AS_EVER;
     long wanted = strtol(at, 0, 10);
     count++;
-    if (count < wanted || (count > wanted && strcmp(how, "later") != 0))
+    int goes_on = strcmp(how, "later") == 0 || strcmp(how, "endless") == 0;
+    if (count < wanted || (count > wanted && !goes_on))
         return AS_EVER;
     if (count == wanted)
         mark();
@@ -71,39 +72,44 @@ static int fate(const char *kind, int error) {
         change(strcmp(how, "cut") == 0);
         return AS_EVER;
     }
-    *__errno_location() = strcmp(how, "interrupted") == 0 ? INTERRUPTED : error;
+    const char *other = getenv("FAIL_ERROR");
+    if (other)
+        error = (int)strtol(other, 0, 10);
+    int interrupts = strcmp(how, "interrupted") == 0 || strcmp(how, "endless") == 0;
+    *__errno_location() = interrupts ? INTERRUPTED : error;
     return FAILS;
 }
 
-/* What the kernel answered, as the C library tells it. */
-static long told(long answer) {
-    if (answer >= 0)
-        return answer;
-    *__errno_location() = (int)-answer;
-    return -1;
-}
-
 int open(const char *path, int flags, int mode) {
-    return fate("open", NOT_PERMITTED) == FAILS ? -1 : (int)told(syscall(OPENAT, HERE, path, flags, mode));
+    return fate("open", NOT_PERMITTED) == FAILS ? -1 : (int)syscall(OPENAT, HERE, path, flags, mode);
 }
 
 ssize_t read(int file, void *to, size_t length) {
     int becomes = fate("read", IO_ERROR);
-    return becomes == FAILS ? -1 : told(syscall(READ, file, to, becomes == MOVES_A_BYTE && length ? 1 : length));
+    return becomes == FAILS ? -1 : syscall(READ, file, to, becomes == MOVES_A_BYTE && length ? 1 : length);
 }
+
+ssize_t pread64(int file, void *to, size_t length, long place) {
+    int becomes = fate("read", IO_ERROR);
+    return becomes == FAILS ? -1 : syscall(PREAD, file, to, becomes == MOVES_A_BYTE && length ? 1 : length, place);
+}
+
+ssize_t pread(int file, void *to, size_t length, long place) { return pread64(file, to, length, place); }
 
 ssize_t write(int file, const void *from, size_t length) {
     int becomes = fate("write", NO_SPACE);
-    return becomes == FAILS ? -1 : told(syscall(WRITE, file, from, becomes == MOVES_A_BYTE && length ? 1 : length));
+    return becomes == FAILS ? -1 : syscall(WRITE, file, from, becomes == MOVES_A_BYTE && length ? 1 : length);
 }
 
 ssize_t __write(int file, const void *from, size_t length) { return write(file, from, length); }
 
 int statx(int folder, const char *path, int flags, unsigned wanted, void *to) {
-    return fate("look", NO_MEMORY) == FAILS ? -1 : (int)told(syscall(STATX, folder, path, flags, wanted, to));
+    return fate("look", NO_MEMORY) == FAILS ? -1 : (int)syscall(STATX, folder, path, flags, wanted, to);
 }
 
-char *realpath(const char *path, char *to) { return fate("look", NO_MEMORY) == FAILS ? 0 : __realpath_chk(path, to, (size_t)-1); }
+int rename(const char *from, const char *to) {
+    return fate("rename", IO_ERROR) == FAILS ? -1 : (int)syscall(RENAME, from, to);
+}
 
 void *malloc(size_t size) { return fate("allocation", NO_MEMORY) == FAILS ? 0 : __libc_malloc(size); }
 

@@ -77,6 +77,11 @@ holds 'tarball: its files have one owner and one time' test "$(wc -l <"$scratch/
 holds 'tarball: it has the proved program' cmp "$drain" "$release/bin/drain"
 holds 'tarball: PROVED begins with the record of the proof' diff "$drain.proved" <(head -n "$(wc -l <"$drain.proved")" "$release/PROVED")
 holds 'tarball: its demo runs' sh -c "cd '$release' && tools/demo.sh"
+if /usr/bin/python3 -c 'import osgeo.gdal, numpy' 2>/dev/null; then
+    fixtures=$top/companion/tests/fixtures
+    holds 'tarball: drain-gis runs the drain beside it' ends 0 'con is the least surface above' \
+        env -i PATH=/usr/bin:/bin "$release/bin/drain-gis" surface --dem "$fixtures/dem.tif" --con "$fixtures/saga-con.tif"
+fi
 holds 'tarball: its man page has the commands' grep -q '^.SH "DRAIN AUDIT"' "$release/share/man/man1/drain.1"
 for file in README.md LICENSE RELEASING.md samples/README.md samples/LICENSE-matplotlib.txt; do
     holds "tarball: it has $file" cmp "$top/$file" "$release/$file"

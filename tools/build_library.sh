@@ -1,12 +1,14 @@
 #!/usr/bin/env bash
 # Proves the crate drain_c and the crates below it, compiles it, and makes one static library that needs the C library
-# alone: of crates/drain_c/out/libdrain_c.a and the kit's liblibc_c.a, which calls malloc, realloc and free. Where rt check
-# has worked in the crate's folder before, only what changed since is proved again, by rt lib. Else rt ci proves a copy of
-# these crates: it takes what it passed on this machine before, as when it built the program, and proves the rest side by
-# side. drain_c itself is proved once more where it is compiled. Nothing is done where TARGET.proved fits the sources and TARGET.
-# Usage: tools/build_library.sh TARGET    (as build/libdrain.a)
+# alone: of crates/drain_c/out/libdrain_c.a and the kit's liblibc_c.a, which calls malloc, realloc and free. With PROVED, a
+# folder in which rt ci has just proved these crates of the sources as they are, only drain_c is proved once more, where it
+# is compiled. Else, where rt check has worked in the crate's folder before, only what changed since is proved again, by
+# rt lib; where it hasn't, rt ci proves a copy of these crates.
+# Nothing is done where TARGET.proved fits the sources and TARGET.
+# Usage: tools/build_library.sh TARGET [PROVED]    (as build/libdrain.a)
 set -euo pipefail
 target=$(realpath -m "$1")
+proved=${2:+$(realpath "$2")}
 top=$(cd "$(dirname "$0")/.." && pwd)
 
 command -v rt >/dev/null || {
@@ -54,32 +56,36 @@ copy_crates() {
     done
 }
 
-# Compiles drain_c over the libraries that rt ci left in the copy.
+# Compiles drain_c, from a copy of its sources, over the libraries that rt ci left in the folder $proved.
 compile() {
     local words name where how rlibs
     words=(--crate-name drain_c src/lib.rt --extern "std=$kit/rlibs/std.rlib" --extern "core=$kit/rlibs/core.rlib" -L "dependency=$kit/rlibs")
     while read -r name where how; do
         rlibs=$kit/rlibs
-        [ "$where" = kit ] || rlibs=$scratch/proving/crates/$name/out/rlib
+        [ "$where" = kit ] || rlibs=$proved/crates/$name/out/rlib
         [ "$how" = below ] || words+=(--extern "$name=$rlibs/$name.rlib")
         [ "$where" = kit ] || words+=(-L "dependency=$rlibs")
     done < <(below)
     words+=(--antt-project "$kit/rattle/logic/antt-project.json" --logic-built "$kit/logic_built" --links drain_c= --crate-type staticlib)
-    mkdir -p "$scratch/proving/crates/drain_c/out"
-    cd "$scratch/proving/crates/drain_c"
+    mkdir -p "$scratch/drain_c/out"
+    cp -r "$proved"/crates/drain_c/{src,specs,proofs} "$scratch/drain_c"
+    cd "$scratch/drain_c"
     "$kit/bin/rattle" build "${words[@]}" --toolchain "$kit/toolchain" --backend llvm -o out/libdrain_c.a
 }
 
-if [ -d "$top/crates/drain_c/out/incremental" ]; then
+made=$scratch/drain_c/out/libdrain_c.a
+if [ -n "$proved" ]; then
+    (compile) >"$log" 2>&1 </dev/null || show_log
+elif [ -d "$top/crates/drain_c/out/incremental" ]; then
     echo "Proving what changed since rt check worked here ..."
     (cd "$top/crates/drain_c" && rt lib) >"$log" 2>&1 </dev/null || show_log
     made=$top/crates/drain_c/out/libdrain_c.a
 else
     copy_crates
+    proved=$scratch/proving
     echo "Proving drain_c and the crates below it: some minutes, or up to three quarters of an hour where nothing of them was proved here before ..."
-    (cd "$scratch/proving" && rt ci) >"$log" 2>&1 </dev/null || show_log
+    (cd "$proved" && rt ci) >"$log" 2>&1 </dev/null || show_log
     (compile) >"$log" 2>&1 </dev/null || show_log
-    made=$scratch/proving/crates/drain_c/out/libdrain_c.a
 fi
 
 mkdir -p "$(dirname "$target")"

@@ -1,10 +1,11 @@
 #!/usr/bin/env python3
-"""Proves a program and the crates below it, without tests and edits, and builds it.
+"""Proves a program and the crates below it, without tests and edits, and builds it; on request the library for C as well.
 
-Crates are proved side by side, those with the longest chain of others above them first. Each is one run of `rt ci NAME`, which keeps
-what it proved for later runs on this machine, the gate's too. A check gets a second job where a processor would be idle.
+Crates are proved side by side, those with the longest chain of others above them first. Where this kit's `rt ci` takes names, each crate
+is one run of `rt ci NAME`, which keeps what it proved for later runs on this machine, the gate's too; a check gets a second job where a
+processor would be idle. Elsewhere one run of `rt ci` proves all from nothing, by the same order.
 
-Usage: tools/build_program.py [--anew] CRATE TARGET    (--anew: nothing that was proved before is taken)
+Usage: tools/build_program.py [--anew] [--library TARGET] CRATE TARGET    (--anew: nothing that was proved before is taken)
 """
 
 from __future__ import annotations
@@ -23,6 +24,8 @@ from pathlib import Path
 TOP = Path(__file__).resolve().parent.parent
 # A check takes at most this much memory.
 BYTES_OF_A_CHECK = 5 << 30
+# The crate of the library for C.
+LIBRARY = "drain_c"
 # A crate whose code has fewer bytes gains little by a second job, which loads all libraries once more.
 LARGE_CRATE = 40_000
 
@@ -41,9 +44,9 @@ def read_crates(file: Path) -> dict[str, list[str]]:
     return {name: [low for low in below if low in uses] for name, below in uses.items()}
 
 
-def with_all_below(crate: str, uses: dict[str, list[str]]) -> dict[str, list[str]]:
-    """Returns the part of `uses` that has the crate and all that it stands on."""
-    found, left = set(), [crate]
+def with_all_below(crates: list[str], uses: dict[str, list[str]]) -> dict[str, list[str]]:
+    """Returns the part of `uses` that has the crates and all that they use."""
+    found, left = set(), list(crates)
     while left:
         name = left.pop()
         if name not in found:
@@ -84,7 +87,16 @@ class Progress:
 
     def add(self, log: str) -> None:
         self.proved += 1
+        self.count(log)
+
+    def count(self, log: str) -> None:
         self.functions += sum(int(it) for it in re.findall(r"^logic=proved functions=(\d+)", log, re.M))
+
+    def read(self, line: str) -> None:
+        """Takes a line of a run that proves all crates."""
+        self.proved += bool(re.match(r"rt: \w+ proved$", line))
+        self.count(line)
+        self.show()
 
     def show(self) -> None:
         text = f"{self.seconds():3d} s  {self.proved} of {self.crates} crates proved, with {self.functions} functions"
@@ -97,6 +109,26 @@ class Progress:
     def end(self) -> None:
         if sys.stdout.isatty():
             print("\r\033[K", end="", flush=True)
+
+
+def takes_names() -> bool:
+    """Whether this kit's `rt ci` takes the names of crates. If not it prints how rt is called."""
+    with tempfile.TemporaryDirectory() as empty:
+        ran = subprocess.run(["rt", "ci", "none"], cwd=empty, stdin=subprocess.DEVNULL, capture_output=True, text=True, errors="replace")
+    return "usage: rt " not in ran.stdout + ran.stderr
+
+
+def prove_all(folder: Path, progress: Progress) -> None:
+    """Proves and builds all crates of the folder in one run of `rt ci`, which shares the processors among them."""
+    env = {it: os.environ[it] for it in os.environ if it not in ("CI", "RT_JOBS")}
+    how = {"stdin": subprocess.DEVNULL, "stdout": subprocess.PIPE, "stderr": subprocess.STDOUT}
+    with subprocess.Popen(["rt", "ci"], cwd=folder, env=env, text=True, errors="replace", **how) as ran:
+        lines = []
+        for line in ran.stdout:
+            lines.append(line)
+            progress.read(line)
+    if ran.returncode:
+        raise NotProved("".join(lines))
 
 
 def run_rt(folder: Path, words: list[str], jobs: int) -> str:
@@ -164,38 +196,58 @@ def keep_object(made: Path, kept: Path) -> None:
         shutil.copy(made, kept)
 
 
-def build(crate: str, target: Path, anew: bool) -> None:
-    """Proves and builds the program, and writes it and the record of its proof, where both are whole."""
-    uses = with_all_below(crate, read_crates(TOP / "crates.txt"))
+def prove(crate: str, uses: dict[str, list[str]], folder: Path, anew: bool, progress: Progress) -> None:
+    """Proves all crates of the folder, and builds the program there."""
+    if not takes_names():
+        prove_all(folder, progress)
+    elif anew:
+        progress.add(run_rt(folder, ["--anew"], jobs=2))
+    else:
+        prove_below(crate, uses, folder, progress)
+        with ThreadPoolExecutor(1) as pool:
+            last = pool.submit(run_rt, folder, [], 2)
+            while not last.done():
+                wait([last], timeout=1)
+                progress.show()
+            progress.add(last.result())
+    progress.end()
+
+
+def keep_program(folder: Path, crate: str, target: Path) -> None:
+    """Keeps the program, and the object that it was linked from, in place of an earlier one whose record goes first."""
+    made = folder / "crates" / crate / "out"
+    target.parent.mkdir(parents=True, exist_ok=True)
+    new = target.with_name(f"{target.name}.new")
+    shutil.copy(made / crate, new)
+    target.with_name(f"{target.name}.proved").unlink(missing_ok=True)
+    keep_object(made / f"{crate}.o", target.with_name(f"{target.name}.o"))
+    new.replace(target)
+
+
+def build(crate: str, target: Path, anew: bool, library: Path | None) -> None:
+    """Proves and builds the program, and writes it and the record of its proof, where both are whole; then the library, where one is named."""
+    uses = with_all_below([crate, *([LIBRARY] if library else [])], read_crates(TOP / "crates.txt"))
     progress = Progress(len(uses))
     print(f"Proving {len(uses)} crates: 15 to 25 minutes with 4 processors the first time ...", flush=True)
     with tempfile.TemporaryDirectory() as scratch:
         folder = Path(scratch) / "proving"
         proved_sum = copy_sources(list(uses), folder)
-        if anew:
-            progress.add(run_rt(folder, ["--anew"], jobs=2))
-        else:
-            prove_below(crate, uses, folder, progress)
-            with ThreadPoolExecutor(1) as pool:
-                last = pool.submit(run_rt, folder, [], 2)
-                while not last.done():
-                    wait([last], timeout=1)
-                    progress.show()
-                progress.add(last.result())
-        progress.end()
-        target.parent.mkdir(parents=True, exist_ok=True)
-        new = target.with_name(f"{target.name}.new")
-        shutil.copy(folder / "crates" / crate / "out" / crate, new)
-        target.with_name(f"{target.name}.proved").unlink(missing_ok=True)
-        keep_object(folder / "crates" / crate / "out" / f"{crate}.o", target.with_name(f"{target.name}.o"))
-        new.replace(target)
+        prove(crate, uses, folder, anew, progress)
+        keep_program(folder, crate, target)
         subprocess.run([TOP / "tools/record_proof.sh", target, proved_sum], check=True)
-    print(f"Proved and built in {progress.seconds()} seconds: {os.path.relpath(target, TOP)}")
+        print(f"Proved and built in {progress.seconds()} seconds: {os.path.relpath(target, TOP)}", flush=True)
+        if library:
+            if sources_sum() != proved_sum:
+                raise NotProved("the sources changed while they were proved: run this again")
+            ran = subprocess.run([TOP / "tools/build_library.sh", library, folder])
+            if ran.returncode:
+                raise NotProved("the library was not built")
 
 
 def main() -> int:
     parser = argparse.ArgumentParser(description=__doc__, formatter_class=argparse.RawDescriptionHelpFormatter)
     parser.add_argument("--anew", action="store_true", help="take nothing that was proved before")
+    parser.add_argument("--library", type=Path, metavar="TARGET", help="build the library for C too, over the same proofs")
     parser.add_argument("crate")
     parser.add_argument("target", type=Path)
     words = parser.parse_args()
@@ -207,7 +259,7 @@ def main() -> int:
         print(f"Unchanged since it was proved and built: {os.path.relpath(target, TOP)}")
         return 0
     try:
-        build(words.crate, target, words.anew)
+        build(words.crate, target, words.anew, words.library and words.library.absolute())
     except NotProved as error:
         lines = str(error).splitlines()
         telling = [it for it in lines if re.search(r": error|no proof|did not prove|not proved|NOT PROVED", it)]

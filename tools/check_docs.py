@@ -1,5 +1,5 @@
 #!/usr/bin/env python3
-"""Checks the documents: README.md and the other pages beside it, docs/*.md and the README of each crate.
+"""Checks the documents: README.md and the other pages beside it, docs/*.md, the README of each crate and of companion/.
 
 It reports, each with its file and line:
 - a path, a link, a target of `make`, or a command or option of `drain` that doesn't exist;
@@ -34,7 +34,7 @@ WORDS = re.compile(
     r"|a\s+word\s+on|faults?\s+of\s+the\s+words)\b",
     re.IGNORECASE,
 )
-FOLDERS = "docs|crates|tools|tests|samples|bench"
+FOLDERS = "docs|crates|tools|tests|samples|bench|companion"
 PATH = re.compile(rf"(?<![\w./*-])(?:{FOLDERS})/[\w.*/+-]*")
 CRATE_PATH = re.compile(r"(?<![\w./*-])\w+/(?:src|specs|proofs|more-edits)/[\w./]*")
 DOCUMENT = re.compile(r"(?<![\w./-])[A-Z][A-Z_]+\.md\b")
@@ -275,7 +275,7 @@ def write_examples(document: pathlib.Path, faults: list[tuple[Shown, list[str]]]
 
 
 def documents_of(root: pathlib.Path) -> list[pathlib.Path]:
-    patterns = ("README.md", "CONTRIBUTING.md", "docs/*.md", "crates/*/README.md")
+    patterns = ("README.md", "CONTRIBUTING.md", "docs/*.md", "crates/*/README.md", "companion/README.md")
     return [path for pattern in patterns for path in sorted(root.glob(pattern))]
 
 

@@ -1,7 +1,7 @@
 #!/usr/bin/env bash
 # Packs a release for users without the toolchain: FOLDER/drain-VERSION-linux-x86_64.tar.xz, and its sum beside it.
-# It holds the program, the static program, the man page, documents, samples, the demo, PROVED (what the programs were
-# made from) and SHA256SUMS. Refuses a program that was not proved and built from these sources.
+# It holds the program, the static program, drain-gis, the man page, documents, samples, the demo, PROVED (what the
+# programs were made from) and SHA256SUMS. Refuses a program that was not proved and built from these sources.
 # The same inputs give the same bytes.
 # Usage: tools/dist.sh PROGRAM STATIC FOLDER
 #     STATIC               what tools/static_program.sh linked, or - for a release without it
@@ -20,8 +20,12 @@ take_program "$program"
 
 name=drain-$version-linux-x86_64
 root=$room/$name
-copy_files "$root" README.md LICENSE CHANGELOG.md CONTRIBUTING.md RELEASING.md SECURITY.md docs samples tools/demo.sh tools/demo.txt
-install -D -m 755 "$room/drain" "$root/bin/drain"
+copy_files "$root" README.md LICENSE CHANGELOG.md CONTRIBUTING.md RELEASING.md SECURITY.md docs samples tools/demo.sh tools/demo.txt \
+    companion/README.md companion/pyproject.toml companion/drain-gis companion/drain_gis companion/qgis companion/examples
+mkdir -p "$root/bin" "$root/lib/drain/companion"
+mv "$root/companion/drain-gis" "$root/bin/drain-gis"
+mv "$root/companion/drain_gis" "$root/lib/drain/companion/drain_gis"
+install -m 755 "$room/drain" "$root/bin/drain"
 install -d "$root/share/man/man1"
 "$top/tools/man_page.py" "$root/bin/drain" >"$root/share/man/man1/drain.1"
 install -m 644 "$room/PROVED" "$root/PROVED"

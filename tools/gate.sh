@@ -1,23 +1,24 @@
 #!/usr/bin/env bash
 # The merge gate: what documents name is there; every proof from nothing and the tests (rt ci); the edits that name their function;
-# then the program and its own tests, the documents' examples, a first run, releases, tests with memory refused, and wrong makers.
+# then the program and its own tests, the documents' examples, a first run, releases, the companion, tests with memory refused, and wrong makers.
 # Each step from rt ci on ends with a line of its seconds: on the clock, and of processors.
 # Usage: tools/gate.sh
 set -euo pipefail
 cd "$(dirname "$0")/.."
 TIMEFORMAT='took %0R s, of processors %0U s and %0S s of the system'
 
-# A check with two jobs loads every library twice. So each gets one: as many checks side by side as there are processors, and 5 GiB of memory for each.
+# As many checks side by side as there are processors, and 5 GiB of memory for each. rt gives a check more jobs where a processor would be idle.
 held=$(awk '/MemAvailable/ { print int($2 / 5242880) }' /proc/meminfo)
-RT_JOBS=$(nproc)
-[ "$held" -ge "$RT_JOBS" ] || RT_JOBS=$held
-[ "$RT_JOBS" -ge 1 ] || RT_JOBS=1
-export RT_JOBS
+if [ "$held" -lt "$(nproc)" ]; then
+    [ "$held" -ge 1 ] || held=1
+    export RT_JOBS=$held
+fi
 
 mkdir -p build
 tools/check_readmes.py
 tools/library_example.py
 tests/check_docs.py
+tests/named_edits.py
 tools/check_docs.py
 sources=$(tools/sources_sum.sh)
 time rt ci
@@ -34,10 +35,11 @@ for program in drain benches; do
 done
 time tools/try_named_edits.py
 time tools/check_docs.py build/drain
-time tools/build_library.sh build/libdrain.a
+time tools/build_library.sh build/libdrain.a .
 time tests/library.sh build/libdrain.a
 time tests/first_run.sh build/drain
 time tests/shipping.sh build
+time tests/companion.sh build/drain
 time tests/program/run.sh build/drain build/benches
 # The static program, where the object that it is linked from was made in this run.
 if [ -f build/drain.o ] && command -v gcc >/dev/null; then

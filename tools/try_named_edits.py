@@ -1,47 +1,68 @@
 #!/usr/bin/env python3
-"""Tries the edits that name their function by a line 'only: PATH'. Those of a crate are put into one copy of it, each in a
-file of its own. The prover checks only these functions, and has to refuse each for a goal of its own. A function's proof
-sees the contracts of what it calls and no body, so no edit helps another to be refused. The checks use the libraries that
-rt ci built, so an edit takes some twenty seconds, while a try of the whole crate takes minutes.
+"""Tries the edits that name their function by a line 'only: PATH'. Those of a crate are put into one copy of it, each
+in a file of its own. The prover checks only these functions, and has to refuse each for a goal of its own. A function's
+proof sees the contracts of what it calls and no body, so no edit helps another to be refused. The checks use the
+libraries that rt ci built, so an edit takes some twenty seconds, while a try of the whole crate takes minutes.
 
-An edit is a file of must-fail/ or more-edits/ as rt reads it; rt ignores the line 'only:'.
+An edit is a file of must-fail/ or more-edits/ as rt reads it; rt ignores the line 'only:'. Every edit of a crate is
+read, also those that aren't tried: each line has to be one of 'file: PATH', 'old: TEXT', 'new: TEXT' and 'only: PATH',
+and each old text has to be in its file exactly once.
 
 Usage: tools/try_named_edits.py [CRATE...]    (default: all)
 """
+
 import concurrent.futures
+import functools
 import os
 import re
 import shutil
 import subprocess
 import sys
 import tempfile
+from collections.abc import Iterator
 from pathlib import Path
 
 TOP = Path(__file__).resolve().parent.parent
-KIT = Path(subprocess.run(["rt", "doc"], capture_output=True, text=True, check=True).stdout.strip()).parent
+
+# What is said of a proof that names something which the wrong body doesn't have.
+OF_A_NAME = re.compile(r"has no field|is not in scope|that can be named from here|is no name that rattle asks for")
+# What is said of a proof that rests on another one which was refused.
+OF_ANOTHER = "stands by its signature alone"
+
+
+class BadEdit(Exception):
+    """An edit that can't be read, or whose old texts aren't found."""
 
 
 class Edit:
-    """A wrong body: which texts of which files it changes, the first of these, and the function that has to be refused."""
+    """A wrong body: which texts of which files it changes, and the function that has to be refused."""
 
-    def __init__(self, file):
+    def __init__(self, file: Path) -> None:
         self.name = f"{file.parent.parent.name}/{file.stem}"
-        self.only, self.changes = None, []
-        path = old = None
-        for line in file.read_text().splitlines():
+        self.only: str | None = None
+        self.changes: list[tuple[str, str, str]] = []
+        path = old = ""
+        for number, line in enumerate(file.read_text().splitlines(), 1):
             word, _, rest = line.partition(": ")
             if word == "file":
                 path = rest
             elif word == "old":
                 old = rest
-            elif line.startswith("new:"):
-                self.changes.append((path, old, rest))
             elif word == "only":
                 self.only = rest
+            elif line.startswith("new:") and path and old:
+                self.changes.append((path, old, line.removeprefix("new:").removeprefix(" ")))
+            elif line.startswith("new:"):
+                raise BadEdit(f"{self.name}: line {number}: a new text without a file or an old text")
+            else:
+                raise BadEdit(f"{self.name}: line {number} is none of file: old: new: only:")
+        if not self.changes:
+            raise BadEdit(f"{self.name}: no new text")
         self.file = self.changes[0][0]
 
-    def applied(self, crate, texts):
-        """The changed texts of the crate's files, some maybe changed before; none if an old text isn't found exactly once."""
+    def applied(self, crate: Path, texts: dict[str, str]) -> dict[str, str] | None:
+        """The changed texts of the crate's files, some maybe changed before; none if an old text isn't found exactly
+        once."""
         texts = dict(texts)
         for path, old, new in self.changes:
             text = texts.get(path) or (crate / path).read_text()
@@ -54,12 +75,10 @@ class Edit:
 class Round:
     """Edits of one crate that are tried together, each in a file of its own, and the texts that they make."""
 
-    def __init__(self, crate, edit):
-        self.crate, self.edits, self.texts = TOP / "crates" / crate, [], {}
-        if not self.takes(edit):
-            sys.exit(f"{edit.name}: an old text of it isn't found exactly once in its file")
+    def __init__(self, crate: Path, edit: Edit) -> None:
+        self.crate, self.edits, self.texts = crate, [edit], applied_alone(crate, edit)
 
-    def takes(self, edit):
+    def takes(self, edit: Edit) -> bool:
         """Puts the edit in, unless another one is in its file."""
         texts = edit.applied(self.crate, self.texts)
         if texts is None or edit.file in (other.file for other in self.edits):
@@ -69,18 +88,27 @@ class Round:
         return True
 
 
-def rounds_of(crate):
-    """The edits of a crate that name a function, in rounds."""
-    rounds = []
+def applied_alone(crate: Path, edit: Edit) -> dict[str, str]:
+    """The changed texts of the crate's files."""
+    texts = edit.applied(crate, {})
+    if texts is None:
+        raise BadEdit(f"{edit.name}: an old text of it isn't found exactly once in its file")
+    return texts
+
+
+def rounds_of(crate: Path) -> list[Round]:
+    """The edits of a crate that name a function, in rounds; all others are only read and put in."""
+    rounds: list[Round] = []
     for part in ("must-fail", "more-edits"):
-        for file in sorted((TOP / "crates" / crate / part).glob("*.edit")):
+        for file in sorted((crate / part).glob("*.edit")):
             edit = Edit(file)
+            applied_alone(crate, edit)
             if edit.only and not any(found.takes(edit) for found in rounds):
                 rounds.append(Round(crate, edit))
     return rounds
 
 
-def libraries():
+def libraries() -> dict[str, list[str]]:
     """What each crate of crates.txt uses, by its name: crates of the repository and of the kit."""
     found = {}
     for line in (TOP / "crates.txt").read_text().splitlines():
@@ -90,44 +118,51 @@ def libraries():
     return found
 
 
-def is_static(crate):
-    """Whether crates.txt has the crate as a static library."""
-    return re.search(rf"^{crate} +staticlib *:", (TOP / "crates.txt").read_text(), re.M) is not None
+@functools.cache
+def kit() -> Path:
+    """The folder of the toolchain."""
+    guide = subprocess.run(["rt", "doc"], capture_output=True, text=True, check=True).stdout
+    return Path(guide.strip()).parent
 
 
-def words_of(crate, below):
+def words_of(crate: str, below: dict[str, list[str]]) -> list[str]:
     """The arguments of a check of a crate over the libraries that were built."""
-    words = ["--extern", f"std={KIT}/rlibs/std.rlib", "-L", f"dependency={KIT}/rlibs"]
-    found, left = [], [crate]
+    words = ["--extern", f"std={kit()}/rlibs/std.rlib", "-L", f"dependency={kit()}/rlibs"]
+    found: list[str] = []
+    left = [crate]
     while left:
         for name in below[left.pop()]:
             if name in below and name not in found:
                 found.append(name)
                 left.append(name)
     for name in sorted({"core", *found, *below[crate]}):
-        rlib = TOP / "crates" / name / "out/rlib" / f"{name}.rlib" if name in below else KIT / "rlibs" / f"{name}.rlib"
+        folder = TOP / "crates" / name / "out/rlib" if name in below else kit() / "rlibs"
+        rlib = folder / f"{name}.rlib"
         if not rlib.is_dir():
             sys.exit(f"{crate}: its library {name} isn't built: run rt ci first")
-        words += ["--extern", f"{name}={rlib}"] if name in below[crate] or name == "core" else ["-L", f"dependency={rlib.parent}"]
+        used = name in below[crate] or name == "core"
+        words += ["--extern", f"{name}={rlib}"] if used else ["-L", f"dependency={folder}"]
     root = "src/main.rt" if (TOP / "crates" / crate / "src/main.rt").exists() else "src/lib.rt"
-    logic = ["--antt-project", f"{KIT}/rattle/logic/antt-project.json", "--logic-built", f"{KIT}/logic_built"]
-    kind = ["--crate-type", "staticlib"] if is_static(crate) else []
+    logic = ["--antt-project", f"{kit()}/rattle/logic/antt-project.json", "--logic-built", f"{kit()}/logic_built"]
+    is_static = re.search(rf"^{crate} +staticlib *:", (TOP / "crates.txt").read_text(), re.M)
+    kind = ["--crate-type", "staticlib"] if is_static else []
     return ["--crate-name", crate, root, *words, *logic, *kind, "--jobs", "1"]
 
 
-def tried(together, below):
-    """Tries the edits of a round: of each the prover's output, and whether it refused it. The prover skips a function that
-    calls one which another edit made wrong, so an edit that isn't refused with others is tried alone."""
+def tried(together: Round, below: dict[str, list[str]]) -> dict[str, tuple[str, bool, str]]:
+    """Tries the edits of a round: of each the line to print, whether the prover refused it, and the prover's output.
+    The prover skips a function that calls one which another edit made wrong, so an edit that isn't refused with others
+    is tried alone."""
     said = said_of(together, below)
-    told = {edit.name: (is_refused(together.crate.name, edit, said), said) for edit in together.edits}
+    answers = {edit.name: (*verdict(together.crate.name, edit, said), said) for edit in together.edits}
     if len(together.edits) > 1:
         for edit in together.edits:
-            if not told[edit.name][0]:
-                told.update(tried(Round(together.crate.name, edit), below))
-    return told
+            if not answers[edit.name][1]:
+                answers.update(tried(Round(together.crate, edit), below))
+    return answers
 
 
-def said_of(together, below):
+def said_of(together: Round, below: dict[str, list[str]]) -> str:
     """What the prover says of the functions that the edits of a round name."""
     with tempfile.TemporaryDirectory() as room:
         for part in ("src", "specs", "proofs"):
@@ -135,37 +170,70 @@ def said_of(together, below):
                 shutil.copytree(together.crate / part, Path(room) / part)
         for path, text in together.texts.items():
             (Path(room) / path).write_text(text)
-        asked = [word for edit in together.edits for word in ("--only", edit.only)]
+        only = [word for edit in together.edits for word in ("--only", edit.only or "")]
         return subprocess.run(
-            [KIT / "bin/rattle", "check", *words_of(together.crate.name, below), *asked],
-            cwd=room, stdin=subprocess.DEVNULL, stdout=subprocess.PIPE, stderr=subprocess.STDOUT, text=True, errors="replace",
+            [kit() / "bin/rattle", "check", *words_of(together.crate.name, below), *only],
+            cwd=room,
+            stdin=subprocess.DEVNULL,
+            stdout=subprocess.PIPE,
+            stderr=subprocess.STDOUT,
+            text=True,
+            errors="replace",
         ).stdout
 
 
-def is_refused(crate, edit, said):
-    """Whether the prover finished, and said that a goal of the edit's own function isn't met, not only that of a callee."""
+def verdict(crate: str, edit: Edit, said: str) -> tuple[str, bool]:
+    """The line to print, and whether the prover finished and said that a goal of the edit's own function isn't met: not
+    only that of a callee, and not only that a proof names what the wrong body doesn't have, since another body of the
+    same meaning would be refused for that too."""
     if not re.search(r"^only=\d+ proved=\d+$", said, re.M):
-        return False
-    found = re.search(rf"^fn {crate}::(?:\S+::)?{re.escape(edit.only)}: (not proved|no proof.*)$", said, re.M)
+        return "NOT REFUSED: the check did not finish", False
+    only = edit.only or ""
+    found = re.search(rf"^fn {crate}::(?:\S+::)?{re.escape(only)}: (not proved|no proof.*)$", said, re.M)
     if not found:
-        return False
-    own = re.escape(f"{edit.only.rpartition('::')[2]}/")
-    at = rf"^(\./)?proofs/(\S*/)?{own}\S*: error|^note: {re.escape(edit.file)}:\d+:\d+: it is not proved"
-    return "did not prove" in found[1] or bool(re.search(at, said, re.M))
+        return "NOT REFUSED", False
+    own = rf"^(?:note: )?(?:\./)?proofs/(?:\S*/)?{re.escape(only.rpartition('::')[2])}/"
+    of_names, goals = 0, []
+    for place, message in messages(said):
+        if re.match(own, place):
+            if OF_A_NAME.search(message):
+                if "/Invariants.antt" in place:
+                    return "NOT REFUSED: a name in its invariants", False
+                of_names += 1
+            elif "error" in place and OF_ANOTHER not in message:
+                goals += re.findall(r"^`(\S+)`", message)[:1] or ["a lemma"]
+        elif place.startswith(f"note: {edit.file}:"):
+            goals += re.findall(r"^it is not proved.*?\(`(\S+)`\)", message, re.S)
+    goals += re.findall(r"did not prove `(\S+)`", found[1])
+    if goals:
+        return f"refused by {', '.join(dict.fromkeys(goals))}", True
+    return "NOT REFUSED: only a name in its proof" if of_names else "NOT REFUSED", False
 
 
-def main():
+def messages(said: str) -> Iterator[tuple[str, str]]:
+    """The prover's messages at files: the place, and the text with the indented lines behind it."""
+    at = r"^((?:note: )?\S+\.(?:antt|rt)(?::\d+:\d+)?: (?:error: )?)(.*(?:\n  .*)*)"
+    return ((found[1], found[2]) for found in re.finditer(at, said, re.M))
+
+
+def main() -> None:
+    """Tries the edits of the crates, prints a line for each, and fails if one isn't refused."""
     below = libraries()
     passed = failed = 0
-    with concurrent.futures.ThreadPoolExecutor(int(os.environ.get("RT_JOBS") or os.cpu_count())) as pool:
-        for run in [pool.submit(tried, together, below) for crate in sys.argv[1:] or below for together in rounds_of(crate)]:
-            for name, (is_right, said) in run.result().items():
+    try:
+        rounds = [found for name in sys.argv[1:] or below for found in rounds_of(TOP / "crates" / name)]
+    except BadEdit as bad:
+        sys.exit(str(bad))
+    with concurrent.futures.ThreadPoolExecutor(int(os.environ.get("RT_JOBS") or os.cpu_count() or 1)) as pool:
+        for run in [pool.submit(tried, together, below) for together in rounds]:
+            for name, (line, is_right, said) in run.result().items():
                 passed, failed = passed + is_right, failed + (not is_right)
-                print(f"{name}: {'refused' if is_right else 'NOT REFUSED'}", flush=True)
+                print(f"{name}: {line}", flush=True)
                 if not is_right:
                     print(said[-2000:])
     print(f"edits: {passed} passed, {failed} failed")
     sys.exit(failed > 0)
 
 
-main()
+if __name__ == "__main__":
+    main()

@@ -230,10 +230,12 @@ wait $!
 make_bare
 for words in "--side 3 --products $check/out $tile" "--side 3 --products $check/out" "--products $check $tile" \
     "--side 51 --products samples/other-tools/terraflow samples/other-tools/N36W085.hgt" '--help'; do
+    # Without a product there, standard error has the reason all the same.
+    [[ $words == --products* ]] && errors=reason || errors=silent
     "$drain" audit $words >/dev/full 2>"$scratch/err"
-    judge "a full standard output: audit $words" 3 "$scratch/want" $?
+    judge "a full standard output: audit $words" 3 "$scratch/want" $? $errors
     "$drain" audit $words >&- 2>"$scratch/err"
-    judge "a closed standard output: audit $words" 3 "$scratch/want" $?
+    judge "a closed standard output: audit $words" 3 "$scratch/want" $? $errors
 done
 
 # What other tools made of one tile, each with the line that its README has, and by the other program.

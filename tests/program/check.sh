@@ -220,10 +220,12 @@ exec 3<&-
 : >"$scratch/out"
 make_pit
 for words in "--side 3 --products $check/out $tile" "--side 3 --products $check/out" "--products $check $tile" '--help'; do
+    # Without a product there, standard error has the reason all the same.
+    [[ $words == --products* ]] && errors=reason || errors=silent
     "$drain" check $words >/dev/full 2>"$scratch/err"
-    judge "a full standard output: check $words" 3 "$scratch/want" $?
+    judge "a full standard output: check $words" 3 "$scratch/want" $? $errors
     "$drain" check $words >&- 2>"$scratch/err"
-    judge "a closed standard output: check $words" 3 "$scratch/want" $?
+    judge "a closed standard output: check $words" 3 "$scratch/want" $? $errors
 done
 
 # Numbers of a header are read, and never taken as memory: over short bodies each answers its refusal with little memory.

@@ -1,31 +1,31 @@
 #!/usr/bin/env python3
-"""Explains sets of other tools, real terrain and small random sets, and compares each page, object and map with a plain count of faults.
+"""Explains sets of other tools, real terrain and small random sets, and compares each page, object and map with plain ones.
 
 explain.py DRAIN     prints how many sets passed
 
-Text and JSON of one set have to tell the same; its line and status are those of `drain check` or `drain audit`.
+plain_page.py writes the pages and objects. The line and status are those of `drain check` or `drain audit`.
 """
 
 import json
 import random
-import re
 import shutil
 import struct
 import subprocess
 import sys
 import tempfile
-from fractions import Fraction
+from itertools import zip_longest
 from pathlib import Path
 
 sys.dont_write_bytecode = True
 from make_products import PRODUCTS, fixed
 from plain_faults import Explained
+from plain_page import Page
 from random_audits import Case
+from worked_sets import WORKED
 
 SAMPLES = Path(__file__).resolve().parents[2] / "samples"
 RANDOM_SETS = 240
 CHANGED_SETS = 12
-RING_TOLD = 20
 MEMBERS = ["answer", "refusal", "rows", "cols", "ranks", "rules", "products", "patch", "expected", "run"]
 
 
@@ -61,88 +61,25 @@ class Explanation:
 
     def compare(self):
         status, text = self.output("explain")
-        lines = text.split("\n")
-        same("the line", lines[0], self.plain.line())
+        line = text.split("\n")[0]
         same("the status", status, self.plain.status())
-        same("check or audit", self.output("check" if self.plain.ranks else "audit"), (status, lines[0] + "\n"))
-        status, text = self.output("explain", "--json", "--map", self.map)
+        same("check or audit", self.output("check" if self.plain.ranks else "audit"), (status, line + "\n"))
+        status, object_text = self.output("explain", "--json", "--map", self.map)
         same("the status with JSON", status, self.plain.status())
-        page = json.loads(text)
-        self.compare_object(page)
-        self.compare_table(lines, page)
+        page = json.loads(object_text)
+        same("the members", list(page), MEMBERS)
+        wanted = Page(self.plain, self.ring_start(page))
+        for member, value in wanted.as_object().items():
+            same(f"{member} in JSON", page[member], value)
+        for told, line in zip_longest(text.split("\n"), wanted.as_text().split("\n")):
+            same("a line of the page", told, line)
         same("the map", self.map.read_bytes(), bytes(self.plain.map))
         same("the header of the map", self.map.with_suffix(".hdr").read_text(), map_header(self.plain.mosaic))
 
-    def compare_object(self, page):
-        same("the members", list(page), MEMBERS)
-        same("the answer", page["answer"], self.plain.line())
-        same("a refusal", page["refusal"], None)
-        same("the shape", (page["rows"], page["cols"]), (self.plain.terrain.rows, self.plain.terrain.cols))
-        same("ranks", page["ranks"], self.plain.ranks)
-        for told, wanted in zip(page["rules"], self.plain.by_rule, strict=True):
-            same("a rule", (told["rule"], told["name"]), (wanted["rule"], wanted["name"]))
-            self.compare_faults(told, wanted)
-        for told, wanted in zip(page["products"], self.plain.by_product, strict=True):
-            same("a product", told["product"], wanted["product"])
-            for part in ("at_voids", "at_data"):
-                self.compare_faults(told[part], wanted[part])
-        if self.plain.first is None:
-            same("a patch where nothing fails", page["patch"], None)
-        else:
-            self.compare_cell(page["patch"]["cell"], self.plain.place(self.plain.first))
-        if not self.plain.ranks:
-            self.compare_run(page["run"])
-
-    def compare_faults(self, told, wanted):
-        same("cells", told["cells"], wanted["cells"])
-        if wanted["first"] is None:
-            same("a first cell of none", told["first"], None)
-        else:
-            self.compare_cell(told["first"], wanted["first"])
-
-    def compare_cell(self, told, wanted):
-        same("a cell", (told["row"], told["col"]), (wanted["row"], wanted["col"]))
-        same("its degrees", (told["longitude"], told["latitude"]), tuple(float(degrees) for degrees in self.degrees(wanted)))
-
-    def degrees(self, cell):
-        steps, mosaic = self.plain.mosaic.side - 1, self.plain.mosaic
-        return mosaic.west + Fraction(cell["col"], steps), mosaic.north - Fraction(cell["row"], steps)
-
-    def compare_run(self, told):
-        if self.plain.endless is None:
-            same("a run where each ends", told, None)
-            return
-        self.compare_cell(told["from"], self.plain.place(self.plain.endless))
-        kind, cells = self.plain.ring_or_lost()
-        if kind == "lost":
-            same("a ring where a run is lost", told["ring"], None)
-            self.compare_cell(told["lost"]["cell"], self.plain.place(cells))
-        else:
-            same("the length of a ring", told["ring"]["length"], len(cells))
-            same("how many cells of a ring", len(told["ring"]["cells"]), min(len(cells), RING_TOLD))
-            # Which cell of the ring is first is the program's choice; the others follow along it.
-            first = told["ring"]["cells"][0]
-            start = cells.index(first["row"] * self.plain.terrain.cols + first["col"])
-            for cell, wanted in zip(told["ring"]["cells"], cells[start:] + cells[:start]):
-                self.compare_cell(cell, self.plain.place(wanted))
-
-    def compare_table(self, lines, page):
-        """The lines of rules that fail have what the object has."""
-        table = {}
-        for line in lines:
-            found = re.fullmatch(r"(\d+) (\w+) +(\d+) +(\d+) +(\d+) +(-?\d+\.\d{7}) +(-?\d+\.\d{7})", line)
-            if found:
-                table[int(found[1])] = (found[2], *(int(found[k]) for k in (3, 4, 5)), Fraction(found[6]), Fraction(found[7]))
-        failing = [rule for rule in page["rules"] if rule["cells"]]
-        same("the rules of the table", sorted(table), [rule["rule"] for rule in failing])
-        for rule in failing:
-            name, cells, row, col, longitude, latitude = table[rule["rule"]]
-            same("a line of the table", (name, cells, row, col), (rule["name"], rule["cells"], rule["first"]["row"], rule["first"]["col"]))
-            for told, wanted in zip((longitude, latitude), self.degrees(rule["first"])):
-                if abs(told - wanted) > Fraction(1, 2 * 10**7):
-                    raise Wrong(f"degrees of the table: {told}, not {wanted}")
-        holding = next(line for line in lines if line.startswith("hold:"))
-        same("the rules that hold", [int(number) for number in re.findall(r"\d+", holding)], [rule["rule"] for rule in page["rules"] if not rule["cells"]])
+    def ring_start(self, page):
+        """The cell that the program takes for the first of a ring, which is its choice."""
+        ring = page["run"] and page["run"]["ring"]
+        return ring["cells"][0] if ring else None
 
 
 class Sets:
@@ -186,6 +123,14 @@ class Sets:
                 (folder / "rnk.bil").unlink()
             self.judge(f"changed terrain {number}", 121, folder, None, [folder / "N36W085.hgt"], ranks)
 
+    def worked(self):
+        """Drawn sets, with ranks and without."""
+        for number, it in enumerate(WORKED):
+            for ranks in (True, False):
+                folder = self.scratch / f"worked{number}{ranks}"
+                tiles = it.write(folder, ranks)
+                self.judge(f"{it.name}, ranks {ranks}", it.side, folder, folder / "sinks.txt", tiles, ranks)
+
     def random(self):
         for number in range(RANDOM_SETS):
             dice = random.Random(number)
@@ -219,6 +164,7 @@ def main():
         sets = Sets(Path(sys.argv[1]).resolve(), Path(scratch))
         sets.samples()
         sets.changed()
+        sets.worked()
         sets.random()
     print(f"explanations: {sets.passed} passed, {sets.failed} failed")
     return 1 if sets.failed else 0

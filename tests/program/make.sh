@@ -199,6 +199,30 @@ printf '\xff\xff\xff\xff' | judge_file 'voids alone' "$made/dir.bil"
 for name in acc bas; do numbers 4 0 0 0 0 | judge_file 'voids alone' "$made/$name.bil"; done
 head -c 16 /dev/zero | tr '\0' '\377' | judge_file 'voids alone' "$made/rnk.bil"
 
+# Real terrain cut into tiles of side 44, two by two and two by four; the other program's audit follows each path.
+for across in 2 4; do
+    make_ground
+    rm "$ground"
+    python3 - "$real" "$work" $across <<'PYTHON'
+import struct, sys
+path, folder, across = sys.argv[1], sys.argv[2], int(sys.argv[3])
+z = struct.unpack(">118336h", open(path, "rb").read())
+for down in range(2):
+    for right in range(across):
+        rows = (344 * (43 * down + row) + 43 * right for row in range(44))
+        tile = [z[first + col] for first in rows for col in range(44)]
+        open(f"{folder}/N{37 - down}W{85 - right:03d}.hgt", "wb").write(struct.pack(">1936h", *tile))
+PYTHON
+    judge_make "real terrain in $((2 * across)) tiles" 0 "made rows=87 cols=$((43 * across + 1))" --side 44 --out "$made" "$work"/N3*.hgt
+    line=$("$here/audit.py" --side 44 --products "$made" "$work"/N3*.hgt)
+    case $line in
+        "accepted rows=87 cols=$((43 * across + 1)) "*) ;;
+        *) line='accepted, and not what the other program told' ;;
+    esac
+    judge_check "products made of real terrain in $((2 * across)) tiles" 0 "$line" --side 44 --products "$made" "$work"/N3*.hgt
+    judge_words "products made of real terrain in $((2 * across)) tiles, audited" 0 "$line" audit --side 44 --products "$made" "$work"/N3*.hgt
+done
+
 # The greatest drop.
 make_ground
 { for _ in 1 2 3 4; do printf '\x80\1'; done; printf '\x7f\xff'; for _ in 1 2 3 4; do printf '\x80\1'; done; } >"$ground"
@@ -246,28 +270,137 @@ judge_nothing_made 'made of a tile that is not there' 3 "failed Open $work/N01E0
 judge_nothing_made 'made of a second tile that is not there' 3 "failed Open $work/x" --side 3 --out "$made" "$ground" "$work/x"
 judge_nothing_made 'made of a folder' 3 'failed ReadFailed' --side 3 --out "$made" "$ground" "$work/N00E001.hgt"
 
-# Files that can't be opened, which comes after every refusal.
+# Files that can't be opened, which comes after every refusal. Nothing else is made, and nothing is left.
 for folder in "$work/none" "$work/none/" "$ground"; do
     judge_nothing_made "no folder at $folder" 3 "failed Open ${folder%/}/con.hdr" --side 3 --out "$folder" "$ground"
     judge_nothing_made "a bad tile, and no folder at $folder" 2 'refused BadTileLength N00E000.hgt' --side 2 --out "$folder" "$ground"
 done
+
+# The names in the folder of products: no others are left.
+judge_names() {
+    printf '%s\n' "${@:2}" | LC_ALL=C sort >"$scratch/want"
+    ls -A "$made" >"$scratch/out" 2>"$scratch/err"
+    judge "$1: names" 0 "$scratch/want" $?
+}
 for name in $files; do
     make_ground
     mkdir "$made/$name"
     judge_make "a folder for $name to be made" 3 "failed Open $made/$name" --side 3 --out "$made" "$ground"
+    judge_names "a folder for $name to be made" "$name"
 done
 
-# Files that can't be written. Those before them are whole.
+# Files that can't be written: a set that was there stays byte for byte, and where there was none nothing is left.
 make_ground
 "$drain" make --side 3 --out "$made" "$ground" >"$scratch/out" 2>&1
 mv "$made" "$scratch/whole"
+
+# Compares the files of a set that was there before, except one, and looks for others.
+judge_kept() {
+    local name
+    judge_names "$1" $files
+    for name in $files; do
+        [ "$name" = "${2:-}" ] || judge_file "$1" "$made/$name" <"$scratch/other/$name"
+    done
+}
+make_ground
+heights 9 8 7 6 5 4 3 2 1 >"$ground"
+"$drain" make --side 3 --out "$made" "$ground" >"$scratch/out" 2>&1
+mv "$made" "$scratch/other"
 for name in $files; do
     make_ground
     ln -s /dev/full "$made/$name"
     judge_make "a full device for $name" 3 'failed WriteFailed' --side 3 --out "$made" "$ground"
-    for before in ${files%%"$name"*}; do
-        judge_file "before a full device for $name" "$made/$before" <"$scratch/whole/$before"
+    judge_names "a full device for $name" "$name"
+    cp -n "$scratch"/other/* "$made"
+    judge_make "a full device for $name, in a set" 3 'failed WriteFailed' --side 3 --out "$made" "$ground"
+    judge_kept "a full device for $name, in a set" "$name"
+    rm "$made/$name"
+    mkdir "$made/$name"
+    judge_make "a folder for $name, in a set" 3 "failed Open $made/$name" --side 3 --out "$made" "$ground"
+    judge_kept "a folder for $name, in a set" "$name"
+done
+
+# A limit on the size of files, which a raster of real terrain reaches.
+make_ground
+cp "$scratch"/other/* "$made"
+want 'failed WriteFailed'
+(trap '' XFSZ && ulimit -f 100 && exec "$drain" make --side 344 --out "$made" "$real") >"$scratch/out" 2>"$scratch/err"
+judge 'files that grow too large' 3 "$scratch/want" $?
+judge_kept 'files that grow too large'
+
+# A run that is killed while it writes: a set that was there stays, except the product in a pipe.
+make_ground
+cp "$scratch"/other/* "$made"
+rm "$made/rnk.bil"
+mkfifo "$made/rnk.bil"
+exec 3<>"$made/rnk.bil"
+"$drain" make --side 344 --out "$made" "$real" >"$scratch/out" 2>"$scratch/err" 3<&- &
+maker_run=$!
+timeout 60 head -c 1 <&3 >"$scratch/byte" && kill -9 $maker_run
+wait $maker_run 2>/dev/null
+came=$?
+exec 3<&-
+want -
+judge 'a maker that is killed' 137 "$scratch/want" $came
+[ -e "$made/drain-1.part" ] || echo 'the killed run was not in the middle' >"$scratch/err"
+judge 'a maker that is killed in the middle' 0 "$scratch/want" 0
+for name in $files; do
+    [ "$name" = rnk.bil ] || judge_file 'a maker that is killed' "$made/$name" <"$scratch/other/$name"
+done
+
+# What a killed run left does not get in the way of the next, and stays as it is.
+rm "$made/rnk.bil"
+left=$(ls -A "$made" | grep '^drain-')
+cat "$made"/drain-* | cksum >"$scratch/left"
+judge_make 'made beside the rest of a killed run' 0 "$pit_made" --side 3 --out "$made" "$ground"
+judge_pit_files 'made beside the rest of a killed run' "$made"
+judge_names 'made beside the rest of a killed run' $files $left
+cat "$made"/drain-* | cksum >"$scratch/out"
+judge 'the rest of a killed run' 0 "$scratch/left" 0
+
+# New files get the permissions of the old ones; another name of an old file keeps its bytes; a link stays, and the file
+# that it leads to is written.
+make_ground
+cp "$scratch"/other/* "$made"
+chmod 640 "$made/con.bil"
+chmod 606 "$made/con.hdr"
+ln "$made/acc.bil" "$work/acc.bil"
+mv "$made/dir.bil" "$work/dir.bil"
+ln -s ../dir.bil "$made/dir.bil"
+ln -s ../bas.bil "$made/bas.new"
+mv "$made/bas.new" "$made/bas.bil"
+judge_make 'made over files, links and second names' 0 "$pit_made" --side 3 --out "$made" "$ground"
+judge_pit_files 'made over files, links and second names' "$made"
+judge_names 'made over files, links and second names' $files
+{ stat -c %a "$made/con.bil" "$made/con.hdr"; readlink "$made/dir.bil" "$made/bas.bil"; } >"$scratch/out"
+printf '640\n606\n../dir.bil\n../bas.bil\n' >"$scratch/want"
+judge 'permissions and links' 0 "$scratch/want" 0
+judge_file 'a second name of a file that was replaced' "$work/acc.bil" <"$scratch/other/acc.bil"
+judge_file 'the file behind a link' "$work/dir.bil" <samples/pit-3/dir.bil
+
+# Products over an input, by any way to it, are a usage error, and the input stays.
+for how in 'ln -s ../N00E000.hgt' "ln $ground" "ln $work/list" 'ln -s ../list'; do
+    for name in con.hdr rnk.bil; do
+        make_ground
+        echo '1 1' >"$work/list"
+        cat "$ground" "$work/list" >"$work/before"
+        $how "$made/$name"
+        want -
+        timeout 20 "$drain" make --side 3 --out "$made" --sinks "$work/list" "$ground" >"$scratch/out" 2>"$scratch/err"
+        judge "$how: made over an input as $name" 2 "$scratch/want" $? words
+        judge_names "$how: made over an input as $name" "$name"
+        cat "$ground" "$work/list" | judge_file "$how: made over an input as $name" "$work/before"
     done
+done
+
+# Two products that are one file, as one of them is a link to the other: none is written.
+for there in '' of_before; do
+    make_ground
+    [ -z "$there" ] || echo 'of before' >"$made/acc.bil"
+    ln -s acc.bil "$made/bas.bil"
+    judge_make "a link to another product $there" 3 "failed Open $made/bas.bil" --side 3 --out "$made" "$ground"
+    judge_names "a link to another product $there" bas.bil ${there:+acc.bil}
+    [ -z "$there" ] || echo 'of before' | judge_file "a link to another product" "$made/acc.bil"
 done
 
 # Pipes: for the tile, whose end needs one byte more, and for a raster, read to its end or not.

@@ -23,6 +23,20 @@ judge_told 'a check without progress' 0 "$jacksboro_line" '' check "${jacksboro[
 judge_told 'a check with progress' 0 "$jacksboro_line" 'drain: row 121 of 121\n' check --progress "${jacksboro[@]}"
 judge_told 'an audit with progress' 0 "$jacksboro_line" 'drain: row 121 of 121\n' audit "${jacksboro[@]}" --progress
 judge_told 'a check that is refused before a row' 2 'refused BadSide' '' check --progress --side 1 "${jacksboro[@]:2}"
+# An explanation with ranks and without: its page is that of right products, by docs/FORMATS.md.
+mkdir "$told/bare"
+cp samples/jacksboro/{con,dir,acc,bas}.{hdr,bil} "$told/bare"
+holding='hold: 1 VoidCell, 2 Missing, 3 BadCode, 4 BelowGround, 5 OpenRaised, 9 NotLeast, 10 Slope, 11 OutletCode, 12 FlatStep, 13 Accumulation, 14 Label, 15 SharedLabel'
+untried='not tried: 6 NoSpill, 7 SpillHeight, 8 SpillRank'
+page=$(printf '%s\n\n%s\n%s' "$jacksboro_line" "$holding" "$untried")
+bare=(--side 121 --products "$told/bare" samples/jacksboro/N36W085.hgt)
+bare_page=$(printf '%s\nranks: not checked' "$page")
+judge_told 'an explanation without progress' 0 "$page" '' explain "${jacksboro[@]}"
+judge_told 'an explanation with progress' 0 "$page" 'drain: row 121 of 121\n' explain --progress "${jacksboro[@]}"
+judge_told 'an explanation without ranks, with progress' 0 "$bare_page" 'drain: row 121 of 121\n' explain "${bare[@]}" --progress
+judge_told 'an explanation that is refused before a row' 2 $'refused BadSide\n\nexpected: a side from 2 to 3601\nfound: 1' '' \
+    explain --progress --side 1 "${jacksboro[@]:2}"
+
 judge_told 'a maker without progress' 0 'made rows=344 cols=344' '' "${made[@]}"
 cp "$told"/out/* "$told/other"
 judge_told 'a maker with progress' 0 'made rows=344 cols=344' 'drain: making\n' "${made[@]}" --progress
@@ -78,3 +92,29 @@ awk '$0 == "drain: making" { next }
      END { if (row <= 1376) print "ends at " row }' "$told/lines" >>"$scratch/out"
 : >"$scratch/want"
 judge 'lines of a maker of a raster that is taken slowly' 0 "$scratch/want" 0
+
+# Three tiles, whose rows are counted together. The third comes slowly, in a pipe: a line is due at its second row. At
+# its last row products are made, and for a second no other line comes.
+mkdir "$told/row" "$told/taken_slowly"
+for lon in 0 1; do head -c 18 /dev/zero >"$told/row/N00E00$lon.hgt"; done
+mkfifo "$told/row/N00E002.hgt"
+row=(--side 3 --out "$told/pair" "$told"/row/N00E00[012].hgt)
+(exec 4>"$told/row/N00E002.hgt"; head -c 6 /dev/zero >&4; sleep 1.2; head -c 6 /dev/zero >&4; sleep 0.2; head -c 6 /dev/zero >&4) &
+judge_told 'a maker of three tiles that come slowly' 0 'made rows=3 cols=7' 'drain: reading row 8 of 9\ndrain: making\n' make --progress "${row[@]}"
+wait $!
+(exec 4>"$told/row/N00E002.hgt"; head -c 12 /dev/zero >&4; sleep 1.2; head -c 6 /dev/zero >&4) &
+judge_told 'a maker of three tiles whose last row comes late' 0 'made rows=3 cols=7' 'drain: making\n' make --progress "${row[@]}"
+wait $!
+
+# A closed standard error in a run in which lines are due while files are written: they go into none of them.
+mkfifo "$told/taken_slowly/rnk.bil"
+(exec 5<"$told/taken_slowly/rnk.bil"; head -c 50000 <&5; sleep 1.2; cat <&5) >"$told/taken" &
+want 'made rows=344 cols=344'
+timeout 60 "$drain" make --progress --side 344 --out "$told/taken_slowly" "$told/N36W085.hgt" 2>&- >"$scratch/out"
+judge 'a slow maker with progress and a closed standard error' 0 "$scratch/want" $?
+wait $!
+for name in $files; do
+    file=$told/taken_slowly/$name
+    [ "$name" != rnk.bil ] || file=$told/taken
+    judge_file 'a slow maker with progress and a closed standard error' "$file" <"$told/other/$name"
+done

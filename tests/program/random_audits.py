@@ -20,6 +20,18 @@ from plain_inputs import Mosaic
 
 CASES = 600
 FORMS = {8: "b", 16: "h", 32: "i"}
+# A tile, two beside each other or at a corner, four in a square, and eight in a row or a column.
+TILES = [
+    ["N00E000.hgt"],
+    ["N00E000.hgt"],
+    ["N00E000.hgt"],
+    ["N00E000.hgt", "N00E001.hgt"],
+    ["N01E000.hgt", "N00E000.hgt"],
+    ["N00E001.hgt", "N01E000.hgt"],
+    ["N01E001.hgt", "N00E000.hgt", "N01E000.hgt", "N00E001.hgt"],
+    [f"N00E00{lon}.hgt" for lon in range(8)],
+    [f"N0{lat}E000.hgt" for lat in range(8)],
+]
 
 
 def least_surface(terrain):
@@ -85,7 +97,7 @@ class Case:
     def __init__(self, dice, folder):
         self.dice, self.folder = dice, folder
         self.side = dice.choice([2, 3, 3, 4, 5])
-        self.names = dice.choice([["N00E000.hgt"], ["N00E000.hgt"], ["N00E000.hgt", "N00E001.hgt"], ["N01E000.hgt", "N00E000.hgt"], ["N00E001.hgt", "N01E000.hgt"]])
+        self.names = dice.choice(TILES)
         self.mosaic = Mosaic(self.side, [name.encode() for name in self.names])
         self.tiles = self.random_tiles()
         self.z = self.mosaic.elevations(self.tiles)

@@ -12,13 +12,20 @@ trap 'rm -rf "$scratch"' EXIT
 passed=0
 failed=0
 
+# Whether standard error has one line with the reason why a file can't be opened or written.
+has_reason() { [ "$(wc -l <"$scratch/err")" = 1 ] && grep -q '^error: .*: .' "$scratch/err"; }
+
 # Compares one run: its name, the expected status and standard output, the actual status, and whether standard error has to
-# have text (words) or none (silent). The run has left its streams in $scratch/out and $scratch/err.
+# have text (words) or none (silent); beside a line of a file that can't be opened or written it has the reason. The run has
+# left its streams in $scratch/out and $scratch/err.
 judge() {
     local name=$1 status=$2 wanted=$3 came=$4 errors=${5:-silent} what=
     [ "$came" = "$status" ] || what+=" status $came for $status;"
     cmp -s "$wanted" "$scratch/out" || what+=" standard output: $(head -c 200 "$scratch/out");"
+    local failure='^(\{"answer":")?failed (Open |WriteFailed)'
+    [[ $errors = silent && $(head -n 1 "$wanted" | tr -d '\0') =~ $failure ]] && errors=reason
     case $errors in
+        reason) has_reason || what+=" standard error: $(head -c 200 "$scratch/err") is no reason;" ;;
         silent) [ -s "$scratch/err" ] && what+=" standard error: $(head -c 200 "$scratch/err");" ;;
         words) [ -s "$scratch/err" ] || what+=" nothing on standard error;" ;;
     esac
@@ -39,12 +46,15 @@ want() {
     esac
 }
 
+# How many seconds a run may take before it counts as one that hangs.
+patience=60
+
 # Compares one run of a command without input: its name, the expected status and line, and its arguments.
 judge_words() {
     local name=$1 status=$2 line=$3
     shift 3
     want "$line"
-    timeout 60 "$drain" "$@" </dev/null >"$scratch/out" 2>"$scratch/err"
+    timeout "$patience" "$drain" "$@" </dev/null >"$scratch/out" 2>"$scratch/err"
     judge "$name" "$status" "$scratch/want" $?
 }
 
@@ -64,7 +74,12 @@ done < <(sed -E 's/ *\| */|/g; s/^ +| +$//g' "$here/table.txt")
 . "$here/sinks.sh"
 . "$here/audit.sh"
 . "$here/explain.sh"
+. "$here/refusals.sh"
 . "$here/progress.sh"
+
+# A static program is linked from the same object: it is spared the large inputs.
+is_static() { ! LC_ALL=C readelf -lW "$drain" | grep -qw INTERP; }
+command -v readelf >/dev/null && is_static || . "$here/large.sh"
 
 # Adds the runs that another program checked: it prints those that failed, and in its last line 'NAME: N passed, M
 # failed'.
@@ -87,7 +102,6 @@ add_runs "$here/explain.py" "$drain"
 
 # A library that is loaded before the C library's makes calls of the program fail, so a C compiler is needed. A static
 # program loads no library.
-is_static() { ! LC_ALL=C readelf -lW "$drain" | grep -qw INTERP; }
 compiler=$(dirname "$(readlink -f "$(command -v rt)")")/../toolchain/bin/clang
 [ -x "$compiler" ] || compiler=$(command -v cc)
 if command -v readelf >/dev/null && is_static; then

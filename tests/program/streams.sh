@@ -60,6 +60,16 @@ judge 'a stack of 100 KiB: fill' 0 "$scratch/want" $?
 want 'accepted rows=121 cols=121 data=14641 raised=690 outlets=32'
 (ulimit -s 100 && exec env -i "$drain" check --side 121 --products samples/jacksboro samples/jacksboro/N36W085.hgt) >"$scratch/out" 2>"$scratch/err"
 judge 'a stack of 100 KiB: check' 0 "$scratch/want" $?
+(ulimit -s 100 && exec env -i "$drain" audit --side 121 --products samples/jacksboro samples/jacksboro/N36W085.hgt) >"$scratch/out" 2>"$scratch/err"
+judge 'a stack of 100 KiB: audit' 0 "$scratch/want" $?
+cp -r samples/jacksboro "$scratch/jacksboro"
+printf '\252' | dd of="$scratch/jacksboro/acc.bil" bs=1 seek=40000 conv=notrunc status=none
+for form in '' --json; do
+    words="explain --side 121 --products $scratch/jacksboro --map $scratch/faults.bil $form samples/jacksboro/N36W085.hgt"
+    "$drain" $words >"$scratch/want" 2>"$scratch/err"
+    (ulimit -s 100 && exec env -i "$drain" $words) >"$scratch/out" 2>"$scratch/err"
+    judge "a stack of 100 KiB: explain $form" 1 "$scratch/want" $?
+done
 mkdir "$scratch/small"
 want 'made rows=344 cols=344'
 (ulimit -s 100 && exec env -i "$drain" make --side 344 --out "$scratch/small" samples/N36W085.hgt) >"$scratch/out" 2>"$scratch/err"
@@ -91,10 +101,13 @@ want -
 tools/same_logic.sh "$drain" >"$scratch/out" 2>"$scratch/err"
 judge 'the logic that the version names' 0 "$scratch/want" $?
 
-# No memory for the input.
+# No memory for the input; and memory for what comes, though not for all that might come.
 want 'failed OutOfMemory'
-(ulimit -v 40000 && exec "$drain" fill --side 3601) <"$pit" >"$scratch/out" 2>"$scratch/err"
+(ulimit -v 40000 && exec "$drain" fill --side 3601) </dev/zero >"$scratch/out" 2>"$scratch/err"
 judge 'no memory for the input' 3 "$scratch/want" $?
+want 'refused BadLength'
+(ulimit -v 40000 && exec "$drain" fill --side 3601) <"$pit" >"$scratch/out" 2>"$scratch/err"
+judge 'memory for a short input' 2 "$scratch/want" $?
 
 # No memory for a label more: what was admitted is held, and the next call goes on.
 want 'refused memory, and the labels before are held'

@@ -1,0 +1,140 @@
+#!/usr/bin/env python3
+"""Tests of tools/try_named_edits.py: which edits it reads, what they change, and which of the prover's outputs are a
+refusal. No prover is run.
+
+Usage: tests/named_edits.py
+"""
+
+import importlib.util
+import pathlib
+import sys
+import tempfile
+import types
+import unittest
+
+ROOT = pathlib.Path(__file__).resolve().parent.parent
+sys.dont_write_bytecode = True
+
+
+def tool() -> types.ModuleType:
+    spec = importlib.util.spec_from_file_location("try_named_edits", ROOT / "tools/try_named_edits.py")
+    assert spec and spec.loader
+    module = importlib.util.module_from_spec(spec)
+    spec.loader.exec_module(module)
+    return module
+
+
+try_named_edits = tool()
+
+SOURCE = "fn one() {\n    a();\n    b();\n}\nfn two() {\n    b();\n}\n"
+
+# An edit, and what is reported of it: nothing if it can be put into SOURCE.
+EDITS = [
+    ("one text", "file: src/lib.rt\nold:     a();\nnew:     c();\n", ""),
+    ("no new text", "file: src/lib.rt\nold:     a();\nnew:\n", ""),
+    ("its function", "file: src/lib.rt\nold: a()\nnew: c()\nonly: one\n", ""),
+    ("two texts", "file: src/lib.rt\nold: a()\nnew: c()\nold: c()\nnew: d()\n", ""),
+    ("a text of two lines", "file: src/lib.rt\nold:     a();\n    b();\nnew: c();\n", "line 3 is none of"),
+    ("a comment", "-- why\nfile: src/lib.rt\nold: a()\nnew: c()\n", "line 1 is none of"),
+    ("an empty line", "file: src/lib.rt\n\nold: a()\nnew: c()\n", "line 2 is none of"),
+    ("no file", "old: a()\nnew: c()\n", "line 2: a new text without a file or an old text"),
+    ("no old text", "file: src/lib.rt\nnew: c()\n", "line 2: a new text without a file or an old text"),
+    ("nothing new", "file: src/lib.rt\nold: a()\n", "no new text"),
+    ("a text that is there twice", "file: src/lib.rt\nold: b()\nnew: c()\n", "isn't found exactly once"),
+    ("a text that isn't there", "file: src/lib.rt\nold: c()\nnew: d()\n", "isn't found exactly once"),
+    (
+        "one that an earlier text took",
+        "file: src/lib.rt\nold: a()\nnew: c()\nold: a()\nnew: d()\n",
+        "isn't found exactly",
+    ),
+]
+
+DONE = "only=2 proved=1\n"
+NOT_PROVED = "fn made::rows::Rows::next: not proved\n"
+ANSWERS = "./proofs/rows/Rows/next/Answers.antt:3:9: error: "
+INVARIANTS = "./proofs/rows/Rows/next/Invariants.antt:3:9: error: "
+NO_NAME = "`loop-init`: record `Given` has no field `col`\n  the fields that can be named here are `row`\n"
+GONE = "`loop-init`: `goal.loop-init`: module `Goals` has no `loop-init` that can be named from here\n"
+NO_SCOPE = "`loop-init`: `col` is not in scope\n"
+BY_ANOTHER = "`returns`: `helper` computes no further\n  `helper` stands by its signature alone, since it was refused\n"
+WRONG = "`returns-clause-row`: `omega`: the goal does not follow\n"
+FOUND = "note: src/rows.rt:4:5: it is not proved that what the function ensures holds (`returns-clause-row`)\n"
+NO_PROOF = "fn made::rows::Rows::next: no proof: expected answers in ./x; `search` did not prove `returns`\n"
+ELSEWHERE = "./proofs/rows/Rows/other/Answers.antt:3:9: error: " + WRONG
+
+# What the prover prints, and the verdict on an edit of Rows::next in src/rows.rt.
+OUTPUTS = [
+    ("proved", "fn made::rows::Rows::next: proved\n" + DONE, "NOT REFUSED"),
+    ("not finished", NOT_PROVED + ANSWERS + WRONG, "NOT REFUSED: the check did not finish"),
+    ("a goal of its own", ANSWERS + WRONG + NOT_PROVED + DONE, "refused by returns-clause-row"),
+    ("a goal without an answer", FOUND + NOT_PROVED + DONE, "refused by returns-clause-row"),
+    ("no answers at all", NO_PROOF + DONE, "refused by returns"),
+    ("two goals", ANSWERS + WRONG + ANSWERS + WRONG + NO_PROOF + DONE, "refused by returns-clause-row, returns"),
+    ("that of a callee alone", ELSEWHERE + NOT_PROVED + DONE, "NOT REFUSED"),
+    ("another function", ANSWERS + WRONG + "fn made::rows::Rows::other: not proved\n" + DONE, "NOT REFUSED"),
+    ("a missing field", ANSWERS + NO_NAME + NOT_PROVED + DONE, "NOT REFUSED: only a name in its proof"),
+    ("a missing goal", ANSWERS + GONE + NOT_PROVED + DONE, "NOT REFUSED: only a name in its proof"),
+    ("a name out of scope", ANSWERS + NO_SCOPE + NOT_PROVED + DONE, "NOT REFUSED: only a name in its proof"),
+    (
+        "what rests on it",
+        ANSWERS + NO_NAME + ANSWERS + BY_ANOTHER + NOT_PROVED + DONE,
+        "NOT REFUSED: only a name in its proof",
+    ),
+    ("a name and a goal", ANSWERS + NO_NAME + ANSWERS + WRONG + NOT_PROVED + DONE, "refused by returns-clause-row"),
+    ("an invariant's name", INVARIANTS + NO_NAME + FOUND + NOT_PROVED + DONE, "NOT REFUSED: a name in its invariants"),
+    ("an invariant's goal", INVARIANTS + WRONG + NOT_PROVED + DONE, "refused by returns-clause-row"),
+]
+
+
+class Edits(unittest.TestCase):
+    """Edits of a made-up crate."""
+
+    def setUp(self) -> None:
+        scratch = tempfile.TemporaryDirectory()
+        self.addCleanup(scratch.cleanup)
+        self.crate = pathlib.Path(scratch.name) / "made"
+        (self.crate / "src").mkdir(parents=True)
+        (self.crate / "more-edits").mkdir()
+        (self.crate / "src/lib.rt").write_text(SOURCE, encoding="utf-8")
+        (self.crate / "src/rows.rt").write_text(SOURCE, encoding="utf-8")
+
+    def edit(self, text: str, name: str = "bug") -> pathlib.Path:
+        file = self.crate / "more-edits" / f"{name}.edit"
+        file.write_text(text, encoding="utf-8")
+        return file
+
+    def test_edits(self) -> None:
+        for name, text, expected in EDITS:
+            with self.subTest(name):
+                self.edit(text)
+                if not expected:
+                    try_named_edits.rounds_of(self.crate)
+                    continue
+                with self.assertRaises(try_named_edits.BadEdit) as bad:
+                    try_named_edits.rounds_of(self.crate)
+                self.assertTrue(str(bad.exception).startswith("made/bug: "))
+                self.assertIn(expected, str(bad.exception))
+
+    def test_later_texts_change_what_earlier_ones_made(self) -> None:
+        edit = try_named_edits.Edit(self.edit("file: src/lib.rt\nold: a()\nnew: c()\nold:     c();\nnew:     d();\n"))
+        self.assertEqual(edit.applied(self.crate, {}), {"src/lib.rt": SOURCE.replace("a()", "d()")})
+
+    def test_only_those_that_name_a_function_are_tried_one_to_a_file(self) -> None:
+        self.edit("file: src/lib.rt\nold: a()\nnew: c()\nonly: one\n", "first")
+        self.edit("file: src/lib.rt\nold: two\nnew: three\nonly: two\n", "second")
+        self.edit("file: src/rows.rt\nold: a()\nnew: c()\nonly: one\n", "third")
+        self.edit("file: src/rows.rt\nold: a()\nnew: d()\n", "unnamed")
+        rounds = try_named_edits.rounds_of(self.crate)
+        names = [[edit.name for edit in found.edits] for found in rounds]
+        self.assertEqual(names, [["made/first", "made/third"], ["made/second"]])
+
+    def test_verdicts(self) -> None:
+        edit = try_named_edits.Edit(self.edit("file: src/rows.rt\nold: a()\nnew: c()\nonly: rows::Rows::next\n"))
+        for name, said, expected in OUTPUTS:
+            with self.subTest(name):
+                found = try_named_edits.verdict("made", edit, said)
+                self.assertEqual(found, (expected, expected.startswith("refused")))
+
+
+if __name__ == "__main__":
+    unittest.main()

@@ -1,0 +1,306 @@
+"""Writes the page and the JSON object of an explanation that isn't a refusal, as docs/FORMATS.md describes them.
+
+The order of the page's parts is that of docs/FORMATS.md. Its words and columns are those of the page in docs/GUIDE.md,
+of docs/CAUSES.md, and of the pages written by hand in crates/page_tests.
+"""
+
+import sys
+from fractions import Fraction
+
+sys.dont_write_bytecode = True
+from make_products import RULES, STEPS, key
+from plain_faults import Explained
+
+PLACES = 10**7
+RING_TOLD = 20
+LETTERS = {1: "E", 2: "SE", 4: "S", 8: "SW", 16: "W", 32: "NW", 64: "N", 128: "NE"}
+OPENINGS = {"sink": "at a listed sink", "edge": "on the edge of the mosaic", "void": "next to a void"}
+LOST = {"no_code": "is no direction code", "outside": "points outside the mosaic", "void": "points to a void"}
+ANY_CODE = [0, *STEPS]
+
+
+def degrees_text(degrees: Fraction) -> str:
+    """Degrees with seven places, rounded to the nearest, halves away from 0."""
+    units = (2 * abs(degrees.numerator) * PLACES + degrees.denominator) // (2 * degrees.denominator)
+    return f"{'-' if degrees < 0 and units else ''}{units // PLACES}.{units % PLACES:07d}"
+
+
+def code_text(number: int) -> str:
+    """A direction's letters and code, 'outlet 0', or a number that is no code."""
+    return f"{'outlet' if number == 0 else LETTERS.get(number, '?')} {number}"
+
+
+class Expected:
+    """What the first rule that fails at a cell requires there."""
+
+    def __init__(self, plain: Explained, cell: int) -> None:
+        self.plain, self.cell, self.rules = plain, cell, plain.rules
+        self.rule, self.name, holds = next(rule for rule in RULES if not getattr(self.rules, rule[2])(cell))
+        self.product: str | None = None
+        self.number: int | None = None
+        self.at_fault: list[str] = []
+        self.codes: list[int] = []
+        self.ways: list[tuple[int, int, int]] = []
+        self.open: str | None = None
+        getattr(self, holds)()
+        self.found = self.rules.products[self.product][cell] if self.product else None
+
+    def void_cell(self) -> None:
+        blanks = zip(self.rules.nodata, self.rules.blanks(self.cell))
+        self.at_fault = [name for name, is_blank in blanks if not is_blank]
+        self.words = f"no data at a void, in {', '.join(self.at_fault)}"
+
+    def missing(self) -> None:
+        self.at_fault = [name for name, is_blank in zip(self.rules.nodata, self.rules.blanks(self.cell)) if is_blank]
+        self.words = f"a number at a data cell, in {', '.join(self.at_fault)}"
+
+    def bad_code(self) -> None:
+        self.product, self.codes = "dir", ANY_CODE
+        self.words = "dir 0, 1, 2, 4, 8, 16, 32, 64 or 128"
+
+    def below_ground(self) -> None:
+        self.product, self.number = "con", self.rules.z[self.cell]
+        self.words = f"con at least the ground, {self.number}"
+
+    def open_raised(self) -> None:
+        self.product, self.number, self.open = "con", self.rules.z[self.cell], self.opening()
+        self.words = f"con equal to the ground, {self.number}, {OPENINGS[self.open]}"
+
+    def not_least(self) -> None:
+        around = self.plain.terrain.data_neighbors(self.cell)
+        self.product = "con"
+        self.number = min(max(self.rules.z[self.cell], self.rules.con[other]) for _, other in around)
+        self.words = f"con at most {self.number}"
+
+    def slope(self) -> None:
+        drops = {code: self.rules.con[self.cell] - self.rules.con[other] for code, other in self.rules.lower(self.cell)}
+        self.product = "dir"
+        self.ways = [(code, drops[code], key(code, drops[code])) for code in STEPS if code in drops]
+        greatest = max(key for _, _, key in self.ways)
+        self.codes = [code for code, _, key in self.ways if key == greatest]
+        self.words = "dir of a steepest descent"
+
+    def outlet_code(self) -> None:
+        self.product, self.number, self.codes, self.open = "dir", 0, [0], self.opening()
+        self.words = f"dir 0, with no lower neighbour, {OPENINGS[self.open]}"
+
+    def flat_step(self) -> None:
+        level = [
+            (code, other)
+            for code, other in self.plain.terrain.data_neighbors(self.cell)
+            if self.rules.con[other] == self.rules.con[self.cell]
+        ]
+        smaller = [
+            code for code, other in level if self.plain.ranks and self.rules.rnk[other] < self.rules.rnk[self.cell]
+        ]
+        allowed = smaller if self.plain.ranks else [code for code, _ in level]
+        self.product, self.codes = "dir", [code for code in STEPS if code in allowed]
+        self.words = f"dir to a neighbour with the same con{' and a smaller rnk' if self.plain.ranks else ''}: "
+        self.words += ", ".join(map(code_text, self.codes)) or "none"
+
+    def accumulation(self) -> None:
+        back = {code: code << 4 if code < 16 else code >> 4 for code in STEPS}
+        around = self.plain.terrain.data_neighbors(self.cell)
+        inflow = [self.rules.acc[other] for code, other in around if self.rules.dir[other] == back[code]]
+        self.product, self.number = "acc", 1 + sum(inflow)
+        self.words = f"acc {self.number}"
+
+    def label(self) -> None:
+        self.product = "bas"
+        self.number = self.rules.bas[self.rules.named(self.cell, self.rules.dir[self.cell])]
+        self.words = f"bas of the cell that dir points to, {self.number}"
+
+    def shared_label(self) -> None:
+        self.product = "bas"
+        self.words = "bas that no earlier outlet has"
+
+    def opening(self) -> str:
+        """Why the cell is open: the first of the three reasons."""
+        if self.cell in self.plain.terrain.sinks:
+            return "sink"
+        return "edge" if None in (self.plain.terrain.beside(self.cell, code) for code in STEPS) else "void"
+
+    def as_object(self) -> dict:
+        return {
+            "rule": self.rule,
+            "name": self.name,
+            "product": self.product,
+            "found": self.found,
+            "number": self.number,
+            "products": self.at_fault,
+            "codes": self.codes,
+            "ways": [{"code": code, "drop": drop, "key": key} for code, drop, key in self.ways],
+            "open": self.open,
+        }
+
+    def lines(self) -> list[str]:
+        lines = [f"rule {self.rule} {self.name}", f"expected: {self.words}"]
+        for code, drop, square in self.ways:
+            lines.append(f"  {code_text(code)}: drop {drop}, key {square}{', steepest' if code in self.codes else ''}")
+        if self.product:
+            found = code_text(self.found) if self.product == "dir" else str(self.found)
+            lines.append(f"found: {self.product} {found}")
+        return lines
+
+
+class Page:
+    """The page of products that aren't refused. Which cell of a ring is the first is the program's choice."""
+
+    def __init__(self, plain: Explained, ring_start: dict | None) -> None:
+        self.plain, self.rules = plain, plain.rules
+        self.expected = None if plain.first is None else Expected(plain, plain.first)
+        self.ring: list[int] | None = None
+        self.lost: int | None = None
+        if not plain.ranks and plain.endless is not None:
+            kind, cells = plain.ring_or_lost()
+            if kind == "lost":
+                self.lost = cells
+            else:
+                start = ring_start["row"] * plain.terrain.cols + ring_start["col"] if ring_start else cells[0]
+                at = cells.index(start) if start in cells else 0
+                self.ring = cells[at:] + cells[:at]
+
+    def degrees(self, place: dict) -> tuple[Fraction, Fraction]:
+        """The longitude and latitude of a cell."""
+        steps, mosaic = self.plain.mosaic.side - 1, self.plain.mosaic
+        return mosaic.west + Fraction(place["col"], steps), mosaic.north - Fraction(place["row"], steps)
+
+    def lost_by(self) -> str:
+        code = self.rules.dir[self.lost]
+        if code not in STEPS:
+            return "no_code"
+        return "outside" if self.plain.terrain.beside(self.lost, code) is None else "void"
+
+    # As JSON
+
+    def as_object(self) -> dict:
+        return {
+            "answer": self.plain.line(),
+            "refusal": None,
+            "rows": self.plain.terrain.rows,
+            "cols": self.plain.terrain.cols,
+            "ranks": self.plain.ranks,
+            "rules": [{"rule": it["rule"], "name": it["name"], **self.faults(it)} for it in self.plain.by_rule],
+            "products": [
+                {
+                    "product": it["product"],
+                    "at_voids": self.faults(it["at_voids"]),
+                    "at_data": self.faults(it["at_data"]),
+                }
+                for it in self.plain.by_product
+            ],
+            "patch": self.patch_object(),
+            "expected": self.expected and self.expected.as_object(),
+            "run": self.run_object(),
+        }
+
+    def cell_object(self, place: dict) -> dict:
+        longitude, latitude = self.degrees(place)
+        return {**place, "longitude": float(longitude), "latitude": float(latitude)}
+
+    def faults(self, faults: dict) -> dict:
+        return {"cells": faults["cells"], "first": faults["first"] and self.cell_object(faults["first"])}
+
+    def around(self) -> list[list[int | None]]:
+        """The first cell at which a rule fails and its neighbours, north first."""
+        beside = {code: self.plain.terrain.beside(self.plain.first, code) for code in STEPS}
+        rows = [[32, 64, 128], [16, 0, 1], [8, 4, 2]]
+        return [[self.plain.first if code == 0 else beside[code] for code in row] for row in rows]
+
+    def values_object(self, cell: int) -> dict:
+        numbers = {name: self.rules.products[name][cell] for name in self.rules.nodata}
+        shown = {name: None if number == self.rules.nodata[name] else number for name, number in numbers.items()}
+        return {
+            "ground": self.rules.z[cell],
+            "sink": cell in self.plain.terrain.sinks,
+            **shown,
+            "rnk": shown.get("rnk"),
+        }
+
+    def patch_object(self) -> dict | None:
+        if self.plain.first is None:
+            return None
+        values = [[cell if cell is None else self.values_object(cell) for cell in row] for row in self.around()]
+        return {"cell": self.cell_object(self.plain.place(self.plain.first)), "values": values}
+
+    def run_object(self) -> dict | None:
+        ring = lost = None
+        if self.ring is not None:
+            cells = [self.cell_object(self.plain.place(cell)) for cell in self.ring[:RING_TOLD]]
+            ring = {"length": len(self.ring), "cells": cells}
+        elif self.lost is not None:
+            lost = {"cell": self.cell_object(self.plain.place(self.lost)), "by": self.lost_by()}
+        else:
+            return None
+        return {"from": self.cell_object(self.plain.place(self.plain.endless)), "ring": ring, "lost": lost}
+
+    # As text
+
+    def as_text(self) -> str:
+        parts = [[self.plain.line()], self.rule_lines()]
+        if self.expected:
+            parts.append([*self.patch_lines(), *self.expected.lines()])
+        if self.ring is not None or self.lost is not None:
+            parts.append(self.run_lines())
+        return "\n".join("".join(line + "\n" for line in part) for part in parts)
+
+    def fault_columns(self, faults: dict) -> str:
+        longitude, latitude = map(degrees_text, self.degrees(faults["first"]))
+        first = faults["first"]
+        return f"{faults['cells']:10}{first['row']:7}{first['col']:7}{longitude:>14}{latitude:>14}"
+
+    def rule_lines(self) -> list[str]:
+        lines = []
+        for rule in self.plain.by_rule:
+            if rule["cells"]:
+                lines.append(f"{rule['rule']} {rule['name']}".ljust(15) + self.fault_columns(rule))
+                part = {1: "at_voids", 2: "at_data"}.get(rule["rule"])
+                for product in self.plain.by_product if part else []:
+                    if product[part]["cells"]:
+                        lines.append(f"  {product['product']:13}" + self.fault_columns(product[part]))
+        if lines:
+            heading = f"{'rule':15}{'cells':>10}{'row':>7}{'column':>7}{'longitude':>14}{'latitude':>14}"
+            lines.insert(0, heading)
+        holding = ", ".join(f"{rule['rule']} {rule['name']}" for rule in self.plain.by_rule if not rule["cells"])
+        lines += [f"hold: {holding or 'none'}", "not tried: 6 NoSpill, 7 SpillHeight, 8 SpillRank"]
+        return lines if self.plain.ranks else [*lines, "ranks: not checked"]
+
+    def cell_words(self, cell: int) -> str:
+        place = self.plain.place(cell)
+        return f"row {place['row']}, column {place['col']}"
+
+    def ground_text(self, cell: int) -> str:
+        ground = self.rules.z[cell]
+        return f"{'*' if cell in self.plain.terrain.sinks else ''}{'void' if ground is None else ground}"
+
+    def number_text(self, product: str, cell: int) -> str:
+        number = self.rules.products[product][cell]
+        if number == self.rules.nodata[product]:
+            return "no data"
+        return code_text(number) if product == "dir" else str(number)
+
+    def patch_lines(self) -> list[str]:
+        longitude, latitude = map(degrees_text, self.degrees(self.plain.place(self.plain.first)))
+        lines = [f"first fault: {self.cell_words(self.plain.first)}, longitude {longitude}, latitude {latitude}"]
+        lines.append("- outside the mosaic, * listed as a sink")
+        for name in ["ground", *self.rules.nodata]:
+            lines.append(name)
+            for row in self.around():
+                shown = (
+                    "-"
+                    if cell is None
+                    else self.ground_text(cell)
+                    if name == "ground"
+                    else self.number_text(name, cell)
+                    for cell in row
+                )
+                lines.append("".join(text.rjust(13) for text in shown))
+        return lines
+
+    def run_lines(self) -> list[str]:
+        line = f"path without an end: from {self.cell_words(self.plain.endless)}"
+        if self.ring is None:
+            return [line, f"  path stops at {self.cell_words(self.lost)}: dir {LOST[self.lost_by()]}"]
+        cells = [f"  {self.cell_words(cell)}" for cell in self.ring[:RING_TOLD]]
+        rest = ["  and so on"] if len(self.ring) > RING_TOLD else []
+        return [f"{line} into a ring of {len(self.ring)} cells", *cells, *rest]
