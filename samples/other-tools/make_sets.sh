@@ -1,5 +1,5 @@
 #!/usr/bin/env bash
-# Makes the tile and the sets of this folder anew, by the recipes of docs/OTHER_TOOLS.md: with SAGA 8.5.0, GRASS 8.2.1, GDAL 3.6.2 and numpy.
+# Makes the tile and the sets of this folder anew: with SAGA 8.5.0, GRASS 8.2.1, GDAL 3.6.2 and numpy.
 # Usage: samples/other-tools/make_sets.sh FOLDER    (a new one, which the sets are written into)
 set -eu
 samples=$(cd "$(dirname "$0")/.." && pwd)
