@@ -5,7 +5,7 @@ ghost use Rattle.drain_device.specs.Counts.{no_faults};
 
 use crate::inputs::Tile;
 use crate::making::make;
-use crate::printed::{check_printed, empty_files, files_of, whole_sink};
+use crate::printed::{Printed, check_printed, empty_files, files_of, whole_sink};
 use drain_cli::run_audit::run_audit;
 use drain_device::{ByteList, ByteSource, DeviceFault, SliceSource, VecSink};
 use drain_grid::{Held, PerProduct};
@@ -215,7 +215,9 @@ fn audited<'a>(
 ) -> Result<[Given; 6], Fail> {
     let mut tiles = tiles(alloc, clock)?;
     let mut out = whole_sink(alloc)?;
-    if run_audit(alloc, 64, &mut tiles, &[], products, &mut out) != 0 {
+    let status = run_audit(alloc, 64, &mut tiles, &[], products, &mut out);
+    let run = Printed::new(out.as_slice(), status)?;
+    if run.status != 0 {
         return Err("not accepted".into());
     }
     Ok([
