@@ -10,6 +10,7 @@ use drain_cli::watched::Watched;
 use drain_cli::watched_rows::judged_rows;
 use drain_device::{BodyFault, ByteSink, ByteSource, SliceSource, VecSink};
 use drain_header::parse_header;
+use drain_maker::follow::Part;
 use std::alloc::Global;
 use std::process::Abort;
 use std::test::Fail;
@@ -35,10 +36,35 @@ fn rows_end_behind_what_is_skipped(rt: HostRuntime) -> Result<(), Fail> {
     Ok(())
 }
 
-/// What is counted, the row, the number of rows, and the line.
-static LINES: [(Counted, u32, u32, &str); 3] = [
+/// What is counted, the row or cell, how many there are, and the line.
+static LINES: [(Counted, u32, u32, &str); 8] = [
     (Counted::Judged, 1200, 3601, "drain: row 1200 of 3601"),
     (Counted::Read, 1, 2, "drain: reading row 1 of 2"),
+    (
+        Counted::Made(Part::Flood),
+        65536,
+        829497601,
+        "drain: flood: cell 65536 of 829497601",
+    ),
+    (
+        Counted::Made(Part::Directions),
+        1,
+        4,
+        "drain: directions: cell 1 of 4",
+    ),
+    (
+        Counted::Made(Part::Counts),
+        2,
+        4,
+        "drain: counts: cell 2 of 4",
+    ),
+    (
+        Counted::Made(Part::Labels),
+        3,
+        4,
+        "drain: labels: cell 3 of 4",
+    ),
+    (Counted::Made(Part::Test), 0, 4, "drain: test: cell 0 of 4"),
     (Counted::Written, 0, 28801, "drain: writing row 0 of 28801"),
 ];
 

@@ -10,6 +10,7 @@ use crate::status::Status;
 use crate::telling::{Counted, row_line};
 use drain_answer::line::{Line, words};
 use drain_device::{Writer, write_nothing};
+use drain_maker::follow::{Follow, Part};
 use std::cell::Cell;
 use std::time::Instant;
 
@@ -68,7 +69,7 @@ impl<'a> Gauge<'a> {
         })
     }
 
-    /// Reports this number of rows, if a line is due. The last row to be checked is always reported; if the last row
+    /// Reports this number of rows or cells, if a line is due. The last row to be checked is always reported; if the last row
     /// was read to make products, they are made now.
     fn reach(&self, counted: Counted, row: u32, rows: u32) {
         let Some(now) = self.now() else {
@@ -101,6 +102,18 @@ impl<'a> Gauge<'a> {
 
     fn tell(&self, line: &Line) {
         let _ = print_line(&mut Writer::new(self.rt.stderr()), line, Status::Done);
+    }
+}
+
+/// Reports how far products are made.
+#[derive(Clone, Copy)]
+pub struct MakeWatch<'a>(pub &'a Gauge<'a>);
+
+impl Follow for MakeWatch<'_> {
+    fn reach(&mut self, part: Part, cells: usize, all: usize) {
+        let cells = u32::try_from(cells).unwrap_or(u32::MAX);
+        let all = u32::try_from(all).unwrap_or(u32::MAX);
+        self.0.reach(Counted::Made(part), cells, all);
     }
 }
 

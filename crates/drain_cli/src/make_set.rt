@@ -15,7 +15,8 @@ use drain_answer::line::{Line, words};
 use drain_device::{ByteSink, ByteSource};
 use drain_grid::{ProductSet, SinkFault, parse_sinks};
 use drain_hgt::TileInput;
-use drain_maker::{MakeRefusal, make};
+use drain_maker::follow::Follow;
+use drain_maker::{MakeRefusal, make_followed};
 use drain_mosaic::Layout;
 use drain_verdict::{Refusal, Verdict, read_mosaic, report};
 use std::alloc::Global;
@@ -37,11 +38,13 @@ pub enum NoSet {
 /// ReadFailed`, and if the line can't be written.
 ///
 /// `side` is the number of samples along an edge of each tile, and `sinks` a list of inland sinks, a line `ROW COL` each. Of a tile at most one byte past its end is read.
+/// `follow` gets to know how far the products are made.
 pub fn make_set<R: ByteSource, W: ByteSink>(
     alloc: Global,
     side: u32,
     tiles: &mut [TileInput<R>],
     sinks: &[u8],
+    follow: &mut impl Follow,
     out: &mut W,
 ) -> Result<(Layout, ProductSet), u8>
     ensures made { IfOk result (λ set. IsSetOf R.bytes_left side tiles.old sinks.now set.0 set.1) }
@@ -54,7 +57,7 @@ pub fn make_set<R: ByteSource, W: ByteSink>(
     ensures within { TilesTakeAtMost R.bytes_left side tiles.old tiles.new }
     ensures names { names_of tiles.new ≡ names_of tiles.old }
 {
-    match read_and_make(alloc, side, tiles, sinks) {
+    match read_and_make(alloc, side, tiles, sinks, follow) {
         Ok(set) => Ok(set),
         Err(why) => Err(print_line(out, &line_of(&why), status_of(&why))),
     }
@@ -66,6 +69,7 @@ fn read_and_make<R: ByteSource>(
     side: u32,
     tiles: &mut [TileInput<R>],
     sinks: &[u8],
+    follow: &mut impl Follow,
 ) -> Result<(Layout, ProductSet), NoSet>
     ensures made { IfOk result (λ set. IsSetOf R.bytes_left side tiles.old sinks.now set.0 set.1) }
     ensures no_read_failed { OnOk result (SomeReadFails (map R.counts (tile_devices tiles.old)) (map R.counts (tile_devices tiles.new)) ⊥) }
@@ -81,7 +85,7 @@ fn read_and_make<R: ByteSource>(
         Ok(listed) => listed,
         Err(fault) => return Err(NoSet::Sinks(fault)),
     };
-    match make(alloc, &mosaic.layout, &mosaic.elevation, &listed) {
+    match make_followed(alloc, &mosaic.layout, &mosaic.elevation, &listed, follow) {
         Ok(products) => Ok((mosaic.layout, products)),
         Err(refusal) => Err(NoSet::Maker(refusal)),
     }

@@ -12,7 +12,7 @@ use crate::command_line::{Judged, Request};
 use crate::explain_files::explain_files;
 use crate::explain_page::Form;
 use crate::file_id::{FileId, is_input};
-use crate::gauge::Gauge;
+use crate::gauge::{Gauge, MakeWatch};
 use crate::make_set::make_set;
 use crate::no_page::print_no_object;
 use crate::open_failure::print_open_failure;
@@ -220,6 +220,7 @@ fn made_of_files<'a>(
                 side,
                 tiles.as_mut_slice(),
                 sinks.as_slice(),
+                &mut MakeWatch(gauge),
                 out,
             )
         }

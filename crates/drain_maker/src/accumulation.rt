@@ -3,6 +3,7 @@
 ghost use Rattle.std.specs.Prelude.{◌≡◌, IfOk};
 
 use crate::blanks::{NO_CODE, blank_count};
+use crate::follow::{Done, Follow, Part};
 use crate::layer::Layer;
 use crate::place::{Place, Steps};
 use drain_grid::{OutOfMemory, Product};
@@ -12,15 +13,21 @@ use std::alloc::Global;
 const HANDED_ON: u8 = u8::MAX;
 
 /// The counts, 0 at voids. A cell passes its count on as soon as all that flow into it have.
-pub fn accumulation(alloc: Global, dir: &Layer<u8>) -> Result<Layer<u32>, OutOfMemory>
+pub fn accumulation(
+    alloc: Global,
+    dir: &Layer<u8>,
+    follow: &mut impl Follow,
+) -> Result<Layer<u32>, OutOfMemory>
     ensures { IfOk result (λ acc. acc.shape ≡ dir.now.shape) }
 {
     let shape = dir.shape();
     let steps = Steps::new(shape.cols());
     let mut inflows = inflows(alloc, dir, &steps)?;
     let mut acc = Layer::new(alloc, shape, blank_count(Product::Acc))?;
+    let mut done = Done::new(Part::Counts, shape.cells());
     for index in 0..shape.cells() {
         hand_on(dir, &steps, &mut inflows, &mut acc, Place(index as u32));
+        done.pass(1, follow);
     }
     Ok(acc)
 }

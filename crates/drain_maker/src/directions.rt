@@ -4,6 +4,7 @@ ghost use Rattle.std.specs.Prelude.{◌≡◌, IfOk};
 ghost use Rattle.drain_grid.specs.Extent.{IsCellOf};
 
 use crate::blanks::{NO_CODE, blank_height};
+use crate::follow::{Done, Follow, Part};
 use crate::layer::Layer;
 use crate::place::{Place, Step, Steps};
 use drain_grid::{Cell, Direction, OutOfMemory};
@@ -15,12 +16,14 @@ pub fn directions(
     alloc: Global,
     con: &Layer<i16>,
     spl: &Layer<u8>,
+    follow: &mut impl Follow,
 ) -> Result<Layer<u8>, OutOfMemory>
     ensures { IfOk result (λ dir. dir.shape ≡ con.now.shape) }
 {
     let shape = con.shape();
     let steps = Steps::new(shape.cols());
     let mut dir = Layer::new(alloc, shape, NO_CODE)?;
+    let mut done = Done::new(Part::Directions, shape.cells());
     for row in 0..shape.rows() {
         for col in 0..shape.cols() {
             let cell = Cell { row, col };
@@ -35,6 +38,7 @@ pub fn directions(
                 dir.put(place, way.unwrap_or(parent));
             }
         }
+        done.pass(shape.cols() as usize, follow);
     }
     Ok(dir)
 }

@@ -12,6 +12,7 @@ ghost use Rattle.std.specs.Prelude.{◌≡◌, IfOk};
 ghost use Rattle.drain_grid.specs.Extent.{IsCellOf};
 
 use crate::blanks::{NO_CODE, OUTLET, blank_count, blank_height};
+use crate::follow::{Done, Follow, Part};
 use crate::layer::Layer;
 use crate::level_queue::LevelQueue;
 use crate::place::{Place, Step, Steps};
@@ -40,6 +41,7 @@ struct Flood {
     /// The cells of the current trace.
     trail: Vec<Place>,
     queue: LevelQueue,
+    visited: Done,
 }
 
 /// Floods a grid.
@@ -47,14 +49,15 @@ pub fn flood_grid(
     alloc: Global,
     elevation: &Elevation,
     sinks: &Sinks,
+    follow: &mut impl Follow,
 ) -> Result<Flooded, OutOfMemory>
     ensures { IfOk result (λ flooded. flooded.con.shape ≡ elevation.now.extent) }
 {
     let mut flood = Flood::new(alloc, elevation.shape())?;
     flood.lay_ground(elevation);
     flood.open(alloc, elevation.shape(), sinks)?;
-    flood.trace(None)?;
-    flood.spread()?;
+    flood.trace(None, follow)?;
+    flood.spread(follow)?;
     Ok(flood.done)
 }
 
@@ -72,6 +75,7 @@ impl Flood {
             steps: Steps::new(shape.cols()),
             trail: Vec::new(alloc),
             queue,
+            visited: Done::new(Part::Flood, shape.cells()),
         })
     }
 
@@ -125,7 +129,7 @@ impl Flood {
 
     /// Takes the waiting cells, lowest first, and traces from each over its unreached neighbours. Each waits at most
     /// once.
-    fn spread(&mut self) -> Result<(), OutOfMemory>
+    fn spread(&mut self, follow: &mut impl Follow) -> Result<(), OutOfMemory>
         ensures { self.new.done.con.shape ≡ self.old.done.con.shape }
     {
         for _ in 0..self.done.con.shape().cells() {
@@ -134,14 +138,14 @@ impl Flood {
             };
             self.trail.clear();
             self.push(Place(item))?;
-            self.trace(Some(level))?;
+            self.trace(Some(level), follow)?;
         }
         Ok(())
     }
 
     /// Continues from the cells of the trail: reaches all that can be reached without going down, and, if the flood is
     /// at a cell's level, its lower neighbours.
-    fn trace(&mut self, flooded: Option<i16>) -> Result<(), OutOfMemory>
+    fn trace(&mut self, flooded: Option<i16>, follow: &mut impl Follow) -> Result<(), OutOfMemory>
         ensures { self.new.done.con.shape ≡ self.old.done.con.shape }
     {
         for turn in 0..self.done.con.shape().cells() {
@@ -153,6 +157,10 @@ impl Flood {
             };
             if self.reach_around(place, level, flooded == Some(level))? {
                 self.wait(place, level);
+            }
+            // The first cell of a trace from the queue was visited before.
+            if turn > 0 || flooded.is_none() {
+                self.visited.pass(1, follow);
             }
         }
         Ok(())

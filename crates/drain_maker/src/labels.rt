@@ -3,6 +3,7 @@
 ghost use Rattle.std.specs.Prelude.{◌≡◌, IfOk};
 
 use crate::blanks::{OUTLET, blank_count};
+use crate::follow::{Done, Follow, Part};
 use crate::layer::Layer;
 use crate::place::{Place, Steps};
 use drain_grid::{OutOfMemory, Product};
@@ -10,16 +11,22 @@ use std::alloc::Global;
 
 /// The labels, 0 at voids. Outlets have 1, 2, 3 and so on in row order, and each cell that of the outlet where its path
 /// ends.
-pub fn labels(alloc: Global, dir: &Layer<u8>) -> Result<Layer<u32>, OutOfMemory>
+pub fn labels(
+    alloc: Global,
+    dir: &Layer<u8>,
+    follow: &mut impl Follow,
+) -> Result<Layer<u32>, OutOfMemory>
     ensures { IfOk result (λ bas. bas.shape ≡ dir.now.shape) }
 {
     let shape = dir.shape();
     let steps = Steps::new(shape.cols());
     let mut bas = outlet_labels(alloc, dir)?;
+    let mut done = Done::new(Part::Labels, shape.cells());
     for index in 0..shape.cells() {
         let place = Place(index as u32);
         let label = label_ahead(dir, &steps, &bas, place);
         label_way(dir, &steps, &mut bas, place, label);
+        done.pass(1, follow);
     }
     Ok(bas)
 }

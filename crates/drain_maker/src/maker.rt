@@ -10,6 +10,7 @@ ghost use Rattle.drain_maker.specs.Made.{KeepsEveryRule, CanBeWritten, AreSpelle
 use crate::accumulation::accumulation;
 use crate::directions::directions;
 use crate::flood::{Flooded, flood_grid};
+use crate::follow::{Follow, Part, Unfollowed};
 use crate::labels::labels;
 use crate::rasters::{raster_of_codes, raster_of_counts, raster_of_heights};
 use drain_grid::laws::found_off_data_is_right;
@@ -61,15 +62,41 @@ pub fn make(
     ensures correct { IfOk result (λ products. IsCorrect (grid_of elevation.now sinks.now) (products_of products) default_numbers) }
     ensures runs { IfOk result (λ products. RunsAreSound (grid_of elevation.now sinks.now) (products_of products)) }
 {
+    make_followed(alloc, layout, elevation, sinks, &mut Unfollowed)
+}
+
+/// The same, and somebody follows it: the parts come in their order, each with the cells that are done.
+pub fn make_followed(
+    alloc: Global,
+    layout: &Layout,
+    elevation: &Elevation,
+    sinks: &Sinks,
+    follow: &mut impl Follow,
+) -> Result<ProductSet, MakeRefusal>
+    requires same_shape { elevation.now.extent ≡ extent_of layout.now }
+    ensures shape { IfOk result (λ products. products.con.extent ≡ elevation.now.extent) }
+    ensures nodata { IfOk result (λ products. nodata_of products ≡ default_numbers) }
+    ensures rules { IfOk result (KeepsEveryRule elevation.now sinks.now) }
+    ensures written { IfOk result (CanBeWritten layout.now) }
+    ensures rasters { IfOk result AreRasters }
+
+    // Every listed cell has data, or the first line whose cell has none is reported.
+    ensures sinks { IsSinkAnswer elevation.now sinks.now result }
+
+    // What every rule at every cell means: the products are correct, and every run is sound.
+    ensures correct { IfOk result (λ products. IsCorrect (grid_of elevation.now sinks.now) (products_of products) default_numbers) }
+    ensures runs { IfOk result (λ products. RunsAreSound (grid_of elevation.now sinks.now) (products_of products)) }
+{
     // The law that the first listed cell without data is the grid's.
     found_off_data_is_right();
     if let Some(line) = first_off_data(sinks, elevation) {
         return Err(MakeRefusal::SinkNotData(line));
     }
-    let products = match products_from(alloc, elevation, sinks) {
+    let products = match products_from(alloc, elevation, sinks, follow) {
         Ok(products) => products,
         Err(OutOfMemory) => return Err(MakeRefusal::OutOfMemory),
     };
+    follow.reach(Part::Test, 0, elevation.shape().cells());
     match test_products(alloc, elevation, sinks, &products) {
         Ok(()) => Ok(products),
         Err(fault) => Err(refusal_of(fault)),
@@ -121,16 +148,17 @@ fn products_from(
     alloc: Global,
     elevation: &Elevation,
     sinks: &Sinks,
+    follow: &mut impl Follow,
 ) -> Result<ProductSet, OutOfMemory>
     ensures shape { IfOk result (λ products. products.con.extent ≡ elevation.now.extent) }
     ensures nodata { IfOk result (λ products. nodata_of products ≡ default_numbers) }
     ensures written { IfOk result AreSpelled }
     ensures rasters { IfOk result AreRasters }
 {
-    let Flooded { con, spl, rnk } = flood_grid(alloc, elevation, sinks)?;
-    let dir = directions(alloc, &con, &spl)?;
-    let acc = accumulation(alloc, &dir)?;
-    let bas = labels(alloc, &dir)?;
+    let Flooded { con, spl, rnk } = flood_grid(alloc, elevation, sinks, follow)?;
+    let dir = directions(alloc, &con, &spl, follow)?;
+    let acc = accumulation(alloc, &dir, follow)?;
+    let bas = labels(alloc, &dir, follow)?;
     Ok(ProductSet {
         con: raster_of_heights(Product::Con, con),
         dir: raster_of_codes(Product::Dir, dir),

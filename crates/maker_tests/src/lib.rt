@@ -4,6 +4,8 @@
 #[cfg(test)]
 mod agree;
 #[cfg(test)]
+mod followed;
+#[cfg(test)]
 mod funnel;
 #[cfg(test)]
 mod headers;
