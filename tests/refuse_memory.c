@@ -6,7 +6,7 @@
    copy that does without the memory, as rows do without lanes, ends well after 3,000 more were granted. A test that reads a
    file or has a thread can't be copied this way. The library includes no header, and so needs only the compiler.
 
-   A test may query whether its last allocation was refused, by an allocation of ASKED bytes (crates/refused_memory), which
+   A test may query whether its last allocation was refused, by an allocation of ASKED bytes (crates/worked/src/memory.rt), which
    is refused if that one was. From there on each is granted, and no copy is made. */
 
 typedef __SIZE_TYPE__ size_t;

@@ -16,9 +16,9 @@ use drain_header::{ByteOrdering, header_text};
 use drain_hgt::{TileFault, TileInput, TileName, TileRows, read_tile};
 use drain_mosaic::{Layout, LayoutFault, MosaicRows, SeamFault, join};
 use drain_raster::{RasterFault, RasterRows, read_raster};
-use refused_memory::{gave_out, owed};
 use std::alloc::Global;
 use std::test::Fail;
+use worked::memory::{gave_out, owed};
 
 /// The samples of a tile of side 2, where there are four.
 fn samples(alloc: Global) -> Result<Option<[i16; 4]>, TileFault> {

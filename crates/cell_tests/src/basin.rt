@@ -3,8 +3,8 @@
 use crate::agree::{same, same_rule};
 use drain_basin::{OutletLabels, fault};
 use drain_grid::{CellValues, OutOfMemory, Patch, Rule};
-use refused_memory::gave_out;
 use std::test::Fail;
+use worked::memory::gave_out;
 
 /// The patch of a cell with this direction and label 5, whose east has label 7 and whose other neighbours have label 5.
 fn patch(dir: i64) -> Result<Patch, Fail> {

@@ -2,10 +2,10 @@
 
 use crate::agree::same;
 use drain_grid::{Cell, SinkFault, Sinks, parse_sinks};
-use refused_memory::owed;
 use std::alloc::{AllocError, Global};
 use std::process::Abort;
 use std::test::Fail;
+use worked::memory::owed;
 
 /// How many lines list a cell, and of the first four the number, the row and the column; or the fault.
 type Listed = Result<(usize, [(u64, u32, u32); 4]), SinkFault>;

@@ -3,10 +3,10 @@
 use drain_cli::sink_file::read_list;
 use drain_device::faults::{ScriptSource, Scripted};
 use drain_device::{BodyFault, DeviceFault};
-use refused_memory::owed;
 use std::alloc::Global;
 use std::process::Abort;
 use std::test::Fail;
+use worked::memory::owed;
 
 /// The bytes of the longest list here.
 const LONGEST: usize = 40_000;

@@ -3,9 +3,9 @@
 use crate::agree::same;
 use drain_grid::OutOfMemory;
 use drain_maker::LevelQueue;
-use refused_memory::owed;
 use std::alloc::Global;
 use std::test::Fail;
+use worked::memory::owed;
 
 /// The first five that come out.
 type FirstFive = [Option<(i16, u32)>; 5];

@@ -10,10 +10,10 @@ use drain_grid::{Elevation, Held, SinkFault, VOID, parse_sinks};
 use drain_hgt::TileName;
 use drain_maker::{MakeRefusal, make};
 use drain_mosaic::Layout;
-use refused_memory::owed_unless_right;
 use std::alloc::Global;
 use std::process::Abort;
 use std::test::Fail;
+use worked::memory::owed_unless_right;
 
 /// A tile's side and its samples.
 type Tile<'a> = (u32, &'a [i16]);

@@ -7,10 +7,10 @@ use drain_grid::{Held, Sinks, VOID};
 use drain_hgt::TileName;
 use drain_maker::MakeRefusal;
 use drain_rules::Counts;
-use refused_memory::owed_unless_right;
 use std::alloc::Global;
 use std::process::Abort;
 use std::test::Fail;
+use worked::memory::owed_unless_right;
 
 /// The numbers of a product made of one tile.
 fn made(alloc: Global, tile: (u32, &[i16]), product: Held) -> Result<Numbers, Fail> {

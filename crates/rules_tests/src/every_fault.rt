@@ -12,8 +12,8 @@ use drain_rules::{Ranks, RasterRow, Rules, Verdict, verdict_of};
 use std::alloc::Global;
 use std::process::Abort;
 use std::test::Fail;
-use worked_grids::shafts::Shafts;
-use worked_grids::{slope, voids};
+use worked::grids::{slope, voids};
+use worked::shafts::Shafts;
 
 /// A grid and its products.
 #[derive(Drop)]

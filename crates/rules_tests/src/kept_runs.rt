@@ -4,7 +4,7 @@ use crate::examples::equal;
 use crate::rows_of_numbers::{COLS, kept_by_lanes};
 use drain_rules::Kept;
 use std::test::Fail;
-use worked_grids::shafts::Shafts;
+use worked::shafts::Shafts;
 
 /// Cells before this column from the other on, none of them raised.
 fn level(end: u32) -> Kept {

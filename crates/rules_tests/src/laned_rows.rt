@@ -8,7 +8,7 @@ use drain_grid::Rule;
 use drain_rules::{Ranks, Verdict};
 use std::alloc::Global;
 use std::test::Fail;
-use worked_grids::shafts::Shafts;
+use worked::shafts::Shafts;
 
 /// The columns at which strides of 64, of 8 and of 1 begin and end.
 static COLUMNS: [u16; 14] = [

@@ -6,8 +6,8 @@ use drain_grid::Rule;
 use drain_rules::{Ranks, Verdict};
 use std::alloc::Global;
 use std::test::Fail;
-use worked_grids::shafts::Shafts;
-use worked_grids::{LISTED_PIT_SINKS, listed_pit, parted, pit, voids};
+use worked::grids::{LISTED_PIT_SINKS, listed_pit, parted, pit, voids};
+use worked::shafts::Shafts;
 
 /// Lists, each with whether it has the pit.
 static OF_LISTED_PIT: [(&str, bool); 6] = [

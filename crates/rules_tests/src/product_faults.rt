@@ -11,8 +11,8 @@ use drain_rules::Ranks;
 use std::alloc::Global;
 use std::process::Abort;
 use std::test::Fail;
-use worked_grids::shafts::Shafts;
-use worked_grids::{slope, voids};
+use worked::grids::{slope, voids};
+use worked::shafts::Shafts;
 
 /// The products, their parts, and their no-data numbers.
 static PRODUCTS: [(Held, Part, i64); 5] = [

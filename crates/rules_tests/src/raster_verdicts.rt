@@ -5,7 +5,7 @@ use drain_grid::Rule;
 use drain_rules::Verdict;
 use std::alloc::Global;
 use std::test::Fail;
-use worked_grids::{level, needless_crest, parted, pit, ring, slope, voids};
+use worked::grids::{level, needless_crest, parted, pit, ring, slope, voids};
 
 #[test]
 fn accepts_right_products(rt: HostRuntime) -> Result<(), Fail> {

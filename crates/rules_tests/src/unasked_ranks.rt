@@ -7,7 +7,7 @@ use drain_grid::Rule;
 use drain_rules::{Ranks, Verdict};
 use std::alloc::{AllocError, Global};
 use std::test::Fail;
-use worked_grids::shafts::Shafts;
+use worked::shafts::Shafts;
 
 /// Three level rows, whose cells inside drain north; each cell has this rank.
 fn long_rows(alloc: Global, rank: i64) -> Result<Vec<i64>, AllocError> {

@@ -13,7 +13,7 @@ use drain_hgt::TileInput;
 use drain_verdict::Products;
 use std::alloc::{AllocError, Global};
 use std::test::Fail;
-use worked_grids::{PIT_LINE, level, pit, slope, voids};
+use worked::grids::{PIT_LINE, level, pit, slope, voids};
 
 #[test]
 fn accepts_right_products_of_one_tile(rt: HostRuntime) -> Result<(), Fail> {

@@ -11,7 +11,7 @@ use crate::tells::{Changes, changes_tell, each_tells, tells_twice};
 use drain_device::DeviceFault;
 use drain_grid::Held;
 use std::test::Fail;
-use worked_grids::{
+use worked::grids::{
     LEVEL_LINE, LISTED_PIT_LINE, LISTED_PIT_SINKS, PIT_LINE, SLOPE_LINE, UNLISTED_PIT_LINE,
     VOIDS_LINE, level, pit, ring, slope, voids,
 };

@@ -5,11 +5,11 @@ ghost use Rattle.std.specs.Prelude.{◌≡◌, IfOk};
 use crate::agree::same;
 use drain_grid::{Cell, Elevation, Raster, Shape, VOID};
 use drain_verdict::{CertifyRefusal, certify};
-use refused_memory::gave_out;
 use std::alloc::{AllocError, Global};
 use std::process::Abort;
 use std::test::Fail;
-use worked_grids::{parted, pit, ring, slope};
+use worked::grids::{parted, pit, ring, slope};
+use worked::memory::gave_out;
 
 /// The ranks of a grid in row order, with -1 after them, or why there are none.
 type Told = Result<[i64; 21], CertifyRefusal>;

@@ -6,7 +6,7 @@ use crate::example::{Example, one_tile};
 use crate::runs::{Asked, told, told_at_once};
 use drain_grid::Held;
 use std::test::Fail;
-use worked_grids::{SLOPE_LINE, slope};
+use worked::grids::{SLOPE_LINE, slope};
 
 #[test]
 fn a_tile_at_each_length(rt: HostRuntime) -> Result<(), Fail> {

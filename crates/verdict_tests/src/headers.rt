@@ -5,7 +5,7 @@ use crate::runs::Asked;
 use crate::tells::tells;
 use drain_grid::Held;
 use std::test::Fail;
-use worked_grids::{PIT_LINE, pit};
+use worked::grids::{PIT_LINE, pit};
 
 /// A header with the shape and the place of the tile.
 const RIGHT: &str = "NROWS 3\nNCOLS 3\nULXMAP 7\nULYMAP 0\nXDIM 0.5\nYDIM 0.5\n";

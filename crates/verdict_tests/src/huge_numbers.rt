@@ -7,7 +7,7 @@ use drain_answer::line::Line;
 use std::alloc::{AllocError, Global};
 use std::process::Abort;
 use std::test::Fail;
-use worked_grids::{PIT_LINE, pit, voids};
+use worked::grids::{PIT_LINE, pit, voids};
 
 /// The lines of con's header on the pit.
 static LINES_OF_PIT: [&str; 15] = [

@@ -9,10 +9,10 @@ use drain_device::DeviceFault;
 use drain_grid::Held;
 use std::alloc::Global;
 use std::test::Fail;
-use worked_grids::shafts::Shafts;
-use worked_grids::{
+use worked::grids::{
     LISTED_PIT_LINE, LISTED_PIT_SINKS, PIT_LINE, UNLISTED_PIT_LINE, listed_pit, pit,
 };
+use worked::shafts::Shafts;
 
 /// The listed pit with a list.
 pub fn listed_pit_with(text: &str) -> Example {

@@ -5,7 +5,7 @@ use crate::example::{Example, bare, one_tile, products_on, tile};
 use crate::runs::Asked;
 use crate::tells::{each_tells, tells};
 use std::test::Fail;
-use worked_grids::pit;
+use worked::grids::pit;
 
 const RIGHT: &str = "NROWS 3\nNCOLS 3\nULXMAP 0\nULYMAP 1\nXDIM 0.5\nYDIM 0.5\n";
 

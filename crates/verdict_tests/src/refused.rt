@@ -7,7 +7,7 @@ use crate::tells::{each_tells, tells};
 use drain_grid::Held;
 use drain_verdict::{Refusal, report};
 use std::test::Fail;
-use worked_grids::{PIT_LINE, pit, ring};
+use worked::grids::{PIT_LINE, pit, ring};
 
 /// The pit, with these lines on the grid in a product's header.
 fn pit_on(product: Held, grid: &str) -> Example {

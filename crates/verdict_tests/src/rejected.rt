@@ -5,7 +5,7 @@ use crate::runs::Asked;
 use crate::tells::{Changes, changes_tell, each_tells, tells};
 use drain_grid::Held;
 use std::test::Fail;
-use worked_grids::{level, needless_crest, pit, ring, slope, voids};
+use worked::grids::{level, needless_crest, pit, ring, slope, voids};
 
 /// A number of the slope that is changed, and the line of the rejection.
 static CHANGED_SLOPES: [Changes; 6] = [

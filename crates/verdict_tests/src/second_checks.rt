@@ -5,7 +5,7 @@ use crate::example::one_tile;
 use crate::listed_sinks::{filled_pit_with, listed_pit_with};
 use crate::runs::Asked;
 use crate::tells::tells_twice;
-use worked_grids::{
+use worked::grids::{
     LEVEL_LINE, LISTED_PIT_LINE, PIT_LINE, SLOPE_LINE, UNLISTED_PIT_LINE, VOIDS_LINE, level, pit,
     slope, voids,
 };

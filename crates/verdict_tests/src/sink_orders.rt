@@ -7,7 +7,7 @@ use crate::listed_sinks::{filled_pit_with, listed_pit_with};
 use crate::tells::{any_list_tells, lists_tell};
 use drain_verdict::{Refusal, report};
 use std::test::Fail;
-use worked_grids::{PIT_LINE, UNLISTED_PIT_LINE, listed_pit, parted, voids};
+use worked::grids::{PIT_LINE, UNLISTED_PIT_LINE, listed_pit, parted, voids};
 
 /// Lists for the filled pit, each with the expected line.
 static BAD_LINES: [(&str, &str); 12] = [

@@ -7,7 +7,7 @@ use crate::runs::Asked;
 use drain_device::DeviceFault;
 use drain_grid::Held;
 use std::test::Fail;
-use worked_grids::{PIT_LINE, SLOPE_LINE, pit, slope};
+use worked::grids::{PIT_LINE, SLOPE_LINE, pit, slope};
 
 const FAILED: &str = "failed ReadFailed";
 

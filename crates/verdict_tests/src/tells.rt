@@ -5,10 +5,10 @@ use crate::example::{Example, changed, one_tile};
 use crate::runs::{Asked, told, told_at_once};
 use drain_answer::line::Line;
 use drain_verdict::{Refusal, report};
-use refused_memory::owed_unless_right;
 use std::alloc::Global;
 use std::process::Abort;
 use std::test::Fail;
+use worked::memory::owed_unless_right;
 
 /// Fails the test if a line isn't the expected one, and names the case.
 pub fn tells(

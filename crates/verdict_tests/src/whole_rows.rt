@@ -8,7 +8,7 @@ use drain_grid::{Elevation, Held, PerProduct, ProductSet, Raster, Shape, Sinks};
 use drain_verdict::{Refusal, report, verdict_row_by_row};
 use std::alloc::Global;
 use std::test::Fail;
-use worked_grids::LEVEL_LINE;
+use worked::grids::LEVEL_LINE;
 
 /// Four cells of elevation 0.
 fn elevation(alloc: Global, shape: Shape) -> Result<Elevation, Fail>

@@ -1,5 +1,4 @@
 //! Whether an allocation was just refused, for tests that call again afterwards: `tests/refuse_memory.c` refuses it.
-#![tactic(auto)]
 
 use std::alloc::Global;
 

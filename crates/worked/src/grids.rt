@@ -1,8 +1,5 @@
 //! Small grids with products, worked out by hand from the rules, for the tests of every crate that checks products: the
 //! elevations, then con, dir, acc, bas and rnk, each in row order.
-#![tactic(auto)]
-
-pub mod shafts;
 
 /// A pit of elevation 1 in a border of elevation 5, filled.
 pub fn pit() -> [i64; 54] {
