@@ -8,7 +8,6 @@ use drain_cli::make_set::make_set;
 use drain_cli::write_set::write_set;
 use drain_device::{ByteSink, SliceSource, VecSink};
 use drain_grid::{Held, PerProduct};
-use drain_maker::follow::Unfollowed;
 use drain_maker::product_files::FILE_COUNT;
 use drain_verdict::Products;
 use std::alloc::{AllocError, Global};
@@ -35,14 +34,7 @@ fn set_status<F: ByteSink>(
     requires { length files.old ≡ FILE_COUNT }
 {
     let mut inputs = inputs(alloc, tiles)?;
-    match make_set(
-        alloc,
-        side,
-        inputs.as_mut_slice(),
-        sinks,
-        &mut Unfollowed,
-        out,
-    ) {
+    match make_set(alloc, side, inputs.as_mut_slice(), sinks, out) {
         Ok((layout, products)) => Ok(write_set(alloc, &layout, &products, files, out)),
         Err(status) => Ok(status),
     }

@@ -13,7 +13,7 @@ use crate::explain_files::explain_files;
 use crate::explain_page::Form;
 use crate::file_id::{FileId, is_input};
 use crate::gauge::{Gauge, MakeWatch};
-use crate::make_set::make_set;
+use crate::make_set::make_set_followed;
 use crate::no_page::print_no_object;
 use crate::open_failure::print_open_failure;
 use crate::open_files::{OpenFault, Opener, create_files, list_at, open_tiles, set_paths};
@@ -215,7 +215,7 @@ fn made_of_files<'a>(
             if let Some(path) = over_input(opener.rt(), outputs, opener.ids()) {
                 return Err(print_overwritten(opener.rt(), path));
             }
-            make_set(
+            make_set_followed(
                 opener.alloc(),
                 side,
                 tiles.as_mut_slice(),
