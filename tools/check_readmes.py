@@ -46,7 +46,7 @@ def named_in(cell):
     folder = ""
     for name in re.findall(r"`([^`]+)`", cell):
         if name.split("/")[0] in FOLDERS:
-            folder = name.split("/")[0]
+            folder = name.rsplit("/", 1)[0]
             yield name
         elif name.endswith("/"):
             yield name

@@ -2,9 +2,9 @@
 
 use crate::level_tile::{LINE, TILE, five, four, tile};
 use crate::printed::{Printed, Text, same_bytes, same_line, slow_sink, whole_sink};
-use drain_cli::explain_page::{Beside, Form, MapFault};
-use drain_cli::map_file::write_map;
-use drain_cli::run_explain::{run_explain_audit, run_explain_check};
+use drain_cli::files::map_file::write_map;
+use drain_cli::runs::explain_page::{Beside, Form, MapFault};
+use drain_cli::runs::run_explain::{run_explain_audit, run_explain_check};
 use drain_device::faults::{ScriptSink, Scripted, SinkAnswer};
 use drain_device::{BodyFault, SliceSource};
 use drain_explain::Mapping;

@@ -1,7 +1,7 @@
 //! Paths of products' files and of maps, and names of tiles in paths.
 
 use crate::printed::{holds, same_bytes};
-use drain_cli::file_paths::{header_path, map_path, map_stem, raster_path, tile_name};
+use drain_cli::files::file_paths::{header_path, map_path, map_stem, raster_path, tile_name};
 use drain_grid::Product;
 use drain_maker::product_files::Part;
 use std::alloc::{AllocError, Global};

@@ -2,7 +2,7 @@
 //! that are slow, interrupted or fail. The expected lines were worked out by hand from the rules.
 
 use crate::printed::{Printed, same_line, same_run, slow_sink, whole_sink};
-use drain_cli::run_fill::run_fill;
+use drain_cli::runs::run_fill::run_fill;
 use drain_device::faults::{ScriptSink, ScriptSource, Scripted, SinkAnswer};
 use drain_device::{ByteSource, DeviceFault, SliceSource};
 use std::alloc::Global;

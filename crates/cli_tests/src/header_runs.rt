@@ -2,7 +2,7 @@
 //! slow, interrupted or fail.
 
 use crate::printed::{Printed, same_line, same_number, same_run, slow_sink, whole_sink};
-use drain_cli::run_header::run_header;
+use drain_cli::runs::run_header::run_header;
 use drain_device::faults::{ScriptSink, ScriptSource, Scripted, SinkAnswer};
 use drain_device::{BodyFault, ByteSource, DeviceFault, SliceSource};
 use std::alloc::Global;

@@ -1,6 +1,6 @@
 //! Lists of sinks read to their end, from sources that are slow, interrupted or fail.
 
-use drain_cli::sink_file::read_list;
+use drain_cli::files::sink_file::read_list;
 use drain_device::faults::{ScriptSource, Scripted};
 use drain_device::{BodyFault, DeviceFault};
 use std::alloc::Global;

@@ -4,8 +4,8 @@ ghost use Rattle.std.specs.Prelude.{◌≡◌, length};
 
 use crate::inputs::{Parts, Tile, at_zero, inputs, products};
 use crate::printed::{Printed, check_printed, files_of, room};
-use drain_cli::make_set::make_set;
-use drain_cli::write_set::write_set;
+use drain_cli::runs::make_set::make_set;
+use drain_cli::runs::write_set::write_set;
 use drain_device::{ByteSink, SliceSource, VecSink};
 use drain_grid::{Held, PerProduct};
 use drain_maker::product_files::FILE_COUNT;

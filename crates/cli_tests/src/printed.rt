@@ -2,7 +2,7 @@
 
 ghost use Rattle.std.specs.Prelude.{◌≡◌, length, IfOk};
 
-use drain_cli::run_check::run_check;
+use drain_cli::runs::run_check::run_check;
 use drain_device::faults::{ScriptSink, Scripted, SinkAnswer};
 use drain_device::{BodyFault, ByteSource, VecSink};
 use drain_grid::Held;

@@ -2,12 +2,12 @@
 //! passes on its bytes. Lines on standard error are shown by tests/program/progress.sh.
 
 use crate::printed::{holds, holds_at, same_bytes, same_number};
-use drain_cli::gauge::Gauge;
-use drain_cli::pace::Pace;
-use drain_cli::row_ends::{RowEnds, raster_row_ends};
-use drain_cli::telling::{Counted, row_line};
-use drain_cli::watched::Watched;
-use drain_cli::watched_rows::judged_rows;
+use drain_cli::progress::gauge::Gauge;
+use drain_cli::progress::pace::Pace;
+use drain_cli::progress::row_ends::{RowEnds, raster_row_ends};
+use drain_cli::progress::telling::{Counted, row_line};
+use drain_cli::progress::watched::Watched;
+use drain_cli::progress::watched_rows::judged_rows;
 use drain_device::{BodyFault, ByteSink, ByteSource, SliceSource, VecSink};
 use drain_header::parse_header;
 use drain_maker::follow::Part;

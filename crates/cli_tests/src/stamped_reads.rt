@@ -6,7 +6,7 @@ ghost use Rattle.drain_device.specs.Counts.{no_faults};
 use crate::inputs::Tile;
 use crate::making::make;
 use crate::printed::{Printed, check_printed, empty_files, files_of, whole_sink};
-use drain_cli::run_audit::run_audit;
+use drain_cli::runs::run_audit::run_audit;
 use drain_device::{ByteList, ByteSource, DeviceFault, SliceSource, VecSink};
 use drain_grid::{Held, PerProduct};
 use drain_hgt::TileInput;

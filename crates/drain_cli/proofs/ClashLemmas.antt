@@ -3,8 +3,8 @@ use Rattle.std.proofs.Common.{◌≡◌, ℕ, ◌+◌, ◌<◌, List, get_or, ta
 use Rattle.std.specs.Prelude.{slice_get}
 use Rattle.std.proofs.lemmas.Option.{get_or_from_slice_get}
 use Rattle.drain_cli.specs.FileIds.{Clashes, IsInput, MeetsSome}
-use Rattle.drain_cli.specs.declared.file_id.FileId.{FileId}
-use Rattle.drain_cli.specs.declared.file_id.Target.{Target}
+use Rattle.drain_cli.specs.declared.files.file_id.FileId.{FileId}
+use Rattle.drain_cli.specs.declared.files.file_id.Target.{Target}
 
 -- an output that is no input and meets no earlier output is one more that doesn't clash
 pub no_clash_more : (outputs : List Target) (inputs : List FileId) (k : ℕ) (d : Target) → ¬ IsInput (get_or outputs k d) inputs → ¬ MeetsSome (get_or outputs k d) (take k outputs)

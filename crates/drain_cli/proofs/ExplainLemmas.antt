@@ -20,8 +20,8 @@ use Rattle.drain_verdict.specs.Inputs.{Inputs, Tell, Products}
 use Rattle.drain_verdict.specs.Refusals.{IsOfBodies}
 use Rattle.drain_cli.specs.AuditRuns.{IsAuditOutcome}
 use Rattle.drain_cli.specs.CheckRuns.{IsCheckOutcome}
-use Rattle.drain_cli.specs.declared.explain_page.Form.{Form}
-use Rattle.drain_cli.specs.declared.no_page.NoPage.{NoPage}
+use Rattle.drain_cli.specs.declared.runs.explain_page.Form.{Form}
+use Rattle.drain_cli.specs.declared.runs.no_page.NoPage.{NoPage}
 use Rattle.drain_cli.specs.declared.status.Status.{Status}
 use Rattle.drain_cli.specs.declared.status.Status.TheVariants.{Failed}
 use Rattle.drain_cli.specs.ExplainRuns.{BeginsWith, IsNoPage, Tells}

@@ -6,7 +6,7 @@ use Rattle.std.specs.List.{count_by}
 use Rattle.std.proofs.lemmas.Bool.{ltb-true, ltb-false, lt-ltb, le-ltb, and_left, and_right}
 use Rattle.std.proofs.lemmas.List.Sums.{sum_by-cons, sum_by-append}
 use Rattle.drain_cli.specs.Pace.{told_times, is_in_second, AtMostOneLineInASecond, AtMostTwoLinesInASecond}
-use Rattle.drain_cli.specs.declared.pace.TheConstants.{APART}
+use Rattle.drain_cli.specs.declared.progress.pace.TheConstants.{APART}
 
 -- 1 for a line in the second, else 0
 one_line : ℕ → ℕ → ℕ

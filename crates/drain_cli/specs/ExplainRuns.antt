@@ -2,12 +2,12 @@
 use Rattle.std.specs.Prelude.{◌≡◌, ◌⊎◌, ℕ, ◌++◌, List, [], ◌∷◌, codes, string_bytes}
 use Rattle.drain_device.specs.Devices.{Sink}
 use Rattle.drain_device.specs.declared.read.BodyFault.TheVariants as body
-use Rattle.drain_cli.specs.declared.explain_page.Form.{Form}
-use Rattle.drain_cli.specs.declared.explain_page.Form.TheVariants.{Text, Json}
-use Rattle.drain_cli.specs.declared.no_page.NoPage.{NoPage}
-use Rattle.drain_cli.specs.declared.no_page.NoPage.TheVariants as no_page
-use Rattle.drain_cli.specs.declared.no_page.NoPage.TheVariants.{Open}
-use Rattle.drain_cli.specs.declared.no_page.TheConstants.{NO_OBJECT}
+use Rattle.drain_cli.specs.declared.runs.explain_page.Form.{Form}
+use Rattle.drain_cli.specs.declared.runs.explain_page.Form.TheVariants.{Text, Json}
+use Rattle.drain_cli.specs.declared.runs.no_page.NoPage.{NoPage}
+use Rattle.drain_cli.specs.declared.runs.no_page.NoPage.TheVariants as no_page
+use Rattle.drain_cli.specs.declared.runs.no_page.NoPage.TheVariants.{Open}
+use Rattle.drain_cli.specs.declared.runs.no_page.TheConstants.{NO_OBJECT}
 use Rattle.drain_cli.specs.declared.status.Status.{Status}
 use Rattle.drain_cli.specs.declared.status.Status.TheVariants.{Failed}
 use Rattle.drain_cli.specs.Failures.{failure_text}

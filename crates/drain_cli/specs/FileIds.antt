@@ -1,8 +1,8 @@
 -- Which outputs would be written over an input, or over one another. Files are told apart by device and inode
 -- (POSIX.1-2017, <sys/stat.h>: st_dev and st_ino together identify a file).
 use Rattle.std.specs.Prelude.{◌≡◌, ◌⊎◌, ℕ, List, take, Option, Some, None, slice_get, IsTrue}
-use Rattle.drain_cli.specs.declared.file_id.FileId.{FileId}
-use Rattle.drain_cli.specs.declared.file_id.Target.{Target}
+use Rattle.drain_cli.specs.declared.files.file_id.FileId.{FileId}
+use Rattle.drain_cli.specs.declared.files.file_id.Target.{Target}
 
 -- the file is one of these
 abbrev pub IsAmong : FileId → List FileId → Type 0

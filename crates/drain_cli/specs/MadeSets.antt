@@ -15,8 +15,8 @@ use Rattle.drain_verdict.specs.Refusals.{IsOfBodies}
 use Rattle.drain_verdict.specs.Mosaics.{TellTiles, IsMosaicOf, IsMosaicRefusal}
 use Rattle.drain_maker.specs.declared.maker.MakeRefusal.{MakeRefusal}
 use Rattle.drain_maker.specs.Made.{AreMade, IsSinkAnswer}
-use Rattle.drain_cli.specs.declared.make_set.NoSet.{NoSet}
-use Rattle.drain_cli.specs.declared.make_set.NoSet.TheVariants.{Tiles, Sinks, Maker}
+use Rattle.drain_cli.specs.declared.runs.make_set.NoSet.{NoSet}
+use Rattle.drain_cli.specs.declared.runs.make_set.NoSet.TheVariants.{Tiles, Sinks, Maker}
 
 -- products that were made for the mosaic of the tiles in the devices' bytes, and for the sinks that the text lists
 pub record IsSetOf {R : Type 0} (bytes_left : R → Option (List ℕ)) (side : ℕ) (tiles : List (TileInput R)) (sinks : List ℕ) (t : Tiling) (ps : ProductSet) : Type 0 where

@@ -1,7 +1,7 @@
 -- When lines about progress are printed. Times are milliseconds.
 use Rattle.std.specs.Prelude.{ℕ, ◌+◌, ◌≤◌, Bool, ◌&&◌, not, nat_lt, List, [], ◌∷◌, ◌++◌, if◌then◌else◌}
 use Rattle.std.specs.List.{count_by}
-use Rattle.drain_cli.specs.declared.pace.TheConstants.{APART}
+use Rattle.drain_cli.specs.declared.progress.pace.TheConstants.{APART}
 
 -- when the last line was printed, after a test at this time whether one is due
 abbrev pub told_last : ℕ → ℕ → ℕ

@@ -5,11 +5,11 @@ use Rattle.std.specs.Borrow.{Bor}
 use Rattle.clap.specs.Matches.{first_value, matched_of, one_text, raw_values}
 use Rattle.clap.specs.Walk.{Text}
 use Rattle.clap.specs.declared.parser.matches.Found.{Found}
-use Rattle.drain_cli.specs.declared.command_line.Explained.{Explained}
-use Rattle.drain_cli.specs.declared.command_line.Judged.{Judged}
-use Rattle.drain_cli.specs.declared.command_line.Request.{Request}
-use Rattle.drain_cli.specs.declared.command_line.Request.TheVariants.{Audit, Check, Explain, Make, Fill, Header}
-use Rattle.drain_cli.specs.declared.commands.TheConstants.{DEFAULT_SIDE}
+use Rattle.drain_cli.specs.declared.args.command_line.Explained.{Explained}
+use Rattle.drain_cli.specs.declared.args.command_line.Judged.{Judged}
+use Rattle.drain_cli.specs.declared.args.command_line.Request.{Request}
+use Rattle.drain_cli.specs.declared.args.command_line.Request.TheVariants.{Audit, Check, Explain, Make, Fill, Header}
+use Rattle.drain_cli.specs.declared.args.commands.TheConstants.{DEFAULT_SIDE}
 use Rattle.drain_cli.specs.FilePaths.{raster_ending}
 
 -- a flag is set exactly if it is there: its value is then true

@@ -10,8 +10,8 @@ use Rattle.drain_cli.specs.declared.status.Status.{Status}
 use Rattle.drain_cli.specs.declared.status.Status.TheVariants.{Done, Refused, Failed}
 use Rattle.drain_maker.specs.declared.product_files.SetFault.{SetFault}
 use Rattle.drain_maker.specs.declared.product_files.SetFault.TheVariants.{WriteFailed, OutOfMemory}
-use Rattle.drain_cli.specs.declared.make_set.NoSet.{NoSet}
-use Rattle.drain_cli.specs.declared.make_set.NoSet.TheVariants.{Tiles, Sinks, Maker}
+use Rattle.drain_cli.specs.declared.runs.make_set.NoSet.{NoSet}
+use Rattle.drain_cli.specs.declared.runs.make_set.NoSet.TheVariants.{Tiles, Sinks, Maker}
 
 -- the line for the result of writing: made rows=R cols=C
 abbrev pub written_line : Tiling → Result (Unit {0}) SetFault → List ℕ

@@ -1,7 +1,7 @@
 -- The text of progress lines.
 use Rattle.std.specs.Prelude.{ℕ, List, codes}
-use Rattle.drain_cli.specs.declared.telling.Counted.{Counted}
-use Rattle.drain_cli.specs.declared.telling.Counted.TheVariants.{Judged, Read, Made, Written}
+use Rattle.drain_cli.specs.declared.progress.telling.Counted.{Counted}
+use Rattle.drain_cli.specs.declared.progress.telling.Counted.TheVariants.{Judged, Read, Made, Written}
 use Rattle.drain_maker.specs.declared.follow.Part.TheVariants.{Flood, Directions, Counts, Labels, Test}
 
 -- the text before the number of rows or cells

@@ -5,9 +5,9 @@
 ghost use Rattle.std.specs.Prelude.{◌≡◌};
 ghost use Rattle.drain_cli.specs.RoundTrip.{WhatIsWrittenIsAccepted};
 
-use crate::pace::APART;
-use crate::sink_file::MAX_LIST_BYTES;
-use crate::whole_input::CHUNK_BYTES;
+use crate::files::sink_file::MAX_LIST_BYTES;
+use crate::files::whole_input::CHUNK_BYTES;
+use crate::progress::pace::APART;
 use drain_device::{ByteSink, ByteSource};
 use drain_maker::laws::made_is_accepted;
 

@@ -1,0 +1,182 @@
+//! The command-line arguments: which command is required.
+
+ghost use Rattle.std.specs.Prelude.{IfOk, codes};
+ghost use Rattle.clap.specs.Matches.{found_of};
+ghost use Rattle.drain_cli.specs.Requests.{IsJudged, IsMap, IsRequestOf};
+
+use crate::args::clusters::first_cluster;
+use crate::args::commands::{EXPLAIN, command, program};
+use crate::args::explain_texts;
+use crate::args::given::{flag_given, option_given, side_given, text_given, tiles_given};
+use crate::files::file_paths::map_stem;
+use clap::error::ErrorKind;
+use clap::{ArgMatches, Error};
+use std::alloc::{AllocError, Global};
+
+/// The request of the arguments.
+#[derive(Drop)]
+pub enum Request<'a> {
+    /// `drain audit`: check the four products in this folder, without ranks.
+    Audit(Judged<'a>),
+    /// `drain check`: check the five products in this folder.
+    Check(Judged<'a>),
+    /// `drain explain`: report what is wrong with the products in this folder, where, and how much of it.
+    Explain(Explained<'a>),
+    /// `drain make`: make products of the tiles at these paths, with the sinks listed in the file at this path, and
+    /// write them into this folder.
+    Make {
+        side: u32,
+        folder: &'a str,
+        sinks: Option<&'a str>,
+        tiles: Vec<&'a str>,
+        progress: bool,
+    },
+    /// `drain fill`: check a conditioned surface from standard input.
+    Fill {
+        side: u32,
+    },
+    /// `drain header`: print the header file at this path.
+    Header {
+        path: &'a str,
+    },
+}
+
+/// The inputs to be checked: the products in this folder, the tiles at these paths, the list of sinks at this path; and
+/// whether progress is reported.
+#[derive(Drop)]
+pub struct Judged<'a> {
+    pub side: u32,
+    pub products: &'a str,
+    pub sinks: Option<&'a str>,
+    pub tiles: Vec<&'a str>,
+    pub progress: bool,
+}
+
+/// What is to be explained, as a text or as JSON; and the path of a map of the faults, without `.bil`.
+#[derive(Drop)]
+pub struct Explained<'a> {
+    pub judged: Judged<'a>,
+    pub map: Option<&'a str>,
+    pub json: bool,
+}
+
+/// The request of the arguments. The first argument is the program's own name.
+///
+/// Help and the version come as an error of their kind, as in `clap`, and so does a usage error. An argument such as
+/// `-h.hgt` is one: `clap` would take it for `-h`.
+pub fn parse<'a>(alloc: Global, words: &'a [String]) -> Result<Request<'a>, Error> {
+    if let Some(word) = first_cluster(words.get(1..).unwrap_or(&[])) {
+        return Err(bad_cluster(alloc, word)?);
+    }
+    let matches = program(alloc)?.try_get_matches_from(words)?;
+    match matches.subcommand() {
+        Some((name, given)) => request_of(alloc, name, given),
+        None => Err(no_command(alloc)?),
+    }
+}
+
+/// The usage error for an argument of several letters behind one hyphen.
+fn bad_cluster(alloc: Global, word: &str) -> Result<Error, AllocError> {
+    let message = format!(in alloc;
+        "{word:?} is no option; for a file write ./ before its name, or -- before all files"
+    )?;
+    let mut program = program(alloc)?;
+    program.error(ErrorKind::UnknownArgument, message.as_str())
+}
+
+/// The usage error where no command of the program is named.
+fn no_command(alloc: Global) -> Result<Error, AllocError> {
+    let mut program = program(alloc)?;
+    program.error(ErrorKind::MissingSubcommand, "a command is required")
+}
+
+/// The request of the command of this name, with these values of its arguments.
+///
+/// A map whose name doesn't end in `.bil` is a usage error, and so is a name that is no command's.
+pub fn request_of<'a>(
+    alloc: Global,
+    name: &str,
+    given: &ArgMatches<'a>,
+) -> Result<Request<'a>, Error>
+    ensures { IfOk result (IsRequestOf name.now (found_of given.now)) }
+{
+    match name {
+        "audit" => Ok(Request::Audit(to_judge(alloc, given)?)),
+        "check" => Ok(Request::Check(to_judge(alloc, given)?)),
+        "explain" => explain_request(alloc, given),
+        "make" => Ok(make_request(alloc, given)?),
+        "fill" => Ok(Request::Fill {
+            side: side_given(given),
+        }),
+        "header" => Ok(Request::Header {
+            path: text_given(given, "file"),
+        }),
+        _ => Err(no_command(alloc)?),
+    }
+}
+
+/// The inputs to be checked.
+fn to_judge<'a>(alloc: Global, given: &ArgMatches<'a>) -> Result<Judged<'a>, AllocError>
+    ensures { IfOk result (IsJudged (found_of given.now)) }
+{
+    let tiles = tiles_given(alloc, given)?;
+    Ok(Judged {
+        side: side_given(given),
+        products: text_given(given, "products"),
+        sinks: option_given(given, "sinks"),
+        tiles,
+        progress: flag_given(given, "progress"),
+    })
+}
+
+/// What is to be explained.
+fn explain_request<'a>(alloc: Global, given: &ArgMatches<'a>) -> Result<Request<'a>, Error>
+    ensures { IfOk result (IsRequestOf (codes "explain") (found_of given.now)) }
+{
+    let Ok(map) = map_given(given) else {
+        return Err(bad_map(alloc)?);
+    };
+    let judged = to_judge(alloc, given)?;
+    Ok(Request::Explain(Explained {
+        judged,
+        map,
+        json: flag_given(given, "json"),
+    }))
+}
+
+/// The path of a map has another ending.
+#[derive(Clone, Copy)]
+struct OtherEnding;
+
+/// The path of a map, without `.bil`.
+fn map_given<'a>(given: &ArgMatches<'a>) -> Result<Option<&'a str>, OtherEnding>
+    ensures { IfOk result (IsMap (found_of given.now)) }
+{
+    let Some(path) = option_given(given, "map") else {
+        return Ok(None);
+    };
+    match map_stem(path) {
+        Some(stem) => Ok(Some(stem)),
+        None => Err(OtherEnding),
+    }
+}
+
+/// The usage error for a map with another ending.
+fn bad_map(alloc: Global) -> Result<Error, AllocError> {
+    let mut command = command(alloc, &EXPLAIN)?.bin_name("drain explain")?;
+    command.error(ErrorKind::ValueValidation, explain_texts::BAD_MAP)
+}
+
+/// What is to be made.
+fn make_request<'a>(alloc: Global, given: &ArgMatches<'a>) -> Result<Request<'a>, AllocError>
+    ensures { IfOk result (IsRequestOf (codes "make") (found_of given.now)) }
+{
+    let tiles = tiles_given(alloc, given)?;
+    Ok(Request::Make {
+        side: side_given(given),
+        folder: text_given(given, "out"),
+        sinks: option_given(given, "sinks"),
+        tiles,
+        progress: flag_given(given, "progress"),
+    })
+}

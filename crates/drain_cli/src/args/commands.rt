@@ -1,0 +1,220 @@
+//! The program and its commands, as described to `clap`: their names, help texts and arguments.
+
+use crate::args::{explain_texts, help_texts};
+use clap::builder::ValueParser;
+use clap::{Arg, ArgAction, Command};
+use std::alloc::{AllocError, Global};
+
+/// A command: its name, its help texts, and its arguments, in the order of its help.
+pub(crate) struct Described {
+    name: &'static str,
+    about: &'static str,
+    long_about: &'static str,
+    after: &'static str,
+    words: &'static [Word],
+}
+
+/// An argument of a command: an option, a flag, or paths without a name of their own.
+#[derive(Clone, Copy)]
+enum Word {
+    Side,
+    Products,
+    Out,
+    Sinks,
+    Progress,
+    Map,
+    Json,
+    Tiles,
+    Header,
+}
+
+/// The default side of a tile: that of 3 arc seconds, as a number and as written in the help.
+pub(crate) const DEFAULT_SIDE: u32 = 1201;
+
+const DEFAULT_SIDE_WORD: &str = "1201";
+
+/// The program's version, and the logic of the toolchain that its sources are written for, as `rt version` names it.
+const VERSION: &str = "0.1.0
+logic dac8208d650f15bf";
+
+const AUDIT: Described = Described {
+    name: "audit",
+    about: help_texts::AUDIT_ABOUT,
+    long_about: help_texts::AUDIT_LONG_ABOUT,
+    after: help_texts::AUDIT_AFTER,
+    words: &[
+        Word::Side,
+        Word::Products,
+        Word::Sinks,
+        Word::Progress,
+        Word::Tiles,
+    ],
+};
+
+const CHECK: Described = Described {
+    name: "check",
+    about: help_texts::CHECK_ABOUT,
+    long_about: help_texts::CHECK_LONG_ABOUT,
+    after: help_texts::CHECK_AFTER,
+    words: &[
+        Word::Side,
+        Word::Products,
+        Word::Sinks,
+        Word::Progress,
+        Word::Tiles,
+    ],
+};
+
+pub(crate) const EXPLAIN: Described = Described {
+    name: "explain",
+    about: explain_texts::ABOUT,
+    long_about: explain_texts::LONG_ABOUT,
+    after: explain_texts::AFTER,
+    words: &[
+        Word::Side,
+        Word::Products,
+        Word::Sinks,
+        Word::Progress,
+        Word::Tiles,
+        Word::Map,
+        Word::Json,
+    ],
+};
+
+const MAKE: Described = Described {
+    name: "make",
+    about: help_texts::MAKE_ABOUT,
+    long_about: help_texts::MAKE_LONG_ABOUT,
+    after: help_texts::MAKE_AFTER,
+    words: &[
+        Word::Side,
+        Word::Out,
+        Word::Sinks,
+        Word::Progress,
+        Word::Tiles,
+    ],
+};
+
+const FILL: Described = Described {
+    name: "fill",
+    about: help_texts::FILL_ABOUT,
+    long_about: help_texts::FILL_LONG_ABOUT,
+    after: help_texts::FILL_AFTER,
+    words: &[Word::Side],
+};
+
+const HEADER: Described = Described {
+    name: "header",
+    about: help_texts::HEADER_ABOUT,
+    long_about: help_texts::HEADER_LONG_ABOUT,
+    after: help_texts::HEADER_AFTER,
+    words: &[Word::Header],
+};
+
+/// The commands, in the order of the program's help.
+static COMMANDS: [Described; 6] = [AUDIT, CHECK, EXPLAIN, MAKE, FILL, HEADER];
+
+/// The program and its commands.
+pub(crate) fn program<'a>(alloc: Global) -> Result<Command<'a>, AllocError> {
+    let mut program = without_commands(alloc)?;
+    for described in &COMMANDS {
+        program = with(alloc, program, described)?;
+    }
+    Ok(program)
+}
+
+/// The program with one more command.
+fn with<'a>(
+    alloc: Global,
+    program: Command<'a>,
+    described: &'static Described,
+) -> Result<Command<'a>, AllocError> {
+    program.subcommand(command(alloc, described)?)
+}
+
+/// The program without its commands.
+fn without_commands<'a>(alloc: Global) -> Result<Command<'a>, AllocError> {
+    Command::new(alloc, "drain")
+        .version(VERSION)
+        .about(help_texts::ABOUT)
+        .subcommand_required(true)
+        .arg_required_else_help(true)
+        .bin_name("drain")
+}
+
+/// A command and its arguments.
+pub(crate) fn command<'a>(
+    alloc: Global,
+    described: &'static Described,
+) -> Result<Command<'a>, AllocError> {
+    let arguments = arguments(alloc, described.words)?;
+    Command::new(alloc, described.name)
+        .about(described.about)
+        .long_about(described.long_about)
+        .after_long_help(described.after)
+        .args(arguments)
+}
+
+fn arguments<'a>(alloc: Global, words: &[Word]) -> Result<Vec<Arg<'a>>, AllocError> {
+    let mut arguments = Vec::new(alloc);
+    for word in words {
+        arguments.push(argument(alloc, *word))?;
+    }
+    Ok(arguments)
+}
+
+fn argument<'a>(alloc: Global, word: Word) -> Arg<'a> {
+    match word {
+        Word::Side => side(alloc),
+        Word::Products => folder(alloc, "products", help_texts::PRODUCTS_HELP),
+        Word::Out => folder(alloc, "out", help_texts::OUT_HELP),
+        Word::Sinks => file(alloc, "sinks", help_texts::SINKS_HELP),
+        Word::Progress => flag(alloc, "progress", help_texts::PROGRESS_HELP),
+        Word::Map => file(alloc, "map", explain_texts::MAP_HELP),
+        Word::Json => flag(alloc, "json", explain_texts::JSON_HELP),
+        Word::Tiles => tiles(alloc),
+        Word::Header => header(alloc),
+    }
+}
+
+fn side<'a>(alloc: Global) -> Arg<'a> {
+    Arg::new(alloc, "side")
+        .long("side")
+        .value_name("N")
+        .value_parser(clap::value_parser!(u32))
+        .default_value(DEFAULT_SIDE_WORD)
+        .help(help_texts::SIDE_HELP)
+}
+
+/// A required option that names a folder.
+fn folder<'a>(alloc: Global, name: &'static str, help: &'static str) -> Arg<'a> {
+    path(alloc, name, "DIR", help).long(name).required(true)
+}
+
+/// An option that names a file.
+fn file<'a>(alloc: Global, name: &'static str, help: &'static str) -> Arg<'a> {
+    path(alloc, name, "FILE", help).long(name)
+}
+
+fn flag<'a>(alloc: Global, name: &'static str, help: &'static str) -> Arg<'a> {
+    Arg::new(alloc, name)
+        .long(name)
+        .action(ArgAction::SetTrue)
+        .help(help)
+}
+
+fn tiles<'a>(alloc: Global) -> Arg<'a> {
+    path(alloc, "tiles", "TILE", help_texts::TILES_HELP).action(ArgAction::Append)
+}
+
+fn header<'a>(alloc: Global) -> Arg<'a> {
+    path(alloc, "file", "FILE", help_texts::FILE_HELP).required(true)
+}
+
+/// A path, which isn't empty.
+fn path<'a>(alloc: Global, name: &'static str, value: &'static str, help: &'static str) -> Arg<'a> {
+    Arg::new(alloc, name)
+        .value_name(value)
+        .value_parser(ValueParser::NonEmptyString)
+        .help(help)
+}

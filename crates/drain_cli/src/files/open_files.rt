@@ -1,0 +1,217 @@
+//! Opening files to read, tiles and a list of sinks among them, and creating files to write.
+
+ghost use Rattle.std.specs.Prelude.{◌≡◌, IfOk, length, string_bytes, vec_len};
+ghost use Rattle.std.specs.List.{AllZip};
+ghost use Rattle.drain_hgt.specs.Inputs.{names_of};
+ghost use Rattle.drain_cli.specs.FilePaths.{IsLastPart, IsPathOf};
+ghost use Rattle.drain_maker.specs.declared.product_files.TheConstants.{FILE_COUNT, SET_FILES};
+
+use crate::files::file_id::FileId;
+use crate::files::file_paths::{header_path, raster_path, tile_name};
+use crate::files::outputs::{OutputSink, Outputs};
+use crate::files::reason::Reason;
+use crate::files::sink_file::read_list;
+use crate::progress::gauge::Gauge;
+use crate::progress::watched::Watched;
+use crate::progress::watched_rows::file_rows;
+use drain_device::{BodyFault, ByteList, Reader, Writer};
+use drain_hgt::TileInput;
+use drain_maker::product_files::{Part, SET_FILES, SetFile};
+use drain_mosaic::Layout;
+use std::alloc::{AllocError, Global};
+use std::fs::File;
+use std::io;
+use std::io::ErrorKind;
+
+/// A file to read, and one to write; rows of each may be counted.
+pub type InputFile<'a> = Watched<'a, Reader<File>>;
+
+pub type OutputFile<'g, 'a> = Watched<'g, Writer<OutputSink<'a>>>;
+
+/// Opens files to read, and keeps which plain files these are.
+#[derive(Drop)]
+pub struct Opener<'a> {
+    rt: &'a HostRuntime,
+    ids: Vec<FileId>,
+}
+
+impl<'a> Opener<'a> {
+    pub fn new(rt: &'a HostRuntime) -> Opener<'a> {
+        Opener {
+            rt,
+            ids: Vec::new(rt.alloc()),
+        }
+    }
+
+    pub fn rt(&self) -> &'a HostRuntime {
+        self.rt
+    }
+
+    /// Where its memory comes from.
+    pub fn alloc(&self) -> Global {
+        self.rt.alloc()
+    }
+
+    /// The plain files that were opened.
+    pub fn ids(&self) -> &[FileId] {
+        self.ids.as_slice()
+    }
+
+    pub fn into_ids(self) -> Vec<FileId> {
+        let Opener { rt: _, ids } = self;
+        ids
+    }
+
+    /// Opens a file to read.
+    pub fn open(&mut self, path: &str) -> Result<Reader<File>, OpenFault> {
+        match self.opened(path) {
+            Ok(file) => Ok(Reader::new(file)),
+            Err(error) => Err(OpenFault::at(self.rt, path, &error)),
+        }
+    }
+
+    fn opened(&mut self, path: &str) -> io::Result<File> {
+        let file = File::open(self.rt, path)?;
+        if let Some(id) = FileId::of_plain(&file.metadata()?) {
+            self.ids.push(id)?;
+        }
+        Ok(file)
+    }
+}
+
+/// Why the files aren't open.
+#[derive(Drop)]
+pub enum OpenFault {
+    /// The file at this path can't be opened, for this reason.
+    Open(String, Reason),
+    /// A header or a list of sinks can't be read, or memory was refused.
+    Body(BodyFault),
+}
+
+impl OpenFault {
+    /// That the file at this path can't be opened, or that memory was refused.
+    pub fn at(rt: &HostRuntime, path: &str, error: &io::Error) -> OpenFault {
+        if error.kind() == ErrorKind::OutOfMemory {
+            return OpenFault::no_memory();
+        }
+        OpenFault::because(rt, path, Reason::of(error))
+    }
+
+    /// That the file at this path can't be opened, for this reason.
+    pub fn because(rt: &HostRuntime, path: &str, reason: Reason) -> OpenFault {
+        match String::from_str(rt.alloc(), path) {
+            Ok(path) => OpenFault::Open(path, reason),
+            Err(_) => OpenFault::no_memory(),
+        }
+    }
+
+    pub fn no_memory() -> OpenFault {
+        OpenFault::Body(BodyFault::OutOfMemory)
+    }
+}
+
+impl From<AllocError> for OpenFault {
+    fn from(_fault: AllocError) -> OpenFault {
+        OpenFault::no_memory()
+    }
+}
+
+/// Opens the tiles at these paths, in their order; each has the name at the end of its path. The first fault ends it.
+pub fn open_tiles<'a>(
+    opener: &mut Opener<'_>,
+    paths: &[&str],
+) -> Result<Vec<TileInput<InputFile<'a>>>, OpenFault>
+    ensures { IfOk result (λ tiles. AllZip (λ path name. IsLastPart path.now name) paths.now (names_of tiles.items)) }
+{
+    let mut tiles = Vec::new(opener.alloc());
+    for path in paths {
+        if tiles.push(open_tile(opener, path)?).is_err() {
+            return Err(OpenFault::no_memory());
+        }
+    }
+    Ok(tiles)
+}
+
+fn open_tile<'a>(opener: &mut Opener<'_>, path: &str) -> Result<TileInput<InputFile<'a>>, OpenFault>
+    ensures { IfOk result (λ tile. IsLastPart path.now tile.name) }
+{
+    let name = Vec::from_slice(opener.alloc(), tile_name(path.as_bytes()))?;
+    let body = Watched::new(opener.open(path)?);
+    Ok(TileInput {
+        name: ByteList::new(name),
+        body,
+    })
+}
+
+/// The bytes of the list of sinks at this path; none if no list is named.
+pub fn list_at(opener: &mut Opener<'_>, path: Option<&str>) -> Result<Vec<u8>, OpenFault> {
+    let alloc = opener.alloc();
+    let Some(path) = path else {
+        return Ok(Vec::new(alloc));
+    };
+    let mut file = opener.open(path)?;
+    match read_list(alloc, &mut file) {
+        Ok(list) => Ok(list),
+        Err(fault) => Err(OpenFault::Body(fault)),
+    }
+}
+
+/// The paths of the files of a product set in this folder, in the order of `SET_FILES`.
+pub fn set_paths(alloc: Global, folder: &str) -> Result<Vec<String>, AllocError>
+    ensures paths { IfOk result (λ paths. AllZip (λ file path. IsPathOf folder.now file (string_bytes path)) SET_FILES paths.items) }
+    ensures count { IfOk result (λ paths. vec_len paths ≡ FILE_COUNT) }
+{
+    let mut paths = Vec::new(alloc);
+    for file in SET_FILES {
+        paths.push(path_of(alloc, folder, file)?)?;
+    }
+    Ok(paths)
+}
+
+/// Creates the files of a product set at these paths, in the order of `SET_FILES`, and has the rows of rasters counted.
+/// The first fault ends it.
+pub fn create_files<'g, 'a>(
+    outputs: &mut Outputs<'a>,
+    paths: &'a [String],
+    inputs: &[FileId],
+    layout: &Layout,
+    gauge: &'g Gauge<'g>,
+) -> Result<Vec<OutputFile<'g, 'a>>, OpenFault>
+    requires { length paths.now ≡ FILE_COUNT }
+    ensures { IfOk result (λ files. vec_len files ≡ FILE_COUNT) }
+{
+    let begun = outputs.begin(paths, inputs)?;
+    let mut files = Vec::new(outputs.alloc());
+    for file in begun {
+        let place = SET_FILES[files.len()];
+        if files.push(counted(file, place, layout, gauge)).is_err() {
+            return Err(OpenFault::no_memory());
+        }
+    }
+    Ok(files)
+}
+
+/// The file, whose rows are counted if it is a raster's.
+fn counted<'g, 'a>(
+    begun: Writer<OutputSink<'a>>,
+    file: SetFile,
+    layout: &Layout,
+    gauge: &'g Gauge<'g>,
+) -> OutputFile<'g, 'a> {
+    let mut created = Watched::new(begun);
+    if let Part::Raster = file.part {
+        created.watch(gauge.watch(file_rows(layout, file.product)));
+    }
+    created
+}
+
+/// The path of a file of a product set in this folder.
+fn path_of(alloc: Global, folder: &str, file: SetFile) -> Result<String, AllocError>
+    ensures { IfOk result (λ path. IsPathOf folder.now file (string_bytes path)) }
+{
+    let product = file.product.product();
+    match file.part {
+        Part::Header => header_path(alloc, folder, product),
+        Part::Raster => raster_path(alloc, folder, product),
+    }
+}

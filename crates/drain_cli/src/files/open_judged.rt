@@ -1,0 +1,126 @@
+//! Opening the files to be checked: the tiles in the order given, then each product's header, which is read whole, and
+//! raster; then the list of sinks, which is read whole.
+
+use crate::args::command_line::Judged;
+use crate::files::file_paths::{header_path, raster_path};
+use crate::files::open_files::{InputFile, OpenFault, Opener, list_at, open_tiles};
+use crate::progress::gauge::Gauge;
+use crate::progress::watched::Watched;
+use crate::progress::watched_rows::judged_rows;
+use drain_device::{ByteList, read_body};
+use drain_grid::{PerProduct, Product};
+use drain_header::{MAX_HEADER_BYTES, parse_header};
+use drain_hgt::TileInput;
+use drain_verdict::{AuditProducts, Products, RasterInput};
+
+/// The files of a check or an audit, of which only the headers and the list of sinks have been read.
+#[derive(Drop)]
+pub struct OpenFiles<'a, P> {
+    pub tiles: Vec<TileInput<InputFile<'a>>>,
+    pub products: P,
+    pub sinks: Vec<u8>,
+}
+
+/// Opens the files of an audit: all but ranks. The first fault ends it. The rows of con are counted for progress.
+pub fn open_audit<'a>(
+    opener: &mut Opener<'_>,
+    judged: &Judged<'_>,
+    gauge: &'a Gauge<'a>,
+) -> Result<OpenFiles<'a, AuditProducts<InputFile<'a>>>, OpenFault> {
+    let tiles = open_tiles(opener, judged.tiles.as_slice())?;
+    let mut products = open_four(opener, judged.products)?;
+    watch_con(&mut products.con, gauge);
+    let sinks = list_at(opener, judged.sinks)?;
+    Ok(OpenFiles {
+        tiles,
+        products,
+        sinks,
+    })
+}
+
+/// Opens the products of an audit.
+fn open_four<'a>(
+    opener: &mut Opener<'_>,
+    folder: &str,
+) -> Result<AuditProducts<InputFile<'a>>, OpenFault> {
+    let (con, dir) = open_two(opener, folder, Product::Con, Product::Dir)?;
+    let (acc, bas) = open_two(opener, folder, Product::Acc, Product::Bas)?;
+    Ok(AuditProducts { con, dir, acc, bas })
+}
+
+/// Opens two products, one after the other.
+fn open_two<'a>(
+    opener: &mut Opener<'_>,
+    folder: &str,
+    first: Product,
+    second: Product,
+) -> Result<(RasterInput<InputFile<'a>>, RasterInput<InputFile<'a>>), OpenFault> {
+    let first = open_product(opener, folder, first)?;
+    let second = open_product(opener, folder, second)?;
+    Ok((first, second))
+}
+
+/// Opens the files of a check: those of all five products. The first fault ends it. The rows of con are counted for
+/// progress.
+pub fn open_check<'a>(
+    opener: &mut Opener<'_>,
+    judged: &Judged<'_>,
+    gauge: &'a Gauge<'a>,
+) -> Result<OpenFiles<'a, Products<InputFile<'a>>>, OpenFault> {
+    let tiles = open_tiles(opener, judged.tiles.as_slice())?;
+    let mut products = open_products(opener, judged.products)?;
+    watch_con(&mut products.con, gauge);
+    let sinks = list_at(opener, judged.sinks)?;
+    Ok(OpenFiles {
+        tiles,
+        products,
+        sinks,
+    })
+}
+
+/// Has the rows of con counted, if progress is reported and the header says where they end.
+fn watch_con<'a>(con: &mut RasterInput<InputFile<'a>>, gauge: &'a Gauge<'a>) {
+    if !gauge.is_on() {
+        return;
+    }
+    if let Ok(header) = parse_header(con.header.as_slice()) {
+        con.body.watch(gauge.watch(judged_rows(&header)));
+    }
+}
+
+/// Opens the products of a check.
+fn open_products<'a>(
+    opener: &mut Opener<'_>,
+    folder: &str,
+) -> Result<Products<InputFile<'a>>, OpenFault> {
+    let AuditProducts { con, dir, acc, bas } = open_four(opener, folder)?;
+    let rnk = open_product(opener, folder, Product::Rnk)?;
+    Ok(PerProduct {
+        con,
+        dir,
+        acc,
+        bas,
+        rnk,
+    })
+}
+
+fn open_product<'a>(
+    opener: &mut Opener<'_>,
+    folder: &str,
+    product: Product,
+) -> Result<RasterInput<InputFile<'a>>, OpenFault> {
+    let header = header_path(opener.alloc(), folder, product)?;
+    let header = read_header(opener, header.as_str())?;
+    let raster = raster_path(opener.alloc(), folder, product)?;
+    let body = Watched::new(opener.open(raster.as_str())?);
+    Ok(RasterInput { header, body })
+}
+
+/// The bytes of a header; one more than a header can have means that it is too long.
+fn read_header(opener: &mut Opener<'_>, path: &str) -> Result<ByteList, OpenFault> {
+    let mut file = opener.open(path)?;
+    match read_body(opener.alloc(), &mut file, MAX_HEADER_BYTES + 1) {
+        Ok(bytes) => Ok(ByteList::new(bytes)),
+        Err(fault) => Err(OpenFault::Body(fault)),
+    }
+}

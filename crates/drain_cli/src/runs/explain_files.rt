@@ -1,0 +1,251 @@
+//! Explaining the products of a folder: its files are opened as for a check or an audit, and opened again for details.
+
+ghost use Rattle.std.specs.Prelude.{◌≡◌, length};
+
+use crate::args::command_line::Explained;
+use crate::files::file_id::FileId;
+use crate::files::file_paths::{header_path, raster_path};
+use crate::files::map_file::write_map;
+use crate::files::map_place::{MapClash, map_clash, map_paths};
+use crate::files::open_files::{OpenFault, Opener};
+use crate::files::open_judged::{OpenFiles, open_audit, open_check};
+use crate::files::outputs::{Failure, Outputs, look};
+use crate::files::placing::{Placing, place_written};
+use crate::files::reason::print_reason;
+use crate::progress::gauge::Gauge;
+use crate::runs::explain_page::{Beside, Form, MapFault};
+use crate::runs::no_page::print_no_page;
+use crate::runs::refusal_facts::refusal_note;
+use crate::runs::run_explain::{run_explain_audit, run_explain_check};
+use crate::status::Status;
+use drain_device::{ByteSink, write_nothing};
+use drain_explain::Mapping;
+use drain_grid::Product;
+use drain_maker::product_files::SetFault;
+use drain_mosaic::Layout;
+use drain_page::RefusalNote;
+use drain_verdict::Refusal;
+use std::alloc::Global;
+
+/// Explains the products of a folder, and returns the exit status.
+///
+/// If a map is required and standard output is closed nothing is opened: the map would take its place. Ranks are
+/// checked if a file of theirs is there.
+pub fn explain_files(rt: &HostRuntime, asked: &Explained<'_>, out: &mut impl ByteSink) -> u8 {
+    if asked.map.is_some() && write_nothing(out).is_err() {
+        return Status::Failed.code();
+    }
+    match has_ranks(rt, asked.judged.products) {
+        Ok(true) => with_ranks(rt, asked, out),
+        Ok(false) => without_ranks(rt, asked, out),
+        Err(fault) => print_unopened(rt, fault, form(asked), out),
+    }
+}
+
+/// Whether the folder has a header or a raster of ranks. A failure is never taken for their absence.
+fn has_ranks(rt: &HostRuntime, folder: &str) -> Result<bool, OpenFault> {
+    let header = header_path(rt.alloc(), folder, Product::Rnk)?;
+    if look(rt, header.as_str())?.is_some() {
+        return Ok(true);
+    }
+    let raster = raster_path(rt.alloc(), folder, Product::Rnk)?;
+    Ok(look(rt, raster.as_str())?.is_some())
+}
+
+/// Explains the answer of a check.
+fn with_ranks(rt: &HostRuntime, asked: &Explained<'_>, out: &mut impl ByteSink) -> u8 {
+    let gauge = Gauge::new(rt, asked.judged.progress);
+    let mut opener = Opener::new(rt);
+    match open_check(&mut opener, &asked.judged, &gauge) {
+        Ok(
+            OpenFiles {
+                mut tiles,
+                mut products,
+                sinks,
+            },
+        ) => {
+            if let Some(status) = refused_map(rt, asked, opener.ids(), out) {
+                return status;
+            }
+            run_explain_check(
+                rt.alloc(),
+                asked.judged.side,
+                tiles.as_mut_slice(),
+                sinks.as_slice(),
+                &mut products,
+                mapping(asked),
+                form(asked),
+                &mut AtHand {
+                    rt,
+                    asked,
+                    sinks: sinks.as_slice(),
+                    inputs: opener.into_ids(),
+                },
+                out,
+            )
+        }
+        Err(fault) => print_unopened(rt, fault, form(asked), out),
+    }
+}
+
+/// Explains the answer of an audit.
+fn without_ranks(rt: &HostRuntime, asked: &Explained<'_>, out: &mut impl ByteSink) -> u8 {
+    let gauge = Gauge::new(rt, asked.judged.progress);
+    let mut opener = Opener::new(rt);
+    match open_audit(&mut opener, &asked.judged, &gauge) {
+        Ok(
+            OpenFiles {
+                mut tiles,
+                mut products,
+                sinks,
+            },
+        ) => {
+            if let Some(status) = refused_map(rt, asked, opener.ids(), out) {
+                return status;
+            }
+            run_explain_audit(
+                rt.alloc(),
+                asked.judged.side,
+                tiles.as_mut_slice(),
+                sinks.as_slice(),
+                &mut products,
+                mapping(asked),
+                form(asked),
+                &mut AtHand {
+                    rt,
+                    asked,
+                    sinks: sinks.as_slice(),
+                    inputs: opener.into_ids(),
+                },
+                out,
+            )
+        }
+        Err(fault) => print_unopened(rt, fault, form(asked), out),
+    }
+}
+
+/// If a map is required that must not be written there, prints why, and returns the exit status.
+fn refused_map(
+    rt: &HostRuntime,
+    asked: &Explained<'_>,
+    inputs: &[FileId],
+    out: &mut impl ByteSink,
+) -> Option<u8> {
+    match map_clash(rt, asked.judged.products, asked.map?, inputs) {
+        Ok(None) => None,
+        Ok(Some((path, clash))) => {
+            print_clash(rt, path.as_str(), clash);
+            Some(Status::Refused.code())
+        }
+        Err(fault) => Some(print_unopened(rt, fault, form(asked), out)),
+    }
+}
+
+/// Prints why the files aren't open, and returns the exit status.
+fn print_unopened(rt: &HostRuntime, fault: OpenFault, form: Form, out: &mut impl ByteSink) -> u8 {
+    if let OpenFault::Open(path, reason) = &fault {
+        print_reason(rt, path.as_str(), *reason);
+    }
+    print_no_page(rt.alloc(), &fault.into(), form, out)
+}
+
+/// Prints the usage error for a map that must not be written there.
+fn print_clash(rt: &HostRuntime, path: &str, clash: MapClash) {
+    let _ = match clash {
+        MapClash::Input => {
+            eprintln!(rt; "error: the map would overwrite {path}, which is an input")
+        }
+        MapClash::Output => {
+            eprintln!(rt; "error: the header and the raster of the map are one file, {path}")
+        }
+        MapClash::Product => {
+            eprintln!(rt; "error: the map would be taken for a product: {path}")
+        }
+    };
+}
+
+/// Whether a map is drawn.
+fn mapping(asked: &Explained<'_>) -> Mapping {
+    match asked.map {
+        Some(_) => Mapping::Drawn,
+        None => Mapping::Undrawn,
+    }
+}
+
+/// The form of the explanation.
+fn form(asked: &Explained<'_>) -> Form {
+    if asked.json { Form::Json } else { Form::Text }
+}
+
+/// The arguments, the list of sinks, the files at their paths, and which plain files were opened.
+#[derive(Drop)]
+struct AtHand<'r, 'a, 'e, 's> {
+    rt: &'r HostRuntime,
+    asked: &'a Explained<'e>,
+    sinks: &'s [u8],
+    inputs: Vec<FileId>,
+}
+
+impl<'r, 'a, 'e, 's> Beside for AtHand<'r, 'a, 'e, 's> {
+    fn note_of(&mut self, refusal: Refusal) -> Option<RefusalNote> {
+        refusal_note(self.rt, &self.asked.judged, self.sinks, refusal)
+    }
+
+    fn save_map(&mut self, layout: &Layout, pixels: &[u8]) -> Result<(), MapFault> {
+        match self.asked.map {
+            Some(stem) => save(self.rt, stem, self.inputs.as_slice(), layout, pixels),
+            None => Ok(()),
+        }
+    }
+}
+
+/// Writes the two files of a map, which then get their names. If that fails it prints why on standard error.
+fn save(
+    rt: &HostRuntime,
+    stem: &str,
+    inputs: &[FileId],
+    layout: &Layout,
+    pixels: &[u8],
+) -> Result<(), MapFault> {
+    let Ok(paths) = map_paths(rt.alloc(), stem) else {
+        return Err(MapFault::OutOfMemory);
+    };
+    let failure = Failure::none();
+    let mut outputs = Outputs::new(rt, &failure);
+    let saved = match outputs.begin(paths.as_slice(), inputs) {
+        Ok(mut files) => write_begun(
+            rt.alloc(),
+            layout,
+            pixels,
+            files.as_mut_slice(),
+            &mut outputs,
+        ),
+        Err(OpenFault::Open(path, reason)) => {
+            print_reason(rt, path.as_str(), reason);
+            Err(MapFault::Open(path))
+        }
+        Err(OpenFault::Body(_)) => Err(MapFault::OutOfMemory),
+    };
+    outputs.abandon();
+    outputs.print_failure();
+    saved
+}
+
+/// Writes the header and the raster of a map, which then get their names.
+fn write_begun<F: ByteSink, P: Placing>(
+    alloc: Global,
+    layout: &Layout,
+    pixels: &[u8],
+    files: &mut [F],
+    places: &mut P,
+) -> Result<(), MapFault>
+    requires { length files.old ≡ 2 }
+{
+    let (headers, rasters) = files.split_at_mut(1);
+    let written = write_map(alloc, layout, pixels, &mut headers[0], &mut rasters[0]);
+    match place_written(written, places) {
+        Ok(()) => Ok(()),
+        Err(SetFault::WriteFailed) => Err(MapFault::WriteFailed),
+        Err(SetFault::OutOfMemory) => Err(MapFault::OutOfMemory),
+    }
+}

@@ -1,0 +1,101 @@
+//! Printing an explanation: the map of the faults is saved first, then the page is printed, as a text or as JSON.
+
+ghost use Rattle.drain_page.specs.Lines.{line_of};
+ghost use Rattle.drain_cli.specs.ExplainRuns.{Tells};
+
+use crate::print::print_text;
+use crate::runs::no_page::{NoPage, print_no_page};
+use crate::status::Status;
+use drain_device::ByteSink;
+use drain_mosaic::Layout;
+use drain_page::{Facts, RefusalNote, page_json, page_text};
+use drain_verdict::Refusal;
+use std::alloc::Global;
+
+/// The form of an explanation.
+#[derive(Clone, Copy)]
+pub enum Form {
+    /// As a page to read.
+    Text,
+    /// As one JSON object.
+    Json,
+}
+
+/// Why a map wasn't saved.
+#[derive(Drop)]
+pub enum MapFault {
+    /// The file at this path can't be created.
+    Open(String),
+    /// A file failed, was interrupted for the 1,000th time, or accepted no byte of some.
+    WriteFailed,
+    /// Memory was refused.
+    OutOfMemory,
+}
+
+/// What an explanation needs besides its inputs: details of a refusal, and the place of a map.
+pub trait Beside {
+    /// What was expected and found in refused inputs; none if there are no details, or they can't be found again.
+    fn note_of(&mut self, refusal: Refusal) -> Option<RefusalNote>;
+
+    /// Saves the map of the faults.
+    fn save_map(&mut self, layout: &Layout, pixels: &[u8]) -> Result<(), MapFault>;
+}
+
+/// A map of the faults, and the mosaic whose map it is.
+#[derive(Drop)]
+pub struct DrawnMap {
+    pub layout: Layout,
+    pub pixels: Vec<u8>,
+}
+
+/// Saves the map, if there is one, then prints the page, and returns the exit status: that of the answer, or that of a
+/// failure.
+///
+/// If the map can't be saved it prints why in place of the page, and if memory is refused for the page it prints that:
+/// in the form of the page.
+pub fn tell<B: Beside, W: ByteSink>(
+    alloc: Global,
+    facts: &Facts,
+    map: &Option<DrawnMap>,
+    form: Form,
+    status: Status,
+    beside: &mut B,
+    out: &mut W,
+) -> u8
+    ensures { Tells W.ByteSink out.old out.new form (line_of facts.now.answer) status result }
+{
+    match save(map, beside) {
+        Ok(()) => print_page(alloc, facts, form, status, out),
+        Err(fault) => print_no_page(alloc, &fault.into(), form, out),
+    }
+}
+
+/// Saves the map, if there is one.
+fn save<B: Beside>(map: &Option<DrawnMap>, beside: &mut B) -> Result<(), MapFault> {
+    match map {
+        Some(drawn) => beside.save_map(&drawn.layout, &drawn.pixels),
+        None => Ok(()),
+    }
+}
+
+/// Prints the page, or that there is no memory for it.
+fn print_page<W: ByteSink>(
+    alloc: Global,
+    facts: &Facts,
+    form: Form,
+    status: Status,
+    out: &mut W,
+) -> u8
+    ensures { Tells W.ByteSink out.old out.new form (line_of facts.now.answer) status result }
+{
+    match form {
+        Form::Text => match page_text(alloc, facts) {
+            Ok(page) => print_text(out, &page, status),
+            Err(_) => print_no_page(alloc, &NoPage::OutOfMemory, form, out),
+        },
+        Form::Json => match page_json(alloc, facts) {
+            Ok(page) => print_text(out, page.as_bytes(), status),
+            Err(_) => print_no_page(alloc, &NoPage::OutOfMemory, form, out),
+        },
+    }
+}

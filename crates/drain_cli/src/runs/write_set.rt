@@ -1,0 +1,100 @@
+//! The last part of a run of `drain make`: the files are written and get their names, and the result is printed.
+
+ghost use Rattle.std.specs.Prelude.{◌≡◌, ◌++◌, length, Result, codes, decimal};
+ghost use Rattle.drain_mosaic.specs.Tiling.{Tiling, extent_of};
+ghost use Rattle.drain_maker.specs.Made.{CanBeWritten};
+ghost use Rattle.drain_maker.specs.declared.product_files.SetFault.{SetFault};
+ghost use Rattle.drain_maker.specs.declared.product_files.TheConstants.{FILE_COUNT};
+ghost use Rattle.drain_cli.specs.Placings.{IsPlaced};
+ghost use Rattle.drain_cli.specs.Printing.{Prints};
+ghost use Rattle.drain_maker.specs.ProductFiles.{WritesFiles, set_bytes};
+ghost use Rattle.drain_cli.specs.SetRuns.{written_line, written_status};
+
+use crate::files::placing::{InPlace, Placing, place_written};
+use crate::print::print_line;
+use crate::status::Status;
+use drain_answer::line::{Line, push_number, words};
+use drain_device::ByteSink;
+use drain_grid::{ProductSet, Shape};
+use drain_maker::product_files::{SetFault, write_files};
+use drain_mosaic::Layout;
+use std::alloc::Global;
+
+/// Writes header and raster of each product, in the order of `SET_FILES`, prints `made rows=R cols=C` and returns the
+/// exit status.
+///
+/// The first file that can't be written ends it: then a first part of its bytes was written, later files weren't
+/// touched, the line is `failed WriteFailed` and the status 3. If memory is refused for a header's text the line is
+/// `failed OutOfMemory` and the status 3; the status is also 3 if the line can't be written.
+pub fn write_set<F: ByteSink, W: ByteSink>(
+    alloc: Global,
+    layout: &Layout,
+    products: &ProductSet,
+    files: &mut [F],
+    out: &mut W,
+) -> u8
+    requires counted { length files.old ≡ FILE_COUNT }
+    requires same_shape { products.now.con.extent ≡ extent_of layout.now }
+    requires written { CanBeWritten layout.now products.now }
+    ensures run { (done : Result (Unit {0}) SetFault)
+        × WritesFiles F.ByteSink files.old files.new (set_bytes layout.now products.now) done
+        × Prints W.ByteSink out.old out.new (written_line layout.now done) (written_status done) result }
+{
+    write_and_place(alloc, layout, products, files, &mut InPlace, out)
+}
+
+/// Writes the files as `write_set` does, then gives them their names, prints the line and returns the exit status.
+///
+/// No name is given before every file has all its bytes. If a name can't be given the line is `failed WriteFailed` and
+/// the status 3.
+pub fn write_and_place<F: ByteSink, P: Placing, W: ByteSink>(
+    alloc: Global,
+    layout: &Layout,
+    products: &ProductSet,
+    files: &mut [F],
+    places: &mut P,
+    out: &mut W,
+) -> u8
+    requires counted { length files.old ≡ FILE_COUNT }
+    requires same_shape { products.now.con.extent ≡ extent_of layout.now }
+    requires written { CanBeWritten layout.now products.now }
+    ensures run { (done told : Result (Unit {0}) SetFault)
+        × WritesFiles F.ByteSink files.old files.new (set_bytes layout.now products.now) done
+        × IsPlaced P.has_placed places.old places.new done told
+        × Prints W.ByteSink out.old out.new (written_line layout.now told) (written_status told) result }
+{
+    let done = write_files(alloc, layout, products, files);
+    let told = place_written(done, places);
+    print_line(out, &line_of(layout.shape(), &told), status_of(&told))
+}
+
+/// The line for the result of writing products of this shape.
+fn line_of(shape: Shape, done: &Result<(), SetFault>) -> Line
+    ensures { (t : Tiling) → shape ≡ extent_of t → result.bytes ≡ written_line t done.now }
+{
+    match done {
+        Ok(()) => made_line(shape),
+        Err(SetFault::WriteFailed) => words("failed WriteFailed"),
+        Err(SetFault::OutOfMemory) => words("failed OutOfMemory"),
+    }
+}
+
+fn made_line(shape: Shape) -> Line
+    ensures { result.bytes ≡ codes "made rows=" ++ decimal shape.rows ++ codes " cols=" ++ decimal shape.cols }
+{
+    let mut line = words("made rows=");
+    push_number(&mut line, shape.rows());
+    line.push_str(" cols=");
+    push_number(&mut line, shape.cols());
+    line
+}
+
+/// The exit status for the result of writing.
+fn status_of(done: &Result<(), SetFault>) -> Status
+    ensures { result ≡ written_status done.now }
+{
+    match done {
+        Ok(()) => Status::Done,
+        Err(_) => Status::Failed,
+    }
+}
