@@ -28,7 +28,7 @@ use Rattle.drain_grid.proofs.Upstream.{upstream_count-parts}
 use Rattle.drain_runs.proofs.Cells.{in_grid}
 use Rattle.drain_counts.specs.CellNumbers.{cell_number}
 use Rattle.drain_counts.specs.OfFlows.{AllRunsEnd}
-use Rattle.drain_counts.specs.Laws.{AreCompleted, AreCountsPresent, AreRouted, CorrectByRouting, CountsKeepRules, IsSumRule}
+use Rattle.drain_counts.specs.Laws.{AreCompleted, AreCountsPresent, AreRouted, CorrectByRouting, CountsKeepRules, IsCountOrLabelRule}
 
 pos-same : (a b : ℕ) → pos a ≡ pos b → a ≡ b
 pos-same a b h = search rules
@@ -87,7 +87,7 @@ module _ (g : Grid) (ps : Products) (e : Extent) (counts labels : List ℕ) (are
         not_before (inl less) = absurd (omega arith)
         not_before (inr less) = absurd (omega arith)
 
-    sum_rule : (r : Rule) → IsSumRule r → HoldsAt flow_rules g ps c r
+    sum_rule : (r : Rule) → IsCountOrLabelRule r → HoldsAt flow_rules g ps c r
     sum_rule VoidCell own = tt
     sum_rule Missing own = tt
     sum_rule BadCode own = tt

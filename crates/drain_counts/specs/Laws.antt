@@ -30,8 +30,8 @@ pub record AreCompleted (g : Grid) (ps : Products) (e : Extent) (counts labels :
   pub shown : ShowsCounts ps e counts labels
 
 -- a rule about counts or labels: Accumulation to SharedLabel
-abbrev pub IsSumRule : Rule → Type 0
-IsSumRule = IsBetween 13 15
+abbrev pub IsCountOrLabelRule : Rule → Type 0
+IsCountOrLabelRule = IsBetween 13 15
 
 -- the accumulation and the label are the default no-data numbers exactly at voids: their parts of rules 1 and 2
 pub record AreCountsPresent (g : Grid) (ps : Products) (c : Cell) : Type 0 where
@@ -44,7 +44,7 @@ pub record AreCountsPresent (g : Grid) (ps : Products) (c : Cell) : Type 0 where
 abbrev pub CountsKeepRules : Type 0
 CountsKeepRules =
     (g : Grid) (ps : Products) (e : Extent) (counts labels : List ℕ) → AreCompleted g ps e counts labels →
-    RulesHold flow_rules IsSumRule g ps × ((c : Cell) → IsInside g c → AreCountsPresent g ps c)
+    RulesHold flow_rules IsCountOrLabelRule g ps × ((c : Cell) → IsInside g c → AreCountsPresent g ps c)
 
 -- right heights and directions: con is the filled surface; dir never climbs, leads to a steepest neighbour if one is
 -- lower, and is 0 exactly at outlets. These are the facts of correct products about con and dir, in the same words,
