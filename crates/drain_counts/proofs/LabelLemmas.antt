@@ -1,0 +1,202 @@
+-- Labels, cell by cell: first those of outlets, then those of the cells on a walk that reached a label.
+use Rattle.std.proofs.Common.{◌≡◌, ◌≢◌, ◌∙◌, ◌⊎◌, ℕ, zero, suc, ◌+◌, ◌*◌, ◌<◌, inl, inr, pos, cond, List, Option, Some, None, refl, sym, ap, subst, arith}
+use Rattle.std.proofs.lemmas.Bool.{cases_order, cases_eq}
+use Rattle.drain_grid.specs.declared.cell.Cell.{Cell}
+use Rattle.drain_grid.specs.Certificate.{IsFirstEndless}
+use Rattle.drain_grid.specs.Extent.{IsCellOf, index_of}
+use Rattle.drain_grid.specs.Grid.{Grid, Products, IsInside, HasData}
+use Rattle.drain_grid.specs.Run.{next, continued, steps_from, last_from, run_end, RunEnds}
+use Rattle.drain_grid.specs.Size.{Extent}
+use Rattle.drain_grid.proofs.EndedRuns.{HasData-next, ended-run_end}
+use Rattle.drain_grid.proofs.Lowered.{same_or_not}
+use Rattle.drain_grid.proofs.Runs.{index_of-below, run_end-zero}
+use Rattle.drain_grid.proofs.Walks.{Leads, IsWalk, EndsAfter-zero, endless-stuck}
+use Rattle.drain_runs.proofs.Cells.{in_grid, same_index, earlier_index}
+use Rattle.drain_runs.proofs.NextCells.{no_void}
+use Rattle.drain_runs.proofs.Shorter.{IsEnded-next, RunEnds-before}
+use Rattle.drain_counts.specs.CellNumbers.{cell_number, IsPutAt}
+use Rattle.drain_counts.specs.Basins.{ends_before, end_number, AreEndLabels, IsBasinLabel, AreLabelsSoFar, AreBasinLabels}
+use Rattle.drain_counts.proofs.EndCounts.{ends_before-none, ends_before-more, end_number-some, end_number-one, is_end_yes, is_end_no}
+
+-- no outlet yet
+pub AreEndLabels-none : (g : Grid) (ps : Products) (e : Extent) (labels : List ℕ) → g.extent ≡ e → ((c : Cell) → cell_number e labels c ≡ 0) →
+    AreEndLabels g ps e 0 0 labels
+AreEndLabels-none g ps e labels extent none = record {
+  extent = extent;
+  counted = sym (ends_before-none g ps);
+  numbered = λ c here is_zero less. absurd (omega arith);
+  others = λ c inside some. absurd (some (none c));
+}
+
+module _ (g : Grid) (ps : Products) (e : Extent) (k ends : ℕ) (labels : List ℕ) (c : Cell) (are : AreEndLabels g ps e k ends labels)
+    (inside : IsInside g c) (at : index_of e c ≡ k) where
+  at_g : index_of g.extent c ≡ k
+  at_g = ap (λ (x : Extent). index_of x c) are.extent ∙ at
+
+  is_c : (d : Cell) → IsInside g d → index_of e d ≡ k → c ≡ d
+  is_c d at_d same = same_index e c d (in_grid g e c are.extent inside) (in_grid g e d are.extent at_d) (at ∙ sym same)
+
+  -- past a cell that is no outlet
+  pub AreEndLabels-past : (HasData g c → ps.dir c ≢ pos 0) → AreEndLabels g ps e (k + 1) ends labels
+  AreEndLabels-past other = record {
+    extent = are.extent;
+    counted =
+        (let more = ends_before-more g ps c k inside at_g in
+        let none = ap {B = ℕ} (λ b. cond b 1 0) (is_end_no g ps c inside other) in
+        let so_far = are.counted in
+        omega (arith, more, none, so_far));
+    numbered = λ d here is_zero less. elim (cases_order (index_of e d) k) [
+      | inl same ↦ (let one = is_c d here.inside same in absurd (other (subst (HasData g) (sym one) here) (ap ps.dir one ∙ is_zero)))
+      | inr (inl before) ↦ are.numbered d here is_zero before
+      | inr (inr after) ↦ absurd (omega arith)
+    ];
+    others = λ d at_d some. (let h = are.others d at_d some in (h.0, h.1, (let less = h.2 in omega (arith, less))));
+  }
+
+  -- past an outlet, which has the next number
+  pub AreEndLabels-put : (after : List ℕ) → HasData g c → ps.dir c ≡ pos 0 → IsPutAt e labels after c (ends + 1) → AreEndLabels g ps e (k + 1) (ends + 1) after
+  AreEndLabels-put after here_c zero_c put = record {
+    extent = are.extent;
+    counted =
+        (let more = ends_before-more g ps c k inside at_g in
+        let one = ap {B = ℕ} (λ b. cond b 1 0) (is_end_yes g ps c here_c zero_c) in
+        let so_far = are.counted in
+        omega (arith, more, one, so_far));
+    numbered = λ d here is_zero less. elim (same_or_not c d) [
+      | inl one ↦ subst (λ x. cell_number e after x ≡ end_number g ps x) one
+          (let number = end_number-some g ps c here_c zero_c in
+          let before = ap (ends_before g ps) at_g in
+          let so_far = are.counted in
+          let there = put.there in
+          omega (arith, number, before, so_far, there))
+      | inr other ↦ put.elsewhere d (in_grid g e d are.extent here.inside) (λ same. other (sym same)) ∙ are.numbered d here is_zero
+          (elim (cases_order (index_of e d) k) [
+            | inl same ↦ absurd (other (is_c d here.inside same))
+            | inr (inl before) ↦ before
+            | inr (inr after_it) ↦ absurd (omega arith)
+          ])
+    ];
+    others = λ d at_d some. elim (same_or_not c d) [
+      | inl one ↦ (subst (HasData g) one here_c, ap ps.dir (sym one) ∙ zero_c, (let same = ap (index_of e) one in omega (arith, same, at)))
+      | inr other ↦
+          (let h = are.others d at_d (λ none. some (put.elsewhere d (in_grid g e d are.extent at_d) (λ same. other (sym same)) ∙ none)) in
+          (h.0, h.1, (let less = h.2 in omega (arith, less))))
+    ];
+  }
+
+-- all outlets have their labels
+pub AreLabelsSoFar-ends : (g : Grid) (ps : Products) (e : Extent) (ends : ℕ) (labels : List ℕ) → AreEndLabels g ps e (e.rows * e.cols) ends labels →
+    AreLabelsSoFar g ps e labels
+AreLabelsSoFar-ends g ps e ends labels are = record {
+  extent = are.extent;
+  right = λ c inside some.
+      (let h = are.others c inside some in
+      record {
+        here = h.0;
+        ends = (EndsAfter-zero g ps c h.1).ends;
+        label_is = are.numbered c h.0 h.1 h.2 ∙ ap (end_number g ps) (sym (run_end-zero g ps c h.1));
+      });
+  outlets = λ c here is_zero none.
+      (let below = index_of-below e c (in_grid g e c are.extent here.inside) in
+      let number = are.numbered c here is_zero below in
+      let some = end_number-some g ps c here is_zero in
+      absurd (omega (arith, number, some, none)));
+}
+
+-- the label of the next cell is that of this one, both ways
+pub IsBasinLabel-before : (g : Grid) (ps : Products) (c n : Cell) (label : ℕ) → HasData g c → next g ps c ≡ Some n → IsBasinLabel g ps n label → IsBasinLabel g ps c label
+IsBasinLabel-before g ps c n label here leads is =
+    let ends : RunEnds g ps c = RunEnds-before g ps c n leads is.ends in
+    record { here = here; ends = ends; label_is = is.label_is ∙ ap (end_number g ps) (sym (ended-run_end g ps c n ends leads)) }
+
+pub IsBasinLabel-next : (g : Grid) (ps : Products) (c n : Cell) (label : ℕ) → next g ps c ≡ Some n → IsBasinLabel g ps c label → IsBasinLabel g ps n label
+IsBasinLabel-next g ps c n label leads is =
+    let ended = IsEnded-next g ps c n leads (record { here = is.here; ends = is.ends }) in
+    record { here = ended.here; ends = ended.ends; label_is = is.label_is ∙ ap (end_number g ps) (ended-run_end g ps c n is.ends leads) }
+
+leads_label : (g : Grid) (ps : Products) (k : ℕ) (c d : Cell) (label : ℕ) → HasData g c → Leads g ps k c d → IsBasinLabel g ps d label → IsBasinLabel g ps c label
+leads_label g ps zero c d label here same is = subst (λ x. IsBasinLabel g ps x label) (sym same) is
+leads_label g ps (suc k) c d label here way is =
+    IsBasinLabel-before g ps c way.0 label here way.1 (leads_label g ps k way.0 d label (HasData-next g ps c way.0 way.1) way.2 is)
+
+-- if a walk reaches a label
+pub IsBasinLabel-walk : (g : Grid) (ps : Products) (e : Extent) (labels : List ℕ) (k : ℕ) (c d : Cell) (label : ℕ) → AreLabelsSoFar g ps e labels → HasData g c →
+    IsWalk g ps k c d → HasData g d → label ≡ cell_number e labels d → label ≢ 0 → IsBasinLabel g ps c label
+IsBasinLabel-walk g ps e labels k c d label are here walk there is some =
+    leads_label g ps k c d label here walk.leads
+    (subst (IsBasinLabel g ps d) (sym is) (are.right d there.inside (λ none. some (is ∙ none))))
+
+-- if it reaches a cell without a label that leads nowhere
+pub endless_here : (g : Grid) (ps : Products) (e : Extent) (labels : List ℕ) (d : Cell) → AreLabelsSoFar g ps e labels → HasData g d →
+    cell_number e labels d ≡ 0 → next g ps d ≡ None → ¬ RunEnds g ps d
+endless_here g ps e labels d are there none stops = endless-stuck g ps d stops (λ is_zero. are.outlets d there is_zero none)
+
+-- a label that is written
+pub AreLabelsSoFar-put : (g : Grid) (ps : Products) (e : Extent) (labels after : List ℕ) (c : Cell) (label : ℕ) → AreLabelsSoFar g ps e labels →
+    IsBasinLabel g ps c label → label ≢ 0 → IsPutAt e labels after c label → AreLabelsSoFar g ps e after
+AreLabelsSoFar-put g ps e labels after c label are is some put = record {
+  extent = are.extent;
+  right = λ d inside known. elim (same_or_not c d) [
+    | inl one ↦ subst (λ x. IsBasinLabel g ps x (cell_number e after x)) one (subst (IsBasinLabel g ps c) (sym put.there) is)
+    | inr other ↦
+        (let kept = put.elsewhere d (in_grid g e d are.extent inside) (λ same. other (sym same)) in
+        subst (IsBasinLabel g ps d) (sym kept) (are.right d inside (λ none. known (kept ∙ none))))
+  ];
+  outlets = λ d here is_zero none. elim (same_or_not c d) [
+    | inl one ↦ some (sym put.there ∙ (ap (cell_number e after) one ∙ none))
+    | inr other ↦ are.outlets d here is_zero (sym (put.elsewhere d (in_grid g e d are.extent here.inside) (λ same. other (sym same))) ∙ none)
+  ];
+}
+
+-- what had a label still has one
+pub known_put : (e : Extent) (labels after : List ℕ) (c d : Cell) (label : ℕ) → label ≢ 0 → IsPutAt e labels after c label → IsCellOf e d →
+    (c ≡ d) ⊎ (cell_number e labels d ≢ 0) → cell_number e after d ≢ 0
+known_put e labels after c d label some put inside known none = elim (same_or_not c d) [
+  | inl one ↦ some (sym put.there ∙ (ap (cell_number e after) one ∙ none))
+  | inr other ↦ elim known [
+    | inl one ↦ other one
+    | inr before ↦ before (sym (put.elsewhere d inside (λ same. other (sym same))) ∙ none)
+  ]
+]
+
+-- the first cell from which no walk reaches a label
+pub first_endless : (g : Grid) (ps : Products) (e : Extent) (labels : List ℕ) (k : ℕ) (c : Cell) → AreLabelsSoFar g ps e labels →
+    ((b : Cell) → HasData g b → index_of e b < k → cell_number e labels b ≢ 0) → index_of e c ≡ k → HasData g c → ¬ RunEnds g ps c → IsFirstEndless g ps c
+first_endless g ps e labels k c are passed at here endless = record {
+  here = here;
+  endless = endless;
+  first = λ b there before.
+      (let less = earlier_index e b c (in_grid g e b are.extent there.inside) before in
+      (are.right b there.inside (passed b there (omega (arith, less, at)))).ends);
+}
+
+-- the end of a run has data and code 0
+run_end_data : (g : Grid) (ps : Products) (k : ℕ) (c : Cell) → HasData g c → HasData g (last_from c (steps_from g ps k c))
+run_end_data g ps zero c here = here
+run_end_data g ps (suc k) c here = by_next (next g ps c) (λ n leads. run_end_data g ps k n (HasData-next g ps c n leads))
+  where
+    by_next : (o : Option Cell) → ((n : Cell) → o ≡ Some n → HasData g (last_from n (steps_from g ps k n))) →
+        HasData g (last_from c (continued o (steps_from g ps k)))
+    by_next None on = here
+    by_next (Some n) on = on n refl
+
+-- labels of all data cells
+pub AreBasinLabels-all : (g : Grid) (ps : Products) (e : Extent) (labels : List ℕ) → AreLabelsSoFar g ps e labels →
+    ((c : Cell) → HasData g c → cell_number e labels c ≢ 0) → AreBasinLabels g ps e labels
+AreBasinLabels-all g ps e labels are known =
+    let label = λ (c : Cell) (here : HasData g c). are.right c here.inside (known c here) in
+    record {
+      extent = are.extent;
+      ends = λ c here. (label c here).ends;
+      labels_are = λ c here. (label c here).label_is;
+      some = known;
+      shared = λ a b at_a at_b. (
+        (λ same. end_number-one g ps (run_end g ps a) (run_end g ps b) (run_end_data g ps (g.extent.rows * g.extent.cols) a at_a) (label a at_a).ends
+            (run_end_data g ps (g.extent.rows * g.extent.cols) b at_b) (label b at_b).ends (sym (label a at_a).label_is ∙ (same ∙ (label b at_b).label_is))),
+        (λ share. (label a at_a).label_is ∙ (ap (end_number g ps) share ∙ sym (label b at_b).label_is)),
+      );
+      voids = λ c inside void. elim (cases_eq (cell_number e labels c) 0) [
+        | inl none ↦ none
+        | inr some ↦ absurd (no_void (g.elevation c) void (are.right c inside some).here.is_data)
+      ];
+    }

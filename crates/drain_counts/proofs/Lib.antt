@@ -1,0 +1,11 @@
+pub mod ByteTable
+pub mod CellPlaces
+pub mod Completing
+pub mod EndCounts
+pub mod FlowCells
+pub mod GridOfFlows
+pub mod InflowLemmas
+pub mod LabelLemmas
+pub mod PassedSums
+pub mod PassingLemmas
+pub mod Shares

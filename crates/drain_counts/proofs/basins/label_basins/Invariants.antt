@@ -1,0 +1,18 @@
+-- All known labels are right, and the data cells so far have one.
+use Rattle.std.proofs.Common.{◌≡◌, ◌≢◌, ◌<◌, ◌*◌, length}
+use Rattle.drain_grid.specs.declared.cell.Cell.{Cell}
+use Rattle.drain_grid.specs.Extent.{IsCellOf, index_of}
+use Rattle.drain_runs.specs.declared.flow.Flow.TheVariants.{Void}
+use Rattle.drain_runs.specs.Flows.{flow_at}
+use Rattle.drain_counts.specs.OfFlows.{OfFlows}
+use Rattle.drain_counts.specs.CellNumbers.{cell_number}
+use Rattle.drain_counts.specs.Basins.{AreLabelsSoFar}
+use Rattle.drain_counts.proofs.basins.label_basins.Given as goal
+
+abbrev pub invariant-loop-place : goal.invariant-loop-place
+invariant-loop-place l = record {
+  counted : length l.labels.items ≡ l.shape.rows * l.shape.cols;
+  so_far : OfFlows l.shape l.flows (λ g ps. AreLabelsSoFar g ps l.shape l.labels.items);
+  passed : (c : Cell) → IsCellOf l.shape c → index_of l.shape c < l.place → flow_at l.shape l.flows c ≢ Void →
+      cell_number l.shape l.labels.items c ≢ 0;
+}

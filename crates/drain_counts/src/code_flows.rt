@@ -1,0 +1,43 @@
+//! Flows of codes that are kept in a byte per cell.
+
+ghost use Rattle.std.specs.Prelude.{◌≡◌, IfOk};
+ghost use Rattle.drain_counts.specs.CodeFlows.{bytes_flows, IsByteTable};
+
+use drain_grid::OutOfMemory;
+use drain_runs::Flow;
+use std::alloc::Global;
+
+/// The code of a cell without data.
+pub const NO_CODE: u8 = u8::MAX;
+
+/// The flow of each code.
+pub fn flows_of_codes(alloc: Global, codes: &[u8]) -> Result<Vec<Flow>, OutOfMemory>
+    ensures { IfOk result (λ flows. flows.items ≡ bytes_flows codes.now) }
+{
+    let table = byte_table();
+    let Ok(mut flows) = vec![in alloc; Flow::Void; codes.len()] else {
+        return Err(OutOfMemory);
+    };
+    for place in 0..codes.len() {
+        flows[place] = table[codes[place] as usize];
+    }
+    Ok(flows)
+}
+
+/// The flow of each number of a byte, at its place.
+fn byte_table() -> [Flow; 256]
+    ensures { IsByteTable result }
+{
+    let mut table = [Flow::Lost; 256];
+    table[0] = Flow::Ends;
+    table[1] = Flow::ToEast;
+    table[2] = Flow::ToSouthEast;
+    table[4] = Flow::ToSouth;
+    table[8] = Flow::ToSouthWest;
+    table[16] = Flow::ToWest;
+    table[32] = Flow::ToNorthWest;
+    table[64] = Flow::ToNorth;
+    table[128] = Flow::ToNorthEast;
+    table[255] = Flow::Void;
+    table
+}

@@ -1,0 +1,16 @@
+//! What follows from directions: how many cells drain through each cell, and the label of its basin.
+#![tactic(auto)]
+
+pub mod accumulation;
+pub mod basins;
+mod cell_order;
+pub mod code_flows;
+mod inflows;
+pub mod laws;
+mod outlets;
+mod passing;
+mod ways;
+
+pub use accumulation::accumulate;
+pub use basins::label_basins;
+pub use code_flows::flows_of_codes;

@@ -1,0 +1,159 @@
+-- The neighbours of a cell, direction by direction.
+use Rattle.std.proofs.Common.{◌≡◌, ◌≢◌, ℕ, ◌+◌, ◌<◌, ◌≤◌, ◌∙◌, inl, inr, ℤ, ◌≤ℤ◌, ◌<ℤ◌, Bool, true, false, ◌||◌, List, get_or, length, refl, sym, ap, subst, arith}
+use Rattle.std.specs.Int.{int_max}
+use Rattle.std.proofs.lemmas.Bool.{cases_order, or_left, or_right}
+use Rattle.drain_grid.specs.declared.cell.Cell.{Cell}
+use Rattle.drain_grid.specs.declared.direction.Direction.{Direction}
+use Rattle.drain_grid.specs.declared.direction.Direction.TheVariants.{East, SouthEast, South, SouthWest, West, NorthWest, North, NorthEast}
+use Rattle.drain_grid.specs.Direction.{directions, order_of}
+use Rattle.drain_grid.specs.Extent.{index_of}
+use Rattle.drain_grid.specs.Grid.{Grid, height_at}
+use Rattle.drain_grid.specs.Size.{Extent}
+use Rattle.drain_grid.proofs.Options.{same_some}
+use Rattle.std.proofs.lemmas.List.{length_push}
+use Rattle.drain_surface.specs.Floods.{Flooding, con_at, mark_at, unreached, IsUnreached, Reaches, IsReachedFrom}
+use Rattle.drain_surface.specs.Looks.{IsLook, IsAround, IsBefore, PassesAt}
+use Rattle.drain_surface.specs.Turns.{IsLessWork, IsLookedAround}
+use Rattle.drain_surface.proofs.Reaching.{kept_by_reaching, outlet_reached}
+
+or_true_left : (a b : Bool) → a ≡ true → (a || b) ≡ true
+or_true_left a b h = or_left a b h
+
+or_true_right : (a b : Bool) → b ≡ true → (a || b) ≡ true
+or_true_right a b h = or_right a b h
+
+-- before the first direction
+pub around_none : (g : Grid) (f : Flooding) (stand : ℤ) (busy : List ℕ) (c : Cell) (level : ℤ) (raises : Bool) →
+    IsBefore g f stand busy c level raises → IsAround g f stand busy c level raises false 0
+around_none g f stand busy c level raises before = record { before = before; passed = λ i less. absurd (omega (arith, less)) }
+
+-- what was passed stays passed if no more is unreached
+passed_still : (g : Grid) (old new : Flooding) (c : Cell) (level : ℤ) (raises left more : Bool) (d : Direction) →
+    ((n : Cell) → IsUnreached g new n → IsUnreached g old n) → PassesAt g old c level raises left d → PassesAt g new c level raises (left || more) d
+passed_still g old new c level raises left more d fewer passes n fresh there =
+    let was = passes n (fewer n fresh) there in
+    (or_true_left left more was.0, was.1, was.2)
+
+-- one direction more
+pub around_more : (g : Grid) (old new : Flooding) (stand : ℤ) (busy : List ℕ) (c : Cell) (level : ℤ) (raises left more : Bool) (k : ℕ) →
+    IsAround g old stand busy c level raises left k → IsLook g.extent old new c (get_or directions k East) level raises more →
+    IsAround g new stand busy c level raises (left || more) (k + 1)
+around_more g old new stand busy c level raises left true k around (n, leaves) = record {
+  before = subst (λ f. IsBefore g f stand busy c level raises) (sym leaves.same) around.before;
+  passed = λ i less. elim (cases_order i k) [
+    | inl here ↦ subst (λ j. PassesAt g new c level raises (left || true) (get_or directions j East)) (sym here)
+        (λ m fresh there.
+        (let one : m ≡ n = same_some m n (sym there ∙ leaves.is.there) in
+        let data_m : IsUnreached g old m = subst (λ f. IsUnreached g f m) leaves.same fresh in
+        let ground : con_at g.extent old n ≡ height_at g n = subst (λ x. con_at g.extent old x ≡ height_at g x) one (around.before.flood.ground m data_m) in
+        (or_true_right left true refl, subst (λ x. height_at g x <ℤ level) (sym one) (subst (λ z. z <ℤ level) ground leaves.lower), leaves.unraised)))
+    | inr (inl before) ↦ passed_still g old new c level raises left true (get_or directions i East) (λ m fresh. subst (λ f. IsUnreached g f m) leaves.same fresh) (around.passed i before)
+    | inr (inr after) ↦ absurd (omega (arith, less, after))
+  ];
+}
+around_more g old new stand busy c level raises left false k around (inl passes) = record {
+  before = subst (λ f. IsBefore g f stand busy c level raises) (sym passes.same) around.before;
+  passed = λ i less. elim (cases_order i k) [
+    | inl here ↦ subst (λ j. PassesAt g new c level raises (left || false) (get_or directions j East)) (sym here)
+        (λ m fresh there.
+        (let was : IsUnreached g old m = subst (λ f. IsUnreached g f m) passes.same fresh in
+        absurd (passes.none m (record { there = there; fresh = was.code }))))
+    | inr (inl before) ↦ passed_still g old new c level raises left false (get_or directions i East) (λ m fresh. subst (λ f. IsUnreached g f m) passes.same fresh) (around.passed i before)
+    | inr (inr after) ↦ absurd (omega (arith, less, after))
+  ];
+}
+around_more g old new stand busy c level raises left false k around (inr (n, takes)) =
+    let before = around.before in
+    let d = get_or directions k East in
+    let con : ℤ = int_max (con_at g.extent old n) level in
+    let from : IsReachedFrom g old stand c d n con = record {
+      from = before.reached;
+      there = takes.is.there;
+      new = takes.is.fresh;
+      con_is = ap (int_max (con_at g.extent old n)) (sym before.con);
+      raises = elim takes.may [
+        | inl down ↦ inl (subst (λ z. z ≤ℤ con_at g.extent old n) (sym before.con) down)
+        | inr raised ↦ inr (before.con ∙ before.at_level raised)
+      ];
+    } in
+    let reaches = takes.reaches in
+    let after = kept_by_reaching g old new stand busy c n d con before.flood from reaches in
+    let differ : c ≢ n = λ same. before.reached.code (ap (mark_at g.extent old) same ∙ takes.is.fresh) in
+    let fewer : (m : Cell) → IsUnreached g new m → IsUnreached g old m = λ m fresh. was_fresh g old new n con reaches m fresh in
+    record {
+      before = record {
+        flood = after;
+        reached = record { here = before.reached.here; code = λ h. before.reached.code (sym (reaches.mark_same c before.reached.here.inside differ) ∙ h) };
+        con = reaches.con_same c before.reached.here.inside differ ∙ before.con;
+        at_level = before.at_level;
+      };
+      passed = λ i less. elim (cases_order i k) [
+        | inl here ↦ subst (λ j. PassesAt g new c level raises (left || false) (get_or directions j East)) (sym here)
+            (λ m fresh there.
+            (let one : m ≡ n = same_some m n (sym there ∙ takes.is.there) in
+            absurd (outlet_reached (mark_at g.extent new n) reaches.mark_there (ap (mark_at g.extent new) (sym one) ∙ fresh.code))))
+        | inr (inl earlier) ↦ passed_still g old new c level raises left false (get_or directions i East) fewer (around.passed i earlier)
+        | inr (inr later) ↦ absurd (omega (arith, less, later))
+      ];
+    }
+  where
+    was_fresh : (g : Grid) (old new : Flooding) (n : Cell) (con : ℤ) → Reaches g.extent old new n con →
+        (m : Cell) → IsUnreached g new m → IsUnreached g old m
+    was_fresh g old new n con reaches m fresh =
+        let differ : m ≢ n = λ same. outlet_reached (mark_at g.extent new n) reaches.mark_there (ap (mark_at g.extent new) (sym same) ∙ fresh.code) in
+        record { here = fresh.here; code = sym (reaches.mark_same m fresh.here.inside differ) ∙ fresh.code }
+
+-- one direction more, as the code does it
+pub around_on : (g : Grid) (e : Extent) (old new : Flooding) (stand : ℤ) (busy : List ℕ) (c : Cell) (level : ℤ) (raises left more after : Bool) (k : ℕ) →
+    g.extent ≡ e → after ≡ (left || more) → IsAround g old stand busy c level raises left k →
+    IsLook e old new c (get_or directions k East) level raises more → IsAround g new stand busy c level raises after (k + 1)
+around_on g e old new stand busy c level raises left more after k extent after_is around look =
+    subst (λ b. IsAround g new stand busy c level raises b (k + 1)) (sym after_is)
+    (around_more g old new stand busy c level raises left more k around
+    (subst (λ x. IsLook x old new c (get_or directions k East) level raises more) (sym extent) look))
+
+-- what is done in a direction leaves no more to do
+pub less_more : (e : Extent) (first old new : Flooding) (c : Cell) (d : Direction) (level : ℤ) (raises more : Bool) →
+    IsLessWork first old → IsLook e old new c d level raises more → IsLessWork first new
+less_more e first old new c d level raises true less (n, leaves) = subst (IsLessWork first) (sym leaves.same) less
+less_more e first old new c d level raises false less (inl passes) = subst (IsLessWork first) (sym passes.same) less
+less_more e first old new c d level raises false less (inr (n, takes)) =
+    let reaches = takes.reaches in
+    let long : length new.ahead ≡ length old.ahead + 1 = ap (λ xs. length xs) reaches.ahead ∙ length_push old.ahead (index_of e n) in
+    record {
+      fewer = fall (unreached new) (unreached old) (unreached first) reaches.fewer less.fewer;
+      same = balance (unreached new) (unreached old) (unreached first) (length new.ahead) (length old.ahead) (length first.ahead) reaches.fewer long less.same;
+      waiting = reaches.waiting ∙ less.waiting;
+    }
+  where
+    fall : (a b c : ℕ) → a + 1 ≡ b → b ≤ c → a ≤ c
+    fall a b c one most = omega arith
+
+    balance : (a b c x y z : ℕ) → a + 1 ≡ b → x ≡ y + 1 → b + y ≡ c + z → a + x ≡ c + z
+    balance a b c x y z one more is = omega arith
+
+-- a direction is at its place, which is below 8
+pub at_place : (d : Direction) → (get_or directions (order_of d) East ≡ d) × (order_of d < 8)
+at_place East = (refl, omega arith)
+at_place SouthEast = (refl, omega arith)
+at_place South = (refl, omega arith)
+at_place SouthWest = (refl, omega arith)
+at_place West = (refl, omega arith)
+at_place NorthWest = (refl, omega arith)
+at_place North = (refl, omega arith)
+at_place NorthEast = (refl, omega arith)
+
+-- after the last direction all neighbours were looked at
+pub around_all : (g : Grid) (f : Flooding) (stand : ℤ) (busy : List ℕ) (c : Cell) (level : ℤ) (raises left : Bool) (k : ℕ) → k ≡ 8 →
+    IsAround g f stand busy c level raises left k → IsLookedAround g f stand busy c level raises left
+around_all g f stand busy c level raises left k last around = record {
+  flood = around.before.flood;
+  reached = around.before.reached;
+  con = around.before.con;
+  beside = λ n d fresh there.
+      (let place = at_place d in
+      subst (PassesAt g f c level raises left) place.0 (around.passed (order_of d) (within (order_of d) k last place.1)) n fresh there);
+}
+  where
+    within : (i k : ℕ) → k ≡ 8 → i < 8 → i < k
+    within i k last less = omega arith

@@ -1,0 +1,15 @@
+-- The cells of the row so far are started.
+use Rattle.std.proofs.Common.{◌≡◌, ℕ, ◌+◌, ◌*◌, ◌<◌, false, List, length, slice_index_or}
+use Rattle.drain_grid.specs.declared.sink_line.SinkLine.{SinkLine}
+use Rattle.drain_grid.specs.SinkLines.{is_listed}
+use Rattle.drain_grid.specs.WholeGrid.{grid_of}
+use Rattle.drain_surface.specs.Laid.{IsLaid}
+use Rattle.drain_surface.proofs.flood.Flood.lay_row.Given as goal
+
+abbrev pub invariant-loop-col : goal.invariant-loop-col
+invariant-loop-col l = record {
+  extent : l.self.extent ≡ l.fn.self.extent;
+  laid : (sinks : List SinkLine) → ((col : ℕ) → col < length l.listed → slice_index_or l.listed col false ≡ is_listed sinks (record { row = l.row; col = col })) →
+      IsLaid (grid_of l.elevation sinks) l.fn.self (l.row * l.elevation.extent.cols) →
+      IsLaid (grid_of l.elevation sinks) l.self (l.row * l.elevation.extent.cols + l.col);
+}

@@ -1,0 +1,331 @@
+//! Ways along flats, from their low edges inwards: each cell's leads to a neighbour of equal height, nearer to a low
+//! edge.
+//!
+//! Low edges are outlets and cells with a lower neighbour; their rank is 0. Any other rank counts steps along the flat.
+//! Time is linear in the cells.
+//!
+//! Source: ways along flats from their low edges (Garbrecht and Martz 1997; Barnes, Lehman and Mulla 2014b).
+
+ghost use Rattle.std.specs.Prelude.{◌≡◌, ◌≢◌, ℕ, ◌+◌, ◌*◌, ◌<◌, List, [], MatchOption, IfSome, IfOk, OnOk, IsTrue, length, slice_index_or};
+ghost use Rattle.drain_grid.specs.declared.cell.Cell.{Cell};
+ghost use Rattle.drain_grid.specs.declared.direction.Direction.{Direction};
+ghost use Rattle.drain_grid.specs.Extent.{IsCellOf, index_of};
+ghost use Rattle.drain_grid.specs.Grid.{Grid};
+ghost use Rattle.drain_surface.specs.Floods.{IsFlooded, con_at};
+ghost use Rattle.drain_surface.specs.Looks.{IsInner};
+ghost use Rattle.drain_surface.specs.Flats.{first_rank, AreFirstRanks, Laying, way_at, rank_at, wayless, IsSettled, AreLaid, Settles, AreWaysOnFlats};
+ghost use Rattle.drain_surface.specs.Walks.{IsFlatAt, IsFlatPlace, IsLowEdgeAt, IsLowEdgeThere, IsWalk, IsPassed, IsLessWalk, IsNextPlace, IsDonePlaces};
+
+use crate::codes::{NO_RANK, REACHED, VOID};
+use crate::flood::{Flood, is_same};
+use crate::layers::room_for_ranks;
+use crate::places::{beside, is_inner};
+use crate::ways::{code, directions};
+use drain_grid::{Cell, Direction, OutOfMemory, Shape};
+use std::alloc::Global;
+use std::marker::Model;
+
+/// Codes and ranks while flats get their ways.
+#[derive(Drop)]
+pub struct Flats {
+    shape: Shape,
+    way: Vec<u8>,
+    rnk: Vec<u32>,
+    /// Places of cells that got their way along a flat; the neighbours of those from the head on are to be looked at.
+    trail: Vec<u32>,
+    head: usize,
+}
+
+impl Model for Flats {
+    ghost use Rattle.std.specs.Prelude.{drop};
+    ghost use Rattle.drain_surface.specs.Flats.{Laying};
+    ghost use Rattle.drain_surface.specs.Walks.{AreLaidOut};
+
+    ghost Value = { Laying };
+
+    ghost view = { λ f. record { extent = f.shape; way = f.way.items; rnk = f.rnk.items; ahead = drop f.head f.trail.items } };
+
+    ghost invariant = { λ f. AreLaidOut f.shape f.way.items f.rnk.items f.trail.items f.head };
+}
+
+/// The way and the rank of each cell of a filled surface.
+pub fn ways_on_flats(alloc: Global, flood: &Flood) -> Result<Flats, OutOfMemory>
+    ensures extent { IfOk result (λ flats. flats.extent ≡ flood.now.extent) }
+    ensures ways { IfOk result (λ flats. (g : Grid) → g.extent ≡ flood.now.extent → IsFlooded g flood.now → AreWaysOnFlats g flood.now flats) }
+{
+    let mut flats = Flats::start(alloc, flood)?;
+    flats.find_low_edges(flood)?;
+    flats.spread(flood)?;
+    Ok(flats)
+}
+
+/// The code and the rank of each cell, in row order.
+#[derive(Drop)]
+pub struct CodesAndRanks {
+    pub way: Vec<u8>,
+    pub rnk: Vec<u32>,
+}
+
+impl Flats {
+    /// Returns codes and ranks in row order, and frees the rest.
+    pub fn into_codes_and_ranks(self) -> CodesAndRanks
+        ensures way { result.way.items ≡ self.way }
+        ensures rnk { result.rnk.items ≡ self.rnk }
+    {
+        CodesAndRanks {
+            way: self.way,
+            rnk: self.rnk,
+        }
+    }
+
+    /// The codes of ways down and of outlets; cells of flats have none yet.
+    fn start(alloc: Global, flood: &Flood) -> Result<Flats, OutOfMemory>
+        ensures extent { IfOk result (λ flats. flats.extent ≡ flood.now.extent) }
+        ensures laid { IfOk result (λ flats. (g : Grid) → g.extent ≡ flood.now.extent → IsFlooded g flood.now → AreLaid g flood.now flats 0 []) }
+    {
+        let shape = flood.shape();
+        let way = directions(alloc, flood)?;
+        let rnk = first_ranks(alloc, way.as_slice())?;
+        Ok(Flats {
+            shape,
+            way,
+            rnk,
+            trail: Vec::new(alloc),
+            head: 0,
+        })
+    }
+
+    /// Settles the cells of flats next to low edges: each gets its way.
+    fn find_low_edges(&mut self, flood: &Flood) -> Result<(), OutOfMemory>
+        requires same { self.old.extent ≡ flood.now.extent }
+        ensures extent { self.new.extent ≡ self.old.extent }
+        ensures laid { OnOk result ((g : Grid) → g.extent ≡ self.old.extent → AreLaid g flood.now self.old 0 [] → AreLaid g flood.now self.new (self.old.extent.rows * self.old.extent.cols) []) }
+    {
+        for place in 0..self.shape.cells() {
+            self.look_for(flood, place)?;
+        }
+        Ok(())
+    }
+
+    /// Settles the cell at a place, if it has no way and is next to a low edge.
+    fn look_for(&mut self, flood: &Flood, place: usize) -> Result<(), OutOfMemory>
+        requires same { self.old.extent ≡ flood.now.extent }
+        requires below { place < self.old.extent.rows * self.old.extent.cols }
+        ensures extent { self.new.extent ≡ self.old.extent }
+        ensures laid { OnOk result ((g : Grid) → g.extent ≡ self.old.extent → AreLaid g flood.now self.old place [] → AreLaid g flood.now self.new (place + 1) []) }
+    {
+        if self.way_at(place) != REACHED {
+            return Ok(());
+        }
+        let cell = self.shape.cell(place);
+        match self.low_edge(flood, cell, flood.level_at(place)) {
+            Some(direction) => {
+                self.settle(place, code(direction), 1)?;
+                Ok(())
+            }
+            None => Ok(()),
+        }
+    }
+
+    /// The first direction in which there is a low edge.
+    fn low_edge(&self, flood: &Flood, cell: Cell, level: i16) -> Option<Direction>
+        requires same { self.now.extent ≡ flood.now.extent }
+        requires inside { IsCellOf self.now.extent cell }
+        ensures { MatchOption result ((d : Direction) → IsLowEdgeThere self.now.extent flood.now self.now cell level d → ⊥) (IsLowEdgeThere self.now.extent flood.now self.now cell level) }
+    {
+        let inner = is_inner(self.shape, cell);
+        for direction in Direction::ALL {
+            if self.is_low_edge(flood, cell, inner, direction, level) {
+                return Some(direction);
+            }
+        }
+        None
+    }
+
+    /// Whether there is a low edge in a direction.
+    fn is_low_edge(
+        &self,
+        flood: &Flood,
+        cell: Cell,
+        inner: bool,
+        direction: Direction,
+        level: i16,
+    ) -> bool
+        requires same { self.now.extent ≡ flood.now.extent }
+        requires inside { IsCellOf self.now.extent cell }
+        requires inner { IsTrue inner → IsInner self.now.extent cell }
+        ensures yes { IsTrue result → IsLowEdgeThere self.now.extent flood.now self.now cell level direction }
+        ensures no { IsLowEdgeThere self.now.extent flood.now self.now cell level direction → IsTrue result }
+    {
+        match beside(self.shape, cell, inner, direction) {
+            Some(next) => {
+                if self.way[next] == REACHED {
+                    return false;
+                }
+                if self.way[next] == VOID {
+                    return false;
+                }
+                if self.rnk[next] != 0 {
+                    return false;
+                }
+                is_same(flood.level_at(next), level)
+            }
+            None => false,
+        }
+    }
+
+    /// Walks inwards from the cells of the trail.
+    fn spread(&mut self, flood: &Flood) -> Result<(), OutOfMemory>
+        requires same { self.old.extent ≡ flood.now.extent }
+        ensures extent { self.new.extent ≡ self.old.extent }
+        ensures ways { OnOk result ((g : Grid) → g.extent ≡ self.old.extent → IsFlooded g flood.now → AreLaid g flood.now self.old (self.old.extent.rows * self.old.extent.cols) [] → AreWaysOnFlats g flood.now self.new) }
+    {
+        while let Some(cell) = self.next() {
+            self.look_around(flood, cell)?;
+        }
+        Ok(())
+    }
+
+    /// Settles the neighbours of a settled cell that have its height and no way yet.
+    fn look_around(&mut self, flood: &Flood, cell: Cell) -> Result<(), OutOfMemory>
+        requires same { self.old.extent ≡ flood.now.extent }
+        requires inside { IsCellOf self.old.extent cell }
+        ensures extent { self.new.extent ≡ self.old.extent }
+        ensures work { OnOk result (IsLessWalk self.old self.new) }
+        ensures around { OnOk result ((g : Grid) (k : ℕ) (busy : List ℕ) → g.extent ≡ self.old.extent → IsSettled g self.old cell → AreLaid g flood.now self.old k busy → IsPassed g flood.now self.new k busy cell) }
+    {
+        let place = self.shape.index(cell);
+        let level = flood.level_at(place);
+        let rank = self.rank_at(place).saturating_add(1);
+        let inner = is_inner(self.shape, cell);
+        for direction in Direction::ALL {
+            self.look(flood, cell, inner, direction, level, rank)?;
+        }
+        Ok(())
+    }
+
+    /// The same for the neighbour in one direction.
+    fn look(
+        &mut self,
+        flood: &Flood,
+        cell: Cell,
+        inner: bool,
+        direction: Direction,
+        level: i16,
+        rank: u32,
+    ) -> Result<(), OutOfMemory>
+        requires same { self.old.extent ≡ flood.now.extent }
+        requires inside { IsCellOf self.old.extent cell }
+        requires inner { IsTrue inner → IsInner self.old.extent cell }
+        ensures extent { self.new.extent ≡ self.old.extent }
+        ensures look { OnOk result (IsWalk self.old.extent flood.now self.old self.new cell direction level rank) }
+    {
+        match self.fresh(flood, cell, inner, direction, level) {
+            Some(next) => {
+                self.settle(next, code(direction.opposite()), rank)?;
+                Ok(())
+            }
+            None => Ok(()),
+        }
+    }
+
+    /// The place of the neighbour in a direction, if it has no way and is at the level.
+    fn fresh(
+        &self,
+        flood: &Flood,
+        cell: Cell,
+        inner: bool,
+        direction: Direction,
+        level: i16,
+    ) -> Option<usize>
+        requires same { self.now.extent ≡ flood.now.extent }
+        requires inside { IsCellOf self.now.extent cell }
+        requires inner { IsTrue inner → IsInner self.now.extent cell }
+        ensures below { IfSome result (λ place. place < self.now.extent.rows * self.now.extent.cols) }
+        ensures fresh { MatchOption result ((n : Cell) → IsFlatAt self.now.extent flood.now self.now cell direction level n → ⊥) (IsFlatPlace self.now.extent flood.now self.now cell direction level) }
+    {
+        match beside(self.shape, cell, inner, direction) {
+            Some(next) => {
+                if self.way[next] == REACHED {
+                    if flood.level_at(next) == level {
+                        Some(next)
+                    } else {
+                        None
+                    }
+                } else {
+                    None
+                }
+            }
+            None => None,
+        }
+    }
+
+    /// The code of the cell at a place.
+    fn way_at(&self, place: usize) -> u8
+        requires { place < self.now.extent.rows * self.now.extent.cols }
+        ensures { result ≡ slice_index_or self.now.way place 0 }
+    {
+        self.way[place]
+    }
+
+    /// The rank of the cell at a place.
+    fn rank_at(&self, place: usize) -> u32
+        requires { place < self.now.extent.rows * self.now.extent.cols }
+        ensures { result ≡ slice_index_or self.now.rnk place 0 }
+    {
+        self.rnk[place]
+    }
+
+    /// Settles the cell at a place, and puts it at the end of the trail.
+    fn settle(&mut self, place: usize, code: u8, rank: u32) -> Result<(), OutOfMemory>
+        requires below { place < self.old.extent.rows * self.old.extent.cols }
+        requires flat { slice_index_or self.old.way place 0 ≡ REACHED }
+        requires coded { code ≢ REACHED }
+        ensures extent { self.new.extent ≡ self.old.extent }
+        ensures settles { OnOk result ((n : Cell) → IsCellOf self.old.extent n → place ≡ index_of self.old.extent n → Settles self.old.extent self.old self.new n code rank) }
+    {
+        self.way[place] = code;
+        self.rnk[place] = rank;
+        match self.trail.push(place as u32) {
+            Ok(()) => Ok(()),
+            Err(_) => Err(OutOfMemory),
+        }
+    }
+
+    /// Takes the next cell of the trail.
+    fn next(&mut self) -> Option<Cell>
+        ensures extent { self.new.extent ≡ self.old.extent }
+        ensures next { MatchOption result (IsDonePlaces self.old self.new) (IsNextPlace self.old self.new) }
+    {
+        if self.head < self.trail.len() {
+            let place = self.trail[self.head];
+            self.head += 1;
+            Some(self.shape.cell(place as usize))
+        } else {
+            self.trail.clear();
+            self.head = 0;
+            None
+        }
+    }
+}
+
+/// The first rank of each cell, by its code.
+fn first_ranks(alloc: Global, way: &[u8]) -> Result<Vec<u32>, OutOfMemory>
+    ensures counted { IfOk result (λ ranks. length ranks.items ≡ length way.now) }
+    ensures ranks { IfOk result (λ ranks. AreFirstRanks way.now ranks.items) }
+{
+    let mut ranks = room_for_ranks(alloc, way.len())?;
+    for place in 0..way.len() {
+        let Ok(()) = ranks.push(first_rank(way[place])) else {
+            return Err(OutOfMemory);
+        };
+    }
+    Ok(ranks)
+}
+
+/// The first rank of a cell with this code.
+fn first_rank(way: u8) -> u32
+    ensures { result ≡ first_rank way }
+{
+    if way == VOID { NO_RANK } else { 0 }
+}

@@ -1,0 +1,55 @@
+//! What the definitions of this crate mean together.
+//!
+//! A law is a function with an empty body: its contract is the law.
+
+ghost use Rattle.drain_surface.specs.Laws.{KeptByReaching, AllAreReached, FloodIsDone, FloodIsFilled, KeptBySettling, AllAreSettled, FlatsKeepRules, SurfaceKeepsRules, TakenOfALevel, FlatsArePresent};
+
+/// What holds of a flood still holds after one more cell is reached.
+pub fn kept_by_reaching()
+    ensures { KeptByReaching }
+{}
+
+/// If the trail is empty and no cell waits, every data cell is reached.
+pub fn all_are_reached()
+    ensures { AllAreReached }
+{}
+
+/// Then the grid is flooded.
+pub fn flood_is_done()
+    ensures { FloodIsDone }
+{}
+
+/// The heights of a flooded grid are the filled surface.
+pub fn flood_is_filled()
+    ensures { FloodIsFilled }
+{}
+
+/// What holds while flats get their ways still holds after one more cell gets its way.
+pub fn kept_by_settling()
+    ensures { KeptBySettling }
+{}
+
+/// If every cell was looked at and the trail is empty, every data cell of a surface that drains has its way.
+pub fn all_are_settled()
+    ensures { AllAreSettled }
+{}
+
+/// Such ways keep rules 3 and 10 to 12 at every cell.
+pub fn flats_keep_rules()
+    ensures { FlatsKeepRules }
+{}
+
+/// A filled surface keeps rules 4, 5 and 9 at every cell.
+pub fn surface_keeps_rules()
+    ensures { SurfaceKeepsRules }
+{}
+
+/// One more cell that waits at the flood's level may be taken, whatever else is on the trail.
+pub fn taken_of_a_level()
+    ensures { TakenOfALevel }
+{}
+
+/// Heights, codes and ranks are the default no-data numbers exactly at voids.
+pub fn flats_are_present()
+    ensures { FlatsArePresent }
+{}

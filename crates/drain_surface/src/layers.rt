@@ -1,0 +1,48 @@
+//! Lists of numbers, one for each cell: filled with one value, or empty with room for each.
+
+ghost use Rattle.std.specs.Prelude.{◌≡◌, [], All, IfOk, length};
+
+use drain_grid::OutOfMemory;
+use std::alloc::Global;
+
+/// The same height, n times.
+pub(crate) fn heights(alloc: Global, height: i16, len: usize) -> Result<Vec<i16>, OutOfMemory>
+    ensures counted { IfOk result (λ heights. length heights.items ≡ len) }
+    ensures same { IfOk result (λ heights. All (λ x. x ≡ height) heights.items) }
+{
+    match vec![in alloc; height; len] {
+        Ok(heights) => Ok(heights),
+        Err(_) => Err(OutOfMemory),
+    }
+}
+
+/// The same mark, n times.
+pub(crate) fn marks(alloc: Global, mark: u8, len: usize) -> Result<Vec<u8>, OutOfMemory>
+    ensures counted { IfOk result (λ marks. length marks.items ≡ len) }
+    ensures same { IfOk result (λ marks. All (λ x. x ≡ mark) marks.items) }
+{
+    match vec![in alloc; mark; len] {
+        Ok(marks) => Ok(marks),
+        Err(_) => Err(OutOfMemory),
+    }
+}
+
+/// No code, with room for one per cell.
+pub(crate) fn room_for_codes(alloc: Global, cells: usize) -> Result<Vec<u8>, OutOfMemory>
+    ensures { IfOk result (λ codes. codes.items ≡ []) }
+{
+    match Vec::with_capacity(alloc, cells) {
+        Ok(codes) => Ok(codes),
+        Err(_) => Err(OutOfMemory),
+    }
+}
+
+/// No rank, with room for one per cell.
+pub(crate) fn room_for_ranks(alloc: Global, cells: usize) -> Result<Vec<u32>, OutOfMemory>
+    ensures { IfOk result (λ ranks. ranks.items ≡ []) }
+{
+    match Vec::with_capacity(alloc, cells) {
+        Ok(ranks) => Ok(ranks),
+        Err(_) => Err(OutOfMemory),
+    }
+}
