@@ -5,7 +5,7 @@ use crate::printed::{holds, holds_at, same_bytes, same_number};
 use drain_cli::progress::gauge::Gauge;
 use drain_cli::progress::pace::Pace;
 use drain_cli::progress::row_ends::{RowEnds, raster_row_ends};
-use drain_cli::progress::telling::{Counted, row_line};
+use drain_cli::progress::telling::{Counted, part_line, row_line};
 use drain_cli::progress::watched::Watched;
 use drain_cli::progress::watched_rows::judged_rows;
 use drain_device::{BodyFault, ByteSink, ByteSource, SliceSource, VecSink};
@@ -36,35 +36,10 @@ fn rows_end_behind_what_is_skipped(rt: HostRuntime) -> Result<(), Fail> {
     Ok(())
 }
 
-/// What is counted, the row or cell, how many there are, and the line.
-static LINES: [(Counted, u32, u32, &str); 8] = [
+/// What is counted, the row, the number of rows, and the line.
+static LINES: [(Counted, u32, u32, &str); 3] = [
     (Counted::Judged, 1200, 3601, "drain: row 1200 of 3601"),
     (Counted::Read, 1, 2, "drain: reading row 1 of 2"),
-    (
-        Counted::Made(Part::Flood),
-        65536,
-        829497601,
-        "drain: flood: cell 65536 of 829497601",
-    ),
-    (
-        Counted::Made(Part::Directions),
-        1,
-        4,
-        "drain: directions: cell 1 of 4",
-    ),
-    (
-        Counted::Made(Part::Counts),
-        2,
-        4,
-        "drain: counts: cell 2 of 4",
-    ),
-    (
-        Counted::Made(Part::Labels),
-        3,
-        4,
-        "drain: labels: cell 3 of 4",
-    ),
-    (Counted::Made(Part::Test), 0, 4, "drain: test: cell 0 of 4"),
     (Counted::Written, 0, 28801, "drain: writing row 0 of 28801"),
 ];
 
@@ -72,6 +47,22 @@ static LINES: [(Counted, u32, u32, &str); 8] = [
 fn lines_tell_which_rows_are_counted(rt: HostRuntime) {
     for &(counted, row, rows, wanted) in &LINES {
         let line = row_line(counted, row, rows);
+        same_bytes(&rt, wanted, line.as_str().as_bytes(), wanted.as_bytes());
+    }
+}
+
+/// A part of making products, and the line when it begins.
+static PARTS: [(Part, &str); 4] = [
+    (Part::Surface, "drain: making, 1 of 4: filled elevation"),
+    (Part::Directions, "drain: making, 2 of 4: directions"),
+    (Part::Labels, "drain: making, 3 of 4: basin labels"),
+    (Part::Counts, "drain: making, 4 of 4: accumulation"),
+];
+
+#[test]
+fn lines_name_the_part_that_is_made(rt: HostRuntime) {
+    for &(part, wanted) in &PARTS {
+        let line = part_line(part);
         same_bytes(&rt, wanted, line.as_str().as_bytes(), wanted.as_bytes());
     }
 }

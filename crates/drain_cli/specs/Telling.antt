@@ -1,16 +1,19 @@
 -- The text of progress lines.
 use Rattle.std.specs.Prelude.{ℕ, List, codes}
 use Rattle.drain_cli.specs.declared.progress.telling.Counted.{Counted}
-use Rattle.drain_cli.specs.declared.progress.telling.Counted.TheVariants.{Judged, Read, Made, Written}
-use Rattle.drain_maker.specs.declared.follow.Part.TheVariants.{Flood, Directions, Counts, Labels, Test}
+use Rattle.drain_cli.specs.declared.progress.telling.Counted.TheVariants.{Judged, Read, Written}
+use Rattle.drain_maker.specs.declared.follow.Part.{Part}
+use Rattle.drain_maker.specs.declared.follow.Part.TheVariants.{Surface, Directions, Labels, Counts}
 
--- the text before the number of rows or cells
+-- the text before the number of rows
 abbrev pub before_row : Counted → List ℕ
 before_row Judged = codes "drain: row "
 before_row Read = codes "drain: reading row "
-before_row (Made Flood) = codes "drain: flood: cell "
-before_row (Made Directions) = codes "drain: directions: cell "
-before_row (Made Counts) = codes "drain: counts: cell "
-before_row (Made Labels) = codes "drain: labels: cell "
-before_row (Made Test) = codes "drain: test: cell "
 before_row Written = codes "drain: writing row "
+
+-- the line when a part of making products begins
+abbrev pub part_text : Part → List ℕ
+part_text Surface = codes "drain: making, 1 of 4: filled elevation"
+part_text Directions = codes "drain: making, 2 of 4: directions"
+part_text Labels = codes "drain: making, 3 of 4: basin labels"
+part_text Counts = codes "drain: making, 4 of 4: accumulation"

@@ -37,18 +37,18 @@ AreRasters ps = (p : Held) → ArePixels (raster_in ps p)
 abbrev pub AreOnData : Heights → List SinkLine → Type 0
 AreOnData e sinks = (line : ℕ) → ¬ IsOffData (grid_of e sinks) sinks line
 
--- products and maker faults come only if each listed cell has data, else the first line whose cell has none is reported
+-- products come only if each listed cell has data, else the first line whose cell has none is reported; a fault of the
+-- maker never comes
 abbrev pub IsSinkAnswer : Heights → List SinkLine → Result ProductSet MakeRefusal → Type 0
 IsSinkAnswer e sinks (Ok ps) = AreOnData e sinks
-IsSinkAnswer e sinks (Err MakerFault) = AreOnData e sinks
+IsSinkAnswer e sinks (Err MakerFault) = ⊥
 IsSinkAnswer e sinks (Err OutOfMemory) = Unit {0}
 IsSinkAnswer e sinks (Err (SinkNotData line)) = IsFirstOffData (grid_of e sinks) sinks line
 
--- a refusal of products that were built: they break a rule, or memory ran out
-abbrev pub IsTestRefusal : MakeRefusal → Type 0
-IsTestRefusal MakerFault = Unit {0}
-IsTestRefusal OutOfMemory = Unit {0}
-IsTestRefusal (SinkNotData line) = ⊥
+-- where each listed cell has data, there are products, unless memory runs out
+abbrev pub Succeeds : Heights → List SinkLine → Result ProductSet MakeRefusal → Type 0
+Succeeds e sinks (Ok ps) = Unit {0}
+Succeeds e sinks (Err refusal) = AreOnData e sinks → refusal ≡ OutOfMemory
 
 -- products that were made for the elevations of a mosaic and these sinks
 pub record AreMade (t : Tiling) (e : Heights) (sinks : List SinkLine) (ps : ProductSet) : Type 0 where

@@ -3,9 +3,8 @@
 //! A law is a function whose body only calls other laws: its contract is the law, and a caller gets the law by calling
 //! it.
 
-ghost use Rattle.std.specs.Prelude.{◌≡◌};
-ghost use Rattle.drain_maker.specs.declared.level_queue.TheConstants.{MAX_CELLS};
 ghost use Rattle.drain_maker.specs.Accepted.{MadeIsAccepted};
+ghost use Rattle.drain_maker.specs.RoutedProducts.{RoutesEnd, RoutesKeepRules};
 
 use drain_header::laws::text_reads_back;
 use drain_raster::laws::{bytes_read_back, numbers_are_pixels};
@@ -21,7 +20,13 @@ pub fn made_is_accepted()
     equal_grids_have_one_verdict();
 }
 
-/// A queue of levels holds at most 829,497,601 items: the cells of the greatest mosaic, 28,801 rows of as many.
-pub fn constants()
-    ensures max_cells { MAX_CELLS ≡ 829497601 }
+/// The flows of the ways on a filled surface are those of the grid, and every run ends.
+pub fn routes_end()
+    ensures { RoutesEnd }
+{}
+
+/// With right counts and labels the products are correct, every run is sound, and every rule of a check holds at every
+/// cell.
+pub fn routes_keep_rules()
+    ensures { RoutesKeepRules }
 {}

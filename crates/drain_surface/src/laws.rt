@@ -2,6 +2,8 @@
 //!
 //! A law is a function with an empty body: its contract is the law.
 
+ghost use Rattle.std.specs.Prelude.{◌≡◌};
+ghost use Rattle.drain_surface.specs.declared.level_queue.TheConstants.{MAX_CELLS};
 ghost use Rattle.drain_surface.specs.Laws.{KeptByReaching, AllAreReached, FloodIsDone, FloodIsFilled, KeptBySettling, AllAreSettled, FlatsKeepRules, SurfaceKeepsRules, TakenOfALevel, FlatsArePresent};
 
 /// What holds of a flood still holds after one more cell is reached.
@@ -52,4 +54,9 @@ pub fn taken_of_a_level()
 /// Heights, codes and ranks are the default no-data numbers exactly at voids.
 pub fn flats_are_present()
     ensures { FlatsArePresent }
+{}
+
+/// A queue of levels holds at most 829,497,601 items: the cells of the greatest mosaic, 28,801 rows of as many.
+pub fn constants()
+    ensures max_cells { MAX_CELLS ≡ 829497601 }
 {}

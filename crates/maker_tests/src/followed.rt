@@ -1,4 +1,4 @@
-//! Who follows how products are made sees the parts in their order, with the cells that are done.
+//! Who follows how products are made sees the parts in their order.
 
 use crate::made::{elevation, one_tile};
 use drain_grid::Sinks;
@@ -8,63 +8,45 @@ use std::alloc::Global;
 use std::process::Abort;
 use std::test::Fail;
 
-/// Samples along an edge: more cells than are done between two reports, and fewer than twice as many.
-const SIDE: u32 = 300;
-
-/// A part, the cells that are done, and all.
-type Report = (Part, usize, usize);
-
-/// The first reports, and how many came.
+/// The first parts that began, and how many did.
 #[derive(Drop)]
-struct Reports {
-    first: [Option<Report>; 5],
+struct Begun {
+    first: [Option<Part>; 5],
     number: usize,
 }
 
-impl Follow for Reports {
-    fn reach(&mut self, part: Part, cells: usize, all: usize) {
+impl Follow for Begun {
+    fn begin(&mut self, part: Part) {
         if let Some(place) = self.first.get_mut(self.number) {
-            *place = Some((part, cells, all));
+            *place = Some(part);
         }
         self.number = self.number.saturating_add(1);
     }
 }
 
-/// The reports of making products of a tile whose samples are 0, but for a pit of 50 by 50 cells in its middle.
-fn reported(alloc: Global) -> Result<Reports, Fail> {
-    let layout = one_tile(alloc, SIDE)?;
-    let mut samples = Vec::new(alloc);
-    for row in 0..SIDE {
-        for col in 0..SIDE {
-            let is_pit = row / 50 == 3 && col / 50 == 3;
-            samples.push(if is_pit { -7 } else { 0 })?;
-        }
-    }
+/// The parts that begin when products of a tile of side 3 with a pit are made.
+fn begun_with_a_pit(alloc: Global) -> Result<Begun, Fail> {
+    let layout = one_tile(alloc, 3)?;
+    let samples = Vec::from_slice(alloc, &[5, 5, 5, 5, 1, 5, 5, 5, 5])?;
     let elevation = elevation(&layout, samples)?;
-    let mut reports = Reports {
+    let mut begun = Begun {
         first: [None; 5],
         number: 0,
     };
-    make_followed(
-        alloc,
-        &layout,
-        &elevation,
-        &Sinks::none(alloc),
-        &mut reports,
-    )?;
-    Ok(reports)
+    make_followed(alloc, &layout, &elevation, &Sinks::none(alloc), &mut begun)?;
+    Ok(begun)
 }
 
 #[test]
-fn parts_are_reported_in_their_order(rt: HostRuntime) -> Result<(), Fail> {
-    let reports = reported(rt.alloc())?;
+fn parts_begin_in_their_order(rt: HostRuntime) -> Result<(), Fail> {
+    let begun = begun_with_a_pit(rt.alloc())?;
     let wanted = [
-        Some((Part::Flood, 65536, 90000)),
-        Some((Part::Directions, 65700, 90000)),
-        Some((Part::Counts, 65536, 90000)),
-        Some((Part::Labels, 65536, 90000)),
-        Some((Part::Test, 0, 90000)),
+        Some(Part::Surface),
+        Some(Part::Directions),
+        Some(Part::Labels),
+        Some(Part::Counts),
+        None,
     ];
-    assert_eq!(rt; (reports.first, reports.number), (wanted, 5));
+    assert_eq!(rt; (begun.first, begun.number), (wanted, 4));
     Ok(())
 }

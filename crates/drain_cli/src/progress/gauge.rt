@@ -6,7 +6,7 @@
 use crate::print::print_line;
 use crate::progress::pace::Pace;
 use crate::progress::row_ends::RowEnds;
-use crate::progress::telling::{Counted, row_line};
+use crate::progress::telling::{Counted, part_line, row_line};
 use crate::status::Status;
 use drain_answer::line::{Line, words};
 use drain_device::{Writer, write_nothing};
@@ -69,7 +69,7 @@ impl<'a> Gauge<'a> {
         })
     }
 
-    /// Reports this number of rows or cells, if a line is due. The last row to be checked is always reported; if the last row
+    /// Reports this number of rows, if a line is due. The last row to be checked is always reported; if the last row
     /// was read to make products, they are made now.
     fn reach(&self, counted: Counted, row: u32, rows: u32) {
         let Some(now) = self.now() else {
@@ -94,6 +94,18 @@ impl<'a> Gauge<'a> {
         self.pace.set(pace);
     }
 
+    /// Reports that a part of making products begins, if a line is due.
+    fn begin(&self, part: Part) {
+        let Some(now) = self.now() else {
+            return;
+        };
+        let mut pace = self.pace.get();
+        if pace.is_due(now) {
+            self.tell(&part_line(part));
+        }
+        self.pace.set(pace);
+    }
+
     /// How many milliseconds the run has taken so far.
     fn now(&self) -> Option<u64> {
         let passed = self.start?.elapsed(self.rt).ok()?;
@@ -105,15 +117,13 @@ impl<'a> Gauge<'a> {
     }
 }
 
-/// Reports how far products are made.
+/// Reports which part of making products begins.
 #[derive(Clone, Copy)]
 pub struct MakeWatch<'a>(pub &'a Gauge<'a>);
 
 impl Follow for MakeWatch<'_> {
-    fn reach(&mut self, part: Part, cells: usize, all: usize) {
-        let cells = u32::try_from(cells).unwrap_or(u32::MAX);
-        let all = u32::try_from(all).unwrap_or(u32::MAX);
-        self.0.reach(Counted::Made(part), cells, all);
+    fn begin(&mut self, part: Part) {
+        self.0.begin(part);
     }
 }
 

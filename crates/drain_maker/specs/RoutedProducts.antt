@@ -1,0 +1,56 @@
+-- Products of routes, counts and labels: correct, and right by every rule.
+use Rattle.std.specs.Prelude.{◌*◌, ◌≤◌, ℕ, ℤ, pos, List, map, slice_index_or}
+use Rattle.drain_grid.specs.declared.sink_line.SinkLine.{SinkLine}
+use Rattle.drain_grid.specs.declared.cell.Cell.{Cell}
+use Rattle.drain_grid.specs.Correct.{IsCorrect, RunsAreSound}
+use Rattle.drain_grid.specs.Extent.{index_of}
+use Rattle.drain_grid.specs.Grid.{Grid, Products}
+use Rattle.drain_grid.specs.GridRules.{RulesHold}
+use Rattle.drain_grid.specs.PatchRules.{check_rules}
+use Rattle.drain_grid.specs.Product.{default_numbers}
+use Rattle.drain_grid.specs.Rasters.{Heights}
+use Rattle.drain_grid.specs.Rule.{IsAnyRule}
+use Rattle.drain_grid.specs.Size.{Extent}
+use Rattle.drain_grid.specs.WholeGrid.{grid_of}
+use Rattle.drain_runs.specs.Flows.{AreFlowsOf}
+use Rattle.drain_surface.specs.declared.level_queue.TheConstants.{MAX_CELLS}
+use Rattle.drain_surface.specs.Flats.{Laying, AreWaysOnFlats}
+use Rattle.drain_surface.specs.Floods.{Flooding, IsFlooded, con_at}
+use Rattle.drain_counts.specs.CodeFlows.{bytes_flows}
+use Rattle.drain_counts.specs.OfFlows.{AllRunsEnd}
+use Rattle.drain_maker.specs.Counting.{AreCountsAndLabels}
+
+-- correct products, sound runs, and every rule of a check at every cell
+pub record AreRight (e : Heights) (sinks : List SinkLine) (ps : Products) : Type 0 where
+  pub rules : RulesHold (check_rules default_numbers) IsAnyRule (grid_of e sinks) ps
+  pub correct : IsCorrect (grid_of e sinks) ps default_numbers
+  pub runs : RunsAreSound (grid_of e sinks) ps
+
+-- the number of a cell in a list of whole numbers
+abbrev pub listed : Extent → List ℕ → Cell → ℤ
+listed e numbers c = slice_index_or (map (λ n. pos n) numbers) (index_of e c) (pos 0)
+
+-- products that show the heights of a flood, the codes and ranks of its ways, and counts and labels; without spill parents
+abbrev pub shown : Extent → Flooding → Laying → List ℕ → List ℕ → Products
+shown e f w counts labels = record {
+  con = con_at e f;
+  dir = listed e w.way;
+  acc = listed e counts;
+  bas = listed e labels;
+  spl = λ c. pos 0;
+  rnk = listed e w.rnk;
+}
+
+-- the flows of the ways are those of the grid, and every run ends
+abbrev pub RoutesEnd : Type 0
+RoutesEnd =
+    (g : Grid) (f : Flooding) (w : Laying) (counts labels : List ℕ) → g.extent.rows * g.extent.cols ≤ MAX_CELLS → IsFlooded g f → AreWaysOnFlats g f w →
+    AreFlowsOf g (shown g.extent f w counts labels) g.extent (bytes_flows w.way) × AllRunsEnd g (shown g.extent f w counts labels)
+
+-- with right counts and labels the products are correct, every run is sound, and every rule of a check holds at every cell
+abbrev pub RoutesKeepRules : Type 0
+RoutesKeepRules =
+    (g : Grid) (f : Flooding) (w : Laying) (counts labels : List ℕ) → g.extent.rows * g.extent.cols ≤ MAX_CELLS → IsFlooded g f → AreWaysOnFlats g f w →
+    AreCountsAndLabels g (shown g.extent f w counts labels) g.extent counts labels →
+    IsCorrect g (shown g.extent f w counts labels) default_numbers × RunsAreSound g (shown g.extent f w counts labels)
+    × RulesHold (check_rules default_numbers) IsAnyRule g (shown g.extent f w counts labels)

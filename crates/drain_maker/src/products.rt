@@ -1,0 +1,48 @@
+//! Products of elevations that are right by proof: routes, then what follows from them.
+
+ghost use Rattle.std.specs.Prelude.{◌≡◌, IfOk};
+ghost use Rattle.drain_grid.specs.Product.{default_numbers};
+ghost use Rattle.drain_grid.specs.WholeGrid.{products_of, nodata_of};
+ghost use Rattle.drain_maker.specs.Made.{AreRasters, AreSpelled};
+ghost use Rattle.drain_maker.specs.RoutedProducts.{AreRight};
+
+use crate::counts_and_labels::count_and_label;
+use crate::follow::Follow;
+use crate::laws::routes_keep_rules;
+use crate::rasters::{raster_of_codes, raster_of_counts, raster_of_heights};
+use crate::route::route;
+use drain_counts::flows_of_codes;
+use drain_grid::{Elevation, OutOfMemory, Product, ProductSet, Sinks};
+use std::alloc::Global;
+
+/// The products of a grid's elevations with these sinks, with the default no-data numbers. It isn't inlined, so that a
+/// profile shows it.
+#[inline(never)]
+#[tactic(auto, using(crate::proofs::EachProduct::each_spelled))]
+pub(crate) fn build(
+    alloc: Global,
+    elevation: &Elevation,
+    sinks: &Sinks,
+    follow: &mut impl Follow,
+) -> Result<ProductSet, OutOfMemory>
+    ensures shape { IfOk result (λ products. products.con.extent ≡ elevation.now.extent) }
+    ensures nodata { IfOk result (λ products. nodata_of products ≡ default_numbers) }
+    ensures right { IfOk result (λ products. AreRight elevation.now sinks.now (products_of products)) }
+    ensures written { IfOk result AreSpelled }
+    ensures rasters { IfOk result AreRasters }
+{
+    // The law that such products keep every rule.
+    routes_keep_rules();
+    let shape = elevation.shape();
+    let _cells = shape.cells();
+    let routes = route(alloc, elevation, sinks, follow)?;
+    let flows = flows_of_codes(alloc, &routes.dir)?;
+    let both = count_and_label(alloc, &flows, shape, follow)?;
+    Ok(ProductSet {
+        con: raster_of_heights(shape, Product::Con, routes.con),
+        dir: raster_of_codes(shape, Product::Dir, routes.dir),
+        acc: raster_of_counts(shape, Product::Acc, both.counts),
+        bas: raster_of_counts(shape, Product::Bas, both.labels),
+        rnk: raster_of_counts(shape, Product::Rnk, routes.rnk),
+    })
+}
