@@ -1,6 +1,6 @@
 #!/usr/bin/env bash
 # The merge gate: what documents name is there; every proof from nothing and the tests (rt ci); the edits that name their function;
-# then the program and its own tests, the documents' examples, a first run, releases, the companion, tests with memory refused, and wrong makers.
+# then the program and its own tests, the documents' examples, a first run, releases, the companion, and tests with memory refused.
 # Each step from rt ci on ends with a line of its seconds: on the clock, and of processors.
 # Usage: tools/gate.sh
 set -euo pipefail
@@ -47,4 +47,3 @@ if [ -f build/drain.o ] && command -v gcc >/dev/null; then
     time tests/program/run.sh build/drain-static build/benches
 fi
 time tests/refused_memory.sh byte_tests cell_tests rules_tests page_tests verdict_tests maker_tests cli_tests
-time tests/wrong_makers.sh

@@ -1,13 +1,9 @@
 mod Acceptance
 mod HeaderBounds
 mod Placing
-pub mod ChainLemmas
 pub mod EachProduct
 pub mod FileLemmas
-pub mod PairLemmas
-pub mod PopLemmas
-pub mod PushLemmas
-pub mod QueueLemmas
-pub mod RisingPairs
+pub mod RoutedProducts
+pub mod ShownRasters
 pub mod SinkGround
 pub mod Spelling

@@ -1,5 +1,5 @@
 -- What elevations in memory say of listed sinks.
-use Rattle.std.proofs.Common.{◌≡◌, is_some, ℕ, true, false, List, length, Option, Err, inl, inr, arith, refl, sym, ◌∙◌}
+use Rattle.std.proofs.Common.{◌≡◌, is_some, ℕ, true, false, List, length, Option, inl, inr, arith, refl, sym, ◌∙◌}
 use Rattle.std.proofs.lemmas.Bool.{cases_lt, lt-ltb, le-ltb}
 use Rattle.drain_grid.specs.declared.cell.Cell.{Cell}
 use Rattle.drain_grid.specs.declared.sink_line.SinkLine.{SinkLine}
@@ -8,9 +8,6 @@ use Rattle.drain_grid.specs.OffData.{FoundOffDataIsRight, IsLeastOff, IsOffAnswe
 use Rattle.drain_grid.specs.Rasters.{Heights}
 use Rattle.drain_grid.specs.Whole.{elevation_at}
 use Rattle.drain_grid.specs.WholeGrid.{grid_of}
-use Rattle.drain_maker.specs.Made.{AreOnData, IsSinkAnswer, IsTestRefusal}
-use Rattle.drain_maker.specs.declared.maker.MakeRefusal.{MakeRefusal}
-use Rattle.drain_maker.specs.declared.maker.MakeRefusal.TheVariants.{MakerFault, OutOfMemory, SinkNotData}
 
 -- the test of a cell is whether it has data
 told : (e : Heights) (sinks : List SinkLine) (c : Cell) → (has_data e c ≡ true → HasData (grid_of e sinks) c) × (has_data e c ≡ false → ¬ HasData (grid_of e sinks) c)
@@ -34,9 +31,3 @@ told e sinks c = elim (cases_lt c.row e.extent.rows) [
 -- so the least line that was found is the grid's
 pub found_there : FoundOffDataIsRight → (e : Heights) (sinks : List SinkLine) (found : Option ℕ) → IsLeastOff (has_data e) sinks (length sinks) found → IsOffAnswer (grid_of e sinks) sinks found
 found_there law e sinks found least = law (grid_of e sinks) sinks (has_data e) found (λ k s at. told e sinks s.cell) least
-
--- a refusal by the test comes only where each listed cell has data
-pub refused_on_data : (e : Heights) (sinks : List SinkLine) (refusal : MakeRefusal) → IsTestRefusal refusal → AreOnData e sinks → IsSinkAnswer e sinks (Err refusal)
-refused_on_data e sinks MakerFault of_test on_data = on_data
-refused_on_data e sinks OutOfMemory of_test on_data = tt
-refused_on_data e sinks (SinkNotData line) of_test on_data = absurd of_test

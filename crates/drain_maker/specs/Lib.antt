@@ -2,5 +2,6 @@ pub mod Headers
 pub mod ProductFiles
 pub mod Made
 pub mod Accepted
-pub mod Chains
-pub mod Waiting
+pub mod Counting
+pub mod RoutedProducts
+pub mod Routes

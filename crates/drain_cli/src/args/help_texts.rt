@@ -81,17 +81,15 @@ bas and rnk. drain check --help says what each raster is.
 
 Depressions are filled by a flood inwards from edges, voids and listed sinks (Priority-Flood). Off flats the
 direction is the first of the steepest descents in the order E, SE, S, SW, W, NW, N, NE; on flats it is the
-shortest way out. Labels number the outlets from 1, row by row.
+shortest way to a lower cell or an outlet. Labels number the outlets from 1, row by row.
 
-Every rule of drain check is tested at every cell before anything is written, and the files are created
-only when no refusal is possible any more. Existing files are replaced. Prints one line.";
+The rasters are proved to be correct, and the files are created only when no refusal is possible any more. Existing files are replaced. Prints one line.";
 
 pub const MAKE_AFTER: &str = "Lines and exit statuses:
   0  made rows=R cols=C
   2  refused BadSide, refused BadName I, refused NoTiles, refused RepeatedTile TILE, refused BoxTooLarge,
      refused BadTileLength TILE, refused SeamMismatch row=R col=C, refused BadSinkLine LINE,
-     refused SinkNotData LINE, or refused MakerFault, which means a bug of this program: what it made
-     failed its own test, and nothing was written
+     refused SinkNotData LINE; nothing was written
   3  failed Open PATH, failed ReadFailed, failed WriteFailed, failed OutOfMemory, or standard output
      couldn't be written; files that were there before stay as they were
 
