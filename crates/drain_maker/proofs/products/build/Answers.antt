@@ -5,7 +5,7 @@ use Rattle.drain_maker.proofs.ShownRasters.{ended, right}
 use Rattle.drain_maker.proofs.products.build.Goals as goal
 
 pub count_and_label-requires-clause-ends : goal.count_and_label-requires-clause-ends
-count_and_label-requires-clause-ends c =
+count_and_label-requires-clause-ends g c =
     let few : c.shape-shape.result.rows * c.shape-shape.result.cols ≤ MAX_CELLS =
     (let product = c.cells-cells.ensures.product in let most = c.cells-cells.ensures.few in omega (arith, product, most)) in
     ended c.args.elevation.now c.args.sinks.now c.shape-shape.result c.shape-shape.ensures c.in_ok-routes.routes.con.items c.in_ok-routes.routes.rnk.items
@@ -13,7 +13,7 @@ count_and_label-requires-clause-ends c =
     (c.deref-2.ensures.value ∙ (c.in_ok-flows.ensures ∙ ap bytes_flows c.deref.ensures.value))
 
 pub returns-clause-right : goal.returns-clause-right
-returns-clause-right c =
+returns-clause-right g c =
     let few : c.shape-shape.result.rows * c.shape-shape.result.cols ≤ MAX_CELLS =
     (let product = c.cells-cells.ensures.product in let most = c.cells-cells.ensures.few in omega (arith, product, most)) in
     right c.args.elevation.now c.args.sinks.now c.shape-shape.result c.shape-shape.ensures c.in_ok-routes.routes.con.items c.in_ok-routes.routes.rnk.items

@@ -3,7 +3,7 @@ use Rattle.drain_grid.specs.WholeGrid.{grid_of}
 use Rattle.drain_maker.proofs.route.route.Goals as goal
 
 pub returns-clause-routes : goal.returns-clause-routes
-returns-clause-routes c = record {
+returns-clause-routes g c = record {
   flood = c.in_ok-flood.flood;
   laying = c.in_ok-flats.flats;
   flooded = c.in_ok-flood.ensures.flooded;
