@@ -58,9 +58,7 @@ impl NumberedCells {
     {
         let count = self.cells.len();
         run_on(&mut self.runs, count, line)?;
-        let Ok(_) = self.cells.push(cell) else {
-            return Err(OutOfMemory);
-        };
+        self.cells.push(cell)?;
         Ok(())
     }
 
@@ -103,9 +101,7 @@ fn run_on(runs: &mut Vec<LineRun>, count: usize, line: u64) -> Result<(), OutOfM
     if follows(runs, count, line) {
         return Ok(());
     }
-    let Ok(_) = runs.push(LineRun { first: count, line }) else {
-        return Err(OutOfMemory);
-    };
+    runs.push(LineRun { first: count, line })?;
     Ok(())
 }
 

@@ -19,6 +19,8 @@ use Rattle.drain_mosaic.specs.declared.layout.LayoutFault.{LayoutFault}
 use Rattle.drain_mosaic.specs.Tiling as tiling
 use Rattle.drain_mosaic.specs.LayoutFaults.{HasLayoutFault}
 use Rattle.drain_mosaic.specs.Mosaic.{HasTwoValues}
+use Rattle.drain_rows.specs.declared.walk_stop.WalkStop.{WalkStop}
+use Rattle.drain_rows.specs.declared.walk_stop.WalkStop.TheVariants as walk_stop
 use Rattle.drain_verdict.specs.declared.refusal.Refusal.{Refusal}
 use Rattle.drain_verdict.specs.declared.refusal.Refusal.TheVariants.{BadSide, BadName, NoTiles, RepeatedTile, BoxTooLarge, BadHeader, WrongShape, Misplaced, BadTileLength, RasterShort, SeamMismatch, BadSinkLine, SinkNotData, OutOfMemory, ReadFailed}
 use Rattle.drain_verdict.specs.Inputs.{Inputs}
@@ -112,3 +114,8 @@ refusal_order i ReadFailed = (11, 0)
 -- no refusal of a kind before this one stands
 abbrev pub NoneStandsBefore : Inputs → ℕ → Type 0
 NoneStandsBefore i kind = (refusal : Refusal) → (refusal_order i refusal).0 < kind → ¬ Stands i refusal
+
+-- what a check is refused for where its walk over rows stopped
+abbrev pub refusal_of : WalkStop Refusal → Refusal
+refusal_of (walk_stop.Source refusal) = refusal
+refusal_of walk_stop.OutOfMemory = OutOfMemory

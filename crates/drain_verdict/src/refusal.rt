@@ -3,6 +3,7 @@
 use drain_grid::{Cell, Product};
 use drain_header::HeaderFault;
 use drain_hgt::TileName;
+use drain_rows::WalkStop;
 use thiserror::Error;
 
 /// Why there is no verdict, in the order in which refusals are told. Those of one product's header come before those of the next.
@@ -53,4 +54,18 @@ pub enum Refusal {
     /// A source failed, or was interrupted for the 1,000th time.
     #[error("the read failed")]
     ReadFailed,
+}
+
+impl From<WalkStop<Refusal>> for Refusal {
+    ghost use Rattle.std.specs.Prelude.{◌≡◌};
+    ghost use Rattle.drain_verdict.specs.Refusals.{refusal_of};
+
+    ghost from_gives = { λ stopped refusal. refusal ≡ refusal_of stopped };
+
+    fn from(stopped: WalkStop<Refusal>) -> Refusal {
+        match stopped {
+            WalkStop::Source(refusal) => refusal,
+            WalkStop::OutOfMemory => Refusal::OutOfMemory,
+        }
+    }
 }
