@@ -10,6 +10,7 @@ use Rattle.drain_grid.specs.Size.{IsExtent}
 use Rattle.drain_grid.specs.Unranked.{unranked}
 use Rattle.drain_grid.specs.Values.{NoDataNumbers}
 use Rattle.drain_hgt.specs.declared.input.TileInput.{TileInput}
+use Rattle.drain_rows.specs.Runs.{AllRunsEnd}
 use Rattle.drain_rules.specs.Verdicts.{IsVerdict, IsVerdictOf}
 use Rattle.drain_rules.specs.declared.verdict.Verdict.{Verdict}
 use Rattle.drain_rules.specs.declared.verdict.Verdict.TheVariants as checked
@@ -22,10 +23,6 @@ use Rattle.drain_verdict.specs.AuditInputs.{with_con_for_ranks}
 use Rattle.drain_verdict.specs.Answers.{AreReadable, IsRefusal}
 use Rattle.drain_verdict.specs.Inputs.{Inputs, Tell}
 use Rattle.drain_verdict.specs.Meaning.{grid_of, products_of, nodata_numbers}
-
--- the path of every data cell ends
-abbrev pub AllRunsEnd : Grid → Products → Type 0
-AllRunsEnd g ps = (c : Cell) → HasData g c → RunEnds g ps c
 
 -- ranks as `certify` gives them: the number of steps of each data cell's path, and 4294967295 at voids
 abbrev pub certified_ranks : Grid → Products → Cell → ℤ

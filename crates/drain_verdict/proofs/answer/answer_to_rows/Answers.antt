@@ -3,7 +3,7 @@ use Rattle.std.proofs.lemmas.Result.{err_from_is_err_and}
 use Rattle.std.proofs.lemmas.Slice.Zip.{AllZip-long}
 use Rattle.drain_mosaic.specs.LayoutFaults.{IsLayout}
 use Rattle.drain_rules.specs.declared.verdict.Verdict.{Verdict}
-use Rattle.drain_verdict.specs.Refusals.{IsOfBodies}
+use Rattle.drain_verdict.specs.Refusals.{IsOfBodies, refusal_of}
 use Rattle.drain_answer.specs.declared.refusal.Refusal.TheVariants.{ReadFailed}
 use Rattle.drain_verdict.proofs.InputLemmas.{told-of}
 use Rattle.drain_verdict.specs.InputReads.{as_read, with_rasters}
@@ -14,21 +14,21 @@ pub returns-in_err-found-clause-answer : goal.returns-in_err-found-clause-answer
 returns-in_err-found-clause-answer g c = λ inputs hs begun nodata shapes is fields tiles rasters sinks bad none.
     let told = err_from_is_err_and c.from_residual.result c.from_residual.ensures.1 in
     let new = c.verdict_by_rows.new in
-    rw (told.1, told.2) (of_reading_answers inputs c.in_err-found.field-0.0 (refused g.R.ByteSource.bytes_left g.R.ByteSource.counts (as_read g.P.ProductInputs.readers g.P.ProductInputs.inputs) (c.args.rows.now, c.args.tiles.now, c.args.products.now) (new.source, new.tiles, new.products) {T = Verdict}
-    c.in_err-found.field-0.0 c.in_err-found.ensures.refuses).0)
+    rw (told.1, told.2) (of_reading_answers inputs (refusal_of c.in_err-found.field-0.0) (refused g.R.ByteSource.bytes_left g.R.ByteSource.counts (as_read g.P.ProductInputs.readers g.P.ProductInputs.inputs) (c.args.rows.now, c.args.tiles.now, c.args.products.now) (new.source, new.tiles, new.products) {T = Verdict} _
+    c.in_err-found.field-0.0 c.in_err-found.ensures.stops).0)
 
 pub returns-in_err-found-clause-reads : goal.returns-in_err-found-clause-reads
 returns-in_err-found-clause-reads g c =
     let told = err_from_is_err_and c.from_residual.result c.from_residual.ensures.1 in
     let new = c.verdict_by_rows.new in
-    rw (told.1, told.2) (refused g.R.ByteSource.bytes_left g.R.ByteSource.counts (as_read g.P.ProductInputs.readers g.P.ProductInputs.inputs) (c.args.rows.now, c.args.tiles.now, c.args.products.now) (new.source, new.tiles, new.products) {T = Verdict}
-    c.in_err-found.field-0.0 c.in_err-found.ensures.refuses).1
+    rw (told.1, told.2) (refused g.R.ByteSource.bytes_left g.R.ByteSource.counts (as_read g.P.ProductInputs.readers g.P.ProductInputs.inputs) (c.args.rows.now, c.args.tiles.now, c.args.products.now) (new.source, new.tiles, new.products) {T = Verdict} _
+    c.in_err-found.field-0.0 c.in_err-found.ensures.stops).1
 
 pub returns-in_err-found-clause-of_bodies : goal.returns-in_err-found-clause-of_bodies
 returns-in_err-found-clause-of_bodies g c =
     let new = c.verdict_by_rows.new in
-    told-of c.from_residual.result c.in_err-found.field-0.0 IsOfBodies c.from_residual.ensures.1 (of_reading_bodies c.in_err-found.field-0.0
-    (refused g.R.ByteSource.bytes_left g.R.ByteSource.counts (as_read g.P.ProductInputs.readers g.P.ProductInputs.inputs) (c.args.rows.now, c.args.tiles.now, c.args.products.now) (new.source, new.tiles, new.products) {T = Verdict} c.in_err-found.field-0.0 c.in_err-found.ensures.refuses).0)
+    told-of c.from_residual.result (refusal_of c.in_err-found.field-0.0) IsOfBodies c.from_residual.ensures.1 (of_reading_bodies (refusal_of c.in_err-found.field-0.0)
+    (refused g.R.ByteSource.bytes_left g.R.ByteSource.counts (as_read g.P.ProductInputs.readers g.P.ProductInputs.inputs) (c.args.rows.now, c.args.tiles.now, c.args.products.now) (new.source, new.tiles, new.products) {T = Verdict} _ c.in_err-found.field-0.0 c.in_err-found.ensures.stops).0)
 
 pub refusal-requires : goal.refusal-requires
 refusal-requires g c = record {
