@@ -1,4 +1,4 @@
-//! The rows of a grid and its products as they come one after another, three of them at a time, and what is noted of each.
+//! The rows of a grid and its products, one after another, three in memory at a time, and what is noted of each.
 #![tactic(auto)]
 
 pub mod both_notes;
