@@ -1,5 +1,5 @@
 mod CellSets
-mod RowResults
+pub mod RowResults
 mod VoidRows
 mod WholeRowLemmas
 mod WindowLemmas

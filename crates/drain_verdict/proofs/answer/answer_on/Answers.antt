@@ -1,5 +1,5 @@
 use Rattle.std.proofs.lemmas.Result.{err_from_is_err_and}
-use Rattle.drain_verdict.proofs.InputLemmas.{on-ok}
+use Rattle.drain_rows.proofs.RowResults.{on-ok}
 use Rattle.std.proofs.Common.{Err}
 use Rattle.drain_verdict.specs.Devices.{devices_of}
 use Rattle.drain_verdict.proofs.Uses.{of_bodies_may, uses_none}

@@ -7,7 +7,7 @@ use Rattle.drain_rules.specs.RowNumbers.{RowNumbers}
 use Rattle.drain_rows.specs.HeldRows.{numbers_of}
 use Rattle.drain_verdict.specs.InputReads.{as_read, with_rasters}
 use Rattle.drain_grid.proofs.ByProduct.{by_held}
-use Rattle.drain_verdict.proofs.InputLemmas.{told-of}
+use Rattle.drain_rows.proofs.RowResults.{told-of}
 use Rattle.drain_verdict.proofs.RowGiven.{IsKept, come_more, come_refused, kept_numbers, next_given}
 use Rattle.drain_verdict.proofs.RowReads.{by_mosaic, by_rasters, one_read, rasters_none, reads_then}
 use Rattle.drain_verdict.proofs.input_rows.InputRowsGridRowsTileInput.read_row.Goals.{then-not-is_even, else-not-is_even}
