@@ -2,8 +2,7 @@
 -- Source: correct products are in the words of the literature; that paths without an end come first is our own.
 use Rattle.std.specs.Prelude.{◌≡◌, ℕ, ℤ, pos, is_some, List, Option, Some, None, if◌then◌else◌, Result, Ok, Err}
 use Rattle.drain_grid.specs.declared.cell.Cell.{Cell}
-use Rattle.drain_grid.specs.Grid.{Grid, Products, HasData}
-use Rattle.drain_grid.specs.Run.{RunEnds}
+use Rattle.drain_grid.specs.Grid.{Grid, Products}
 use Rattle.drain_grid.specs.Certificate.{run_steps, with_ranks, with_rank_nodata, IsFirstEndless}
 use Rattle.drain_grid.specs.Correct.{IsCorrect}
 use Rattle.drain_grid.specs.Size.{IsExtent}

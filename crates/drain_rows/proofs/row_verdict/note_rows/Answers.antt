@@ -1,7 +1,6 @@
-use Rattle.std.proofs.Common.{◌≡◌, Option, Some, None, inl, ◌+◌, ◌<◌, inr, refl, sym, ap, subst, ◌∙◌, arith, rules}
+use Rattle.std.proofs.Common.{◌≡◌, None, inl, ◌+◌, ◌<◌, inr, refl, sym, ap, subst, ◌∙◌, arith, rules}
 use Rattle.drain_grid.specs.Size.{Extent}
 use Rattle.drain_rules.specs.RowNumbers.{AreNumbersOf, AreRowNumbers}
-use Rattle.drain_rows.specs.GridRows.{ReadsOn}
 use Rattle.drain_rows.specs.HeldRows.{HasItsLanes, IsMarked, marked_of, numbers_of}
 use Rattle.drain_rows.specs.ListedVoids.{AreVoidsBefore}
 use Rattle.drain_rows.proofs.RowResults.{stops_then, told-of}

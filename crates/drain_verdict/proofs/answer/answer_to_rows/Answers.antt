@@ -2,7 +2,7 @@ use Rattle.std.proofs.Common.{◌≡◌, ap, None, Some, ◌∙◌}
 use Rattle.std.proofs.lemmas.Slice.Zip.{AllZip-long}
 use Rattle.drain_mosaic.specs.LayoutFaults.{IsLayout}
 use Rattle.drain_rules.specs.declared.verdict.Verdict.{Verdict}
-use Rattle.drain_verdict.specs.Refusals.{IsOfBodies, refusal_of}
+use Rattle.drain_verdict.specs.Refusals.{refusal_of}
 use Rattle.drain_answer.specs.declared.refusal.Refusal.TheVariants.{ReadFailed}
 use Rattle.drain_verdict.specs.InputReads.{as_read, with_rasters}
 use Rattle.drain_verdict.proofs.RowCheck.{all_read, came, notes_hold, of_reading_answers, of_reading_bodies, refusal_answers, refused, sinks_answer, verdict_answers}
