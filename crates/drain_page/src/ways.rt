@@ -2,7 +2,6 @@
 
 ghost use Rattle.std.specs.Prelude.{◌≡◌, ◌↔◌, ◌<ℤ◌, IsSome, IsTrue, MatchOption, Some, ℤ};
 ghost use Rattle.drain_grid.specs.declared.direction.Direction.{Direction};
-ghost use Rattle.drain_grid.specs.Direction.{Names};
 ghost use Rattle.drain_grid.specs.Patch.{neighbor};
 ghost use Rattle.drain_page.specs.Wanted.{IsFlatWay, IsLabelAhead};
 
