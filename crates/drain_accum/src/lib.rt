@@ -7,10 +7,10 @@
 //! the outside pass on nothing, whatever their pixels are, is this project's own.
 #![tactic(auto)]
 
-ghost use Rattle.std.specs.Prelude.{◌≡◌, ◌≤ℤ◌, ◌&&◌, is_some, ◌+ℤ◌, ◌-ℤ◌, drop, map, neg_ℤ, pos};
+ghost use Rattle.std.specs.Prelude.{◌≡◌, ◌↔◌, ◌≤ℤ◌, ◌&&◌, is_some, ◌+ℤ◌, ◌-ℤ◌, drop, map, neg_ℤ, pos};
 ghost use Rattle.drain_grid.specs.Direction.{directions, names};
-ghost use Rattle.drain_grid.specs.Patch.{neighbor};
-ghost use Rattle.drain_grid.specs.PatchRules.{flow_rules, inflow, total};
+ghost use Rattle.drain_grid.specs.Patch.{IsDataCell, neighbor};
+ghost use Rattle.drain_grid.specs.PatchRules.{flow_rules, AccumulationHolds, inflow, total};
 ghost use Rattle.drain_grid.specs.Rule.{IsOnly, IsLeastFault};
 ghost use Rattle.drain_grid.specs.Values.{IsPixel};
 
@@ -20,11 +20,20 @@ use drain_grid::{CellValues, Direction, Patch, Rule};
 pub fn fault(patch: &Patch) -> Option<Rule>
     ensures least { IsLeastFault (IsOnly Rule.Accumulation) (flow_rules patch.now) result }
 {
-    if patch.here.z.is_some() && patch.here.acc != 1 + inflows(patch) {
+    if patch.here.z.is_some() && patch.here.acc != expected(patch) {
         Some(Rule::Accumulation)
     } else {
         None
     }
+}
+
+/// The accumulation with which a data cell keeps the rule: 1, and what the data neighbours whose direction names it
+/// pass on.
+pub fn expected(patch: &Patch) -> i64
+    ensures value { result ≡ pos 1 +ℤ total (map (λ d. inflow (neighbor patch.now d) d) directions) }
+    ensures keeps { IsDataCell patch.now → AccumulationHolds patch.now ↔ (patch.now.here.acc ≡ result) }
+{
+    1 + inflows(patch)
 }
 
 /// What the neighbours pass on, added up from the last direction to the first.

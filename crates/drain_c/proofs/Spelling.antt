@@ -4,7 +4,7 @@ use Rattle.std.proofs.lemmas.List.{take_more}
 use Rattle.std.proofs.lemmas.Slice.Zip.{all_zipped_more}
 use Rattle.drain_c.specs.declared.given.TileBytes.{TileBytes}
 use Rattle.drain_c.specs.declared.given.RasterBytes.{RasterBytes}
-use Rattle.drain_c.specs.Given.{AreOfBytes, OfBytes, IsHeadline}
+use Rattle.drain_c.specs.Given.{AreOfBytes, OfBytes}
 use Rattle.drain_c.specs.Sources.{IsTileOf, AreTilesOf, AreRastersOf}
 use Rattle.drain_grid.specs.declared.held.Held.{Held}
 use Rattle.drain_hgt.specs.declared.input.TileInput.{TileInput}
@@ -14,7 +14,7 @@ use Rattle.drain_rules.specs.declared.verdict.Verdict.TheVariants.{Accepted, Rej
 use Rattle.drain_rules.specs.Verdicts.{IfAccepted}
 use Rattle.drain_answer.specs.declared.refusal.Refusal.{Refusal}
 use Rattle.drain_verdict.specs.Inputs.{Inputs, Tell, Products}
-use Rattle.drain_verdict.specs.Headline.{OfInputs, AcceptedMeans, TilesAreOne, ElevationIsTheirs, ConIsLeast, NoDirectionClimbs, DirectionsAreSteepest, CodesTellOutlets, RunsEnd, RunsEndAtOutlets, RunsVisitOnce, AccCountsUpstream, LabelsTellBasins, VoidsAreBlank, DataIsComplete}
+use Rattle.drain_verdict.specs.Headline.{OfInputs, AcceptedMeans}
 
 -- one tile more is taken
 pub one_tile_more : {R : Type 0} (bytes_left : R → Option (List ℕ)) (given : List TileBytes) (tiles : List (TileInput R)) (i : ℕ) (d : TileBytes) (tile : TileInput R) →
@@ -70,42 +70,11 @@ of_bytes_if Fact (Ok v) bytes_left side given sinks raster tiles ps are_tiles ar
     of_bytes (Fact v) bytes_left side given sinks raster tiles ps are_tiles are_rasters fact
 of_bytes_if Fact (Err refusal) bytes_left side given sinks raster tiles ps are_tiles are_rasters fact = tt
 
--- the thirteen facts of an acceptance
-pub record Meanings {R : Type 0} (bytes_left : R → Option (List ℕ)) (side : ℕ) (tiles : List (TileInput R)) (sinks : List ℕ) (ps : Products R) (answer : Result Verdict Refusal) : Type 0 where
-  pub tiles_agree : AcceptedMeans TilesAreOne bytes_left side tiles sinks ps answer
-  pub elevation : AcceptedMeans ElevationIsTheirs bytes_left side tiles sinks ps answer
-  pub least_surface : AcceptedMeans ConIsLeast bytes_left side tiles sinks ps answer
-  pub never_climbs : AcceptedMeans NoDirectionClimbs bytes_left side tiles sinks ps answer
-  pub steepest : AcceptedMeans DirectionsAreSteepest bytes_left side tiles sinks ps answer
-  pub outlets : AcceptedMeans CodesTellOutlets bytes_left side tiles sinks ps answer
-  pub runs_end : AcceptedMeans RunsEnd bytes_left side tiles sinks ps answer
-  pub runs_end_at_outlets : AcceptedMeans RunsEndAtOutlets bytes_left side tiles sinks ps answer
-  pub runs_visit_once : AcceptedMeans RunsVisitOnce bytes_left side tiles sinks ps answer
-  pub accumulation : AcceptedMeans AccCountsUpstream bytes_left side tiles sinks ps answer
-  pub labels : AcceptedMeans LabelsTellBasins bytes_left side tiles sinks ps answer
-  pub voids : AcceptedMeans VoidsAreBlank bytes_left side tiles sinks ps answer
-  pub complete : AcceptedMeans DataIsComplete bytes_left side tiles sinks ps answer
-
--- of the bytes, all of them
-pub headline : {R : Type 0} (answer : Result Verdict Refusal) (bytes_left : R → Option (List ℕ)) (side : ℕ) (given : List TileBytes) (sinks : List ℕ)
-    (raster : Held → RasterBytes) (tiles : List (TileInput R)) (ps : Products R) → AreTilesOf bytes_left given tiles → AreRastersOf bytes_left raster ps →
-    Meanings bytes_left side tiles sinks ps answer → IfAccepted answer (OfBytes side given sinks raster IsHeadline)
-headline (Ok (Accepted counts)) bytes_left side given sinks raster tiles ps are_tiles are_rasters m = λ i are.
-    let told = tells bytes_left side given sinks raster tiles ps are_tiles are_rasters i are in
-    record {
-      tiles_agree = m.tiles_agree i told;
-      elevation = m.elevation i told;
-      least_surface = m.least_surface i told;
-      never_climbs = m.never_climbs i told;
-      steepest = m.steepest i told;
-      outlets = m.outlets i told;
-      runs_end = m.runs_end i told;
-      runs_end_at_outlets = m.runs_end_at_outlets i told;
-      runs_visit_once = m.runs_visit_once i told;
-      accumulation = m.accumulation i told;
-      labels = m.labels i told;
-      voids = m.voids i told;
-      complete = m.complete i told;
-    }
-headline (Ok (Rejected rule row col)) bytes_left side given sinks raster tiles ps are_tiles are_rasters m = tt
-headline (Err refusal) bytes_left side given sinks raster tiles ps are_tiles are_rasters m = tt
+-- if the answer is an acceptance, the same
+pub of_bytes_accepted : {R : Type 0} (Fact : Inputs → Type 0) (answer : Result Verdict Refusal) (bytes_left : R → Option (List ℕ)) (side : ℕ) (given : List TileBytes)
+    (sinks : List ℕ) (raster : Held → RasterBytes) (tiles : List (TileInput R)) (ps : Products R) → AreTilesOf bytes_left given tiles →
+    AreRastersOf bytes_left raster ps → AcceptedMeans Fact bytes_left side tiles sinks ps answer → IfAccepted answer (OfBytes side given sinks raster Fact)
+of_bytes_accepted Fact (Ok (Accepted counts)) bytes_left side given sinks raster tiles ps are_tiles are_rasters fact =
+    of_bytes Fact bytes_left side given sinks raster tiles ps are_tiles are_rasters fact
+of_bytes_accepted Fact (Ok (Rejected rule row col)) bytes_left side given sinks raster tiles ps are_tiles are_rasters fact = tt
+of_bytes_accepted Fact (Err refusal) bytes_left side given sinks raster tiles ps are_tiles are_rasters fact = tt

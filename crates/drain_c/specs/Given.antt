@@ -9,7 +9,6 @@ use Rattle.drain_grid.specs.declared.held.Held.{Held}
 use Rattle.drain_grid.specs.declared.held.Held.TheVariants.{Con, Dir, Acc, Bas, Rnk}
 use Rattle.drain_hgt.specs.Name.{Names}
 use Rattle.drain_verdict.specs.Inputs.{Inputs, AreNames}
-use Rattle.drain_verdict.specs.Headline.{TilesAreOne, ElevationIsTheirs, ConIsLeast, NoDirectionClimbs, DirectionsAreSteepest, CodesTellOutlets, RunsEnd, RunsEndAtOutlets, RunsVisitOnce, AccCountsUpstream, LabelsTellBasins, VoidsAreBlank, DataIsComplete}
 
 -- the raster of a product; con stands in the place of ranks, which an audit doesn't read
 abbrev pub audit_raster : AuditBytes → Held → RasterBytes
@@ -39,19 +38,3 @@ pub record AreOfBytes (side : ℕ) (tiles : List TileBytes) (sinks : List ℕ) (
 -- the fact holds of the inputs that are these bytes
 abbrev pub OfBytes : ℕ → List TileBytes → List ℕ → (Held → RasterBytes) → (Inputs → Type 0) → Type 0
 OfBytes side tiles sinks raster Fact = (i : Inputs) → AreOfBytes side tiles sinks raster i → Fact i
-
--- what an acceptance by a check means, all of it
-pub record IsHeadline (i : Inputs) : Type 0 where
-  pub tiles_agree : TilesAreOne i
-  pub elevation : ElevationIsTheirs i
-  pub least_surface : ConIsLeast i
-  pub never_climbs : NoDirectionClimbs i
-  pub steepest : DirectionsAreSteepest i
-  pub outlets : CodesTellOutlets i
-  pub runs_end : RunsEnd i
-  pub runs_end_at_outlets : RunsEndAtOutlets i
-  pub runs_visit_once : RunsVisitOnce i
-  pub accumulation : AccCountsUpstream i
-  pub labels : LabelsTellBasins i
-  pub voids : VoidsAreBlank i
-  pub complete : DataIsComplete i

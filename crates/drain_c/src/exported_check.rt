@@ -2,10 +2,11 @@
 
 ghost use Rattle.std.specs.Prelude.{◌≡◌};
 ghost use Rattle.drain_c.specs.Found.{check_found};
-ghost use Rattle.drain_c.specs.Given.{OfBytes, IsHeadline, check_raster};
+ghost use Rattle.drain_c.specs.Given.{OfBytes, check_raster};
 ghost use Rattle.drain_c.specs.Shown.{Reports};
 ghost use Rattle.drain_verdict.specs.Answers.{IsAnswer};
 ghost use Rattle.drain_answer.specs.Lines.{report_line};
+ghost use Rattle.drain_verdict.specs.Headline.{IsRight};
 
 use crate::answer::{Answer, show};
 use crate::found::check_found;
@@ -34,7 +35,7 @@ pub extern "C" fn drain_check<'a>(
     // it is the steepest descent. Every run of directions ends at an outlet, and visits no cell twice. Accumulation
     // counts exactly the cells that drain through each cell. Two cells share a label exactly where they share an
     // outlet. Voids have the no-data numbers, and no data cell has one.
-    ensures headline { result ≡ 0 → OfBytes side tiles.now sinks.now (check_raster rasters.now) IsHeadline }
+    ensures right { result ≡ 0 → OfBytes side tiles.now sinks.now (check_raster rasters.now) IsRight }
 {
     let judged = judge_check(alloc, side, tiles, sinks, rasters);
     show(answer, check_found(&judged), report(&judged).as_str());

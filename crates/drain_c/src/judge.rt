@@ -1,11 +1,11 @@
 //! The answers of an audit and of a check to the bytes of a call.
 
 ghost use Rattle.std.specs.Prelude.{◌↔◌, IfOk};
-ghost use Rattle.drain_c.specs.Given.{OfBytes, audit_raster, check_raster, IsHeadline};
+ghost use Rattle.drain_c.specs.Given.{OfBytes, audit_raster, check_raster};
 ghost use Rattle.drain_rules.specs.Verdicts.{IfAccepted};
 ghost use Rattle.drain_verdict.specs.Answers.{IsAnswer};
 ghost use Rattle.drain_verdict.specs.Audits.{AreCorrect, IsAcceptance, IsAuditAnswer};
-ghost use Rattle.drain_verdict.specs.Headline.{TilesAreOne, ElevationIsTheirs};
+ghost use Rattle.drain_verdict.specs.Headline.{IsRight, TilesAreOne, ElevationIsTheirs};
 
 use crate::given::{AuditBytes, CheckBytes, TileBytes};
 use crate::sources::{audit_inputs, check_inputs, tile_inputs};
@@ -40,7 +40,7 @@ pub fn judge_check<'a>(
     products: &CheckBytes<'a>,
 ) -> Result<Verdict, Refusal>
     ensures answer { OfBytes side tiles.now sinks.now (check_raster products.now) (λ inputs. IsAnswer inputs result) }
-    ensures headline { IfAccepted result (OfBytes side tiles.now sinks.now (check_raster products.now) IsHeadline) }
+    ensures right { IfAccepted result (OfBytes side tiles.now sinks.now (check_raster products.now) IsRight) }
 {
     let mut tiles = tile_inputs(alloc, tiles)?;
     let mut products = check_inputs(alloc, products)?;

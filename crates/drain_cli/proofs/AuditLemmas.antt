@@ -24,11 +24,6 @@ of_accepted (Ok (Rejected rule row col)) zero Fact holds = absurd (omega (arith,
 of_accepted (Ok (NoEnd row col)) zero Fact holds = absurd (omega (arith, zero))
 of_accepted (Err refusal) zero Fact holds = absurd (omega (arith, zero, refused_above_1 refusal))
 
--- and so does what holds of any verdict
-pub of_verdict : (answer : Result AuditVerdict Refusal) → code_of (audit_status answer) ≡ 0 → (Fact : Type 0) → IfOk answer (λ verdict. Fact) → Fact
-of_verdict (Ok verdict) zero Fact holds = holds
-of_verdict (Err refusal) zero Fact holds = absurd (omega (arith, zero, refused_above_1 refusal))
-
 -- if that status is 1, what comes exactly with an acceptance doesn't hold, of any inputs of the call
 pub not_of_rejected : (answer : Result AuditVerdict Refusal) → code_of (audit_status answer) ≡ 1 → (Told Fact : Inputs → Type 0) →
     IfOk answer (λ verdict. (i : Inputs) → Told i → IsAcceptance verdict ↔ Fact i) → (i : Inputs) → Told i → ¬ Fact i

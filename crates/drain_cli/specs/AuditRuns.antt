@@ -1,16 +1,13 @@
 -- How a run of `drain audit` ends: with a verdict, or with the first refusal.
-use Rattle.std.specs.Prelude.{◌≡◌, ℕ, List, map, Result, Ok, Err, IfErr, IsErrOf}
+use Rattle.std.specs.Prelude.{ℕ, List, Result, Ok, Err}
 use Rattle.drain_device.specs.Devices.{Source}
-use Rattle.drain_device.specs.FaultLists.{SomeReadFails}
 use Rattle.drain_hgt.specs.declared.input.TileInput.{TileInput}
-use Rattle.drain_verdict.specs.AuditInputs.{audit_devices}
 use Rattle.drain_verdict.specs.Audits.{IsAuditAnswer, OfFour}
 use Rattle.drain_verdict.specs.declared.audit_products.AuditProducts.{AuditProducts}
 use Rattle.drain_answer.specs.declared.audit_verdict.AuditVerdict.{AuditVerdict}
 use Rattle.drain_answer.specs.declared.audit_verdict.AuditVerdict.TheVariants.{Accepted, Rejected, NoEnd}
 use Rattle.drain_answer.specs.declared.refusal.Refusal.{Refusal}
-use Rattle.drain_answer.specs.declared.refusal.Refusal.TheVariants.{ReadFailed}
-use Rattle.drain_verdict.specs.Refusals.{IsOfBodies}
+use Rattle.drain_verdict.specs.Uses.{AuditUses}
 use Rattle.drain_cli.specs.Statuses.{refusal_status}
 use Rattle.drain_cli.specs.declared.status.Status.{Status}
 use Rattle.drain_cli.specs.declared.status.Status.TheVariants as status
@@ -22,10 +19,8 @@ audit_status (Ok (Rejected rule row col)) = status.Rejected
 audit_status (Ok (NoEnd row col)) = status.Rejected
 audit_status (Err refusal) = refusal_status refusal
 
--- the answer is that of the bytes that the devices had left, if they are known, and says that a read failed exactly if
--- one did; if it refuses side, names, layout or headers every device is as it was
+-- the answer is that of the bytes that the devices had left, if they are known, and the inputs are used as by an audit
 pub record IsAuditOutcome {R : Type 0} (source : Source R) (side : ℕ) (tiles_old tiles_new : List (TileInput R)) (sinks : List ℕ)
     (products_old products_new : AuditProducts R) (outcome : Result AuditVerdict Refusal) : Type 0 where
   pub answer : OfFour source.bytes_left side tiles_old sinks products_old (λ i. IsAuditAnswer i outcome)
-  pub faults : SomeReadFails (map source.counts (audit_devices tiles_old products_old)) (map source.counts (audit_devices tiles_new products_new)) (IsErrOf outcome ReadFailed)
-  pub untouched : IfErr outcome (λ refusal. ¬ IsOfBodies refusal → (tiles_new ≡ tiles_old) × (products_new ≡ products_old))
+  pub uses : AuditUses source.bytes_left source.counts side (tiles_old, products_old) (tiles_new, products_new) outcome

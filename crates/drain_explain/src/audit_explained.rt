@@ -1,18 +1,13 @@
 //! An audit that is explained.
 
-ghost use Rattle.std.specs.Prelude.{◌≡◌, ◌↔◌, map, IfErr, IfOk, IfSome, IsErrOf, IsSome};
-ghost use Rattle.drain_device.specs.FaultLists.{SomeReadFails};
+ghost use Rattle.std.specs.Prelude.{◌≡◌, ◌↔◌, IfOk, IfSome, IsSome};
 ghost use Rattle.drain_explain.specs.Explanations.{IsEndlessOf, IsExplanationOf, answer_in};
 ghost use Rattle.drain_explain.specs.declared.fault_notes.Mapping.TheVariants.{Drawn};
-ghost use Rattle.drain_grid.specs.declared.held.Held.{Held};
-ghost use Rattle.drain_grid.specs.PerProduct.{of_product};
-ghost use Rattle.drain_hgt.specs.Inputs.{names_of, TilesTakeAtMost};
+ghost use Rattle.drain_hgt.specs.Inputs.{names_of};
 ghost use Rattle.drain_kernel.specs.declared.rules.Ranks.TheVariants.{Unasked};
-ghost use Rattle.drain_verdict.specs.AuditInputs.{audit_devices, with_con_for_ranks};
 ghost use Rattle.drain_verdict.specs.Audits.{IsAuditAnswer, OfFour};
-ghost use Rattle.drain_verdict.specs.Devices.{RasterTakesAtMost};
-ghost use Rattle.drain_verdict.specs.Refusals.{IsOfBodies};
 ghost use Rattle.drain_verdict.specs.Stages.{IsLayoutOf};
+ghost use Rattle.drain_verdict.specs.Uses.{AuditUses};
 
 use crate::endless::endless_of;
 use crate::explanation::{Explanation, told_by_notes};
@@ -22,10 +17,10 @@ use drain_grid::OutOfMemory;
 use drain_grid::laws::ranks_play_no_part;
 use drain_hgt::TileInput;
 use drain_hgt::laws::one_name;
+use drain_rows::BothNotes;
 use drain_rules::Ranks;
 use drain_runs::CellFlows;
 use drain_verdict::auditor::audit_on;
-use drain_verdict::both_notes::BothNotes;
 use drain_verdict::layout::layout_of;
 use drain_verdict::{AuditProducts, AuditVerdict, Refusal};
 use std::alloc::Global;
@@ -51,13 +46,8 @@ pub fn explain_audit<R: ByteSource>(
     ensures drawn { IfOk result (λ e. IsSome e.map ↔ (mapping ≡ Drawn)) }
     ensures layout { IfOk result (λ e. IsLayoutOf side (names_of tiles.old) e.layout) }
 
-    // How far it reads, when a read fails, and that names and headers are unchanged: as for an audit.
-    ensures tiles_within { TilesTakeAtMost R.bytes_left side tiles.old tiles.new }
-    ensures rasters_within { (p : Held) → RasterTakesAtMost R.bytes_left (with_con_for_ranks products.old) (with_con_for_ranks products.new) p }
-    ensures faults { SomeReadFails (map R.counts (audit_devices tiles.old products.old)) (map R.counts (audit_devices tiles.new products.new)) (IsErrOf result Refusal.ReadFailed) }
-    ensures names { names_of tiles.new ≡ names_of tiles.old }
-    ensures headers { (p : Held) → (of_product (with_con_for_ranks products.new) p).header ≡ (of_product (with_con_for_ranks products.old) p).header }
-    ensures untouched { IfErr result (λ refusal. ¬ IsOfBodies refusal → (tiles.new ≡ tiles.old) × (products.new ≡ products.old)) }
+    // How far it reads, when a read fails, and what is unchanged: as for an audit.
+    ensures uses { AuditUses R.bytes_left R.counts side (tiles.old, products.old) (tiles.new, products.new) result }
 {
     // The laws that bytes name one tile, and that ranks play no part if paths end.
     one_name();

@@ -1,18 +1,14 @@
 //! A check that is explained.
 
-ghost use Rattle.std.specs.Prelude.{◌≡◌, ◌↔◌, map, IfErr, IfOk, IsErrOf, IsSome};
-ghost use Rattle.drain_device.specs.FaultLists.{SomeReadFails};
+ghost use Rattle.std.specs.Prelude.{◌≡◌, ◌↔◌, IfOk, IsSome};
 ghost use Rattle.drain_explain.specs.Explanations.{IsExplanationOf, answer_in};
 ghost use Rattle.drain_explain.specs.declared.fault_notes.Mapping.TheVariants.{Drawn};
-ghost use Rattle.drain_grid.specs.declared.held.Held.{Held};
-ghost use Rattle.drain_grid.specs.PerProduct.{of_product};
-ghost use Rattle.drain_hgt.specs.Inputs.{names_of, TilesTakeAtMost};
+ghost use Rattle.drain_hgt.specs.Inputs.{names_of};
 ghost use Rattle.drain_kernel.specs.declared.rules.Ranks.TheVariants.{Asked};
 ghost use Rattle.drain_verdict.specs.Answers.{IsAnswer};
-ghost use Rattle.drain_verdict.specs.Devices.{devices_of, RasterTakesAtMost};
 ghost use Rattle.drain_verdict.specs.Inputs.{Inputs, Tell};
-ghost use Rattle.drain_verdict.specs.Refusals.{IsOfBodies};
 ghost use Rattle.drain_verdict.specs.Stages.{IsLayoutOf};
+ghost use Rattle.drain_verdict.specs.Uses.{CheckUses};
 
 use crate::explanation::{Explanation, told_by_notes};
 use crate::fault_notes::{FaultNotes, Mapping};
@@ -47,13 +43,8 @@ pub fn explain_check<R: ByteSource>(
     ensures drawn { IfOk result (λ e. IsSome e.map ↔ (mapping ≡ Drawn)) }
     ensures layout { IfOk result (λ e. IsLayoutOf side (names_of tiles.old) e.layout) }
 
-    // How far it reads, when a read fails, and that names and headers are unchanged: as for a check.
-    ensures tiles_within { TilesTakeAtMost R.bytes_left side tiles.old tiles.new }
-    ensures rasters_within { (p : Held) → RasterTakesAtMost R.bytes_left products.old products.new p }
-    ensures faults { SomeReadFails (map R.counts (devices_of tiles.old products.old)) (map R.counts (devices_of tiles.new products.new)) (IsErrOf result Refusal.ReadFailed) }
-    ensures names { names_of tiles.new ≡ names_of tiles.old }
-    ensures headers { (p : Held) → (of_product products.new p).header ≡ (of_product products.old p).header }
-    ensures untouched { IfErr result (λ refusal. ¬ IsOfBodies refusal → (tiles.new ≡ tiles.old) × (products.new ≡ products.old)) }
+    // How far it reads, when a read fails, and what is unchanged: as for a check.
+    ensures uses { CheckUses R.bytes_left R.counts side (tiles.old, products.old) (tiles.new, products.new) result }
 {
     // The law that bytes name one tile.
     one_name();

@@ -8,9 +8,8 @@ ghost use Rattle.drain_explain.specs.declared.fault_notes.Mapping.TheVariants.{D
 
 use drain_faults::FaultWalk;
 use drain_grid::{NoData, OutOfMemory, Product, Shape};
+use drain_rows::{HeldRow, RowNotes, RowVerdicts};
 use drain_rules::{Ranks, Rules, ThreeRows, Verdict};
-use drain_verdict::held_row::HeldRow;
-use drain_verdict::row_notes::{RowNotes, RowVerdicts};
 use std::alloc::Global;
 
 /// Whether a map of the faults is required, which takes a byte for each cell.

@@ -6,8 +6,9 @@
 ghost use Rattle.std.specs.Prelude.{◌≡◌, ◌<◌, ◌≤ℤ◌, ◌+ℤ◌, ◌-ℤ◌, ◌*ℤ◌, neg_ℤ, pos};
 ghost use Rattle.drain_page.specs.Degrees.{IsRounded, steps_of};
 
-use crate::names::{Shown, append, append_number};
+use crate::names::Shown;
 use crate::place::MosaicPlace;
+use std::fmt::Write;
 
 /// A degree in units of the seventh place.
 pub const PLACES: u128 = 10_000_000;
@@ -91,24 +92,10 @@ fn shown_degrees(count: i64, steps: u32) -> Shown
     requires { 0 < steps }
 {
     let places = in_places(count.unsigned_abs(), steps);
+    let sign = if count < 0 && 0 < places { "-" } else { "" };
+    let whole = places / PLACES;
+    let fraction = places % PLACES;
     let mut shown = Shown::new();
-    append(&mut shown, if count < 0 && 0 < places { "-" } else { "" });
-    append_number(&mut shown, places / PLACES);
-    append(&mut shown, ".");
-    append(&mut shown, leading_noughts(places % PLACES));
-    append_number(&mut shown, places % PLACES);
+    let _ = write!(shown, "{sign}{whole}.{fraction:07}");
     shown
-}
-
-/// The zeros that fill a number up to seven digits.
-fn leading_noughts(number: u128) -> &'static str {
-    match number {
-        0..=9 => "000000",
-        10..=99 => "00000",
-        100..=999 => "0000",
-        1_000..=9_999 => "000",
-        10_000..=99_999 => "00",
-        100_000..=999_999 => "0",
-        _ => "",
-    }
 }

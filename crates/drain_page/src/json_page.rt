@@ -13,32 +13,46 @@ use crate::run_json::write_run;
 use crate::wanted_json::write_wanted;
 use drain_grid::OutOfMemory;
 use drain_rules::Ranks;
-use std::alloc::Global;
+use std::alloc::{AllocError, Global};
 
 /// The page as one JSON object on one line, which ends with a line feed. Its members are always there: null or an empty
 /// list if there is nothing to report.
 pub fn page_json(alloc: Global, facts: &Facts) -> Result<String, OutOfMemory>
     ensures { IfOk result (λ line. IsJsonLine (string_bytes line)) }
 {
-    let mut json = JsonText::new(alloc);
-    match write_page(alloc, &mut json, facts) {
-        Ok(()) => json.into_line(),
-        Err(e) => Err(e),
+    match page(alloc, facts) {
+        Ok(line) => Ok(line),
+        Err(AllocError) => Err(OutOfMemory),
     }
+}
+
+fn page(alloc: Global, facts: &Facts) -> Result<String, AllocError>
+    ensures { IfOk result (λ line. IsJsonLine (string_bytes line)) }
+{
+    let mut json = JsonText::new(alloc);
+    write_page(alloc, &mut json, facts)?;
+    json.into_line()
 }
 
 /// The same object for a failure: its answer is this line, and all other members are null or empty.
 pub fn failure_json(alloc: Global, line: &str) -> Result<String, OutOfMemory>
     ensures { IfOk result (λ line. IsJsonLine (string_bytes line)) }
 {
-    let mut json = JsonText::new(alloc);
-    match write_failure(&mut json, line) {
-        Ok(()) => json.into_line(),
-        Err(e) => Err(e),
+    match failure_page(alloc, line) {
+        Ok(line) => Ok(line),
+        Err(AllocError) => Err(OutOfMemory),
     }
 }
 
-fn write_failure(json: &mut JsonText, line: &str) -> Result<(), OutOfMemory> {
+fn failure_page(alloc: Global, line: &str) -> Result<String, AllocError>
+    ensures { IfOk result (λ line. IsJsonLine (string_bytes line)) }
+{
+    let mut json = JsonText::new(alloc);
+    write_failure(&mut json, line)?;
+    json.into_line()
+}
+
+fn write_failure(json: &mut JsonText, line: &str) -> Result<(), AllocError> {
     json.begin_object_item()?;
     json.text("answer", line)?;
     json.null("refusal")?;
@@ -46,7 +60,7 @@ fn write_failure(json: &mut JsonText, line: &str) -> Result<(), OutOfMemory> {
     json.end_object()
 }
 
-fn write_page(alloc: Global, json: &mut JsonText, facts: &Facts) -> Result<(), OutOfMemory> {
+fn write_page(alloc: Global, json: &mut JsonText, facts: &Facts) -> Result<(), AllocError> {
     json.begin_object_item()?;
     json.text("answer", answer_line(&facts.answer).as_str())?;
     write_refusal(alloc, json, &facts.refusal)?;
@@ -61,7 +75,7 @@ fn write_findings(
     alloc: Global,
     json: &mut JsonText,
     findings: &Findings,
-) -> Result<(), OutOfMemory> {
+) -> Result<(), AllocError> {
     json.count("rows", u64::from(findings.shape.rows()))?;
     json.count("cols", u64::from(findings.shape.cols()))?;
     json.flag("ranks", findings.rules.ranks == Ranks::Asked)?;
@@ -73,7 +87,7 @@ fn write_findings(
 }
 
 /// The same members if there is no verdict.
-fn write_no_findings(json: &mut JsonText) -> Result<(), OutOfMemory> {
+fn write_no_findings(json: &mut JsonText) -> Result<(), AllocError> {
     json.null("rows")?;
     json.null("cols")?;
     json.null("ranks")?;
@@ -84,7 +98,7 @@ fn write_no_findings(json: &mut JsonText) -> Result<(), OutOfMemory> {
     json.null("run")
 }
 
-fn write_empty_list(json: &mut JsonText, name: &str) -> Result<(), OutOfMemory> {
+fn write_empty_list(json: &mut JsonText, name: &str) -> Result<(), AllocError> {
     json.begin_list(name)?;
     json.end_list()
 }

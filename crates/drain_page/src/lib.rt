@@ -4,7 +4,6 @@
 mod answer_line;
 pub mod degrees;
 pub mod facts;
-pub mod inflow;
 pub mod json_page;
 mod json_text;
 pub mod laws;
@@ -14,7 +13,6 @@ pub mod opening;
 mod patch_json;
 mod patch_text;
 pub mod place;
-mod place_text;
 mod refusal_json;
 pub mod refusal_note;
 mod refusal_text;
@@ -30,7 +28,6 @@ pub mod wanted;
 mod wanted_json;
 mod wanted_text;
 pub mod ways;
-mod writing;
 
 pub use facts::{Answer, Facts, Findings};
 pub use json_page::{failure_json, page_json};

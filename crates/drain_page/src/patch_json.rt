@@ -6,11 +6,12 @@ use crate::patch_text::{ROUND, values_at};
 use crate::rules_json::write_cell;
 use crate::wanted::{no_data, number, shown_products};
 use drain_faults::FaultyPatch;
-use drain_grid::{CellValues, Direction, Held, OutOfMemory, Patch};
+use drain_grid::{CellValues, Direction, Held, Patch};
 use drain_rules::{Ranks, Rules};
+use std::alloc::AllocError;
 
 /// The cell, and three rows of three cells with it in the middle; null if there is none.
-pub(crate) fn write_patch(json: &mut JsonText, findings: &Findings) -> Result<(), OutOfMemory> {
+pub(crate) fn write_patch(json: &mut JsonText, findings: &Findings) -> Result<(), AllocError> {
     match &findings.first {
         Some(first) => write_first(json, findings, first),
         None => json.null("patch"),
@@ -21,14 +22,14 @@ fn write_first(
     json: &mut JsonText,
     findings: &Findings,
     first: &FaultyPatch,
-) -> Result<(), OutOfMemory> {
+) -> Result<(), AllocError> {
     json.begin_object("patch")?;
     write_cell(json, "cell", &findings.place, first.cell)?;
     write_rows(json, &first.patch, &findings.rules)?;
     json.end_object()
 }
 
-fn write_rows(json: &mut JsonText, patch: &Patch, rules: &Rules) -> Result<(), OutOfMemory> {
+fn write_rows(json: &mut JsonText, patch: &Patch, rules: &Rules) -> Result<(), AllocError> {
     json.begin_list("values")?;
     for row in ROUND {
         write_row(json, patch, rules, row)?;
@@ -41,7 +42,7 @@ fn write_row(
     patch: &Patch,
     rules: &Rules,
     row: [Option<Direction>; 3],
-) -> Result<(), OutOfMemory> {
+) -> Result<(), AllocError> {
     json.begin_list_item()?;
     for place in row {
         write_place(json, patch, rules, place)?;
@@ -55,7 +56,7 @@ fn write_place(
     patch: &Patch,
     rules: &Rules,
     place: Option<Direction>,
-) -> Result<(), OutOfMemory> {
+) -> Result<(), AllocError> {
     match values_at(patch, place) {
         Some(values) => write_values(json, &values, rules),
         None => json.null_item(),
@@ -63,11 +64,7 @@ fn write_place(
 }
 
 /// The ground, null at a void, and the products' numbers.
-fn write_values(
-    json: &mut JsonText,
-    values: &CellValues,
-    rules: &Rules,
-) -> Result<(), OutOfMemory> {
+fn write_values(json: &mut JsonText, values: &CellValues, rules: &Rules) -> Result<(), AllocError> {
     json.begin_object_item()?;
     json.metres("ground", values.z)?;
     json.flag("sink", values.sink)?;

@@ -1,17 +1,13 @@
 //! The first cell at which a rule fails: its place, its values and its neighbours', and what the rule expected.
 
 use crate::facts::Findings;
-use crate::names::{shown_ground, shown_number};
-use crate::place_text::push_cell;
+use crate::names::{Shown, shown_ground, shown_number, shown_word};
+use crate::place::MosaicPlace;
 use crate::wanted::{shown_products, wanted_by};
 use crate::wanted_text::push_wanted;
-use crate::writing::{push, push_right};
 use drain_faults::FaultyPatch;
-use drain_grid::{CellValues, Direction, Held, NoData, OutOfMemory, Patch};
-use std::alloc::Global;
-
-/// How wide each of the three columns is.
-const COLUMN_WIDTH: usize = 13;
+use drain_grid::{Cell, CellValues, Direction, Held, NoData, Patch};
+use std::alloc::{AllocError, Global};
 
 /// The neighbours in the order of the page, row by row from north to south, with the cell itself in the middle.
 pub(crate) const ROUND: [[Option<Direction>; 3]; 3] = [
@@ -31,17 +27,11 @@ pub(crate) const ROUND: [[Option<Direction>; 3]; 3] = [
 /// Appends all of it.
 pub(crate) fn push_first(
     alloc: Global,
-    text: &mut Vec<u8>,
+    text: &mut String,
     findings: &Findings,
     first: &FaultyPatch,
-) -> Result<(), OutOfMemory> {
-    push(text, "first fault: ")?;
-    push_cell(text, first.cell)?;
-    push(text, ", longitude ")?;
-    push(text, findings.place.longitude_text(first.cell.col).as_str())?;
-    push(text, ", latitude ")?;
-    push(text, findings.place.latitude_text(first.cell.row).as_str())?;
-    push(text, "\n")?;
+) -> Result<(), AllocError> {
+    push_cell(text, &findings.place, first.cell)?;
     push_patch(text, findings, &first.patch)?;
     let wanted = wanted_by(alloc, first.rule, &first.patch, &findings.rules)?;
     push_wanted(
@@ -53,35 +43,49 @@ pub(crate) fn push_first(
     )
 }
 
+/// Where the cell lies.
+fn push_cell(text: &mut String, place: &MosaicPlace, cell: Cell) -> Result<(), AllocError> {
+    let longitude = place.longitude_text(cell.col);
+    let latitude = place.latitude_text(cell.row);
+    writeln!(
+        text,
+        "first fault: row {}, column {}, longitude {}, latitude {}",
+        cell.row,
+        cell.col,
+        longitude.as_str(),
+        latitude.as_str()
+    )
+}
+
 /// The ground and each product, three numbers by three.
-fn push_patch(text: &mut Vec<u8>, findings: &Findings, patch: &Patch) -> Result<(), OutOfMemory> {
-    push(text, "- outside the mosaic, * listed as a sink\nground\n")?;
-    for row in ROUND {
-        for place in row {
-            push_ground(text, patch, place)?;
-        }
-        push(text, "\n")?;
-    }
+fn push_patch(text: &mut String, findings: &Findings, patch: &Patch) -> Result<(), AllocError> {
+    text.push_str("- outside the mosaic, * listed as a sink\nground\n")?;
+    push_layer(text, &findings.rules.nodata, patch, None)?;
     for held in shown_products(findings.rules.ranks) {
-        push_product(text, &findings.rules.nodata, patch, *held)?;
+        writeln!(text, "{}", held.product().name())?;
+        push_layer(text, &findings.rules.nodata, patch, Some(*held))?;
     }
     Ok(())
 }
 
-/// One product, three numbers by three.
-fn push_product(
-    text: &mut Vec<u8>,
+/// One product, or the ground, three numbers by three.
+fn push_layer(
+    text: &mut String,
     nodata: &NoData,
     patch: &Patch,
-    held: Held,
-) -> Result<(), OutOfMemory> {
-    push(text, held.product().name())?;
-    push(text, "\n")?;
-    for row in ROUND {
-        for place in row {
-            push_value(text, nodata, patch, held, place)?;
-        }
-        push(text, "\n")?;
+    layer: Option<Held>,
+) -> Result<(), AllocError> {
+    for [west, middle, east] in ROUND {
+        let west = shown_at(nodata, patch, layer, west);
+        let middle = shown_at(nodata, patch, layer, middle);
+        let east = shown_at(nodata, patch, layer, east);
+        writeln!(
+            text,
+            "{:>13}{:>13}{:>13}",
+            west.as_str(),
+            middle.as_str(),
+            east.as_str()
+        )?;
     }
     Ok(())
 }
@@ -94,30 +98,16 @@ pub(crate) fn values_at(patch: &Patch, place: Option<Direction>) -> Option<CellV
     }
 }
 
-fn push_ground(
-    text: &mut Vec<u8>,
-    patch: &Patch,
-    place: Option<Direction>,
-) -> Result<(), OutOfMemory> {
-    match values_at(patch, place) {
-        Some(values) => push_right(text, shown_ground(&values).as_str(), COLUMN_WIDTH),
-        None => push_right(text, "-", COLUMN_WIDTH),
-    }
-}
-
-fn push_value(
-    text: &mut Vec<u8>,
+/// A product's number there, or the ground; a dash outside the mosaic.
+fn shown_at(
     nodata: &NoData,
     patch: &Patch,
-    held: Held,
+    layer: Option<Held>,
     place: Option<Direction>,
-) -> Result<(), OutOfMemory> {
-    match values_at(patch, place) {
-        Some(values) => push_right(
-            text,
-            shown_number(&values, held, nodata).as_str(),
-            COLUMN_WIDTH,
-        ),
-        None => push_right(text, "-", COLUMN_WIDTH),
+) -> Shown {
+    match (values_at(patch, place), layer) {
+        (Some(values), Some(held)) => shown_number(&values, held, nodata),
+        (Some(values), None) => shown_ground(&values),
+        (None, _) => shown_word("-"),
     }
 }

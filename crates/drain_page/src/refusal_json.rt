@@ -4,24 +4,24 @@ use crate::json_text::JsonText;
 use crate::refusal_note::{Extent, NoData, RefusalNote, TileValue};
 use crate::shown_bytes::shown_bytes;
 use crate::units::units_text;
-use drain_grid::{MAX_SIDE, MIN_SIDE, OutOfMemory, Product};
+use drain_grid::{MAX_SIDE, MIN_SIDE, Product};
 use drain_header::Place;
 use drain_hgt::TileName;
-use std::alloc::Global;
+use std::alloc::{AllocError, Global};
 
 /// The details of a refusal; null if there are none beyond its line. `about` names its kind.
 pub(crate) fn write_refusal(
     alloc: Global,
     json: &mut JsonText,
     note: &Option<RefusalNote>,
-) -> Result<(), OutOfMemory> {
+) -> Result<(), AllocError> {
     match note {
         Some(note) => write_note(alloc, json, note),
         None => json.null("refusal"),
     }
 }
 
-fn write_note(alloc: Global, json: &mut JsonText, note: &RefusalNote) -> Result<(), OutOfMemory> {
+fn write_note(alloc: Global, json: &mut JsonText, note: &RefusalNote) -> Result<(), AllocError> {
     json.begin_object("refusal")?;
     json.text("about", kind(note))?;
     write_members(alloc, json, note)?;
@@ -42,11 +42,7 @@ fn kind(note: &RefusalNote) -> &'static str {
     }
 }
 
-fn write_members(
-    alloc: Global,
-    json: &mut JsonText,
-    note: &RefusalNote,
-) -> Result<(), OutOfMemory> {
+fn write_members(alloc: Global, json: &mut JsonText, note: &RefusalNote) -> Result<(), AllocError> {
     match note {
         RefusalNote::Side(side) => write_side(json, *side),
         RefusalNote::Name(name) => write_shown(alloc, json, name),
@@ -85,18 +81,16 @@ fn write_members(
     }
 }
 
-fn write_side(json: &mut JsonText, found: u32) -> Result<(), OutOfMemory> {
+fn write_side(json: &mut JsonText, found: u32) -> Result<(), AllocError> {
     json.count("least", u64::from(MIN_SIDE))?;
     json.count("greatest", u64::from(MAX_SIDE))?;
     json.count("found", u64::from(found))
 }
 
 /// Bytes that were found.
-fn write_shown(alloc: Global, json: &mut JsonText, found: &[u8]) -> Result<(), OutOfMemory> {
-    match shown_bytes(alloc, found) {
-        Ok(shown) => json.text("found", shown.as_str()),
-        Err(e) => Err(e),
-    }
+fn write_shown(alloc: Global, json: &mut JsonText, found: &[u8]) -> Result<(), AllocError> {
+    let shown = shown_bytes(alloc, found)?;
+    json.text("found", shown.as_str())
 }
 
 fn write_shape(
@@ -104,13 +98,13 @@ fn write_shape(
     product: Product,
     expected: &Extent,
     found: &Extent,
-) -> Result<(), OutOfMemory> {
+) -> Result<(), AllocError> {
     json.text("product", product.name())?;
     write_extent(json, "expected", expected)?;
     write_extent(json, "found", found)
 }
 
-fn write_extent(json: &mut JsonText, name: &str, extent: &Extent) -> Result<(), OutOfMemory> {
+fn write_extent(json: &mut JsonText, name: &str, extent: &Extent) -> Result<(), AllocError> {
     json.begin_object(name)?;
     json.count("rows", u64::from(extent.rows))?;
     json.count("cols", u64::from(extent.cols))?;
@@ -122,14 +116,14 @@ fn write_position(
     product: Product,
     expected: &Place,
     found: &Place,
-) -> Result<(), OutOfMemory> {
+) -> Result<(), AllocError> {
     json.text("product", product.name())?;
     write_place(json, "expected", expected)?;
     write_place(json, "found", found)
 }
 
 /// Degrees as decimals with fifteen places: a float would lose the last of them.
-fn write_place(json: &mut JsonText, name: &str, place: &Place) -> Result<(), OutOfMemory> {
+fn write_place(json: &mut JsonText, name: &str, place: &Place) -> Result<(), AllocError> {
     json.begin_object(name)?;
     json.text("ulxmap", units_text(place.ulx).as_str())?;
     json.text("ulymap", units_text(place.uly).as_str())?;
@@ -143,7 +137,7 @@ fn write_tile_length(
     tile: TileName,
     expected: u64,
     found: u64,
-) -> Result<(), OutOfMemory> {
+) -> Result<(), AllocError> {
     json.text("tile", tile.text().as_str())?;
     write_lengths(json, expected, found)
 }
@@ -153,27 +147,23 @@ fn write_raster_length(
     product: Product,
     expected: u64,
     found: u64,
-) -> Result<(), OutOfMemory> {
+) -> Result<(), AllocError> {
     json.text("product", product.name())?;
     write_lengths(json, expected, found)
 }
 
-fn write_lengths(json: &mut JsonText, expected: u64, found: u64) -> Result<(), OutOfMemory> {
+fn write_lengths(json: &mut JsonText, expected: u64, found: u64) -> Result<(), AllocError> {
     json.count("expected", expected)?;
     json.count("found", found)
 }
 
-fn write_seam(
-    json: &mut JsonText,
-    first: &TileValue,
-    other: &TileValue,
-) -> Result<(), OutOfMemory> {
+fn write_seam(json: &mut JsonText, first: &TileValue, other: &TileValue) -> Result<(), AllocError> {
     write_value(json, "first", first)?;
     write_value(json, "other", other)
 }
 
 /// A tile and its metres at the cell, null at a void.
-fn write_value(json: &mut JsonText, name: &str, value: &TileValue) -> Result<(), OutOfMemory> {
+fn write_value(json: &mut JsonText, name: &str, value: &TileValue) -> Result<(), AllocError> {
     json.begin_object(name)?;
     json.text("tile", value.tile.text().as_str())?;
     json.metres("metres", value.metres)?;
@@ -187,7 +177,7 @@ fn write_sink_line(
     line: u64,
     found: &[u8],
     bytes: u64,
-) -> Result<(), OutOfMemory> {
+) -> Result<(), AllocError> {
     json.count("line", line)?;
     write_shown(alloc, json, found)?;
     json.count("bytes", bytes)
@@ -199,7 +189,7 @@ fn write_sink_cell(
     row: u64,
     col: u64,
     why: NoData,
-) -> Result<(), OutOfMemory> {
+) -> Result<(), AllocError> {
     json.count("line", line)?;
     json.count("row", row)?;
     json.count("col", col)?;

@@ -1,37 +1,30 @@
 //! What was expected and found in refused inputs: a line each.
 
-use crate::place_text::{push_count, push_metres, push_row_col};
 use crate::refusal_note::{Extent, NoData, RefusalNote, TileValue};
 use crate::shown_bytes::shown_bytes;
 use crate::units::units_text;
-use crate::writing::push;
-use drain_grid::{MAX_SIDE, MIN_SIDE, OutOfMemory, Product};
+use drain_grid::{MAX_SIDE, MIN_SIDE, Product};
 use drain_header::Place;
 use drain_hgt::TileName;
-use std::alloc::Global;
+use std::alloc::{AllocError, Global};
 
 /// Appends both lines.
 pub(crate) fn push_refusal(
     alloc: Global,
-    text: &mut Vec<u8>,
+    text: &mut String,
     note: &RefusalNote,
-) -> Result<(), OutOfMemory> {
-    push(text, "expected: ")?;
+) -> Result<(), AllocError> {
+    text.push_str("expected: ")?;
     push_expected(text, note)?;
-    push(text, "\nfound: ")?;
+    text.push_str("\nfound: ")?;
     push_found(alloc, text, note)?;
-    push(text, "\n")
+    text.push_str("\n")
 }
 
-fn push_expected(text: &mut Vec<u8>, note: &RefusalNote) -> Result<(), OutOfMemory> {
+fn push_expected(text: &mut String, note: &RefusalNote) -> Result<(), AllocError> {
     match note {
-        RefusalNote::Side(_) => {
-            push(text, "a side from ")?;
-            push_count(text, u64::from(MIN_SIDE))?;
-            push(text, " to ")?;
-            push_count(text, u64::from(MAX_SIDE))
-        }
-        RefusalNote::Name(_) => push(text, "the name of a tile, such as N36W085.hgt"),
+        RefusalNote::Side(_) => write!(text, "a side from {MIN_SIDE} to {MAX_SIDE}"),
+        RefusalNote::Name(_) => text.push_str("the name of a tile, such as N36W085.hgt"),
         RefusalNote::Shape {
             product,
             expected,
@@ -48,117 +41,105 @@ fn push_expected(text: &mut Vec<u8>, note: &RefusalNote) -> Result<(), OutOfMemo
             expected,
             ..
         } => push_raster_length(text, *product, *expected),
-        RefusalNote::Seam { first, .. } => push_seam(text, "one height at the cell: ", first),
+        RefusalNote::Seam { first, .. } => {
+            text.push_str("one height at the cell: ")?;
+            push_seam(text, first)
+        }
         RefusalNote::SinkLine { number, .. } => {
-            push_line_number(text, *number)?;
-            push(text, ": a row and a column, such as 12 7")
+            write!(text, "line {number}: a row and a column, such as 12 7")
         }
-        RefusalNote::SinkCell { number, .. } => {
-            push_line_number(text, *number)?;
-            push(text, ": a data cell")
-        }
+        RefusalNote::SinkCell { number, .. } => write!(text, "line {number}: a data cell"),
     }
 }
 
-fn push_found(alloc: Global, text: &mut Vec<u8>, note: &RefusalNote) -> Result<(), OutOfMemory> {
+fn push_found(alloc: Global, text: &mut String, note: &RefusalNote) -> Result<(), AllocError> {
     match note {
-        RefusalNote::Side(side) => push_count(text, u64::from(*side)),
-        RefusalNote::Name(name) => push(text, shown_bytes(alloc, name)?.as_str()),
+        RefusalNote::Side(side) => write!(text, "{side}"),
+        RefusalNote::Name(name) => text.push_str(shown_bytes(alloc, name)?.as_str()),
         RefusalNote::Shape { product, found, .. } => push_shape(text, *product, found),
         RefusalNote::Position { product, found, .. } => push_position(text, *product, found),
         RefusalNote::TileLength { tile, found, .. } => push_length(text, *tile, *found),
         RefusalNote::RasterLength { product, found, .. } => {
             push_raster_length(text, *product, *found)
         }
-        RefusalNote::Seam { other, .. } => push_seam(text, "", other),
+        RefusalNote::Seam { other, .. } => push_seam(text, other),
         RefusalNote::SinkLine {
             number,
             start,
             bytes,
-        } => {
-            push_line_number(text, *number)?;
-            push_how_much(text, start.len() as u64, *bytes)?;
-            push(text, ": ")?;
-            push(text, shown_bytes(alloc, start)?.as_str())
-        }
+        } => push_sink_line(alloc, text, *number, start, *bytes),
         RefusalNote::SinkCell { row, col, why, .. } => {
-            push_row_col(text, *row, *col)?;
-            push_no_data(text, *why)
+            let why = no_data(*why);
+            write!(text, "row {row}, column {col}, {why}")
         }
     }
 }
 
 /// A product's rows and columns.
-fn push_shape(text: &mut Vec<u8>, product: Product, extent: &Extent) -> Result<(), OutOfMemory> {
-    push(text, product.name())?;
-    push(text, " with ")?;
-    push_count(text, u64::from(extent.rows))?;
-    push(text, " rows and ")?;
-    push_count(text, u64::from(extent.cols))?;
-    push(text, " columns")
+fn push_shape(text: &mut String, product: Product, extent: &Extent) -> Result<(), AllocError> {
+    let name = product.name();
+    write!(
+        text,
+        "{name} with {} rows and {} columns",
+        extent.rows, extent.cols
+    )
 }
 
 /// A product's place, as in its header.
-fn push_position(text: &mut Vec<u8>, product: Product, place: &Place) -> Result<(), OutOfMemory> {
-    push(text, product.name())?;
-    push_units(text, " at ULXMAP ", place.ulx)?;
-    push_units(text, ", ULYMAP ", place.uly)?;
-    push_units(text, ", XDIM ", place.xdim)?;
-    push_units(text, ", YDIM ", place.ydim)
-}
-
-fn push_units(text: &mut Vec<u8>, words: &str, units: i128) -> Result<(), OutOfMemory> {
-    push(text, words)?;
-    push(text, units_text(units).as_str())
+fn push_position(text: &mut String, product: Product, place: &Place) -> Result<(), AllocError> {
+    write!(
+        text,
+        "{} at ULXMAP {}, ULYMAP {}, XDIM {}, YDIM {}",
+        product.name(),
+        units_text(place.ulx),
+        units_text(place.uly),
+        units_text(place.xdim),
+        units_text(place.ydim)
+    )
 }
 
 /// A tile's length in bytes.
-fn push_length(text: &mut Vec<u8>, tile: TileName, bytes: u64) -> Result<(), OutOfMemory> {
-    push(text, tile.text().as_str())?;
-    push_bytes_long(text, " of ", bytes)
+fn push_length(text: &mut String, tile: TileName, bytes: u64) -> Result<(), AllocError> {
+    write!(text, "{} of {bytes} bytes", tile.text())
 }
 
 /// The length of a product's raster.
-fn push_raster_length(text: &mut Vec<u8>, product: Product, bytes: u64) -> Result<(), OutOfMemory> {
-    push(text, product.name())?;
-    push_bytes_long(text, ".bil of ", bytes)
-}
-
-fn push_bytes_long(text: &mut Vec<u8>, words: &str, bytes: u64) -> Result<(), OutOfMemory> {
-    push(text, words)?;
-    push_count(text, bytes)?;
-    push(text, " bytes")
+fn push_raster_length(text: &mut String, product: Product, bytes: u64) -> Result<(), AllocError> {
+    write!(text, "{}.bil of {bytes} bytes", product.name())
 }
 
 /// The value of a tile at the cell.
-fn push_seam(text: &mut Vec<u8>, words: &str, value: &TileValue) -> Result<(), OutOfMemory> {
-    push(text, words)?;
-    push(text, value.tile.text().as_str())?;
-    push(text, " has ")?;
-    push_metres(text, value.metres)
-}
-
-fn push_line_number(text: &mut Vec<u8>, number: u64) -> Result<(), OutOfMemory> {
-    push(text, "line ")?;
-    push_count(text, number)
-}
-
-/// How much of a line is shown, if it isn't the whole line.
-fn push_how_much(text: &mut Vec<u8>, shown: u64, bytes: u64) -> Result<(), OutOfMemory> {
-    if shown >= bytes {
-        return Ok(());
+fn push_seam(text: &mut String, value: &TileValue) -> Result<(), AllocError> {
+    let tile = value.tile.text();
+    match value.metres {
+        Some(metres) => write!(text, "{tile} has {metres}"),
+        None => write!(text, "{tile} has a void"),
     }
-    push(text, ", the first ")?;
-    push_count(text, shown)?;
-    push_bytes_long(text, " of ", bytes)
 }
 
-fn push_no_data(text: &mut Vec<u8>, why: NoData) -> Result<(), OutOfMemory> {
-    push(
-        text,
-        match why {
-            NoData::Void => ", a void",
-            NoData::Outside => ", outside the mosaic",
-        },
-    )
+/// The line, and how much of it is shown, if it isn't the whole line.
+fn push_sink_line(
+    alloc: Global,
+    text: &mut String,
+    number: u64,
+    start: &[u8],
+    bytes: u64,
+) -> Result<(), AllocError> {
+    let line = shown_bytes(alloc, start)?;
+    let shown = start.len() as u64;
+    if shown >= bytes {
+        write!(text, "line {number}: {line}")
+    } else {
+        write!(
+            text,
+            "line {number}, the first {shown} of {bytes} bytes: {line}"
+        )
+    }
+}
+
+fn no_data(why: NoData) -> &'static str {
+    match why {
+        NoData::Void => "a void",
+        NoData::Outside => "outside the mosaic",
+    }
 }

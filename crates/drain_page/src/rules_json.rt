@@ -6,10 +6,11 @@ use crate::place::MosaicPlace;
 use crate::tried_rules::is_tried;
 use crate::wanted::shown_products;
 use drain_faults::{ProductFaults, RULES, RuleFaults};
-use drain_grid::{Cell, Held, OutOfMemory, Rule};
+use drain_grid::{Cell, Held, Rule};
+use std::alloc::AllocError;
 
 /// Each rule that was checked.
-pub(crate) fn write_rules(json: &mut JsonText, findings: &Findings) -> Result<(), OutOfMemory> {
+pub(crate) fn write_rules(json: &mut JsonText, findings: &Findings) -> Result<(), AllocError> {
     json.begin_list("rules")?;
     for rule in RULES {
         if is_tried(rule) {
@@ -24,7 +25,7 @@ fn write_rule(
     place: &MosaicPlace,
     rule: Rule,
     faults: &RuleFaults,
-) -> Result<(), OutOfMemory> {
+) -> Result<(), AllocError> {
     json.begin_object_item()?;
     json.count("rule", u64::from(rule.number()))?;
     json.text("name", rule.name())?;
@@ -32,7 +33,7 @@ fn write_rule(
 }
 
 /// Each product that was checked, with its faults by rules VoidCell and Missing.
-pub(crate) fn write_products(json: &mut JsonText, findings: &Findings) -> Result<(), OutOfMemory> {
+pub(crate) fn write_products(json: &mut JsonText, findings: &Findings) -> Result<(), AllocError> {
     json.begin_list("products")?;
     for held in shown_products(findings.rules.ranks) {
         let faults = findings.by_product.of(*held);
@@ -46,7 +47,7 @@ fn write_product(
     place: &MosaicPlace,
     held: Held,
     faults: &ProductFaults,
-) -> Result<(), OutOfMemory> {
+) -> Result<(), AllocError> {
     json.begin_object_item()?;
     json.text("product", held.product().name())?;
     json.begin_object("at_voids")?;
@@ -61,7 +62,7 @@ fn end_with_faults(
     json: &mut JsonText,
     place: &MosaicPlace,
     faults: &RuleFaults,
-) -> Result<(), OutOfMemory> {
+) -> Result<(), AllocError> {
     json.count("cells", u64::from(faults.cells))?;
     match faults.first {
         Some(cell) => write_cell(json, "first", place, cell)?,
@@ -76,7 +77,7 @@ pub(crate) fn write_cell(
     name: &str,
     place: &MosaicPlace,
     cell: Cell,
-) -> Result<(), OutOfMemory> {
+) -> Result<(), AllocError> {
     json.begin_object(name)?;
     end_with_place(json, place, cell)
 }
@@ -86,13 +87,13 @@ pub(crate) fn write_cell_item(
     json: &mut JsonText,
     place: &MosaicPlace,
     cell: Cell,
-) -> Result<(), OutOfMemory> {
+) -> Result<(), AllocError> {
     json.begin_object_item()?;
     end_with_place(json, place, cell)
 }
 
 /// A cell's row and column and its degrees, at the end of an object.
-fn end_with_place(json: &mut JsonText, place: &MosaicPlace, cell: Cell) -> Result<(), OutOfMemory> {
+fn end_with_place(json: &mut JsonText, place: &MosaicPlace, cell: Cell) -> Result<(), AllocError> {
     json.count("row", u64::from(cell.row))?;
     json.count("col", u64::from(cell.col))?;
     json.decimal("longitude", place.longitude(cell.col))?;

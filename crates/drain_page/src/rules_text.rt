@@ -1,34 +1,28 @@
 //! A table of the rules that fail, and lines of those that hold and of those not checked.
 
 use crate::facts::Findings;
-use crate::names::shown_rule;
+use crate::names::{shown_indented, shown_rule};
 use crate::place::MosaicPlace;
 use crate::tried_rules::is_tried;
 use crate::wanted::shown_products;
-use crate::writing::{push, push_left, push_right, push_right_number};
 use drain_faults::{RULES, RuleFaults};
-use drain_grid::{Held, OutOfMemory, Rule};
+use drain_grid::{Held, Rule};
 use drain_rules::Ranks;
+use std::alloc::AllocError;
 
-/// The widths of the table's columns: the rule, its cells, row, column, longitude and latitude of the first.
-const RULE_WIDTH: usize = 15;
-
-const CELLS_WIDTH: usize = 10;
-
-const PLACE_WIDTH: usize = 7;
-
-const DEGREES_WIDTH: usize = 14;
+/// The line of headings, as wide as the lines below it.
+const HEADINGS: &str = "rule                cells    row column     longitude      latitude\n";
 
 /// Appends the table and the lines.
-pub(crate) fn push_rules(text: &mut Vec<u8>, findings: &Findings) -> Result<(), OutOfMemory> {
+pub(crate) fn push_rules(text: &mut String, findings: &Findings) -> Result<(), AllocError> {
     if any_fails(findings) {
         push_table(text, findings)?;
     }
     push_holding(text, findings)?;
-    push(text, "not tried: 6 NoSpill, 7 SpillHeight, 8 SpillRank\n")?;
+    text.push_str("not tried: 6 NoSpill, 7 SpillHeight, 8 SpillRank\n")?;
     match findings.rules.ranks {
         Ranks::Asked => Ok(()),
-        Ranks::Unasked => push(text, "ranks: not checked\n"),
+        Ranks::Unasked => text.push_str("ranks: not checked\n"),
     }
 }
 
@@ -43,14 +37,8 @@ fn fails(findings: &Findings, rule: Rule) -> bool {
 }
 
 /// A line of headings, and a line for each rule that fails.
-fn push_table(text: &mut Vec<u8>, findings: &Findings) -> Result<(), OutOfMemory> {
-    push_left(text, "rule", RULE_WIDTH)?;
-    push_right(text, "cells", CELLS_WIDTH)?;
-    push_right(text, "row", PLACE_WIDTH)?;
-    push_right(text, "column", PLACE_WIDTH)?;
-    push_right(text, "longitude", DEGREES_WIDTH)?;
-    push_right(text, "latitude", DEGREES_WIDTH)?;
-    push(text, "\n")?;
+fn push_table(text: &mut String, findings: &Findings) -> Result<(), AllocError> {
+    text.push_str(HEADINGS)?;
     for rule in RULES {
         if fails(findings, rule) {
             push_failing(text, findings, rule)?;
@@ -60,9 +48,14 @@ fn push_table(text: &mut Vec<u8>, findings: &Findings) -> Result<(), OutOfMemory
 }
 
 /// The line of a rule, and below those of its products, if it is VoidCell or Missing.
-fn push_failing(text: &mut Vec<u8>, findings: &Findings, rule: Rule) -> Result<(), OutOfMemory> {
-    push_left(text, shown_rule(rule).as_str(), RULE_WIDTH)?;
-    push_faults(text, &findings.place, findings.by_rule.of(rule))?;
+fn push_failing(text: &mut String, findings: &Findings, rule: Rule) -> Result<(), AllocError> {
+    let name = shown_rule(rule);
+    push_faults(
+        text,
+        name.as_str(),
+        &findings.place,
+        findings.by_rule.of(rule),
+    )?;
     match rule {
         Rule::VoidCell | Rule::Missing => push_products(text, findings, rule),
         _ => Ok(()),
@@ -70,13 +63,12 @@ fn push_failing(text: &mut Vec<u8>, findings: &Findings, rule: Rule) -> Result<(
 }
 
 /// A line for each product that is at fault.
-fn push_products(text: &mut Vec<u8>, findings: &Findings, rule: Rule) -> Result<(), OutOfMemory> {
+fn push_products(text: &mut String, findings: &Findings, rule: Rule) -> Result<(), AllocError> {
     for held in shown_products(findings.rules.ranks) {
         let faults = product_faults(findings, *held, rule);
         if faults.cells != 0 {
-            push(text, "  ")?;
-            push_left(text, held.product().name(), RULE_WIDTH - 2)?;
-            push_faults(text, &findings.place, &faults)?;
+            let name = shown_indented(held.product().name());
+            push_faults(text, name.as_str(), &findings.place, &faults)?;
         }
     }
     Ok(())
@@ -91,32 +83,40 @@ fn product_faults(findings: &Findings, held: Held, rule: Rule) -> RuleFaults {
     }
 }
 
-/// How many cells these are, and the first, to the end of the line.
+/// What fails, at how many cells, and the first: its row, column, longitude and latitude.
 fn push_faults(
-    text: &mut Vec<u8>,
+    text: &mut String,
+    name: &str,
     place: &MosaicPlace,
     faults: &RuleFaults,
-) -> Result<(), OutOfMemory> {
-    push_right_number(text, faults.cells, CELLS_WIDTH)?;
-    if let Some(cell) = faults.first {
-        push_right_number(text, cell.row, PLACE_WIDTH)?;
-        push_right_number(text, cell.col, PLACE_WIDTH)?;
-        push_right(text, place.longitude_text(cell.col).as_str(), DEGREES_WIDTH)?;
-        push_right(text, place.latitude_text(cell.row).as_str(), DEGREES_WIDTH)?;
+) -> Result<(), AllocError> {
+    let cells = faults.cells;
+    match faults.first {
+        Some(cell) => {
+            let longitude = place.longitude_text(cell.col);
+            let latitude = place.latitude_text(cell.row);
+            writeln!(
+                text,
+                "{name:<15}{cells:>10}{:>7}{:>7}{:>14}{:>14}",
+                cell.row,
+                cell.col,
+                longitude.as_str(),
+                latitude.as_str()
+            )
+        }
+        None => writeln!(text, "{name:<15}{cells:>10}"),
     }
-    push(text, "\n")
 }
 
 /// The line of the rules that hold at every cell.
-fn push_holding(text: &mut Vec<u8>, findings: &Findings) -> Result<(), OutOfMemory> {
-    push(text, "hold:")?;
+fn push_holding(text: &mut String, findings: &Findings) -> Result<(), AllocError> {
+    text.push_str("hold:")?;
     let mut separator = " ";
     for rule in RULES {
         if is_tried(rule) && !fails(findings, rule) {
-            push(text, separator)?;
-            push(text, shown_rule(rule).as_str())?;
+            write!(text, "{separator}{} {}", rule.number(), rule.name())?;
             separator = ", ";
         }
     }
-    push(text, if separator == " " { " none\n" } else { "\n" })
+    text.push_str(if separator == " " { " none\n" } else { "\n" })
 }

@@ -4,11 +4,12 @@ use crate::facts::Findings;
 use crate::json_text::JsonText;
 use crate::place::MosaicPlace;
 use crate::rules_json::{write_cell, write_cell_item};
-use drain_grid::{Cell, OutOfMemory};
+use drain_grid::Cell;
 use drain_runs::{EndlessRun, LostBy};
+use std::alloc::AllocError;
 
 /// Where the path begins, and the ring or the cell to which it leads; null if there is none.
-pub(crate) fn write_run(json: &mut JsonText, findings: &Findings) -> Result<(), OutOfMemory> {
+pub(crate) fn write_run(json: &mut JsonText, findings: &Findings) -> Result<(), AllocError> {
     match &findings.endless {
         Some((cell, run)) => write_endless(json, &findings.place, *cell, run),
         None => json.null("run"),
@@ -20,7 +21,7 @@ fn write_endless(
     place: &MosaicPlace,
     from: Cell,
     run: &EndlessRun,
-) -> Result<(), OutOfMemory> {
+) -> Result<(), AllocError> {
     json.begin_object("run")?;
     write_cell(json, "from", place, from)?;
     write_end(json, place, run)?;
@@ -28,11 +29,7 @@ fn write_endless(
 }
 
 /// The ring or the cell to which the path leads; the other is null.
-fn write_end(
-    json: &mut JsonText,
-    place: &MosaicPlace,
-    run: &EndlessRun,
-) -> Result<(), OutOfMemory> {
+fn write_end(json: &mut JsonText, place: &MosaicPlace, run: &EndlessRun) -> Result<(), AllocError> {
     match run {
         EndlessRun::Ring { cells, length } => {
             write_ring(json, place, cells, *length)?;
@@ -51,7 +48,7 @@ fn write_ring(
     place: &MosaicPlace,
     cells: &[Cell],
     length: usize,
-) -> Result<(), OutOfMemory> {
+) -> Result<(), AllocError> {
     json.begin_object("ring")?;
     json.count("length", length as u64)?;
     json.begin_list("cells")?;
@@ -68,7 +65,7 @@ fn write_lost(
     place: &MosaicPlace,
     cell: Cell,
     by: LostBy,
-) -> Result<(), OutOfMemory> {
+) -> Result<(), AllocError> {
     json.begin_object("lost")?;
     write_cell(json, "cell", place, cell)?;
     json.text(

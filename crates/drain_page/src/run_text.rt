@@ -1,18 +1,16 @@
 //! A path without an end, in words.
 
-use crate::place_text::push_cell;
-use crate::writing::{push, push_long};
-use drain_grid::{Cell, OutOfMemory};
+use drain_grid::Cell;
 use drain_runs::{EndlessRun, LostBy};
+use std::alloc::AllocError;
 
 /// Appends the cell where the path begins, and where it leads.
-pub(crate) fn push_run(
-    text: &mut Vec<u8>,
-    cell: Cell,
-    run: &EndlessRun,
-) -> Result<(), OutOfMemory> {
-    push(text, "path without an end: from ")?;
-    push_cell(text, cell)?;
+pub(crate) fn push_run(text: &mut String, from: Cell, run: &EndlessRun) -> Result<(), AllocError> {
+    write!(
+        text,
+        "path without an end: from row {}, column {}",
+        from.row, from.col
+    )?;
     match run {
         EndlessRun::Ring { cells, length } => push_ring(text, cells, *length),
         EndlessRun::Lost { cell, by } => push_lost(text, *cell, *by),
@@ -20,32 +18,28 @@ pub(crate) fn push_run(
 }
 
 /// The ring's length and its cells, one a line.
-fn push_ring(text: &mut Vec<u8>, cells: &[Cell], length: usize) -> Result<(), OutOfMemory> {
-    push(text, " into a ring of ")?;
-    push_long(text, length as u128)?;
-    push(text, " cells\n")?;
+fn push_ring(text: &mut String, cells: &[Cell], length: usize) -> Result<(), AllocError> {
+    writeln!(text, " into a ring of {length} cells")?;
     for cell in cells {
-        push(text, "  ")?;
-        push_cell(text, *cell)?;
-        push(text, "\n")?;
+        writeln!(text, "  row {}, column {}", cell.row, cell.col)?;
     }
     if cells.len() < length {
-        push(text, "  and so on\n")
+        writeln!(text, "  and so on")
     } else {
         Ok(())
     }
 }
 
 /// The cell where it stops, and why.
-fn push_lost(text: &mut Vec<u8>, cell: Cell, by: LostBy) -> Result<(), OutOfMemory> {
-    push(text, "\n  path stops at ")?;
-    push_cell(text, cell)?;
-    push(
+fn push_lost(text: &mut String, cell: Cell, by: LostBy) -> Result<(), AllocError> {
+    let why = match by {
+        LostBy::NoCode => "dir is no direction code",
+        LostBy::Outside => "dir points outside the mosaic",
+        LostBy::Void => "dir points to a void",
+    };
+    writeln!(
         text,
-        match by {
-            LostBy::NoCode => ": dir is no direction code\n",
-            LostBy::Outside => ": dir points outside the mosaic\n",
-            LostBy::Void => ": dir points to a void\n",
-        },
+        "\n  path stops at row {}, column {}: {why}",
+        cell.row, cell.col
     )
 }

@@ -9,28 +9,36 @@ use crate::patch_text::push_first;
 use crate::refusal_text::push_refusal;
 use crate::rules_text::push_rules;
 use crate::run_text::push_run;
-use crate::writing::{push, push_bytes};
 use drain_grid::OutOfMemory;
-use std::alloc::Global;
+use std::alloc::{AllocError, Global};
 
 /// The page: the answer's line, and then its explanation, part after part with an empty line between. Each line ends
 /// with a line feed.
 pub fn page_text(alloc: Global, facts: &Facts) -> Result<Vec<u8>, OutOfMemory>
     ensures line_first { IfOk result (λ text. (rest : List ℕ) × (text.items ≡ line_of facts.now.answer ++ 10 ∷ rest)) }
 {
+    match page(alloc, facts) {
+        Ok(text) => Ok(text),
+        Err(AllocError) => Err(OutOfMemory),
+    }
+}
+
+fn page(alloc: Global, facts: &Facts) -> Result<Vec<u8>, AllocError>
+    ensures line_first { IfOk result (λ text. (rest : List ℕ) × (text.items ≡ line_of facts.now.answer ++ 10 ∷ rest)) }
+{
     let mut text = Vec::new(alloc);
-    push(&mut text, answer_line(&facts.answer).as_str())?;
-    push(&mut text, "\n")?;
+    text.extend_from_slice(answer_line(&facts.answer).as_str().as_bytes())?;
+    text.push(b'\n')?;
     let rest = explanation(alloc, facts)?;
-    push_bytes(&mut text, &rest)?;
+    text.extend_from_slice(rest.as_bytes())?;
     Ok(text)
 }
 
 /// The page below the answer's line.
-fn explanation(alloc: Global, facts: &Facts) -> Result<Vec<u8>, OutOfMemory> {
-    let mut text = Vec::new(alloc);
+fn explanation(alloc: Global, facts: &Facts) -> Result<String, AllocError> {
+    let mut text = String::new(alloc);
     if let Some(note) = &facts.refusal {
-        push(&mut text, "\n")?;
+        text.push_str("\n")?;
         push_refusal(alloc, &mut text, note)?;
     }
     if let Some(findings) = &facts.findings {
@@ -40,19 +48,15 @@ fn explanation(alloc: Global, facts: &Facts) -> Result<Vec<u8>, OutOfMemory> {
 }
 
 /// The rules, the first cell at which one fails, and the first path without an end.
-fn push_findings(
-    alloc: Global,
-    text: &mut Vec<u8>,
-    findings: &Findings,
-) -> Result<(), OutOfMemory> {
-    push(text, "\n")?;
+fn push_findings(alloc: Global, text: &mut String, findings: &Findings) -> Result<(), AllocError> {
+    text.push_str("\n")?;
     push_rules(text, findings)?;
     if let Some(first) = &findings.first {
-        push(text, "\n")?;
+        text.push_str("\n")?;
         push_first(alloc, text, findings, first)?;
     }
     if let Some((cell, run)) = &findings.endless {
-        push(text, "\n")?;
+        text.push_str("\n")?;
         push_run(text, *cell, run)?;
     }
     Ok(())

@@ -1,12 +1,12 @@
 //! What the first rule that fails at a cell expected there.
 
-use crate::inflow::expected_accumulation;
 use crate::least_way::greatest_allowed;
 use crate::opening::{Opening, opening_of};
-use crate::ways::{expected_label, is_flat_way, key};
-use drain_grid::{CellValues, Direction, Held, NoData, OutOfMemory, Patch, Rule};
+use crate::ways::{expected_label, is_flat_way};
+use drain_grid::{CellValues, Direction, Held, NoData, Patch, Rule};
 use drain_rules::{Ranks, Rules};
-use std::alloc::Global;
+use drain_slope::key;
+use std::alloc::{AllocError, Global};
 
 /// A way down: how far, and its key.
 #[derive(Clone, Copy, PartialEq, Eq, Debug)]
@@ -59,7 +59,7 @@ pub fn wanted_by(
     rule: Rule,
     patch: &Patch,
     rules: &Rules,
-) -> Result<Wanted, OutOfMemory> {
+) -> Result<Wanted, AllocError> {
     let ground = i64::from(patch.here.z.unwrap_or(0));
     Ok(match rule {
         Rule::VoidCell => Wanted::Blank(products(alloc, &patch.here, rules, false)?),
@@ -74,7 +74,7 @@ pub fn wanted_by(
         Rule::Slope => Wanted::Steepest(ways_down(alloc, patch)?),
         Rule::OutletCode => Wanted::Outlet(opening_of(patch)),
         Rule::FlatStep => along(alloc, patch, rules.ranks)?,
-        Rule::Accumulation => Wanted::Sum(expected_accumulation(patch)),
+        Rule::Accumulation => Wanted::Sum(drain_accum::expected(patch)),
         Rule::Label => Wanted::Label(expected_label(patch)),
         Rule::SharedLabel => Wanted::NewLabel,
         Rule::NoSpill | Rule::SpillHeight | Rule::SpillRank => Wanted::Nothing,
@@ -87,11 +87,11 @@ fn products(
     values: &CellValues,
     rules: &Rules,
     blank: bool,
-) -> Result<Vec<Held>, OutOfMemory> {
+) -> Result<Vec<Held>, AllocError> {
     let mut products = Vec::new(alloc);
     for held in shown_products(rules.ranks) {
         if (number(values, *held) == no_data(&rules.nodata, *held)) == blank {
-            push(&mut products, *held)?;
+            products.push(*held)?;
         }
     }
     Ok(products)
@@ -128,20 +128,17 @@ pub fn no_data(nodata: &NoData, held: Held) -> i64 {
 }
 
 /// The ways to lower neighbours.
-fn ways_down(alloc: Global, patch: &Patch) -> Result<Vec<WayDown>, OutOfMemory> {
+fn ways_down(alloc: Global, patch: &Patch) -> Result<Vec<WayDown>, AllocError> {
     let mut ways = Vec::new(alloc);
     for direction in Direction::ALL {
         let key = key(patch, direction);
         if key != 0 {
             let drop = drop_to(patch, direction);
-            push(
-                &mut ways,
-                WayDown {
-                    direction,
-                    drop,
-                    key,
-                },
-            )?;
+            ways.push(WayDown {
+                direction,
+                drop,
+                key,
+            })?;
         }
     }
     Ok(ways)
@@ -160,11 +157,11 @@ fn difference(here: &CellValues, there: &CellValues) -> i64 {
 }
 
 /// The directions that rule FlatStep allows.
-fn along(alloc: Global, patch: &Patch, ranks: Ranks) -> Result<Wanted, OutOfMemory> {
+fn along(alloc: Global, patch: &Patch, ranks: Ranks) -> Result<Wanted, AllocError> {
     let mut directions = Vec::new(alloc);
     for direction in Direction::ALL {
         if is_flat_way(patch, direction, ranks) {
-            push(&mut directions, direction)?;
+            directions.push(direction)?;
         }
     }
     Ok(Wanted::Along { directions, ranks })
@@ -177,11 +174,4 @@ pub fn steepest(ways: &[WayDown]) -> u128 {
         steepest = way.key.max(steepest);
     }
     steepest
-}
-
-fn push<T: Drop>(things: &mut Vec<T>, thing: T) -> Result<(), OutOfMemory> {
-    match things.push(thing) {
-        Ok(()) => Ok(()),
-        Err(_) => Err(OutOfMemory),
-    }
 }

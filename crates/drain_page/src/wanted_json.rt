@@ -6,8 +6,8 @@ use crate::opening::Opening;
 use crate::wanted::{Wanted, WayDown, number, steepest, wanted_by};
 use crate::wanted_text::found_product;
 use drain_faults::FaultyPatch;
-use drain_grid::{CellValues, Direction, Held, OutOfMemory, Rule};
-use std::alloc::Global;
+use drain_grid::{CellValues, Direction, Held, Rule};
+use std::alloc::{AllocError, Global};
 
 /// The nine codes.
 const CODES: [i64; 9] = [0, 1, 2, 4, 8, 16, 32, 64, 128];
@@ -17,7 +17,7 @@ pub(crate) fn write_wanted(
     alloc: Global,
     json: &mut JsonText,
     findings: &Findings,
-) -> Result<(), OutOfMemory> {
+) -> Result<(), AllocError> {
     match &findings.first {
         Some(first) => write_wanted_at(alloc, json, findings, first),
         None => json.null("expected"),
@@ -29,11 +29,9 @@ fn write_wanted_at(
     json: &mut JsonText,
     findings: &Findings,
     first: &FaultyPatch,
-) -> Result<(), OutOfMemory> {
-    match wanted_by(alloc, first.rule, &first.patch, &findings.rules) {
-        Ok(wanted) => write_wanted_by(json, first.rule, &first.patch.here, &wanted),
-        Err(e) => Err(e),
-    }
+) -> Result<(), AllocError> {
+    let wanted = wanted_by(alloc, first.rule, &first.patch, &findings.rules)?;
+    write_wanted_by(json, first.rule, &first.patch.here, &wanted)
 }
 
 fn write_wanted_by(
@@ -41,7 +39,7 @@ fn write_wanted_by(
     rule: Rule,
     here: &CellValues,
     wanted: &Wanted,
-) -> Result<(), OutOfMemory> {
+) -> Result<(), AllocError> {
     json.begin_object("expected")?;
     json.count("rule", u64::from(rule.number()))?;
     json.text("name", rule.name())?;
@@ -59,7 +57,7 @@ fn write_found(
     json: &mut JsonText,
     here: &CellValues,
     product: Option<Held>,
-) -> Result<(), OutOfMemory> {
+) -> Result<(), AllocError> {
     match product {
         Some(held) => {
             json.text("product", held.product().name())?;
@@ -86,7 +84,7 @@ fn expected_number(wanted: &Wanted) -> Option<i64> {
 }
 
 /// The products at fault, of rules VoidCell and Missing.
-fn write_products(json: &mut JsonText, wanted: &Wanted) -> Result<(), OutOfMemory> {
+fn write_products(json: &mut JsonText, wanted: &Wanted) -> Result<(), AllocError> {
     json.begin_list("products")?;
     if let Wanted::Blank(products) | Wanted::Numbers(products) = wanted {
         write_names(json, products)?;
@@ -94,7 +92,7 @@ fn write_products(json: &mut JsonText, wanted: &Wanted) -> Result<(), OutOfMemor
     json.end_list()
 }
 
-fn write_names(json: &mut JsonText, products: &[Held]) -> Result<(), OutOfMemory> {
+fn write_names(json: &mut JsonText, products: &[Held]) -> Result<(), AllocError> {
     for held in products {
         json.text_item(held.product().name())?;
     }
@@ -102,13 +100,13 @@ fn write_names(json: &mut JsonText, products: &[Held]) -> Result<(), OutOfMemory
 }
 
 /// The allowed codes, if dir is at fault.
-fn write_codes(json: &mut JsonText, wanted: &Wanted) -> Result<(), OutOfMemory> {
+fn write_codes(json: &mut JsonText, wanted: &Wanted) -> Result<(), AllocError> {
     json.begin_list("codes")?;
     write_each_code(json, wanted)?;
     json.end_list()
 }
 
-fn write_each_code(json: &mut JsonText, wanted: &Wanted) -> Result<(), OutOfMemory> {
+fn write_each_code(json: &mut JsonText, wanted: &Wanted) -> Result<(), AllocError> {
     match wanted {
         Wanted::Code => write_every_code(json),
         Wanted::Outlet(_) => json.number_item(0),
@@ -118,21 +116,21 @@ fn write_each_code(json: &mut JsonText, wanted: &Wanted) -> Result<(), OutOfMemo
     }
 }
 
-fn write_every_code(json: &mut JsonText) -> Result<(), OutOfMemory> {
+fn write_every_code(json: &mut JsonText) -> Result<(), AllocError> {
     for code in CODES {
         json.number_item(code)?;
     }
     Ok(())
 }
 
-fn write_directions(json: &mut JsonText, directions: &[Direction]) -> Result<(), OutOfMemory> {
+fn write_directions(json: &mut JsonText, directions: &[Direction]) -> Result<(), AllocError> {
     for direction in directions {
         json.number_item(direction.code())?;
     }
     Ok(())
 }
 
-fn write_steepest(json: &mut JsonText, ways: &[WayDown]) -> Result<(), OutOfMemory> {
+fn write_steepest(json: &mut JsonText, ways: &[WayDown]) -> Result<(), AllocError> {
     let steepest = steepest(ways);
     for way in ways {
         if way.key == steepest {
@@ -143,7 +141,7 @@ fn write_steepest(json: &mut JsonText, ways: &[WayDown]) -> Result<(), OutOfMemo
 }
 
 /// The ways down, of rule Slope.
-fn write_ways(json: &mut JsonText, wanted: &Wanted) -> Result<(), OutOfMemory> {
+fn write_ways(json: &mut JsonText, wanted: &Wanted) -> Result<(), AllocError> {
     json.begin_list("ways")?;
     if let Wanted::Steepest(ways) = wanted {
         write_each_way(json, ways)?;
@@ -151,14 +149,14 @@ fn write_ways(json: &mut JsonText, wanted: &Wanted) -> Result<(), OutOfMemory> {
     json.end_list()
 }
 
-fn write_each_way(json: &mut JsonText, ways: &[WayDown]) -> Result<(), OutOfMemory> {
+fn write_each_way(json: &mut JsonText, ways: &[WayDown]) -> Result<(), AllocError> {
     for way in ways {
         write_way(json, way)?;
     }
     Ok(())
 }
 
-fn write_way(json: &mut JsonText, way: &WayDown) -> Result<(), OutOfMemory> {
+fn write_way(json: &mut JsonText, way: &WayDown) -> Result<(), AllocError> {
     json.begin_object_item()?;
     json.number("code", way.direction.code())?;
     json.number("drop", way.drop)?;
@@ -167,7 +165,7 @@ fn write_way(json: &mut JsonText, way: &WayDown) -> Result<(), OutOfMemory> {
 }
 
 /// Why the cell is open, if that is the reason of the rule.
-fn write_opening(json: &mut JsonText, wanted: &Wanted) -> Result<(), OutOfMemory> {
+fn write_opening(json: &mut JsonText, wanted: &Wanted) -> Result<(), AllocError> {
     match opening(wanted) {
         Some(opening) => json.text("open", opening.name()),
         None => json.null("open"),

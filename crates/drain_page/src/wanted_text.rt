@@ -1,26 +1,24 @@
 //! What the first rule expected, in words: a line of what was expected, lines of ways if there are several, and a line
 //! of what was found.
 
-use crate::names::{letters, shown_code, shown_number, shown_rule};
+use crate::names::{letters, shown_code, shown_number};
 use crate::opening::Opening;
 use crate::wanted::{Wanted, WayDown, steepest};
-use crate::writing::{push, push_long, push_number};
-use drain_grid::{Direction, Held, NoData, OutOfMemory, Patch, Rule};
+use drain_grid::{Direction, Held, NoData, Patch, Rule};
 use drain_rules::Ranks;
+use std::alloc::AllocError;
 
 /// Appends the rule and these lines.
 pub(crate) fn push_wanted(
-    text: &mut Vec<u8>,
+    text: &mut String,
     rule: Rule,
     patch: &Patch,
     nodata: &NoData,
     wanted: &Wanted,
-) -> Result<(), OutOfMemory> {
-    push(text, "rule ")?;
-    push(text, shown_rule(rule).as_str())?;
-    push(text, "\nexpected: ")?;
+) -> Result<(), AllocError> {
+    write!(text, "rule {} {}\nexpected: ", rule.number(), rule.name())?;
     push_expected(text, wanted)?;
-    push(text, "\n")?;
+    text.push_str("\n")?;
     push_ways(text, wanted)?;
     match found_product(wanted) {
         Some(held) => push_found(text, patch, nodata, held),
@@ -29,24 +27,29 @@ pub(crate) fn push_wanted(
 }
 
 /// Appends what was expected.
-fn push_expected(text: &mut Vec<u8>, wanted: &Wanted) -> Result<(), OutOfMemory> {
+fn push_expected(text: &mut String, wanted: &Wanted) -> Result<(), AllocError> {
     match wanted {
         Wanted::Blank(products) => push_products(text, "no data at a void, in ", products),
         Wanted::Numbers(products) => push_products(text, "a number at a data cell, in ", products),
-        Wanted::Code => push(text, "dir 0, 1, 2, 4, 8, 16, 32, 64 or 128"),
-        Wanted::AtLeast(ground) => push_with(text, "con at least the ground, ", *ground),
-        Wanted::Ground { ground, open } => push_ground(text, *ground, *open),
-        Wanted::AtMost(most) => push_most(text, *most),
-        Wanted::Steepest(_) => push(text, "dir of a steepest descent"),
+        Wanted::Code => text.push_str("dir 0, 1, 2, 4, 8, 16, 32, 64 or 128"),
+        Wanted::AtLeast(ground) => write!(text, "con at least the ground, {ground}"),
+        Wanted::Ground { ground, open } => {
+            let open = at_opening(*open);
+            write!(text, "con equal to the ground, {ground}{open}")
+        }
+        Wanted::AtMost(Some(most)) => write!(text, "con at most {most}"),
+        Wanted::AtMost(None) => text.push_str("any con"),
+        Wanted::Steepest(_) => text.push_str("dir of a steepest descent"),
         Wanted::Outlet(open) => {
-            push(text, "dir 0, with no lower neighbour")?;
-            push_opening(text, *open)
+            let open = at_opening(*open);
+            write!(text, "dir 0, with no lower neighbour{open}")
         }
         Wanted::Along { directions, ranks } => push_along(text, directions, *ranks),
-        Wanted::Sum(sum) => push_with(text, "acc ", *sum),
-        Wanted::Label(label) => push_label(text, *label),
-        Wanted::NewLabel => push(text, "bas that no earlier outlet has"),
-        Wanted::Nothing => push(text, "nothing"),
+        Wanted::Sum(sum) => write!(text, "acc {sum}"),
+        Wanted::Label(Some(label)) => write!(text, "bas of the cell that dir points to, {label}"),
+        Wanted::Label(None) => text.push_str("any bas"),
+        Wanted::NewLabel => text.push_str("bas that no earlier outlet has"),
+        Wanted::Nothing => text.push_str("nothing"),
     }
 }
 
@@ -64,119 +67,78 @@ pub(crate) fn found_product(wanted: &Wanted) -> Option<Held> {
 }
 
 fn push_found(
-    text: &mut Vec<u8>,
+    text: &mut String,
     patch: &Patch,
     nodata: &NoData,
     held: Held,
-) -> Result<(), OutOfMemory> {
-    push(text, "found: ")?;
-    push(text, held.product().name())?;
-    push(text, " ")?;
-    push(text, shown_number(&patch.here, held, nodata).as_str())?;
-    push(text, "\n")
+) -> Result<(), AllocError> {
+    let number = shown_number(&patch.here, held, nodata);
+    writeln!(text, "found: {} {}", held.product().name(), number.as_str())
 }
 
 /// These words and the products' names.
-fn push_products(text: &mut Vec<u8>, words: &str, products: &[Held]) -> Result<(), OutOfMemory> {
-    push(text, words)?;
+fn push_products(text: &mut String, words: &str, products: &[Held]) -> Result<(), AllocError> {
+    text.push_str(words)?;
     let mut separator = "";
     for held in products {
-        push(text, separator)?;
-        push(text, held.product().name())?;
+        write!(text, "{separator}{}", held.product().name())?;
         separator = ", ";
     }
     Ok(())
 }
 
-/// These words and a number.
-fn push_with(text: &mut Vec<u8>, words: &str, number: i64) -> Result<(), OutOfMemory> {
-    push(text, words)?;
-    push_number(text, number)
-}
-
-fn push_ground(text: &mut Vec<u8>, ground: i64, open: Option<Opening>) -> Result<(), OutOfMemory> {
-    push_with(text, "con equal to the ground, ", ground)?;
-    push_opening(text, open)
-}
-
 /// Why the cell is open.
-fn push_opening(text: &mut Vec<u8>, open: Option<Opening>) -> Result<(), OutOfMemory> {
+fn at_opening(open: Option<Opening>) -> &'static str {
     match open {
-        Some(Opening::Sink) => push(text, ", at a listed sink"),
-        Some(Opening::Edge) => push(text, ", on the edge of the mosaic"),
-        Some(Opening::Void) => push(text, ", next to a void"),
-        None => Ok(()),
-    }
-}
-
-fn push_most(text: &mut Vec<u8>, most: Option<i64>) -> Result<(), OutOfMemory> {
-    match most {
-        Some(most) => push_with(text, "con at most ", most),
-        None => push(text, "any con"),
-    }
-}
-
-fn push_label(text: &mut Vec<u8>, label: Option<i64>) -> Result<(), OutOfMemory> {
-    match label {
-        Some(label) => push_with(text, "bas of the cell that dir points to, ", label),
-        None => push(text, "any bas"),
+        Some(Opening::Sink) => ", at a listed sink",
+        Some(Opening::Edge) => ", on the edge of the mosaic",
+        Some(Opening::Void) => ", next to a void",
+        None => "",
     }
 }
 
 /// The allowed steps along a flat.
-fn push_along(
-    text: &mut Vec<u8>,
-    directions: &[Direction],
-    ranks: Ranks,
-) -> Result<(), OutOfMemory> {
-    push(
-        text,
-        match ranks {
-            Ranks::Asked => "dir to a neighbour with the same con and a smaller rnk: ",
-            Ranks::Unasked => "dir to a neighbour with the same con: ",
-        },
-    )?;
+fn push_along(text: &mut String, directions: &[Direction], ranks: Ranks) -> Result<(), AllocError> {
+    text.push_str(match ranks {
+        Ranks::Asked => "dir to a neighbour with the same con and a smaller rnk: ",
+        Ranks::Unasked => "dir to a neighbour with the same con: ",
+    })?;
     let mut separator = "";
     for direction in directions {
-        push(text, separator)?;
-        push(text, shown_code(direction.code()).as_str())?;
+        write!(text, "{separator}{}", shown_code(direction.code()))?;
         separator = ", ";
     }
-    push(text, if separator == "" { "none" } else { "" })
+    text.push_str(if separator == "" { "none" } else { "" })
 }
 
 /// A line for each way down, if a steepest was expected.
-fn push_ways(text: &mut Vec<u8>, wanted: &Wanted) -> Result<(), OutOfMemory> {
+fn push_ways(text: &mut String, wanted: &Wanted) -> Result<(), AllocError> {
     match wanted {
         Wanted::Steepest(ways) => push_each_way(text, ways),
         _ => Ok(()),
     }
 }
 
-fn push_each_way(text: &mut Vec<u8>, ways: &[WayDown]) -> Result<(), OutOfMemory> {
+fn push_each_way(text: &mut String, ways: &[WayDown]) -> Result<(), AllocError> {
     let steepest = steepest(ways);
     for way in ways {
-        push_way(text, way)?;
-        push(
-            text,
-            if way.key == steepest {
-                ", steepest\n"
-            } else {
-                "\n"
-            },
-        )?;
+        push_way(text, way, way.key == steepest)?;
     }
     Ok(())
 }
 
 /// A way's direction, drop and key.
-fn push_way(text: &mut Vec<u8>, way: &WayDown) -> Result<(), OutOfMemory> {
-    push(text, "  ")?;
-    push(text, letters(way.direction))?;
-    push(text, " ")?;
-    push_number(text, way.direction.code())?;
-    push(text, ": drop ")?;
-    push_number(text, way.drop)?;
-    push(text, ", key ")?;
-    push_long(text, way.key)
+fn push_way(text: &mut String, way: &WayDown, is_steepest: bool) -> Result<(), AllocError> {
+    let WayDown {
+        direction,
+        drop,
+        key,
+    } = *way;
+    let end = if is_steepest { ", steepest" } else { "" };
+    writeln!(
+        text,
+        "  {} {}: drop {drop}, key {key}{end}",
+        letters(direction),
+        direction.code()
+    )
 }

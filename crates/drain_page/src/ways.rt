@@ -1,46 +1,12 @@
-//! The ways on from a cell: down, with the key of each, and along a flat; and the label at the end of its own path.
+//! The ways on from a cell along a flat, and the label at the end of its own path.
 
-ghost use Rattle.std.specs.Prelude.{◌≡◌, ◌↔◌, ◌<◌, ◌<ℤ◌, ◌^◌, pos, IsSome, IsTrue, MatchOption, Some, ℤ};
+ghost use Rattle.std.specs.Prelude.{◌≡◌, ◌↔◌, ◌<ℤ◌, IsSome, IsTrue, MatchOption, Some, ℤ};
 ghost use Rattle.drain_grid.specs.declared.direction.Direction.{Direction};
-ghost use Rattle.drain_grid.specs.Direction.{Names};
 ghost use Rattle.drain_grid.specs.Patch.{neighbor};
-ghost use Rattle.drain_grid.specs.Slope.{slope_key};
 ghost use Rattle.drain_page.specs.Wanted.{IsFlatWay, IsLabelAhead};
-ghost use Rattle.drain_slope.specs.Key.{key_of, key_at};
 
 use drain_grid::{CellValues, Direction, Patch};
 use drain_rules::Ranks;
-
-/// The key of the way down in this direction, as in rule Slope; 0 if no neighbour there is lower.
-pub fn key(patch: &Patch, direction: Direction) -> u128
-    ensures { pos result ≡ key_at patch.now direction }
-{
-    match patch.neighbor(direction) {
-        Some(there) => key_to(patch, direction, &there),
-        None => 0,
-    }
-}
-
-/// The key of the way to these values, 0 if they are not those of a lower data cell.
-fn key_to(patch: &Patch, direction: Direction, there: &CellValues) -> u128
-    ensures { pos result ≡ key_of patch.now direction (Some there.now) }
-{
-    if there.z.is_some() && there.con < patch.here.con {
-        let drop = (patch.here.con - there.con) as u64;
-        key_of_drop(direction.is_straight(), drop)
-    } else {
-        0
-    }
-}
-
-/// The key of a drop.
-fn key_of_drop(straight: bool, drop: u64) -> u128
-    requires { drop < 2 ^ 33 }
-    ensures { pos result ≡ slope_key straight (pos drop) }
-{
-    let square = u128::from(drop) * u128::from(drop);
-    if straight { 2 * square } else { square }
-}
 
 /// Whether rule FlatStep allows a step in this direction.
 pub fn is_flat_way(patch: &Patch, direction: Direction, ranks: Ranks) -> bool

@@ -104,8 +104,9 @@ pub fn greatest_key(patch: &Patch) -> u128
     greatest
 }
 
-/// The key of the way down in this direction, 0 if no neighbour there is lower.
-fn key(patch: &Patch, direction: Direction) -> u128
+/// The key of the way down in this direction, 0 if no neighbour there is lower. Rule Slope takes a way with the
+/// greatest.
+pub fn key(patch: &Patch, direction: Direction) -> u128
     ensures { pos result ≡ key_at patch.now direction }
 {
     match patch.neighbor(direction) {

@@ -4,6 +4,7 @@ use Rattle.std.specs.Prelude.{Result}
 use Rattle.std.proofs.Math.IntN.{ℤ_discrete}
 use Rattle.drain_grid.specs.Correct.{IsCorrect, RunsAreSound}
 use Rattle.drain_grid.specs.Laws.{CorrectFromRules}
+use Rattle.drain_mosaic.specs.Laws.{AgreementGivesElevation}
 use Rattle.drain_mosaic.specs.Mosaic.{TilesAgree}
 use Rattle.drain_rules.specs.declared.verdict.Counts.{Counts}
 use Rattle.drain_rules.specs.declared.verdict.Verdict.{Verdict}
@@ -11,6 +12,7 @@ use Rattle.drain_rules.specs.declared.verdict.Verdict.TheVariants.{Accepted, Rej
 use Rattle.drain_rules.specs.Verdicts.{IfAccepted}
 use Rattle.drain_answer.specs.declared.refusal.Refusal.{Refusal}
 use Rattle.drain_answer.specs.declared.refusal.Refusal.TheVariants.{SeamMismatch}
+use Rattle.drain_verdict.specs.Headline.{IsRight}
 use Rattle.drain_verdict.specs.Inputs.{Inputs}
 use Rattle.drain_verdict.specs.Meaning.{tiling_of, tiles_of, grid_of, products_of, nodata_numbers}
 use Rattle.drain_verdict.specs.Answers.{AreReadable, IsAnswer}
@@ -23,10 +25,29 @@ pub tiles_agree : (i : Inputs) → AreReadable i → TilesAgree (tiling_of i) (t
 tiles_agree i readable c v w inside is_v is_w =
     same_value v w (λ differ. readable (SeamMismatch c) (inside, record { one = v; other = w; is_one = is_v; is_other = is_w; differ = differ }))
 
--- where the answer is an acceptance, the products are correct, and every run is sound
-pub accepted_is_correct : CorrectFromRules → (i : Inputs) (counts : Counts) → IsAnswer i (Ok (Accepted counts)) →
-    IsCorrect (grid_of i) (products_of i) (nodata_numbers i) × RunsAreSound (grid_of i) (products_of i)
-accepted_is_correct rules_are_enough i counts answer = rules_are_enough (grid_of i) (products_of i) (nodata_numbers i) answer.1.0
+-- correct products with sound runs, of tiles that agree, are right
+pub right_of : AgreementGivesElevation → (i : Inputs) → TilesAgree (tiling_of i) (tiles_of i) → IsCorrect (grid_of i) (products_of i) (nodata_numbers i) → RunsAreSound (grid_of i) (products_of i) → IsRight i
+right_of law i agree correct sound = record {
+  tiles_agree = agree;
+  elevation = law (tiling_of i) (tiles_of i) agree;
+  least_surface = correct.least;
+  never_climbs = correct.never_climbs;
+  steepest = correct.steepest;
+  outlets = correct.outlets;
+  runs_end = correct.runs_end;
+  runs_end_at_outlets = λ c has. (sound c has).at_outlet;
+  runs_visit_once = λ c has. (sound c has).once;
+  accumulation = correct.counts;
+  labels = correct.labels;
+  voids = correct.voids;
+  complete = correct.complete;
+}
+
+-- if the answer is an acceptance, the inputs are right
+pub accepted_is_right : CorrectFromRules → AgreementGivesElevation → (i : Inputs) (counts : Counts) → IsAnswer i (Ok (Accepted counts)) → IsRight i
+accepted_is_right rules_are_enough law i counts answer =
+    let correct = rules_are_enough (grid_of i) (products_of i) (nodata_numbers i) answer.1.0 in
+    right_of law i (tiles_agree i answer.0) correct.0 correct.1
 
 -- a fact that follows from an acceptance of the inputs holds where the answer accepts
 pub when_accepted : (Told Fact : Inputs → Type 0) → ((i : Inputs) (counts : Counts) → IsAnswer i (Ok (Accepted counts)) → Fact i) →

@@ -20,7 +20,9 @@ use Rattle.drain_runs.specs.declared.steps.TheConstants.{UNKNOWN}
 use Rattle.drain_rules.specs.Verdicts.{IsVerdictOf}
 use Rattle.drain_rules.specs.declared.verdict.Verdict.{Verdict}
 use Rattle.drain_rules.specs.declared.verdict.Verdict.TheVariants as checked
-use Rattle.drain_verdict.specs.Audits.{AllRunsEnd, AreCorrect, IfAccepts, IsAcceptance, IsAuditAnswer, IsAuditVerdict, IsOfBoth, IsPlainAnswer, IsPlainVerdict, certified_nodata, certified_ranks}
+use Rattle.drain_rows.specs.Runs.{AllRunsEnd}
+use Rattle.drain_verdict.specs.Answers.{AreReadable}
+use Rattle.drain_verdict.specs.Audits.{AreCorrect, IfAccepts, IsAcceptance, IsAuditAnswer, IsAuditVerdict, IsOfBoth, IsPlainAnswer, IsPlainVerdict, certified_nodata, certified_ranks}
 use Rattle.drain_verdict.specs.Inputs.{Inputs}
 use Rattle.drain_verdict.specs.Meaning.{grid_of, products_of, nodata_numbers}
 use Rattle.drain_answer.specs.declared.audit_verdict.AuditVerdict.{AuditVerdict}
@@ -105,11 +107,11 @@ pub when_given : (Told : Inputs → Type 0) (Fact : AuditVerdict → Inputs → 
 when_given Told Fact follows (Ok verdict) answer = λ i told. follows verdict i (answer i told)
 when_given Told Fact follows (Err refusal) answer = tt
 
--- a fact that follows from correct products holds where the answer accepts
-pub when_audited : (Told Fact : Inputs → Type 0) → CorrectIsLocal → ((i : Inputs) → AreCorrect i → Fact i) →
+-- a fact that follows from a verdict on correct products holds where the answer accepts
+pub when_audited : (Told Fact : Inputs → Type 0) → CorrectIsLocal → ((i : Inputs) → AreReadable i → AreCorrect i → Fact i) →
     (result : Result AuditVerdict Refusal) → ((i : Inputs) → Told i → IsPlainAnswer i result) → IfAccepts result ((i : Inputs) → Told i → Fact i)
 when_audited Told Fact law follows (Ok (Accepted counts)) answer =
-    λ i told. follows i ((exactly law (grid_of i) (products_of i) (nodata_numbers i) (Accepted counts) (answer i told).2).0 tt)
+    λ i told. follows i (answer i told).0 ((exactly law (grid_of i) (products_of i) (nodata_numbers i) (Accepted counts) (answer i told).2).0 tt)
 when_audited Told Fact law follows (Ok (Rejected rule row col)) answer = tt
 when_audited Told Fact law follows (Ok (NoEnd row col)) answer = tt
 when_audited Told Fact law follows (Err refusal) answer = tt

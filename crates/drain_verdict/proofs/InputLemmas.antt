@@ -1,6 +1,5 @@
 -- Which product's device failed for good, if each is read only while nothing was refused before.
-use Rattle.std.proofs.Common.{◌≡◌, ℕ, List, ◌↔◌, ◌⊎◌, inl, inr, Bool, IsTrue, Option, Some, None, Result, Ok, Err, IfErr, IfOk, OnOk, refl, ap, ◌∙◌, sym, subst}
-use Rattle.std.specs.Result.{IsErrAnd}
+use Rattle.std.proofs.Common.{◌≡◌, ℕ, List, ◌↔◌, ◌⊎◌, inl, inr, Bool, IsTrue, Option, Some, None, Result, Ok, Err, IfErr, IfOk, refl, ap, ◌∙◌, sym, subst}
 use Rattle.drain_device.specs.declared.counts.FaultCounts.{FaultCounts}
 use Rattle.drain_grid.specs.declared.per_product.PerProduct.{PerProduct}
 use Rattle.drain_grid.specs.PerProduct.{of_product}
@@ -16,11 +15,6 @@ use Rattle.drain_answer.specs.declared.refusal.Refusal.TheVariants.{BadSide, Bad
 abbrev pub Answer : Type 0
 Answer = Result (Unit {0}) Refusal
 
--- an answer that is this refusal, of which something holds
-pub told-of : {T : Type 0} (r : Result T Refusal) (e : Refusal) (P : Refusal → Type 0) → IsErrAnd r (λ told. told ≡ e) → P e → IfErr r P
-told-of (Ok x) e P is holds = absurd is
-told-of (Err told) e P is holds = rw is holds
-
 -- what follows from a result's clause is a clause of it
 pub over_ok : {T E : Type 0} (r : Result T E) (P Q : T → Type 0) → ((x : T) → P x → Q x) → IfOk r P → IfOk r Q
 over_ok (Ok x) P Q step h = step x h
@@ -29,11 +23,6 @@ over_ok (Err e) P Q step h = tt
 pub over_err : {T E : Type 0} (r : Result T E) (P Q : E → Type 0) → ((e : E) → P e → Q e) → IfErr r P → IfErr r Q
 over_err (Ok x) P Q step h = tt
 over_err (Err e) P Q step h = step e h
-
--- what follows from a fact of an answer that isn't a refusal is one
-pub on-ok : {T E : Type 0} (r : Result T E) {P Q : Type 0} → (P → Q) → OnOk r P → OnOk r Q
-on-ok (Ok x) follows holds = follows holds
-on-ok (Err told) follows holds = tt
 
 -- a refusal by which a device failed for good
 pub only_failed : (refusal : Refusal) → IsTrue (gave_up None (Some refusal)) → refusal ≡ ReadFailed

@@ -3,7 +3,6 @@ pub mod AuditAnswers
 pub mod AuditDevices
 mod AuditReads
 mod BodyAnswers
-pub mod CellSets
 pub mod Devices
 mod FirstValues
 mod HeaderAnswers
@@ -29,6 +28,4 @@ pub mod SinkAnswers
 pub mod StartAnswers
 mod Telling
 mod TileLists
-pub mod VoidRows
-mod WholeRowLemmas
-mod WindowLemmas
+pub mod Uses

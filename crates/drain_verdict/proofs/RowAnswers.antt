@@ -32,8 +32,8 @@ use Rattle.drain_rules.specs.declared.verdict.Verdict.{Verdict}
 use Rattle.drain_grid.specs.declared.sink_line.SinkLine.{SinkLine}
 use Rattle.drain_grid.specs.SinkLines.{is_listed}
 use Rattle.drain_verdict.specs.Answers.{AreReadable, IsAnswer, IsAnswerWith}
-use Rattle.drain_verdict.specs.GridRows.{AreRowsOf}
-use Rattle.drain_verdict.specs.HeldRows.{IsEven}
+use Rattle.drain_rows.specs.GridRows.{AreRowsOf}
+use Rattle.drain_rows.specs.HeldRows.{IsEven}
 use Rattle.drain_verdict.specs.InputRows.{IsFirstOf, IsToldRefusal}
 use Rattle.drain_verdict.specs.Inputs.{Inputs}
 use Rattle.drain_verdict.specs.Meaning.{fields_of, grid_of, listed_in, nodata_in, nodata_numbers, nodata_of, products_of, tiles_of, tiling_of}

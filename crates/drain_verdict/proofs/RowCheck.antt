@@ -27,15 +27,18 @@ use Rattle.drain_kernel.specs.declared.rules.Ranks.{Ranks}
 use Rattle.drain_kernel.specs.declared.rules.Rules.{Rules}
 use Rattle.drain_rules.specs.declared.verdict.Verdict.{Verdict}
 use Rattle.drain_verdict.specs.Answers.{AreNotesOf, IsAnswer, IsAnswerWith, IsRefusal, rules_at}
-use Rattle.drain_verdict.specs.GridRows.{IsRowsRefusal, OfGrid, ReadsOn}
+use Rattle.drain_rows.specs.declared.walk_stop.WalkStop.{WalkStop}
+use Rattle.drain_rows.specs.declared.walk_stop.WalkStop.TheVariants.{Source}
+use Rattle.drain_rows.specs.declared.walk_stop.WalkStop.TheVariants as walk_stop
+use Rattle.drain_rows.specs.GridRows.{IsRowsStop, OfGrid, ReadsOn}
 use Rattle.drain_verdict.specs.InputReads.{HaveBeenRead, Reading, products_lent, readers, tiles_lent}
 use Rattle.drain_verdict.specs.InputRows.{AreBegun, HasStopped, IsToldRefusal}
 use Rattle.drain_verdict.specs.Inputs.{Inputs, Products}
-use Rattle.drain_verdict.specs.ListedVoids.{AreListedVoids}
+use Rattle.drain_rows.specs.ListedVoids.{AreListedVoids}
 use Rattle.drain_verdict.specs.SinkListings.{IsBadLine, IsToldOfSinks}
 use Rattle.drain_verdict.specs.declared.sink_listing.SinkListing.{SinkListing}
 use Rattle.drain_verdict.specs.Meaning.{fields_of, grid_of, listed_in, nodata_in, products_of, tiling_of}
-use Rattle.drain_verdict.specs.Refusals.{IsOfBodies, NoneStandsBefore}
+use Rattle.drain_verdict.specs.Refusals.{IsOfBodies, NoneStandsBefore, refusal_of}
 use Rattle.drain_verdict.specs.Stages.{AreRasterBodies}
 use Rattle.drain_verdict.specs.ToGive.{AreGiven, HaveCome, IsAfter}
 use Rattle.drain_verdict.specs.declared.input_rows.InputRows.{InputRows}
@@ -155,26 +158,24 @@ module _ {R S : Type 0} (bl : R → Option (List ℕ)) (ct : R → FaultCounts) 
     reads = (came n None reads).reads;
   }
 
-  pub refused : {T N : Type 0} (refusal : Refusal) → IsRowsRefusal HasCome before after N refusal →
-      ((refusal ≡ OutOfMemory) ⊎ (refusal ≡ ReadFailed)) × HaveBeenRead bl ct (view before) (view after) (IsErrOf {T = T} (Err refusal) ReadFailed)
-  refused {T} refusal (calls, why) = elim why [
-    | inl reads ↦ (let now = (came calls (Some refusal) reads).reads in (
-      now.of_reading,
-      record {
-        told = Some refusal;
-        exactly = (λ is. (let same : refusal ≡ ReadFailed = cc in ap Err same), λ is. (let same : refusal ≡ ReadFailed = cc in ap Some same));
-        reads = now;
-      },
-    ))
-    | inr wants ↦ (
-      inl wants.0,
-      record {
-        told = None;
-        exactly = (λ wrong. absurd (let no = wrong in cc), λ is. absurd (let other : refusal ≡ ReadFailed = cc in let same = wants.0 in cc));
-        reads = (came calls None wants.1).reads;
-      },
-    )
-  ]
+  pub refused : {T : Type 0} (N : Type 0) (stopped : WalkStop Refusal) → IsRowsStop HasCome before after N stopped →
+      ((refusal_of stopped ≡ OutOfMemory) ⊎ (refusal_of stopped ≡ ReadFailed)) × HaveBeenRead bl ct (view before) (view after) (IsErrOf {T = T} (Err (refusal_of stopped)) ReadFailed)
+  refused {T} N (Source refusal) (calls, reads) = (let now = (came calls (Some refusal) reads).reads in (
+    now.of_reading,
+    record {
+      told = Some refusal;
+      exactly = (λ is. (let same : refusal ≡ ReadFailed = cc in ap Err same), λ is. (let same : refusal ≡ ReadFailed = cc in ap Some same));
+      reads = now;
+    },
+  ))
+  refused {T} N walk_stop.OutOfMemory (calls, wants) = (
+    inl refl,
+    record {
+      told = None;
+      exactly = (λ wrong. absurd (let no = wrong in cc), λ is. absurd (let other : OutOfMemory ≡ ReadFailed = cc in cc));
+      reads = (came calls None wants.0).reads;
+    },
+  )
 
 -- out of memory and a failed read may come at any point
 pub of_reading_answers : (i : Inputs) (refusal : Refusal) → (refusal ≡ OutOfMemory) ⊎ (refusal ≡ ReadFailed) → IsAnswer i (Err refusal)

@@ -11,8 +11,8 @@ use Rattle.drain_grid.specs.Tile.{IsSample}
 use Rattle.drain_grid.specs.Values.{IsPixel}
 use Rattle.drain_hgt.specs.declared.input.TileInput.{TileInput}
 use Rattle.drain_rules.specs.RowNumbers.{AreRowNumbers, RowNumbers, blank}
-use Rattle.drain_verdict.specs.GridRows.{IsNext}
-use Rattle.drain_verdict.specs.HeldRows.{IsEven}
+use Rattle.drain_rows.specs.GridRows.{IsNext}
+use Rattle.drain_rows.specs.HeldRows.{IsEven}
 use Rattle.drain_verdict.specs.InputReads.{InputsHaveRead, Reading}
 use Rattle.drain_verdict.specs.Inputs.{Products}
 use Rattle.drain_verdict.specs.ToGive.{AreGiven, HaveCome, IsAfter, IsAfterTold, IsMosaicAfter, IsMosaicOneMore, IsOneMore, ToGive, given}

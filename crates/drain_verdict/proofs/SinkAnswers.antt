@@ -14,7 +14,7 @@ use Rattle.drain_grid.specs.SinkTexts.{sinks_of}
 use Rattle.drain_grid.specs.Size.{Extent}
 use Rattle.drain_verdict.specs.Answers.{AreReadable, IsRefusal}
 use Rattle.drain_verdict.specs.Inputs.{Inputs}
-use Rattle.drain_verdict.specs.ListedVoids.{AreListedVoids, has_data_but}
+use Rattle.drain_rows.specs.ListedVoids.{AreListedVoids, has_data_but}
 use Rattle.drain_verdict.specs.Meaning.{grid_of, listed_in}
 use Rattle.drain_verdict.specs.Refusals.{NoneStandsBefore, Stands, refusal_order}
 use Rattle.drain_verdict.specs.SinkListings.{IsBadLine, IsToldOfSinks}

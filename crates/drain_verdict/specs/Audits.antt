@@ -2,14 +2,14 @@
 -- Source: correct products are in the words of the literature; that paths without an end come first is our own.
 use Rattle.std.specs.Prelude.{◌≡◌, ℕ, ℤ, pos, is_some, List, Option, Some, None, if◌then◌else◌, Result, Ok, Err}
 use Rattle.drain_grid.specs.declared.cell.Cell.{Cell}
-use Rattle.drain_grid.specs.Grid.{Grid, Products, HasData}
-use Rattle.drain_grid.specs.Run.{RunEnds}
+use Rattle.drain_grid.specs.Grid.{Grid, Products}
 use Rattle.drain_grid.specs.Certificate.{run_steps, with_ranks, with_rank_nodata, IsFirstEndless}
 use Rattle.drain_grid.specs.Correct.{IsCorrect}
 use Rattle.drain_grid.specs.Size.{IsExtent}
 use Rattle.drain_grid.specs.Unranked.{unranked}
 use Rattle.drain_grid.specs.Values.{NoDataNumbers}
 use Rattle.drain_hgt.specs.declared.input.TileInput.{TileInput}
+use Rattle.drain_rows.specs.Runs.{AllRunsEnd}
 use Rattle.drain_rules.specs.Verdicts.{IsVerdict, IsVerdictOf}
 use Rattle.drain_rules.specs.declared.verdict.Verdict.{Verdict}
 use Rattle.drain_rules.specs.declared.verdict.Verdict.TheVariants as checked
@@ -22,10 +22,6 @@ use Rattle.drain_verdict.specs.AuditInputs.{with_con_for_ranks}
 use Rattle.drain_verdict.specs.Answers.{AreReadable, IsRefusal}
 use Rattle.drain_verdict.specs.Inputs.{Inputs, Tell}
 use Rattle.drain_verdict.specs.Meaning.{grid_of, products_of, nodata_numbers}
-
--- the path of every data cell ends
-abbrev pub AllRunsEnd : Grid → Products → Type 0
-AllRunsEnd g ps = (c : Cell) → HasData g c → RunEnds g ps c
 
 -- ranks as `certify` gives them: the number of steps of each data cell's path, and 4294967295 at voids
 abbrev pub certified_ranks : Grid → Products → Cell → ℤ

@@ -29,47 +29,30 @@ TilesAreOne i = TilesAgree (tiling_of i) (tiles_of i)
 abbrev pub ElevationIsTheirs : Inputs → Type 0
 ElevationIsTheirs i = IsElevation (tiling_of i) (tiles_of i) (grid_of i).elevation
 
--- con is the least surface above the elevation from which every cell reaches an edge, void or listed sink without climbing
-abbrev pub ConIsLeast : Inputs → Type 0
-ConIsLeast i = IsLeastSurface (grid_of i) (products_of i).con
-
--- no direction climbs
-abbrev pub NoDirectionClimbs : Inputs → Type 0
-NoDirectionClimbs i = (c : Cell) → HasData (grid_of i) c → NeverClimbs (grid_of i) (products_of i) c
-
--- off flats the direction is the steepest descent
-abbrev pub DirectionsAreSteepest : Inputs → Type 0
-DirectionsAreSteepest i = (c : Cell) → HasData (grid_of i) c → ¬ IsFlatCell (grid_of i) (products_of i) c → GoesSteepest (grid_of i) (products_of i) c
-
--- the code is 0 exactly at the outlets
-abbrev pub CodesTellOutlets : Inputs → Type 0
-CodesTellOutlets i = (c : Cell) → HasData (grid_of i) c → ((products_of i).dir c ≡ pos 0) ↔ IsOutlet (grid_of i) (products_of i) c
-
--- every path ends
-abbrev pub RunsEnd : Inputs → Type 0
-RunsEnd i = (c : Cell) → HasData (grid_of i) c → RunEnds (grid_of i) (products_of i) c
-
--- its last cell is an outlet
-abbrev pub RunsEndAtOutlets : Inputs → Type 0
-RunsEndAtOutlets i = (c : Cell) → HasData (grid_of i) c → IsOutlet (grid_of i) (products_of i) (run_end (grid_of i) (products_of i) c)
-
--- no path visits a cell twice
-abbrev pub RunsVisitOnce : Inputs → Type 0
-RunsVisitOnce i = (c : Cell) → HasData (grid_of i) c → VisitsOnce (run (grid_of i) (products_of i) c)
-
--- acc counts exactly the cells that drain through each cell
-abbrev pub AccCountsUpstream : Inputs → Type 0
-AccCountsUpstream i = (c : Cell) → HasData (grid_of i) c → (products_of i).acc c ≡ pos (upstream_count (grid_of i) (products_of i) c)
-
--- two cells share a label exactly where they share an outlet
-abbrev pub LabelsTellBasins : Inputs → Type 0
-LabelsTellBasins i = (a b : Cell) → HasData (grid_of i) a → HasData (grid_of i) b →
-    ((products_of i).bas a ≡ (products_of i).bas b) ↔ ShareBasin (grid_of i) (products_of i) a b
-
--- every void has the no-data numbers
-abbrev pub VoidsAreBlank : Inputs → Type 0
-VoidsAreBlank i = (c : Cell) → IsInside (grid_of i) c → IsNone ((grid_of i).elevation c) → IsBlankAt (products_of i) (nodata_numbers i) c
-
--- no data cell has one
-abbrev pub DataIsComplete : Inputs → Type 0
-DataIsComplete i = (c : Cell) → HasData (grid_of i) c → IsCompleteAt (products_of i) (nodata_numbers i) c
+-- what an acceptance means, a sentence a field
+pub record IsRight (i : Inputs) : Type 0 where
+  -- the tiles agree on one elevation raster
+  pub tiles_agree : TilesAreOne i
+  pub elevation : ElevationIsTheirs i
+  -- con is the least surface above the elevation from which every cell reaches an edge, void or listed sink without climbing
+  pub least_surface : IsLeastSurface (grid_of i) (products_of i).con
+  -- no direction climbs
+  pub never_climbs : (c : Cell) → HasData (grid_of i) c → NeverClimbs (grid_of i) (products_of i) c
+  -- off flats the direction is the steepest descent
+  pub steepest : (c : Cell) → HasData (grid_of i) c → ¬ IsFlatCell (grid_of i) (products_of i) c → GoesSteepest (grid_of i) (products_of i) c
+  -- the code is 0 exactly at the outlets
+  pub outlets : (c : Cell) → HasData (grid_of i) c → ((products_of i).dir c ≡ pos 0) ↔ IsOutlet (grid_of i) (products_of i) c
+  -- every path ends
+  pub runs_end : (c : Cell) → HasData (grid_of i) c → RunEnds (grid_of i) (products_of i) c
+  -- its last cell is an outlet
+  pub runs_end_at_outlets : (c : Cell) → HasData (grid_of i) c → IsOutlet (grid_of i) (products_of i) (run_end (grid_of i) (products_of i) c)
+  -- no path visits a cell twice
+  pub runs_visit_once : (c : Cell) → HasData (grid_of i) c → VisitsOnce (run (grid_of i) (products_of i) c)
+  -- acc counts exactly the cells that drain through each cell
+  pub accumulation : (c : Cell) → HasData (grid_of i) c → (products_of i).acc c ≡ pos (upstream_count (grid_of i) (products_of i) c)
+  -- two cells share a label exactly where they share an outlet
+  pub labels : (a b : Cell) → HasData (grid_of i) a → HasData (grid_of i) b → ((products_of i).bas a ≡ (products_of i).bas b) ↔ ShareBasin (grid_of i) (products_of i) a b
+  -- every void has the no-data numbers
+  pub voids : (c : Cell) → IsInside (grid_of i) c → IsNone ((grid_of i).elevation c) → IsBlankAt (products_of i) (nodata_numbers i) c
+  -- no data cell has one
+  pub complete : (c : Cell) → HasData (grid_of i) c → IsCompleteAt (products_of i) (nodata_numbers i) c

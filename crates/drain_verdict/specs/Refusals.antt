@@ -22,6 +22,8 @@ use Rattle.drain_mosaic.specs.LayoutFaults.{HasLayoutFault}
 use Rattle.drain_mosaic.specs.Mosaic.{HasTwoValues}
 use Rattle.drain_answer.specs.declared.refusal.Refusal.{Refusal}
 use Rattle.drain_answer.specs.declared.refusal.Refusal.TheVariants.{BadSide, BadName, NoTiles, RepeatedTile, BoxTooLarge, BadHeader, WrongShape, Misplaced, BadTileLength, RasterShort, SeamMismatch, BadSinkLine, SinkNotData, OutOfMemory, ReadFailed}
+use Rattle.drain_rows.specs.declared.walk_stop.WalkStop.{WalkStop}
+use Rattle.drain_rows.specs.declared.walk_stop.WalkStop.TheVariants as walk_stop
 use Rattle.drain_verdict.specs.Inputs.{Inputs}
 use Rattle.drain_verdict.specs.Meaning.{tiling_of, tiles_of, fields_of, listed_in, grid_of}
 
@@ -113,3 +115,8 @@ refusal_order i ReadFailed = (11, 0)
 -- no refusal of a kind before this one applies
 abbrev pub NoneStandsBefore : Inputs → ℕ → Type 0
 NoneStandsBefore i kind = (refusal : Refusal) → (refusal_order i refusal).0 < kind → ¬ Stands i refusal
+
+-- the refusal if the walk over rows stopped: the source's, or out of memory
+abbrev pub refusal_of : WalkStop Refusal → Refusal
+refusal_of (walk_stop.Source refusal) = refusal
+refusal_of walk_stop.OutOfMemory = OutOfMemory

@@ -4,7 +4,7 @@ use Rattle.drain_grid.specs.declared.cell.Cell.{Cell}
 use Rattle.drain_grid.specs.declared.sink_line.SinkLine.{SinkLine}
 use Rattle.drain_grid.specs.Size.{Extent}
 use Rattle.drain_grid.specs.OffData.{IsLeastLine, IsLeastOff}
-use Rattle.drain_verdict.specs.ListedVoids.{has_data_but}
+use Rattle.drain_rows.specs.ListedVoids.{has_data_but}
 use Rattle.drain_verdict.specs.declared.sink_listing.SinkListing.{SinkListing}
 use Rattle.drain_answer.specs.declared.refusal.Refusal.{Refusal}
 use Rattle.drain_answer.specs.declared.refusal.Refusal.TheVariants.{BadSinkLine, SinkNotData}

@@ -15,7 +15,7 @@ use Rattle.drain_mosaic.specs.MosaicRows.{IsToldAtEnd, coming_of, seam_to_tell, 
 use Rattle.drain_mosaic.specs.declared.mosaic_rows.MosaicRows.{MosaicRows}
 use Rattle.drain_rules.specs.RowNumbers.{RowNumbers, blank}
 use Rattle.drain_verdict.specs.InputReads.{InputsHaveRead, Reading, products_lent, readers, tiles_lent}
-use Rattle.drain_verdict.specs.HeldRows.{IsEven}
+use Rattle.drain_rows.specs.HeldRows.{IsEven}
 use Rattle.drain_verdict.specs.Inputs.{Products}
 use Rattle.drain_verdict.specs.declared.input_rows.InputRows.{InputRows}
 use Rattle.drain_answer.specs.declared.refusal.Refusal.{Refusal}

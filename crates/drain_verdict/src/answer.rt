@@ -20,18 +20,18 @@ ghost use Rattle.drain_verdict.specs.InputRows.{AreBegun};
 ghost use Rattle.drain_grid.specs.SinkTexts.{sinks_of};
 ghost use Rattle.drain_verdict.specs.Meaning.{tiling_of, fields_of, listed_in, nodata_in};
 ghost use Rattle.drain_verdict.specs.SinkListings.{IsBadLine};
+ghost use Rattle.drain_verdict.specs.Refusals as refusals;
 ghost use Rattle.drain_verdict.specs.Refusals.{IsOfBodies, NoneStandsBefore};
 ghost use Rattle.drain_verdict.specs.Answers.{AreNotesOf, IsAnswerWith};
 ghost use Rattle.drain_verdict.specs.Stages.{AreRasterBodies, IsLayoutOf};
 ghost use Rattle.drain_device.specs.FaultLists.{SomeReadFails};
 ghost use Rattle.drain_hgt.specs.Inputs.{names_of, AreBodies, TilesTakeAtMost};
-ghost use Rattle.drain_verdict.specs.Devices.{devices_of, RasterTakesAtMost, BodyTakesAtMost};
+ghost use Rattle.drain_verdict.specs.Devices.{devices_of, BodyTakesAtMost};
+ghost use Rattle.drain_verdict.specs.Uses.{UsesInputs};
 
 use crate::headers::nodata_of;
 use crate::input_rows::InputRows;
 use crate::product_inputs::ProductInputs;
-use crate::row_notes::RowVerdicts;
-use crate::row_verdict::verdict_by_rows;
 use crate::sink_listing::{SinkListing, sink_listing};
 use crate::sink_refusal::sink_refusal;
 use drain_answer::Refusal;
@@ -49,6 +49,7 @@ use drain_mosaic::laws::{
 use drain_raster::laws::{
     raster_rows_are_pixels, raster_rows_end, raster_rows_take_what_is_needed,
 };
+use drain_rows::{RowVerdicts, WalkStop, verdict_by_rows};
 use drain_rules::{Ranks, Rules, Verdict};
 use std::alloc::Global;
 
@@ -71,12 +72,7 @@ pub fn answer_on<R: ByteSource, P: ProductInputs<R>, K: RowVerdicts>(
     ensures answer { (inputs : Inputs) → Tell R.bytes_left layout.now.side tiles.old sinks.now (P.inputs products.old) inputs → IsAnswerWith ranks inputs result }
     ensures lasting { OnOk result (K.lasting notes.new ≡ K.lasting notes.old) }
     ensures noted { OnOk result ((inputs : Inputs) → Tell R.bytes_left layout.now.side tiles.old sinks.now (P.inputs products.old) inputs → AreNotesOf K.are_of ranks inputs notes.new) }
-    ensures tiles_within { TilesTakeAtMost R.bytes_left layout.now.side tiles.old tiles.new }
-    ensures rasters_within { (p : Held) → RasterTakesAtMost R.bytes_left (P.inputs products.old) (P.inputs products.new) p }
-    ensures faults { SomeReadFails (map R.counts (devices_of tiles.old (P.inputs products.old))) (map R.counts (devices_of tiles.new (P.inputs products.new))) (IsErrOf result Refusal.ReadFailed) }
-    ensures names { names_of tiles.new ≡ names_of tiles.old }
-    ensures headers { (p : Held) → (of_product (P.inputs products.new) p).header ≡ (of_product (P.inputs products.old) p).header }
-    ensures untouched { IfErr result (λ refusal. ¬ IsOfBodies refusal → (tiles.new ≡ tiles.old) × (products.new ≡ products.old)) }
+    ensures uses { UsesInputs P.inputs (λ ts ps. devices_of ts (P.inputs ps)) R.bytes_left R.counts layout.now.side (tiles.old, products.old) (tiles.new, products.new) result }
 {
     // The law that bytes name one tile.
     one_name();
@@ -173,7 +169,7 @@ fn answer_to_rows<R: ByteSource, P: ProductInputs<R>, K: RowVerdicts>(
     // The law that the first listed cell without data is the grid's.
     found_off_data_is_right();
     let shape = layout.shape();
-    let found = verdict_by_rows(
+    let found = match verdict_by_rows(
         alloc,
         shape,
         &listing.sinks,
@@ -182,12 +178,25 @@ fn answer_to_rows<R: ByteSource, P: ProductInputs<R>, K: RowVerdicts>(
         tiles,
         products,
         notes,
-    )?;
+    ) {
+        Ok(found) => found,
+        Err(stop) => return Err(refusal_of(stop)),
+    };
     if let Some(refusal) = rows.refusal::<R, P>(layout, products) {
         return Err(refusal);
     }
     match sink_refusal(listing, shape, &found.voids) {
         Some(refusal) => Err(refusal),
         None => Ok(found.verdict),
+    }
+}
+
+/// The refusal if the walk over rows stopped: the source's, or out of memory.
+fn refusal_of(stop: WalkStop<Refusal>) -> Refusal
+    ensures { result ≡ refusals.refusal_of stop }
+{
+    match stop {
+        WalkStop::Source(refusal) => refusal,
+        WalkStop::OutOfMemory => Refusal::OutOfMemory,
     }
 }

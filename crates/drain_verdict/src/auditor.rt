@@ -4,33 +4,25 @@
 //! byte. After the last row it looks which paths end, but only if a rule failed: if none did, all end. That this
 //! separates correct products from all others is a law of `drain_grid`.
 
-ghost use Rattle.std.specs.Prelude.{◌≡◌, ◌↔◌, ◌*◌, [], length, map, IfErr, IfOk, IsErrOf, OnOk};
-ghost use Rattle.drain_device.specs.FaultLists.{SomeReadFails};
-ghost use Rattle.drain_grid.specs.declared.held.Held.{Held};
+ghost use Rattle.std.specs.Prelude.{◌≡◌, ◌↔◌, ◌*◌, [], length, IfOk, OnOk};
 ghost use Rattle.drain_grid.specs.Grid as grid;
 ghost use Rattle.drain_grid.specs.Grid.{Grid};
-ghost use Rattle.drain_grid.specs.PerProduct.{of_product};
-ghost use Rattle.drain_hgt.specs.Inputs.{names_of, TilesTakeAtMost};
+ghost use Rattle.drain_hgt.specs.Inputs.{names_of};
 ghost use Rattle.drain_kernel.specs.declared.rules.Ranks.TheVariants.{Unasked};
 ghost use Rattle.drain_kernel.specs.declared.rules.Rules.{Rules};
 ghost use Rattle.drain_mosaic.specs.Tiling.{extent_of};
 ghost use Rattle.drain_runs.specs.KnownFlows.{AreKnownFlows};
 ghost use Rattle.drain_verdict.specs.Answers.{AreNotesOf};
-ghost use Rattle.drain_verdict.specs.AuditInputs.{audit_devices, with_con_for_ranks};
 ghost use Rattle.drain_verdict.specs.Audits.{AreCorrect, AuditMeans, IsAcceptance, IsAuditAnswer, IsPlainAnswer, OfFour};
-ghost use Rattle.drain_verdict.specs.Devices.{RasterTakesAtMost};
-ghost use Rattle.drain_verdict.specs.Headline.{TilesAreOne, ElevationIsTheirs, ConIsLeast, NoDirectionClimbs, DirectionsAreSteepest, CodesTellOutlets, RunsEnd, RunsEndAtOutlets, RunsVisitOnce, AccCountsUpstream, LabelsTellBasins, VoidsAreBlank, DataIsComplete};
+ghost use Rattle.drain_verdict.specs.Headline.{IsRight, TilesAreOne, ElevationIsTheirs};
 ghost use Rattle.drain_verdict.specs.Meaning.{grid_of, products_of};
-ghost use Rattle.drain_verdict.specs.Refusals.{IsOfBodies};
 ghost use Rattle.drain_verdict.specs.Stages.{IsLayoutOf};
+ghost use Rattle.drain_verdict.specs.Uses.{AuditUses};
 
 use crate::answer::answer_on;
 use crate::audit_products::AuditProducts;
-use crate::both_notes::BothNotes;
 use crate::both_verdict::verdict_of_both;
 use crate::layout::layout_of;
-use crate::row_flows::first_endless;
-use crate::row_notes::RowVerdicts;
 use drain_answer::{AuditVerdict, Refusal};
 use drain_device::ByteSource;
 use drain_grid::laws::{correct_is_local, ranks_play_no_part, sound_from_correct};
@@ -38,6 +30,7 @@ use drain_hgt::TileInput;
 use drain_hgt::laws::one_name;
 use drain_mosaic::Layout;
 use drain_mosaic::laws::agreement_gives_elevation;
+use drain_rows::{BothNotes, RowVerdicts, first_endless};
 use drain_rules::{GridWalk, Ranks};
 use drain_runs::CellFlows;
 use std::alloc::Global;
@@ -60,45 +53,16 @@ pub fn audit<R: ByteSource>(
     // Unless memory ran out or a read failed, the answer is that of the bytes.
     ensures answer { OfFour R.bytes_left side tiles.old sinks.now products.old (λ inputs. IsAuditAnswer inputs result) }
 
-    // If it gives a verdict, it accepts exactly correct products.
-    ensures exactly { IfOk result (λ verdict. OfFour R.bytes_left side tiles.old sinks.now products.old (λ inputs. IsAcceptance verdict ↔ AreCorrect inputs)) }
-
-    // And then the tiles agree on one elevation raster.
+    // If it gives a verdict, the tiles agree on one elevation raster, and it accepts exactly correct products.
     ensures tiles_agree { IfOk result (λ verdict. OfFour R.bytes_left side tiles.old sinks.now products.old TilesAreOne) }
     ensures elevation { IfOk result (λ verdict. OfFour R.bytes_left side tiles.old sinks.now products.old ElevationIsTheirs) }
+    ensures exactly { IfOk result (λ verdict. OfFour R.bytes_left side tiles.old sinks.now products.old (λ inputs. IsAcceptance verdict ↔ AreCorrect inputs)) }
 
-    // Whenever it accepts: the conditioned raster is the least surface above it from which every cell reaches an edge, void or listed sink without climbing.
-    ensures least_surface { AuditMeans ConIsLeast R.bytes_left side tiles.old sinks.now products.old result }
+    // Whenever it accepts, the inputs are right: `IsRight` has a field for each sentence.
+    ensures right { AuditMeans IsRight R.bytes_left side tiles.old sinks.now products.old result }
 
-    // No direction climbs, and off flats it is the steepest descent.
-    ensures never_climbs { AuditMeans NoDirectionClimbs R.bytes_left side tiles.old sinks.now products.old result }
-    ensures steepest { AuditMeans DirectionsAreSteepest R.bytes_left side tiles.old sinks.now products.old result }
-
-    // Every run of directions ends at an outlet, and visits no cell twice.
-    ensures outlets { AuditMeans CodesTellOutlets R.bytes_left side tiles.old sinks.now products.old result }
-    ensures runs_end { AuditMeans RunsEnd R.bytes_left side tiles.old sinks.now products.old result }
-    ensures runs_end_at_outlets { AuditMeans RunsEndAtOutlets R.bytes_left side tiles.old sinks.now products.old result }
-    ensures runs_visit_once { AuditMeans RunsVisitOnce R.bytes_left side tiles.old sinks.now products.old result }
-
-    // Accumulation counts exactly the cells draining through each cell.
-    ensures accumulation { AuditMeans AccCountsUpstream R.bytes_left side tiles.old sinks.now products.old result }
-
-    // Two cells share a label exactly when they share an outlet.
-    ensures labels { AuditMeans LabelsTellBasins R.bytes_left side tiles.old sinks.now products.old result }
-
-    // Voids have the no-data numbers, and no data cell has one.
-    ensures voids { AuditMeans VoidsAreBlank R.bytes_left side tiles.old sinks.now products.old result }
-    ensures complete { AuditMeans DataIsComplete R.bytes_left side tiles.old sinks.now products.old result }
-
-    // How far it reads, when a read fails, and that names and headers are unchanged.
-    ensures tiles_within { TilesTakeAtMost R.bytes_left side tiles.old tiles.new }
-    ensures rasters_within { (p : Held) → RasterTakesAtMost R.bytes_left (with_con_for_ranks products.old) (with_con_for_ranks products.new) p }
-    ensures faults { SomeReadFails (map R.counts (audit_devices tiles.old products.old)) (map R.counts (audit_devices tiles.new products.new)) (IsErrOf result Refusal.ReadFailed) }
-    ensures names { names_of tiles.new ≡ names_of tiles.old }
-    ensures headers { (p : Held) → (of_product (with_con_for_ranks products.new) p).header ≡ (of_product (with_con_for_ranks products.old) p).header }
-
-    // A refusal of side, names, layout or headers leaves every device and every value as it was.
-    ensures untouched { IfErr result (λ refusal. ¬ IsOfBodies refusal → (tiles.new ≡ tiles.old) × (products.new ≡ products.old)) }
+    // How far it reads, when a read fails, and what is unchanged.
+    ensures uses { AuditUses R.bytes_left R.counts side (tiles.old, products.old) (tiles.new, products.new) result }
 {
     // The laws that an audit rests on, and that first values are the one elevation.
     correct_is_local();
@@ -117,12 +81,7 @@ fn audit_of<R: ByteSource>(
     products: &mut AuditProducts<R>,
 ) -> Result<AuditVerdict, Refusal>
     ensures answer { OfFour R.bytes_left side tiles.old sinks.now products.old (λ inputs. IsPlainAnswer inputs result) }
-    ensures tiles_within { TilesTakeAtMost R.bytes_left side tiles.old tiles.new }
-    ensures rasters_within { (p : Held) → RasterTakesAtMost R.bytes_left (with_con_for_ranks products.old) (with_con_for_ranks products.new) p }
-    ensures faults { SomeReadFails (map R.counts (audit_devices tiles.old products.old)) (map R.counts (audit_devices tiles.new products.new)) (IsErrOf result Refusal.ReadFailed) }
-    ensures names { names_of tiles.new ≡ names_of tiles.old }
-    ensures headers { (p : Held) → (of_product (with_con_for_ranks products.new) p).header ≡ (of_product (with_con_for_ranks products.old) p).header }
-    ensures untouched { IfErr result (λ refusal. ¬ IsOfBodies refusal → (tiles.new ≡ tiles.old) × (products.new ≡ products.old)) }
+    ensures uses { AuditUses R.bytes_left R.counts side (tiles.old, products.old) (tiles.new, products.new) result }
 {
     // The law that bytes name one tile.
     one_name();
@@ -153,12 +112,7 @@ pub fn audit_on<R: ByteSource, K: RowVerdicts>(
     ensures noted { OnOk result (OfFour R.bytes_left layout.now.side tiles.old sinks.now products.old (λ inputs. AreNotesOf K.are_of Unasked inputs notes.new.second)) }
     ensures flows { OnOk result (OfFour R.bytes_left layout.now.side tiles.old sinks.now products.old (λ inputs. AreKnownFlows (grid_of inputs) (products_of inputs) (extent_of layout.now) notes.new.first)) }
     ensures counted { OnOk result (OfFour R.bytes_left layout.now.side tiles.old sinks.now products.old (λ inputs. length notes.new.first ≡ (extent_of layout.now).rows * (extent_of layout.now).cols)) }
-    ensures tiles_within { TilesTakeAtMost R.bytes_left layout.now.side tiles.old tiles.new }
-    ensures rasters_within { (p : Held) → RasterTakesAtMost R.bytes_left (with_con_for_ranks products.old) (with_con_for_ranks products.new) p }
-    ensures faults { SomeReadFails (map R.counts (audit_devices tiles.old products.old)) (map R.counts (audit_devices tiles.new products.new)) (IsErrOf result Refusal.ReadFailed) }
-    ensures names { names_of tiles.new ≡ names_of tiles.old }
-    ensures headers { (p : Held) → (of_product (with_con_for_ranks products.new) p).header ≡ (of_product (with_con_for_ranks products.old) p).header }
-    ensures untouched { IfErr result (λ refusal. ¬ IsOfBodies refusal → (tiles.new ≡ tiles.old) × (products.new ≡ products.old)) }
+    ensures uses { AuditUses R.bytes_left R.counts layout.now.side (tiles.old, products.old) (tiles.new, products.new) result }
 {
     // The law that bytes name one tile.
     one_name();

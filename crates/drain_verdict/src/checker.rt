@@ -2,16 +2,10 @@
 //!
 //! `answer.rt` says how the answer is found; here is what it means.
 
-ghost use Rattle.std.specs.Prelude.{◌≡◌, map, IfErr, IsErrOf};
-ghost use Rattle.drain_grid.specs.declared.held.Held.{Held};
-ghost use Rattle.drain_grid.specs.PerProduct.{of_product};
 ghost use Rattle.drain_verdict.specs.Inputs.{Inputs, Tell};
-ghost use Rattle.drain_verdict.specs.Refusals.{IsOfBodies};
 ghost use Rattle.drain_verdict.specs.Answers.{IsAnswer};
-ghost use Rattle.drain_device.specs.FaultLists.{SomeReadFails};
-ghost use Rattle.drain_hgt.specs.Inputs.{names_of, TilesTakeAtMost};
-ghost use Rattle.drain_verdict.specs.Devices.{devices_of, RasterTakesAtMost};
-ghost use Rattle.drain_verdict.specs.Headline.{AcceptedMeans, TilesAreOne, ElevationIsTheirs, ConIsLeast, NoDirectionClimbs, DirectionsAreSteepest, CodesTellOutlets, RunsEnd, RunsEndAtOutlets, RunsVisitOnce, AccCountsUpstream, LabelsTellBasins, VoidsAreBlank, DataIsComplete};
+ghost use Rattle.drain_verdict.specs.Headline.{AcceptedMeans, IsRight};
+ghost use Rattle.drain_verdict.specs.Uses.{CheckUses};
 
 use crate::answer::answer_on;
 use crate::input::Products;
@@ -47,42 +41,11 @@ pub fn check<R: ByteSource>(
     // Unless memory ran out or a read failed, the answer is that of the bytes.
     ensures answer { (inputs : Inputs) → Tell R.bytes_left side tiles.old sinks.now products.old inputs → IsAnswer inputs result }
 
-    // Whenever it accepts, the tiles agree on one elevation raster.
-    ensures tiles_agree { AcceptedMeans TilesAreOne R.bytes_left side tiles.old sinks.now products.old result }
-    ensures elevation { AcceptedMeans ElevationIsTheirs R.bytes_left side tiles.old sinks.now products.old result }
+    // Whenever it accepts, the inputs are right: `IsRight` has a field for each sentence.
+    ensures right { AcceptedMeans IsRight R.bytes_left side tiles.old sinks.now products.old result }
 
-    // The conditioned raster is the least surface above it from which every cell reaches an edge, void or listed sink without climbing.
-    ensures least_surface { AcceptedMeans ConIsLeast R.bytes_left side tiles.old sinks.now products.old result }
-
-    // No direction climbs, and off flats it is the steepest descent.
-    ensures never_climbs { AcceptedMeans NoDirectionClimbs R.bytes_left side tiles.old sinks.now products.old result }
-    ensures steepest { AcceptedMeans DirectionsAreSteepest R.bytes_left side tiles.old sinks.now products.old result }
-
-    // Every run of directions ends at an outlet, and visits no cell twice.
-    ensures outlets { AcceptedMeans CodesTellOutlets R.bytes_left side tiles.old sinks.now products.old result }
-    ensures runs_end { AcceptedMeans RunsEnd R.bytes_left side tiles.old sinks.now products.old result }
-    ensures runs_end_at_outlets { AcceptedMeans RunsEndAtOutlets R.bytes_left side tiles.old sinks.now products.old result }
-    ensures runs_visit_once { AcceptedMeans RunsVisitOnce R.bytes_left side tiles.old sinks.now products.old result }
-
-    // Accumulation counts exactly the cells draining through each cell.
-    ensures accumulation { AcceptedMeans AccCountsUpstream R.bytes_left side tiles.old sinks.now products.old result }
-
-    // Two cells share a label exactly when they share an outlet.
-    ensures labels { AcceptedMeans LabelsTellBasins R.bytes_left side tiles.old sinks.now products.old result }
-
-    // Voids have the no-data numbers, and no data cell has one.
-    ensures voids { AcceptedMeans VoidsAreBlank R.bytes_left side tiles.old sinks.now products.old result }
-    ensures complete { AcceptedMeans DataIsComplete R.bytes_left side tiles.old sinks.now products.old result }
-
-    // How far it reads, when a read fails, and that names and headers are unchanged.
-    ensures tiles_within { TilesTakeAtMost R.bytes_left side tiles.old tiles.new }
-    ensures rasters_within { (p : Held) → RasterTakesAtMost R.bytes_left products.old products.new p }
-    ensures faults { SomeReadFails (map R.counts (devices_of tiles.old products.old)) (map R.counts (devices_of tiles.new products.new)) (IsErrOf result Refusal.ReadFailed) }
-    ensures names { names_of tiles.new ≡ names_of tiles.old }
-    ensures headers { (p : Held) → (of_product products.new p).header ≡ (of_product products.old p).header }
-
-    // A refusal of side, names, layout or headers leaves every device and every value as it was.
-    ensures untouched { IfErr result (λ refusal. ¬ IsOfBodies refusal → (tiles.new ≡ tiles.old) × (products.new ≡ products.old)) }
+    // How far it reads, when a read fails, and what is unchanged.
+    ensures uses { CheckUses R.bytes_left R.counts side (tiles.old, products.old) (tiles.new, products.new) result }
 {
     // The laws that turn rules kept at every cell into correct products, and first values into the one elevation.
     correct_from_rules();
@@ -99,12 +62,7 @@ fn answer_of<R: ByteSource>(
     products: &mut Products<R>,
 ) -> Result<Verdict, Refusal>
     ensures answer { (inputs : Inputs) → Tell R.bytes_left side tiles.old sinks.now products.old inputs → IsAnswer inputs result }
-    ensures tiles_within { TilesTakeAtMost R.bytes_left side tiles.old tiles.new }
-    ensures rasters_within { (p : Held) → RasterTakesAtMost R.bytes_left products.old products.new p }
-    ensures faults { SomeReadFails (map R.counts (devices_of tiles.old products.old)) (map R.counts (devices_of tiles.new products.new)) (IsErrOf result Refusal.ReadFailed) }
-    ensures names { names_of tiles.new ≡ names_of tiles.old }
-    ensures headers { (p : Held) → (of_product products.new p).header ≡ (of_product products.old p).header }
-    ensures untouched { IfErr result (λ refusal. ¬ IsOfBodies refusal → (tiles.new ≡ tiles.old) × (products.new ≡ products.old)) }
+    ensures uses { CheckUses R.bytes_left R.counts side (tiles.old, products.old) (tiles.new, products.new) result }
 {
     // The law that bytes name one tile.
     one_name();

@@ -6,8 +6,6 @@ ghost use Rattle.drain_grid.specs.declared.cell.TheConstants.{MAX_LENGTH};
 ghost use Rattle.drain_mosaic.specs.PlacedRows.{first_stopped};
 ghost use Rattle.drain_verdict.specs.Refusals.{IsOfBodies};
 
-use crate::grid_rows::GridRows;
-use crate::held_row::HeldRow;
 use crate::next_rows::read_mosaic;
 use crate::product_inputs::ProductInputs;
 use drain_answer::Refusal;
@@ -17,6 +15,7 @@ use drain_header::Header;
 use drain_hgt::TileInput;
 use drain_mosaic::{Layout, MosaicRows};
 use drain_raster::RasterRows;
+use drain_rows::{GridRows, HeldRow};
 use std::alloc::Global;
 
 /// Readers of the mosaic's rows and of each product's.
@@ -79,6 +78,8 @@ impl<R: ByteSource, P: ProductInputs<R>> GridRows<TileInput<R>, P> for InputRows
     ghost use Rattle.std.specs.Prelude.{length};
     ghost use Rattle.drain_verdict.specs.InputReads.{as_read};
     ghost use Rattle.drain_verdict.specs.ToGive.{AreGiven, HaveCome};
+
+    type Stop = Refusal;
 
     ghost count = { λ rows. length rows.mosaic.tiles.items };
 

@@ -4,10 +4,10 @@ ghost use Rattle.std.specs.Prelude.{◌≢◌, Some, IfSome};
 ghost use Rattle.drain_verdict.specs.Refusals.{IsOfBodies};
 ghost use Rattle.drain_verdict.specs.SinkListings.{IsToldOfSinks};
 
-use crate::listed_voids::ListedVoids;
 use crate::sink_listing::SinkListing;
 use drain_answer::Refusal;
 use drain_grid::{Cell, Shape, SinkData, first_off_data};
+use drain_rows::ListedVoids;
 
 /// The first bad line, else the first that lists a cell outside the grid or one of these voids.
 pub fn sink_refusal(listing: &SinkListing, shape: Shape, voids: &ListedVoids) -> Option<Refusal>
@@ -32,7 +32,7 @@ struct VoidedGrid<'a> {
 }
 
 impl<'a> SinkData for VoidedGrid<'a> {
-    ghost use Rattle.drain_verdict.specs.ListedVoids.{has_data_but};
+    ghost use Rattle.drain_rows.specs.ListedVoids.{has_data_but};
 
     ghost has = { λ grid. has_data_but grid.shape grid.voids.now };
 

@@ -7,7 +7,7 @@ ghost use Rattle.drain_grid.specs.Correct.{IsCorrect};
 ghost use Rattle.drain_grid.specs.Product.{default_numbers};
 ghost use Rattle.drain_grid.specs.WholeGrid.{grid_of, products_of};
 ghost use Rattle.drain_verdict.specs.Audits.{AreCorrect, OfFour};
-ghost use Rattle.drain_verdict.specs.Headline.{OfInputs, ConIsLeast, AccCountsUpstream};
+ghost use Rattle.drain_verdict.specs.Headline.{OfInputs, IsRight};
 
 use drain_device::ByteSource;
 use drain_grid::{ProductSet, Sinks};
@@ -41,8 +41,7 @@ pub fn are_shown_right<R: ByteSource>(
     tiles: &mut [TileInput<R>],
     rasters: &mut Products<R>,
 ) -> Result<bool, Refusal>
-    ensures filled { IfOk result (λ right. IsTrue right → OfInputs R.bytes_left 1201 tiles.old [] rasters.old ConIsLeast) }
-    ensures counted { IfOk result (λ right. IsTrue right → OfInputs R.bytes_left 1201 tiles.old [] rasters.old AccCountsUpstream) }
+    ensures right { IfOk result (λ right. IsTrue right → OfInputs R.bytes_left 1201 tiles.old [] rasters.old IsRight) }
 {
     match check(alloc, SIDE, tiles, &[], rasters) {
         Ok(Verdict::Accepted(_)) => Ok(true),

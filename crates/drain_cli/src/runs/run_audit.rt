@@ -1,17 +1,12 @@
 //! A run of `drain audit`: four products are checked against the tiles that they were made from, and the answer printed.
 
 ghost use Rattle.std.specs.Prelude.{◌≡◌, Result};
-ghost use Rattle.drain_grid.specs.declared.held.Held.{Held};
-ghost use Rattle.drain_grid.specs.PerProduct.{of_product};
-ghost use Rattle.drain_hgt.specs.Inputs.{names_of, TilesTakeAtMost};
-ghost use Rattle.drain_verdict.specs.AuditInputs.{with_con_for_ranks};
 ghost use Rattle.drain_answer.specs.AuditLines.{audit_report_line};
 ghost use Rattle.drain_verdict.specs.Audits.{AreCorrect, OfFour};
 ghost use Rattle.drain_answer.specs.declared.audit_verdict.AuditVerdict.{AuditVerdict};
 ghost use Rattle.drain_answer.specs.declared.refusal.Refusal.{Refusal};
-ghost use Rattle.drain_verdict.specs.Devices.{RasterTakesAtMost};
+ghost use Rattle.drain_verdict.specs.Headline.{IsRight};
 ghost use Rattle.drain_cli.specs.AuditRuns.{IsAuditOutcome, audit_status};
-ghost use Rattle.drain_cli.specs.CheckRuns.{IsRight};
 ghost use Rattle.drain_cli.specs.Printing.{Prints};
 
 use crate::print::print_line;
@@ -42,12 +37,6 @@ pub fn run_audit<R: ByteSource, W: ByteSink>(
     // A run ends with 0 only if the tiles agree and the products are correct, and with 1 only if the products aren't.
     ensures correct { result ≡ 0 → OfFour R.bytes_left side tiles.old sinks.now products.old IsRight }
     ensures not_correct { result ≡ 1 → OfFour R.bytes_left side tiles.old sinks.now products.old (λ inputs. ¬ AreCorrect inputs) }
-
-    // How far it reads, and that names and headers are unchanged.
-    ensures tiles_within { TilesTakeAtMost R.bytes_left side tiles.old tiles.new }
-    ensures rasters_within { (p : Held) → RasterTakesAtMost R.bytes_left (with_con_for_ranks products.old) (with_con_for_ranks products.new) p }
-    ensures names { names_of tiles.new ≡ names_of tiles.old }
-    ensures headers { (p : Held) → (of_product (with_con_for_ranks products.new) p).header ≡ (of_product (with_con_for_ranks products.old) p).header }
 {
     let answer = audit(alloc, side, tiles, sinks, products);
     print_line(out, &audit_report(&answer), status_of(&answer))

@@ -1,15 +1,11 @@
 //! A run of `drain check`: products are checked against the tiles that they were made from, and the answer printed.
 
 ghost use Rattle.std.specs.Prelude.{◌≡◌, Result};
-ghost use Rattle.drain_grid.specs.declared.held.Held.{Held};
 ghost use Rattle.drain_rules.specs.declared.verdict.Verdict.{Verdict};
-ghost use Rattle.drain_grid.specs.PerProduct.{of_product};
-ghost use Rattle.drain_hgt.specs.Inputs.{names_of, TilesTakeAtMost};
 ghost use Rattle.drain_answer.specs.declared.refusal.Refusal.{Refusal};
-ghost use Rattle.drain_verdict.specs.Devices.{RasterTakesAtMost};
-ghost use Rattle.drain_verdict.specs.Headline.{OfInputs};
+ghost use Rattle.drain_verdict.specs.Headline.{IsRight, OfInputs};
 ghost use Rattle.drain_answer.specs.Lines.{report_line};
-ghost use Rattle.drain_cli.specs.CheckRuns.{IsCheckOutcome, IsRight, check_status};
+ghost use Rattle.drain_cli.specs.CheckRuns.{IsCheckOutcome, check_status};
 ghost use Rattle.drain_cli.specs.Printing.{Prints};
 
 use crate::print::print_line;
@@ -39,12 +35,6 @@ pub fn run_check<R: ByteSource, W: ByteSink>(
 
     // A run ends with 0 only if the tiles agree and the products are correct.
     ensures correct { result ≡ 0 → OfInputs R.bytes_left side tiles.old sinks.now products.old IsRight }
-
-    // How far it reads, and that names and headers are unchanged.
-    ensures tiles_within { TilesTakeAtMost R.bytes_left side tiles.old tiles.new }
-    ensures rasters_within { (p : Held) → RasterTakesAtMost R.bytes_left products.old products.new p }
-    ensures names { names_of tiles.new ≡ names_of tiles.old }
-    ensures headers { (p : Held) → (of_product products.new p).header ≡ (of_product products.old p).header }
 {
     let answer = check(alloc, side, tiles, sinks, products);
     print_line(out, &report(&answer), status_of(&answer))

@@ -1,15 +1,10 @@
 //! A run of `drain explain`: products are checked or audited against their tiles, and what is wrong with them is printed.
 
 ghost use Rattle.std.specs.Prelude.{◌≡◌, Result};
-ghost use Rattle.drain_grid.specs.declared.held.Held.{Held};
-ghost use Rattle.drain_grid.specs.PerProduct.{of_product};
-ghost use Rattle.drain_hgt.specs.Inputs.{names_of, TilesTakeAtMost};
 ghost use Rattle.drain_rules.specs.declared.verdict.Verdict.{Verdict};
-ghost use Rattle.drain_verdict.specs.AuditInputs.{with_con_for_ranks};
 ghost use Rattle.drain_answer.specs.AuditLines.{audit_report_line};
 ghost use Rattle.drain_answer.specs.declared.audit_verdict.AuditVerdict.{AuditVerdict};
 ghost use Rattle.drain_answer.specs.declared.refusal.Refusal.{Refusal};
-ghost use Rattle.drain_verdict.specs.Devices.{RasterTakesAtMost};
 ghost use Rattle.drain_answer.specs.Lines.{report_line};
 ghost use Rattle.drain_explain.specs.Explanations.{answer_in};
 ghost use Rattle.drain_cli.specs.AuditRuns.{IsAuditOutcome, audit_status};
@@ -46,12 +41,6 @@ pub fn run_explain_check<R: ByteSource, B: Beside, W: ByteSink>(
     ensures run { (answer : Result Verdict Refusal)
         × IsCheckOutcome R.ByteSource side tiles.old tiles.new sinks.now products.old products.new answer
         × Tells W.ByteSink out.old out.new form (report_line answer) (check_status answer) result }
-
-    // How far it reads, and that names and headers are unchanged.
-    ensures tiles_within { TilesTakeAtMost R.bytes_left side tiles.old tiles.new }
-    ensures rasters_within { (p : Held) → RasterTakesAtMost R.bytes_left products.old products.new p }
-    ensures names { names_of tiles.new ≡ names_of tiles.old }
-    ensures headers { (p : Held) → (of_product products.new p).header ≡ (of_product products.old p).header }
 {
     let explained = explain_check(alloc, side, tiles, sinks, products, mapping);
     let Parts {
@@ -86,12 +75,6 @@ pub fn run_explain_audit<R: ByteSource, B: Beside, W: ByteSink>(
     ensures run { (answer : Result AuditVerdict Refusal)
         × IsAuditOutcome R.ByteSource side tiles.old tiles.new sinks.now products.old products.new answer
         × Tells W.ByteSink out.old out.new form (audit_report_line answer) (audit_status answer) result }
-
-    // How far it reads, and that names and headers are unchanged.
-    ensures tiles_within { TilesTakeAtMost R.bytes_left side tiles.old tiles.new }
-    ensures rasters_within { (p : Held) → RasterTakesAtMost R.bytes_left (with_con_for_ranks products.old) (with_con_for_ranks products.new) p }
-    ensures names { names_of tiles.new ≡ names_of tiles.old }
-    ensures headers { (p : Held) → (of_product (with_con_for_ranks products.new) p).header ≡ (of_product (with_con_for_ranks products.old) p).header }
 {
     let explained = explain_audit(alloc, side, tiles, sinks, products, mapping);
     let Parts {

@@ -2,8 +2,9 @@ use Rattle.std.proofs.Common.{sym, subst}
 use Rattle.drain_device.specs.contracts.slice_source.SliceSourceByteSource.TheImpl.{bytes_left-value}
 use Rattle.drain_c.specs.Given.{check_raster}
 use Rattle.drain_c.specs.Sources.{AreTilesOf}
-use Rattle.drain_c.proofs.Spelling.{of_bytes, headline}
+use Rattle.drain_c.proofs.Spelling.{of_bytes, of_bytes_accepted}
 use Rattle.drain_verdict.specs.Answers.{IsAnswer}
+use Rattle.drain_verdict.specs.Headline.{IsRight}
 use Rattle.drain_c.proofs.judge.judge_check.Goals as goal
 
 pub returns-clause-answer : goal.returns-clause-answer
@@ -12,24 +13,8 @@ returns-clause-answer c =
     of_bytes (λ inputs. IsAnswer inputs c.check.result) bytes_left-value.it c.args.side c.args.tiles.now c.args.sinks.now (check_raster c.args.products.now)
     c.as_mut_slice.result.now c.in_ok-products.products tiles c.in_ok-products.ensures.same c.check.ensures.answer
 
-pub returns-clause-headline : goal.returns-clause-headline
-returns-clause-headline c =
+pub returns-clause-right : goal.returns-clause-right
+returns-clause-right c =
     let tiles = subst (AreTilesOf bytes_left-value.it c.args.tiles.now) (sym c.as_mut_slice.ensures.value) c.in_ok-tiles.ensures.same in
-    let e = c.check.ensures in
-    headline c.check.result bytes_left-value.it c.args.side c.args.tiles.now c.args.sinks.now (check_raster c.args.products.now)
-    c.as_mut_slice.result.now c.in_ok-products.products tiles c.in_ok-products.ensures.same
-    (record {
-      tiles_agree = e.tiles_agree;
-      elevation = e.elevation;
-      least_surface = e.least_surface;
-      never_climbs = e.never_climbs;
-      steepest = e.steepest;
-      outlets = e.outlets;
-      runs_end = e.runs_end;
-      runs_end_at_outlets = e.runs_end_at_outlets;
-      runs_visit_once = e.runs_visit_once;
-      accumulation = e.accumulation;
-      labels = e.labels;
-      voids = e.voids;
-      complete = e.complete;
-    })
+    of_bytes_accepted IsRight c.check.result bytes_left-value.it c.args.side c.args.tiles.now c.args.sinks.now (check_raster c.args.products.now)
+    c.as_mut_slice.result.now c.in_ok-products.products tiles c.in_ok-products.ensures.same c.check.ensures.right

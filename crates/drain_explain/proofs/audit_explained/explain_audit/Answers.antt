@@ -4,7 +4,7 @@ use Rattle.std.proofs.lemmas.Result.{err_from_is_err_and}
 use Rattle.drain_kernel.specs.declared.rules.Ranks.TheVariants.{Unasked}
 use Rattle.drain_grid.specs.Size.{Extent}
 use Rattle.drain_runs.specs.KnownFlows.{AreKnownFlows}
-use Rattle.drain_verdict.specs.AuditInputs.{with_con_for_ranks}
+use Rattle.drain_verdict.specs.AuditInputs.{audit_devices, with_con_for_ranks}
 use Rattle.drain_verdict.specs.Meaning.{grid_of, products_of}
 use Rattle.drain_grid.specs.declared.cell.Cell.{Cell}
 use Rattle.drain_runs.specs.declared.endless_run.EndlessRun.{EndlessRun}
@@ -12,9 +12,8 @@ use Rattle.drain_verdict.specs.Audits.{IsAuditAnswer}
 use Rattle.drain_answer.specs.declared.audit_verdict.AuditVerdict.{AuditVerdict}
 use Rattle.drain_explain.specs.Explanations.{IsEndlessOf}
 use Rattle.drain_verdict.proofs.AuditAnswers.{answer_certified}
-use Rattle.drain_verdict.proofs.AuditDevices.{four_none}
-use Rattle.drain_verdict.proofs.Devices.{tiles_take_none}
-use Rattle.drain_verdict.proofs.InputLemmas.{told-of}
+use Rattle.drain_verdict.proofs.AuditDevices.{failed_alike, none_alike}
+use Rattle.drain_verdict.proofs.Uses.{uses_alike, uses_none}
 use Rattle.drain_verdict.proofs.StartAnswers.{at_side, laid, layout_answer, layout_reads_none}
 use Rattle.drain_explain.proofs.EndlessTold.{endless-told}
 use Rattle.drain_explain.proofs.audit_explained.explain_audit.Goals as goal
@@ -24,19 +23,13 @@ returns-in_err-layout-clause-answer g c = λ inputs tell.
     let told = err_from_is_err_and c.from_residual.result c.from_residual.ensures.1 in
     rw (told.1, told.2) (layout_answer c.one_name.ensures g.R.ByteSource.bytes_left c.args.side c.args.tiles.now c.args.sinks.now (with_con_for_ranks c.args.products.now) inputs _ tell c.in_err-layout.ensures.refusal)
 
-pub returns-in_err-layout-clause-tiles_within : goal.returns-in_err-layout-clause-tiles_within
-returns-in_err-layout-clause-tiles_within g c = tiles_take_none g.R.ByteSource.bytes_left c.args.side c.args.tiles.now
-
-pub returns-in_err-layout-clause-faults : goal.returns-in_err-layout-clause-faults
-returns-in_err-layout-clause-faults g c =
+pub returns-in_err-layout-clause-uses : goal.returns-in_err-layout-clause-uses
+returns-in_err-layout-clause-uses g c =
     let told = err_from_is_err_and c.from_residual.result c.from_residual.ensures.1 in
-    rw (told.1, told.2) (four_none g.R.ByteSource.counts c.args.tiles.now c.args.products.now (layout_reads_none _ _ _ c.in_err-layout.ensures.refusal))
+    rw (told.1, told.2) (uses_none with_con_for_ranks audit_devices g.R.ByteSource.bytes_left g.R.ByteSource.counts c.args.side c.args.tiles.now c.args.products.now (Err c.in_err-layout.field-0.0) (layout_reads_none _ _ _ c.in_err-layout.ensures.refusal))
 
-pub returns-in-Err-clause-tiles_within : goal.returns-in-Err-clause-tiles_within
-returns-in-Err-clause-tiles_within g c = tiles_take_none g.R.ByteSource.bytes_left c.args.side c.args.tiles.now
-
-pub returns-in-Err-clause-faults : goal.returns-in-Err-clause-faults
-returns-in-Err-clause-faults g c = four_none g.R.ByteSource.counts c.args.tiles.now c.args.products.now (λ is. cc)
+pub returns-in-Err-clause-uses : goal.returns-in-Err-clause-uses
+returns-in-Err-clause-uses g c = uses_none with_con_for_ranks audit_devices g.R.ByteSource.bytes_left g.R.ByteSource.counts c.args.side c.args.tiles.now c.args.products.now _ (λ is. cc)
 
 pub audit_on-requires-clause-laid : goal.audit_on-requires-clause-laid
 audit_on-requires-clause-laid g c = laid c.args.side _ c.in_ok-layout.layout c.in_ok-layout.ensures.layout
@@ -47,8 +40,15 @@ returns-in_err-verdict-clause-answer g c = λ inputs tell.
     rw (told.1, told.2) (answer_certified c.ranks_play_no_part.ensures inputs (Err c.in_err-verdict.field-0.0) (c.in_err-verdict.ensures.answer inputs
     (at_side g.R.ByteSource.bytes_left c.args.side c.args.tiles.now c.args.sinks.now (with_con_for_ranks c.args.products.now) inputs c.in_ok-layout.layout c.in_ok-layout.ensures.layout tell)))
 
-pub returns-in_err-verdict-clause-untouched : goal.returns-in_err-verdict-clause-untouched
-returns-in_err-verdict-clause-untouched g c = told-of c.from_residual-in_err-verdict.result c.in_err-verdict.field-0.0 _ c.from_residual-in_err-verdict.ensures.1 c.in_err-verdict.ensures.untouched
+pub returns-in_err-verdict-clause-uses : goal.returns-in_err-verdict-clause-uses
+returns-in_err-verdict-clause-uses g c =
+    let told = err_from_is_err_and c.from_residual-in_err-verdict.result c.from_residual-in_err-verdict.ensures.1 in
+    let uses = c.in_err-verdict.ensures.uses in
+    rw (told.1, told.2) (uses_alike with_con_for_ranks audit_devices g.R.ByteSource.bytes_left g.R.ByteSource.counts c.in_ok-layout.layout.side c.args.side (c.args.tiles.now, c.args.products.now) (c.audit_on.new.tiles, c.audit_on.new.products) (Err c.in_err-verdict.field-0.0) (Err c.in_err-verdict.field-0.0) c.in_ok-layout.ensures.layout.side_is (failed_alike c.in_err-verdict.field-0.0) uses.untouched uses)
+
+pub returns-clause-uses : goal.returns-clause-uses
+returns-clause-uses g c =
+    uses_alike with_con_for_ranks audit_devices g.R.ByteSource.bytes_left g.R.ByteSource.counts c.in_ok-layout.layout.side c.args.side (c.args.tiles.now, c.args.products.now) (c.audit_on.new.tiles, c.audit_on.new.products) (Ok c.in_ok-verdict.verdict) (Ok c.told_by_notes.result) c.in_ok-layout.ensures.layout.side_is (none_alike c.in_ok-verdict.verdict c.told_by_notes.result) tt c.in_ok-verdict.ensures.uses
 
 pub returns-clause-answer : goal.returns-clause-answer
 returns-clause-answer g c = λ inputs tell.

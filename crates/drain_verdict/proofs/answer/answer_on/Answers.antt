@@ -1,6 +1,8 @@
 use Rattle.std.proofs.lemmas.Result.{err_from_is_err_and}
-use Rattle.drain_verdict.proofs.InputLemmas.{on-ok}
-use Rattle.drain_verdict.proofs.Devices.{tiles_take_none, devices_none}
+use Rattle.drain_rows.proofs.RowResults.{on-ok}
+use Rattle.std.proofs.Common.{Err}
+use Rattle.drain_verdict.specs.Devices.{devices_of}
+use Rattle.drain_verdict.proofs.Uses.{of_bodies_may, uses_none}
 use Rattle.drain_verdict.proofs.StartAnswers.{named_each, header_answer, header_reads_none, started, takes_as_told}
 use Rattle.drain_verdict.proofs.answer.answer_on.Goals as goal
 
@@ -9,13 +11,12 @@ returns-in_err-headers-clause-answer g c = λ inputs tell.
     let told = err_from_is_err_and c.from_residual.result c.from_residual.ensures.1 in
     rw (told.1, told.2) (header_answer c.one_name.ensures g.R.ByteSource.bytes_left c.args.layout.now.side c.args.tiles.now c.args.sinks.now (g.P.ProductInputs.inputs c.args.products.now) inputs _ _ tell c.requires.laid c.in_err-headers.ensures.refusal)
 
-pub returns-in_err-headers-clause-tiles_within : goal.returns-in_err-headers-clause-tiles_within
-returns-in_err-headers-clause-tiles_within g c = tiles_take_none g.R.ByteSource.bytes_left c.args.layout.now.side c.args.tiles.now
-
-pub returns-in_err-headers-clause-faults : goal.returns-in_err-headers-clause-faults
-returns-in_err-headers-clause-faults g c =
+pub returns-in_err-headers-clause-uses : goal.returns-in_err-headers-clause-uses
+returns-in_err-headers-clause-uses g c =
     let told = err_from_is_err_and c.from_residual.result c.from_residual.ensures.1 in
-    rw (told.1, told.2) (devices_none g.R.ByteSource.counts c.args.tiles.now (g.P.ProductInputs.inputs c.args.products.now) (header_reads_none _ _ _ c.in_err-headers.ensures.refusal))
+    let inputs = g.P.ProductInputs.inputs in
+    rw (told.1, told.2) (uses_none inputs (λ ts ps. devices_of ts (inputs ps)) g.R.ByteSource.bytes_left g.R.ByteSource.counts c.args.layout.now.side c.args.tiles.now c.args.products.now (Err c.in_err-headers.field-0.0)
+    (header_reads_none _ _ _ c.in_err-headers.ensures.refusal))
 
 pub answer_to_bodies-requires-clause-named : goal.answer_to_bodies-requires-clause-named
 answer_to_bodies-requires-clause-named g c = named_each c.args.tiles.now _ c.requires.laid.named
@@ -35,7 +36,16 @@ returns-clause-noted g c =
     noted inputs begun.0 begun.1 tell.tiles_are tell.rasters_are tell.sinks_are)
     c.answer_to_bodies.ensures.noted
 
-pub returns-clause-rasters_within : goal.returns-clause-rasters_within
-returns-clause-rasters_within g c = λ p.
-    takes_as_told g.R.ByteSource.bytes_left c.args.layout.now (g.P.ProductInputs.inputs c.args.products.now) (g.P.ProductInputs.inputs c.answer_to_bodies.new.products) c.in_ok-headers.headers c.in_ok-headers.ensures.headers p
-    (c.answer_to_bodies.ensures.rasters_within p)
+pub returns-clause-uses : goal.returns-clause-uses
+returns-clause-uses g c =
+    let body = c.answer_to_bodies.ensures in
+    record {
+      tiles_within = body.tiles_within;
+      rasters_within = λ p.
+          takes_as_told g.R.ByteSource.bytes_left c.args.layout.now (g.P.ProductInputs.inputs c.args.products.now) (g.P.ProductInputs.inputs c.answer_to_bodies.new.products) c.in_ok-headers.headers c.in_ok-headers.ensures.headers p
+          (body.rasters_within p);
+      faults = body.faults;
+      names = body.names;
+      headers = body.headers;
+      untouched = of_bodies_may _ c.answer_to_bodies.result body.of_bodies;
+    }

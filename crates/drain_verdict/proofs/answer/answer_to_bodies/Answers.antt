@@ -6,7 +6,7 @@ use Rattle.drain_verdict.specs.SinkListings.{IsBadLine}
 use Rattle.drain_answer.specs.declared.refusal.Refusal.TheVariants.{ReadFailed}
 use Rattle.drain_verdict.specs.InputReads.{with_rasters}
 use Rattle.drain_verdict.proofs.Devices.{devices_none, tiles_take_none}
-use Rattle.drain_verdict.proofs.InputLemmas.{on-ok}
+use Rattle.drain_rows.proofs.RowResults.{on-ok}
 use Rattle.drain_verdict.proofs.RowDevices.{bodies_taken, devices_fail, tiles_taken}
 use Rattle.drain_verdict.proofs.answer.answer_to_bodies.Goals as goal
 

@@ -1,6 +1,5 @@
-use Rattle.std.proofs.Common.{◌≡◌, ◌*◌, ◌∙◌, refl, sym, ap, subst, rules}
+use Rattle.std.proofs.Common.{◌≡◌, ◌*◌, ◌∙◌, Ok, Err, refl, sym, ap, subst, rules}
 use Rattle.std.proofs.lemmas.Result.{err_from_is_err_and}
-use Rattle.drain_device.proofs.FaultLists.{SomeReadFails-iff}
 use Rattle.drain_grid.specs.Size.{Extent, IsExtent}
 use Rattle.drain_mosaic.specs.Tiling.{extent_of}
 use Rattle.drain_runs.specs.Flows.{AreFirstFlows}
@@ -9,9 +8,9 @@ use Rattle.drain_runs.proofs.GridFlows.{AreFirstFlows-none, AreFlowsOf-all}
 use Rattle.drain_verdict.specs.AuditInputs.{with_con_for_ranks}
 use Rattle.drain_verdict.specs.Meaning.{grid_of, nodata_numbers, products_of}
 use Rattle.drain_verdict.proofs.AuditAnswers.{both_are}
-use Rattle.drain_verdict.proofs.AuditDevices.{devices_of_four, failed_alike, none_alike}
-use Rattle.drain_verdict.proofs.InputLemmas.{told-of}
+use Rattle.drain_verdict.proofs.AuditDevices.{failed_alike, none_alike}
 use Rattle.drain_verdict.proofs.StartAnswers.{layout_of_inputs}
+use Rattle.drain_verdict.proofs.Uses.{four_used}
 use Rattle.drain_verdict.proofs.auditor.audit_on.Goals as goal
 
 pub answer_on-requires-clause-unnoted : goal.answer_on-requires-clause-unnoted
@@ -20,19 +19,17 @@ answer_on-requires-clause-unnoted g c = λ rules grid ps. (
   c.requires.unnoted rules grid ps,
 )
 
-pub returns-in_err-verdict-clause-faults : goal.returns-in_err-verdict-clause-faults
-returns-in_err-verdict-clause-faults g c =
+pub returns-in_err-verdict-clause-uses : goal.returns-in_err-verdict-clause-uses
+returns-in_err-verdict-clause-uses g c =
     let told = err_from_is_err_and c.from_residual.result c.from_residual.ensures.1 in
-    rw (told.1, told.2) (SomeReadFails-iff (failed_alike c.in_err-verdict.field-0.0)
-    (devices_of_four g.R.ByteSource.counts c.args.tiles.now c.answer_on.new.tiles c.args.products.now c.answer_on.new.products c.in_err-verdict.ensures.names c.in_err-verdict.ensures.faults))
+    let uses = c.in_err-verdict.ensures.uses in
+    rw (told.1, told.2) (four_used g.R.ByteSource.bytes_left g.R.ByteSource.counts c.args.layout.now.side (c.args.tiles.now, c.args.products.now) (c.answer_on.new.tiles, c.answer_on.new.products)
+    (Err c.in_err-verdict.field-0.0) (Err c.in_err-verdict.field-0.0) (failed_alike c.in_err-verdict.field-0.0) uses.untouched uses)
 
-pub returns-in_err-verdict-clause-untouched : goal.returns-in_err-verdict-clause-untouched
-returns-in_err-verdict-clause-untouched g c = told-of c.from_residual.result c.in_err-verdict.field-0.0 _ c.from_residual.ensures.1 c.in_err-verdict.ensures.untouched
-
-pub returns-clause-faults : goal.returns-clause-faults
-returns-clause-faults g c =
-    SomeReadFails-iff (none_alike c.in_ok-verdict.verdict c.verdict_of_both.result)
-    (devices_of_four g.R.ByteSource.counts c.args.tiles.now c.answer_on.new.tiles c.args.products.now c.answer_on.new.products c.in_ok-verdict.ensures.names c.in_ok-verdict.ensures.faults)
+pub returns-clause-uses : goal.returns-clause-uses
+returns-clause-uses g c =
+    four_used g.R.ByteSource.bytes_left g.R.ByteSource.counts c.args.layout.now.side (c.args.tiles.now, c.args.products.now) (c.answer_on.new.tiles, c.answer_on.new.products)
+    (Ok c.in_ok-verdict.verdict) (Ok c.verdict_of_both.result) (none_alike c.in_ok-verdict.verdict c.verdict_of_both.result) tt c.in_ok-verdict.ensures.uses
 
 pub returns-clause-noted : goal.returns-clause-noted
 returns-clause-noted g c = λ inputs tell. (c.in_ok-verdict.ensures.noted inputs tell).1

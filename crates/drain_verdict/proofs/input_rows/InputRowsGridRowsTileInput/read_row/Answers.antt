@@ -4,17 +4,17 @@ use Rattle.drain_grid.specs.declared.held.Held.TheVariants.{Con, Dir, Acc, Bas, 
 use Rattle.drain_grid.specs.PerProduct.{of_product, per_product}
 use Rattle.drain_grid.specs.Values.{IsPixel}
 use Rattle.drain_rules.specs.RowNumbers.{RowNumbers}
-use Rattle.drain_verdict.specs.HeldRows.{numbers_of}
+use Rattle.drain_rows.specs.HeldRows.{numbers_of}
 use Rattle.drain_verdict.specs.InputReads.{as_read, with_rasters}
 use Rattle.drain_grid.proofs.ByProduct.{by_held}
-use Rattle.drain_verdict.proofs.InputLemmas.{told-of}
+use Rattle.drain_rows.proofs.RowResults.{told-of}
 use Rattle.drain_verdict.proofs.RowGiven.{IsKept, come_more, come_refused, kept_numbers, next_given}
 use Rattle.drain_verdict.proofs.RowReads.{by_mosaic, by_rasters, one_read, rasters_none, reads_then}
 use Rattle.drain_verdict.proofs.input_rows.InputRowsGridRowsTileInput.read_row.Goals.{then-not-is_even, else-not-is_even}
 use Rattle.drain_verdict.proofs.input_rows.InputRowsGridRowsTileInput.read_row.Goals as goal
 
-pub returns-in_err-read_mosaic-clause-refuses : goal.returns-in_err-read_mosaic-clause-refuses
-returns-in_err-read_mosaic-clause-refuses g c =
+pub returns-in_err-read_mosaic-clause-stops : goal.returns-in_err-read_mosaic-clause-stops
+returns-in_err-read_mosaic-clause-stops g c =
     let bl = g.R.ByteSource.bytes_left in
     let ct = g.R.ByteSource.counts in
     let one = c.in_err-read_mosaic.ensures in
@@ -24,8 +24,8 @@ returns-in_err-read_mosaic-clause-refuses g c =
     (one_read bl ct (with_rasters g.P.ProductInputs.readers c.args.self.now) _ c.args.tiles.now c.read_mosaic.new.tiles (g.P.ProductInputs.inputs c.args.products.now) (g.P.ProductInputs.inputs c.args.products.now) (Some refusal) None (Some refusal) (by_mosaic refusal)
     one.of_reading one.counted (search rules) one.names one.read (rasters_none bl ct (g.P.ProductInputs.readers c.args.self.now.rasters) (g.P.ProductInputs.inputs c.args.products.now)))))
 
-pub returns-in_err-read_rasters-clause-refuses : goal.returns-in_err-read_rasters-clause-refuses
-returns-in_err-read_rasters-clause-refuses g c =
+pub returns-in_err-read_rasters-clause-stops : goal.returns-in_err-read_rasters-clause-stops
+returns-in_err-read_rasters-clause-stops g c =
     let bl = g.R.ByteSource.bytes_left in
     let ct = g.R.ByteSource.counts in
     let one = c.in_ok-read_mosaic.ensures in

@@ -1,0 +1,5 @@
+mod CellSets
+pub mod RowResults
+mod VoidRows
+mod WholeRowLemmas
+mod WindowLemmas

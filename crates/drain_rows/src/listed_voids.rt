@@ -1,0 +1,69 @@
+//! Listed sinks that are voids, noted row by row.
+
+ghost use Rattle.std.specs.Prelude.{◌≡◌, ◌<◌, ◌≤◌, ◌||◌, [], false, length, OnOk};
+ghost use Rattle.drain_grid.specs.declared.cell.Cell.{Cell};
+ghost use Rattle.drain_grid.specs.declared.cell.TheConstants.{MAX_LENGTH};
+ghost use Rattle.drain_rows.specs.ListedVoids.{is_among, is_listed_void};
+ghost use Rattle.drain_grid.specs.Extent.{same_cell};
+
+use drain_grid::{Cell, OutOfMemory, VOID};
+use std::alloc::Global;
+use std::collections::BTreeSet;
+use std::marker::Model;
+
+/// Cells that are listed and void.
+#[derive(Drop)]
+pub struct ListedVoids {
+    cells: BTreeSet<Cell>,
+}
+
+impl Model for ListedVoids {
+    ghost use Rattle.std.specs.Prelude.{List};
+    ghost use Rattle.drain_grid.specs.declared.cell.Cell.{Cell};
+
+    ghost Value = { List Cell };
+
+    ghost view = { λ s. s.cells.keys };
+}
+
+impl ListedVoids {
+    /// No cell. This needs no memory.
+    pub fn new(alloc: Global) -> ListedVoids
+        ensures { result ≡ [] }
+    {
+        ListedVoids {
+            cells: BTreeSet::new(alloc),
+        }
+    }
+
+    /// Whether the cell is one of them.
+    pub fn has(&self, cell: Cell) -> bool
+        ensures { result ≡ is_among self.now cell }
+    {
+        self.cells.contains(&cell)
+    }
+
+    /// Notes the cells of a row that are marked as listed and are void.
+    pub fn note_row(&mut self, row: u32, z: &[i64], marks: &[bool]) -> Result<(), OutOfMemory>
+        requires narrow { length marks.now ≤ MAX_LENGTH }
+        ensures noted { OnOk result ((c : Cell) → is_among self.new c ≡ (is_among self.old c || is_listed_void row z.now marks.now c)) }
+    {
+        for (col, mark) in marks.iter().enumerate() {
+            if *mark && z.get(col) == Some(&i64::from(VOID)) {
+                let col = col as u32;
+                self.note(Cell { row, col })?;
+            }
+        }
+        Ok(())
+    }
+
+    /// Notes a cell.
+    fn note(&mut self, cell: Cell) -> Result<(), OutOfMemory>
+        ensures noted { OnOk result ((c : Cell) → is_among self.new c ≡ (same_cell c cell || is_among self.old c)) }
+    {
+        match self.cells.insert(cell) {
+            Ok(_) => Ok(()),
+            Err(_) => Err(OutOfMemory),
+        }
+    }
+}

@@ -1,0 +1,61 @@
+//! The direction of each cell, noted row by row, and the first path without an end.
+
+ghost use Rattle.std.specs.Prelude.{◌≡◌, ◌*◌, length, MatchOption};
+ghost use Rattle.drain_grid.specs.Certificate.{IsFirstEndless};
+ghost use Rattle.drain_grid.specs.Grid.{Grid, Products};
+ghost use Rattle.drain_grid.specs.Unranked.{unranked};
+ghost use Rattle.drain_grid.specs.Values.{NoDataNumbers};
+ghost use Rattle.drain_rules.specs.Verdicts.{IsVerdictOf};
+ghost use Rattle.drain_runs.specs.Flows.{AreFlowsOf};
+ghost use Rattle.drain_runs.specs.KnownFlows.{AreKnownFlows};
+ghost use Rattle.drain_rows.specs.Runs.{AllRunsEnd};
+
+use crate::held_row::HeldRow;
+use crate::row_notes::RowNotes;
+use drain_grid::laws::correct_by_rules_alone;
+use drain_grid::{Cell, OutOfMemory, Shape};
+use drain_rules::{Rules, ThreeRows, Verdict};
+use drain_runs::CellFlows;
+
+impl RowNotes for CellFlows {
+    ghost use Rattle.std.specs.Prelude.{true};
+    ghost use Rattle.drain_runs.specs.Flows.{AreFirstFlows};
+
+    ghost counts = { λ n flows. Unit {0} };
+
+    ghost are_of = { λ rules g ps rows flows. AreFirstFlows g ps g.extent rows flows };
+
+    ghost wants = { λ rules g ps. Unit {0} };
+
+    ghost lasting = { λ flows. true };
+
+    fn note(
+        &mut self,
+        row: &HeldRow,
+        _rows: &ThreeRows<'_>,
+        _rules: &Rules,
+    ) -> Result<(), OutOfMemory> {
+        self.push_row(row.z.as_slice(), row.products.dir.as_slice())
+    }
+}
+
+/// The first data cell whose path doesn't end, from the flows of all cells of a grid and this verdict of the rules
+/// without ranks. Paths are followed only after a rejection: if every rule holds every path ends, since accumulation
+/// can't grow along a ring. None if flows and cells differ in number, which never happens if the sources' bytes are
+/// known.
+pub fn first_endless(flows: &mut CellFlows, shape: Shape, verdict: &Verdict) -> Option<Cell>
+    ensures first { (g : Grid) (ps : Products) (nodata : NoDataNumbers) → IsVerdictOf (unranked nodata) g ps verdict.now → length flows.old ≡ shape.rows * shape.cols → AreFlowsOf g ps shape flows.old → MatchOption result (AllRunsEnd g ps) (IsFirstEndless g ps) }
+    ensures known { (g : Grid) (ps : Products) → AreFlowsOf g ps shape flows.old → AreKnownFlows g ps shape flows.new }
+    ensures counted { length flows.new ≡ length flows.old }
+{
+    // The law that products are correct if every rule holds without ranks.
+    correct_by_rules_alone();
+    if let Verdict::Accepted(_) = verdict {
+        return None;
+    }
+    if flows.len() == shape.cells() {
+        flows.first_endless(shape)
+    } else {
+        None
+    }
+}

@@ -1,0 +1,155 @@
+//! The verdict on a grid and its products whose rows come one after another.
+
+ghost use Rattle.std.specs.Prelude.{◌≡◌, ◌<◌, ◌+◌, ◌⊎◌, ℕ, [], length, None, IfOk, IfErr, OnErr, OnOk};
+ghost use Rattle.drain_grid.specs.declared.cell.TheConstants.{MAX_LENGTH};
+ghost use Rattle.drain_grid.specs.Grid.{Grid, Products};
+ghost use Rattle.drain_rules.specs.RowNumbers.{AreRowNumbers, RowNumbers, blank};
+ghost use Rattle.drain_kernel.specs.Rules.{tried};
+ghost use Rattle.drain_rules.specs.ThreeRows.{patch_in};
+ghost use Rattle.drain_rules.specs.Verdicts.{IsVerdictOf};
+ghost use Rattle.drain_rows.specs.GridRows.{OfGrid, ReadsOn, IsRowsStop};
+ghost use Rattle.drain_rows.specs.HeldRows.{HasItsLanes, numbers_of};
+ghost use Rattle.drain_rows.specs.ListedVoids.{AreListedVoids};
+ghost use Rattle.drain_rows.specs.NotedRows.{OfNotedRow};
+ghost use Rattle.drain_rows.specs.declared.walk_stop.WalkStop.TheVariants as walk_stop;
+
+use crate::grid_rows::GridRows;
+use crate::held_row::HeldRow;
+use crate::listed_voids::ListedVoids;
+use crate::marked_rows::read_marked;
+use crate::row_notes::{RowNotes, RowVerdicts};
+use crate::walk_stop::WalkStop;
+use crate::window::Window;
+use drain_grid::{OutOfMemory, Shape, Sinks};
+use drain_rules::laws::three_rows_show_patches;
+use drain_rules::{Rules, ThreeRows, Verdict};
+use std::alloc::Global;
+
+/// The verdict on a grid, and its listed sinks that are voids.
+#[derive(Drop)]
+pub struct RowVerdict {
+    pub verdict: Verdict,
+    pub voids: ListedVoids,
+}
+
+/// The verdict on the grid of this shape and with these sinks, whose rows the source gives: that of the notes.
+///
+/// It asks for one row more than there are, and gets none. It stops if the source does, or if memory runs out where the
+/// notes need memory or there are sinks.
+pub fn verdict_by_rows<T, P, S: GridRows<T, P>, K: RowVerdicts>(
+    alloc: Global,
+    shape: Shape,
+    sinks: &Sinks,
+    rules: &Rules,
+    source: &mut S,
+    tiles: &mut [T],
+    products: &mut P,
+    notes: &mut K,
+) -> Result<RowVerdict, WalkStop<S::Stop>>
+    requires counted { length tiles.old ≡ S.count source.old }
+    requires uncounted { K.counts 0 notes.old }
+    requires unnoted { (g : Grid) (ps : Products) → K.are_of rules.now g ps 0 notes.old }
+    ensures verdict { IfOk result (λ found. OfGrid (S.gives (source.old, tiles.old, products.old)) shape sinks.now (λ g ps. IsVerdictOf (tried rules.now) g ps found.verdict)) }
+    ensures voids { IfOk result (λ found. OfGrid (S.gives (source.old, tiles.old, products.old)) shape sinks.now (λ g ps. AreListedVoids g found.voids)) }
+    ensures noted { OnOk result (OfGrid (S.gives (source.old, tiles.old, products.old)) shape sinks.now (λ g ps. K.are_of rules.now g ps g.extent.rows notes.new)) }
+    ensures lasting { OnOk result (K.lasting notes.new ≡ K.lasting notes.old) }
+    ensures given { OnOk result ((rows : ℕ → RowNumbers) → S.gives (source.old, tiles.old, products.old) rows 0 → S.gives (source.new, tiles.new, products.new) rows (shape.rows + 1)) }
+    ensures reads { OnOk result (ReadsOn S.has_read (source.old, tiles.old, products.old) (source.new, tiles.new, products.new) (shape.rows + 1) None) }
+    ensures stops { IfErr result (IsRowsStop S.has_read (source.old, tiles.old, products.old) (source.new, tiles.new, products.new)
+        (OfGrid (S.gives (source.old, tiles.old, products.old)) shape sinks.now (K.wants rules.now) ⊎ ¬ (sinks.now ≡ []))) }
+{
+    let mut window = Window::new(alloc);
+    let mut voids = ListedVoids::new(alloc);
+    note_rows(
+        shape,
+        sinks,
+        rules,
+        source,
+        tiles,
+        products,
+        notes,
+        &mut window,
+        &mut voids,
+    )?;
+    let verdict = notes.verdict(shape);
+    Ok(RowVerdict { verdict, voids })
+}
+
+/// Notes each row of the grid and its listed sinks that are voids, from an empty window and an empty list.
+fn note_rows<T, P, S: GridRows<T, P>, K: RowNotes>(
+    shape: Shape,
+    sinks: &Sinks,
+    rules: &Rules,
+    source: &mut S,
+    tiles: &mut [T],
+    products: &mut P,
+    notes: &mut K,
+    window: &mut Window,
+    voids: &mut ListedVoids,
+) -> Result<(), WalkStop<S::Stop>>
+    requires counted { length tiles.old ≡ S.count source.old }
+    requires uncounted { K.counts 0 notes.old }
+    requires unnoted { (g : Grid) (ps : Products) → K.are_of rules.now g ps 0 notes.old }
+    requires here { numbers_of window.old.here ≡ blank }
+    requires here_lanes { HasItsLanes window.old.here }
+    requires none { voids.old ≡ [] }
+    ensures voids { OnOk result (OfGrid (S.gives (source.old, tiles.old, products.old)) shape sinks.now (λ g ps. AreListedVoids g voids.new)) }
+    ensures noted { OnOk result (OfGrid (S.gives (source.old, tiles.old, products.old)) shape sinks.now (λ g ps. K.are_of rules.now g ps g.extent.rows notes.new)) }
+    ensures lasting { OnOk result (K.lasting notes.new ≡ K.lasting notes.old) }
+    ensures given { OnOk result ((rows : ℕ → RowNumbers) → S.gives (source.old, tiles.old, products.old) rows 0 → S.gives (source.new, tiles.new, products.new) rows (shape.rows + 1)) }
+    ensures reads { OnOk result (ReadsOn S.has_read (source.old, tiles.old, products.old) (source.new, tiles.new, products.new) (shape.rows + 1) None) }
+    ensures stops { IfErr result (IsRowsStop S.has_read (source.old, tiles.old, products.old) (source.new, tiles.new, products.new)
+        (OfGrid (S.gives (source.old, tiles.old, products.old)) shape sinks.now (K.wants rules.now) ⊎ ¬ (sinks.now ≡ []))) }
+{
+    // The law that builds a row's patches from three rows.
+    three_rows_show_patches();
+    read_marked(
+        source,
+        tiles,
+        products,
+        0,
+        sinks,
+        rules.ranks,
+        &mut window.below,
+        voids,
+    )?;
+    for row in 0..shape.rows() {
+        window.turn();
+        read_marked(
+            source,
+            tiles,
+            products,
+            row + 1,
+            sinks,
+            rules.ranks,
+            &mut window.below,
+            voids,
+        )?;
+        let shown = window.rows();
+        note_row(notes, &window.here, &shown, rules)?;
+    }
+    Ok(())
+}
+
+/// Notes a row of the grid.
+fn note_row<K: RowNotes, E>(
+    notes: &mut K,
+    row: &HeldRow,
+    rows: &ThreeRows<'_>,
+    rules: &Rules,
+) -> Result<(), WalkStop<E>>
+    requires whole { AreRowNumbers (numbers_of row.now) }
+    requires counted { (n : ℕ) × (n < MAX_LENGTH) × K.counts n notes.old }
+    ensures counted { OnOk result ((n : ℕ) → K.counts n notes.old → K.counts (n + 1) notes.new) }
+    ensures noted { OnOk result (OfNotedRow (numbers_of row.now) (length rows.now.here.numbers.z) (patch_in rows.now)
+        (λ g ps r. K.are_of rules.now g ps r notes.old → K.are_of rules.now g ps (r + 1) notes.new)) }
+    ensures lasting { OnOk result (K.lasting notes.new ≡ K.lasting notes.old) }
+    ensures wants { OnErr result (OfNotedRow (numbers_of row.now) (length rows.now.here.numbers.z) (patch_in rows.now)
+        (λ g ps r. K.are_of rules.now g ps r notes.old → K.wants rules.now g ps)) }
+    ensures err { IfErr result (λ stop. stop ≡ walk_stop.OutOfMemory) }
+{
+    match notes.note(row, rows, rules) {
+        Ok(()) => Ok(()),
+        Err(OutOfMemory) => Err(WalkStop::OutOfMemory),
+    }
+}

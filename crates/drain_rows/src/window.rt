@@ -1,0 +1,61 @@
+//! A window of three rows that moves down the rows of a grid.
+
+ghost use Rattle.std.specs.Prelude.{◌≡◌};
+ghost use Rattle.drain_rules.specs.RowNumbers.{AreRowNumbers, blank};
+ghost use Rattle.drain_rows.specs.HeldRows.{HasItsLanes, marked_of, numbers_of};
+
+use crate::held_row::HeldRow;
+use drain_rules::ThreeRows;
+use std::alloc::Global;
+use std::mem::swap;
+
+/// A row, and those above and below it. The one below is there to be read into.
+#[derive(Drop)]
+pub struct Window {
+    pub above: HeldRow,
+    pub here: HeldRow,
+    pub below: HeldRow,
+}
+
+impl Window {
+    /// No rows. This needs no memory.
+    pub fn new(alloc: Global) -> Window
+        ensures above { numbers_of result.above ≡ blank }
+        ensures here { numbers_of result.here ≡ blank }
+        ensures here_lanes { HasItsLanes result.here }
+    {
+        Window {
+            above: HeldRow::new(alloc),
+            here: HeldRow::new(alloc),
+            below: HeldRow::new(alloc),
+        }
+    }
+
+    /// Moves the window one row down. The lower row is then only memory to read into.
+    pub fn turn(&mut self)
+        ensures above { self.new.above ≡ self.old.here }
+        ensures here { self.new.here ≡ self.old.below }
+    {
+        swap(&mut self.above, &mut self.here);
+        swap(&mut self.here, &mut self.below);
+    }
+
+    /// The rows as slices.
+    pub fn rows(&self) -> ThreeRows<'_>
+        requires above { AreRowNumbers (numbers_of self.now.above) }
+        requires here { AreRowNumbers (numbers_of self.now.here) }
+        requires below { AreRowNumbers (numbers_of self.now.below) }
+        requires above_lanes { HasItsLanes self.now.above }
+        requires here_lanes { HasItsLanes self.now.here }
+        requires below_lanes { HasItsLanes self.now.below }
+        ensures above { result.above ≡ marked_of self.now.above }
+        ensures here { result.here ≡ marked_of self.now.here }
+        ensures below { result.below ≡ marked_of self.now.below }
+    {
+        ThreeRows {
+            above: self.above.view(),
+            here: self.here.view(),
+            below: self.below.view(),
+        }
+    }
+}
