@@ -83,7 +83,8 @@ Depressions are filled by a flood inwards from edges, voids and listed sinks (Pr
 direction is the first of the steepest descents in the order E, SE, S, SW, W, NW, N, NE; on flats it is the
 shortest way to a lower cell or an outlet. Labels number the outlets from 1, row by row.
 
-The rasters are proved to be correct, and the files are created only when no refusal is possible any more. Existing files are replaced. Prints one line.";
+The rasters are proved to be correct, and the files are created only when no refusal is possible any
+more. Existing files are replaced. Prints one line.";
 
 pub const MAKE_AFTER: &str = "Lines and exit statuses:
   0  made rows=R cols=C
