@@ -1,2 +1,3 @@
 pub mod Making
 pub mod ShownRasters
+pub mod Spelling

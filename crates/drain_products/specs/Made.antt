@@ -1,5 +1,6 @@
 -- Products of routes, counts and labels: correct, and right by every rule.
-use Rattle.std.specs.Prelude.{◌*◌, ◌≤◌, ℕ, ℤ, pos, List, map, slice_index_or}
+use Rattle.std.specs.Prelude.{◌*◌, ◌≤◌, ℕ, ℤ, pos, true, false, List, map, slice_index_or}
+use Rattle.drain_grid.specs.declared.held.Held.{Held}
 use Rattle.drain_grid.specs.declared.product_set.ProductSet.{ProductSet}
 use Rattle.drain_grid.specs.declared.sink_line.SinkLine.{SinkLine}
 use Rattle.drain_grid.specs.declared.cell.Cell.{Cell}
@@ -9,10 +10,11 @@ use Rattle.drain_grid.specs.Grid.{Grid, Products}
 use Rattle.drain_grid.specs.GridRules.{RulesHold}
 use Rattle.drain_grid.specs.PatchRules.{check_rules}
 use Rattle.drain_grid.specs.Product.{default_numbers}
-use Rattle.drain_grid.specs.Rasters.{Heights}
+use Rattle.drain_grid.specs.Rasters.{Heights, ArePixels}
 use Rattle.drain_grid.specs.Rule.{IsAnyRule}
 use Rattle.drain_grid.specs.Size.{Extent}
-use Rattle.drain_grid.specs.WholeGrid.{grid_of, products_of}
+use Rattle.drain_grid.specs.WholeGrid.{grid_of, products_of, raster_in}
+use Rattle.drain_raster.specs.Bytes.{CanSpellAllIn}
 use Rattle.drain_runs.specs.Flows.{AreFlowsOf}
 use Rattle.drain_surface.specs.declared.level_queue.TheConstants.{MAX_CELLS}
 use Rattle.drain_surface.specs.Flats.{Laying, AreWaysOnFlats}
@@ -24,6 +26,18 @@ use Rattle.drain_products.specs.Counting.{AreCountsAndLabels}
 -- all rules of a check hold at every cell, with the default no-data numbers
 abbrev pub KeepsEveryRule : Heights → List SinkLine → ProductSet → Type 0
 KeepsEveryRule e sinks ps = RulesHold (check_rules default_numbers) IsAnyRule (grid_of e sinks) (products_of ps)
+
+-- each raster has a number for each cell, and numbers that some pixel encodes
+abbrev pub AreRasters : ProductSet → Type 0
+AreRasters ps = (p : Held) → ArePixels (raster_in ps p)
+
+-- the numbers of each raster fit its pixels: 16 bits signed for heights, 8 bits for codes, 32 for counts, labels and ranks
+pub record FitPixels (ps : ProductSet) : Type 0 where
+  pub con : CanSpellAllIn true 16 ps.con
+  pub dir : CanSpellAllIn false 8 ps.dir
+  pub acc : CanSpellAllIn false 32 ps.acc
+  pub bas : CanSpellAllIn false 32 ps.bas
+  pub rnk : CanSpellAllIn false 32 ps.rnk
 
 -- correct products, sound runs, and every rule of a check at every cell
 pub record AreRight (e : Heights) (sinks : List SinkLine) (ps : Products) : Type 0 where

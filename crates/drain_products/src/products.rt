@@ -4,7 +4,7 @@ ghost use Rattle.std.specs.Prelude.{◌≡◌, IfOk};
 ghost use Rattle.drain_grid.specs.Correct.{IsCorrect, RunsAreSound};
 ghost use Rattle.drain_grid.specs.Product.{default_numbers};
 ghost use Rattle.drain_grid.specs.WholeGrid.{grid_of, products_of, nodata_of};
-ghost use Rattle.drain_products.specs.Made.{KeepsEveryRule, AreRight};
+ghost use Rattle.drain_products.specs.Made.{KeepsEveryRule, AreRasters, FitPixels, AreRight};
 
 use crate::counts_and_labels::count_and_label;
 use crate::laws::routes_keep_rules;
@@ -26,6 +26,8 @@ pub fn make_products(
 ) -> Result<ProductSet, OutOfMemory>
     ensures shape { IfOk result (λ products. products.con.extent ≡ elevation.now.extent) }
     ensures nodata { IfOk result (λ products. nodata_of products ≡ default_numbers) }
+    ensures rasters { IfOk result AreRasters }
+    ensures fit { IfOk result FitPixels }
     ensures rules { IfOk result (KeepsEveryRule elevation.now sinks.now) }
 
     // What every rule at every cell means: the products are correct, and every run is sound.
@@ -42,6 +44,8 @@ pub fn make_products(
 fn build(alloc: Global, elevation: &Elevation, sinks: &Sinks) -> Result<ProductSet, OutOfMemory>
     ensures shape { IfOk result (λ products. products.con.extent ≡ elevation.now.extent) }
     ensures nodata { IfOk result (λ products. nodata_of products ≡ default_numbers) }
+    ensures rasters { IfOk result AreRasters }
+    ensures fit { IfOk result FitPixels }
     ensures right { IfOk result (λ products. AreRight elevation.now sinks.now (products_of products)) }
 {
     let shape = elevation.shape();

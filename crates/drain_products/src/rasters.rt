@@ -1,15 +1,18 @@
 //! Rasters of what was computed. Each type has its pixels: 16 bits signed for heights, 8 bits for codes, 32 for counts.
 
-ghost use Rattle.std.specs.Prelude.{◌≡◌, ◌*◌, pos, map, All, vec_len};
+ghost use Rattle.std.specs.Prelude.{◌≡◌, ◌*◌, pos, true, false, map, All, vec_len};
 ghost use Rattle.drain_grid.specs.Product.{default_no_data};
-ghost use Rattle.drain_grid.specs.Values.{IsPixel};
+ghost use Rattle.drain_grid.specs.Rasters.{ArePixels};
+ghost use Rattle.drain_raster.specs.Bytes.{CanSpellIn, CanSpellAllIn};
 
 use drain_grid::{Product, Raster, Shape};
 
 /// The raster of a product of heights.
 pub(crate) fn raster_of_heights(shape: Shape, product: Product, heights: Vec<i16>) -> Raster
     requires { vec_len heights ≡ shape.rows * shape.cols }
-    ensures { result ≡ record { extent = shape; nodata = default_no_data product; numbers = heights.items } }
+    ensures value { result ≡ record { extent = shape; nodata = default_no_data product; numbers = heights.items } }
+    ensures pixels { ArePixels result }
+    ensures spelled { CanSpellAllIn true 16 result }
 {
     look_at_each(&heights);
     Raster::of_heights(shape, product.default_no_data(), heights)
@@ -18,7 +21,9 @@ pub(crate) fn raster_of_heights(shape: Shape, product: Product, heights: Vec<i16
 /// The raster of a product of codes.
 pub(crate) fn raster_of_codes(shape: Shape, product: Product, codes: Vec<u8>) -> Raster
     requires { vec_len codes ≡ shape.rows * shape.cols }
-    ensures { result ≡ record { extent = shape; nodata = default_no_data product; numbers = map (λ n. pos n) codes.items } }
+    ensures value { result ≡ record { extent = shape; nodata = default_no_data product; numbers = map (λ n. pos n) codes.items } }
+    ensures pixels { ArePixels result }
+    ensures spelled { CanSpellAllIn false 8 result }
 {
     Raster::of_bytes(shape, product.default_no_data(), codes)
 }
@@ -26,14 +31,16 @@ pub(crate) fn raster_of_codes(shape: Shape, product: Product, codes: Vec<u8>) ->
 /// The raster of a product of counts, labels or ranks.
 pub(crate) fn raster_of_counts(shape: Shape, product: Product, counts: Vec<u32>) -> Raster
     requires { vec_len counts ≡ shape.rows * shape.cols }
-    ensures { result ≡ record { extent = shape; nodata = default_no_data product; numbers = map (λ n. pos n) counts.items } }
+    ensures value { result ≡ record { extent = shape; nodata = default_no_data product; numbers = map (λ n. pos n) counts.items } }
+    ensures pixels { ArePixels result }
+    ensures spelled { CanSpellAllIn false 32 result }
 {
     Raster::of_counts(shape, product.default_no_data(), counts)
 }
 
 /// Each height is a number of 16 bits. The body only shows this to the prover, height by height.
 fn look_at_each(heights: &[i16])
-    ensures { All IsPixel heights.now }
+    ensures { All (CanSpellIn true 16) heights.now }
 {
     for place in 0..heights.len() {
         look_at(heights[place]);
@@ -42,5 +49,5 @@ fn look_at_each(heights: &[i16])
 
 /// The same of one height.
 fn look_at(_height: i16)
-    ensures { IsPixel _height }
+    ensures { CanSpellIn true 16 _height }
 {}

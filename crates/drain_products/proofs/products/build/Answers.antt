@@ -19,5 +19,5 @@ returns-clause-right c =
     right c.args.elevation.now c.args.sinks.now c.shape-shape.result c.shape-shape.ensures c.in_ok-routes.routes.con.items c.in_ok-routes.routes.rnk.items
     c.in_ok-routes.routes.dir.items c.in_ok-both.both.counts.items c.in_ok-both.both.labels.items c.deref-2.result.now c.raster_of_heights.result
     c.raster_of_codes.result c.raster_of_counts.result c.raster_of_counts-2.result c.raster_of_counts-3.result few c.in_ok-routes.ensures.routes
-    (c.deref-2.ensures.value ∙ (c.in_ok-flows.ensures ∙ ap bytes_flows c.deref.ensures.value)) c.in_ok-both.ensures.right c.raster_of_heights.ensures
-    c.raster_of_codes.ensures c.raster_of_counts.ensures c.raster_of_counts-2.ensures c.raster_of_counts-3.ensures
+    (c.deref-2.ensures.value ∙ (c.in_ok-flows.ensures ∙ ap bytes_flows c.deref.ensures.value)) c.in_ok-both.ensures.right c.raster_of_heights.ensures.value
+    c.raster_of_codes.ensures.value c.raster_of_counts.ensures.value c.raster_of_counts-2.ensures.value c.raster_of_counts-3.ensures.value
