@@ -2,9 +2,25 @@
 //!
 //! A law is a function with an empty body: its contract is the law.
 
-ghost use Rattle.std.specs.Prelude.{◌≡◌};
+ghost use Rattle.std.specs.Prelude.{◌≡◌, pos, neg_ℤ};
 ghost use Rattle.drain_surface.specs.declared.level_queue.TheConstants.{MAX_CELLS};
 ghost use Rattle.drain_surface.specs.Laws.{KeptByReaching, AllAreReached, FloodIsDone, FloodIsFilled, KeptBySettling, AllAreSettled, FlatsKeepRules, SurfaceKeepsRules, TakenOfALevel, FlatsArePresent};
+
+use crate::codes::{NO_HEIGHT, NO_RANK, OPEN, REACHED, UNREACHED, VOID};
+
+/// The numerals of the constants that definitions name.
+///
+/// A queue of levels holds at most 829,497,601 items: the cells of the greatest mosaic, 28,801 rows of as many. The
+/// no-data numbers of heights, codes and ranks are the default ones. The marks are this project's own.
+pub fn constants()
+    ensures max_cells { MAX_CELLS ≡ 829497601 }
+    ensures open { OPEN ≡ 0 }
+    ensures reached { REACHED ≡ 253 }
+    ensures unreached { UNREACHED ≡ 254 }
+    ensures void { VOID ≡ 255 }
+    ensures no_height { NO_HEIGHT ≡ neg_ℤ (pos 32768) }
+    ensures no_rank { NO_RANK ≡ 4294967295 }
+{}
 
 /// What holds of a flood still holds after one more cell is reached.
 pub fn kept_by_reaching()
@@ -54,9 +70,4 @@ pub fn taken_of_a_level()
 /// Heights, codes and ranks are the default no-data numbers exactly at voids.
 pub fn flats_are_present()
     ensures { FlatsArePresent }
-{}
-
-/// A queue of levels holds at most 829,497,601 items: the cells of the greatest mosaic, 28,801 rows of as many.
-pub fn constants()
-    ensures max_cells { MAX_CELLS ≡ 829497601 }
 {}
