@@ -3,8 +3,8 @@
 # tiles and on tiles of sides 1201 and 3601, made-up terrain and real terrain enlarged by mirrored copies, then times all of them in turn on the large ones.
 # It exits with 1 where files differ; times never make it fail.
 #
-# All ten files of the twin by traces are to be the program's, and those of the others each other's, with the program's con; the program's check has to
-# accept both kinds, with the same counts. make_and_check.sh is a twin that tests what it made, as the program does.
+# con of each twin is to be the program's, and the other files of the twins but traces each other's: ways over flats may differ. The program's check has
+# to accept them all, with the same counts. make_and_check.sh is a twin that tests what it made.
 #
 # Where perf is installed, it also tells the seconds that each builds, without reading, testing and writing: from samples in the functions that build
 # (medians of three interleaved runs).
@@ -47,12 +47,13 @@ compare() {
         line=$("$program" make --side "$1" --out "$scratch/${program##*/}" "$2") || true
         [ "$line" = "$wanted" ] || { echo "${program##*/} prints '$line', not '$wanted'"; differ=1; }
     done
-    same "$drain" twin_make_traces "${files[@]}" || differ=1
-    same "$drain" twin_make_levels con.bil || differ=1
+    for program in traces levels; do same "$drain" "twin_make_$program" con.hdr con.bil || differ=1; done
     for program in pools packed_heap heap; do same twin_make_levels "twin_make_$program" "${files[@]}" || differ=1; done
     accepted=$("$drain" check --side "$1" --products "$scratch/${drain##*/}" "$2") || differ=1
-    line=$("$drain" check --side "$1" --products "$scratch/twin_make_levels" "$2") || differ=1
-    [ "$line" = "$accepted" ] || { echo "the check of levels prints '$line', not '$accepted'"; differ=1; }
+    for program in traces levels; do
+        line=$("$drain" check --side "$1" --products "$scratch/twin_make_$program" "$2") || differ=1
+        [ "$line" = "$accepted" ] || { echo "the check of $program prints '$line', not '$accepted'"; differ=1; }
+    done
 }
 
 # Tells the seconds in which a program builds, of one run.
@@ -61,7 +62,7 @@ samples_a_second=5000
 built() {
     perf record -q -F "$samples_a_second" -o "$scratch/samples" "$1" make --side "$2" --out "$scratch/timed" "$3" >"$scratch/line" 2>&1
     perf script -i "$scratch/samples" -F ip,sym 2>"$scratch/line" | awk -v rate="$samples_a_second" \
-        '/products_from|Flood::|twin_make::products|twin_flood|binary_heap/ { count++ } END { printf "%.3f\n", count / rate }'
+        '/drain_surface|drain_counts|drain_maker.*build|twin_make::products|twin_flood|binary_heap/ { count++ } END { printf "%.3f\n", count / rate }'
 }
 
 # Prints the medians of three runs of each program, in turn.
