@@ -12,7 +12,7 @@ use Rattle.drain_header.specs.Text.{text_of}
 use Rattle.drain_mosaic.specs.Tiling.{Tiling}
 use Rattle.drain_raster.specs.Bytes.{raster_bytes}
 use Rattle.drain_verdict.specs.Inputs.{Inputs}
-use Rattle.drain_verdict.specs.Mosaics.{IsMosaicOf}
+use Rattle.drain_maker.specs.Mosaics.{IsMosaicOf}
 use Rattle.drain_maker.specs.Headers.{header_of}
 use Rattle.drain_maker.specs.Made.{AreMade}
 use Rattle.drain_maker.specs.Accepted.{MadeIsAccepted}

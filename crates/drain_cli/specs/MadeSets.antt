@@ -12,7 +12,7 @@ use Rattle.drain_answer.specs.declared.refusal.Refusal.TheVariants.{ReadFailed}
 use Rattle.drain_device.specs.FaultLists.{SomeReadFails}
 use Rattle.drain_verdict.specs.Inputs.{Inputs}
 use Rattle.drain_verdict.specs.Refusals.{IsOfBodies}
-use Rattle.drain_verdict.specs.Mosaics.{TellTiles, IsMosaicOf, IsMosaicRefusal}
+use Rattle.drain_maker.specs.Mosaics.{TellTiles, IsMosaicOf, IsMosaicRefusal}
 use Rattle.drain_maker.specs.declared.maker.MakeRefusal.{MakeRefusal}
 use Rattle.drain_maker.specs.Made.{AreMade, IsSinkAnswer}
 use Rattle.drain_cli.specs.declared.runs.make_set.NoSet.{NoSet}

@@ -10,7 +10,7 @@ use Rattle.drain_mosaic.specs.Tiling.{Tiling}
 use Rattle.drain_rules.specs.declared.verdict.Verdict.{Verdict}
 use Rattle.drain_answer.specs.declared.refusal.Refusal.{Refusal}
 use Rattle.drain_verdict.specs.Inputs.{Inputs}
-use Rattle.drain_verdict.specs.Mosaics.{TellTiles}
+use Rattle.drain_maker.specs.Mosaics.{TellTiles}
 use Rattle.drain_verdict.specs.Answers.{IsAnswer}
 use Rattle.drain_maker.specs.Accepted.{IsAcceptance}
 use Rattle.drain_maker.specs.ProductFiles.{WritesFiles, set_bytes}

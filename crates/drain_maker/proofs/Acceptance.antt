@@ -35,7 +35,7 @@ use Rattle.drain_answer.specs.declared.refusal.Refusal.TheVariants.{BadSide, Bad
 use Rattle.drain_verdict.specs.Inputs.{Inputs}
 use Rattle.drain_verdict.specs.Meaning.{tiling_of, grid_of, listed_in, lines_in, fields_of, number_of, products_of, nodata_of, nodata_numbers}
 use Rattle.drain_verdict.specs.Refusals.{HasShape, IsPlaced}
-use Rattle.drain_verdict.specs.Mosaics.{IsMosaicOf}
+use Rattle.drain_maker.specs.Mosaics.{IsMosaicOf}
 use Rattle.drain_verdict.specs.Answers.{AreReadable, IsAnswer}
 use Rattle.drain_maker.specs.Headers.{header_of}
 use Rattle.drain_maker.specs.Made.{AreMade, AreOnData}

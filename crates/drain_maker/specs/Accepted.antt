@@ -19,7 +19,7 @@ use Rattle.drain_answer.specs.declared.refusal.Refusal.{Refusal}
 use Rattle.drain_answer.specs.declared.refusal.Refusal.TheVariants.{OutOfMemory, ReadFailed}
 use Rattle.drain_verdict.specs.Inputs.{Inputs, AreNames}
 use Rattle.drain_verdict.specs.Meaning.{tiling_of}
-use Rattle.drain_verdict.specs.Mosaics.{IsMosaicOf}
+use Rattle.drain_maker.specs.Mosaics.{IsMosaicOf}
 use Rattle.drain_verdict.specs.Answers.{IsAnswer}
 use Rattle.drain_maker.specs.Headers.{header_of}
 use Rattle.drain_maker.specs.Made.{AreMade}

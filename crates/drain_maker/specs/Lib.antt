@@ -5,3 +5,5 @@ pub mod Accepted
 pub mod Counting
 pub mod RoutedProducts
 pub mod Routes
+pub mod Mosaics
+pub mod TileStages

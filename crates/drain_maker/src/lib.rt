@@ -9,12 +9,16 @@ pub mod follow;
 mod header;
 pub mod laws;
 mod maker;
+pub mod mosaic;
 pub mod product_files;
 mod products;
 mod rasters;
 mod route;
+mod seams;
+mod tiles;
 
 pub use drain_surface::LevelQueue;
 pub use drain_verdict::{CertifyRefusal, certify};
 pub use header::product_header;
 pub use maker::{MakeRefusal, make, make_followed};
+pub use mosaic::{Mosaic, read_mosaic};

@@ -8,7 +8,6 @@ pub mod InputRows
 pub mod Inputs
 pub mod Laws
 pub mod Meaning
-pub mod Mosaics
 pub mod Refusals
 pub mod SinkListings
 pub mod Stages

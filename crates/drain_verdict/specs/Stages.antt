@@ -1,32 +1,25 @@
--- What the stages of a check find: the layout, the headers and, if only tiles are read, the tiles; or the first refusal
--- of their kind.
-use Rattle.std.specs.Prelude.{◌≡◌, ℕ, ◌<◌, ℤ, List, map, slice_get, Option, Some, Err}
-use Rattle.std.specs.List.{All, AllZip}
+-- What the stages of a check find: the layout, the headers and the tiles; or the first refusal of their kind.
+use Rattle.std.specs.Prelude.{◌≡◌, ℕ, ◌<◌, List, slice_get, Option, Some, Err}
+use Rattle.std.specs.List.{AllZip}
 use Rattle.drain_grid.specs.declared.held.Held.{Held}
 use Rattle.drain_grid.specs.declared.product.Product.{Product}
 use Rattle.drain_grid.specs.declared.per_product.PerProduct.{PerProduct}
 use Rattle.drain_text.specs.First.{IsFirst}
-use Rattle.drain_grid.specs.Rasters.{Heights}
 use Rattle.drain_grid.specs.Tile.{IsSide}
-use Rattle.drain_grid.specs.Whole.{elevation_at}
 use Rattle.drain_grid.specs.PerProduct.{of_product}
 use Rattle.drain_grid.specs.Held.{product_of, rank_of}
 use Rattle.drain_hgt.specs.Corner.{Corner}
 use Rattle.drain_hgt.specs.Name.{Names}
-use Rattle.drain_hgt.specs.Samples.{IsTile, samples_of}
 use Rattle.drain_hgt.specs.Inputs.{IsFirstBadLength}
 use Rattle.drain_header.specs.Fields.{Fields}
 use Rattle.drain_header.specs.Faults.{Answers, Describes}
 use Rattle.drain_raster.specs.Pixels.{extent_of}
 use Rattle.drain_mosaic.specs.declared.layout.LayoutFault.{LayoutFault}
 use Rattle.drain_mosaic.specs.declared.layout.LayoutFault.TheVariants as layout
-use Rattle.drain_mosaic.specs.declared.seams.SeamFault.{SeamFault}
-use Rattle.drain_mosaic.specs.declared.seams.SeamFault.TheVariants as seam
 use Rattle.drain_mosaic.specs.Tiling as tiling
 use Rattle.drain_mosaic.specs.LayoutFaults.{HasLayoutFault, order_of}
-use Rattle.drain_mosaic.specs.Mosaic.{tiles_of, TilesAgree, IsElevation, IsFirstSeam}
 use Rattle.drain_answer.specs.declared.refusal.Refusal.{Refusal}
-use Rattle.drain_answer.specs.declared.refusal.Refusal.TheVariants.{BadSide, BadName, NoTiles, RepeatedTile, BoxTooLarge, BadHeader, WrongShape, Misplaced, BadTileLength, SeamMismatch, OutOfMemory, ReadFailed}
+use Rattle.drain_answer.specs.declared.refusal.Refusal.TheVariants.{BadSide, BadName, NoTiles, RepeatedTile, BoxTooLarge, BadHeader, WrongShape, Misplaced, BadTileLength, OutOfMemory, ReadFailed}
 use Rattle.drain_verdict.specs.Inputs.{Products}
 use Rattle.drain_verdict.specs.Refusals.{IsBadName, IsPlaced}
 
@@ -115,18 +108,6 @@ AreHeadersFor t ps hs = AreHeadersOf t (λ p. (of_product ps p).header) hs
 abbrev pub IsFirstHeaderRefusal : {R : Type 0} → tiling.Tiling → Products R → Refusal → Type 0
 IsFirstHeaderRefusal t ps refusal = IsFirstRefusalOf t (λ p. (of_product ps p).header) refusal
 
--- the bodies have the length of tiles, and these are their samples
-pub record AreSamplesOf (side : ℕ) (bodies : List (List ℕ)) (samples : List (List ℤ)) : Type 0 where
-  pub lengths : All (IsTile side) bodies
-  pub samples_are : samples ≡ map samples_of bodies
-
--- why the body of the tile at a corner is refused
-abbrev pub IsOneTileRefusal : ℕ → Corner → List ℕ → Refusal → Type 0
-IsOneTileRefusal side corner body (BadTileLength c) = (c ≡ corner) × ¬ IsTile side body
-IsOneTileRefusal side corner body OutOfMemory = Unit {0}
-IsOneTileRefusal side corner body ReadFailed = Unit {0}
-IsOneTileRefusal side corner body refusal = ⊥
-
 -- why the bodies of tiles are refused
 abbrev pub IsTileRefusal : tiling.Tiling → List (List ℕ) → Refusal → Type 0
 IsTileRefusal t bodies (BadTileLength c) = (place : ℕ) × (slice_get t.corners place ≡ Some c) × IsFirstBadLength t.side bodies place
@@ -137,20 +118,3 @@ IsTileRefusal t bodies refusal = ⊥
 -- the products have these bodies
 abbrev pub AreRasterBodies : {R : Type 0} → (R → Option (List ℕ)) → Products R → (Held → List ℕ) → Type 0
 AreRasterBodies bytes_left ps bodies = (p : Held) → bytes_left (of_product ps p).body ≡ Some (bodies p)
-
--- the tiles agree, and give this elevation together
-pub record IsElevationOf (t : tiling.Tiling) (samples : List (List ℤ)) (e : Heights) : Type 0 where
-  pub shape : e.extent ≡ tiling.extent_of t
-  pub agree : TilesAgree t (tiles_of t.corners samples)
-  pub values : IsElevation t (tiles_of t.corners samples) (elevation_at e)
-
--- why tiles give no elevation; memory can run out only if they agree
-abbrev pub IsSeamRefusal : tiling.Tiling → List (List ℤ) → Refusal → Type 0
-IsSeamRefusal t samples (SeamMismatch c) = IsFirstSeam t (tiles_of t.corners samples) c
-IsSeamRefusal t samples OutOfMemory = TilesAgree t (tiles_of t.corners samples)
-IsSeamRefusal t samples refusal = ⊥
-
--- the refusal for a fault of the seams
-abbrev pub IsSeamFaultAs : SeamFault → Refusal → Type 0
-IsSeamFaultAs (seam.SeamMismatch c) refusal = refusal ≡ SeamMismatch c
-IsSeamFaultAs seam.OutOfMemory refusal = refusal ≡ OutOfMemory

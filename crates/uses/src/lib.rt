@@ -12,9 +12,9 @@ ghost use Rattle.drain_verdict.specs.Headline.{OfInputs, IsRight};
 use drain_device::ByteSource;
 use drain_grid::{ProductSet, Sinks};
 use drain_hgt::TileInput;
-use drain_maker::{MakeRefusal, make};
+use drain_maker::{MakeRefusal, Mosaic, make};
 use drain_verdict::{
-    AuditProducts, AuditVerdict, Mosaic, Products, Refusal, Verdict, audit, check,
+    AuditProducts, AuditVerdict, Products, Refusal, Verdict, audit, check,
 };
 use std::alloc::Global;
 

@@ -16,9 +16,9 @@ use drain_device::{ByteSink, ByteSource};
 use drain_grid::{ProductSet, SinkFault, parse_sinks};
 use drain_hgt::TileInput;
 use drain_maker::follow::{Follow, Unfollowed};
-use drain_maker::{MakeRefusal, make_followed};
+use drain_maker::{MakeRefusal, make_followed, read_mosaic};
 use drain_mosaic::Layout;
-use drain_verdict::{Refusal, Verdict, read_mosaic, report};
+use drain_verdict::{Refusal, Verdict, report};
 use std::alloc::Global;
 
 /// Why there is no product set.

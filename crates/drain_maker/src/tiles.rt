@@ -10,7 +10,8 @@ ghost use Rattle.drain_hgt.specs.Inputs.{names_of, tile_devices, AreBodies};
 ghost use Rattle.drain_mosaic.specs.Mosaic.{AreTiles};
 ghost use Rattle.drain_device.specs.FaultLists.{SomeReadFails};
 ghost use Rattle.drain_verdict.specs.Refusals.{IsOfBodies};
-ghost use Rattle.drain_verdict.specs.Stages.{AreSamplesOf, IsTileRefusal, IsOneTileRefusal};
+ghost use Rattle.drain_verdict.specs.Stages.{IsTileRefusal};
+ghost use Rattle.drain_maker.specs.TileStages.{AreSamplesOf, IsOneTileRefusal};
 
 use drain_answer::Refusal;
 use drain_device::{BodyFault, ByteSource, read_body};

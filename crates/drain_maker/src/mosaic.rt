@@ -6,9 +6,8 @@ ghost use Rattle.drain_verdict.specs.Inputs.{Inputs};
 ghost use Rattle.drain_device.specs.FaultLists.{SomeReadFails};
 ghost use Rattle.drain_hgt.specs.Inputs.{names_of, tile_devices, TilesTakeAtMost};
 ghost use Rattle.drain_verdict.specs.Refusals.{IsOfBodies};
-ghost use Rattle.drain_verdict.specs.Mosaics.{TellTiles, IsMosaicOf, IsMosaicRefusal};
+ghost use Rattle.drain_maker.specs.Mosaics.{TellTiles, IsMosaicOf, IsMosaicRefusal};
 
-use crate::layout::layout_of;
 use crate::seams::elevation_of;
 use crate::tiles::read_tiles;
 use drain_answer::Refusal;
@@ -18,6 +17,7 @@ use drain_hgt::TileInput;
 use drain_hgt::laws::one_name;
 use drain_mosaic::Layout;
 use drain_mosaic::laws::agreement_gives_elevation;
+use drain_verdict::layout::layout_of;
 use std::alloc::Global;
 
 /// Tiles put together: which they are, where they lie, and their elevations.

@@ -1,7 +1,7 @@
 use Rattle.std.proofs.Common.{length, ap, sym, ◌∙◌}
 use Rattle.drain_hgt.specs.Samples.{tile_length, samples_of}
-use Rattle.drain_verdict.proofs.OneTile.{length-is, tile-samples}
-use Rattle.drain_verdict.proofs.tiles.read_one.Goals as goal
+use Rattle.drain_maker.proofs.OneTile.{length-is, tile-samples}
+use Rattle.drain_maker.proofs.tiles.read_one.Goals as goal
 
 pub returns-in-Ok-read_tile-clause-samples : goal.returns-in-Ok-read_tile-clause-samples
 returns-in-Ok-read_tile-clause-samples g c bytes is =

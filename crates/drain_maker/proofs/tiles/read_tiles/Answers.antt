@@ -2,8 +2,8 @@ use Rattle.std.proofs.Common.{◌≡◌, ◌++◌, ◌∷◌, [], map, slice_ind
 use Rattle.std.proofs.lemmas.List.{map-append}
 use Rattle.drain_answer.specs.declared.refusal.Refusal.TheVariants.{OutOfMemory, ReadFailed}
 use Rattle.drain_device.proofs.FaultLists.{SomeReadFails-iff}
-use Rattle.drain_verdict.proofs.TileLists.{so_far-none, so_far-more, so_far-stop, so_far-all}
-use Rattle.drain_verdict.proofs.tiles.read_tiles.Goals as goal
+use Rattle.drain_maker.proofs.TileLists.{so_far-none, so_far-more, so_far-stop, so_far-all}
+use Rattle.drain_maker.proofs.tiles.read_tiles.Goals as goal
 
 pub loop-i-init : goal.loop-i-init
 loop-i-init g c = rw c.new-samples.ensures.items (so_far-none g.R.ByteSource.bytes_left g.R.ByteSource.counts c.side-side.result c.args.tiles.now)

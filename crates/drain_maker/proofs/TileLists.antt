@@ -17,7 +17,8 @@ use Rattle.drain_hgt.specs.Inputs.{names_of, tile_devices, AreBodies, IsFirstBad
 use Rattle.drain_answer.specs.declared.refusal.Refusal.{Refusal}
 use Rattle.drain_answer.specs.declared.refusal.Refusal.TheVariants.{BadSide, BadName, NoTiles, RepeatedTile, BoxTooLarge, BadHeader, WrongShape, Misplaced, BadTileLength, RasterShort, SeamMismatch, BadSinkLine, SinkNotData, OutOfMemory, ReadFailed}
 use Rattle.drain_device.specs.FaultLists.{SomeReadFails}
-use Rattle.drain_verdict.specs.Stages.{AreSamplesOf, IsTileRefusal, IsOneTileRefusal}
+use Rattle.drain_verdict.specs.Stages.{IsTileRefusal}
+use Rattle.drain_maker.specs.TileStages.{AreSamplesOf, IsOneTileRefusal}
 use Rattle.drain_device.proofs.FaultLists.{SomeReadFails-none, SomeReadFails-one, SomeReadFails-then, takes-none}
 
 -- a relation of two lists, place by place, holds of the parts, and of parts together

@@ -3,7 +3,7 @@
 ghost use Rattle.std.specs.Prelude.{map, IfOk, IfErr};
 ghost use Rattle.drain_mosaic.specs.Mosaic.{AreTiles};
 ghost use Rattle.drain_verdict.specs.Refusals.{IsOfBodies};
-ghost use Rattle.drain_verdict.specs.Stages.{IsElevationOf, IsSeamFaultAs, IsSeamRefusal};
+ghost use Rattle.drain_maker.specs.TileStages.{IsElevationOf, IsSeamFaultAs, IsSeamRefusal};
 
 use drain_answer::Refusal;
 use drain_grid::Elevation;

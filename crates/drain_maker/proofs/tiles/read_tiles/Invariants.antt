@@ -1,6 +1,6 @@
 use Rattle.std.proofs.Common.{map}
-use Rattle.drain_verdict.proofs.TileLists.{SoFar}
-use Rattle.drain_verdict.proofs.tiles.read_tiles.Given as goal
+use Rattle.drain_maker.proofs.TileLists.{SoFar}
+use Rattle.drain_maker.proofs.tiles.read_tiles.Given as goal
 
 -- the tiles before this one are read
 abbrev pub invariant-loop-i : goal.invariant-loop-i

@@ -21,14 +21,16 @@ use Rattle.drain_verdict.specs.Inputs.{Inputs}
 use Rattle.drain_verdict.specs.Meaning.{tiling_of, tiles_of}
 use Rattle.drain_verdict.specs.Refusals.{Stands, NoneStandsBefore, refusal_order, place_among}
 use Rattle.drain_verdict.specs.Answers.{IsRefusal}
-use Rattle.drain_verdict.specs.Stages.{IsLayoutOf, IsLayoutRefusal, IsTileRefusal, AreSamplesOf, IsElevationOf, IsSeamRefusal}
-use Rattle.drain_verdict.specs.Mosaics.{TellTiles, IsOfTiles, StandsOfTiles, IsMosaicOf, IsMosaicRefusal}
+use Rattle.drain_verdict.specs.Stages.{IsLayoutOf, IsLayoutRefusal}
+use Rattle.drain_verdict.specs.Stages.{IsTileRefusal}
+use Rattle.drain_maker.specs.TileStages.{AreSamplesOf, IsElevationOf, IsSeamRefusal}
+use Rattle.drain_maker.specs.Mosaics.{TellTiles, IsOfTiles, StandsOfTiles, IsMosaicOf, IsMosaicRefusal}
 use Rattle.drain_verdict.proofs.Order.{at_header, at_tile, at_raster, at_seam, at_bad_line, at_off_data, none_more, first_of}
 use Rattle.drain_verdict.proofs.LayoutAnswers.{layout_is, layout_none, layout_refused}
 use Rattle.drain_verdict.proofs.StartAnswers.{told_of_inputs}
 use Rattle.drain_verdict.proofs.BodyAnswers.{none_of_another_length, first_of_another_length, none_of_two_values, first_of_two_values}
-use Rattle.drain_verdict.proofs.SeamAnswers.{of_inputs}
-use Rattle.drain_verdict.proofs.FirstValues.{elevation_is_first_value}
+use Rattle.drain_maker.proofs.SeamAnswers.{of_inputs}
+use Rattle.drain_maker.proofs.FirstValues.{elevation_is_first_value}
 
 -- the lengths of the tiles, said of the inputs
 lengths_of : (i : Inputs) (t : Tiling) (samples : List (List ℤ)) → t ≡ tiling_of i → AreSamplesOf t.side i.tiles samples → AreSamplesOf i.side i.tiles samples

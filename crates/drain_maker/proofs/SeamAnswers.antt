@@ -9,7 +9,7 @@ use Rattle.drain_mosaic.specs.Mosaic as mosaic
 use Rattle.drain_answer.specs.declared.refusal.Refusal.{Refusal}
 use Rattle.drain_verdict.specs.Inputs.{Inputs}
 use Rattle.drain_verdict.specs.Meaning.{tiling_of, tiles_of}
-use Rattle.drain_verdict.specs.Stages.{IsSeamFaultAs, IsSeamRefusal}
+use Rattle.drain_maker.specs.TileStages.{IsSeamFaultAs, IsSeamRefusal}
 
 -- what holds of the tiling and its tiles holds of the inputs
 pub of_inputs : (P : Tiling → List mosaic.Tile → Type 0) (i : Inputs) (t : Tiling) (samples : List (List ℤ)) → t ≡ tiling_of i → samples ≡ map samples_of i.tiles →
