@@ -48,7 +48,7 @@ want 'made rows=3601 cols=4801'
 status=$?
 : >"$scratch/err"
 judge 'products made of twelve tiles, with progress' 0 "$scratch/want" $status
-grep -vxE 'drain: ((reading|writing) row [0-9]+ of [0-9]+|making(, [2-4] of 4: (directions|basin labels|accumulation))?)' "$scratch/lines" >"$scratch/out"
+grep -vxE 'drain: ((reading|writing) row [0-9]+ of [0-9]+|making(, [1-4] of 4: (filled elevation|directions|basin labels|accumulation))?)' "$scratch/lines" >"$scratch/out"
 grep -q 'of 4:' "$scratch/lines" || echo 'no part is named' >>"$scratch/out"
 : >"$scratch/want"
 judge 'lines of a maker of twelve tiles' 0 "$scratch/want" 0
