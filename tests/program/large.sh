@@ -42,6 +42,16 @@ done
 make_large funnel
 mkdir "$large/out"
 judge_words 'products made of twelve tiles' 0 'made rows=3601 cols=4801' make --out "$large/out" "${large_tiles[@]}"
+# The same with progress: a line for the part that is made, and all lines are those of docs/GUIDE.md.
+want 'made rows=3601 cols=4801'
+"$drain" make --progress --out "$large/out" "${large_tiles[@]}" 2>"$scratch/lines" >"$scratch/out"
+status=$?
+: >"$scratch/err"
+judge 'products made of twelve tiles, with progress' 0 "$scratch/want" $status
+grep -vxE 'drain: ((reading|writing) row [0-9]+ of [0-9]+|making(, [1-4] of 4: (filled elevation|directions|basin labels|accumulation))?)' "$scratch/lines" >"$scratch/out"
+grep -q 'of 4:' "$scratch/lines" || echo 'no part is named' >>"$scratch/out"
+: >"$scratch/want"
+judge 'lines of a maker of twelve tiles' 0 "$scratch/want" 0
 dd if="$large/out/acc.bil" bs=4 skip=2400 count=1 status=none >"$scratch/out"
 numbers_of_32_bits 17288401 >"$scratch/want"
 judge 'the count at the outlet of twelve tiles' 0 "$scratch/want" 0
