@@ -35,7 +35,7 @@ pub fn open_judged<'a>(
     let mut four = open_four(opener, judged.products)?;
     watch_con(&mut four.con, gauge);
     let products = match ranks {
-        Ranks::Asked => JudgedProducts::Check(open_fifth(opener, judged.products, four)?),
+        Ranks::Asked => JudgedProducts::Check(with_ranks(opener, judged.products, four)?),
         Ranks::Unasked => JudgedProducts::Audit(four),
     };
     let sinks = list_at(opener, judged.sinks)?;
@@ -78,8 +78,8 @@ fn watch_con<'a>(con: &mut RasterInput<InputFile<'a>>, gauge: &'a Gauge<'a>) {
     }
 }
 
-/// Opens ranks, and so has the products of a check.
-fn open_fifth<'a>(
+/// Opens ranks too: the products of a check.
+fn with_ranks<'a>(
     opener: &mut Opener<'_>,
     folder: &str,
     four: AuditProducts<InputFile<'a>>,

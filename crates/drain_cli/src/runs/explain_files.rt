@@ -55,7 +55,7 @@ fn ranks_in(rt: &HostRuntime, folder: &str) -> Result<Ranks, OpenFault> {
     }
 }
 
-/// Opens the files and explains the answer of a check, or of an audit if no ranks are asked for.
+/// Explains the answer of a check, or that of an audit if no ranks are asked for.
 fn explain_opened(
     rt: &HostRuntime,
     asked: &Explained<'_>,

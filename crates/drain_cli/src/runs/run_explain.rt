@@ -41,7 +41,7 @@ pub fn run_explain<R: ByteSource, B: Beside, W: ByteSink>(
         × IsOutcome R.ByteSource side tiles.old tiles.new sinks.now products.old products.new answer
         × Tells W.ByteSink out.old out.new form answer result }
 {
-    let (answer, findings, map) = explained(alloc, side, tiles, sinks, products, mapping);
+    let (answer, findings, map) = explain_products(alloc, side, tiles, sinks, products, mapping);
     let facts = Facts {
         answer,
         refusal: note_of(beside, &answer),
@@ -51,7 +51,7 @@ pub fn run_explain<R: ByteSource, B: Beside, W: ByteSink>(
 }
 
 /// The answer to the products, and what is wrong with them.
-fn explained<R: ByteSource>(
+fn explain_products<R: ByteSource>(
     alloc: Global,
     side: u32,
     tiles: &mut [TileInput<R>],
