@@ -4,14 +4,14 @@ use crate::level_tile::{LINE, TILE, five, four, tile};
 use crate::printed::{Printed, Text, same_bytes, same_line, slow_sink, whole_sink};
 use drain_cli::files::map_file::write_map;
 use drain_cli::runs::explain_page::{Beside, Form, MapFault};
-use drain_cli::runs::run_explain::{run_explain_audit, run_explain_check};
+use drain_cli::runs::run_explain::{JudgedProducts, run_explain};
 use drain_device::faults::{ScriptSink, Scripted, SinkAnswer};
 use drain_device::{BodyFault, SliceSource};
 use drain_explain::Mapping;
 use drain_maker::product_files::SetFault;
 use drain_mosaic::Layout;
 use drain_page::RefusalNote;
-use drain_verdict::{AuditProducts, Products, Refusal};
+use drain_verdict::Refusal;
 use std::alloc::{AllocError, Global};
 use std::test::Fail;
 
@@ -98,18 +98,18 @@ const RIGHT: Given = Given {
     labels: &[1, 2, 3, 4],
 };
 
-/// The output of a run without ranks in this form, of the given number of bytes, and what its files accept.
+/// The output of a run in this form, of the given number of bytes, and what its files accept.
 fn explain<'a>(
     alloc: Global,
     side: u32,
-    products: &mut AuditProducts<SliceSource<'a>>,
+    products: &mut JudgedProducts<SliceSource<'a>>,
     form: Form,
     length: usize,
     beside: &mut InMemory<'_>,
     out: &mut ScriptSink<'_>,
 ) -> Result<Explained, Fail> {
     let mut tiles = [tile(alloc, TILE)?];
-    let status = run_explain_audit(
+    let status = run_explain(
         alloc,
         side,
         &mut tiles,
@@ -123,7 +123,7 @@ fn explain<'a>(
     Ok(outcome(out.as_slice(), length, status, beside)?)
 }
 
-/// The same of given codes and labels.
+/// The same without ranks, of given codes and labels.
 fn explain_given(
     alloc: Global,
     given: Given,
@@ -132,7 +132,7 @@ fn explain_given(
     beside: &mut InMemory<'_>,
     out: &mut ScriptSink<'_>,
 ) -> Result<Explained, Fail> {
-    let mut products = four(alloc, given.codes, given.labels)?;
+    let mut products = JudgedProducts::Audit(four(alloc, given.codes, given.labels)?);
     explain(alloc, given.side, &mut products, form, length, beside, out)
 }
 
@@ -351,35 +351,20 @@ fn ends_with_status_3_where_a_page_cannot_be_written(rt: HostRuntime) -> Result<
     Ok(())
 }
 
-/// The output of a run with ranks, of the given number of bytes, and what its files accept.
-fn explain_with_ranks<'a>(
-    alloc: Global,
-    products: &mut Products<SliceSource<'a>>,
-    length: usize,
-    beside: &mut InMemory<'_>,
-    out: &mut ScriptSink<'_>,
-) -> Result<Explained, Fail> {
-    let mut tiles = [tile(alloc, TILE)?];
-    let status = run_explain_check(
-        alloc,
-        2,
-        &mut tiles,
-        &[],
-        products,
-        Mapping::Drawn,
-        Form::Text,
-        beside,
-        out,
-    );
-    Ok(outcome(out.as_slice(), length, status, beside)?)
-}
-
-/// The same of products of which two outlets share a label, if page and files can be written.
+/// The output of a run with ranks, of products of which two outlets share a label.
 fn told_with_ranks(alloc: Global, length: usize) -> Result<Explained, Fail> {
     let mut beside = in_memory(alloc)?;
     let mut out = page_sink(alloc)?;
-    let mut products = five(alloc, &[0; 4], &[1, 2, 3, 3])?;
-    explain_with_ranks(alloc, &mut products, length, &mut beside, &mut out)
+    let mut products = JudgedProducts::Check(five(alloc, &[0; 4], &[1, 2, 3, 3])?);
+    explain(
+        alloc,
+        2,
+        &mut products,
+        Form::Text,
+        length,
+        &mut beside,
+        &mut out,
+    )
 }
 
 #[test]

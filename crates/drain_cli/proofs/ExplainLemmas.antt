@@ -1,6 +1,6 @@
--- From what was printed to what a run of an explanation reports.
-use Rattle.std.proofs.Common.{ℕ, List, Result, Ok, Err, inl, inr, refl}
-use Rattle.drain_device.specs.Devices.{Sink, Source}
+-- From an explanation to the outcome of a check or of an audit.
+use Rattle.std.proofs.Common.{ℕ, List, Result, Ok, Err, refl}
+use Rattle.drain_device.specs.Devices.{Source}
 use Rattle.drain_explain.specs.Explanations.{answer_in}
 use Rattle.drain_explain.specs.declared.explanation.Explanation.{Explanation}
 use Rattle.drain_hgt.specs.declared.input.TileInput.{TileInput}
@@ -18,32 +18,6 @@ use Rattle.drain_verdict.proofs.AuditDevices.{failed_alike}
 use Rattle.drain_verdict.proofs.Uses.{uses_alike}
 use Rattle.drain_cli.specs.AuditRuns.{IsAuditOutcome}
 use Rattle.drain_cli.specs.CheckRuns.{IsCheckOutcome}
-use Rattle.drain_cli.specs.declared.runs.explain_page.Form.{Form}
-use Rattle.drain_cli.specs.declared.runs.no_page.NoPage.{NoPage}
-use Rattle.drain_cli.specs.declared.status.Status.{Status}
-use Rattle.drain_cli.specs.declared.status.Status.TheVariants.{Failed}
-use Rattle.drain_cli.specs.ExplainRuns.{BeginsWith, IsNoPage, Tells}
-use Rattle.drain_cli.specs.Printing.{PrintsText}
-
--- the page of the answer
-pub tells_page : {W : Type 0} {sink : Sink W} {old new : W} {form : Form} {line text : List ℕ} {wanted : Status} {code : ℕ} →
-    BeginsWith form line text → PrintsText sink old new text wanted code → Tells sink old new form line wanted code
-tells_page {W} {sink} {old} {new} {form} {line} {text} {wanted} {code} begins prints = record {
-  text = text;
-  status = wanted;
-  told = inl (begins, refl);
-  printed = prints;
-}
-
--- why there is none
-pub tells_failure : {W : Type 0} {sink : Sink W} {old new : W} {form : Form} {line text : List ℕ} {wanted : Status} {code : ℕ} (why : NoPage) →
-    IsNoPage form why text → PrintsText sink old new text Failed code → Tells sink old new form line wanted code
-tells_failure {W} {sink} {old} {new} {form} {line} {text} {wanted} {code} why none prints = record {
-  text = text;
-  status = Failed;
-  told = inr (why, none, refl);
-  printed = prints;
-}
 
 -- the answer uses the inputs as the explanation does
 uses_as_told : {R P V : Type 0} (inputs_of : P → Products R) (devices : List (TileInput R) → P → List R) (source : Source R) (side : ℕ) (old new : List (TileInput R) × P) (explained : Result (Explanation V) Refusal) →

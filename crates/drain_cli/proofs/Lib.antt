@@ -1,5 +1,4 @@
-pub mod AuditLemmas
-pub mod CheckLemmas
+pub mod AnswerLemmas
 pub mod ClashLemmas
 pub mod ExplainLemmas
 pub mod HeaderLemmas

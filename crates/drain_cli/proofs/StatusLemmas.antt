@@ -1,5 +1,5 @@
 -- What the number that a run ends with says of the status of its answer.
-use Rattle.std.proofs.Common.{◌≡◌, ℕ, ◌<◌, Result, Ok, Err, arith, sym}
+use Rattle.std.proofs.Common.{◌≡◌, ℕ, ◌<◌, Result, Ok, Err, arith, ap, sym, ◌∙◌}
 use Rattle.drain_device.specs.declared.patience.GaveUp.{GaveUp}
 use Rattle.drain_answer.specs.declared.refusal.Refusal.{Refusal}
 use Rattle.drain_answer.specs.declared.refusal.Refusal.TheVariants.{BadSide, BadName, NoTiles, RepeatedTile, BoxTooLarge, BadHeader, WrongShape, Misplaced, BadTileLength, RasterShort, SeamMismatch, BadSinkLine, SinkNotData, OutOfMemory, ReadFailed}
@@ -26,6 +26,7 @@ refused_above_1 OutOfMemory = omega (arith)
 refused_above_1 ReadFailed = omega (arith)
 
 -- a number below that of a failure is that of the status: its line was printed
-pub status_stood : (done : Result (Unit {0}) GaveUp) (status : Status) (code : ℕ) → code ≡ code_of (status_after done status) → code < 3 → code_of status ≡ code
-status_stood (Ok all) status code ended below = sym ended
-status_stood (Err gave_up) status code ended below = absurd (omega (arith, ended, below))
+pub status_stood : (done : Result (Unit {0}) GaveUp) (wanted status : Status) (code : ℕ) → status ≡ wanted → code ≡ code_of (status_after done status) →
+    code < 3 → code_of wanted ≡ code
+status_stood (Ok all) wanted status code is ended below = ap code_of (sym is) ∙ sym ended
+status_stood (Err gave_up) wanted status code is ended below = absurd (omega (arith, ended, below))

@@ -1,23 +1,12 @@
 -- How a run of `drain audit` ends: with a verdict, or with the first refusal.
-use Rattle.std.specs.Prelude.{ℕ, List, Result, Ok, Err}
+use Rattle.std.specs.Prelude.{ℕ, List, Result}
 use Rattle.drain_device.specs.Devices.{Source}
 use Rattle.drain_hgt.specs.declared.input.TileInput.{TileInput}
 use Rattle.drain_verdict.specs.Audits.{IsAuditAnswer, OfFour}
 use Rattle.drain_verdict.specs.declared.audit_products.AuditProducts.{AuditProducts}
 use Rattle.drain_answer.specs.declared.audit_verdict.AuditVerdict.{AuditVerdict}
-use Rattle.drain_answer.specs.declared.audit_verdict.AuditVerdict.TheVariants.{Accepted, Rejected, NoEnd}
 use Rattle.drain_answer.specs.declared.refusal.Refusal.{Refusal}
 use Rattle.drain_verdict.specs.Uses.{AuditUses}
-use Rattle.drain_cli.specs.Statuses.{refusal_status}
-use Rattle.drain_cli.specs.declared.status.Status.{Status}
-use Rattle.drain_cli.specs.declared.status.Status.TheVariants as status
-
--- the status that the run ends with, if its line is printed
-abbrev pub audit_status : Result AuditVerdict Refusal → Status
-audit_status (Ok (Accepted counts)) = status.Done
-audit_status (Ok (Rejected rule row col)) = status.Rejected
-audit_status (Ok (NoEnd row col)) = status.Rejected
-audit_status (Err refusal) = refusal_status refusal
 
 -- the answer is that of the bytes that the devices had left, if they are known, and the inputs are used as by an audit
 pub record IsAuditOutcome {R : Type 0} (source : Source R) (side : ℕ) (tiles_old tiles_new : List (TileInput R)) (sinks : List ℕ)

@@ -1,19 +1,36 @@
--- What a run of `drain explain` prints, and its status.
+-- How a run of `drain explain` ends, what it prints, and its status.
 use Rattle.std.specs.Prelude.{◌≡◌, ◌⊎◌, ℕ, ◌++◌, List, [], ◌∷◌, codes, string_bytes}
-use Rattle.drain_device.specs.Devices.{Sink}
+use Rattle.drain_device.specs.Devices.{Sink, Source}
 use Rattle.drain_device.specs.declared.read.BodyFault.TheVariants as body
+use Rattle.drain_hgt.specs.declared.input.TileInput.{TileInput}
+use Rattle.drain_page.specs.declared.facts.Answer.{Answer}
+use Rattle.drain_page.specs.declared.facts.Answer.TheVariants as answer
+use Rattle.drain_page.specs.Lines.{line_of}
 use Rattle.drain_cli.specs.declared.runs.explain_page.Form.{Form}
 use Rattle.drain_cli.specs.declared.runs.explain_page.Form.TheVariants.{Text, Json}
 use Rattle.drain_cli.specs.declared.runs.no_page.NoPage.{NoPage}
 use Rattle.drain_cli.specs.declared.runs.no_page.NoPage.TheVariants as no_page
 use Rattle.drain_cli.specs.declared.runs.no_page.NoPage.TheVariants.{Open}
 use Rattle.drain_cli.specs.declared.runs.no_page.TheConstants.{NO_OBJECT}
+use Rattle.drain_cli.specs.declared.runs.run_explain.JudgedProducts.{JudgedProducts}
+use Rattle.drain_cli.specs.declared.runs.run_explain.JudgedProducts.TheVariants as products
 use Rattle.drain_cli.specs.declared.status.Status.{Status}
 use Rattle.drain_cli.specs.declared.status.Status.TheVariants.{Failed}
+use Rattle.drain_cli.specs.AuditRuns.{IsAuditOutcome}
+use Rattle.drain_cli.specs.CheckRuns.{IsCheckOutcome}
 use Rattle.drain_cli.specs.Failures.{failure_text}
 use Rattle.drain_cli.specs.OpenFailures.{IsOpenFailure}
 use Rattle.drain_page.specs.JsonLines.{IsJsonLine, line_feed}
 use Rattle.drain_cli.specs.Printing.{PrintsText}
+use Rattle.drain_cli.specs.Statuses.{answer_status}
+
+-- the outcome of a check of five products, or that of an audit of four
+abbrev pub IsOutcome : {R : Type 0} → Source R → ℕ → List (TileInput R) → List (TileInput R) → List ℕ → JudgedProducts R → JudgedProducts R → Answer → Type 0
+IsOutcome source side tiles_old tiles_new sinks (products.Check old) (products.Check new) (answer.Check outcome) =
+    IsCheckOutcome source side tiles_old tiles_new sinks old new outcome
+IsOutcome source side tiles_old tiles_new sinks (products.Audit old) (products.Audit new) (answer.Audit outcome) =
+    IsAuditOutcome source side tiles_old tiles_new sinks old new outcome
+IsOutcome source side tiles_old tiles_new sinks old new other = ⊥
 
 -- a page begins with the line of its answer; of an object only that it is one on a line of its own
 abbrev pub BeginsWith : Form → List ℕ → List ℕ → Type 0
@@ -37,13 +54,13 @@ IsNoPage Text why text = IsNoPageLine why text
 IsNoPage Json why text = IsFailureObject text
 
 -- the page of the answer with its status, or why there is none with the status of a failure
-abbrev pub IsTold : Form → List ℕ → Status → List ℕ → Status → Type 0
-IsTold form line wanted text status =
-    (BeginsWith form line text × (status ≡ wanted)) ⊎ ((why : NoPage) × IsNoPage form why text × (status ≡ Failed))
+abbrev pub IsTold : Form → Answer → List ℕ → Status → Type 0
+IsTold form answer text status =
+    (BeginsWith form (line_of answer) text × (status ≡ answer_status answer)) ⊎ ((why : NoPage) × IsNoPage form why text × (status ≡ Failed))
 
 -- that was printed, and the run ends with this number
-pub record Tells {W : Type 0} (sink : Sink W) (old new : W) (form : Form) (line : List ℕ) (wanted : Status) (code : ℕ) : Type 0 where
+pub record Tells {W : Type 0} (sink : Sink W) (old new : W) (form : Form) (answer : Answer) (code : ℕ) : Type 0 where
   pub text : List ℕ
   pub status : Status
-  pub told : IsTold form line wanted text status
+  pub told : IsTold form answer text status
   pub printed : PrintsText sink old new text status code

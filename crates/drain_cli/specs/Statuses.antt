@@ -1,7 +1,11 @@
--- The numbers that the program ends with, and the status of a refusal. They are this project's own.
-use Rattle.std.specs.Prelude.{ℕ}
+-- The numbers that the program ends with, and the status of an answer. They are this project's own.
+use Rattle.std.specs.Prelude.{ℕ, Ok, Err}
+use Rattle.drain_rules.specs.declared.verdict.Verdict.TheVariants as check
+use Rattle.drain_answer.specs.declared.audit_verdict.AuditVerdict.TheVariants as audit
 use Rattle.drain_answer.specs.declared.refusal.Refusal.{Refusal}
 use Rattle.drain_answer.specs.declared.refusal.Refusal.TheVariants.{OutOfMemory, ReadFailed}
+use Rattle.drain_page.specs.declared.facts.Answer.{Answer}
+use Rattle.drain_page.specs.declared.facts.Answer.TheVariants.{Check, Audit}
 use Rattle.drain_cli.specs.declared.status.Status.{Status}
 use Rattle.drain_cli.specs.declared.status.Status.TheVariants.{Done, Rejected, Refused, Failed}
 
@@ -16,3 +20,13 @@ abbrev pub refusal_status : Refusal → Status
 refusal_status OutOfMemory = Failed
 refusal_status ReadFailed = Failed
 refusal_status refusal = Refused
+
+-- done if the products are accepted, rejected if there is another verdict, else that of the refusal
+abbrev pub answer_status : Answer → Status
+answer_status (Check (Ok (check.Accepted counts))) = Done
+answer_status (Check (Ok (check.Rejected rule row col))) = Rejected
+answer_status (Check (Err refusal)) = refusal_status refusal
+answer_status (Audit (Ok (audit.Accepted counts))) = Done
+answer_status (Audit (Ok (audit.Rejected rule row col))) = Rejected
+answer_status (Audit (Ok (audit.NoEnd row col))) = Rejected
+answer_status (Audit (Err refusal)) = refusal_status refusal

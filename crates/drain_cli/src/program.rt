@@ -12,7 +12,7 @@ use crate::args::command_line::{Judged, Request};
 use crate::files::file_id::{FileId, is_input};
 use crate::files::open_failure::print_open_failure;
 use crate::files::open_files::{OpenFault, Opener, create_files, list_at, open_tiles, set_paths};
-use crate::files::open_judged::{OpenFiles, open_audit, open_check};
+use crate::files::open_judged::{OpenFiles, open_judged};
 use crate::files::outputs::{Failure, Outputs, target_at};
 use crate::files::reason::{Reason, print_reason};
 use crate::print::{print_failure, print_text};
@@ -24,6 +24,7 @@ use crate::runs::make_set::make_set_followed;
 use crate::runs::no_page::print_no_object;
 use crate::runs::run_audit::run_audit;
 use crate::runs::run_check::run_check;
+use crate::runs::run_explain::JudgedProducts;
 use crate::runs::run_fill::run_fill;
 use crate::runs::run_header::run_header;
 use crate::runs::write_set::write_and_place;
@@ -33,6 +34,8 @@ use clap::error::ErrorKind;
 use drain_device::{BodyFault, ByteSink, Reader, Writer, write_nothing};
 use drain_grid::ProductSet;
 use drain_mosaic::Layout;
+use drain_rules::Ranks;
+use std::alloc::Global;
 use std::fs::File;
 use std::io;
 
@@ -57,8 +60,8 @@ fn asked_words(rt: &HostRuntime) -> io::Result<Vec<String>> {
 /// Does what the arguments request, and returns the exit status.
 fn run(rt: &HostRuntime, asked: &[String], out: &mut impl ByteSink) -> u8 {
     match command_line::parse(rt.alloc(), asked) {
-        Ok(Request::Audit(judged)) => audit_of_files(rt, &judged, out),
-        Ok(Request::Check(judged)) => check_of_files(rt, &judged, out),
+        Ok(Request::Audit(judged)) => judge_files(rt, &judged, Ranks::Unasked, out),
+        Ok(Request::Check(judged)) => judge_files(rt, &judged, Ranks::Asked, out),
         Ok(Request::Explain(asked)) => explain_files(rt, &asked, out),
         Ok(
             Request::Make {
@@ -104,47 +107,22 @@ fn header_of_file(rt: &HostRuntime, path: &str, out: &mut impl ByteSink) -> u8 {
     }
 }
 
-/// Opens the tiles and the four products of a folder, audits them, and returns the exit status.
-fn audit_of_files(rt: &HostRuntime, judged: &Judged<'_>, out: &mut impl ByteSink) -> u8 {
+/// Opens the tiles and the products of a folder, checks or audits them, and returns the exit status.
+fn judge_files(rt: &HostRuntime, judged: &Judged<'_>, ranks: Ranks, out: &mut impl ByteSink) -> u8 {
     let gauge = Gauge::new(rt, judged.progress);
-    match open_audit(&mut Opener::new(rt), judged, &gauge) {
-        Ok(
-            OpenFiles {
-                mut tiles,
-                mut products,
-                sinks,
-            },
-        ) => run_audit(
-            rt.alloc(),
-            judged.side,
-            tiles.as_mut_slice(),
-            sinks.as_slice(),
-            &mut products,
-            out,
-        ),
+    match open_judged(&mut Opener::new(rt), judged, ranks, &gauge) {
+        Ok(mut files) => run_judged(rt.alloc(), judged.side, &mut files, out),
         Err(fault) => print_open_fault(rt, fault, out),
     }
 }
 
-/// Opens the tiles and the five products of a folder, checks them, and returns the exit status.
-fn check_of_files(rt: &HostRuntime, judged: &Judged<'_>, out: &mut impl ByteSink) -> u8 {
-    let gauge = Gauge::new(rt, judged.progress);
-    match open_check(&mut Opener::new(rt), judged, &gauge) {
-        Ok(
-            OpenFiles {
-                mut tiles,
-                mut products,
-                sinks,
-            },
-        ) => run_check(
-            rt.alloc(),
-            judged.side,
-            tiles.as_mut_slice(),
-            sinks.as_slice(),
-            &mut products,
-            out,
-        ),
-        Err(fault) => print_open_fault(rt, fault, out),
+/// Checks or audits the products of open files, and returns the exit status.
+fn run_judged(alloc: Global, side: u32, files: &mut OpenFiles<'_>, out: &mut impl ByteSink) -> u8 {
+    let tiles = files.tiles.as_mut_slice();
+    let sinks = files.sinks.as_slice();
+    match &mut files.products {
+        JudgedProducts::Check(products) => run_check(alloc, side, tiles, sinks, products, out),
+        JudgedProducts::Audit(products) => run_audit(alloc, side, tiles, sinks, products, out),
     }
 }
 

@@ -1,9 +1,10 @@
-//! The exit statuses of the program, and that of each refusal.
+//! The exit statuses of the program, and that of each answer.
 
 ghost use Rattle.std.specs.Prelude.{◌≡◌};
-ghost use Rattle.drain_cli.specs.Statuses.{code_of, refusal_status};
+ghost use Rattle.drain_cli.specs.Statuses.{answer_status, code_of, refusal_status};
 
-use drain_verdict::Refusal;
+use drain_page::Answer;
+use drain_verdict::{AuditVerdict, Refusal, Verdict};
 
 /// How a run of the program ended.
 #[derive(Clone, Copy)]
@@ -24,6 +25,20 @@ impl Status {
         ensures { result ≡ code_of self }
     {
         self as u8
+    }
+
+    /// The status of an answer.
+    pub fn of_answer(answer: &Answer) -> Status
+        ensures { result ≡ answer_status answer.now }
+    {
+        match answer {
+            Answer::Check(Ok(Verdict::Accepted(_)))
+            | Answer::Audit(Ok(AuditVerdict::Accepted(_))) => Status::Done,
+            Answer::Check(Ok(_)) | Answer::Audit(Ok(_)) => Status::Rejected,
+            Answer::Check(Err(refusal)) | Answer::Audit(Err(refusal)) => {
+                Status::of_refusal(*refusal)
+            }
+        }
     }
 
     /// The status of a refusal.

@@ -7,29 +7,37 @@ use crate::files::open_files::{InputFile, OpenFault, Opener, list_at, open_tiles
 use crate::progress::gauge::Gauge;
 use crate::progress::watched::Watched;
 use crate::progress::watched_rows::judged_rows;
+use crate::runs::run_explain::JudgedProducts;
 use drain_device::{ByteList, read_body};
 use drain_grid::{PerProduct, Product};
 use drain_header::{MAX_HEADER_BYTES, parse_header};
 use drain_hgt::TileInput;
+use drain_rules::Ranks;
 use drain_verdict::{AuditProducts, Products, RasterInput};
 
 /// The files of a check or an audit, of which only the headers and the list of sinks have been read.
 #[derive(Drop)]
-pub struct OpenFiles<'a, P> {
+pub struct OpenFiles<'a> {
     pub tiles: Vec<TileInput<InputFile<'a>>>,
-    pub products: P,
+    pub products: JudgedProducts<InputFile<'a>>,
     pub sinks: Vec<u8>,
 }
 
-/// Opens the files of an audit: all but ranks. The first fault ends it. The rows of con are counted for progress.
-pub fn open_audit<'a>(
+/// Opens the files of a check, or those of an audit if no ranks are asked for. The first fault ends it. The rows of con
+/// are counted for progress.
+pub fn open_judged<'a>(
     opener: &mut Opener<'_>,
     judged: &Judged<'_>,
+    ranks: Ranks,
     gauge: &'a Gauge<'a>,
-) -> Result<OpenFiles<'a, AuditProducts<InputFile<'a>>>, OpenFault> {
+) -> Result<OpenFiles<'a>, OpenFault> {
     let tiles = open_tiles(opener, judged.tiles.as_slice())?;
-    let mut products = open_four(opener, judged.products)?;
-    watch_con(&mut products.con, gauge);
+    let mut four = open_four(opener, judged.products)?;
+    watch_con(&mut four.con, gauge);
+    let products = match ranks {
+        Ranks::Asked => JudgedProducts::Check(with_ranks(opener, judged.products, four)?),
+        Ranks::Unasked => JudgedProducts::Audit(four),
+    };
     let sinks = list_at(opener, judged.sinks)?;
     Ok(OpenFiles {
         tiles,
@@ -60,24 +68,6 @@ fn open_two<'a>(
     Ok((first, second))
 }
 
-/// Opens the files of a check: those of all five products. The first fault ends it. The rows of con are counted for
-/// progress.
-pub fn open_check<'a>(
-    opener: &mut Opener<'_>,
-    judged: &Judged<'_>,
-    gauge: &'a Gauge<'a>,
-) -> Result<OpenFiles<'a, Products<InputFile<'a>>>, OpenFault> {
-    let tiles = open_tiles(opener, judged.tiles.as_slice())?;
-    let mut products = open_products(opener, judged.products)?;
-    watch_con(&mut products.con, gauge);
-    let sinks = list_at(opener, judged.sinks)?;
-    Ok(OpenFiles {
-        tiles,
-        products,
-        sinks,
-    })
-}
-
 /// Has the rows of con counted, if progress is reported and the header says where they end.
 fn watch_con<'a>(con: &mut RasterInput<InputFile<'a>>, gauge: &'a Gauge<'a>) {
     if !gauge.is_on() {
@@ -88,13 +78,14 @@ fn watch_con<'a>(con: &mut RasterInput<InputFile<'a>>, gauge: &'a Gauge<'a>) {
     }
 }
 
-/// Opens the products of a check.
-fn open_products<'a>(
+/// Opens ranks too: the products of a check.
+fn with_ranks<'a>(
     opener: &mut Opener<'_>,
     folder: &str,
+    four: AuditProducts<InputFile<'a>>,
 ) -> Result<Products<InputFile<'a>>, OpenFault> {
-    let AuditProducts { con, dir, acc, bas } = open_four(opener, folder)?;
     let rnk = open_product(opener, folder, Product::Rnk)?;
+    let AuditProducts { con, dir, acc, bas } = four;
     Ok(PerProduct {
         con,
         dir,

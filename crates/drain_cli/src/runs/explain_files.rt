@@ -8,7 +8,7 @@ use crate::files::file_paths::{header_path, raster_path};
 use crate::files::map_file::write_map;
 use crate::files::map_place::{MapClash, map_clash, map_paths};
 use crate::files::open_files::{OpenFault, Opener};
-use crate::files::open_judged::{OpenFiles, open_audit, open_check};
+use crate::files::open_judged::{OpenFiles, open_judged};
 use crate::files::outputs::{Failure, Outputs, look};
 use crate::files::placing::{Placing, place_written};
 use crate::files::reason::print_reason;
@@ -16,7 +16,7 @@ use crate::progress::gauge::Gauge;
 use crate::runs::explain_page::{Beside, Form, MapFault};
 use crate::runs::no_page::print_no_page;
 use crate::runs::refusal_facts::refusal_note;
-use crate::runs::run_explain::{run_explain_audit, run_explain_check};
+use crate::runs::run_explain::run_explain;
 use crate::status::Status;
 use drain_device::{ByteSink, write_nothing};
 use drain_explain::Mapping;
@@ -24,6 +24,7 @@ use drain_grid::Product;
 use drain_maker::product_files::SetFault;
 use drain_mosaic::Layout;
 use drain_page::RefusalNote;
+use drain_rules::Ranks;
 use drain_verdict::Refusal;
 use std::alloc::Global;
 
@@ -35,64 +36,35 @@ pub fn explain_files(rt: &HostRuntime, asked: &Explained<'_>, out: &mut impl Byt
     if asked.map.is_some() && write_nothing(out).is_err() {
         return Status::Failed.code();
     }
-    match has_ranks(rt, asked.judged.products) {
-        Ok(true) => with_ranks(rt, asked, out),
-        Ok(false) => without_ranks(rt, asked, out),
+    match ranks_in(rt, asked.judged.products) {
+        Ok(ranks) => explain_opened(rt, asked, ranks, out),
         Err(fault) => print_unopened(rt, fault, form(asked), out),
     }
 }
 
-/// Whether the folder has a header or a raster of ranks. A failure is never taken for their absence.
-fn has_ranks(rt: &HostRuntime, folder: &str) -> Result<bool, OpenFault> {
+/// Ranks are asked for if the folder has a header or a raster of them. A failure is never taken for their absence.
+fn ranks_in(rt: &HostRuntime, folder: &str) -> Result<Ranks, OpenFault> {
     let header = header_path(rt.alloc(), folder, Product::Rnk)?;
     if look(rt, header.as_str())?.is_some() {
-        return Ok(true);
+        return Ok(Ranks::Asked);
     }
     let raster = raster_path(rt.alloc(), folder, Product::Rnk)?;
-    Ok(look(rt, raster.as_str())?.is_some())
-}
-
-/// Explains the answer of a check.
-fn with_ranks(rt: &HostRuntime, asked: &Explained<'_>, out: &mut impl ByteSink) -> u8 {
-    let gauge = Gauge::new(rt, asked.judged.progress);
-    let mut opener = Opener::new(rt);
-    match open_check(&mut opener, &asked.judged, &gauge) {
-        Ok(
-            OpenFiles {
-                mut tiles,
-                mut products,
-                sinks,
-            },
-        ) => {
-            if let Some(status) = refused_map(rt, asked, opener.ids(), out) {
-                return status;
-            }
-            run_explain_check(
-                rt.alloc(),
-                asked.judged.side,
-                tiles.as_mut_slice(),
-                sinks.as_slice(),
-                &mut products,
-                mapping(asked),
-                form(asked),
-                &mut AtHand {
-                    rt,
-                    asked,
-                    sinks: sinks.as_slice(),
-                    inputs: opener.into_ids(),
-                },
-                out,
-            )
-        }
-        Err(fault) => print_unopened(rt, fault, form(asked), out),
+    match look(rt, raster.as_str())? {
+        Some(_) => Ok(Ranks::Asked),
+        None => Ok(Ranks::Unasked),
     }
 }
 
-/// Explains the answer of an audit.
-fn without_ranks(rt: &HostRuntime, asked: &Explained<'_>, out: &mut impl ByteSink) -> u8 {
+/// Explains the answer of a check, or that of an audit if no ranks are asked for.
+fn explain_opened(
+    rt: &HostRuntime,
+    asked: &Explained<'_>,
+    ranks: Ranks,
+    out: &mut impl ByteSink,
+) -> u8 {
     let gauge = Gauge::new(rt, asked.judged.progress);
     let mut opener = Opener::new(rt);
-    match open_audit(&mut opener, &asked.judged, &gauge) {
+    match open_judged(&mut opener, &asked.judged, ranks, &gauge) {
         Ok(
             OpenFiles {
                 mut tiles,
@@ -103,7 +75,7 @@ fn without_ranks(rt: &HostRuntime, asked: &Explained<'_>, out: &mut impl ByteSin
             if let Some(status) = refused_map(rt, asked, opener.ids(), out) {
                 return status;
             }
-            run_explain_audit(
+            run_explain(
                 rt.alloc(),
                 asked.judged.side,
                 tiles.as_mut_slice(),

@@ -1,6 +1,5 @@
 //! Printing an explanation: the map of the faults is saved first, then the page is printed, as a text or as JSON.
 
-ghost use Rattle.drain_page.specs.Lines.{line_of};
 ghost use Rattle.drain_cli.specs.ExplainRuns.{Tells};
 
 use crate::print::print_text;
@@ -58,14 +57,13 @@ pub fn tell<B: Beside, W: ByteSink>(
     facts: &Facts,
     map: &Option<DrawnMap>,
     form: Form,
-    status: Status,
     beside: &mut B,
     out: &mut W,
 ) -> u8
-    ensures { Tells W.ByteSink out.old out.new form (line_of facts.now.answer) status result }
+    ensures { Tells W.ByteSink out.old out.new form facts.now.answer result }
 {
     match save(map, beside) {
-        Ok(()) => print_page(alloc, facts, form, status, out),
+        Ok(()) => print_page(alloc, facts, form, out),
         Err(fault) => print_no_page(alloc, &fault.into(), form, out),
     }
 }
@@ -79,15 +77,10 @@ fn save<B: Beside>(map: &Option<DrawnMap>, beside: &mut B) -> Result<(), MapFaul
 }
 
 /// Prints the page, or that there is no memory for it.
-fn print_page<W: ByteSink>(
-    alloc: Global,
-    facts: &Facts,
-    form: Form,
-    status: Status,
-    out: &mut W,
-) -> u8
-    ensures { Tells W.ByteSink out.old out.new form (line_of facts.now.answer) status result }
+fn print_page<W: ByteSink>(alloc: Global, facts: &Facts, form: Form, out: &mut W) -> u8
+    ensures { Tells W.ByteSink out.old out.new form facts.now.answer result }
 {
+    let status = Status::of_answer(&facts.answer);
     match form {
         Form::Text => match page_text(alloc, facts) {
             Ok(page) => print_text(out, &page, status),

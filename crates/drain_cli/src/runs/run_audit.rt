@@ -6,14 +6,17 @@ ghost use Rattle.drain_verdict.specs.Audits.{AreCorrect, OfFour};
 ghost use Rattle.drain_answer.specs.declared.audit_verdict.AuditVerdict.{AuditVerdict};
 ghost use Rattle.drain_answer.specs.declared.refusal.Refusal.{Refusal};
 ghost use Rattle.drain_verdict.specs.Headline.{IsRight};
-ghost use Rattle.drain_cli.specs.AuditRuns.{IsAuditOutcome, audit_status};
+ghost use Rattle.drain_page.specs.declared.facts.Answer.TheVariants.{Audit};
+ghost use Rattle.drain_cli.specs.AuditRuns.{IsAuditOutcome};
 ghost use Rattle.drain_cli.specs.Printing.{Prints};
+ghost use Rattle.drain_cli.specs.Statuses.{answer_status};
 
 use crate::print::print_line;
 use crate::status::Status;
 use drain_device::{ByteSink, ByteSource};
 use drain_hgt::TileInput;
-use drain_verdict::{AuditProducts, AuditVerdict, Refusal, audit, audit_report};
+use drain_page::Answer;
+use drain_verdict::{AuditProducts, audit, audit_report};
 use std::alloc::Global;
 
 /// Audits products against their tiles, prints the line of the answer and returns the exit status.
@@ -32,23 +35,13 @@ pub fn run_audit<R: ByteSource, W: ByteSink>(
 ) -> u8
     ensures run { (answer : Result AuditVerdict Refusal)
         × IsAuditOutcome R.ByteSource side tiles.old tiles.new sinks.now products.old products.new answer
-        × Prints W.ByteSink out.old out.new (audit_report_line answer) (audit_status answer) result }
+        × Prints W.ByteSink out.old out.new (audit_report_line answer) (answer_status (Audit answer)) result }
 
     // A run ends with 0 only if the tiles agree and the products are correct, and with 1 only if the products aren't.
     ensures correct { result ≡ 0 → OfFour R.bytes_left side tiles.old sinks.now products.old IsRight }
     ensures not_correct { result ≡ 1 → OfFour R.bytes_left side tiles.old sinks.now products.old (λ inputs. ¬ AreCorrect inputs) }
 {
     let answer = audit(alloc, side, tiles, sinks, products);
-    print_line(out, &audit_report(&answer), status_of(&answer))
-}
-
-/// The exit status of an answer.
-pub(crate) fn status_of(answer: &Result<AuditVerdict, Refusal>) -> Status
-    ensures { result ≡ audit_status answer.now }
-{
-    match answer {
-        Ok(AuditVerdict::Accepted(_)) => Status::Done,
-        Ok(AuditVerdict::Rejected { .. } | AuditVerdict::NoEnd { .. }) => Status::Rejected,
-        Err(refusal) => Status::of_refusal(*refusal),
-    }
+    let status = Status::of_answer(&Answer::Audit(answer));
+    print_line(out, &audit_report(&answer), status)
 }

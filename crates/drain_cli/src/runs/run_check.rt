@@ -5,14 +5,17 @@ ghost use Rattle.drain_rules.specs.declared.verdict.Verdict.{Verdict};
 ghost use Rattle.drain_answer.specs.declared.refusal.Refusal.{Refusal};
 ghost use Rattle.drain_verdict.specs.Headline.{IsRight, OfInputs};
 ghost use Rattle.drain_answer.specs.Lines.{report_line};
-ghost use Rattle.drain_cli.specs.CheckRuns.{IsCheckOutcome, check_status};
+ghost use Rattle.drain_page.specs.declared.facts.Answer.TheVariants.{Check};
+ghost use Rattle.drain_cli.specs.CheckRuns.{IsCheckOutcome};
 ghost use Rattle.drain_cli.specs.Printing.{Prints};
+ghost use Rattle.drain_cli.specs.Statuses.{answer_status};
 
 use crate::print::print_line;
 use crate::status::Status;
 use drain_device::{ByteSink, ByteSource};
 use drain_hgt::TileInput;
-use drain_verdict::{Products, Refusal, Verdict, check, report};
+use drain_page::Answer;
+use drain_verdict::{Products, check, report};
 use std::alloc::Global;
 
 /// Checks products against their tiles, prints the line of the answer and returns the exit status.
@@ -31,22 +34,12 @@ pub fn run_check<R: ByteSource, W: ByteSink>(
 ) -> u8
     ensures run { (answer : Result Verdict Refusal)
         × IsCheckOutcome R.ByteSource side tiles.old tiles.new sinks.now products.old products.new answer
-        × Prints W.ByteSink out.old out.new (report_line answer) (check_status answer) result }
+        × Prints W.ByteSink out.old out.new (report_line answer) (answer_status (Check answer)) result }
 
     // A run ends with 0 only if the tiles agree and the products are correct.
     ensures correct { result ≡ 0 → OfInputs R.bytes_left side tiles.old sinks.now products.old IsRight }
 {
     let answer = check(alloc, side, tiles, sinks, products);
-    print_line(out, &report(&answer), status_of(&answer))
-}
-
-/// The exit status of an answer.
-pub(crate) fn status_of(answer: &Result<Verdict, Refusal>) -> Status
-    ensures { result ≡ check_status answer.now }
-{
-    match answer {
-        Ok(Verdict::Accepted(_)) => Status::Done,
-        Ok(Verdict::Rejected { .. }) => Status::Rejected,
-        Err(refusal) => Status::of_refusal(*refusal),
-    }
+    let status = Status::of_answer(&Answer::Check(answer));
+    print_line(out, &report(&answer), status)
 }
