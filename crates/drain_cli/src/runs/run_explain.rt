@@ -11,14 +11,13 @@ ghost use Rattle.drain_cli.specs.AuditRuns.{IsAuditOutcome, audit_status};
 ghost use Rattle.drain_cli.specs.CheckRuns.{IsCheckOutcome, check_status};
 ghost use Rattle.drain_cli.specs.ExplainRuns.{Tells};
 
-use crate::runs::explain_page::{Beside, DrawnMap, Form, tell};
+use crate::runs::explain_page::{Beside, Form, tell};
 use crate::runs::{run_audit, run_check};
 use drain_device::{ByteSink, ByteSource};
 use drain_explain::{Explanation, Mapping, explain_audit, explain_check};
 use drain_faults::FaultMap;
 use drain_hgt::TileInput;
-use drain_mosaic::Layout;
-use drain_page::{Answer, Facts, Findings, MosaicPlace, RefusalNote};
+use drain_page::{Answer, Facts, Findings, RefusalNote};
 use drain_verdict::{AuditProducts, Products, Refusal};
 use std::alloc::Global;
 
@@ -104,7 +103,7 @@ fn note_of<V, B: Beside>(beside: &mut B, answer: &Result<V, Refusal>) -> Option<
 struct Parts<V> {
     answer: Result<V, Refusal>,
     findings: Option<Findings>,
-    map: Option<DrawnMap>,
+    map: Option<FaultMap>,
 }
 
 /// The answer and its explanation.
@@ -135,38 +134,16 @@ fn parted<V>(explanation: Explanation<V>) -> Parts<V>
         map,
         endless,
     } = explanation;
-    let findings = Findings {
-        place: place_of(&layout),
-        shape: layout.shape(),
-        rules,
-        by_rule,
-        by_product,
-        first,
-        endless,
-    };
     Parts {
         answer: Ok(verdict),
-        findings: Some(findings),
-        map: drawn_on(layout, map),
-    }
-}
-
-/// The place of the mosaic.
-fn place_of(layout: &Layout) -> MosaicPlace {
-    MosaicPlace {
-        north: layout.north(),
-        west: layout.west(),
-        steps: layout.side() - 1,
-    }
-}
-
-/// The map, if one was drawn, with its mosaic.
-fn drawn_on(layout: Layout, map: Option<FaultMap>) -> Option<DrawnMap> {
-    match map {
-        Some(map) => Some(DrawnMap {
+        findings: Some(Findings {
             layout,
-            pixels: map.pixels,
+            rules,
+            by_rule,
+            by_product,
+            first,
+            endless,
         }),
-        None => None,
+        map,
     }
 }
