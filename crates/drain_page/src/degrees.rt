@@ -1,70 +1,69 @@
 //! The degrees of a cell: to seven places for the text, and as the nearest floating-point number for JSON.
 //!
-//! A row is `row / steps` degrees south of the north edge, so `north * steps - row` is its latitude in steps; a
-//! column's longitude is `west * steps + col`. A place with no steps is taken for one of a step a degree.
+//! A step is that from one sample of a tile to the next. A row is `row / steps` degrees south of the north edge, so
+//! `north * steps - row` is its latitude in steps; a column's longitude is `west * steps + col`.
 
 ghost use Rattle.std.specs.Prelude.{◌≡◌, ◌<◌, ◌≤ℤ◌, ◌+ℤ◌, ◌-ℤ◌, ◌*ℤ◌, neg_ℤ, pos};
+ghost use Rattle.drain_mosaic.specs.Tiling.{north_of, west_of};
 ghost use Rattle.drain_page.specs.Degrees.{IsRounded, steps_of};
 
 use crate::names::Shown;
-use crate::place::MosaicPlace;
+use drain_mosaic::Layout;
 use std::fmt::Write;
 
 /// A degree in units of the seventh place.
 pub const PLACES: u128 = 10_000_000;
 
-/// No cell of a place is more steps than this from the equator or the meridian.
+/// No cell of a mosaic is more steps than this from the equator or the meridian.
 pub const MOST_STEPS: u64 = 140_741_783_322_624;
 
 /// Whole degrees make no more steps than this.
 const MOST_WHOLE_STEPS: u64 = 140_737_488_355_328;
 
-impl MosaicPlace {
-    /// How many steps make up a degree.
-    fn steps_a_degree(&self) -> u32
-        ensures value { result ≡ steps_of self.now }
-        ensures some { 0 < result }
-    {
-        self.steps.max(1)
-    }
+/// A row's latitude in degrees.
+pub fn latitude(layout: &Layout, row: u32) -> f64 {
+    latitude_in_steps(layout, row) as f64 / f64::from(steps_a_degree(layout))
+}
 
-    /// A row's latitude in steps.
-    fn latitude_in_steps(&self, row: u32) -> i64
-        ensures value { result ≡ (self.now.north *ℤ pos (steps_of self.now)) -ℤ pos row }
-        ensures low { neg_ℤ (pos MOST_STEPS) ≤ℤ result }
-        ensures high { result ≤ℤ pos MOST_STEPS }
-    {
-        in_steps(self.north, self.steps_a_degree()) - i64::from(row)
-    }
+/// A column's longitude in degrees.
+pub fn longitude(layout: &Layout, col: u32) -> f64 {
+    longitude_in_steps(layout, col) as f64 / f64::from(steps_a_degree(layout))
+}
 
-    /// A column's longitude in steps.
-    fn longitude_in_steps(&self, col: u32) -> i64
-        ensures value { result ≡ (self.now.west *ℤ pos (steps_of self.now)) +ℤ pos col }
-        ensures low { neg_ℤ (pos MOST_STEPS) ≤ℤ result }
-        ensures high { result ≤ℤ pos MOST_STEPS }
-    {
-        in_steps(self.west, self.steps_a_degree()) + i64::from(col)
-    }
+/// A row's latitude with seven places after the point, the nearest, and of two the one further from 0.
+pub(crate) fn latitude_text(layout: &Layout, row: u32) -> Shown {
+    shown_degrees(latitude_in_steps(layout, row), steps_a_degree(layout))
+}
 
-    /// A row's latitude in degrees.
-    pub fn latitude(&self, row: u32) -> f64 {
-        self.latitude_in_steps(row) as f64 / f64::from(self.steps_a_degree())
-    }
+/// A column's longitude likewise.
+pub(crate) fn longitude_text(layout: &Layout, col: u32) -> Shown {
+    shown_degrees(longitude_in_steps(layout, col), steps_a_degree(layout))
+}
 
-    /// A column's longitude in degrees.
-    pub fn longitude(&self, col: u32) -> f64 {
-        self.longitude_in_steps(col) as f64 / f64::from(self.steps_a_degree())
-    }
+/// A row's latitude in steps.
+fn latitude_in_steps(layout: &Layout, row: u32) -> i64
+    ensures value { result ≡ (north_of layout.now *ℤ pos (steps_of layout.now)) -ℤ pos row }
+    ensures low { neg_ℤ (pos MOST_STEPS) ≤ℤ result }
+    ensures high { result ≤ℤ pos MOST_STEPS }
+{
+    in_steps(layout.north(), steps_a_degree(layout)) - i64::from(row)
+}
 
-    /// A row's latitude with seven places after the point, the nearest, and of two the one further from 0.
-    pub(crate) fn latitude_text(&self, row: u32) -> Shown {
-        shown_degrees(self.latitude_in_steps(row), self.steps_a_degree())
-    }
+/// A column's longitude in steps.
+fn longitude_in_steps(layout: &Layout, col: u32) -> i64
+    ensures value { result ≡ (west_of layout.now *ℤ pos (steps_of layout.now)) +ℤ pos col }
+    ensures low { neg_ℤ (pos MOST_STEPS) ≤ℤ result }
+    ensures high { result ≤ℤ pos MOST_STEPS }
+{
+    in_steps(layout.west(), steps_a_degree(layout)) + i64::from(col)
+}
 
-    /// A column's longitude likewise.
-    pub(crate) fn longitude_text(&self, col: u32) -> Shown {
-        shown_degrees(self.longitude_in_steps(col), self.steps_a_degree())
-    }
+/// How many steps make up a degree.
+fn steps_a_degree(layout: &Layout) -> u32
+    ensures value { result ≡ steps_of layout.now }
+    ensures some { 0 < result }
+{
+    layout.side() - 1
 }
 
 /// Whole degrees in steps.

@@ -1,20 +1,36 @@
 //! The facts of an explanation, for a page.
 
-use crate::place::MosaicPlace;
+ghost use Rattle.std.specs.Prelude.{◌≡◌};
+ghost use Rattle.drain_page.specs.Lines.{line_of};
+
 use crate::refusal_note::RefusalNote;
-use drain_answer::{AuditVerdict, Refusal};
+use drain_answer::line::Line;
+use drain_answer::{AuditVerdict, Refusal, audit_report, report};
 use drain_faults::{FaultyPatch, PerRule, ProductFaults, RuleFaults};
-use drain_grid::{Cell, PerProduct, Shape};
+use drain_grid::{Cell, PerProduct};
+use drain_mosaic::Layout;
 use drain_rules::{Rules, Verdict};
 use drain_runs::EndlessRun;
 
 /// The answer that is explained.
-#[derive(Clone, Copy, PartialEq, Eq, Debug)]
+#[derive(Clone, Copy)]
 pub enum Answer {
     /// That of a check, of five products.
     Check(Result<Verdict, Refusal>),
     /// That of an audit, of four products.
     Audit(Result<AuditVerdict, Refusal>),
+}
+
+impl Answer {
+    /// The line that a check or an audit prints, without a line end.
+    pub(crate) fn line(&self) -> Line
+        ensures { result.bytes ≡ line_of self.now }
+    {
+        match self {
+            Answer::Check(answer) => report(answer),
+            Answer::Audit(answer) => audit_report(answer),
+        }
+    }
 }
 
 /// An answer and its explanation.
@@ -30,8 +46,7 @@ pub struct Facts {
 /// What the rules say of every cell of a mosaic.
 #[derive(Drop)]
 pub struct Findings {
-    pub place: MosaicPlace,
-    pub shape: Shape,
+    pub layout: Layout,
     /// The rules that were checked: with ranks or without, and the no-data numbers.
     pub rules: Rules,
     /// For each rule the number of cells at which it fails, and the first.

@@ -3,11 +3,11 @@
 ghost use Rattle.std.specs.Prelude.{IfOk, string_bytes};
 ghost use Rattle.drain_page.specs.JsonLines.{IsJsonLine};
 
-use crate::answer_line::answer_line;
 use crate::facts::{Facts, Findings};
 use crate::json_text::JsonText;
 use crate::patch_json::write_patch;
 use crate::refusal_json::write_refusal;
+use crate::refusal_note::RefusalNote;
 use crate::rules_json::{write_products, write_rules};
 use crate::run_json::write_run;
 use crate::wanted_json::write_wanted;
@@ -20,51 +20,55 @@ use std::alloc::{AllocError, Global};
 pub fn page_json(alloc: Global, facts: &Facts) -> Result<String, OutOfMemory>
     ensures { IfOk result (λ line. IsJsonLine (string_bytes line)) }
 {
-    match page(alloc, facts) {
-        Ok(line) => Ok(line),
-        Err(AllocError) => Err(OutOfMemory),
-    }
-}
-
-fn page(alloc: Global, facts: &Facts) -> Result<String, AllocError>
-    ensures { IfOk result (λ line. IsJsonLine (string_bytes line)) }
-{
-    let mut json = JsonText::new(alloc);
-    write_page(alloc, &mut json, facts)?;
-    json.into_line()
+    let line = facts.answer.line();
+    object(alloc, line.as_str(), &facts.refusal, &facts.findings)
 }
 
 /// The same object for a failure: its answer is this line, and all other members are null or empty.
 pub fn failure_json(alloc: Global, line: &str) -> Result<String, OutOfMemory>
     ensures { IfOk result (λ line. IsJsonLine (string_bytes line)) }
 {
-    match failure_page(alloc, line) {
+    object(alloc, line, &None, &None)
+}
+
+fn object(
+    alloc: Global,
+    answer: &str,
+    refusal: &Option<RefusalNote>,
+    findings: &Option<Findings>,
+) -> Result<String, OutOfMemory>
+    ensures { IfOk result (λ line. IsJsonLine (string_bytes line)) }
+{
+    match written(alloc, answer, refusal, findings) {
         Ok(line) => Ok(line),
         Err(AllocError) => Err(OutOfMemory),
     }
 }
 
-fn failure_page(alloc: Global, line: &str) -> Result<String, AllocError>
+fn written(
+    alloc: Global,
+    answer: &str,
+    refusal: &Option<RefusalNote>,
+    findings: &Option<Findings>,
+) -> Result<String, AllocError>
     ensures { IfOk result (λ line. IsJsonLine (string_bytes line)) }
 {
     let mut json = JsonText::new(alloc);
-    write_failure(&mut json, line)?;
+    write_page(alloc, &mut json, answer, refusal, findings)?;
     json.into_line()
 }
 
-fn write_failure(json: &mut JsonText, line: &str) -> Result<(), AllocError> {
+fn write_page(
+    alloc: Global,
+    json: &mut JsonText,
+    answer: &str,
+    refusal: &Option<RefusalNote>,
+    findings: &Option<Findings>,
+) -> Result<(), AllocError> {
     json.begin_object_item()?;
-    json.text("answer", line)?;
-    json.null("refusal")?;
-    write_no_findings(json)?;
-    json.end_object()
-}
-
-fn write_page(alloc: Global, json: &mut JsonText, facts: &Facts) -> Result<(), AllocError> {
-    json.begin_object_item()?;
-    json.text("answer", answer_line(&facts.answer).as_str())?;
-    write_refusal(alloc, json, &facts.refusal)?;
-    match &facts.findings {
+    json.member("answer", answer)?;
+    write_refusal(alloc, json, refusal)?;
+    match findings {
         Some(findings) => write_findings(alloc, json, findings)?,
         None => write_no_findings(json)?,
     }
@@ -76,9 +80,9 @@ fn write_findings(
     json: &mut JsonText,
     findings: &Findings,
 ) -> Result<(), AllocError> {
-    json.count("rows", u64::from(findings.shape.rows()))?;
-    json.count("cols", u64::from(findings.shape.cols()))?;
-    json.flag("ranks", findings.rules.ranks == Ranks::Asked)?;
+    json.member("rows", findings.layout.shape().rows())?;
+    json.member("cols", findings.layout.shape().cols())?;
+    json.member("ranks", findings.rules.ranks == Ranks::Asked)?;
     write_rules(json, findings)?;
     write_products(json, findings)?;
     write_patch(json, findings)?;
@@ -91,14 +95,9 @@ fn write_no_findings(json: &mut JsonText) -> Result<(), AllocError> {
     json.null("rows")?;
     json.null("cols")?;
     json.null("ranks")?;
-    write_empty_list(json, "rules")?;
-    write_empty_list(json, "products")?;
+    json.list::<bool>("rules", &[])?;
+    json.list::<bool>("products", &[])?;
     json.null("patch")?;
     json.null("expected")?;
     json.null("run")
-}
-
-fn write_empty_list(json: &mut JsonText, name: &str) -> Result<(), AllocError> {
-    json.begin_list(name)?;
-    json.end_list()
 }

@@ -44,10 +44,31 @@ impl JsonText {
         Ok(line)
     }
 
+    /// A member of this name.
+    pub(crate) fn member<V: JsonValue>(&mut self, name: &str, value: V) -> Result<(), AllocError> {
+        self.writer.key(name)?;
+        value.append(self)
+    }
+
+    /// A member that is null.
+    pub(crate) fn null(&mut self, name: &str) -> Result<(), AllocError> {
+        self.writer.key(name)?;
+        self.writer.null()
+    }
+
+    /// A member that is a list of these.
+    pub(crate) fn list<V: JsonValue>(&mut self, name: &str, items: &[V]) -> Result<(), AllocError> {
+        self.begin_list(name)?;
+        for item in items {
+            item.append(self)?;
+        }
+        self.end_list()
+    }
+
     /// Opens an object that is a member of this name.
     pub(crate) fn begin_object(&mut self, name: &str) -> Result<(), AllocError> {
-        self.key(name)?;
-        self.begin_object_item()
+        self.writer.key(name)?;
+        self.writer.begin_object()
     }
 
     /// Opens an object that is an item, or the whole text.
@@ -62,8 +83,8 @@ impl JsonText {
 
     /// Opens a list that is a member of this name.
     pub(crate) fn begin_list(&mut self, name: &str) -> Result<(), AllocError> {
-        self.key(name)?;
-        self.begin_list_item()
+        self.writer.key(name)?;
+        self.writer.begin_array()
     }
 
     /// Opens a list that is an item.
@@ -75,99 +96,86 @@ impl JsonText {
     pub(crate) fn end_list(&mut self) -> Result<(), AllocError> {
         self.writer.end_array()
     }
+}
 
-    /// A member that is null.
-    pub(crate) fn null(&mut self, name: &str) -> Result<(), AllocError> {
-        self.key(name)?;
-        self.null_item()
-    }
+/// What can be a member or an item.
+pub(crate) trait JsonValue: Copy {
+    /// Appends it.
+    fn append(self, json: &mut JsonText) -> Result<(), AllocError>;
+}
 
-    /// An item that is null.
-    pub(crate) fn null_item(&mut self) -> Result<(), AllocError> {
-        self.writer.null()
-    }
-
-    /// A member that is true or false.
-    pub(crate) fn flag(&mut self, name: &str, flag: bool) -> Result<(), AllocError> {
-        self.key(name)?;
-        self.writer.boolean(flag)
-    }
-
-    /// A member that is a text.
-    pub(crate) fn text(&mut self, name: &str, text: &str) -> Result<(), AllocError> {
-        self.key(name)?;
-        self.text_item(text)
-    }
-
-    /// An item that is a text.
-    pub(crate) fn text_item(&mut self, text: &str) -> Result<(), AllocError> {
-        self.writer.string(text)
-    }
-
-    /// A member that is a number without a sign.
-    pub(crate) fn count(&mut self, name: &str, count: u64) -> Result<(), AllocError> {
-        self.key(name)?;
-        self.writer.u64(count)
-    }
-
-    /// A member that is a whole number.
-    pub(crate) fn number(&mut self, name: &str, number: i64) -> Result<(), AllocError> {
-        self.key(name)?;
-        self.number_item(number)
-    }
-
-    /// An item that is a whole number.
-    pub(crate) fn number_item(&mut self, number: i64) -> Result<(), AllocError> {
-        self.writer.i64(number)
-    }
-
-    /// A member that is a whole number, or null.
-    pub(crate) fn number_or_null(
-        &mut self,
-        name: &str,
-        number: Option<i64>,
-    ) -> Result<(), AllocError> {
-        match number {
-            Some(number) => self.number(name, number),
-            None => self.null(name),
+impl<V: JsonValue> JsonValue for Option<V> {
+    /// Null for none.
+    fn append(self, json: &mut JsonText) -> Result<(), AllocError> {
+        match self {
+            Some(value) => value.append(json),
+            None => json.writer.null(),
         }
     }
+}
 
-    /// A member that is an elevation in metres, null at a void.
-    pub(crate) fn metres(&mut self, name: &str, metres: Option<i16>) -> Result<(), AllocError> {
-        match metres {
-            Some(metres) => self.number(name, i64::from(metres)),
-            None => self.null(name),
-        }
+impl JsonValue for bool {
+    fn append(self, json: &mut JsonText) -> Result<(), AllocError> {
+        json.writer.boolean(self)
     }
+}
 
-    /// A member that is a longer number without a sign.
-    pub(crate) fn long(&mut self, name: &str, number: u128) -> Result<(), AllocError> {
-        self.key(name)?;
-        self.digits(Buffer::new().format(number))
+impl<'a> JsonValue for &'a str {
+    fn append(self, json: &mut JsonText) -> Result<(), AllocError> {
+        json.writer.string(self)
     }
+}
 
-    /// The value that these digits encode; a whole number's always encode one.
-    fn digits(&mut self, digits: &str) -> Result<(), AllocError> {
+impl JsonValue for u8 {
+    fn append(self, json: &mut JsonText) -> Result<(), AllocError> {
+        json.writer.u64(u64::from(self))
+    }
+}
+
+impl JsonValue for u32 {
+    fn append(self, json: &mut JsonText) -> Result<(), AllocError> {
+        json.writer.u64(u64::from(self))
+    }
+}
+
+impl JsonValue for u64 {
+    fn append(self, json: &mut JsonText) -> Result<(), AllocError> {
+        json.writer.u64(self)
+    }
+}
+
+impl JsonValue for i16 {
+    fn append(self, json: &mut JsonText) -> Result<(), AllocError> {
+        json.writer.i64(i64::from(self))
+    }
+}
+
+impl JsonValue for i64 {
+    fn append(self, json: &mut JsonText) -> Result<(), AllocError> {
+        json.writer.i64(self)
+    }
+}
+
+impl JsonValue for u128 {
+    /// The digits of a whole number always are a number.
+    fn append(self, json: &mut JsonText) -> Result<(), AllocError> {
+        let mut buffer = Buffer::new();
+        let digits = buffer.format(self);
         if is_number(digits) {
-            self.writer.number(digits)
+            json.writer.number(digits)
         } else {
-            self.null_item()
+            json.writer.null()
         }
     }
+}
 
-    /// A member that is the nearest decimal number, or null if it isn't finite.
-    pub(crate) fn decimal(&mut self, name: &str, number: f64) -> Result<(), AllocError> {
-        self.key(name)?;
-        if number.is_finite() {
-            self.writer.float_with_plus(number)
+impl JsonValue for f64 {
+    /// The nearest decimal number, or null if it isn't finite.
+    fn append(self, json: &mut JsonText) -> Result<(), AllocError> {
+        if self.is_finite() {
+            json.writer.float_with_plus(self)
         } else {
-            self.null_item()
+            json.writer.null()
         }
-    }
-
-    /// The name of a member.
-    fn key(&mut self, name: &str) -> Result<(), AllocError> {
-        self.writer.key(name)
     }
 }

@@ -1,7 +1,6 @@
 //! The page of an explanation: the facts about an answer as a text to read, or as JSON.
 #![tactic(auto)]
 
-mod answer_line;
 pub mod degrees;
 pub mod facts;
 pub mod json_page;
@@ -12,7 +11,6 @@ mod names;
 pub mod opening;
 mod patch_json;
 mod patch_text;
-pub mod place;
 mod refusal_json;
 pub mod refusal_note;
 mod refusal_text;
@@ -20,10 +18,7 @@ mod rules_json;
 mod rules_text;
 mod run_json;
 mod run_text;
-mod shown_bytes;
 pub mod text_page;
-pub mod tried_rules;
-mod units;
 pub mod wanted;
 mod wanted_json;
 mod wanted_text;
@@ -31,6 +26,5 @@ pub mod ways;
 
 pub use facts::{Answer, Facts, Findings};
 pub use json_page::{failure_json, page_json};
-pub use place::MosaicPlace;
 pub use refusal_note::{Extent, NoData, RefusalNote, SHOWN_BYTES, TileValue};
 pub use text_page::page_text;

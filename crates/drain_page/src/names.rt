@@ -1,8 +1,9 @@
-//! Words for directions, for numbers of a raster and for rules.
+//! Words for directions, numbers of a raster and rules, for degrees of a header, and for bytes that may be no ASCII.
 
 use crate::wanted::{no_data, number};
 use arrayvec::ArrayString;
-use drain_grid::{CellValues, Code, Direction, Held, NoData, Rule};
+use drain_grid::{CellValues, Code, Direction, Held, NoData, Rule, UNITS_PER_DEGREE};
+use std::alloc::{AllocError, Global};
 use std::fmt::Write;
 
 /// How many bytes the words for one number have at most.
@@ -84,4 +85,31 @@ fn shown_signed(mark: &str, number: i64) -> Shown {
     let mut shown = Shown::new();
     let _ = write!(shown, "{mark}{number}");
     shown
+}
+
+/// The longest decimal has fewer bytes.
+pub(crate) const DECIMAL_LENGTH: usize = 64;
+
+/// Degrees of a header, in units of 10^-15 degree, as a decimal with fifteen places after the point.
+pub(crate) fn units_text(units: i128) -> ArrayString<DECIMAL_LENGTH> {
+    let mut shown = ArrayString::new();
+    let sign = if units < 0 { "-" } else { "" };
+    let whole = units.unsigned_abs() / UNITS_PER_DEGREE;
+    let fraction = units.unsigned_abs() % UNITS_PER_DEGREE;
+    let _ = write!(shown, "{sign}{whole}.{fraction:015}");
+    shown
+}
+
+/// The bytes of a name or of a line unchanged, if they are printable ASCII; a backslash twice; another byte as `\x` and
+/// two digits to the base 16.
+pub(crate) fn shown_bytes(alloc: Global, bytes: &[u8]) -> Result<String, AllocError> {
+    let mut shown = String::new(alloc);
+    for byte in bytes {
+        match *byte {
+            b'\\' => shown.push_str("\\\\")?,
+            printable @ b' '..=b'~' => shown.push(printable as char)?,
+            other => write!(shown, "\\x{other:02x}")?,
+        }
+    }
+    Ok(shown)
 }

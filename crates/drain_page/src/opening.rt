@@ -6,7 +6,7 @@ ghost use Rattle.drain_grid.specs.Patch.{IsOpen};
 use drain_grid::{Direction, Patch};
 
 /// Why a data cell is open: the first reason that applies.
-#[derive(Clone, Copy, PartialEq, Eq, Debug)]
+#[derive(Clone, Copy)]
 pub enum Opening {
     /// It is listed as a sink.
     Sink,

@@ -1,8 +1,8 @@
 //! The first cell at which a rule fails: its place, its values and its neighbours', and what the rule expected.
 
+use crate::degrees::{latitude_text, longitude_text};
 use crate::facts::Findings;
 use crate::names::{Shown, shown_ground, shown_number, shown_word};
-use crate::place::MosaicPlace;
 use crate::wanted::{shown_products, wanted_by};
 use crate::wanted_text::push_wanted;
 use drain_faults::FaultyPatch;
@@ -24,37 +24,23 @@ pub(crate) const ROUND: [[Option<Direction>; 3]; 3] = [
     ],
 ];
 
-/// Appends all of it.
+/// Appends all of it: where the cell lies, the values, and what the rule expected.
 pub(crate) fn push_first(
     alloc: Global,
     text: &mut String,
     findings: &Findings,
     first: &FaultyPatch,
 ) -> Result<(), AllocError> {
-    push_cell(text, &findings.place, first.cell)?;
-    push_patch(text, findings, &first.patch)?;
-    let wanted = wanted_by(alloc, first.rule, &first.patch, &findings.rules)?;
-    push_wanted(
-        text,
-        first.rule,
-        &first.patch,
-        &findings.rules.nodata,
-        &wanted,
-    )
-}
-
-/// Where the cell lies.
-fn push_cell(text: &mut String, place: &MosaicPlace, cell: Cell) -> Result<(), AllocError> {
-    let longitude = place.longitude_text(cell.col);
-    let latitude = place.latitude_text(cell.row);
+    let Cell { row, col } = first.cell;
+    let longitude = longitude_text(&findings.layout, col);
+    let latitude = latitude_text(&findings.layout, row);
     writeln!(
         text,
-        "first fault: row {}, column {}, longitude {}, latitude {}",
-        cell.row,
-        cell.col,
-        longitude.as_str(),
-        latitude.as_str()
-    )
+        "first fault: row {row}, column {col}, longitude {longitude}, latitude {latitude}"
+    )?;
+    push_patch(text, findings, &first.patch)?;
+    let wanted = wanted_by(alloc, first.rule, &first.patch, &findings.rules)?;
+    push_wanted(text, first, &findings.rules.nodata, &wanted)
 }
 
 /// The ground and each product, three numbers by three.

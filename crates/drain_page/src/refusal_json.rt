@@ -1,12 +1,10 @@
 //! What was expected and found in refused inputs, as JSON.
 
-use crate::json_text::JsonText;
+use crate::json_text::{JsonText, JsonValue};
+use crate::names::{shown_bytes, units_text};
 use crate::refusal_note::{Extent, NoData, RefusalNote, TileValue};
-use crate::shown_bytes::shown_bytes;
-use crate::units::units_text;
-use drain_grid::{MAX_SIDE, MIN_SIDE, Product};
+use drain_grid::{MAX_SIDE, MIN_SIDE};
 use drain_header::Place;
-use drain_hgt::TileName;
 use std::alloc::{AllocError, Global};
 
 /// The details of a refusal; null if there are none beyond its line. `about` names its kind.
@@ -15,15 +13,11 @@ pub(crate) fn write_refusal(
     json: &mut JsonText,
     note: &Option<RefusalNote>,
 ) -> Result<(), AllocError> {
-    match note {
-        Some(note) => write_note(alloc, json, note),
-        None => json.null("refusal"),
-    }
-}
-
-fn write_note(alloc: Global, json: &mut JsonText, note: &RefusalNote) -> Result<(), AllocError> {
+    let Some(note) = note else {
+        return json.null("refusal");
+    };
     json.begin_object("refusal")?;
-    json.text("about", kind(note))?;
+    json.member("about", kind(note))?;
     write_members(alloc, json, note)?;
     json.end_object()
 }
@@ -50,28 +44,35 @@ fn write_members(alloc: Global, json: &mut JsonText, note: &RefusalNote) -> Resu
             product,
             expected,
             found,
-        } => write_shape(json, *product, expected, found),
+        } => write_both(json, "product", product.name(), *expected, *found),
         RefusalNote::Position {
             product,
             expected,
             found,
-        } => write_position(json, *product, expected, found),
+        } => write_both(json, "product", product.name(), *expected, *found),
         RefusalNote::TileLength {
             tile,
             expected,
             found,
-        } => write_tile_length(json, *tile, *expected, *found),
+        } => write_both(json, "tile", tile.text().as_str(), *expected, *found),
         RefusalNote::RasterLength {
             product,
             expected,
             found,
-        } => write_raster_length(json, *product, *expected, *found),
-        RefusalNote::Seam { first, other } => write_seam(json, first, other),
+        } => write_both(json, "product", product.name(), *expected, *found),
+        RefusalNote::Seam { first, other } => {
+            json.member("first", *first)?;
+            json.member("other", *other)
+        }
         RefusalNote::SinkLine {
             number,
             start,
             bytes,
-        } => write_sink_line(alloc, json, *number, start, *bytes),
+        } => {
+            json.member("line", *number)?;
+            write_shown(alloc, json, start)?;
+            json.member("bytes", *bytes)
+        }
         RefusalNote::SinkCell {
             number,
             row,
@@ -82,105 +83,58 @@ fn write_members(alloc: Global, json: &mut JsonText, note: &RefusalNote) -> Resu
 }
 
 fn write_side(json: &mut JsonText, found: u32) -> Result<(), AllocError> {
-    json.count("least", u64::from(MIN_SIDE))?;
-    json.count("greatest", u64::from(MAX_SIDE))?;
-    json.count("found", u64::from(found))
+    json.member("least", MIN_SIDE)?;
+    json.member("greatest", MAX_SIDE)?;
+    json.member("found", found)
 }
 
 /// Bytes that were found.
 fn write_shown(alloc: Global, json: &mut JsonText, found: &[u8]) -> Result<(), AllocError> {
     let shown = shown_bytes(alloc, found)?;
-    json.text("found", shown.as_str())
+    json.member("found", shown.as_str())
 }
 
-fn write_shape(
+/// Which product or tile it is, and what was expected and found of it.
+fn write_both<V: JsonValue>(
     json: &mut JsonText,
-    product: Product,
-    expected: &Extent,
-    found: &Extent,
+    which: &str,
+    name: &str,
+    expected: V,
+    found: V,
 ) -> Result<(), AllocError> {
-    json.text("product", product.name())?;
-    write_extent(json, "expected", expected)?;
-    write_extent(json, "found", found)
+    json.member(which, name)?;
+    json.member("expected", expected)?;
+    json.member("found", found)
 }
 
-fn write_extent(json: &mut JsonText, name: &str, extent: &Extent) -> Result<(), AllocError> {
-    json.begin_object(name)?;
-    json.count("rows", u64::from(extent.rows))?;
-    json.count("cols", u64::from(extent.cols))?;
-    json.end_object()
+impl JsonValue for Extent {
+    fn append(self, json: &mut JsonText) -> Result<(), AllocError> {
+        json.begin_object_item()?;
+        json.member("rows", self.rows)?;
+        json.member("cols", self.cols)?;
+        json.end_object()
+    }
 }
 
-fn write_position(
-    json: &mut JsonText,
-    product: Product,
-    expected: &Place,
-    found: &Place,
-) -> Result<(), AllocError> {
-    json.text("product", product.name())?;
-    write_place(json, "expected", expected)?;
-    write_place(json, "found", found)
+impl JsonValue for Place {
+    /// Degrees as decimals with fifteen places: a float would lose the last of them.
+    fn append(self, json: &mut JsonText) -> Result<(), AllocError> {
+        json.begin_object_item()?;
+        json.member("ulxmap", units_text(self.ulx).as_str())?;
+        json.member("ulymap", units_text(self.uly).as_str())?;
+        json.member("xdim", units_text(self.xdim).as_str())?;
+        json.member("ydim", units_text(self.ydim).as_str())?;
+        json.end_object()
+    }
 }
 
-/// Degrees as decimals with fifteen places: a float would lose the last of them.
-fn write_place(json: &mut JsonText, name: &str, place: &Place) -> Result<(), AllocError> {
-    json.begin_object(name)?;
-    json.text("ulxmap", units_text(place.ulx).as_str())?;
-    json.text("ulymap", units_text(place.uly).as_str())?;
-    json.text("xdim", units_text(place.xdim).as_str())?;
-    json.text("ydim", units_text(place.ydim).as_str())?;
-    json.end_object()
-}
-
-fn write_tile_length(
-    json: &mut JsonText,
-    tile: TileName,
-    expected: u64,
-    found: u64,
-) -> Result<(), AllocError> {
-    json.text("tile", tile.text().as_str())?;
-    write_lengths(json, expected, found)
-}
-
-fn write_raster_length(
-    json: &mut JsonText,
-    product: Product,
-    expected: u64,
-    found: u64,
-) -> Result<(), AllocError> {
-    json.text("product", product.name())?;
-    write_lengths(json, expected, found)
-}
-
-fn write_lengths(json: &mut JsonText, expected: u64, found: u64) -> Result<(), AllocError> {
-    json.count("expected", expected)?;
-    json.count("found", found)
-}
-
-fn write_seam(json: &mut JsonText, first: &TileValue, other: &TileValue) -> Result<(), AllocError> {
-    write_value(json, "first", first)?;
-    write_value(json, "other", other)
-}
-
-/// A tile and its metres at the cell, null at a void.
-fn write_value(json: &mut JsonText, name: &str, value: &TileValue) -> Result<(), AllocError> {
-    json.begin_object(name)?;
-    json.text("tile", value.tile.text().as_str())?;
-    json.metres("metres", value.metres)?;
-    json.end_object()
-}
-
-/// The first bytes of a line, and how many the line has.
-fn write_sink_line(
-    alloc: Global,
-    json: &mut JsonText,
-    line: u64,
-    found: &[u8],
-    bytes: u64,
-) -> Result<(), AllocError> {
-    json.count("line", line)?;
-    write_shown(alloc, json, found)?;
-    json.count("bytes", bytes)
+impl JsonValue for TileValue {
+    fn append(self, json: &mut JsonText) -> Result<(), AllocError> {
+        json.begin_object_item()?;
+        json.member("tile", self.tile.text().as_str())?;
+        json.member("metres", self.metres)?;
+        json.end_object()
+    }
 }
 
 fn write_sink_cell(
@@ -190,10 +144,10 @@ fn write_sink_cell(
     col: u64,
     why: NoData,
 ) -> Result<(), AllocError> {
-    json.count("line", line)?;
-    json.count("row", row)?;
-    json.count("col", col)?;
-    json.text(
+    json.member("line", line)?;
+    json.member("row", row)?;
+    json.member("col", col)?;
+    json.member(
         "found",
         match why {
             NoData::Void => "void",

@@ -8,7 +8,7 @@ use drain_hgt::TileName;
 pub const SHOWN_BYTES: usize = 80;
 
 /// The details of a refusal beyond its line.
-#[derive(PartialEq, Eq, Debug, Drop)]
+#[derive(Drop)]
 pub enum RefusalNote {
     /// `BadSide`: the given side, where 2 to 3601 are sides.
     Side(u32),
@@ -38,7 +38,7 @@ pub enum RefusalNote {
         expected: u64,
         found: u64,
     },
-    /// `SeamMismatch`: the first tile with the cell and its value there, and the first that gives another value.
+    /// `SeamMismatch`: the first tile with data at the cell and its height there, and the first that gives another height.
     Seam {
         first: TileValue,
         other: TileValue,
@@ -60,21 +60,21 @@ pub enum RefusalNote {
 }
 
 /// Rows and columns.
-#[derive(Clone, Copy, PartialEq, Eq, Debug)]
+#[derive(Clone, Copy)]
 pub struct Extent {
     pub rows: u32,
     pub cols: u32,
 }
 
-/// The value of a tile at a cell: metres, or none at a void.
-#[derive(Clone, Copy, PartialEq, Eq, Debug)]
+/// The height of a tile at a cell.
+#[derive(Clone, Copy)]
 pub struct TileValue {
     pub tile: TileName,
-    pub metres: Option<i16>,
+    pub metres: i16,
 }
 
 /// Why a listed cell isn't a data cell.
-#[derive(Clone, Copy, PartialEq, Eq, Debug)]
+#[derive(Clone, Copy)]
 pub enum NoData {
     /// It is a void.
     Void,

@@ -1,11 +1,9 @@
 //! What was expected and found in refused inputs: a line each.
 
+use crate::names::{shown_bytes, units_text};
 use crate::refusal_note::{Extent, NoData, RefusalNote, TileValue};
-use crate::shown_bytes::shown_bytes;
-use crate::units::units_text;
 use drain_grid::{MAX_SIDE, MIN_SIDE, Product};
 use drain_header::Place;
-use drain_hgt::TileName;
 use std::alloc::{AllocError, Global};
 
 /// Appends both lines.
@@ -35,12 +33,14 @@ fn push_expected(text: &mut String, note: &RefusalNote) -> Result<(), AllocError
             expected,
             ..
         } => push_position(text, *product, expected),
-        RefusalNote::TileLength { tile, expected, .. } => push_length(text, *tile, *expected),
+        RefusalNote::TileLength { tile, expected, .. } => {
+            write!(text, "{} of {expected} bytes", tile.text())
+        }
         RefusalNote::RasterLength {
             product,
             expected,
             ..
-        } => push_raster_length(text, *product, *expected),
+        } => write!(text, "{}.bil of {expected} bytes", product.name()),
         RefusalNote::Seam { first, .. } => {
             text.push_str("one height at the cell: ")?;
             push_seam(text, first)
@@ -58,9 +58,11 @@ fn push_found(alloc: Global, text: &mut String, note: &RefusalNote) -> Result<()
         RefusalNote::Name(name) => text.push_str(shown_bytes(alloc, name)?.as_str()),
         RefusalNote::Shape { product, found, .. } => push_shape(text, *product, found),
         RefusalNote::Position { product, found, .. } => push_position(text, *product, found),
-        RefusalNote::TileLength { tile, found, .. } => push_length(text, *tile, *found),
+        RefusalNote::TileLength { tile, found, .. } => {
+            write!(text, "{} of {found} bytes", tile.text())
+        }
         RefusalNote::RasterLength { product, found, .. } => {
-            push_raster_length(text, *product, *found)
+            write!(text, "{}.bil of {found} bytes", product.name())
         }
         RefusalNote::Seam { other, .. } => push_seam(text, other),
         RefusalNote::SinkLine {
@@ -98,23 +100,9 @@ fn push_position(text: &mut String, product: Product, place: &Place) -> Result<(
     )
 }
 
-/// A tile's length in bytes.
-fn push_length(text: &mut String, tile: TileName, bytes: u64) -> Result<(), AllocError> {
-    write!(text, "{} of {bytes} bytes", tile.text())
-}
-
-/// The length of a product's raster.
-fn push_raster_length(text: &mut String, product: Product, bytes: u64) -> Result<(), AllocError> {
-    write!(text, "{}.bil of {bytes} bytes", product.name())
-}
-
-/// The value of a tile at the cell.
+/// The height of a tile at the cell.
 fn push_seam(text: &mut String, value: &TileValue) -> Result<(), AllocError> {
-    let tile = value.tile.text();
-    match value.metres {
-        Some(metres) => write!(text, "{tile} has {metres}"),
-        None => write!(text, "{tile} has a void"),
-    }
+    write!(text, "{} has {}", value.tile.text(), value.metres)
 }
 
 /// The line, and how much of it is shown, if it isn't the whole line.

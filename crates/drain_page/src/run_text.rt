@@ -13,7 +13,13 @@ pub(crate) fn push_run(text: &mut String, from: Cell, run: &EndlessRun) -> Resul
     )?;
     match run {
         EndlessRun::Ring { cells, length } => push_ring(text, cells, *length),
-        EndlessRun::Lost { cell, by } => push_lost(text, *cell, *by),
+        EndlessRun::Lost { cell, by } => writeln!(
+            text,
+            "\n  path stops at row {}, column {}: {}",
+            cell.row,
+            cell.col,
+            why_lost(*by)
+        ),
     }
 }
 
@@ -30,16 +36,11 @@ fn push_ring(text: &mut String, cells: &[Cell], length: usize) -> Result<(), All
     }
 }
 
-/// The cell where it stops, and why.
-fn push_lost(text: &mut String, cell: Cell, by: LostBy) -> Result<(), AllocError> {
-    let why = match by {
+/// Why a path stops.
+fn why_lost(by: LostBy) -> &'static str {
+    match by {
         LostBy::NoCode => "dir is no direction code",
         LostBy::Outside => "dir points outside the mosaic",
         LostBy::Void => "dir points to a void",
-    };
-    writeln!(
-        text,
-        "\n  path stops at row {}, column {}: {why}",
-        cell.row, cell.col
-    )
+    }
 }

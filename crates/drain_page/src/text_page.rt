@@ -3,7 +3,6 @@
 ghost use Rattle.std.specs.Prelude.{◌≡◌, ◌++◌, ◌∷◌, ℕ, List, IfOk};
 ghost use Rattle.drain_page.specs.Lines.{line_of};
 
-use crate::answer_line::answer_line;
 use crate::facts::{Facts, Findings};
 use crate::patch_text::push_first;
 use crate::refusal_text::push_refusal;
@@ -27,7 +26,7 @@ fn page(alloc: Global, facts: &Facts) -> Result<Vec<u8>, AllocError>
     ensures line_first { IfOk result (λ text. (rest : List ℕ) × (text.items ≡ line_of facts.now.answer ++ 10 ∷ rest)) }
 {
     let mut text = Vec::new(alloc);
-    text.extend_from_slice(answer_line(&facts.answer).as_str().as_bytes())?;
+    text.extend_from_slice(facts.answer.line().as_str().as_bytes())?;
     text.push(b'\n')?;
     let rest = explanation(alloc, facts)?;
     text.extend_from_slice(rest.as_bytes())?;

@@ -1,4 +1,4 @@
-//! What the first rule that fails at a cell expected there.
+//! Which rules and products are looked at, and what the first rule that fails at a cell expected there.
 
 use crate::least_way::greatest_allowed;
 use crate::opening::{Opening, opening_of};
@@ -9,7 +9,7 @@ use drain_slope::key;
 use std::alloc::{AllocError, Global};
 
 /// A way down: how far, and its key.
-#[derive(Clone, Copy, PartialEq, Eq, Debug)]
+#[derive(Clone, Copy)]
 pub struct WayDown {
     pub direction: Direction,
     pub drop: i64,
@@ -17,7 +17,7 @@ pub struct WayDown {
 }
 
 /// What a rule expected at a cell.
-#[derive(PartialEq, Eq, Debug, Drop)]
+#[derive(Drop)]
 pub enum Wanted {
     /// `VoidCell`: the no-data number of these products.
     Blank(Vec<Held>),
@@ -73,7 +73,10 @@ pub fn wanted_by(
         Rule::NotLeast => Wanted::AtMost(greatest_allowed(patch)),
         Rule::Slope => Wanted::Steepest(ways_down(alloc, patch)?),
         Rule::OutletCode => Wanted::Outlet(opening_of(patch)),
-        Rule::FlatStep => along(alloc, patch, rules.ranks)?,
+        Rule::FlatStep => Wanted::Along {
+            directions: flat_ways(alloc, patch, rules.ranks)?,
+            ranks: rules.ranks,
+        },
         Rule::Accumulation => Wanted::Sum(drain_accum::expected(patch)),
         Rule::Label => Wanted::Label(expected_label(patch)),
         Rule::SharedLabel => Wanted::NewLabel,
@@ -95,6 +98,11 @@ fn products(
         }
     }
     Ok(products)
+}
+
+/// Whether a check or an audit has this rule: those of spill parents need a product that neither has.
+pub fn is_tried(rule: Rule) -> bool {
+    !matches!(rule, Rule::NoSpill | Rule::SpillHeight | Rule::SpillRank)
 }
 
 /// The products that the rules look at.
@@ -133,10 +141,9 @@ fn ways_down(alloc: Global, patch: &Patch) -> Result<Vec<WayDown>, AllocError> {
     for direction in Direction::ALL {
         let key = key(patch, direction);
         if key != 0 {
-            let drop = drop_to(patch, direction);
             ways.push(WayDown {
                 direction,
-                drop,
+                drop: drop_to(patch, direction),
                 key,
             })?;
         }
@@ -157,14 +164,14 @@ fn difference(here: &CellValues, there: &CellValues) -> i64 {
 }
 
 /// The directions that rule FlatStep allows.
-fn along(alloc: Global, patch: &Patch, ranks: Ranks) -> Result<Wanted, AllocError> {
+fn flat_ways(alloc: Global, patch: &Patch, ranks: Ranks) -> Result<Vec<Direction>, AllocError> {
     let mut directions = Vec::new(alloc);
     for direction in Direction::ALL {
         if is_flat_way(patch, direction, ranks) {
             directions.push(direction)?;
         }
     }
-    Ok(Wanted::Along { directions, ranks })
+    Ok(directions)
 }
 
 /// The greatest key of these ways, 0 if there is none.

@@ -1,11 +1,10 @@
 //! What the first rule expected at the first cell at which any fails, as JSON.
 
 use crate::facts::Findings;
-use crate::json_text::JsonText;
+use crate::json_text::{JsonText, JsonValue};
 use crate::opening::Opening;
 use crate::wanted::{Wanted, WayDown, number, steepest, wanted_by};
 use crate::wanted_text::found_product;
-use drain_faults::FaultyPatch;
 use drain_grid::{CellValues, Direction, Held, Rule};
 use std::alloc::{AllocError, Global};
 
@@ -18,18 +17,9 @@ pub(crate) fn write_wanted(
     json: &mut JsonText,
     findings: &Findings,
 ) -> Result<(), AllocError> {
-    match &findings.first {
-        Some(first) => write_wanted_at(alloc, json, findings, first),
-        None => json.null("expected"),
-    }
-}
-
-fn write_wanted_at(
-    alloc: Global,
-    json: &mut JsonText,
-    findings: &Findings,
-    first: &FaultyPatch,
-) -> Result<(), AllocError> {
+    let Some(first) = &findings.first else {
+        return json.null("expected");
+    };
     let wanted = wanted_by(alloc, first.rule, &first.patch, &findings.rules)?;
     write_wanted_by(json, first.rule, &first.patch.here, &wanted)
 }
@@ -41,14 +31,14 @@ fn write_wanted_by(
     wanted: &Wanted,
 ) -> Result<(), AllocError> {
     json.begin_object("expected")?;
-    json.count("rule", u64::from(rule.number()))?;
-    json.text("name", rule.name())?;
+    json.member("rule", rule.number())?;
+    json.member("name", rule.name())?;
     write_found(json, here, found_product(wanted))?;
-    json.number_or_null("number", expected_number(wanted))?;
-    write_products(json, wanted)?;
+    json.member("number", expected_number(wanted))?;
+    json.list("products", products_at_fault(wanted))?;
     write_codes(json, wanted)?;
-    write_ways(json, wanted)?;
-    write_opening(json, wanted)?;
+    json.list("ways", ways_down(wanted))?;
+    json.member("open", opening(wanted))?;
     json.end_object()
 }
 
@@ -58,15 +48,10 @@ fn write_found(
     here: &CellValues,
     product: Option<Held>,
 ) -> Result<(), AllocError> {
+    json.member("product", product)?;
     match product {
-        Some(held) => {
-            json.text("product", held.product().name())?;
-            json.number("found", number(here, held))
-        }
-        None => {
-            json.null("product")?;
-            json.null("found")
-        }
+        Some(held) => json.member("found", number(here, held)),
+        None => json.null("found"),
     }
 }
 
@@ -84,98 +69,72 @@ fn expected_number(wanted: &Wanted) -> Option<i64> {
 }
 
 /// The products at fault, of rules VoidCell and Missing.
-fn write_products(json: &mut JsonText, wanted: &Wanted) -> Result<(), AllocError> {
-    json.begin_list("products")?;
-    if let Wanted::Blank(products) | Wanted::Numbers(products) = wanted {
-        write_names(json, products)?;
+fn products_at_fault(wanted: &Wanted) -> &[Held] {
+    match wanted {
+        Wanted::Blank(products) | Wanted::Numbers(products) => products,
+        _ => &[],
     }
-    json.end_list()
-}
-
-fn write_names(json: &mut JsonText, products: &[Held]) -> Result<(), AllocError> {
-    for held in products {
-        json.text_item(held.product().name())?;
-    }
-    Ok(())
 }
 
 /// The allowed codes, if dir is at fault.
 fn write_codes(json: &mut JsonText, wanted: &Wanted) -> Result<(), AllocError> {
-    json.begin_list("codes")?;
-    write_each_code(json, wanted)?;
-    json.end_list()
-}
-
-fn write_each_code(json: &mut JsonText, wanted: &Wanted) -> Result<(), AllocError> {
     match wanted {
-        Wanted::Code => write_every_code(json),
-        Wanted::Outlet(_) => json.number_item(0),
-        Wanted::Along { directions, .. } => write_directions(json, directions),
+        Wanted::Code => json.list("codes", &CODES),
+        Wanted::Outlet(_) => json.list("codes", &[0_i64]),
+        Wanted::Along { directions, .. } => json.list("codes", directions),
         Wanted::Steepest(ways) => write_steepest(json, ways),
-        _ => Ok(()),
+        _ => json.list::<i64>("codes", &[]),
     }
-}
-
-fn write_every_code(json: &mut JsonText) -> Result<(), AllocError> {
-    for code in CODES {
-        json.number_item(code)?;
-    }
-    Ok(())
-}
-
-fn write_directions(json: &mut JsonText, directions: &[Direction]) -> Result<(), AllocError> {
-    for direction in directions {
-        json.number_item(direction.code())?;
-    }
-    Ok(())
 }
 
 fn write_steepest(json: &mut JsonText, ways: &[WayDown]) -> Result<(), AllocError> {
     let steepest = steepest(ways);
+    json.begin_list("codes")?;
     for way in ways {
         if way.key == steepest {
-            json.number_item(way.direction.code())?;
+            way.direction.append(json)?;
         }
-    }
-    Ok(())
-}
-
-/// The ways down, of rule Slope.
-fn write_ways(json: &mut JsonText, wanted: &Wanted) -> Result<(), AllocError> {
-    json.begin_list("ways")?;
-    if let Wanted::Steepest(ways) = wanted {
-        write_each_way(json, ways)?;
     }
     json.end_list()
 }
 
-fn write_each_way(json: &mut JsonText, ways: &[WayDown]) -> Result<(), AllocError> {
-    for way in ways {
-        write_way(json, way)?;
+/// The ways down, of rule Slope.
+fn ways_down(wanted: &Wanted) -> &[WayDown] {
+    match wanted {
+        Wanted::Steepest(ways) => ways,
+        _ => &[],
     }
-    Ok(())
-}
-
-fn write_way(json: &mut JsonText, way: &WayDown) -> Result<(), AllocError> {
-    json.begin_object_item()?;
-    json.number("code", way.direction.code())?;
-    json.number("drop", way.drop)?;
-    json.long("key", way.key)?;
-    json.end_object()
 }
 
 /// Why the cell is open, if that is the reason of the rule.
-fn write_opening(json: &mut JsonText, wanted: &Wanted) -> Result<(), AllocError> {
-    match opening(wanted) {
-        Some(opening) => json.text("open", opening.name()),
-        None => json.null("open"),
-    }
-}
-
 fn opening(wanted: &Wanted) -> Option<Opening> {
     match wanted {
         Wanted::Ground { open, .. } => *open,
         Wanted::Outlet(open) => *open,
         _ => None,
+    }
+}
+
+impl JsonValue for WayDown {
+    fn append(self, json: &mut JsonText) -> Result<(), AllocError> {
+        json.begin_object_item()?;
+        json.member("code", self.direction)?;
+        json.member("drop", self.drop)?;
+        json.member("key", self.key)?;
+        json.end_object()
+    }
+}
+
+/// A direction, by its code.
+impl JsonValue for Direction {
+    fn append(self, json: &mut JsonText) -> Result<(), AllocError> {
+        self.code().append(json)
+    }
+}
+
+/// Why a cell is open, by a word.
+impl JsonValue for Opening {
+    fn append(self, json: &mut JsonText) -> Result<(), AllocError> {
+        self.name().append(json)
     }
 }

@@ -1,27 +1,30 @@
 //! What the first rule expected, in words: a line of what was expected, lines of ways if there are several, and a line
 //! of what was found.
 
-use crate::names::{letters, shown_code, shown_number};
+use crate::names::{shown_code, shown_number, shown_rule};
 use crate::opening::Opening;
 use crate::wanted::{Wanted, WayDown, steepest};
-use drain_grid::{Direction, Held, NoData, Patch, Rule};
+use drain_faults::FaultyPatch;
+use drain_grid::{Direction, Held, NoData};
 use drain_rules::Ranks;
 use std::alloc::AllocError;
 
 /// Appends the rule and these lines.
 pub(crate) fn push_wanted(
     text: &mut String,
-    rule: Rule,
-    patch: &Patch,
+    first: &FaultyPatch,
     nodata: &NoData,
     wanted: &Wanted,
 ) -> Result<(), AllocError> {
-    write!(text, "rule {} {}\nexpected: ", rule.number(), rule.name())?;
+    write!(text, "rule {}\nexpected: ", shown_rule(first.rule))?;
     push_expected(text, wanted)?;
     text.push_str("\n")?;
     push_ways(text, wanted)?;
     match found_product(wanted) {
-        Some(held) => push_found(text, patch, nodata, held),
+        Some(held) => {
+            let number = shown_number(&first.patch.here, held, nodata);
+            writeln!(text, "found: {} {number}", held.product().name())
+        }
         None => Ok(()),
     }
 }
@@ -66,16 +69,6 @@ pub(crate) fn found_product(wanted: &Wanted) -> Option<Held> {
     }
 }
 
-fn push_found(
-    text: &mut String,
-    patch: &Patch,
-    nodata: &NoData,
-    held: Held,
-) -> Result<(), AllocError> {
-    let number = shown_number(&patch.here, held, nodata);
-    writeln!(text, "found: {} {}", held.product().name(), number.as_str())
-}
-
 /// These words and the products' names.
 fn push_products(text: &mut String, words: &str, products: &[Held]) -> Result<(), AllocError> {
     text.push_str(words)?;
@@ -111,34 +104,21 @@ fn push_along(text: &mut String, directions: &[Direction], ranks: Ranks) -> Resu
     text.push_str(if separator == "" { "none" } else { "" })
 }
 
-/// A line for each way down, if a steepest was expected.
+/// A line for each way down with its direction, drop and key, if a steepest was expected.
 fn push_ways(text: &mut String, wanted: &Wanted) -> Result<(), AllocError> {
-    match wanted {
-        Wanted::Steepest(ways) => push_each_way(text, ways),
-        _ => Ok(()),
-    }
-}
-
-fn push_each_way(text: &mut String, ways: &[WayDown]) -> Result<(), AllocError> {
+    let Wanted::Steepest(ways) = wanted else {
+        return Ok(());
+    };
     let steepest = steepest(ways);
     for way in ways {
-        push_way(text, way, way.key == steepest)?;
+        let WayDown {
+            direction,
+            drop,
+            key,
+        } = *way;
+        let word = shown_code(direction.code());
+        let end = if key == steepest { ", steepest" } else { "" };
+        writeln!(text, "  {word}: drop {drop}, key {key}{end}")?;
     }
     Ok(())
-}
-
-/// A way's direction, drop and key.
-fn push_way(text: &mut String, way: &WayDown, is_steepest: bool) -> Result<(), AllocError> {
-    let WayDown {
-        direction,
-        drop,
-        key,
-    } = *way;
-    let end = if is_steepest { ", steepest" } else { "" };
-    writeln!(
-        text,
-        "  {} {}: drop {drop}, key {key}{end}",
-        letters(direction),
-        direction.code()
-    )
 }

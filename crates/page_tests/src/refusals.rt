@@ -76,11 +76,8 @@ fn facts(alloc: Global, kind: usize) -> Result<Facts, Fail> {
         6 => refused(
             Refusal::SeamMismatch(Cell { row: 2, col: 0 }),
             RefusalNote::Seam {
-                first: TileValue {
-                    tile,
-                    metres: Some(-3),
-                },
-                other: TileValue { tile, metres: None },
+                first: TileValue { tile, metres: -3 },
+                other: TileValue { tile, metres: 120 },
             },
         ),
         7 => refused(
@@ -151,8 +148,8 @@ static WANTED: [(&str, &str); 12] = [
         r#""refusal":{"about":"raster_length","product":"rnk","expected":36,"found":0},"rows""#,
     ),
     (
-        "\nexpected: one height at the cell: N36W085.hgt has -3\nfound: N36W085.hgt has a void\n",
-        r#""refusal":{"about":"seam","first":{"tile":"N36W085.hgt","metres":-3},"other":{"tile":"N36W085.hgt","metres":null}},"rows""#,
+        "\nexpected: one height at the cell: N36W085.hgt has -3\nfound: N36W085.hgt has 120\n",
+        r#""refusal":{"about":"seam","first":{"tile":"N36W085.hgt","metres":-3},"other":{"tile":"N36W085.hgt","metres":120}},"rows""#,
     ),
     (
         "\nexpected: line 2: a row and a column, such as 12 7\nfound: line 2: 1\\x092\n",

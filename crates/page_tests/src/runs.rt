@@ -10,8 +10,8 @@ use std::alloc::Global;
 use std::test::Fail;
 
 /// The facts of an audit in which the path of row 0, column 3 doesn't end.
-fn no_end(run: EndlessRun) -> Result<Facts, Fail> {
-    let mut findings = no_fault(Ranks::Unasked)?;
+fn no_end(alloc: Global, run: EndlessRun) -> Result<Facts, Fail> {
+    let mut findings = no_fault(alloc, Ranks::Unasked)?;
     findings.endless = Some((Cell { row: 0, col: 3 }, run));
     Ok(Facts {
         answer: Answer::Audit(Ok(AuditVerdict::NoEnd { row: 0, col: 3 })),
@@ -24,7 +24,7 @@ fn no_end(run: EndlessRun) -> Result<Facts, Fail> {
 fn ring(alloc: Global, length: usize) -> Result<Facts, Fail> {
     let told = [Cell { row: 1, col: 1 }, Cell { row: 1, col: 2 }];
     let cells = told.to_vec(alloc)?;
-    no_end(EndlessRun::Ring { cells, length })
+    no_end(alloc, EndlessRun::Ring { cells, length })
 }
 
 /// A case of a ring, how many cells it has, and its text.
@@ -78,19 +78,17 @@ static LOST: [(LostBy, &str, &str); 3] = [
 static LOST_AS_JSON: &str =
     r#""ring":null,"lost":{"cell":{"row":3,"col":0,"longitude":-105.0,"latitude":37.0},"by":""#;
 
-fn lost(by: LostBy) -> Result<Facts, Fail> {
-    no_end(EndlessRun::Lost {
-        cell: Cell { row: 3, col: 0 },
-        by,
-    })
+fn lost(alloc: Global, by: LostBy) -> Result<Facts, Fail> {
+    let cell = Cell { row: 3, col: 0 };
+    no_end(alloc, EndlessRun::Lost { cell, by })
 }
 
 #[test]
 fn lost_runs(rt: HostRuntime) -> Result<(), Fail> {
     for (by, words, name) in &LOST {
-        text_has(&rt, rt.alloc(), name, lost(*by)?, words)?;
-        json_has(&rt, rt.alloc(), name, lost(*by)?, LOST_AS_JSON)?;
-        json_has(&rt, rt.alloc(), name, lost(*by)?, name)?;
+        text_has(&rt, rt.alloc(), name, lost(rt.alloc(), *by)?, words)?;
+        json_has(&rt, rt.alloc(), name, lost(rt.alloc(), *by)?, LOST_AS_JSON)?;
+        json_has(&rt, rt.alloc(), name, lost(rt.alloc(), *by)?, name)?;
     }
     Ok(())
 }

@@ -4,6 +4,7 @@ use crate::worked::{Numbers, cell, json_has, one_fault, rejected, text_has, valu
 use drain_grid::{CellValues, Patch, Rule};
 use drain_page::Facts;
 use drain_rules::Ranks;
+use std::alloc::Global;
 use std::test::Fail;
 
 /// A cell with a fault, and the end of its page as text, and the part of it in JSON.
@@ -187,15 +188,15 @@ fn patch(row: &Row) -> Result<Patch, &'static str> {
     })
 }
 
-fn facts(row: &Row) -> Result<Facts, &'static str> {
-    let findings = one_fault(row.rule, row.ranks, patch(row)?)?;
+fn facts(alloc: Global, row: &Row) -> Result<Facts, &'static str> {
+    let findings = one_fault(alloc, row.rule, row.ranks, patch(row)?)?;
     Ok(rejected(row.rule, 1, 2, findings))
 }
 
 #[test]
 fn each_rule_in_words(rt: HostRuntime) -> Result<(), Fail> {
     for row in &ROWS {
-        text_has(&rt, rt.alloc(), row.case, facts(row)?, row.text)?;
+        text_has(&rt, rt.alloc(), row.case, facts(rt.alloc(), row)?, row.text)?;
     }
     Ok(())
 }
@@ -203,17 +204,18 @@ fn each_rule_in_words(rt: HostRuntime) -> Result<(), Fail> {
 #[test]
 fn each_rule_as_json(rt: HostRuntime) -> Result<(), Fail> {
     for row in &ROWS {
-        json_has(&rt, rt.alloc(), row.case, facts(row)?, row.json)?;
+        json_has(&rt, rt.alloc(), row.case, facts(rt.alloc(), row)?, row.json)?;
     }
     Ok(())
 }
 
 /// A raised open cell with this in the north.
-fn open_beside(north: Option<CellValues>) -> Result<Facts, &'static str> {
+fn open_beside(alloc: Global, north: Option<CellValues>) -> Result<Facts, &'static str> {
     let mut around = [Some(cell(9, false, (9, 0, 1, 7, 9))?); 8];
     around[6] = north;
     let here = cell(5, false, (6, 0, 1, 7, 9))?;
-    let findings = one_fault(Rule::OpenRaised, Ranks::Asked, Patch { here, around })?;
+    let patch = Patch { here, around };
+    let findings = one_fault(alloc, Rule::OpenRaised, Ranks::Asked, patch)?;
     Ok(rejected(Rule::OpenRaised, 1, 2, findings))
 }
 
@@ -235,13 +237,14 @@ static OPEN: [(&str, bool, &str); 2] = [
 fn why_cells_are_open(rt: HostRuntime) -> Result<(), Fail> {
     for &(case, beside_a_void, expected) in &OPEN {
         let north = if beside_a_void { Some(void()?) } else { None };
-        text_has(&rt, rt.alloc(), case, open_beside(north)?, expected)?;
+        let facts = open_beside(rt.alloc(), north)?;
+        text_has(&rt, rt.alloc(), case, facts, expected)?;
     }
     Ok(())
 }
 
 /// A void with numbers of its own.
-fn numbered_void(ranks: Ranks) -> Result<Facts, &'static str> {
+fn numbered_void(alloc: Global, ranks: Ranks) -> Result<Facts, &'static str> {
     let patch = Patch {
         here: values(None, false, (4, 255, 0, 0, 3), 255)?,
         around: [None; 8],
@@ -250,7 +253,7 @@ fn numbered_void(ranks: Ranks) -> Result<Facts, &'static str> {
         Rule::VoidCell,
         1,
         2,
-        one_fault(Rule::VoidCell, ranks, patch)?,
+        one_fault(alloc, Rule::VoidCell, ranks, patch)?,
     ))
 }
 
@@ -271,7 +274,8 @@ static NUMBERED: [(&str, Ranks, &str); 2] = [
 #[test]
 fn voids_with_numbers(rt: HostRuntime) -> Result<(), Fail> {
     for &(case, ranks, expected) in &NUMBERED {
-        text_has(&rt, rt.alloc(), case, numbered_void(ranks)?, expected)?;
+        let facts = numbered_void(rt.alloc(), ranks)?;
+        text_has(&rt, rt.alloc(), case, facts, expected)?;
     }
     Ok(())
 }

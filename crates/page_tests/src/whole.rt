@@ -10,6 +10,7 @@ use drain_faults::FaultyPatch;
 use drain_grid::{Cell, Patch, Rule};
 use drain_page::{Answer, Facts, Findings};
 use drain_rules::{Counts, Ranks, Verdict};
+use std::alloc::Global;
 use std::test::Fail;
 
 /// The ground of four neighbours from the east on, whether each is a listed sink, and its numbers.
@@ -31,8 +32,8 @@ fn edge() -> Result<Patch, &'static str> {
     Ok(Patch { here, around })
 }
 
-fn two_rules() -> Result<Findings, &'static str> {
-    let mut findings = no_fault(Ranks::Asked)?;
+fn two_rules(alloc: Global) -> Result<Findings, &'static str> {
+    let mut findings = no_fault(alloc, Ranks::Asked)?;
     findings.by_rule.missing = cells(2, 0, 1);
     findings.by_rule.slope = cells(1, 2, 0);
     findings.by_product.acc = product(no_cell(), cells(2, 0, 1));
@@ -46,13 +47,13 @@ fn two_rules() -> Result<Findings, &'static str> {
 
 #[test]
 fn a_whole_text(rt: HostRuntime) -> Result<(), Fail> {
-    let facts = rejected(Rule::Missing, 0, 1, two_rules()?);
+    let facts = rejected(Rule::Missing, 0, 1, two_rules(rt.alloc())?);
     text_is(&rt, rt.alloc(), "two rules", facts, TEXT)
 }
 
 #[test]
 fn a_whole_json(rt: HostRuntime) -> Result<(), Fail> {
-    let facts = rejected(Rule::Missing, 0, 1, two_rules()?);
+    let facts = rejected(Rule::Missing, 0, 1, two_rules(rt.alloc())?);
     let json = json_of(rt.alloc(), &facts)?;
     let line = json.strip_suffix("\n").unwrap_or("no line end");
     same_text(&rt, "two rules", line, JSON);
@@ -60,7 +61,7 @@ fn a_whole_json(rt: HostRuntime) -> Result<(), Fail> {
 }
 
 /// The facts of an acceptance.
-fn accepted() -> Result<Facts, &'static str> {
+fn accepted(alloc: Global) -> Result<Facts, &'static str> {
     let counts = Counts {
         rows: 4,
         cols: 4,
@@ -71,7 +72,7 @@ fn accepted() -> Result<Facts, &'static str> {
     Ok(Facts {
         answer: Answer::Audit(Ok(AuditVerdict::Accepted(counts))),
         refusal: None,
-        findings: Some(no_fault(Ranks::Unasked)?),
+        findings: Some(no_fault(alloc, Ranks::Unasked)?),
     })
 }
 
@@ -85,7 +86,8 @@ ranks: not checked
 
 #[test]
 fn an_acceptance(rt: HostRuntime) -> Result<(), Fail> {
-    text_is(&rt, rt.alloc(), "an acceptance", accepted()?, ACCEPTED)
+    let facts = accepted(rt.alloc())?;
+    text_is(&rt, rt.alloc(), "an acceptance", facts, ACCEPTED)
 }
 
 /// The facts of a refusal without details.

@@ -3,19 +3,25 @@
 
 use crate::agree::{has, same_text};
 use drain_faults::{FaultyPatch, PerRule, ProductFaults, RuleFaults};
-use drain_grid::{Cell, CellValues, NoData, Patch, PerProduct, Rule, Shape};
-use drain_page::{Answer, Facts, Findings, MosaicPlace, page_json, page_text};
+use drain_grid::{Cell, CellValues, NoData, Patch, PerProduct, Rule};
+use drain_hgt::TileName;
+use drain_mosaic::Layout;
+use drain_page::{Answer, Facts, Findings, page_json, page_text};
 use drain_rules::{Ranks, Rules, Verdict};
 use std::alloc::Global;
 use std::process::Abort;
 use std::test::Fail;
 
-/// Its place.
-pub const PLACE: MosaicPlace = MosaicPlace {
-    north: 38,
-    west: -105,
-    steps: 3,
-};
+/// Its one tile, of side 4.
+fn layout(alloc: Global) -> Result<Layout, &'static str> {
+    let Ok(tile) = TileName::parse(b"N37W105.hgt") else {
+        return Err("a tile");
+    };
+    match Layout::new(alloc, 4, &[tile]) {
+        Ok(layout) => Ok(layout),
+        Err(_) => Err("a mosaic"),
+    }
+}
 
 /// The numbers of con, dir, acc, bas and rnk.
 pub type Numbers = (i64, i64, i64, i64, i64);
@@ -66,13 +72,9 @@ pub fn product(at_voids: RuleFaults, at_data: RuleFaults) -> ProductFaults {
 }
 
 /// Findings with no fault.
-pub fn no_fault(ranks: Ranks) -> Result<Findings, &'static str> {
-    let Some(shape) = Shape::new(4, 4) else {
-        return Err("a shape");
-    };
+pub fn no_fault(alloc: Global, ranks: Ranks) -> Result<Findings, &'static str> {
     Ok(Findings {
-        place: PLACE,
-        shape,
+        layout: layout(alloc)?,
         rules: Rules {
             nodata: NoData::defaults(),
             ranks,
@@ -91,8 +93,13 @@ pub fn no_fault(ranks: Ranks) -> Result<Findings, &'static str> {
 }
 
 /// Findings with one fault of this rule, at this patch.
-pub fn one_fault(rule: Rule, ranks: Ranks, patch: Patch) -> Result<Findings, &'static str> {
-    let mut findings = no_fault(ranks)?;
+pub fn one_fault(
+    alloc: Global,
+    rule: Rule,
+    ranks: Ranks,
+    patch: Patch,
+) -> Result<Findings, &'static str> {
+    let mut findings = no_fault(alloc, ranks)?;
     set(&mut findings.by_rule, rule, cells(1, 1, 2));
     findings.first = Some(FaultyPatch {
         cell: Cell { row: 1, col: 2 },

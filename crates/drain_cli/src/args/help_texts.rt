@@ -1,5 +1,40 @@
 //! The help texts: what each command does, the lines it prints, its exit statuses and its arguments.
 
+/// What an audit or a check does, over this number of rasters.
+macro_rules! judged_about {
+    ($number:literal, $about:literal) => {
+        concat!("Reads elevation tiles (SRTM .hgt files of one side, named like N37W105.hgt) and ",
+            $number, " rasters of their
+mosaic, each a BIL file with a header in the folder DIR: DIR/con.hdr and DIR/con.bil, and so on.
+
+  con    filled (conditioned) elevation, in metres
+  dir    flow direction codes: 0 at an outlet, else 1 E, 2 SE, 4 S, 8 SW, 16 W, 32 NW, 64 N, 128 NE
+  acc    flow accumulation: the number of cells that drain through the cell, itself included
+  bas    basin labels, one for each outlet
+", $about, "
+
+A listed sink is a data cell where water may end inland, as in a lake without an outlet. Its line in FILE
+is its row and its column, counted from 0 at the north-west corner of the mosaic.")
+    };
+}
+
+/// The lines and exit statuses of the command of this name, an audit or a check, around its lines of a rejection.
+macro_rules! judged_after {
+    ($rejected:literal, $name:literal) => {
+        concat!("Lines and exit statuses:
+  0  accepted rows=R cols=C data=D raised=U outlets=O
+  1  ", $rejected, "
+  2  refused BadSide, refused BadName I, refused NoTiles, refused RepeatedTile TILE, refused BoxTooLarge,
+     refused BadHeader PRODUCT FAULT (a fault of drain header), refused WrongShape PRODUCT,
+     refused Misplaced PRODUCT, refused BadTileLength TILE, refused RasterShort PRODUCT,
+     refused SeamMismatch row=R col=C, refused BadSinkLine LINE, refused SinkNotData LINE
+  3  failed Open PATH, failed ReadFailed, failed OutOfMemory, or standard output couldn't be written
+
+Example:
+  drain ", $name, " --side 1201 --products rasters N37W105.hgt N37W106.hgt")
+    };
+}
+
 pub const ABOUT: &str =
     "Checks drainage rasters computed from SRTM elevation tiles, and makes them. What an acceptance \
     means is proved, whichever tool made the rasters.";
@@ -7,70 +42,40 @@ pub const ABOUT: &str =
 pub const AUDIT_ABOUT: &str =
     "Audit the four rasters of a mosaic, whichever tool made them, against its tiles";
 
-pub const AUDIT_LONG_ABOUT: &str =
-    "Reads elevation tiles (SRTM .hgt files of one side, named like N37W105.hgt) and four rasters of their
-mosaic, each a BIL file with a header in the folder DIR: DIR/con.hdr and DIR/con.bil, and so on.
-
-  con    filled (conditioned) elevation, in metres
-  dir    flow direction codes: 0 at an outlet, else 1 E, 2 SE, 4 S, 8 SW, 16 W, 32 NW, 64 N, 128 NE
-  acc    flow accumulation: the number of cells that drain through the cell, itself included
-  bas    basin labels, one for each outlet
-
+pub const AUDIT_LONG_ABOUT: &str = judged_about!(
+    "four",
+    "
 Accepts the rasters if and only if they are correct: con is the lowest surface above the tiles from which
 water reaches an edge, a void or a listed sink, no direction climbs, every path of directions ends at an
 outlet, acc is the number of cells upstream, and two cells have the same label exactly if they drain to the
 same outlet. What is rejected is not correct. Ranks, which drain check needs, are not opened. One byte is
-held for each cell. All files are opened first. Prints one line.
+held for each cell. All files are opened first. Prints one line."
+);
 
-A listed sink is a data cell where water may end inland, as in a lake without an outlet. Its line in FILE
-is its row and its column, counted from 0 at the north-west corner of the mosaic.";
-
-pub const AUDIT_AFTER: &str = "Lines and exit statuses:
-  0  accepted rows=R cols=C data=D raised=U outlets=O
-  1  rejected NoEnd row=R col=C              the first cell whose path of directions does not end at a code 0
-     rejected rule=N NAME row=R col=C        if all paths end: the first rule that fails, at the first cell
-  2  refused BadSide, refused BadName I, refused NoTiles, refused RepeatedTile TILE, refused BoxTooLarge,
-     refused BadHeader PRODUCT FAULT (a fault of drain header), refused WrongShape PRODUCT,
-     refused Misplaced PRODUCT, refused BadTileLength TILE, refused RasterShort PRODUCT,
-     refused SeamMismatch row=R col=C, refused BadSinkLine LINE, refused SinkNotData LINE
-  3  failed Open PATH, failed ReadFailed, failed OutOfMemory, or standard output couldn't be written
-
-Example:
-  drain audit --side 1201 --products rasters N37W105.hgt N37W106.hgt";
+pub const AUDIT_AFTER: &str = judged_after!(
+    "rejected NoEnd row=R col=C              the first cell whose path of directions does not end at a code 0
+     rejected rule=N NAME row=R col=C        if all paths end: the first rule that fails, at the first cell",
+    "audit"
+);
 
 pub const CHECK_ABOUT: &str =
     "Check the four rasters of a mosaic and a certificate of ranks against its tiles";
 
-pub const CHECK_LONG_ABOUT: &str =
-    "Reads elevation tiles (SRTM .hgt files of one side, named like N37W105.hgt) and five rasters of their
-mosaic, each a BIL file with a header in the folder DIR: DIR/con.hdr and DIR/con.bil, and so on.
-
-  con    filled (conditioned) elevation, in metres
-  dir    flow direction codes: 0 at an outlet, else 1 E, 2 SE, 4 S, 8 SW, 16 W, 32 NW, 64 N, 128 NE
-  acc    flow accumulation: the number of cells that drain through the cell, itself included
-  bas    basin labels, one for each outlet
-  rnk    ranks, a certificate: they fall along directions that cross a flat
+pub const CHECK_LONG_ABOUT: &str = judged_about!(
+    "five",
+    "  rnk    ranks, a certificate: they fall along directions that cross a flat
 
 What it accepts is correct: con is the lowest surface above the tiles from which water reaches an edge, a
 void or a listed sink, no direction climbs, every path of directions ends at an outlet, acc is the number
 of cells upstream, and two cells have the same label exactly if they drain to the same outlet. Poor ranks
 are rejected too: for rasters without ranks use drain audit. Three rows are held in memory, whatever the
-size of the mosaic. All files are opened first. Prints one line.
+size of the mosaic. All files are opened first. Prints one line."
+);
 
-A listed sink is a data cell where water may end inland, as in a lake without an outlet. Its line in FILE
-is its row and its column, counted from 0 at the north-west corner of the mosaic.";
-
-pub const CHECK_AFTER: &str = "Lines and exit statuses:
-  0  accepted rows=R cols=C data=D raised=U outlets=O
-  1  rejected rule=N NAME row=R col=C        the first rule that fails, at the first cell
-  2  refused BadSide, refused BadName I, refused NoTiles, refused RepeatedTile TILE, refused BoxTooLarge,
-     refused BadHeader PRODUCT FAULT (a fault of drain header), refused WrongShape PRODUCT,
-     refused Misplaced PRODUCT, refused BadTileLength TILE, refused RasterShort PRODUCT,
-     refused SeamMismatch row=R col=C, refused BadSinkLine LINE, refused SinkNotData LINE
-  3  failed Open PATH, failed ReadFailed, failed OutOfMemory, or standard output couldn't be written
-
-Example:
-  drain check --side 1201 --products rasters N37W105.hgt N37W106.hgt";
+pub const CHECK_AFTER: &str = judged_after!(
+    "rejected rule=N NAME row=R col=C        the first rule that fails, at the first cell",
+    "check"
+);
 
 pub const MAKE_ABOUT: &str = "Make the four rasters of a mosaic, and ranks, from its tiles";
 

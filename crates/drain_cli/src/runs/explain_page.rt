@@ -6,6 +6,7 @@ use crate::print::print_text;
 use crate::runs::no_page::{NoPage, print_no_page};
 use crate::status::Status;
 use drain_device::ByteSink;
+use drain_faults::FaultMap;
 use drain_mosaic::Layout;
 use drain_page::{Facts, RefusalNote, page_json, page_text};
 use drain_verdict::Refusal;
@@ -40,13 +41,6 @@ pub trait Beside {
     fn save_map(&mut self, layout: &Layout, pixels: &[u8]) -> Result<(), MapFault>;
 }
 
-/// A map of the faults, and the mosaic whose map it is.
-#[derive(Drop)]
-pub struct DrawnMap {
-    pub layout: Layout,
-    pub pixels: Vec<u8>,
-}
-
 /// Saves the map, if there is one, then prints the page, and returns the exit status: that of the answer, or that of a
 /// failure.
 ///
@@ -55,24 +49,24 @@ pub struct DrawnMap {
 pub fn tell<B: Beside, W: ByteSink>(
     alloc: Global,
     facts: &Facts,
-    map: &Option<DrawnMap>,
+    map: &Option<FaultMap>,
     form: Form,
     beside: &mut B,
     out: &mut W,
 ) -> u8
     ensures { Tells W.ByteSink out.old out.new form facts.now.answer result }
 {
-    match save(map, beside) {
+    match save(facts, map, beside) {
         Ok(()) => print_page(alloc, facts, form, out),
         Err(fault) => print_no_page(alloc, &fault.into(), form, out),
     }
 }
 
 /// Saves the map, if there is one.
-fn save<B: Beside>(map: &Option<DrawnMap>, beside: &mut B) -> Result<(), MapFault> {
-    match map {
-        Some(drawn) => beside.save_map(&drawn.layout, &drawn.pixels),
-        None => Ok(()),
+fn save<B: Beside>(facts: &Facts, map: &Option<FaultMap>, beside: &mut B) -> Result<(), MapFault> {
+    match (&facts.findings, map) {
+        (Some(findings), Some(map)) => beside.save_map(&findings.layout, &map.pixels),
+        _ => Ok(()),
     }
 }
 

@@ -5,13 +5,12 @@ ghost use Rattle.drain_explain.specs.Explanations.{answer_in};
 ghost use Rattle.drain_page.specs.declared.facts.Answer.{Answer};
 ghost use Rattle.drain_cli.specs.ExplainRuns.{IsOutcome, Tells};
 
-use crate::runs::explain_page::{Beside, DrawnMap, Form, tell};
+use crate::runs::explain_page::{Beside, Form, tell};
 use drain_device::{ByteSink, ByteSource};
 use drain_explain::{Explanation, Mapping, explain_audit, explain_check};
 use drain_faults::FaultMap;
 use drain_hgt::TileInput;
-use drain_mosaic::Layout;
-use drain_page::{Answer, Facts, Findings, MosaicPlace, RefusalNote};
+use drain_page::{Answer, Facts, Findings, RefusalNote};
 use drain_verdict::{AuditProducts, Products, Refusal};
 use std::alloc::Global;
 
@@ -58,7 +57,7 @@ fn explain_products<R: ByteSource>(
     sinks: &[u8],
     products: &mut JudgedProducts<R>,
     mapping: Mapping,
-) -> (Answer, Option<Findings>, Option<DrawnMap>)
+) -> (Answer, Option<Findings>, Option<FaultMap>)
     ensures { IsOutcome R.ByteSource side tiles.old tiles.new sinks.now products.old products.new result.0 }
 {
     match products {
@@ -86,7 +85,7 @@ fn note_of<B: Beside>(beside: &mut B, answer: &Answer) -> Option<RefusalNote> {
 /// The verdict or the refusal, what the rules say of every cell, and the map if one was drawn.
 fn parts_of<V>(
     explained: Result<Explanation<V>, Refusal>,
-) -> (Result<V, Refusal>, Option<Findings>, Option<DrawnMap>)
+) -> (Result<V, Refusal>, Option<Findings>, Option<FaultMap>)
     ensures { result.0 ≡ answer_in explained }
 {
     let explanation = match explained {
@@ -104,33 +103,12 @@ fn parts_of<V>(
         endless,
     } = explanation;
     let findings = Findings {
-        place: place_of(&layout),
-        shape: layout.shape(),
+        layout,
         rules,
         by_rule,
         by_product,
         first,
         endless,
     };
-    (Ok(verdict), Some(findings), drawn_on(layout, map))
-}
-
-/// The place of the mosaic.
-fn place_of(layout: &Layout) -> MosaicPlace {
-    MosaicPlace {
-        north: layout.north(),
-        west: layout.west(),
-        steps: layout.side() - 1,
-    }
-}
-
-/// The map, if one was drawn, with its mosaic.
-fn drawn_on(layout: Layout, map: Option<FaultMap>) -> Option<DrawnMap> {
-    match map {
-        Some(map) => Some(DrawnMap {
-            layout,
-            pixels: map.pixels,
-        }),
-        None => None,
-    }
+    (Ok(verdict), Some(findings), map)
 }

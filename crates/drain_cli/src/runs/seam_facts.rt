@@ -32,7 +32,7 @@ pub fn seam_note(
     None
 }
 
-/// The value of the tile at the cell, none if the tile doesn't reach it or has a void there.
+/// The height of the tile at the cell, none if the tile doesn't reach it or has a void there.
 fn value_at(
     rt: &HostRuntime,
     layout: &Layout,
@@ -55,7 +55,7 @@ fn value_at(
         VOID => None,
         metres => Some(TileValue {
             tile: layout.name(i),
-            metres: Some(metres),
+            metres,
         }),
     }
 }
