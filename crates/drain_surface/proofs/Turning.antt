@@ -1,5 +1,5 @@
 -- One turn of a trace: a cell is taken from the trail, its neighbours are looked at, and it is left.
-use Rattle.std.proofs.Common.{◌≡◌, ℕ, suc, ◌+◌, ◌<◌, ◌≤◌, ◌∙◌, inl, inr, ℤ, ◌≤ℤ◌, ◌<ℤ◌, Bool, true, false, List, [], ◌∷◌, Contains, length, refl, sym, ap, subst, arith}
+use Rattle.std.proofs.Common.{◌≡◌, ℕ, suc, ◌+◌, ◌<◌, ◌≤◌, ◌∙◌, inl, inr, ℤ, ◌≤ℤ◌, ◌<ℤ◌, Bool, true, false, List, [], ◌∷◌, ◌++◌, Contains, length, refl, sym, ap, subst, arith}
 use Rattle.std.specs.List.{All}
 use Rattle.std.proofs.lemmas.Bool.{false≢true}
 use Rattle.std.proofs.lemmas.List.{length-append}
@@ -8,12 +8,11 @@ use Rattle.drain_grid.specs.declared.cell.Cell.{Cell}
 use Rattle.drain_grid.specs.Extent.{IsCellOf, index_of}
 use Rattle.drain_grid.specs.Grid.{Grid, IsInside, height_at}
 use Rattle.drain_grid.specs.Size.{Extent}
-use Rattle.drain_surface.specs.Waiting.{IsPut}
 use Rattle.drain_surface.specs.Floods.{Flooding, con_at, unreached, IsReached, IsWaiting, IsAhead, IsFloodOf}
 use Rattle.drain_surface.specs.Looks.{IsBefore}
 use Rattle.drain_surface.specs.Turns.{with_lists, IsOut, IsNext, IsLeftWaiting, IsLessWork, IsLookedAround, IsPopped}
 use Rattle.drain_surface.proofs.Cells.{same_index}
-use Rattle.drain_surface.proofs.Turns.{taken, left, risen, put_has, put_keeps, put_all}
+use Rattle.drain_surface.proofs.Turns.{taken, deferred, recalled, left, risen, put_has, put_keeps, put_all}
 
 -- what a call returned for a cell
 abbrev pub LooksAround : Extent → Flooding → Flooding → Cell → ℤ → Bool → Bool → Type 0
@@ -27,29 +26,29 @@ ahead_reached g f stand c rest inside all =
     let first = All-head (IsAhead g f stand) (index_of g.extent c) rest all in
     subst (IsReached g f) (sym (same_index g.extent c first.cell inside first.reached.here.inside first.place_is)) first.reached
 
-module _ (g : Grid) (stand level : ℤ) (c : Cell) (inside : IsInside g c) (raises : Bool) where
+module _ (g : Grid) (stand level : ℤ) (later : List ℕ) (c : Cell) (inside : IsInside g c) (raises : Bool) where
   -- nothing was left
-  pub passed : (f : Flooding) → IsLookedAround g f stand (index_of g.extent c ∷ []) c level raises false → IsFloodOf g f stand []
+  pub passed : (f : Flooding) → IsLookedAround g f stand (index_of g.extent c ∷ later) c level raises false → IsFloodOf g f stand later
   passed f around =
-      left g f stand (index_of g.extent c) c f.waiting inside refl around.flood (λ p held. held) around.flood.waiting
+      left g f stand later (index_of g.extent c) c f.waiting inside refl around.flood (λ p held. held) around.flood.waiting
       (λ n d fresh there. absurd (false≢true (around.beside n d fresh there).0))
 
   -- nothing is left if the cell raised all
-  pub raised : (f : Flooding) (seen : Bool) → raises ≡ true → IsLookedAround g f stand (index_of g.extent c ∷ []) c level raises seen → IsFloodOf g f stand []
+  pub raised : (f : Flooding) (seen : Bool) → raises ≡ true → IsLookedAround g f stand (index_of g.extent c ∷ later) c level raises seen → IsFloodOf g f stand later
   raised f seen raises_all around =
-      left g f stand (index_of g.extent c) c f.waiting inside refl around.flood (λ p held. held) around.flood.waiting
+      left g f stand later (index_of g.extent c) c f.waiting inside refl around.flood (λ p held. held) around.flood.waiting
       (λ n d fresh there. absurd (false≢true (sym (around.beside n d fresh there).2 ∙ raises_all)))
 
   -- a lower cell was left, and the cell waits
-  pub waits : (old new : Flooding) (seen : Bool) → g.extent ≡ old.extent → IsLookedAround g old stand (index_of g.extent c ∷ []) c level raises seen →
-      IsLeftWaiting old new level c → IsFloodOf g new stand []
+  pub waits : (old new : Flooding) (seen : Bool) → g.extent ≡ old.extent → IsLookedAround g old stand (index_of g.extent c ∷ later) c level raises seen →
+      IsLeftWaiting old new level c → IsFloodOf g new stand later
   waits old new seen extent around waiting =
-      subst (λ f. IsFloodOf g f stand []) (sym waiting.rest)
-      (left g old stand (index_of g.extent c) c new.waiting inside refl around.flood keeps all
+      subst (λ f. IsFloodOf g f stand later) (sym waiting.rest)
+      (left g old stand later (index_of g.extent c) c new.waiting inside refl around.flood keeps all
       (λ n d fresh there. (subst (λ z. Contains new.waiting (z, index_of g.extent c)) (sym around.con) has, subst (λ z. height_at g n <ℤ z) (sym around.con) (around.beside n d fresh there).1)))
     where
       first : IsAhead g old stand (index_of g.extent c)
-      first = All-head (IsAhead g old stand) (index_of g.extent c) old.ahead around.flood.ahead
+      first = All-head (IsAhead g old stand) (index_of g.extent c) (later ++ old.ahead) around.flood.ahead
 
       low : stand ≤ℤ level
       low = subst (λ z. stand ≤ℤ z) around.con
@@ -88,46 +87,75 @@ module _ (g : Grid) (stand level : ℤ) (c : Cell) (inside : IsInside g c) (rais
         | inr was ↦ subst (All (IsWaiting g old stand)) (sym was.1) around.flood.waiting
       ]
 
--- the next cell, before its neighbours are looked at
-pub next_before : (g : Grid) (old new : Flooding) (stand level : ℤ) (c : Cell) (raises : Bool) → g.extent ≡ old.extent → IsFloodOf g old stand [] → IsNext old new c →
-    level ≡ con_at g.extent new c → (raises ≡ true → level ≡ stand) → IsBefore g new stand (index_of g.extent c ∷ []) c level raises
-next_before g old new stand level c raises extent flood next is at_level =
+-- a busy cell, before its neighbours are looked at
+busy_before : (g : Grid) (s : Flooding) (stand level : ℤ) (later : List ℕ) (c : Cell) (raises : Bool) → IsInside g c →
+    IsFloodOf g s stand (index_of g.extent c ∷ later) → level ≡ con_at g.extent s c → (raises ≡ true → level ≡ stand) →
+    IsBefore g s stand (index_of g.extent c ∷ later) c level raises
+busy_before g s stand level later c raises inside flood is at_level = record {
+  flood = flood;
+  reached = ahead_reached g s stand c (later ++ s.ahead) inside flood.ahead;
+  con = sym is;
+  at_level = at_level;
+}
+
+-- the next cell of the trail is busy
+next_busy : (g : Grid) (old new : Flooding) (stand : ℤ) (later : List ℕ) (c : Cell) → g.extent ≡ old.extent → IsFloodOf g old stand later → IsNext old new c →
+    IsFloodOf g new stand (index_of g.extent c ∷ later)
+next_busy g old new stand later c extent flood next =
     let out : IsOut (index_of g.extent c) old.ahead new.ahead = subst (λ e. IsOut (index_of e c) old.ahead new.ahead) (sym extent) next.out in
-    let inside : IsInside g c = subst (λ e. IsCellOf e c) (sym extent) next.inside in
-    let now : IsFloodOf g new stand (index_of g.extent c ∷ []) = subst (λ f. IsFloodOf g f stand (index_of g.extent c ∷ [])) (sym next.rest)
-    (taken g old stand (index_of g.extent c) new.ahead out flood) in
-    record {
-      flood = now;
-      reached = ahead_reached g new stand c new.ahead inside now.ahead;
-      con = sym is;
-      at_level = at_level;
-    }
+    subst (λ f. IsFloodOf g f stand (index_of g.extent c ∷ later)) (sym next.rest) (taken g old stand later (index_of g.extent c) new.ahead out flood)
 
--- a cell of the trail that has an unreached neighbour isn't below the flood's level; if it has none nothing is left
-pub turn_passed : (g : Grid) (s0 s1 s2 : Flooding) (stand level : ℤ) (c : Cell) (raises : Bool) → g.extent ≡ s0.extent → g.extent ≡ s1.extent → IsNext s0 s1 c →
+-- a busy cell whose neighbours are looked at: none was left
+pub busy_passed : (g : Grid) (s1 s2 : Flooding) (stand level : ℤ) (later : List ℕ) (c : Cell) (raises : Bool) → g.extent ≡ s1.extent → IsInside g c →
     level ≡ con_at s1.extent s1 c → (raises ≡ true → level ≡ stand) → LooksAround s1.extent s1 s2 c level raises false →
-    IsFloodOf g s0 stand [] → IsFloodOf g s2 stand []
-turn_passed g s0 s1 s2 stand level c raises e0 e1 next is at_level looks flood =
-    let inside : IsInside g c = subst (λ e. IsCellOf e c) (sym e0) next.inside in
+    IsFloodOf g s1 stand (index_of g.extent c ∷ later) → IsFloodOf g s2 stand later
+busy_passed g s1 s2 stand level later c raises e1 inside is at_level looks flood =
     let level_is : level ≡ con_at g.extent s1 c = subst (λ e. level ≡ con_at e s1 c) (sym e1) is in
-    passed g stand level c inside raises s2 (looks g stand (index_of g.extent c ∷ []) e1 (next_before g s0 s1 stand level c raises e0 flood next level_is at_level))
+    passed g stand level later c inside raises s2
+    (looks g stand (index_of g.extent c ∷ later) e1 (busy_before g s1 stand level later c raises inside flood level_is at_level))
 
-pub turn_waits : (g : Grid) (s0 s1 s2 s3 : Flooding) (stand level : ℤ) (c : Cell) (raises seen : Bool) → g.extent ≡ s0.extent → g.extent ≡ s1.extent → g.extent ≡ s2.extent →
-    IsNext s0 s1 c → level ≡ con_at s1.extent s1 c → (raises ≡ true → level ≡ stand) → LooksAround s1.extent s1 s2 c level raises seen →
-    IsLeftWaiting s2 s3 level c → IsFloodOf g s0 stand [] → IsFloodOf g s3 stand []
-turn_waits g s0 s1 s2 s3 stand level c raises seen e0 e1 e2 next is at_level looks waiting flood =
-    let inside : IsInside g c = subst (λ e. IsCellOf e c) (sym e0) next.inside in
+-- or a lower one was, and the cell waits
+pub busy_waits : (g : Grid) (s1 s2 s3 : Flooding) (stand level : ℤ) (later : List ℕ) (c : Cell) (raises seen : Bool) → g.extent ≡ s1.extent → g.extent ≡ s2.extent →
+    IsInside g c → level ≡ con_at s1.extent s1 c → (raises ≡ true → level ≡ stand) → LooksAround s1.extent s1 s2 c level raises seen →
+    IsLeftWaiting s2 s3 level c → IsFloodOf g s1 stand (index_of g.extent c ∷ later) → IsFloodOf g s3 stand later
+busy_waits g s1 s2 s3 stand level later c raises seen e1 e2 inside is at_level looks waiting flood =
     let level_is : level ≡ con_at g.extent s1 c = subst (λ e. level ≡ con_at e s1 c) (sym e1) is in
-    waits g stand level c inside raises s2 s3 seen e2 (looks g stand (index_of g.extent c ∷ []) e1 (next_before g s0 s1 stand level c raises e0 flood next level_is at_level)) waiting
+    waits g stand level later c inside raises s2 s3 seen e2
+    (looks g stand (index_of g.extent c ∷ later) e1 (busy_before g s1 stand level later c raises inside flood level_is at_level)) waiting
+
+-- or it is for later
+busy_deferred : (g : Grid) (s1 s2 : Flooding) (stand level : ℤ) (later : List ℕ) (c : Cell) (raises seen : Bool) → g.extent ≡ s1.extent → IsInside g c →
+    level ≡ con_at s1.extent s1 c → (raises ≡ true → level ≡ stand) → LooksAround s1.extent s1 s2 c level raises seen →
+    IsFloodOf g s1 stand (index_of g.extent c ∷ later) → IsFloodOf g s2 stand (later ++ index_of g.extent c ∷ [])
+busy_deferred g s1 s2 stand level later c raises seen e1 inside is at_level looks flood =
+    let level_is : level ≡ con_at g.extent s1 c = subst (λ e. level ≡ con_at e s1 c) (sym e1) is in
+    let around = looks g stand (index_of g.extent c ∷ later) e1 (busy_before g s1 stand level later c raises inside flood level_is at_level) in
+    deferred g s2 stand later (index_of g.extent c) around.flood
+
+-- a cell of the trail: if it has an unreached neighbour it is for later, else nothing is left
+pub turn_passed : (g : Grid) (s0 s1 s2 : Flooding) (stand level : ℤ) (later : List ℕ) (c : Cell) (raises : Bool) → g.extent ≡ s0.extent → g.extent ≡ s1.extent → IsNext s0 s1 c →
+    level ≡ con_at s1.extent s1 c → (raises ≡ true → level ≡ stand) → LooksAround s1.extent s1 s2 c level raises false →
+    IsFloodOf g s0 stand later → IsFloodOf g s2 stand later
+turn_passed g s0 s1 s2 stand level later c raises e0 e1 next is at_level looks flood =
+    busy_passed g s1 s2 stand level later c raises e1 (subst (λ e. IsCellOf e c) (sym e0) next.inside) is at_level looks
+    (next_busy g s0 s1 stand later c e0 flood next)
+
+pub turn_deferred : (g : Grid) (s0 s1 s2 : Flooding) (stand level : ℤ) (later after : List ℕ) (c : Cell) (raises seen : Bool) → g.extent ≡ s0.extent → g.extent ≡ s1.extent →
+    IsNext s0 s1 c → level ≡ con_at s1.extent s1 c → (raises ≡ true → level ≡ stand) → LooksAround s1.extent s1 s2 c level raises seen →
+    after ≡ later ++ index_of g.extent c ∷ [] → IsFloodOf g s0 stand later → IsFloodOf g s2 stand after
+turn_deferred g s0 s1 s2 stand level later after c raises seen e0 e1 next is at_level looks grown flood =
+    subst (IsFloodOf g s2 stand) (sym grown)
+    (busy_deferred g s1 s2 stand level later c raises seen e1 (subst (λ e. IsCellOf e c) (sym e0) next.inside) is at_level looks
+    (next_busy g s0 s1 stand later c e0 flood next))
+
+-- the last cell for later is busy
+pub last_busy : (g : Grid) (s : Flooding) (stand : ℤ) (later rest : List ℕ) (place : ℕ) → later ≡ rest ++ place ∷ [] → IsFloodOf g s stand later → IsFloodOf g s stand (place ∷ rest)
+last_busy g s stand later rest place is flood = recalled g s stand rest place (subst (IsFloodOf g s stand) is flood)
 
 -- how much is left to do after a turn
 next_work : (old new : Flooding) (c : Cell) → IsNext old new c →
-    (unreached new ≡ unreached old) × (length old.ahead ≡ length new.ahead + 1) × (length new.waiting ≡ length old.waiting)
-next_work old new c next = (
-  ap unreached next.rest,
-  one_less (index_of old.extent c) old.ahead new.ahead next.out,
-  ap (λ f. length f.waiting) next.rest,
-)
+    (unreached new ≡ unreached old) × (length old.ahead ≡ length new.ahead + 1)
+next_work old new c next = (ap unreached next.rest, one_less (index_of old.extent c) old.ahead new.ahead next.out)
   where
     one_less : (place : ℕ) (xs ys : List ℕ) → IsOut place xs ys → length xs ≡ length ys + 1
     one_less place xs ys out =
@@ -135,36 +163,14 @@ next_work old new c next = (
         let long_ys : length ys ≡ length out.before + length out.after = ap (λ zs. length zs) out.new_are ∙ length-append out.before out.after in
         omega (arith, long_xs, long_ys)
 
-pub turn_work : (s0 s1 s2 : Flooding) (c : Cell) (most : ℕ) → IsNext s0 s1 c → IsLessWork s1 s2 →
-    unreached s0 + length s0.ahead + length s0.waiting ≤ most →
-    (unreached s2 + length s2.ahead + length s2.waiting + 1 ≤ most) × (unreached s2 + unreached s2 + length s2.ahead < unreached s0 + unreached s0 + length s0.ahead)
-turn_work s0 s1 s2 c most next less before =
+pub turn_work : (s0 s1 s2 : Flooding) (c : Cell) → IsNext s0 s1 c → IsLessWork s1 s2 →
+    (unreached s2 + length s2.ahead + 1 ≡ unreached s0 + length s0.ahead) × (s2.waiting ≡ s0.waiting)
+turn_work s0 s1 s2 c next less =
     let n = next_work s0 s1 c next in
-    let w : length s2.waiting ≡ length s1.waiting = ap (λ xs. length xs) less.waiting in
-    by_numbers (unreached s0) (length s0.ahead) (length s0.waiting) (unreached s1) (length s1.ahead) (length s1.waiting) (unreached s2) (length s2.ahead) (length s2.waiting) most
-    n.0 n.1 n.2 less.fewer less.same w before
-  where
-    by_numbers : (u0 a0 w0 u1 a1 w1 u2 a2 w2 most : ℕ) → u1 ≡ u0 → a0 ≡ a1 + 1 → w1 ≡ w0 → u2 ≤ u1 → u2 + a2 ≡ u1 + a1 → w2 ≡ w1 → u0 + a0 + w0 ≤ most →
-        (u2 + a2 + w2 + 1 ≤ most) × (u2 + u2 + a2 < u0 + u0 + a0)
-    by_numbers u0 a0 w0 u1 a1 w1 u2 a2 w2 most pu pa pw fewer same w before = (omega arith, omega arith)
-
--- at most one more waits
-pub waits_work : (old new : Flooding) (level : ℤ) (c : Cell) → IsLeftWaiting old new level c →
-    (unreached new ≡ unreached old) × (length new.ahead ≡ length old.ahead) × (length new.waiting ≤ length old.waiting + 1)
-waits_work old new level c is = (
-  ap unreached is.rest,
-  ap (λ f. length f.ahead) is.rest,
-  elim is.waits [
-    | inl put ↦ one_put level (index_of old.extent c) old.waiting new.waiting put
-    | inr was ↦ (let same : length new.waiting ≡ length old.waiting = ap (λ xs. length xs) was.1 in omega (arith, same))
-  ],
-)
-  where
-    one_put : (level : ℤ) (item : ℕ) (xs ys : List (ℤ × ℕ)) → IsPut level item xs ys → length ys ≤ length xs + 1
-    one_put level item xs ys put =
-        let long_xs : length xs ≡ length put.before + length put.after = ap (λ zs. length zs) put.old_are ∙ length-append put.before put.after in
-        let long_ys : length ys ≡ length put.before + suc (length put.after) = ap (λ zs. length zs) put.new_are ∙ length-append put.before ((level, item) ∷ put.after) in
-        omega (arith, long_xs, long_ys)
+    let fewer = n.0 in
+    let one = n.1 in
+    let same = less.same in
+    (omega (arith, fewer, one, same), less.waiting ∙ ap (λ f. f.waiting) next.rest)
 
 -- the first waiting cell, before its neighbours are looked at, at the level to which the flood rises
 pub popped_before : (g : Grid) (old new : Flooding) (stand level : ℤ) (c : Cell) → g.extent ≡ old.extent → IsFloodOf g old stand [] → old.ahead ≡ [] →
@@ -190,19 +196,4 @@ pub turn_rises : (g : Grid) (s0 s1 s2 : Flooding) (stand level : ℤ) (c : Cell)
     IsPopped s0 s1 level c → s0.ahead ≡ [] → LooksAround s1.extent s1 s2 c level true seen → IsFloodOf g s0 stand [] → IsFloodOf g s2 level []
 turn_rises g s0 s1 s2 stand level c seen e0 e1 popped done looks flood =
     let inside : IsInside g c = subst (λ e. IsCellOf e c) (sym e0) popped.inside in
-    raised g level level c inside true s2 seen refl (looks g level (index_of g.extent c ∷ []) e1 (popped_before g s0 s1 stand level c e0 flood done popped))
-
--- how much is left to do after the flood rose and a trace was made
-pub rise_work : (s0 s1 s2 s3 : Flooding) (level : ℤ) (c : Cell) → IsPopped s0 s1 level c → s0.ahead ≡ [] → IsLessWork s1 s2 →
-    unreached s3 + length s3.waiting ≤ unreached s2 + length s2.ahead + length s2.waiting →
-    unreached s3 + length s3.waiting < unreached s0 + length s0.waiting
-rise_work s0 s1 s2 s3 level c popped done less traced =
-    let u : unreached s1 ≡ unreached s0 = ap unreached popped.rest in
-    let a : length s1.ahead ≡ 0 = ap (λ f. length f.ahead) popped.rest ∙ ap (λ xs. length xs) done in
-    let w : length s0.waiting ≡ suc (length s1.waiting) = ap (λ xs. length xs) popped.first in
-    let w2 : length s2.waiting ≡ length s1.waiting = ap (λ xs. length xs) less.waiting in
-    by_numbers (unreached s0) (length s0.waiting) (unreached s1) (length s1.ahead) (length s1.waiting) (unreached s2) (length s2.ahead) (length s2.waiting) (unreached s3) (length s3.waiting)
-    u a w less.same w2 traced
-  where
-    by_numbers : (u0 w0 u1 a1 w1 u2 a2 w2 u3 w3 : ℕ) → u1 ≡ u0 → a1 ≡ 0 → w0 ≡ suc w1 → u2 + a2 ≡ u1 + a1 → w2 ≡ w1 → u3 + w3 ≤ u2 + a2 + w2 → u3 + w3 < u0 + w0
-    by_numbers u0 w0 u1 a1 w1 u2 a2 w2 u3 w3 u a w same more traced = omega arith
+    raised g level level [] c inside true s2 seen refl (looks g level (index_of g.extent c ∷ []) e1 (popped_before g s0 s1 stand level c e0 flood done popped))

@@ -82,47 +82,115 @@ module _ (place : ℕ) (old new : List ℕ) (out : IsOut place old new) where
       (All-append P out.before out.after (λ k d less. in_early (get_or out.before k d) (Contains-get_or out.before k d less))
       (λ k d less. in_late (get_or out.after k d) (Contains-get_or out.after k d less))))
 
--- some cell of the trail is taken, and is busy
-pub taken : (g : Grid) (f : Flooding) (level : ℤ) (place : ℕ) (rest : List ℕ) → IsOut place f.ahead rest → IsFloodOf g f level [] →
-    IsFloodOf g (with_lists f rest f.waiting) level (place ∷ [])
-taken g f level place rest out flood =
-    relisted g f level level [] (place ∷ []) rest f.waiting flood (omega (arith, ints))
+-- what holds of each of a list holds of each of another with the same elements
+all_moved : (P : ℕ → Type 0) (xs ys : List ℕ) → ((k : ℕ) → Contains ys k → Contains xs k) → All P xs → All P ys
+all_moved P xs ys there each = λ k d less. All-contains P xs (get_or ys k d) each (there (get_or ys k d) (Contains-get_or ys k d less))
+
+-- what holds of each of a list holds of each before its last
+pub all_before : (P : ℕ → Type 0) (xs ys : List ℕ) (last : ℕ) → xs ≡ ys ++ last ∷ [] → All P xs → All P ys
+all_before P xs ys last is each = all_moved P xs ys (λ k held. subst (λ zs. Contains zs k) (sym is) (Contains-append_left ys (last ∷ []) k held)) each
+
+-- the flood goes on with other busy cells and another trail, if they are the same together
+pub rebusied : (g : Grid) (f : Flooding) (level : ℤ) (busy other ahead : List ℕ) → IsFloodOf g f level busy →
+    ((k : ℕ) → Contains (busy ++ f.ahead) k → Contains (other ++ ahead) k) → ((k : ℕ) → Contains (other ++ ahead) k → Contains (busy ++ f.ahead) k) →
+    IsFloodOf g (with_lists f ahead f.waiting) level other
+rebusied g f level busy other ahead flood there back =
+    relisted g f level level busy other ahead f.waiting flood (omega (arith, ints))
     (λ c n d at_c at_n leads.
     (let kept = flood.frontier c n d at_c at_n leads in record {
       not_below = kept.not_below;
       held = elim kept.held [
-        | inl looked ↦ inl (out_has place f.ahead rest out (index_of g.extent c) looked)
+        | inl looked ↦ inl (there (index_of g.extent c) looked)
         | inr waits ↦ inr waits
       ];
     }))
-    (All-weaker (IsWaiting g f level) (IsWaiting g (with_lists f rest f.waiting) level) (λ p waits. record {
+    (All-weaker (IsWaiting g f level) (IsWaiting g (with_lists f ahead f.waiting) level) (λ p waits. record {
       cell = waits.cell;
       reached = record { here = waits.reached.here; code = waits.reached.code };
       place = waits.place;
       con = waits.con;
       not_below = waits.not_below;
     }) f.waiting flood.waiting)
-    (All-weaker (IsAhead g f level) (IsAhead g (with_lists f rest f.waiting) level) (λ k at. record {
+    (All-weaker (IsAhead g f level) (IsAhead g (with_lists f ahead f.waiting) level) (λ k at. record {
       cell = at.cell;
       reached = record { here = at.reached.here; code = at.reached.code };
       place_is = at.place_is;
       not_below = at.not_below;
-    }) (place ∷ rest) (out_all place f.ahead rest out (IsAhead g f level) flood.ahead))
+    }) (other ++ ahead) (all_moved (IsAhead g f level) (busy ++ f.ahead) (other ++ ahead) back flood.ahead))
+
+-- some cell of the trail is taken, and is busy
+pub taken : (g : Grid) (f : Flooding) (level : ℤ) (later : List ℕ) (place : ℕ) (rest : List ℕ) → IsOut place f.ahead rest → IsFloodOf g f level later →
+    IsFloodOf g (with_lists f rest f.waiting) level (place ∷ later)
+taken g f level later place rest out flood = rebusied g f level later (place ∷ later) rest flood there back
+  where
+    there : (k : ℕ) → Contains (later ++ f.ahead) k → Contains (place ∷ later ++ rest) k
+    there k held = elim (Contains-append_cases later f.ahead k held) [
+      | inl early ↦ tail_in place k (later ++ rest) (Contains-append_left later rest k early)
+      | inr late ↦ elim (cons_cases place rest k (out_has place f.ahead rest out k late)) [
+        | inl here ↦ subst (λ x. Contains (place ∷ later ++ rest) x) here (head_in place (later ++ rest))
+        | inr after ↦ tail_in place k (later ++ rest) (Contains-append_right later rest k after)
+      ]
+    ]
+
+    was : (k : ℕ) → Contains (place ∷ rest) k → Contains f.ahead k
+    was k held = All-contains (λ x. Contains f.ahead x) (place ∷ rest) k
+        (out_all place f.ahead rest out (λ x. Contains f.ahead x) (λ j d less. Contains-get_or f.ahead j d less)) held
+
+    back : (k : ℕ) → Contains (place ∷ later ++ rest) k → Contains (later ++ f.ahead) k
+    back k held = elim (cons_cases place (later ++ rest) k held) [
+      | inl here ↦ Contains-append_right later f.ahead k (was k (subst (λ x. Contains (place ∷ rest) x) here (head_in place rest)))
+      | inr other ↦ elim (Contains-append_cases later rest k other) [
+        | inl early ↦ Contains-append_left later f.ahead k early
+        | inr late ↦ Contains-append_right later f.ahead k (was k (tail_in place k rest late))
+      ]
+    ]
+
+-- a busy cell may be the first or the last of them
+module _ (later : List ℕ) (place : ℕ) (ahead : List ℕ) where
+  to_end : (k : ℕ) → Contains (place ∷ later ++ ahead) k → Contains ((later ++ place ∷ []) ++ ahead) k
+  to_end k held = elim (cons_cases place (later ++ ahead) k held) [
+    | inl here ↦ Contains-append_left (later ++ place ∷ []) ahead k
+        (Contains-append_right later (place ∷ []) k (subst (λ x. Contains (place ∷ []) x) here (head_in place [])))
+    | inr other ↦ elim (Contains-append_cases later ahead k other) [
+      | inl early ↦ Contains-append_left (later ++ place ∷ []) ahead k (Contains-append_left later (place ∷ []) k early)
+      | inr late ↦ Contains-append_right (later ++ place ∷ []) ahead k late
+    ]
+  ]
+
+  to_front : (k : ℕ) → Contains ((later ++ place ∷ []) ++ ahead) k → Contains (place ∷ later ++ ahead) k
+  to_front k held = elim (Contains-append_cases (later ++ place ∷ []) ahead k held) [
+    | inl busy ↦ elim (Contains-append_cases later (place ∷ []) k busy) [
+      | inl early ↦ tail_in place k (later ++ ahead) (Contains-append_left later ahead k early)
+      | inr last ↦ elim (cons_cases place [] k last) [
+        | inl here ↦ subst (λ x. Contains (place ∷ later ++ ahead) x) here (head_in place (later ++ ahead))
+        | inr none ↦ absurd (none_in [] k refl none)
+      ]
+    ]
+    | inr late ↦ tail_in place k (later ++ ahead) (Contains-append_right later ahead k late)
+  ]
+
+pub deferred : (g : Grid) (f : Flooding) (level : ℤ) (later : List ℕ) (place : ℕ) → IsFloodOf g f level (place ∷ later) → IsFloodOf g f level (later ++ place ∷ [])
+deferred g f level later place flood =
+    rebusied g f level (place ∷ later) (later ++ place ∷ []) f.ahead flood (to_end later place f.ahead) (to_front later place f.ahead)
+
+pub recalled : (g : Grid) (f : Flooding) (level : ℤ) (later : List ℕ) (place : ℕ) → IsFloodOf g f level (later ++ place ∷ []) → IsFloodOf g f level (place ∷ later)
+recalled g f level later place flood =
+    rebusied g f level (later ++ place ∷ []) (place ∷ later) f.ahead flood (to_front later place f.ahead) (to_end later place f.ahead)
 
 -- a cell whose neighbours were looked at is left: none is unreached, or it waits
-pub left : (g : Grid) (f : Flooding) (level : ℤ) (place : ℕ) (c : Cell) (waiting : List (ℤ × ℕ)) → IsInside g c → place ≡ index_of g.extent c →
-    IsFloodOf g f level (place ∷ []) → ((p : ℤ × ℕ) → Contains f.waiting p → Contains waiting p) → All (IsWaiting g f level) waiting →
+pub left : (g : Grid) (f : Flooding) (level : ℤ) (later : List ℕ) (place : ℕ) (c : Cell) (waiting : List (ℤ × ℕ)) → IsInside g c → place ≡ index_of g.extent c →
+    IsFloodOf g f level (place ∷ later) → ((p : ℤ × ℕ) → Contains f.waiting p → Contains waiting p) → All (IsWaiting g f level) waiting →
     ((n : Cell) (d : Direction) → IsUnreached g f n → step g.extent c d ≡ Some n →
     Contains waiting (con_at g.extent f c, place) × (height_at g n <ℤ con_at g.extent f c)) →
-    IsFloodOf g (with_lists f f.ahead waiting) level []
-left g f level place c waiting inside at flood more waits beside =
-    relisted g f level level (place ∷ []) [] f.ahead waiting flood (omega (arith, ints))
+    IsFloodOf g (with_lists f f.ahead waiting) level later
+left g f level later place c waiting inside at flood more waits beside =
+    relisted g f level level (place ∷ later) later f.ahead waiting flood (omega (arith, ints))
     (λ b n d at_b at_n leads.
     (let kept = flood.frontier b n d at_b at_n leads in record {
       not_below = kept.not_below;
       held = elim kept.held [
         | inl looked ↦
-            elim (cons_cases place f.ahead (index_of g.extent b) looked) [
+            elim (cons_cases place (later ++ f.ahead) (index_of g.extent b) looked) [
               | inl here ↦ (let same : c ≡ b = same_index g.extent c b inside at_b.here.inside (sym at ∙ here) in
                   let from_c : step g.extent c d ≡ Some n = subst (λ x. step g.extent x d ≡ Some n) (sym same) leads in
                   let held = beside n d at_n from_c in
@@ -148,7 +216,7 @@ left g f level place c waiting inside at flood more waits beside =
       reached = record { here = is.reached.here; code = is.reached.code };
       place_is = is.place_is;
       not_below = is.not_below;
-    }) f.ahead (All-tail (IsAhead g f level) place f.ahead flood.ahead))
+    }) (later ++ f.ahead) (All-tail (IsAhead g f level) place (later ++ f.ahead) flood.ahead))
 
 -- if the trail is empty, the first waiting cell is taken, and the flood rises to its level
 pub risen : (g : Grid) (f : Flooding) (level higher : ℤ) (place : ℕ) (rest : List (ℤ × ℕ)) → f.ahead ≡ [] → f.waiting ≡ (higher, place) ∷ rest →

@@ -4,6 +4,7 @@ use Rattle.drain_grid.specs.declared.cell.Cell.{Cell}
 use Rattle.drain_grid.specs.declared.direction.Direction.{Direction}
 use Rattle.drain_grid.specs.Extent.{IsCellOf, index_of, step}
 use Rattle.drain_grid.specs.Grid.{Grid, height_at}
+use Rattle.drain_grid.specs.Size.{Extent}
 use Rattle.drain_surface.specs.Waiting.{Rises, IsPut}
 use Rattle.drain_surface.specs.Floods.{Flooding, con_at, unreached, IsUnreached, IsFloodOf, IsReached}
 
@@ -17,6 +18,16 @@ pub record IsOut (place : ℕ) (old new : List ℕ) : Type 0 where
   pub after : List ℕ
   pub old_are : old ≡ before ++ place ∷ after
   pub new_are : new ≡ before ++ after
+
+-- the last place of a list is taken out, that of a cell
+pub record IsLast (e : Extent) (old new : List ℕ) (c : Cell) : Type 0 where
+  pub inside : IsCellOf e c
+  pub last : old ≡ new ++ index_of e c ∷ []
+
+-- there is none to take out
+pub record AreNone (old new : List ℕ) : Type 0 where
+  pub none : old ≡ []
+  pub still : new ≡ []
 
 -- some cell is taken from the trail
 pub record IsNext (old new : Flooding) (c : Cell) : Type 0 where

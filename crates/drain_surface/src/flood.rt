@@ -8,7 +8,7 @@
 //!
 //! Source: Priority-Flood (Barnes, Lehman and Mulla 2014), with traces as in Zhou, Sun and Fu (2016).
 
-ghost use Rattle.std.specs.Prelude.{◌≡◌, ◌↔◌, ◌+◌, ◌*◌, ◌<◌, ◌≤◌, ℕ, ℤ, pos, false, List, [], ◌∷◌, ◌++◌, None, MatchOption, IfSome, IfOk, OnOk, IsTrue, length, slice_index_or, vec_len, if◌then◌else◌};
+ghost use Rattle.std.specs.Prelude.{◌≡◌, ◌↔◌, ◌+◌, ◌*◌, ◌<◌, ℕ, ℤ, pos, false, List, [], ◌∷◌, ◌++◌, None, MatchOption, IfSome, IfOk, OnOk, IsTrue, length, slice_index_or, vec_len, if◌then◌else◌};
 ghost use Rattle.drain_grid.specs.declared.sink_line.SinkLine.{SinkLine};
 ghost use Rattle.drain_grid.specs.SinkLines.{is_listed};
 ghost use Rattle.drain_grid.specs.WholeGrid.{grid_of};
@@ -27,6 +27,7 @@ use crate::layers::{heights, marks};
 use crate::level_queue::LevelQueue;
 use crate::open_cells::is_open;
 use crate::places::{beside, is_inner};
+use crate::tracing::spread;
 use drain_grid::{Cell, Direction, Elevation, OutOfMemory, Shape, Sinks};
 use std::alloc::Global;
 use std::marker::Model;
@@ -64,7 +65,7 @@ pub fn fill(alloc: Global, elevation: &Elevation, sinks: &Sinks) -> Result<Flood
     // The law that a flooded grid is filled.
     flood_is_filled();
     let mut flood = Flood::start(alloc, elevation, sinks)?;
-    flood.spread()?;
+    spread(&mut flood, alloc)?;
     Ok(flood)
 }
 
@@ -194,41 +195,14 @@ impl Flood {
         }
     }
 
-    /// Traces from the open cells; then, lowest first, raises the unreached neighbours of each waiting cell and traces
-    /// from there.
-    fn spread(&mut self) -> Result<(), OutOfMemory>
-        ensures extent { self.new.extent ≡ self.old.extent }
-        ensures flooded { OnOk result ((g : Grid) → g.extent ≡ self.old.extent → IsFloodOf g self.old NO_HEIGHT [] → IsFlooded g self.new) }
-    {
-        self.trace(NO_HEIGHT)?;
-        while let Some((level, cell)) = self.pop() {
-            self.look_around(cell, level, true)?;
-            self.trace(level)?;
-        }
-        Ok(())
-    }
-
-    /// Continues from the cells of the trail: reaches every cell that can be reached without going down, and the lower
-    /// neighbours of cells at the flood's level.
-    fn trace(&mut self, stand: i16) -> Result<(), OutOfMemory>
-        ensures extent { self.new.extent ≡ self.old.extent }
-        ensures done { OnOk result (self.new.ahead ≡ []) }
-        ensures work { OnOk result (unreached self.new + length self.new.waiting ≤ unreached self.old + length self.old.ahead + length self.old.waiting) }
-        ensures flood { OnOk result ((g : Grid) → g.extent ≡ self.old.extent → IsFloodOf g self.old stand [] → IsFloodOf g self.new stand []) }
-    {
-        while let Some(cell) = self.next() {
-            let level = self.height(cell);
-            let raises = is_same(level, stand);
-            if self.look_around(cell, level, raises)? {
-                self.wait(cell, level);
-            }
-        }
-        Ok(())
-    }
-
     /// Reaches the unreached neighbours of a cell; lower ones only if it raises them. Returns whether a lower one was
     /// left.
-    fn look_around(&mut self, cell: Cell, level: i16, raises: bool) -> Result<bool, OutOfMemory>
+    pub(crate) fn look_around(
+        &mut self,
+        cell: Cell,
+        level: i16,
+        raises: bool,
+    ) -> Result<bool, OutOfMemory>
         requires inside { IsCellOf self.old.extent cell }
         ensures extent { self.new.extent ≡ self.old.extent }
         ensures work { OnOk result (IsLessWork self.old self.new) }
@@ -342,7 +316,7 @@ impl Flood {
     }
 
     /// Takes the next cell of the trail.
-    fn next(&mut self) -> Option<Cell>
+    pub(crate) fn next(&mut self) -> Option<Cell>
         ensures extent { self.new.extent ≡ self.old.extent }
         ensures next { MatchOption result (IsDone self.old self.new) (IsNext self.old self.new) }
     {
@@ -353,7 +327,7 @@ impl Flood {
     }
 
     /// Takes the first waiting cell, and its level.
-    fn pop(&mut self) -> Option<(i16, Cell)>
+    pub(crate) fn pop(&mut self) -> Option<(i16, Cell)>
         ensures extent { self.new.extent ≡ self.old.extent }
         ensures popped { MatchOption result (IsEmptied self.old self.new) (λ pair. IsPopped self.old self.new pair.0 pair.1) }
     {
@@ -364,7 +338,7 @@ impl Flood {
     }
 
     /// Makes a cell wait, if it doesn't yet.
-    fn wait(&mut self, cell: Cell, level: i16)
+    pub(crate) fn wait(&mut self, cell: Cell, level: i16)
         requires { IsCellOf self.old.extent cell }
         ensures { IsLeftWaiting self.old self.new level cell }
     {

@@ -6,11 +6,13 @@
 pub mod codes;
 pub mod flats;
 pub mod flood;
+mod later;
 pub mod laws;
 mod layers;
 pub mod level_queue;
 mod open_cells;
 mod places;
+mod tracing;
 pub mod ways;
 
 pub use flats::{CodesAndRanks, Flats, ways_on_flats};

@@ -6,12 +6,12 @@ use Rattle.drain_surface.specs.Floods.{IsFlooded}
 use Rattle.drain_surface.specs.Turns.{IsPopped}
 use Rattle.drain_surface.proofs.Filling.{flood_is_done}
 use Rattle.drain_surface.proofs.Turning.{turn_rises}
-use Rattle.drain_surface.proofs.flood.Flood.spread.Goals as goal
+use Rattle.drain_surface.proofs.tracing.spread.Goals as goal
 
 pub loop-level-preserved : goal.loop-level-preserved
 loop-level-preserved c =
     let l = c.loop-level.invariant in
-    let s0 = c.loop-level.self in
+    let s0 = c.loop-level.flood in
     let s1 = c.pop.new.self in
     let level = to_z w16 (of_z w16 c.in-Some.level) in
     let fits : SFits w16 c.in-Some.level = search rules in
@@ -19,6 +19,7 @@ loop-level-preserved c =
     subst (λ z. IsPopped s0 s1 z c.in-Some.cell) (sym (to_z-of_z w16 c.in-Some.level fits)) c.in-Some.ensures.popped in
     record {
       extent = c.trace-in-Some.ensures.extent ∙ c.look_around.ensures.extent ∙ c.pop.ensures.extent ∙ l.extent;
+      none = c.in_ok-trace-2.ensures.none;
       done = c.in_ok-trace-2.ensures.done;
       flood = λ g same before.
           (let e0 : g.extent ≡ s0.extent = same ∙ sym l.extent in
@@ -36,4 +37,4 @@ pub returns-clause-flooded : goal.returns-clause-flooded
 returns-clause-flooded c = λ g same before.
     (let empty = c.in_default.ensures.popped in
     let stands = c.loop-level.invariant.flood g same before in
-    subst (IsFlooded g) (sym empty.same) (flood_is_done g c.loop-level.self stands.0 stands.1 c.loop-level.invariant.done empty.none))
+    subst (IsFlooded g) (sym empty.same) (flood_is_done g c.loop-level.flood stands.0 stands.1 c.loop-level.invariant.done empty.none))
