@@ -20,7 +20,8 @@ pub enum RefusalNote {
         expected: Extent,
         found: Extent,
     },
-    /// `Misplaced`: the centre of the north-west pixel and the sizes of a pixel, of the mosaic and of the product's header, in units of 10^-15 degree.
+    /// `Misplaced`: the centre of the north-west pixel and the sizes of a pixel, of the mosaic and of the product's
+    /// header, in units of 10^-15 degree.
     Position {
         product: Product,
         expected: Place,
@@ -38,7 +39,7 @@ pub enum RefusalNote {
         expected: u64,
         found: u64,
     },
-    /// `SeamMismatch`: the first tile with data at the cell and its height there, and the first that gives another height.
+    /// `SeamMismatch`: the first tile with data at the cell and its height there, and the first that has another.
     Seam {
         first: TileValue,
         other: TileValue,
