@@ -13,9 +13,7 @@ use drain_device::ByteSource;
 use drain_grid::{ProductSet, Sinks};
 use drain_hgt::TileInput;
 use drain_maker::{MakeRefusal, Mosaic, make};
-use drain_verdict::{
-    AuditProducts, AuditVerdict, Products, Refusal, Verdict, audit, check,
-};
+use drain_verdict::{AuditProducts, AuditVerdict, Products, Refusal, Verdict, audit, check};
 use std::alloc::Global;
 
 const SIDE: u32 = 1201;
