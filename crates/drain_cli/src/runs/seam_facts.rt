@@ -17,19 +17,22 @@ pub fn seam_note(
     let mut first: Option<TileValue> = None;
     for (i, path) in paths.iter().enumerate() {
         if let Some(value) = value_at(rt, layout, i, path, cell) {
-            match first {
-                None => first = Some(value),
-                Some(first) if first.metres != value.metres => {
-                    return Some(RefusalNote::Seam {
-                        first,
-                        other: value,
-                    });
-                }
-                Some(_) => {}
+            let earlier = first.unwrap_or(value);
+            if differ(&earlier, &value) {
+                return Some(RefusalNote::Seam {
+                    first: earlier,
+                    other: value,
+                });
             }
+            first = Some(earlier);
         }
     }
     None
+}
+
+/// Whether two tiles have different heights.
+fn differ(one: &TileValue, other: &TileValue) -> bool {
+    one.metres != other.metres
 }
 
 /// The height of the tile at the cell, none if the tile doesn't reach it or has a void there.
