@@ -47,6 +47,7 @@ fn parts_begin_in_their_order(rt: HostRuntime) -> Result<(), Fail> {
         Some(Part::Counts),
         None,
     ];
-    assert_eq!(rt; (begun.first, begun.number), (wanted, 4));
+    let first = begun.first;
+    assert_eq!(rt; (first, begun.number), (wanted, 4));
     Ok(())
 }
