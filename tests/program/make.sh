@@ -46,13 +46,24 @@ judge_file() {
     judge "$1: ${2##*/}" 0 "$scratch/want" $?
 }
 
-# The products of the pit in a folder, as another program made them; its ranks are steps here.
+# The bytes of a file of the pit's products. Its water leaves by the first of eight equal ways, to the east: two cells
+# drain through the cell there, whose label the pit has. Headers and con are those of another program.
+pit_file() {
+    case $1 in
+        dir.bil) numbers 1 0 0 0 0 1 0 0 0 0 ;;
+        acc.bil) numbers 4 1 1 1 1 1 2 1 1 1 ;;
+        bas.bil) numbers 4 1 2 3 4 5 5 6 7 8 ;;
+        rnk.bil) numbers 4 0 0 0 0 1 0 0 0 0 ;;
+        *) cat "samples/pit-3/$1" ;;
+    esac
+}
+
+# The products of the pit in a folder.
 judge_pit_files() {
     local file
     for file in $files; do
-        [ "$file" = rnk.bil ] || judge_file "$1" "$2/$file" <"samples/pit-3/$file"
+        pit_file "$file" | judge_file "$1" "$2/$file"
     done
-    numbers 4 0 0 0 0 1 0 0 0 0 | judge_file "$1" "$2/rnk.bil"
 }
 
 pit_made='made rows=3 cols=3'
@@ -376,7 +387,7 @@ judge_names 'made over files, links and second names' $files
 printf '640\n606\n../dir.bil\n../bas.bil\n' >"$scratch/want"
 judge 'permissions and links' 0 "$scratch/want" 0
 judge_file 'a second name of a file that was replaced' "$work/acc.bil" <"$scratch/other/acc.bil"
-judge_file 'the file behind a link' "$work/dir.bil" <samples/pit-3/dir.bil
+pit_file dir.bil | judge_file 'the file behind a link' "$work/dir.bil"
 
 # Products over an input, by any way to it, are a usage error, and the input stays.
 for how in 'ln -s ../N00E000.hgt' "ln $ground" "ln $work/list" 'ln -s ../list'; do
@@ -421,7 +432,7 @@ mkfifo "$made/acc.bil"
 timeout 20 cat "$made/acc.bil" >"$work/acc.bil" &
 judge_make 'made into a pipe' 0 "$pit_made" --side 3 --out "$made" "$ground"
 wait $!
-judge_file 'made into a pipe' "$work/acc.bil" <samples/pit-3/acc.bil
+pit_file acc.bil | judge_file 'made into a pipe' "$work/acc.bil"
 timeout 20 head -c 1 "$made/acc.bil" >"$work/acc.bil" &
 judge_make 'made into a pipe that nobody reads on' 3 'failed WriteFailed' --side 344 --out "$made" "$real"
 wait $!
