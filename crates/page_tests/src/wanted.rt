@@ -188,7 +188,7 @@ fn patch(row: &Row) -> Result<Patch, &'static str> {
     })
 }
 
-fn facts(alloc: Global, row: &Row) -> Result<Facts, &'static str> {
+fn facts(alloc: Global, row: &Row) -> Result<Facts, Fail> {
     let findings = one_fault(alloc, row.rule, row.ranks, patch(row)?)?;
     Ok(rejected(row.rule, 1, 2, findings))
 }
@@ -210,7 +210,7 @@ fn each_rule_as_json(rt: HostRuntime) -> Result<(), Fail> {
 }
 
 /// A raised open cell with this in the north.
-fn open_beside(alloc: Global, north: Option<CellValues>) -> Result<Facts, &'static str> {
+fn open_beside(alloc: Global, north: Option<CellValues>) -> Result<Facts, Fail> {
     let mut around = [Some(cell(9, false, (9, 0, 1, 7, 9))?); 8];
     around[6] = north;
     let here = cell(5, false, (6, 0, 1, 7, 9))?;
@@ -244,7 +244,7 @@ fn why_cells_are_open(rt: HostRuntime) -> Result<(), Fail> {
 }
 
 /// A void with numbers of its own.
-fn numbered_void(alloc: Global, ranks: Ranks) -> Result<Facts, &'static str> {
+fn numbered_void(alloc: Global, ranks: Ranks) -> Result<Facts, Fail> {
     let patch = Patch {
         here: values(None, false, (4, 255, 0, 0, 3), 255)?,
         around: [None; 8],

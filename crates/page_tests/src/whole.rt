@@ -32,7 +32,7 @@ fn edge() -> Result<Patch, &'static str> {
     Ok(Patch { here, around })
 }
 
-fn two_rules(alloc: Global) -> Result<Findings, &'static str> {
+fn two_rules(alloc: Global) -> Result<Findings, Fail> {
     let mut findings = no_fault(alloc, Ranks::Asked)?;
     findings.by_rule.missing = cells(2, 0, 1);
     findings.by_rule.slope = cells(1, 2, 0);
@@ -61,7 +61,7 @@ fn a_whole_json(rt: HostRuntime) -> Result<(), Fail> {
 }
 
 /// The facts of an acceptance.
-fn accepted(alloc: Global) -> Result<Facts, &'static str> {
+fn accepted(alloc: Global) -> Result<Facts, Fail> {
     let counts = Counts {
         rows: 4,
         cols: 4,

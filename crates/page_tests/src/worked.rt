@@ -13,14 +13,9 @@ use std::process::Abort;
 use std::test::Fail;
 
 /// Its one tile, of side 4.
-fn layout(alloc: Global) -> Result<Layout, &'static str> {
-    let Ok(tile) = TileName::parse(b"N37W105.hgt") else {
-        return Err("a tile");
-    };
-    match Layout::new(alloc, 4, &[tile]) {
-        Ok(layout) => Ok(layout),
-        Err(_) => Err("a mosaic"),
-    }
+fn layout(alloc: Global) -> Result<Layout, Fail> {
+    let tile = TileName::parse(b"N37W105.hgt")?;
+    Ok(Layout::new(alloc, 4, &[tile])?)
 }
 
 /// The numbers of con, dir, acc, bas and rnk.
@@ -72,7 +67,7 @@ pub fn product(at_voids: RuleFaults, at_data: RuleFaults) -> ProductFaults {
 }
 
 /// Findings with no fault.
-pub fn no_fault(alloc: Global, ranks: Ranks) -> Result<Findings, &'static str> {
+pub fn no_fault(alloc: Global, ranks: Ranks) -> Result<Findings, Fail> {
     Ok(Findings {
         layout: layout(alloc)?,
         rules: Rules {
@@ -93,12 +88,7 @@ pub fn no_fault(alloc: Global, ranks: Ranks) -> Result<Findings, &'static str> {
 }
 
 /// Findings with one fault of this rule, at this patch.
-pub fn one_fault(
-    alloc: Global,
-    rule: Rule,
-    ranks: Ranks,
-    patch: Patch,
-) -> Result<Findings, &'static str> {
+pub fn one_fault(alloc: Global, rule: Rule, ranks: Ranks, patch: Patch) -> Result<Findings, Fail> {
     let mut findings = no_fault(alloc, ranks)?;
     set(&mut findings.by_rule, rule, cells(1, 1, 2));
     findings.first = Some(FaultyPatch {
