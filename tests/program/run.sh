@@ -3,6 +3,8 @@
 # with each of its calls failing in turn, and compares what it prints and its exit status.
 # Usage: tests/program/run.sh DRAIN BENCHES
 set -u
+# The last command of a pipe runs in this shell, so that a comparison behind a pipe counts.
+shopt -s lastpipe
 drain=$(realpath "$1")
 benches=$(realpath "$2")
 here=$(cd "$(dirname "$0")" && pwd)
