@@ -1,6 +1,5 @@
 -- The first output that clashes, place by place.
-use Rattle.std.proofs.Common.{◌≡◌, ℕ, ◌+◌, ◌<◌, List, get_or, take, Some, ◌⊎◌, inl, inr, sym, subst, below_more}
-use Rattle.std.specs.Prelude.{slice_get}
+use Rattle.std.proofs.Common.{◌≡◌, ℕ, ◌+◌, ◌<◌, List, get_or, take, ◌⊎◌, inl, inr, sym, subst, below_more}
 use Rattle.std.proofs.lemmas.Option.{get_or_from_slice_get}
 use Rattle.drain_cli.specs.FileIds.{Clashes, IsInput, MeetsSome}
 use Rattle.drain_cli.specs.declared.files.file_id.FileId.{FileId}

@@ -1,5 +1,5 @@
 -- A list from which some items are dropped: its next item, and what is behind it.
-use Rattle.std.proofs.Common.{◌≡◌, ◌+◌, ◌-◌, ◌≤◌, ◌∷◌, [], ℕ, zero, suc, List, Option, Some, None, slice_get, drop, length, refl, arith}
+use Rattle.std.proofs.Common.{◌≡◌, ◌-◌, ◌≤◌, ◌∷◌, [], ℕ, zero, suc, List, Option, Some, None, slice_get, drop, length, refl, arith}
 use Rattle.drain_text.specs.Parts.{IsFirstLine}
 use Rattle.drain_text.specs.Text.{lines_of}
 use Rattle.std.proofs.lemmas.Option.{slice_get_past}

@@ -1,6 +1,6 @@
 -- The header of a map of faults.
 -- Source: the Esri description of BIL headers; sizes, byte order and the no-data number are this project's own
-use Rattle.std.specs.Prelude.{ℕ, pos, false, Some}
+use Rattle.std.specs.Prelude.{pos, false, Some}
 use Rattle.drain_header.specs.declared.header.ByteOrdering.TheVariants.{Least}
 use Rattle.drain_header.specs.Fields.{Fields}
 use Rattle.drain_maker.specs.Headers.{mosaic_place}

@@ -1,11 +1,10 @@
 -- Which request the arguments make: by the name of the command, and by the values that were found for each argument.
-use Rattle.std.specs.Prelude.{◌≡◌, ◌⊎◌, ◌++◌, ℕ, Bool, true, false, List, [], map, Option, Some, None, option_map, unwrap_or, codes}
+use Rattle.std.specs.Prelude.{◌≡◌, ◌⊎◌, ◌++◌, ℕ, Bool, true, false, [], map, Option, Some, None, option_map, unwrap_or, codes}
 use Rattle.std.specs.Str.Parse.{digits_value, without_leading_plus}
 use Rattle.std.specs.Borrow.{Bor}
 use Rattle.clap.specs.Matches.{first_value, matched_of, one_text, raw_values}
 use Rattle.clap.specs.Walk.{Text}
 use Rattle.clap.specs.declared.parser.matches.Found.{Found}
-use Rattle.drain_cli.specs.declared.args.command_line.Explained.{Explained}
 use Rattle.drain_cli.specs.declared.args.command_line.Judged.{Judged}
 use Rattle.drain_cli.specs.declared.args.command_line.Request.{Request}
 use Rattle.drain_cli.specs.declared.args.command_line.Request.TheVariants.{Audit, Check, Explain, Make, Fill, Header}

@@ -1,4 +1,4 @@
-use Rattle.std.proofs.Common.{◌≡◌, ◌∙◌, sym, ◌-◌, ◌+◌, suc, drop, slice_get, option_map, arith, refl}
+use Rattle.std.proofs.Common.{◌≡◌, ◌∙◌, sym, ◌-◌, ◌+◌, suc, option_map, arith}
 use Rattle.drain_text.specs.Text.{lines_of}
 use Rattle.drain_cli.proofs.LineSteps.{begins, next_of, none_behind, same_place}
 use Rattle.drain_cli.proofs.runs.sink_facts.line_of.Goals as goal

@@ -1,4 +1,4 @@
-use Rattle.std.proofs.Common.{◌≡◌, sym, arith}
+use Rattle.std.proofs.Common.{sym, arith}
 use Rattle.std.proofs.lemmas.List.{take_all, length-take-le}
 use Rattle.drain_page.specs.declared.refusal_note.TheConstants.{SHOWN_BYTES}
 use Rattle.drain_cli.proofs.runs.sink_facts.shown_of.Goals as goal
