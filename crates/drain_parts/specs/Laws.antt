@@ -1,0 +1,18 @@
+-- What the rules about given rasters mean together.
+use Rattle.std.specs.Prelude.{◌↔◌, IsTrue}
+use Rattle.drain_grid.specs.declared.cell.Cell.{Cell}
+use Rattle.drain_grid.specs.Grid.{Grid, Products, HasData}
+use Rattle.drain_grid.specs.GridRules.{RulesHold}
+use Rattle.drain_grid.specs.Run.{RunEnds}
+use Rattle.drain_grid.specs.Values.{NoDataNumbers}
+use Rattle.drain_parts.specs.declared.given.Given.{Given}
+use Rattle.drain_parts.specs.Given.{has_dir}
+use Rattle.drain_parts.specs.PartOf.{IsPartOfCorrect}
+use Rattle.drain_parts.specs.PartRules.{IsPartRule, part_rules}
+
+-- given rasters with directions are part of a correct set exactly where every path ends and every rule about them holds
+-- at every cell
+abbrev pub PartIsLocal : Type 0
+PartIsLocal =
+    (given : Given) (g : Grid) (ps : Products) (nodata : NoDataNumbers) → IsTrue (has_dir given) →
+    IsPartOfCorrect given g ps nodata ↔ (((c : Cell) → HasData g c → RunEnds g ps c) × RulesHold (part_rules given nodata) (IsPartRule given) g ps)

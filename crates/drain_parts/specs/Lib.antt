@@ -1,0 +1,4 @@
+pub mod Given
+pub mod Laws
+pub mod PartOf
+pub mod PartRules
