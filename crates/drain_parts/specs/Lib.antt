@@ -2,3 +2,4 @@ pub mod Given
 pub mod Laws
 pub mod PartOf
 pub mod PartRules
+pub mod Source

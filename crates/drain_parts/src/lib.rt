@@ -4,6 +4,8 @@
 pub mod given;
 pub mod laws;
 pub mod part_rules;
+pub mod source;
 
 pub use given::Given;
 pub use part_rules::part_fault;
+pub use source::MaybeSource;

@@ -2,7 +2,7 @@
 
 ghost use Rattle.std.specs.Prelude.{◌↔◌, IsTrue};
 ghost use Rattle.drain_grid.specs.Direction.{IsCode};
-ghost use Rattle.drain_grid.specs.Rule.{IsFlowRule, IsLeastFault, IsPatchRule, IsPresenceRule};
+ghost use Rattle.drain_grid.specs.Rule.{IsBetween, IsLeastFault, IsPatchRule, IsPresenceRule};
 ghost use Rattle.drain_parts.specs.PartRules.{IsBlankPart, IsCompletePart, part_rules};
 
 use crate::given::Given;
@@ -63,9 +63,9 @@ fn has_code(here: &CellValues) -> bool
     here.dir == 0 || here.direction().is_some()
 }
 
-/// The first of the rules on where water goes that fails at the cell, none if they all hold.
+/// The first of the rules from Slope to Label that fails at the cell, none if they all hold.
 fn flow_fault(patch: &Patch, nodata: &NoData, given: Given) -> Option<Rule>
-    ensures least { IsLeastFault IsFlowRule (part_rules given nodata.now patch.now) result }
+    ensures least { IsLeastFault (IsBetween 10 14) (part_rules given nodata.now patch.now) result }
 {
     if !given.has_dir() {
         return None;
