@@ -10,6 +10,8 @@ use Rattle.drain_cli.specs.declared.args.command_line.Request.{Request}
 use Rattle.drain_cli.specs.declared.args.command_line.Request.TheVariants.{Audit, Check, Explain, Make, Fill, Header}
 use Rattle.drain_cli.specs.declared.args.commands.TheConstants.{DEFAULT_SIDE}
 use Rattle.drain_cli.specs.FilePaths.{raster_ending}
+use Rattle.drain_parts.specs.declared.given.Given.{Given}
+use Rattle.drain_parts.specs.declared.given.Given.TheVariants.{Con, ConDir, ConDirAcc, ConDirBas}
 
 -- a flag is set exactly if it is there: its value is then true
 abbrev pub IsFlag : Text → Found → Bool → Type 0
@@ -36,9 +38,21 @@ abbrev pub IsMap : Found → Option (Bor Text) → Type 0
 IsMap f None = first_value f (codes "map") ≡ None
 IsMap f (Some stem) = first_value f (codes "map") ≡ Some (stem.now ++ raster_ending)
 
+-- the list of rasters as it is written
+abbrev pub list_text : Given → Text
+list_text Con = codes "con"
+list_text ConDir = codes "con,dir"
+list_text ConDirAcc = codes "con,dir,acc"
+list_text ConDirBas = codes "con,dir,bas"
+
+-- the rasters are those of the list that is given; without one, or with all four in it, they are all four
+abbrev pub IsOnly : Found → Option Given → Type 0
+IsOnly f None = (first_value f (codes "only") ≡ None) ⊎ (first_value f (codes "only") ≡ Some (codes "con,dir,acc,bas"))
+IsOnly f (Some given) = first_value f (codes "only") ≡ Some (list_text given)
+
 -- the name of a command, and the values of its arguments, make this request
 abbrev pub IsRequestOf : Text → Found → Request → Type 0
-IsRequestOf name f (Audit judged) = (name ≡ codes "audit") × IsJudged f judged
+IsRequestOf name f (Audit asked) = (name ≡ codes "audit") × (IsJudged f asked.judged × IsOnly f asked.only)
 IsRequestOf name f (Check judged) = (name ≡ codes "check") × IsJudged f judged
 IsRequestOf name f (Explain asked) =
     (name ≡ codes "explain") × (IsJudged f asked.judged × (IsMap f asked.map × IsFlag (codes "json") f asked.json))

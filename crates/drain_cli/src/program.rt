@@ -8,11 +8,11 @@ ghost use Rattle.drain_mosaic.specs.Tiling.{extent_of};
 
 use crate::args::asked_form::asked_form;
 use crate::args::command_line;
-use crate::args::command_line::{Judged, Request};
+use crate::args::command_line::{Audited, Judged, Request};
 use crate::files::file_id::{FileId, is_input};
 use crate::files::open_failure::print_open_failure;
 use crate::files::open_files::{OpenFault, Opener, create_files, list_at, open_tiles, set_paths};
-use crate::files::open_judged::{OpenFiles, open_judged};
+use crate::files::open_judged::{OpenFiles, open_judged, open_part};
 use crate::files::outputs::{Failure, Outputs, target_at};
 use crate::files::reason::{Reason, print_reason};
 use crate::print::{print_failure, print_text};
@@ -27,6 +27,7 @@ use crate::runs::run_check::run_check;
 use crate::runs::run_explain::JudgedProducts;
 use crate::runs::run_fill::run_fill;
 use crate::runs::run_header::run_header;
+use crate::runs::run_part_audit::run_part_audit;
 use crate::runs::write_set::write_and_place;
 use crate::status::Status;
 use clap::Error;
@@ -60,7 +61,7 @@ fn asked_words(rt: &HostRuntime) -> io::Result<Vec<String>> {
 /// Does what the arguments request, and returns the exit status.
 fn run(rt: &HostRuntime, asked: &[String], out: &mut impl ByteSink) -> u8 {
     match command_line::parse(rt.alloc(), asked) {
-        Ok(Request::Audit(judged)) => judge_files(rt, &judged, Ranks::Unasked, out),
+        Ok(Request::Audit(asked)) => audit_files(rt, &asked, out),
         Ok(Request::Check(judged)) => judge_files(rt, &judged, Ranks::Asked, out),
         Ok(Request::Explain(asked)) => explain_files(rt, &asked, out),
         Ok(
@@ -104,6 +105,27 @@ fn header_of_file(rt: &HostRuntime, path: &str, out: &mut impl ByteSink) -> u8 {
             print_reason(rt, path, Reason::of(&error));
             status
         }
+    }
+}
+
+/// Opens the tiles and the products of a folder, audits all of them or some alone, and returns the exit status.
+fn audit_files(rt: &HostRuntime, asked: &Audited<'_>, out: &mut impl ByteSink) -> u8 {
+    let judged = &asked.judged;
+    let Some(given) = asked.only else {
+        return judge_files(rt, judged, Ranks::Unasked, out);
+    };
+    let gauge = Gauge::new(rt, judged.progress);
+    match open_part(&mut Opener::new(rt), judged, given, &gauge) {
+        Ok(mut files) => run_part_audit(
+            rt.alloc(),
+            judged.side,
+            files.tiles.as_mut_slice(),
+            files.sinks.as_slice(),
+            &mut files.products,
+            given,
+            out,
+        ),
+        Err(fault) => print_open_fault(rt, fault, out),
     }
 }
 

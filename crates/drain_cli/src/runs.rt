@@ -10,6 +10,7 @@ pub mod run_check;
 pub mod run_explain;
 pub mod run_fill;
 pub mod run_header;
+pub mod run_part_audit;
 pub mod seam_facts;
 pub mod sink_facts;
 pub mod write_set;

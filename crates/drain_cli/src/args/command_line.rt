@@ -2,22 +2,23 @@
 
 ghost use Rattle.std.specs.Prelude.{IfOk, codes};
 ghost use Rattle.clap.specs.Matches.{found_of};
-ghost use Rattle.drain_cli.specs.Requests.{IsJudged, IsMap, IsRequestOf};
+ghost use Rattle.drain_cli.specs.Requests.{IsJudged, IsMap, IsOnly, IsRequestOf};
 
 use crate::args::clusters::first_cluster;
-use crate::args::commands::{EXPLAIN, command, program};
-use crate::args::explain_texts;
+use crate::args::commands::{AUDIT, EXPLAIN, command, program};
+use crate::args::{explain_texts, help_texts};
 use crate::args::given::{flag_given, option_given, side_given, text_given, tiles_given};
 use crate::files::file_paths::map_stem;
 use clap::error::ErrorKind;
 use clap::{ArgMatches, Error};
+use drain_parts::Given;
 use std::alloc::{AllocError, Global};
 
 /// The request of the arguments.
 #[derive(Drop)]
 pub enum Request<'a> {
-    /// `drain audit`: check the four products in this folder, without ranks.
-    Audit(Judged<'a>),
+    /// `drain audit`: check the four products in this folder, or some of them alone, without ranks.
+    Audit(Audited<'a>),
     /// `drain check`: check the five products in this folder.
     Check(Judged<'a>),
     /// `drain explain`: report what is wrong with the products in this folder, where, and how much of it.
@@ -50,6 +51,13 @@ pub struct Judged<'a> {
     pub sinks: Option<&'a str>,
     pub tiles: Vec<&'a str>,
     pub progress: bool,
+}
+
+/// What is to be audited: all four products, or these alone.
+#[derive(Drop)]
+pub struct Audited<'a> {
+    pub judged: Judged<'a>,
+    pub only: Option<Given>,
 }
 
 /// What is to be explained, as a text or as JSON; and the path of a map of the faults, without `.bil`.
@@ -101,7 +109,7 @@ pub fn request_of<'a>(
     ensures { IfOk result (IsRequestOf name.now (found_of given.now)) }
 {
     match name {
-        "audit" => Ok(Request::Audit(to_judge(alloc, given)?)),
+        "audit" => audit_request(alloc, given),
         "check" => Ok(Request::Check(to_judge(alloc, given)?)),
         "explain" => explain_request(alloc, given),
         "make" => Ok(make_request(alloc, given)?),
@@ -127,6 +135,44 @@ fn to_judge<'a>(alloc: Global, given: &ArgMatches<'a>) -> Result<Judged<'a>, All
         tiles,
         progress: flag_given(given, "progress"),
     })
+}
+
+/// What is to be audited.
+fn audit_request<'a>(alloc: Global, given: &ArgMatches<'a>) -> Result<Request<'a>, Error>
+    ensures { IfOk result (IsRequestOf (codes "audit") (found_of given.now)) }
+{
+    let Ok(only) = only_given(given) else {
+        return Err(bad_list(alloc)?);
+    };
+    let judged = to_judge(alloc, given)?;
+    Ok(Request::Audit(Audited { judged, only }))
+}
+
+/// The list of rasters is another one.
+#[derive(Clone, Copy)]
+struct OtherList;
+
+/// Which rasters are audited alone, none for all four.
+fn only_given(given: &ArgMatches<'_>) -> Result<Option<Given>, OtherList>
+    ensures { IfOk result (IsOnly (found_of given.now)) }
+{
+    let Some(list) = option_given(given, "only") else {
+        return Ok(None);
+    };
+    match list {
+        "con" => Ok(Some(Given::Con)),
+        "con,dir" => Ok(Some(Given::ConDir)),
+        "con,dir,acc" => Ok(Some(Given::ConDirAcc)),
+        "con,dir,bas" => Ok(Some(Given::ConDirBas)),
+        "con,dir,acc,bas" => Ok(None),
+        _ => Err(OtherList),
+    }
+}
+
+/// The usage error for another list.
+fn bad_list(alloc: Global) -> Result<Error, AllocError> {
+    let mut command = command(alloc, &AUDIT)?.bin_name("drain audit")?;
+    command.error(ErrorKind::ValueValidation, help_texts::BAD_LIST)
 }
 
 /// What is to be explained.

@@ -20,6 +20,7 @@ enum Word {
     Side,
     Products,
     Out,
+    Only,
     Sinks,
     Progress,
     Map,
@@ -37,7 +38,7 @@ const DEFAULT_SIDE_WORD: &str = "1201";
 const VERSION: &str = "0.1.0
 logic dac8208d650f15bf";
 
-const AUDIT: Described = Described {
+pub(crate) const AUDIT: Described = Described {
     name: "audit",
     about: help_texts::AUDIT_ABOUT,
     long_about: help_texts::AUDIT_LONG_ABOUT,
@@ -45,6 +46,7 @@ const AUDIT: Described = Described {
     words: &[
         Word::Side,
         Word::Products,
+        Word::Only,
         Word::Sinks,
         Word::Progress,
         Word::Tiles,
@@ -168,6 +170,7 @@ fn argument<'a>(alloc: Global, word: Word) -> Arg<'a> {
         Word::Side => side(alloc),
         Word::Products => folder(alloc, "products", help_texts::PRODUCTS_HELP),
         Word::Out => folder(alloc, "out", help_texts::OUT_HELP),
+        Word::Only => only(alloc),
         Word::Sinks => file(alloc, "sinks", help_texts::SINKS_HELP),
         Word::Progress => flag(alloc, "progress", help_texts::PROGRESS_HELP),
         Word::Map => file(alloc, "map", explain_texts::MAP_HELP),
@@ -201,6 +204,10 @@ fn flag<'a>(alloc: Global, name: &'static str, help: &'static str) -> Arg<'a> {
         .long(name)
         .action(ArgAction::SetTrue)
         .help(help)
+}
+
+fn only<'a>(alloc: Global) -> Arg<'a> {
+    path(alloc, "only", "LIST", help_texts::ONLY_HELP).long("only")
 }
 
 fn tiles<'a>(alloc: Global) -> Arg<'a> {

@@ -49,7 +49,10 @@ Accepts the rasters if and only if they are correct: con is the lowest surface a
 water reaches an edge, a void or a listed sink, no direction climbs, every path of directions ends at an
 outlet, acc is the number of cells upstream, and two cells have the same label exactly if they drain to the
 same outlet. What is rejected is not correct. Ranks, which drain check needs, are not opened. One byte is
-held for each cell. All files are opened first. Prints one line."
+held for each cell. All files are opened first. Prints one line.
+
+With --only LIST it judges the rasters of the list alone, and opens no others. It accepts them if and only
+if they are part of a correct set: if values of the other rasters exist that make it correct."
 );
 
 pub const AUDIT_AFTER: &str = judged_after!(
@@ -143,6 +146,12 @@ Example:
   drain header rasters/con.hdr";
 
 pub const OUT_HELP: &str = "The folder to write the rasters into";
+
+pub const ONLY_HELP: &str =
+    "Audit these rasters alone: con, or con,dir, or con,dir,acc, or con,dir,bas";
+
+pub const BAD_LIST: &str =
+    "the list must be con, or con,dir, or con,dir,acc, or con,dir,bas, or con,dir,acc,bas";
 
 pub const PRODUCTS_HELP: &str = "The folder of the rasters";
 

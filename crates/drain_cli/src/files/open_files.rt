@@ -18,13 +18,14 @@ use drain_device::{BodyFault, ByteList, Reader, Writer};
 use drain_hgt::TileInput;
 use drain_maker::product_files::{Part, SET_FILES, SetFile};
 use drain_mosaic::Layout;
+use drain_parts::MaybeSource;
 use std::alloc::{AllocError, Global};
 use std::fs::File;
 use std::io;
 use std::io::ErrorKind;
 
-/// A file to read, and one to write; rows of each may be counted.
-pub type InputFile<'a> = Watched<'a, Reader<File>>;
+/// A file to read, or zeros in place of a missing raster, and a file to write; rows of each may be counted.
+pub type InputFile<'a> = Watched<'a, MaybeSource<Reader<File>>>;
 
 pub type OutputFile<'g, 'a> = Watched<'g, Writer<OutputSink<'a>>>;
 
@@ -136,7 +137,7 @@ fn open_tile<'a>(opener: &mut Opener<'_>, path: &str) -> Result<TileInput<InputF
     ensures { IfOk result (λ tile. IsLastPart path.now tile.name) }
 {
     let name = Vec::from_slice(opener.alloc(), tile_name(path.as_bytes()))?;
-    let body = Watched::new(opener.open(path)?);
+    let body = Watched::new(MaybeSource::Given(opener.open(path)?));
     Ok(TileInput {
         name: ByteList::new(name),
         body,

@@ -12,8 +12,10 @@ use drain_device::{ByteList, read_body};
 use drain_grid::{PerProduct, Product};
 use drain_header::{MAX_HEADER_BYTES, parse_header};
 use drain_hgt::TileInput;
+use drain_parts::{Given, MaybeSource};
 use drain_rules::Ranks;
 use drain_verdict::{AuditProducts, Products, RasterInput};
+use std::alloc::Global;
 
 /// The files of a check or an audit, of which only the headers and the list of sinks have been read.
 #[derive(Drop)]
@@ -44,6 +46,60 @@ pub fn open_judged<'a>(
         products,
         sinks,
     })
+}
+
+/// The files of an audit of some rasters, of which only the headers and the list of sinks have been read.
+#[derive(Drop)]
+pub struct PartFiles<'a> {
+    pub tiles: Vec<TileInput<InputFile<'a>>>,
+    pub products: AuditProducts<InputFile<'a>>,
+    pub sinks: Vec<u8>,
+}
+
+/// Opens the files of an audit of these rasters alone. No file of another raster is opened.
+pub fn open_part<'a>(
+    opener: &mut Opener<'_>,
+    judged: &Judged<'_>,
+    given: Given,
+    gauge: &'a Gauge<'a>,
+) -> Result<PartFiles<'a>, OpenFault> {
+    let tiles = open_tiles(opener, judged.tiles.as_slice())?;
+    let folder = judged.products;
+    let mut con = open_product(opener, folder, Product::Con)?;
+    let dir = open_given(opener, folder, Product::Dir, given.has_dir(), &con)?;
+    let acc = open_given(opener, folder, Product::Acc, given.has_acc(), &con)?;
+    let bas = open_given(opener, folder, Product::Bas, given.has_bas(), &con)?;
+    watch_con(&mut con, gauge);
+    let sinks = list_at(opener, judged.sinks)?;
+    Ok(PartFiles {
+        tiles,
+        products: AuditProducts { con, dir, acc, bas },
+        sinks,
+    })
+}
+
+/// Opens a product if it is given; else con's header and zeros take its place, which no rule looks at.
+fn open_given<'a>(
+    opener: &mut Opener<'_>,
+    folder: &str,
+    product: Product,
+    is_given: bool,
+    con: &RasterInput<InputFile<'a>>,
+) -> Result<RasterInput<InputFile<'a>>, OpenFault> {
+    if is_given {
+        return open_product(opener, folder, product);
+    }
+    missing_like(opener.alloc(), con)
+}
+
+/// A missing product, with the header of one that is there, and zeros.
+pub fn missing_like<'a>(
+    alloc: Global,
+    there: &RasterInput<InputFile<'a>>,
+) -> Result<RasterInput<InputFile<'a>>, OpenFault> {
+    let header = ByteList::new(Vec::from_slice(alloc, there.header.as_slice())?);
+    let body = Watched::new(MaybeSource::missing());
+    Ok(RasterInput { header, body })
 }
 
 /// Opens the products of an audit.
@@ -103,7 +159,7 @@ fn open_product<'a>(
     let header = header_path(opener.alloc(), folder, product)?;
     let header = read_header(opener, header.as_str())?;
     let raster = raster_path(opener.alloc(), folder, product)?;
-    let body = Watched::new(opener.open(raster.as_str())?);
+    let body = Watched::new(MaybeSource::Given(opener.open(raster.as_str())?));
     Ok(RasterInput { header, body })
 }
 
