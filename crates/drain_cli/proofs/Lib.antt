@@ -4,6 +4,7 @@ pub mod ExplainLemmas
 pub mod HeaderLemmas
 pub mod LineSteps
 pub mod PaceLemmas
+pub mod PartLemmas
 pub mod PathLemmas
 pub mod PrintLemmas
 pub mod RoundTrips

@@ -1,6 +1,7 @@
 pub mod AuditRuns
 pub mod CheckRuns
 pub mod Clusters
+pub mod DerivedSets
 pub mod ExplainRuns
 pub mod Failures
 pub mod FileIds
@@ -12,6 +13,7 @@ pub mod MadeSets
 pub mod MapFiles
 pub mod OpenFailures
 pub mod Pace
+pub mod PartRuns
 pub mod Placings
 pub mod Printing
 pub mod Requests

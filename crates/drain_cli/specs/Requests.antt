@@ -7,7 +7,7 @@ use Rattle.clap.specs.Walk.{Text}
 use Rattle.clap.specs.declared.parser.matches.Found.{Found}
 use Rattle.drain_cli.specs.declared.args.command_line.Judged.{Judged}
 use Rattle.drain_cli.specs.declared.args.command_line.Request.{Request}
-use Rattle.drain_cli.specs.declared.args.command_line.Request.TheVariants.{Audit, Check, Explain, Make, Fill, Header}
+use Rattle.drain_cli.specs.declared.args.command_line.Request.TheVariants.{Audit, Check, Derive, Explain, Make, Fill, Header}
 use Rattle.drain_cli.specs.declared.args.commands.TheConstants.{DEFAULT_SIDE}
 use Rattle.drain_cli.specs.FilePaths.{raster_ending}
 use Rattle.drain_parts.specs.declared.given.Given.{Given}
@@ -60,5 +60,7 @@ IsRequestOf name f (Make side folder sinks tiles progress) =
     (name ≡ codes "make") × (IsSide f side × ((folder.now ≡ unwrap_or (first_value f (codes "out")) [])
     × ((option_map (λ path. path.now) sinks ≡ first_value f (codes "sinks"))
     × ((map (λ path. path.now) tiles.items ≡ unwrap_or (option_map raw_values (matched_of f (codes "tiles"))) []) × IsFlag (codes "progress") f progress))))
+IsRequestOf name f (Derive asked) =
+    (name ≡ codes "derive") × (IsJudged f asked.judged × (asked.out.now ≡ unwrap_or (first_value f (codes "out")) []))
 IsRequestOf name f (Fill side) = (name ≡ codes "fill") × IsSide f side
 IsRequestOf name f (Header path) = (name ≡ codes "header") × (path.now ≡ unwrap_or (first_value f (codes "file")) [])

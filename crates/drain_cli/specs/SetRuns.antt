@@ -13,11 +13,15 @@ use Rattle.drain_maker.specs.declared.product_files.SetFault.TheVariants.{WriteF
 use Rattle.drain_cli.specs.declared.runs.make_set.NoSet.{NoSet}
 use Rattle.drain_cli.specs.declared.runs.make_set.NoSet.TheVariants.{Tiles, Sinks, Maker}
 
--- the line for the result of writing: made rows=R cols=C
-abbrev pub written_line : Tiling → Result (Unit {0}) SetFault → List ℕ
-written_line t (Ok done) = codes "made rows=" ++ decimal (extent_of t).rows ++ codes " cols=" ++ decimal (extent_of t).cols
-written_line t (Err WriteFailed) = codes "failed WriteFailed"
-written_line t (Err OutOfMemory) = codes "failed OutOfMemory"
+-- the line for the result of writing: these words, R cols=C
+abbrev pub written_line : List ℕ → Tiling → Result (Unit {0}) SetFault → List ℕ
+written_line text t (Ok done) = text ++ decimal (extent_of t).rows ++ codes " cols=" ++ decimal (extent_of t).cols
+written_line text t (Err WriteFailed) = codes "failed WriteFailed"
+written_line text t (Err OutOfMemory) = codes "failed OutOfMemory"
+
+-- that of products: made rows=R cols=C
+abbrev pub made_line : Tiling → Result (Unit {0}) SetFault → List ℕ
+made_line = written_line (codes "made rows=")
 
 -- its status
 abbrev pub written_status : Result (Unit {0}) SetFault → Status

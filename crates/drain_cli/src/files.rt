@@ -8,6 +8,7 @@ pub mod open_failure;
 pub mod open_files;
 pub mod open_judged;
 pub mod outputs;
+pub mod overwriting;
 pub mod placing;
 pub mod reason;
 pub mod sink_file;

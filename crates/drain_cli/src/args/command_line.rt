@@ -32,6 +32,9 @@ pub enum Request<'a> {
         tiles: Vec<&'a str>,
         progress: bool,
     },
+    /// `drain derive`: compute accumulation, labels and ranks of the directions in this folder, and write them into
+    /// another.
+    Derive(Derivation<'a>),
     /// `drain fill`: check a conditioned surface from standard input.
     Fill {
         side: u32,
@@ -58,6 +61,13 @@ pub struct Judged<'a> {
 pub struct Audited<'a> {
     pub judged: Judged<'a>,
     pub only: Option<Given>,
+}
+
+/// What is to be derived from, and the folder for it.
+#[derive(Drop)]
+pub struct Derivation<'a> {
+    pub judged: Judged<'a>,
+    pub out: &'a str,
 }
 
 /// What is to be explained, as a text or as JSON; and the path of a map of the faults, without `.bil`.
@@ -113,6 +123,7 @@ pub fn request_of<'a>(
         "check" => Ok(Request::Check(to_judge(alloc, given)?)),
         "explain" => explain_request(alloc, given),
         "make" => Ok(make_request(alloc, given)?),
+        "derive" => Ok(derive_request(alloc, given)?),
         "fill" => Ok(Request::Fill {
             side: side_given(given),
         }),
@@ -225,4 +236,15 @@ fn make_request<'a>(alloc: Global, given: &ArgMatches<'a>) -> Result<Request<'a>
         tiles,
         progress: flag_given(given, "progress"),
     })
+}
+
+/// What is to be derived.
+fn derive_request<'a>(alloc: Global, given: &ArgMatches<'a>) -> Result<Request<'a>, AllocError>
+    ensures { IfOk result (IsRequestOf (codes "derive") (found_of given.now)) }
+{
+    let judged = to_judge(alloc, given)?;
+    Ok(Request::Derive(Derivation {
+        judged,
+        out: text_given(given, "out"),
+    }))
 }

@@ -97,6 +97,20 @@ const MAKE: Described = Described {
     ],
 };
 
+const DERIVE: Described = Described {
+    name: "derive",
+    about: help_texts::DERIVE_ABOUT,
+    long_about: help_texts::DERIVE_LONG_ABOUT,
+    after: help_texts::DERIVE_AFTER,
+    words: &[
+        Word::Side,
+        Word::Products,
+        Word::Out,
+        Word::Sinks,
+        Word::Tiles,
+    ],
+};
+
 const FILL: Described = Described {
     name: "fill",
     about: help_texts::FILL_ABOUT,
@@ -114,7 +128,7 @@ const HEADER: Described = Described {
 };
 
 /// The commands, in the order of the program's help.
-static COMMANDS: [Described; 6] = [AUDIT, CHECK, EXPLAIN, MAKE, FILL, HEADER];
+static COMMANDS: [Described; 7] = [AUDIT, CHECK, EXPLAIN, MAKE, DERIVE, FILL, HEADER];
 
 /// The program and its commands.
 pub(crate) fn program<'a>(alloc: Global) -> Result<Command<'a>, AllocError> {

@@ -4,6 +4,8 @@ ghost use Rattle.std.specs.Prelude.{◌≡◌, IfOk, List, ℕ};
 ghost use Rattle.drain_cli.specs.OpenFailures.{open_failure_line, IsOpenFailure};
 ghost use Rattle.drain_cli.specs.Printing.{PrintsText};
 
+use crate::files::open_files::OpenFault;
+use crate::files::reason::print_reason;
 use crate::print::{print_failure, print_text};
 use crate::status::Status;
 use drain_device::{BodyFault, ByteSink};
@@ -29,4 +31,16 @@ fn line_of(alloc: Global, path: &str) -> Result<Vec<u8>, AllocError>
     line.extend_from_slice(path.as_bytes())?;
     line.extend_from_slice(b"\n")?;
     Ok(line)
+}
+
+/// Prints why files aren't open, and returns the exit status.
+pub fn print_open_fault(rt: &HostRuntime, fault: OpenFault, out: &mut impl ByteSink) -> u8 {
+    match fault {
+        OpenFault::Open(path, reason) => {
+            let status = print_open_failure(rt.alloc(), out, path.as_str());
+            print_reason(rt, path.as_str(), reason);
+            status
+        }
+        OpenFault::Body(fault) => print_failure(out, fault),
+    }
 }

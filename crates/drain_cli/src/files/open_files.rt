@@ -4,6 +4,7 @@ ghost use Rattle.std.specs.Prelude.{◌≡◌, IfOk, length, string_bytes, vec_l
 ghost use Rattle.std.specs.List.{AllZip};
 ghost use Rattle.drain_hgt.specs.Inputs.{names_of};
 ghost use Rattle.drain_cli.specs.FilePaths.{IsLastPart, IsPathOf};
+ghost use Rattle.drain_derive.specs.declared.derived_files.TheConstants.{DERIVED_COUNT, DERIVED_FILES};
 ghost use Rattle.drain_maker.specs.declared.product_files.TheConstants.{FILE_COUNT, SET_FILES};
 
 use crate::files::file_id::FileId;
@@ -14,6 +15,7 @@ use crate::files::sink_file::read_list;
 use crate::progress::gauge::Gauge;
 use crate::progress::watched::Watched;
 use crate::progress::watched_rows::file_rows;
+use drain_derive::derived_files::DERIVED_FILES;
 use drain_device::{BodyFault, ByteList, Reader, Writer};
 use drain_hgt::TileInput;
 use drain_maker::product_files::{Part, SET_FILES, SetFile};
@@ -164,6 +166,18 @@ pub fn set_paths(alloc: Global, folder: &str) -> Result<Vec<String>, AllocError>
 {
     let mut paths = Vec::new(alloc);
     for file in SET_FILES {
+        paths.push(path_of(alloc, folder, file)?)?;
+    }
+    Ok(paths)
+}
+
+/// The paths of the files of derived rasters in this folder, in the order of `DERIVED_FILES`.
+pub fn derived_paths(alloc: Global, folder: &str) -> Result<Vec<String>, AllocError>
+    ensures paths { IfOk result (λ paths. AllZip (λ file path. IsPathOf folder.now file (string_bytes path)) DERIVED_FILES paths.items) }
+    ensures count { IfOk result (λ paths. vec_len paths ≡ DERIVED_COUNT) }
+{
+    let mut paths = Vec::new(alloc);
+    for file in DERIVED_FILES {
         paths.push(path_of(alloc, folder, file)?)?;
     }
     Ok(paths)

@@ -78,6 +78,25 @@ pub fn open_part<'a>(
     })
 }
 
+/// Opens the tiles, the directions and the list of sinks. Directions alone are given: their header and zeros take the
+/// place of the other rasters.
+pub fn open_directions<'a>(
+    opener: &mut Opener<'_>,
+    judged: &Judged<'_>,
+) -> Result<PartFiles<'a>, OpenFault> {
+    let tiles = open_tiles(opener, judged.tiles.as_slice())?;
+    let dir = open_product(opener, judged.products, Product::Dir)?;
+    let con = missing_like(opener.alloc(), &dir)?;
+    let acc = missing_like(opener.alloc(), &dir)?;
+    let bas = missing_like(opener.alloc(), &dir)?;
+    let sinks = list_at(opener, judged.sinks)?;
+    Ok(PartFiles {
+        tiles,
+        products: AuditProducts { con, dir, acc, bas },
+        sinks,
+    })
+}
+
 /// Opens a product if it is given; else con's header and zeros take its place, which no rule looks at.
 fn open_given<'a>(
     opener: &mut Opener<'_>,
@@ -93,7 +112,7 @@ fn open_given<'a>(
 }
 
 /// A missing product, with the header of one that is there, and zeros.
-pub fn missing_like<'a>(
+fn missing_like<'a>(
     alloc: Global,
     there: &RasterInput<InputFile<'a>>,
 ) -> Result<RasterInput<InputFile<'a>>, OpenFault> {

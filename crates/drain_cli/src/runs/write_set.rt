@@ -1,6 +1,6 @@
 //! The last part of a run of `drain make`: the files are written and get their names, and the result is printed.
 
-ghost use Rattle.std.specs.Prelude.{◌≡◌, ◌++◌, length, Result, codes, decimal};
+ghost use Rattle.std.specs.Prelude.{◌≡◌, ◌++◌, ◌≤◌, length, Result, codes, decimal};
 ghost use Rattle.drain_mosaic.specs.Tiling.{Tiling, extent_of};
 ghost use Rattle.drain_maker.specs.Made.{CanBeWritten};
 ghost use Rattle.drain_maker.specs.declared.product_files.SetFault.{SetFault};
@@ -8,7 +8,7 @@ ghost use Rattle.drain_maker.specs.declared.product_files.TheConstants.{FILE_COU
 ghost use Rattle.drain_cli.specs.Placings.{IsPlaced};
 ghost use Rattle.drain_cli.specs.Printing.{Prints};
 ghost use Rattle.drain_maker.specs.ProductFiles.{WritesFiles, set_bytes};
-ghost use Rattle.drain_cli.specs.SetRuns.{written_line, written_status};
+ghost use Rattle.drain_cli.specs.SetRuns.{made_line, written_line, written_status};
 
 use crate::files::placing::{InPlace, Placing, place_written};
 use crate::print::print_line;
@@ -38,7 +38,7 @@ pub fn write_set<F: ByteSink, W: ByteSink>(
     requires written { CanBeWritten layout.now products.now }
     ensures run { (done : Result (Unit {0}) SetFault)
         × WritesFiles F.ByteSink files.old files.new (set_bytes layout.now products.now) done
-        × Prints W.ByteSink out.old out.new (written_line layout.now done) (written_status done) result }
+        × Prints W.ByteSink out.old out.new (made_line layout.now done) (written_status done) result }
 {
     write_and_place(alloc, layout, products, files, &mut InPlace, out)
 }
@@ -61,28 +61,31 @@ pub fn write_and_place<F: ByteSink, P: Placing, W: ByteSink>(
     ensures run { (done told : Result (Unit {0}) SetFault)
         × WritesFiles F.ByteSink files.old files.new (set_bytes layout.now products.now) done
         × IsPlaced P.has_placed places.old places.new done told
-        × Prints W.ByteSink out.old out.new (written_line layout.now told) (written_status told) result }
+        × Prints W.ByteSink out.old out.new (made_line layout.now told) (written_status told) result }
 {
     let done = write_files(alloc, layout, products, files);
     let told = place_written(done, places);
-    print_line(out, &line_of(layout.shape(), &told), status_of(&told))
+    print_line(out, &line_of("made rows=", layout.shape(), &told), status_of(&told))
 }
 
-/// The line for the result of writing products of this shape.
-fn line_of(shape: Shape, done: &Result<(), SetFault>) -> Line
-    ensures { (t : Tiling) → shape ≡ extent_of t → result.bytes ≡ written_line t done.now }
+/// The line for the result of writing rasters of this shape: these words and the numbers of rows and columns, if all
+/// were written.
+pub(crate) fn line_of(text: &'static str, shape: Shape, done: &Result<(), SetFault>) -> Line
+    requires { length text.now ≤ 40 }
+    ensures { (t : Tiling) → shape ≡ extent_of t → result.bytes ≡ written_line text.now t done.now }
 {
     match done {
-        Ok(()) => made_line(shape),
+        Ok(()) => shape_line(text, shape),
         Err(SetFault::WriteFailed) => words("failed WriteFailed"),
         Err(SetFault::OutOfMemory) => words("failed OutOfMemory"),
     }
 }
 
-fn made_line(shape: Shape) -> Line
-    ensures { result.bytes ≡ codes "made rows=" ++ decimal shape.rows ++ codes " cols=" ++ decimal shape.cols }
+fn shape_line(text: &'static str, shape: Shape) -> Line
+    requires { length text.now ≤ 40 }
+    ensures { result.bytes ≡ text.now ++ decimal shape.rows ++ codes " cols=" ++ decimal shape.cols }
 {
-    let mut line = words("made rows=");
+    let mut line = words(text);
     push_number(&mut line, shape.rows());
     line.push_str(" cols=");
     push_number(&mut line, shape.cols());
@@ -90,7 +93,7 @@ fn made_line(shape: Shape) -> Line
 }
 
 /// The exit status for the result of writing.
-fn status_of(done: &Result<(), SetFault>) -> Status
+pub(crate) fn status_of(done: &Result<(), SetFault>) -> Status
     ensures { result ≡ written_status done.now }
 {
     match done {

@@ -1,0 +1,43 @@
+-- How a run of `drain derive` ends: with files that were written, or with the reason why nothing was derived.
+use Rattle.std.specs.Prelude.{◌≡◌, ℕ, List, Option, Result, Err, codes}
+use Rattle.drain_answer.specs.AuditLines.{no_end_line}
+use Rattle.drain_answer.specs.Lines.{refusal_line}
+use Rattle.drain_answer.specs.declared.refusal.Refusal.{Refusal}
+use Rattle.drain_answer.specs.declared.refusal.Refusal.TheVariants.{BadHeader, WrongShape, Misplaced}
+use Rattle.drain_derive.specs.Reading.{IsNoDerivation, IsReadDerivation}
+use Rattle.drain_derive.specs.declared.derived.Derived.{Derived}
+use Rattle.drain_derive.specs.declared.reading.DeriveRefusal.{DeriveRefusal}
+use Rattle.drain_derive.specs.declared.reading.DeriveRefusal.TheVariants.{Refused, NoEnd}
+use Rattle.drain_device.specs.Devices.{Source}
+use Rattle.drain_grid.specs.declared.product.Product.TheVariants.{Con, Dir}
+use Rattle.drain_hgt.specs.declared.input.TileInput.{TileInput}
+use Rattle.drain_maker.specs.declared.product_files.SetFault.{SetFault}
+use Rattle.drain_mosaic.specs.Tiling.{Tiling}
+use Rattle.drain_verdict.specs.Audits.{OfFour}
+use Rattle.drain_verdict.specs.Uses.{AuditUses}
+use Rattle.drain_verdict.specs.declared.audit_products.AuditProducts.{AuditProducts}
+use Rattle.drain_cli.specs.SetRuns.{written_line}
+use Rattle.drain_cli.specs.Statuses.{refusal_status}
+use Rattle.drain_cli.specs.declared.status.Status.{Status}
+use Rattle.drain_cli.specs.declared.status.Status.TheVariants.{Rejected}
+
+-- the line for the result of writing: derived rows=R cols=C
+abbrev pub derived_line : Tiling → Result (Unit {0}) SetFault → List ℕ
+derived_line = written_line (codes "derived rows=")
+
+-- a refusal of con's header, which is dir's, is told of dir
+abbrev pub told_of_dir : Refusal → Refusal
+told_of_dir (BadHeader Con fault) = BadHeader Dir fault
+told_of_dir (WrongShape Con) = WrongShape Dir
+told_of_dir (Misplaced Con) = Misplaced Dir
+told_of_dir refusal = refusal
+
+-- the line that says why nothing was derived
+abbrev pub none_line : DeriveRefusal → List ℕ
+none_line (Refused refusal) = refusal_line (told_of_dir refusal)
+none_line (NoEnd row col) = no_end_line row col
+
+-- its status: rejected if a path doesn't end, else that of the refusal
+abbrev pub none_status : DeriveRefusal → Status
+none_status (Refused refusal) = refusal_status refusal
+none_status (NoEnd row col) = Rejected

@@ -1,0 +1,77 @@
+//! The first part of a run of `drain derive`: tiles and directions are read, and what follows from these is computed.
+
+ghost use Rattle.std.specs.Prelude.{◌≡◌, IfOk, IfErr, OnOk};
+ghost use Rattle.drain_cli.specs.DerivedSets.{IsDerivedOf, IsNotDerived, none_line, none_status, told_of_dir};
+ghost use Rattle.drain_cli.specs.Printing.{Prints};
+ghost use Rattle.drain_derive.specs.DerivedFiles.{CanBeDerived};
+ghost use Rattle.drain_derive.specs.declared.reading.DeriveRefusal.{DeriveRefusal};
+
+use crate::print::print_line;
+use crate::status::Status;
+use drain_answer::answer_report::refusal_line;
+use drain_answer::audit_report;
+use drain_answer::line::Line;
+use drain_derive::{DeriveRefusal, Derived, derive};
+use drain_device::{ByteSink, ByteSource};
+use drain_grid::Product;
+use drain_hgt::TileInput;
+use drain_mosaic::Layout;
+use drain_verdict::{AuditProducts, AuditVerdict, Refusal};
+use std::alloc::Global;
+
+/// Reads tiles and directions, and computes accumulation, labels and ranks of these. If they can't be computed, it
+/// prints why and returns the exit status: 1 for `rejected NoEnd`, 2 for a refusal, 3 for `failed OutOfMemory` and
+/// `failed ReadFailed`, and if the line can't be written.
+///
+/// Of the products only dir matters; a refusal of con's header is told of dir's, since con is to have the same header.
+pub fn derive_set<R: ByteSource, W: ByteSink>(
+    alloc: Global,
+    side: u32,
+    tiles: &mut [TileInput<R>],
+    sinks: &[u8],
+    products: &mut AuditProducts<R>,
+    out: &mut W,
+) -> Result<(Layout, Derived), u8>
+    ensures derived { IfOk result (λ set. IsDerivedOf R.bytes_left side tiles.old sinks.now products.old set.0 set.1) }
+    ensures written { IfOk result (λ set. CanBeDerived set.0 set.1) }
+    ensures quiet { OnOk result (out.new ≡ out.old) }
+    ensures refused { IfErr result (λ code. (why : DeriveRefusal) × IsNotDerived R.ByteSource side (tiles.old, products.old) (tiles.new, products.new) sinks.now why
+        × Prints W.ByteSink out.old out.new (none_line why) (none_status why) code) }
+{
+    match derive(alloc, side, tiles, sinks, products) {
+        Ok(set) => Ok(set),
+        Err(why) => Err(print_line(out, &line_of(why), status_of(why))),
+    }
+}
+
+/// The line that says why nothing was derived.
+fn line_of(why: DeriveRefusal) -> Line
+    ensures { result.bytes ≡ none_line why }
+{
+    match why {
+        DeriveRefusal::Refused(refusal) => refusal_line(told_of_dir(refusal)),
+        DeriveRefusal::NoEnd { row, col } => audit_report(&Ok(AuditVerdict::NoEnd { row, col })),
+    }
+}
+
+/// The refusal, told of dir where it is told of con.
+fn told_of_dir(refusal: Refusal) -> Refusal
+    ensures { result ≡ told_of_dir refusal }
+{
+    match refusal {
+        Refusal::BadHeader(Product::Con, fault) => Refusal::BadHeader(Product::Dir, fault),
+        Refusal::WrongShape(Product::Con) => Refusal::WrongShape(Product::Dir),
+        Refusal::Misplaced(Product::Con) => Refusal::Misplaced(Product::Dir),
+        refusal => refusal,
+    }
+}
+
+/// Its exit status.
+fn status_of(why: DeriveRefusal) -> Status
+    ensures { result ≡ none_status why }
+{
+    match why {
+        DeriveRefusal::Refused(refusal) => Status::of_refusal(refusal),
+        DeriveRefusal::NoEnd { .. } => Status::Rejected,
+    }
+}
