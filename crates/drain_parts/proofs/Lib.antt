@@ -1,0 +1,4 @@
+pub mod CorrectByWays
+pub mod OwnRasters
+pub mod PartLocal
+pub mod SameWays

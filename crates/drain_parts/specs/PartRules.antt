@@ -1,6 +1,5 @@
 -- The rules about given rasters: those of an audit, as far as they speak of these. They are this project's own.
 use Rattle.std.specs.Prelude.{◌≡◌, ◌≢◌, IsNone, IsTrue}
-use Rattle.drain_grid.specs.declared.patch.Patch.{Patch}
 use Rattle.drain_grid.specs.declared.rule.Rule.{Rule}
 use Rattle.drain_grid.specs.declared.rule.Rule.TheVariants.{VoidCell, Missing, BadCode, BelowGround, OpenRaised, NotLeast, Slope, OutletCode, FlatStep, Accumulation, Label, SharedLabel}
 use Rattle.drain_grid.specs.Patch.{IsDataCell}
