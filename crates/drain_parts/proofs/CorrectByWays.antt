@@ -56,8 +56,8 @@ module _ (g : Grid) (ps : Products) (nodata : NoDataNumbers) (ends : (c : Cell) 
   pub counts_by_rules : RulesHold (unranked nodata) IsCountRule g ps → (c : Cell) → HasData g c → ps.acc c ≡ pos (upstream_count g ps c)
   counts_by_rules rules = counts_upstream g ps (with_steps IsCountRule (λ r own. (own.0, omega (arith, own.1))) rules)
 
-  pub labels_by_rules : RulesHold (unranked nodata) IsWayRule g ps → RulesHold (unranked nodata) IsLabelRule g ps → (a b : Cell) → HasData g a → HasData g b →
-      (ps.bas a ≡ ps.bas b) ↔ ShareBasin g ps a b
+  pub labels_by_rules : RulesHold (unranked nodata) IsWayRule g ps → RulesHold (unranked nodata) IsLabelRule g ps →
+      (a b : Cell) → HasData g a → HasData g b → (ps.bas a ≡ ps.bas b) ↔ ShareBasin g ps a b
   labels_by_rules ways rules =
       labels_are_basins g ps (flow_ways ways) (with_steps IsLabelRule (λ r own. (omega (arith, own.0), own.1)) rules)
 

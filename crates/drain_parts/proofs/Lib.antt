@@ -1,4 +1,10 @@
+pub mod ChosenWays
 pub mod CorrectByWays
+pub mod LeastNumbers
+pub mod NearEdges
 pub mod OwnRasters
 pub mod PartLocal
+pub mod SameHeights
 pub mod SameWays
+pub mod SteepestWays
+pub mod SurfacePart

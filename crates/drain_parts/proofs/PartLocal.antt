@@ -55,16 +55,16 @@ part_ways given g ps nodata has rules c Label inside own = absurd (omega (arith,
 part_ways given g ps nodata has rules c SharedLabel inside own = absurd (omega (arith, own.1))
 
 -- what the rules about given rasters say at a cell, apart from heights and directions
-record AreGivenRight (given : Given) (g : Grid) (ps : Products) (nodata : NoDataNumbers) (c : Cell) : Type 0 where
-  blank : IsNone (g.elevation c) → IsBlankPart given nodata (values_at g ps c)
-  complete : HasData g c → IsCompletePart given nodata (values_at g ps c)
-  counts : IfGiven (has_acc given) (AccumulationHolds (patch_at g ps c))
-  label : IfGiven (has_bas given) (LabelHolds (patch_at g ps c))
-  own_label : IfGiven (has_bas given) (SharedLabelHolds g ps c)
+pub record AreGivenRight (given : Given) (g : Grid) (ps : Products) (nodata : NoDataNumbers) (c : Cell) : Type 0 where
+  pub blank : IsNone (g.elevation c) → IsBlankPart given nodata (values_at g ps c)
+  pub complete : HasData g c → IsCompletePart given nodata (values_at g ps c)
+  pub counts : IfGiven (has_acc given) (AccumulationHolds (patch_at g ps c))
+  pub label : IfGiven (has_bas given) (LabelHolds (patch_at g ps c))
+  pub own_label : IfGiven (has_bas given) (SharedLabelHolds g ps c)
 
 module _ (given : Given) (g : Grid) (ps : Products) (nodata : NoDataNumbers) (c : Cell) (inside : IsInside g c)
     (right : AreGivenRight given g ps nodata c) (ways : (r : Rule) → IsBetween 3 12 r → HoldsAt (unranked nodata) g ps c r) where
-  part_holds : (r : Rule) → IsPartRule given r → HoldsAt (part_rules given nodata) g ps c r
+  pub part_holds : (r : Rule) → IsPartRule given r → HoldsAt (part_rules given nodata) g ps c r
   part_holds VoidCell own = λ void. right.blank void
   part_holds Missing own = λ is_data. right.complete (record { inside = inside; is_data = is_data })
   part_holds BadCode own = if_given (has_dir given) _ (ways BadCode (omega arith, omega arith))
@@ -163,7 +163,7 @@ label_rules g ps nodata label own_label c SharedLabel inside own = own_label c i
 label_rules g ps nodata label own_label c r inside own = absurd (omega (arith, own.0))
 
 -- given rasters about which the rules hold, with the rasters that directions determine
-to_part : (given : Given) (g : Grid) (ps : Products) (nodata : NoDataNumbers) → IsTrue (has_dir given) →
+pub to_part : (given : Given) (g : Grid) (ps : Products) (nodata : NoDataNumbers) → IsTrue (has_dir given) →
     ((c : Cell) → HasData g c → RunEnds g ps c) → RulesHold (part_rules given nodata) (IsPartRule given) g ps → IsPartOfCorrect given g ps nodata
 to_part Con g ps nodata has ends rules = absurd (false≢true has)
 to_part ConDir g ps nodata has ends rules =

@@ -9,49 +9,22 @@ use Rattle.drain_grid.specs.declared.rule.Rule.TheVariants.{VoidCell, Missing, B
 use Rattle.drain_grid.specs.Direction.{directions}
 use Rattle.drain_grid.specs.Extent.{step}
 use Rattle.drain_grid.specs.Values.{Values, NoDataNumbers}
-use Rattle.drain_grid.specs.Patch.{neighbor, IsOpen, HasLower}
+use Rattle.drain_grid.specs.Patch.{neighbor}
 use Rattle.drain_grid.specs.PatchRules.{inflow, total, NotLeastHolds, SlopeHolds, OutletCodeHolds, AccumulationHolds, LabelHolds}
 use Rattle.drain_grid.specs.PatchRules.{OpenRaisedWithoutSpill}
 use Rattle.drain_grid.specs.Unranked.{unranked, LevelStepHolds}
 use Rattle.drain_grid.specs.Rule.{IsBetween}
 use Rattle.drain_grid.specs.Grid.{Grid, Products, IsInside, HasData, height_at, values_at, patch_at}
 use Rattle.drain_grid.specs.GridRules.{HoldsAt}
-use Rattle.drain_grid.specs.Run.{IsLowerCell, IsSteepestCell}
-use Rattle.drain_grid.proofs.Patches.{IsOpen-patch_at, neighbor-patch_at, cell_shown, shown_cell}
-use Rattle.drain_grid.proofs.Slopes.{lower_shown, HasLower-lower_cell, steepest_cell, IsSteepest-cell}
+use Rattle.drain_grid.proofs.Patches.{neighbor-patch_at, cell_shown, shown_cell}
+use Rattle.drain_grid.proofs.Slopes.{steepest_cell, IsSteepest-cell}
 use Rattle.drain_parts.specs.declared.given.Given.TheVariants.{ConDir, ConDirAcc, ConDirBas}
 use Rattle.drain_parts.specs.PartOf.{joined}
-
--- what is lower and steepest looks at heights alone
-module _ (g : Grid) (ps rest : Products) where
-  lower_there : (c n : Cell) → IsLowerCell g ps c n → IsLowerCell g (joined ConDir ps rest) c n
-  lower_there c n h = record { from_data = h.from_data; to_data = h.to_data; beside = h.beside; below = h.below }
-
-  lower_back : (c n : Cell) → IsLowerCell g (joined ConDir ps rest) c n → IsLowerCell g ps c n
-  lower_back c n h = record { from_data = h.from_data; to_data = h.to_data; beside = h.beside; below = h.below }
-
-  steepest_there : (c n : Cell) → IsSteepestCell g ps c n → IsSteepestCell g (joined ConDir ps rest) c n
-  steepest_there c n h = record { lower = lower_there c n h.lower; greatest = λ m lower. h.greatest m (lower_back c m lower) }
-
-open_there : (g : Grid) (ps rest : Products) (c : Cell) → IsInside g c → IsOpen (patch_at g ps c) →
-    IsOpen (patch_at g (joined ConDir ps rest) c)
-open_there g ps rest c inside h = (IsOpen-patch_at g (joined ConDir ps rest) c inside).1 ((IsOpen-patch_at g ps c inside).0 h)
-
-low_there : (g : Grid) (ps rest : Products) (c : Cell) → IsInside g c → HasLower (patch_at g ps c) →
-    HasLower (patch_at g (joined ConDir ps rest) c)
-low_there g ps rest c inside low =
-    let lower = lower_shown g ps c low.1.0 low.1.1.0 (record { inside = inside; is_data = low.0 }) low.1.1.1 in
-    HasLower-lower_cell g (joined ConDir ps rest) c lower.0 (lower_there g ps rest c lower.0 lower.1.1)
+use Rattle.drain_parts.proofs.SameHeights.{steepest_there, open_there, open_back, low_there, low_back}
 
 module _ (g : Grid) (ps rest : Products) (c : Cell) (inside : IsInside g c) where
-  open_back : IsOpen (patch_at g (joined ConDir ps rest) c) → IsOpen (patch_at g ps c)
-  open_back h = open_there g (joined ConDir ps rest) ps c inside h
-
-  low_back : HasLower (patch_at g (joined ConDir ps rest) c) → HasLower (patch_at g ps c)
-  low_back h = low_there g (joined ConDir ps rest) ps c inside h
-
   at_ground : OpenRaisedWithoutSpill (patch_at g ps c) → OpenRaisedWithoutSpill (patch_at g (joined ConDir ps rest) c)
-  at_ground h is_open = h (open_back is_open)
+  at_ground h is_open = h (open_back g ps (joined ConDir ps rest) c inside is_open)
 
   not_raised : NotLeastHolds (patch_at g ps c) → NotLeastHolds (patch_at g (joined ConDir ps rest) c)
   not_raised h is_data d v beside =
@@ -61,17 +34,18 @@ module _ (g : Grid) (ps rest : Products) (c : Cell) (inside : IsInside g c) wher
 
   goes_down : SlopeHolds (patch_at g ps c) → SlopeHolds (patch_at g (joined ConDir ps rest) c)
   goes_down h low =
-      let on = h (low_back low) in
+      let on = h (low_back g ps (joined ConDir ps rest) c inside low) in
       let here : HasData g c = record { inside = inside; is_data = low.0 } in
       let cell = steepest_cell g ps c on.0 here on.2 in
-      (on.0, on.1, (IsSteepest-cell g (joined ConDir ps rest) c cell.0 on.0 here cell.1).1 (steepest_there g ps rest c cell.0 cell.2))
+      (on.0, on.1, (IsSteepest-cell g (joined ConDir ps rest) c cell.0 on.0 here cell.1).1 (steepest_there g ps (joined ConDir ps rest) c cell.0 cell.2))
 
   stops : OutletCodeHolds (patch_at g ps c) → OutletCodeHolds (patch_at g (joined ConDir ps rest) c)
-  stops h is_open flat = h (open_back is_open) (λ low. flat (low_there g ps rest c inside low))
+  stops h is_open flat = h (open_back g ps (joined ConDir ps rest) c inside is_open) (λ low. flat (low_there g ps (joined ConDir ps rest) c inside low))
 
   goes_along : LevelStepHolds (patch_at g ps c) → LevelStepHolds (patch_at g (joined ConDir ps rest) c)
   goes_along h closed flat =
-      let on = h (closed.0, λ is_open. closed.1 (open_there g ps rest c inside is_open)) (λ low. flat (low_there g ps rest c inside low)) in
+      let on = h (closed.0, λ is_open. closed.1 (open_there g ps (joined ConDir ps rest) c inside is_open))
+      (λ low. flat (low_there g ps (joined ConDir ps rest) c inside low)) in
       let found = cell_shown g ps c on.0 on.1 on.2.beside in (
         on.0,
         values_at g (joined ConDir ps rest) found.0,
