@@ -52,7 +52,11 @@ fn write_row(
 }
 
 /// The ground, null at a void, and the products' numbers.
-fn write_values(json: &mut JsonText, values: &CellValues, findings: &Findings) -> Result<(), AllocError> {
+fn write_values(
+    json: &mut JsonText,
+    values: &CellValues,
+    findings: &Findings,
+) -> Result<(), AllocError> {
     json.begin_object_item()?;
     json.member("ground", values.z)?;
     json.member("sink", values.sink)?;

@@ -1,0 +1,3 @@
+pub mod PartLines
+pub mod PartVerdicts
+pub mod PartWalks
