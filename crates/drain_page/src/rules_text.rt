@@ -32,7 +32,7 @@ enum Standing {
     Untried,
 }
 
-fn standing(findings: &Findings, rule: Rule) -> Standing {
+fn standing_of(findings: &Findings, rule: Rule) -> Standing {
     if !is_tried(rule, findings.only) {
         Standing::Untried
     } else if findings.by_rule.of(rule).cells != 0 {
@@ -46,7 +46,7 @@ fn standing(findings: &Findings, rule: Rule) -> Standing {
 fn push_table(text: &mut String, findings: &Findings) -> Result<(), AllocError> {
     let mut headings = HEADINGS;
     for rule in RULES {
-        if standing(findings, rule) == Standing::Fails {
+        if standing_of(findings, rule) == Standing::Fails {
             text.push_str(headings)?;
             headings = "";
             push_failing(text, findings, rule)?;
@@ -117,7 +117,7 @@ fn push_names(
     text.push_str(label)?;
     let mut separator = " ";
     for rule in RULES {
-        if standing(findings, rule) == known {
+        if standing_of(findings, rule) == known {
             write!(text, "{separator}{}", shown_rule(rule))?;
             separator = ", ";
         }
