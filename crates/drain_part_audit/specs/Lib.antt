@@ -1,0 +1,3 @@
+pub mod PartFindings
+pub mod PartStops
+pub mod PartWalks
