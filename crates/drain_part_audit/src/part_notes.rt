@@ -3,21 +3,21 @@
 ghost use Rattle.std.specs.Prelude.{◌≡◌};
 ghost use Rattle.drain_grid.specs.Grid.{Grid, Products};
 ghost use Rattle.drain_grid.specs.Values.{NoDataNumbers};
-ghost use Rattle.drain_part_audit.specs.PartWalks.{IsPartWalkOf};
+ghost use Rattle.drain_part_audit.specs.PartWalks.{IsPartVerdictOf, IsPartWalkOf};
 
 use crate::given_rasters::GivenRasters;
 use crate::part_walk::PartWalk;
-use drain_grid::OutOfMemory;
+use drain_grid::{OutOfMemory, Shape};
 use drain_kernel::Rules;
 use drain_rows::{HeldRow, RowNotes};
-use drain_rules::ThreeRows;
+use drain_rules::{ThreeRows, Verdict};
 use std::alloc::Global;
 use std::marker::PhantomData;
 
 /// The walk over the rows so far, whose given rasters the type says.
 #[derive(Drop)]
 pub struct PartNotes<G> {
-    pub walk: PartWalk,
+    walk: PartWalk,
     of: PhantomData<G>,
 }
 
@@ -31,6 +31,13 @@ impl<G: GivenRasters> PartNotes<G> {
             walk: PartWalk::new(alloc, G::given()),
             of: PhantomData,
         }
+    }
+
+    /// The verdict of the rules about the given rasters on the grid of this shape, all of whose rows are noted.
+    pub fn verdict(&self, shape: Shape) -> Verdict
+        ensures verdict { (nodata : NoDataNumbers) (g : Grid) (ps : Products) → g.extent ≡ shape → IsPartWalkOf G.given nodata g ps g.extent.rows self.now.walk → IsPartVerdictOf G.given nodata g ps result }
+    {
+        self.walk.verdict(shape)
     }
 }
 
