@@ -1,0 +1,2 @@
+pub mod FirstCon
+pub mod NarrowRows
