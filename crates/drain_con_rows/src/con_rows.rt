@@ -1,6 +1,6 @@
 //! The samples and the conditioned elevations of the rows that were taken so far.
 
-ghost use Rattle.std.specs.Prelude.{◌≡◌, ◌*◌, IfSome, IsSome, OnOk, [], vec_len};
+ghost use Rattle.std.specs.Prelude.{◌≡◌, ◌*◌, IfSome, IsSome, OnErr, OnOk, [], vec_len};
 ghost use Rattle.drain_grid.specs.Grid.{Grid, Products};
 ghost use Rattle.drain_con_rows.specs.ConRows.{AreFirstCon, IsGroundAndCon, with_row};
 
@@ -43,12 +43,18 @@ impl ConRows {
     }
 
     /// Takes the next row: each cell's sample (-32768 is a void) and conditioned elevation. A number that 16 bits don't
-    /// hold is taken as the nearest that they hold.
+    /// hold is taken as the nearest that they hold. Without memory nothing is changed.
     pub fn push_row(&mut self, samples: &[i64], con: &[i64]) -> Result<(), OutOfMemory>
         ensures taken { OnOk result (self.new ≡ with_row self.old samples.now con.now) }
+        ensures kept { OnErr result (self.new ≡ self.old) }
     {
+        let before = self.samples.len();
         push_row(&mut self.samples, samples)?;
-        push_row(&mut self.con, con)
+        if push_row(&mut self.con, con).is_err() {
+            self.samples.truncate(before);
+            return Err(OutOfMemory);
+        }
+        Ok(())
     }
 
     /// The elevations and the conditioned elevations of a grid of this shape, if each of its cells was taken and no

@@ -1,13 +1,14 @@
 //! Numbers of a row, put after those of earlier rows in 16 bits each.
 
-ghost use Rattle.std.specs.Prelude.{◌≡◌, ◌<◌, ◌++◌, OnOk, length, map, pos, slice_index_or};
+ghost use Rattle.std.specs.Prelude.{◌≡◌, ◌<◌, ◌++◌, OnErr, OnOk, length, map, pos, slice_index_or};
 ghost use Rattle.drain_con_rows.specs.ConRows.{narrowed};
 
 use drain_grid::OutOfMemory;
 
 /// Puts a row's numbers after the others. A number that 16 bits don't hold is put as the nearest that they hold.
 pub(crate) fn push_row(out: &mut Vec<i16>, numbers: &[i64]) -> Result<(), OutOfMemory>
-    ensures { OnOk result (out.new.items ≡ out.old.items ++ map narrowed numbers.now) }
+    ensures put { OnOk result (out.new.items ≡ out.old.items ++ map narrowed numbers.now) }
+    ensures kept { OnErr result (out.new.items ≡ out.old.items) }
 {
     let before = out.len();
     if out.resize(before + numbers.len(), 0).is_err() {
