@@ -3,18 +3,20 @@
 -- Grids with the same elevations and sinks at their cells have the same open cells, since a step stays in the grid. So they
 -- have the same paths, and what covers the ground and drains in the one does so in the other.
 use Rattle.std.proofs.Common.{◌≡◌, ◌≢◌, ◌≤ℤ◌, ◌<ℤ◌, ◌∙◌, ℤ, Bool, Option, Some, None, IsSome, List, [], ◌∷◌, option_map, unwrap_or, pos, refl, sym, ap, subst, arith}
+use Rattle.std.specs.List.{AllByRecursion}
 use Rattle.std.proofs.lemmas.Int.{ints}
 use Rattle.drain_grid.specs.declared.cell.Cell.{Cell}
+use Rattle.drain_grid.specs.declared.rule.Rule.TheVariants.{BelowGround}
 use Rattle.drain_grid.specs.declared.direction.Direction.{Direction}
 use Rattle.drain_grid.specs.Extent.{IsCellOf, step}
 use Rattle.drain_grid.specs.Grid.{Grid, HasData, IsOpenCell, height_at}
 use Rattle.drain_grid.specs.Open.{IsOpenAmong}
 use Rattle.drain_grid.specs.Path.{IsPath, Surface, NeverRises, Drains, CoversGround}
 use Rattle.drain_grid.specs.Size.{Extent}
-use Rattle.drain_grid.proofs.Least.{HasData-path, con_below, levels}
+use Rattle.drain_grid.proofs.Least.{HasData-path, con_below, con_below_crest, levels}
 use Rattle.drain_grid.proofs.Neighbors.{step_lies}
 use Rattle.drain_grid.proofs.OpenAmong.{IsOpenAmong-alike}
-use Rattle.drain_filled.specs.Laws.{OneLeastSurface, SameCellsSameSurface, RulesKeepConLow, UnfilledIsTooLow}
+use Rattle.drain_filled.specs.Laws.{AreBetween, OneLeastSurface, RulesKeepConBetween, RulesKeepConLow, SameCellsSameSurface, SameNumbersSameCell, UnfilledIsTooLow}
 use Rattle.drain_filled.specs.Unfilled.{AreOneSurface, HasCellsOf}
 
 -- two numbers, each at most the other
@@ -36,6 +38,31 @@ rules_keep_con_low g ps t rules least c here =
 pub unfilled_is_too_low : UnfilledIsTooLow
 unfilled_is_too_low g ps t rules least c first =
     below (ps.con c) (t c) (rules_keep_con_low g ps t rules least c first.here) (first.differs t least)
+
+pub same_numbers_same_cell : SameNumbersSameCell
+same_numbers_same_cell g s t one c first = record {
+  here = first.here;
+  filled = first.filled;
+  differs = λ u least equal. first.differs u least (sym (one c first.here) ∙ equal);
+  before = λ u least b at earlier. one b at ∙ first.before u least b at earlier;
+}
+
+-- a bound of the ground bounds it along a path
+bounded : (g : Grid) (low high : ℤ) → AreBetween g low high (height_at g) → (c : Cell) (rest : List Cell) → IsPath g c rest →
+    AllByRecursion (λ x. height_at g x ≤ℤ high) (c ∷ rest)
+bounded g low high ground c [] path = ((ground c (HasData-path g c [] path)).1, tt)
+bounded g low high ground c (n ∷ rest) path = ((ground c path.0).1, bounded g low high ground n rest path.2)
+
+over : (low z con : ℤ) → low ≤ℤ z → z ≤ℤ con → low ≤ℤ con
+over low z con ground covered = omega (arith, ints, ground, covered)
+
+pub rules_keep_con_between : RulesKeepConBetween
+rules_keep_con_between g ps t low high rules drains ground c here =
+    let way = drains c here in
+    let covered : height_at g c ≤ℤ ps.con c = rules c BelowGround here.inside (omega arith, omega arith) here.is_data in (
+      over low (height_at g c) (ps.con c) (ground c here).0 covered,
+      con_below_crest g ps (levels g ps rules) high c way.0 way.1 (bounded g low high ground c way.0 way.1),
+    )
 
 -- along a path two surfaces with the same numbers at data cells rise at the same steps
 never_rises : (g : Grid) (s t : Surface) → AreOneSurface g s t → (c : Cell) (rest : List Cell) → IsPath g c rest →

@@ -2,7 +2,7 @@
 //!
 //! A law is a function with an empty body: its contract is the law.
 
-ghost use Rattle.drain_filled.specs.Laws.{OneLeastSurface, SameCellsSameSurface, RulesKeepConLow, UnfilledIsTooLow};
+ghost use Rattle.drain_filled.specs.Laws.{OneLeastSurface, SameCellsSameSurface, RulesKeepConBetween, RulesKeepConLow, SameNumbersSameCell, UnfilledIsTooLow};
 
 /// Two least surfaces of a grid are equal at each data cell.
 pub fn one_least_surface()
@@ -23,4 +23,14 @@ pub fn rules_keep_con_low()
 /// Where they do, it is below the least surface at its first cell that isn't filled.
 pub fn unfilled_is_too_low()
     ensures { UnfilledIsTooLow }
+{}
+
+/// Where a surface has the numbers of another at data cells, it isn't filled at the same first cell.
+pub fn same_numbers_same_cell()
+    ensures { SameNumbersSameCell }
+{}
+
+/// Where rules 4, 5 and 9 hold at every cell, the conditioned elevation lies between the bounds of the elevations.
+pub fn rules_keep_con_between()
+    ensures { RulesKeepConBetween }
 {}
