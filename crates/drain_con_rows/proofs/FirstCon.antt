@@ -3,6 +3,7 @@ use Rattle.std.proofs.Common.{◌≡◌, ◌<◌, ◌≤◌, ◌+◌, ◌*◌, �
 use Rattle.std.proofs.Math.Nat.{mul-le-mul_right}
 use Rattle.std.proofs.lemmas.Bool.{cases_order}
 use Rattle.std.proofs.lemmas.List.{get_or_append_left, get_or-append-add, get_or-map, length-map}
+use Rattle.std.proofs.lemmas.List.Elements.{All-append, All-map}
 use Rattle.std.specs.List.{All}
 use Rattle.drain_grid.specs.declared.cell.Cell.{Cell}
 use Rattle.drain_grid.specs.declared.tile.TheConstants.{VOID}
@@ -10,7 +11,7 @@ use Rattle.drain_grid.specs.Extent.{index_of}
 use Rattle.drain_grid.specs.Grid.{Grid, Products, IsInside}
 use Rattle.drain_grid.specs.Tile.{IsSample, height_from}
 use Rattle.drain_con_rows.specs.ConRows.{AreFirstCon, ConLists, narrowed, with_row}
-use Rattle.drain_con_rows.proofs.NarrowRows.{narrowed-sample}
+use Rattle.drain_con_rows.proofs.NarrowRows.{IsSample-narrowed, narrowed-sample}
 
 -- numbers of a row of the grid
 pub record AreRowOf (g : Grid) (ps : Products) (row : ℕ) (samples con : List ℤ) : Type 0 where
@@ -56,6 +57,8 @@ pub AreFirstCon-row : (g : Grid) (ps : Products) (row : ℕ) (lists : ConLists) 
 AreFirstCon-row g ps row lists samples con first are = record {
   samples_are = all_counted g ps row lists.samples samples first.samples_are are.samples_long VOID;
   con_are = all_counted g ps row lists.con con first.con_are are.con_long (pos 0);
+  fits = All-append IsSample lists.samples (map narrowed samples) first.fits
+      (All-map IsSample narrowed samples (λ k d within. IsSample-narrowed (get_or samples k d)));
   elevation = λ c inside less.
       elim (cases_order c.row row) [
         | inl here ↦

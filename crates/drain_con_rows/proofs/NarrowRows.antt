@@ -15,6 +15,10 @@ narrowed-sample z is =
     let high = is.high in
     omega (arith, ints, clamps, low, high)
 
+-- what is kept is a sample
+pub IsSample-narrowed : (z : ℤ) → IsSample (narrowed z)
+IsSample-narrowed z = record { low = omega (arith, ints, clamps); high = omega (arith, ints, clamps) }
+
 -- the number of 16 bits is read as it is
 pub narrowed-kept : (n number : ℤ) → n ≡ narrowed number → to_z w16 (of_z w16 n) ≡ narrowed number
 narrowed-kept n number is =

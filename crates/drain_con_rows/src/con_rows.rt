@@ -4,6 +4,7 @@ ghost use Rattle.std.specs.Prelude.{◌≡◌, ◌*◌, IfSome, IsSome, OnErr, O
 ghost use Rattle.drain_grid.specs.Grid.{Grid, Products};
 ghost use Rattle.drain_con_rows.specs.ConRows.{AreFirstCon, IsGroundAndCon, with_row};
 
+use crate::ground_and_con::GroundAndCon;
 use crate::narrow_rows::push_row;
 use drain_grid::{Elevation, OutOfMemory, Shape};
 use std::alloc::Global;
@@ -22,13 +23,6 @@ impl Model for ConRows {
     ghost Value = { ConLists };
 
     ghost view = { λ rows. record { samples = rows.samples.items; con = rows.con.items } };
-}
-
-/// The elevations of a grid, and the conditioned elevation of each cell in row order.
-#[derive(Drop)]
-pub struct GroundAndCon {
-    pub ground: Elevation,
-    pub con: Vec<i16>,
 }
 
 impl ConRows {
