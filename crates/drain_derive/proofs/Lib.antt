@@ -1,1 +1,3 @@
+pub mod DerivedRasters
+pub mod Spelling
 pub mod StepLemmas
