@@ -6,10 +6,12 @@ use Rattle.drain_grid.specs.Grid.{Grid, Products, IsInside, HasData}
 use Rattle.drain_grid.specs.Product.{default_numbers}
 use Rattle.drain_grid.specs.Rasters.{Pixels, ArePixels}
 use Rattle.drain_grid.specs.Run.{run_end, upstream_count, ShareBasin}
+use Rattle.drain_grid.specs.Size.{Extent}
 use Rattle.drain_grid.specs.Whole.{number_at}
 use Rattle.drain_raster.specs.Bytes.{CanSpellAllIn}
 use Rattle.drain_counts.specs.Basins.{end_number}
 use Rattle.drain_counts.specs.OfFlows.{AllRunsEnd}
+use Rattle.drain_derive.specs.declared.derived.Derived.{Derived}
 
 -- every run ends. At each data cell acc is the number of data cells that drain through it, bas the number of the outlet
 -- where its run ends, in row order from 1, and rnk the number of steps of its run; so labels are equal exactly where
@@ -33,7 +35,14 @@ pub record AreDerived (g : Grid) (ps : Products) (acc bas rnk : Pixels) : Type 0
   pub data_bas : (c : Cell) → HasData g c → number_at bas c ≢ bas.nodata
   pub data_rnk : (c : Cell) → HasData g c → number_at rnk c ≢ rnk.nodata
 
--- a raster whose numbers pixels of 32 bits without a sign can encode
-pub record IsCounts (r : Pixels) : Type 0 where
+-- a raster of this size whose numbers pixels of 32 bits without a sign can encode
+pub record IsCounts (e : Extent) (r : Pixels) : Type 0 where
+  pub extent : r.extent ≡ e
   pub pixels : ArePixels r
   pub spelled : CanSpellAllIn false 32 r
+
+-- each of the three is
+pub record AreCounts (e : Extent) (d : Derived) : Type 0 where
+  pub acc : IsCounts e d.acc
+  pub bas : IsCounts e d.bas
+  pub rnk : IsCounts e d.rnk

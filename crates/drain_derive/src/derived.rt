@@ -3,7 +3,7 @@
 ghost use Rattle.std.specs.Prelude.{◌≡◌, ◌*◌, length, IfOk, IfErr};
 ghost use Rattle.drain_runs.specs.Ranks.{IsRefusal};
 ghost use Rattle.drain_counts.specs.OfFlows.{OfFlows};
-ghost use Rattle.drain_derive.specs.Derived.{AreDerived, IsCounts};
+ghost use Rattle.drain_derive.specs.Derived.{AreDerived, AreCounts};
 
 use crate::rasters::raster_of;
 use crate::steps::count_steps;
@@ -34,9 +34,7 @@ pub fn derive_from_flows(
 ) -> Result<Derived, CertifyRefusal>
     requires counted { length flows.now ≡ shape.rows * shape.cols }
     ensures derived { IfOk result (λ d. OfFlows shape flows.now (λ g ps. AreDerived g ps d.acc d.bas d.rnk)) }
-    ensures acc { IfOk result (λ d. IsCounts d.acc) }
-    ensures bas { IfOk result (λ d. IsCounts d.bas) }
-    ensures rnk { IfOk result (λ d. IsCounts d.rnk) }
+    ensures counts { IfOk result (AreCounts shape) }
     ensures err { IfErr result (λ why. OfFlows shape flows.now (λ g ps. IsRefusal g ps why)) }
 {
     let steps = count_steps(alloc, flows, shape)?;

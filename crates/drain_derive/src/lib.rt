@@ -3,7 +3,10 @@
 
 pub mod derived;
 mod first_steps;
+pub mod laws;
 mod rasters;
+pub mod reading;
 mod steps;
 
 pub use derived::{Derived, derive_from_flows};
+pub use reading::{DeriveRefusal, derive};

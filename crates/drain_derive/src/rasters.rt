@@ -10,7 +10,7 @@ use drain_grid::{Product, Raster, Shape};
 pub(crate) fn raster_of(shape: Shape, product: Product, numbers: Vec<u32>) -> Raster
     requires { vec_len numbers ≡ shape.rows * shape.cols }
     ensures is { result ≡ record { extent = shape; nodata = default_no_data product; numbers = map (λ n. pos n) numbers.items } }
-    ensures counts { IsCounts result }
+    ensures counts { IsCounts shape result }
 {
     Raster::of_counts(shape, product.default_no_data(), numbers)
 }
