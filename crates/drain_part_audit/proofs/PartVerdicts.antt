@@ -3,7 +3,6 @@ use Rattle.std.proofs.Common.{◌≡◌, ◌↔◌, ◌*◌, ℕ, Bool, true, fa
 use Rattle.std.proofs.lemmas.Bool.{false≢true}
 use Rattle.drain_answer.specs.declared.refusal.Refusal.{Refusal}
 use Rattle.drain_answer.specs.declared.refusal.Refusal.TheVariants.{BadSinkLine, OutOfMemory, ReadFailed}
-use Rattle.drain_con_rows.specs.ConRows.{AreFirstCon, ConLists}
 use Rattle.drain_filled.specs.Unfilled.{IsFirstUnfilled}
 use Rattle.drain_grid.specs.declared.cell.Cell.{Cell}
 use Rattle.drain_grid.specs.declared.rule.Rule.{Rule}
@@ -62,7 +61,7 @@ pub of_surface : (g : Grid) (ps : Products) (nodata : NoDataNumbers) (counts : C
     IsConVerdict g ps nodata verdict
 of_surface g ps nodata counts (Some c) verdict is rules unfilled = subst (IsConVerdict g ps nodata) (sym is) (rules.0, unfilled)
 of_surface g ps nodata counts None verdict is rules least =
-    subst (IsConVerdict g ps nodata) (sym is) (rules.0, (least, ap (λ (k : Counts). record { rows = k.rows; cols = k.cols; data_cells = k.data_cells; raised = k.raised }) rules.1))
+    subst (IsConVerdict g ps nodata) (sym is) (rules.0, least, ap (λ (k : Counts). record { rows = k.rows; cols = k.cols; data_cells = k.data_cells; raised = k.raised }) rules.1)
 
 -- the verdict of the rules about rasters with directions, and the first path without an end, give the verdict
 pub of_ways : (given : Given) (g : Grid) (ps : Products) (nodata : NoDataNumbers) (verdict : Verdict) (endless : Option Cell) (part : PartVerdict) →
@@ -79,15 +78,9 @@ of_given given g ps nodata part ways is = by_kind (has_dir given) ways
     by_kind true there = is
     by_kind false there = let no : ⊥ = cc in absurd no
 
--- no row was taken
-pub first_con_none : (g : Grid) (ps : Products) → AreFirstCon g ps 0 (record { samples = []; con = [] })
-first_con_none g ps = record {
-  samples_are = refl;
-  con_are = refl;
-  fits = tt;
-  elevation = λ c inside below. absurd (omega (arith, below));
-  con = λ c inside below. absurd (omega (arith, below));
-}
+-- a list is of one list of sinks
+pub same_listed : (lines : Result (List SinkLine) ℕ) (a b : List SinkLine) → lines ≡ Ok a → lines ≡ Ok b → a ≡ b
+same_listed lines a b is_a is_b = cc
 
 -- a list that isn't refused is one of sinks
 pub listed_ok : (i : Inputs) → AreReadable i → sinks_of i.sinks ≡ Ok (listed_in i)
@@ -130,7 +123,7 @@ right_of g ps nodata rules least = record {
 
 -- the verdict on con accepts exactly where it is part of a correct set
 con_exactly : SurfaceIsPart → (g : Grid) (ps : Products) (nodata : NoDataNumbers) (part : PartVerdict) → IsConVerdict g ps nodata part → IsPartAcceptance part ↔ IsPartOfCorrect Con g ps nodata
-con_exactly surface g ps nodata (AcceptedSurface counts) is = (λ accepted. (surface g ps nodata).1 (right_of g ps nodata is.0 is.1.0), λ right. tt)
+con_exactly surface g ps nodata (AcceptedSurface counts) is = (λ accepted. (surface g ps nodata).1 (right_of g ps nodata is.0 is.1), λ right. tt)
 con_exactly surface g ps nodata (NotFilled row col) is = (
   λ accepted. absurd accepted,
   λ right. absurd (is.1.differs ps.con ((surface g ps nodata).0 right).least refl),

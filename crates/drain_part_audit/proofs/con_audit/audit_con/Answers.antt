@@ -10,15 +10,13 @@ use Rattle.drain_verdict.specs.Meaning.{grid_of, listed_in, nodata_numbers, prod
 use Rattle.drain_verdict.proofs.AuditDevices.{failed_alike, none_alike}
 use Rattle.drain_verdict.proofs.StartAnswers.{layout_of_inputs}
 use Rattle.drain_verdict.proofs.Uses.{four_used}
-use Rattle.drain_part_audit.proofs.PartVerdicts.{first_con_none, listed_ok, memory_alike}
+use Rattle.drain_part_audit.proofs.PartVerdicts.{listed_ok, memory_alike}
 use Rattle.drain_part_audit.proofs.con_audit.audit_con.Goals as goal
 
 pub answer_on-requires-clause-unnoted : goal.answer_on-requires-clause-unnoted
 answer_on-requires-clause-unnoted g c = λ rules grid ps. (
-  subst (AreFirstCon grid ps 0) (sym c.new.ensures) (first_con_none grid ps),
-  c.new-2.ensures.walk rules.nodata grid ps,
-  c.requires.unnoted rules grid ps,
-  record { rows_are = c.new-3.ensures.rows; right = c.new-3.ensures.finding rules grid ps },
+  c.new.ensures.begun grid ps,
+  (c.new-2.ensures.walk rules.nodata grid ps, (c.requires.unnoted rules grid ps, record { rows_are = c.new-3.ensures.rows; right = c.new-3.ensures.finding rules grid ps })),
 )
 
 pub returns-in_err-_of_all-clause-answer : goal.returns-in_err-_of_all-clause-answer

@@ -16,9 +16,7 @@ use Rattle.drain_part_audit.proofs.way_audit.audit_ways.Goals as goal
 pub answer_on-requires-clause-unnoted : goal.answer_on-requires-clause-unnoted
 answer_on-requires-clause-unnoted g c = λ rules grid ps. (
   subst (AreFirstFlows grid ps grid.extent 0) (sym c.new.ensures) (AreFirstFlows-none grid ps grid.extent refl),
-  c.new-2.ensures.walk rules.nodata grid ps,
-  c.requires.unnoted rules grid ps,
-  record { rows_are = c.new-3.ensures.rows; right = c.new-3.ensures.finding rules grid ps },
+  (c.new-2.ensures.walk rules.nodata grid ps, (c.requires.unnoted rules grid ps, record { rows_are = c.new-3.ensures.rows; right = c.new-3.ensures.finding rules grid ps })),
 )
 
 pub returns-in_err-_of_all-clause-answer : goal.returns-in_err-_of_all-clause-answer
