@@ -179,8 +179,8 @@ fn tests_pass(
         && keeps_rank(here, rules, k)
 }
 
-/// Whether the cell at a column lies on its ground and falls, by the tests with sums or without. Then its patch keeps the
-/// rules that are tried: if sums are untested, all of them but Accumulation.
+/// Whether the cell at a column lies on its ground and falls, by the tests with sums or without. Then its patch keeps
+/// the rules that are tried: if sums are untested, all of them but Accumulation.
 fn is_cleared_at(
     above: &Lanes,
     here: &Lanes,
@@ -218,8 +218,10 @@ pub fn falls_at(above: &Lanes, here: &Lanes, below: &Lanes, rules: &Rules, k: us
     is_cleared_at(above, here, below, rules, Sums::Tested, k)
 }
 
-/// The same without ranks, of every rule from VoidCell to Label but Accumulation, which need not hold: a test where no
-/// accumulation is given.
+/// Whether the cell at a column lies on its ground and falls, where no accumulation is given. Then its patch in the
+/// three rows keeps every rule without ranks from VoidCell to Label but Accumulation, whether it is a listed sink or
+/// not, and whether voids are beside it. False shows no fault. It is false at the first and the last column, and if the
+/// rows have different lengths.
 pub fn routed_falls_at(
     above: &Lanes,
     here: &Lanes,

@@ -135,8 +135,10 @@ pub fn kept_until(
     cleared_until(above, here, below, rules, Sums::Tested, from, until)
 }
 
-/// The same without ranks, of every rule from VoidCell to Label but Accumulation, which need not hold: a pass where no
-/// accumulation is given.
+/// A column to which cells can be cleared from this one on, at most `until`, where no accumulation is given. At each
+/// column before it the patch of the three rows, for a cell that isn't a listed sink, keeps every rule without ranks
+/// from VoidCell to Label but Accumulation. It may be any such column, so it shows no fault. It is `from` at the first
+/// and the last column, and if the rows have different lengths.
 pub fn routed_until(
     above: &Lanes,
     here: &Lanes,

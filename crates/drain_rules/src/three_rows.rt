@@ -80,9 +80,10 @@ impl PatchRow for ThreeRows<'_> {
 }
 
 impl ThreeRows<'_> {
-    /// How far from a column on the lanes of the three rows clear cells without a test of sums or ranks, for products
-    /// without an accumulation: at data cells that are no outlets every rule but Accumulation and SharedLabel holds. And
-    /// how many of them are raised. It may be fewer cells than there are; none if a row has no lanes.
+    /// How far from a column on the lanes of the three rows clear cells by all tests but those of sums and ranks, for
+    /// rasters without an accumulation: at data cells that are no outlets every rule without ranks holds but
+    /// Accumulation and SharedLabel. And how many of them are raised. It may be fewer cells than there are, even none,
+    /// as where a row has no lanes.
     pub fn routed_from(&self, nodata: &NoData, from: u32) -> Kept
         requires { from ≤ length self.now.here.numbers.z }
         ensures forward { from ≤ result.end }
