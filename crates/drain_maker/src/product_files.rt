@@ -137,7 +137,11 @@ pub fn write_header<F: ByteSink>(alloc: Global, header: &Header, to: &mut F) -> 
 }
 
 /// Writes the bytes of a raster, each of whose numbers fits a pixel.
-pub fn write_numbers<F: ByteSink>(header: &Header, raster: &Raster, to: &mut F) -> Result<(), SetFault>
+pub fn write_numbers<F: ByteSink>(
+    header: &Header,
+    raster: &Raster,
+    to: &mut F,
+) -> Result<(), SetFault>
     requires shape { raster.now.extent ≡ pixels.extent_of header.now }
     requires written { CanSpellAll header.now raster.now }
     ensures { WritesFile F.ByteSink to.old to.new (raster_bytes header.now raster.now) result }
