@@ -1,5 +1,5 @@
 -- How a run of `drain derive` ends: with files that were written, or with the reason why nothing was derived.
-use Rattle.std.specs.Prelude.{◌≡◌, ◌×◌, ℕ, List, Result, Ok, Err, IfOk, IfErr, codes}
+use Rattle.std.specs.Prelude.{◌≡◌, ℕ, List, Result, Ok, Err, IfOk, IfErr, codes}
 use Rattle.drain_answer.specs.AuditLines.{no_end_line}
 use Rattle.drain_answer.specs.Lines.{refusal_line}
 use Rattle.drain_answer.specs.declared.refusal.Refusal.{Refusal}

@@ -107,20 +107,25 @@ fn judge_files(
 ) -> u8 {
     let gauge = Gauge::new(rt, judged.progress);
     match open_judged(&mut Opener::new(rt), judged, rasters, &gauge) {
-        Ok(mut files) => run_judged(rt.alloc(), judged.side, &mut files, out),
+        Ok(files) => run_judged(rt.alloc(), judged.side, files, out),
         Err(fault) => print_open_fault(rt, fault, out),
     }
 }
 
-/// Checks or audits the products of open files, and returns the exit status.
-fn run_judged(alloc: Global, side: u32, files: &mut OpenFiles<'_>, out: &mut impl ByteSink) -> u8 {
-    let tiles = files.tiles.as_mut_slice();
-    let sinks = files.sinks.as_slice();
-    match &mut files.products {
-        JudgedProducts::Check(products) => run_check(alloc, side, tiles, sinks, products, out),
-        JudgedProducts::Audit(products) => run_audit(alloc, side, tiles, sinks, products, out),
-        JudgedProducts::Part(products, given) => {
-            run_part_audit(alloc, side, tiles, sinks, products, *given, out)
+/// Checks or audits the products of open files, which are closed again, and returns the exit status.
+fn run_judged(alloc: Global, side: u32, files: OpenFiles<'_>, out: &mut impl ByteSink) -> u8 {
+    let OpenFiles {
+        mut tiles,
+        products,
+        sinks,
+    } = files;
+    let tiles = tiles.as_mut_slice();
+    let sinks = sinks.as_slice();
+    match products {
+        JudgedProducts::Check(mut five) => run_check(alloc, side, tiles, sinks, &mut five, out),
+        JudgedProducts::Audit(mut four) => run_audit(alloc, side, tiles, sinks, &mut four, out),
+        JudgedProducts::Part(mut some, given) => {
+            run_part_audit(alloc, side, tiles, sinks, &mut some, given, out)
         }
     }
 }

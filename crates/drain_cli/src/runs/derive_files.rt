@@ -8,7 +8,7 @@ use crate::args::command_line::{Derivation, Judged};
 use crate::files::file_id::FileId;
 use crate::files::open_failure::print_open_fault;
 use crate::files::open_files::{OpenFault, Opener, derived_paths};
-use crate::files::open_judged::open_directions;
+use crate::files::open_judged::{DirectionFiles, open_directions};
 use crate::files::outputs::{Failure, Outputs};
 use crate::files::overwriting::{over_input, print_overwritten};
 use crate::print::print_failure;
@@ -49,21 +49,28 @@ fn derived_of_files(
 ) -> Result<(Layout, Derived), u8>
     ensures written { IfOk result (λ set. CanBeDerived set.0 set.1) }
 {
-    let mut files = match open_directions(opener, judged) {
-        Ok(files) => files,
-        Err(fault) => return Err(print_open_fault(opener.rt(), fault, out)),
-    };
-    if let Some(path) = over_input(opener.rt(), outputs, opener.ids()) {
-        return Err(print_overwritten(opener.rt(), path));
+    match open_directions(opener, judged) {
+        Ok(
+            DirectionFiles {
+                mut tiles,
+                mut products,
+                sinks,
+            },
+        ) => {
+            if let Some(path) = over_input(opener.rt(), outputs, opener.ids()) {
+                return Err(print_overwritten(opener.rt(), path));
+            }
+            derive_set(
+                opener.alloc(),
+                judged.side,
+                tiles.as_mut_slice(),
+                sinks.as_slice(),
+                &mut products,
+                out,
+            )
+        }
+        Err(fault) => Err(print_open_fault(opener.rt(), fault, out)),
     }
-    derive_set(
-        opener.alloc(),
-        judged.side,
-        files.tiles.as_mut_slice(),
-        files.sinks.as_slice(),
-        &mut files.products,
-        out,
-    )
 }
 
 /// Creates the files at these paths and writes them, and returns the exit status.

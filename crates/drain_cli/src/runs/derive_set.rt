@@ -1,6 +1,7 @@
 //! The first part of a run of `drain derive`: tiles and directions are read, and what follows from these is computed.
 
-ghost use Rattle.std.specs.Prelude.{◌≡◌, ◌×◌, IfOk, Result};
+ghost use Rattle.std.specs.Prelude.{◌≡◌, IfOk, Result};
+ghost use Rattle.drain_answer.specs.AuditLines.{no_end_line};
 ghost use Rattle.drain_cli.specs.DerivedSets.{IsDerivation, IsHandedOver, none_line, none_status, told_of_dir};
 ghost use Rattle.drain_derive.specs.DerivedFiles.{CanBeDerived};
 ghost use Rattle.drain_derive.specs.declared.derived.Derived.{Derived};
@@ -39,19 +40,27 @@ pub fn derive_set<R: ByteSource, W: ByteSink>(
     ensures written { IfOk result (λ set. CanBeDerived set.0 set.1) }
 {
     match derive(alloc, side, tiles, sinks, products) {
-        Ok(set) => Ok(set),
-        Err(why) => Err(print_line(out, &line_of(why), status_of(why))),
+        Ok((layout, derived)) => Ok((layout, derived)),
+        Err(why) => Err(print_line(out, &line_of(&why), status_of(&why))),
     }
 }
 
 /// The line that says why nothing was derived.
-fn line_of(why: DeriveRefusal) -> Line
-    ensures { result.bytes ≡ none_line why }
+fn line_of(why: &DeriveRefusal) -> Line
+    ensures { result.bytes ≡ none_line why.now }
 {
     match why {
-        DeriveRefusal::Refused(refusal) => refusal_line(told_of_dir(refusal)),
-        DeriveRefusal::NoEnd { row, col } => audit_report(&Ok(AuditVerdict::NoEnd { row, col })),
+        DeriveRefusal::Refused(refusal) => refusal_line(told_of_dir(*refusal)),
+        DeriveRefusal::NoEnd { row, col } => no_end_line(*row, *col),
     }
+}
+
+/// The line of a cell whose path doesn't end, as in an audit.
+fn no_end_line(row: u32, col: u32) -> Line
+    ensures { result.bytes ≡ no_end_line row col }
+{
+    let answer: Result<AuditVerdict, Refusal> = Ok(AuditVerdict::NoEnd { row, col });
+    audit_report(&answer)
 }
 
 /// The refusal, told of dir where it is told of con.
@@ -67,11 +76,11 @@ fn told_of_dir(refusal: Refusal) -> Refusal
 }
 
 /// Its exit status.
-fn status_of(why: DeriveRefusal) -> Status
-    ensures { result ≡ none_status why }
+fn status_of(why: &DeriveRefusal) -> Status
+    ensures { result ≡ none_status why.now }
 {
     match why {
-        DeriveRefusal::Refused(refusal) => Status::of_refusal(refusal),
+        DeriveRefusal::Refused(refusal) => Status::of_refusal(*refusal),
         DeriveRefusal::NoEnd { .. } => Status::Rejected,
     }
 }
