@@ -52,7 +52,9 @@ same outlet. What is rejected is not correct. Ranks, which drain check needs, ar
 held for each cell. All files are opened first. Prints one line.
 
 With --only LIST it judges the rasters of the list alone, and opens no others. It accepts them if and only
-if they are part of a correct set: if values of the other rasters exist that make it correct."
+if they are part of a correct set: if values of the other rasters exist that make it correct. Of con alone an
+acceptance has no outlets=O, and a rejection may be: rejected NotFilled row=R col=C, the first cell where con
+is lower than the filled elevation."
 );
 
 pub const AUDIT_AFTER: &str = judged_after!(
@@ -125,10 +127,9 @@ except those that are read. Prints one line.";
 pub const DERIVE_AFTER: &str = "Lines and exit statuses:
   0  derived rows=R cols=C
   1  rejected NoEnd row=R col=C              the first cell whose path of directions does not end at a code 0
-  2  refused ..                              as drain audit, of tiles, dir and sinks
+  2  refused ..                              as drain audit, of tiles, dir and sinks; nothing was written
   3  failed Open PATH, failed ReadFailed, failed WriteFailed, failed OutOfMemory, or standard output
-     couldn't be written
-After 1, 2 and 3 files that were there before are as they were.
+     couldn't be written; files that were there before stay as they were
 
 Example:
   drain derive --side 1201 --products rasters --out rasters N37W105.hgt N37W106.hgt";
