@@ -9,8 +9,9 @@ mod inflows;
 pub mod laws;
 mod outlets;
 mod passing;
-mod ways;
+pub mod ways;
 
 pub use accumulation::accumulate;
 pub use basins::label_basins;
 pub use code_flows::flows_of_codes;
+pub use ways::next_cell;

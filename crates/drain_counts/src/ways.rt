@@ -15,7 +15,7 @@ use drain_grid::{Cell, Shape};
 use drain_runs::Flow;
 
 /// The data cell to which the code of a data cell leads, none if it leads to none.
-pub(crate) fn next_cell(flows: &[Flow], shape: Shape, cell: Cell) -> Option<Cell>
+pub fn next_cell(flows: &[Flow], shape: Shape, cell: Cell) -> Option<Cell>
     requires counted { length flows.now ≡ shape.rows * shape.cols }
     requires inside { IsCellOf shape cell }
     ensures inside { IfSome result (IsCellOf shape) }

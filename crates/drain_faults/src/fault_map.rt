@@ -22,7 +22,7 @@ pub struct FaultMap {
 
 impl FaultMap {
     /// No cell was passed. There is room for a byte for each cell of a grid of this shape.
-    pub(crate) fn new(alloc: Global, shape: Shape) -> Result<FaultMap, OutOfMemory>
+    pub fn new(alloc: Global, shape: Shape) -> Result<FaultMap, OutOfMemory>
         ensures { IfOk result (λ map. map.pixels.items ≡ []) }
     {
         match Vec::with_capacity(alloc, shape.cells()) {
@@ -57,7 +57,7 @@ impl FaultMap {
 
 /// Draws the next cell in row order, with this patch and this least failing rule, if there is a map. `OutOfMemory`
 /// comes only with a map.
-pub(crate) fn draw_cell(
+pub fn draw_cell(
     map: &mut Option<FaultMap>,
     least: Option<Rule>,
     patch: &Patch,

@@ -14,7 +14,7 @@ pub struct FaultyPatch {
 
 /// Keeps the first so far; without one it is this cell, if a rule fails here, with the least such rule. Cells come in
 /// row order.
-pub(crate) fn note_patch(
+pub fn note_patch(
     first: &mut Option<FaultyPatch>,
     cell: Cell,
     patch: &Patch,

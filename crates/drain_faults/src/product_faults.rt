@@ -53,7 +53,7 @@ impl ProductFaults {
 }
 
 /// For each product no cell.
-pub(crate) fn no_faults() -> PerProduct<ProductFaults>
+pub fn no_faults() -> PerProduct<ProductFaults>
     ensures { (product : Held) → of_product result product ≡ record { at_voids = record { cells = 0; first = None }; at_data = record { cells = 0; first = None } } }
 {
     PerProduct {

@@ -9,7 +9,7 @@ use drain_grid::{CellValues, Held, NoData, Patch};
 use drain_kernel::{Ranks, Rules};
 
 /// Whether the product has its no-data number, if the cell is a void. Without ranks, true of rnk.
-pub(crate) fn keeps_void_cell(patch: &Patch, rules: &Rules, product: Held) -> bool
+pub fn keeps_void_cell(patch: &Patch, rules: &Rules, product: Held) -> bool
     ensures { IsTrue result ↔ VoidCellHoldsOf rules.now product patch.now }
 {
     match (product, rules.ranks) {
@@ -19,7 +19,7 @@ pub(crate) fn keeps_void_cell(patch: &Patch, rules: &Rules, product: Held) -> bo
 }
 
 /// Whether the product has another number than its no-data number, if the cell has data. The same of rnk.
-pub(crate) fn keeps_missing(patch: &Patch, rules: &Rules, product: Held) -> bool
+pub fn keeps_missing(patch: &Patch, rules: &Rules, product: Held) -> bool
     ensures { IsTrue result ↔ MissingHoldsOf rules.now product patch.now }
 {
     match (product, rules.ranks) {

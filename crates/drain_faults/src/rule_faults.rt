@@ -29,7 +29,7 @@ impl RuleFaults {
     }
 
     /// With one cell more, if the rule fails there. Cells come in row order.
-    pub(crate) fn with(self, cell: Cell, fails: bool) -> RuleFaults
+    pub fn with(self, cell: Cell, fails: bool) -> RuleFaults
         ensures { IsWith cell fails self result }
     {
         if !fails {
@@ -43,7 +43,7 @@ impl RuleFaults {
 }
 
 /// Adds one cell, at which these rules fail. Where none does nothing is written.
-pub(crate) fn note_rules(faults: &mut PerRule<RuleFaults>, cell: Cell, fails: &PerRule<bool>)
+pub fn note_rules(faults: &mut PerRule<RuleFaults>, cell: Cell, fails: &PerRule<bool>)
     ensures { (r : Rule) → IsWith cell (of_rule fails.now r) (of_rule faults.old r) (of_rule faults.new r) }
 {
     if fails.least().is_some() {

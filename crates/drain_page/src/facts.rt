@@ -9,6 +9,8 @@ use drain_answer::{AuditVerdict, Refusal, audit_report, report};
 use drain_faults::{FaultyPatch, PerRule, ProductFaults, RuleFaults};
 use drain_grid::{Cell, PerProduct};
 use drain_mosaic::Layout;
+use drain_part_audit::{PartVerdict, part_report};
+use drain_parts::Given;
 use drain_rules::{Rules, Verdict};
 use drain_runs::EndlessRun;
 
@@ -19,6 +21,8 @@ pub enum Answer {
     Check(Result<Verdict, Refusal>),
     /// That of an audit, of four products.
     Audit(Result<AuditVerdict, Refusal>),
+    /// That of an audit of some rasters.
+    Part(Result<PartVerdict, Refusal>),
 }
 
 impl Answer {
@@ -29,6 +33,7 @@ impl Answer {
         match self {
             Answer::Check(answer) => report(answer),
             Answer::Audit(answer) => audit_report(answer),
+            Answer::Part(answer) => part_report(answer),
         }
     }
 }
@@ -49,6 +54,8 @@ pub struct Findings {
     pub layout: Layout,
     /// The rules that were checked: with ranks or without, and the no-data numbers.
     pub rules: Rules,
+    /// The rasters that were looked at alone, none if all were.
+    pub only: Option<Given>,
     /// For each rule the number of cells at which it fails, and the first.
     pub by_rule: PerRule<RuleFaults>,
     /// The same of rules VoidCell and Missing for each product.

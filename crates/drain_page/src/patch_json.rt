@@ -6,7 +6,7 @@ use crate::patch_text::{ROUND, values_at};
 use crate::rules_json::CellOf;
 use crate::wanted::{no_data, number, shown_products};
 use drain_grid::{CellValues, Direction, Held, Patch};
-use drain_rules::{Ranks, Rules};
+use drain_rules::Ranks;
 use std::alloc::AllocError;
 
 /// The cell, and three rows of three cells with it in the middle; null if there is none.
@@ -22,14 +22,14 @@ pub(crate) fn write_patch(json: &mut JsonText, findings: &Findings) -> Result<()
             cell: first.cell,
         },
     )?;
-    write_rows(json, &first.patch, &findings.rules)?;
+    write_rows(json, &first.patch, findings)?;
     json.end_object()
 }
 
-fn write_rows(json: &mut JsonText, patch: &Patch, rules: &Rules) -> Result<(), AllocError> {
+fn write_rows(json: &mut JsonText, patch: &Patch, findings: &Findings) -> Result<(), AllocError> {
     json.begin_list("values")?;
     for row in ROUND {
-        write_row(json, patch, rules, row)?;
+        write_row(json, patch, findings, row)?;
     }
     json.end_list()
 }
@@ -38,13 +38,13 @@ fn write_rows(json: &mut JsonText, patch: &Patch, rules: &Rules) -> Result<(), A
 fn write_row(
     json: &mut JsonText,
     patch: &Patch,
-    rules: &Rules,
+    findings: &Findings,
     row: [Option<Direction>; 3],
 ) -> Result<(), AllocError> {
     json.begin_list_item()?;
     for place in row {
         match values_at(patch, place) {
-            Some(values) => write_values(json, &values, rules)?,
+            Some(values) => write_values(json, &values, findings)?,
             None => None::<bool>.append(json)?,
         }
     }
@@ -52,29 +52,27 @@ fn write_row(
 }
 
 /// The ground, null at a void, and the products' numbers.
-fn write_values(json: &mut JsonText, values: &CellValues, rules: &Rules) -> Result<(), AllocError> {
+fn write_values(
+    json: &mut JsonText,
+    values: &CellValues,
+    findings: &Findings,
+) -> Result<(), AllocError> {
     json.begin_object_item()?;
     json.member("ground", values.z)?;
     json.member("sink", values.sink)?;
-    for held in shown_products(Ranks::Asked) {
-        json.member(held.product().name(), told_number(values, rules, *held))?;
+    for held in shown_products(Ranks::Asked, None) {
+        json.member(held.product().name(), told_number(values, findings, *held))?;
     }
     json.end_object()
 }
 
-/// A product's number; none if it is the no-data number, and for rnk also if ranks are not checked.
-fn told_number(values: &CellValues, rules: &Rules, held: Held) -> Option<i64> {
+/// A product's number; none if it is the no-data number, or the product isn't looked at.
+fn told_number(values: &CellValues, findings: &Findings, held: Held) -> Option<i64> {
     let number = number(values, held);
-    if number == no_data(&rules.nodata, held) || !is_asked(rules.ranks, held) {
+    let shown = shown_products(findings.rules.ranks, findings.only);
+    if number == no_data(&findings.rules.nodata, held) || !shown.contains(&held) {
         None
     } else {
         Some(number)
-    }
-}
-
-fn is_asked(ranks: Ranks, held: Held) -> bool {
-    match held {
-        Held::Rnk => ranks == Ranks::Asked,
-        _ => true,
     }
 }

@@ -39,7 +39,8 @@ pub(crate) fn push_first(
         "first fault: row {row}, column {col}, longitude {longitude}, latitude {latitude}"
     )?;
     push_patch(text, findings, &first.patch)?;
-    let wanted = wanted_by(alloc, first.rule, &first.patch, &findings.rules)?;
+    let shown = shown_products(findings.rules.ranks, findings.only);
+    let wanted = wanted_by(alloc, first.rule, &first.patch, &findings.rules, shown)?;
     push_wanted(text, first, &findings.rules.nodata, &wanted)
 }
 
@@ -47,7 +48,7 @@ pub(crate) fn push_first(
 fn push_patch(text: &mut String, findings: &Findings, patch: &Patch) -> Result<(), AllocError> {
     text.push_str("- outside the mosaic, * listed as a sink\nground\n")?;
     push_layer(text, &findings.rules.nodata, patch, None)?;
-    for held in shown_products(findings.rules.ranks) {
+    for held in shown_products(findings.rules.ranks, findings.only) {
         writeln!(text, "{}", held.product().name())?;
         push_layer(text, &findings.rules.nodata, patch, Some(*held))?;
     }

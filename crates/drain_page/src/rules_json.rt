@@ -13,7 +13,7 @@ use std::alloc::AllocError;
 pub(crate) fn write_rules(json: &mut JsonText, findings: &Findings) -> Result<(), AllocError> {
     json.begin_list("rules")?;
     for rule in RULES {
-        if is_tried(rule) {
+        if is_tried(rule, findings.only) {
             write_rule(json, &findings.layout, rule, findings.by_rule.of(rule))?;
         }
     }
@@ -35,7 +35,7 @@ fn write_rule(
 /// Each product that was checked, with its faults by rules VoidCell and Missing.
 pub(crate) fn write_products(json: &mut JsonText, findings: &Findings) -> Result<(), AllocError> {
     json.begin_list("products")?;
-    for held in shown_products(findings.rules.ranks) {
+    for held in shown_products(findings.rules.ranks, findings.only) {
         let faults = findings.by_product.of(*held);
         write_product(json, &findings.layout, *held, faults)?;
     }

@@ -16,24 +16,37 @@ const HEADINGS: &str = "rule                cells    row column     longitude   
 /// Appends the table and the lines.
 pub(crate) fn push_rules(text: &mut String, findings: &Findings) -> Result<(), AllocError> {
     push_table(text, findings)?;
-    push_holding(text, findings)?;
-    text.push_str("not tried: 6 NoSpill, 7 SpillHeight, 8 SpillRank\n")?;
+    push_names(text, "hold:", findings, Standing::Holds)?;
+    push_names(text, "not tried:", findings, Standing::Untried)?;
     match findings.rules.ranks {
         Ranks::Asked => Ok(()),
         Ranks::Unasked => text.push_str("ranks: not checked\n"),
     }
 }
 
-/// Whether this rule fails anywhere.
-fn fails(findings: &Findings, rule: Rule) -> bool {
-    is_tried(rule) && findings.by_rule.of(rule).cells != 0
+/// What is known of a rule.
+#[derive(Clone, Copy, PartialEq, Eq)]
+enum Standing {
+    Fails,
+    Holds,
+    Untried,
+}
+
+fn standing_of(findings: &Findings, rule: Rule) -> Standing {
+    if !is_tried(rule, findings.only) {
+        Standing::Untried
+    } else if findings.by_rule.of(rule).cells != 0 {
+        Standing::Fails
+    } else {
+        Standing::Holds
+    }
 }
 
 /// A line for each rule that fails, below a line of headings; nothing if all rules hold.
 fn push_table(text: &mut String, findings: &Findings) -> Result<(), AllocError> {
     let mut headings = HEADINGS;
     for rule in RULES {
-        if fails(findings, rule) {
+        if standing_of(findings, rule) == Standing::Fails {
             text.push_str(headings)?;
             headings = "";
             push_failing(text, findings, rule)?;
@@ -55,7 +68,7 @@ fn push_failing(text: &mut String, findings: &Findings, rule: Rule) -> Result<()
 
 /// A line for each product that is at fault.
 fn push_products(text: &mut String, findings: &Findings, rule: Rule) -> Result<(), AllocError> {
-    for held in shown_products(findings.rules.ranks) {
+    for held in shown_products(findings.rules.ranks, findings.only) {
         let product = findings.by_product.of(*held);
         let faults = match rule {
             Rule::VoidCell => product.at_voids,
@@ -94,12 +107,17 @@ fn push_faults(
     }
 }
 
-/// The line of the rules that hold at every cell.
-fn push_holding(text: &mut String, findings: &Findings) -> Result<(), AllocError> {
-    text.push_str("hold:")?;
+/// A line of the rules of which this is known, behind these words.
+fn push_names(
+    text: &mut String,
+    label: &'static str,
+    findings: &Findings,
+    known: Standing,
+) -> Result<(), AllocError> {
+    text.push_str(label)?;
     let mut separator = " ";
     for rule in RULES {
-        if is_tried(rule) && !fails(findings, rule) {
+        if standing_of(findings, rule) == known {
             write!(text, "{separator}{}", shown_rule(rule))?;
             separator = ", ";
         }

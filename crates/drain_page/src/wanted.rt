@@ -4,6 +4,7 @@ use crate::least_way::greatest_allowed;
 use crate::opening::{Opening, opening_of};
 use crate::ways::{expected_label, is_flat_way};
 use drain_grid::{CellValues, Direction, Held, NoData, Patch, Rule};
+use drain_parts::Given;
 use drain_rules::{Ranks, Rules};
 use drain_slope::key;
 use std::alloc::{AllocError, Global};
@@ -53,17 +54,18 @@ pub enum Wanted {
     Nothing,
 }
 
-/// What this rule expected at the cell of this patch.
+/// What this rule expected at the cell of this patch, of these products.
 pub fn wanted_by(
     alloc: Global,
     rule: Rule,
     patch: &Patch,
     rules: &Rules,
+    shown: &[Held],
 ) -> Result<Wanted, AllocError> {
     let ground = i64::from(patch.here.z.unwrap_or(0));
     Ok(match rule {
-        Rule::VoidCell => Wanted::Blank(products(alloc, &patch.here, rules, false)?),
-        Rule::Missing => Wanted::Numbers(products(alloc, &patch.here, rules, true)?),
+        Rule::VoidCell => Wanted::Blank(products(alloc, &patch.here, rules, shown, false)?),
+        Rule::Missing => Wanted::Numbers(products(alloc, &patch.here, rules, shown, true)?),
         Rule::BadCode => Wanted::Code,
         Rule::BelowGround => Wanted::AtLeast(ground),
         Rule::OpenRaised => Wanted::Ground {
@@ -84,15 +86,16 @@ pub fn wanted_by(
     })
 }
 
-/// The products that have their no-data number at a cell, or those that don't; rnk only if ranks are checked.
+/// Those of these products that have their no-data number at a cell, or those that don't.
 fn products(
     alloc: Global,
     values: &CellValues,
     rules: &Rules,
+    shown: &[Held],
     blank: bool,
 ) -> Result<Vec<Held>, AllocError> {
     let mut products = Vec::new(alloc);
-    for held in shown_products(rules.ranks) {
+    for held in shown {
         if (number(values, *held) == no_data(&rules.nodata, *held)) == blank {
             products.push(*held)?;
         }
@@ -100,16 +103,43 @@ fn products(
     Ok(products)
 }
 
-/// Whether a check or an audit has this rule: those of spill parents need a product that neither has.
-pub fn is_tried(rule: Rule) -> bool {
-    !matches!(rule, Rule::NoSpill | Rule::SpillHeight | Rule::SpillRank)
+/// Whether this rule is tried, of all rasters or of these alone: those of spill parents need a product that no check
+/// has.
+pub fn is_tried(rule: Rule, only: Option<Given>) -> bool {
+    match rule {
+        Rule::NoSpill | Rule::SpillHeight | Rule::SpillRank => false,
+        Rule::VoidCell | Rule::Missing | Rule::BelowGround | Rule::OpenRaised | Rule::NotLeast => {
+            true
+        }
+        Rule::BadCode | Rule::Slope | Rule::OutletCode | Rule::FlatStep => has(only, Held::Dir),
+        Rule::Accumulation => has(only, Held::Acc),
+        Rule::Label | Rule::SharedLabel => has(only, Held::Bas),
+    }
 }
 
-/// The products that the rules look at.
-pub fn shown_products(ranks: Ranks) -> &'static [Held] {
-    match ranks {
-        Ranks::Asked => &[Held::Con, Held::Dir, Held::Acc, Held::Bas, Held::Rnk],
-        Ranks::Unasked => &[Held::Con, Held::Dir, Held::Acc, Held::Bas],
+/// Whether the product is looked at, of all or of these alone.
+fn has(only: Option<Given>, product: Held) -> bool {
+    match only {
+        Some(given) => match product {
+            Held::Con => true,
+            Held::Dir => given.has_dir(),
+            Held::Acc => given.has_acc(),
+            Held::Bas => given.has_bas(),
+            Held::Rnk => false,
+        },
+        None => true,
+    }
+}
+
+/// The products that the rules look at, of all or of these alone.
+pub fn shown_products(ranks: Ranks, only: Option<Given>) -> &'static [Held] {
+    match (only, ranks) {
+        (Some(Given::Con), _) => &[Held::Con],
+        (Some(Given::ConDir), _) => &[Held::Con, Held::Dir],
+        (Some(Given::ConDirAcc), _) => &[Held::Con, Held::Dir, Held::Acc],
+        (Some(Given::ConDirBas), _) => &[Held::Con, Held::Dir, Held::Bas],
+        (None, Ranks::Asked) => &[Held::Con, Held::Dir, Held::Acc, Held::Bas, Held::Rnk],
+        (None, Ranks::Unasked) => &[Held::Con, Held::Dir, Held::Acc, Held::Bas],
     }
 }
 

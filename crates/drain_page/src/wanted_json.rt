@@ -3,7 +3,7 @@
 use crate::facts::Findings;
 use crate::json_text::{JsonText, JsonValue};
 use crate::opening::Opening;
-use crate::wanted::{Wanted, WayDown, number, steepest, wanted_by};
+use crate::wanted::{Wanted, WayDown, number, shown_products, steepest, wanted_by};
 use crate::wanted_text::found_product;
 use drain_grid::{CellValues, Direction, Held, Rule};
 use std::alloc::{AllocError, Global};
@@ -20,7 +20,8 @@ pub(crate) fn write_wanted(
     let Some(first) = &findings.first else {
         return json.null("expected");
     };
-    let wanted = wanted_by(alloc, first.rule, &first.patch, &findings.rules)?;
+    let shown = shown_products(findings.rules.ranks, findings.only);
+    let wanted = wanted_by(alloc, first.rule, &first.patch, &findings.rules, shown)?;
     write_wanted_by(json, first.rule, &first.patch.here, &wanted)
 }
 

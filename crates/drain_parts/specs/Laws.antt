@@ -6,8 +6,9 @@ use Rattle.drain_grid.specs.GridRules.{RulesHold}
 use Rattle.drain_grid.specs.Run.{RunEnds}
 use Rattle.drain_grid.specs.Values.{NoDataNumbers}
 use Rattle.drain_parts.specs.declared.given.Given.{Given}
+use Rattle.drain_parts.specs.declared.given.Given.TheVariants.{Con}
 use Rattle.drain_parts.specs.Given.{has_dir}
-use Rattle.drain_parts.specs.PartOf.{IsPartOfCorrect}
+use Rattle.drain_parts.specs.PartOf.{IsPartOfCorrect, IsRightSurface}
 use Rattle.drain_parts.specs.PartRules.{IsPartRule, part_rules}
 
 -- given rasters with directions are part of a correct set exactly where every path ends and every rule about them holds
@@ -16,3 +17,8 @@ abbrev pub PartIsLocal : Type 0
 PartIsLocal =
     (given : Given) (g : Grid) (ps : Products) (nodata : NoDataNumbers) → IsTrue (has_dir given) →
     IsPartOfCorrect given g ps nodata ↔ (((c : Cell) → HasData g c → RunEnds g ps c) × RulesHold (part_rules given nodata) (IsPartRule given) g ps)
+
+-- given heights alone are part of a correct set exactly where they are the filled surface, with their no-data number
+-- exactly at voids
+abbrev pub SurfaceIsPart : Type 0
+SurfaceIsPart = (g : Grid) (ps : Products) (nodata : NoDataNumbers) → IsPartOfCorrect Con g ps nodata ↔ IsRightSurface g ps nodata

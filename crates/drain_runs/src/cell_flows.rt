@@ -66,6 +66,13 @@ impl CellFlows {
         self.flows.len()
     }
 
+    /// The flows, in row order.
+    pub fn as_slice(&self) -> &[Flow]
+        ensures { result.now ≡ self.now }
+    {
+        self.flows.as_slice()
+    }
+
     /// The flow of the cell with this many cells before it.
     pub(crate) fn at(&self, index: usize) -> Flow
         requires { index < length self.now }

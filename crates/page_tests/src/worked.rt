@@ -74,6 +74,7 @@ pub fn no_fault(alloc: Global, ranks: Ranks) -> Result<Findings, Fail> {
             nodata: NoData::defaults(),
             ranks,
         },
+        only: None,
         by_rule: PerRule::same(no_cell()),
         by_product: PerProduct {
             con: product(no_cell(), no_cell()),

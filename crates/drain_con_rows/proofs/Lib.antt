@@ -1,0 +1,3 @@
+pub mod FirstCon
+pub mod KeptCon
+pub mod NarrowRows

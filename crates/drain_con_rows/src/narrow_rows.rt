@@ -1,0 +1,44 @@
+//! Numbers of a row, put after those of earlier rows in 16 bits each.
+
+ghost use Rattle.std.specs.Prelude.{◌≡◌, ◌<◌, ◌++◌, OnErr, OnOk, length, map, pos, slice_index_or};
+ghost use Rattle.drain_con_rows.specs.ConRows.{narrowed};
+
+use drain_grid::OutOfMemory;
+
+/// Puts a row's numbers after the others. A number that 16 bits don't hold is put as the nearest that they hold.
+pub(crate) fn push_row(out: &mut Vec<i16>, numbers: &[i64]) -> Result<(), OutOfMemory>
+    ensures put { OnOk result (out.new.items ≡ out.old.items ++ map narrowed numbers.now) }
+    ensures kept { OnErr result (out.new.items ≡ out.old.items) }
+{
+    let before = out.len();
+    if out.resize(before + numbers.len(), 0).is_err() {
+        return Err(OutOfMemory);
+    }
+    fill(&mut out[before..], numbers);
+    Ok(())
+}
+
+/// Such numbers, one to each place.
+fn fill(out: &mut [i16], numbers: &[i64])
+    requires { length out.old ≡ length numbers.now }
+    ensures { out.new ≡ map narrowed numbers.now }
+{
+    for k in 0..numbers.len() {
+        out[k] = narrowed_at(numbers, k);
+    }
+}
+
+/// The number at a place, or the nearest that 16 bits hold.
+fn narrowed_at(numbers: &[i64], place: usize) -> i16
+    requires { place < length numbers.now }
+    ensures { result ≡ narrowed (slice_index_or numbers.now place (pos 0)) }
+{
+    narrowed(numbers[place])
+}
+
+/// The number, or the nearest that 16 bits hold.
+fn narrowed(number: i64) -> i16
+    ensures { result ≡ narrowed number }
+{
+    number.clamp(-32768, 32767) as i16
+}

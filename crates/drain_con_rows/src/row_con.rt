@@ -1,0 +1,29 @@
+//! Samples and conditioned elevations, noted row by row.
+
+use crate::con_rows::ConRows;
+use drain_grid::OutOfMemory;
+use drain_kernel::Rules;
+use drain_rows::{HeldRow, RowNotes};
+use drain_rules::ThreeRows;
+
+impl RowNotes for ConRows {
+    ghost use Rattle.std.specs.Prelude.{true};
+    ghost use Rattle.drain_con_rows.specs.ConRows.{AreFirstCon};
+
+    ghost counts = { λ n lists. Unit {0} };
+
+    ghost are_of = { λ rules g ps rows lists. AreFirstCon g ps rows lists };
+
+    ghost wants = { λ rules g ps. Unit {0} };
+
+    ghost lasting = { λ lists. true };
+
+    fn note(
+        &mut self,
+        row: &HeldRow,
+        _rows: &ThreeRows<'_>,
+        _rules: &Rules,
+    ) -> Result<(), OutOfMemory> {
+        self.push_row(row.z.as_slice(), row.products.con.as_slice())
+    }
+}

@@ -1,0 +1,5 @@
+pub mod Completed
+pub mod DerivedRasters
+pub mod ReadingLemmas
+pub mod Spelling
+pub mod StepLemmas

@@ -1,0 +1,16 @@
+-- These steps lead from the start to here, a data cell.
+use Rattle.std.proofs.Common.{◌≡◌, ◌≢◌}
+use Rattle.drain_grid.specs.Extent.{IsCellOf}
+use Rattle.drain_grid.proofs.Walks.{IsWalk}
+use Rattle.drain_runs.specs.declared.flow.Flow.TheVariants.{Void}
+use Rattle.drain_runs.specs.Flows.{flow_at}
+use Rattle.drain_counts.specs.OfFlows.{OfFlows}
+use Rattle.drain_derive.proofs.steps.steps_ahead.Given as goal
+
+abbrev pub invariant-loop-walked : goal.invariant-loop-walked
+invariant-loop-walked l = record {
+  inside : IsCellOf l.shape l.here;
+  has_data : flow_at l.shape l.flows l.here ≢ Void;
+  first : l.walked ≡ 0 → l.here ≡ l.fn.start;
+  walk : OfFlows l.shape l.flows (λ g ps. IsWalk g ps l.walked l.fn.start l.here);
+}

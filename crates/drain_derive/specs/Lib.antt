@@ -1,0 +1,4 @@
+pub mod Derived
+pub mod Laws
+pub mod Reading
+pub mod RunSteps

@@ -1,0 +1,12 @@
+//! What follows from directions that are read row by row: accumulation, labels of basins, and ranks.
+#![tactic(auto)]
+
+pub mod derived;
+mod first_steps;
+pub mod laws;
+mod rasters;
+pub mod reading;
+mod steps;
+
+pub use derived::{Derived, derive_from_flows};
+pub use reading::{DeriveRefusal, derive};

@@ -1,0 +1,3 @@
+pub mod FirstUnfilled
+pub mod LeastSurfaces
+pub mod Places

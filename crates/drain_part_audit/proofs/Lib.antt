@@ -1,0 +1,4 @@
+pub mod PartFaults
+pub mod PartNoting
+pub mod PartSums
+pub mod PassedParts

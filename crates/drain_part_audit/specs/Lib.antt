@@ -1,0 +1,5 @@
+pub mod PartFindings
+pub mod PartLines
+pub mod PartStops
+pub mod PartVerdicts
+pub mod PartWalks

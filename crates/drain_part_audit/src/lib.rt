@@ -1,0 +1,19 @@
+//! The audit of some rasters of a set: the walk over rows that tries only the rules about given rasters, and the answer.
+//!
+//! It scans the cells in row order, one patch at a time, and stops at the first fault of a rule that is tried. Labels of
+//! outlets are compared only if labels are given.
+#![tactic(auto)]
+
+pub mod given_rasters;
+pub mod part_cell;
+pub mod part_line;
+pub mod part_notes;
+pub mod part_row;
+pub mod part_verdict;
+pub mod part_walk;
+
+pub use given_rasters::{GivenCon, GivenDir, GivenDirAcc, GivenDirBas, GivenRasters};
+pub use part_line::part_report;
+pub use part_notes::PartNotes;
+pub use part_verdict::PartVerdict;
+pub use part_walk::PartWalk;

@@ -1,0 +1,3 @@
+mod GivenProducts
+mod PartSteps
+mod TriedRules

@@ -1,0 +1,4 @@
+pub mod PartFaults
+pub mod PartFound
+pub mod PartNotes
+pub mod PartProducts
