@@ -312,24 +312,29 @@ for list in con con,dir; do
     done
 done
 
-# Sets of other tools, each with the answer that docs/OTHER_TOOLS.md has for each list: right, or what is wrong first.
+# Sets of other tools, each with the answer that docs/OTHER_TOOLS.md has for each list: right, or the first rule that fails.
 columns=()
 while IFS='|' read -r _ name cells; do
     name=$(tr -d ' `' <<<"$name")
     IFS='|' read -r -a cells <<<"$cells"
     if [ "$name" = set ]; then
-        for cell in "${cells[@]}"; do columns+=("$(tr -d ' `' <<<"$cell")"); done
+        for cell in "${cells[@]}"; do columns+=("$(tr -d ' ' <<<"$cell")"); done
         continue
     fi
     [ -d "samples/other-tools/$name" ] || continue
     echo "$name" >>"$scratch/listed_sets"
     for i in "${!columns[@]}"; do
-        cell=$(sed 's/^ *//; s/ *$//' <<<"${cells[i]}")
-        [ "$cell" = right ] && line='accepted rows=51 cols=51 data=2601 raised=59 outlets=10' || line="rejected $cell"
-        judge_list "other tools, $name" "${columns[i]}" "$(accepted_as "${columns[i]}" "$line")" \
-            --side 51 --products "samples/other-tools/$name" samples/other-tools/N36W085.hgt
+        words=(--side 51 --products "samples/other-tools/$name" samples/other-tools/N36W085.hgt)
+        line=$("$auditor" --only "${columns[i]}" "${words[@]}")
+        case $(sed 's/^ *//; s/ *$//' <<<"${cells[i]}") in
+            right) shown='accepted rows=51' ;;
+            NoEnd) shown='rejected NoEnd' ;;
+            *) shown="rejected rule=$(sed 's/^ *//; s/ *$//' <<<"${cells[i]}")" ;;
+        esac
+        case $line in "$shown "*) ;; *) line="$shown, by docs/OTHER_TOOLS.md" ;; esac
+        judge_list "other tools, $name" "${columns[i]}" "$line" "${words[@]}"
     done
-done < <(sed -n '/^## Which rasters are right/,/^## /p' docs/OTHER_TOOLS.md | grep '^|')
+done < <(sed -n '/^## Which rasters are right/,/^## Other/p' docs/OTHER_TOOLS.md | grep '^|')
 printf '%s\n' samples/other-tools/*/ | sed 's,/$,,; s,.*/,,' | LC_ALL=C sort >"$scratch/out"
 LC_ALL=C sort "$scratch/listed_sets" >"$scratch/want"
 : >"$scratch/err"
