@@ -18,10 +18,11 @@ status_of() {
 
 # Compares the line of a list with these arguments, and that of the other program: its name, the list, the expected line.
 judge_list() {
-    local name="$1, of $2 alone"
-    judge_audit "$name" "$(status_of "$3")" "$3" --only "$2" "${@:4}"
+    local name="$1, of $2 alone" status
+    status=$(status_of "$3")
+    judge_audit "$name" "$status" "$3" --only "$2" "${@:4}"
     "$auditor" --only "$2" "${@:4}" >"$scratch/out" 2>"$scratch/err"
-    judge "$name, by the other program" "$(status_of "$3")" "$scratch/want" $?
+    judge "$name, by the other program" "$status" "$scratch/want" $?
 }
 
 # The same on the tile of side 3 and its products.
