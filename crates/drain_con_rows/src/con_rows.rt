@@ -28,7 +28,8 @@ impl Model for ConRows {
 impl ConRows {
     /// No cell. This takes no memory.
     pub fn new(alloc: Global) -> ConRows
-        ensures { result ≡ record { samples = []; con = [] } }
+        ensures none { result ≡ record { samples = []; con = [] } }
+        ensures begun { (g : Grid) (ps : Products) → AreFirstCon g ps 0 result }
     {
         ConRows {
             samples: Vec::new(alloc),

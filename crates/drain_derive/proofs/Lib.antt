@@ -1,3 +1,4 @@
+pub mod ByDirections
 pub mod Completed
 pub mod DerivedRasters
 pub mod ReadingLemmas

@@ -34,3 +34,10 @@ abbrev pub DerivedCompletes : Type 0
 DerivedCompletes =
     (g : Grid) (ps : Products) (acc bas rnk : Pixels) (nodata : NoDataNumbers) → AreDefaultBut nodata → AreDerived g ps acc bas rnk →
     IsCompleted g ps acc bas rnk nodata
+
+-- what is derived follows from elevations and directions alone: grids may differ in their sinks, and products in all
+-- other numbers
+abbrev pub DerivedByDirections : Type 0
+DerivedByDirections =
+    (g h : Grid) (ps qs : Products) (acc bas rnk : Pixels) → g.extent ≡ h.extent → g.elevation ≡ h.elevation → ps.dir ≡ qs.dir →
+    AreDerived g ps acc bas rnk → AreDerived h qs acc bas rnk

@@ -20,18 +20,20 @@ use Rattle.drain_kernel.specs.declared.lanes.Lanes.{Lanes}
 use Rattle.drain_kernel.specs.declared.rules.Ranks.{Ranks}
 use Rattle.drain_kernel.specs.declared.rules.Ranks.TheVariants.{Asked, Unasked}
 use Rattle.drain_kernel.specs.declared.rules.Rules.{Rules}
-use Rattle.drain_kernel.specs.Asked.{IfAsked}
+use Rattle.drain_kernel.specs.declared.rules.Sums.{Sums}
+use Rattle.drain_kernel.specs.Asked.{IfAsked, IfTested}
 use Rattle.drain_kernel.specs.Columns.{HasRankAt}
 use Rattle.drain_kernel.specs.Falls.{FallsAt, keeps_fall, seen_code, seen_con}
 use Rattle.drain_kernel.specs.Kept.{IsKept}
-use Rattle.drain_kernel.specs.Rules.{rules_with, tried}
+use Rattle.drain_kernel.specs.Rules.{rules_with, tested, tried, without_sums}
 use Rattle.drain_kernel.specs.Shown.{lowered, height_of, HasDataAt, HaveRanks, IsShownRound, Shows, row_beside, col_beside}
 use Rattle.drain_kernel.specs.Tests.{AreComplete, adds_up, passed_on}
 use Rattle.drain_kernel.proofs.Inland.{le_from, no_void, of_each, some_height}
 use Rattle.drain_kernel.proofs.Meaning.{is_complete, no_outlet, not_zero}
 use Rattle.drain_kernel.proofs.NamedNumbers.{named_is, names_some}
 use Rattle.drain_kernel.proofs.Numbers.{Numbers, numbers_in, patch_of, values_are, values_of}
-use Rattle.drain_kernel.proofs.Sums.{inflow_passed, total_is}
+use Rattle.drain_kernel.proofs.Summed.{if_tested, summed}
+use Rattle.drain_kernel.proofs.PassedOn.{inflow_passed, total_is}
 use Rattle.drain_kernel.proofs.Ways.{AreSeen, steepest_from}
 
 -- what is seen of a neighbour with data is its number
@@ -149,12 +151,11 @@ module _ (above here below : Lanes) (k : ℕ) (p : Patch) (shown : IsShownRound 
       λ _. total_is own.acc _ _ _ _ _ _ _ _ _ _ _ _ _ _ _ _ (from East) (from SouthEast) (from South) (from SouthWest) (from West) (from NorthWest)
       (from North) (from NorthEast) ((Decides-eqb _ _).0 h)
 
--- what the tests give together
+-- what the tests but that of the sum give together
 record Falls (nodata : NoDataNumbers) (here : Numbers) (around : List (Option Values)) : Type 0 where
   here_is : height_of here.z ≡ Some (lowered here.z)
   level : here.con ≡ here.z
   way : (d : Direction) × Names (pos here.dir) d × IsSteepest (patch_of here around) d
-  sum : AccumulationHolds (patch_of here around)
   label : LabelHolds (patch_of here around)
   complete : AreComplete nodata here.con here.dir here.acc here.bas
 
@@ -177,8 +178,8 @@ module _ (nodata : NoDataNumbers) (here : Numbers) (around : List (Option Values
   at_least : (a b : ℤ) → a ≡ b → b ≤ℤ a
   at_least a b is = omega (arith, ints)
 
-  -- no rule without ranks fails
-  fallen_unranked : (r : Rule) → unranked nodata it r
+  -- no rule without ranks but Accumulation fails
+  fallen_unranked : (r : Rule) → without_sums (unranked nodata) it r
   fallen_unranked VoidCell = λ void. absurd (false≢true (sym (subst IsNone falls.here_is void)))
   fallen_unranked Missing = λ _. record {
     con_differs = falls.complete.con_differs;
@@ -196,12 +197,12 @@ module _ (nodata : NoDataNumbers) (here : Numbers) (around : List (Option Values
   fallen_unranked Slope = λ _. falls.way
   fallen_unranked OutletCode = λ _ none. absurd (none has_lower)
   fallen_unranked FlatStep = λ _ none. absurd (none has_lower)
-  fallen_unranked Accumulation = falls.sum
+  fallen_unranked Accumulation = tt
   fallen_unranked Label = falls.label
   fallen_unranked SharedLabel = tt
 
   -- nor of a check, with a rank
-  fallen_check : here.rnk ≢ nodata.rnk → (r : Rule) → check_rules nodata it r
+  fallen_check : here.rnk ≢ nodata.rnk → (r : Rule) → without_sums (check_rules nodata) it r
   fallen_check rank VoidCell = λ void. absurd (false≢true (sym (subst IsNone falls.here_is void)))
   fallen_check rank Missing = λ _. is_complete nodata here falls.complete rank
   fallen_check rank BadCode = λ _. inr (falls.way.0, falls.way.1)
@@ -214,13 +215,14 @@ module _ (nodata : NoDataNumbers) (here : Numbers) (around : List (Option Values
   fallen_check rank Slope = λ _. falls.way
   fallen_check rank OutletCode = λ _ none. absurd (none has_lower)
   fallen_check rank FlatStep = λ _ none. absurd (none has_lower)
-  fallen_check rank Accumulation = falls.sum
+  fallen_check rank Accumulation = tt
   fallen_check rank Label = falls.label
   fallen_check rank SharedLabel = tt
 
-  fallen : (ranks : Ranks) → IfAsked ranks (here.rnk ≢ nodata.rnk) → (r : Rule) → rules_with ranks nodata it r
-  fallen Asked rank = fallen_check rank
-  fallen Unasked rank = fallen_unranked
+  fallen : (ranks : Ranks) (sums : Sums) → IfTested sums (AccumulationHolds it) → IfAsked ranks (here.rnk ≢ nodata.rnk) →
+      (r : Rule) → tested sums (rules_with ranks nodata) it r
+  fallen Asked sums sum rank = summed sums (check_rules nodata) it sum (fallen_check rank)
+  fallen Unasked sums sum rank = summed sums (unranked nodata) it sum fallen_unranked
 
 -- what the test of the fall gives
 record OfFall (here : Numbers) (around : List (Option Values)) : Type 0 where
@@ -255,9 +257,9 @@ rank_from Unasked nodata above here below k v s there have differs = tt
 rank_from Asked nodata above here below k v s there have differs = subst (λ r. r ≢ nodata.rnk) (sym (s.rnk_is have.here_has there)) differs
 
 -- so at a column where the tests pass
-pub is_kept_there : (rules : Rules) (above here below : Lanes) (k : ℕ) (p : Patch) → IsShownRound above here below k p →
-    IfAsked rules.ranks (HaveRanks above here below) → FallsAt rules above here below k → IsKept (tried rules) p
-is_kept_there rules above here below k p shown have passes =
+pub is_kept_there : (rules : Rules) (sums : Sums) (above here below : Lanes) (k : ℕ) (p : Patch) → IsShownRound above here below k p →
+    IfAsked rules.ranks (HaveRanks above here below) → FallsAt rules sums above here below k → IsKept (tested sums (tried rules)) p
+is_kept_there rules sums above here below k p shown have passes =
     let at = numbers_in here k p.here in
     let fall = of_fall at (numbers_seen above here below k p shown) p.around (are_seen above here below k p shown) passes.fall in
     let here_is = some_height at.z fall.has_data in
@@ -265,14 +267,14 @@ is_kept_there rules above here below k p shown have passes =
       here_is = here_is;
       level = fall.level;
       way = fall.way;
-      sum = sum_from above here below k p shown passes.sum;
       label = fall.label;
       complete = passes.complete;
     } in
+    let sum = if_tested sums _ _ (sum_from above here below k p shown) passes.sum in
     let rank = rank_from rules.ranks rules.nodata above here below k p.here shown.cell fall.has_data have passes.rank in
     let same : p ≡ patch_of at p.around = λ i. record { here = values_are here k p.here shown.cell fall.has_data i; around = p.around } in
-    subst (IsKept (tried rules)) (sym same) (record {
-      holds = λ r own. fallen rules.nodata at p.around falls rules.ranks rank r;
+    subst (IsKept (tested sums (tried rules))) (sym same) (record {
+      holds = λ r own. fallen rules.nodata at p.around falls rules.ranks sums sum rank r;
       has_data = ap is_some here_is;
       no_outlet = not_zero at.dir (code_of fall.way.0) fall.way.1 (no_outlet fall.way.0);
     })

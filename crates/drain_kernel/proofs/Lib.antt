@@ -1,7 +1,8 @@
 pub mod Alongs
 pub mod NamedNumbers
 pub mod Keys
-pub mod Sums
+pub mod Summed
+pub mod PassedOn
 pub mod Counting
 pub mod Numbers
 pub mod Inland

@@ -18,15 +18,17 @@ use Rattle.drain_kernel.specs.declared.lanes.Lanes.{Lanes}
 use Rattle.drain_kernel.specs.declared.rules.Ranks.{Ranks}
 use Rattle.drain_kernel.specs.declared.rules.Ranks.TheVariants.{Asked, Unasked}
 use Rattle.drain_kernel.specs.declared.rules.Rules.{Rules}
-use Rattle.drain_kernel.specs.Asked.{IfAsked}
+use Rattle.drain_kernel.specs.declared.rules.Sums.{Sums}
+use Rattle.drain_kernel.specs.Asked.{IfAsked, IfTested}
 use Rattle.drain_kernel.specs.Columns.{is_inland_at, PassesAt, RanksPassAt}
 use Rattle.drain_kernel.specs.Kept.{IsKept}
-use Rattle.drain_kernel.specs.Rules.{rules_with, tried}
+use Rattle.drain_kernel.specs.Rules.{rules_with, tested, tried, without_sums}
 use Rattle.drain_kernel.specs.Shown.{height_of, HaveRanks, IsShown, HasRanks, row_beside, col_beside}
 use Rattle.drain_kernel.specs.Tests.{AreComplete, keeps_accumulation, adds_up}
 use Rattle.drain_kernel.proofs.Inland.{IsInland, all_have_data, inland_from, of_each, not_open, OfSurface, of_surface}
 use Rattle.drain_kernel.proofs.Numbers.{Numbers, HaveDataAt, values_of, patch_of, numbers_in, numbers_beside, patch_is, neighbor_is}
-use Rattle.drain_kernel.proofs.Sums.{inflow_is, inflow_passed, total_is}
+use Rattle.drain_kernel.proofs.PassedOn.{inflow_is, inflow_passed, total_is}
+use Rattle.drain_kernel.proofs.Summed.{if_tested, summed}
 use Rattle.drain_kernel.proofs.Ways.{OfDirection, of_direction, FallsOrNears, falls_or_nears_from, flat_step_from}
 
 -- what the test of the accumulation gives
@@ -60,17 +62,16 @@ of_either : (here : Numbers) (n : Direction → Numbers) (around : List (Option 
 of_either here n around known (inl small) = of_accumulation here n around known small
 of_either here n around known (inr any) = of_sum here n around known any
 
--- what the tests without ranks give together
+-- what the tests without ranks and sums give together
 record Passed (nodata : NoDataNumbers) (here : Numbers) (n : Direction → Numbers) (around : List (Option Values)) : Type 0 where
   inland : IsInland here n around
   surface : OfSurface here around
   direction : OfDirection here around
-  sum : AccumulationHolds (patch_of here around)
   complete : AreComplete nodata here.con here.dir here.acc here.bas
 
--- no rule without ranks fails
+-- no rule without ranks but Accumulation fails
 of_unranked : (nodata : NoDataNumbers) (here : Numbers) (n : Direction → Numbers) (around : List (Option Values)) → Passed nodata here n around →
-    (r : Rule) → unranked nodata (patch_of here around) r
+    (r : Rule) → without_sums (unranked nodata) (patch_of here around) r
 of_unranked nodata here n around passed VoidCell = λ void. absurd (false≢true (sym (subst IsNone passed.inland.here_is void)))
 of_unranked nodata here n around passed Missing = λ _. record {
   con_differs = passed.complete.con_differs;
@@ -88,7 +89,7 @@ of_unranked nodata here n around passed NotLeast = passed.surface.not_least
 of_unranked nodata here n around passed Slope = passed.direction.slope
 of_unranked nodata here n around passed OutletCode = λ opened. absurd (not_open here n around passed.inland opened)
 of_unranked nodata here n around passed FlatStep = passed.direction.level_step
-of_unranked nodata here n around passed Accumulation = passed.sum
+of_unranked nodata here n around passed Accumulation = tt
 of_unranked nodata here n around passed Label = passed.direction.label
 of_unranked nodata here n around passed SharedLabel = tt
 
@@ -105,9 +106,9 @@ is_complete nodata here complete differs Acc = complete.acc_differs
 is_complete nodata here complete differs Bas = complete.bas_differs
 is_complete nodata here complete differs Rnk = differs
 
--- no rule of a check fails
+-- nor does one of a check
 of_check : (nodata : NoDataNumbers) (here : Numbers) (n : Direction → Numbers) (around : List (Option Values)) → Passed nodata here n around →
-    Ranked nodata here n → (r : Rule) → check_rules nodata (patch_of here around) r
+    Ranked nodata here n → (r : Rule) → without_sums (check_rules nodata) (patch_of here around) r
 of_check nodata here n around passed ranked VoidCell = λ void. absurd (false≢true (sym (subst IsNone passed.inland.here_is void)))
 of_check nodata here n around passed ranked Missing = λ _. is_complete nodata here passed.complete ranked.differs
 of_check nodata here n around passed ranked BadCode = λ _. inr passed.direction.named
@@ -120,14 +121,17 @@ of_check nodata here n around passed ranked NotLeast = passed.surface.not_least
 of_check nodata here n around passed ranked Slope = passed.direction.slope
 of_check nodata here n around passed ranked OutletCode = λ opened. absurd (not_open here n around passed.inland opened)
 of_check nodata here n around passed ranked FlatStep = flat_step_from here n around passed.inland passed.direction.level_step ranked.nears
-of_check nodata here n around passed ranked Accumulation = passed.sum
+of_check nodata here n around passed ranked Accumulation = tt
 of_check nodata here n around passed ranked Label = passed.direction.label
 of_check nodata here n around passed ranked SharedLabel = tt
 
-of_rules : (ranks : Ranks) (nodata : NoDataNumbers) (here : Numbers) (n : Direction → Numbers) (around : List (Option Values)) →
-    Passed nodata here n around → IfAsked ranks (Ranked nodata here n) → (r : Rule) → rules_with ranks nodata (patch_of here around) r
-of_rules Asked nodata here n around passed ranked = of_check nodata here n around passed ranked
-of_rules Unasked nodata here n around passed ranked = of_unranked nodata here n around passed
+of_rules : (ranks : Ranks) (sums : Sums) (nodata : NoDataNumbers) (here : Numbers) (n : Direction → Numbers) (around : List (Option Values)) →
+    Passed nodata here n around → IfTested sums (AccumulationHolds (patch_of here around)) → IfAsked ranks (Ranked nodata here n) →
+    (r : Rule) → tested sums (rules_with ranks nodata) (patch_of here around) r
+of_rules Asked sums nodata here n around passed sum ranked =
+    summed sums (check_rules nodata) (patch_of here around) sum (of_check nodata here n around passed ranked)
+of_rules Unasked sums nodata here n around passed sum ranked =
+    summed sums (unranked nodata) (patch_of here around) sum (of_unranked nodata here n around passed)
 
 -- no direction's code is that of an outlet
 pub no_outlet : (d : Direction) → code_of d ≢ 0
@@ -162,9 +166,9 @@ ranked_from Asked nodata above here below k p shown known have passes =
     }
 
 -- so at a column of three rows where all tests pass
-pub is_kept : (rules : Rules) (above here below : Lanes) (k : ℕ) (p : Patch) → IsShown above here below k p →
-    IfAsked rules.ranks (HaveRanks above here below) → PassesAt rules above here below k → IsKept (tried rules) p
-is_kept rules above here below k p shown have passes =
+pub is_kept : (rules : Rules) (sums : Sums) (above here below : Lanes) (k : ℕ) (p : Patch) → IsShown above here below k p →
+    IfAsked rules.ranks (HaveRanks above here below) → PassesAt rules sums above here below k → IsKept (tested sums (tried rules)) p
+is_kept rules sums above here below k p shown have passes =
     let at = numbers_in here k p.here in
     let n = numbers_beside above here below k p shown in
     let nine = have_data_from above here below k passes.inland in
@@ -175,12 +179,12 @@ is_kept rules above here below k p shown have passes =
       inland = known;
       surface = of_surface at n p.around known passes.surface;
       direction = direction;
-      sum = of_either at n p.around known passes.accumulation;
       complete = passes.complete;
     } in
+    let sum = if_tested sums _ _ (of_either at n p.around known) passes.accumulation in
     let ranked = ranked_from rules.ranks rules.nodata above here below k p shown nine have passes.ranks in
-    subst (IsKept (tried rules)) (sym (patch_is above here below k p shown nine.here_has)) (record {
-      holds = λ r own. of_rules rules.ranks rules.nodata at n p.around passed ranked r;
+    subst (IsKept (tested sums (tried rules))) (sym (patch_is above here below k p shown nine.here_has)) (record {
+      holds = λ r own. of_rules rules.ranks sums rules.nodata at n p.around passed sum ranked r;
       has_data = ap is_some known.here_is;
       no_outlet = not_zero at.dir (code_of direction.named.0) direction.named.1 (no_outlet direction.named.0);
     })

@@ -3,8 +3,9 @@ use Rattle.std.specs.Prelude.{◌≢◌, ◌⊎◌, ℕ, ◌≤◌, ◌<◌, pos
 use Rattle.drain_grid.specs.Values.{NoDataNumbers}
 use Rattle.drain_kernel.specs.declared.lanes.Lanes.{Lanes}
 use Rattle.drain_kernel.specs.declared.rules.Rules.{Rules}
+use Rattle.drain_kernel.specs.declared.rules.Sums.{Sums}
 use Rattle.drain_kernel.specs.Around.{around_in}
-use Rattle.drain_kernel.specs.Asked.{IfAsked}
+use Rattle.drain_kernel.specs.Asked.{IfAsked, IfTested}
 use Rattle.drain_kernel.specs.Tests.{AreComplete, have_data, keeps_surface, keeps_direction, keeps_accumulation, adds_up, falls_or_nears}
 
 abbrev pub is_inland_at : Lanes → Lanes → Lanes → ℕ → Bool
@@ -51,12 +52,12 @@ pub record RanksPassAt (nodata : NoDataNumbers) (a h b : Lanes) (k : ℕ) : Type
   pub ranked : IsTrue (is_ranked_at a h b k)
   pub has_rank : HasRankAt nodata h k
 
--- all tests pass at a column
-pub record PassesAt (rules : Rules) (a h b : Lanes) (k : ℕ) : Type 0 where
+-- all tests pass at a column, that of the accumulation if sums are tested
+pub record PassesAt (rules : Rules) (sums : Sums) (a h b : Lanes) (k : ℕ) : Type 0 where
   pub inland : IsTrue (is_inland_at a h b k)
   pub surface : IsTrue (keeps_surface_at a h b k)
   pub direction : IsTrue (keeps_direction_at a h b k)
-  pub accumulation : SumPassesAt a h b k
+  pub accumulation : IfTested sums (SumPassesAt a h b k)
   pub complete : IsCompleteAt rules.nodata h k
   pub ranks : IfAsked rules.ranks (RanksPassAt rules.nodata a h b k)
 

@@ -2,8 +2,9 @@
 use Rattle.std.specs.Prelude.{ℕ, Bool, not, ◌&&◌, ◌==◌, nat_le, IsTrue, List, [], ◌∷◌, slice_index, if◌then◌else◌}
 use Rattle.drain_kernel.specs.declared.lanes.Lanes.{Lanes}
 use Rattle.drain_kernel.specs.declared.rules.Rules.{Rules}
+use Rattle.drain_kernel.specs.declared.rules.Sums.{Sums}
 use Rattle.drain_kernel.specs.Around.{around_in, is_direction_code, named_in}
-use Rattle.drain_kernel.specs.Asked.{IfAsked}
+use Rattle.drain_kernel.specs.Asked.{IfAsked, IfTested}
 use Rattle.drain_kernel.specs.Columns.{HasRankAt, IsCompleteAt}
 use Rattle.drain_kernel.specs.Tests.{adds_up, falls_steepest}
 
@@ -41,9 +42,9 @@ seen_sum_at a h b k =
     (each_seen seen_code (around_in a.z.items h.z.items b.z.items k) (around_in a.dir.items h.dir.items b.dir.items k))
     (around_in a.acc.items h.acc.items b.acc.items k)
 
--- these tests pass at a column, and no number is its product's no-data number
-pub record FallsAt (rules : Rules) (a h b : Lanes) (k : ℕ) : Type 0 where
+-- these tests pass at a column, that of the accumulation if sums are tested, and no number is its product's no-data number
+pub record FallsAt (rules : Rules) (sums : Sums) (a h b : Lanes) (k : ℕ) : Type 0 where
   pub fall : IsTrue (keeps_fall_at a h b k)
-  pub sum : IsTrue (seen_sum_at a h b k)
+  pub sum : IfTested sums (IsTrue (seen_sum_at a h b k))
   pub complete : IsCompleteAt rules.nodata h k
   pub rank : IfAsked rules.ranks (HasRankAt rules.nodata h k)

@@ -3,11 +3,11 @@
 
 ghost use Rattle.std.specs.Prelude.{◌≡◌, ◌≤◌, ◌<◌, ◌+◌, IsTrue, vec_len};
 ghost use Rattle.drain_grid.specs.declared.patch.Patch.{Patch};
-ghost use Rattle.drain_kernel.specs.Asked.{IfAsked};
+ghost use Rattle.drain_kernel.specs.Asked.{IfAsked, IfTested};
 ghost use Rattle.drain_kernel.specs.Columns.{HasRankAt};
 ghost use Rattle.drain_kernel.specs.Falls.{FallsAt, each_seen, keeps_fall, keeps_fall_at, seen_code, seen_con, seen_sum_at};
 ghost use Rattle.drain_kernel.specs.Kept.{IsKept};
-ghost use Rattle.drain_kernel.specs.Rules.{tried};
+ghost use Rattle.drain_kernel.specs.Rules.{tested, tried, unsummed};
 ghost use Rattle.drain_kernel.specs.Shown.{cols, HasRanks, HaveRanks, IsInner, IsShownRound};
 
 use crate::around::{around, is_direction, named};
@@ -16,7 +16,8 @@ use crate::columns::is_complete;
 use crate::kept::ranks_are_there;
 use crate::lanes::Lanes;
 use crate::ranked::has_rank;
-use crate::rules::{Ranks, Rules};
+use crate::rules::{Ranks, Rules, Sums};
+use drain_grid::NoData;
 
 /// Higher than any conditioned elevation in a lane.
 const HIDDEN: u32 = 4294967295;
@@ -127,6 +128,20 @@ fn seen_sum_holds(above: &Lanes, here: &Lanes, below: &Lanes, k: usize) -> bool
     adds_up(here.acc[k], seen_codes(zs, codes), accs)
 }
 
+/// The same, if sums are tested.
+fn keeps_sum(above: &Lanes, here: &Lanes, below: &Lanes, sums: Sums, k: usize) -> bool
+    requires inner { 1 ≤ k }
+    requires above_len { k + 1 < vec_len above.now.z }
+    requires here_len { k + 1 < vec_len here.now.z }
+    requires below_len { k + 1 < vec_len below.now.z }
+    ensures { IsTrue result → IfTested sums (IsTrue (seen_sum_at above.now here.now below.now k)) }
+{
+    match sums {
+        Sums::Untested => true,
+        Sums::Tested => seen_sum_holds(above, here, below, k),
+    }
+}
+
 /// Whether the rank isn't the no-data number, if ranks are checked.
 fn keeps_rank(here: &Lanes, rules: &Rules, k: usize) -> bool
     requires here_len { k < vec_len here.now.z }
@@ -140,31 +155,43 @@ fn keeps_rank(here: &Lanes, rules: &Rules, k: usize) -> bool
 }
 
 /// Whether all these tests pass at a column that isn't the first nor the last.
-fn tests_pass(above: &Lanes, here: &Lanes, below: &Lanes, rules: &Rules, k: usize) -> bool
+fn tests_pass(
+    above: &Lanes,
+    here: &Lanes,
+    below: &Lanes,
+    rules: &Rules,
+    sums: Sums,
+    k: usize,
+) -> bool
     requires inner { 1 ≤ k }
     requires above_len { k + 1 < vec_len above.now.z }
     requires here_len { k + 1 < vec_len here.now.z }
     requires below_len { k + 1 < vec_len below.now.z }
     requires ranks { IfAsked rules.now.ranks (HaveRanks above.now here.now below.now) }
-    ensures { IsTrue result → FallsAt rules.now above.now here.now below.now k }
+    ensures { IsTrue result → FallsAt rules.now sums above.now here.now below.now k }
 {
     // Voids and outlets stop here.
     here.z[k] != 0
         && here.dir[k] != 0
         && fall_holds(above, here, below, k)
-        && seen_sum_holds(above, here, below, k)
+        && keeps_sum(above, here, below, sums, k)
         && is_complete(here, &rules.nodata, k)
         && keeps_rank(here, rules, k)
 }
 
-/// Whether the cell at a column lies on its ground and falls. Then its patch in the three rows keeps every rule from
-/// VoidCell to Label, whether it is a listed sink or not, and whether voids are beside it. False shows no fault. It is
-/// false at the first and the last column, if the rows have different lengths, and if ranks are checked and one row has
-/// none.
-pub fn falls_at(above: &Lanes, here: &Lanes, below: &Lanes, rules: &Rules, k: usize) -> bool
+/// Whether the cell at a column lies on its ground and falls, by the tests with sums or without. Then its patch keeps
+/// the rules that are tried: if sums are untested, all of them but Accumulation.
+fn is_cleared_at(
+    above: &Lanes,
+    here: &Lanes,
+    below: &Lanes,
+    rules: &Rules,
+    sums: Sums,
+    k: usize,
+) -> bool
     requires inside { k ≤ cols here.now }
     ensures inner { IsTrue result → IsInner above.now here.now below.now k }
-    ensures kept { IsTrue result → (p : Patch) → IsShownRound above.now here.now below.now k p → IsKept (tried rules.now) p }
+    ensures kept { IsTrue result → (p : Patch) → IsShownRound above.now here.now below.now k p → IsKept (tested sums (tried rules.now)) p }
 {
     let cols = here.cols();
     if above.cols() != cols
@@ -176,5 +203,39 @@ pub fn falls_at(above: &Lanes, here: &Lanes, below: &Lanes, rules: &Rules, k: us
     if k == 0 || k >= cols - 1 {
         return false;
     }
-    tests_pass(above, here, below, rules, k)
+    tests_pass(above, here, below, rules, sums, k)
+}
+
+/// Whether the cell at a column lies on its ground and falls. Then its patch in the three rows keeps every rule from
+/// VoidCell to Label, whether it is a listed sink or not, and whether voids are beside it. False shows no fault. It is
+/// false at the first and the last column, if the rows have different lengths, and if ranks are checked and one row has
+/// none.
+pub fn falls_at(above: &Lanes, here: &Lanes, below: &Lanes, rules: &Rules, k: usize) -> bool
+    requires inside { k ≤ cols here.now }
+    ensures inner { IsTrue result → IsInner above.now here.now below.now k }
+    ensures kept { IsTrue result → (p : Patch) → IsShownRound above.now here.now below.now k p → IsKept (tried rules.now) p }
+{
+    is_cleared_at(above, here, below, rules, Sums::Tested, k)
+}
+
+/// Whether the cell at a column lies on its ground and falls, where no accumulation is given. Then its patch in the
+/// three rows keeps every rule without ranks from VoidCell to Label but Accumulation, whether it is a listed sink or
+/// not, and whether voids are beside it. False shows no fault. It is false at the first and the last column, and if the
+/// rows have different lengths.
+pub fn routed_falls_at(
+    above: &Lanes,
+    here: &Lanes,
+    below: &Lanes,
+    nodata: &NoData,
+    k: usize,
+) -> bool
+    requires inside { k ≤ cols here.now }
+    ensures inner { IsTrue result → IsInner above.now here.now below.now k }
+    ensures kept { IsTrue result → (p : Patch) → IsShownRound above.now here.now below.now k p → IsKept (unsummed nodata.now) p }
+{
+    let rules = Rules {
+        nodata: *nodata,
+        ranks: Ranks::Unasked,
+    };
+    is_cleared_at(above, here, below, &rules, Sums::Untested, k)
 }

@@ -5,13 +5,14 @@ ghost use Rattle.drain_grid.specs.declared.patch.Patch.{Patch};
 ghost use Rattle.drain_kernel.specs.Asked.{IfAsked};
 ghost use Rattle.drain_kernel.specs.Columns.{Along, PassesAt};
 ghost use Rattle.drain_kernel.specs.Kept.{IsKept};
-ghost use Rattle.drain_kernel.specs.Rules.{tried};
+ghost use Rattle.drain_kernel.specs.Rules.{tested, tried, unsummed};
 ghost use Rattle.drain_kernel.specs.Shown.{cols, HaveRanks, IsInner, IsShown};
 
 use crate::columns::is_inland;
 use crate::lanes::Lanes;
-use crate::rules::{Ranks, Rules};
+use crate::rules::{Ranks, Rules, Sums};
 use crate::strides::passed_strides;
+use drain_grid::NoData;
 
 /// How many columns are tested at once: long enough that loops of four or eight lanes pay, short enough that few
 /// stretches have an outlet or a void.
@@ -54,6 +55,7 @@ fn passed_until(
     here: &Lanes,
     below: &Lanes,
     rules: &Rules,
+    sums: Sums,
     from: usize,
     end: usize,
 ) -> usize
@@ -65,14 +67,50 @@ fn passed_until(
     requires ranks { IfAsked rules.now.ranks (HaveRanks above.now here.now below.now) }
     ensures forward { from ≤ result }
     ensures within { result ≤ end }
-    ensures passed { Along from result (PassesAt rules.now above.now here.now below.now) }
+    ensures passed { Along from result (PassesAt rules.now sums above.now here.now below.now) }
 {
-    let by_blocks = passed_strides(above, here, below, rules, from, end, BLOCK);
+    let by_blocks = passed_strides(above, here, below, rules, sums, from, end, BLOCK);
     let reach = by_blocks + BLOCK.min(end - by_blocks);
     let shore = inland_until(above, here, below, by_blocks, reach);
-    let ashore = passed_strides(above, here, below, rules, by_blocks, shore, BLOCK);
-    let by_groups = passed_strides(above, here, below, rules, ashore, shore, GROUP);
-    passed_strides(above, here, below, rules, by_groups, shore, 1)
+    let ashore = passed_strides(above, here, below, rules, sums, by_blocks, shore, BLOCK);
+    let by_groups = passed_strides(above, here, below, rules, sums, ashore, shore, GROUP);
+    passed_strides(above, here, below, rules, sums, by_groups, shore, 1)
+}
+
+/// A column from this one on, at most `until`, before which each cell keeps the rules that are tried: if sums are
+/// untested, all of them but Accumulation.
+fn cleared_until(
+    above: &Lanes,
+    here: &Lanes,
+    below: &Lanes,
+    rules: &Rules,
+    sums: Sums,
+    from: usize,
+    until: usize,
+) -> usize
+    requires ordered { from ≤ until }
+    requires inside { until ≤ cols here.now }
+    ensures forward { from ≤ result }
+    ensures within { result ≤ until }
+    ensures inner { Along from result (IsInner above.now here.now below.now) }
+    ensures kept { Along from result (λ k. (p : Patch) → IsShown above.now here.now below.now k p → IsKept (tested sums (tried rules.now)) p) }
+{
+    let cols = here.cols();
+    if above.cols() != cols
+        || below.cols() != cols
+        || !ranks_are_there(above, here, below, rules.ranks)
+    {
+        return from;
+    }
+    if from == 0 || from == cols {
+        return from;
+    }
+    // A row of voids stops here.
+    let end = until.min(cols - 1);
+    if from >= end || !is_inland(above, here, below, from) {
+        return from;
+    }
+    passed_until(above, here, below, rules, sums, from, end)
 }
 
 /// A column to which cells can be cleared from this one on, at most `until`. At each column before it the patch of the
@@ -94,20 +132,31 @@ pub fn kept_until(
     ensures inner { Along from result (IsInner above.now here.now below.now) }
     ensures kept { Along from result (λ k. (p : Patch) → IsShown above.now here.now below.now k p → IsKept (tried rules.now) p) }
 {
-    let cols = here.cols();
-    if above.cols() != cols
-        || below.cols() != cols
-        || !ranks_are_there(above, here, below, rules.ranks)
-    {
-        return from;
-    }
-    if from == 0 || from == cols {
-        return from;
-    }
-    // A row of voids stops here.
-    let end = until.min(cols - 1);
-    if from >= end || !is_inland(above, here, below, from) {
-        return from;
-    }
-    passed_until(above, here, below, rules, from, end)
+    cleared_until(above, here, below, rules, Sums::Tested, from, until)
+}
+
+/// A column to which cells can be cleared from this one on, at most `until`, where no accumulation is given. At each
+/// column before it the patch of the three rows, for a cell that isn't a listed sink, keeps every rule without ranks
+/// from VoidCell to Label but Accumulation. It may be any such column, so it shows no fault. It is `from` at the first
+/// and the last column, and if the rows have different lengths.
+pub fn routed_until(
+    above: &Lanes,
+    here: &Lanes,
+    below: &Lanes,
+    nodata: &NoData,
+    from: usize,
+    until: usize,
+) -> usize
+    requires ordered { from ≤ until }
+    requires inside { until ≤ cols here.now }
+    ensures forward { from ≤ result }
+    ensures within { result ≤ until }
+    ensures inner { Along from result (IsInner above.now here.now below.now) }
+    ensures kept { Along from result (λ k. (p : Patch) → IsShown above.now here.now below.now k p → IsKept (unsummed nodata.now) p) }
+{
+    let rules = Rules {
+        nodata: *nodata,
+        ranks: Ranks::Unasked,
+    };
+    cleared_until(above, here, below, &rules, Sums::Untested, from, until)
 }

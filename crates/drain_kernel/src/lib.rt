@@ -14,7 +14,7 @@ pub mod rules;
 mod stretches;
 mod strides;
 
-pub use falls::falls_at;
-pub use kept::kept_until;
+pub use falls::{falls_at, routed_falls_at};
+pub use kept::{kept_until, routed_until};
 pub use lanes::Lanes;
-pub use rules::{Ranks, Rules};
+pub use rules::{Ranks, Rules, Sums};

@@ -16,3 +16,10 @@ pub enum Ranks {
     Asked,
     Unasked,
 }
+
+/// Whether the rule of the accumulation is tried. It isn't where no accumulation is given.
+#[derive(Clone, Copy, PartialEq, Eq, Debug)]
+pub enum Sums {
+    Tested,
+    Untested,
+}

@@ -1,13 +1,13 @@
 //! Columns along a row, one stride at a time.
 
 ghost use Rattle.std.specs.Prelude.{◌≡◌, ◌≤◌, ◌<◌, IsTrue, vec_len};
-ghost use Rattle.drain_kernel.specs.Asked.{IfAsked};
+ghost use Rattle.drain_kernel.specs.Asked.{IfAsked, IfTested};
 ghost use Rattle.drain_kernel.specs.Columns.{Along, PassesAt, RanksPassAt, SumPassesAt};
 ghost use Rattle.drain_kernel.specs.Shown.{HaveRanks};
 
 use crate::lanes::Lanes;
 use crate::ranked::{all_have_ranks, all_ranked};
-use crate::rules::{Ranks, Rules};
+use crate::rules::{Ranks, Rules, Sums};
 use crate::stretches::{
     all_accumulation, all_complete, all_direction, all_inland, all_sums, all_surface,
 };
@@ -38,16 +38,29 @@ fn ranks_pass(
     }
 }
 
-/// Whether the rule of the accumulation holds: by sums of 32 bits, else by sums of 64.
-fn sums_pass(above: &Lanes, here: &Lanes, below: &Lanes, from: usize, end: usize) -> bool
+/// Whether the rule of the accumulation holds, if sums are tested: by sums of 32 bits, else by sums of 64.
+fn sums_pass(
+    above: &Lanes,
+    here: &Lanes,
+    below: &Lanes,
+    sums: Sums,
+    from: usize,
+    end: usize,
+) -> bool
     requires inner { 1 ≤ from }
     requires ordered { from ≤ end }
     requires above_len { end < vec_len above.now.z }
     requires here_len { end < vec_len here.now.z }
     requires below_len { end < vec_len below.now.z }
-    ensures { IsTrue result → Along from end (SumPassesAt above.now here.now below.now) }
+    ensures { IsTrue result → Along from end (λ k. IfTested sums (SumPassesAt above.now here.now below.now k)) }
 {
-    all_accumulation(above, here, below, from, end) || all_sums(above, here, below, from, end)
+    match sums {
+        Sums::Untested => true,
+        Sums::Tested => {
+            all_accumulation(above, here, below, from, end)
+                || all_sums(above, here, below, from, end)
+        }
+    }
 }
 
 /// Whether all tests pass. The test of voids comes first: at right products little else fails, and it is the cheapest.
@@ -56,6 +69,7 @@ fn all_pass(
     here: &Lanes,
     below: &Lanes,
     rules: &Rules,
+    sums: Sums,
     from: usize,
     end: usize,
 ) -> bool
@@ -65,12 +79,12 @@ fn all_pass(
     requires here_len { end < vec_len here.now.z }
     requires below_len { end < vec_len below.now.z }
     requires ranks { IfAsked rules.now.ranks (HaveRanks above.now here.now below.now) }
-    ensures { IsTrue result → Along from end (PassesAt rules.now above.now here.now below.now) }
+    ensures { IsTrue result → Along from end (PassesAt rules.now sums above.now here.now below.now) }
 {
     all_inland(above, here, below, from, end)
         && all_surface(above, here, below, from, end)
         && all_direction(above, here, below, from, end)
-        && sums_pass(above, here, below, from, end)
+        && sums_pass(above, here, below, sums, from, end)
         && all_complete(here, &rules.nodata, from, end)
         && ranks_pass(above, here, below, rules, from, end)
 }
@@ -81,6 +95,7 @@ pub fn passed_strides(
     here: &Lanes,
     below: &Lanes,
     rules: &Rules,
+    sums: Sums,
     from: usize,
     end: usize,
     stride: usize,
@@ -94,12 +109,12 @@ pub fn passed_strides(
     requires ranks { IfAsked rules.now.ranks (HaveRanks above.now here.now below.now) }
     ensures forward { from ≤ result }
     ensures within { result ≤ end }
-    ensures passed { Along from result (PassesAt rules.now above.now here.now below.now) }
+    ensures passed { Along from result (PassesAt rules.now sums above.now here.now below.now) }
 {
     let mut k = from;
     while k < end {
         let next = k + stride.min(end - k);
-        if !all_pass(above, here, below, rules, k, next) {
+        if !all_pass(above, here, below, rules, sums, k, next) {
             return k;
         }
         k = next;

@@ -2,3 +2,4 @@ pub mod PartFaults
 pub mod PartNoting
 pub mod PartSums
 pub mod PassedParts
+pub mod PartVerdicts

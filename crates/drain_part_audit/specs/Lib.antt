@@ -1,3 +1,5 @@
+pub mod Joined
+pub mod PartAudits
 pub mod PartFindings
 pub mod PartLines
 pub mod PartStops

@@ -4,15 +4,22 @@
 //! outlets are compared only if labels are given.
 #![tactic(auto)]
 
+pub mod con_audit;
 pub mod given_rasters;
+mod joined;
+pub mod no_notes;
+pub mod part_audit;
 pub mod part_cell;
 pub mod part_line;
 pub mod part_notes;
 pub mod part_row;
 pub mod part_verdict;
 pub mod part_walk;
+pub mod way_audit;
 
 pub use given_rasters::{GivenCon, GivenDir, GivenDirAcc, GivenDirBas, GivenRasters};
+pub use no_notes::NoNotes;
+pub use part_audit::{PartRead, audit_part};
 pub use part_line::part_report;
 pub use part_notes::PartNotes;
 pub use part_verdict::PartVerdict;

@@ -1,16 +1,19 @@
 -- What was found about given rasters, with one cell more; and from row to row.
-use Rattle.std.proofs.Common.{◌≡◌, ℕ, ◌+◌, ◌<◌, ◌^◌, is_some, List, [], ◌∷◌, ◌++◌, length, Option, Some, None, inl, inr, refl, sym, ◌∙◌, subst, arith}
+use Rattle.std.proofs.Common.{◌≡◌, ℕ, ◌+◌, ◌<◌, ◌^◌, IsTrue, is_some, List, [], ◌∷◌, ◌++◌, length, Option, Some, None, inl, inr, refl, sym, ◌∙◌, subst, arith}
 use Rattle.std.specs.Prelude.{◌≤◌}
+use Rattle.drain_basin.specs.Admitted.{IsAdmitted}
 use Rattle.drain_grid.specs.declared.cell.Cell.{Cell}
 use Rattle.drain_grid.specs.declared.patch.Patch.{Patch}
 use Rattle.drain_grid.specs.declared.per_product.PerProduct.{PerProduct}
 use Rattle.drain_grid.specs.declared.rule.Rule.{Rule}
+use Rattle.drain_grid.specs.declared.rule.Rule.TheVariants.{SharedLabel}
 use Rattle.drain_grid.specs.Grid.{Grid, Products, IsInside, patch_at, values_at}
 use Rattle.drain_grid.specs.GridRules.{HoldsAt}
 use Rattle.drain_grid.specs.PerProduct.{of_product}
 use Rattle.drain_grid.specs.Rule.{IsAnyRule, IsLeastFault}
 use Rattle.drain_grid.specs.Values.{NoDataNumbers}
 use Rattle.drain_rules.specs.Findings.{cells_above}
+use Rattle.drain_rules.specs.Labels.{IsOutletByCode}
 use Rattle.drain_rules.specs.PatchRows.{AreRowPatches}
 use Rattle.drain_rules.specs.Rows.{place}
 use Rattle.drain_rules.proofs.LabelsBefore.{AreLabelsBefore-more, AreLabelsBefore-row}
@@ -21,11 +24,12 @@ use Rattle.drain_faults.specs.declared.product_faults.ProductFaults.{ProductFaul
 use Rattle.drain_faults.specs.declared.rule_faults.RuleFaults.{RuleFaults}
 use Rattle.drain_faults.specs.CellFaults.{IsFirstNoted, IsNotedAt}
 use Rattle.drain_faults.specs.FaultMaps.{AreDrawn, pixel_of}
-use Rattle.drain_faults.specs.FaultWalks.{cells_before}
+use Rattle.drain_faults.specs.FaultWalks.{IsNewOutletAt, cells_before}
 use Rattle.drain_faults.specs.PerRule.{of_rule}
 use Rattle.drain_faults.proofs.CellsBefore.{cells_before-all, cells_before-few, cells_before-more, cells_before-none}
 use Rattle.drain_faults.proofs.Flags.{noted_same}
 use Rattle.drain_faults.proofs.NumbersWithout.{first_found, first_past, first_stays, noted_more}
+use Rattle.drain_parts.specs.Given.{has_bas}
 use Rattle.drain_parts.specs.declared.given.Given.{Given}
 use Rattle.drain_parts.specs.PartRules.{part_rules}
 use Rattle.drain_part_faults.specs.PartFaults.{AllHoldAt, ArePartFaults, ArePartPixels, HoldsIfTried, IsFirstPart, IsLeastAt, IsPartMap, IsPartPixel}
@@ -152,3 +156,19 @@ module _ (given : Given) (nodata : NoDataNumbers) (g : Grid) (ps : Products) (ro
       (subst (λ q. IsPartNoted given nodata cell q old new) same noted) so_far least
       (subst (λ q. IsLeastFault IsAnyRule (HoldsIfTried given nodata old.labels q) least) same fault)
       (subst (λ (q : Patch). AreDrawn map drawn (pixel_of least (is_some q.here.z) ∷ [])) same pixel))
+
+  -- where a label found no room it is a new one
+  pub found_new : (found : Found) (map : Option FaultMap) (col : ℕ) (p : Patch) → col < cols → p ≡ shown col →
+      IsPartFound given nodata g ps (cells_before g row col) (place row col) found map →
+      IsTrue (has_bas given) × IsOutletByCode p.here × ¬ IsAdmitted found.labels p.here.bas → IsNewOutletAt g ps (place row col)
+  found_new found map col p less is so_far want =
+      let cell = place row col in
+      let same : p ≡ patch_at g ps cell = is ∙ are.patches_are col less in
+      let inside : IsInside g cell = record { row = are.inside; col = omega (arith, less, are.cols_are) } in
+      let at : IsOutletByCode (values_at g ps cell) × ¬ IsAdmitted found.labels (ps.bas cell) =
+      subst (λ (q : Patch). IsOutletByCode q.here × ¬ IsAdmitted found.labels q.here.bas) same (want.1, want.2) in
+      record {
+        has_data = record { inside = inside; is_data = at.0.has_data };
+        code = at.0.code;
+        is_new = (tried_at given nodata g ps found.labels cell inside so_far.before SharedLabel want.0).0 (λ own outlet. at.1);
+      }

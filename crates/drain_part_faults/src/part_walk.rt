@@ -34,6 +34,7 @@ impl PartFaultWalk {
     ghost use Rattle.drain_grid.specs.Grid.{Grid, Products};
     ghost use Rattle.drain_grid.specs.Values.{NoDataNumbers};
     ghost use Rattle.drain_rules.specs.Findings.{cells_above};
+    ghost use Rattle.drain_faults.specs.FaultWalks.{HasNewOutlet};
     ghost use Rattle.drain_parts.specs.Given.{has_bas};
     ghost use Rattle.drain_part_faults.specs.PartFaults.{ArePartFaults, ArePartPixels, IsFirstPart, IsPartMap};
     ghost use Rattle.drain_part_faults.specs.PartNotes.{IsPartRightOf, OfNextPartRow};
@@ -74,7 +75,8 @@ impl PartFaultWalk {
 
     /// Scans the next row. The result is right for these no-data numbers if the rows above were scanned with them too.
     ///
-    /// `OutOfMemory` comes only if a map is drawn, or if labels are given. Then the walk is over.
+    /// `OutOfMemory` comes only if a map is drawn, or if labels are given, at a data cell with code 0 whose label no
+    /// earlier one has: no memory for it. Then the walk is over.
     pub fn note_row<R: PatchRow>(&mut self, patches: &R, nodata: &NoData) -> Result<(), OutOfMemory>
         requires row { self.old.rows < MAX_LENGTH }
         ensures rows { OnOk result (self.new.rows ≡ self.old.rows + 1) }
@@ -82,7 +84,7 @@ impl PartFaultWalk {
         ensures nodata { OnOk result (self.new.nodata ≡ nodata.now) }
         ensures found { OnOk result (OfNextPartRow nodata.now self.old (R.len patches.now) (R.shown patches.now) (λ g ps. IsPartRightOf nodata.now g ps self.new)) }
         ensures drawn { OnOk result (IsSome self.new.map ↔ IsSome self.old.map) }
-        ensures err { OnErr result (IsSome self.old.map ⊎ IsTrue (has_bas self.old.given)) }
+        ensures err { OnErr result (IsSome self.old.map ⊎ (IsTrue (has_bas self.old.given) × OfNextPartRow nodata.now self.old (R.len patches.now) (R.shown patches.now) HasNewOutlet)) }
     {
         note_row_of(
             &mut self.found,

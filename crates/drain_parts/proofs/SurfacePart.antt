@@ -28,31 +28,33 @@ use Rattle.drain_parts.specs.PartRules.{IsPartRule, part_rules}
 use Rattle.drain_parts.proofs.ChosenWays.{routed, void_code, data_code, way_rules}
 use Rattle.drain_parts.proofs.PartLocal.{part_holds, to_part}
 
--- the rules about a least surface with directions that keep rules 10 to 12
-module _ (g : Grid) (ps : Products) (nodata : NoDataNumbers) (least : IsLeastSurface g ps.con) (ways : RulesHold flow_rules IsWayRule g ps)
-    (codes : (c : Cell) → HasData g c → IsCode (ps.dir c)) (c : Cell) (inside : IsInside g c) where
-  at_ground : OpenRaisedWithoutSpill (patch_at g ps c)
+-- a least surface is at the ground where water leaves, and no neighbour shows a lower way out
+module _ (g : Grid) (ps : Products) (least : IsLeastSurface g ps.con) (c : Cell) (inside : IsInside g c) where
+  pub at_ground : OpenRaisedWithoutSpill (patch_at g ps c)
   at_ground is_open =
       let open_cell = (IsOpen-patch_at g ps c inside).0 is_open in
       least_at_open g ps.con least c (HasData-path g c [] open_cell) open_cell
 
-  not_raised : NotLeastHolds (patch_at g ps c)
+  pub not_raised : NotLeastHolds (patch_at g ps c)
   not_raised is_data d v beside =
       let found = cell_shown g ps c d v beside in
       let level = least_beside g ps.con least c found.0 (record { inside = inside; is_data = is_data }) found.1.has_data
       (AreNeighbors-lies c found.0 d found.1.lies) in
       subst (λ (w : Values). ps.con c ≤ℤ int_max (height_at g c) w.con) found.1.values level
 
+-- the rules about a least surface with directions that keep rules 10 to 12
+module _ (g : Grid) (ps : Products) (nodata : NoDataNumbers) (least : IsLeastSurface g ps.con) (ways : RulesHold flow_rules IsWayRule g ps)
+    (codes : (c : Cell) → HasData g c → IsCode (ps.dir c)) (c : Cell) (inside : IsInside g c) where
   surface_holds : (r : Rule) → IsBetween 3 12 r → HoldsAt (unranked nodata) g ps c r
   surface_holds VoidCell own = absurd (omega (arith, own.0))
   surface_holds Missing own = absurd (omega (arith, own.0))
   surface_holds BadCode own = λ is_data. codes c (record { inside = inside; is_data = is_data })
   surface_holds BelowGround own = λ is_data. least.covers c (record { inside = inside; is_data = is_data })
-  surface_holds OpenRaised own = at_ground
+  surface_holds OpenRaised own = at_ground g ps least c inside
   surface_holds NoSpill own = tt
   surface_holds SpillHeight own = tt
   surface_holds SpillRank own = tt
-  surface_holds NotLeast own = not_raised
+  surface_holds NotLeast own = not_raised g ps least c inside
   surface_holds Slope own = ways c Slope inside (omega arith, omega arith)
   surface_holds OutletCode own = ways c OutletCode inside (omega arith, omega arith)
   surface_holds FlatStep own = λ closed flat.

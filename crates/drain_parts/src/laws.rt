@@ -2,7 +2,7 @@
 //!
 //! A law is a function with an empty body: its contract is the law.
 
-ghost use Rattle.drain_parts.specs.Laws.{PartIsLocal, SurfaceIsPart};
+ghost use Rattle.drain_parts.specs.Laws.{PartIsLocal, SurfaceIsPart, UnrankedKeepPartRules, UnsummedKeepPartRules};
 
 /// Given rasters with directions are part of a correct set exactly if every path ends and every rule about them holds at
 /// every cell.
@@ -14,4 +14,14 @@ pub fn part_is_local()
 /// at voids.
 pub fn surface_is_part()
     ensures { SurfaceIsPart }
+{}
+
+/// A cell that keeps the rules without ranks from VoidCell to Label keeps those about any given rasters.
+pub fn unranked_keep_part_rules()
+    ensures { UnrankedKeepPartRules }
+{}
+
+/// One that keeps all of these but Accumulation keeps the rules about given rasters without an accumulation.
+pub fn unsummed_keep_part_rules()
+    ensures { UnsummedKeepPartRules }
 {}

@@ -4,6 +4,7 @@ pub mod FillVerdicts
 pub mod Filled
 pub mod Findings
 pub mod GridWalks
+pub mod Cleared
 pub mod KeptRuns
 pub mod Labels
 pub mod LanedRows

@@ -15,6 +15,7 @@ pub mod fill_walk;
 pub mod finding;
 pub mod grid_walk;
 pub mod kept;
+mod lane_pass;
 pub mod laws;
 pub mod marks;
 pub mod outlet;

@@ -1,18 +1,21 @@
 //! A row of a grid and its products, with the rows above and below it; and the patch round a column.
 
-ghost use Rattle.std.specs.Prelude.{◌≤◌, ◌<◌, ℕ, length};
+ghost use Rattle.std.specs.Prelude.{◌≡◌, ◌≤◌, ◌<◌, ℕ, length};
 ghost use Rattle.drain_kernel.specs.Kept.{IsKept};
-ghost use Rattle.drain_kernel.specs.Rules.{tried};
+ghost use Rattle.drain_kernel.specs.Rules.{unsummed};
 ghost use Rattle.drain_kernel.specs.Taken.{AreLanesOf};
+ghost use Rattle.drain_rules.specs.Cleared.{cleared_by};
+ghost use Rattle.drain_rules.specs.KeptRuns.{raised_between};
 ghost use Rattle.drain_rules.specs.ThreeRows.{patch_in};
 
 use crate::blank_void::is_blank_void;
 use crate::kept::Kept;
+use crate::lane_pass::{is_cleared_at, run_until};
 use crate::patch_row::PatchRow;
 use crate::row_view::RowView;
-use drain_grid::Patch;
+use drain_grid::{NoData, Patch};
 use drain_kernel::laws::{lanes_show_numbers, raised_are_counted};
-use drain_kernel::{Lanes, Rules, falls_at, kept_until};
+use drain_kernel::{Lanes, Ranks, Rules, Sums};
 
 /// A row, and those above and below it; empty at the grid's edge.
 #[derive(Drop)]
@@ -45,22 +48,7 @@ impl PatchRow for ThreeRows<'_> {
 
     /// Those that the lanes of the three rows clear; none if a row has no lanes.
     fn kept_from(&self, rules: &Rules, from: u32) -> Kept {
-        let (Some(above), Some(here), Some(below)) = (
-            self.above.lanes(),
-            self.here.lanes(),
-            self.below.lanes(),
-        ) else {
-            return Kept::none(from);
-        };
-        // The laws on what lanes show, and how they count raised cells.
-        lanes_show_numbers();
-        raised_are_counted();
-        let first = from as usize;
-        let end = cleared_until(self, above, here, below, rules, first);
-        Kept {
-            end: end as u32,
-            raised: here.raised_between(first, end),
-        }
+        self.cleared_from(rules, Sums::Tested, from)
     }
 
     /// As far as products that the rules look at have their no-data numbers at voids.
@@ -91,6 +79,52 @@ impl PatchRow for ThreeRows<'_> {
     }
 }
 
+impl ThreeRows<'_> {
+    /// How far from a column on the lanes of the three rows clear cells by all tests but those of sums and ranks, for
+    /// rasters without an accumulation: at data cells that are no outlets every rule without ranks holds but
+    /// Accumulation and SharedLabel. And how many of them are raised. It may be fewer cells than there are, even none,
+    /// as where a row has no lanes.
+    pub fn routed_from(&self, nodata: &NoData, from: u32) -> Kept
+        requires { from ≤ length self.now.here.numbers.z }
+        ensures forward { from ≤ result.end }
+        ensures within { result.end ≤ length self.now.here.numbers.z }
+        ensures kept { (col : ℕ) → from ≤ col → col < result.end → IsKept (unsummed nodata.now) (patch_in self.now col) }
+        ensures raised { result.raised ≡ raised_between (patch_in self.now) from result.end }
+    {
+        let rules = Rules {
+            nodata: *nodata,
+            ranks: Ranks::Unasked,
+        };
+        self.cleared_from(&rules, Sums::Untested, from)
+    }
+
+    /// Those that the lanes clear, with sums or without.
+    fn cleared_from(&self, rules: &Rules, sums: Sums, from: u32) -> Kept
+        requires { from ≤ length self.now.here.numbers.z }
+        ensures forward { from ≤ result.end }
+        ensures within { result.end ≤ length self.now.here.numbers.z }
+        ensures kept { (col : ℕ) → from ≤ col → col < result.end → IsKept (cleared_by sums rules.now) (patch_in self.now col) }
+        ensures raised { result.raised ≡ raised_between (patch_in self.now) from result.end }
+    {
+        let (Some(above), Some(here), Some(below)) = (
+            self.above.lanes(),
+            self.here.lanes(),
+            self.below.lanes(),
+        ) else {
+            return Kept::none(from);
+        };
+        // The laws on what lanes show, and how they count raised cells.
+        lanes_show_numbers();
+        raised_are_counted();
+        let first = from as usize;
+        let end = cleared_until(self, above, here, below, rules, sums, first);
+        Kept {
+            end: end as u32,
+            raised: here.raised_between(first, end),
+        }
+    }
+}
+
 /// How far from a column on the lanes of the three rows clear cells: many at once up to a marked cell or a void, and
 /// one by one those that lie on their ground and fall, whatever is beside them.
 fn cleared_until(
@@ -99,6 +133,7 @@ fn cleared_until(
     here: &Lanes,
     below: &Lanes,
     rules: &Rules,
+    sums: Sums,
     from: usize,
 ) -> usize
     requires above_lanes { AreLanesOf above.now rows.now.above.numbers.z rows.now.above.numbers.products }
@@ -107,7 +142,7 @@ fn cleared_until(
     requires inside { from ≤ length rows.now.here.numbers.z }
     ensures forward { from ≤ result }
     ensures within { result ≤ length rows.now.here.numbers.z }
-    ensures kept { (col : ℕ) → from ≤ col → col < result → IsKept (tried rules.now) (patch_in rows.now col) }
+    ensures kept { (col : ℕ) → from ≤ col → col < result → IsKept (cleared_by sums rules.now) (patch_in rows.now col) }
 {
     // The law on what lanes show.
     lanes_show_numbers();
@@ -115,8 +150,8 @@ fn cleared_until(
     let mut col = from;
     while col < cols {
         let until = rows.here.unmarked_until(col);
-        let end = kept_until(above, here, below, rules, col, until);
-        if !falls_at(above, here, below, rules, end) {
+        let end = run_until(above, here, below, rules, sums, col, until);
+        if !is_cleared_at(above, here, below, rules, sums, end) {
             return end;
         }
         col = end + 1;

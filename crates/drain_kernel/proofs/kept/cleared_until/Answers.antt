@@ -1,8 +1,8 @@
 use Rattle.std.proofs.Common.{refl}
 use Rattle.drain_kernel.proofs.Meaning.{is_kept}
-use Rattle.drain_kernel.proofs.kept.kept_until.Goals as goal
+use Rattle.drain_kernel.proofs.kept.cleared_until.Goals as goal
 
 pub returns-clause-kept : goal.returns-clause-kept
 returns-clause-kept c = λ k low high p shown.
-    is_kept c.args.rules.now c.args.above.now c.args.here.now c.args.below.now k p shown (c.if-not-ranks_are_there.ensures refl)
+    is_kept c.args.rules.now c.args.sums c.args.above.now c.args.here.now c.args.below.now k p shown (c.if-not-ranks_are_there.ensures refl)
     (c.passed_until.ensures.passed k low high)

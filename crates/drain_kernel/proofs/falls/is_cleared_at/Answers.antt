@@ -1,0 +1,8 @@
+use Rattle.std.proofs.Common.{refl}
+use Rattle.drain_kernel.proofs.Fallen.{is_kept_there}
+use Rattle.drain_kernel.proofs.falls.is_cleared_at.Goals as goal
+
+pub returns-clause-kept : goal.returns-clause-kept
+returns-clause-kept c = λ falls p shown.
+    is_kept_there c.args.rules.now c.args.sums c.args.above.now c.args.here.now c.args.below.now c.args.k p shown (c.if-not-ranks_are_there.ensures refl)
+    (c.tests_pass.ensures falls)

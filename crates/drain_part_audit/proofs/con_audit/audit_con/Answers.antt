@@ -1,0 +1,60 @@
+use Rattle.std.proofs.Common.{◌≡◌, ◌∙◌, Ok, Err, refl, sym, ap, subst}
+use Rattle.std.proofs.lemmas.Result.{err_from_is_err_and}
+use Rattle.drain_answer.specs.declared.refusal.Refusal.TheVariants.{OutOfMemory}
+use Rattle.drain_con_rows.specs.ConRows.{AreFirstCon}
+use Rattle.drain_grid.specs.Size.{Extent}
+use Rattle.drain_grid.specs.SinkTexts.{sinks_of}
+use Rattle.drain_mosaic.specs.Tiling.{extent_of}
+use Rattle.drain_verdict.specs.AuditInputs.{with_con_for_ranks}
+use Rattle.drain_verdict.specs.Meaning.{grid_of, listed_in, nodata_numbers, products_of}
+use Rattle.drain_verdict.proofs.AuditDevices.{failed_alike, none_alike}
+use Rattle.drain_verdict.proofs.StartAnswers.{layout_of_inputs}
+use Rattle.drain_verdict.proofs.Uses.{four_used}
+use Rattle.drain_part_audit.proofs.PartVerdicts.{listed_ok, memory_alike}
+use Rattle.drain_part_audit.proofs.con_audit.audit_con.Goals as goal
+
+pub answer_on-requires-clause-unnoted : goal.answer_on-requires-clause-unnoted
+answer_on-requires-clause-unnoted g c = λ rules grid ps. (
+  c.new.ensures.begun grid ps,
+  (c.new-2.ensures.walk rules.nodata grid ps, (c.requires.unnoted rules grid ps, record { rows_are = c.new-3.ensures.rows; right = c.new-3.ensures.finding rules grid ps })),
+)
+
+pub returns-in_err-_of_all-clause-answer : goal.returns-in_err-_of_all-clause-answer
+returns-in_err-_of_all-clause-answer g c =
+    let told = err_from_is_err_and c.from_residual.result c.from_residual.ensures.1 in
+    rw (told.1, told.2) (λ inputs tell. c.in_err-_of_all.ensures.answer inputs tell)
+
+pub returns-in_err-_of_all-clause-uses : goal.returns-in_err-_of_all-clause-uses
+returns-in_err-_of_all-clause-uses g c =
+    let told = err_from_is_err_and c.from_residual.result c.from_residual.ensures.1 in
+    let uses = c.in_err-_of_all.ensures.uses in
+    rw (told.1, told.2) (four_used g.R.ByteSource.bytes_left g.R.ByteSource.counts c.args.layout.now.side (c.args.tiles.now, c.args.products.now) (c.answer_on.new.tiles, c.answer_on.new.products)
+    (Err c.in_err-_of_all.field-0.0) (Err c.in_err-_of_all.field-0.0) (failed_alike c.in_err-_of_all.field-0.0) uses.untouched uses)
+
+pub returns-in-Ok-clause-answer : goal.returns-in-Ok-clause-answer
+returns-in-Ok-clause-answer g c = λ inputs tell.
+    let bl = g.R.ByteSource.bytes_left in
+    let qs = with_con_for_ranks c.args.products.now in
+    let is = layout_of_inputs c.one_name.ensures bl c.args.layout.now.side c.args.tiles.now c.args.sinks.now qs inputs c.args.layout.now tell c.requires.laid in
+    let extent : c.shape-shape.result ≡ (grid_of inputs).extent = c.shape-shape.ensures ∙ ap extent_of is in
+    let noted = c.in_ok-_of_all.ensures.noted inputs tell in
+    let answer = c.in_ok-_of_all.ensures.answer inputs tell in
+    let listed = ap sinks_of (sym tell.sinks_are) ∙ listed_ok inputs answer.0 in
+    let rows = subst (λ (e : Extent). AreFirstCon (grid_of inputs) (products_of inputs) e.rows c.answer_on.new.notes.first) (sym extent) noted.0 in (
+      answer.0,
+      c.in-Ok.ensures.verdict (nodata_numbers inputs) (listed_in inputs) (grid_of inputs) (products_of inputs) (sym extent) listed (λ c inside. refl) rows
+          (c.verdict-of_rules.ensures.verdict (nodata_numbers inputs) (grid_of inputs) (products_of inputs) (sym extent) noted.1.0),
+    )
+
+pub returns-in-Ok-clause-noted : goal.returns-in-Ok-clause-noted
+returns-in-Ok-clause-noted g c = λ inputs tell. (c.in_ok-_of_all.ensures.noted inputs tell).1.1.0
+
+pub returns-in-Ok-clause-uses : goal.returns-in-Ok-clause-uses
+returns-in-Ok-clause-uses g c =
+    four_used g.R.ByteSource.bytes_left g.R.ByteSource.counts c.args.layout.now.side (c.args.tiles.now, c.args.products.now) (c.answer_on.new.tiles, c.answer_on.new.products)
+    (Ok c.in_ok-_of_all._of_all) (Ok _) (none_alike c.in_ok-_of_all._of_all _) tt c.in_ok-_of_all.ensures.uses
+
+pub returns-clause-uses : goal.returns-clause-uses
+returns-clause-uses g c =
+    four_used g.R.ByteSource.bytes_left g.R.ByteSource.counts c.args.layout.now.side (c.args.tiles.now, c.args.products.now) (c.answer_on.new.tiles, c.answer_on.new.products)
+    (Ok c.in_ok-_of_all._of_all) (Err OutOfMemory) (memory_alike c.in_ok-_of_all._of_all) (λ not. absurd (not tt)) c.in_ok-_of_all.ensures.uses

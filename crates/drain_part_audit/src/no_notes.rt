@@ -1,0 +1,31 @@
+//! No notes of rows.
+
+use drain_grid::OutOfMemory;
+use drain_kernel::Rules;
+use drain_rows::{HeldRow, RowNotes};
+use drain_rules::ThreeRows;
+
+/// Nothing is noted of any row.
+#[derive(Drop)]
+pub struct NoNotes;
+
+impl RowNotes for NoNotes {
+    ghost use Rattle.std.specs.Prelude.{true};
+
+    ghost counts = { λ n notes. Unit {0} };
+
+    ghost are_of = { λ rules g ps rows notes. Unit {0} };
+
+    ghost wants = { λ rules g ps. Unit {0} };
+
+    ghost lasting = { λ notes. true };
+
+    fn note(
+        &mut self,
+        _row: &HeldRow,
+        _rows: &ThreeRows<'_>,
+        _rules: &Rules,
+    ) -> Result<(), OutOfMemory> {
+        Ok(())
+    }
+}
