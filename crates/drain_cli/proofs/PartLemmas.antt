@@ -5,8 +5,7 @@ use Rattle.drain_part_audit.specs.PartVerdicts.{IsPartAcceptance}
 use Rattle.drain_part_audit.specs.declared.part_verdict.PartVerdict.{PartVerdict}
 use Rattle.drain_part_audit.specs.declared.part_verdict.PartVerdict.TheVariants.{Accepted, AcceptedSurface, Rejected, NoEnd, NotFilled}
 use Rattle.drain_verdict.specs.Inputs.{Inputs}
-use Rattle.drain_cli.specs.PartRuns.{part_status}
-use Rattle.drain_cli.specs.Statuses.{code_of}
+use Rattle.drain_cli.specs.Statuses.{code_of, part_status}
 use Rattle.drain_cli.proofs.StatusLemmas.{refused_above_1}
 
 -- if it is 0, what comes exactly with an acceptance holds of any inputs of the call

@@ -18,18 +18,21 @@ use Rattle.drain_cli.specs.declared.status.Status.{Status}
 use Rattle.drain_cli.specs.declared.status.Status.TheVariants.{Failed}
 use Rattle.drain_cli.specs.AuditRuns.{IsAuditOutcome}
 use Rattle.drain_cli.specs.CheckRuns.{IsCheckOutcome}
+use Rattle.drain_cli.specs.PartRuns.{IsPartOutcome}
 use Rattle.drain_cli.specs.Failures.{failure_text}
 use Rattle.drain_cli.specs.OpenFailures.{IsOpenFailure}
 use Rattle.drain_page.specs.JsonLines.{IsJsonLine, line_feed}
 use Rattle.drain_cli.specs.Printing.{PrintsText}
 use Rattle.drain_cli.specs.Statuses.{answer_status}
 
--- the outcome of a check of five products, or that of an audit of four
+-- the outcome of a check of five products, or that of an audit of four, or of some of these
 abbrev pub IsOutcome : {R : Type 0} → Source R → ℕ → List (TileInput R) → List (TileInput R) → List ℕ → JudgedProducts R → JudgedProducts R → Answer → Type 0
 IsOutcome source side tiles_old tiles_new sinks (products.Check old) (products.Check new) (answer.Check outcome) =
     IsCheckOutcome source side tiles_old tiles_new sinks old new outcome
 IsOutcome source side tiles_old tiles_new sinks (products.Audit old) (products.Audit new) (answer.Audit outcome) =
     IsAuditOutcome source side tiles_old tiles_new sinks old new outcome
+IsOutcome source side tiles_old tiles_new sinks (products.Part old given) (products.Part new then) (answer.Part outcome) =
+    IsPartOutcome source given side tiles_old tiles_new sinks old new outcome × (then ≡ given)
 IsOutcome source side tiles_old tiles_new sinks old new other = ⊥
 
 -- a page begins with the line of its answer; of an object only that it is one on a line of its own

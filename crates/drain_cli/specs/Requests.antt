@@ -55,7 +55,7 @@ abbrev pub IsRequestOf : Text → Found → Request → Type 0
 IsRequestOf name f (Audit asked) = (name ≡ codes "audit") × (IsJudged f asked.judged × IsOnly f asked.only)
 IsRequestOf name f (Check judged) = (name ≡ codes "check") × IsJudged f judged
 IsRequestOf name f (Explain asked) =
-    (name ≡ codes "explain") × (IsJudged f asked.judged × (IsMap f asked.map × IsFlag (codes "json") f asked.json))
+    (name ≡ codes "explain") × (IsJudged f asked.judged × (IsOnly f asked.only × (IsMap f asked.map × IsFlag (codes "json") f asked.json)))
 IsRequestOf name f (Make side folder sinks tiles progress) =
     (name ≡ codes "make") × (IsSide f side × ((folder.now ≡ unwrap_or (first_value f (codes "out")) [])
     × ((option_map (λ path. path.now) sinks ≡ first_value f (codes "sinks"))

@@ -3,10 +3,10 @@
 
 use crate::args::asked_form::asked_form;
 use crate::args::command_line;
-use crate::args::command_line::{Audited, Judged, Request};
+use crate::args::command_line::{Judged, Request};
 use crate::files::open_failure::{print_open_failure, print_open_fault};
 use crate::files::open_files::Opener;
-use crate::files::open_judged::{OpenFiles, open_judged, open_part};
+use crate::files::open_judged::{OpenFiles, Rasters, audited, open_judged};
 use crate::files::reason::{Reason, print_reason};
 use crate::print::{print_failure, print_text};
 use crate::progress::gauge::Gauge;
@@ -25,7 +25,6 @@ use crate::status::Status;
 use clap::Error;
 use clap::error::ErrorKind;
 use drain_device::{BodyFault, ByteSink, Reader, Writer};
-use drain_rules::Ranks;
 use std::alloc::Global;
 use std::fs::File;
 use std::io;
@@ -51,8 +50,8 @@ fn asked_words(rt: &HostRuntime) -> io::Result<Vec<String>> {
 /// Does what the arguments request, and returns the exit status.
 fn run(rt: &HostRuntime, asked: &[String], out: &mut impl ByteSink) -> u8 {
     match command_line::parse(rt.alloc(), asked) {
-        Ok(Request::Audit(asked)) => audit_files(rt, &asked, out),
-        Ok(Request::Check(judged)) => judge_files(rt, &judged, Ranks::Asked, out),
+        Ok(Request::Audit(asked)) => judge_files(rt, &asked.judged, audited(asked.only), out),
+        Ok(Request::Check(judged)) => judge_files(rt, &judged, Rasters::OfCheck, out),
         Ok(Request::Explain(asked)) => explain_files(rt, &asked, out),
         Ok(
             Request::Make {
@@ -99,31 +98,15 @@ fn header_of_file(rt: &HostRuntime, path: &str, out: &mut impl ByteSink) -> u8 {
     }
 }
 
-/// Opens the tiles and the products of a folder, audits all of them or some alone, and returns the exit status.
-fn audit_files(rt: &HostRuntime, asked: &Audited<'_>, out: &mut impl ByteSink) -> u8 {
-    let judged = &asked.judged;
-    let Some(given) = asked.only else {
-        return judge_files(rt, judged, Ranks::Unasked, out);
-    };
-    let gauge = Gauge::new(rt, judged.progress);
-    match open_part(&mut Opener::new(rt), judged, given, &gauge) {
-        Ok(mut files) => run_part_audit(
-            rt.alloc(),
-            judged.side,
-            files.tiles.as_mut_slice(),
-            files.sinks.as_slice(),
-            &mut files.products,
-            given,
-            out,
-        ),
-        Err(fault) => print_open_fault(rt, fault, out),
-    }
-}
-
 /// Opens the tiles and the products of a folder, checks or audits them, and returns the exit status.
-fn judge_files(rt: &HostRuntime, judged: &Judged<'_>, ranks: Ranks, out: &mut impl ByteSink) -> u8 {
+fn judge_files(
+    rt: &HostRuntime,
+    judged: &Judged<'_>,
+    rasters: Rasters,
+    out: &mut impl ByteSink,
+) -> u8 {
     let gauge = Gauge::new(rt, judged.progress);
-    match open_judged(&mut Opener::new(rt), judged, ranks, &gauge) {
+    match open_judged(&mut Opener::new(rt), judged, rasters, &gauge) {
         Ok(mut files) => run_judged(rt.alloc(), judged.side, &mut files, out),
         Err(fault) => print_open_fault(rt, fault, out),
     }
@@ -136,6 +119,9 @@ fn run_judged(alloc: Global, side: u32, files: &mut OpenFiles<'_>, out: &mut imp
     match &mut files.products {
         JudgedProducts::Check(products) => run_check(alloc, side, tiles, sinks, products, out),
         JudgedProducts::Audit(products) => run_audit(alloc, side, tiles, sinks, products, out),
+        JudgedProducts::Part(products, given) => {
+            run_part_audit(alloc, side, tiles, sinks, products, *given, out)
+        }
     }
 }
 

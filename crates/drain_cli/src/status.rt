@@ -4,6 +4,7 @@ ghost use Rattle.std.specs.Prelude.{◌≡◌};
 ghost use Rattle.drain_cli.specs.Statuses.{answer_status, code_of, refusal_status};
 
 use drain_page::Answer;
+use drain_part_audit::PartVerdict;
 use drain_verdict::{AuditVerdict, Refusal, Verdict};
 
 /// How a run of the program ended.
@@ -33,11 +34,14 @@ impl Status {
     {
         match answer {
             Answer::Check(Ok(Verdict::Accepted(_)))
-            | Answer::Audit(Ok(AuditVerdict::Accepted(_))) => Status::Done,
-            Answer::Check(Ok(_)) | Answer::Audit(Ok(_)) => Status::Rejected,
-            Answer::Check(Err(refusal)) | Answer::Audit(Err(refusal)) => {
-                Status::of_refusal(*refusal)
+            | Answer::Audit(Ok(AuditVerdict::Accepted(_)))
+            | Answer::Part(Ok(PartVerdict::Accepted(_) | PartVerdict::AcceptedSurface(_))) => {
+                Status::Done
             }
+            Answer::Check(Ok(_)) | Answer::Audit(Ok(_)) | Answer::Part(Ok(_)) => Status::Rejected,
+            Answer::Check(Err(refusal))
+            | Answer::Audit(Err(refusal))
+            | Answer::Part(Err(refusal)) => Status::of_refusal(*refusal),
         }
     }
 

@@ -44,6 +44,10 @@ pub if_ok_more : {A B : Type 0} (answer : Result A B) (P Q : A → Type 0) → (
 if_ok_more (Ok a) P Q more holds = more a holds
 if_ok_more (Err why) P Q more holds = tt
 
+pub if_ok_both : {A B : Type 0} (answer : Result A B) (P Q R : A → Type 0) → IfOk answer P → IfOk answer Q → ((a : A) → P a → Q a → R a) → IfOk answer R
+if_ok_both (Ok a) P Q R one other both = both a one other
+if_ok_both (Err why) P Q R one other both = tt
+
 pub if_err_more : {A B : Type 0} (answer : Result A B) (P Q : B → Type 0) → ((b : B) → P b → Q b) → IfErr answer P → IfErr answer Q
 if_err_more (Ok a) P Q more holds = tt
 if_err_more (Err why) P Q more holds = more why holds

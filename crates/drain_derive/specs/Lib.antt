@@ -1,4 +1,5 @@
 pub mod Derived
+pub mod DerivedFiles
 pub mod Laws
 pub mod Reading
 pub mod RunSteps

@@ -1,7 +1,9 @@
-//! What follows from directions that are read row by row: accumulation, labels of basins, and ranks.
+//! What follows from directions that are read row by row: accumulation, labels of basins, and ranks,
+//! and their files.
 #![tactic(auto)]
 
 pub mod derived;
+pub mod derived_files;
 mod first_steps;
 pub mod laws;
 mod rasters;

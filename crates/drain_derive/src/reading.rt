@@ -9,6 +9,7 @@ ghost use Rattle.drain_verdict.specs.Audits.{OfFour};
 ghost use Rattle.drain_verdict.specs.Stages.{IsLayoutOf};
 ghost use Rattle.drain_verdict.specs.Uses.{AuditUses};
 ghost use Rattle.drain_derive.specs.Derived.{AreDerived, AreCounts};
+ghost use Rattle.drain_derive.specs.DerivedFiles.{CanBeDerived};
 ghost use Rattle.drain_derive.specs.Reading.{AreDerivedOf, HasFlows, IsDeriveRefusal, IsFlowsRefusal, IsRefusalFor, reading_in};
 
 use crate::derived::{Derived, derive_from_flows};
@@ -54,6 +55,7 @@ pub fn derive<R: ByteSource>(
     ensures layout { IfOk result (λ made. IsLayoutOf side (names_of tiles.old) made.0) }
     ensures derived { IfOk result (λ made. OfFour R.bytes_left side tiles.old sinks.now products.old (λ inputs. AreDerivedOf inputs made.1)) }
     ensures counts { IfOk result (λ made. AreCounts (extent_of made.0) made.1) }
+    ensures written { IfOk result (λ made. CanBeDerived made.0 made.1) }
     ensures err { IfErr result (λ why. OfFour R.bytes_left side tiles.old sinks.now products.old (λ inputs. IsDeriveRefusal inputs why)) }
 
     // How far it reads, when a read fails, and what is unchanged: as for an audit.

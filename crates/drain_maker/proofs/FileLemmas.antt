@@ -195,7 +195,7 @@ no-rest now news (x ∷ rest) k is place all =
     let none : ⊥ = omega (arith, whole, length-append news (x ∷ rest), place, all) in absurd none
 
 -- all files
-so_far-all : {F : Type 0} (sink : Sink F) (start now : List F) (texts : List (List ℕ)) (k : ℕ) →
+pub so_far-all : {F : Type 0} (sink : Sink F) (start now : List F) (texts : List (List ℕ)) (k : ℕ) →
     WritesSoFar sink start now texts k → length now ≤ k → length texts ≤ k → WritesFiles sink start now texts (Ok tt)
 so_far-all sink start now texts k so_far all texts_all =
     rw (

@@ -124,7 +124,7 @@ fn write_file<F: ByteSink>(
 }
 
 /// Writes the text of a header.
-fn write_header<F: ByteSink>(alloc: Global, header: &Header, to: &mut F) -> Result<(), SetFault>
+pub fn write_header<F: ByteSink>(alloc: Global, header: &Header, to: &mut F) -> Result<(), SetFault>
     ensures { WritesFile F.ByteSink to.old to.new (text_of header.now) result }
 {
     let Ok(text) = header_text(alloc, header) else {
@@ -137,7 +137,7 @@ fn write_header<F: ByteSink>(alloc: Global, header: &Header, to: &mut F) -> Resu
 }
 
 /// Writes the bytes of a raster, each of whose numbers fits a pixel.
-fn write_numbers<F: ByteSink>(header: &Header, raster: &Raster, to: &mut F) -> Result<(), SetFault>
+pub fn write_numbers<F: ByteSink>(header: &Header, raster: &Raster, to: &mut F) -> Result<(), SetFault>
     requires shape { raster.now.extent ≡ pixels.extent_of header.now }
     requires written { CanSpellAll header.now raster.now }
     ensures { WritesFile F.ByteSink to.old to.new (raster_bytes header.now raster.now) result }

@@ -1,3 +1,4 @@
+pub mod ClearedParts
 pub mod PartFaults
 pub mod PartNoting
 pub mod PartSums

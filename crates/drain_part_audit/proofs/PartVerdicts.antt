@@ -1,16 +1,15 @@
 -- The verdict on some rasters, from the verdict of the rules about them and from the paths, or from the filled surface.
-use Rattle.std.proofs.Common.{◌≡◌, ◌↔◌, ◌*◌, ℕ, Bool, true, false, IsTrue, List, [], Option, Some, None, MatchOption, Result, Ok, Err, IfOk, IsErrOf, arith, refl, sym, subst, ap}
+use Rattle.std.proofs.Common.{◌≡◌, ◌↔◌, ℕ, Bool, true, false, IsTrue, List, Option, Some, None, MatchOption, Result, Ok, Err, IfOk, IsErrOf, arith, refl, sym, subst, ap}
 use Rattle.std.proofs.lemmas.Bool.{false≢true}
 use Rattle.drain_answer.specs.declared.refusal.Refusal.{Refusal}
 use Rattle.drain_answer.specs.declared.refusal.Refusal.TheVariants.{BadSinkLine, OutOfMemory, ReadFailed}
 use Rattle.drain_filled.specs.Unfilled.{IsFirstUnfilled}
 use Rattle.drain_grid.specs.declared.cell.Cell.{Cell}
-use Rattle.drain_grid.specs.declared.rule.Rule.{Rule}
 use Rattle.drain_grid.specs.declared.rule.Rule.TheVariants.{VoidCell, Missing, BadCode, BelowGround, OpenRaised, NoSpill, SpillHeight, SpillRank, NotLeast, Slope, OutletCode, FlatStep, Accumulation, Label, SharedLabel}
 use Rattle.drain_grid.specs.declared.sink_line.SinkLine.{SinkLine}
 use Rattle.drain_grid.specs.Certificate.{IsFirstEndless}
-use Rattle.drain_grid.specs.Grid.{Grid, Products, HasData}
-use Rattle.drain_grid.specs.GridRules.{HoldsAt, RulesHold}
+use Rattle.drain_grid.specs.Grid.{Grid, Products}
+use Rattle.drain_grid.specs.GridRules.{RulesHold}
 use Rattle.drain_grid.specs.Path.{IsLeastSurface}
 use Rattle.drain_grid.specs.PatchRules.{surface_rules}
 use Rattle.drain_grid.specs.Rule.{IsFillRule}

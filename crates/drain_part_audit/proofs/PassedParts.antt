@@ -26,7 +26,7 @@ pub record ArePassed (profile : Profile) (IsOwn : Rule → Type 0) (g : Grid) (p
   pub counted : CountsAlong g ps row col tally
   pub before : AreLabelsBefore g ps (place row col) labels
 
-inside-row : (g : Grid) (ps : Products) (row col cols : ℕ) (shown : ℕ → Patch) → AreRowPatches g ps row cols shown → col < cols → IsInside g (place row col)
+pub inside-row : (g : Grid) (ps : Products) (row col cols : ℕ) (shown : ℕ → Patch) → AreRowPatches g ps row cols shown → col < cols → IsInside g (place row col)
 inside-row g ps row col cols shown are less = record { row = are.inside; col = omega (arith, less, are.cols_are) }
 
 -- where one's own rules hold at the next cell, it is passed too

@@ -1,7 +1,6 @@
 -- The verdict of an audit of some rasters.
 use Rattle.std.specs.Prelude.{◌≡◌, Bool, true, false}
 use Rattle.drain_filled.specs.Unfilled.{IsFirstUnfilled}
-use Rattle.drain_grid.specs.declared.cell.Cell.{Cell}
 use Rattle.drain_grid.specs.Certificate.{IsFirstEndless}
 use Rattle.drain_grid.specs.Grid.{Grid, Products}
 use Rattle.drain_grid.specs.GridRules.{IsFirstFault, RulesHold}

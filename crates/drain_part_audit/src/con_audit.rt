@@ -79,7 +79,10 @@ pub fn audit_con<R: ByteSource, N: RowNotes + Drop>(
     )?;
     let shape = layout.shape();
     let of_rules = notes.second.first.verdict(shape);
-    let BothNotes { first: rows, second } = notes;
+    let BothNotes {
+        first: rows,
+        second,
+    } = notes;
     let BothNotes { first: _, second } = second;
     let more = second.first;
     match verdict_on(alloc, rows, shape, sinks, &of_rules) {

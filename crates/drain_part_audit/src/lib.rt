@@ -1,7 +1,8 @@
 //! The audit of some rasters of a set: the walk over rows that tries only the rules about given rasters, and the answer.
 //!
-//! It scans the cells in row order, one patch at a time, and stops at the first fault of a rule that is tried. Labels of
-//! outlets are compared only if labels are given.
+//! It scans the cells in row order and stops at the first fault of a rule that is tried. Cells that the lanes of their
+//! rows clear are passed together, the others are tried by their patches. Labels of outlets are compared only if labels
+//! are given.
 #![tactic(auto)]
 
 pub mod con_audit;
@@ -12,6 +13,7 @@ pub mod part_audit;
 pub mod part_cell;
 pub mod part_line;
 pub mod part_notes;
+pub mod part_patch_row;
 pub mod part_row;
 pub mod part_verdict;
 pub mod part_walk;
@@ -22,5 +24,6 @@ pub use no_notes::NoNotes;
 pub use part_audit::{PartRead, audit_part};
 pub use part_line::part_report;
 pub use part_notes::PartNotes;
+pub use part_patch_row::PartPatchRow;
 pub use part_verdict::PartVerdict;
 pub use part_walk::PartWalk;

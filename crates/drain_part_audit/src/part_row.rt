@@ -1,4 +1,4 @@
-//! The check of one row, patch by patch.
+//! The check of one row: many cells at once, and the others patch by patch.
 
 ghost use Rattle.std.specs.Prelude.{◌+◌, IfOk, IfErr, OnOk};
 ghost use Rattle.drain_grid.specs.declared.cell.TheConstants.{MAX_LENGTH};
@@ -9,10 +9,10 @@ ghost use Rattle.drain_rules.specs.Rows.{place, IsRowTally};
 ghost use Rattle.drain_part_audit.specs.PartStops.{IsRowStopOf};
 
 use crate::part_cell::part_cell;
+use crate::part_patch_row::PartPatchRow;
 use drain_basin::OutletLabels;
 use drain_grid::NoData;
 use drain_parts::Given;
-use drain_rules::PatchRow;
 use drain_rules::row_walk::RowStop;
 use drain_rules::tally::Tally;
 
@@ -20,7 +20,7 @@ use drain_rules::tally::Tally;
 /// in the rows above.
 ///
 /// The result holds for every grid with this row. `OutOfMemory` comes only at an outlet whose label is new.
-pub fn part_row<R: PatchRow>(
+pub fn part_row<R: PartPatchRow>(
     row: &R,
     nodata: &NoData,
     given: Given,
@@ -33,11 +33,18 @@ pub fn part_row<R: PatchRow>(
 {
     let cols = row.cols();
     let mut tally = Tally::new();
-    for col in 0..cols {
-        let patch = row.patch(col);
-        match part_cell(&patch, nodata, given, labels) {
-            Ok(()) => tally.add(&patch.here),
-            Err(stop) => return Err(RowStop { stop, col }),
+    let mut col = 0;
+    while col < cols {
+        let kept = row.cleared_from(nodata, given, col);
+        tally.add_kept(kept.end - col, kept.raised);
+        col = kept.end;
+        if col < cols {
+            let patch = row.patch(col);
+            match part_cell(&patch, nodata, given, labels) {
+                Ok(()) => tally.add(&patch.here),
+                Err(stop) => return Err(RowStop { stop, col }),
+            }
+            col += 1;
         }
     }
     Ok(tally)

@@ -7,6 +7,7 @@ ghost use Rattle.drain_rules.specs.Findings.{IsBounded};
 ghost use Rattle.drain_rules.specs.PatchRows.{IsAtMost};
 ghost use Rattle.drain_part_audit.specs.PartFindings.{HasNewLabelOf, IsFindingOf, OfRowBelowOf};
 
+use crate::part_patch_row::PartPatchRow;
 use crate::part_row::part_row;
 use drain_basin::OutletLabels;
 use drain_grid::{Cell, NoData, OutOfMemory, Shape};
@@ -14,7 +15,7 @@ use drain_parts::Given;
 use drain_rules::cell_rules::Stop;
 use drain_rules::finding::Finding;
 use drain_rules::tally::Tally;
-use drain_rules::{Counts, PatchRow, Verdict};
+use drain_rules::{Counts, Verdict};
 use std::alloc::Global;
 
 /// How many rows were checked, which rasters are given, the labels of outlets, and the result.
@@ -55,7 +56,7 @@ impl PartWalk {
     ///
     /// `OutOfMemory` comes only at a data cell with code 0 whose label no earlier one has, if every rule about the given
     /// rasters holds there and at each earlier cell: no memory for its label. Then the walk is over.
-    pub fn check_row<R: PatchRow>(
+    pub fn check_row<R: PartPatchRow>(
         &mut self,
         patches: &R,
         nodata: &NoData,
@@ -106,7 +107,7 @@ impl PartWalk {
 
 /// The result with one more row, if those above are sound. `total` counts their cells; `labels` are those of their
 /// outlets.
-fn find_in_row<R: PatchRow>(
+fn find_in_row<R: PartPatchRow>(
     total: Tally,
     row: u32,
     patches: &R,

@@ -1,3 +1,4 @@
 mod GivenProducts
 mod PartSteps
 mod TriedRules
+pub mod Begun

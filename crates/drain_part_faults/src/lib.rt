@@ -6,6 +6,7 @@
 #![tactic(auto)]
 
 pub mod cell_faults;
+pub mod explained;
 pub mod part_faults;
 pub mod part_found;
 pub mod part_notes;
@@ -13,4 +14,5 @@ pub mod part_products;
 pub mod part_walk;
 pub mod row_faults;
 
+pub use explained::explain_part;
 pub use part_walk::PartFaultWalk;

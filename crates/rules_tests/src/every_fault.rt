@@ -18,9 +18,9 @@ use worked::shafts::Shafts;
 /// A grid and its products.
 #[derive(Drop)]
 pub struct Given {
-    elevation: Elevation,
-    sinks: Sinks,
-    products: ProductSet,
+    pub elevation: Elevation,
+    pub sinks: Sinks,
+    pub products: ProductSet,
     ghost same_shape: { elevation.extent ≡ products.con.extent },
 }
 
@@ -66,7 +66,7 @@ pub fn walk_over(alloc: Global, example: &Given, ranks: Ranks) -> Result<FaultWa
 }
 
 /// A rule, the number of cells at which it fails, and the row and column of the first.
-type Told = (Rule, u32, (u32, u32));
+pub type Told = (Rule, u32, (u32, u32));
 
 /// What the walk finds of the rules that fail, the row and column of the first patch with a fault, and the numbers of the map.
 type Found = (&'static [Told], Option<(u32, u32)>, &'static [u8]);
@@ -77,7 +77,7 @@ fn found_of(walk: &FaultWalk, rule: Rule) -> RuleFaults {
 }
 
 /// The result for a rule that isn't named: no cell.
-fn wanted_of(wanted: &[Told], rule: Rule) -> RuleFaults {
+pub fn wanted_of(wanted: &[Told], rule: Rule) -> RuleFaults {
     for (named, cells, (row, col)) in wanted {
         if *named == rule {
             return RuleFaults {
@@ -93,7 +93,7 @@ fn wanted_of(wanted: &[Told], rule: Rule) -> RuleFaults {
 }
 
 /// Ends the test where the two differ.
-fn same(rt: &impl Abort, case: &str, given: RuleFaults, wanted: RuleFaults) {
+pub fn same(rt: &impl Abort, case: &str, given: RuleFaults, wanted: RuleFaults) {
     assert_eq!(rt; given, wanted, "{case}");
 }
 
@@ -162,7 +162,13 @@ fn same_verdict(rt: &impl Abort, walk: &FaultWalk, example: &Given, wanted: Verd
 }
 
 /// The slope with a number changed.
-fn changed_slope(alloc: Global, part: Part, row: u8, col: u8, number: i64) -> Result<Given, Fail> {
+pub fn changed_slope(
+    alloc: Global,
+    part: Part,
+    row: u8,
+    col: u8,
+    number: i64,
+) -> Result<Given, Fail> {
     let numbers = changed(alloc, 4, &slope(), part, row, col, number)?;
     example(alloc, 4, &numbers)
 }

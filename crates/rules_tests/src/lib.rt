@@ -6,6 +6,8 @@ mod every_fault;
 #[cfg(test)]
 mod examples;
 #[cfg(test)]
+mod given_faults;
+#[cfg(test)]
 mod kept_runs;
 #[cfg(test)]
 mod laned_rows;

@@ -5,7 +5,7 @@ ghost use Rattle.clap.specs.Matches.{found_of};
 ghost use Rattle.drain_cli.specs.Requests.{IsJudged, IsMap, IsOnly, IsRequestOf};
 
 use crate::args::clusters::first_cluster;
-use crate::args::commands::{AUDIT, EXPLAIN, command, program};
+use crate::args::commands::{AUDIT, Described, EXPLAIN, command, program};
 use crate::args::{explain_texts, help_texts};
 use crate::args::given::{flag_given, option_given, side_given, text_given, tiles_given};
 use crate::files::file_paths::map_stem;
@@ -74,6 +74,7 @@ pub struct Derivation<'a> {
 #[derive(Drop)]
 pub struct Explained<'a> {
     pub judged: Judged<'a>,
+    pub only: Option<Given>,
     pub map: Option<&'a str>,
     pub json: bool,
 }
@@ -153,7 +154,7 @@ fn audit_request<'a>(alloc: Global, given: &ArgMatches<'a>) -> Result<Request<'a
     ensures { IfOk result (IsRequestOf (codes "audit") (found_of given.now)) }
 {
     let Ok(only) = only_given(given) else {
-        return Err(bad_list(alloc)?);
+        return Err(bad_list(alloc, &AUDIT)?);
     };
     let judged = to_judge(alloc, given)?;
     Ok(Request::Audit(Audited { judged, only }))
@@ -180,9 +181,10 @@ fn only_given(given: &ArgMatches<'_>) -> Result<Option<Given>, OtherList>
     }
 }
 
-/// The usage error for another list.
-fn bad_list(alloc: Global) -> Result<Error, AllocError> {
-    let mut command = command(alloc, &AUDIT)?.bin_name("drain audit")?;
+/// The usage error for another list, of this command.
+fn bad_list(alloc: Global, described: &'static Described) -> Result<Error, AllocError> {
+    let name = format!(in alloc; "drain {}", described.name)?;
+    let mut command = command(alloc, described)?.bin_name(name.as_str())?;
     command.error(ErrorKind::ValueValidation, help_texts::BAD_LIST)
 }
 
@@ -193,9 +195,13 @@ fn explain_request<'a>(alloc: Global, given: &ArgMatches<'a>) -> Result<Request<
     let Ok(map) = map_given(given) else {
         return Err(bad_map(alloc)?);
     };
+    let Ok(only) = only_given(given) else {
+        return Err(bad_list(alloc, &EXPLAIN)?);
+    };
     let judged = to_judge(alloc, given)?;
     Ok(Request::Explain(Explained {
         judged,
+        only,
         map,
         json: flag_given(given, "json"),
     }))

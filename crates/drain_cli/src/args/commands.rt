@@ -7,7 +7,7 @@ use std::alloc::{AllocError, Global};
 
 /// A command: its name, its help texts, and its arguments, in the order of its help.
 pub(crate) struct Described {
-    name: &'static str,
+    pub(crate) name: &'static str,
     about: &'static str,
     long_about: &'static str,
     after: &'static str,
@@ -75,6 +75,7 @@ pub(crate) const EXPLAIN: Described = Described {
     words: &[
         Word::Side,
         Word::Products,
+        Word::Only,
         Word::Sinks,
         Word::Progress,
         Word::Tiles,

@@ -14,6 +14,8 @@ A map has one byte for each cell: the number of the first rule that fails there,
 255 at a void where all hold. Its header is written beside it, so GIS programs open it. The files are created
 only when no refusal is possible any more. Existing files are replaced, except those that are read.
 
+With --only LIST it explains the answer of drain audit --only LIST.
+
 It needs the memory of check or audit, the outlets' labels once more, and for a map a byte for each cell.";
 
 pub const AFTER: &str = "Lines and exit statuses:

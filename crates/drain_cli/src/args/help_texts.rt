@@ -110,25 +110,25 @@ pub const DERIVE_ABOUT: &str =
 
 pub const DERIVE_LONG_ABOUT: &str =
     "Reads elevation tiles (SRTM .hgt files of one side, named like N37W105.hgt) for their voids, and the
-directions of their mosaic from PRODUCTS/dir.hdr and PRODUCTS/dir.bil. Writes what follows from these
-directions into the folder OUT, which must exist: the accumulation (acc), basin labels (bas) and ranks (rnk),
-each a BIL file with a header. No elevation is compared, and no other raster is opened.
+directions of their mosaic from the files dir.hdr and dir.bil of the folder after --products. Writes what
+follows from these directions into the folder after --out, which must exist: accumulation (acc), basin labels
+(bas) and ranks (rnk), each a BIL file with a header. No other raster is opened.
 
   acc    the number of cells that drain through the cell, itself included
   bas    the number of the outlet where its path ends, counted from 1 in row order
   rnk    the number of steps to that outlet
 
-They are proved to follow from the directions. So the four rasters are correct if and only if con and dir are.
-The files are created only when no refusal is possible any more. Existing files are replaced, except those that
-are read. Prints one line.";
+They are proved to follow from the directions: with them the four rasters are correct if and only if con and
+dir are right. The files are created only when no refusal is possible any more. Existing files are replaced,
+except those that are read. Prints one line.";
 
 pub const DERIVE_AFTER: &str = "Lines and exit statuses:
   0  derived rows=R cols=C
-  1  rejected NoEnd row=R col=C              the first cell whose path of directions does not end at a code 0;
-     nothing was written
-  2  refused ..                              as drain audit, of tiles, dir and sinks; nothing was written
+  1  rejected NoEnd row=R col=C              the first cell whose path of directions does not end at a code 0
+  2  refused ..                              as drain audit, of tiles, dir and sinks
   3  failed Open PATH, failed ReadFailed, failed WriteFailed, failed OutOfMemory, or standard output
-     couldn't be written; files that were there before stay as they were
+     couldn't be written
+After 1, 2 and 3 files that were there before are as they were.
 
 Example:
   drain derive --side 1201 --products rasters --out rasters N37W105.hgt N37W106.hgt";
@@ -176,7 +176,7 @@ Example:
 pub const OUT_HELP: &str = "The folder to write the rasters into";
 
 pub const ONLY_HELP: &str =
-    "Audit these rasters alone: con, or con,dir, or con,dir,acc, or con,dir,bas";
+    "Judge these rasters alone: con, or con,dir, or con,dir,acc, or con,dir,bas";
 
 pub const BAD_LIST: &str =
     "the list must be con, or con,dir, or con,dir,acc, or con,dir,bas, or con,dir,acc,bas";

@@ -13,7 +13,6 @@ use drain_grid::{PerProduct, Product};
 use drain_header::{MAX_HEADER_BYTES, parse_header};
 use drain_hgt::TileInput;
 use drain_parts::{Given, MaybeSource};
-use drain_rules::Ranks;
 use drain_verdict::{AuditProducts, Products, RasterInput};
 use std::alloc::Global;
 
@@ -25,21 +24,32 @@ pub struct OpenFiles<'a> {
     pub sinks: Vec<u8>,
 }
 
-/// Opens the files of a check, or those of an audit if no ranks are asked for. The first fault ends it. The rows of con
+/// Which rasters are judged: the five of a check, the four of an audit, or some of these alone.
+#[derive(Clone, Copy)]
+pub enum Rasters {
+    OfCheck,
+    OfAudit,
+    Alone(Given),
+}
+
+/// The rasters of an audit: of all four, or of these alone.
+pub fn audited(only: Option<Given>) -> Rasters {
+    match only {
+        Some(given) => Rasters::Alone(given),
+        None => Rasters::OfAudit,
+    }
+}
+
+/// Opens the files of a check or an audit. The first fault ends it. No file of another raster is opened. The rows of con
 /// are counted for progress.
 pub fn open_judged<'a>(
     opener: &mut Opener<'_>,
     judged: &Judged<'_>,
-    ranks: Ranks,
+    rasters: Rasters,
     gauge: &'a Gauge<'a>,
 ) -> Result<OpenFiles<'a>, OpenFault> {
     let tiles = open_tiles(opener, judged.tiles.as_slice())?;
-    let mut four = open_four(opener, judged.products)?;
-    watch_con(&mut four.con, gauge);
-    let products = match ranks {
-        Ranks::Asked => JudgedProducts::Check(with_ranks(opener, judged.products, four)?),
-        Ranks::Unasked => JudgedProducts::Audit(four),
-    };
+    let products = open_products(opener, judged.products, rasters, gauge)?;
     let sinks = list_at(opener, judged.sinks)?;
     Ok(OpenFiles {
         tiles,
@@ -48,34 +58,46 @@ pub fn open_judged<'a>(
     })
 }
 
-/// The files of an audit of some rasters, of which only the headers and the list of sinks have been read.
+/// Opens the rasters.
+fn open_products<'a>(
+    opener: &mut Opener<'_>,
+    folder: &str,
+    rasters: Rasters,
+    gauge: &'a Gauge<'a>,
+) -> Result<JudgedProducts<InputFile<'a>>, OpenFault> {
+    if let Rasters::Alone(given) = rasters {
+        let mut some = open_given(opener, folder, given)?;
+        watch_con(&mut some.con, gauge);
+        return Ok(JudgedProducts::Part(some, given));
+    }
+    let mut four = open_four(opener, folder)?;
+    watch_con(&mut four.con, gauge);
+    match rasters {
+        Rasters::OfCheck => Ok(JudgedProducts::Check(with_ranks(opener, folder, four)?)),
+        _ => Ok(JudgedProducts::Audit(four)),
+    }
+}
+
+/// Opens these of the products of an audit. Con's header and zeros take the place of the others, which no rule looks
+/// at.
+fn open_given<'a>(
+    opener: &mut Opener<'_>,
+    folder: &str,
+    given: Given,
+) -> Result<AuditProducts<InputFile<'a>>, OpenFault> {
+    let con = open_product(opener, folder, Product::Con)?;
+    let dir = open_or(opener, folder, Product::Dir, given.has_dir(), &con)?;
+    let acc = open_or(opener, folder, Product::Acc, given.has_acc(), &con)?;
+    let bas = open_or(opener, folder, Product::Bas, given.has_bas(), &con)?;
+    Ok(AuditProducts { con, dir, acc, bas })
+}
+
+/// The files of directions, of which only the header and the list of sinks have been read.
 #[derive(Drop)]
-pub struct PartFiles<'a> {
+pub struct DirectionFiles<'a> {
     pub tiles: Vec<TileInput<InputFile<'a>>>,
     pub products: AuditProducts<InputFile<'a>>,
     pub sinks: Vec<u8>,
-}
-
-/// Opens the files of an audit of these rasters alone. No file of another raster is opened.
-pub fn open_part<'a>(
-    opener: &mut Opener<'_>,
-    judged: &Judged<'_>,
-    given: Given,
-    gauge: &'a Gauge<'a>,
-) -> Result<PartFiles<'a>, OpenFault> {
-    let tiles = open_tiles(opener, judged.tiles.as_slice())?;
-    let folder = judged.products;
-    let mut con = open_product(opener, folder, Product::Con)?;
-    let dir = open_given(opener, folder, Product::Dir, given.has_dir(), &con)?;
-    let acc = open_given(opener, folder, Product::Acc, given.has_acc(), &con)?;
-    let bas = open_given(opener, folder, Product::Bas, given.has_bas(), &con)?;
-    watch_con(&mut con, gauge);
-    let sinks = list_at(opener, judged.sinks)?;
-    Ok(PartFiles {
-        tiles,
-        products: AuditProducts { con, dir, acc, bas },
-        sinks,
-    })
 }
 
 /// Opens the tiles, the directions and the list of sinks. Directions alone are given: their header and zeros take the
@@ -83,22 +105,22 @@ pub fn open_part<'a>(
 pub fn open_directions<'a>(
     opener: &mut Opener<'_>,
     judged: &Judged<'_>,
-) -> Result<PartFiles<'a>, OpenFault> {
+) -> Result<DirectionFiles<'a>, OpenFault> {
     let tiles = open_tiles(opener, judged.tiles.as_slice())?;
     let dir = open_product(opener, judged.products, Product::Dir)?;
     let con = missing_like(opener.alloc(), &dir)?;
     let acc = missing_like(opener.alloc(), &dir)?;
     let bas = missing_like(opener.alloc(), &dir)?;
     let sinks = list_at(opener, judged.sinks)?;
-    Ok(PartFiles {
+    Ok(DirectionFiles {
         tiles,
         products: AuditProducts { con, dir, acc, bas },
         sinks,
     })
 }
 
-/// Opens a product if it is given; else con's header and zeros take its place, which no rule looks at.
-fn open_given<'a>(
+/// Opens a product if it is given; else con's header and zeros take its place.
+fn open_or<'a>(
     opener: &mut Opener<'_>,
     folder: &str,
     product: Product,

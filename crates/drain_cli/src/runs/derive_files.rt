@@ -8,7 +8,7 @@ use crate::args::command_line::{Derivation, Judged};
 use crate::files::file_id::FileId;
 use crate::files::open_failure::print_open_fault;
 use crate::files::open_files::{OpenFault, Opener, derived_paths};
-use crate::files::open_judged::{PartFiles, open_directions};
+use crate::files::open_judged::open_directions;
 use crate::files::outputs::{Failure, Outputs};
 use crate::files::overwriting::{over_input, print_overwritten};
 use crate::print::print_failure;

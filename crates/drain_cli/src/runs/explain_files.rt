@@ -8,7 +8,7 @@ use crate::files::file_paths::{header_path, raster_path};
 use crate::files::map_file::write_map;
 use crate::files::map_place::{MapClash, map_clash, map_paths};
 use crate::files::open_files::{OpenFault, Opener};
-use crate::files::open_judged::{OpenFiles, open_judged};
+use crate::files::open_judged::{OpenFiles, Rasters, open_judged};
 use crate::files::outputs::{Failure, Outputs, look};
 use crate::files::placing::{Placing, place_written};
 use crate::files::reason::print_reason;
@@ -24,7 +24,6 @@ use drain_grid::Product;
 use drain_maker::product_files::SetFault;
 use drain_mosaic::Layout;
 use drain_page::RefusalNote;
-use drain_rules::Ranks;
 use drain_verdict::Refusal;
 use std::alloc::Global;
 
@@ -36,35 +35,40 @@ pub fn explain_files(rt: &HostRuntime, asked: &Explained<'_>, out: &mut impl Byt
     if asked.map.is_some() && write_nothing(out).is_err() {
         return Status::Failed.code();
     }
-    match ranks_in(rt, asked.judged.products) {
-        Ok(ranks) => explain_opened(rt, asked, ranks, out),
+    match rasters_of(rt, asked) {
+        Ok(rasters) => explain_opened(rt, asked, rasters, out),
         Err(fault) => print_unopened(rt, fault, form(asked), out),
     }
 }
 
-/// Ranks are asked for if the folder has a header or a raster of them. A failure is never taken for their absence.
-fn ranks_in(rt: &HostRuntime, folder: &str) -> Result<Ranks, OpenFault> {
+/// These rasters alone, if a list is given; else those of a check if the folder has a header or a raster of ranks, and
+/// those of an audit if it has none. A failure is never taken for their absence.
+fn rasters_of(rt: &HostRuntime, asked: &Explained<'_>) -> Result<Rasters, OpenFault> {
+    if let Some(given) = asked.only {
+        return Ok(Rasters::Alone(given));
+    }
+    let folder = asked.judged.products;
     let header = header_path(rt.alloc(), folder, Product::Rnk)?;
     if look(rt, header.as_str())?.is_some() {
-        return Ok(Ranks::Asked);
+        return Ok(Rasters::OfCheck);
     }
     let raster = raster_path(rt.alloc(), folder, Product::Rnk)?;
     match look(rt, raster.as_str())? {
-        Some(_) => Ok(Ranks::Asked),
-        None => Ok(Ranks::Unasked),
+        Some(_) => Ok(Rasters::OfCheck),
+        None => Ok(Rasters::OfAudit),
     }
 }
 
-/// Explains the answer of a check, or that of an audit if no ranks are asked for.
+/// Explains the answer of a check or of an audit.
 fn explain_opened(
     rt: &HostRuntime,
     asked: &Explained<'_>,
-    ranks: Ranks,
+    rasters: Rasters,
     out: &mut impl ByteSink,
 ) -> u8 {
     let gauge = Gauge::new(rt, asked.judged.progress);
     let mut opener = Opener::new(rt);
-    match open_judged(&mut opener, &asked.judged, ranks, &gauge) {
+    match open_judged(&mut opener, &asked.judged, rasters, &gauge) {
         Ok(
             OpenFiles {
                 mut tiles,

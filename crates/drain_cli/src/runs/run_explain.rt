@@ -11,14 +11,18 @@ use drain_explain::{Explanation, Mapping, explain_audit, explain_check};
 use drain_faults::FaultMap;
 use drain_hgt::TileInput;
 use drain_page::{Answer, Facts, Findings, RefusalNote};
+use drain_part_faults::explain_part;
+use drain_parts::Given;
 use drain_verdict::{AuditProducts, Products, Refusal};
 use std::alloc::Global;
 
-/// The products that are judged: five by a check, four by an audit.
+/// The products that are judged: five by a check, four by an audit, or some of these.
 #[derive(Drop)]
 pub enum JudgedProducts<R> {
     Check(Products<R>),
     Audit(AuditProducts<R>),
+    /// Of the four these alone: no number of another matters.
+    Part(AuditProducts<R>, Given),
 }
 
 /// Explains the answer of a check or of an audit: prints a page that begins with its line, and returns its exit status.
@@ -63,13 +67,19 @@ fn explain_products<R: ByteSource>(
     match products {
         JudgedProducts::Check(products) => {
             let explained = explain_check(alloc, side, tiles, sinks, products, mapping);
-            let (answer, findings, map) = parts_of(explained);
+            let (answer, findings, map) = parts_of(explained, None);
             (Answer::Check(answer), findings, map)
         }
         JudgedProducts::Audit(products) => {
             let explained = explain_audit(alloc, side, tiles, sinks, products, mapping);
-            let (answer, findings, map) = parts_of(explained);
+            let (answer, findings, map) = parts_of(explained, None);
             (Answer::Audit(answer), findings, map)
+        }
+        JudgedProducts::Part(products, given) => {
+            let only = *given;
+            let explained = explain_part(alloc, side, tiles, sinks, products, only, mapping);
+            let (answer, findings, map) = parts_of(explained, Some(only));
+            (Answer::Part(answer), findings, map)
         }
     }
 }
@@ -77,7 +87,9 @@ fn explain_products<R: ByteSource>(
 /// The details of a refusal beyond its line.
 fn note_of<B: Beside>(beside: &mut B, answer: &Answer) -> Option<RefusalNote> {
     match answer {
-        Answer::Check(Err(refusal)) | Answer::Audit(Err(refusal)) => beside.note_of(*refusal),
+        Answer::Check(Err(refusal))
+        | Answer::Audit(Err(refusal))
+        | Answer::Part(Err(refusal)) => beside.note_of(*refusal),
         _ => None,
     }
 }
@@ -85,6 +97,7 @@ fn note_of<B: Beside>(beside: &mut B, answer: &Answer) -> Option<RefusalNote> {
 /// The verdict or the refusal, what the rules say of every cell, and the map if one was drawn.
 fn parts_of<V>(
     explained: Result<Explanation<V>, Refusal>,
+    only: Option<Given>,
 ) -> (Result<V, Refusal>, Option<Findings>, Option<FaultMap>)
     ensures { result.0 ≡ answer_in explained }
 {
@@ -105,6 +118,7 @@ fn parts_of<V>(
     let findings = Findings {
         layout,
         rules,
+        only,
         by_rule,
         by_product,
         first,

@@ -7,16 +7,19 @@ ghost use Rattle.drain_part_audit.specs.PartAudits.{AreRight, IsPartAnswer};
 ghost use Rattle.drain_part_audit.specs.PartLines.{part_report_line};
 ghost use Rattle.drain_part_audit.specs.declared.part_verdict.PartVerdict.{PartVerdict};
 ghost use Rattle.drain_verdict.specs.Audits.{OfFour};
-ghost use Rattle.drain_cli.specs.PartRuns.{IsPartOutcome, part_status};
+ghost use Rattle.drain_cli.specs.PartRuns.{IsPartOutcome};
 ghost use Rattle.drain_cli.specs.Printing.{Prints};
+ghost use Rattle.drain_cli.specs.Statuses.{answer_status};
+ghost use Rattle.drain_page.specs.declared.facts.Answer.TheVariants.{Part};
 
 use crate::print::print_line;
 use crate::status::Status;
 use drain_device::{ByteSink, ByteSource};
 use drain_hgt::TileInput;
-use drain_part_audit::{PartVerdict, audit_part, part_report};
+use drain_page::Answer;
+use drain_part_audit::{audit_part, part_report};
 use drain_parts::Given;
-use drain_verdict::{AuditProducts, Refusal};
+use drain_verdict::AuditProducts;
 use std::alloc::Global;
 
 /// Audits the given rasters against their tiles, prints the line of the answer and returns the exit status.
@@ -33,24 +36,13 @@ pub fn run_part_audit<R: ByteSource, W: ByteSink>(
 ) -> u8
     ensures run { (answer : Result PartVerdict Refusal)
         × IsPartOutcome R.ByteSource given side tiles.old tiles.new sinks.now products.old products.new answer
-        × Prints W.ByteSink out.old out.new (part_report_line answer) (part_status answer) result }
+        × Prints W.ByteSink out.old out.new (part_report_line answer) (answer_status (Part answer)) result }
 
     // A run ends with 0 only if the given rasters are part of a correct set, and with 1 only if they aren't.
     ensures correct { result ≡ 0 → OfFour R.bytes_left side tiles.old sinks.now products.old (AreRight given) }
     ensures not_correct { result ≡ 1 → OfFour R.bytes_left side tiles.old sinks.now products.old (λ inputs. ¬ AreRight given inputs) }
 {
     let answer = audit_part(alloc, side, tiles, sinks, products, given);
-    let status = status_of(&answer);
+    let status = Status::of_answer(&Answer::Part(answer));
     print_line(out, &part_report(&answer), status)
-}
-
-/// The status of an answer.
-fn status_of(answer: &Result<PartVerdict, Refusal>) -> Status
-    ensures { result ≡ part_status answer.now }
-{
-    match answer {
-        Ok(verdict) if verdict.is_acceptance() => Status::Done,
-        Ok(_) => Status::Rejected,
-        Err(refusal) => Status::of_refusal(*refusal),
-    }
 }

@@ -1,9 +1,12 @@
-use Rattle.std.proofs.Common.{Ok, refl}
+use Rattle.std.proofs.Common.{Ok, refl, sym, subst}
+use Rattle.drain_mosaic.specs.Tiling.{Tiling}
 use Rattle.drain_verdict.specs.AuditInputs.{audit_devices, with_con_for_ranks}
 use Rattle.drain_verdict.specs.Meaning.{grid_of, products_of}
 use Rattle.drain_verdict.proofs.Uses.{uses_alike}
+use Rattle.drain_derive.specs.DerivedFiles.{CanBeDerived}
 use Rattle.drain_derive.specs.Reading.{reading_in}
-use Rattle.drain_derive.proofs.ReadingLemmas.{counted_alike, counted_untouched, derive_refusal, if_err_more, if_ok_more}
+use Rattle.drain_derive.proofs.DerivedFileLemmas.{CanBeDerived-counts}
+use Rattle.drain_derive.proofs.ReadingLemmas.{counted_alike, counted_untouched, derive_refusal, if_err_more, if_ok_both, if_ok_more}
 use Rattle.drain_derive.proofs.reading.derive.Goals as goal
 
 pub returns-in-Ok-clause-derived : goal.returns-in-Ok-clause-derived
@@ -11,6 +14,11 @@ returns-in-Ok-clause-derived g c =
     if_ok_more c.derive_read.result _ _ (λ made derived inputs tell.
     (let flows = c.in-Ok.ensures.flows inputs tell in
     (flows.0, derived (grid_of inputs) (products_of inputs) flows.1))) c.derive_read.ensures.derived
+
+pub returns-in-Ok-clause-written : goal.returns-in-Ok-clause-written
+returns-in-Ok-clause-written g c =
+    if_ok_both c.derive_read.result _ _ _ c.derive_read.ensures.layout c.derive_read.ensures.counts (λ made same counts.
+    subst (λ (t : Tiling). CanBeDerived t made.1) (sym same) (CanBeDerived-counts c.in-Ok.read.layout made.1 counts))
 
 pub returns-in-Ok-clause-err : goal.returns-in-Ok-clause-err
 returns-in-Ok-clause-err g c =

@@ -1,7 +1,7 @@
 use Rattle.std.proofs.Common.{Err}
 use Rattle.std.proofs.lemmas.Result.{err_from_is_err_and}
 use Rattle.drain_verdict.specs.AuditInputs.{audit_devices, with_con_for_ranks}
-use Rattle.drain_verdict.proofs.StartAnswers.{at_side, laid, layout_answer, layout_reads_none}
+use Rattle.drain_verdict.proofs.StartAnswers.{at_side, layout_answer, layout_reads_none}
 use Rattle.drain_verdict.proofs.Uses.{uses_none}
 use Rattle.drain_part_audit.proofs.part_audit.answer_of.Goals as goal
 

@@ -1,4 +1,4 @@
-use Rattle.std.proofs.Common.{ℕ}
+use Rattle.std.proofs.Common.{ℕ, ◌-◌, ◌≤◌}
 use Rattle.drain_grid.specs.Grid.{Grid, Products}
 use Rattle.drain_parts.specs.PartRules.{IsPartRule, part_rules}
 use Rattle.drain_rules.specs.PatchRows.{IsAtMost, OfRow}
@@ -8,7 +8,11 @@ use Rattle.drain_part_audit.proofs.part_row.part_row.Given as goal
 -- the cells that were passed keep the rules, are counted, and their outlets' labels are admitted
 abbrev pub invariant-loop-col : goal.invariant-loop-col
 invariant-loop-col g l = record {
+  within : l.col ≤ g.R.PatchRow.len l.row;
   passed : OfRow (g.R.PatchRow.len l.row) (g.R.PatchRow.shown l.row) l.fn.labels
       (λ (grid : Grid) (ps : Products) (row : ℕ). ArePassed (part_rules l.given l.nodata) (IsPartRule l.given) grid ps row l.col l.tally l.labels);
   bounds : IsAtMost l.col l.tally;
 }
+
+abbrev pub decreases-loop-col : goal.decreases-loop-col
+decreases-loop-col g l = g.R.PatchRow.len l.row - l.col

@@ -22,3 +22,11 @@ returns-in-Audit g c =
     (sym c.in-Audit.is)
     (subst (λ a. IsAuditOutcome g.R.ByteSource c.args.side c.args.tiles.now explained.new.tiles c.args.sinks.now c.in-Audit.products explained.new.products a) (sym c.parts_of-answer-in-Audit.ensures)
     (audit_outcome g.R.ByteSource _ _ _ _ _ _ explained.result explained.ensures.answer explained.ensures.uses))
+
+pub returns-in-Part : goal.returns-in-Part
+returns-in-Part g c =
+    let explained = c.explain_part-explained in
+    subst (λ ps. IsOutcome g.R.ByteSource c.args.side c.args.tiles.now explained.new.tiles c.args.sinks.now ps (products.Part explained.new.products c.in-Part.given) (answer.Part c.parts_of-answer-in-Part.result.0))
+    (sym c.in-Part.is)
+    (subst (λ a. IsPartOutcome g.R.ByteSource c.in-Part.given c.args.side c.args.tiles.now explained.new.tiles c.args.sinks.now c.in-Part.products explained.new.products a) (sym c.parts_of-answer-in-Part.ensures)
+    (part_outcome g.R.ByteSource _ _ _ _ _ _ _ explained.result explained.ensures.answer explained.ensures.uses), refl)
