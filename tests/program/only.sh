@@ -174,6 +174,7 @@ for list in $lists; do
     [ "$list" = con ] && line='rejected NotFilled row=1 col=1' || line='rejected rule=12 FlatStep row=1 col=1'
     judge_only 'a listed pit without its list' "$list" "$line"
     make_bare
+    printf '1 1' >"$check/sinks.txt"
     judge_only 'a filled pit that is listed' "$list" 'rejected rule=5 OpenRaised row=1 col=1' --sinks "$check/sinks.txt"
     rm "$check/sinks.txt"
     judge_only 'a list of sinks that is not there' "$list" "failed Open $check/sinks.txt" --sinks "$check/sinks.txt"
