@@ -21,6 +21,8 @@ judge_list() {
     local name="$1, of $2 alone" status
     status=$(status_of "$3")
     judge_audit "$name" "$status" "$3" --only "$2" "${@:4}"
+    # It gives no reason where a file can't be opened.
+    [ "$status" != 3 ] || return 0
     "$auditor" --only "$2" "${@:4}" >"$scratch/out" 2>"$scratch/err"
     judge "$name, by the other program" "$status" "$scratch/want" $?
 }
