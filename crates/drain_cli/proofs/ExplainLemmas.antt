@@ -4,6 +4,9 @@ use Rattle.drain_device.specs.Devices.{Source}
 use Rattle.drain_explain.specs.Explanations.{answer_in}
 use Rattle.drain_explain.specs.declared.explanation.Explanation.{Explanation}
 use Rattle.drain_hgt.specs.declared.input.TileInput.{TileInput}
+use Rattle.drain_part_audit.specs.PartAudits.{IsPartAnswer}
+use Rattle.drain_part_audit.specs.declared.part_verdict.PartVerdict.{PartVerdict}
+use Rattle.drain_parts.specs.declared.given.Given.{Given}
 use Rattle.drain_rules.specs.declared.verdict.Verdict.{Verdict}
 use Rattle.drain_verdict.specs.Answers.{IsAnswer}
 use Rattle.drain_verdict.specs.AuditInputs.{audit_devices, with_con_for_ranks}
@@ -18,6 +21,7 @@ use Rattle.drain_verdict.proofs.AuditDevices.{failed_alike}
 use Rattle.drain_verdict.proofs.Uses.{uses_alike}
 use Rattle.drain_cli.specs.AuditRuns.{IsAuditOutcome}
 use Rattle.drain_cli.specs.CheckRuns.{IsCheckOutcome}
+use Rattle.drain_cli.specs.PartRuns.{IsPartOutcome}
 
 -- the answer uses the inputs as the explanation does
 uses_as_told : {R P V : Type 0} (inputs_of : P → Products R) (devices : List (TileInput R) → P → List R) (source : Source R) (side : ℕ) (old new : List (TileInput R) × P) (explained : Result (Explanation V) Refusal) →
@@ -43,6 +47,16 @@ pub audit_outcome : {R : Type 0} (source : Source R) (side : ℕ) (tiles_old til
     AuditUses source.bytes_left source.counts side (tiles_old, ps_old) (tiles_new, ps_new) explained →
     IsAuditOutcome source side tiles_old tiles_new sinks ps_old ps_new (answer_in explained)
 audit_outcome source side tiles_old tiles_new sinks ps_old ps_new explained answer uses = record {
+  answer = answer;
+  uses = uses_as_told with_con_for_ranks audit_devices source side (tiles_old, ps_old) (tiles_new, ps_new) explained uses;
+}
+
+-- the same of an audit of some rasters
+pub part_outcome : {R : Type 0} (source : Source R) (given : Given) (side : ℕ) (tiles_old tiles_new : List (TileInput R)) (sinks : List ℕ) (ps_old ps_new : AuditProducts R) (explained : Result (Explanation PartVerdict) Refusal) →
+    OfFour source.bytes_left side tiles_old sinks ps_old (λ i. IsPartAnswer given i (answer_in explained)) →
+    AuditUses source.bytes_left source.counts side (tiles_old, ps_old) (tiles_new, ps_new) explained →
+    IsPartOutcome source given side tiles_old tiles_new sinks ps_old ps_new (answer_in explained)
+part_outcome source given side tiles_old tiles_new sinks ps_old ps_new explained answer uses = record {
   answer = answer;
   uses = uses_as_told with_con_for_ranks audit_devices source side (tiles_old, ps_old) (tiles_new, ps_new) explained uses;
 }

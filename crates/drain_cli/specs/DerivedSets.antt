@@ -1,21 +1,24 @@
 -- How a run of `drain derive` ends: with files that were written, or with the reason why nothing was derived.
-use Rattle.std.specs.Prelude.{◌≡◌, ℕ, List, Option, Result, Err, codes}
+use Rattle.std.specs.Prelude.{◌≡◌, ◌×◌, ℕ, List, Result, Ok, Err, IfOk, IfErr, codes}
 use Rattle.drain_answer.specs.AuditLines.{no_end_line}
 use Rattle.drain_answer.specs.Lines.{refusal_line}
 use Rattle.drain_answer.specs.declared.refusal.Refusal.{Refusal}
 use Rattle.drain_answer.specs.declared.refusal.Refusal.TheVariants.{BadHeader, WrongShape, Misplaced}
-use Rattle.drain_derive.specs.Reading.{IsNoDerivation, IsReadDerivation}
+use Rattle.drain_derive.specs.Reading.{AreDerivedOf, IsDeriveRefusal, reading_in}
 use Rattle.drain_derive.specs.declared.derived.Derived.{Derived}
 use Rattle.drain_derive.specs.declared.reading.DeriveRefusal.{DeriveRefusal}
 use Rattle.drain_derive.specs.declared.reading.DeriveRefusal.TheVariants.{Refused, NoEnd}
-use Rattle.drain_device.specs.Devices.{Source}
+use Rattle.drain_device.specs.Devices.{Sink, Source}
 use Rattle.drain_grid.specs.declared.product.Product.TheVariants.{Con, Dir}
+use Rattle.drain_hgt.specs.Inputs.{names_of}
 use Rattle.drain_hgt.specs.declared.input.TileInput.{TileInput}
 use Rattle.drain_maker.specs.declared.product_files.SetFault.{SetFault}
+use Rattle.drain_verdict.specs.Stages.{IsLayoutOf}
 use Rattle.drain_mosaic.specs.Tiling.{Tiling}
 use Rattle.drain_verdict.specs.Audits.{OfFour}
 use Rattle.drain_verdict.specs.Uses.{AuditUses}
 use Rattle.drain_verdict.specs.declared.audit_products.AuditProducts.{AuditProducts}
+use Rattle.drain_cli.specs.Printing.{Prints}
 use Rattle.drain_cli.specs.SetRuns.{written_line}
 use Rattle.drain_cli.specs.Statuses.{refusal_status}
 use Rattle.drain_cli.specs.declared.status.Status.{Status}
@@ -41,3 +44,16 @@ none_line (NoEnd row col) = no_end_line row col
 abbrev pub none_status : DeriveRefusal → Status
 none_status (Refused refusal) = refusal_status refusal
 none_status (NoEnd row col) = Rejected
+
+-- what follows from the directions of the inputs, or the first reason why nothing does; they are read as by an audit
+pub record IsDerivation {R : Type 0} (source : Source R) (side : ℕ) (tiles_old tiles_new : List (TileInput R)) (sinks : List ℕ)
+    (products_old products_new : AuditProducts R) (outcome : Result (Tiling × Derived) DeriveRefusal) : Type 0 where
+  pub layout : IfOk outcome (λ set. IsLayoutOf side (names_of tiles_old) set.0)
+  pub derived : IfOk outcome (λ set. OfFour source.bytes_left side tiles_old sinks products_old (λ i. AreDerivedOf i set.1))
+  pub err : IfErr outcome (λ why. OfFour source.bytes_left side tiles_old sinks products_old (λ i. IsDeriveRefusal i why))
+  pub uses : AuditUses source.bytes_left source.counts side (tiles_old, products_old) (tiles_new, products_new) (reading_in outcome)
+
+-- what was derived is returned, and nothing printed; or the reason is printed, and its status returned
+abbrev pub IsHandedOver : {W : Type 0} → Sink W → W → W → Result (Tiling × Derived) DeriveRefusal → Result (Tiling × Derived) ℕ → Type 0
+IsHandedOver sink old new (Ok set) result = (result ≡ Ok set) × (new ≡ old)
+IsHandedOver sink old new (Err why) result = (code : ℕ) × (result ≡ Err code) × Prints sink old new (none_line why) (none_status why) code

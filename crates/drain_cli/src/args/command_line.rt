@@ -6,8 +6,8 @@ ghost use Rattle.drain_cli.specs.Requests.{IsJudged, IsMap, IsOnly, IsRequestOf}
 
 use crate::args::clusters::first_cluster;
 use crate::args::commands::{AUDIT, Described, EXPLAIN, command, program};
-use crate::args::{explain_texts, help_texts};
 use crate::args::given::{flag_given, option_given, side_given, text_given, tiles_given};
+use crate::args::{explain_texts, help_texts};
 use crate::files::file_paths::map_stem;
 use clap::error::ErrorKind;
 use clap::{ArgMatches, Error};

@@ -1,10 +1,11 @@
 //! The first part of a run of `drain derive`: tiles and directions are read, and what follows from these is computed.
 
-ghost use Rattle.std.specs.Prelude.{◌≡◌, IfOk, IfErr, OnOk};
-ghost use Rattle.drain_cli.specs.DerivedSets.{IsDerivedOf, IsNotDerived, none_line, none_status, told_of_dir};
-ghost use Rattle.drain_cli.specs.Printing.{Prints};
+ghost use Rattle.std.specs.Prelude.{◌≡◌, ◌×◌, IfOk, Result};
+ghost use Rattle.drain_cli.specs.DerivedSets.{IsDerivation, IsHandedOver, none_line, none_status, told_of_dir};
 ghost use Rattle.drain_derive.specs.DerivedFiles.{CanBeDerived};
+ghost use Rattle.drain_derive.specs.declared.derived.Derived.{Derived};
 ghost use Rattle.drain_derive.specs.declared.reading.DeriveRefusal.{DeriveRefusal};
+ghost use Rattle.drain_mosaic.specs.Tiling.{Tiling};
 
 use crate::print::print_line;
 use crate::status::Status;
@@ -32,11 +33,10 @@ pub fn derive_set<R: ByteSource, W: ByteSink>(
     products: &mut AuditProducts<R>,
     out: &mut W,
 ) -> Result<(Layout, Derived), u8>
-    ensures derived { IfOk result (λ set. IsDerivedOf R.bytes_left side tiles.old sinks.now products.old set.0 set.1) }
+    ensures run { (outcome : Result (Tiling × Derived) DeriveRefusal)
+        × IsDerivation R.ByteSource side tiles.old tiles.new sinks.now products.old products.new outcome
+        × IsHandedOver W.ByteSink out.old out.new outcome result }
     ensures written { IfOk result (λ set. CanBeDerived set.0 set.1) }
-    ensures quiet { OnOk result (out.new ≡ out.old) }
-    ensures refused { IfErr result (λ code. (why : DeriveRefusal) × IsNotDerived R.ByteSource side (tiles.old, products.old) (tiles.new, products.new) sinks.now why
-        × Prints W.ByteSink out.old out.new (none_line why) (none_status why) code) }
 {
     match derive(alloc, side, tiles, sinks, products) {
         Ok(set) => Ok(set),

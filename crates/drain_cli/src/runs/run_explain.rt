@@ -87,9 +87,8 @@ fn explain_products<R: ByteSource>(
 /// The details of a refusal beyond its line.
 fn note_of<B: Beside>(beside: &mut B, answer: &Answer) -> Option<RefusalNote> {
     match answer {
-        Answer::Check(Err(refusal))
-        | Answer::Audit(Err(refusal))
-        | Answer::Part(Err(refusal)) => beside.note_of(*refusal),
+        Answer::Check(Err(refusal)) | Answer::Audit(Err(refusal)) | Answer::Part(Err(refusal)) =>
+            beside.note_of(*refusal),
         _ => None,
     }
 }

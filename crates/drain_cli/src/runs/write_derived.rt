@@ -41,5 +41,9 @@ pub fn write_derived_and_place<F: ByteSink, P: Placing, W: ByteSink>(
 {
     let done = write_derived(alloc, layout, derived, files);
     let told = place_written(done, places);
-    print_line(out, &line_of("derived rows=", layout.shape(), &told), status_of(&told))
+    print_line(
+        out,
+        &line_of("derived rows=", layout.shape(), &told),
+        status_of(&told),
+    )
 }

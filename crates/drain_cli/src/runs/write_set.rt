@@ -65,7 +65,11 @@ pub fn write_and_place<F: ByteSink, P: Placing, W: ByteSink>(
 {
     let done = write_files(alloc, layout, products, files);
     let told = place_written(done, places);
-    print_line(out, &line_of("made rows=", layout.shape(), &told), status_of(&told))
+    print_line(
+        out,
+        &line_of("made rows=", layout.shape(), &told),
+        status_of(&told),
+    )
 }
 
 /// The line for the result of writing rasters of this shape: these words and the numbers of rows and columns, if all

@@ -1,10 +1,11 @@
-use Rattle.std.proofs.Common.{subst, sym}
+use Rattle.std.proofs.Common.{refl, subst, sym}
 use Rattle.drain_page.specs.declared.facts.Answer.TheVariants as answer
 use Rattle.drain_cli.specs.AuditRuns.{IsAuditOutcome}
 use Rattle.drain_cli.specs.CheckRuns.{IsCheckOutcome}
 use Rattle.drain_cli.specs.declared.runs.run_explain.JudgedProducts.TheVariants as products
 use Rattle.drain_cli.specs.ExplainRuns.{IsOutcome}
-use Rattle.drain_cli.proofs.ExplainLemmas.{audit_outcome, check_outcome}
+use Rattle.drain_cli.specs.PartRuns.{IsPartOutcome}
+use Rattle.drain_cli.proofs.ExplainLemmas.{audit_outcome, check_outcome, part_outcome}
 use Rattle.drain_cli.proofs.runs.run_explain.explain_products.Goals as goal
 
 pub returns-in-Check : goal.returns-in-Check
@@ -27,6 +28,8 @@ pub returns-in-Part : goal.returns-in-Part
 returns-in-Part g c =
     let explained = c.explain_part-explained in
     subst (λ ps. IsOutcome g.R.ByteSource c.args.side c.args.tiles.now explained.new.tiles c.args.sinks.now ps (products.Part explained.new.products c.in-Part.given) (answer.Part c.parts_of-answer-in-Part.result.0))
-    (sym c.in-Part.is)
-    (subst (λ a. IsPartOutcome g.R.ByteSource c.in-Part.given c.args.side c.args.tiles.now explained.new.tiles c.args.sinks.now c.in-Part.products explained.new.products a) (sym c.parts_of-answer-in-Part.ensures)
-    (part_outcome g.R.ByteSource _ _ _ _ _ _ _ explained.result explained.ensures.answer explained.ensures.uses), refl)
+    (sym c.in-Part.is) (
+      subst (λ a. IsPartOutcome g.R.ByteSource c.in-Part.given c.args.side c.args.tiles.now explained.new.tiles c.args.sinks.now c.in-Part.products explained.new.products a) (sym c.parts_of-answer-in-Part.ensures)
+          (part_outcome g.R.ByteSource _ _ _ _ _ _ _ explained.result explained.ensures.answer explained.ensures.uses),
+      refl,
+    )
