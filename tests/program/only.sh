@@ -344,6 +344,19 @@ LC_ALL=C sort "$scratch/listed_sets" >"$scratch/want"
 : >"$scratch/err"
 judge 'the sets of other tools in the table by list' 0 "$scratch/want" 0
 
+# An explanation by list begins with the line of the audit, and ends with its status.
+for name in saga watershed terraflow fill-dir; do
+    for list in $lists; do
+        words=(--only "$list" --side 51 --products "samples/other-tools/$name" samples/other-tools/N36W085.hgt)
+        timeout 60 "$drain" audit "${words[@]}" </dev/null >"$scratch/want" 2>"$scratch/err"
+        status=$?
+        timeout 60 "$drain" explain "${words[@]}" </dev/null >"$scratch/page" 2>>"$scratch/err"
+        came=$?
+        head -n 1 "$scratch/page" >"$scratch/out"
+        judge "an explanation of other tools, $name, of $list alone" "$status" "$scratch/want" "$came"
+    done
+done
+
 # The whole terrain, with the counts of another maker's products; and the changes of terrain.sh, of one number each.
 for list in $lists; do
     judge_audit "real terrain of side 344, of $list alone" 0 \
