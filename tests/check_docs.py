@@ -136,8 +136,8 @@ class Documents(unittest.TestCase):
             self.assertEqual(check_docs.faults_of(folder), expected)
 
     def test_words_are_counted(self) -> None:
-        expected = ["66000 characters, more than 120", "33003 words, more than 33000"]
-        self.assertEqual(self.faults("x " * 33_000)[0], expected)
+        expected = ["60000 characters, more than 120", "30003 words, more than 30000"]
+        self.assertEqual(self.faults("x " * 30_000)[0], expected)
 
 
 class Example(unittest.TestCase):
