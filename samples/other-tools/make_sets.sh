@@ -1,9 +1,10 @@
 #!/usr/bin/env bash
-# Makes the tile and the sets of this folder anew: with SAGA 8.5.0, GRASS 8.2.1, GDAL 3.6.2 and numpy.
+# Makes the tile and the sets of this folder anew: with SAGA 8.5.0, GRASS 8.2.1, GDAL 3.6.2, and build/drain for what is
+# derived from directions.
 # Usage: samples/other-tools/make_sets.sh FOLDER    (a new one, which the sets are written into)
 set -eu
 samples=$(cd "$(dirname "$0")/.." && pwd)
-from_directions=$samples/../tools/from_directions.py
+drain=$(realpath "$samples/../build/drain")
 mkdir "$1"
 cd "$1"
 work=$(mktemp -d)
@@ -43,12 +44,10 @@ calc() {
 }
 codes='where(A<0,0,2**((A+6)%8))'
 
-# Acc and bas of a set, counted out of its directions; the headers are those of SAGA's.
-count_out() {
-    "$from_directions" "$1" $side $side
-    rm "$1/rnk.bil"
-    [ -e "$1/acc.hdr" ] || cp saga/acc.hdr "$1/acc.hdr"
-    [ -e "$1/bas.hdr" ] || cp saga/bas.hdr "$1/bas.hdr"
+# Acc and bas of a set, derived from its directions.
+derive() {
+    "$drain" derive --side $side --products "$1" --out "$1" N36W085.hgt
+    rm "$1/rnk.hdr" "$1/rnk.bil"
 }
 
 mkdir saga saga-linear saga-counted terraflow terraflow-ends watershed watershed-counted fill-dir
@@ -64,8 +63,9 @@ for set in saga saga-linear saga-counted; do
 done
 calc saga/acc flow A
 calc saga/bas shed A
-count_out saga-counted
-count_out saga-linear
+derive saga-counted
+derive saga-linear
+rm saga-linear/acc.hdr saga-linear/acc.bil
 calc saga-linear/acc along A
 
 # GRASS: r.terraflow, r.watershed, and r.fill.dir until nothing changes.
@@ -114,12 +114,12 @@ out fcon fill-dir/con
 END
 grass -c "$work/tile.bil" -e "$work/location"
 work=$work grass "$work/location/PERMANENT" --exec bash "$work/in_grass.sh"
-count_out watershed-counted
+derive watershed-counted
 
 # Directions for the con of r.fill.dir, by SAGA: its filling finds nothing to raise there.
 saga_cmd io_gdal 0 -FILES fill-dir/con.bil -GRIDS "$work/fcon.sgrd"
 saga_cmd ta_preprocessor 4 -ELEV "$work/fcon.sgrd" -FILLED "$work/ffill.sgrd" -FDIR "$work/ffdir.sgrd" -WSHED "$work/fshed.sgrd" -MINSLOPE 0
 calc fill-dir/dir ffdir "$codes"
-count_out fill-dir
+derive fill-dir
 
 rm -f ./*/*.prj ./*/*.aux.xml

@@ -1,9 +1,11 @@
 #!/usr/bin/env python3
-"""Prints the right line of `drain audit` for four rasters, by docs/RULES.md: slow and plain, for up to some 200,000 cells.
+"""Prints the right line of `drain audit` for four rasters, or some of them, by docs/RULES.md: slow and plain, for up to
+some 200,000 cells.
 
-audit.py --side N --products DIR [--sinks FILE] TILE..     ends with the status that goes with the line
+audit.py --side N --products DIR [--only LIST] [--sinks FILE] TILE..     ends with the status that goes with the line
 
-It knows nothing of ranks: it follows each run of directions to its end.
+It knows nothing of ranks: it follows each run of directions to its end. LIST has the given rasters, as con,dir; files of
+others aren't opened.
 """
 
 import argparse
@@ -11,15 +13,18 @@ import os
 import sys
 
 sys.dont_write_bytecode = True
-from make_products import PRODUCTS, Rules, Terrain, verdict
+from make_products import PRODUCTS, RULES, Rules, Terrain, flood, verdict
 from plain_inputs import Header, Mosaic, Refused, listed_sinks
 
 NO_DATA = {name: nodata for name, _, _, _, nodata in PRODUCTS if name != "rnk"}
 STATUSES = ["accepted", "rejected", "refused", "failed"]
+LISTS = ["con", "con,dir", "con,dir,acc", "con,dir,bas", "con,dir,acc,bas"]
+# The rules that are tried if a raster is given. Rules 1 and 2 are tried of the given ones.
+RULES_ABOUT = {"con": {1, 2, 4, 5, 9}, "dir": {3, 10, 11, 12}, "acc": {13}, "bas": {14, 15}}
 
 
 class AuditRules(Rules):
-    """The rules of an audit: those of a check without ranks."""
+    """The rules of an audit: those of a check without ranks, of the given products."""
 
     def __init__(self, terrain, products, nodata):
         super().__init__(terrain, products)
@@ -51,14 +56,24 @@ def first_endless(rules):
 def line_of(terrain, products, nodata):
     """The line for products of the right shape, without refusals."""
     rules = AuditRules(terrain, products, nodata)
-    endless = first_endless(rules)
-    if endless is not None:
-        return f"rejected NoEnd row={endless // terrain.cols} col={endless % terrain.cols}"
-    return verdict(rules)
+    if "dir" in products:
+        endless = first_endless(rules)
+        if endless is not None:
+            return f"rejected NoEnd row={endless // terrain.cols} col={endless % terrain.cols}"
+    tried = set().union(*(RULES_ABOUT[name] for name in products))
+    line = verdict(rules, [rule for rule in RULES if rule[0] in tried])
+    low = first_not_filled(rules) if "dir" not in products and line.startswith("accepted") else None
+    return line if low is None else f"rejected NotFilled row={low // terrain.cols} col={low % terrain.cols}"
+
+
+def first_not_filled(rules):
+    """The first data cell at which con is below the filled surface, None where none is."""
+    filled, _, _ = flood(rules.terrain)
+    return next((cell for cell in rules.terrain.data_cells() if rules.con[cell] < filled[cell]), None)
 
 
 def headers_of(mosaic, texts):
-    """The headers of the four products, each of the shape and place of the mosaic."""
+    """The headers of the given products, each of the shape and place of the mosaic."""
     headers = {}
     for name, text in texts.items():
         try:
@@ -79,7 +94,7 @@ def audited(side, names, tiles, texts, bodies, sinks):
     for name, tile in zip(names, tiles):
         if len(tile) != 2 * side**2:
             raise Refused(f"BadTileLength {name[:-4].decode().upper()}.hgt")
-    products = {name: headers[name].pixels(bodies[name]) for name in NO_DATA}
+    products = {name: headers[name].pixels(bodies[name]) for name in texts}
     for name, pixels in products.items():
         if pixels is None:
             raise Refused(f"RasterShort {name}")
@@ -89,7 +104,7 @@ def audited(side, names, tiles, texts, bodies, sinks):
         if row >= mosaic.rows or col >= mosaic.cols or z[row * mosaic.cols + col] is None:
             raise Refused(f"SinkNotData {number}")
     terrain = Terrain(mosaic.rows, mosaic.cols, z, [(row, col) for _, row, col in listed])
-    nodata = {name: blank if headers[name].nodata is None else headers[name].nodata for name, blank in NO_DATA.items()}
+    nodata = {name: NO_DATA[name] if header.nodata is None else header.nodata for name, header in headers.items()}
     return line_of(terrain, products, nodata)
 
 
@@ -98,12 +113,12 @@ def contents(path):
         return file.read()
 
 
-def audit(side, folder, sinks, tiles):
-    """The line for the files at these paths, which are read in the order of the program."""
+def audit(side, folder, sinks, tiles, given=tuple(NO_DATA)):
+    """The line for the files at these paths, of these products, which are read in the order of the program."""
     try:
         bodies_of_tiles = [contents(tile) for tile in tiles]
         texts, bodies = {}, {}
-        for name in NO_DATA:
+        for name in given:
             texts[name] = contents(os.path.join(folder, name + ".hdr"))
             bodies[name] = contents(os.path.join(folder, name + ".bil"))
         list_ = contents(sinks) if sinks else b""
@@ -119,10 +134,11 @@ def main():
     words = argparse.ArgumentParser(description=__doc__, formatter_class=argparse.RawDescriptionHelpFormatter)
     words.add_argument("--side", type=int, default=1201)
     words.add_argument("--products", required=True)
+    words.add_argument("--only", choices=LISTS, default=LISTS[-1])
     words.add_argument("--sinks")
     words.add_argument("tiles", nargs="*")
     given = words.parse_args()
-    line = audit(given.side, given.products, given.sinks, given.tiles)
+    line = audit(given.side, given.products, given.sinks, given.tiles, given.only.split(","))
     print(line)
     return STATUSES.index(line.split(" ")[0])
 

@@ -118,12 +118,16 @@ class Faults:
         self.check = Run(drain, ["check", "--side", "3", "--products", str(self.products), str(self.tile)],
                          "accepted rows=3 cols=3 data=9 raised=1 outlets=8\n")
         self.audit = Run(drain, ["audit", *self.check.words[1:]], self.check.line)
+        parts = {"con": "accepted rows=3 cols=3 data=9 raised=1\n", "con,dir": self.check.line, "con,dir,bas": self.check.line}
+        self.parts = [Run(drain, ["audit", "--only", list_, *self.check.words[1:]], line) for list_, line in parts.items()]
+        self.derive, self.derive_over = (Run(drain, ["derive", "--out", str(self.made), *self.check.words[1:]], "derived rows=3 cols=3\n") for _ in range(2))
         self.make = Run(drain, ["make", "--side", "3", "--out", str(self.made), str(self.tile)], "made rows=3 cols=3\n")
         self.list = scratch / "sinks.txt"
         self.list.write_text("0 0\n\n1 1\n")
         self.listing = ["--sinks", str(self.list)]
         self.check_listed = Run(drain, [*self.check.words, *self.listing], "rejected rule=5 OpenRaised row=1 col=1\n", status=1)
         self.audit_listed = Run(drain, [*self.audit.words, *self.listing], self.check_listed.line, status=1)
+        self.con_listed = Run(drain, [*self.parts[0].words, *self.listing], self.check_listed.line, status=1)
         self.make_listed = Run(drain, [*self.make.words, *self.listing], self.make.line)
         self.make_over = Run(drain, self.make.words, self.make.line)
         mapped = [*self.check.words[1:], "--map", str(self.made / "faults.bil")]
@@ -227,6 +231,9 @@ class Faults:
             judged = ["--products", str(folder / "out"), *words]
             runs += [Run(self.drain, [it, *judged], f"accepted {counts}\n") for it in ("audit", "check")]
             runs.append(Run(self.drain, ["make", "--out", str(self.made), *words], f"made rows={side} cols={side}\n"))
+            runs.append(Run(self.drain, ["audit", "--only", "con", *judged], f"accepted {counts.rpartition(' ')[0]}\n"))
+            runs.append(Run(self.drain, ["audit", "--only", "con,dir,bas", *judged], f"accepted {counts}\n"))
+            runs.append(Run(self.drain, ["derive", "--out", str(self.made), *judged], f"derived rows={side} cols={side}\n"))
         bends_line = "accepted rows=201 cols=201 data=40401 raised=0 outlets=800"
         for write, answer in ((bends, bends_line), (ring, "rejected NoEnd row=1 col=1")):
             folder = self.scratch / write.__name__
@@ -270,17 +277,19 @@ class Faults:
 
     def killed(self):
         """A run that writes files is killed in place of each call that creates, writes or renames one."""
-        for run in (self.make, self.make_over, self.explain_over):
+        for run in (self.make, self.make_over, self.derive, self.derive_over, self.explain_over):
             for call in ("open", "write", "rename"):
                 for name, ended in self.each_call(run, call, "killed"):
                     self.judge(name, ended == (-9, "", ""), ended)
                     self.look_at_what_is_left(run, call, "killed", name, ended)
 
     def changed(self):
-        """A tile or raster is cut or written over between two reads of a check or an audit: it answers some line of its own."""
-        begins = ("accepted ", "rejected ", "refused RasterShort ", "refused BadTileLength ", "failed ReadFailed")
+        """A tile or raster is cut or written over between two reads of a check, an audit or a derivation: it answers some line
+        of its own."""
+        begins = ("accepted ", "derived ", "rejected ", "refused RasterShort ", "refused BadTileLength ", "failed ReadFailed")
         rasters = [self.products / f"{product}.bil" for product in PRODUCTS]
-        for run, files in ((self.check, [self.tile, *rasters]), (self.audit, [self.tile, *rasters[:-1]])):
+        parts = [(self.parts[0], [self.tile, *rasters[:1]]), (self.parts[1], [self.tile, *rasters[:2]]), (self.derive, [self.tile, rasters[1]])]
+        for run, files in ((self.check, [self.tile, *rasters]), (self.audit, [self.tile, *rasters[:-1]]), *parts):
             for file in files:
                 for how in ("cut", "turned"):
                     for name, ended in self.each_call(run, "read", how, FAIL_FILE=str(file)):
@@ -312,9 +321,9 @@ class Faults:
         self.right[run] = contents(self.made)
 
     def all(self):
-        makers = [self.make, self.make_listed, self.make_over]
+        makers = [self.make, self.make_listed, self.make_over, self.derive, self.derive_over]
         explained = [self.explain, self.explain_object, self.explain_over]
-        judged = [self.check, self.audit, self.check_listed, self.audit_listed]
+        judged = [self.check, self.audit, *self.parts, self.check_listed, self.audit_listed, self.con_listed]
         runs = [*judged, *explained, *makers, self.fill, self.header]
         self.makers = makers
         self.calls = {call: runs for call in TELLS}
@@ -322,11 +331,12 @@ class Faults:
         self.calls["look"] = [*judged, *explained, *makers]
         self.calls["rename"] = [*explained, *makers]
         self.over, self.right = {}, {}
-        for run in (self.make, self.make_listed, self.explain, self.explain_object):
+        for run in (self.make, self.make_listed, self.derive, self.explain, self.explain_object):
             self.learn(run)
         self.over[self.make_over] = self.right[self.make_listed]
+        self.over[self.derive_over] = {file: b"of before" for file in self.right[self.derive]}
         self.over[self.explain_over] = {"faults.hdr": b"of before", "faults.bil": b"of before"}
-        for run in (self.make_over, self.explain_over):
+        for run in (self.make_over, self.derive_over, self.explain_over):
             self.learn(run)
         self.part()
         for run in (self.explain_seam, self.seam_object):

@@ -196,7 +196,7 @@ class Rules:
         self.nodata = {name: nodata for name, _, _, _, nodata in PRODUCTS}
         self.con, self.dir, self.acc, self.bas, self.rnk = (products.get(name) for name, *_ in PRODUCTS)
         self.first_with_label = {}
-        for cell in terrain.data_cells():
+        for cell in terrain.data_cells() if self.bas is not None else []:
             if self.dir[cell] == 0:
                 self.first_with_label.setdefault(self.bas[cell], cell)
 
@@ -280,17 +280,17 @@ RULES = [
 ]
 
 
-def verdict(rules):
+def verdict(rules, tried=tuple(RULES)):
     """The line of the verdict: the first cell in row order at which a rule fails, and the first such rule."""
     terrain = rules.terrain
     for cell in range(len(terrain.z)):
-        for number, name, holds in RULES:
+        for number, name, holds in tried:
             if not getattr(rules, holds)(cell):
                 return f"rejected rule={number} {name} row={cell // terrain.cols} col={cell % terrain.cols}"
     data = terrain.data_cells()
     raised = sum(rules.con[cell] > rules.z[cell] for cell in data)
-    outlets = sum(rules.dir[cell] == 0 for cell in data)
-    return f"accepted rows={terrain.rows} cols={terrain.cols} data={len(data)} raised={raised} outlets={outlets}"
+    line = f"accepted rows={terrain.rows} cols={terrain.cols} data={len(data)} raised={raised}"
+    return line if rules.dir is None else f"{line} outlets={sum(rules.dir[cell] == 0 for cell in data)}"
 
 
 def read_sinks(path):

@@ -22,6 +22,12 @@ judge_told() {
 judge_told 'a check without progress' 0 "$jacksboro_line" '' check "${jacksboro[@]}"
 judge_told 'a check with progress' 0 "$jacksboro_line" 'drain: row 121 of 121\n' check --progress "${jacksboro[@]}"
 judge_told 'an audit with progress' 0 "$jacksboro_line" 'drain: row 121 of 121\n' audit "${jacksboro[@]}" --progress
+for list in con con,dir con,dir,acc con,dir,bas con,dir,acc,bas; do
+    line=$(accepted_as "$list" "$jacksboro_line")
+    judge_told "an audit of $list with progress" 0 "$line" 'drain: row 121 of 121\n' audit --progress --only "$list" "${jacksboro[@]}"
+    judge_told "an audit of $list without progress" 0 "$line" '' audit --only "$list" "${jacksboro[@]}"
+done
+judge_told 'an audit of con that is refused before a row' 2 'refused BadSide' '' audit --only con --progress --side 1 "${jacksboro[@]:2}"
 judge_told 'a check that is refused before a row' 2 'refused BadSide' '' check --progress --side 1 "${jacksboro[@]:2}"
 # An explanation with ranks and without: its page is that of right products, by docs/FORMATS.md.
 mkdir "$told/bare"

@@ -1,9 +1,11 @@
 #!/usr/bin/env python3
-"""Audits small random sets, right ones and ones with one number changed, and compares with audit.py and with the meaning of correct products.
+"""Audits small random sets, right ones and ones with one number changed, whole and by each list of rasters, and derives rasters of
+their directions; compares with audit.py, derive.py and with the meaning of correct products.
 
-random_audits.py [DRAIN]     without the program only the other two are compared
+random_audits.py [DRAIN]     without the program only the others are compared
 
-What products mean is judged here by paths, runs and sets (docs/DEFINITIONS.md), and by no rule. Prints how many sets passed.
+What products mean is judged here by paths, runs and sets (docs/DEFINITIONS.md), and by no rule. Some rasters are right if they
+are part of a correct set. Prints how many sets passed.
 """
 
 import random
@@ -14,7 +16,8 @@ import tempfile
 from pathlib import Path
 
 sys.dont_write_bytecode = True
-from audit import NO_DATA, STATUSES, audit
+from audit import LISTS, NO_DATA, STATUSES, audit
+from derive import BLANK, derive
 from make_products import STEPS, VOID, Terrain, fixed, key, make
 from plain_inputs import Mosaic
 
@@ -141,6 +144,10 @@ class Case:
             for run in runs:
                 self.products["acc"][run[0]], self.products["bas"][run[0]] = through.count(run[0]), run[-1] + 1000
 
+    def lower(self):
+        """Takes depressions as they are, as if nothing was filled: every rule about con alone still holds."""
+        self.products["con"] = [self.nodata["con"] if ground is None else ground for ground in self.z]
+
     def header(self, name, bits, order):
         step = fixed(10**15 // (self.side - 1))
         return (f"NROWS {self.mosaic.rows}\nNCOLS {self.mosaic.cols}\nNBITS {bits}\nPIXELTYPE SIGNEDINT\nBYTEORDER {order}\nULXMAP {self.mosaic.west}\n"
@@ -156,55 +163,139 @@ class Case:
             numbers = self.products[name]
             (self.folder / f"{name}.bil").write_bytes(struct.pack(f"{'<' if order == 'I' else '>'}{len(numbers)}{FORMS[bits]}", *numbers))
 
-    def line(self):
-        """The line by audit.py."""
-        return audit(self.side, self.folder, self.folder / "sinks.txt", [self.folder / name for name in self.names])
+    def tile_paths(self):
+        return [self.folder / name for name in self.names]
 
-    def is_correct(self):
-        blanks = {cell: [self.products[name][cell] == self.nodata[name] for name in NO_DATA] for cell in range(len(self.z))}
-        presence = all(all(blank) if self.z[cell] is None else not any(blank) for cell, blank in blanks.items())
-        return presence and Meaning(self.terrain, self.products).is_correct()
+    def line(self, given):
+        """The line by audit.py, of these products."""
+        return audit(self.side, self.folder, self.folder / "sinks.txt", self.tile_paths(), given)
 
-    def answer(self, drain):
+    def is_part_of_correct(self, given):
+        """Whether values of the other products exist that make a correct set with these. If there are any, then those that
+        are made of the tiles are such values of dir, and counts and labels by runs are of acc and bas."""
+        blanks = {cell: [self.products[name][cell] == self.nodata[name] for name in given] for cell in range(len(self.z))}
+        if not all(all(blank) if self.z[cell] is None else not any(blank) for cell, blank in blanks.items()):
+            return False
+        joined = dict(self.products)
+        if "dir" not in given:
+            joined |= {name: numbers for name, numbers in make(self.terrain).items() if name in ("dir", "acc", "bas")}
+            return Meaning(self.terrain, joined).is_correct()
+        counted = self.counted()
+        if counted is None:
+            return False
+        return Meaning(self.terrain, joined | {name: counted[name] for name in ("acc", "bas") if name not in given}).is_correct()
+
+    def counted(self):
+        """Counts and labels by the runs of the directions, None where one has no end."""
+        meaning = Meaning(self.terrain, self.products)
+        runs = {cell: meaning.run(cell) for cell in meaning.cells}
+        if None in runs.values():
+            return None
+        through = [passed for run in runs.values() for passed in run]
+        return {"acc": {cell: through.count(cell) for cell in runs}, "bas": {cell: run[-1] for cell, run in runs.items()}}
+
+    def answer(self, drain, *words):
         """What the program ends with and prints."""
-        words = [drain, "audit", "--side", str(self.side), "--products", self.folder, "--sinks", self.folder / "sinks.txt", *(self.folder / name for name in self.names)]
-        ended = subprocess.run(words, stdout=subprocess.PIPE, stderr=subprocess.PIPE, timeout=120, check=False)
+        command = [drain, *words, "--side", str(self.side), "--products", self.folder, "--sinks", self.folder / "sinks.txt", *self.tile_paths()]
+        ended = subprocess.run(command, stdout=subprocess.PIPE, stderr=subprocess.PIPE, timeout=120, check=False)
         return ended.returncode, ended.stdout.decode()
+
+    def wrong_derivation(self, drain):
+        """What is wrong with the rasters that derive.py and the program derive of the directions, None where nothing is."""
+        other, out = self.folder / "other", self.folder / "out"
+        line = derive(self.side, self.folder, self.folder / "sinks.txt", self.tile_paths(), other)
+        counted = self.counted()
+        if line.startswith("derived") != (counted is not None):
+            return f"{line!r}, and runs {'have' if counted else 'have no'} ends"
+        if counted and (wrong := self.wrong_counts(other, counted)):
+            return wrong
+        out.mkdir()
+        if drain and self.answer(drain, "derive", "--out", out) != (int(counted is None), line + "\n"):
+            return f"{self.answer(drain, 'derive', '--out', out)}, not {line!r}"
+        files = [f"{name}.{part}" for name in BLANK for part in ("hdr", "bil")] if drain and counted else []
+        if drain and sorted(path.name for path in out.iterdir()) != sorted(files):
+            return "other derived files"
+        return next((f"{file} derived otherwise" for file in files if (out / file).read_bytes() != (other / file).read_bytes()), None)
+
+    def wrong_counts(self, folder, counted):
+        """What is wrong with the numbers of derive.py."""
+        numbers = {name: struct.unpack(f"<{len(self.z)}I", (folder / f"{name}.bil").read_bytes()) for name in BLANK}
+        outlets = sorted(set(counted["bas"].values()))
+        for cell, ground in enumerate(self.z):
+            expected = (0, 0) if ground is None else (counted["acc"][cell], outlets.index(counted["bas"][cell]) + 1)
+            if (numbers["acc"][cell], numbers["bas"][cell]) != expected:
+                return f"derive.py has other numbers at cell {cell}"
+        return None
+
+
+def kind_of(line):
+    return " ".join(line.split(" ")[:2]) if line.startswith("rejected") else line.split(" ")[0]
+
+
+def judge_list(case, list_, drain, is_right):
+    """What is wrong with the answers about these products, None where nothing is, and the kind of their line."""
+    given = list_.split(",")
+    line = case.line(given)
+    kind, is_part = kind_of(line), case.is_part_of_correct(given)
+    if (kind == "accepted") != is_part:
+        return f"{list_}: {line!r}, and the products are {'' if is_part else 'not '}part of a correct set", kind
+    if is_right and kind != "accepted":
+        return f"{list_}: {line!r} of right products", kind
+    words = [["audit", "--only", list_]]
+    if list_ == LISTS[-1]:
+        words.append(["audit"])
+    for command in words if drain else []:
+        answer = case.answer(drain, *command)
+        if answer != (STATUSES.index(kind.split(" ")[0]), line + "\n"):
+            return f"{list_}: {answer}, not {line!r}", kind
+    return None, kind
 
 
 def judge(number, drain, folder):
-    """What is wrong with the answers to a case, None where nothing is, and the kind of its line."""
+    """What is wrong with the answers to a case, and the kinds of lines by list."""
     case = Case(random.Random(number), folder)
-    changes = [lambda: None, case.change, case.change, case.turn]
+    changes = [lambda: None, case.change, case.change, case.turn, case.lower]
     changes[number % len(changes)]()
     case.write()
-    line = case.line()
-    kind = " ".join(line.split(" ")[:2]) if line.startswith("rejected") else line.split(" ")[0]
-    if (kind == "accepted") != case.is_correct():
-        return f"{line!r}, and the products are {'' if case.is_correct() else 'not '}correct", kind
-    if number % len(changes) == 0 and kind != "accepted":
-        return f"{line!r} of right products", kind
-    if drain and case.answer(drain) != (STATUSES.index(kind.split(" ")[0]), line + "\n"):
-        return f"{case.answer(drain)}, not {line!r}", kind
-    return None, kind
+    wrong, kinds = [], {}
+    for list_ in LISTS:
+        fault, kinds[list_] = judge_list(case, list_, drain, number % len(changes) == 0)
+        wrong.append(fault)
+    wrong.append(case.wrong_derivation(drain))
+    return [fault for fault in wrong if fault], kinds
+
+
+# The kinds of lines that random sets have, by list.
+ABOUT_CON = ["accepted", *(f"rejected rule={rule}" for rule in (1, 2, 4, 5, 9))]
+ABOUT_DIR = [*ABOUT_CON, "rejected NoEnd", *(f"rejected rule={rule}" for rule in (10, 11, 12))]
+KINDS = {
+    "con": [*ABOUT_CON, "rejected NotFilled"],
+    "con,dir": ABOUT_DIR,
+    "con,dir,acc": [*ABOUT_DIR, "rejected rule=13"],
+    "con,dir,bas": [*ABOUT_DIR, "rejected rule=14", "rejected rule=15"],
+    "con,dir,acc,bas": [*ABOUT_DIR, *(f"rejected rule={rule}" for rule in (13, 14, 15))],
+}
 
 
 def main():
     drain = Path(sys.argv[1]).resolve() if sys.argv[1:] else None
-    passed, failed, kinds = 0, 0, {}
+    passed, failed = 0, 0
+    found = {list_: set() for list_ in LISTS}
     with tempfile.TemporaryDirectory() as scratch:
         for number in range(CASES):
             folder = Path(scratch) / str(number)
             folder.mkdir()
-            wrong, kind = judge(number, drain, folder)
-            kinds[kind] = kinds.get(kind, 0) + 1
-            passed, failed = passed + (wrong is None), failed + (wrong is not None)
-            if wrong:
-                print(f"FAILED random set {number}: {wrong}")
-    for kind in ["accepted", "rejected NoEnd", *(f"rejected rule={rule}" for rule in (1, 2, 4, 5, 9, 10, 11, 12, 13, 14, 15))]:
-        if kind not in kinds:
-            failed += 1
-            print(f"FAILED random sets: none is {kind}")
+            wrong, kinds = judge(number, drain, folder)
+            for list_, kind in kinds.items():
+                found[list_].add(kind)
+            passed, failed = passed + (not wrong), failed + bool(wrong)
+            for fault in wrong:
+                print(f"FAILED random set {number}: {fault}")
+    for list_ in LISTS:
+        for kind in KINDS[list_]:
+            if kind not in found[list_]:
+                failed += 1
+                print(f"FAILED random sets: none is {kind}, of {list_}")
     print(f"random audits: {passed} passed, {failed} failed")
     return 1 if failed else 0
 

@@ -75,6 +75,8 @@ done < <(sed -E 's/ *\| */|/g; s/^ +| +$//g' "$here/table.txt")
 . "$here/make.sh"
 . "$here/sinks.sh"
 . "$here/audit.sh"
+. "$here/only.sh"
+. "$here/derive.sh"
 . "$here/explain.sh"
 . "$here/refusals.sh"
 . "$here/progress.sh"

@@ -62,6 +62,11 @@ want 'accepted rows=121 cols=121 data=14641 raised=690 outlets=32'
 judge 'a stack of 100 KiB: check' 0 "$scratch/want" $?
 (ulimit -s 100 && exec env -i "$drain" audit --side 121 --products samples/jacksboro samples/jacksboro/N36W085.hgt) >"$scratch/out" 2>"$scratch/err"
 judge 'a stack of 100 KiB: audit' 0 "$scratch/want" $?
+for list in con,dir con; do
+    [ "$list" = con ] && want 'accepted rows=121 cols=121 data=14641 raised=690'
+    (ulimit -s 100 && exec env -i "$drain" audit --only "$list" --side 121 --products samples/jacksboro samples/jacksboro/N36W085.hgt) >"$scratch/out" 2>"$scratch/err"
+    judge "a stack of 100 KiB: audit --only $list" 0 "$scratch/want" $?
+done
 cp -r samples/jacksboro "$scratch/jacksboro"
 printf '\252' | dd of="$scratch/jacksboro/acc.bil" bs=1 seek=40000 conv=notrunc status=none
 for form in '' --json; do
@@ -74,6 +79,9 @@ mkdir "$scratch/small"
 want 'made rows=344 cols=344'
 (ulimit -s 100 && exec env -i "$drain" make --side 344 --out "$scratch/small" samples/N36W085.hgt) >"$scratch/out" 2>"$scratch/err"
 judge 'a stack of 100 KiB: make' 0 "$scratch/want" $?
+want 'derived rows=344 cols=344'
+(ulimit -s 100 && exec env -i "$drain" derive --side 344 --products "$scratch/small" --out "$scratch/small" samples/N36W085.hgt) >"$scratch/out" 2>"$scratch/err"
+judge 'a stack of 100 KiB: derive' 0 "$scratch/want" $?
 (ulimit -s 100 && exec env -i "$drain" header samples/headers/gdal-hgt-i16.hdr) >"$scratch/out" 2>"$scratch/err"
 judge 'a stack of 100 KiB: header' 0 samples/headers/gdal-hgt-i16.expected $?
 
@@ -120,7 +128,8 @@ done
 want -
 mkdir "$scratch/root"
 for words in 'check --side 3 --products' 'check --side 3 --products=' 'check --products a' 'make --side 3 --out' 'make --out a' 'header' \
-    'check --products a --sinks' 'make --out a --sinks'; do
+    'check --products a --sinks' 'make --out a --sinks' 'audit --products a --only' 'derive --products a --out' 'derive --out a --products' \
+    'derive --products a --out a'; do
     (cd "$scratch/root" && "$drain" $words '' >"$scratch/out" 2>"$scratch/err")
     judge "an empty word: $words" 2 "$scratch/want" $? words
 done
