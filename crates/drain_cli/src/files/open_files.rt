@@ -177,8 +177,8 @@ pub fn derived_paths(alloc: Global, folder: &str) -> Result<Vec<String>, AllocEr
     ensures count { IfOk result (λ paths. vec_len paths ≡ DERIVED_COUNT) }
 {
     let mut paths = Vec::new(alloc);
-    for file in DERIVED_FILES {
-        paths.push(path_of(alloc, folder, file)?)?;
+    for derived in DERIVED_FILES {
+        paths.push(path_of(alloc, folder, derived)?)?;
     }
     Ok(paths)
 }

@@ -6,7 +6,7 @@ use Rattle.drain_cli.specs.FilePaths.{IsPathOf}
 use Rattle.drain_cli.proofs.files.open_files.derived_paths.Given as goal
 
 -- the paths so far are those of the files so far
-abbrev pub invariant-loop-file : goal.invariant-loop-file
-invariant-loop-file l =
-    (vec_len l.paths ≡ l.file-index) × (l.file-items ≡ DERIVED_FILES) × (length l.file-items ≡ DERIVED_COUNT)
-    × AllZip (λ file path. IsPathOf l.fn.folder file (string_bytes path)) (take l.file-index l.file-items) l.paths.items
+abbrev pub invariant-loop-derived : goal.invariant-loop-derived
+invariant-loop-derived l =
+    (vec_len l.paths ≡ l.derived-index) × (l.derived-items ≡ DERIVED_FILES) × (length l.derived-items ≡ DERIVED_COUNT)
+    × AllZip (λ file path. IsPathOf l.fn.folder file (string_bytes path)) (take l.derived-index l.derived-items) l.paths.items
