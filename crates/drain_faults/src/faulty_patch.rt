@@ -14,12 +14,7 @@ pub struct FaultyPatch {
 
 /// Keeps the first so far; without one it is this cell, if a rule fails here, with the least such rule. Cells come in
 /// row order.
-pub fn note_patch(
-    first: &mut Option<FaultyPatch>,
-    cell: Cell,
-    patch: &Patch,
-    least: Option<Rule>,
-)
+pub fn note_patch(first: &mut Option<FaultyPatch>, cell: Cell, patch: &Patch, least: Option<Rule>)
     ensures { IsFirstNoted least cell patch.now first.old first.new }
 {
     match first {
