@@ -390,7 +390,7 @@ head -c $((2 * 1201 * 1201)) /dev/zero >"$ground"
 head -c $((1201 * 1201)) /dev/zero >"$given/dir.bil"
 sed -i -E 's/^(NROWS|NCOLS) .*/\1 1201/; s/^(.DIM) .*/\1 0.000833333333333/' "$given/dir.hdr"
 want 'failed OutOfMemory'
-(ulimit -v 24000 && exec "$drain" derive --products "$given" --out "$out" "$ground") >"$scratch/out" 2>"$scratch/err"
+(ulimit -v 16000 && exec "$drain" derive --products "$given" --out "$out" "$ground") >"$scratch/out" 2>"$scratch/err"
 judge 'no memory for derived rasters' 3 "$scratch/want" $?
 judge_left 'no memory for derived rasters'
 
