@@ -86,6 +86,40 @@ OUTPUTS = [
 ]
 
 
+# Texts of a file, and the function that each is in.
+PLACES = """//! A file.
+pub const ONE: u32 = 1;
+fn free(a: u32) -> u32
+    ensures { in_free }
+{
+    body_of_free
+}
+struct Rows<'a> { field: &'a u8 }
+impl<'a> Rows<'a> {
+    pub(crate) fn next(&self) {
+        body_of_next
+    }
+}
+impl<'a, T: Drop> Source<T> for Rows<'a> {
+    fn take(&mut self) {
+        body_of_take
+    }
+}
+impl Pixel for u8 {
+    fn number(self) -> i64 { body_of_number }
+}
+"""
+FUNCTIONS = [
+    ("= 1;", None),
+    ("in_free", "rows::free"),
+    ("body_of_free", "rows::free"),
+    ("field", None),
+    ("body_of_next", "rows::Rows::next"),
+    ("body_of_take", "rows::RowsSource::take"),
+    ("body_of_number", "rows::U8Pixel::number"),
+]
+
+
 class Edits(unittest.TestCase):
     """Edits of a made-up crate."""
 
@@ -127,6 +161,23 @@ class Edits(unittest.TestCase):
         rounds = try_named_edits.rounds_of(self.crate)
         names = [[edit.name for edit in found.edits] for found in rounds]
         self.assertEqual(names, [["made/first", "made/third"], ["made/second"]])
+
+    def test_with_a_list_the_others_are_tried_on_the_function_that_they_change(self) -> None:
+        self.edit("file: src/lib.rt\nold: a()\nnew: c()\n", "first")
+        self.edit("file: src/rows.rt\nold: fn two\nnew: fn three\nonly: rows::two\n", "named")
+        (self.crate / "src/rows.rt").write_text(SOURCE + "const ONE: u32 = 1;\n", encoding="utf-8")
+        self.edit("file: src/rows.rt\nold: = 1\nnew: = 2\n", "outside")
+        left: list[str] = []
+        tried = [(edit.name, edit.only) for found in try_named_edits.rounds_of(self.crate, left) for edit in found.edits]
+        self.assertEqual(tried, [("made/first", "one"), ("made/named", "rows::two")])
+        self.assertEqual(left, ["made/outside"])
+
+    def test_the_function_of_a_text(self) -> None:
+        for text, expected in FUNCTIONS:
+            with self.subTest(text):
+                found = try_named_edits.function_at("src/rows.rt", PLACES, PLACES.index(text))
+                self.assertEqual(found, expected)
+        self.assertEqual(try_named_edits.function_at("src/a/b.rt", "fn f() {}", 3), "a::b::f")
 
     def test_verdicts(self) -> None:
         edit = try_named_edits.Edit(self.edit("file: src/rows.rt\nold: a()\nnew: c()\nonly: rows::Rows::next\n"))

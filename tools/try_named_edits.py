@@ -4,13 +4,17 @@ in a file of its own. The prover checks only these functions, and has to refuse 
 proof sees the contracts of what it calls and no body, so no edit helps another to be refused. The checks use the
 libraries that rt ci built, so an edit takes some twenty seconds, while a try of the whole crate takes minutes.
 
+With --every the others are tried as well, each on the function that its first text is in. One that isn't refused there
+may be refused elsewhere in its crate: its name goes into FILE, and tools/try_edits.sh tries it on the whole crate.
+
 An edit is a file of must-fail/ or more-edits/ as rt reads it; rt ignores the line 'only:'. Every edit of a crate is
 read, also those that aren't tried: each line has to be one of 'file: PATH', 'old: TEXT', 'new: TEXT' and 'only: PATH',
 and each old text has to be in its file exactly once.
 
-Usage: tools/try_named_edits.py [CRATE...]    (default: all)
+Usage: tools/try_named_edits.py [--every FILE] [CRATE...]    (default: all crates)
 """
 
+import argparse
 import concurrent.futures
 import functools
 import os
@@ -60,6 +64,12 @@ class Edit:
             raise BadEdit(f"{self.name}: no new text")
         self.file = self.changes[0][0]
 
+    def find_function(self, crate: Path) -> None:
+        """Names the function that the first text is in, where none is named."""
+        path, old, _ = self.changes[0]
+        text = (crate / path).read_text()
+        self.only = self.only or function_at(path, text, text.index(old))
+
     def applied(self, crate: Path, texts: dict[str, str]) -> dict[str, str] | None:
         """The changed texts of the crate's files, some maybe changed before; none if an old text isn't found exactly
         once."""
@@ -70,6 +80,32 @@ class Edit:
                 return None
             texts[path] = text.replace(old, new)
         return texts
+
+
+FUNCTION = re.compile(r"( *)(?:pub(?:\([a-z]+\))? )?(?:const )?fn (\w+)")
+IMPL = re.compile(r"impl(?:<.*?>)? (?:(\w+)(?:<.*>)? for )?&?(\w+)(?:<.*>)?(?: where .*)? *\{")
+
+
+def function_at(path: str, text: str, place: int) -> str | None:
+    """The function whose contract or body has this place of a file, as the prover names it: modules, the type of an
+    `impl` with its trait's name behind it, and the name. None outside functions."""
+    modules = [part for part in Path(path).with_suffix("").parts[1:] if part not in ("lib", "main")]
+    owner: list[str] = []
+    found: tuple[int, str] | None = None
+    at = 0
+    for line in text.splitlines(keepends=True):
+        if start := IMPL.match(line):
+            owner = [f"{start[2][0].upper()}{start[2][1:]}{start[1] or ''}"]
+        elif line.startswith("}"):
+            owner = []
+        if start := FUNCTION.match(line):
+            found = len(start[1]), start[2]
+        at += len(line)
+        if place < at:
+            return "::".join([*modules, *(owner if found and found[0] else []), found[1]]) if found else None
+        if found and line.startswith(" " * found[0] + "}"):
+            found = None
+    return None
 
 
 class Round:
@@ -96,13 +132,18 @@ def applied_alone(crate: Path, edit: Edit) -> dict[str, str]:
     return texts
 
 
-def rounds_of(crate: Path) -> list[Round]:
-    """The edits of a crate that name a function, in rounds; all others are only read and put in."""
+def rounds_of(crate: Path, left: list[str] | None = None) -> list[Round]:
+    """The edits of a crate that name a function, in rounds; all others are only read and put in. With a list the
+    function of each other edit is looked for, and the names of those that are in none are added to the list."""
     rounds: list[Round] = []
     for part in ("must-fail", "more-edits"):
         for file in sorted((crate / part).glob("*.edit")):
             edit = Edit(file)
             applied_alone(crate, edit)
+            if left is not None:
+                edit.find_function(crate)
+                if not edit.only:
+                    left.append(edit.name)
             if edit.only and not any(found.takes(edit) for found in rounds):
                 rounds.append(Round(crate, edit))
     return rounds
@@ -217,11 +258,17 @@ def messages(said: str) -> Iterator[tuple[str, str]]:
 
 
 def main() -> None:
-    """Tries the edits of the crates, prints a line for each, and fails if one isn't refused."""
+    """Tries the edits of the crates, prints a line for each, and fails if one isn't refused. With --every it fails only
+    where an edit can't be read."""
+    words = argparse.ArgumentParser()
+    words.add_argument("--every", metavar="FILE", type=Path)
+    words.add_argument("crates", nargs="*", metavar="CRATE")
+    given = words.parse_args()
+    left: list[str] | None = [] if given.every else None
     below = libraries()
     passed = failed = 0
     try:
-        rounds = [found for name in sys.argv[1:] or below for found in rounds_of(TOP / "crates" / name)]
+        rounds = [found for name in given.crates or below for found in rounds_of(TOP / "crates" / name, left)]
     except BadEdit as bad:
         sys.exit(str(bad))
     with concurrent.futures.ThreadPoolExecutor(int(os.environ.get("RT_JOBS") or os.cpu_count() or 1)) as pool:
@@ -229,10 +276,14 @@ def main() -> None:
             for name, (line, is_right, said) in run.result().items():
                 passed, failed = passed + is_right, failed + (not is_right)
                 print(f"{name}: {line}", flush=True)
-                if not is_right:
+                if left is not None and not is_right:
+                    left.append(name)
+                elif not is_right:
                     print(said[-2000:])
     print(f"edits: {passed} passed, {failed} failed")
-    sys.exit(failed > 0)
+    if left is not None:
+        given.every.write_text("".join(f"{name}\n" for name in sorted(left)))
+    sys.exit(left is None and failed > 0)
 
 
 if __name__ == "__main__":
