@@ -20,7 +20,7 @@ fn main(rt: HostRuntime) -> io::Result<()> {
         Some("lanes") => lanes::run(&rt, words),
         Some(_) => Err(io::Error::new(
             io::ErrorKind::InvalidInput,
-            "labels, rasters, mosaic or lanes is wanted",
+            "labels, rasters, mosaic or lanes is expected",
         )),
         None => {
             labels::run(&rt, words)?;

@@ -9,9 +9,9 @@ pub fn same<C: Debug + Drop, T: PartialEq + Debug + Drop>(
     rt: &impl Abort,
     case: C,
     given: T,
-    wanted: T,
+    expected: T,
 ) {
-    assert_eq!(rt; given, wanted, "{case:?}");
+    assert_eq!(rt; given, expected, "{case:?}");
 }
 
 /// Ends the test where what is printed of a value is another text.
@@ -19,9 +19,9 @@ pub fn same_text<D: Display>(
     rt: &impl Abort,
     alloc: Global,
     value: &D,
-    wanted: &str,
+    expected: &str,
 ) -> Result<(), AllocError> {
     let given = format!(in alloc; "{value}")?;
-    assert_eq!(rt; given.as_str(), wanted);
+    assert_eq!(rt; given.as_str(), expected);
     Ok(())
 }

@@ -12,6 +12,7 @@ use std::alloc::{AllocError, Global};
 use std::io;
 use std::io::{ErrorKind, Read, Write};
 use std::test::Fail;
+use worked::calls::at_calls;
 
 const TEXT: &[u8; 8] = b"drainage";
 
@@ -46,12 +47,12 @@ fn a_slice_is_read_to_its_end(rt: HostRuntime) -> Result<(), Fail> {
     let rest = read_full(&mut source, &mut out, &mut Patience::new());
     let at_end = source.read_some(&mut [0; 5]);
     let faults = (source.failures(), source.interruptions());
-    let wanted = ((*b"drain", *b"agein"), Ok(3), (Ok(5), Ok(0), (0, 0)));
+    let expected = ((*b"drain", *b"agein"), Ok(3), (Ok(5), Ok(0), (0, 0)));
     same(
         &rt,
         "bytes, rest and calls",
         ((first, out), rest, (read, at_end, faults)),
-        wanted,
+        expected,
     );
     Ok(())
 }
@@ -155,8 +156,8 @@ fn an_interruption_of_std_is_one_and_every_other_error_is_a_failure(
         let counts = (failures, interruptions);
         let more = (failures > 0, interruptions > 0);
         same(&rt, "read", broken_read(kind), (Err(fault), counts));
-        let wanted = ((Err(fault), counts), (Err(fault), more));
-        same(&rt, "write and flush", broken_write(kind), wanted);
+        let expected = ((Err(fault), counts), (Err(fault), more));
+        same(&rt, "write and flush", broken_write(kind), expected);
     }
     Ok(())
 }
@@ -212,11 +213,7 @@ static READS: [(u64, u64, DeviceFault, usize, Result<usize, BodyFault>); 9] = [
 #[test]
 fn a_read_gives_up_where_its_source_does(rt: HostRuntime) -> Result<(), Fail> {
     for &(first, last, answer, limit, want) in &READS {
-        let script = [Scripted {
-            first,
-            last,
-            answer,
-        }];
+        let script = [at_calls((first, last), answer)];
         same(
             &rt,
             (first, last),
@@ -268,11 +265,7 @@ static WRITES: [(u64, u64, SinkAnswer, usize, Result<(), GaveUp>); 9] = [
 #[test]
 fn a_write_gives_up_where_its_sink_does(rt: HostRuntime) -> Result<(), Fail> {
     for &(first, last, answer, taken, want) in &WRITES {
-        let script = [Scripted {
-            first,
-            last,
-            answer,
-        }];
+        let script = [at_calls((first, last), answer)];
         let given = write(rt.alloc(), &script)?;
         same(
             &rt,
@@ -303,11 +296,7 @@ static WRITES_OF_NOTHING: [(u64, u64, SinkAnswer, Result<(), GaveUp>); 5] = [
 #[test]
 fn a_write_of_nothing_gives_up_where_its_sink_does(rt: HostRuntime) -> Result<(), Fail> {
     for &(first, last, answer, want) in &WRITES_OF_NOTHING {
-        let script = [Scripted {
-            first,
-            last,
-            answer,
-        }];
+        let script = [at_calls((first, last), answer)];
         let given = nothing_written(rt.alloc(), &script);
         same(&rt, (first, last), given, (want, 0));
     }

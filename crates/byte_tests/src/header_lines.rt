@@ -29,8 +29,8 @@ static COORDINATES: [(&str, Option<i128>); 15] = [
 
 #[test]
 fn decimals_in_units(rt: HostRuntime) -> Result<(), Fail> {
-    for &(text, wanted) in &COORDINATES {
-        same(&rt, text, coordinate(text.as_bytes()), wanted);
+    for &(text, expected) in &COORDINATES {
+        same(&rt, text, coordinate(text.as_bytes()), expected);
     }
     Ok(())
 }
@@ -47,8 +47,8 @@ static NODATA: [(&str, Option<i64>); 6] = [
 
 #[test]
 fn decimals_of_nodata(rt: HostRuntime) -> Result<(), Fail> {
-    for &(text, wanted) in &NODATA {
-        same(&rt, text, nodata(text.as_bytes()), wanted);
+    for &(text, expected) in &NODATA {
+        same(&rt, text, nodata(text.as_bytes()), expected);
     }
     Ok(())
 }
@@ -106,8 +106,8 @@ static LINES: [(&str, Option<HeaderFault>); 9] = [
 
 #[test]
 fn first_faults_of_lines(rt: HostRuntime) -> Result<(), Fail> {
-    for &(text, wanted) in &LINES {
-        same(&rt, text, read_lines(text.as_bytes()).err(), wanted);
+    for &(text, expected) in &LINES {
+        same(&rt, text, read_lines(text.as_bytes()).err(), expected);
     }
     Ok(())
 }
@@ -123,8 +123,8 @@ static FAULTS: [(HeaderFault, &str); 5] = [
 
 #[test]
 fn texts_of_faults(rt: HostRuntime) -> Result<(), Fail> {
-    for &(fault, wanted) in &FAULTS {
-        same(&rt, wanted, fault.text().as_str(), wanted);
+    for &(fault, expected) in &FAULTS {
+        same(&rt, expected, fault.text().as_str(), expected);
     }
     Ok(())
 }
@@ -180,9 +180,9 @@ const WESTERN_TEXT: &str =
      YDIM 10000000000.000000000000000\n";
 
 /// Ends the test where a header has another text.
-fn has_text(rt: &impl Abort, alloc: Global, header: &Header, wanted: &str) -> Result<(), Fail> {
+fn has_text(rt: &impl Abort, alloc: Global, header: &Header, expected: &str) -> Result<(), Fail> {
     let text = header_text(alloc, header)?;
-    same(rt, header.cols, str::from_utf8(&text), Ok(wanted));
+    same(rt, header.cols, str::from_utf8(&text), Ok(expected));
     Ok(())
 }
 

@@ -1,46 +1,11 @@
 //! Whole headers: each text with the header that it describes, or its first fault.
 
 use crate::agree::same;
-use drain_header::{ByteOrdering, Header, HeaderFault, Key, Place, header_text, parse_header};
+use crate::header_lines::CONDITIONED;
+use drain_header::{Header, HeaderFault, Key, Place, header_text, parse_header};
 use std::alloc::{AllocError, Global};
 use std::test::Fail;
-
-/// The lines of a small header, with a half degree from pixel to pixel.
-static LINES: [&str; 15] = [
-    "BYTEORDER I",
-    "LAYOUT BIL",
-    "NROWS 3",
-    "NCOLS 3",
-    "NBANDS 1",
-    "NBITS 16",
-    "BANDROWBYTES 6",
-    "TOTALROWBYTES 6",
-    "SKIPBYTES 0",
-    "PIXELTYPE SIGNEDINT",
-    "ULXMAP 0.000000000000000",
-    "ULYMAP 1.000000000000000",
-    "XDIM 0.500000000000000",
-    "YDIM 0.500000000000000",
-    "NODATA -32768",
-];
-
-/// What those lines say.
-const SMALL: Header = Header {
-    rows: 3,
-    cols: 3,
-    bits: 16,
-    order: ByteOrdering::Least,
-    signed: true,
-    skip: 0,
-    row_bytes: 6,
-    place: Place {
-        ulx: 0,
-        uly: 1_000_000_000_000_000,
-        xdim: 500_000_000_000_000,
-        ydim: 500_000_000_000_000,
-    },
-    nodata: Some(-32768),
-};
+use worked::headers::{CON_LINES, USUAL};
 
 /// The line of this number, or what replaces it.
 fn changed<'a>(line: &'a str, number: usize, changes: &[(usize, &'a str)]) -> &'a str {
@@ -56,7 +21,7 @@ fn changed<'a>(line: &'a str, number: usize, changes: &[(usize, &'a str)]) -> &'
 /// The lines, each with this end, and some of them replaced. Lines are counted from 1.
 fn text(alloc: Global, end: &str, changes: &[(usize, &str)]) -> Result<Vec<u8>, AllocError> {
     let mut text = Vec::new(alloc);
-    for (at, line) in LINES.iter().enumerate() {
+    for (at, line) in CON_LINES.iter().enumerate() {
         text.extend_from_slice(changed(line, at + 1, changes).as_bytes())?;
         text.extend_from_slice(end.as_bytes())?;
     }
@@ -170,7 +135,7 @@ const DEFAULTS: [(usize, &str); 7] = [
 /// The small header, or this fault.
 fn small_or(fault: Option<HeaderFault>) -> Result<Header, HeaderFault> {
     match fault {
-        None => Ok(SMALL),
+        None => Ok(CONDITIONED),
         Some(fault) => Err(fault),
     }
 }
@@ -215,13 +180,6 @@ fn other_spellings(rt: HostRuntime) -> Result<(), Fail> {
     Ok(())
 }
 
-/// The header of a usual tool, for the tile N37W105 of side 1201.
-static USUAL: &str =
-    "BYTEORDER      I\nLAYOUT         BIL\nNROWS          1201\nNCOLS          1201\nNBANDS         1\n\
-        NBITS          16\nBANDROWBYTES   2402\nTOTALROWBYTES  2402\nPIXELTYPE      SIGNEDINT\n\
-        ULXMAP         -105\nULYMAP         38\nXDIM           0.000833333333333333\n\
-        YDIM           0.000833333333333333\nNODATA         -32768\n";
-
 #[test]
 fn a_usual_tool(rt: HostRuntime) -> Result<(), Fail> {
     let wanted = Header {
@@ -234,7 +192,7 @@ fn a_usual_tool(rt: HostRuntime) -> Result<(), Fail> {
             xdim: 833_333_333_333,
             ydim: 833_333_333_333,
         },
-        ..SMALL
+        ..CONDITIONED
     };
     let given = parse_header(USUAL.as_bytes());
     same(&rt, "a usual tool", given, Ok(wanted));
@@ -262,9 +220,14 @@ fn the_longest_text(rt: HostRuntime) -> Result<(), Fail> {
 #[test]
 fn writes_what_it_reads(rt: HostRuntime) -> Result<(), Fail> {
     let bytes = text(rt.alloc(), "\n", &[])?;
-    let written = header_text(rt.alloc(), &SMALL)?;
+    let written = header_text(rt.alloc(), &CONDITIONED)?;
     same(&rt, "written", written.as_slice(), bytes.as_slice());
     let again = parse_header(written.as_slice());
-    same(&rt, "read again", (bytes.len(), again), (230, Ok(SMALL)));
+    same(
+        &rt,
+        "read again",
+        (bytes.len(), again),
+        (230, Ok(CONDITIONED)),
+    );
     Ok(())
 }

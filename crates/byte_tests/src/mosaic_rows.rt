@@ -12,6 +12,7 @@ use drain_hgt::TileInput;
 use drain_mosaic::{Layout, MosaicRows};
 use std::alloc::{AllocError, Global};
 use std::test::Fail;
+use worked::calls::at_calls;
 
 /// The samples 1 2 and 3 4.
 pub const WEST: [u8; 8] = [0, 1, 0, 2, 0, 3, 0, 4];
@@ -155,8 +156,8 @@ fn rows_of_two_tiles(rt: HostRuntime) -> Result<(), Fail> {
     for &(west, east, numbers, seam, wrong) in &PAIRS {
         for most in [1, 100] {
             let given = of_bytes(rt.alloc(), BESIDE, west, east, most)?;
-            let wanted = (WHOLE, (6, numbers), seam, wrong);
-            same(&rt, (west.len(), east.len(), most), given, wanted);
+            let expected = (WHOLE, (6, numbers), seam, wrong);
+            same(&rt, (west.len(), east.len(), most), given, expected);
         }
     }
     Ok(())
@@ -194,13 +195,13 @@ const THREE_ROWS: [Answer; 4] = [
 fn rows_of_a_tile_above_another(rt: HostRuntime) -> Result<(), Fail> {
     for (names, first, last, numbers) in &ABOVE {
         let given = of_bytes(rt.alloc(), *names, first, last, 100)?;
-        let wanted = (
+        let expected = (
             THREE_ROWS,
             (6, *numbers),
             Some(Cell { row: 1, col: 1 }),
             None,
         );
-        same(&rt, *names, given, wanted);
+        same(&rt, *names, given, expected);
     }
     Ok(())
 }
@@ -210,11 +211,7 @@ fn rows_of_a_tile_above_another(rt: HostRuntime) -> Result<(), Fail> {
 #[test]
 fn a_device_that_fails(rt: HostRuntime) -> Result<(), Fail> {
     for call in 1..4 {
-        let script = [Scripted {
-            first: call,
-            last: call,
-            answer: DeviceFault::Failed,
-        }];
+        let script = [at_calls((call, call), DeviceFault::Failed)];
         let mut answers = [Err(ReadFault::AlreadyFailed); 4];
         for k in 0..call as usize - 1 {
             answers[k] = Ok(RowStep::Row);
@@ -229,12 +226,12 @@ fn a_device_that_fails(rt: HostRuntime) -> Result<(), Fail> {
             let first = ScriptSource::new(&LONG_WEST, 100, west);
             let last = ScriptSource::new(&EAST, 100, east);
             let (given, (count, _), _, wrong_length) = four_calls(rt.alloc(), BESIDE, first, last)?;
-            let wanted = (answers, 3 * (call as usize - 1), None);
+            let expected = (answers, 3 * (call as usize - 1), None);
             same(
                 &rt,
                 (call, east_fails),
                 (given, count, wrong_length),
-                wanted,
+                expected,
             );
         }
     }
@@ -243,16 +240,8 @@ fn a_device_that_fails(rt: HostRuntime) -> Result<(), Fail> {
 
 /// The first answer if the western tile's device is interrupted 999 times, and the eastern one's n times.
 fn interrupted(alloc: Global, times: u64) -> Result<Answer, Fail> {
-    let often = [Scripted {
-        first: 1,
-        last: 999,
-        answer: DeviceFault::Interrupted,
-    }];
-    let more_often = [Scripted {
-        first: 1,
-        last: times,
-        answer: DeviceFault::Interrupted,
-    }];
+    let often = [at_calls((1, 999), DeviceFault::Interrupted)];
+    let more_often = [at_calls((1, times), DeviceFault::Interrupted)];
     let first = ScriptSource::new(&WEST, 100, &often);
     let last = ScriptSource::new(&EAST, 100, &more_often);
     let (answers, ..) = four_calls(alloc, BESIDE, first, last)?;
@@ -264,7 +253,7 @@ fn interrupted(alloc: Global, times: u64) -> Result<Answer, Fail> {
 fn devices_that_are_interrupted(rt: HostRuntime) -> Result<(), Fail> {
     let borne = interrupted(rt.alloc(), 999)?;
     let not_borne = interrupted(rt.alloc(), 1000)?;
-    let wanted = [Ok(RowStep::Row), Err(ReadFault::ReadFailed)];
-    same(&rt, "999 and 1000 times", [borne, not_borne], wanted);
+    let expected = [Ok(RowStep::Row), Err(ReadFault::ReadFailed)];
+    same(&rt, "999 and 1000 times", [borne, not_borne], expected);
     Ok(())
 }

@@ -46,12 +46,9 @@ fn four_tiles<const N: usize>(
 ) -> Result<[Vec<i16>; 4], AllocError>
     ensures { IfOk result (λ tiles. All (λ tile. length tile ≡ N) (map (λ tile. tile.items) tiles)) }
 {
-    Ok([
-        Vec::from_slice(alloc, &samples[0])?,
-        Vec::from_slice(alloc, &samples[1])?,
-        Vec::from_slice(alloc, &samples[2])?,
-        Vec::from_slice(alloc, &samples[3])?,
-    ])
+    let [first, second] = two_tiles(alloc, &[samples[0], samples[1]])?;
+    let [third, fourth] = two_tiles(alloc, &[samples[2], samples[3]])?;
+    Ok([first, second, third, fourth])
 }
 
 /// The samples of two tiles of this side together.
@@ -110,10 +107,10 @@ static PAIRS: [([i16; 4], [i16; 4], [i16; 6]); 3] = [
 
 #[test]
 fn tiles_side_by_side(rt: HostRuntime) -> Result<(), Fail> {
-    for &(west, east, wanted) in &PAIRS {
+    for &(west, east, expected) in &PAIRS {
         let names = ["N00E000.hgt", "N00E001.hgt"];
         let given = two_joined(rt.alloc(), 2, names, &[west, east])?;
-        same(&rt, east, given.as_slice(), wanted.as_slice());
+        same(&rt, east, given.as_slice(), expected.as_slice());
     }
     Ok(())
 }
@@ -142,14 +139,14 @@ fn square(alloc: Global, sample: i16) -> Result<Result<Elevation, SeamFault>, Fa
 fn tiles_in_a_square(rt: HostRuntime) -> Result<(), Fail> {
     same(&rt, "its layout", north_of_square(rt.alloc())?, (2, 4));
     let given = samples_made(rt.alloc(), square(rt.alloc(), VOID)?)?;
-    let wanted = [1, 2, 3, 4, 5, 6, 7, 8, 9];
-    same(&rt, "samples", given.as_slice(), wanted.as_slice());
-    let wanted = SeamFault::SeamMismatch(Cell { row: 1, col: 1 });
+    let expected = [1, 2, 3, 4, 5, 6, 7, 8, 9];
+    same(&rt, "samples", given.as_slice(), expected.as_slice());
+    let expected = SeamFault::SeamMismatch(Cell { row: 1, col: 1 });
     same(
         &rt,
         "a seam",
         seam_fault(square(rt.alloc(), 0)?),
-        Some(wanted),
+        Some(expected),
     );
     Ok(())
 }
@@ -160,10 +157,10 @@ fn tiles_with_a_gap_between_them(rt: HostRuntime) -> Result<(), Fail> {
     let names = ["N00E000.hgt", "N00E002.hgt"];
     let given = two_joined(rt.alloc(), 3, names, &[[0; 9]; 2])?;
     let v = VOID;
-    let wanted = [
+    let expected = [
         0, 0, 0, v, 0, 0, 0, 0, 0, 0, v, 0, 0, 0, 0, 0, 0, v, 0, 0, 0,
     ];
-    same(&rt, "a gap", given.as_slice(), wanted.as_slice());
+    same(&rt, "a gap", given.as_slice(), expected.as_slice());
     Ok(())
 }
 

@@ -2,7 +2,7 @@
 //! memory first, so that running out of it is reported as such.
 
 ghost use Rattle.std.specs.Prelude.{◌≡◌, IfOk};
-ghost use Rattle.drain_raster.specs.Pixels.{extent_of};
+ghost use Rattle.drain_raster.specs.Pixels.{header_extent};
 
 use crate::agree::same;
 use crate::rasters::{NOWHERE, PADDED, numbers_in, numbers_of, padded, raster_of, written};
@@ -14,6 +14,7 @@ use drain_raster::laws::bytes_read_back;
 use drain_raster::{WriteFault, read_raster, write_raster};
 use std::alloc::{AllocError, Global};
 use std::test::Fail;
+use worked::calls::at_calls;
 
 /// The bytes of the worked raster, with zeros where no pixel is.
 const WRITTEN: [u8; 11] = [0, 1, 0, 0xfe, 0xff, 0, 0, 0x80, 2, 0, 0];
@@ -54,11 +55,7 @@ fn refused(alloc: Global, numbers: &[i64]) -> Result<(Result<(), WriteFault>, us
     let Some(raster) = raster_of(alloc, 2, 2, numbers)? else {
         return Err("no raster".into());
     };
-    let script = [Scripted {
-        first: 1,
-        last: 1,
-        answer: SinkAnswer::Failed,
-    }];
+    let script = [at_calls((1, 1), SinkAnswer::Failed)];
     let mut sink = ScriptSink::new(Vec::new(alloc), 1, &script);
     let written = write_raster(&mut sink, &padded(ByteOrdering::Least), &raster);
     Ok((written, sink.as_slice().len(), sink.failures()))
@@ -77,8 +74,8 @@ static OUT_OF_RANGE: [([i64; 4], Cell); 4] = [
 fn the_first_number_out_of_range_is_told_before_any_byte(rt: HostRuntime) -> Result<(), Fail> {
     for (numbers, cell) in &OUT_OF_RANGE {
         let given = refused(rt.alloc(), numbers)?;
-        let wanted = (Err(WriteFault::OutOfRange(*cell)), 0, 0);
-        same(&rt, *numbers, given, wanted);
+        let expected = (Err(WriteFault::OutOfRange(*cell)), 0, 0);
+        same(&rt, *numbers, given, expected);
     }
     Ok(())
 }
@@ -125,18 +122,14 @@ static WRITES: [(u64, u64, SinkAnswer, usize); 21] = [
 #[test]
 fn a_write_fails_where_its_sink_does(rt: HostRuntime) -> Result<(), Fail> {
     for &(first, last, answer, taken) in &WRITES {
-        let script = [Scripted {
-            first,
-            last,
-            answer,
-        }];
-        let wanted = if taken < 11 {
+        let script = [at_calls((first, last), answer)];
+        let expected = if taken < 11 {
             Err(WriteFault::WriteFailed)
         } else {
             Ok(())
         };
         let given = write(rt.alloc(), &script)?;
-        same(&rt, (first, last), given, (wanted, taken, true));
+        same(&rt, (first, last), given, (expected, taken, true));
     }
     Ok(())
 }
@@ -151,28 +144,20 @@ static LAST_INTERRUPTED: [(u64, Result<(), WriteFault>); 2] = [
 #[test]
 fn interruptions_add_up_over_a_write(rt: HostRuntime) -> Result<(), Fail> {
     let interrupted = SinkAnswer::Interrupted;
-    for &(last, wanted) in &LAST_INTERRUPTED {
+    for &(last, expected) in &LAST_INTERRUPTED {
         let script = [
-            Scripted {
-                first: 1,
-                last: 500,
-                answer: interrupted,
-            },
-            Scripted {
-                first: 511,
-                last,
-                answer: interrupted,
-            },
+            at_calls((1, 500), interrupted),
+            at_calls((511, last), interrupted),
         ];
         let (written, _, begins) = write(rt.alloc(), &script)?;
-        same(&rt, last, (written, begins), (wanted, true));
+        same(&rt, last, (written, begins), (expected, true));
     }
     Ok(())
 }
 
 /// Rows longer than one call of the sink takes, with as long a part to skip and after each row.
 fn long() -> Header
-    ensures { extent_of result ≡ record { rows = 2; cols = 3000 } }
+    ensures { header_extent result ≡ record { rows = 2; cols = 3000 } }
 {
     Header {
         rows: 2,

@@ -1,7 +1,7 @@
 //! Worked rasters: bytes with their numbers, and numbers with their bytes, each worked out by hand.
 
 ghost use Rattle.std.specs.Prelude.{◌≡◌, IfOk, IfSome};
-ghost use Rattle.drain_raster.specs.Pixels.{extent_of};
+ghost use Rattle.drain_raster.specs.Pixels.{header_extent};
 
 use crate::agree::{same, same_text};
 use drain_device::VecSink;
@@ -23,7 +23,7 @@ pub const NOWHERE: Place = Place {
 };
 
 pub fn padded(order: ByteOrdering) -> Header
-    ensures { extent_of result ≡ record { rows = 2; cols = 2 } }
+    ensures { header_extent result ≡ record { rows = 2; cols = 2 } }
 {
     Header {
         rows: 2,
@@ -40,7 +40,7 @@ pub fn padded(order: ByteOrdering) -> Header
 
 /// One pixel, in a row of four bytes.
 fn alone(bits: u8, signed: bool, order: ByteOrdering) -> Header
-    ensures { extent_of result ≡ record { rows = 1; cols = 1 } }
+    ensures { header_extent result ≡ record { rows = 1; cols = 1 } }
 {
     let header = Header {
         rows: 1,
@@ -116,9 +116,9 @@ static IN_BOTH_ORDERS: [(ByteOrdering, [i64; 4]); 2] = [
 
 #[test]
 fn a_worked_raster_is_read_in_both_orders(rt: HostRuntime) -> Result<(), Fail> {
-    for &(order, wanted) in &IN_BOTH_ORDERS {
+    for &(order, expected) in &IN_BOTH_ORDERS {
         let given = padded_in(rt.alloc(), order)?;
-        same(&rt, order, given, ((2, 2), Some(wanted)));
+        same(&rt, order, given, ((2, 2), Some(expected)));
     }
     Ok(())
 }
@@ -140,12 +140,12 @@ fn a_raster_is_short_before_its_last_pixel_ends(rt: HostRuntime) -> Result<(), F
     let mut bytes = [0xaa; 16];
     bytes[..10].copy_from_slice(&PADDED);
     for len in 0..=16 {
-        let wanted = if len < 10 {
+        let expected = if len < 10 {
             Err(RasterFault::Short)
         } else {
             Ok([1, -2, -32768, 2])
         };
-        same(&rt, len, four_numbers(rt.alloc(), &bytes[..len])?, wanted);
+        same(&rt, len, four_numbers(rt.alloc(), &bytes[..len])?, expected);
     }
     Ok(())
 }
@@ -219,7 +219,7 @@ pub fn written(
     raster: &Raster,
     room: usize,
 ) -> Result<Vec<u8>, Fail>
-    requires { raster.now.extent ≡ extent_of header.now }
+    requires { raster.now.extent ≡ header_extent header.now }
 {
     let mut sink = VecSink::new(Vec::with_capacity(alloc, room)?);
     write_raster(&mut sink, header, raster)?;
@@ -249,8 +249,8 @@ fn each_kind_of_pixel_spells_its_bounds(rt: HostRuntime) -> Result<(), Fail> {
         ] {
             let header = alone(bits, signed, order);
             let given = spelled(rt.alloc(), &header, &bytes)?;
-            let wanted = (Some([number]), Some(bytes));
-            same(&rt, (bits, signed, order), given, wanted);
+            let expected = (Some([number]), Some(bytes));
+            same(&rt, (bits, signed, order), given, expected);
         }
     }
     Ok(())
@@ -262,7 +262,7 @@ fn refused(
     header: &Header,
     number: i64,
 ) -> Result<(Result<(), WriteFault>, usize), Fail>
-    requires { extent_of header.now ≡ record { rows = 1; cols = 1 } }
+    requires { header_extent header.now ≡ record { rows = 1; cols = 1 } }
 {
     let Some(raster) = raster_of(alloc, 1, 1, &[number])? else {
         return Err("no raster".into());

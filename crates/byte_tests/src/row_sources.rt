@@ -11,6 +11,7 @@ use drain_hgt::TileRows;
 use drain_raster::RasterRows;
 use std::alloc::{AllocError, Global};
 use std::test::Fail;
+use worked::calls::{Calls, at_calls};
 
 /// Two rows of two samples.
 pub const TILE: [u8; 8] = [0x00, 0x01, 0x80, 0x00, 0xff, 0xff, 0x7f, 0xff];
@@ -27,37 +28,28 @@ pub const SAMPLES: [i64; 4] = [1, -32768, -1, 32767];
 /// What a row source answers.
 pub type Answer = Result<RowStep, ReadFault>;
 
+/// The answers to single calls.
+const ROW: Answer = Ok(RowStep::Row);
+
+const ENDED: Answer = Ok(RowStep::Ended);
+
+const WRONG_LENGTH: Answer = Err(ReadFault::WrongLength);
+
+const READ_FAILED: Answer = Err(ReadFault::ReadFailed);
+
+const ALREADY_FAILED: Answer = Err(ReadFault::AlreadyFailed);
+
 /// Two rows, and then the end.
-const WHOLE: [Answer; 4] = [
-    Ok(RowStep::Row),
-    Ok(RowStep::Row),
-    Ok(RowStep::Ended),
-    Ok(RowStep::Ended),
-];
+const WHOLE: [Answer; 4] = [ROW, ROW, ENDED, ENDED];
 
 /// Two rows, and then a byte too many.
-const LONGER: [Answer; 4] = [
-    Ok(RowStep::Row),
-    Ok(RowStep::Row),
-    Err(ReadFault::WrongLength),
-    Err(ReadFault::AlreadyFailed),
-];
+const LONGER: [Answer; 4] = [ROW, ROW, WRONG_LENGTH, ALREADY_FAILED];
 
 /// A row, and then one that isn't whole.
-const SHORTER: [Answer; 4] = [
-    Ok(RowStep::Row),
-    Err(ReadFault::WrongLength),
-    Err(ReadFault::AlreadyFailed),
-    Err(ReadFault::AlreadyFailed),
-];
+const SHORTER: [Answer; 4] = [ROW, WRONG_LENGTH, ALREADY_FAILED, ALREADY_FAILED];
 
 /// A row, and then a read that fails.
-const FAILED: [Answer; 4] = [
-    Ok(RowStep::Row),
-    Err(ReadFault::ReadFailed),
-    Err(ReadFault::AlreadyFailed),
-    Err(ReadFault::AlreadyFailed),
-];
+const FAILED: [Answer; 4] = [ROW, READ_FAILED, ALREADY_FAILED, ALREADY_FAILED];
 
 /// How many numbers there are, and the first four, with zeros where there are fewer.
 pub type Numbers = (usize, [i64; 4]);
@@ -126,10 +118,10 @@ static TILES: [(&[u8], [Answer; 4], Numbers); 3] = [
 
 #[test]
 fn a_tile_gives_its_rows(rt: HostRuntime) -> Result<(), Fail> {
-    for &(bytes, wanted, numbers) in &TILES {
+    for &(bytes, expected, numbers) in &TILES {
         for most in [100, 1] {
             let given = of_tile(rt.alloc(), bytes, most, &[])?;
-            same(&rt, (bytes.len(), most), given, (wanted, numbers));
+            same(&rt, (bytes.len(), most), given, (expected, numbers));
         }
     }
     Ok(())
@@ -163,26 +155,13 @@ static RASTERS: [(ByteOrdering, &[u8], [Answer; 4], Numbers); 4] = [
 
 #[test]
 fn a_raster_gives_its_rows(rt: HostRuntime) -> Result<(), Fail> {
-    for &(order, bytes, wanted, numbers) in &RASTERS {
+    for &(order, bytes, expected, numbers) in &RASTERS {
         for most in [100, 1] {
             let given = of_raster(rt.alloc(), order, bytes, most, &[])?;
-            same(&rt, (bytes.len(), most), given, (wanted, numbers));
+            same(&rt, (bytes.len(), most), given, (expected, numbers));
         }
     }
     Ok(())
-}
-
-/// A first and a last call; from 0 to 0 there is none.
-type Calls = (u64, u64);
-
-/// This answer at these calls.
-fn run(answer: DeviceFault, calls: Calls) -> Scripted<DeviceFault> {
-    let (first, last) = calls;
-    Scripted {
-        first,
-        last,
-        answer,
-    }
 }
 
 /// What four calls give of the tile and of the raster: all rows, or no more than the first, since a read fails.
@@ -194,7 +173,7 @@ fn whole_or_failed(is_whole: bool) -> [([Answer; 4], Numbers); 2] {
     }
 }
 
-/// A device's answer at two runs of calls, and whether all rows come.
+/// A device's answer at two runs of calls, from 0 to 0 at none, and whether all rows come.
 static RUNS: [(DeviceFault, Calls, Calls, bool); 4] = [
     (DeviceFault::Failed, (6, 6), (0, 0), false),
     (DeviceFault::Interrupted, (2, 1000), (0, 0), true),
@@ -207,7 +186,7 @@ static RUNS: [(DeviceFault, Calls, Calls, bool); 4] = [
 fn rows_fail_where_their_source_gives_up(rt: HostRuntime) -> Result<(), Fail> {
     let least = ByteOrdering::Least;
     for &(answer, one, other, is_whole) in &RUNS {
-        let script = [run(answer, one), run(answer, other)];
+        let script = [at_calls(one, answer), at_calls(other, answer)];
         let [tile_owed, raster_owed] = whole_or_failed(is_whole);
         let tile = of_tile(rt.alloc(), &TILE, 1, &script)?;
         let raster = of_raster(rt.alloc(), least, &PADDED, 1, &script)?;

@@ -30,8 +30,8 @@ fn samples(alloc: Global) -> Result<Option<[i16; 4]>, TileFault> {
 fn samples_after_refused_memory(rt: HostRuntime) -> Result<(), Fail> {
     let right = Ok(Some([1, -32768, -1, 32767]));
     let first = samples(rt.alloc());
-    let wanted = owed(rt.alloc(), Err(TileFault::OutOfMemory), right);
-    same(&rt, "first", first, wanted);
+    let expected = owed(rt.alloc(), Err(TileFault::OutOfMemory), right);
+    same(&rt, "first", first, expected);
     same(&rt, "again", samples(rt.alloc()), right);
     Ok(())
 }
@@ -45,8 +45,8 @@ fn is_right_text(alloc: Global) -> Result<bool, OutOfMemory> {
 #[test]
 fn text_of_a_header_after_refused_memory(rt: HostRuntime) -> Result<(), Fail> {
     let first = is_right_text(rt.alloc());
-    let wanted = owed(rt.alloc(), Err(OutOfMemory), Ok(true));
-    same(&rt, "first", first, wanted);
+    let expected = owed(rt.alloc(), Err(OutOfMemory), Ok(true));
+    same(&rt, "first", first, expected);
     same(&rt, "again", is_right_text(rt.alloc()), Ok(true));
     Ok(())
 }
@@ -76,8 +76,8 @@ fn pixels(alloc: Global) -> Result<[i64; 4], RasterFault> {
 fn pixels_after_refused_memory(rt: HostRuntime) -> Result<(), Fail> {
     let right = Ok([1, -2, -32768, 2]);
     let first = pixels(rt.alloc());
-    let wanted = owed(rt.alloc(), Err(RasterFault::OutOfMemory), right);
-    same(&rt, "first", first, wanted);
+    let expected = owed(rt.alloc(), Err(RasterFault::OutOfMemory), right);
+    same(&rt, "first", first, expected);
     same(&rt, "again", pixels(rt.alloc()), right);
     Ok(())
 }
@@ -101,8 +101,8 @@ fn a_layout_after_refused_memory(rt: HostRuntime) -> Result<(), Fail> {
     let names = two_named(BESIDE)?;
     let right = Ok(Some([2, 3, 0, 1]));
     let first = layout_of(rt.alloc(), names);
-    let wanted = owed(rt.alloc(), Err(OutOfMemory), right);
-    same(&rt, "first", first, wanted);
+    let expected = owed(rt.alloc(), Err(OutOfMemory), right);
+    same(&rt, "first", first, expected);
     same(&rt, "again", layout_of(rt.alloc(), names), right);
     Ok(())
 }
@@ -148,8 +148,8 @@ fn heights_after_refused_memory(rt: HostRuntime) -> Result<(), Fail> {
     let names = two_named(BESIDE)?;
     let right = Ok([1, 2, 5, 3, 4, 6]);
     let first = heights(rt.alloc(), names);
-    let wanted = owed(rt.alloc(), Err(SeamFault::OutOfMemory), right);
-    same(&rt, "first", first, wanted);
+    let expected = owed(rt.alloc(), Err(SeamFault::OutOfMemory), right);
+    same(&rt, "first", first, expected);
     same(&rt, "again", heights(rt.alloc(), names), right);
     Ok(())
 }

@@ -35,8 +35,8 @@ static WORDS: [(&str, Option<(&[u8], &[u8])>); 5] = [
 
 #[test]
 fn first_words(rt: HostRuntime) -> Result<(), Fail> {
-    for &(line, wanted) in &WORDS {
-        same(&rt, line, first_word(line.as_bytes()), wanted);
+    for &(line, expected) in &WORDS {
+        same(&rt, line, first_word(line.as_bytes()), expected);
     }
     Ok(())
 }
@@ -55,8 +55,8 @@ static NUMBERS: [(&str, Option<u32>); 8] = [
 
 #[test]
 fn whole_numbers(rt: HostRuntime) -> Result<(), Fail> {
-    for &(text, wanted) in &NUMBERS {
-        same(&rt, text, whole_number(text.as_bytes()), wanted);
+    for &(text, expected) in &NUMBERS {
+        same(&rt, text, whole_number(text.as_bytes()), expected);
     }
     Ok(())
 }

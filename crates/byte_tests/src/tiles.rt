@@ -74,8 +74,8 @@ fn names_of_no_tile(rt: HostRuntime) -> Result<(), Fail> {
 fn samples_most_significant_byte_first(rt: HostRuntime) -> Result<(), Fail> {
     let bytes = [0x00, 0x01, 0x80, 0x00, 0xff, 0xff, 0x7f, 0xff];
     let samples = read_tile(rt.alloc(), 2, &bytes)?;
-    let wanted = [1, -32768, -1, 32767];
-    same(&rt, "samples", samples.as_slice(), wanted.as_slice());
+    let expected = [1, -32768, -1, 32767];
+    same(&rt, "samples", samples.as_slice(), expected.as_slice());
     Ok(())
 }
 

@@ -9,12 +9,12 @@ pub fn same<C: Debug + Drop, T: PartialEq + Debug + Drop>(
     rt: &impl Abort,
     case: C,
     given: T,
-    wanted: T,
+    expected: T,
 ) {
-    assert_eq!(rt; given, wanted, "{case:?}");
+    assert_eq!(rt; given, expected, "{case:?}");
 }
 
 /// The same of the rules that fail, none where all hold.
-pub fn same_rule(rt: &impl Abort, case: &str, given: Option<Rule>, wanted: Option<Rule>) {
-    assert_eq!(rt; given, wanted, "{case}");
+pub fn same_rule(rt: &impl Abort, case: &str, given: Option<Rule>, expected: Option<Rule>) {
+    assert_eq!(rt; given, expected, "{case}");
 }

@@ -69,21 +69,21 @@ fn fault_above(patch: &Patch) -> Option<Option<Rule>> {
 }
 
 /// Ends the test where another rule fails first, spill parents aside; also among those after BelowGround.
-fn same_without_spill(rt: &impl Abort, name: &str, patch: &Patch, wanted: Option<Rule>) {
-    same_rule(rt, name, fault_profile2(patch), wanted);
-    let above = if wanted == Some(Rule::BelowGround) {
+fn same_without_spill(rt: &impl Abort, name: &str, patch: &Patch, expected: Option<Rule>) {
+    same_rule(rt, name, fault_profile2(patch), expected);
+    let above = if expected == Some(Rule::BelowGround) {
         None
     } else {
-        Some(wanted)
+        Some(expected)
     };
     same(rt, name, fault_above(patch), above);
 }
 
-const BELOW: Option<Rule> = Some(Rule::BelowGround);
+pub const BELOW: Option<Rule> = Some(Rule::BelowGround);
 
-const RAISED: Option<Rule> = Some(Rule::OpenRaised);
+pub const RAISED: Option<Rule> = Some(Rule::OpenRaised);
 
-const NO_SPILL: Option<Rule> = Some(Rule::NoSpill);
+pub const NO_SPILL: Option<Rule> = Some(Rule::NoSpill);
 
 const HEIGHT: Option<Rule> = Some(Rule::SpillHeight);
 
@@ -124,12 +124,12 @@ static PIT: [(&str, Beside, i64, i64, i64, Option<Rule>, Option<Rule>); 25] = [
 /// without.
 #[test]
 fn cells_in_a_pit(rt: HostRuntime) -> Result<(), Fail> {
-    for &(name, east, con, spl, rnk, wanted, without_spill) in &PIT {
+    for &(name, east, con, spl, rnk, expected, without_spill) in &PIT {
         let Some(here) = cell(Some(1), con, spl, rnk) else {
             return Err(name.into());
         };
         let shown = patch(here, east, Rim);
-        same_rule(&rt, name, fault(&shown), wanted);
+        same_rule(&rt, name, fault(&shown), expected);
         same_without_spill(&rt, name, &shown, without_spill);
     }
     Ok(())
@@ -150,13 +150,13 @@ static AT_BOUNDS: [(&str, Option<i16>, i64, i64, i64, Beside, Option<Rule>); 5] 
 /// Without spill parents the same rules fail.
 #[test]
 fn voids_and_bounds(rt: HostRuntime) -> Result<(), Fail> {
-    for &(name, z, con, spl, rnk, beside, wanted) in &AT_BOUNDS {
+    for &(name, z, con, spl, rnk, beside, expected) in &AT_BOUNDS {
         let Some(here) = cell(z, con, spl, rnk) else {
             return Err("a number that no pixel spells".into());
         };
         let shown = patch(here, beside, beside);
-        same_rule(&rt, name, fault(&shown), wanted);
-        same_without_spill(&rt, name, &shown, wanted);
+        same_rule(&rt, name, fault(&shown), expected);
+        same_without_spill(&rt, name, &shown, expected);
     }
     Ok(())
 }
@@ -186,8 +186,8 @@ static PLACES: [(&str, &[i16], &[i16], Option<usize>); 6] = [
 
 #[test]
 fn places_below_the_ground(rt: HostRuntime) -> Result<(), Fail> {
-    for &(name, con, z, wanted) in &PLACES {
-        same(&rt, name, first_place(con, z), Some(wanted));
+    for &(name, con, z, expected) in &PLACES {
+        same(&rt, name, first_place(con, z), Some(expected));
     }
     Ok(())
 }

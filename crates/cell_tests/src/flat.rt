@@ -62,7 +62,7 @@ static OF_A_FLAT: [(&str, i64, i64, [i64; 8], Told); 5] = [
 /// ```
 #[test]
 fn cells_of_a_flat(rt: HostRuntime) -> Result<(), Fail> {
-    for &(name, dir, rnk, ranks, wanted) in &OF_A_FLAT {
+    for &(name, dir, rnk, ranks, expected) in &OF_A_FLAT {
         let patch = Patch {
             here: here(dir, rnk)?,
             around: [
@@ -76,7 +76,7 @@ fn cells_of_a_flat(rt: HostRuntime) -> Result<(), Fail> {
                 level(ranks[7]),
             ],
         };
-        same(&rt, name, told(&patch), wanted);
+        same(&rt, name, told(&patch), expected);
     }
     // Its first cell, which lies in a corner.
     let corner = Patch {
@@ -137,12 +137,12 @@ static DIRECTIONS: [(&str, i64, East, Told); 16] = [
 
 #[test]
 fn what_a_direction_leads_to(rt: HostRuntime) -> Result<(), Fail> {
-    for &(name, dir, east, wanted) in &DIRECTIONS {
+    for &(name, dir, east, expected) in &DIRECTIONS {
         let mut around = [level(3); 8];
         around[0] = east_values(east);
         let here = here(dir, 3)?;
         let patch = Patch { here, around };
-        same(&rt, name, told(&patch), wanted);
+        same(&rt, name, told(&patch), expected);
     }
     Ok(())
 }

@@ -5,8 +5,8 @@ ghost use Rattle.std.specs.Prelude.{◌≡◌};
 use crate::agree::same;
 use drain_grid::tile::{height_from, is_side};
 use drain_grid::{
-    Cell, CellValues, Code, Direction, Held, NoData, Patch, PerProduct, Product, Raster, Rule,
-    Shape,
+    Cell, CellValues, Code, Direction, NoData, Patch, PerProduct, Product, Raster, Rule,
+    SetProduct, Shape,
 };
 use std::test::Fail;
 
@@ -96,8 +96,8 @@ static NO_DIRECTIONS: [(i64, Option<Code>); 6] = [
 fn codes_of_numbers(rt: HostRuntime) -> Result<(), Fail> {
     for &(number, direction) in &DIRECTIONS {
         let given = (Code::from_number(number), Code::direction_named(number));
-        let wanted = (Some(Code::To(direction)), Some(direction));
-        same(&rt, number, given, wanted);
+        let expected = (Some(Code::To(direction)), Some(direction));
+        same(&rt, number, given, expected);
     }
     for &(number, code) in &NO_DIRECTIONS {
         let given = (Code::from_number(number), Code::direction_named(number));
@@ -188,15 +188,8 @@ static DEFAULTS: [(&str, i64); 6] = [
 
 #[test]
 fn products_and_their_defaults(rt: HostRuntime) {
-    let NoData {
-        con,
-        dir,
-        acc,
-        bas,
-        spl,
-        rnk,
-    } = NoData::defaults();
-    let of_defaults = [con, dir, acc, bas, spl, rnk];
+    let ours = NoData::defaults();
+    let of_defaults = [ours.con, ours.dir, ours.acc, ours.bas, ours.spl, ours.rnk];
     for place in 0..6 {
         let (name, number) = DEFAULTS[place];
         let product = Product::ALL[place];
@@ -209,27 +202,29 @@ fn products_and_their_defaults(rt: HostRuntime) {
 /// A set has all of them but spill parents, in their order.
 #[test]
 fn products_that_a_set_holds(rt: HostRuntime) {
-    let given = Held::ALL.map(|held| held.product().name());
+    let given = SetProduct::ALL.map(|held| held.product().name());
     same(&rt, "held", given, ["con", "dir", "acc", "bas", "rnk"]);
 }
 
 #[test]
 fn one_thing_for_each_product(rt: HostRuntime) -> Result<(), Fail> {
-    let defaults = |held: Held| -> Result<i64, Held> { Ok(held.product().default_no_data()) };
+    let defaults = |held: SetProduct| -> Result<i64, SetProduct> {
+        Ok(held.product().default_no_data())
+    };
     let Ok(numbers) = PerProduct::from_each(&defaults) else {
         return Err("numbers".into());
     };
-    let given = (numbers.con, Held::ALL.map(|held| *numbers.of(held)));
-    let wanted = (-32768, [-32768, 255, 0, 0, 4294967295]);
-    same(&rt, "numbers", given, wanted);
-    let above_zero = |held: Held| -> Result<i64, Held> {
+    let given = (numbers.con, SetProduct::ALL.map(|held| *numbers.of(held)));
+    let expected = (-32768, [-32768, 255, 0, 0, 4294967295]);
+    same(&rt, "numbers", given, expected);
+    let above_zero = |held: SetProduct| -> Result<i64, SetProduct> {
         match held.product().default_no_data() {
             0 => Err(held),
             number => Ok(number),
         }
     };
     let first = PerProduct::from_each(&above_zero).err();
-    same(&rt, "the first that fails", first, Some(Held::Acc));
+    same(&rt, "the first that fails", first, Some(SetProduct::Acc));
     Ok(())
 }
 

@@ -8,7 +8,7 @@ mod agree;
 #[cfg(test)]
 mod basin;
 #[cfg(test)]
-mod endless_runs;
+mod endless_paths;
 #[cfg(test)]
 mod fill;
 #[cfg(test)]

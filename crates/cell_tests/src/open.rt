@@ -2,6 +2,7 @@
 //! the rules of three crates, listed and not. Its neighbours have height 5 and rank 0.
 
 use crate::agree::same;
+use crate::fill::{BELOW, NO_SPILL, RAISED};
 use drain_fill::{fault as fill_fault, fault_profile2};
 use drain_flat::fault as flat_fault;
 use drain_grid::{CellValues, Patch, Rule};
@@ -42,17 +43,11 @@ fn told((z, numbers): Numbers, is_listed: bool, are_listed: bool) -> Option<Told
     }
 }
 
-const RAISED: Option<Rule> = Some(Rule::OpenRaised);
-
-const NO_SPILL: Option<Rule> = Some(Rule::NoSpill);
-
 const SLOPE: Option<Rule> = Some(Rule::Slope);
 
 const CODE: Option<Rule> = Some(Rule::OutletCode);
 
 const STEP: Option<Rule> = Some(Rule::FlatStep);
-
-const BELOW: Option<Rule> = Some(Rule::BelowGround);
 
 /// A name, the ground, the numbers, and the rules that fail where the cell is listed and where it is not.
 static CELLS: [(&str, i16, [i64; 4], Faults, Faults); 10] = [
@@ -137,12 +132,12 @@ fn cells_that_are_listed_and_not(rt: HostRuntime) -> Result<(), Fail> {
             told(numbers, false, false),
             told(numbers, false, true),
         );
-        let wanted = (
+        let expected = (
             Some((true, listed)),
             Some((false, unlisted)),
             Some((false, unlisted)),
         );
-        same(&rt, name, given, wanted);
+        same(&rt, name, given, expected);
     }
     Ok(())
 }

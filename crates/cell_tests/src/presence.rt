@@ -30,11 +30,11 @@ fn same_presence(
     name: &str,
     z: Option<i16>,
     numbers: [i64; 6],
-    wanted: Told,
+    expected: Told,
 ) -> Result<(), Fail> {
     let here = values(z, numbers)?;
     let given = (told(here, None), told(here, Some(here)));
-    same(rt, name, given, (wanted, wanted));
+    same(rt, name, given, (expected, expected));
     Ok(())
 }
 
@@ -76,8 +76,8 @@ static OF_VOIDS: [(&str, [i64; 6], Told); 11] = [
 
 #[test]
 fn numbers_of_voids(rt: HostRuntime) -> Result<(), Fail> {
-    for &(name, numbers, wanted) in &OF_VOIDS {
-        same_presence(&rt, name, None, numbers, wanted)?;
+    for &(name, numbers, expected) in &OF_VOIDS {
+        same_presence(&rt, name, None, numbers, expected)?;
     }
     Ok(())
 }
@@ -121,8 +121,8 @@ static OF_DATA: [(&str, [i64; 6], Told); 17] = [
 
 #[test]
 fn numbers_of_data_cells(rt: HostRuntime) -> Result<(), Fail> {
-    for &(name, numbers, wanted) in &OF_DATA {
-        same_presence(&rt, name, Some(5), numbers, wanted)?;
+    for &(name, numbers, expected) in &OF_DATA {
+        same_presence(&rt, name, Some(5), numbers, expected)?;
     }
     Ok(())
 }

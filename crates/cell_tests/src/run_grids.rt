@@ -3,7 +3,7 @@
 ghost use Rattle.std.specs.Prelude.{◌≡◌, ◌<◌, IfOk};
 
 use drain_grid::{Cell, Elevation, OutOfMemory, Raster, Shape, VOID};
-use drain_runs::{CellFlows, CertifyRefusal, EndlessRun, steps_of};
+use drain_paths::{CellFlows, CertifyRefusal, EndlessPath, steps_of};
 use std::alloc::Global;
 use std::test::Fail;
 
@@ -109,14 +109,14 @@ pub fn first_endless(
 }
 
 /// Where the run of this cell leads if it doesn't end, on the same grid.
-pub fn endless_run(
+pub fn endless_path(
     alloc: Global,
     rows: u32,
     cols: u32,
     voids: &[u8],
     codes: &[u8],
     start: Cell,
-) -> Result<Option<EndlessRun>, Fail> {
+) -> Result<Option<EndlessPath>, Fail> {
     let grid = grid_of(alloc, rows, cols, voids, codes)?;
     let flows = taken(alloc, &grid)?;
     endless_of(alloc, grid.shape, flows, start)
@@ -128,7 +128,7 @@ fn endless_of(
     shape: Shape,
     mut flows: CellFlows,
     start: Cell,
-) -> Result<Option<EndlessRun>, Fail> {
+) -> Result<Option<EndlessPath>, Fail> {
     if flows.len() != shape.cells() || start.row >= shape.rows() || start.col >= shape.cols() {
         return Err("a flow for each cell, and one of them".into());
     }
@@ -137,7 +137,7 @@ fn endless_of(
     if flows.len() != shape.cells() {
         return Err("as many flows".into());
     }
-    Ok(flows.endless_run(alloc, shape, start)?)
+    Ok(flows.endless_path(alloc, shape, start)?)
 }
 
 /// The flows of a grid, row by row.

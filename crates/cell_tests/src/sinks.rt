@@ -33,8 +33,8 @@ fn lines(entries: &[(u64, u32, u32)]) -> Listed {
 }
 
 /// Ends the test if the two differ, and reports the case.
-fn same_list(rt: &impl Abort, case: &[u8], given: Listed, wanted: Listed) {
-    assert_eq!(rt; given, wanted, "{case:?}");
+fn same_list(rt: &impl Abort, case: &[u8], given: Listed, expected: Listed) {
+    assert_eq!(rt; given, expected, "{case:?}");
 }
 
 /// Texts, each with the lines that list a cell: the number, the row and the column.
@@ -129,8 +129,8 @@ static BAD: [(&[u8], u64); 48] = [
 fn lines_that_are_bad(rt: HostRuntime) {
     for &(text, line) in &BAD {
         let given = listed(rt.alloc(), text);
-        let wanted = Err(SinkFault::BadSinkLine(line));
-        same_list(&rt, text, given, wanted);
+        let expected = Err(SinkFault::BadSinkLine(line));
+        same_list(&rt, text, given, expected);
     }
 }
 
@@ -233,8 +233,13 @@ static PLACES: [(&str, Places); 12] = [
 
 #[test]
 fn places_of_listed_cells(rt: HostRuntime) {
-    for &(text, wanted) in &PLACES {
-        same(&rt, text, places(rt.alloc(), text), Ok((wanted, wanted)));
+    for &(text, expected) in &PLACES {
+        same(
+            &rt,
+            text,
+            places(rt.alloc(), text),
+            Ok((expected, expected)),
+        );
     }
 }
 
@@ -261,8 +266,8 @@ static MARKS: [(u32, [bool; 3]); 7] = [
 #[test]
 fn marks_of_one_row(rt: HostRuntime) {
     let text = "7 2\n4294967295 0\n7 0\n8 1\n6 4294967295\n4294967294 4294967295";
-    for &(row, wanted) in &MARKS {
-        same(&rt, row, marked(rt.alloc(), text, row), Ok(wanted));
+    for &(row, expected) in &MARKS {
+        same(&rt, row, marked(rt.alloc(), text, row), Ok(expected));
     }
 }
 
@@ -289,8 +294,8 @@ static ENDS: [(&str, [bool; 5]); 6] = [
 /// The last column of a row is not the first of the next, nor a row a column.
 #[test]
 fn cells_at_the_ends_of_32_bits(rt: HostRuntime) {
-    for &(text, wanted) in &ENDS {
-        same(&rt, text, ends(rt.alloc(), text), Ok(wanted));
+    for &(text, expected) in &ENDS {
+        same(&rt, text, ends(rt.alloc(), text), Ok(expected));
     }
 }
 
@@ -316,9 +321,9 @@ static TEXTS: [(SinkFault, &str); 3] = [
 
 #[test]
 fn faults_of_lists_as_texts(rt: HostRuntime) -> Result<(), Fail> {
-    for &(fault, wanted) in &TEXTS {
+    for &(fault, expected) in &TEXTS {
         let given = format!(in rt.alloc(); "{fault}")?;
-        same(&rt, wanted, given.as_str(), wanted);
+        same(&rt, expected, given.as_str(), expected);
     }
     Ok(())
 }
@@ -330,8 +335,8 @@ const TWELVE: &str = "0 0\n\n1 1\n2 2\n3 3\n4 4\n5 5\n\n6 6\n7 7\n8 8\n9 9\n10 1
 fn a_list_after_refused_memory(rt: HostRuntime) {
     let right = Ok((12, [(1, 0, 0), (3, 1, 1), (4, 2, 2), (5, 3, 3)]));
     let first = listed(rt.alloc(), TWELVE.as_bytes());
-    let wanted = owed(rt.alloc(), Err(SinkFault::OutOfMemory), right);
-    same_list(&rt, b"first", first, wanted);
+    let expected = owed(rt.alloc(), Err(SinkFault::OutOfMemory), right);
+    same_list(&rt, b"first", first, expected);
     same_list(&rt, b"again", listed(rt.alloc(), TWELVE.as_bytes()), right);
 }
 
@@ -341,7 +346,7 @@ fn a_bad_line_after_refused_memory(rt: HostRuntime) {
     let text = b"0 0\n1 1\n2 2\n3 3\n4 4\n5 5\n6 6\n7 7\n8 8\n9\n";
     let right = Err(SinkFault::BadSinkLine(10));
     let first = listed(rt.alloc(), text);
-    let wanted = owed(rt.alloc(), Err(SinkFault::OutOfMemory), right);
-    same_list(&rt, b"first", first, wanted);
+    let expected = owed(rt.alloc(), Err(SinkFault::OutOfMemory), right);
+    same_list(&rt, b"first", first, expected);
     same_list(&rt, b"again", listed(rt.alloc(), text), right);
 }

@@ -16,6 +16,14 @@ fn at(con: i64) -> Option<CellValues> {
     cell(Some(0), con, 0)
 }
 
+/// A data cell at con 10 with this direction.
+fn on_ten(dir: i64) -> Result<CellValues, Fail> {
+    match cell(Some(0), 10, dir) {
+        Some(cell) => Ok(cell),
+        None => Err("a cell".into()),
+    }
+}
+
 /// A cell with neighbours in the east, the southeast and the south, and another in each of the other directions.
 fn patch(here: CellValues, east: i64, southeast: i64, south: i64, other: i64) -> Patch {
     let mut around = [at(other); 8];
@@ -64,22 +72,20 @@ static WAYS_DOWN: [(&str, i64, (i64, i64, i64, i64), u128, Option<Direction>); 9
 
 #[test]
 fn steepest_ways_down(rt: HostRuntime) -> Result<(), Fail> {
-    for &(name, con, (in_east, in_southeast, in_south, other), key, wanted) in &WAYS_DOWN {
+    for &(name, con, (in_east, in_southeast, in_south, other), key, expected) in &WAYS_DOWN {
         let Some(here) = at(con) else {
             return Err(name.into());
         };
         let shown = patch(here, in_east, in_southeast, in_south, other);
         let given = (steepest(&shown), greatest_key(&shown));
-        same(&rt, name, given, (wanted, key));
+        same(&rt, name, given, (expected, key));
     }
     Ok(())
 }
 
 #[test]
 fn voids_and_the_outside(rt: HostRuntime) -> Result<(), Fail> {
-    let Some(here) = at(10) else {
-        return Err("a cell".into());
-    };
+    let here = on_ten(0)?;
     let mut shown = patch(here, 10, 10, 10, 10);
     shown.around[0] = cell(None, -100, 0);
     shown.around[1] = None;
@@ -108,20 +114,16 @@ static ON_A_SLOPE: [(&str, i64, Option<Rule>); 7] = [
 
 #[test]
 fn codes_on_a_slope(rt: HostRuntime) -> Result<(), Fail> {
-    for &(name, dir, wanted) in &ON_A_SLOPE {
-        let Some(here) = cell(Some(0), 10, dir) else {
-            return Err("a cell".into());
-        };
+    for &(name, dir, expected) in &ON_A_SLOPE {
+        let here = on_ten(dir)?;
         let mut shown = patch(here, 8, 10, 8, 10);
         let inside = fault(&shown);
         // An open cell keeps the same rule.
         shown.around[6] = None;
-        same(&rt, name, (inside, fault(&shown)), (wanted, wanted));
+        same(&rt, name, (inside, fault(&shown)), (expected, expected));
     }
     // A lower neighbour is not enough.
-    let Some(here) = cell(Some(0), 10, 1) else {
-        return Err("a cell".into());
-    };
+    let here = on_ten(1)?;
     let gentle = patch(here, 9, 10, 8, 10);
     same_rule(&rt, "a gentle slope", fault(&gentle), Some(Rule::Slope));
     Ok(())
@@ -136,10 +138,8 @@ static NO_WAY_DOWN: [(&str, i64, Option<Rule>); 3] = [
 
 #[test]
 fn codes_with_no_way_down(rt: HostRuntime) -> Result<(), Fail> {
-    for &(name, dir, wanted) in &NO_WAY_DOWN {
-        let Some(here) = cell(Some(0), 10, dir) else {
-            return Err("a cell".into());
-        };
+    for &(name, dir, expected) in &NO_WAY_DOWN {
+        let here = on_ten(dir)?;
         let mut shown = patch(here, 10, 10, 10, 10);
         let on_a_flat = fault(&shown);
         shown.around[3] = None;
@@ -160,7 +160,7 @@ fn codes_with_no_way_down(rt: HostRuntime) -> Result<(), Fail> {
             at_a_void,
             over_a_cell,
         ];
-        same(&rt, name, given, [None, wanted, wanted, None, None]);
+        same(&rt, name, given, [None, expected, expected, None, None]);
     }
     Ok(())
 }

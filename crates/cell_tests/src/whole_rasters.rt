@@ -5,11 +5,12 @@ ghost use Rattle.std.specs.Prelude.{◌≡◌, IfOk};
 use crate::agree::same;
 use crate::grid::values;
 use drain_grid::{
-    Cell, Direction, Elevation, Held, NoData, Patch, ProductSet, Raster, Shape, Sinks, VOID,
+    Cell, Direction, Elevation, NoData, Patch, ProductSet, Raster, SetProduct, Shape, Sinks, VOID,
     parse_sinks,
 };
 use std::alloc::{AllocError, Global};
 use std::test::Fail;
+use worked::pixels::number;
 
 /// A raster of two by two cells, none of which has the number for no data.
 fn two_by_two(alloc: Global, shape: Shape, numbers: [u16; 4]) -> Result<Raster, AllocError>
@@ -59,8 +60,8 @@ fn what_whole_rasters_show(rt: HostRuntime) -> Result<(), Fail> {
     let here = values(Some(8), [11, 21, 31, 41, 0, 51])?;
     same(&rt, "here", Some(patch.here), Some(here));
     for &(direction, z, numbers) in &BESIDE_THE_SECOND {
-        let wanted = values(z, numbers)?;
-        same(&rt, direction, patch.neighbor(direction), Some(wanted));
+        let expected = values(z, numbers)?;
+        same(&rt, direction, patch.neighbor(direction), Some(expected));
     }
     for outside in [Direction::East, Direction::North] {
         same(&rt, outside, patch.neighbor(outside), None);
@@ -92,21 +93,11 @@ static LISTED: [(&str, [bool; 3]); 5] = [
 
 #[test]
 fn listed_cells_of_whole_rasters(rt: HostRuntime) -> Result<(), Fail> {
-    for &(text, wanted) in &LISTED {
+    for &(text, expected) in &LISTED {
         let given = shown_as_listed(rt.alloc(), text)?;
-        same(&rt, text, given, wanted.map(Some));
+        same(&rt, text, given, expected.map(Some));
     }
     Ok(())
-}
-
-/// The number of a cell, if it is one of the raster's.
-fn number(raster: &Raster, cell: Cell) -> Option<i64> {
-    let shape = raster.shape();
-    if cell.row < shape.rows() && cell.col < shape.cols() {
-        Some(raster.value(cell))
-    } else {
-        None
-    }
 }
 
 /// A product set's values: con's shape, con's number at the second cell and that of each raster, and each no-data
@@ -119,11 +110,11 @@ fn numbers_told(alloc: Global) -> Result<(Shape, [Option<i64>; 6], NoData), Fail
     let cell = Cell { row: 0, col: 1 };
     let numbers = [
         number(&products.con, cell),
-        number(products.raster(Held::Con), cell),
-        number(products.raster(Held::Dir), cell),
-        number(products.raster(Held::Acc), cell),
-        number(products.raster(Held::Bas), cell),
-        number(products.raster(Held::Rnk), cell),
+        number(products.raster(SetProduct::Con), cell),
+        number(products.raster(SetProduct::Dir), cell),
+        number(products.raster(SetProduct::Acc), cell),
+        number(products.raster(SetProduct::Bas), cell),
+        number(products.raster(SetProduct::Rnk), cell),
     ];
     Ok((products.con.shape(), numbers, products.nodata()))
 }
@@ -133,8 +124,8 @@ fn numbers_told(alloc: Global) -> Result<(Shape, [Option<i64>; 6], NoData), Fail
 fn what_a_product_set_tells(rt: HostRuntime) -> Result<(), Fail> {
     let (shape, numbers, nodata) = numbers_told(rt.alloc())?;
     let given = ((shape.rows(), shape.cols()), numbers);
-    let wanted = [11, 11, 21, 31, 41, 51].map(Some);
-    same(&rt, "products", given, ((2, 2), wanted));
+    let expected = [11, 11, 21, 31, 41, 51].map(Some);
+    same(&rt, "products", given, ((2, 2), expected));
     let codes = [nodata.dir, nodata.spl];
     let given = (nodata.con, codes, nodata.acc, nodata.bas, nodata.rnk);
     same(&rt, "no data", given, (-1, [-1, 255], -1, -1, -1));

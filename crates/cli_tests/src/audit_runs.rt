@@ -2,7 +2,7 @@
 
 use crate::level_tile::{LINE, TILE, four, tile};
 use crate::printed::{AT_THE_NINTH, Printed, same_line, slow_sink, whole_sink};
-use drain_cli::runs::run_audit::run_audit;
+use drain_cli::runs::judge::run_audit;
 use drain_device::SliceSource;
 use drain_device::faults::ScriptSink;
 use drain_verdict::AuditProducts;

@@ -2,7 +2,7 @@
 
 use crate::level_tile::{LINE, TILE, five, tile};
 use crate::printed::{AT_THE_NINTH, Printed, same_line, slow_sink, whole_sink};
-use drain_cli::runs::run_check::run_check;
+use drain_cli::runs::judge::run_check;
 use drain_device::SliceSource;
 use drain_device::faults::ScriptSink;
 use drain_verdict::Products;

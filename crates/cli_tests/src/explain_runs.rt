@@ -2,16 +2,17 @@
 
 use crate::level_tile::{LINE, TILE, five, four, tile};
 use crate::printed::{Printed, Text, same_bytes, same_line, slow_sink, whole_sink};
-use drain_cli::files::map_file::write_map;
-use drain_cli::runs::explain_page::{Beside, Form, MapFault};
-use drain_cli::runs::run_explain::{JudgedProducts, run_explain};
+use drain_args::form::Form;
+use drain_cli::runs::explain_page::{ExplainOutput, MapFault};
+use drain_cli::runs::run_explain::run_explain;
 use drain_device::faults::{ScriptSink, Scripted, SinkAnswer};
 use drain_device::{BodyFault, SliceSource};
-use drain_explain::Mapping;
+use drain_explain::{Mapping, SecondLook};
+use drain_files::map_file::write_map;
+use drain_files::open_judged::JudgedProducts;
+use drain_grid::Product;
 use drain_maker::product_files::SetFault;
 use drain_mosaic::Layout;
-use drain_page::RefusalNote;
-use drain_verdict::Refusal;
 use std::alloc::{AllocError, Global};
 use std::test::Fail;
 
@@ -19,7 +20,7 @@ use std::test::Fail;
 const MAP_HEADER: &str =
     "BYTEORDER I\nLAYOUT BIL\nNROWS 2\nNCOLS 2\nNBANDS 1\nNBITS 8\nBANDROWBYTES 2\nTOTALROWBYTES 2\nSKIPBYTES 0\nPIXELTYPE UNSIGNEDINT\nULXMAP 0.000000000000000\nULYMAP 1.000000000000000\nXDIM 1.000000000000000\nYDIM 1.000000000000000\nNODATA 255\n";
 
-/// What comes besides the inputs: a note for a bad side only, and two files in memory for a map.
+/// What comes besides the inputs: no second look at them, and two files in memory for a map.
 #[derive(Drop)]
 struct InMemory<'a> {
     alloc: Global,
@@ -27,14 +28,21 @@ struct InMemory<'a> {
     raster: ScriptSink<'a>,
 }
 
-impl<'a> Beside for InMemory<'a> {
-    fn note_of(&mut self, refusal: Refusal) -> Option<RefusalNote> {
-        match refusal {
-            Refusal::BadSide => Some(RefusalNote::Side(1)),
-            _ => None,
-        }
+impl<'a> SecondLook for InMemory<'a> {
+    fn tile_length(&mut self, _place: usize) -> Option<u64> {
+        None
     }
 
+    fn raster_length(&mut self, _product: Product) -> Option<u64> {
+        None
+    }
+
+    fn sample(&mut self, _place: usize, _start: u64) -> Option<i16> {
+        None
+    }
+}
+
+impl<'a> ExplainOutput for InMemory<'a> {
     fn save_map(&mut self, layout: &Layout, pixels: &[u8]) -> Result<(), MapFault> {
         match write_map(
             self.alloc,

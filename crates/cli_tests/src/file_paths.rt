@@ -1,7 +1,8 @@
 //! Paths of products' files and of maps, and names of tiles in paths.
 
 use crate::printed::{holds, same_bytes};
-use drain_cli::files::file_paths::{header_path, map_path, map_stem, raster_path, tile_name};
+use drain_args::requests::map_stem;
+use drain_files::file_paths::{header_path, map_path, raster_path, tile_name};
 use drain_grid::Product;
 use drain_maker::product_files::Part;
 use std::alloc::{AllocError, Global};
@@ -79,9 +80,9 @@ static MAP_PATHS: [(Part, &str); 2] = [
 
 #[test]
 fn the_header_of_a_map_lies_beside_it(rt: HostRuntime) -> Result<(), Fail> {
-    for &(part, wanted) in &MAP_PATHS {
+    for &(part, expected) in &MAP_PATHS {
         let path = map_path(rt.alloc(), "a/faults", part)?;
-        same_bytes(&rt, wanted, path.as_bytes(), wanted.as_bytes());
+        same_bytes(&rt, expected, path.as_bytes(), expected.as_bytes());
     }
     Ok(())
 }

@@ -7,6 +7,7 @@ use drain_device::faults::{ScriptSink, ScriptSource, Scripted, SinkAnswer};
 use drain_device::{ByteSource, DeviceFault, SliceSource};
 use std::alloc::Global;
 use std::test::Fail;
+use worked::calls::at_calls;
 
 /// A tile of side 3 with border 5 and a pit of 1, filled to 5: tile, con, spl, rnk.
 const PIT: [u8; 81] = [
@@ -199,15 +200,6 @@ fn tells_what_inputs_with_voids_are(rt: HostRuntime) -> Result<(), Fail> {
     Ok(())
 }
 
-/// A fault at these calls of a source.
-fn fault(first: u64, last: u64, answer: DeviceFault) -> [Scripted<DeviceFault>; 1] {
-    [Scripted {
-        first,
-        last,
-        answer,
-    }]
-}
-
 /// How many bytes a source gives a call, at which calls it faults, the status and the line.
 static FAULTS: [(&str, usize, u64, u64, DeviceFault, u8, &str); 5] = [
     ("one byte a call", 1, 0, 0, DeviceFault::Failed, 0, PIT_LINE),
@@ -252,7 +244,7 @@ static FAULTS: [(&str, usize, u64, u64, DeviceFault, u8, &str); 5] = [
 #[test]
 fn bears_999_interruptions_of_its_input(rt: HostRuntime) -> Result<(), Fail> {
     for &(name, most, first, last, answer, status, line) in &FAULTS {
-        let script = fault(first, last, answer);
+        let script = [at_calls((first, last), answer)];
         let answered = told_slowly(rt.alloc(), most, &script)?;
         same_line(&rt, name, &answered, line, status);
     }
@@ -262,7 +254,7 @@ fn bears_999_interruptions_of_its_input(rt: HostRuntime) -> Result<(), Fail> {
 #[test]
 fn never_takes_a_failed_input_for_its_end(rt: HostRuntime) -> Result<(), Fail> {
     for call in 1..=82 {
-        let script = fault(call, call, DeviceFault::Failed);
+        let script = [at_calls((call, call), DeviceFault::Failed)];
         let answered = told_slowly(rt.alloc(), 1, &script)?;
         same_run(&rt, call, &answered, b"failed ReadFailed\n", 3);
     }
@@ -302,11 +294,7 @@ static SINKS: [(&str, SinkAnswer, u64, u64, usize, u8); 5] = [
 #[test]
 fn ends_with_status_3_where_the_line_cannot_be_written(rt: HostRuntime) -> Result<(), Fail> {
     for &(name, answer, first, last, written, status) in &SINKS {
-        let script = [Scripted {
-            first,
-            last,
-            answer,
-        }];
+        let script = [at_calls((first, last), answer)];
         let answered = told_into(rt.alloc(), &script)?;
         let wanted = PIT_LINE.get(..written).unwrap_or("");
         same_line(&rt, name, &answered, wanted, status);

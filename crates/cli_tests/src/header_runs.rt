@@ -7,6 +7,8 @@ use drain_device::faults::{ScriptSink, ScriptSource, Scripted, SinkAnswer};
 use drain_device::{BodyFault, ByteSource, DeviceFault, SliceSource};
 use std::alloc::Global;
 use std::test::Fail;
+use worked::calls::at_calls;
+use worked::headers::USUAL;
 
 /// The header of a raster of 3 by 3 pixels, half a degree apart, as this program writes it.
 const SMALL: &str = "BYTEORDER I
@@ -26,23 +28,7 @@ YDIM 0.500000000000000
 NODATA -32768
 ";
 
-/// A usual tool's header of the tile N37W105.
-const USUAL: &str = "BYTEORDER      I
-LAYOUT         BIL
-NROWS          1201
-NCOLS          1201
-NBANDS         1
-NBITS          16
-BANDROWBYTES   2402
-TOTALROWBYTES  2402
-PIXELTYPE      SIGNEDINT
-ULXMAP         -105
-ULYMAP         38
-XDIM           0.000833333333333333
-YDIM           0.000833333333333333
-NODATA         -32768
-";
-
+/// What is written of a usual tool's header.
 const USUAL_WRITTEN: &str = "BYTEORDER I
 LAYOUT BIL
 NROWS 1201
@@ -157,11 +143,7 @@ static FAULTS: [(DeviceFault, u64, u64, u8, &str); 3] = [
 #[test]
 fn bears_999_interruptions_of_its_file(rt: HostRuntime) -> Result<(), Fail> {
     for &(answer, first, last, status, text) in &FAULTS {
-        let script = [Scripted {
-            first,
-            last,
-            answer,
-        }];
+        let script = [at_calls((first, last), answer)];
         let answered = told_slowly(rt.alloc(), &script)?;
         same_run(&rt, last, &answered, text.as_bytes(), status);
     }
@@ -178,11 +160,7 @@ static SINK_ANSWERS: [(u64, SinkAnswer); 3] = [
 #[test]
 fn ends_with_status_3_where_the_header_cannot_be_written(rt: HostRuntime) -> Result<(), Fail> {
     for &(case, answer) in &SINK_ANSWERS {
-        let script = [Scripted {
-            first: 100,
-            last: 1099,
-            answer,
-        }];
+        let script = [at_calls((100, 1099), answer)];
         let answered = told_into(rt.alloc(), &script)?;
         same_run(&rt, case, &answered, &SMALL.as_bytes()[..99], 3);
     }

@@ -1,7 +1,7 @@
 //! Tiles and products as sources in memory.
 
 use drain_device::{ByteList, SliceSource};
-use drain_grid::{Held, PerProduct};
+use drain_grid::{PerProduct, SetProduct};
 use drain_hgt::TileInput;
 use drain_verdict::{Products, RasterInput};
 use std::alloc::{AllocError, Global};
@@ -68,7 +68,7 @@ pub fn products<'a>(
     alloc: Global,
     parts: &PerProduct<Parts<'a>>,
 ) -> Result<Products<SliceSource<'a>>, AllocError> {
-    let input = |held: Held| -> Result<RasterInput<SliceSource<'_>>, AllocError> {
+    let input = |held: SetProduct| -> Result<RasterInput<SliceSource<'_>>, AllocError> {
         product(alloc, *parts.of(held))
     };
     PerProduct::from_each(&input)

@@ -1,11 +1,12 @@
 //! Lists of sinks read to their end, from sources that are slow, interrupted or fail.
 
-use drain_cli::files::sink_file::read_list;
 use drain_device::faults::{ScriptSource, Scripted};
 use drain_device::{BodyFault, DeviceFault};
+use drain_files::sink_file::read_list;
 use std::alloc::Global;
 use std::process::Abort;
 use std::test::Fail;
+use worked::calls::at_calls;
 use worked::memory::owed;
 
 /// The bytes of the longest list here.
@@ -75,15 +76,6 @@ fn reads_lists_of_each_length_whole(rt: HostRuntime) -> Result<(), Fail> {
     Ok(())
 }
 
-/// A fault at these calls of a source.
-fn fault(first: u64, last: u64, answer: DeviceFault) -> [Scripted<DeviceFault>; 1] {
-    [Scripted {
-        first,
-        last,
-        answer,
-    }]
-}
-
 const WHOLE: Result<Option<usize>, BodyFault> = Ok(Some(LONGEST));
 
 const FAILED: Result<Option<usize>, BodyFault> = Err(BodyFault::ReadFailed);
@@ -106,7 +98,7 @@ static FAULTS: [(u64, u64, u64, DeviceFault, Result<Option<usize>, BodyFault>); 
 #[test]
 fn bears_999_interruptions_of_a_list(rt: HostRuntime) -> Result<(), Fail> {
     for &(case, first, last, answer, wanted) in &FAULTS {
-        let script = fault(first, last, answer);
+        let script = [at_calls((first, last), answer)];
         same_read(&rt, case, came(rt.alloc(), LONGEST, 1000, &script), wanted);
     }
     Ok(())
@@ -123,16 +115,8 @@ static SECOND_FAULTS: [(u64, u64, Result<Option<usize>, BodyFault>); 2] = [
 fn counts_interruptions_over_all_chunks(rt: HostRuntime) -> Result<(), Fail> {
     for &(case, last, wanted) in &SECOND_FAULTS {
         let script = [
-            Scripted {
-                first: 1,
-                last: 500,
-                answer: DeviceFault::Interrupted,
-            },
-            Scripted {
-                first: 502,
-                last,
-                answer: DeviceFault::Interrupted,
-            },
+            at_calls((1, 500), DeviceFault::Interrupted),
+            at_calls((502, last), DeviceFault::Interrupted),
         ];
         let read = came(rt.alloc(), LONGEST, 16_384, &script);
         same_read(&rt, case, read, wanted);

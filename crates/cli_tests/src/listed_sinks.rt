@@ -2,10 +2,11 @@
 //! worked out by hand.
 
 use crate::inputs::{Parts, Tile};
+use crate::make_runs::{SEAM, ZERO};
 use crate::making::{PIT, check_parts, make, pit};
 use crate::printed::{Printed, ROOM, empty_files, files_of, holds, same_line};
 use drain_device::VecSink;
-use drain_grid::{Held, PerProduct};
+use drain_grid::{PerProduct, SetProduct};
 use std::alloc::Global;
 use std::test::Fail;
 
@@ -113,17 +114,7 @@ fn made(alloc: Global, side: u32, tiles: &[Tile<'_>], list: &str) -> Result<Prin
     make(alloc, side, tiles, list.as_bytes(), files.as_mut_slice())
 }
 
-/// Tiles of side 2, side by side, with other heights at the seam; one of voids, and one of side 3.
-const WEST: Tile<'_> = Tile {
-    name: "N00E000.hgt",
-    bytes: &[0, 1, 0, 2, 0, 3, 0, 4],
-};
-
-const EAST: Tile<'_> = Tile {
-    name: "N00E001.hgt",
-    bytes: &[0, 9, 0, 5, 0, 4, 0, 6],
-};
-
+/// A tile of voids, and one of side 3.
 const VOIDS: Tile<'_> = Tile {
     name: "N00E000.hgt",
     bytes: &[128, 0, 128, 0, 128, 0, 128, 0],
@@ -136,14 +127,14 @@ const WITH_PIT: Tile<'_> = Tile {
 
 /// A side, tiles and a list, and the line.
 static NOT_MADE: [(u32, &[Tile<'_>], &str, &str); 8] = [
-    (2, &[WEST, EAST], "x", "refused SeamMismatch row=0 col=1\n"),
-    (3, &[WEST], "x", "refused BadTileLength N00E000.hgt\n"),
+    (2, &[ZERO, SEAM], "x", "refused SeamMismatch row=0 col=1\n"),
+    (3, &[ZERO], "x", "refused BadTileLength N00E000.hgt\n"),
     (3, &[WITH_PIT], "1 1\nx", "refused BadSinkLine 2\n"),
     (3, &[WITH_PIT], "9 9\n\n1\n1 1", "refused BadSinkLine 3\n"),
     (3, &[WITH_PIT], "0 0\n3 0", "refused SinkNotData 2\n"),
     (3, &[WITH_PIT], "\n0 3\n3 3\n", "refused SinkNotData 2\n"),
     (2, &[VOIDS], "0 0", "refused SinkNotData 1\n"),
-    (2, &[WEST], "1 1\n2 0", "refused SinkNotData 2\n"),
+    (2, &[ZERO], "1 1\n2 0", "refused SinkNotData 2\n"),
 ];
 
 #[test]
@@ -157,8 +148,8 @@ fn tells_why_nothing_is_made_with_a_list(rt: HostRuntime) -> Result<(), Fail> {
 
 /// Whether con's and dir's files have the right numbers of the pit with its centre listed.
 fn are_right(files: &[VecSink]) -> Result<bool, Fail> {
-    let (_, con) = files_of(files, Held::Con)?;
-    let (_, dir) = files_of(files, Held::Dir)?;
+    let (_, con) = files_of(files, SetProduct::Con)?;
+    let (_, dir) = files_of(files, SetProduct::Dir)?;
     Ok(con == LISTED_CON && dir == LISTED_DIR)
 }
 

@@ -10,6 +10,7 @@ use drain_maker::product_files::FILE_COUNT;
 use std::alloc::{AllocError, Global};
 use std::process::Abort;
 use std::test::Fail;
+use worked::calls::at_calls;
 
 /// A tile of side 4 that falls to the east, each row 4 3 2 1.
 const SLOPE: [u8; 32] = [
@@ -155,25 +156,28 @@ fn refuses(alloc: Global, side: u32, tiles: &[Tile<'_>], line: &str) -> Result<b
     Ok(is(&making, line, 2) && are_empty)
 }
 
+/// The samples 1 to 4.
+const FOUR_SAMPLES: &[u8] = &[0, 1, 0, 2, 0, 3, 0, 4];
+
 /// Tiles of side 2: at 0 degrees, without a name of a tile, east of the first with other heights at the seam, and far from it.
-const ZERO: Tile<'_> = Tile {
+pub const ZERO: Tile<'_> = Tile {
     name: "N00E000.hgt",
-    bytes: &[0, 1, 0, 2, 0, 3, 0, 4],
+    bytes: FOUR_SAMPLES,
 };
 
 const NONE: Tile<'_> = Tile {
     name: "x",
-    bytes: &[0, 1, 0, 2, 0, 3, 0, 4],
+    bytes: FOUR_SAMPLES,
 };
 
-const SEAM: Tile<'_> = Tile {
+pub const SEAM: Tile<'_> = Tile {
     name: "N00E001.hgt",
     bytes: &[0, 9, 0, 5, 0, 4, 0, 6],
 };
 
 const FAR: Tile<'_> = Tile {
     name: "N00E008.hgt",
-    bytes: &[0, 1, 0, 2, 0, 3, 0, 4],
+    bytes: FOUR_SAMPLES,
 };
 
 /// A side and tiles, and the line that says why nothing is made of them.
@@ -239,11 +243,7 @@ fn lengths_where_one_fails(
     alloc: Global,
     place: usize,
 ) -> Result<(Printed, [usize; FILE_COUNT]), Fail> {
-    let fails = [Scripted {
-        first: 2,
-        last: 2,
-        answer: SinkAnswer::Failed,
-    }];
+    let fails = [at_calls((2, 2), SinkAnswer::Failed)];
     let mut files = scripted_files(alloc, place, &fails)?;
     let run = make(alloc, 3, &pit(), &[], files.as_mut_slice())?;
     Ok((run, lengths_of(files.as_slice())))

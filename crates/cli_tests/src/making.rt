@@ -7,7 +7,7 @@ use crate::printed::{Printed, check_printed, files_of, room};
 use drain_cli::runs::make_set::make_set;
 use drain_cli::runs::write_set::write_set;
 use drain_device::{ByteSink, SliceSource, VecSink};
-use drain_grid::{Held, PerProduct};
+use drain_grid::{PerProduct, SetProduct};
 use drain_maker::product_files::FILE_COUNT;
 use drain_verdict::Products;
 use std::alloc::{AllocError, Global};
@@ -56,7 +56,7 @@ pub fn make<F: ByteSink>(
 }
 
 /// The header and the raster of a product, among the files.
-fn parts_of<'a>(files: &'a [VecSink], product: Held) -> Result<Parts<'a>, Fail> {
+fn parts_of<'a>(files: &'a [VecSink], product: SetProduct) -> Result<Parts<'a>, Fail> {
     let (header, raster) = files_of(files, product)?;
     Ok(Parts { header, raster })
 }

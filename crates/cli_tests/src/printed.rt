@@ -2,10 +2,10 @@
 
 ghost use Rattle.std.specs.Prelude.{◌≡◌, length, IfOk};
 
-use drain_cli::runs::run_check::run_check;
+use drain_cli::runs::judge::run_check;
 use drain_device::faults::{ScriptSink, Scripted, SinkAnswer};
 use drain_device::{BodyFault, ByteSource, VecSink};
-use drain_grid::Held;
+use drain_grid::SetProduct;
 use drain_hgt::TileInput;
 use drain_maker::product_files::FILE_COUNT;
 use drain_verdict::Products;
@@ -60,13 +60,16 @@ pub fn empty_files(alloc: Global, capacity: usize) -> Result<Vec<VecSink>, Fail>
 }
 
 /// The bytes of a product's header and of its raster, among the files.
-pub fn files_of<'a>(files: &'a [VecSink], product: Held) -> Result<(&'a [u8], &'a [u8]), Fail> {
+pub fn files_of<'a>(
+    files: &'a [VecSink],
+    product: SetProduct,
+) -> Result<(&'a [u8], &'a [u8]), Fail> {
     let place: usize = match product {
-        Held::Con => 0,
-        Held::Dir => 2,
-        Held::Acc => 4,
-        Held::Bas => 6,
-        Held::Rnk => 8,
+        SetProduct::Con => 0,
+        SetProduct::Dir => 2,
+        SetProduct::Acc => 4,
+        SetProduct::Bas => 6,
+        SetProduct::Rnk => 8,
     };
     let (Some(header), Some(raster)) = (files.get(place), files.get(place.saturating_add(1))) else {
         return Err("a file is missing".into());

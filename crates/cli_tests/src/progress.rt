@@ -1,16 +1,15 @@
-//! When and what `--progress` prints: where rows end, the text of a line, when one is due; and a device without a watch
+//! When and what `--progress` prints: where rows end, the text of a line, when one is due; and a device without a counter
 //! passes on its bytes. Lines on standard error are shown by tests/program/progress.sh.
 
 use crate::printed::{holds, holds_at, same_bytes, same_number};
-use drain_cli::progress::gauge::Gauge;
-use drain_cli::progress::pace::Pace;
-use drain_cli::progress::row_ends::{RowEnds, raster_row_ends};
-use drain_cli::progress::telling::{Counted, part_line, row_line};
-use drain_cli::progress::watched::Watched;
-use drain_cli::progress::watched_rows::judged_rows;
 use drain_device::{BodyFault, ByteSink, ByteSource, SliceSource, VecSink};
 use drain_header::parse_header;
 use drain_maker::follow::Part;
+use drain_progress::counted_device::CountedDevice;
+use drain_progress::progress::Progress;
+use drain_progress::progress_lines::{Phase, part_line, row_line};
+use drain_progress::rows::{RowEnds, checked_rows, raster_row_ends};
+use drain_progress::throttle::Throttle;
 use std::alloc::Global;
 use std::process::Abort;
 use std::test::Fail;
@@ -36,17 +35,17 @@ fn rows_end_behind_what_is_skipped(rt: HostRuntime) -> Result<(), Fail> {
     Ok(())
 }
 
-/// What is counted, the row, the number of rows, and the line.
-static LINES: [(Counted, u32, u32, &str); 3] = [
-    (Counted::Judged, 1200, 3601, "drain: row 1200 of 3601"),
-    (Counted::Read, 1, 2, "drain: reading row 1 of 2"),
-    (Counted::Written, 0, 28801, "drain: writing row 0 of 28801"),
+/// What is phase, the row, the number of rows, and the line.
+static LINES: [(Phase, u32, u32, &str); 3] = [
+    (Phase::Checking, 1200, 3601, "drain: row 1200 of 3601"),
+    (Phase::Reading, 1, 2, "drain: reading row 1 of 2"),
+    (Phase::Writing, 0, 28801, "drain: writing row 0 of 28801"),
 ];
 
 #[test]
 fn lines_tell_which_rows_are_counted(rt: HostRuntime) {
-    for &(counted, row, rows, wanted) in &LINES {
-        let line = row_line(counted, row, rows);
+    for &(phase, row, rows, wanted) in &LINES {
+        let line = row_line(phase, row, rows);
         same_bytes(&rt, wanted, line.as_str().as_bytes(), wanted.as_bytes());
     }
 }
@@ -79,31 +78,31 @@ static DUES: [(u64, bool); 5] = [
 static DUES_BEHIND_600: [(u64, bool); 2] = [(1599, false), (1600, true)];
 
 /// Fails the test if a line is due when none is expected, or none when one is.
-fn expect_dues(rt: &impl Abort, mut pace: Pace, dues: &[(u64, bool)]) {
+fn expect_dues(rt: &impl Abort, mut throttle: Throttle, dues: &[(u64, bool)]) {
     for &(time, is_due) in dues {
-        holds_at(rt, time, pace.is_due(time) == is_due);
+        holds_at(rt, time, throttle.is_due(time) == is_due);
     }
 }
 
 #[test]
 fn a_line_is_due_a_second_after_the_last(rt: HostRuntime) {
-    let mut pace = Pace::new(0);
-    expect_dues(&rt, pace, &DUES);
-    pace.tell(600);
-    expect_dues(&rt, pace, &DUES_BEHIND_600);
+    let mut throttle = Throttle::new(0);
+    expect_dues(&rt, throttle, &DUES);
+    throttle.restart(600);
+    expect_dues(&rt, throttle, &DUES_BEHIND_600);
 }
 
 #[test]
-fn an_unwatched_device_hands_on_its_bytes(rt: HostRuntime) -> Result<(), Fail> {
+fn an_uncounted_device_passes_on_its_bytes(rt: HostRuntime) -> Result<(), Fail> {
     let Ok(header) = parse_header(HEADER) else {
         return Err("a header".into());
     };
-    let gauge = Gauge::new(&rt, false);
-    let mut source = Watched::new(SliceSource::new(b"drainage"));
-    source.watch(gauge.watch(judged_rows(&header)));
+    let progress = Progress::new(&rt, false);
+    let mut source = CountedDevice::new(SliceSource::new(b"drainage"));
+    source.count_by(progress.counter(checked_rows(&header)));
     let mut out = [0; 5];
     let read = source.read_some(&mut out);
-    holds(&rt, "the gauge is off", !gauge.is_on());
+    holds(&rt, "no progress is reported", !progress.is_on());
     holds(&rt, "five bytes are read", read == Ok(5));
     same_bytes(&rt, "what is read", &out, b"drain");
     same_number(&rt, 1, source.failures(), 0);
@@ -111,9 +110,9 @@ fn an_unwatched_device_hands_on_its_bytes(rt: HostRuntime) -> Result<(), Fail> {
     Ok(())
 }
 
-/// How many bytes a sink without a watch accepts, and how many failures and interruptions it counts.
+/// How many bytes a sink without a counter accepts, and how many failures and interruptions it counts.
 fn taken(alloc: Global) -> Result<(usize, u64, u64), Fail> {
-    let mut sink = Watched::new(VecSink::new(Vec::with_capacity(alloc, 8)?));
+    let mut sink = CountedDevice::new(VecSink::new(Vec::with_capacity(alloc, 8)?));
     match sink.write_some(b"drainage") {
         Ok(taken) => Ok((taken, sink.failures(), sink.interruptions())),
         Err(_) => Err(BodyFault::OutOfMemory.into()),
@@ -121,7 +120,7 @@ fn taken(alloc: Global) -> Result<(usize, u64, u64), Fail> {
 }
 
 #[test]
-fn an_unwatched_sink_takes_its_bytes(rt: HostRuntime) -> Result<(), Fail> {
+fn an_uncounted_sink_takes_its_bytes(rt: HostRuntime) -> Result<(), Fail> {
     let (taken, failures, interruptions) = taken(rt.alloc())?;
     same_number(&rt, 0, taken as u64, 8);
     same_number(&rt, 1, failures, 0);

@@ -6,9 +6,9 @@ ghost use Rattle.drain_device.specs.Counts.{no_faults};
 use crate::inputs::Tile;
 use crate::making::make;
 use crate::printed::{Printed, check_printed, empty_files, files_of, whole_sink};
-use drain_cli::runs::run_audit::run_audit;
+use drain_cli::runs::judge::run_audit;
 use drain_device::{ByteList, ByteSource, DeviceFault, SliceSource, VecSink};
-use drain_grid::{Held, PerProduct};
+use drain_grid::{PerProduct, SetProduct};
 use drain_hgt::TileInput;
 use drain_verdict::{AuditProducts, Products, RasterInput};
 use std::alloc::{AllocError, Global};
@@ -128,7 +128,7 @@ struct Watched<'a> {
 fn product_of<'a>(
     alloc: Global,
     watched: Watched<'a>,
-    product: Held,
+    product: SetProduct,
 ) -> Result<RasterInput<Stamped<'a>>, Fail> {
     let (header, raster) = files_of(watched.files, product)?;
     Ok(RasterInput {
@@ -139,7 +139,7 @@ fn product_of<'a>(
 
 /// The products whose headers and rasters are the files.
 fn products<'a>(alloc: Global, watched: Watched<'a>) -> Result<Products<Stamped<'a>>, Fail> {
-    let input = |product: Held| -> Result<RasterInput<Stamped<'_>>, Fail> {
+    let input = |product: SetProduct| -> Result<RasterInput<Stamped<'_>>, Fail> {
         product_of(alloc, watched, product)
     };
     PerProduct::from_each(&input)
@@ -151,10 +151,10 @@ fn audit_products<'a>(
     watched: Watched<'a>,
 ) -> Result<AuditProducts<Stamped<'a>>, Fail> {
     Ok(AuditProducts {
-        con: product_of(alloc, watched, Held::Con)?,
-        dir: product_of(alloc, watched, Held::Dir)?,
-        acc: product_of(alloc, watched, Held::Acc)?,
-        bas: product_of(alloc, watched, Held::Bas)?,
+        con: product_of(alloc, watched, SetProduct::Con)?,
+        dir: product_of(alloc, watched, SetProduct::Dir)?,
+        acc: product_of(alloc, watched, SetProduct::Acc)?,
+        bas: product_of(alloc, watched, SetProduct::Bas)?,
     })
 }
 

@@ -8,8 +8,8 @@ use std::process::Abort;
 pub const NONE: i64 = 4_294_967_295;
 
 /// Ends the test if the two differ.
-pub fn same(rt: &impl Abort, given: [[i64; 3]; 3], wanted: [[i64; 3]; 3]) {
-    assert_eq!(rt; given, wanted);
+pub fn same(rt: &impl Abort, given: [[i64; 3]; 3], expected: [[i64; 3]; 3]) {
+    assert_eq!(rt; given, expected);
 }
 
 /// The first three numbers of a row of each raster; -1 past the last.

@@ -3,7 +3,7 @@
 use crate::agree::{NONE, numbers, same};
 use drain_derive::derive_from_flows;
 use drain_grid::Shape;
-use drain_runs::{CertifyRefusal, Flow};
+use drain_paths::{CertifyRefusal, Flow};
 use std::test::Fail;
 
 /// Two outlets, a void and a run of two steps.

@@ -8,14 +8,14 @@ use Rattle.drain_rules.specs.declared.fill_walk.FillRefusal.TheVariants.{BadSide
 use Rattle.drain_answer.specs.Lines.{rejected_line}
 
 -- accepted rows=R cols=C data=D raised=U
-abbrev pub accepted_line : FillCounts → List ℕ
-accepted_line c =
+abbrev pub fill_accepted_line : FillCounts → List ℕ
+fill_accepted_line c =
     codes "accepted rows=" ++ decimal c.rows ++ codes " cols=" ++ decimal c.cols ++ codes " data=" ++ decimal c.data_cells
     ++ codes " raised=" ++ decimal c.raised
 
 -- the line of any answer
 abbrev pub fill_line : Result FillVerdict FillRefusal → List ℕ
-fill_line (Ok (Accepted counts)) = accepted_line counts
+fill_line (Ok (Accepted counts)) = fill_accepted_line counts
 fill_line (Ok (Rejected rule row col)) = rejected_line rule row col
 fill_line (Err BadSide) = codes "refused BadSide"
 fill_line (Err BadLength) = codes "refused BadLength"

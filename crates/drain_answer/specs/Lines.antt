@@ -1,8 +1,8 @@
 -- The line for the answer of a check. Its words are this project's own.
 use Rattle.std.specs.Prelude.{ℕ, List, ◌++◌, Result, Ok, Err, codes, decimal}
 use Rattle.drain_grid.specs.declared.rule.Rule.{Rule}
-use Rattle.drain_grid.specs.Rule.{number_of, name_of}
-use Rattle.drain_grid.specs.Product.{name_of as product_name}
+use Rattle.drain_grid.specs.Rule.{rule_number, rule_name}
+use Rattle.drain_grid.specs.Product.{product_name}
 use Rattle.drain_hgt.specs.Name.{name_of as tile_name}
 use Rattle.drain_header.specs.FaultText.{fault_text}
 use Rattle.drain_rules.specs.declared.verdict.Counts.{Counts}
@@ -20,7 +20,7 @@ accepted_line c =
 -- rejected rule=N NAME row=R col=C
 abbrev pub rejected_line : Rule → ℕ → ℕ → List ℕ
 rejected_line rule row col =
-    codes "rejected rule=" ++ decimal (number_of rule) ++ codes " " ++ name_of rule ++ codes " row=" ++ decimal row ++ codes " col=" ++ decimal col
+    codes "rejected rule=" ++ decimal (rule_number rule) ++ codes " " ++ rule_name rule ++ codes " row=" ++ decimal row ++ codes " col=" ++ decimal col
 
 -- the line of either
 abbrev pub verdict_line : Verdict → List ℕ

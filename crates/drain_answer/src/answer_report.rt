@@ -1,7 +1,7 @@
 //! The line for the answer of a check.
 
 ghost use Rattle.std.specs.Prelude.{◌≡◌, ◌++◌, ◌≤◌, length, codes, decimal};
-ghost use Rattle.drain_grid.specs.Product.{name_of as product_name};
+ghost use Rattle.drain_grid.specs.Product.{product_name};
 ghost use Rattle.drain_hgt.specs.Name.{name_of as tile_name};
 ghost use Rattle.drain_answer.specs.Lines.{report_line, refusal_line};
 

@@ -1,7 +1,7 @@
 //! The line for the answer to a fill input.
 
 ghost use Rattle.std.specs.Prelude.{◌≡◌};
-ghost use Rattle.drain_answer.specs.FillLines.{fill_line, accepted_line};
+ghost use Rattle.drain_answer.specs.FillLines.{fill_line, fill_accepted_line};
 
 use crate::line::{Line, push_number, words};
 use crate::verdict_report::rejected;
@@ -20,7 +20,7 @@ pub fn fill_report(answer: &Result<FillVerdict, FillRefusal>) -> Line
 }
 
 fn accepted(counts: &FillCounts) -> Line
-    ensures { result.bytes ≡ accepted_line counts.now }
+    ensures { result.bytes ≡ fill_accepted_line counts.now }
 {
     let mut line = words("accepted rows=");
     push_number(&mut line, counts.rows);

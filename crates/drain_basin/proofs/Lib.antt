@@ -1,3 +1,2 @@
 pub mod BlockLabels
-pub mod NextLabels
 pub mod TreeWords

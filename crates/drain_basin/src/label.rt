@@ -1,10 +1,12 @@
 //! The label of a cell and of the cell that its direction names.
 
-ghost use Rattle.std.specs.Prelude.{◌≡◌, ◌↔◌, IsSome, IsTrue};
+ghost use Rattle.std.specs.Prelude.{◌≡◌, ◌↔◌, ℤ, IfSome, IsTrue, MatchOption};
+ghost use Rattle.drain_basin.specs.Ahead.{IsLabelAhead};
+ghost use Rattle.drain_grid.specs.Patch.{IsDataCell};
 ghost use Rattle.drain_grid.specs.PatchRules.{flow_rules, LabelHolds};
 ghost use Rattle.drain_grid.specs.Rule.{IsOnly, IsLeastFault};
 
-use drain_grid::{CellValues, Patch, Rule};
+use drain_grid::{Patch, Rule};
 
 /// The rule Label, if it fails at the cell, none if it holds. A void keeps it.
 pub fn fault(patch: &Patch) -> Option<Rule>
@@ -24,24 +26,23 @@ fn keeps_label(patch: &Patch) -> bool
     if patch.here.z.is_none() {
         return true;
     }
-    match patch.here.direction() {
-        Some(direction) => match patch.neighbor(direction) {
-            Some(next) => agree(&patch.here, &next),
-            None => true,
-        },
+    match expected_label(patch) {
+        Some(label) => patch.here.bas == label,
         None => true,
     }
 }
 
-/// Whether the next cell has the label of the cell, if it has data.
-fn agree(here: &CellValues, next: &CellValues) -> bool
-    ensures { IsTrue result ↔ (IsSome next.now.z → here.now.bas ≡ next.now.bas) }
+/// The label with which a data cell keeps the rule: that of the data neighbour that its direction names. None if it
+/// names none: then any label keeps the rule.
+pub fn expected_label(patch: &Patch) -> Option<i64>
+    ensures label { MatchOption result ((label : ℤ) → ¬ IsLabelAhead patch.now label) (IsLabelAhead patch.now) }
+    ensures keeps { IsDataCell patch.now → LabelHolds patch.now ↔ IfSome result (λ label. patch.now.here.bas ≡ label) }
 {
-    next.z.is_none() || have_one_label(here, next)
-}
-
-fn have_one_label(here: &CellValues, next: &CellValues) -> bool
-    ensures { IsTrue result ↔ (here.now.bas ≡ next.now.bas) }
-{
-    here.bas == next.bas
+    let direction = patch.here.direction()?;
+    let next = patch.neighbor(direction)?;
+    if next.z.is_some() {
+        Some(next.bas)
+    } else {
+        None
+    }
 }

@@ -10,5 +10,5 @@
 pub mod label;
 pub mod outlets;
 
-pub use label::fault;
+pub use label::{expected_label, fault};
 pub use outlets::OutletLabels;

@@ -52,9 +52,7 @@ impl OutletLabels {
         let place = label.cast_unsigned();
         let block = place / 16;
         let bit = place % 16;
-        let Ok(entry) = self.blocks.entry(block) else {
-            return Err(OutOfMemory);
-        };
+        let entry = self.blocks.entry(block)?;
         let word = entry.or_insert(0);
         let is_new = (*word >> bit) & 1 == 0;
         *word |= 1 << bit;

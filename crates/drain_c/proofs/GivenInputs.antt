@@ -4,18 +4,18 @@ use Rattle.std.specs.List.{AllZip}
 use Rattle.std.proofs.lemmas.List.Elements.{All-head, All-tail}
 use Rattle.drain_c.specs.Laws.{BytesAreInputs}
 use Rattle.drain_hgt.specs.Corner.{Corner}
-use Rattle.drain_hgt.specs.Name.{Names}
+use Rattle.drain_hgt.specs.Name.{IsNameOf}
 use Rattle.drain_hgt.specs.Laws.{NamesGiveCorners}
 use Rattle.drain_verdict.specs.Inputs.{AreNames}
 
 -- names that name tiles name those that the function gives
-corners_named : (corner_of : List ℕ → Corner) → ((bytes : List ℕ) (c : Corner) → Names bytes c → corner_of bytes ≡ c) →
-    (names : List (List ℕ)) → AreNames names → AllZip Names names (map corner_of names)
+corners_named : (corner_of : List ℕ → Corner) → ((bytes : List ℕ) (c : Corner) → IsNameOf bytes c → corner_of bytes ≡ c) →
+    (names : List (List ℕ)) → AreNames names → AllZip IsNameOf names (map corner_of names)
 corners_named corner_of gives [] all = tt
 corners_named corner_of gives (name ∷ names) all =
-    let P : List ℕ → Type 0 = λ bytes. (c : Corner) × Names bytes c in
-    let here : (c : Corner) × Names name c = All-head P name names all in
-    (subst (Names name) (sym (gives name here.0 here.1)) here.1, corners_named corner_of gives names (All-tail P name names all))
+    let P : List ℕ → Type 0 = λ bytes. (c : Corner) × IsNameOf bytes c in
+    let here : (c : Corner) × IsNameOf name c = All-head P name names all in
+    (subst (IsNameOf name) (sym (gives name here.0 here.1)) here.1, corners_named corner_of gives names (All-tail P name names all))
 
 pub bytes_are_inputs : NamesGiveCorners → BytesAreInputs
 bytes_are_inputs corner side tiles sinks raster = (

@@ -6,7 +6,7 @@ use Rattle.drain_c.specs.declared.given.TileBytes.{TileBytes}
 use Rattle.drain_c.specs.declared.given.RasterBytes.{RasterBytes}
 use Rattle.drain_c.specs.Given.{AreOfBytes, OfBytes}
 use Rattle.drain_c.specs.Sources.{IsTileOf, AreTilesOf, AreRastersOf}
-use Rattle.drain_grid.specs.declared.held.Held.{Held}
+use Rattle.drain_grid.specs.declared.set_product.SetProduct.{SetProduct}
 use Rattle.drain_hgt.specs.declared.input.TileInput.{TileInput}
 use Rattle.drain_hgt.specs.Inputs.{names_of, AreBodies}
 use Rattle.drain_rules.specs.declared.verdict.Verdict.{Verdict}
@@ -14,7 +14,7 @@ use Rattle.drain_rules.specs.declared.verdict.Verdict.TheVariants.{Accepted, Rej
 use Rattle.drain_rules.specs.Verdicts.{IfAccepted}
 use Rattle.drain_answer.specs.declared.refusal.Refusal.{Refusal}
 use Rattle.drain_verdict.specs.Inputs.{Inputs, Tell, Products}
-use Rattle.drain_verdict.specs.Headline.{OfInputs, AcceptedMeans}
+use Rattle.drain_verdict.specs.Headline.{ForCheck, AcceptedMeans}
 
 -- one tile more is taken
 pub one_tile_more : {R : Type 0} (bytes_left : R → Option (List ℕ)) (given : List TileBytes) (tiles : List (TileInput R)) (i : ℕ) (d : TileBytes) (tile : TileInput R) →
@@ -41,7 +41,7 @@ bodies bytes_left (g ∷ given) [] are = absurd are
 bodies bytes_left (g ∷ given) (tile ∷ tiles) are = (are.0.1, bodies bytes_left given tiles are.1)
 
 -- the sources have the bytes of the inputs
-pub tells : {R : Type 0} (bytes_left : R → Option (List ℕ)) (side : ℕ) (given : List TileBytes) (sinks : List ℕ) (raster : Held → RasterBytes)
+pub tells : {R : Type 0} (bytes_left : R → Option (List ℕ)) (side : ℕ) (given : List TileBytes) (sinks : List ℕ) (raster : SetProduct → RasterBytes)
     (tiles : List (TileInput R)) (ps : Products R) → AreTilesOf bytes_left given tiles → AreRastersOf bytes_left raster ps →
     (i : Inputs) → AreOfBytes side given sinks raster i → Tell bytes_left side tiles sinks ps i
 tells bytes_left side given sinks raster tiles ps are_tiles are_rasters i are = record {
@@ -56,15 +56,15 @@ tells bytes_left side given sinks raster tiles ps are_tiles are_rasters i are = 
 
 -- a fact of the sources is one of the bytes
 pub of_bytes : {R : Type 0} (Fact : Inputs → Type 0) (bytes_left : R → Option (List ℕ)) (side : ℕ) (given : List TileBytes) (sinks : List ℕ)
-    (raster : Held → RasterBytes) (tiles : List (TileInput R)) (ps : Products R) → AreTilesOf bytes_left given tiles → AreRastersOf bytes_left raster ps →
-    OfInputs bytes_left side tiles sinks ps Fact → OfBytes side given sinks raster Fact
+    (raster : SetProduct → RasterBytes) (tiles : List (TileInput R)) (ps : Products R) → AreTilesOf bytes_left given tiles → AreRastersOf bytes_left raster ps →
+    ForCheck bytes_left side tiles sinks ps Fact → OfBytes side given sinks raster Fact
 of_bytes Fact bytes_left side given sinks raster tiles ps are_tiles are_rasters fact i are =
     fact i (tells bytes_left side given sinks raster tiles ps are_tiles are_rasters i are)
 
 -- where there is a verdict, the same
 pub of_bytes_if : {R V : Type 0} (Fact : V → Inputs → Type 0) (answer : Result V Refusal) (bytes_left : R → Option (List ℕ)) (side : ℕ) (given : List TileBytes)
-    (sinks : List ℕ) (raster : Held → RasterBytes) (tiles : List (TileInput R)) (ps : Products R) → AreTilesOf bytes_left given tiles →
-    AreRastersOf bytes_left raster ps → IfOk answer (λ v. OfInputs bytes_left side tiles sinks ps (Fact v)) →
+    (sinks : List ℕ) (raster : SetProduct → RasterBytes) (tiles : List (TileInput R)) (ps : Products R) → AreTilesOf bytes_left given tiles →
+    AreRastersOf bytes_left raster ps → IfOk answer (λ v. ForCheck bytes_left side tiles sinks ps (Fact v)) →
     IfOk answer (λ v. OfBytes side given sinks raster (Fact v))
 of_bytes_if Fact (Ok v) bytes_left side given sinks raster tiles ps are_tiles are_rasters fact =
     of_bytes (Fact v) bytes_left side given sinks raster tiles ps are_tiles are_rasters fact
@@ -72,7 +72,7 @@ of_bytes_if Fact (Err refusal) bytes_left side given sinks raster tiles ps are_t
 
 -- if the answer is an acceptance, the same
 pub of_bytes_accepted : {R : Type 0} (Fact : Inputs → Type 0) (answer : Result Verdict Refusal) (bytes_left : R → Option (List ℕ)) (side : ℕ) (given : List TileBytes)
-    (sinks : List ℕ) (raster : Held → RasterBytes) (tiles : List (TileInput R)) (ps : Products R) → AreTilesOf bytes_left given tiles →
+    (sinks : List ℕ) (raster : SetProduct → RasterBytes) (tiles : List (TileInput R)) (ps : Products R) → AreTilesOf bytes_left given tiles →
     AreRastersOf bytes_left raster ps → AcceptedMeans Fact bytes_left side tiles sinks ps answer → IfAccepted answer (OfBytes side given sinks raster Fact)
 of_bytes_accepted Fact (Ok (Accepted counts)) bytes_left side given sinks raster tiles ps are_tiles are_rasters fact =
     of_bytes Fact bytes_left side given sinks raster tiles ps are_tiles are_rasters fact

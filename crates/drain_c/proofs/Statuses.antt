@@ -4,7 +4,7 @@ use Rattle.drain_c.specs.declared.given.TileBytes.{TileBytes}
 use Rattle.drain_c.specs.declared.given.RasterBytes.{RasterBytes}
 use Rattle.drain_c.specs.Found.{audit_found, check_found, refusal_found}
 use Rattle.drain_c.specs.Given.{OfBytes}
-use Rattle.drain_grid.specs.declared.held.Held.{Held}
+use Rattle.drain_grid.specs.declared.set_product.SetProduct.{SetProduct}
 use Rattle.drain_rules.specs.declared.verdict.Verdict.{Verdict}
 use Rattle.drain_rules.specs.declared.verdict.Verdict.TheVariants as checked
 use Rattle.drain_rules.specs.Verdicts.{IfAccepted}
@@ -42,7 +42,7 @@ below_two (Err refusal) status is below fact = absurd (omega (arith, from_two re
 
 -- it is 0 exactly where the verdict is an acceptance
 pub exactly : (Correct : Inputs → Type 0) (answer : Result AuditVerdict Refusal) (status : ℕ) → status ≡ (audit_found answer).status → status < 2 →
-    (side : ℕ) (given : List TileBytes) (sinks : List ℕ) (raster : Held → RasterBytes) →
+    (side : ℕ) (given : List TileBytes) (sinks : List ℕ) (raster : SetProduct → RasterBytes) →
     IfOk answer (λ v. OfBytes side given sinks raster (λ i. IsAcceptance v ↔ Correct i)) → OfBytes side given sinks raster (λ i. (status ≡ 0) ↔ Correct i)
 exactly Correct (Ok (Accepted counts)) status is below side given sinks raster fact = λ i are. ((λ zero. (fact i are).0 tt), (λ correct. is))
 exactly Correct (Ok (Rejected rule row col)) status is below side given sinks raster fact = λ i are. ((λ zero. absurd (omega arith)), (λ correct. absurd ((fact i are).1 correct)))

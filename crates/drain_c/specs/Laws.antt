@@ -3,9 +3,9 @@ use Rattle.std.specs.Prelude.{ℕ, List}
 use Rattle.drain_c.specs.declared.given.TileBytes.{TileBytes}
 use Rattle.drain_c.specs.declared.given.RasterBytes.{RasterBytes}
 use Rattle.drain_c.specs.Given.{AreOfBytes}
-use Rattle.drain_grid.specs.declared.held.Held.{Held}
+use Rattle.drain_grid.specs.declared.set_product.SetProduct.{SetProduct}
 use Rattle.drain_verdict.specs.Inputs.{Inputs}
 
 -- whatever the bytes are, there are inputs that are these bytes
 abbrev pub BytesAreInputs : Type 0
-BytesAreInputs = (side : ℕ) (tiles : List TileBytes) (sinks : List ℕ) (raster : Held → RasterBytes) → (i : Inputs) × AreOfBytes side tiles sinks raster i
+BytesAreInputs = (side : ℕ) (tiles : List TileBytes) (sinks : List ℕ) (raster : SetProduct → RasterBytes) → (i : Inputs) × AreOfBytes side tiles sinks raster i

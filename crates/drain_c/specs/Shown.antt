@@ -4,7 +4,7 @@ use Rattle.drain_c.specs.declared.answer.Answer.{Answer}
 use Rattle.drain_c.specs.declared.found.Found.{Found}
 
 -- these numbers, and this line with zeros behind it
-pub record Shows (found : Found) (line : List ℕ) (shown : Answer) : Type 0 where
+pub record ShowsAnswer (found : Found) (line : List ℕ) (shown : Answer) : Type 0 where
   pub status_is : shown.status ≡ found.status
   pub rule_is : shown.rule ≡ found.rule
   pub row_is : shown.row ≡ found.row
@@ -15,4 +15,4 @@ pub record Shows (found : Found) (line : List ℕ) (shown : Answer) : Type 0 whe
 pub record Reports {A : Type 0} (Is : A → Type 0) (found : A → Found) (line : A → List ℕ) (shown : Answer) : Type 0 where
   pub value : A
   pub is : Is value
-  pub shows : Shows (found value) (line value) shown
+  pub shows : ShowsAnswer (found value) (line value) shown

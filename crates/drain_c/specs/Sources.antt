@@ -3,7 +3,7 @@ use Rattle.std.specs.Prelude.{◌≡◌, ℕ, List, Option, Some}
 use Rattle.std.specs.List.{AllZip}
 use Rattle.drain_c.specs.declared.given.TileBytes.{TileBytes}
 use Rattle.drain_c.specs.declared.given.RasterBytes.{RasterBytes}
-use Rattle.drain_grid.specs.declared.held.Held.{Held}
+use Rattle.drain_grid.specs.declared.set_product.SetProduct.{SetProduct}
 use Rattle.drain_grid.specs.PerProduct.{of_product}
 use Rattle.drain_hgt.specs.declared.input.TileInput.{TileInput}
 use Rattle.drain_verdict.specs.declared.input.RasterInput.{RasterInput}
@@ -21,5 +21,5 @@ abbrev pub IsRasterOf : {R : Type 0} → (R → Option (List ℕ)) → RasterByt
 IsRasterOf bytes_left given raster = (raster.header ≡ given.header.now) × (bytes_left raster.body ≡ Some given.pixels.now)
 
 -- each product has its raster
-abbrev pub AreRastersOf : {R : Type 0} → (R → Option (List ℕ)) → (Held → RasterBytes) → Products R → Type 0
-AreRastersOf bytes_left given ps = (p : Held) → IsRasterOf bytes_left (given p) (of_product ps p)
+abbrev pub AreRastersOf : {R : Type 0} → (R → Option (List ℕ)) → (SetProduct → RasterBytes) → Products R → Type 0
+AreRastersOf bytes_left given ps = (p : SetProduct) → IsRasterOf bytes_left (given p) (of_product ps p)

@@ -1,7 +1,7 @@
 //! An answer as C reads it: numbers, and the line that the program prints.
 
 ghost use Rattle.std.specs.Prelude.{◌≡◌, ◌-◌, ◌≤◌, ◌++◌, length, replicate};
-ghost use Rattle.drain_c.specs.Shown.{Shows};
+ghost use Rattle.drain_c.specs.Shown.{ShowsAnswer};
 
 use crate::found::Found;
 
@@ -22,7 +22,7 @@ pub struct Answer {
 /// Writes these numbers and this line.
 pub fn show(answer: &mut Answer, found: Found, line: &str)
     requires { length line.now ≤ 160 }
-    ensures { Shows found line.now answer.new }
+    ensures { ShowsAnswer found line.now answer.new }
 {
     *answer = Answer {
         status: found.status,

@@ -10,7 +10,7 @@ use Rattle.drain_parts.specs.declared.given.Given.{Given}
 use Rattle.drain_rules.specs.declared.verdict.Verdict.{Verdict}
 use Rattle.drain_verdict.specs.Answers.{IsAnswer}
 use Rattle.drain_verdict.specs.AuditInputs.{audit_devices, with_con_for_ranks}
-use Rattle.drain_verdict.specs.Audits.{IsAuditAnswer, OfFour}
+use Rattle.drain_verdict.specs.Audits.{IsAuditAnswer, ForAudit}
 use Rattle.drain_verdict.specs.declared.audit_products.AuditProducts.{AuditProducts}
 use Rattle.drain_answer.specs.declared.audit_verdict.AuditVerdict.{AuditVerdict}
 use Rattle.drain_answer.specs.declared.refusal.Refusal.{Refusal}
@@ -19,9 +19,7 @@ use Rattle.drain_verdict.specs.Inputs.{Inputs, Tell, Products}
 use Rattle.drain_verdict.specs.Uses.{AuditUses, CheckUses, UsesInputs}
 use Rattle.drain_verdict.proofs.AuditDevices.{failed_alike}
 use Rattle.drain_verdict.proofs.Uses.{uses_alike}
-use Rattle.drain_cli.specs.AuditRuns.{IsAuditOutcome}
-use Rattle.drain_cli.specs.CheckRuns.{IsCheckOutcome}
-use Rattle.drain_cli.specs.PartRuns.{IsPartOutcome}
+use Rattle.drain_cli.specs.JudgedRuns.{IsAuditOutcome, IsCheckOutcome, IsPartOutcome}
 
 -- the answer uses the inputs as the explanation does
 uses_as_told : {R P V : Type 0} (inputs_of : P → Products R) (devices : List (TileInput R) → P → List R) (source : Source R) (side : ℕ) (old new : List (TileInput R) × P) (explained : Result (Explanation V) Refusal) →
@@ -43,7 +41,7 @@ check_outcome source side tiles_old tiles_new sinks ps_old ps_new explained answ
 
 -- the same of an audit
 pub audit_outcome : {R : Type 0} (source : Source R) (side : ℕ) (tiles_old tiles_new : List (TileInput R)) (sinks : List ℕ) (ps_old ps_new : AuditProducts R) (explained : Result (Explanation AuditVerdict) Refusal) →
-    OfFour source.bytes_left side tiles_old sinks ps_old (λ i. IsAuditAnswer i (answer_in explained)) →
+    ForAudit source.bytes_left side tiles_old sinks ps_old (λ i. IsAuditAnswer i (answer_in explained)) →
     AuditUses source.bytes_left source.counts side (tiles_old, ps_old) (tiles_new, ps_new) explained →
     IsAuditOutcome source side tiles_old tiles_new sinks ps_old ps_new (answer_in explained)
 audit_outcome source side tiles_old tiles_new sinks ps_old ps_new explained answer uses = record {
@@ -53,7 +51,7 @@ audit_outcome source side tiles_old tiles_new sinks ps_old ps_new explained answ
 
 -- the same of an audit of some rasters
 pub part_outcome : {R : Type 0} (source : Source R) (given : Given) (side : ℕ) (tiles_old tiles_new : List (TileInput R)) (sinks : List ℕ) (ps_old ps_new : AuditProducts R) (explained : Result (Explanation PartVerdict) Refusal) →
-    OfFour source.bytes_left side tiles_old sinks ps_old (λ i. IsPartAnswer given i (answer_in explained)) →
+    ForAudit source.bytes_left side tiles_old sinks ps_old (λ i. IsPartAnswer given i (answer_in explained)) →
     AuditUses source.bytes_left source.counts side (tiles_old, ps_old) (tiles_new, ps_new) explained →
     IsPartOutcome source given side tiles_old tiles_new sinks ps_old ps_new (answer_in explained)
 part_outcome source given side tiles_old tiles_new sinks ps_old ps_new explained answer uses = record {

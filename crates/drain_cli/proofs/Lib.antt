@@ -1,13 +1,4 @@
 pub mod AnswerLemmas
-pub mod ClashLemmas
 pub mod ExplainLemmas
 pub mod HeaderLemmas
-pub mod LineSteps
-pub mod PaceLemmas
-pub mod PartLemmas
-pub mod PathLemmas
-pub mod PrintLemmas
 pub mod RoundTrips
-pub mod RowCounts
-pub mod StatusLemmas
-pub mod TileNames

@@ -2,10 +2,10 @@
 use Rattle.std.proofs.Common.{◌≡◌, ℕ, suc, ◌<◌, List, [], ◌∷◌, map, length, slice_index_or, Option, Some, None, Ok, inl, inr, arith, refl, sym, ap, ◌∙◌, subst}
 use Rattle.std.specs.Io.KnownBytes.{Appends}
 use Rattle.drain_device.specs.Devices.{Sink}
-use Rattle.drain_grid.specs.declared.held.Held.{Held}
+use Rattle.drain_grid.specs.declared.set_product.SetProduct.{SetProduct}
 use Rattle.drain_grid.specs.SinkTexts.{sinks_of}
-use Rattle.drain_grid.specs.declared.held.Held.TheVariants.{Con, Dir, Acc, Bas, Rnk}
-use Rattle.drain_grid.specs.Held.{product_of}
+use Rattle.drain_grid.specs.declared.set_product.SetProduct.TheVariants.{Con, Dir, Acc, Bas, Rnk}
+use Rattle.drain_grid.specs.SetProduct.{product_of}
 use Rattle.drain_grid.specs.declared.product_set.ProductSet.{ProductSet}
 use Rattle.drain_grid.specs.WholeGrid.{raster_in}
 use Rattle.drain_header.specs.Text.{text_of}
@@ -13,7 +13,7 @@ use Rattle.drain_mosaic.specs.Tiling.{Tiling}
 use Rattle.drain_raster.specs.Bytes.{raster_bytes}
 use Rattle.drain_verdict.specs.Inputs.{Inputs}
 use Rattle.drain_maker.specs.Mosaics.{IsMosaicOf}
-use Rattle.drain_maker.specs.Headers.{header_of}
+use Rattle.drain_maker.specs.Headers.{made_header}
 use Rattle.drain_maker.specs.Made.{AreMade}
 use Rattle.drain_maker.specs.Accepted.{MadeIsAccepted}
 use Rattle.drain_maker.specs.ProductFiles.{WritesFiles, set_bytes}
@@ -52,7 +52,7 @@ texts-same (x ∷ xs) (y ∷ ys) same =
     rw (one, texts-same xs ys rest) refl
 
 -- file by file
-headers-same : (t : Tiling) (ps : ProductSet) (i : Inputs) → set_bytes t ps ≡ files_given i → (p : Held) → i.header p ≡ text_of (header_of t (product_of p))
+headers-same : (t : Tiling) (ps : ProductSet) (i : Inputs) → set_bytes t ps ≡ files_given i → (p : SetProduct) → i.header p ≡ text_of (made_header t (product_of p))
 unfolding set_bytes files_given
 headers-same t ps i same Con = sym (ap (λ l. slice_index_or l 0 []) same)
 headers-same t ps i same Dir = sym (ap (λ l. slice_index_or l 2 []) same)
@@ -60,7 +60,7 @@ headers-same t ps i same Acc = sym (ap (λ l. slice_index_or l 4 []) same)
 headers-same t ps i same Bas = sym (ap (λ l. slice_index_or l 6 []) same)
 headers-same t ps i same Rnk = sym (ap (λ l. slice_index_or l 8 []) same)
 
-rasters-same : (t : Tiling) (ps : ProductSet) (i : Inputs) → set_bytes t ps ≡ files_given i → (p : Held) → i.raster p ≡ raster_bytes (header_of t (product_of p)) (raster_in ps p)
+rasters-same : (t : Tiling) (ps : ProductSet) (i : Inputs) → set_bytes t ps ≡ files_given i → (p : SetProduct) → i.raster p ≡ raster_bytes (made_header t (product_of p)) (raster_in ps p)
 unfolding set_bytes files_given
 rasters-same t ps i same Con = sym (ap (λ l. slice_index_or l 1 []) same)
 rasters-same t ps i same Dir = sym (ap (λ l. slice_index_or l 3 []) same)
@@ -77,6 +77,6 @@ accepted bytes_left sink law side tiles sinks t ps empty written i made tell sin
     law i made.elevation made.listed ps tell.corners_are (subst (λ u. IsMosaicOf i u made.elevation) tiling mosaic) (ap sinks_of sinks_are ∙ made.listed_are)
     (subst (λ u. AreMade u made.elevation made.listed ps) tiling made.made)
     (record {
-      headers_are = λ p. subst (λ u. i.header p ≡ text_of (header_of u (product_of p))) tiling (headers-same t ps i same p);
-      rasters_are = λ p. subst (λ u. i.raster p ≡ raster_bytes (header_of u (product_of p)) (raster_in ps p)) tiling (rasters-same t ps i same p);
+      headers_are = λ p. subst (λ u. i.header p ≡ text_of (made_header u (product_of p))) tiling (headers-same t ps i same p);
+      rasters_are = λ p. subst (λ u. i.raster p ≡ raster_bytes (made_header u (product_of p)) (raster_in ps p)) tiling (rasters-same t ps i same p);
     }) answer is

@@ -15,14 +15,14 @@ use Rattle.drain_hgt.specs.declared.input.TileInput.{TileInput}
 use Rattle.drain_maker.specs.declared.product_files.SetFault.{SetFault}
 use Rattle.drain_verdict.specs.Stages.{IsLayoutOf}
 use Rattle.drain_mosaic.specs.Tiling.{Tiling}
-use Rattle.drain_verdict.specs.Audits.{OfFour}
+use Rattle.drain_verdict.specs.Audits.{ForAudit}
 use Rattle.drain_verdict.specs.Uses.{AuditUses}
 use Rattle.drain_verdict.specs.declared.audit_products.AuditProducts.{AuditProducts}
-use Rattle.drain_cli.specs.Printing.{Prints}
+use Rattle.drain_print.specs.Printing.{Prints}
 use Rattle.drain_cli.specs.SetRuns.{written_line}
-use Rattle.drain_cli.specs.Statuses.{refusal_status}
-use Rattle.drain_cli.specs.declared.status.Status.{Status}
-use Rattle.drain_cli.specs.declared.status.Status.TheVariants.{Rejected}
+use Rattle.drain_print.specs.Statuses.{refusal_status}
+use Rattle.drain_print.specs.declared.status.Status.{Status}
+use Rattle.drain_print.specs.declared.status.Status.TheVariants.{Rejected}
 
 -- the line for the result of writing: derived rows=R cols=C
 abbrev pub derived_line : Tiling → Result (Unit {0}) SetFault → List ℕ
@@ -49,8 +49,8 @@ none_status (NoEnd row col) = Rejected
 pub record IsDerivation {R : Type 0} (source : Source R) (side : ℕ) (tiles_old tiles_new : List (TileInput R)) (sinks : List ℕ)
     (products_old products_new : AuditProducts R) (outcome : Result (Tiling × Derived) DeriveRefusal) : Type 0 where
   pub layout : IfOk outcome (λ set. IsLayoutOf side (names_of tiles_old) set.0)
-  pub derived : IfOk outcome (λ set. OfFour source.bytes_left side tiles_old sinks products_old (λ i. AreDerivedOf i set.1))
-  pub err : IfErr outcome (λ why. OfFour source.bytes_left side tiles_old sinks products_old (λ i. IsDeriveRefusal i why))
+  pub derived : IfOk outcome (λ set. ForAudit source.bytes_left side tiles_old sinks products_old (λ i. AreDerivedOf i set.1))
+  pub err : IfErr outcome (λ why. ForAudit source.bytes_left side tiles_old sinks products_old (λ i. IsDeriveRefusal i why))
   pub uses : AuditUses source.bytes_left source.counts side (tiles_old, products_old) (tiles_new, products_new) (reading_in outcome)
 
 -- what was derived is returned, and nothing printed; or the reason is printed, and its status returned

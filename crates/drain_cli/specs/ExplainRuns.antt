@@ -5,25 +5,23 @@ use Rattle.drain_device.specs.declared.read.BodyFault.TheVariants as body
 use Rattle.drain_hgt.specs.declared.input.TileInput.{TileInput}
 use Rattle.drain_page.specs.declared.facts.Answer.{Answer}
 use Rattle.drain_page.specs.declared.facts.Answer.TheVariants as answer
+use Rattle.drain_page.specs.declared.json_page.TheConstants.{NO_OBJECT}
 use Rattle.drain_page.specs.Lines.{line_of}
-use Rattle.drain_cli.specs.declared.runs.explain_page.Form.{Form}
-use Rattle.drain_cli.specs.declared.runs.explain_page.Form.TheVariants.{Text, Json}
+use Rattle.drain_args.specs.declared.form.Form.{Form}
+use Rattle.drain_args.specs.declared.form.Form.TheVariants.{Text, Json}
 use Rattle.drain_cli.specs.declared.runs.no_page.NoPage.{NoPage}
 use Rattle.drain_cli.specs.declared.runs.no_page.NoPage.TheVariants as no_page
 use Rattle.drain_cli.specs.declared.runs.no_page.NoPage.TheVariants.{Open}
-use Rattle.drain_cli.specs.declared.runs.no_page.TheConstants.{NO_OBJECT}
-use Rattle.drain_cli.specs.declared.runs.run_explain.JudgedProducts.{JudgedProducts}
-use Rattle.drain_cli.specs.declared.runs.run_explain.JudgedProducts.TheVariants as products
-use Rattle.drain_cli.specs.declared.status.Status.{Status}
-use Rattle.drain_cli.specs.declared.status.Status.TheVariants.{Failed}
-use Rattle.drain_cli.specs.AuditRuns.{IsAuditOutcome}
-use Rattle.drain_cli.specs.CheckRuns.{IsCheckOutcome}
-use Rattle.drain_cli.specs.PartRuns.{IsPartOutcome}
-use Rattle.drain_cli.specs.Failures.{failure_text}
-use Rattle.drain_cli.specs.OpenFailures.{IsOpenFailure}
+use Rattle.drain_files.specs.declared.open_judged.JudgedProducts.{JudgedProducts}
+use Rattle.drain_files.specs.declared.open_judged.JudgedProducts.TheVariants as products
+use Rattle.drain_print.specs.declared.status.Status.{Status}
+use Rattle.drain_print.specs.declared.status.Status.TheVariants.{Failed}
+use Rattle.drain_cli.specs.JudgedRuns.{IsAuditOutcome, IsCheckOutcome, IsPartOutcome}
+use Rattle.drain_print.specs.Failures.{failure_text}
+use Rattle.drain_files.specs.OpenFailures.{IsOpenFailure}
 use Rattle.drain_page.specs.JsonLines.{IsJsonLine, line_feed}
-use Rattle.drain_cli.specs.Printing.{PrintsText}
-use Rattle.drain_cli.specs.Statuses.{answer_status}
+use Rattle.drain_print.specs.Printing.{PrintsText}
+use Rattle.drain_cli.specs.AnswerStatuses.{answer_status}
 
 -- the outcome of a check of five products, or that of an audit of four, or of some of these
 abbrev pub IsOutcome : {R : Type 0} → Source R → ℕ → List (TileInput R) → List (TileInput R) → List ℕ → JudgedProducts R → JudgedProducts R → Answer → Type 0

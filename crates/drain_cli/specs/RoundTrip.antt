@@ -4,7 +4,7 @@ use Rattle.std.specs.List.{All, flat_map}
 use Rattle.drain_device.specs.Devices.{Sink}
 use Rattle.drain_grid.specs.declared.product_set.ProductSet.{ProductSet}
 use Rattle.drain_grid.specs.WholeGrid.{grid_of, products_of}
-use Rattle.drain_grid.specs.Held.{products}
+use Rattle.drain_grid.specs.SetProduct.{products}
 use Rattle.drain_hgt.specs.declared.input.TileInput.{TileInput}
 use Rattle.drain_mosaic.specs.Tiling.{Tiling}
 use Rattle.drain_rules.specs.declared.verdict.Verdict.{Verdict}
@@ -12,7 +12,7 @@ use Rattle.drain_answer.specs.declared.refusal.Refusal.{Refusal}
 use Rattle.drain_verdict.specs.Inputs.{Inputs}
 use Rattle.drain_maker.specs.Mosaics.{TellTiles}
 use Rattle.drain_verdict.specs.Answers.{IsAnswer}
-use Rattle.drain_maker.specs.Accepted.{IsAcceptance}
+use Rattle.drain_maker.specs.Accepted.{IsMadeAcceptance}
 use Rattle.drain_maker.specs.ProductFiles.{WritesFiles, set_bytes}
 use Rattle.drain_cli.specs.MadeSets.{IsSetOf}
 
@@ -28,4 +28,4 @@ WhatIsWrittenIsAccepted {R} {F} bytes_left sink =
     (made : IsSetOf bytes_left side tiles sinks t ps) → TellTiles bytes_left side tiles i → i.sinks ≡ sinks →
     All (λ file. sink.bytes_taken file ≡ Some []) empty → WritesFiles sink empty written (set_bytes t ps) (Ok tt) →
     map sink.bytes_taken written ≡ map Some (files_given i) →
-    (answer : Result Verdict Refusal) → IsAnswer i answer → IsAcceptance (grid_of made.elevation made.listed) (products_of ps) answer
+    (answer : Result Verdict Refusal) → IsAnswer i answer → IsMadeAcceptance (grid_of made.elevation made.listed) (products_of ps) answer

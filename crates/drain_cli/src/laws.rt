@@ -1,13 +1,9 @@
-//! Laws on making, writing and checking together, and on the constants.
+//! A law on making, writing and checking together.
 //!
 //! A law is a function with an empty body: its contract is the law, and a caller gets the law by calling it.
 
-ghost use Rattle.std.specs.Prelude.{◌≡◌};
 ghost use Rattle.drain_cli.specs.RoundTrip.{WhatIsWrittenIsAccepted};
 
-use crate::files::sink_file::MAX_LIST_BYTES;
-use crate::files::whole_input::CHUNK_BYTES;
-use crate::progress::pace::APART;
 use drain_device::{ByteSink, ByteSource};
 use drain_maker::laws::made_is_accepted;
 
@@ -19,11 +15,3 @@ pub fn what_is_written_is_accepted<R: ByteSource, F: ByteSink>()
 {
     made_is_accepted();
 }
-
-/// The numerals of the constants in definitions: a list of sinks has at most 2^32 bytes and is read by 16,384 of them,
-/// and lines that are due come a thousand milliseconds apart. This project's own.
-pub fn constants()
-    ensures max_list_bytes { MAX_LIST_BYTES ≡ 4294967296 }
-    ensures chunk_bytes { CHUNK_BYTES ≡ 16384 }
-    ensures apart { APART ≡ 1000 }
-{}

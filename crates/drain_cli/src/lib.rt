@@ -1,12 +1,8 @@
-//! The program `drain` as functions: its arguments, the files that it opens, and a run for each command, over any
-//! source and any sink.
+//! The program `drain` as functions: a run for each command, over any source and any sink, and the program, which opens
+//! the files of a run.
 #![tactic(auto)]
 
-pub mod args;
-pub mod files;
+pub mod answer;
 pub mod laws;
-pub mod print;
 pub mod program;
-pub mod progress;
 pub mod runs;
-pub mod status;

@@ -1,30 +1,25 @@
 //! The program `drain`: it reads the arguments, opens the standard streams and the named files as devices, passes them
 //! to a run, and returns its status. What a run does is in the other modules, each with its contract.
 
-use crate::args::asked_form::asked_form;
-use crate::args::command_line;
-use crate::args::command_line::{Judged, Request};
-use crate::files::open_failure::{print_open_failure, print_open_fault};
-use crate::files::open_files::Opener;
-use crate::files::open_judged::{OpenFiles, Rasters, audited, open_judged};
-use crate::files::reason::{Reason, print_reason};
-use crate::print::{print_failure, print_text};
-use crate::progress::gauge::Gauge;
 use crate::runs::derive_files::derive_files;
 use crate::runs::explain_files::explain_files;
-use crate::runs::explain_page::Form;
+use crate::runs::judge::{run_audit, run_check, run_part_audit};
 use crate::runs::make_files::make_from_files;
 use crate::runs::no_page::print_no_object;
-use crate::runs::run_audit::run_audit;
-use crate::runs::run_check::run_check;
-use crate::runs::run_explain::JudgedProducts;
 use crate::runs::run_fill::run_fill;
 use crate::runs::run_header::run_header;
-use crate::runs::run_part_audit::run_part_audit;
-use crate::status::Status;
 use clap::Error;
 use clap::error::ErrorKind;
+use drain_args::form::{Form, requested_form};
+use drain_args::requests::{CheckArgs, Request, parse};
 use drain_device::{BodyFault, ByteSink, Reader, Writer};
+use drain_files::open_failure::{print_open_failure, print_open_fault};
+use drain_files::open_files::{InputFile, Opener};
+use drain_files::open_judged::{JudgedProducts, OpenFiles, Rasters, open_judged};
+use drain_files::reason::{Reason, print_reason};
+use drain_print::print::{print_failure, print_text};
+use drain_print::status::Status;
+use drain_progress::progress::Progress;
 use std::alloc::Global;
 use std::fs::File;
 use std::io;
@@ -32,8 +27,8 @@ use std::io;
 /// Does what the command line requests, and returns the exit status.
 pub fn run_program(rt: &HostRuntime) -> u8 {
     let mut out = Writer::new(rt.stdout());
-    match asked_words(rt) {
-        Ok(asked) => run(rt, asked.as_slice(), &mut out),
+    match arguments(rt) {
+        Ok(args) => run(rt, args.as_slice(), &mut out),
         Err(error) if error.kind() == io::ErrorKind::OutOfMemory => print_no_memory(rt, &mut out),
         Err(error) => {
             let _ = eprintln!(rt; "error: the command line can't be read: {error}");
@@ -43,34 +38,23 @@ pub fn run_program(rt: &HostRuntime) -> u8 {
 }
 
 /// The arguments of the command line.
-fn asked_words(rt: &HostRuntime) -> io::Result<Vec<String>> {
+fn arguments(rt: &HostRuntime) -> io::Result<Vec<String>> {
     Ok(std::env::args(rt)?.collect(rt.alloc())?)
 }
 
 /// Does what the arguments request, and returns the exit status.
-fn run(rt: &HostRuntime, asked: &[String], out: &mut impl ByteSink) -> u8 {
-    match command_line::parse(rt.alloc(), asked) {
-        Ok(Request::Audit(asked)) => judge_files(rt, &asked.judged, audited(asked.only), out),
-        Ok(Request::Check(judged)) => judge_files(rt, &judged, Rasters::OfCheck, out),
-        Ok(Request::Explain(asked)) => explain_files(rt, &asked, out),
-        Ok(
-            Request::Make {
-                side,
-                folder,
-                sinks,
-                tiles,
-                progress,
-            },
-        ) => make_from_files(
+fn run(rt: &HostRuntime, args: &[String], out: &mut impl ByteSink) -> u8 {
+    match parse(rt.alloc(), args) {
+        Ok(Request::Audit(args)) => judge_files(
             rt,
-            &Gauge::new(rt, progress),
-            side,
-            folder,
-            sinks,
-            tiles.as_slice(),
+            &args.inputs,
+            Rasters::of_audit(args.only),
             out,
         ),
-        Ok(Request::Derive(asked)) => derive_files(rt, &asked, out),
+        Ok(Request::Check(args)) => judge_files(rt, &args, Rasters::OfCheck, out),
+        Ok(Request::Explain(args)) => explain_files(rt, &args, out),
+        Ok(Request::Make(args)) => make_from_files(rt, &args, out),
+        Ok(Request::Derive(args)) => derive_files(rt, &args, out),
         Ok(Request::Fill { side }) => run_fill(rt.alloc(), side, &mut Reader::new(rt.stdin()), out),
         Ok(Request::Header { path }) => header_of_file(rt, path, out),
         Err(error) if error.kind() == ErrorKind::OutOfMemory => print_no_memory(rt, out),
@@ -80,7 +64,7 @@ fn run(rt: &HostRuntime, asked: &[String], out: &mut impl ByteSink) -> u8 {
 
 /// Prints that there is no memory for the request, in its form, and returns the exit status.
 fn print_no_memory(rt: &HostRuntime, out: &mut impl ByteSink) -> u8 {
-    match asked_form(rt) {
+    match requested_form(rt) {
         Form::Text => print_failure(out, BodyFault::OutOfMemory),
         Form::Json => print_no_object(out),
     }
@@ -101,19 +85,24 @@ fn header_of_file(rt: &HostRuntime, path: &str, out: &mut impl ByteSink) -> u8 {
 /// Opens the tiles and the products of a folder, checks or audits them, and returns the exit status.
 fn judge_files(
     rt: &HostRuntime,
-    judged: &Judged<'_>,
+    args: &CheckArgs<'_>,
     rasters: Rasters,
     out: &mut impl ByteSink,
 ) -> u8 {
-    let gauge = Gauge::new(rt, judged.progress);
-    match open_judged(&mut Opener::new(rt), judged, rasters, &gauge) {
-        Ok(files) => run_judged(rt.alloc(), judged.side, files, out),
+    let progress = Progress::new(rt, args.progress);
+    match open_judged(&mut Opener::new(rt), args, rasters, &progress) {
+        Ok(files) => run_judged(rt.alloc(), args.side, files, out),
         Err(fault) => print_open_fault(rt, fault, out),
     }
 }
 
 /// Checks or audits the products of open files, which are closed again, and returns the exit status.
-fn run_judged(alloc: Global, side: u32, files: OpenFiles<'_>, out: &mut impl ByteSink) -> u8 {
+fn run_judged<'a>(
+    alloc: Global,
+    side: u32,
+    files: OpenFiles<'a, JudgedProducts<InputFile<'a>>>,
+    out: &mut impl ByteSink,
+) -> u8 {
     let OpenFiles {
         mut tiles,
         products,

@@ -11,9 +11,7 @@ pub(crate) fn push_row(out: &mut Vec<i16>, numbers: &[i64]) -> Result<(), OutOfM
     ensures kept { OnErr result (out.new.items ≡ out.old.items) }
 {
     let before = out.len();
-    if out.resize(before + numbers.len(), 0).is_err() {
-        return Err(OutOfMemory);
-    }
+    out.resize(before + numbers.len(), 0)?;
     fill(&mut out[before..], numbers);
     Ok(())
 }

@@ -3,10 +3,10 @@
 use crate::con_rows::ConRows;
 use drain_grid::OutOfMemory;
 use drain_kernel::Rules;
-use drain_rows::{HeldRow, RowNotes};
+use drain_rows::{RowBuffer, RowVisitor};
 use drain_rules::ThreeRows;
 
-impl RowNotes for ConRows {
+impl RowVisitor for ConRows {
     ghost use Rattle.std.specs.Prelude.{true};
     ghost use Rattle.drain_con_rows.specs.ConRows.{AreFirstCon};
 
@@ -20,7 +20,7 @@ impl RowNotes for ConRows {
 
     fn note(
         &mut self,
-        row: &HeldRow,
+        row: &RowBuffer,
         _rows: &ThreeRows<'_>,
         _rules: &Rules,
     ) -> Result<(), OutOfMemory> {

@@ -9,7 +9,7 @@ use Rattle.drain_grid.specs.declared.cell.Cell.{Cell}
 use Rattle.drain_grid.specs.Extent.{IsCellOf, index_of}
 use Rattle.drain_grid.specs.Size.{Extent}
 use Rattle.drain_grid.proofs.Runs.{cell_at, index_of-below}
-use Rattle.drain_runs.proofs.Cells.{same_index}
+use Rattle.drain_paths.proofs.Cells.{same_index}
 use Rattle.drain_counts.specs.declared.inflows.TheConstants.{PASSED_ON}
 use Rattle.drain_counts.specs.CellNumbers.{cell_number, IsPutAt}
 use Rattle.drain_counts.specs.Passing.{IsPassedOn}
@@ -78,10 +78,10 @@ cell_of_place e k less =
     (inside_by_place e (cell_at e k) k at col less, at)
 
 -- only zeros
-pub noughts : (n k : ℕ) → ◌≡◌ {A = ℕ} (get_or (replicate n 0) k 0) 0
-noughts zero k = refl
-noughts (suc n) zero = refl
-noughts (suc n) (suc k) = noughts n k
+pub zeros_read : (n k : ℕ) → ◌≡◌ {A = ℕ} (get_or (replicate n 0) k 0) 0
+zeros_read zero k = refl
+zeros_read (suc n) zero = refl
+zeros_read (suc n) (suc k) = zeros_read n k
 
 -- what a vector has after a slice of all of it was written
 pub lent_back : {items lent after : List ℕ} {len : ℕ} → lent ≡ items → length lent ≡ len → length after ≡ length lent →

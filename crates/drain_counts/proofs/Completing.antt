@@ -25,16 +25,16 @@ use Rattle.drain_grid.proofs.Inflows.{HasData-flow}
 use Rattle.drain_grid.proofs.Patches.{cell_shown}
 use Rattle.drain_grid.proofs.Runs.{run_end-zero}
 use Rattle.drain_grid.proofs.Upstream.{upstream_count-parts}
-use Rattle.drain_runs.proofs.Cells.{in_grid}
+use Rattle.drain_paths.proofs.Cells.{in_grid}
 use Rattle.drain_counts.specs.CellNumbers.{cell_number}
-use Rattle.drain_counts.specs.OfFlows.{AllRunsEnd}
+use Rattle.drain_counts.specs.OfFlows.{AllFlowsEnd}
 use Rattle.drain_counts.specs.Laws.{AreCompleted, AreCountsPresent, AreRouted, CorrectByRouting, CountsKeepRules, IsCountOrLabelRule}
 
 pos-same : (a b : ℕ) → pos a ≡ pos b → a ≡ b
 pos-same a b h = search rules
 
 -- at least the cell itself drains through it
-pub upstream_some : (g : Grid) (ps : Products) → AllRunsEnd g ps → (c : Cell) → HasData g c → upstream_count g ps c ≢ 0
+pub upstream_some : (g : Grid) (ps : Products) → AllFlowsEnd g ps → (c : Cell) → HasData g c → upstream_count g ps c ≢ 0
 upstream_some g ps ends c here none = (let parts = upstream_count-parts g ps (ended_chains g ps ends) c here in absurd (omega (arith, parts, none)))
 
 module _ (g : Grid) (ps : Products) (e : Extent) (counts labels : List ℕ) (are : AreCompleted g ps e counts labels) where

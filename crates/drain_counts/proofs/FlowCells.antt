@@ -12,12 +12,12 @@ use Rattle.drain_grid.specs.Grid.{Grid, Products, IsInside, HasData}
 use Rattle.drain_grid.specs.Run.{next}
 use Rattle.drain_grid.specs.Size.{Extent}
 use Rattle.drain_grid.proofs.Options.{none_some}
-use Rattle.drain_runs.specs.declared.flow.Flow.{Flow}
-use Rattle.drain_runs.specs.declared.flow.Flow.TheVariants.{Void, Lost, Ends, ToEast, ToSouthEast, ToSouth, ToSouthWest, ToWest, ToNorthWest, ToNorth, ToNorthEast}
-use Rattle.drain_runs.specs.Flows.{direction_of, flow_to, code_flow, cell_flow, flow_at, AreFlowsOf}
-use Rattle.drain_runs.specs.KnownFlows.{IsKnownFlow, AreKnownFlows}
-use Rattle.drain_runs.proofs.KnownWays.{AreKnownFlows-grid, stuck_outside, stuck_void, leads_on}
-use Rattle.drain_runs.proofs.NextCells.{next-unnamed, next-of_no_code, no_void}
+use Rattle.drain_paths.specs.declared.flow.Flow.{Flow}
+use Rattle.drain_paths.specs.declared.flow.Flow.TheVariants.{Void, Lost, Ends, ToEast, ToSouthEast, ToSouth, ToSouthWest, ToWest, ToNorthWest, ToNorth, ToNorthEast}
+use Rattle.drain_paths.specs.Flows.{direction_of, flow_to, code_flow, cell_flow, flow_at, AreFlowsOf}
+use Rattle.drain_paths.specs.KnownFlows.{IsKnownFlow, AreKnownFlows}
+use Rattle.drain_paths.proofs.KnownWays.{AreKnownFlows-grid, stuck_outside, stuck_void, leads_on}
+use Rattle.drain_paths.proofs.NextCells.{next-unnamed, next-of_no_code, no_void}
 
 with_height : (z : Option ℤ) (n : ℤ) → IsSome z → cell_flow z n ≡ code_flow n
 with_height None n some = absurd (false≢true some)

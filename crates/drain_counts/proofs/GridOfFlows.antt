@@ -2,9 +2,9 @@
 use Rattle.std.proofs.Common.{◌≡◌, ℤ, pos, List, Option, Some, None, refl}
 use Rattle.drain_grid.specs.Grid.{Grid, Products, no_sink}
 use Rattle.drain_grid.specs.Size.{Extent}
-use Rattle.drain_runs.specs.declared.flow.Flow.{Flow}
-use Rattle.drain_runs.specs.declared.flow.Flow.TheVariants.{Void, Lost, Ends, ToEast, ToSouthEast, ToSouth, ToSouthWest, ToWest, ToNorthWest, ToNorth, ToNorthEast}
-use Rattle.drain_runs.specs.Flows.{cell_flow, flow_at, AreFlowsOf}
+use Rattle.drain_paths.specs.declared.flow.Flow.{Flow}
+use Rattle.drain_paths.specs.declared.flow.Flow.TheVariants.{Void, Lost, Ends, ToEast, ToSouthEast, ToSouth, ToSouthWest, ToWest, ToNorthWest, ToNorth, ToNorthEast}
+use Rattle.drain_paths.specs.Flows.{cell_flow, flow_at, AreFlowsOf}
 
 abbrev pub height_of_flow : Flow → Option ℤ
 height_of_flow Void = None

@@ -11,7 +11,7 @@ use Rattle.drain_grid.proofs.HandedOn.{handed_on, handed_none, handed_same}
 use Rattle.drain_grid.proofs.Inflows.{HasData-flow, next-flow}
 use Rattle.drain_grid.proofs.Options.{same_some}
 use Rattle.drain_grid.proofs.Lowered.{same_or_not}
-use Rattle.drain_runs.proofs.Cells.{in_grid, same_index}
+use Rattle.drain_paths.proofs.Cells.{in_grid, same_index}
 use Rattle.drain_counts.specs.CellNumbers.{cell_number, IsPutAt}
 use Rattle.drain_counts.specs.Inflows.{is_before, AreInflowsBefore}
 use Rattle.drain_counts.proofs.PassedSums.{passed_most}

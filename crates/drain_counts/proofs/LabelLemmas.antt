@@ -11,9 +11,9 @@ use Rattle.drain_grid.proofs.EndedRuns.{HasData-next, ended-run_end}
 use Rattle.drain_grid.proofs.Lowered.{same_or_not}
 use Rattle.drain_grid.proofs.Runs.{index_of-below, run_end-zero}
 use Rattle.drain_grid.proofs.Walks.{Leads, IsWalk, EndsAfter-zero, endless-stuck}
-use Rattle.drain_runs.proofs.Cells.{in_grid, same_index, earlier_index}
-use Rattle.drain_runs.proofs.NextCells.{no_void}
-use Rattle.drain_runs.proofs.Shorter.{IsEnded-next, RunEnds-before}
+use Rattle.drain_paths.proofs.Cells.{in_grid, same_index, earlier_index}
+use Rattle.drain_paths.proofs.NextCells.{no_void}
+use Rattle.drain_paths.proofs.Shorter.{IsEnded-next, RunEnds-before}
 use Rattle.drain_counts.specs.CellNumbers.{cell_number, IsPutAt}
 use Rattle.drain_counts.specs.Basins.{ends_before, end_number, AreEndLabels, IsBasinLabel, AreLabelsSoFar, AreBasinLabels}
 use Rattle.drain_counts.proofs.EndCounts.{ends_before-none, ends_before-more, end_number-some, end_number-one, is_end_yes, is_end_no}

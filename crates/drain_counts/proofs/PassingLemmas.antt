@@ -24,21 +24,23 @@ use Rattle.drain_grid.proofs.Options.{none_some, same_some}
 use Rattle.drain_grid.proofs.Runs.{cell_count, index_of-below}
 use Rattle.drain_grid.proofs.Upstream.{upstream_count-parts}
 use Rattle.drain_grid.proofs.Walks.{run_steps-le}
-use Rattle.drain_runs.proofs.Cells.{in_grid}
-use Rattle.drain_runs.proofs.NextCells.{no_void}
-use Rattle.drain_runs.specs.declared.flow.Flow.{Flow}
-use Rattle.drain_runs.specs.declared.flow.Flow.TheVariants.{Void, Lost, Ends, ToEast, ToSouthEast, ToSouth, ToSouthWest, ToWest, ToNorthWest, ToNorth, ToNorthEast}
-use Rattle.drain_runs.specs.Flows.{flow_at, AreFlowsOf}
+use Rattle.drain_paths.proofs.Cells.{in_grid}
+use Rattle.drain_paths.proofs.NextCells.{no_void}
+use Rattle.drain_paths.specs.declared.flow.Flow.{Flow}
+use Rattle.drain_paths.specs.declared.flow.Flow.TheVariants.{Void, Lost, Ends, ToEast, ToSouthEast, ToSouth, ToSouthWest, ToWest, ToNorthWest, ToNorth, ToNorthEast}
+use Rattle.drain_paths.specs.Flows.{flow_at, AreFlowsOf}
 use Rattle.drain_counts.specs.declared.inflows.TheConstants.{PASSED_ON}
 use Rattle.drain_counts.specs.CellNumbers.{cell_number, IsPutAt, one_of, ones_of}
 use Rattle.drain_counts.specs.Passing.{has_passed, still, IsPassing, IsPassedOn, StaysAway}
 use Rattle.drain_counts.specs.Inflows.{is_before, AreInflowsBefore}
-use Rattle.drain_counts.specs.OfFlows.{AllRunsEnd}
+use Rattle.drain_counts.specs.OfFlows.{AllFlowsEnd}
 use Rattle.drain_counts.specs.Upstream.{AreUpstreamCounts}
-use Rattle.drain_counts.proofs.FlowCells.{flow_of_data, flow_of_void}
+use Rattle.drain_counts.proofs.FlowCells.{data_at, flow_of_data, flow_of_void}
 use Rattle.drain_counts.proofs.InflowLemmas.{is_before_yes, inflows_few}
 use Rattle.drain_counts.proofs.PassedSums.{passed_most}
 use Rattle.drain_counts.proofs.Shares.{IsMore, share_elsewhere, share_ahead}
+use Rattle.drain_counts.specs.OfFlows.{OfFlows}
+use Rattle.drain_counts.proofs.GridOfFlows.{are_flows, grid_of_flows, products_of_flows}
 
 few_unmarked : (n : ℕ) → n ≤ 8 → nat_eq n PASSED_ON ≡ false
 few_unmarked n few = grind (arith, nat_tests)
@@ -56,7 +58,7 @@ upstream_few g ps c =
     at_most false = omega arith
 
 -- the run of the cell to which a code leads is shorter
-pub shorter_ahead : (g : Grid) (ps : Products) (c n : Cell) → AllRunsEnd g ps → HasData g c → next g ps c ≡ Some n → run_steps g ps n < run_steps g ps c
+pub shorter_ahead : (g : Grid) (ps : Products) (c n : Cell) → AllFlowsEnd g ps → HasData g c → next g ps c ≡ Some n → run_steps g ps n < run_steps g ps c
 shorter_ahead g ps c n ends here leads = omega (arith, ended-run_steps g ps c n (ends c here) leads)
 
 one_of-some : (f : Flow) → f ≢ Void → one_of f ≡ 1
@@ -74,7 +76,7 @@ one_of-some ToNorthEast some = refl
 
 -- at the start each data cell has 1, and waits for all that flow into it
 pub IsPassing-start : (g : Grid) (ps : Products) (e : Extent) (flows : List Flow) (waits : List ℕ) → AreFlowsOf g ps e flows → length flows ≡ e.rows * e.cols →
-    AllRunsEnd g ps → AreInflowsBefore g ps e (e.rows * e.cols) waits → IsPassing g ps e waits (ones_of flows)
+    AllFlowsEnd g ps → AreInflowsBefore g ps e (e.rows * e.cols) waits → IsPassing g ps e waits (ones_of flows)
 IsPassing-start g ps e flows waits are counted ends inflows = record {
   extent = are.extent;
   ends = ends;
@@ -286,6 +288,36 @@ module _ (g : Grid) (ps : Products) (e : Extent) (waits counts : List ℕ) (stat
               let sum = state.counted n ahead_data in
               let rise = passed.more in
               omega (arith, share, sum, rise, whole_count)
+
+-- the same of cells with given flows: there is a grid that has them
+module _ (e : Extent) (flows : List Flow) (waits counts : List ℕ) (passing : OfFlows e flows (λ g ps. IsPassing g ps e waits counts)) (c n : Cell) (inside : IsCellOf e c)
+    (has_data : flow_at e flows c ≢ Void) (ready : cell_number e waits c ≡ 0) (leads : OfFlows e flows (λ g ps. HasData g c → next g ps c ≡ Some n)) where
+  abbrev pub g : Grid
+  g = grid_of_flows e flows
+
+  abbrev pub ps : Products
+  ps = products_of_flows e flows
+
+  are : AreFlowsOf g ps e flows
+  are = are_flows e flows
+
+  here : HasData g c
+  here = data_at g ps e flows are c inside has_data
+
+  pub flow_some : 0 < cell_number e waits n
+  flow_some = ahead_some g ps e waits counts (passing g ps are) c here ready n (leads g ps are here)
+
+  pub flow_apart : c ≢ n
+  flow_apart = ahead_apart g ps e waits counts (passing g ps are) c here ready n (leads g ps are here)
+
+  pub flow_fits : cell_number e counts n + cell_number e counts c ≤ e.rows * e.cols
+  flow_fits =
+      let fits = ahead_fits g ps e waits counts (passing g ps are) c here ready n (leads g ps are here) in
+      let cells : g.extent.rows * g.extent.cols ≡ e.rows * e.cols = ap (λ (x : Extent). x.rows * x.cols) are.extent in
+      omega (arith, fits, cells)
+
+  pub flow_shorter : run_steps g ps n < run_steps g ps c
+  flow_shorter = shorter_ahead g ps c n (passing g ps are).ends here (leads g ps are here)
 
 -- the walk leaves no cell that waits for no inflow
 pub stays_ahead : (e : Extent) (waits after counts counts_after : List ℕ) (c n x : Cell) → IsPassedOn e waits after counts counts_after c n → IsCellOf e x →

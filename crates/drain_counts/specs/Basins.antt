@@ -9,7 +9,7 @@ use Rattle.drain_grid.specs.Grid.{Grid, Products, IsInside, HasData}
 use Rattle.drain_grid.specs.Run.{run_end, RunEnds, ShareBasin}
 use Rattle.drain_grid.specs.Size.{Extent}
 use Rattle.drain_counts.specs.CellNumbers.{cell_number}
-use Rattle.drain_counts.specs.OfFlows.{AllRunsEnd}
+use Rattle.drain_counts.specs.OfFlows.{AllFlowsEnd}
 
 -- a data cell with code 0
 abbrev pub is_end : Grid → Products → Cell → Bool
@@ -47,7 +47,7 @@ pub record AreLabelsSoFar (g : Grid) (ps : Products) (e : Extent) (labels : List
 -- the cells share a basin; each void has 0
 pub record AreBasinLabels (g : Grid) (ps : Products) (e : Extent) (labels : List ℕ) : Type 0 where
   pub extent : g.extent ≡ e
-  pub ends : AllRunsEnd g ps
+  pub ends : AllFlowsEnd g ps
   pub labels_are : (c : Cell) → HasData g c → cell_number e labels c ≡ end_number g ps (run_end g ps c)
   pub some : (c : Cell) → HasData g c → cell_number e labels c ≢ 0
   pub shared : (a b : Cell) → HasData g a → HasData g b → (cell_number e labels a ≡ cell_number e labels b) ↔ ShareBasin g ps a b

@@ -1,8 +1,8 @@
 -- Flows of codes that are kept in a byte per cell.
 use Rattle.std.specs.Prelude.{◌≡◌, ℕ, ◌==◌, ◌<◌, pos, List, map, slice_index_or, if◌then◌else◌}
-use Rattle.drain_runs.specs.declared.flow.Flow.{Flow}
-use Rattle.drain_runs.specs.declared.flow.Flow.TheVariants.{Void}
-use Rattle.drain_runs.specs.Flows.{code_flow}
+use Rattle.drain_paths.specs.declared.flow.Flow.{Flow}
+use Rattle.drain_paths.specs.declared.flow.Flow.TheVariants.{Void}
+use Rattle.drain_paths.specs.Flows.{code_flow}
 use Rattle.drain_counts.specs.declared.code_flows.TheConstants.{NO_CODE}
 
 -- that of a void, or the meaning of the code

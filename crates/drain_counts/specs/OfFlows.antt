@@ -4,13 +4,13 @@ use Rattle.drain_grid.specs.declared.cell.Cell.{Cell}
 use Rattle.drain_grid.specs.Grid.{Grid, Products, HasData}
 use Rattle.drain_grid.specs.Run.{RunEnds}
 use Rattle.drain_grid.specs.Size.{Extent}
-use Rattle.drain_runs.specs.declared.flow.Flow.{Flow}
-use Rattle.drain_runs.specs.Flows.{AreFlowsOf}
+use Rattle.drain_paths.specs.declared.flow.Flow.{Flow}
+use Rattle.drain_paths.specs.Flows.{AreFlowsOf}
 
 -- the fact holds of each grid of this size and products whose flows in row order these are
 abbrev pub OfFlows : Extent → List Flow → (Grid → Products → Type 0) → Type 0
 OfFlows e flows P = (g : Grid) → (ps : Products) → AreFlowsOf g ps e flows → P g ps
 
 -- the run of every data cell ends
-abbrev pub AllRunsEnd : Grid → Products → Type 0
-AllRunsEnd g ps = (c : Cell) → HasData g c → RunEnds g ps c
+abbrev pub AllFlowsEnd : Grid → Products → Type 0
+AllFlowsEnd g ps = (c : Cell) → HasData g c → RunEnds g ps c

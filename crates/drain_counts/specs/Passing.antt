@@ -8,7 +8,7 @@ use Rattle.drain_grid.specs.Size.{Extent}
 use Rattle.drain_grid.proofs.HandedOn.{handed_on}
 use Rattle.drain_counts.specs.declared.inflows.TheConstants.{PASSED_ON}
 use Rattle.drain_counts.specs.CellNumbers.{cell_number}
-use Rattle.drain_counts.specs.OfFlows.{AllRunsEnd}
+use Rattle.drain_counts.specs.OfFlows.{AllFlowsEnd}
 
 -- the cell has passed its count on
 abbrev pub has_passed : Extent → List ℕ → Cell → Bool
@@ -22,7 +22,7 @@ still e waits f m = cond (has_passed e waits m) 0 (f m)
 -- count and what is still to be passed on to it are together the number of cells that drain through it
 pub record IsPassing (g : Grid) (ps : Products) (e : Extent) (waits counts : List ℕ) : Type 0 where
   pub extent : g.extent ≡ e
-  pub ends : AllRunsEnd g ps
+  pub ends : AllFlowsEnd g ps
   pub waiting : (c : Cell) → HasData g c → has_passed e waits c ≡ false → cell_number e waits c ≡ handed_on g ps c (still e waits (λ m. 1))
   pub done : (c : Cell) → HasData g c → has_passed e waits c ≡ true → handed_on g ps c (still e waits (λ m. 1)) ≡ 0
   pub counted : (c : Cell) → HasData g c →

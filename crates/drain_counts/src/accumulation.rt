@@ -3,8 +3,8 @@
 ghost use Rattle.std.specs.Prelude.{◌≡◌, ◌≢◌, ◌<◌, ◌*◌, length, slice_index_or, vec_len, IfOk};
 ghost use Rattle.drain_grid.specs.declared.cell.Cell.{Cell};
 ghost use Rattle.drain_grid.specs.Extent.{IsCellOf};
-ghost use Rattle.drain_runs.specs.declared.flow.Flow.TheVariants.{Void};
-ghost use Rattle.drain_counts.specs.OfFlows.{OfFlows, AllRunsEnd};
+ghost use Rattle.drain_paths.specs.declared.flow.Flow.TheVariants.{Void};
+ghost use Rattle.drain_counts.specs.OfFlows.{OfFlows, AllFlowsEnd};
 ghost use Rattle.drain_counts.specs.CellNumbers.{cell_number, ones_of, one_of};
 ghost use Rattle.drain_counts.specs.Passing.{IsPassing};
 ghost use Rattle.drain_counts.specs.Upstream.{AreUpstreamCounts};
@@ -13,7 +13,7 @@ use crate::inflows::inflows;
 use crate::passing::pass_counts;
 use crate::ways::flow_of_place;
 use drain_grid::{OutOfMemory, Shape};
-use drain_runs::Flow;
+use drain_paths::Flow;
 use std::alloc::Global;
 
 /// The number of data cells that drain through each data cell, itself included, and 0 at voids, from the flows of all
@@ -24,7 +24,7 @@ use std::alloc::Global;
 #[inline(never)]
 pub fn accumulate(alloc: Global, flows: &[Flow], shape: Shape) -> Result<Vec<u32>, OutOfMemory>
     requires counted { length flows.now ≡ shape.rows * shape.cols }
-    requires ends { OfFlows shape flows.now AllRunsEnd }
+    requires ends { OfFlows shape flows.now AllFlowsEnd }
     ensures counted { IfOk result (λ counts. vec_len counts ≡ shape.rows * shape.cols) }
     ensures counts { IfOk result (λ counts. OfFlows shape flows.now (λ g ps. AreUpstreamCounts g ps shape counts.items)) }
 {
@@ -40,9 +40,7 @@ pub fn accumulate(alloc: Global, flows: &[Flow], shape: Shape) -> Result<Vec<u32
 fn ones(alloc: Global, flows: &[Flow]) -> Result<Vec<u32>, OutOfMemory>
     ensures { IfOk result (λ counts. counts.items ≡ ones_of flows.now) }
 {
-    let Ok(mut counts) = vec![in alloc; 0u32; flows.len()] else {
-        return Err(OutOfMemory);
-    };
+    let mut counts = vec![in alloc; 0u32; flows.len()]?;
     for place in 0..flows.len() {
         counts[place] = one_of(flow_of_place(flows, place));
     }

@@ -5,9 +5,9 @@ ghost use Rattle.drain_grid.specs.declared.cell.Cell.{Cell};
 ghost use Rattle.drain_grid.specs.Extent.{IsCellOf, index_of};
 ghost use Rattle.drain_grid.specs.Grid.{HasData};
 ghost use Rattle.drain_grid.specs.Run.{RunEnds};
-ghost use Rattle.drain_runs.specs.declared.flow.Flow.TheVariants.{Void};
-ghost use Rattle.drain_runs.specs.Flows.{flow_at};
-ghost use Rattle.drain_runs.specs.Ranks.{IsRefusal};
+ghost use Rattle.drain_paths.specs.declared.flow.Flow.TheVariants.{Void};
+ghost use Rattle.drain_paths.specs.Flows.{flow_at};
+ghost use Rattle.drain_paths.specs.Ranks.{IsRankRefusal};
 ghost use Rattle.drain_counts.specs.OfFlows.{OfFlows};
 ghost use Rattle.drain_counts.specs.CellNumbers.{cell_number, IsPutAt};
 ghost use Rattle.drain_counts.specs.Basins.{IsBasinLabel, AreLabelsSoFar, AreBasinLabels};
@@ -15,7 +15,7 @@ ghost use Rattle.drain_counts.specs.Basins.{IsBasinLabel, AreLabelsSoFar, AreBas
 use crate::outlets::outlet_labels;
 use crate::ways::{flow_of_place, next_cell};
 use drain_grid::{Cell, OutOfMemory, Shape};
-use drain_runs::{CertifyRefusal, Flow};
+use drain_paths::{CertifyRefusal, Flow};
 use std::alloc::Global;
 
 /// The labels of basins, from the flows of all cells of a grid: outlets have 1, 2, 3 and so on in row order, each data
@@ -28,7 +28,7 @@ pub fn label_basins(alloc: Global, flows: &[Flow], shape: Shape) -> Result<Vec<u
     requires counted { length flows.now ≡ shape.rows * shape.cols }
     ensures counted { IfOk result (λ labels. vec_len labels ≡ shape.rows * shape.cols) }
     ensures labels { IfOk result (λ labels. OfFlows shape flows.now (λ g ps. AreBasinLabels g ps shape labels.items)) }
-    ensures err { IfErr result (λ why. OfFlows shape flows.now (λ g ps. IsRefusal g ps why)) }
+    ensures err { IfErr result (λ why. OfFlows shape flows.now (λ g ps. IsRankRefusal g ps why)) }
 {
     let Ok(mut labels) = outlet_labels(alloc, flows, shape) else {
         return Err(CertifyRefusal::OutOfMemory);

@@ -4,7 +4,7 @@ ghost use Rattle.std.specs.Prelude.{◌≡◌, IfOk};
 ghost use Rattle.drain_counts.specs.CodeFlows.{bytes_flows, IsByteTable};
 
 use drain_grid::OutOfMemory;
-use drain_runs::Flow;
+use drain_paths::Flow;
 use std::alloc::Global;
 
 /// The code of a cell without data.
@@ -15,9 +15,7 @@ pub fn flows_of_codes(alloc: Global, codes: &[u8]) -> Result<Vec<Flow>, OutOfMem
     ensures { IfOk result (λ flows. flows.items ≡ bytes_flows codes.now) }
 {
     let table = byte_table();
-    let Ok(mut flows) = vec![in alloc; Flow::Void; codes.len()] else {
-        return Err(OutOfMemory);
-    };
+    let mut flows = vec![in alloc; Flow::Void; codes.len()]?;
     for place in 0..codes.len() {
         flows[place] = table[codes[place] as usize];
     }

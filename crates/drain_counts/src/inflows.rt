@@ -9,7 +9,7 @@ ghost use Rattle.drain_counts.specs.Inflows.{AreInflowsBefore};
 use crate::cell_order::following;
 use crate::ways::{flow_of_place, next_cell};
 use drain_grid::{Cell, OutOfMemory, Shape};
-use drain_runs::Flow;
+use drain_paths::Flow;
 use std::alloc::Global;
 
 /// The inflows of a cell that has passed its count on. No cell has this many.
@@ -22,9 +22,7 @@ pub(crate) fn inflows(alloc: Global, flows: &[Flow], shape: Shape) -> Result<Vec
     ensures inflows { IfOk result (λ waits. OfFlows shape flows.now (λ g ps. AreInflowsBefore g ps shape (shape.rows * shape.cols) waits.items)) }
 {
     let cells = shape.cells();
-    let Ok(mut waits) = vec![in alloc; 0u8; cells] else {
-        return Err(OutOfMemory);
-    };
+    let mut waits = vec![in alloc; 0u8; cells]?;
     let mut cell = Cell { row: 0, col: 0 };
     for _place in 0..cells {
         count_flow(flows, shape, &mut waits, cell);

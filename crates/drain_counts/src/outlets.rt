@@ -6,7 +6,7 @@ ghost use Rattle.drain_counts.specs.Basins.{AreEndLabels};
 
 use crate::ways::flow_of_place;
 use drain_grid::{OutOfMemory, Shape};
-use drain_runs::Flow;
+use drain_paths::Flow;
 use std::alloc::Global;
 
 /// The labels of the cells with code 0: 1, 2, 3 and so on in row order; 0 elsewhere.
@@ -20,9 +20,7 @@ pub(crate) fn outlet_labels(
     ensures labels { IfOk result (λ labels. OfFlows shape flows.now (λ g ps. (ends : ℕ) × AreEndLabels g ps shape (shape.rows * shape.cols) ends labels.items)) }
 {
     let cells = shape.cells();
-    let Ok(mut labels) = vec![in alloc; 0u32; cells] else {
-        return Err(OutOfMemory);
-    };
+    let mut labels = vec![in alloc; 0u32; cells]?;
     let mut ends = 0;
     for place in 0..cells {
         ends = number_end(flows, shape, &mut labels, ends, place);

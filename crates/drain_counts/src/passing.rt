@@ -3,8 +3,8 @@
 ghost use Rattle.std.specs.Prelude.{◌≡◌, ◌≢◌, ◌<◌, ◌+◌, ◌*◌, ◌^◌, length};
 ghost use Rattle.drain_grid.specs.declared.cell.Cell.{Cell};
 ghost use Rattle.drain_grid.specs.Extent.{IsCellOf};
-ghost use Rattle.drain_runs.specs.declared.flow.Flow.TheVariants.{Void};
-ghost use Rattle.drain_runs.specs.Flows.{flow_at};
+ghost use Rattle.drain_paths.specs.declared.flow.Flow.TheVariants.{Void};
+ghost use Rattle.drain_paths.specs.Flows.{flow_at};
 ghost use Rattle.drain_counts.specs.OfFlows.{OfFlows};
 ghost use Rattle.drain_counts.specs.CellNumbers.{cell_number, IsPutAt};
 ghost use Rattle.drain_counts.specs.Passing.{IsPassing, IsPassedOn, StaysAway};
@@ -12,7 +12,7 @@ ghost use Rattle.drain_counts.specs.Passing.{IsPassing, IsPassedOn, StaysAway};
 use crate::inflows::PASSED_ON;
 use crate::ways::next_cell;
 use drain_grid::{Cell, Shape};
-use drain_runs::Flow;
+use drain_paths::Flow;
 
 /// Passes counts on from a data cell, as far as no inflow is missing.
 pub(crate) fn pass_counts(

@@ -6,13 +6,13 @@ ghost use Rattle.drain_grid.specs.Direction.{rows_down, cols_right};
 ghost use Rattle.drain_grid.specs.Extent.{IsCellOf};
 ghost use Rattle.drain_grid.specs.Grid.{HasData};
 ghost use Rattle.drain_grid.specs.Run.{next};
-ghost use Rattle.drain_runs.specs.declared.flow.Flow.TheVariants.{Void};
-ghost use Rattle.drain_runs.specs.Flows.{direction_of, flow_at};
+ghost use Rattle.drain_paths.specs.declared.flow.Flow.TheVariants.{Void};
+ghost use Rattle.drain_paths.specs.Flows.{direction_of, flow_at};
 ghost use Rattle.drain_counts.specs.OfFlows.{OfFlows};
 ghost use Rattle.drain_counts.specs.Stepping.{stepped};
 
 use drain_grid::{Cell, Shape};
-use drain_runs::Flow;
+use drain_paths::Flow;
 
 /// The data cell to which the code of a data cell leads, none if it leads to none.
 pub fn next_cell(flows: &[Flow], shape: Shape, cell: Cell) -> Option<Cell>

@@ -9,7 +9,7 @@ use Rattle.drain_maker.specs.ProductFiles.{WritesFile}
 use Rattle.drain_derive.specs.declared.derived.Derived.{Derived}
 use Rattle.drain_derive.specs.declared.derived_files.TheConstants.{DERIVED_COUNT, DERIVED_FILES}
 use Rattle.drain_derive.specs.Derived.{AreCounts}
-use Rattle.drain_derive.specs.DerivedFiles.{CanBeDerived, IsDerived, derived_bytes, file_bytes}
+use Rattle.drain_derive.specs.DerivedFiles.{CanBeDerived, IsDerived, derived_bytes, derived_file_bytes}
 
 -- pixels of 32 bits without a sign are those of the three headers
 pub CanBeDerived-counts : (t : Tiling) (d : Derived) → AreCounts (extent_of t) d → CanBeDerived t d
@@ -35,12 +35,12 @@ unfolding derived_bytes
 derived_bytes-len t d = refl
 
 pub derived_bytes-at : (t : Tiling) (d : Derived) (k : ℕ) (e : SetFile) (none : List ℕ) → k < DERIVED_COUNT →
-    slice_index_or (derived_bytes t d) k none ≡ file_bytes t d (slice_index_or DERIVED_FILES k e)
+    slice_index_or (derived_bytes t d) k none ≡ derived_file_bytes t d (slice_index_or DERIVED_FILES k e)
 unfolding derived_bytes
-derived_bytes-at t d k e none below = get_or-map (file_bytes t d) DERIVED_FILES k e none below
+derived_bytes-at t d k e none below = get_or-map (derived_file_bytes t d) DERIVED_FILES k e none below
 
 -- what is written of the k-th file, among the bytes of all
 pub WritesFile-at : {F : Type 0} (sink : Sink F) (old new : F) (t : Tiling) (d : Derived) (k : ℕ) (e : SetFile) (none : List ℕ) (done : Result (Unit {0}) SetFault) →
-    k < DERIVED_COUNT → WritesFile sink old new (file_bytes t d (slice_index_or DERIVED_FILES k e)) done →
+    k < DERIVED_COUNT → WritesFile sink old new (derived_file_bytes t d (slice_index_or DERIVED_FILES k e)) done →
     WritesFile sink old new (slice_index_or (derived_bytes t d) k none) done
 WritesFile-at sink old new t d k e none done below one = rw (derived_bytes-at t d k e none below) one

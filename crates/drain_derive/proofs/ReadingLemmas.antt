@@ -1,14 +1,14 @@
 -- Answers to what was read: which say that memory ran out, and none that a read failed.
 use Rattle.std.proofs.Common.{◌≡◌, ◌↔◌, Result, Ok, Err, IfOk, IfErr, IsErrOf, refl, sym, subst}
 use Rattle.drain_grid.specs.Grid.{Grid, Products}
-use Rattle.drain_runs.specs.declared.ranks.CertifyRefusal.{CertifyRefusal}
-use Rattle.drain_runs.specs.declared.ranks.CertifyRefusal.TheVariants as certify
-use Rattle.drain_runs.specs.Ranks as certified
+use Rattle.drain_paths.specs.declared.ranks.CertifyRefusal.{CertifyRefusal}
+use Rattle.drain_paths.specs.declared.ranks.CertifyRefusal.TheVariants as certify
+use Rattle.drain_paths.specs.Ranks as certified
 use Rattle.drain_answer.specs.declared.refusal.Refusal.{Refusal}
 use Rattle.drain_answer.specs.declared.refusal.Refusal.TheVariants.{OutOfMemory, ReadFailed}
 use Rattle.drain_verdict.specs.Answers.{AreReadable, IsRefusal}
 use Rattle.drain_verdict.specs.Inputs.{Inputs}
-use Rattle.drain_verdict.specs.Meaning.{grid_of, products_of}
+use Rattle.drain_verdict.specs.Meaning.{input_grid, input_products}
 use Rattle.drain_verdict.specs.Refusals.{IsOfBodies}
 use Rattle.drain_derive.specs.declared.reading.DeriveRefusal.{DeriveRefusal}
 use Rattle.drain_derive.specs.declared.reading.DeriveRefusal.TheVariants.{Refused, NoEnd}
@@ -53,11 +53,11 @@ if_err_more (Ok a) P Q more holds = tt
 if_err_more (Err why) P Q more holds = more why holds
 
 -- a refusal of flows, as one of this crate
-pub flows_refusal : (g : Grid) (ps : Products) (refusal : CertifyRefusal) (why : DeriveRefusal) → IsRefusalFor refusal why → certified.IsRefusal g ps refusal → IsFlowsRefusal g ps why
+pub flows_refusal : (g : Grid) (ps : Products) (refusal : CertifyRefusal) (why : DeriveRefusal) → IsRefusalFor refusal why → certified.IsRankRefusal g ps refusal → IsFlowsRefusal g ps why
 flows_refusal g ps (certify.NoEnd c) why is first = subst (IsFlowsRefusal g ps) (sym is) first
 flows_refusal g ps certify.OutOfMemory why is none = subst (IsFlowsRefusal g ps) (sym is) refl
 
 -- and as one of the inputs whose flows they are
-pub derive_refusal : (i : Inputs) (why : DeriveRefusal) → AreReadable i → IsFlowsRefusal (grid_of i) (products_of i) why → IsDeriveRefusal i why
+pub derive_refusal : (i : Inputs) (why : DeriveRefusal) → AreReadable i → IsFlowsRefusal (input_grid i) (input_products i) why → IsDeriveRefusal i why
 derive_refusal i (Refused refusal) readable is = subst (IsRefusal i) (sym is) tt
 derive_refusal i (NoEnd row col) readable first = (readable, first)

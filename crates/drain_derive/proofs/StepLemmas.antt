@@ -12,13 +12,13 @@ use Rattle.drain_grid.proofs.EndedRuns.{HasData-next}
 use Rattle.drain_grid.proofs.Lowered.{same_or_not}
 use Rattle.drain_grid.proofs.Runs.{index_of-below}
 use Rattle.drain_grid.proofs.Walks.{IsWalk, IsWalk-ends, IsWalk-too_long, EndsAfter-zero, EndsAfter-earlier, endless-stuck}
-use Rattle.drain_runs.specs.declared.flow.Flow.{Flow}
-use Rattle.drain_runs.specs.declared.flow.Flow.TheVariants.{Void, Lost, Ends, ToEast, ToSouthEast, ToSouth, ToSouthWest, ToWest, ToNorthWest, ToNorth, ToNorthEast}
-use Rattle.drain_runs.specs.declared.steps.TheConstants.{UNKNOWN}
-use Rattle.drain_runs.specs.Flows.{flow_at, AreFlowsOf}
-use Rattle.drain_runs.specs.Steps.{IsRight}
-use Rattle.drain_runs.proofs.Cells.{in_grid, earlier_index}
-use Rattle.drain_runs.proofs.NextCells.{no_void}
+use Rattle.drain_paths.specs.declared.flow.Flow.{Flow}
+use Rattle.drain_paths.specs.declared.flow.Flow.TheVariants.{Void, Lost, Ends, ToEast, ToSouthEast, ToSouth, ToSouthWest, ToWest, ToNorthWest, ToNorth, ToNorthEast}
+use Rattle.drain_paths.specs.declared.steps.TheConstants.{UNKNOWN}
+use Rattle.drain_paths.specs.Flows.{flow_at, AreFlowsOf}
+use Rattle.drain_paths.specs.Steps.{IsRightStep}
+use Rattle.drain_paths.proofs.Cells.{in_grid, earlier_index}
+use Rattle.drain_paths.proofs.NextCells.{no_void}
 use Rattle.drain_counts.specs.CellNumbers.{cell_number, IsPutAt}
 use Rattle.drain_counts.proofs.FlowCells.{data_of_flow, zero_of_flow, flow_of_zero}
 use Rattle.drain_derive.specs.RunSteps.{first_step, first_steps_of, AreStepsSoFar, AreRunSteps}
@@ -64,7 +64,7 @@ AreStepsSoFar-first g ps e flows steps are counted is =
 -- a walk to a known number
 pub IsRight-walk : (g : Grid) (ps : Products) (e : Extent) (steps : List ℕ) (k : ℕ) (c d : Cell) (known total : ℕ) → AreStepsSoFar g ps e steps →
     HasData g c → IsWalk g ps k c d → HasData g d → known ≡ cell_number e steps d → known ≢ UNKNOWN → total ≡ k + known → total ≤ e.rows * e.cols →
-    IsRight g ps c total
+    IsRightStep g ps c total
 IsRight-walk g ps e steps k c d known total are here walk there is some sum fits =
     let right = are.right d there.inside (λ none. some (is ∙ none)) in
     let ended = subst (EndsAfter g ps d) (sym is) right.ended in
@@ -85,7 +85,7 @@ pub endless_here : (g : Grid) (ps : Products) (e : Extent) (steps : List ℕ) (d
 endless_here g ps e steps d are there none stops = endless-stuck g ps d stops (λ is_zero. are.outlets d there is_zero none)
 
 -- the next cell's run makes one step less
-pub IsRight-next : (g : Grid) (ps : Products) (c n : Cell) (left less : ℕ) → next g ps c ≡ Some n → less ≡ left - 1 → IsRight g ps c left → IsRight g ps n less
+pub IsRight-next : (g : Grid) (ps : Products) (c n : Cell) (left less : ℕ) → next g ps c ≡ Some n → less ≡ left - 1 → IsRightStep g ps c left → IsRightStep g ps n less
 IsRight-next g ps c n left less leads is right = record {
   here = HasData-next g ps c n leads;
   ended = subst (EndsAfter g ps n) (sym is) (EndsAfter-earlier g ps c n left leads right.ended);
@@ -93,14 +93,14 @@ IsRight-next g ps c n left less leads is right = record {
 
 -- a number that is written
 pub AreStepsSoFar-put : (g : Grid) (ps : Products) (e : Extent) (steps after : List ℕ) (c : Cell) (number : ℕ) → AreStepsSoFar g ps e steps →
-    IsRight g ps c number → number ≢ UNKNOWN → IsPutAt e steps after c number → AreStepsSoFar g ps e after
+    IsRightStep g ps c number → number ≢ UNKNOWN → IsPutAt e steps after c number → AreStepsSoFar g ps e after
 AreStepsSoFar-put g ps e steps after c number are is some put = record {
   extent = are.extent;
   right = λ d inside known. elim (same_or_not c d) [
-    | inl one ↦ subst (λ x. IsRight g ps x (cell_number e after x)) one (subst (IsRight g ps c) (sym put.there) is)
+    | inl one ↦ subst (λ x. IsRightStep g ps x (cell_number e after x)) one (subst (IsRightStep g ps c) (sym put.there) is)
     | inr other ↦
         (let kept = put.elsewhere d (in_grid g e d are.extent inside) (λ same. other (sym same)) in
-        subst (IsRight g ps d) (sym kept) (are.right d inside (λ none. known (kept ∙ none))))
+        subst (IsRightStep g ps d) (sym kept) (are.right d inside (λ none. known (kept ∙ none))))
   ];
   outlets = λ d here is_zero none. elim (same_or_not c d) [
     | inl one ↦ some (sym put.there ∙ (ap (cell_number e after) one ∙ none))

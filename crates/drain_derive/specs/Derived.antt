@@ -10,7 +10,7 @@ use Rattle.drain_grid.specs.Size.{Extent}
 use Rattle.drain_grid.specs.Whole.{number_at}
 use Rattle.drain_raster.specs.Bytes.{CanSpellAllIn}
 use Rattle.drain_counts.specs.Basins.{end_number}
-use Rattle.drain_counts.specs.OfFlows.{AllRunsEnd}
+use Rattle.drain_counts.specs.OfFlows.{AllFlowsEnd}
 use Rattle.drain_derive.specs.declared.derived.Derived.{Derived}
 
 -- every run ends. At each data cell acc is the number of data cells that drain through it, bas the number of the outlet
@@ -23,7 +23,7 @@ pub record AreDerived (g : Grid) (ps : Products) (acc bas rnk : Pixels) : Type 0
   pub acc_nodata : acc.nodata ≡ default_numbers.acc
   pub bas_nodata : bas.nodata ≡ default_numbers.bas
   pub rnk_nodata : rnk.nodata ≡ default_numbers.rnk
-  pub ends : AllRunsEnd g ps
+  pub ends : AllFlowsEnd g ps
   pub counts : (c : Cell) → HasData g c → number_at acc c ≡ pos (upstream_count g ps c)
   pub numbered : (c : Cell) → HasData g c → number_at bas c ≡ pos (end_number g ps (run_end g ps c))
   pub labels : (a b : Cell) → HasData g a → HasData g b → (number_at bas a ≡ number_at bas b) ↔ ShareBasin g ps a b

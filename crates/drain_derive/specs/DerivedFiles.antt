@@ -1,23 +1,23 @@
 -- The files of derived rasters: their bytes, and what has to hold so that they can be written.
 use Rattle.std.specs.Prelude.{◌≡◌, ℕ, List, [], ◌∷◌}
-use Rattle.drain_grid.specs.declared.held.Held.{Held}
-use Rattle.drain_grid.specs.declared.held.Held.TheVariants as held
+use Rattle.drain_grid.specs.declared.set_product.SetProduct.{SetProduct}
+use Rattle.drain_grid.specs.declared.set_product.SetProduct.TheVariants as held
 use Rattle.drain_grid.specs.declared.product.Product.{Product}
 use Rattle.drain_grid.specs.declared.product.Product.TheVariants.{Acc, Bas, Rnk}
-use Rattle.drain_grid.specs.Held.{product_of}
+use Rattle.drain_grid.specs.SetProduct.{product_of}
 use Rattle.drain_grid.specs.Rasters.{Pixels}
 use Rattle.drain_header.specs.Text.{text_of}
 use Rattle.drain_mosaic.specs.Tiling.{Tiling, extent_of}
 use Rattle.drain_raster.specs.Bytes.{CanSpellAll, raster_bytes}
 use Rattle.drain_maker.specs.declared.product_files.SetFile.{SetFile}
-use Rattle.drain_maker.specs.Headers.{header_of}
+use Rattle.drain_maker.specs.Headers.{made_header}
 use Rattle.drain_maker.specs.ProductFiles.{part_bytes}
 use Rattle.drain_derive.specs.declared.derived.Derived.{Derived}
 
 -- the raster has the mosaic's rows and columns, and the pixels of the product's header can encode each of its numbers
 pub record FitsHeader (t : Tiling) (p : Product) (r : Pixels) : Type 0 where
   pub extent : r.extent ≡ extent_of t
-  pub spelled : CanSpellAll (header_of t p) r
+  pub spelled : CanSpellAll (made_header t p) r
 
 -- each of the three does
 pub record CanBeDerived (t : Tiling) (d : Derived) : Type 0 where
@@ -27,14 +27,14 @@ pub record CanBeDerived (t : Tiling) (d : Derived) : Type 0 where
 
 -- the bytes of a product's two files: the text of its header, and the bytes of its raster
 abbrev pub bytes_of_both : Tiling → Product → Pixels → List (List ℕ) → List (List ℕ)
-bytes_of_both t p r more = text_of (header_of t p) ∷ raster_bytes (header_of t p) r ∷ more
+bytes_of_both t p r more = text_of (made_header t p) ∷ raster_bytes (made_header t p) r ∷ more
 
 -- the bytes of all files: of acc, bas and rnk each the header, and then the raster
 unfoldable pub derived_bytes : Tiling → Derived → List (List ℕ)
 derived_bytes t d = bytes_of_both t Acc d.acc (bytes_of_both t Bas d.bas (bytes_of_both t Rnk d.rnk []))
 
 -- a product that is derived: con and dir are given
-abbrev pub IsDerived : Held → Type 0
+abbrev pub IsDerived : SetProduct → Type 0
 IsDerived held.Con = ⊥
 IsDerived held.Dir = ⊥
 IsDerived held.Acc = Unit {0}
@@ -42,11 +42,11 @@ IsDerived held.Bas = Unit {0}
 IsDerived held.Rnk = Unit {0}
 
 -- the raster of a product that is derived; of the others, which have none here, nothing is asked
-abbrev pub raster_in : Derived → Held → Pixels
-raster_in d held.Acc = d.acc
-raster_in d held.Bas = d.bas
-raster_in d p = d.rnk
+abbrev pub derived_raster : Derived → SetProduct → Pixels
+derived_raster d held.Acc = d.acc
+derived_raster d held.Bas = d.bas
+derived_raster d p = d.rnk
 
 -- the bytes of a file: its header's text, or its raster's bytes
-abbrev pub file_bytes : Tiling → Derived → SetFile → List ℕ
-file_bytes t d file = part_bytes file.part (header_of t (product_of file.product)) (raster_in d file.product)
+abbrev pub derived_file_bytes : Tiling → Derived → SetFile → List ℕ
+derived_file_bytes t d file = part_bytes file.part (made_header t (product_of file.product)) (derived_raster d file.product)

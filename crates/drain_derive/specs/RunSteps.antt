@@ -4,12 +4,12 @@ use Rattle.drain_grid.specs.declared.cell.Cell.{Cell}
 use Rattle.drain_grid.specs.Certificate.{run_steps}
 use Rattle.drain_grid.specs.Grid.{Grid, Products, IsInside, HasData}
 use Rattle.drain_grid.specs.Size.{Extent}
-use Rattle.drain_runs.specs.declared.flow.Flow.{Flow}
-use Rattle.drain_runs.specs.declared.flow.Flow.TheVariants.{Void, Lost, Ends, ToEast, ToSouthEast, ToSouth, ToSouthWest, ToWest, ToNorthWest, ToNorth, ToNorthEast}
-use Rattle.drain_runs.specs.declared.steps.TheConstants.{UNKNOWN}
-use Rattle.drain_runs.specs.Steps.{IsRight}
+use Rattle.drain_paths.specs.declared.flow.Flow.{Flow}
+use Rattle.drain_paths.specs.declared.flow.Flow.TheVariants.{Void, Lost, Ends, ToEast, ToSouthEast, ToSouth, ToSouthWest, ToWest, ToNorthWest, ToNorth, ToNorthEast}
+use Rattle.drain_paths.specs.declared.steps.TheConstants.{UNKNOWN}
+use Rattle.drain_paths.specs.Steps.{IsRightStep}
 use Rattle.drain_counts.specs.CellNumbers.{cell_number}
-use Rattle.drain_counts.specs.OfFlows.{AllRunsEnd}
+use Rattle.drain_counts.specs.OfFlows.{AllFlowsEnd}
 
 -- what is known before any walk: the run of an outlet makes no step
 abbrev pub first_step : Flow → ℕ
@@ -32,13 +32,13 @@ first_steps_of flows = map first_step flows
 -- each known number is that of the run's steps, and the numbers of the outlets are known
 pub record AreStepsSoFar (g : Grid) (ps : Products) (e : Extent) (steps : List ℕ) : Type 0 where
   pub extent : g.extent ≡ e
-  pub right : (c : Cell) → IsInside g c → cell_number e steps c ≢ UNKNOWN → IsRight g ps c (cell_number e steps c)
+  pub right : (c : Cell) → IsInside g c → cell_number e steps c ≢ UNKNOWN → IsRightStep g ps c (cell_number e steps c)
   pub outlets : (c : Cell) → HasData g c → ps.dir c ≡ pos 0 → cell_number e steps c ≢ UNKNOWN
 
 -- every run ends; each data cell has the number of steps of its run, which is not UNKNOWN, and each void has UNKNOWN
 pub record AreRunSteps (g : Grid) (ps : Products) (e : Extent) (steps : List ℕ) : Type 0 where
   pub extent : g.extent ≡ e
-  pub ends : AllRunsEnd g ps
+  pub ends : AllFlowsEnd g ps
   pub steps_are : (c : Cell) → HasData g c → cell_number e steps c ≡ run_steps g ps c
   pub some : (c : Cell) → HasData g c → cell_number e steps c ≢ UNKNOWN
   pub voids : (c : Cell) → IsInside g c → IsNone (g.elevation c) → cell_number e steps c ≡ UNKNOWN

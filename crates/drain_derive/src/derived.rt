@@ -1,7 +1,7 @@
 //! Accumulation, labels and ranks, from flows in memory.
 
 ghost use Rattle.std.specs.Prelude.{◌≡◌, ◌*◌, length, IfOk, IfErr};
-ghost use Rattle.drain_runs.specs.Ranks.{IsRefusal};
+ghost use Rattle.drain_paths.specs.Ranks.{IsRankRefusal};
 ghost use Rattle.drain_counts.specs.OfFlows.{OfFlows};
 ghost use Rattle.drain_derive.specs.Derived.{AreDerived, AreCounts};
 
@@ -9,7 +9,7 @@ use crate::rasters::raster_of;
 use crate::steps::count_steps;
 use drain_counts::{accumulate, label_basins};
 use drain_grid::{OutOfMemory, Product, Raster, Shape};
-use drain_runs::{CertifyRefusal, Flow};
+use drain_paths::{CertifyRefusal, Flow};
 use std::alloc::Global;
 
 /// What follows from the directions of a grid.
@@ -35,7 +35,7 @@ pub fn derive_from_flows(
     requires counted { length flows.now ≡ shape.rows * shape.cols }
     ensures derived { IfOk result (λ d. OfFlows shape flows.now (λ g ps. AreDerived g ps d.acc d.bas d.rnk)) }
     ensures counts { IfOk result (AreCounts shape) }
-    ensures err { IfErr result (λ why. OfFlows shape flows.now (λ g ps. IsRefusal g ps why)) }
+    ensures err { IfErr result (λ why. OfFlows shape flows.now (λ g ps. IsRankRefusal g ps why)) }
 {
     let steps = count_steps(alloc, flows, shape)?;
     let labels = label_basins(alloc, flows, shape)?;

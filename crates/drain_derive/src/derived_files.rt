@@ -2,11 +2,11 @@
 
 ghost use Rattle.std.specs.Prelude.{◌≡◌, length};
 ghost use Rattle.drain_maker.specs.ProductFiles.{WritesFile, WritesFiles};
-ghost use Rattle.drain_derive.specs.DerivedFiles.{CanBeDerived, IsDerived, derived_bytes, file_bytes, raster_in};
+ghost use Rattle.drain_derive.specs.DerivedFiles.{CanBeDerived, IsDerived, derived_bytes, derived_file_bytes, derived_raster};
 
 use crate::derived::Derived;
 use drain_device::ByteSink;
-use drain_grid::{Held, Raster};
+use drain_grid::{Raster, SetProduct};
 use drain_maker::product_files::{Part, SetFault, SetFile, write_header, write_numbers};
 use drain_maker::product_header;
 use drain_mosaic::Layout;
@@ -18,27 +18,27 @@ pub const DERIVED_COUNT: usize = 6;
 /// The files of derived rasters in their order: of each product its header, and then its raster.
 pub const DERIVED_FILES: [SetFile; DERIVED_COUNT] = [
     SetFile {
-        product: Held::Acc,
+        product: SetProduct::Acc,
         part: Part::Header,
     },
     SetFile {
-        product: Held::Acc,
+        product: SetProduct::Acc,
         part: Part::Raster,
     },
     SetFile {
-        product: Held::Bas,
+        product: SetProduct::Bas,
         part: Part::Header,
     },
     SetFile {
-        product: Held::Bas,
+        product: SetProduct::Bas,
         part: Part::Raster,
     },
     SetFile {
-        product: Held::Rnk,
+        product: SetProduct::Rnk,
         part: Part::Header,
     },
     SetFile {
-        product: Held::Rnk,
+        product: SetProduct::Rnk,
         part: Part::Raster,
     },
 ];
@@ -72,7 +72,7 @@ fn write_file<F: ByteSink>(
 ) -> Result<(), SetFault>
     requires product { IsDerived file.product }
     requires written { CanBeDerived layout.now derived.now }
-    ensures { WritesFile F.ByteSink to.old to.new (file_bytes layout.now derived.now file) result }
+    ensures { WritesFile F.ByteSink to.old to.new (derived_file_bytes layout.now derived.now file) result }
 {
     let header = product_header(layout, file.product.product());
     match file.part {
@@ -82,14 +82,14 @@ fn write_file<F: ByteSink>(
 }
 
 /// The raster of a product that is derived.
-fn raster_in(derived: &Derived, product: Held) -> &Raster
+fn raster_in(derived: &Derived, product: SetProduct) -> &Raster
     requires { IsDerived product }
-    ensures { result.now ≡ raster_in derived.now product }
+    ensures { result.now ≡ derived_raster derived.now product }
 {
     match product {
-        Held::Acc => &derived.acc,
-        Held::Bas => &derived.bas,
-        Held::Rnk => &derived.rnk,
-        Held::Con | Held::Dir => unreachable!(),
+        SetProduct::Acc => &derived.acc,
+        SetProduct::Bas => &derived.bas,
+        SetProduct::Rnk => &derived.rnk,
+        SetProduct::Con | SetProduct::Dir => unreachable!(),
     }
 }

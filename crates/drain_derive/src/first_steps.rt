@@ -4,17 +4,15 @@ ghost use Rattle.std.specs.Prelude.{◌≡◌, IfOk};
 ghost use Rattle.drain_derive.specs.RunSteps.{first_step, first_steps_of};
 
 use drain_grid::OutOfMemory;
-use drain_runs::Flow;
-use drain_runs::steps::UNKNOWN;
+use drain_paths::Flow;
+use drain_paths::steps::UNKNOWN;
 use std::alloc::Global;
 
 /// 0 at outlets, and no number at any other cell.
 pub(crate) fn first_steps(alloc: Global, flows: &[Flow]) -> Result<Vec<u32>, OutOfMemory>
     ensures { IfOk result (λ steps. steps.items ≡ first_steps_of flows.now) }
 {
-    let Ok(mut steps) = vec![in alloc; UNKNOWN; flows.len()] else {
-        return Err(OutOfMemory);
-    };
+    let mut steps = vec![in alloc; UNKNOWN; flows.len()]?;
     for place in 0..flows.len() {
         steps[place] = first_step(flows[place]);
     }

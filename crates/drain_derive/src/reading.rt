@@ -5,7 +5,7 @@ ghost use Rattle.drain_hgt.specs.Inputs.{names_of};
 ghost use Rattle.drain_mosaic.specs.Tiling.{extent_of};
 ghost use Rattle.drain_counts.specs.OfFlows.{OfFlows};
 ghost use Rattle.drain_verdict.specs.Answers.{IsRefusal};
-ghost use Rattle.drain_verdict.specs.Audits.{OfFour};
+ghost use Rattle.drain_verdict.specs.Audits.{ForAudit};
 ghost use Rattle.drain_verdict.specs.Stages.{IsLayoutOf};
 ghost use Rattle.drain_verdict.specs.Uses.{AuditUses};
 ghost use Rattle.drain_derive.specs.Derived.{AreDerived, AreCounts};
@@ -19,9 +19,9 @@ use drain_grid::Shape;
 use drain_hgt::TileInput;
 use drain_hgt::laws::one_name;
 use drain_mosaic::Layout;
-use drain_rows::BothNotes;
+use drain_paths::{CellFlows, CertifyRefusal};
+use drain_rows::BothVisitors;
 use drain_rules::{GridWalk, Ranks};
-use drain_runs::{CellFlows, CertifyRefusal};
 use drain_verdict::AuditProducts;
 use drain_verdict::answer::answer_on;
 use drain_verdict::layout::layout_of;
@@ -53,10 +53,10 @@ pub fn derive<R: ByteSource>(
     products: &mut AuditProducts<R>,
 ) -> Result<(Layout, Derived), DeriveRefusal>
     ensures layout { IfOk result (λ made. IsLayoutOf side (names_of tiles.old) made.0) }
-    ensures derived { IfOk result (λ made. OfFour R.bytes_left side tiles.old sinks.now products.old (λ inputs. AreDerivedOf inputs made.1)) }
+    ensures derived { IfOk result (λ made. ForAudit R.bytes_left side tiles.old sinks.now products.old (λ inputs. AreDerivedOf inputs made.1)) }
     ensures counts { IfOk result (λ made. AreCounts (extent_of made.0) made.1) }
     ensures written { IfOk result (λ made. CanBeDerived made.0 made.1) }
-    ensures err { IfErr result (λ why. OfFour R.bytes_left side tiles.old sinks.now products.old (λ inputs. IsDeriveRefusal inputs why)) }
+    ensures err { IfErr result (λ why. ForAudit R.bytes_left side tiles.old sinks.now products.old (λ inputs. IsDeriveRefusal inputs why)) }
 
     // How far it reads, when a read fails, and what is unchanged: as for an audit.
     ensures uses { AuditUses R.bytes_left R.counts side (tiles.old, products.old) (tiles.new, products.new) (reading_in result) }
@@ -114,8 +114,8 @@ fn read_flows<R: ByteSource>(
 ) -> Result<MosaicFlows, Refusal>
     ensures layout { IfOk result (λ read. IsLayoutOf side (names_of tiles.old) read.layout) }
     ensures counted { IfOk result (λ read. length read.flows ≡ (extent_of read.layout).rows * (extent_of read.layout).cols) }
-    ensures flows { IfOk result (λ read. OfFour R.bytes_left side tiles.old sinks.now products.old (λ inputs. HasFlows inputs (extent_of read.layout) read.flows)) }
-    ensures err { IfErr result (λ refusal. OfFour R.bytes_left side tiles.old sinks.now products.old (λ inputs. IsRefusal inputs refusal)) }
+    ensures flows { IfOk result (λ read. ForAudit R.bytes_left side tiles.old sinks.now products.old (λ inputs. HasFlows inputs (extent_of read.layout) read.flows)) }
+    ensures err { IfErr result (λ refusal. ForAudit R.bytes_left side tiles.old sinks.now products.old (λ inputs. IsRefusal inputs refusal)) }
     ensures uses { AuditUses R.bytes_left R.counts side (tiles.old, products.old) (tiles.new, products.new) result }
 {
     // The law that bytes name one tile.
@@ -135,17 +135,17 @@ fn flows_on<R: ByteSource>(
 ) -> Result<CellFlows, Refusal>
     requires laid { IsLayoutOf layout.now.side (names_of tiles.old) layout.now }
     ensures counted { IfOk result (λ flows. length flows ≡ (extent_of layout.now).rows * (extent_of layout.now).cols) }
-    ensures flows { IfOk result (λ flows. OfFour R.bytes_left layout.now.side tiles.old sinks.now products.old (λ inputs. HasFlows inputs (extent_of layout.now) flows)) }
-    ensures err { IfErr result (λ refusal. OfFour R.bytes_left layout.now.side tiles.old sinks.now products.old (λ inputs. IsRefusal inputs refusal)) }
+    ensures flows { IfOk result (λ flows. ForAudit R.bytes_left layout.now.side tiles.old sinks.now products.old (λ inputs. HasFlows inputs (extent_of layout.now) flows)) }
+    ensures err { IfErr result (λ refusal. ForAudit R.bytes_left layout.now.side tiles.old sinks.now products.old (λ inputs. IsRefusal inputs refusal)) }
     ensures uses { AuditUses R.bytes_left R.counts layout.now.side (tiles.old, products.old) (tiles.new, products.new) result }
 {
     // The law that bytes name one tile.
     one_name();
-    let mut notes = BothNotes {
+    let mut notes = BothVisitors {
         first: CellFlows::new(alloc),
         second: GridWalk::new(alloc),
     };
-    let ranks = Ranks::Unasked;
+    let ranks = Ranks::Ignored;
     answer_on(alloc, layout, sinks, tiles, products, ranks, &mut notes)?;
     counted(notes.first, layout.shape())
 }

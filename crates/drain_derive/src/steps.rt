@@ -5,10 +5,10 @@ ghost use Rattle.drain_grid.specs.declared.cell.Cell.{Cell};
 ghost use Rattle.drain_grid.specs.Extent.{IsCellOf, index_of};
 ghost use Rattle.drain_grid.specs.Grid.{HasData};
 ghost use Rattle.drain_grid.specs.Run.{RunEnds};
-ghost use Rattle.drain_runs.specs.declared.flow.Flow.TheVariants.{Void};
-ghost use Rattle.drain_runs.specs.Flows.{flow_at};
-ghost use Rattle.drain_runs.specs.Ranks.{IsRefusal};
-ghost use Rattle.drain_runs.specs.Steps.{IsRight};
+ghost use Rattle.drain_paths.specs.declared.flow.Flow.TheVariants.{Void};
+ghost use Rattle.drain_paths.specs.Flows.{flow_at};
+ghost use Rattle.drain_paths.specs.Ranks.{IsRankRefusal};
+ghost use Rattle.drain_paths.specs.Steps.{IsRightStep};
 ghost use Rattle.drain_counts.specs.CellNumbers.{cell_number, IsPutAt};
 ghost use Rattle.drain_counts.specs.OfFlows.{OfFlows};
 ghost use Rattle.drain_derive.specs.RunSteps.{AreStepsSoFar, AreRunSteps};
@@ -16,8 +16,8 @@ ghost use Rattle.drain_derive.specs.RunSteps.{AreStepsSoFar, AreRunSteps};
 use crate::first_steps::first_steps;
 use drain_counts::next_cell;
 use drain_grid::{Cell, Shape};
-use drain_runs::steps::UNKNOWN;
-use drain_runs::{CertifyRefusal, Flow};
+use drain_paths::steps::UNKNOWN;
+use drain_paths::{CertifyRefusal, Flow};
 use std::alloc::Global;
 
 /// The number of steps of each data cell's run, from the flows of all cells of a grid; `UNKNOWN` at voids.
@@ -32,7 +32,7 @@ pub(crate) fn count_steps(
     requires counted { length flows.now ≡ shape.rows * shape.cols }
     ensures counted { IfOk result (λ steps. vec_len steps ≡ shape.rows * shape.cols) }
     ensures steps { IfOk result (λ steps. OfFlows shape flows.now (λ g ps. AreRunSteps g ps shape steps.items)) }
-    ensures err { IfErr result (λ why. OfFlows shape flows.now (λ g ps. IsRefusal g ps why)) }
+    ensures err { IfErr result (λ why. OfFlows shape flows.now (λ g ps. IsRankRefusal g ps why)) }
 {
     let Ok(mut steps) = first_steps(alloc, flows) else {
         return Err(CertifyRefusal::OutOfMemory);
@@ -90,7 +90,7 @@ fn steps_ahead(flows: &[Flow], shape: Shape, steps: &[u32], start: Cell) -> Opti
     requires so_far { OfFlows shape flows.now (λ g ps. AreStepsSoFar g ps shape steps.now) }
     ensures few { IfSome result (λ ahead. ahead.steps < UNKNOWN) }
     ensures far { IfSome result (λ ahead. cell_number shape steps.now start ≡ UNKNOWN → 0 < ahead.walked) }
-    ensures steps { OfFlows shape flows.now (λ g ps. MatchOption result (¬ RunEnds g ps start) (λ ahead. IsRight g ps start ahead.steps)) }
+    ensures steps { OfFlows shape flows.now (λ g ps. MatchOption result (¬ RunEnds g ps start) (λ ahead. IsRightStep g ps start ahead.steps)) }
 {
     let cells = shape.cells();
     let mut here = start;
@@ -134,7 +134,7 @@ fn put_steps(flows: &[Flow], shape: Shape, steps: &mut [u32], start: Cell, ahead
     requires inside { IsCellOf shape start }
     requires few { ahead.steps < UNKNOWN }
     requires far { 0 < ahead.walked }
-    requires right { OfFlows shape flows.now (λ g ps. IsRight g ps start ahead.steps) }
+    requires right { OfFlows shape flows.now (λ g ps. IsRightStep g ps start ahead.steps) }
     requires so_far { OfFlows shape flows.now (λ g ps. AreStepsSoFar g ps shape steps.old) }
     ensures steps { OfFlows shape flows.now (λ g ps. AreStepsSoFar g ps shape steps.new) }
     ensures here { cell_number shape steps.new start ≢ UNKNOWN }

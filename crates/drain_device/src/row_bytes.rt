@@ -24,11 +24,11 @@ pub fn read_part<R: ByteSource>(
     ensures bytes { PartComes (length out.old) (R.bytes_left from.old) (R.bytes_left from.new) result out.new }
     ensures faults { PartFails (R.counts from.old) (R.counts from.new) patience.old patience.new (IsErrOf result ReadFault.ReadFailed) }
 {
-    let wanted = out.len();
+    let expected = out.len();
     let Ok(came) = read_full(from, out, patience) else {
         return Err(ReadFault::ReadFailed);
     };
-    if came < wanted {
+    if came < expected {
         return Err(ReadFault::WrongLength);
     }
     Ok(())
@@ -46,9 +46,9 @@ pub fn pass_part<R: ByteSource>(
     let mut chunk = [0; PASSED_BYTES];
     let mut left = count;
     while left > 0 {
-        let wanted = PASSED_BYTES.min(left);
-        read_part(from, &mut chunk[..wanted], patience)?;
-        left -= wanted;
+        let expected = PASSED_BYTES.min(left);
+        read_part(from, &mut chunk[..expected], patience)?;
+        left -= expected;
     }
     Ok(())
 }

@@ -1,2 +1,4 @@
 mod EndlessTold
+mod LineSteps
 mod Noting
+mod UntriedRules

@@ -10,9 +10,9 @@ use Rattle.drain_rules.specs.PatchRows.{AreRowPatches}
 use Rattle.drain_faults.specs.ByProduct.{IsRightByProduct, OfNextRowByProduct}
 use Rattle.drain_faults.specs.declared.fault_map.FaultMap.{FaultMap}
 use Rattle.drain_faults.specs.FaultMaps.{IsMapOf, OfNextRowDrawn}
-use Rattle.drain_faults.specs.FaultWalks.{IsCountedOf, IsRightOf, OfNextRow, OfNextRowCounted}
-use Rattle.drain_explain.specs.FaultNotes.{AreFaultNotes}
-use Rattle.drain_explain.specs.declared.fault_notes.FaultNotes.{FaultNotes}
+use Rattle.drain_faults.specs.FaultWalks.{IsCountedOf, IsRightTally, OfNextFaultRow, OfNextRowCounted}
+use Rattle.drain_explain.specs.FaultVisitor.{AreFaultNotes}
+use Rattle.drain_explain.specs.declared.fault_visitor.FaultVisitor.{FaultVisitor}
 
 -- there is a map after a row exactly where there was one
 pub still_drawn : (new old : Option FaultMap) → IsSome new ↔ IsSome old → is_some new ≡ is_some old
@@ -22,8 +22,8 @@ still_drawn None (Some old) same = absurd (false≢true (same.1 refl))
 still_drawn (Some new) None same = absurd (false≢true (same.0 refl))
 
 -- one row more
-pub notes-more : (rules : Rules) (g : Grid) (ps : Products) (r cols : ℕ) (shown : ℕ → Patch) (old new : FaultNotes) → AreRowPatches g ps r cols shown → AreFaultNotes rules g ps r old →
-    new.walk.rows ≡ old.walk.rows + 1 → OfNextRow (tried rules) old.walk cols shown (λ g ps. IsRightOf (tried rules) g ps new.walk) →
+pub notes-more : (rules : Rules) (g : Grid) (ps : Products) (r cols : ℕ) (shown : ℕ → Patch) (old new : FaultVisitor) → AreRowPatches g ps r cols shown → AreFaultNotes rules g ps r old →
+    new.walk.rows ≡ old.walk.rows + 1 → OfNextFaultRow (tried rules) old.walk cols shown (λ g ps. IsRightTally (tried rules) g ps new.walk) →
     OfNextRowByProduct rules old.walk cols shown (λ g ps. IsRightByProduct rules g ps new.walk) →
     OfNextRowCounted old.walk cols shown (λ g ps. IsCountedOf g ps new.walk) →
     OfNextRowDrawn (tried rules) old.walk cols shown (λ g ps. IsMapOf (tried rules) g ps new.walk) → new.rules ≡ rules → AreFaultNotes rules g ps (r + 1) new

@@ -8,15 +8,16 @@ use Rattle.drain_kernel.specs.Rules.{tried}
 use Rattle.drain_faults.specs.ByProduct.{AreFaultsByProduct}
 use Rattle.drain_faults.specs.FaultMaps.{IsMapOfCells}
 use Rattle.drain_faults.specs.Faults.{AreFaultsOf, IsFirstPatch}
-use Rattle.drain_runs.specs.EndlessRuns.{IsEndlessRun}
-use Rattle.drain_runs.specs.declared.endless_run.EndlessRun.{EndlessRun}
+use Rattle.drain_paths.specs.EndlessPaths.{IsEndlessPath}
+use Rattle.drain_paths.specs.declared.endless_path.EndlessPath.{EndlessPath}
 use Rattle.drain_verdict.specs.Answers.{rules_at}
 use Rattle.drain_verdict.specs.Inputs.{Inputs}
-use Rattle.drain_verdict.specs.Meaning.{grid_of, products_of}
+use Rattle.drain_verdict.specs.Meaning.{input_grid, input_products}
 use Rattle.drain_answer.specs.declared.audit_verdict.AuditVerdict.{AuditVerdict}
 use Rattle.drain_answer.specs.declared.audit_verdict.AuditVerdict.TheVariants.{NoEnd}
 use Rattle.drain_answer.specs.declared.refusal.Refusal.{Refusal}
 use Rattle.drain_explain.specs.declared.explanation.Explanation.{Explanation}
+use Rattle.drain_explain.specs.declared.findings.Findings.{Findings}
 
 -- the answer that is explained
 abbrev pub answer_in : {V : Type 0} → Result (Explanation V) Refusal → Result V Refusal
@@ -26,18 +27,18 @@ answer_in (Err refusal) = Err refusal
 -- of the inputs' grid and products, with ranks or without: the rules; for each rule and each product the number of
 -- cells at which it fails, and the first; the first cell at which any rule fails, and its patch; and, where there is a
 -- map, the number of each cell
-pub record IsExplanationOf {V : Type 0} (ranks : Ranks) (i : Inputs) (e : Explanation V) : Type 0 where
-  pub rules : e.rules ≡ rules_at ranks i
-  pub each_rule : AreFaultsOf (tried (rules_at ranks i)) (grid_of i) (products_of i) (cells (grid_of i).extent) e.by_rule
-  pub each_product : AreFaultsByProduct (rules_at ranks i) (grid_of i) (products_of i) (cells (grid_of i).extent) e.by_product
-  pub first_patch : IsFirstPatch (tried (rules_at ranks i)) (grid_of i) (products_of i) (cells (grid_of i).extent) e.first
-  pub map : IsMapOfCells (tried (rules_at ranks i)) (grid_of i) (products_of i) (cells (grid_of i).extent) e.map
+pub record AreFindingsOf (ranks : Ranks) (i : Inputs) (f : Findings) : Type 0 where
+  pub rules : f.rules ≡ rules_at ranks i
+  pub each_rule : AreFaultsOf (tried (rules_at ranks i)) (input_grid i) (input_products i) (cells (input_grid i).extent) f.by_rule
+  pub each_product : AreFaultsByProduct (rules_at ranks i) (input_grid i) (input_products i) (cells (input_grid i).extent) f.by_product
+  pub first_patch : IsFirstPatch (tried (rules_at ranks i)) (input_grid i) (input_products i) (cells (input_grid i).extent) f.first
+  pub map : IsMapOfCells (tried (rules_at ranks i)) (input_grid i) (input_products i) (cells (input_grid i).extent) f.map
 
 -- the verdict names a cell with data, and its path leads there
-pub record IsEndlessAt (g : Grid) (ps : Products) (verdict : AuditVerdict) (told : Cell × EndlessRun) : Type 0 where
+pub record IsEndlessAt (g : Grid) (ps : Products) (verdict : AuditVerdict) (told : Cell × EndlessPath) : Type 0 where
   pub named : verdict ≡ NoEnd told.0.row told.0.col
-  pub run : HasData g told.0 → IsEndlessRun g ps told.0 told.1
+  pub run : HasData g told.0 → IsEndlessPath g ps told.0 told.1
 
 -- of the inputs
-abbrev pub IsEndlessOf : Inputs → AuditVerdict → Cell × EndlessRun → Type 0
-IsEndlessOf i verdict told = (verdict ≡ NoEnd told.0.row told.0.col) × IsEndlessRun (grid_of i) (products_of i) told.0 told.1
+abbrev pub IsEndlessOf : Inputs → AuditVerdict → Cell × EndlessPath → Type 0
+IsEndlessOf i verdict told = (verdict ≡ NoEnd told.0.row told.0.col) × IsEndlessPath (input_grid i) (input_products i) told.0 told.1

@@ -1,2 +1,5 @@
 pub mod Explanations
-pub mod FaultNotes
+pub mod FaultVisitor
+pub mod Findings
+pub mod RefusalDetails
+pub mod SinkDetails

@@ -1,17 +1,17 @@
 //! A check that is explained.
 
 ghost use Rattle.std.specs.Prelude.{◌≡◌, ◌↔◌, IfOk, IsSome};
-ghost use Rattle.drain_explain.specs.Explanations.{IsExplanationOf, answer_in};
-ghost use Rattle.drain_explain.specs.declared.fault_notes.Mapping.TheVariants.{Drawn};
+ghost use Rattle.drain_explain.specs.Explanations.{AreFindingsOf, answer_in};
+ghost use Rattle.drain_explain.specs.declared.fault_visitor.Mapping.TheVariants.{Drawn};
 ghost use Rattle.drain_hgt.specs.Inputs.{names_of};
-ghost use Rattle.drain_kernel.specs.declared.rules.Ranks.TheVariants.{Asked};
+ghost use Rattle.drain_kernel.specs.declared.rules.Ranks.TheVariants.{Checked};
 ghost use Rattle.drain_verdict.specs.Answers.{IsAnswer};
 ghost use Rattle.drain_verdict.specs.Inputs.{Inputs, Tell};
 ghost use Rattle.drain_verdict.specs.Stages.{IsLayoutOf};
 ghost use Rattle.drain_verdict.specs.Uses.{CheckUses};
 
-use crate::explanation::{Explanation, told_by_notes};
-use crate::fault_notes::{FaultNotes, Mapping};
+use crate::explanation::{Explanation, findings_of};
+use crate::fault_visitor::{FaultVisitor, Mapping};
 use drain_device::ByteSource;
 use drain_grid::OutOfMemory;
 use drain_hgt::TileInput;
@@ -39,9 +39,9 @@ pub fn explain_check<R: ByteSource>(
     ensures answer { (inputs : Inputs) → Tell R.bytes_left side tiles.old sinks.now products.old inputs → IsAnswer inputs (answer_in result) }
 
     // For a verdict, what every cell showed, with a map if one is required.
-    ensures explained { IfOk result (λ e. (inputs : Inputs) → Tell R.bytes_left side tiles.old sinks.now products.old inputs → IsExplanationOf Asked inputs e) }
-    ensures drawn { IfOk result (λ e. IsSome e.map ↔ (mapping ≡ Drawn)) }
-    ensures layout { IfOk result (λ e. IsLayoutOf side (names_of tiles.old) e.layout) }
+    ensures explained { IfOk result (λ e. (inputs : Inputs) → Tell R.bytes_left side tiles.old sinks.now products.old inputs → AreFindingsOf Checked inputs e.findings) }
+    ensures drawn { IfOk result (λ e. IsSome e.findings.map ↔ (mapping ≡ Drawn)) }
+    ensures layout { IfOk result (λ e. IsLayoutOf side (names_of tiles.old) e.findings.layout) }
 
     // How far it reads, when a read fails, and what is unchanged: as for a check.
     ensures uses { CheckUses R.bytes_left R.counts side (tiles.old, products.old) (tiles.new, products.new) result }
@@ -49,11 +49,14 @@ pub fn explain_check<R: ByteSource>(
     // The law that bytes name one tile.
     one_name();
     let layout = layout_of(alloc, side, tiles)?;
-    let ranks = Ranks::Asked;
-    let mut notes = match FaultNotes::new(alloc, layout.shape(), mapping, ranks) {
+    let ranks = Ranks::Checked;
+    let mut notes = match FaultVisitor::new(alloc, layout.shape(), mapping, ranks) {
         Ok(notes) => notes,
         Err(OutOfMemory) => return Err(Refusal::OutOfMemory),
     };
     let verdict = answer_on(alloc, &layout, sinks, tiles, products, ranks, &mut notes)?;
-    Ok(told_by_notes(verdict, layout, notes, None))
+    Ok(Explanation {
+        verdict,
+        findings: findings_of(layout, notes, None),
+    })
 }

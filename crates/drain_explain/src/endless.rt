@@ -3,10 +3,10 @@
 ghost use Rattle.std.specs.Prelude.{◌≡◌, ◌*◌, length, IfOk, IfSome};
 ghost use Rattle.drain_explain.specs.Explanations.{IsEndlessAt};
 ghost use Rattle.drain_grid.specs.Grid.{Grid, Products, HasData};
-ghost use Rattle.drain_runs.specs.KnownFlows.{AreKnownFlows};
+ghost use Rattle.drain_paths.specs.KnownFlows.{AreKnownFlows};
 
 use drain_grid::{Cell, OutOfMemory, Shape};
-use drain_runs::{CellFlows, EndlessRun};
+use drain_paths::{CellFlows, EndlessPath};
 use drain_verdict::AuditVerdict;
 use std::alloc::Global;
 
@@ -17,7 +17,7 @@ pub fn endless_of(
     flows: &CellFlows,
     shape: Shape,
     verdict: &AuditVerdict,
-) -> Result<Option<(Cell, EndlessRun)>, OutOfMemory>
+) -> Result<Option<(Cell, EndlessPath)>, OutOfMemory>
     ensures { IfOk result (λ told. (g : Grid) (ps : Products) → AreKnownFlows g ps shape flows.now → IfSome told (IsEndlessAt g ps verdict.now)) }
 {
     let AuditVerdict::NoEnd { row, col } = verdict else {
@@ -31,7 +31,7 @@ pub fn endless_of(
     if flows.len() != shape.cells() || cell.row >= shape.rows() || cell.col >= shape.cols() {
         return Ok(None);
     }
-    match flows.endless_run(alloc, shape, cell)? {
+    match flows.endless_path(alloc, shape, cell)? {
         Some(run) => Ok(Some((cell, run))),
         None => Ok(None),
     }

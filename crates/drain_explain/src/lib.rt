@@ -1,5 +1,5 @@
 //! The answer of a check or an audit with its explanation: for every rule at how many cells it fails and where first,
-//! what the first fault shows, and a map.
+//! what the first fault shows, and a map; and of refused inputs what was expected and found.
 //!
 //! The answer is that of `drain_verdict`, found in the same pass over the rows, which also notes each row
 //! (`drain_faults`). If an audit finds a path without an end, it says where that path leads.
@@ -9,9 +9,20 @@ pub mod audit_explained;
 pub mod check_explained;
 pub mod endless;
 pub mod explanation;
-pub mod fault_notes;
+pub mod fault_visitor;
+pub mod findings;
+pub mod laws;
+pub mod refusal_detail;
+pub mod refused;
+mod seam_detail;
+pub mod second_look;
+mod sink_detail;
 
 pub use audit_explained::explain_audit;
 pub use check_explained::explain_check;
-pub use explanation::Explanation;
-pub use fault_notes::{FaultNotes, Mapping};
+pub use explanation::{Explanation, answer_and_findings};
+pub use fault_visitor::{FaultVisitor, Mapping};
+pub use findings::{Findings, judged_product};
+pub use refusal_detail::{Extent, NotData, RefusalDetail, SHOWN_BYTES, TileValue};
+pub use refused::detail_of;
+pub use second_look::SecondLook;

@@ -8,7 +8,7 @@ use Rattle.drain_grid.specs.Size.{Extent}
 use Rattle.drain_rules.specs.declared.tally.Tally.{Tally}
 use Rattle.drain_rules.specs.declared.verdict.Counts.{Counts}
 use Rattle.drain_rules.specs.BlankVoids.{IsRightVoid}
-use Rattle.drain_rules.specs.Findings.{CountsAbove}
+use Rattle.drain_rules.specs.RowOutcomes.{CountsAbove}
 use Rattle.drain_rules.specs.PatchRows.{AreRowPatches, IsAtMost}
 use Rattle.drain_rules.specs.Rows.{CountsAlong}
 use Rattle.drain_rules.specs.Verdicts.{counts_of}

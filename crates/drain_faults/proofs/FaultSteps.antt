@@ -13,7 +13,7 @@ use Rattle.drain_rules.specs.PatchRows.{AreRowPatches}
 use Rattle.drain_rules.specs.Rows.{place}
 use Rattle.drain_rules.proofs.Faults.{IsLeastFault-cell, labelled-HoldsAt}
 use Rattle.drain_rules.proofs.LabelsBefore.{AreLabelsBefore-more, AreLabelsBefore-row}
-use Rattle.drain_faults.specs.declared.found.Found.{Found}
+use Rattle.drain_faults.specs.declared.fault_tally.FaultTally.{FaultTally}
 use Rattle.drain_faults.specs.CellFaults.{IsNoted}
 use Rattle.drain_faults.specs.Faults.{AreCellsWithout, IsFirstPatch}
 use Rattle.drain_faults.specs.FaultWalks.{IsFoundAbove, IsFoundBefore, IsNewOutletAt, cells_before}
@@ -29,7 +29,7 @@ module _ (profile : Profile) (g : Grid) (ps : Products) (row cols : ℕ) (shown 
   inside_row col less = record { row = are.inside; col = omega (arith, less, are.cols_are) }
 
   -- above a row is before its first place
-  pub found_begins : (found : Found) → IsFoundAbove profile g ps row found → IsFoundBefore profile g ps row 0 found
+  pub found_begins : (found : FaultTally) → IsFoundAbove profile g ps row found → IsFoundBefore profile g ps row 0 found
   found_begins found above = record {
     faults = λ r. subst (λ cs. AreCellsWithout (λ c. HoldsAt profile g ps c r) cs (of_rule found.by_rule r)) (sym (cells_before-none g row)) (above.faults r);
     first_patch = subst (λ cs. IsFirstPatch profile g ps cs found.first) (sym (cells_before-none g row)) above.first_patch;
@@ -37,7 +37,7 @@ module _ (profile : Profile) (g : Grid) (ps : Products) (row cols : ℕ) (shown 
   }
 
   -- before its end is above the next row
-  pub found_ends : (found : Found) (col : ℕ) → col ≡ cols → IsFoundBefore profile g ps row col found → IsFoundAbove profile g ps (row + 1) found
+  pub found_ends : (found : FaultTally) (col : ℕ) → col ≡ cols → IsFoundBefore profile g ps row col found → IsFoundAbove profile g ps (row + 1) found
   found_ends found col last so_far =
       let whole : IsFoundBefore profile g ps row g.extent.cols found = subst (λ n. IsFoundBefore profile g ps row n found) (last ∙ are.cols_are) so_far in
       record {
@@ -47,7 +47,7 @@ module _ (profile : Profile) (g : Grid) (ps : Products) (row cols : ℕ) (shown 
       }
 
   -- one more sound cell
-  sound_one : (found : Found) (col : ℕ) → col < cols → IsSound profile (shown col) → IsFoundBefore profile g ps row col found →
+  sound_one : (found : FaultTally) (col : ℕ) → col < cols → IsSound profile (shown col) → IsFoundBefore profile g ps row col found →
       IsFoundBefore profile g ps row (col + 1) found
   sound_one found col less sound so_far =
       let at : IsSound profile (patch_at g ps (place row col)) = subst (IsSound profile) (are.patches_are col less) sound in
@@ -61,7 +61,7 @@ module _ (profile : Profile) (g : Grid) (ps : Products) (row cols : ℕ) (shown 
             (no_label profile found.labels (patch_at g ps (place row col)) at);
       }
 
-  sound_some : (found : Found) (from n : ℕ) → from + n ≤ cols → ((col : ℕ) → from ≤ col → col < from + n → IsSound profile (shown col)) →
+  sound_some : (found : FaultTally) (from n : ℕ) → from + n ≤ cols → ((col : ℕ) → from ≤ col → col < from + n → IsSound profile (shown col)) →
       IsFoundBefore profile g ps row from found → IsFoundBefore profile g ps row (from + n) found
   sound_some found from zero within sound so_far =
       let here : from + 0 ≡ from = omega arith in
@@ -72,7 +72,7 @@ module _ (profile : Profile) (g : Grid) (ps : Products) (row cols : ℕ) (shown 
       subst (λ col. IsFoundBefore profile g ps row col found) next (sound_one found (from + n) (omega (arith, within)) (sound (from + n) (omega arith) (omega arith)) before)
 
   -- a run of sound cells
-  found_sound : (found : Found) (from end : ℕ) → from ≤ end → end ≤ cols → ((col : ℕ) → from ≤ col → col < end → IsSound profile (shown col)) →
+  found_sound : (found : FaultTally) (from end : ℕ) → from ≤ end → end ≤ cols → ((col : ℕ) → from ≤ col → col < end → IsSound profile (shown col)) →
       IsFoundBefore profile g ps row from found → IsFoundBefore profile g ps row end found
   found_sound found from end forward within sound so_far =
       let up_to : from + (end - from) ≡ end = omega arith in
@@ -80,7 +80,7 @@ module _ (profile : Profile) (g : Grid) (ps : Products) (row cols : ℕ) (shown 
       (sound_some found from (end - from) (omega (arith, within)) (λ col past less. sound col past (omega (arith, less))) so_far)
 
   -- the cells that a row clears, and the voids after them
-  pub found_passed : (found : Found) (from end last : ℕ) → from ≤ end → end ≤ cols → ((col : ℕ) → from ≤ col → col < end → IsKept profile (shown col)) →
+  pub found_passed : (found : FaultTally) (from end last : ℕ) → from ≤ end → end ≤ cols → ((col : ℕ) → from ≤ col → col < end → IsKept profile (shown col)) →
       end ≤ last → last ≤ cols → ((col : ℕ) → end ≤ col → col < last → IsRightVoid profile (shown col)) →
       IsFoundBefore profile g ps row from found → IsFoundBefore profile g ps row last found
   found_passed found from end last forward within kept behind inside right so_far =
@@ -88,7 +88,7 @@ module _ (profile : Profile) (g : Grid) (ps : Products) (row cols : ℕ) (shown 
       (found_sound found from end forward within (λ col past less. of_kept profile (shown col) (kept col past less)) so_far)
 
   -- one cell more that was noted
-  pub found_noted : (old new : Found) (col : ℕ) (p : Patch) → row < 28801 → cols ≤ 28801 → col < cols → p ≡ shown col →
+  pub found_noted : (old new : FaultTally) (col : ℕ) (p : Patch) → row < 28801 → cols ≤ 28801 → col < cols → p ≡ shown col →
       IsNoted profile (place row col) p old new → IsFoundBefore profile g ps row col old →
       IsFoundBefore profile g ps row (col + 1) new
   found_noted old new col p few narrow less is noted so_far =
@@ -112,7 +112,7 @@ module _ (profile : Profile) (g : Grid) (ps : Products) (row cols : ℕ) (shown 
       }
 
   -- where a label found no room it is a new one
-  pub found_new : (found : Found) (col : ℕ) (p : Patch) → col < cols → p ≡ shown col → IsFoundBefore profile g ps row col found →
+  pub found_new : (found : FaultTally) (col : ℕ) (p : Patch) → col < cols → p ≡ shown col → IsFoundBefore profile g ps row col found →
       IsOutletByCode p.here × ¬ IsAdmitted found.labels p.here.bas → IsNewOutletAt g ps (place row col)
   found_new found col p less is so_far want =
       let inside = inside_row col less in

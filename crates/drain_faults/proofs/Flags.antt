@@ -3,7 +3,7 @@ use Rattle.std.proofs.Common.{◌≡◌, ◌↔◌, ◌<◌, Bool, true, false, 
 use Rattle.std.proofs.lemmas.Bool.{false≢true, true≢false, cases_lt}
 use Rattle.drain_grid.specs.declared.cell.Cell.{Cell}
 use Rattle.drain_grid.specs.declared.rule.Rule.{Rule}
-use Rattle.drain_grid.specs.Rule.{number_of, IsLeastFault}
+use Rattle.drain_grid.specs.Rule.{rule_number, IsLeastFault}
 use Rattle.drain_grid.proofs.RuleNumbers.{same_rule}
 use Rattle.drain_faults.specs.declared.rule_faults.RuleFaults.{RuleFaults}
 use Rattle.drain_faults.specs.CellFaults.{IsNotedAt, IsWith}
@@ -26,7 +26,7 @@ tells_iff false P holds = (λ e. holds, λ h. refl)
 
 -- a rule fails exactly where it is the least fault, if no lesser rule's fault can hide it
 pub tells_least : (IsOwn P : Rule → Type 0) (r : Rule) (o : Option Rule) (b : Bool) → IsOwn r →
-    ((q : Rule) → IsOwn q → number_of q < number_of r → ¬ P q → P r) → IsLeastFault IsOwn P o → IsTrue b ↔ (o ≡ Some r) → TellsFault b (P r)
+    ((q : Rule) → IsOwn q → rule_number q < rule_number r → ¬ P q → P r) → IsLeastFault IsOwn P o → IsTrue b ↔ (o ≡ Some r) → TellsFault b (P r)
 tells_least IsOwn P r None true own hides least test = absurd (let is : None ≡ Some r = test.0 refl in cc)
 tells_least IsOwn P r (Some q) true own hides least test =
     let is : Some q ≡ Some r = test.0 refl in
@@ -34,9 +34,9 @@ tells_least IsOwn P r (Some q) true own hides least test =
     λ holds. least.1 (subst P (sym same) holds)
 tells_least IsOwn P r None false own hides least test = least r own
 tells_least IsOwn P r (Some q) false own hides least test =
-    elim (cases_lt (number_of q) (number_of r)) [
+    elim (cases_lt (rule_number q) (rule_number r)) [
       | inl below ↦ hides q least.0 below least.1
-      | inr above ↦ elim (cases_lt (number_of r) (number_of q)) [
+      | inr above ↦ elim (cases_lt (rule_number r) (rule_number q)) [
         | inl later ↦ least.2 r own later
         | inr not_later ↦ absurd (false≢true (test.1 (ap Some (same_rule q r (omega (arith, above, not_later))))))
       ]

@@ -10,15 +10,15 @@ use Rattle.drain_grid.specs.PatchRules.{Profile}
 use Rattle.drain_grid.specs.Rule.{IsAnyRule, IsLeastFault}
 use Rattle.drain_kernel.specs.Kept.{IsKept}
 use Rattle.drain_rules.specs.BlankVoids.{IsRightVoid}
-use Rattle.drain_rules.specs.Findings.{cells_above}
+use Rattle.drain_rules.specs.RowOutcomes.{cells_above}
 use Rattle.drain_rules.specs.Labels.{labelled_profile}
 use Rattle.drain_rules.specs.PatchRows.{AreRowPatches}
 use Rattle.drain_rules.specs.Rows.{place}
 use Rattle.drain_rules.proofs.Faults.{IsLeastFault-cell}
 use Rattle.drain_faults.specs.declared.fault_map.FaultMap.{FaultMap}
 use Rattle.drain_faults.specs.declared.fault_map.TheConstants.{SOUND, SOUND_VOID}
-use Rattle.drain_faults.specs.declared.found.Found.{Found}
-use Rattle.drain_faults.specs.FaultMaps.{AreDrawn, AreMapPixels, IsMapOfCells, IsMapPixel, pixel_of}
+use Rattle.drain_faults.specs.declared.fault_tally.FaultTally.{FaultTally}
+use Rattle.drain_faults.specs.FaultMaps.{AreDrawn, AreMapPixels, IsMapOfCells, IsMapPixel, fault_pixel}
 use Rattle.drain_faults.specs.FaultWalks.{IsFoundBefore, cells_before}
 use Rattle.drain_faults.proofs.CellsBefore.{cells_before-all, cells_before-more, cells_before-none}
 use Rattle.drain_faults.proofs.FaultSteps.{inside_row}
@@ -67,7 +67,7 @@ module _ (profile : Profile) (g : Grid) (ps : Products) (row cols : ℕ) (shown 
       record {
         rule = None;
         least = λ r own. sound_holds profile g ps (place row col) (of_kept profile (patch_at g ps (place row col)) at) r;
-        number_is = sym (ap (pixel_of None) at.has_data);
+        number_is = sym (ap (fault_pixel None) at.has_data);
       }
 
   -- and that of a void at which no rule fails
@@ -77,7 +77,7 @@ module _ (profile : Profile) (g : Grid) (ps : Products) (row cols : ℕ) (shown 
       record {
         rule = None;
         least = λ r own. sound_holds profile g ps (place row col) (of_void profile (patch_at g ps (place row col)) at) r;
-        number_is = sym (ap (pixel_of None) at.is_void);
+        number_is = sym (ap (fault_pixel None) at.is_void);
       }
 
   -- those of a run of cells of one number, by induction over the run, after any numbers
@@ -122,16 +122,16 @@ module _ (profile : Profile) (g : Grid) (ps : Products) (row cols : ℕ) (shown 
       (map_run SOUND old mid from end n forward within many (λ col past less. kept_pixel col (omega (arith, less, within)) (kept col past less)) drawn so_far)
 
   -- a cell that was noted
-  pub map_noted : (found : Found) (least : Option Rule) (old new : Option FaultMap) (col : ℕ) (p : Patch) → col < cols → p ≡ shown col →
-      IsLeastFault IsAnyRule (labelled_profile profile found.labels p) least → AreDrawn old new (pixel_of least (is_some p.here.z) ∷ []) →
+  pub map_noted : (found : FaultTally) (least : Option Rule) (old new : Option FaultMap) (col : ℕ) (p : Patch) → col < cols → p ≡ shown col →
+      IsLeastFault IsAnyRule (labelled_profile profile found.labels p) least → AreDrawn old new (fault_pixel least (is_some p.here.z) ∷ []) →
       IsFoundBefore profile g ps row col found → IsMapOfCells profile g ps (cells_before g row col) old → IsMapOfCells profile g ps (cells_before g row (col + 1)) new
   map_noted found least old new col p less is fault drawn found_before so_far =
       let cell = place row col in
       let same : p ≡ patch_at g ps cell = is ∙ are.patches_are col less in
-      let pixel : IsMapPixel profile g ps cell (pixel_of least (is_some p.here.z)) = record {
+      let pixel : IsMapPixel profile g ps cell (fault_pixel least (is_some p.here.z)) = record {
         rule = least;
         least = IsLeastFault-cell profile g ps found.labels cell p least (inside_row profile g ps row cols shown are col less) found_before.before same fault;
-        number_is = ap (λ (q : Patch). pixel_of least (is_some q.here.z)) same;
+        number_is = ap (λ (q : Patch). fault_pixel least (is_some q.here.z)) same;
       } in
       subst (λ cs. IsMapOfCells profile g ps cs new) (sym (cells_before-more g row col))
-      (map_more profile g ps (cells_before g row col) cell (pixel_of least (is_some p.here.z)) old new pixel drawn so_far)
+      (map_more profile g ps (cells_before g row col) cell (fault_pixel least (is_some p.here.z)) old new pixel drawn so_far)

@@ -9,7 +9,7 @@ use Rattle.drain_grid.specs.Rule.{IsFillRule, IsPresenceRule, IsSlopeRule, IsOnl
 use Rattle.drain_grid.specs.PatchRules.{BadCodeWithoutSpill, flow_rules, surface_rules}
 use Rattle.drain_grid.proofs.RuleNumbers.{same_rule}
 use Rattle.drain_kernel.specs.declared.rules.Ranks.{Ranks}
-use Rattle.drain_kernel.specs.declared.rules.Ranks.TheVariants.{Asked, Unasked}
+use Rattle.drain_kernel.specs.declared.rules.Ranks.TheVariants.{Checked, Ignored}
 use Rattle.drain_kernel.specs.declared.rules.Rules.{Rules}
 use Rattle.drain_kernel.specs.Rules.{rules_with, tried}
 use Rattle.drain_rules.proofs.PatchFaults.{flow_with, surface_with}
@@ -18,12 +18,12 @@ use Rattle.drain_faults.proofs.Flags.{tells_least, tells_same}
 
 -- where VoidCell fails the cell is a void, so Missing holds
 void_hides : (ranks : Ranks) (nodata : NoDataNumbers) (p : Patch) → ¬ rules_with ranks nodata p VoidCell → rules_with ranks nodata p Missing
-void_hides Asked nodata p fails = λ has_data. absurd (fails (λ is_void. absurd (false≢true (sym is_void ∙ has_data))))
-void_hides Unasked nodata p fails = λ has_data. absurd (fails (λ is_void. absurd (false≢true (sym is_void ∙ has_data))))
+void_hides Checked nodata p fails = λ has_data. absurd (fails (λ is_void. absurd (false≢true (sym is_void ∙ has_data))))
+void_hides Ignored nodata p fails = λ has_data. absurd (fails (λ is_void. absurd (false≢true (sym is_void ∙ has_data))))
 
 bad_code_with : (ranks : Ranks) (nodata : NoDataNumbers) (p : Patch) → BadCodeWithoutSpill p ↔ rules_with ranks nodata p BadCode
-bad_code_with Asked nodata p = (λ h. h, λ h. h)
-bad_code_with Unasked nodata p = (λ h. h, λ h. h)
+bad_code_with Checked nodata p = (λ h. h, λ h. h)
+bad_code_with Ignored nodata p = (λ h. h, λ h. h)
 
 module _ (rules : Rules) (p : Patch) where
   -- of the rules on which numbers are there, the first two

@@ -9,7 +9,7 @@ use Rattle.drain_kernel.specs.declared.rules.Rules.{Rules}
 use Rattle.drain_kernel.specs.Kept.{IsKept}
 use Rattle.drain_kernel.specs.Rules.{tried}
 use Rattle.drain_rules.specs.BlankVoids.{IsRightVoid}
-use Rattle.drain_rules.specs.Findings.{cells_above}
+use Rattle.drain_rules.specs.RowOutcomes.{cells_above}
 use Rattle.drain_rules.specs.PatchRows.{AreRowPatches}
 use Rattle.drain_rules.specs.Rows.{place}
 use Rattle.drain_faults.specs.declared.product_faults.ProductFaults.{ProductFaults}

@@ -8,7 +8,7 @@ use Rattle.drain_grid.specs.GridRules.{HoldsAt, IsFirstFault, RulesHold}
 use Rattle.drain_grid.specs.PatchRules.{Profile}
 use Rattle.drain_grid.specs.Rule.{IsAnyRule, IsLeastFault}
 use Rattle.drain_grid.specs.declared.rule.Rule.{Rule}
-use Rattle.drain_rules.specs.Findings.{cells_above}
+use Rattle.drain_rules.specs.RowOutcomes.{cells_above}
 use Rattle.drain_rules.specs.Rows.{place}
 use Rattle.drain_rules.proofs.GridLemmas.{IsFirstFault-row, cells_above-more}
 use Rattle.drain_rules.proofs.RowLemmas.{IsRowFault-cell}

@@ -1,19 +1,19 @@
 -- What VoidCell and Missing require of each product, and at how many cells of a list it fails. This project's own.
 use Rattle.std.specs.Prelude.{◌≡◌, ◌≢◌, ℕ, IsNone, List}
 use Rattle.drain_grid.specs.declared.cell.Cell.{Cell}
-use Rattle.drain_grid.specs.declared.held.Held.{Held}
-use Rattle.drain_grid.specs.declared.held.Held.TheVariants.{Rnk}
+use Rattle.drain_grid.specs.declared.set_product.SetProduct.{SetProduct}
+use Rattle.drain_grid.specs.declared.set_product.SetProduct.TheVariants.{Rnk}
 use Rattle.drain_grid.specs.declared.patch.Patch.{Patch}
 use Rattle.drain_grid.specs.declared.per_product.PerProduct.{PerProduct}
 use Rattle.drain_grid.specs.Grid.{Grid, Products, patch_at}
-use Rattle.drain_grid.specs.Held.{product_of}
+use Rattle.drain_grid.specs.SetProduct.{product_of}
 use Rattle.drain_grid.specs.Patch.{IsDataCell}
 use Rattle.drain_grid.specs.PerProduct.{of_product}
 use Rattle.drain_grid.specs.Values.{number_for, value_of}
 use Rattle.drain_kernel.specs.declared.rules.Ranks.{Ranks}
-use Rattle.drain_kernel.specs.declared.rules.Ranks.TheVariants.{Unasked}
+use Rattle.drain_kernel.specs.declared.rules.Ranks.TheVariants.{Ignored}
 use Rattle.drain_kernel.specs.declared.rules.Rules.{Rules}
-use Rattle.drain_rules.specs.Findings.{cells_above}
+use Rattle.drain_rules.specs.RowOutcomes.{cells_above}
 use Rattle.drain_rules.specs.PatchRows.{AreRowPatches}
 use Rattle.drain_faults.specs.declared.fault_walk.FaultWalk.{FaultWalk}
 use Rattle.drain_faults.specs.declared.product_faults.ProductFaults.{ProductFaults}
@@ -21,37 +21,37 @@ use Rattle.drain_faults.specs.CellFaults.{IsNotedAt}
 use Rattle.drain_faults.specs.Faults.{AreCellsWithout}
 
 -- the fact, if it is required of the product: of ranks it isn't unless they are checked
-abbrev pub WhereAsked : Held → Ranks → Type 0 → Type 0
-WhereAsked Rnk Unasked P = Unit {0}
-WhereAsked product ranks P = P
+abbrev pub WhereChecked : SetProduct → Ranks → Type 0 → Type 0
+WhereChecked Rnk Ignored P = Unit {0}
+WhereChecked product ranks P = P
 
 -- VoidCell, of one product: at a void it has its no-data number
-abbrev pub VoidCellHoldsOf : Rules → Held → Patch → Type 0
+abbrev pub VoidCellHoldsOf : Rules → SetProduct → Patch → Type 0
 VoidCellHoldsOf rules product p =
-    WhereAsked product rules.ranks (IsNone p.here.z → value_of p.here (product_of product) ≡ number_for rules.nodata (product_of product))
+    WhereChecked product rules.ranks (IsNone p.here.z → value_of p.here (product_of product) ≡ number_for rules.nodata (product_of product))
 
 -- Missing, of one product: at a data cell it doesn't have its no-data number
-abbrev pub MissingHoldsOf : Rules → Held → Patch → Type 0
+abbrev pub MissingHoldsOf : Rules → SetProduct → Patch → Type 0
 MissingHoldsOf rules product p =
-    WhereAsked product rules.ranks (IsDataCell p → value_of p.here (product_of product) ≢ number_for rules.nodata (product_of product))
+    WhereChecked product rules.ranks (IsDataCell p → value_of p.here (product_of product) ≢ number_for rules.nodata (product_of product))
 
 -- at how many cells of a list the product doesn't keep the first, and the second, and at which first
-pub record AreFaultsOfProduct (rules : Rules) (g : Grid) (ps : Products) (cs : List Cell) (product : Held) (faults : ProductFaults) : Type 0 where
+pub record AreFaultsOfProduct (rules : Rules) (g : Grid) (ps : Products) (cs : List Cell) (product : SetProduct) (faults : ProductFaults) : Type 0 where
   pub at_voids : AreCellsWithout (λ c. VoidCellHoldsOf rules product (patch_at g ps c)) cs faults.at_voids
   pub at_data : AreCellsWithout (λ c. MissingHoldsOf rules product (patch_at g ps c)) cs faults.at_data
 
 -- that of each product
 abbrev pub AreFaultsByProduct : Rules → Grid → Products → List Cell → PerProduct ProductFaults → Type 0
-AreFaultsByProduct rules g ps cs faults = (product : Held) → AreFaultsOfProduct rules g ps cs product (of_product faults product)
+AreFaultsByProduct rules g ps cs faults = (product : SetProduct) → AreFaultsOfProduct rules g ps cs product (of_product faults product)
 
 -- the product is recorded at the cell with this patch
-pub record IsProductNotedAt (rules : Rules) (cell : Cell) (p : Patch) (product : Held) (old new : ProductFaults) : Type 0 where
+pub record IsProductNotedAt (rules : Rules) (cell : Cell) (p : Patch) (product : SetProduct) (old new : ProductFaults) : Type 0 where
   pub at_void : IsNotedAt (VoidCellHoldsOf rules product p) cell old.at_voids new.at_voids
   pub at_data : IsNotedAt (MissingHoldsOf rules product p) cell old.at_data new.at_data
 
 -- each product is
 abbrev pub AreProductsNotedAt : Rules → Cell → Patch → PerProduct ProductFaults → PerProduct ProductFaults → Type 0
-AreProductsNotedAt rules cell p old new = (product : Held) → IsProductNotedAt rules cell p product (of_product old product) (of_product new product)
+AreProductsNotedAt rules cell p old new = (product : SetProduct) → IsProductNotedAt rules cell p product (of_product old product) (of_product new product)
 
 -- this holds of each grid of which these are the row's patches, where these are the faults of each product above it
 abbrev pub OfRowByProduct : Rules → ℕ → ℕ → (ℕ → Patch) → PerProduct ProductFaults → (Grid → Products → Type 0) → Type 0

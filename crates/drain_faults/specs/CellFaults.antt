@@ -8,7 +8,7 @@ use Rattle.drain_grid.specs.PatchRules.{Profile}
 use Rattle.drain_grid.specs.Rule.{IsAnyRule, IsLeastFault}
 use Rattle.drain_rules.specs.Labels.{IsLabelOf, labelled_profile}
 use Rattle.drain_faults.specs.declared.faulty_patch.FaultyPatch.{FaultyPatch}
-use Rattle.drain_faults.specs.declared.found.Found.{Found}
+use Rattle.drain_faults.specs.declared.fault_tally.FaultTally.{FaultTally}
 use Rattle.drain_faults.specs.declared.rule_faults.RuleFaults.{RuleFaults}
 use Rattle.drain_faults.specs.PerRule.{of_rule}
 
@@ -39,7 +39,7 @@ pub record IsLeastNoted (P : Rule → Type 0) (cell : Cell) (p : Patch) (old new
   pub first_is : IsFirstNoted least cell p old new
 
 -- each rule is recorded here, SharedLabel by the labels so far; the label is added if the cell is an outlet by code
-pub record IsNoted (profile : Profile) (cell : Cell) (p : Patch) (old new : Found) : Type 0 where
+pub record IsNoted (profile : Profile) (cell : Cell) (p : Patch) (old new : FaultTally) : Type 0 where
   pub each : (r : Rule) → IsNotedAt (labelled_profile profile old.labels p r) cell (of_rule old.by_rule r) (of_rule new.by_rule r)
   pub first_is : IsLeastNoted (labelled_profile profile old.labels p) cell p old.first new.first
   pub admitted : (label : ℤ) → IsAdmitted new.labels label ↔ (IsLabelOf p.here label ⊎ IsAdmitted old.labels label)

@@ -6,26 +6,26 @@ use Rattle.drain_grid.specs.declared.rule.Rule.{Rule}
 use Rattle.drain_grid.specs.Grid.{Grid, Products}
 use Rattle.drain_grid.specs.GridRules.{HoldsAt}
 use Rattle.drain_grid.specs.PatchRules.{Profile}
-use Rattle.drain_grid.specs.Rule.{IsAnyRule, IsLeastFault, number_of}
-use Rattle.drain_rules.specs.Findings.{cells_above}
+use Rattle.drain_grid.specs.Rule.{IsAnyRule, IsLeastFault, rule_number}
+use Rattle.drain_rules.specs.RowOutcomes.{cells_above}
 use Rattle.drain_rules.specs.PatchRows.{AreRowPatches}
 use Rattle.drain_faults.specs.declared.fault_map.FaultMap.{FaultMap}
 use Rattle.drain_faults.specs.declared.fault_map.TheConstants.{SOUND, SOUND_VOID}
 use Rattle.drain_faults.specs.declared.fault_walk.FaultWalk.{FaultWalk}
-use Rattle.drain_faults.specs.declared.found.Found.{Found}
+use Rattle.drain_faults.specs.declared.fault_tally.FaultTally.{FaultTally}
 use Rattle.drain_faults.specs.FaultWalks.{IsFoundAbove}
 
 -- that of the least rule that fails at the cell; if none fails that of a sound data cell, or of a sound void
-abbrev pub pixel_of : Option Rule → Bool → ℕ
-pixel_of (Some r) has_data = number_of r
-pixel_of None true = SOUND
-pixel_of None false = SOUND_VOID
+abbrev pub fault_pixel : Option Rule → Bool → ℕ
+fault_pixel (Some r) has_data = rule_number r
+fault_pixel None true = SOUND
+fault_pixel None false = SOUND_VOID
 
 -- the number is the cell's
 pub record IsMapPixel (profile : Profile) (g : Grid) (ps : Products) (c : Cell) (n : ℕ) : Type 0 where
   pub rule : Option Rule
   pub least : IsLeastFault IsAnyRule (HoldsAt profile g ps c) rule
-  pub number_is : n ≡ pixel_of rule (is_some (g.elevation c))
+  pub number_is : n ≡ fault_pixel rule (is_some (g.elevation c))
 
 -- the numbers are those of the list's cells, one after another
 abbrev pub AreMapPixels : Profile → Grid → Products → List Cell → List ℕ → Type 0
@@ -50,7 +50,7 @@ abbrev pub IsMapOfCells : Profile → Grid → Products → List Cell → Option
 IsMapOfCells profile g ps cs map = IfSome map (λ m. AreMapPixels profile g ps cs m.pixels.items)
 
 -- this holds of each grid of which these are the row's patches, where this was found and drawn above it
-abbrev pub OfRowDrawn : Profile → ℕ → ℕ → (ℕ → Patch) → Found → Option FaultMap → (Grid → Products → Type 0) → Type 0
+abbrev pub OfRowDrawn : Profile → ℕ → ℕ → (ℕ → Patch) → FaultTally → Option FaultMap → (Grid → Products → Type 0) → Type 0
 OfRowDrawn profile row cols shown found map P =
     (g : Grid) (ps : Products) → AreRowPatches g ps row cols shown → IsFoundAbove profile g ps row found → IsMapOfCells profile g ps (cells_above g row) map → P g ps
 

@@ -6,12 +6,12 @@ use Rattle.drain_grid.specs.Extent.{row_cells}
 use Rattle.drain_grid.specs.Grid.{Grid, Products, HasData}
 use Rattle.drain_grid.specs.GridRules.{SharedLabelHolds}
 use Rattle.drain_grid.specs.PatchRules.{Profile}
-use Rattle.drain_rules.specs.Findings.{CountsAbove, cells_above}
+use Rattle.drain_rules.specs.RowOutcomes.{CountsAbove, cells_above}
 use Rattle.drain_rules.specs.Labels.{AreLabelsBefore}
 use Rattle.drain_rules.specs.PatchRows.{AreRowPatches}
 use Rattle.drain_rules.specs.Rows.{place}
 use Rattle.drain_faults.specs.declared.fault_walk.FaultWalk.{FaultWalk}
-use Rattle.drain_faults.specs.declared.found.Found.{Found}
+use Rattle.drain_faults.specs.declared.fault_tally.FaultTally.{FaultTally}
 use Rattle.drain_faults.specs.Faults.{AreFaultsOf, IsFirstPatch}
 
 -- the cells before a place in row order
@@ -19,13 +19,13 @@ abbrev pub cells_before : Grid → ℕ → ℕ → List Cell
 cells_before g row col = cells_above g row ++ row_cells col row
 
 -- of the cells before a place: each rule's faults, the first cell with a fault, and the labels of their outlets
-pub record IsFoundBefore (profile : Profile) (g : Grid) (ps : Products) (row col : ℕ) (found : Found) : Type 0 where
+pub record IsFoundBefore (profile : Profile) (g : Grid) (ps : Products) (row col : ℕ) (found : FaultTally) : Type 0 where
   pub faults : AreFaultsOf profile g ps (cells_before g row col) found.by_rule
   pub first_patch : IsFirstPatch profile g ps (cells_before g row col) found.first
   pub before : AreLabelsBefore g ps (place row col) found.labels
 
 -- of the rows above a row
-pub record IsFoundAbove (profile : Profile) (g : Grid) (ps : Products) (row : ℕ) (found : Found) : Type 0 where
+pub record IsFoundAbove (profile : Profile) (g : Grid) (ps : Products) (row : ℕ) (found : FaultTally) : Type 0 where
   pub faults : AreFaultsOf profile g ps (cells_above g row) found.by_rule
   pub first_patch : IsFirstPatch profile g ps (cells_above g row) found.first
   pub before : AreLabelsBefore g ps (place row 0) found.labels
@@ -41,7 +41,7 @@ abbrev pub HasNewOutlet : Grid → Products → Type 0
 HasNewOutlet g ps = (c : Cell) × IsNewOutletAt g ps c
 
 -- this holds of each grid of which these are the row's patches, where this was found above it
-abbrev pub OfRowFound : Profile → ℕ → ℕ → (ℕ → Patch) → Found → (Grid → Products → Type 0) → Type 0
+abbrev pub OfRowFound : Profile → ℕ → ℕ → (ℕ → Patch) → FaultTally → (Grid → Products → Type 0) → Type 0
 OfRowFound profile row cols shown found P =
     (g : Grid) (ps : Products) → AreRowPatches g ps row cols shown → IsFoundAbove profile g ps row found → P g ps
 
@@ -50,12 +50,12 @@ abbrev pub OfRowPatches : ℕ → ℕ → (ℕ → Patch) → (Grid → Products
 OfRowPatches row cols shown P = (g : Grid) (ps : Products) → AreRowPatches g ps row cols shown → P g ps
 
 -- the walk is right of a grid and its products
-abbrev pub IsRightOf : Profile → Grid → Products → FaultWalk → Type 0
-IsRightOf profile g ps w = IsFoundAbove profile g ps w.rows w.found
+abbrev pub IsRightTally : Profile → Grid → Products → FaultWalk → Type 0
+IsRightTally profile g ps w = IsFoundAbove profile g ps w.rows w.found
 
 -- this holds of each grid of which the walk is right, where these are the patches of its next row
-abbrev pub OfNextRow : Profile → FaultWalk → ℕ → (ℕ → Patch) → (Grid → Products → Type 0) → Type 0
-OfNextRow profile w cols shown P = OfRowFound profile w.rows cols shown w.found P
+abbrev pub OfNextFaultRow : Profile → FaultWalk → ℕ → (ℕ → Patch) → (Grid → Products → Type 0) → Type 0
+OfNextFaultRow profile w cols shown P = OfRowFound profile w.rows cols shown w.found P
 
 -- its counts are those of the rows that were scanned
 abbrev pub IsCountedOf : Grid → Products → FaultWalk → Type 0

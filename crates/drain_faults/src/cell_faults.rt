@@ -36,7 +36,7 @@ pub fn cell_faults(
 }
 
 /// The same with this value for SharedLabel.
-fn with_shared_label(mut faults: PerRule<bool>, shared_label: bool) -> PerRule<bool>
+pub fn with_shared_label(mut faults: PerRule<bool>, shared_label: bool) -> PerRule<bool>
     ensures own { result.shared_label ≡ shared_label }
     ensures others { (r : Rule) → IsPatchRule r → of_rule result r ≡ of_rule faults r }
 {

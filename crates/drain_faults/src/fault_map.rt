@@ -3,7 +3,7 @@
 //! A walk draws it on demand (`FaultWalk::drawing`): it takes a byte per cell, and is seldom needed.
 
 ghost use Rattle.std.specs.Prelude.{◌≡◌, ◌∷◌, [], IfOk, IsSome, OnErr, OnOk, is_some, replicate};
-ghost use Rattle.drain_faults.specs.FaultMaps.{AreDrawn, HasMore, pixel_of};
+ghost use Rattle.drain_faults.specs.FaultMaps.{AreDrawn, HasMore, fault_pixel};
 
 use drain_grid::{OutOfMemory, Patch, Rule, Shape};
 use std::alloc::Global;
@@ -25,20 +25,16 @@ impl FaultMap {
     pub fn new(alloc: Global, shape: Shape) -> Result<FaultMap, OutOfMemory>
         ensures { IfOk result (λ map. map.pixels.items ≡ []) }
     {
-        match Vec::with_capacity(alloc, shape.cells()) {
-            Ok(pixels) => Ok(FaultMap { pixels }),
-            Err(_) => Err(OutOfMemory),
-        }
+        let pixels = Vec::with_capacity(alloc, shape.cells())?;
+        Ok(FaultMap { pixels })
     }
 
     /// Draws one cell more, the next in row order.
     fn push(&mut self, pixel: u8) -> Result<(), OutOfMemory>
         ensures { OnOk result (HasMore self.old self.new (pixel ∷ [])) }
     {
-        match self.pixels.push(pixel) {
-            Ok(()) => Ok(()),
-            Err(_) => Err(OutOfMemory),
-        }
+        self.pixels.push(pixel)?;
+        Ok(())
     }
 
     /// Draws this many more cells, each with this number.
@@ -48,10 +44,8 @@ impl FaultMap {
         let Some(len) = self.pixels.len().checked_add(cells) else {
             return Err(OutOfMemory);
         };
-        match self.pixels.resize(len, pixel) {
-            Ok(()) => Ok(()),
-            Err(_) => Err(OutOfMemory),
-        }
+        self.pixels.resize(len, pixel)?;
+        Ok(())
     }
 }
 
@@ -62,7 +56,7 @@ pub fn draw_cell(
     least: Option<Rule>,
     patch: &Patch,
 ) -> Result<(), OutOfMemory>
-    ensures drawn { OnOk result (AreDrawn map.old map.new (pixel_of least (is_some patch.now.here.z) ∷ [])) }
+    ensures drawn { OnOk result (AreDrawn map.old map.new (fault_pixel least (is_some patch.now.here.z) ∷ [])) }
     ensures err { OnErr result (IsSome map.old) }
 {
     match map {
@@ -84,7 +78,7 @@ pub(crate) fn draw_run(map: &mut Option<FaultMap>, pixel: u8, cells: u32) -> Res
 
 /// The number of a cell at which this is the least rule that fails.
 fn pixel(least: Option<Rule>, has_data: bool) -> u8
-    ensures { result ≡ pixel_of least has_data }
+    ensures { result ≡ fault_pixel least has_data }
 {
     match least {
         Some(rule) => rule.number(),

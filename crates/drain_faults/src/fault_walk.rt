@@ -5,8 +5,8 @@ ghost use Rattle.drain_rules.specs.PatchRows.{IsAtMost};
 ghost use Rattle.std.specs.Prelude.{◌*◌};
 
 use crate::fault_map::FaultMap;
+use crate::fault_tally::FaultTally;
 use crate::faulty_patch::FaultyPatch;
-use crate::found::Found;
 use crate::per_rule::PerRule;
 use crate::product_faults::{ProductFaults, no_faults};
 use crate::row_faults::note_row_of;
@@ -23,7 +23,7 @@ use std::alloc::Global;
 pub struct FaultWalk {
     rows: u32,
     tally: Tally,
-    found: Found,
+    found: FaultTally,
     map: Option<FaultMap>,
     ghost bounded: { IsAtMost (rows * MAX_LENGTH) tally },
 }
@@ -33,26 +33,26 @@ impl FaultWalk {
     ghost use Rattle.drain_grid.specs.Grid.{Grid, Products};
     ghost use Rattle.drain_kernel.specs.declared.rules.Rules.{Rules};
     ghost use Rattle.drain_kernel.specs.Rules.{tried};
-    ghost use Rattle.drain_rules.specs.Findings.{cells_above};
+    ghost use Rattle.drain_rules.specs.RowOutcomes.{cells_above};
     ghost use Rattle.drain_rules.specs.Verdicts.{IsVerdictOf};
     ghost use Rattle.drain_faults.specs.ByProduct.{AreFaultsByProduct, IsRightByProduct, OfNextRowByProduct};
     ghost use Rattle.drain_faults.specs.Faults.{AreFaultsOf, IsFirstPatch};
     ghost use Rattle.drain_faults.specs.FaultMaps.{AreMapPixels, IsMapOf, IsMapOfCells, OfNextRowDrawn};
-    ghost use Rattle.drain_faults.specs.FaultWalks.{HasNewOutlet, IsCountedOf, IsRightOf, OfNextRow, OfNextRowCounted};
+    ghost use Rattle.drain_faults.specs.FaultWalks.{HasNewOutlet, IsCountedOf, IsRightTally, OfNextFaultRow, OfNextRowCounted};
 
     /// No row was scanned, and no map is drawn. This takes no memory.
     pub fn new(alloc: Global) -> FaultWalk
         ensures rows { result.rows ≡ 0 }
         ensures drawn { IsNone result.map }
         ensures map { (rules : Rules) (g : Grid) (ps : Products) → IsMapOf (tried rules) g ps result }
-        ensures found { (rules : Rules) (g : Grid) (ps : Products) → IsRightOf (tried rules) g ps result }
+        ensures found { (rules : Rules) (g : Grid) (ps : Products) → IsRightTally (tried rules) g ps result }
         ensures by_product { (rules : Rules) (g : Grid) (ps : Products) → IsRightByProduct rules g ps result }
         ensures counted { (g : Grid) (ps : Products) → IsCountedOf g ps result }
     {
         FaultWalk {
             rows: 0,
             tally: Tally::new(),
-            found: Found {
+            found: FaultTally {
                 labels: OutletLabels::new(alloc),
                 by_rule: PerRule::same(RuleFaults::none()),
                 by_product: no_faults(),
@@ -66,7 +66,7 @@ impl FaultWalk {
     pub fn drawing(alloc: Global, shape: Shape) -> Result<FaultWalk, OutOfMemory>
         ensures rows { IfOk result (λ walk. walk.rows ≡ 0) }
         ensures drawn { IfOk result (λ walk. IsSome walk.map) }
-        ensures found { IfOk result (λ walk. (rules : Rules) (g : Grid) (ps : Products) → IsRightOf (tried rules) g ps walk) }
+        ensures found { IfOk result (λ walk. (rules : Rules) (g : Grid) (ps : Products) → IsRightTally (tried rules) g ps walk) }
         ensures by_product { IfOk result (λ walk. (rules : Rules) (g : Grid) (ps : Products) → IsRightByProduct rules g ps walk) }
         ensures counted { IfOk result (λ walk. (g : Grid) (ps : Products) → IsCountedOf g ps walk) }
         ensures map { IfOk result (λ walk. (rules : Rules) (g : Grid) (ps : Products) → IsMapOf (tried rules) g ps walk) }
@@ -84,12 +84,12 @@ impl FaultWalk {
     pub fn note_row<R: PatchRow>(&mut self, patches: &R, rules: &Rules) -> Result<(), OutOfMemory>
         requires row { self.old.rows < MAX_LENGTH }
         ensures rows { OnOk result (self.new.rows ≡ self.old.rows + 1) }
-        ensures found { OnOk result (OfNextRow (tried rules.now) self.old (R.len patches.now) (R.shown patches.now) (λ g ps. IsRightOf (tried rules.now) g ps self.new)) }
+        ensures found { OnOk result (OfNextFaultRow (tried rules.now) self.old (R.len patches.now) (R.shown patches.now) (λ g ps. IsRightTally (tried rules.now) g ps self.new)) }
         ensures by_product { OnOk result (OfNextRowByProduct rules.now self.old (R.len patches.now) (R.shown patches.now) (λ g ps. IsRightByProduct rules.now g ps self.new)) }
         ensures map { OnOk result (OfNextRowDrawn (tried rules.now) self.old (R.len patches.now) (R.shown patches.now) (λ g ps. IsMapOf (tried rules.now) g ps self.new)) }
         ensures counted { OnOk result (OfNextRowCounted self.old (R.len patches.now) (R.shown patches.now) (λ g ps. IsCountedOf g ps self.new)) }
         ensures drawn { OnOk result (IsSome self.new.map ↔ IsSome self.old.map) }
-        ensures err { OnErr result (IsSome self.old.map ⊎ OfNextRow (tried rules.now) self.old (R.len patches.now) (R.shown patches.now) HasNewOutlet) }
+        ensures err { OnErr result (IsSome self.old.map ⊎ OfNextFaultRow (tried rules.now) self.old (R.len patches.now) (R.shown patches.now) HasNewOutlet) }
     {
         match note_row_of(&mut self.found, &mut self.map, self.rows, patches, rules) {
             Ok(row) => {
@@ -103,7 +103,7 @@ impl FaultWalk {
 
     /// The verdict on the grid of this shape, after all its rows were scanned: that of `drain_rules`.
     pub fn verdict(&self, shape: Shape) -> Verdict
-        ensures { (rules : Rules) (g : Grid) (ps : Products) → g.extent ≡ shape → self.now.rows ≡ g.extent.rows → IsRightOf (tried rules) g ps self.now → IsCountedOf g ps self.now → IsVerdictOf (tried rules) g ps result }
+        ensures { (rules : Rules) (g : Grid) (ps : Products) → g.extent ≡ shape → self.now.rows ≡ g.extent.rows → IsRightTally (tried rules) g ps self.now → IsCountedOf g ps self.now → IsVerdictOf (tried rules) g ps result }
     {
         match self.found.first {
             None => Verdict::Accepted(Counts {
@@ -131,7 +131,7 @@ impl FaultWalk {
     /// For each rule at how many cells of these rows it fails, and at which first: for every grid and its products of
     /// which the walk is right.
     pub fn faults(&self) -> &PerRule<RuleFaults>
-        ensures of_grids { (rules : Rules) (g : Grid) (ps : Products) → IsRightOf (tried rules) g ps self.now → AreFaultsOf (tried rules) g ps (cells_above g self.now.rows) result.now }
+        ensures of_grids { (rules : Rules) (g : Grid) (ps : Products) → IsRightTally (tried rules) g ps self.now → AreFaultsOf (tried rules) g ps (cells_above g self.now.rows) result.now }
     {
         &self.found.by_rule
     }
@@ -159,7 +159,7 @@ impl FaultWalk {
         PerProduct<ProductFaults>,
         Option<FaultMap>,
     )
-        ensures of_grids { (rules : Rules) (g : Grid) (ps : Products) → IsRightOf (tried rules) g ps self → AreFaultsOf (tried rules) g ps (cells_above g self.rows) result.0 }
+        ensures of_grids { (rules : Rules) (g : Grid) (ps : Products) → IsRightTally (tried rules) g ps self → AreFaultsOf (tried rules) g ps (cells_above g self.rows) result.0 }
         ensures by_product { (rules : Rules) (g : Grid) (ps : Products) → IsRightByProduct rules g ps self → AreFaultsByProduct rules g ps (cells_above g self.rows) result.1 }
         ensures map { (rules : Rules) (g : Grid) (ps : Products) → IsMapOf (tried rules) g ps self → IsMapOfCells (tried rules) g ps (cells_above g self.rows) result.2 }
         ensures drawn { IsSome result.2 ↔ IsSome self.map }
@@ -170,7 +170,7 @@ impl FaultWalk {
     /// The first cell of these rows at which any rule fails, and its patch; none if every rule holds at each of them.
     /// For the same grids.
     pub fn first_patch(&self) -> Option<FaultyPatch>
-        ensures of_grids { (rules : Rules) (g : Grid) (ps : Products) → IsRightOf (tried rules) g ps self.now → IsFirstPatch (tried rules) g ps (cells_above g self.now.rows) result }
+        ensures of_grids { (rules : Rules) (g : Grid) (ps : Products) → IsRightTally (tried rules) g ps self.now → IsFirstPatch (tried rules) g ps (cells_above g self.now.rows) result }
     {
         self.found.first
     }

@@ -1,7 +1,7 @@
 //! What the definitions of this crate name, and how they fit together.
 
 ghost use Rattle.std.specs.Prelude.{◌≡◌, ◌↔◌};
-ghost use Rattle.drain_grid.specs.declared.held.Held.{Held};
+ghost use Rattle.drain_grid.specs.declared.set_product.SetProduct.{SetProduct};
 ghost use Rattle.drain_grid.specs.declared.patch.Patch.{Patch};
 ghost use Rattle.drain_grid.specs.declared.rule.Rule.TheVariants.{VoidCell, Missing};
 ghost use Rattle.drain_kernel.specs.declared.rules.Rules.{Rules};
@@ -19,6 +19,6 @@ pub fn constants()
 
 /// The rules VoidCell and Missing hold at a cell exactly if each product keeps its part of them.
 pub fn rules_by_product()
-    ensures void_cell { (rules : Rules) (p : Patch) → tried rules p VoidCell ↔ ((product : Held) → VoidCellHoldsOf rules product p) }
-    ensures missing { (rules : Rules) (p : Patch) → tried rules p Missing ↔ ((product : Held) → MissingHoldsOf rules product p) }
+    ensures void_cell { (rules : Rules) (p : Patch) → tried rules p VoidCell ↔ ((product : SetProduct) → VoidCellHoldsOf rules product p) }
+    ensures missing { (rules : Rules) (p : Patch) → tried rules p Missing ↔ ((product : SetProduct) → MissingHoldsOf rules product p) }
 {}

@@ -10,9 +10,9 @@
 
 pub mod cell_faults;
 pub mod fault_map;
+pub mod fault_tally;
 pub mod fault_walk;
 pub mod faulty_patch;
-pub mod found;
 pub mod laws;
 pub mod patch_faults;
 pub mod per_rule;

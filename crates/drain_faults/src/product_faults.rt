@@ -4,7 +4,7 @@
 //! where.
 
 ghost use Rattle.std.specs.Prelude.{◌≡◌, None};
-ghost use Rattle.drain_grid.specs.declared.held.Held.{Held};
+ghost use Rattle.drain_grid.specs.declared.set_product.SetProduct.{SetProduct};
 ghost use Rattle.drain_grid.specs.declared.rule.Rule.TheVariants.{VoidCell, Missing};
 ghost use Rattle.drain_grid.specs.PerProduct.{of_product};
 ghost use Rattle.drain_kernel.specs.Rules.{tried};
@@ -14,7 +14,7 @@ ghost use Rattle.drain_faults.specs.Flags.{TellsFault};
 use crate::per_rule::PerRule;
 use crate::product_presence::{keeps_missing, keeps_void_cell};
 use crate::rule_faults::RuleFaults;
-use drain_grid::{Cell, Held, Patch, PerProduct};
+use drain_grid::{Cell, Patch, PerProduct, SetProduct};
 use drain_kernel::Rules;
 
 /// The cells at which a product and the elevation differ on whether there is data.
@@ -38,7 +38,7 @@ impl ProductFaults {
     }
 
     /// With one cell more, with this patch, if the product fails there. Cells come in row order.
-    fn with(self, cell: Cell, patch: &Patch, rules: &Rules, product: Held) -> ProductFaults
+    fn with(self, cell: Cell, patch: &Patch, rules: &Rules, product: SetProduct) -> ProductFaults
         ensures { IsProductNotedAt rules.now cell patch.now product self result }
     {
         ProductFaults {
@@ -54,7 +54,7 @@ impl ProductFaults {
 
 /// For each product no cell.
 pub fn no_faults() -> PerProduct<ProductFaults>
-    ensures { (product : Held) → of_product result product ≡ record { at_voids = record { cells = 0; first = None }; at_data = record { cells = 0; first = None } } }
+    ensures { (product : SetProduct) → of_product result product ≡ record { at_voids = record { cells = 0; first = None }; at_data = record { cells = 0; first = None } } }
 {
     PerProduct {
         con: ProductFaults::none(),
@@ -92,10 +92,10 @@ fn with_products(
     ensures { AreProductsNotedAt rules.now cell patch.now so_far.now result }
 {
     PerProduct {
-        con: so_far.con.with(cell, patch, rules, Held::Con),
-        dir: so_far.dir.with(cell, patch, rules, Held::Dir),
-        acc: so_far.acc.with(cell, patch, rules, Held::Acc),
-        bas: so_far.bas.with(cell, patch, rules, Held::Bas),
-        rnk: so_far.rnk.with(cell, patch, rules, Held::Rnk),
+        con: so_far.con.with(cell, patch, rules, SetProduct::Con),
+        dir: so_far.dir.with(cell, patch, rules, SetProduct::Dir),
+        acc: so_far.acc.with(cell, patch, rules, SetProduct::Acc),
+        bas: so_far.bas.with(cell, patch, rules, SetProduct::Bas),
+        rnk: so_far.rnk.with(cell, patch, rules, SetProduct::Rnk),
     }
 }

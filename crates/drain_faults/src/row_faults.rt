@@ -3,7 +3,7 @@
 ghost use Rattle.std.specs.Prelude.{◌<◌, ◌+◌, ◌↔◌, ◌⊎◌, IfOk, IsSome, OnErr, OnOk};
 ghost use Rattle.drain_grid.specs.declared.cell.TheConstants.{MAX_LENGTH};
 ghost use Rattle.drain_kernel.specs.Rules.{tried};
-ghost use Rattle.drain_rules.specs.Findings.{cells_above};
+ghost use Rattle.drain_rules.specs.RowOutcomes.{cells_above};
 ghost use Rattle.drain_rules.specs.PatchRows.{IsAtMost};
 ghost use Rattle.drain_rules.specs.Rows.{CountsAlong};
 ghost use Rattle.drain_faults.specs.ByProduct.{AreFaultsByProduct, OfRowByProduct};
@@ -11,7 +11,7 @@ ghost use Rattle.drain_faults.specs.FaultMaps.{IsMapOfCells, OfRowDrawn};
 ghost use Rattle.drain_faults.specs.FaultWalks.{HasNewOutlet, IsFoundAbove, OfRowFound, OfRowPatches};
 
 use crate::fault_map::{FaultMap, SOUND, SOUND_VOID, draw_cell, draw_run};
-use crate::found::Found;
+use crate::fault_tally::FaultTally;
 use drain_grid::{Cell, OutOfMemory};
 use drain_kernel::Rules;
 use drain_rules::PatchRow;
@@ -22,7 +22,7 @@ use drain_rules::tally::Tally;
 /// The result is right for every grid with this row, and so is the map if there is one. `OutOfMemory` comes only at an
 /// outlet whose label is new, or with a map.
 pub(crate) fn note_row_of<R: PatchRow>(
-    found: &mut Found,
+    found: &mut FaultTally,
     map: &mut Option<FaultMap>,
     row: u32,
     patches: &R,

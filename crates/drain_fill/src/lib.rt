@@ -10,6 +10,8 @@
 #![tactic(auto)]
 
 pub mod below;
+pub mod least_way;
+pub mod opening;
 mod surface;
 
 ghost use Rattle.std.specs.Prelude.{◌≡◌, ◌↔◌, ◌<ℤ◌, IsTrue, Some};
@@ -20,6 +22,8 @@ ghost use Rattle.drain_grid.specs.Rule.{IsFillRule, IsAboveRule, IsLevelRule, Is
 
 pub use below::first_below;
 use drain_grid::{CellValues, Patch, Rule};
+pub use least_way::greatest_allowed;
+pub use opening::{Opening, opening_of};
 pub use surface::{fault_above_profile2, fault_profile2, is_unraised_where_open};
 
 /// The first of the six rules that fails at the cell, none if they all hold. A void keeps them all.

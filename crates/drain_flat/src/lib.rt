@@ -10,16 +10,18 @@
 //! Mulla 2014). That a rank shows this at each cell, and the rule's wording, are this project's own.
 #![tactic(auto)]
 
-ghost use Rattle.std.specs.Prelude.{◌≡◌, ◌↔◌, ◌<ℤ◌, IfSome, IsNone, IsSome, IsTrue};
+pub mod ways;
+
+ghost use Rattle.std.specs.Prelude.{◌↔◌, IsTrue};
 ghost use Rattle.drain_grid.specs.declared.direction.Direction.{Direction};
-ghost use Rattle.drain_grid.specs.Direction.{Names};
-ghost use Rattle.drain_grid.specs.Patch.{IsClosed, HasLower, neighbor};
+ghost use Rattle.drain_grid.specs.Patch.{IsClosed, HasLower};
 ghost use Rattle.drain_grid.specs.PatchRules.{flow_rules, IsFlatStep};
 ghost use Rattle.drain_grid.specs.Rule.{IsOnly, IsLeastFault};
 ghost use Rattle.drain_grid.specs.Unranked.{level_rules, IsLevelStep};
 ghost use Rattle.drain_grid.specs.Values.{Values};
 
-use drain_grid::{CellValues, Patch, Rule};
+use drain_grid::{Patch, Rule};
+pub use ways::{is_flat_way, is_flat_way_without_ranks};
 
 /// FlatStep if it fails at the cell, none if it holds. An open cell, one with a lower neighbour and a void keep it.
 pub fn fault(patch: &Patch) -> Option<Rule>
@@ -47,8 +49,8 @@ pub fn fault_without_ranks(patch: &Patch) -> Option<Rule>
 fn steps_along(patch: &Patch) -> bool
     ensures { IsTrue result ↔ ((d : Direction) × (n : Values) × IsFlatStep patch.now d n) }
 {
-    match named_neighbor(patch) {
-        Some(next) => is_nearer(patch, &next),
+    match patch.here.direction() {
+        Some(direction) => is_flat_way(patch, direction),
         None => false,
     }
 }
@@ -57,33 +59,10 @@ fn steps_along(patch: &Patch) -> bool
 fn steps_level(patch: &Patch) -> bool
     ensures { IsTrue result ↔ ((d : Direction) × (n : Values) × IsLevelStep patch.now d n) }
 {
-    match named_neighbor(patch) {
-        Some(next) => is_level(patch, &next),
+    match patch.here.direction() {
+        Some(direction) => is_flat_way_without_ranks(patch, direction),
         None => false,
     }
-}
-
-/// The neighbour that the direction names, none if it names none in the grid.
-fn named_neighbor(patch: &Patch) -> Option<CellValues>
-    ensures there { IfSome result (λ n. (d : Direction) × Names patch.now.here.dir d × (neighbor patch.now d ≡ Some n)) }
-    ensures nowhere { IsNone result → (d : Direction) → Names patch.now.here.dir d → neighbor patch.now d ≡ None }
-{
-    let direction = patch.here.direction()?;
-    patch.neighbor(direction)
-}
-
-/// Whether these values are those of a data cell of the same height and a smaller rank.
-fn is_nearer(patch: &Patch, next: &CellValues) -> bool
-    ensures { IsTrue result ↔ (IsSome next.now.z × (next.now.con ≡ patch.now.here.con) × (next.now.rnk <ℤ patch.now.here.rnk)) }
-{
-    is_level(patch, next) && next.rnk < patch.here.rnk
-}
-
-/// Whether these values are those of a data cell of the same height.
-fn is_level(patch: &Patch, next: &CellValues) -> bool
-    ensures { IsTrue result ↔ (IsSome next.now.z × (next.now.con ≡ patch.now.here.con)) }
-{
-    next.z.is_some() && next.con == patch.here.con
 }
 
 /// Whether the cell is closed and has no lower neighbour.

@@ -7,9 +7,9 @@ use Rattle.drain_grid.specs.declared.direction.Direction.{Direction}
 use Rattle.drain_grid.specs.declared.patch.Patch.{Patch}
 use Rattle.drain_grid.specs.declared.rule.Rule.{Rule}
 use Rattle.drain_grid.specs.declared.rule.Rule.TheVariants.{VoidCell, Missing, BadCode, BelowGround, OpenRaised, NoSpill, SpillHeight, SpillRank, NotLeast, Slope, OutletCode, FlatStep, Accumulation, Label, SharedLabel}
-use Rattle.drain_grid.specs.declared.held.Held.{Held}
-use Rattle.drain_grid.specs.declared.held.Held.TheVariants as held
-use Rattle.drain_grid.specs.Held.{product_of}
+use Rattle.drain_grid.specs.declared.set_product.SetProduct.{SetProduct}
+use Rattle.drain_grid.specs.declared.set_product.SetProduct.TheVariants as held
+use Rattle.drain_grid.specs.SetProduct.{product_of}
 use Rattle.drain_grid.specs.Direction.{IsCode, Names, is_straight, names, opposite, directions}
 use Rattle.drain_grid.specs.Values.{Values, NoDataNumbers, value_of}
 use Rattle.drain_grid.specs.Open.{IsGap}
@@ -273,7 +273,7 @@ module _ (p q : Patch) (nodata : NoDataNumbers) (alike : AreAlike p q) where
   unranked_there SharedLabel h = h
 
   -- and so does each with ranks, where these are the same
-  value_same : HaveSameRanks p q → (k : Held) → value_of p.here (product_of k) ≡ value_of q.here (product_of k)
+  value_same : HaveSameRanks p q → (k : SetProduct) → value_of p.here (product_of k) ≡ value_of q.here (product_of k)
   value_same ranks held.Con = alike.here.con
   value_same ranks held.Dir = alike.here.dir
   value_same ranks held.Acc = alike.here.acc

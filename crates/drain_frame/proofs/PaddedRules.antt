@@ -4,8 +4,8 @@ use Rattle.std.proofs.Common.{◌≡◌, ◌∙◌, IsNone, IsSome, sym}
 use Rattle.drain_grid.specs.declared.cell.Cell.{Cell}
 use Rattle.drain_grid.specs.declared.rule.Rule.{Rule}
 use Rattle.drain_grid.specs.declared.rule.Rule.TheVariants.{VoidCell, Missing, BadCode, BelowGround, OpenRaised, NoSpill, SpillHeight, SpillRank, NotLeast, Slope, OutletCode, FlatStep, Accumulation, Label, SharedLabel}
-use Rattle.drain_grid.specs.declared.held.Held.TheVariants as held
-use Rattle.drain_grid.specs.Held.{product_of}
+use Rattle.drain_grid.specs.declared.set_product.SetProduct.TheVariants as held
+use Rattle.drain_grid.specs.SetProduct.{product_of}
 use Rattle.drain_grid.specs.Values.{NoDataNumbers, number_for, value_of}
 use Rattle.drain_grid.specs.Grid.{Grid, Products, IsInside, patch_at, values_at}
 use Rattle.drain_grid.specs.PatchRules.{check_rules}

@@ -1,7 +1,7 @@
 -- Runs on a padded grid. From a cell of the grid a code leads to the same data cell in both, or to none in both. So k
 -- steps lead through the same cells in both. A padded grid may have more cells, so the bound in the definition of a run
 -- is wider. But a run that is over takes no more steps (steps-many), and what comes to a code 0 in any number of steps
--- is a run that ends (ends_within, by a lemma of drain_runs). Both by induction on the number of steps.
+-- is a run that ends (ends_within, by a lemma of drain_paths). Both by induction on the number of steps.
 use Rattle.std.proofs.Common.{◌≡◌, inl, inr, ◌∙◌, ℕ, zero, suc, ◌+◌, ◌-◌, ◌≤◌, ℤ, pos, ◌∷◌, length, Option, Some, None, IsNone, IsSome, is_some, ◌⊎◌, option_and_then, if◌then◌else◌, refl, sym, ap, subst, arith}
 use Rattle.std.specs.List.{list_any}
 use Rattle.std.proofs.lemmas.Nat.{mul-le}
@@ -15,7 +15,7 @@ use Rattle.drain_grid.specs.Run.{only_data, next, continued, steps_from, last_fr
 use Rattle.drain_grid.proofs.EndedRuns.{HasData-next, steps-more}
 use Rattle.drain_grid.proofs.Runs.{cell_count, steps-next}
 use Rattle.drain_grid.proofs.Walks.{EndsAfter-zero}
-use Rattle.drain_runs.proofs.Shorter.{RunEnds-before}
+use Rattle.drain_paths.proofs.Shorter.{RunEnds-before}
 use Rattle.drain_frame.specs.Padding.{ArePadded}
 use Rattle.drain_frame.specs.Laws.{PaddingKeepsSteps, PaddingKeepsRuns, PaddingKeepsFirstEndless, PaddingKeepsAccumulation, PaddingKeepsBasins}
 use Rattle.drain_frame.proofs.PaddedCells.{step_alike, within, data_there, data_back}

@@ -2,9 +2,9 @@
 use Rattle.std.proofs.Common.{◌↔◌}
 use Rattle.drain_grid.specs.declared.product.Product.{Product}
 use Rattle.drain_grid.specs.declared.product.Product.TheVariants.{Con, Dir, Acc, Bas, Spl, Rnk}
-use Rattle.drain_grid.specs.declared.held.Held.{Held}
-use Rattle.drain_grid.specs.declared.held.Held.TheVariants as held
-use Rattle.drain_grid.specs.Held.{OfHeld, product_of}
+use Rattle.drain_grid.specs.declared.set_product.SetProduct.{SetProduct}
+use Rattle.drain_grid.specs.declared.set_product.SetProduct.TheVariants as held
+use Rattle.drain_grid.specs.SetProduct.{OfSetProduct, product_of}
 
 pub by_product : (P : Product → Type 0) → P Con → P Dir → P Acc → P Bas → P Spl → P Rnk → (p : Product) → P p
 by_product P con dir acc bas spl rnk Con = con
@@ -14,24 +14,24 @@ by_product P con dir acc bas spl rnk Bas = bas
 by_product P con dir acc bas spl rnk Spl = spl
 by_product P con dir acc bas spl rnk Rnk = rnk
 
-pub by_held : (P : Held → Type 0) → P held.Con → P held.Dir → P held.Acc → P held.Bas → P held.Rnk → (p : Held) → P p
-by_held P con dir acc bas rnk held.Con = con
-by_held P con dir acc bas rnk held.Dir = dir
-by_held P con dir acc bas rnk held.Acc = acc
-by_held P con dir acc bas rnk held.Bas = bas
-by_held P con dir acc bas rnk held.Rnk = rnk
+pub by_set_product : (P : SetProduct → Type 0) → P held.Con → P held.Dir → P held.Acc → P held.Bas → P held.Rnk → (p : SetProduct) → P p
+by_set_product P con dir acc bas rnk held.Con = con
+by_set_product P con dir acc bas rnk held.Dir = dir
+by_set_product P con dir acc bas rnk held.Acc = acc
+by_set_product P con dir acc bas rnk held.Bas = bas
+by_set_product P con dir acc bas rnk held.Rnk = rnk
 
 -- and of the other product
-pub by_held_or_spill : (P : Product → Type 0) → ((p : Held) → P (product_of p)) → P Spl → (p : Product) → P p
-by_held_or_spill P held_one spl Con = held_one held.Con
-by_held_or_spill P held_one spl Dir = held_one held.Dir
-by_held_or_spill P held_one spl Acc = held_one held.Acc
-by_held_or_spill P held_one spl Bas = held_one held.Bas
-by_held_or_spill P held_one spl Spl = spl
-by_held_or_spill P held_one spl Rnk = held_one held.Rnk
+pub by_set_product_or_spill : (P : Product → Type 0) → ((p : SetProduct) → P (product_of p)) → P Spl → (p : Product) → P p
+by_set_product_or_spill P held_one spl Con = held_one held.Con
+by_set_product_or_spill P held_one spl Dir = held_one held.Dir
+by_set_product_or_spill P held_one spl Acc = held_one held.Acc
+by_set_product_or_spill P held_one spl Bas = held_one held.Bas
+by_set_product_or_spill P held_one spl Spl = spl
+by_set_product_or_spill P held_one spl Rnk = held_one held.Rnk
 
 -- a held product's fact is that of the product that it is
-pub of_held : (P : Held → Type 0) (p : Held) → OfHeld P (product_of p) ↔ P p
+pub of_held : (P : SetProduct → Type 0) (p : SetProduct) → OfSetProduct P (product_of p) ↔ P p
 of_held P held.Con = (λ h. h, λ h. h)
 of_held P held.Dir = (λ h. h, λ h. h)
 of_held P held.Acc = (λ h. h, λ h. h)
@@ -39,5 +39,5 @@ of_held P held.Bas = (λ h. h, λ h. h)
 of_held P held.Rnk = (λ h. h, λ h. h)
 
 -- where it is the fact of no held product, it is that of none
-pub none_of_held : (P : Held → Type 0) → ((p : Held) → ¬ P p) → (p : Product) → ¬ OfHeld P p
-none_of_held P none = by_held_or_spill (λ p. ¬ OfHeld P p) (λ p holds. none p ((of_held P p).0 holds)) (λ holds. holds)
+pub none_of_held : (P : SetProduct → Type 0) → ((p : SetProduct) → ¬ P p) → (p : Product) → ¬ OfSetProduct P p
+none_of_held P none = by_set_product_or_spill (λ p. ¬ OfSetProduct P p) (λ p holds. none p ((of_held P p).0 holds)) (λ holds. holds)

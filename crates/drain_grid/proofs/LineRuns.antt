@@ -7,7 +7,7 @@ use Rattle.std.proofs.lemmas.List.{get_or-drop, length-drop, take-append-drop, t
 use Rattle.std.proofs.lemmas.List.Sums.{fold-append}
 use Rattle.drain_grid.specs.declared.cell.Cell.{Cell}
 use Rattle.drain_grid.specs.declared.numbered_cells.LineRun.{LineRun}
-use Rattle.drain_grid.specs.LineNumbers.{counted_on, number_at, numbered_from, numbered}
+use Rattle.drain_grid.specs.LineNumbers.{counted_on, line_number_at, numbered_from, numbered}
 
 -- a run that begins at the cell or before it counts on, and one that begins later doesn't
 counted_in : (i number : ℕ) (run : LineRun) → run.first ≤ i → counted_on i number run ≡ run.line + (i - run.first)
@@ -25,14 +25,14 @@ none_counted i number (run ∷ runs) later =
 -- the run at k gives the number where it is the last that begins at the cell or before it
 pub number_of_run : (runs : List LineRun) (i k : ℕ) (d : LineRun) → k < length runs → (get_or runs k d).first ≤ i →
     ((j : ℕ) (d : LineRun) → k < j → j < length runs → i < (get_or runs j d).first) →
-    number_at runs i ≡ (get_or runs k d).line + (i - (get_or runs k d).first)
+    line_number_at runs i ≡ (get_or runs k d).line + (i - (get_or runs k d).first)
 number_of_run runs i k d inside begun last =
-    ap (λ rs. number_at rs i) (sym (take-append-drop (k + 1) runs))
+    ap (λ rs. line_number_at rs i) (sym (take-append-drop (k + 1) runs))
     ∙ fold-append (counted_on i) 0 (take (k + 1) runs) (drop (k + 1) runs)
-    ∙ none_counted i (number_at (take (k + 1) runs) i) (drop (k + 1) runs) later
-    ∙ ap (λ rs. number_at rs i) (take_more runs k d inside)
+    ∙ none_counted i (line_number_at (take (k + 1) runs) i) (drop (k + 1) runs) later
+    ∙ ap (λ rs. line_number_at rs i) (take_more runs k d inside)
     ∙ fold-append (counted_on i) 0 (take k runs) (get_or runs k d ∷ [])
-    ∙ counted_in i (number_at (take k runs) i) (get_or runs k d) begun
+    ∙ counted_in i (line_number_at (take k runs) i) (get_or runs k d) begun
   where
     later : (j : ℕ) (e : LineRun) → j < length (drop (k + 1) runs) → i < (get_or (drop (k + 1) runs) j e).first
     later j e less = rw get_or-drop (last (k + 1 + j) e (omega arith) (omega (arith, length-drop (k + 1) runs)))
@@ -41,7 +41,7 @@ number_of_run runs i k d inside begun last =
 pub record IsRunOf (runs : List LineRun) (i begun : ℕ) : Type 0 where
   pub some : 0 < begun
   pub first : (d : LineRun) → (get_or runs (begun - 1) d).first ≤ i
-  pub number : (d : LineRun) → number_at runs i ≡ (get_or runs (begun - 1) d).line + (i - (get_or runs (begun - 1) d).first)
+  pub number : (d : LineRun) → line_number_at runs i ≡ (get_or runs (begun - 1) d).line + (i - (get_or runs (begun - 1) d).first)
 
 pub run_at_point : (runs : List LineRun) (i begun : ℕ) → 0 < length runs → ((d : LineRun) → (get_or runs 0 d).first ≡ 0) → begun ≤ length runs →
     IsPartitionPoint (λ run. leb run.first i ≡ true) (λ run. leb run.first i ≡ false) runs begun → IsRunOf runs i begun
@@ -69,31 +69,31 @@ cells_of_numbered i runs [] = refl
 cells_of_numbered i runs (c ∷ cells) = ap (λ cs. c ∷ cs) (cells_of_numbered (i + 1) runs cells)
 
 pub get-numbered : (i k : ℕ) (runs : List LineRun) (cells : List Cell) (d : Cell) → k < length cells →
-    slice_get (numbered_from i runs cells) k ≡ Some (record { line = number_at runs (i + k); cell = get_or cells k d })
+    slice_get (numbered_from i runs cells) k ≡ Some (record { line = line_number_at runs (i + k); cell = get_or cells k d })
 get-numbered i k runs [] d less = absurd (omega arith)
-get-numbered i zero runs (c ∷ cells) d less = ap (λ n. Some (record { line = number_at runs n; cell = c })) (omega arith)
+get-numbered i zero runs (c ∷ cells) d less = ap (λ n. Some (record { line = line_number_at runs n; cell = c })) (omega arith)
 get-numbered i (suc k) runs (c ∷ cells) d less =
-    get-numbered (i + 1) k runs cells d (omega arith) ∙ ap (λ n. Some (record { line = number_at runs n; cell = get_or cells k d })) (omega arith)
+    get-numbered (i + 1) k runs cells d (omega arith) ∙ ap (λ n. Some (record { line = line_number_at runs n; cell = get_or cells k d })) (omega arith)
 
 -- a cell that is added
 pub numbered-push : (i : ℕ) (runs : List LineRun) (cells : List Cell) (c : Cell) →
-    numbered_from i runs (cells ++ c ∷ []) ≡ numbered_from i runs cells ++ record { line = number_at runs (i + length cells); cell = c } ∷ []
-numbered-push i runs [] c = ap (λ n. record { line = number_at runs n; cell = c } ∷ []) (omega arith)
+    numbered_from i runs (cells ++ c ∷ []) ≡ numbered_from i runs cells ++ record { line = line_number_at runs (i + length cells); cell = c } ∷ []
+numbered-push i runs [] c = ap (λ n. record { line = line_number_at runs n; cell = c } ∷ []) (omega arith)
 numbered-push i runs (x ∷ cells) c =
-    ap (λ ys. record { line = number_at runs i; cell = x } ∷ ys) (numbered-push (i + 1) runs cells c
-    ∙ ap (λ n. numbered_from (i + 1) runs cells ++ record { line = number_at runs n; cell = c } ∷ []) (omega arith))
+    ap (λ ys. record { line = line_number_at runs i; cell = x } ∷ ys) (numbered-push (i + 1) runs cells c
+    ∙ ap (λ n. numbered_from (i + 1) runs cells ++ record { line = line_number_at runs n; cell = c } ∷ []) (omega arith))
 
 -- the cells from the first on, where the next line's number is given
-pub numbered-more : (runs : List LineRun) (cells more : List Cell) (c : Cell) (line : ℕ) → more ≡ cells ++ c ∷ [] → number_at runs (length cells) ≡ line →
+pub numbered-more : (runs : List LineRun) (cells more : List Cell) (c : Cell) (line : ℕ) → more ≡ cells ++ c ∷ [] → line_number_at runs (length cells) ≡ line →
     numbered runs more ≡ numbered runs cells ++ record { line = line; cell = c } ∷ []
 numbered-more runs cells more c line is there =
     ap (numbered runs) is ∙ numbered-push 0 runs cells c
-    ∙ ap (λ n. numbered runs cells ++ record { line = n; cell = c } ∷ []) (ap (number_at runs) (omega arith) ∙ there)
+    ∙ ap (λ n. numbered runs cells ++ record { line = n; cell = c } ∷ []) (ap (line_number_at runs) (omega arith) ∙ there)
 
 -- runs that give the same numbers
 pub numbered-same : (i : ℕ) (runs others : List LineRun) (cells : List Cell) →
-    ((k : ℕ) → k < i + length cells → number_at others k ≡ number_at runs k) → numbered_from i others cells ≡ numbered_from i runs cells
+    ((k : ℕ) → k < i + length cells → line_number_at others k ≡ line_number_at runs k) → numbered_from i others cells ≡ numbered_from i runs cells
 numbered-same i runs others [] same = refl
 numbered-same i runs others (c ∷ cells) same =
     ap (λ n. record { line = n; cell = c } ∷ numbered_from (i + 1) others cells) (same i (omega arith))
-    ∙ ap (λ ys. record { line = number_at runs i; cell = c } ∷ ys) (numbered-same (i + 1) runs others cells (λ k less. same k (omega arith)))
+    ∙ ap (λ ys. record { line = line_number_at runs i; cell = c } ∷ ys) (numbered-same (i + 1) runs others cells (λ k less. same k (omega arith)))

@@ -5,9 +5,9 @@ use Rattle.drain_grid.specs.declared.cell.Cell.{Cell}
 use Rattle.drain_grid.specs.declared.patch.Patch.{Patch}
 use Rattle.drain_grid.specs.declared.rule.Rule.{Rule}
 use Rattle.drain_grid.specs.declared.rule.Rule.TheVariants.{VoidCell, Missing, BadCode, BelowGround, OpenRaised, NoSpill, SpillHeight, SpillRank, NotLeast, Slope, OutletCode, FlatStep, Accumulation, Label, SharedLabel}
-use Rattle.drain_grid.specs.Held.{product_of}
+use Rattle.drain_grid.specs.SetProduct.{product_of}
 use Rattle.drain_grid.specs.Values.{NoDataNumbers}
-use Rattle.drain_grid.specs.Rule.{number_of, IsAnyRule, IsFillRule, IsFlowRule}
+use Rattle.drain_grid.specs.Rule.{rule_number, IsAnyRule, IsFillRule, IsFlowRule}
 use Rattle.drain_grid.specs.PatchRules.{Profile, fill_rules, flow_rules, profile1, profile2, surface_rules}
 use Rattle.drain_grid.specs.Unranked.{level_rules, unranked}
 use Rattle.drain_grid.specs.Grid.{Grid, Products, patch_at}
@@ -48,7 +48,7 @@ level_same nodata p FlatStep own = (λ h. h, λ h. h)
 level_same nodata p r own = flow_same nodata p r own
 
 -- and of the rules on where water goes only the one on flats looks at ranks
-pub flow_level : (p : Patch) (r : Rule) → number_of r ≢ number_of FlatStep → flow_rules p r ↔ level_rules p r
+pub flow_level : (p : Patch) (r : Rule) → rule_number r ≢ rule_number FlatStep → flow_rules p r ↔ level_rules p r
 flow_level p FlatStep other = absurd (other refl)
 flow_level p r other = (λ h. h, λ h. h)
 

@@ -5,10 +5,10 @@ use Rattle.std.proofs.lemmas.Int.{ints}
 use Rattle.drain_grid.specs.declared.cell.Cell.{Cell}
 use Rattle.drain_grid.specs.declared.rule.Rule.{Rule}
 use Rattle.drain_grid.specs.declared.rule.Rule.TheVariants.{VoidCell, Missing, BadCode, BelowGround, OpenRaised, NoSpill, SpillHeight, SpillRank, NotLeast, Slope, OutletCode, FlatStep, Accumulation, Label, SharedLabel}
-use Rattle.drain_grid.specs.declared.held.Held.TheVariants.{Con, Dir, Acc, Bas}
-use Rattle.drain_grid.specs.Held.{product_of}
+use Rattle.drain_grid.specs.declared.set_product.SetProduct.TheVariants.{Con, Dir, Acc, Bas}
+use Rattle.drain_grid.specs.SetProduct.{product_of}
 use Rattle.drain_grid.specs.Values.{Values, NoDataNumbers, number_for, value_of}
-use Rattle.drain_grid.proofs.ByProduct.{by_held}
+use Rattle.drain_grid.proofs.ByProduct.{by_set_product}
 use Rattle.drain_grid.specs.Grid.{Grid, Products, IsInside, HasData, patch_at}
 use Rattle.drain_grid.specs.GridRules.{HoldsAt}
 use Rattle.drain_grid.specs.PatchRules.{FlatStepHolds}
@@ -32,7 +32,7 @@ module _ (g : Grid) (ps : Products) (nodata : NoDataNumbers) (ends : (c : Cell) 
   voids = (
     (λ h void. let all = h void in record { con_is = all Con; dir_is = all Dir; acc_is = all Acc; bas_is = all Bas }),
     (λ h void. let four = h void in
-        by_held (λ p. value_of (patch_at g ps c).here (product_of p) ≡ number_for nodata (product_of p))
+        by_set_product (λ p. value_of (patch_at g ps c).here (product_of p) ≡ number_for nodata (product_of p))
         four.con_is four.dir_is four.acc_is four.bas_is (ranks.voids c inside void)),
   )
 
@@ -42,7 +42,7 @@ module _ (g : Grid) (ps : Products) (nodata : NoDataNumbers) (ends : (c : Cell) 
         (let all = h is_data in
         record { con_differs = all Con; dir_differs = all Dir; acc_differs = all Acc; bas_differs = all Bas })),
     (λ h is_data. let four = h is_data in
-        by_held (λ p. value_of (patch_at g ps c).here (product_of p) ≢ number_for nodata (product_of p))
+        by_set_product (λ p. value_of (patch_at g ps c).here (product_of p) ≢ number_for nodata (product_of p))
         four.con_differs four.dir_differs four.acc_differs four.bas_differs (ranks.complete c (record { inside = inside; is_data = is_data }))),
   )
 

@@ -5,7 +5,7 @@ pub mod Direction
 pub mod Extent
 pub mod Grid
 pub mod GridRules
-pub mod Held
+pub mod SetProduct
 pub mod Laws
 pub mod LineNumbers
 pub mod Numbers

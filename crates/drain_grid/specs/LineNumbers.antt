@@ -11,13 +11,13 @@ abbrev pub counted_on : ℕ → ℕ → LineRun → ℕ
 counted_on i number run = if leb run.first i then run.line + (i - run.first) else number
 
 -- the line number of the i-th cell, given by the last such run
-abbrev pub number_at : List LineRun → ℕ → ℕ
-number_at runs i = fold (counted_on i) 0 runs
+abbrev pub line_number_at : List LineRun → ℕ → ℕ
+line_number_at runs i = fold (counted_on i) 0 runs
 
 -- the cells with their line numbers, where the first of them is the i-th
 abbrev pub numbered_from : ℕ → List LineRun → List Cell → List SinkLine
 numbered_from i runs [] = []
-numbered_from i runs (c ∷ cells) = record { line = number_at runs i; cell = c } ∷ numbered_from (i + 1) runs cells
+numbered_from i runs (c ∷ cells) = record { line = line_number_at runs i; cell = c } ∷ numbered_from (i + 1) runs cells
 
 -- the same from the first cell on
 abbrev pub numbered : List LineRun → List Cell → List SinkLine
@@ -29,4 +29,4 @@ pub record AreRuns (runs : List LineRun) (count : ℕ) : Type 0 where
   pub within : All (λ run. run.first ≤ count) runs
   pub begun : (d : LineRun) → 0 < length runs → (slice_index_or runs 0 d).first ≡ 0
   pub told : 0 < count → 0 < length runs
-  pub fit : (i : ℕ) → i < count → number_at runs i < 2 ^ 64
+  pub fit : (i : ℕ) → i < count → line_number_at runs i < 2 ^ 64

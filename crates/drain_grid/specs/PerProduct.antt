@@ -1,10 +1,10 @@
 -- Five things, one for each product that a set holds.
-use Rattle.drain_grid.specs.declared.held.Held.{Held}
-use Rattle.drain_grid.specs.declared.held.Held.TheVariants.{Con, Dir, Acc, Bas, Rnk}
+use Rattle.drain_grid.specs.declared.set_product.SetProduct.{SetProduct}
+use Rattle.drain_grid.specs.declared.set_product.SetProduct.TheVariants.{Con, Dir, Acc, Bas, Rnk}
 use Rattle.drain_grid.specs.declared.per_product.PerProduct.{PerProduct}
 
 -- the product's own
-abbrev pub of_product : {A : Type 0} → PerProduct A → Held → A
+abbrev pub of_product : {A : Type 0} → PerProduct A → SetProduct → A
 of_product things Con = things.con
 of_product things Dir = things.dir
 of_product things Acc = things.acc
@@ -12,5 +12,5 @@ of_product things Bas = things.bas
 of_product things Rnk = things.rnk
 
 -- what a function gives for each
-abbrev pub per_product : {A : Type 0} → (Held → A) → PerProduct A
+abbrev pub per_product : {A : Type 0} → (SetProduct → A) → PerProduct A
 per_product give = record { con = give Con; dir = give Dir; acc = give Acc; bas = give Bas; rnk = give Rnk }

@@ -6,7 +6,7 @@ ghost use Rattle.std.specs.Prelude.{◌≡◌, ◌↔◌, ℕ, ◌+◌, ◌-◌,
 ghost use Rattle.std.specs.List.{All};
 ghost use Rattle.std.specs.List.Sorted.{IsNonDecreasingBy};
 ghost use Rattle.drain_grid.specs.declared.numbered_cells.LineRun.{LineRun};
-ghost use Rattle.drain_grid.specs.LineNumbers.{number_at, AreRuns};
+ghost use Rattle.drain_grid.specs.LineNumbers.{line_number_at, AreRuns};
 
 use crate::cell::Cell;
 use crate::memory::OutOfMemory;
@@ -58,9 +58,7 @@ impl NumberedCells {
     {
         let count = self.cells.len();
         run_on(&mut self.runs, count, line)?;
-        let Ok(_) = self.cells.push(cell) else {
-            return Err(OutOfMemory);
-        };
+        self.cells.push(cell)?;
         Ok(())
     }
 
@@ -95,24 +93,22 @@ impl NumberedCells {
 fn run_on(runs: &mut Vec<LineRun>, count: usize, line: u64) -> Result<(), OutOfMemory>
     requires { AreRuns runs.old.items count }
     ensures runs { AreRuns runs.new.items count }
-    ensures before { (i : ℕ) → i < count → number_at runs.new.items i ≡ number_at runs.old.items i }
-    ensures next { OnOk result (number_at runs.new.items count ≡ line) }
+    ensures before { (i : ℕ) → i < count → line_number_at runs.new.items i ≡ line_number_at runs.old.items i }
+    ensures next { OnOk result (line_number_at runs.new.items count ≡ line) }
     ensures told { OnOk result (0 < length runs.new.items) }
-    ensures spare { 0 < length runs.old.items → number_at runs.old.items count ≡ line → runs.new.items ≡ runs.old.items }
+    ensures spare { 0 < length runs.old.items → line_number_at runs.old.items count ≡ line → runs.new.items ≡ runs.old.items }
 {
     if follows(runs, count, line) {
         return Ok(());
     }
-    let Ok(_) = runs.push(LineRun { first: count, line }) else {
-        return Err(OutOfMemory);
-    };
+    runs.push(LineRun { first: count, line })?;
     Ok(())
 }
 
 /// Whether the last run gives this line number for the next cell.
 fn follows(runs: &[LineRun], count: usize, line: u64) -> bool
     requires { All (λ run. run.first ≤ count) runs.now }
-    ensures { IsTrue result ↔ ((0 < length runs.now) × (number_at runs.now count ≡ line)) }
+    ensures { IsTrue result ↔ ((0 < length runs.now) × (line_number_at runs.now count ≡ line)) }
 {
     match runs.last() {
         Some(run) => run.line <= line && line - run.line == (count - run.first) as u64,
@@ -126,7 +122,7 @@ fn run_of(runs: &[LineRun], i: usize) -> LineRun
     requires begun { (d : LineRun) → (slice_index_or runs.now 0 d).first ≡ 0 }
     requires some { 0 < length runs.now }
     ensures first { result.first ≤ i }
-    ensures number { number_at runs.now i ≡ result.line + (i - result.first) }
+    ensures number { line_number_at runs.now i ≡ result.line + (i - result.first) }
 {
     let begun = runs.partition_point(|run| run.first <= i);
     runs[begun - 1]

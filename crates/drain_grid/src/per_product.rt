@@ -1,11 +1,11 @@
 //! Five things, one for each product that a set holds.
 
 ghost use Rattle.std.specs.Prelude.{◌≡◌, ◌<◌, Ok, Err, IfOk, IfErr};
-ghost use Rattle.drain_grid.specs.declared.held.Held.{Held};
-ghost use Rattle.drain_grid.specs.Held.{rank_of};
+ghost use Rattle.drain_grid.specs.declared.set_product.SetProduct.{SetProduct};
+ghost use Rattle.drain_grid.specs.SetProduct.{rank_of};
 ghost use Rattle.drain_grid.specs.PerProduct.{of_product};
 
-use crate::held::Held;
+use crate::set_product::SetProduct;
 
 /// One thing for each product that a set holds.
 #[derive(Drop)]
@@ -19,31 +19,31 @@ pub struct PerProduct<T> {
 
 impl<T> PerProduct<T> {
     /// The product's own.
-    pub fn of(&self, product: Held) -> &T
+    pub fn of(&self, product: SetProduct) -> &T
         ensures { result.now ≡ of_product self.now product }
     {
         match product {
-            Held::Con => &self.con,
-            Held::Dir => &self.dir,
-            Held::Acc => &self.acc,
-            Held::Bas => &self.bas,
-            Held::Rnk => &self.rnk,
+            SetProduct::Con => &self.con,
+            SetProduct::Dir => &self.dir,
+            SetProduct::Acc => &self.acc,
+            SetProduct::Bas => &self.bas,
+            SetProduct::Rnk => &self.rnk,
         }
     }
 }
 
 impl<T: Drop> PerProduct<T> {
     /// What `give` returns for each product, called in their order. The first error ends it.
-    pub fn from_each<E, F: Fn(Held) -> Result<T, E>>(give: &F) -> Result<PerProduct<T>, E>
+    pub fn from_each<E, F: Fn(SetProduct) -> Result<T, E>>(give: &F) -> Result<PerProduct<T>, E>
         requires { F.IsAlwaysCallable give.now }
-        ensures each { IfOk result (λ things. (p : Held) → F.post give.now p (Ok (of_product things p))) }
-        ensures first { IfErr result (λ e. (p : Held) × F.post give.now p (Err e) × ((q : Held) → rank_of q < rank_of p → (x : T) × F.post give.now q (Ok x))) }
+        ensures each { IfOk result (λ things. (p : SetProduct) → F.post give.now p (Ok (of_product things p))) }
+        ensures first { IfErr result (λ e. (p : SetProduct) × F.post give.now p (Err e) × ((q : SetProduct) → rank_of q < rank_of p → (x : T) × F.post give.now q (Ok x))) }
     {
-        let con = give(Held::Con)?;
-        let dir = give(Held::Dir)?;
-        let acc = give(Held::Acc)?;
-        let bas = give(Held::Bas)?;
-        let rnk = give(Held::Rnk)?;
+        let con = give(SetProduct::Con)?;
+        let dir = give(SetProduct::Dir)?;
+        let acc = give(SetProduct::Acc)?;
+        let bas = give(SetProduct::Bas)?;
+        let rnk = give(SetProduct::Rnk)?;
         Ok(PerProduct {
             con,
             dir,

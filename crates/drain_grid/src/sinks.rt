@@ -51,9 +51,7 @@ impl Sinks {
         requires { AreNarrow lines }
         ensures { IfOk result (λ sinks. sinks ≡ lines) }
     {
-        let Ok(places) = places_of(alloc, lines.cells()) else {
-            return Err(OutOfMemory);
-        };
+        let places = places_of(alloc, lines.cells())?;
         let mut rising = places;
         rising.sort_unstable();
         Ok(Sinks {
@@ -117,9 +115,7 @@ fn places_of(alloc: Global, cells: &[Cell]) -> Result<Vec<u64>, OutOfMemory>
 {
     let mut places = Vec::new(alloc);
     for cell in cells {
-        let Ok(_) = places.push(place_of(*cell)) else {
-            return Err(OutOfMemory);
-        };
+        places.push(place_of(*cell))?;
     }
     Ok(places)
 }

@@ -4,7 +4,7 @@ use Rattle.std.specs.Prelude.{ℤ, pos, neg_ℤ, ◌≤ℤ◌, ◌&&◌, cond, O
 use Rattle.std.proofs.lemmas.Int.{ints}
 use Rattle.drain_grid.specs.Values.{IsNoData}
 use Rattle.drain_header.specs.Fields.{IsCoordinate}
-use Rattle.drain_header.specs.Decimals.{decimal_of, is_small, is_whole, in_units, with_sign, coordinate_of, nodata_of}
+use Rattle.drain_header.specs.Decimals.{decimal_of, is_small, is_whole, in_units, with_sign, coordinate_of, decimal_nodata}
 use Rattle.drain_header.proofs.Units.{small_magnitude}
 
 sign_low : (b : Bool) (m k : ℕ) → m ≤ k → neg_ℤ (pos k) ≤ℤ with_sign b m
@@ -32,7 +32,7 @@ both true true x z e = (refl, e)
 both true false x z e = cc
 both false b x z e = cc
 
-pub nodata_within : (word : List ℕ) (z : ℤ) → nodata_of word ≡ Some z → IsNoData z
+pub nodata_within : (word : List ℕ) (z : ℤ) → decimal_nodata word ≡ Some z → IsNoData z
 nodata_within word z e = elim (decimal_of word) as (λ o. option_and_then (λ d. cond (is_small d && is_whole d) (Some (in_units 0 d)) None) o ≡ Some z → IsNoData z) [
   | None ↦ λ is. cc
   | Some d ↦ λ is. (

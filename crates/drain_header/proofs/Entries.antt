@@ -9,12 +9,12 @@ use Rattle.drain_text.specs.Text.{lines_of, words_of}
 use Rattle.drain_text.proofs.Joining.{IsWord, ink_told, spaced, line_first, two_words}
 use Rattle.drain_header.specs.declared.key.Key.{Key}
 use Rattle.drain_header.specs.declared.key.Key.TheVariants.{Nrows, Ncols, Nbands, Nbits, ByteOrder, Layout, PixelType, SkipBytes, BandRowBytes, TotalRowBytes, Ulxmap, Ulymap, Xdim, Ydim, Nodata}
-use Rattle.drain_header.specs.Lines.{name_of, key_order, named_key, key_of, value_of, value_at, is_some_key, takes, takes_some}
+use Rattle.drain_header.specs.Lines.{key_name, key_order, named_key, line_key, line_value, value_at, is_some_key, takes, takes_some}
 use Rattle.drain_header.specs.Text.{line}
 
 -- a keyword, a space and its value
 abbrev pub bare : Key → List ℕ → List ℕ
-bare key value = spaced (name_of key) value
+bare key value = spaced (key_name key) value
 
 abbrev pub entries_text : List (Key × List ℕ) → List ℕ
 entries_text [] = []
@@ -43,7 +43,7 @@ line_number Xdim = 12
 line_number Ydim = 13
 line_number Nodata = 14
 
-name_ink : (key : Key) → list_all (λ x. nat_lt 32 x) (name_of key) ≡ true
+name_ink : (key : Key) → list_all (λ x. nat_lt 32 x) (key_name key) ≡ true
 name_ink Nrows = refl
 name_ink Ncols = refl
 name_ink Nbands = refl
@@ -60,7 +60,7 @@ name_ink Xdim = refl
 name_ink Ydim = refl
 name_ink Nodata = refl
 
-name_some : (key : Key) → (0 < length (name_of key)) × (length (name_of key) ≤ 13)
+name_some : (key : Key) → (0 < length (key_name key)) × (length (key_name key) ≤ 13)
 name_some Nrows = (omega arith, omega arith)
 name_some Ncols = (omega arith, omega arith)
 name_some Nbands = (omega arith, omega arith)
@@ -78,7 +78,7 @@ name_some Ydim = (omega arith, omega arith)
 name_some Nodata = (omega arith, omega arith)
 
 -- each name names its keyword
-named : (key : Key) → named_key (name_of key) ≡ Some key
+named : (key : Key) → named_key (key_name key) ≡ Some key
 named Nrows = refl
 named Ncols = refl
 named Nbands = refl
@@ -113,17 +113,17 @@ lines_entries n [] good = refl
 lines_entries n (e ∷ es) good =
     let regrouped : line e.0 e.1 ++ entries_text es ≡ bare e.0 e.1 ++ 10 ∷ entries_text es = simp append_assoc in
     ap lines_of regrouped
-    ∙ line_first (name_of e.0) e.1 (entries_text es) (ink_told (name_of e.0) (name_ink e.0)) good.0.word.ink
+    ∙ line_first (key_name e.0) e.1 (entries_text es) (ink_told (key_name e.0) (name_ink e.0)) good.0.word.ink
     ∙ ap (λ ls. bare e.0 e.1 ∷ ls) (lines_entries (suc n) es good.1)
 
 -- the words of a line
-words_bare : (key : Key) (value : List ℕ) → IsWord value → words_of (bare key value) ≡ name_of key ∷ value ∷ []
-words_bare key value word = two_words (name_of key) value (record { some = (name_some key).0; ink = ink_told (name_of key) (name_ink key) }) word
+words_bare : (key : Key) (value : List ℕ) → IsWord value → words_of (bare key value) ≡ key_name key ∷ value ∷ []
+words_bare key value word = two_words (key_name key) value (record { some = (name_some key).0; ink = ink_told (key_name key) (name_ink key) }) word
 
-pub key_bare : (key : Key) (value : List ℕ) → IsWord value → key_of (bare key value) ≡ Some key
+pub key_bare : (key : Key) (value : List ℕ) → IsWord value → line_key (bare key value) ≡ Some key
 key_bare key value word = ap (λ ws. option_and_then named_key (slice_get ws 0)) (words_bare key value word) ∙ named key
 
-pub value_bare : (key : Key) (value : List ℕ) → IsWord value → value_of (bare key value) ≡ Some value
+pub value_bare : (key : Key) (value : List ℕ) → IsWord value → line_value (bare key value) ≡ Some value
 value_bare key value word = ap (λ ws. slice_get ws 1) (words_bare key value word)
 
 -- the value of the first entry with the keyword
@@ -131,16 +131,16 @@ abbrev pub value_in : Key → List (Key × List ℕ) → Option (List ℕ)
 value_in key [] = None
 value_in key (e ∷ es) = cond (nat_eq (key_order key) (key_order e.0)) (Some e.1) (value_in key es)
 
-picked : (b : Bool) (line : List ℕ) (rest : Option (List ℕ)) (value : List ℕ) (known : Option (List ℕ)) → value_of line ≡ Some value → option_and_then value_of rest ≡ known
-    → option_and_then value_of (cond b (Some line) rest) ≡ cond b (Some value) known
+picked : (b : Bool) (line : List ℕ) (rest : Option (List ℕ)) (value : List ℕ) (known : Option (List ℕ)) → line_value line ≡ Some value → option_and_then line_value rest ≡ known
+    → option_and_then line_value (cond b (Some line) rest) ≡ cond b (Some value) known
 picked true line rest value known p q = p
 picked false line rest value known p q = q
 
 pub value_entries : (key : Key) (n : ℕ) (es : List (Key × List ℕ)) → AllGood n es → value_at key (entries_lines es) ≡ value_in key es
 value_entries key n [] good = refl
 value_entries key n (e ∷ es) good =
-    let rest = find (λ line. is_some_key key (key_of line)) (entries_lines es) in
-    ap (λ o. option_and_then value_of (cond (is_some_key key o) (Some (bare e.0 e.1)) rest)) (key_bare e.0 e.1 good.0.word)
+    let rest = find (λ line. is_some_key key (line_key line)) (entries_lines es) in
+    ap (λ o. option_and_then line_value (cond (is_some_key key o) (Some (bare e.0 e.1)) rest)) (key_bare e.0 e.1 good.0.word)
     ∙ picked (nat_eq (key_order key) (key_order e.0)) (bare e.0 e.1) rest e.1 (value_in key es) (value_bare e.0 e.1 good.0.word) (value_entries key (suc n) es good.1)
 
 -- what a line with a keyword says of it
@@ -148,8 +148,8 @@ pub record IsToldAt (number : ℕ) (key : Key) (value : Option (List ℕ)) : Typ
   pub place : line_number key ≡ number
   pub taken : takes_some key value ≡ true
 
-pub told_at : (n : ℕ) (es : List (Key × List ℕ)) → AllGood n es → (i : ℕ) (key : Key) → option_and_then key_of (slice_get (entries_lines es) i) ≡ Some key
-    → IsToldAt (n + i) key (option_and_then value_of (slice_get (entries_lines es) i))
+pub told_at : (n : ℕ) (es : List (Key × List ℕ)) → AllGood n es → (i : ℕ) (key : Key) → option_and_then line_key (slice_get (entries_lines es) i) ≡ Some key
+    → IsToldAt (n + i) key (option_and_then line_value (slice_get (entries_lines es) i))
 told_at n [] good zero key is = cc
 told_at n [] good (suc i) key is = cc
 told_at n (e ∷ es) good zero key is =
@@ -168,7 +168,7 @@ line_short : (key : Key) (value : List ℕ) → length value ≤ 60 → length (
 unfolding line
 line_short key value short =
     let name = (name_some key).1 in
-    omega (arith, length-append (name_of key ++ (32 ∷ []) ++ value) (10 ∷ []), length-append (name_of key ++ (32 ∷ [])) value, length-append (name_of key) (32 ∷ []))
+    omega (arith, length-append (key_name key ++ (32 ∷ []) ++ value) (10 ∷ []), length-append (key_name key ++ (32 ∷ [])) value, length-append (key_name key) (32 ∷ []))
 
 pub entries_short : (n : ℕ) (es : List (Key × List ℕ)) → AllGood n es → length (entries_text es) ≤ 75 * length es
 entries_short n [] good = omega arith

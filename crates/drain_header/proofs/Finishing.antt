@@ -12,7 +12,7 @@ use Rattle.drain_header.specs.declared.value.Value.TheVariants.{Number, Signed}
 use Rattle.drain_header.specs.declared.fault.HeaderFault.{HeaderFault}
 use Rattle.drain_header.specs.declared.fault.HeaderFault.TheVariants.{NotOneBand, BadBits, BadPixelType, RowTooShort}
 use Rattle.drain_header.specs.Fields.{Fields, IsCoordinate}
-use Rattle.drain_header.specs.Decimals.{coordinate_of, nodata_of}
+use Rattle.drain_header.specs.Decimals.{coordinate_of, decimal_nodata}
 use Rattle.drain_header.specs.Lines.{value_at, size_of, signedness_of}
 use Rattle.drain_header.specs.Header.{said, packed_row, row_bytes_of, header_of}
 use Rattle.drain_header.specs.Reading.{Seen}
@@ -64,9 +64,9 @@ within (Some w) = elim (coordinate_of w) as (λ o. coordinate_of w ≡ o → IsC
   | Some z ↦ λ is. coordinate_within w z is
 ] refl
 
-nodata_ok : (word : Option (List ℕ)) → IfSome (option_and_then nodata_of word) IsNoData
+nodata_ok : (word : Option (List ℕ)) → IfSome (option_and_then decimal_nodata word) IsNoData
 nodata_ok None = _
-nodata_ok (Some w) = elim (nodata_of w) as (λ o. nodata_of w ≡ o → IfSome o IsNoData) [
+nodata_ok (Some w) = elim (decimal_nodata w) as (λ o. decimal_nodata w ≡ o → IfSome o IsNoData) [
   | None ↦ λ is. _
   | Some z ↦ λ is. nodata_within w z is
 ] refl

@@ -12,7 +12,7 @@ use Rattle.drain_header.specs.declared.key.Key.TheVariants.{Nrows, Ncols, Nbands
 use Rattle.drain_header.specs.declared.value.Value.{Value}
 use Rattle.drain_header.specs.declared.fault.HeaderFault.{HeaderFault}
 use Rattle.drain_header.specs.declared.fault.HeaderFault.TheVariants.{RepeatedKey, BadValue}
-use Rattle.drain_header.specs.Lines.{key_order, key_of, value_of, is_some_key, takes, takes_some}
+use Rattle.drain_header.specs.Lines.{key_order, line_key, line_value, is_some_key, takes, takes_some}
 use Rattle.drain_header.specs.Faults.{line_at}
 use Rattle.drain_header.specs.Values.{value_read}
 use Rattle.drain_header.specs.Reading.{Seen, nothing, with_value, with_key, with_lines, follow}
@@ -21,7 +21,7 @@ use Rattle.drain_header.proofs.AnswerFunction.{key_on, is_repeated, is_bad, line
 use Rattle.drain_header.proofs.AnswerTests.{place_below, is_some_key-true}
 
 abbrev pub has : Key → List ℕ → Bool
-has key line = is_some_key key (key_of line)
+has key line = is_some_key key (line_key line)
 
 abbrev pub at : Key → Seen → Option Value
 at key seen = get_or seen (key_order key) None
@@ -90,7 +90,7 @@ pub record IsSeen (lines front : List (List ℕ)) (n : ℕ) (seen : Seen) : Type
   pub long : length seen ≡ 15
   pub there : (key : Key) → any_below (λ m. is_some_key key (key_on lines m)) n ≡ is_some (at key seen)
   pub found : (key : Key) → is_some (find (has key) front) ≡ is_some (at key seen)
-  pub value : (key : Key) → at key seen ≡ option_and_then (value_read key) (option_and_then value_of (find (has key) front))
+  pub value : (key : Key) → at key seen ≡ option_and_then (value_read key) (option_and_then line_value (find (has key) front))
 
 pub start : (lines : List (List ℕ)) → IsSeen lines [] 1 nothing
 start lines =
@@ -107,21 +107,21 @@ module _ (lines front rest : List (List ℕ)) (line : List ℕ) (n : ℕ) (seen 
   here : line_at lines n ≡ Some line
   here = ap (λ (m : ℕ). line_at lines m) count ∙ ap (λ ls. slice_get ls (length front)) is ∙ line_behind front line rest
 
-  key_here : key_on lines n ≡ key_of line
-  key_here = ap (option_and_then key_of) here
+  key_here : key_on lines n ≡ line_key line
+  key_here = ap (option_and_then line_key) here
 
-  keyless : key_of line ≡ None → IsSeen lines (front ++ line ∷ []) (suc n) seen
+  keyless : line_key line ≡ None → IsSeen lines (front ++ line ∷ []) (suc n) seen
   keyless none = record {
     long = s.long;
     there = λ key. ap (λ o. is_some_key key o || any_below (λ m. is_some_key key (key_on lines m)) n) (key_here ∙ none) ∙ s.there key;
     found = λ key. ap is_some (same key) ∙ s.found key;
-    value = λ key. s.value key ∙ ap (λ o. option_and_then (value_read key) (option_and_then value_of o)) (sym (same key));
+    value = λ key. s.value key ∙ ap (λ o. option_and_then (value_read key) (option_and_then line_value o)) (sym (same key));
   }
     where
       same : (key : Key) → find (has key) (front ++ line ∷ []) ≡ find (has key) front
       same key = find_more (has key) front line ∙ ap (λ o. option_or (find (has key) front) (cond (is_some_key key o) (Some line) None)) none ∙ or_none _
 
-  keyed : (k : Key) (x : Value) → key_of line ≡ Some k → is_some (at k seen) ≡ false → option_and_then (value_read k) (value_of line) ≡ Some x → IsSeen lines (front ++ line ∷ []) (suc n) (slice_set seen (key_order k) (Some x))
+  keyed : (k : Key) (x : Value) → line_key line ≡ Some k → is_some (at k seen) ≡ false → option_and_then (value_read k) (line_value line) ≡ Some x → IsSeen lines (front ++ line ∷ []) (suc n) (slice_set seen (key_order k) (Some x))
   keyed k x key_is new read = record {
     long = length-set seen (key_order k) (Some x) ∙ s.long;
     there = λ key. (each key).0;
@@ -137,10 +137,10 @@ module _ (lines front rest : List (List ℕ)) (line : List ℕ) (n : ℕ) (seen 
 
       each : (key : Key) → (any_below (λ m. is_some_key key (key_on lines m)) (suc n) ≡ is_some (get_or (slice_set seen (key_order k) (Some x)) (key_order key) None))
           × (is_some (find (has key) (front ++ line ∷ [])) ≡ is_some (get_or (slice_set seen (key_order k) (Some x)) (key_order key) None))
-          × (get_or (slice_set seen (key_order k) (Some x)) (key_order key) None ≡ option_and_then (value_read key) (option_and_then value_of (find (has key) (front ++ line ∷ []))))
+          × (get_or (slice_set seen (key_order k) (Some x)) (key_order key) None ≡ option_and_then (value_read key) (option_and_then line_value (find (has key) (front ++ line ∷ []))))
       each key = elim (nat_eq (key_order key) (key_order k)) as (λ b. nat_eq (key_order key) (key_order k) ≡ b → (any_below (λ m. is_some_key key (key_on lines m)) (suc n) ≡ is_some (get_or (slice_set seen (key_order k) (Some x)) (key_order key) None))
           × (is_some (find (has key) (front ++ line ∷ [])) ≡ is_some (get_or (slice_set seen (key_order k) (Some x)) (key_order key) None))
-          × (get_or (slice_set seen (key_order k) (Some x)) (key_order key) None ≡ option_and_then (value_read key) (option_and_then value_of (find (has key) (front ++ line ∷ []))))) [
+          × (get_or (slice_set seen (key_order k) (Some x)) (key_order key) None ≡ option_and_then (value_read key) (option_and_then line_value (find (has key) (front ++ line ∷ []))))) [
             | true ↦ λ e. (
                 let place = eqb-true (key_order key) (key_order k) e in
                 let keys = is_some_key-true key (Some k) e in
@@ -151,7 +151,7 @@ module _ (lines front rest : List (List ℕ)) (line : List ℕ) (n : ℕ) (seen 
                 let found_here = more key ∙ ap (λ b. option_or (find (has key) front) (cond b (Some line) None)) e ∙ none_or (find (has key) front) (Some line) before in (
                   ap (λ o. is_some_key key o || any_below (λ m. is_some_key key (key_on lines m)) n) (key_here ∙ key_is) ∙ ap (λ b. b || any_below (λ m. is_some_key key (key_on lines m)) n) e ∙ sym (ap is_some here_key),
                   ap is_some found_here ∙ sym (ap is_some here_key),
-                  here_key ∙ sym read ∙ ap (λ (kk : Key). option_and_then (value_read kk) (value_of line)) same ∙ ap (λ o. option_and_then (value_read key) (option_and_then value_of o)) (sym found_here),
+                  here_key ∙ sym read ∙ ap (λ (kk : Key). option_and_then (value_read kk) (line_value line)) same ∙ ap (λ o. option_and_then (value_read key) (option_and_then line_value o)) (sym found_here),
                 ))
             | false ↦ λ e. (
                 let other = eqb-false (key_order key) (key_order k) e in
@@ -159,7 +159,7 @@ module _ (lines front rest : List (List ℕ)) (line : List ℕ) (n : ℕ) (seen 
                 let found_same = more key ∙ ap (λ b. option_or (find (has key) front) (cond b (Some line) None)) e ∙ or_none (find (has key) front) in (
                   ap (λ o. is_some_key key o || any_below (λ m. is_some_key key (key_on lines m)) n) (key_here ∙ key_is) ∙ ap (λ b. b || any_below (λ m. is_some_key key (key_on lines m)) n) e ∙ s.there key ∙ ap is_some (sym same_at),
                   ap is_some found_same ∙ s.found key ∙ ap is_some (sym same_at),
-                  same_at ∙ s.value key ∙ ap (λ o. option_and_then (value_read key) (option_and_then value_of o)) (sym found_same),
+                  same_at ∙ s.value key ∙ ap (λ o. option_and_then (value_read key) (option_and_then line_value o)) (sym found_same),
                 ))
           ] refl
 
@@ -167,26 +167,26 @@ module _ (lines front rest : List (List ℕ)) (line : List ℕ) (n : ℕ) (seen 
   abbrev judge : Option Key → Option (List ℕ) → Option HeaderFault
   judge o word = cond (is_repeated lines n o) (Some (RepeatedKey n)) (cond (is_bad o word) (Some (BadValue n)) None)
 
-  judged : (o : Option Key) → key_of line ≡ o → line_fault lines n ≡ judge o (value_of line)
-  judged o e = ap (λ k. judge k (option_and_then value_of (line_at lines n))) (key_here ∙ e) ∙ ap (λ w. judge o (option_and_then value_of w)) here
+  judged : (o : Option Key) → line_key line ≡ o → line_fault lines n ≡ judge o (line_value line)
+  judged o e = ap (λ k. judge k (option_and_then line_value (line_at lines n))) (key_here ∙ e) ∙ ap (λ w. judge o (option_and_then line_value w)) here
 
-  repeated : (k : Key) → key_of line ≡ Some k → is_some (at k seen) ≡ true → line_fault lines n ≡ Some (RepeatedKey n)
-  repeated k key_is old = judged (Some k) key_is ∙ ap (λ b. cond b (Some (RepeatedKey n)) (cond (is_bad (Some k) (value_of line)) (Some (BadValue n)) None)) (s.there k ∙ old)
+  repeated : (k : Key) → line_key line ≡ Some k → is_some (at k seen) ≡ true → line_fault lines n ≡ Some (RepeatedKey n)
+  repeated k key_is old = judged (Some k) key_is ∙ ap (λ b. cond b (Some (RepeatedKey n)) (cond (is_bad (Some k) (line_value line)) (Some (BadValue n)) None)) (s.there k ∙ old)
 
-  bad : (k : Key) → key_of line ≡ Some k → is_some (at k seen) ≡ false → option_and_then (value_read k) (value_of line) ≡ None → line_fault lines n ≡ Some (BadValue n)
+  bad : (k : Key) → line_key line ≡ Some k → is_some (at k seen) ≡ false → option_and_then (value_read k) (line_value line) ≡ None → line_fault lines n ≡ Some (BadValue n)
   bad k key_is new none =
       judged (Some k) key_is
-      ∙ ap (λ b. cond b (Some (RepeatedKey n)) (cond (is_bad (Some k) (value_of line)) (Some (BadValue n)) None)) (s.there k ∙ new)
-      ∙ ap (λ b. cond (not b) (Some (BadValue n)) None) (taken_some k (value_of line) ∙ ap is_some none)
+      ∙ ap (λ b. cond b (Some (RepeatedKey n)) (cond (is_bad (Some k) (line_value line)) (Some (BadValue n)) None)) (s.there k ∙ new)
+      ∙ ap (λ b. cond (not b) (Some (BadValue n)) None) (taken_some k (line_value line) ∙ ap is_some none)
 
-  sound_keyless : key_of line ≡ None → line_fault lines n ≡ None
+  sound_keyless : line_key line ≡ None → line_fault lines n ≡ None
   sound_keyless none = judged None none
 
-  sound_keyed : (k : Key) (x : Value) → key_of line ≡ Some k → is_some (at k seen) ≡ false → option_and_then (value_read k) (value_of line) ≡ Some x → line_fault lines n ≡ None
+  sound_keyed : (k : Key) (x : Value) → line_key line ≡ Some k → is_some (at k seen) ≡ false → option_and_then (value_read k) (line_value line) ≡ Some x → line_fault lines n ≡ None
   sound_keyed k x key_is new read =
       judged (Some k) key_is
-      ∙ ap (λ b. cond b (Some (RepeatedKey n)) (cond (is_bad (Some k) (value_of line)) (Some (BadValue n)) None)) (s.there k ∙ new)
-      ∙ ap (λ b. cond (not b) (Some (BadValue n)) None) (taken_some k (value_of line) ∙ ap is_some read)
+      ∙ ap (λ b. cond b (Some (RepeatedKey n)) (cond (is_bad (Some k) (line_value line)) (Some (BadValue n)) None)) (s.there k ∙ new)
+      ∙ ap (λ b. cond (not b) (Some (BadValue n)) None) (taken_some k (line_value line) ∙ ap is_some read)
 
 -- what the lines give when none is left
 abbrev pub Outcome : List (List ℕ) → Result Seen HeaderFault → Type 0
@@ -204,11 +204,11 @@ fold lines front (line ∷ rest) n seen is count s none =
     let go = λ (next : Seen) (s' : IsSeen lines (front ++ line ∷ []) (suc n) next) (fine : line_fault lines n ≡ None). (
     let none' : first_below (line_fault lines) (suc n) ≡ None = ap (λ o. option_or o (line_fault lines n)) none ∙ fine in
     fold lines (front ++ line ∷ []) rest (n + 1) next (is ∙ sym (append_assoc front (line ∷ []) rest)) (omega (arith, length-append front (line ∷ []))) (rw plus at s') (ap (first_below (line_fault lines)) (sym plus) ∙ none')) in
-    elim (key_of line) as (λ o. key_of line ≡ o → Outcome lines (follow (with_key seen n o (value_of line)) (λ next. with_lines next (n + 1) rest))) [
+    elim (line_key line) as (λ o. line_key line ≡ o → Outcome lines (follow (with_key seen n o (line_value line)) (λ next. with_lines next (n + 1) rest))) [
       | None ↦ λ e. go seen (keyless lines front rest line n seen is count s e) (sound_keyless lines front rest line n seen is count s e)
-      | Some k ↦ λ e. elim (is_some (at k seen)) as (λ b. is_some (at k seen) ≡ b → Outcome lines (follow (cond b (Err (RepeatedKey n)) (with_value seen n k (option_and_then (value_read k) (value_of line)))) (λ next. with_lines next (n + 1) rest))) [
+      | Some k ↦ λ e. elim (is_some (at k seen)) as (λ b. is_some (at k seen) ≡ b → Outcome lines (follow (cond b (Err (RepeatedKey n)) (with_value seen n k (option_and_then (value_read k) (line_value line)))) (λ next. with_lines next (n + 1) rest))) [
         | true ↦ λ old. first_found (line_fault lines) n (suc (length lines)) (RepeatedKey n) none (repeated lines front rest line n seen is count s k e old) inside
-        | false ↦ λ new. elim (option_and_then (value_read k) (value_of line)) as (λ o. option_and_then (value_read k) (value_of line) ≡ o → Outcome lines (follow (with_value seen n k o) (λ next. with_lines next (n + 1) rest))) [
+        | false ↦ λ new. elim (option_and_then (value_read k) (line_value line)) as (λ o. option_and_then (value_read k) (line_value line) ≡ o → Outcome lines (follow (with_value seen n k o) (λ next. with_lines next (n + 1) rest))) [
           | None ↦ λ no. first_found (line_fault lines) n (suc (length lines)) (BadValue n) none (bad lines front rest line n seen is count s k e new no) inside
           | Some x ↦ λ read. go (slice_set seen (key_order k) (Some x)) (keyed lines front rest line n seen is count s k x e new read) (sound_keyed lines front rest line n seen is count s k x e new read)
         ] refl

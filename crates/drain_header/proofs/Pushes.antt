@@ -7,7 +7,7 @@ use Rattle.drain_header.specs.declared.header.Place.{Place}
 use Rattle.drain_header.specs.declared.key.Key.{Key}
 use Rattle.drain_header.specs.declared.key.Key.TheVariants.{Nrows, Ncols, Nbands, Nbits, ByteOrder, Layout, PixelType, SkipBytes, BandRowBytes, TotalRowBytes, Ulxmap, Ulymap, Xdim, Ydim}
 use Rattle.drain_header.specs.Fields.{Fields}
-use Rattle.drain_header.specs.Lines.{name_of}
+use Rattle.drain_header.specs.Lines.{key_name}
 use Rattle.drain_header.specs.Text.{line, fraction_text, places_text, ordering_text, signedness_text, shape_lines, pixel_lines, place_lines}
 
 -- one part more
@@ -15,7 +15,7 @@ more : (before after known part : List ℕ) → after ≡ before ++ part → bef
 more before after known part grows is = grows ∙ ap (λ t. t ++ part) is
 
 -- the line of a number in units of 10^-15, part by part
-pub degrees_line : (key : Key) (z : ℤ) (t0 t1 t2 t3 t4 t5 t6 : List ℕ) → t1 ≡ t0 ++ name_of key → t2 ≡ t1 ++ 32 ∷ [] → t3 ≡ t2 ++ sign_text (is_negative z)
+pub degrees_line : (key : Key) (z : ℤ) (t0 t1 t2 t3 t4 t5 t6 : List ℕ) → t1 ≡ t0 ++ key_name key → t2 ≡ t1 ++ 32 ∷ [] → t3 ≡ t2 ++ sign_text (is_negative z)
     → t4 ≡ t3 ++ decimal (unsigned_abs z / 10 ^ 15) → t5 ≡ t4 ++ 46 ∷ [] → t6 ≡ t5 ++ fraction_text (unsigned_abs z) → t6 ++ 10 ∷ [] ≡ t0 ++ line key (places_text z)
 unfolding line places_text
 degrees_line key z t0 t1 t2 t3 t4 t5 t6 name space signed whole point fraction =

@@ -12,7 +12,7 @@ use Rattle.std.proofs.lemmas.Float.Parse.{scan_numeral-text_of}
 use Rattle.std.proofs.lemmas.Int.{ints}
 use Rattle.drain_grid.specs.Values.{IsNoData}
 use Rattle.drain_header.specs.Fields.{IsCoordinate}
-use Rattle.drain_header.specs.Decimals.{unsigned_part, are_decimal, decimal_from, decimal_of, is_small, is_whole, in_units, with_sign, coordinate_of, nodata_of}
+use Rattle.drain_header.specs.Decimals.{unsigned_part, are_decimal, decimal_from, decimal_of, is_small, is_whole, in_units, with_sign, coordinate_of, decimal_nodata}
 use Rattle.drain_header.specs.Lines.{size_of}
 use Rattle.drain_header.specs.Text.{fraction_text, places_text}
 use Rattle.drain_text.proofs.LastDigits.{length-last_digits, last_digits_are}
@@ -105,7 +105,7 @@ coordinate_small (pos n) is = let h = is.high in omega (arith, ints)
 coordinate_small (negsuc n) is = let h = is.low in omega (arith, ints)
 
 -- a no-data number reads back
-pub nodata_read : (z : ℤ) → unsigned_abs z ≤ 10000000000 → nodata_of (signed_decimal z) ≡ Some z
+pub nodata_read : (z : ℤ) → unsigned_abs z ≤ 10000000000 → decimal_nodata (signed_decimal z) ≡ Some z
 nodata_read z small =
     let numeral = decimal_is_IsNumeral (unsigned_abs z) (omega arith) in
     let d = decimal_from (is_negative z) (unpointed (decimal (unsigned_abs z))) in
@@ -113,7 +113,7 @@ nodata_read z small =
     let low : is_small d ≡ true = le-leb _ _ (omega (arith, value)) in
     let whole : is_whole d ≡ true = eq-eqb _ _ (omega arith) in
     let units : in_units 0 d ≡ z = ap (with_sign (is_negative z)) (omega (arith, value)) ∙ signed_again z in
-    ap nodata_of (signed_text z)
+    ap decimal_nodata (signed_text z)
     ∙ sym (nodata_is (sign_text (is_negative z) ++ decimal (unsigned_abs z)) d z (sym (unpointed_decimal (is_negative z) (decimal (unsigned_abs z)) numeral.0)) low whole units)
 
 -- what the digits after the point are

@@ -6,10 +6,10 @@ use Rattle.drain_header.specs.declared.key.Key.TheVariants.{Nrows, Ncols, Nbands
 use Rattle.drain_header.specs.declared.key.Key.TheVariants as keys
 use Rattle.drain_header.specs.declared.value.Value.{Value}
 use Rattle.drain_header.specs.declared.value.Value.TheVariants.{Number, Ordering, Signed, Coordinate, Nodata}
-use Rattle.drain_header.specs.Decimals.{coordinate_of, nodata_of}
+use Rattle.drain_header.specs.Decimals.{coordinate_of, decimal_nodata}
 use Rattle.drain_header.specs.Lines.{value_at, size_of, ordering_of, signedness_of}
 use Rattle.drain_header.specs.Reading.{Seen}
-use Rattle.drain_header.specs.Said.{said_by, number_of, ordering_in, sign_in, coordinate_in, nodata_in}
+use Rattle.drain_header.specs.Said.{said_by, said_number, ordering_in, sign_in, coordinate_in, said_nodata}
 use Rattle.drain_header.proofs.Folding.{IsSeen}
 
 -- a kind takes out what was put in
@@ -27,26 +27,26 @@ signs None = refl
 signs (Some w) = refl
 
 module _ (lines : List (List ℕ)) (seen : Seen) (s : IsSeen lines lines (suc (length lines)) seen) where
-  pub rows_said : said_by number_of Nrows seen ≡ option_and_then size_of (value_at Nrows lines)
-  rows_said = ap (option_and_then number_of) (s.value Nrows) ∙ through number_of (λ n. Number n) (λ n. refl) size_of (value_at Nrows lines)
+  pub rows_said : said_by said_number Nrows seen ≡ option_and_then size_of (value_at Nrows lines)
+  rows_said = ap (option_and_then said_number) (s.value Nrows) ∙ through said_number (λ n. Number n) (λ n. refl) size_of (value_at Nrows lines)
 
-  pub cols_said : said_by number_of Ncols seen ≡ option_and_then size_of (value_at Ncols lines)
-  cols_said = ap (option_and_then number_of) (s.value Ncols) ∙ through number_of (λ n. Number n) (λ n. refl) size_of (value_at Ncols lines)
+  pub cols_said : said_by said_number Ncols seen ≡ option_and_then size_of (value_at Ncols lines)
+  cols_said = ap (option_and_then said_number) (s.value Ncols) ∙ through said_number (λ n. Number n) (λ n. refl) size_of (value_at Ncols lines)
 
-  pub bands_said : said_by number_of Nbands seen ≡ option_and_then whole_number (value_at Nbands lines)
-  bands_said = ap (option_and_then number_of) (s.value Nbands) ∙ through number_of (λ n. Number n) (λ n. refl) whole_number (value_at Nbands lines)
+  pub bands_said : said_by said_number Nbands seen ≡ option_and_then whole_number (value_at Nbands lines)
+  bands_said = ap (option_and_then said_number) (s.value Nbands) ∙ through said_number (λ n. Number n) (λ n. refl) whole_number (value_at Nbands lines)
 
-  pub bits_said : said_by number_of Nbits seen ≡ option_and_then whole_number (value_at Nbits lines)
-  bits_said = ap (option_and_then number_of) (s.value Nbits) ∙ through number_of (λ n. Number n) (λ n. refl) whole_number (value_at Nbits lines)
+  pub bits_said : said_by said_number Nbits seen ≡ option_and_then whole_number (value_at Nbits lines)
+  bits_said = ap (option_and_then said_number) (s.value Nbits) ∙ through said_number (λ n. Number n) (λ n. refl) whole_number (value_at Nbits lines)
 
-  pub skip_said : said_by number_of SkipBytes seen ≡ option_and_then whole_number (value_at SkipBytes lines)
-  skip_said = ap (option_and_then number_of) (s.value SkipBytes) ∙ through number_of (λ n. Number n) (λ n. refl) whole_number (value_at SkipBytes lines)
+  pub skip_said : said_by said_number SkipBytes seen ≡ option_and_then whole_number (value_at SkipBytes lines)
+  skip_said = ap (option_and_then said_number) (s.value SkipBytes) ∙ through said_number (λ n. Number n) (λ n. refl) whole_number (value_at SkipBytes lines)
 
-  pub band_row_said : said_by number_of BandRowBytes seen ≡ option_and_then whole_number (value_at BandRowBytes lines)
-  band_row_said = ap (option_and_then number_of) (s.value BandRowBytes) ∙ through number_of (λ n. Number n) (λ n. refl) whole_number (value_at BandRowBytes lines)
+  pub band_row_said : said_by said_number BandRowBytes seen ≡ option_and_then whole_number (value_at BandRowBytes lines)
+  band_row_said = ap (option_and_then said_number) (s.value BandRowBytes) ∙ through said_number (λ n. Number n) (λ n. refl) whole_number (value_at BandRowBytes lines)
 
-  pub total_row_said : said_by number_of TotalRowBytes seen ≡ option_and_then whole_number (value_at TotalRowBytes lines)
-  total_row_said = ap (option_and_then number_of) (s.value TotalRowBytes) ∙ through number_of (λ n. Number n) (λ n. refl) whole_number (value_at TotalRowBytes lines)
+  pub total_row_said : said_by said_number TotalRowBytes seen ≡ option_and_then whole_number (value_at TotalRowBytes lines)
+  total_row_said = ap (option_and_then said_number) (s.value TotalRowBytes) ∙ through said_number (λ n. Number n) (λ n. refl) whole_number (value_at TotalRowBytes lines)
 
   pub order_said : said_by ordering_in ByteOrder seen ≡ option_and_then ordering_of (value_at ByteOrder lines)
   order_said = ap (option_and_then ordering_in) (s.value ByteOrder) ∙ through ordering_in (λ o. Ordering o) (λ o. refl) ordering_of (value_at ByteOrder lines)
@@ -66,5 +66,5 @@ module _ (lines : List (List ℕ)) (seen : Seen) (s : IsSeen lines lines (suc (l
   pub ydim_said : said_by coordinate_in Ydim seen ≡ option_and_then coordinate_of (value_at Ydim lines)
   ydim_said = ap (option_and_then coordinate_in) (s.value Ydim) ∙ through coordinate_in (λ z. Coordinate z) (λ z. refl) coordinate_of (value_at Ydim lines)
 
-  pub nodata_said : said_by nodata_in keys.Nodata seen ≡ option_and_then nodata_of (value_at keys.Nodata lines)
-  nodata_said = ap (option_and_then nodata_in) (s.value keys.Nodata) ∙ through nodata_in (λ z. Nodata z) (λ z. refl) nodata_of (value_at keys.Nodata lines)
+  pub nodata_said : said_by said_nodata keys.Nodata seen ≡ option_and_then decimal_nodata (value_at keys.Nodata lines)
+  nodata_said = ap (option_and_then said_nodata) (s.value keys.Nodata) ∙ through said_nodata (λ z. Nodata z) (λ z. refl) decimal_nodata (value_at keys.Nodata lines)

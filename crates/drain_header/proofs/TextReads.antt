@@ -18,8 +18,8 @@ use Rattle.drain_header.specs.declared.fault.HeaderFault.{HeaderFault}
 use Rattle.drain_header.specs.declared.fault.HeaderFault.TheVariants.{TooLong, RepeatedKey, BadValue, MissingKey, NotOneBand, BadBits, BadPixelType, RowTooShort}
 use Rattle.drain_header.specs.Fields.{Fields, IsCoordinate, IsPixelSize, AreWithinBounds}
 use Rattle.drain_header.specs.Header.{said, packed_row, row_bytes_of, header_of}
-use Rattle.drain_header.specs.Lines.{key_of, value_of, value_at, takes, takes_some, ordering_of, signedness_of}
-use Rattle.drain_header.specs.Decimals.{coordinate_of, nodata_of}
+use Rattle.drain_header.specs.Lines.{line_key, line_value, value_at, takes, takes_some, ordering_of, signedness_of}
+use Rattle.drain_header.specs.Decimals.{coordinate_of, decimal_nodata}
 use Rattle.drain_header.specs.Faults.{line_at, HasKey, HasFault, IsRequired, Describes}
 use Rattle.drain_header.specs.Text.{line, nodata_line, ordering_text, signedness_text, places_text, shape_lines, pixel_lines, place_lines, text_of}
 use Rattle.drain_text.proofs.Joining.{IsWord, ink_told}
@@ -188,9 +188,9 @@ record AreLinesOf (h : Fields) (lines : List (List ℕ)) : Type 0 where
 value_is : (h : Fields) (lines : List (List ℕ)) → AreLinesOf h lines → (key : Key) → value_at key lines ≡ value_in key (entries_of h)
 value_is h lines of key = ap (value_at key) of.same ∙ value_entries key 0 (entries_of h) of.good
 
-nodata_said : (o : Option ℤ) → SmallNoData o → (word : Option (List ℕ)) → word ≡ value_in Nodata (nodata_entries o) → option_and_then nodata_of word ≡ o
-nodata_said None small word is = ap (option_and_then nodata_of) is
-nodata_said (Some z) small word is = ap (option_and_then nodata_of) is ∙ nodata_read z small
+nodata_said : (o : Option ℤ) → SmallNoData o → (word : Option (List ℕ)) → word ≡ value_in Nodata (nodata_entries o) → option_and_then decimal_nodata word ≡ o
+nodata_said None small word is = ap (option_and_then decimal_nodata) is
+nodata_said (Some z) small word is = ap (option_and_then decimal_nodata) is ∙ nodata_read z small
 
 same_place : (p q : Place) → p.ulx ≡ q.ulx → p.uly ≡ q.uly → p.xdim ≡ q.xdim → p.ydim ≡ q.ydim → p ≡ q
 same_place p q ulx uly xdim ydim = λ i. record { ulx = ulx i; uly = uly i; xdim = xdim i; ydim = ydim i }
@@ -219,31 +219,31 @@ fields_are h lines within of =
     let uly : said coordinate_of Ulymap (pos 0) lines ≡ h.place.uly = said_is coordinate_of Ulymap (pos 0) lines (places_text h.place.uly) h.place.uly (at Ulymap) (coordinate_read h.place.uly within.uly_ok) in
     let xdim : said coordinate_of Xdim (pos 0) lines ≡ h.place.xdim = said_is coordinate_of Xdim (pos 0) lines (places_text h.place.xdim) h.place.xdim (at Xdim) (coordinate_read h.place.xdim within.xdim_ok) in
     let ydim : said coordinate_of Ydim (pos 0) lines ≡ h.place.ydim = said_is coordinate_of Ydim (pos 0) lines (places_text h.place.ydim) h.place.ydim (at Ydim) (coordinate_read h.place.ydim within.ydim_ok) in
-    let nodata : option_and_then nodata_of (value_at Nodata lines) ≡ h.nodata = nodata_said h.nodata (small_nodata h.nodata within.nodata_ok) (value_at Nodata lines) (at Nodata) in
+    let nodata : option_and_then decimal_nodata (value_at Nodata lines) ≡ h.nodata = nodata_said h.nodata (small_nodata h.nodata within.nodata_ok) (value_at Nodata lines) (at Nodata) in
     sym (same_fields (header_of lines) h rows cols bits order signed skip row_bytes (same_place (header_of lines).place h.place ulx uly xdim ydim) nodata)
 
 -- a line with a keyword is the keyword's, and its value is taken
 record IsKeyLine (lines : List (List ℕ)) (n : ℕ) (key : Key) : Type 0 where
   place : n ≡ suc (line_number key)
-  taken : takes_some key (option_and_then value_of (line_at lines n)) ≡ true
+  taken : takes_some key (option_and_then line_value (line_at lines n)) ≡ true
 
 key_line : (h : Fields) (lines : List (List ℕ)) → AreLinesOf h lines → (n : ℕ) (key : Key) → HasKey lines n key → IsKeyLine lines n key
 key_line h lines of zero key has = cc
 key_line h lines of (suc i) key has =
-    let told = told_at 0 (entries_of h) of.good i key (ap (λ ls. option_and_then key_of (slice_get ls i)) (sym of.same) ∙ has) in
+    let told = told_at 0 (entries_of h) of.good i key (ap (λ ls. option_and_then line_key (slice_get ls i)) (sym of.same) ∙ has) in
     record {
       place = omega (arith, told.place);
-      taken = ap (λ ls. takes_some key (option_and_then value_of (slice_get ls i))) of.same ∙ told.taken;
+      taken = ap (λ ls. takes_some key (option_and_then line_value (slice_get ls i))) of.same ∙ told.taken;
     }
 
 -- a keyword that must be there is
 required_stands : (h : Fields) (lines : List (List ℕ)) → AreWithinBounds h → AreLinesOf h lines → (key : Key) → IsRequired key → HasKey lines (suc (line_number key)) key
-required_stands h lines within of Nrows needed = ap (λ ls. option_and_then key_of (line_at ls 3)) of.same ∙ key_bare Nrows (decimal h.rows) of.good.1.1.0.word
-required_stands h lines within of Ncols needed = ap (λ ls. option_and_then key_of (line_at ls 4)) of.same ∙ key_bare Ncols (decimal h.cols) of.good.1.1.1.0.word
-required_stands h lines within of Ulxmap needed = ap (λ ls. option_and_then key_of (line_at ls 11)) of.same ∙ key_bare Ulxmap (places_text h.place.ulx) (places_word h.place.ulx within.ulx_ok)
-required_stands h lines within of Ulymap needed = ap (λ ls. option_and_then key_of (line_at ls 12)) of.same ∙ key_bare Ulymap (places_text h.place.uly) (places_word h.place.uly within.uly_ok)
-required_stands h lines within of Xdim needed = ap (λ ls. option_and_then key_of (line_at ls 13)) of.same ∙ key_bare Xdim (places_text h.place.xdim) (places_word h.place.xdim within.xdim_ok)
-required_stands h lines within of Ydim needed = ap (λ ls. option_and_then key_of (line_at ls 14)) of.same ∙ key_bare Ydim (places_text h.place.ydim) (places_word h.place.ydim within.ydim_ok)
+required_stands h lines within of Nrows needed = ap (λ ls. option_and_then line_key (line_at ls 3)) of.same ∙ key_bare Nrows (decimal h.rows) of.good.1.1.0.word
+required_stands h lines within of Ncols needed = ap (λ ls. option_and_then line_key (line_at ls 4)) of.same ∙ key_bare Ncols (decimal h.cols) of.good.1.1.1.0.word
+required_stands h lines within of Ulxmap needed = ap (λ ls. option_and_then line_key (line_at ls 11)) of.same ∙ key_bare Ulxmap (places_text h.place.ulx) (places_word h.place.ulx within.ulx_ok)
+required_stands h lines within of Ulymap needed = ap (λ ls. option_and_then line_key (line_at ls 12)) of.same ∙ key_bare Ulymap (places_text h.place.uly) (places_word h.place.uly within.uly_ok)
+required_stands h lines within of Xdim needed = ap (λ ls. option_and_then line_key (line_at ls 13)) of.same ∙ key_bare Xdim (places_text h.place.xdim) (places_word h.place.xdim within.xdim_ok)
+required_stands h lines within of Ydim needed = ap (λ ls. option_and_then line_key (line_at ls 14)) of.same ∙ key_bare Ydim (places_text h.place.ydim) (places_word h.place.ydim within.ydim_ok)
 required_stands h lines within of Nbands needed = absurd needed
 required_stands h lines within of Nbits needed = absurd needed
 required_stands h lines within of ByteOrder needed = absurd needed
@@ -277,7 +277,7 @@ no_fault h text within short of (RepeatedKey n) has =
 no_fault h text within short of (BadValue n) has =
     let here = key_line h (lines_of text) of n has.0 has.1 in
     let taken = here.taken in
-    let wrong : takes_some has.0 (option_and_then value_of (line_at (lines_of text) n)) ≡ false = has.2 in
+    let wrong : takes_some has.0 (option_and_then line_value (line_at (lines_of text) n)) ≡ false = has.2 in
     cc
 no_fault h text within short of (MissingKey key) has = has.1 (suc (line_number key)) (required_stands h (lines_of text) within of key has.0)
 no_fault h text within short of NotOneBand has =

@@ -4,7 +4,7 @@ use Rattle.std.specs.Prelude.{◌&&◌, ◌==◌, ◌⊎◌, nat_lt, ℤ, cond, 
 use Rattle.std.proofs.lemmas.Nat.{div_below, div-mul-add, mod-mul-add}
 use Rattle.std.proofs.lemmas.Bool.{le-leb, leb-true, lt-leb, eqb-true, eqb-false, ltb-true, ltb-false}
 use Rattle.std.specs.Float.Numeral.{Parts, numeral_digits, tens_up, tens_down}
-use Rattle.drain_header.specs.Decimals.{Decimal, decimal_from, decimal_of, is_small, is_whole, in_units, with_sign, coordinate_of, nodata_of}
+use Rattle.drain_header.specs.Decimals.{Decimal, decimal_from, decimal_of, is_small, is_whole, in_units, with_sign, coordinate_of, decimal_nodata}
 use Rattle.drain_header.specs.Numerals.{IsScaled}
 use Rattle.std.proofs.Math.Nat.{mul-le-mul_right, one-le-pow}
 
@@ -77,10 +77,10 @@ no_coordinate word d is great = ap (λ b. cond b (Some (in_units 15 d)) None) (s
 abbrev small_nodata : Decimal → Option ℤ
 small_nodata d = if is_small d && is_whole d then Some (in_units 0 d) else None
 
-pub nodata_is : (word : List ℕ) (d : Decimal) (value : ℤ) → Some d ≡ decimal_of word → is_small d ≡ true → is_whole d ≡ true → in_units 0 d ≡ value → Some value ≡ nodata_of word
+pub nodata_is : (word : List ℕ) (d : Decimal) (value : ℤ) → Some d ≡ decimal_of word → is_small d ≡ true → is_whole d ≡ true → in_units 0 d ≡ value → Some value ≡ decimal_nodata word
 nodata_is word d value is small whole e = ap (λ z. Some z) (sym e) ∙ ap (λ b. cond (b && true) (Some (in_units 0 d)) None) (sym small) ∙ ap (λ b. cond (is_small d && b) (Some (in_units 0 d)) None) (sym whole) ∙ ap (option_and_then small_nodata) is
 
-pub no_nodata : (word : List ℕ) (d : Decimal) → Some d ≡ decimal_of word → (is_small d && is_whole d) ≡ false → None ≡ nodata_of word
+pub no_nodata : (word : List ℕ) (d : Decimal) → Some d ≡ decimal_of word → (is_small d && is_whole d) ≡ false → None ≡ decimal_nodata word
 no_nodata word d is other = ap (λ b. cond b (Some (in_units 0 d)) None) (sym other) ∙ ap (option_and_then small_nodata) is
 
 pub and_false : (b : Bool) → (b && false) ≡ false

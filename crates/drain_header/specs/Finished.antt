@@ -12,11 +12,11 @@ use Rattle.drain_header.specs.declared.fault.HeaderFault.TheVariants.{NotOneBand
 use Rattle.drain_header.specs.Fields.{Fields, IsCoordinate}
 use Rattle.drain_header.specs.Lines.{key_order}
 use Rattle.drain_header.specs.Reading.{Seen}
-use Rattle.drain_header.specs.Said.{said_by, number_of, ordering_in, sign_in, coordinate_in, nodata_in}
+use Rattle.drain_header.specs.Said.{said_by, said_number, ordering_in, sign_in, coordinate_in, said_nodata}
 
 -- the whole number of a keyword, or else a default
 abbrev pub number_or : Key → ℕ → Seen → ℕ
-number_or key default seen = unwrap_or (said_by number_of key seen) default
+number_or key default seen = unwrap_or (said_by said_number key seen) default
 
 -- the coordinate of a keyword
 abbrev pub coordinate_or_zero : Key → Seen → ℤ
@@ -60,7 +60,7 @@ header_in seen = record {
     xdim = coordinate_or_zero Xdim seen;
     ydim = coordinate_or_zero Ydim seen;
   };
-  nodata = said_by nodata_in keys.Nodata seen;
+  nodata = said_by said_nodata keys.Nodata seen;
 }
 
 -- that header, or the first of the faults that belong to no line
@@ -84,4 +84,4 @@ pub record AreTaken (seen : Seen) : Type 0 where
   pub uly : IsCoordinate (coordinate_or_zero Ulymap seen)
   pub xdim : IsCoordinate (coordinate_or_zero Xdim seen)
   pub ydim : IsCoordinate (coordinate_or_zero Ydim seen)
-  pub nodata : IfSome (said_by nodata_in keys.Nodata seen) IsNoData
+  pub nodata : IfSome (said_by said_nodata keys.Nodata seen) IsNoData

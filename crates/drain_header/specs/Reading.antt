@@ -4,7 +4,7 @@ use Rattle.drain_header.specs.declared.key.Key.{Key}
 use Rattle.drain_header.specs.declared.value.Value.{Value}
 use Rattle.drain_header.specs.declared.fault.HeaderFault.{HeaderFault}
 use Rattle.drain_header.specs.declared.fault.HeaderFault.TheVariants.{RepeatedKey, BadValue}
-use Rattle.drain_header.specs.Lines.{key_order, key_of, value_of}
+use Rattle.drain_header.specs.Lines.{key_order, line_key, line_value}
 use Rattle.drain_header.specs.Values.{value_read}
 
 -- the value of each keyword so far, at the keyword's place in the table
@@ -28,8 +28,8 @@ with_key seen n (Some key) word =
     else with_value seen n key (option_and_then (value_read key) word)
 
 -- what line n adds
-abbrev pub with_line : Seen → ℕ → List ℕ → Result Seen HeaderFault
-with_line seen n line = with_key seen n (key_of line) (value_of line)
+abbrev pub with_header_line : Seen → ℕ → List ℕ → Result Seen HeaderFault
+with_header_line seen n line = with_key seen n (line_key line) (line_value line)
 
 -- what comes next, unless a line had a fault
 abbrev pub follow : Result Seen HeaderFault → (Seen → Result Seen HeaderFault) → Result Seen HeaderFault
@@ -39,4 +39,4 @@ follow (Err fault) next = Err fault
 -- what lines add, of which the first is line n
 abbrev pub with_lines : Seen → ℕ → List (List ℕ) → Result Seen HeaderFault
 with_lines seen n [] = Ok seen
-with_lines seen n (line ∷ lines) = follow (with_line seen n line) (λ next. with_lines next (n + 1) lines)
+with_lines seen n (line ∷ lines) = follow (with_header_line seen n line) (λ next. with_lines next (n + 1) lines)

@@ -8,9 +8,9 @@ use Rattle.drain_header.specs.Lines.{key_order}
 use Rattle.drain_header.specs.Reading.{Seen}
 
 -- the whole number that a value is
-abbrev pub number_of : Value → Option ℕ
-number_of (Number n) = Some n
-number_of value = None
+abbrev pub said_number : Value → Option ℕ
+said_number (Number n) = Some n
+said_number value = None
 
 -- the order of bytes that a value is
 abbrev pub ordering_in : Value → Option ByteOrdering
@@ -28,9 +28,9 @@ coordinate_in (Coordinate z) = Some z
 coordinate_in value = None
 
 -- the no-data number that a value is
-abbrev pub nodata_in : Value → Option ℤ
-nodata_in (Nodata z) = Some z
-nodata_in value = None
+abbrev pub said_nodata : Value → Option ℤ
+said_nodata (Nodata z) = Some z
+said_nodata value = None
 
 -- the meaning of a keyword's value, if a line has the keyword
 abbrev pub said_by : {A : Type 0} → (Value → Option A) → Key → Seen → Option A

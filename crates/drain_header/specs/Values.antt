@@ -5,7 +5,7 @@ use Rattle.drain_header.specs.declared.key.Key.{Key}
 use Rattle.drain_header.specs.declared.key.Key.TheVariants.{Nrows, Ncols, Nbands, Nbits, ByteOrder, Layout, PixelType, SkipBytes, BandRowBytes, TotalRowBytes, Ulxmap, Ulymap, Xdim, Ydim, Nodata}
 use Rattle.drain_header.specs.declared.value.Value.{Value}
 use Rattle.drain_header.specs.declared.value.Value.TheVariants as values
-use Rattle.drain_header.specs.Decimals.{coordinate_of, nodata_of}
+use Rattle.drain_header.specs.Decimals.{coordinate_of, decimal_nodata}
 use Rattle.drain_header.specs.Lines.{size_of, ordering_of, is_layout, signedness_of}
 
 -- the meaning of a word as the value of the keyword, if it is valid
@@ -24,4 +24,4 @@ value_read Ulxmap word = option_map (λ z. values.Coordinate z) (coordinate_of w
 value_read Ulymap word = option_map (λ z. values.Coordinate z) (coordinate_of word)
 value_read Xdim word = option_map (λ z. values.Coordinate z) (coordinate_of word)
 value_read Ydim word = option_map (λ z. values.Coordinate z) (coordinate_of word)
-value_read Nodata word = option_map (λ z. values.Nodata z) (nodata_of word)
+value_read Nodata word = option_map (λ z. values.Nodata z) (decimal_nodata word)

@@ -7,7 +7,7 @@
 ghost use Rattle.std.specs.Prelude.{◌≡◌, ◌+◌, ◌*◌, ◌-◌, ◌^◌, ◌<◌, ◌≤◌, ◌==◌, if◌then◌else◌, length, ℕ, min, option_map, IfSome};
 ghost use Rattle.std.specs.Str.Parse.{digits_value, digits_value_after, AllDigits};
 ghost use Rattle.drain_header.specs.Numerals.{parts_of, decimal_from_parts, IsOfDigits, IsScaled, Compares};
-ghost use Rattle.drain_header.specs.Decimals.{with_sign, decimal_of, coordinate_of, nodata_of};
+ghost use Rattle.drain_header.specs.Decimals.{with_sign, decimal_of, coordinate_of, decimal_nodata};
 
 use crate::numeral::{Numeral, scan};
 
@@ -31,7 +31,7 @@ pub fn coordinate(word: &[u8]) -> Option<i128>
 
 /// The no-data number of a word: a decimal that is a whole number.
 pub fn nodata(word: &[u8]) -> Option<i64>
-    ensures { result ≡ nodata_of word.now }
+    ensures { result ≡ decimal_nodata word.now }
 {
     let (negative, numeral) = decimal(word)?;
     let (units, is_exact) = in_units(&numeral, 0);

@@ -1,7 +1,7 @@
 //! The keywords of a header.
 
 ghost use Rattle.std.specs.Prelude.{◌≡◌};
-ghost use Rattle.drain_header.specs.Lines.{name_of};
+ghost use Rattle.drain_header.specs.Lines.{key_name};
 
 /// A keyword, in the order of the table of keywords. Missing ones are reported in this order.
 #[derive(Clone, Copy, PartialEq, Eq, Debug)]
@@ -26,7 +26,7 @@ pub enum Key {
 impl Key {
     /// The keyword, in capitals.
     pub fn name(self) -> &'static str
-        ensures { result.now ≡ name_of self }
+        ensures { result.now ≡ key_name self }
     {
         match self {
             Key::Nrows => "NROWS",

@@ -1,7 +1,7 @@
 //! The keyword and the value of a line.
 
 ghost use Rattle.std.specs.Prelude.{◌≡◌, option_map};
-ghost use Rattle.drain_header.specs.Lines.{key_of, value_of, named_key, reads as reads_word};
+ghost use Rattle.drain_header.specs.Lines.{line_key, line_value, named_key, reads as reads_word};
 
 use crate::key::Key;
 use drain_text::first_word;
@@ -27,8 +27,8 @@ const KEYS: [Key; 15] = [
 
 /// The keyword of a line, if its first word is one, and its second word, if it has one.
 pub fn key_and_value(line: &[u8]) -> (Option<Key>, Option<&[u8]>)
-    ensures key { result.0 ≡ key_of line.now }
-    ensures value { option_map (λ word. word.now) result.1 ≡ value_of line.now }
+    ensures key { result.0 ≡ line_key line.now }
+    ensures value { option_map (λ word. word.now) result.1 ≡ line_value line.now }
 {
     let Some((first, rest)) = first_word(line) else {
         return (None, None);

@@ -4,7 +4,7 @@ ghost use Rattle.std.specs.Prelude.{◌≡◌, ◌≤◌, None, is_some, length,
 ghost use Rattle.drain_text.specs.Text.{lines_of};
 ghost use Rattle.drain_header.specs.Lacking.{lacking};
 ghost use Rattle.drain_header.specs.Lines.{key_order};
-ghost use Rattle.drain_header.specs.Reading.{nothing, with_line as line_added, with_lines as lines_added};
+ghost use Rattle.drain_header.specs.Reading.{nothing, with_header_line as line_added, with_lines as lines_added};
 
 use crate::fault::HeaderFault;
 use crate::key::Key;

@@ -1,7 +1,7 @@
 //! The keywords' values by their kinds: none if no line has the keyword.
 
 ghost use Rattle.std.specs.Prelude.{◌≡◌};
-ghost use Rattle.drain_header.specs.Said.{said_by, number_of, ordering_in, sign_in, coordinate_in, nodata_in};
+ghost use Rattle.drain_header.specs.Said.{said_by, said_number, ordering_in, sign_in, coordinate_in, said_nodata};
 
 use crate::header::ByteOrdering;
 use crate::key::Key;
@@ -9,7 +9,7 @@ use crate::lines::Seen;
 use crate::value::Value;
 
 pub fn number(seen: &Seen, key: Key) -> Option<u32>
-    ensures { result ≡ said_by number_of key seen.now }
+    ensures { result ≡ said_by said_number key seen.now }
 {
     let value = seen[key as usize];
     match value {
@@ -49,7 +49,7 @@ pub fn coordinate(seen: &Seen, key: Key) -> Option<i128>
 }
 
 pub fn nodata(seen: &Seen, key: Key) -> Option<i64>
-    ensures { result ≡ said_by nodata_in key seen.now }
+    ensures { result ≡ said_by said_nodata key seen.now }
 {
     let value = seen[key as usize];
     match value {

@@ -143,8 +143,6 @@ fn sign(number: i128) -> &'static str
 fn push(text: &mut Vec<u8>, bytes: &[u8]) -> Result<(), OutOfMemory>
     ensures { OnOk result (text.new.items ≡ text.old.items ++ bytes.now) }
 {
-    match text.extend_from_slice(bytes) {
-        Ok(()) => Ok(()),
-        Err(_) => Err(OutOfMemory),
-    }
+    text.extend_from_slice(bytes)?;
+    Ok(())
 }

@@ -5,7 +5,7 @@ use Rattle.std.specs.Int.{is_negative}
 use Rattle.std.proofs.lemmas.Bool.{leb-true}
 use Rattle.drain_hgt.specs.declared.name.NameFault.TheVariants.{BadForm, BadRange}
 use Rattle.drain_hgt.specs.Corner.{Corner}
-use Rattle.drain_hgt.specs.Name.{Names, HasForm}
+use Rattle.drain_hgt.specs.Name.{IsNameOf, HasForm}
 use Rattle.drain_hgt.specs.Laws.{OneName}
 use Rattle.drain_hgt.proofs.Spelling.{HasPlaces, places}
 use Rattle.drain_hgt.proofs.Reading.{few_degrees}
@@ -22,10 +22,10 @@ two_places a b d e small few p q r s = omega arith
 three_places : (a b d e f : ℕ) → a ≤ 180 → b ≤ 180 → d ≡ 48 + a / 100 % 10 → e ≡ 48 + a / 10 % 10 → f ≡ 48 + a % 10 → d ≡ 48 + b / 100 % 10 → e ≡ 48 + b / 10 % 10 → f ≡ 48 + b % 10 → a ≡ b
 three_places a b d e f small few p q r s t u = omega arith
 
-places_of : (bytes : List ℕ) (c : Corner) → Names bytes c → HasPlaces bytes (is_negative c.lat) (nat_abs c.lat) (is_negative c.lon) (nat_abs c.lon)
+places_of : (bytes : List ℕ) (c : Corner) → IsNameOf bytes c → HasPlaces bytes (is_negative c.lat) (nat_abs c.lat) (is_negative c.lon) (nat_abs c.lon)
 places_of bytes c names = places bytes (is_negative c.lat) (nat_abs c.lat) (is_negative c.lon) (nat_abs c.lon) names.text
 
-one_corner : (bytes : List ℕ) (c d : Corner) → Names bytes c → Names bytes d → c ≡ d
+one_corner : (bytes : List ℕ) (c d : Corner) → IsNameOf bytes c → IsNameOf bytes d → c ≡ d
 one_corner bytes c d one other =
     let p = places_of bytes c one in
     let q = places_of bytes d other in
@@ -35,7 +35,7 @@ one_corner bytes c d one other =
     let west = same_number c.lon d.lon (sym p.at_3 ∙ q.at_3) lon in
     ap (λ x. record { lat = x; lon = c.lon }) south ∙ ap (λ y. record { lat = d.lat; lon = y }) west
 
-has_form : (bytes : List ℕ) (c : Corner) → Names bytes c → HasForm bytes
+has_form : (bytes : List ℕ) (c : Corner) → IsNameOf bytes c → HasForm bytes
 has_form bytes c names = record { south = is_negative c.lat; lat = nat_abs c.lat; west = is_negative c.lon; lon = nat_abs c.lon; text = names.text }
 
 pub one_name : OneName

@@ -1,5 +1,5 @@
 -- What was read in a name's places, and what it means.
-use Rattle.std.proofs.Common.{◌≡◌, ℕ, ◌+◌, ◌*◌, ◌/◌, ◌%◌, ◌<◌, ◌≤◌, Bool, List, get_or, ℤ, pos, negsuc, Option, Some, None, MatchOption, arith, sym, ap, ◌∙◌}
+use Rattle.std.proofs.Common.{◌≡◌, ℕ, ◌+◌, ◌*◌, ◌/◌, ◌%◌, ◌<◌, ◌≤◌, Bool, List, get_or, ℤ, pos, negsuc, Option, Some, None, MatchOption, arith, sym, ap, ◌∙◌, refl}
 use Rattle.std.specs.Prelude.{nat_abs, map}
 use Rattle.std.specs.Char.{to_ascii_lowercase, eq_ignore_ascii_case}
 use Rattle.std.specs.Int.{is_negative}
@@ -27,6 +27,23 @@ pub record IsRead (bytes : List ℕ) (south : Bool) (lat : ℕ) (west : Bool) (l
   pub at_6 : IsWorth (get_or bytes 6 0) worths.4
   pub lat_is : lat ≡ 10 * worths.0 + worths.1
   pub lon_is : lon ≡ 100 * worths.2 + 10 * worths.3 + worths.4
+
+-- letters and digits that were read
+pub read_as : (bytes : List ℕ) (south west : Bool) (a b k l m : ℕ) → south ≡ eq_ignore_ascii_case (get_or bytes 0 0) 83 → IsWorth (get_or bytes 1 0) a → IsWorth (get_or bytes 2 0) b →
+    west ≡ eq_ignore_ascii_case (get_or bytes 3 0) 87 → IsWorth (get_or bytes 4 0) k → IsWorth (get_or bytes 5 0) l → IsWorth (get_or bytes 6 0) m →
+    IsRead bytes south (10 * a + b) west (100 * k + 10 * l + m)
+read_as bytes south west a b k l m at_0 at_1 at_2 at_3 at_4 at_5 at_6 = record {
+  worths = (a, b, k, l, m);
+  at_0 = at_0;
+  at_1 = at_1;
+  at_2 = at_2;
+  at_3 = at_3;
+  at_4 = at_4;
+  at_5 = at_5;
+  at_6 = at_6;
+  lat_is = refl;
+  lon_is = refl;
+}
 
 -- what was read is what a name has there
 pub record AreRead (south : Bool) (lat : ℕ) (west : Bool) (lon : ℕ) (is_south : Bool) (a : ℕ) (is_west : Bool) (m : ℕ) : Type 0 where

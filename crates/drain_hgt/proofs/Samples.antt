@@ -27,8 +27,8 @@ pub lent_back : {old held new : List ℤ} {n : ℕ} → held ≡ old → length 
 lent_back {old = old} {held = held} {new = new} {n = n} same full long = let e : length held ≡ length old = ap length same in written_over new old n (long ∙ e) (sym full ∙ e)
 
 -- a vector that grew has the required length
-pub grown : {long wanted : ℕ} (was : ℕ) {ok failed : Bool} → long ≡ cond ok wanted was → ok ≡ not failed → failed ≡ false → long ≡ wanted
-grown {wanted = wanted} was is unless well = is ∙ ap (λ b. cond b wanted was) (unless ∙ ap not well)
+pub grown : {long expected : ℕ} (was : ℕ) {ok failed : Bool} → long ≡ cond ok expected was → ok ≡ not failed → failed ≡ false → long ≡ expected
+grown {expected = expected} was is unless well = is ∙ ap (λ b. cond b expected was) (unless ∙ ap not well)
 
 pub all_samples : (bytes : List ℕ) (samples : List ℤ) → length bytes ≡ 2 * length samples → ((i : ℕ) → slice_index bytes i < 256) → IsReadBy sample 2 bytes samples → samples_of bytes ≡ samples
 all_samples [] [] long small read = refl

@@ -31,7 +31,7 @@ abbrev pub IsSameText : List ℕ → List ℕ → Type 0
 IsSameText a b = map to_ascii_lowercase a ≡ map to_ascii_lowercase b
 
 -- the bytes name the tile at the corner
-pub record Names (bytes : List ℕ) (c : Corner) : Type 0 where
+pub record IsNameOf (bytes : List ℕ) (c : Corner) : Type 0 where
   pub on_map : IsOnMap c
   pub text : IsSameText bytes (name_of c)
 
@@ -45,6 +45,6 @@ pub record HasForm (bytes : List ℕ) : Type 0 where
 
 -- the meaning of the bytes: a corner if they name it, or why they name none
 abbrev pub MeansName : List ℕ → Result Corner NameFault → Type 0
-MeansName bytes (Ok c) = Names bytes c
+MeansName bytes (Ok c) = IsNameOf bytes c
 MeansName bytes (Err BadForm) = ¬ HasForm bytes
-MeansName bytes (Err BadRange) = HasForm bytes × ((c : Corner) → ¬ Names bytes c)
+MeansName bytes (Err BadRange) = HasForm bytes × ((c : Corner) → ¬ IsNameOf bytes c)

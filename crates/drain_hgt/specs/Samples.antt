@@ -18,5 +18,5 @@ samples_of (single ∷ []) = []
 samples_of [] = []
 
 -- the sample in a row and a column of a tile; void past the last sample, where no tile has one
-abbrev pub sample_at : ℕ → List ℤ → ℕ → ℕ → ℤ
-sample_at side samples row col = slice_index_or samples (row * side + col) VOID
+abbrev pub tile_sample_at : ℕ → List ℤ → ℕ → ℕ → ℤ
+tile_sample_at side samples row col = slice_index_or samples (row * side + col) VOID

@@ -18,10 +18,10 @@ use Rattle.drain_grid.specs.Unranked.{unranked}
 use Rattle.drain_grid.proofs.Options.{same_some}
 use Rattle.drain_kernel.specs.declared.lanes.Lanes.{Lanes}
 use Rattle.drain_kernel.specs.declared.rules.Ranks.{Ranks}
-use Rattle.drain_kernel.specs.declared.rules.Ranks.TheVariants.{Asked, Unasked}
+use Rattle.drain_kernel.specs.declared.rules.Ranks.TheVariants.{Checked, Ignored}
 use Rattle.drain_kernel.specs.declared.rules.Rules.{Rules}
 use Rattle.drain_kernel.specs.declared.rules.Sums.{Sums}
-use Rattle.drain_kernel.specs.Asked.{IfAsked, IfTested}
+use Rattle.drain_kernel.specs.Checked.{IfChecked, IfTested}
 use Rattle.drain_kernel.specs.Columns.{HasRankAt}
 use Rattle.drain_kernel.specs.Falls.{FallsAt, keeps_fall, seen_code, seen_con}
 use Rattle.drain_kernel.specs.Kept.{IsKept}
@@ -219,10 +219,10 @@ module _ (nodata : NoDataNumbers) (here : Numbers) (around : List (Option Values
   fallen_check rank Label = falls.label
   fallen_check rank SharedLabel = tt
 
-  fallen : (ranks : Ranks) (sums : Sums) → IfTested sums (AccumulationHolds it) → IfAsked ranks (here.rnk ≢ nodata.rnk) →
+  fallen : (ranks : Ranks) (sums : Sums) → IfTested sums (AccumulationHolds it) → IfChecked ranks (here.rnk ≢ nodata.rnk) →
       (r : Rule) → tested sums (rules_with ranks nodata) it r
-  fallen Asked sums sum rank = summed sums (check_rules nodata) it sum (fallen_check rank)
-  fallen Unasked sums sum rank = summed sums (unranked nodata) it sum fallen_unranked
+  fallen Checked sums sum rank = summed sums (check_rules nodata) it sum (fallen_check rank)
+  fallen Ignored sums sum rank = summed sums (unranked nodata) it sum fallen_unranked
 
 -- what the test of the fall gives
 record OfFall (here : Numbers) (around : List (Option Values)) : Type 0 where
@@ -252,13 +252,13 @@ of_fall here n around seen h =
 
 -- the rank of the cell
 rank_from : (ranks : Ranks) (nodata : NoDataNumbers) (above here below : Lanes) (k : ℕ) (v : Values) → Shows here k v → HasDataAt here k →
-    IfAsked ranks (HaveRanks above here below) → IfAsked ranks (HasRankAt nodata here k) → IfAsked ranks (v.rnk ≢ nodata.rnk)
-rank_from Unasked nodata above here below k v s there have differs = tt
-rank_from Asked nodata above here below k v s there have differs = subst (λ r. r ≢ nodata.rnk) (sym (s.rnk_is have.here_has there)) differs
+    IfChecked ranks (HaveRanks above here below) → IfChecked ranks (HasRankAt nodata here k) → IfChecked ranks (v.rnk ≢ nodata.rnk)
+rank_from Ignored nodata above here below k v s there have differs = tt
+rank_from Checked nodata above here below k v s there have differs = subst (λ r. r ≢ nodata.rnk) (sym (s.rnk_is have.here_has there)) differs
 
 -- so at a column where the tests pass
 pub is_kept_there : (rules : Rules) (sums : Sums) (above here below : Lanes) (k : ℕ) (p : Patch) → IsShownRound above here below k p →
-    IfAsked rules.ranks (HaveRanks above here below) → FallsAt rules sums above here below k → IsKept (tested sums (tried rules)) p
+    IfChecked rules.ranks (HaveRanks above here below) → FallsAt rules sums above here below k → IsKept (tested sums (tried rules)) p
 is_kept_there rules sums above here below k p shown have passes =
     let at = numbers_in here k p.here in
     let fall = of_fall at (numbers_seen above here below k p shown) p.around (are_seen above here below k p shown) passes.fall in

@@ -4,22 +4,22 @@ use Rattle.std.proofs.lemmas.Bool.{false≢true, and_parts}
 use Rattle.std.proofs.lemmas.Bool.Decides.{Decides-eqb, Decides-ltb}
 use Rattle.drain_grid.specs.declared.direction.Direction.{Direction}
 use Rattle.drain_grid.specs.declared.direction.Direction.TheVariants.{East, SouthEast, South, SouthWest, West, NorthWest, North, NorthEast}
-use Rattle.drain_grid.specs.declared.held.Held.{Held}
-use Rattle.drain_grid.specs.declared.held.Held.TheVariants.{Con, Dir, Acc, Bas, Rnk}
+use Rattle.drain_grid.specs.declared.set_product.SetProduct.{SetProduct}
+use Rattle.drain_grid.specs.declared.set_product.SetProduct.TheVariants.{Con, Dir, Acc, Bas, Rnk}
 use Rattle.drain_grid.specs.declared.patch.Patch.{Patch}
 use Rattle.drain_grid.specs.declared.rule.Rule.{Rule}
 use Rattle.drain_grid.specs.declared.rule.Rule.TheVariants.{VoidCell, Missing, BadCode, BelowGround, OpenRaised, NoSpill, SpillHeight, SpillRank, NotLeast, Slope, OutletCode, FlatStep, Accumulation, Label, SharedLabel}
 use Rattle.drain_grid.specs.Direction.{directions, code_of, opposite}
-use Rattle.drain_grid.specs.Held.{product_of}
+use Rattle.drain_grid.specs.SetProduct.{product_of}
 use Rattle.drain_grid.specs.Values.{Values, NoDataNumbers, value_of, number_for}
 use Rattle.drain_grid.specs.PatchRules.{AccumulationHolds, inflow, check_rules}
 use Rattle.drain_grid.specs.Unranked.{unranked}
 use Rattle.drain_kernel.specs.declared.lanes.Lanes.{Lanes}
 use Rattle.drain_kernel.specs.declared.rules.Ranks.{Ranks}
-use Rattle.drain_kernel.specs.declared.rules.Ranks.TheVariants.{Asked, Unasked}
+use Rattle.drain_kernel.specs.declared.rules.Ranks.TheVariants.{Checked, Ignored}
 use Rattle.drain_kernel.specs.declared.rules.Rules.{Rules}
 use Rattle.drain_kernel.specs.declared.rules.Sums.{Sums}
-use Rattle.drain_kernel.specs.Asked.{IfAsked, IfTested}
+use Rattle.drain_kernel.specs.Checked.{IfChecked, IfTested}
 use Rattle.drain_kernel.specs.Columns.{is_inland_at, PassesAt, RanksPassAt}
 use Rattle.drain_kernel.specs.Kept.{IsKept}
 use Rattle.drain_kernel.specs.Rules.{rules_with, tested, tried, without_sums}
@@ -99,7 +99,7 @@ record Ranked (nodata : NoDataNumbers) (here : Numbers) (n : Direction → Numbe
   differs : here.rnk ≢ nodata.rnk
 
 pub is_complete : (nodata : NoDataNumbers) (here : Numbers) → AreComplete nodata here.con here.dir here.acc here.bas → here.rnk ≢ nodata.rnk →
-    (p : Held) → value_of (values_of here) (product_of p) ≢ number_for nodata (product_of p)
+    (p : SetProduct) → value_of (values_of here) (product_of p) ≢ number_for nodata (product_of p)
 is_complete nodata here complete differs Con = complete.con_differs
 is_complete nodata here complete differs Dir = complete.dir_differs
 is_complete nodata here complete differs Acc = complete.acc_differs
@@ -126,11 +126,11 @@ of_check nodata here n around passed ranked Label = passed.direction.label
 of_check nodata here n around passed ranked SharedLabel = tt
 
 of_rules : (ranks : Ranks) (sums : Sums) (nodata : NoDataNumbers) (here : Numbers) (n : Direction → Numbers) (around : List (Option Values)) →
-    Passed nodata here n around → IfTested sums (AccumulationHolds (patch_of here around)) → IfAsked ranks (Ranked nodata here n) →
+    Passed nodata here n around → IfTested sums (AccumulationHolds (patch_of here around)) → IfChecked ranks (Ranked nodata here n) →
     (r : Rule) → tested sums (rules_with ranks nodata) (patch_of here around) r
-of_rules Asked sums nodata here n around passed sum ranked =
+of_rules Checked sums nodata here n around passed sum ranked =
     summed sums (check_rules nodata) (patch_of here around) sum (of_check nodata here n around passed ranked)
-of_rules Unasked sums nodata here n around passed sum ranked =
+of_rules Ignored sums nodata here n around passed sum ranked =
     summed sums (unranked nodata) (patch_of here around) sum (of_unranked nodata here n around passed)
 
 -- no direction's code is that of an outlet
@@ -151,10 +151,10 @@ not_zero code d is differs h = differs (same_natural d 0 (sym is ∙ h))
 
 -- where ranks are checked, they were taken, and their tests give what is required of the numbers
 ranked_from : (ranks : Ranks) (nodata : NoDataNumbers) (above here below : Lanes) (k : ℕ) (p : Patch) (shown : IsShown above here below k p) →
-    HaveDataAt above here below k → IfAsked ranks (HaveRanks above here below) → IfAsked ranks (RanksPassAt nodata above here below k) →
-    IfAsked ranks (Ranked nodata (numbers_in here k p.here) (numbers_beside above here below k p shown))
-ranked_from Unasked nodata above here below k p shown known have passes = tt
-ranked_from Asked nodata above here below k p shown known have passes =
+    HaveDataAt above here below k → IfChecked ranks (HaveRanks above here below) → IfChecked ranks (RanksPassAt nodata above here below k) →
+    IfChecked ranks (Ranked nodata (numbers_in here k p.here) (numbers_beside above here below k p shown))
+ranked_from Ignored nodata above here below k p shown known have passes = tt
+ranked_from Checked nodata above here below k p shown known have passes =
     let own = shown.cell.rnk_is have.here_has known.here_has in
     let has : (d : Direction) → HasRanks (row_beside above here below d) = of_each (λ d. HasRanks (row_beside above here below d))
     have.here_has have.below_has have.below_has have.below_has have.here_has have.above_has have.above_has have.above_has in
@@ -167,7 +167,7 @@ ranked_from Asked nodata above here below k p shown known have passes =
 
 -- so at a column of three rows where all tests pass
 pub is_kept : (rules : Rules) (sums : Sums) (above here below : Lanes) (k : ℕ) (p : Patch) → IsShown above here below k p →
-    IfAsked rules.ranks (HaveRanks above here below) → PassesAt rules sums above here below k → IsKept (tested sums (tried rules)) p
+    IfChecked rules.ranks (HaveRanks above here below) → PassesAt rules sums above here below k → IsKept (tested sums (tried rules)) p
 is_kept rules sums above here below k p shown have passes =
     let at = numbers_in here k p.here in
     let n = numbers_beside above here below k p shown in

@@ -5,7 +5,7 @@ use Rattle.drain_grid.specs.declared.rule.Rule.TheVariants.{VoidCell, Missing, B
 use Rattle.drain_grid.specs.PatchRules.{Profile}
 use Rattle.drain_kernel.specs.declared.rules.Sums.{Sums}
 use Rattle.drain_kernel.specs.declared.rules.Sums.TheVariants.{Tested, Untested}
-use Rattle.drain_kernel.specs.Asked.{IfTested}
+use Rattle.drain_kernel.specs.Checked.{IfTested}
 use Rattle.drain_kernel.specs.Rules.{tested, without_sums}
 
 -- what follows from a fact follows where it is tested

@@ -5,7 +5,7 @@ use Rattle.drain_kernel.specs.declared.lanes.Lanes.{Lanes}
 use Rattle.drain_kernel.specs.declared.rules.Rules.{Rules}
 use Rattle.drain_kernel.specs.declared.rules.Sums.{Sums}
 use Rattle.drain_kernel.specs.Around.{around_in}
-use Rattle.drain_kernel.specs.Asked.{IfAsked, IfTested}
+use Rattle.drain_kernel.specs.Checked.{IfChecked, IfTested}
 use Rattle.drain_kernel.specs.Tests.{AreComplete, have_data, keeps_surface, keeps_direction, keeps_accumulation, adds_up, falls_or_nears}
 
 abbrev pub is_inland_at : Lanes → Lanes → Lanes → ℕ → Bool
@@ -39,8 +39,8 @@ is_ranked_at a h b k =
     (slice_index h.rnk.items k) (around_in a.rnk.items h.rnk.items b.rnk.items k)
 
 -- no number of a column but its rank is its product's no-data number
-abbrev pub IsCompleteAt : NoDataNumbers → Lanes → ℕ → Type 0
-IsCompleteAt nodata h k =
+abbrev pub IsCompleteColumn : NoDataNumbers → Lanes → ℕ → Type 0
+IsCompleteColumn nodata h k =
     AreComplete nodata (slice_index h.con.items k) (slice_index h.dir.items k) (slice_index h.acc.items k) (slice_index h.bas.items k)
 
 -- nor is its rank
@@ -58,8 +58,8 @@ pub record PassesAt (rules : Rules) (sums : Sums) (a h b : Lanes) (k : ℕ) : Ty
   pub surface : IsTrue (keeps_surface_at a h b k)
   pub direction : IsTrue (keeps_direction_at a h b k)
   pub accumulation : IfTested sums (SumPassesAt a h b k)
-  pub complete : IsCompleteAt rules.nodata h k
-  pub ranks : IfAsked rules.ranks (RanksPassAt rules.nodata a h b k)
+  pub complete : IsCompleteColumn rules.nodata h k
+  pub ranks : IfChecked rules.ranks (RanksPassAt rules.nodata a h b k)
 
 -- the columns from one up to another
 abbrev pub Along : ℕ → ℕ → (ℕ → Type 0) → Type 0

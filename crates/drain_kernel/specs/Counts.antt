@@ -8,5 +8,5 @@ abbrev pub is_raised_at : Lanes → ℕ → Bool
 is_raised_at row k = nat_lt (slice_index row.z.items k) (slice_index row.con.items k)
 
 -- the columns from one up to another
-abbrev pub raised_count : Lanes → ℕ → ℕ → ℕ
-raised_count row from end = count_by (is_raised_at row) (range_with_len from (end - from))
+abbrev pub raised_lanes : Lanes → ℕ → ℕ → ℕ
+raised_lanes row from end = count_by (is_raised_at row) (range_with_len from (end - from))

@@ -4,8 +4,8 @@ use Rattle.drain_kernel.specs.declared.lanes.Lanes.{Lanes}
 use Rattle.drain_kernel.specs.declared.rules.Rules.{Rules}
 use Rattle.drain_kernel.specs.declared.rules.Sums.{Sums}
 use Rattle.drain_kernel.specs.Around.{around_in, is_direction_code, named_in}
-use Rattle.drain_kernel.specs.Asked.{IfAsked, IfTested}
-use Rattle.drain_kernel.specs.Columns.{HasRankAt, IsCompleteAt}
+use Rattle.drain_kernel.specs.Checked.{IfChecked, IfTested}
+use Rattle.drain_kernel.specs.Columns.{HasRankAt, IsCompleteColumn}
 use Rattle.drain_kernel.specs.Tests.{adds_up, falls_steepest}
 
 -- a neighbour's conditioned elevation: at a void higher than any height
@@ -46,5 +46,5 @@ seen_sum_at a h b k =
 pub record FallsAt (rules : Rules) (sums : Sums) (a h b : Lanes) (k : ℕ) : Type 0 where
   pub fall : IsTrue (keeps_fall_at a h b k)
   pub sum : IfTested sums (IsTrue (seen_sum_at a h b k))
-  pub complete : IsCompleteAt rules.nodata h k
-  pub rank : IfAsked rules.ranks (HasRankAt rules.nodata h k)
+  pub complete : IsCompleteColumn rules.nodata h k
+  pub rank : IfChecked rules.ranks (HasRankAt rules.nodata h k)

@@ -7,7 +7,7 @@ use Rattle.drain_grid.specs.Tile.{height_from}
 use Rattle.drain_grid.specs.Values.{Values}
 use Rattle.drain_kernel.specs.declared.lanes.Lanes.{Lanes}
 use Rattle.drain_kernel.specs.Columns.{Along}
-use Rattle.drain_kernel.specs.Counts.{raised_count}
+use Rattle.drain_kernel.specs.Counts.{raised_lanes}
 use Rattle.drain_kernel.specs.Shown.{Shows}
 use Rattle.drain_kernel.specs.Taken.{AreLanesOf}
 
@@ -38,4 +38,4 @@ is_above_ground v = int_lt (unwrap_or v.z (pos 0)) v.con
 abbrev pub RaisedAreCounted : Type 0
 RaisedAreCounted =
     (lanes : Lanes) (from end : ℕ) (shown : ℕ → Values) → Along from end (λ k. Shows lanes k (shown k)) → Along from end (λ k. IsSome (shown k).z) →
-    raised_count lanes from end ≡ count_by (λ k. is_above_ground (shown k)) (range_with_len from (end - from))
+    raised_lanes lanes from end ≡ count_by (λ k. is_above_ground (shown k)) (range_with_len from (end - from))

@@ -3,7 +3,7 @@ pub mod Rules
 pub mod Lanes
 pub mod Shown
 pub mod Taken
-pub mod Asked
+pub mod Checked
 pub mod Around
 pub mod Tests
 pub mod Columns

@@ -1,7 +1,7 @@
 //! The tests at a column of three rows.
 
 ghost use Rattle.std.specs.Prelude.{◌≡◌, ◌≤◌, ◌<◌, ◌+◌, IsTrue, vec_len};
-ghost use Rattle.drain_kernel.specs.Columns.{is_inland_at, keeps_surface_at, keeps_direction_at, keeps_accumulation_at, adds_up_at, IsCompleteAt};
+ghost use Rattle.drain_kernel.specs.Columns.{is_inland_at, keeps_surface_at, keeps_direction_at, keeps_accumulation_at, adds_up_at, IsCompleteColumn};
 
 use crate::around::around;
 use crate::cells::{
@@ -81,7 +81,7 @@ pub fn sum_holds(above: &Lanes, here: &Lanes, below: &Lanes, k: usize) -> bool
 #[inline(always)]
 pub fn is_complete(here: &Lanes, nodata: &NoData, k: usize) -> bool
     requires here_len { k < vec_len here.now.z }
-    ensures { IsTrue result → IsCompleteAt nodata.now here.now k }
+    ensures { IsTrue result → IsCompleteColumn nodata.now here.now k }
 {
     are_complete(here.con[k], here.dir[k], here.acc[k], here.bas[k], nodata)
 }

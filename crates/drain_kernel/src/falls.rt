@@ -3,7 +3,7 @@
 
 ghost use Rattle.std.specs.Prelude.{◌≡◌, ◌≤◌, ◌<◌, ◌+◌, IsTrue, vec_len};
 ghost use Rattle.drain_grid.specs.declared.patch.Patch.{Patch};
-ghost use Rattle.drain_kernel.specs.Asked.{IfAsked, IfTested};
+ghost use Rattle.drain_kernel.specs.Checked.{IfChecked, IfTested};
 ghost use Rattle.drain_kernel.specs.Columns.{HasRankAt};
 ghost use Rattle.drain_kernel.specs.Falls.{FallsAt, each_seen, keeps_fall, keeps_fall_at, seen_code, seen_con, seen_sum_at};
 ghost use Rattle.drain_kernel.specs.Kept.{IsKept};
@@ -145,12 +145,12 @@ fn keeps_sum(above: &Lanes, here: &Lanes, below: &Lanes, sums: Sums, k: usize) -
 /// Whether the rank isn't the no-data number, if ranks are checked.
 fn keeps_rank(here: &Lanes, rules: &Rules, k: usize) -> bool
     requires here_len { k < vec_len here.now.z }
-    requires ranks { IfAsked rules.now.ranks (HasRanks here.now) }
-    ensures { IsTrue result → IfAsked rules.now.ranks (HasRankAt rules.now.nodata here.now k) }
+    requires ranks { IfChecked rules.now.ranks (HasRanks here.now) }
+    ensures { IsTrue result → IfChecked rules.now.ranks (HasRankAt rules.now.nodata here.now k) }
 {
     match rules.ranks {
-        Ranks::Unasked => true,
-        Ranks::Asked => has_rank(here, &rules.nodata, k),
+        Ranks::Ignored => true,
+        Ranks::Checked => has_rank(here, &rules.nodata, k),
     }
 }
 
@@ -167,7 +167,7 @@ fn tests_pass(
     requires above_len { k + 1 < vec_len above.now.z }
     requires here_len { k + 1 < vec_len here.now.z }
     requires below_len { k + 1 < vec_len below.now.z }
-    requires ranks { IfAsked rules.now.ranks (HaveRanks above.now here.now below.now) }
+    requires ranks { IfChecked rules.now.ranks (HaveRanks above.now here.now below.now) }
     ensures { IsTrue result → FallsAt rules.now sums above.now here.now below.now k }
 {
     // Voids and outlets stop here.
@@ -235,7 +235,7 @@ pub fn routed_falls_at(
 {
     let rules = Rules {
         nodata: *nodata,
-        ranks: Ranks::Unasked,
+        ranks: Ranks::Ignored,
     };
     is_cleared_at(above, here, below, &rules, Sums::Untested, k)
 }

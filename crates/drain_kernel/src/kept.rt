@@ -2,7 +2,7 @@
 
 ghost use Rattle.std.specs.Prelude.{◌≡◌, ◌≤◌, ◌<◌, IsTrue, vec_len};
 ghost use Rattle.drain_grid.specs.declared.patch.Patch.{Patch};
-ghost use Rattle.drain_kernel.specs.Asked.{IfAsked};
+ghost use Rattle.drain_kernel.specs.Checked.{IfChecked};
 ghost use Rattle.drain_kernel.specs.Columns.{Along, PassesAt};
 ghost use Rattle.drain_kernel.specs.Kept.{IsKept};
 ghost use Rattle.drain_kernel.specs.Rules.{tested, tried, unsummed};
@@ -23,11 +23,11 @@ const GROUP: usize = 8;
 
 /// Whether all three rows have ranks, if ranks are checked.
 pub(crate) fn ranks_are_there(above: &Lanes, here: &Lanes, below: &Lanes, ranks: Ranks) -> bool
-    ensures { IsTrue result → IfAsked ranks (HaveRanks above.now here.now below.now) }
+    ensures { IsTrue result → IfChecked ranks (HaveRanks above.now here.now below.now) }
 {
     match ranks {
-        Ranks::Unasked => true,
-        Ranks::Asked => above.has_ranks() && here.has_ranks() && below.has_ranks(),
+        Ranks::Ignored => true,
+        Ranks::Checked => above.has_ranks() && here.has_ranks() && below.has_ranks(),
     }
 }
 
@@ -64,7 +64,7 @@ fn passed_until(
     requires inside { end < vec_len here.now.z }
     requires above_len { vec_len above.now.z ≡ vec_len here.now.z }
     requires below_len { vec_len below.now.z ≡ vec_len here.now.z }
-    requires ranks { IfAsked rules.now.ranks (HaveRanks above.now here.now below.now) }
+    requires ranks { IfChecked rules.now.ranks (HaveRanks above.now here.now below.now) }
     ensures forward { from ≤ result }
     ensures within { result ≤ end }
     ensures passed { Along from result (PassesAt rules.now sums above.now here.now below.now) }
@@ -156,7 +156,7 @@ pub fn routed_until(
 {
     let rules = Rules {
         nodata: *nodata,
-        ranks: Ranks::Unasked,
+        ranks: Ranks::Ignored,
     };
     cleared_until(above, here, below, &rules, Sums::Untested, from, until)
 }

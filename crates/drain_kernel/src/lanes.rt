@@ -1,7 +1,7 @@
 //! A row of a grid and its products, in numbers of 32 bits.
 
 ghost use Rattle.std.specs.Prelude.{◌≡◌, IsTrue, length, vec_len};
-ghost use Rattle.drain_kernel.specs.Asked.{IfAsked};
+ghost use Rattle.drain_kernel.specs.Checked.{IfChecked};
 ghost use Rattle.drain_kernel.specs.Lanes.{AreLanes};
 
 use crate::narrowing::{take_elevations, take_heights, take_numbers};
@@ -28,9 +28,9 @@ pub struct Lanes {
 
 impl Lanes {
     ghost use Rattle.std.specs.Prelude.{◌≤◌, ◌<◌, ◌-◌, ◌^◌, cond, false};
-    ghost use Rattle.drain_grid.specs.declared.held.Held.{Held};
+    ghost use Rattle.drain_grid.specs.declared.set_product.SetProduct.{SetProduct};
     ghost use Rattle.drain_grid.specs.PerProduct.{of_product, per_product};
-    ghost use Rattle.drain_kernel.specs.Counts.{is_raised_at, raised_count};
+    ghost use Rattle.drain_kernel.specs.Counts.{is_raised_at, raised_lanes};
     ghost use Rattle.drain_kernel.specs.Shown.{cols, HasRanks};
     ghost use Rattle.drain_kernel.specs.Taken.{AreLanesOf};
 
@@ -52,9 +52,9 @@ impl Lanes {
     /// column z must fit 16 signed bits, and except at voids con too, and the others 32 unsigned bits; memory is taken
     /// if there is too little room. Else it has no row.
     pub fn take(&mut self, z: &[i64], products: &PerProduct<&[i64]>, ranks: Ranks) -> bool
-        requires { (p : Held) → length (of_product products.now p).now ≡ length z.now }
+        requires { (p : SetProduct) → length (of_product products.now p).now ≡ length z.now }
         ensures lanes { IsTrue result → AreLanesOf self.new z.now (per_product (λ p. (of_product products.now p).now)) }
-        ensures ranked { IsTrue result → IfAsked ranks (HasRanks self.new) }
+        ensures ranked { IsTrue result → IfChecked ranks (HasRanks self.new) }
         ensures nothing { result ≡ false → cols self.new ≡ 0 }
     {
         let z_fits = take_elevations(z, &mut self.z);
@@ -106,7 +106,7 @@ impl Lanes {
         requires ordered { from ≤ end }
         requires inside { end ≤ cols self.now }
         requires fits { end - from < 2 ^ 32 }
-        ensures { result ≡ raised_count self.now from end }
+        ensures { result ≡ raised_lanes self.now from end }
     {
         let mut count = 0u32;
         for k in from..end {
@@ -118,12 +118,12 @@ impl Lanes {
 
 /// Takes ranks if they are checked, else none.
 fn take_ranks(z: &[u32], numbers: &[i64], ranks: Ranks, out: &mut Vec<u32>) -> bool
-    ensures len { IsTrue result → IfAsked ranks (vec_len out.new ≡ length numbers.now) }
+    ensures len { IsTrue result → IfChecked ranks (vec_len out.new ≡ length numbers.now) }
     ensures lanes { IsTrue result → vec_len out.new ≡ length numbers.now → AreLanes z.now numbers.now out.new.items (length numbers.now) }
 {
     match ranks {
-        Ranks::Asked => take_numbers(z, numbers, out),
-        Ranks::Unasked => {
+        Ranks::Checked => take_numbers(z, numbers, out),
+        Ranks::Ignored => {
             out.clear();
             true
         }

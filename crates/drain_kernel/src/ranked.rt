@@ -1,7 +1,7 @@
 //! The tests of ranks, at a column and along columns.
 
 ghost use Rattle.std.specs.Prelude.{◌≡◌, ◌≢◌, ◌≤◌, ◌<◌, ◌+◌, IsTrue, pos, vec_len};
-ghost use Rattle.drain_kernel.specs.Asked.{IfAsked};
+ghost use Rattle.drain_kernel.specs.Checked.{IfChecked};
 ghost use Rattle.drain_kernel.specs.Columns.{Along, HasRankAt, RanksPassAt, is_ranked_at};
 ghost use Rattle.drain_kernel.specs.Tests.{falls_or_nears};
 

@@ -13,8 +13,8 @@ pub struct Rules {
 /// known otherwise that runs end.
 #[derive(Clone, Copy, PartialEq, Eq, Debug)]
 pub enum Ranks {
-    Asked,
-    Unasked,
+    Checked,
+    Ignored,
 }
 
 /// Whether the rule of the accumulation is tried. It isn't where no accumulation is given.

@@ -1,7 +1,7 @@
 //! The tests along columns, each in a loop of its own without a branch.
 
 ghost use Rattle.std.specs.Prelude.{◌≤◌, ◌<◌, IsTrue, vec_len};
-ghost use Rattle.drain_kernel.specs.Columns.{is_inland_at, keeps_surface_at, keeps_direction_at, keeps_accumulation_at, adds_up_at, IsCompleteAt, Along};
+ghost use Rattle.drain_kernel.specs.Columns.{is_inland_at, keeps_surface_at, keeps_direction_at, keeps_accumulation_at, adds_up_at, IsCompleteColumn, Along};
 
 use crate::columns::{
     accumulation_holds, direction_holds, is_complete, is_inland, sum_holds, surface_holds,
@@ -99,7 +99,7 @@ pub fn all_sums(above: &Lanes, here: &Lanes, below: &Lanes, from: usize, end: us
 pub fn all_complete(here: &Lanes, nodata: &NoData, from: usize, end: usize) -> bool
     requires ordered { from ≤ end }
     requires here_len { end < vec_len here.now.z }
-    ensures { IsTrue result → Along from end (IsCompleteAt nodata.now here.now) }
+    ensures { IsTrue result → Along from end (IsCompleteColumn nodata.now here.now) }
 {
     let mut all = true;
     for k in from..end {

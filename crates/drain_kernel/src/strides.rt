@@ -1,7 +1,7 @@
 //! Columns along a row, one stride at a time.
 
 ghost use Rattle.std.specs.Prelude.{◌≡◌, ◌≤◌, ◌<◌, IsTrue, vec_len};
-ghost use Rattle.drain_kernel.specs.Asked.{IfAsked, IfTested};
+ghost use Rattle.drain_kernel.specs.Checked.{IfChecked, IfTested};
 ghost use Rattle.drain_kernel.specs.Columns.{Along, PassesAt, RanksPassAt, SumPassesAt};
 ghost use Rattle.drain_kernel.specs.Shown.{HaveRanks};
 
@@ -26,12 +26,12 @@ fn ranks_pass(
     requires above_len { end < vec_len above.now.z }
     requires here_len { end < vec_len here.now.z }
     requires below_len { end < vec_len below.now.z }
-    requires ranks { IfAsked rules.now.ranks (HaveRanks above.now here.now below.now) }
-    ensures { IsTrue result → Along from end (λ k. IfAsked rules.now.ranks (RanksPassAt rules.now.nodata above.now here.now below.now k)) }
+    requires ranks { IfChecked rules.now.ranks (HaveRanks above.now here.now below.now) }
+    ensures { IsTrue result → Along from end (λ k. IfChecked rules.now.ranks (RanksPassAt rules.now.nodata above.now here.now below.now k)) }
 {
     match rules.ranks {
-        Ranks::Unasked => true,
-        Ranks::Asked => {
+        Ranks::Ignored => true,
+        Ranks::Checked => {
             all_ranked(above, here, below, from, end)
                 && all_have_ranks(here, &rules.nodata, from, end)
         }
@@ -78,7 +78,7 @@ fn all_pass(
     requires above_len { end < vec_len above.now.z }
     requires here_len { end < vec_len here.now.z }
     requires below_len { end < vec_len below.now.z }
-    requires ranks { IfAsked rules.now.ranks (HaveRanks above.now here.now below.now) }
+    requires ranks { IfChecked rules.now.ranks (HaveRanks above.now here.now below.now) }
     ensures { IsTrue result → Along from end (PassesAt rules.now sums above.now here.now below.now) }
 {
     all_inland(above, here, below, from, end)
@@ -106,7 +106,7 @@ pub fn passed_strides(
     requires inside { end < vec_len here.now.z }
     requires above_len { vec_len above.now.z ≡ vec_len here.now.z }
     requires below_len { vec_len below.now.z ≡ vec_len here.now.z }
-    requires ranks { IfAsked rules.now.ranks (HaveRanks above.now here.now below.now) }
+    requires ranks { IfChecked rules.now.ranks (HaveRanks above.now here.now below.now) }
     ensures forward { from ≤ result }
     ensures within { result ≤ end }
     ensures passed { Along from result (PassesAt rules.now sums above.now here.now below.now) }

@@ -1,10 +1,10 @@
 -- The files of products of `make`: no refusal of them applies, and they are accepted.
 use Rattle.std.proofs.Common.{◌≡◌, ℕ, ◌<◌, ℤ, pos, get_or, slice_get, inl, inr, List, Option, Some, IsSome, Result, Ok, Err, unwrap_or, refl, sym, ap, subst, ◌∙◌, arith}
 use Rattle.drain_grid.specs.declared.cell.Cell.{Cell}
-use Rattle.drain_grid.specs.declared.held.Held.{Held}
-use Rattle.drain_grid.specs.declared.held.Held.TheVariants.{Con, Dir, Acc, Bas, Rnk}
+use Rattle.drain_grid.specs.declared.set_product.SetProduct.{SetProduct}
+use Rattle.drain_grid.specs.declared.set_product.SetProduct.TheVariants.{Con, Dir, Acc, Bas, Rnk}
 use Rattle.drain_grid.specs.declared.product.Product.TheVariants.{Spl}
-use Rattle.drain_grid.specs.Held.{product_of}
+use Rattle.drain_grid.specs.SetProduct.{product_of}
 use Rattle.drain_grid.specs.declared.product_set.ProductSet.{ProductSet}
 use Rattle.drain_grid.specs.declared.sink_line.SinkLine.{SinkLine}
 use Rattle.drain_grid.specs.SinkLines.{is_listed}
@@ -32,13 +32,13 @@ use Rattle.drain_rules.specs.Laws.{AreEqual, EqualGridsHaveOneVerdict}
 use Rattle.drain_answer.specs.declared.refusal.Refusal.{Refusal}
 use Rattle.drain_answer.specs.declared.refusal.Refusal.TheVariants.{BadSide, BadName, BoxTooLarge, BadHeader, WrongShape, Misplaced, RasterShort, BadSinkLine, SinkNotData, OutOfMemory, ReadFailed}
 use Rattle.drain_verdict.specs.Inputs.{Inputs}
-use Rattle.drain_verdict.specs.Meaning.{tiling_of, grid_of, listed_in, lines_in, fields_of, number_of, products_of, nodata_of, nodata_numbers}
+use Rattle.drain_verdict.specs.Meaning.{tiling_of, input_grid, listed_in, lines_in, fields_of, input_number, input_products, input_nodata, nodata_numbers}
 use Rattle.drain_verdict.specs.Refusals.{HasShape, IsPlaced}
 use Rattle.drain_maker.specs.Mosaics.{IsMosaicOf}
 use Rattle.drain_verdict.specs.Answers.{AreReadable, IsAnswer}
-use Rattle.drain_maker.specs.Headers.{header_of}
+use Rattle.drain_maker.specs.Headers.{made_header}
 use Rattle.drain_maker.specs.Made.{AreMade, AreOnData}
-use Rattle.drain_maker.specs.Accepted.{AreNamed, AreFilesOf, IsAcceptance, MadeIsAccepted}
+use Rattle.drain_maker.specs.Accepted.{AreNamed, AreFilesOf, IsMadeAcceptance, MadeIsAccepted}
 use Rattle.drain_grid.proofs.ByProduct.{none_of_held}
 use Rattle.drain_maker.proofs.Placing.{near_by_names, side_by_readable}
 use Rattle.drain_maker.proofs.HeaderBounds.{IsSmall, within_bounds, placed}
@@ -57,14 +57,14 @@ small i e named mosaic =
 
 -- each header is read back as what was to be written, and each raster as its numbers
 record AreReadBack (i : Inputs) (ps : ProductSet) : Type 0 where
-  described : (p : Held) → Describes (i.header p) (header_of (tiling_of i) (product_of p))
+  described : (p : SetProduct) → Describes (i.header p) (made_header (tiling_of i) (product_of p))
   small : IsSmall (tiling_of i)
-  back : (p : Held) → ReadBack (header_of (tiling_of i) (product_of p)) (raster_in ps p)
-  rasters_are : (p : Held) → i.raster p ≡ raster_bytes (header_of (tiling_of i) (product_of p)) (raster_in ps p)
-  shapes : (p : Held) → (raster_in ps p).extent ≡ tiling.extent_of (tiling_of i)
+  back : (p : SetProduct) → ReadBack (made_header (tiling_of i) (product_of p)) (raster_in ps p)
+  rasters_are : (p : SetProduct) → i.raster p ≡ raster_bytes (made_header (tiling_of i) (product_of p)) (raster_in ps p)
+  shapes : (p : SetProduct) → (raster_in ps p).extent ≡ tiling.extent_of (tiling_of i)
 
 -- all rasters have the shape of the first
-one_shape : (ps : ProductSet) (p : Held) → (raster_in ps p).extent ≡ ps.con.extent
+one_shape : (ps : ProductSet) (p : SetProduct) → (raster_in ps p).extent ≡ ps.con.extent
 one_shape ps Con = refl
 one_shape ps Dir = ps.dir_shape
 one_shape ps Acc = ps.acc_shape
@@ -75,19 +75,19 @@ read_back : (i : Inputs) (e : Heights) (sinks : List SinkLine) (ps : ProductSet)
     AreMade (tiling_of i) e sinks ps → AreFilesOf i ps → AreReadBack i ps
 read_back i e sinks ps text bytes named mosaic made files =
     let fits = small i e named mosaic in
-    let shape = λ (p : Held). one_shape ps p ∙ made.shape ∙ mosaic.extent_is in
+    let shape = λ (p : SetProduct). one_shape ps p ∙ made.shape ∙ mosaic.extent_is in
     record {
       described = λ p.
-          subst (λ (t : List ℕ). Describes t (header_of (tiling_of i) (product_of p))) (sym (files.headers_are p))
-          (text (header_of (tiling_of i) (product_of p)) (within_bounds (tiling_of i) (product_of p) fits));
+          subst (λ (t : List ℕ). Describes t (made_header (tiling_of i) (product_of p))) (sym (files.headers_are p))
+          (text (made_header (tiling_of i) (product_of p)) (within_bounds (tiling_of i) (product_of p) fits));
       small = fits;
-      back = λ p. bytes (header_of (tiling_of i) (product_of p)) (raster_in ps p) (within_bounds (tiling_of i) (product_of p) fits) (made.rasters p) (shape p) (made.written p);
+      back = λ p. bytes (made_header (tiling_of i) (product_of p)) (raster_in ps p) (within_bounds (tiling_of i) (product_of p) fits) (made.rasters p) (shape p) (made.written p);
       rasters_are = files.rasters_are;
       shapes = shape;
     }
 
 -- what a header says is what was to be written
-says : (i : Inputs) (ps : ProductSet) → AreReadBack i ps → (p : Held) → header_of (tiling_of i) (product_of p) ≡ fields_of i p
+says : (i : Inputs) (ps : ProductSet) → AreReadBack i ps → (p : SetProduct) → made_header (tiling_of i) (product_of p) ≡ fields_of i p
 says i ps read p = (read.described p).fields
 
 -- the lines that list a cell are those of the text
@@ -96,18 +96,18 @@ lines_are i sinks listed = ap lines_in listed
 
 -- no refusal of a header or a raster
 module _ (i : Inputs) (ps : ProductSet) (read : AreReadBack i ps) where
-  no_fault : (p : Held) (fault : HeaderFault) → ¬ Answers (i.header p) (Err fault)
+  no_fault : (p : SetProduct) (fault : HeaderFault) → ¬ Answers (i.header p) (Err fault)
   no_fault p fault stands = (read.described p).sound fault stands.holds
 
-  shaped : (p : Held) → ¬ ¬ HasShape i p
-  shaped p stands = stands (ap (λ (h : Fields). pixels.extent_of h) (sym (says i ps read p)))
+  shaped : (p : SetProduct) → ¬ ¬ HasShape i p
+  shaped p stands = stands (ap (λ (h : Fields). pixels.header_extent h) (sym (says i ps read p)))
 
-  placed_there : (p : Held) → ¬ ¬ IsPlaced (tiling_of i) (fields_of i p).place
+  placed_there : (p : SetProduct) → ¬ ¬ IsPlaced (tiling_of i) (fields_of i p).place
   placed_there p stands = stands (subst (λ (h : Fields). IsPlaced (tiling_of i) h.place) (says i ps read p) (placed (tiling_of i) read.small.side))
 
-  long : (p : Held) → ¬ pixels.IsShort (fields_of i p) (i.raster p)
+  long : (p : SetProduct) → ¬ pixels.IsShort (fields_of i p) (i.raster p)
   long p stands =
-      (read.back p).long (subst (λ (h : Fields). pixels.IsShort h (raster_bytes (header_of (tiling_of i) (product_of p)) (raster_in ps p))) (sym (says i ps read p))
+      (read.back p).long (subst (λ (h : Fields). pixels.IsShort h (raster_bytes (made_header (tiling_of i) (product_of p)) (raster_in ps p))) (sym (says i ps read p))
       (subst (λ (body : List ℕ). pixels.IsShort (fields_of i p) body) (read.rasters_are p) stands))
 
 -- no refusal applies
@@ -131,25 +131,25 @@ none_stands i e sinks ps mosaic listed on_data read (SinkNotData n) stands =
 none_stands i e sinks ps mosaic listed on_data read refusal stands = mosaic.readable refusal (tt, stands)
 
 -- the number of a raster that is read back is that of its bytes
-number_in_bytes : NumbersArePixels → (h : Fields) (p : Pixels) (c : Cell) → p.extent ≡ pixels.extent_of h → ReadBack h p →
-    IsCellOf (pixels.extent_of h) c → number_at p c ≡ pixels.pixel_at h (raster_bytes h p) c
+number_in_bytes : NumbersArePixels → (h : Fields) (p : Pixels) (c : Cell) → p.extent ≡ pixels.header_extent h → ReadBack h p →
+    IsCellOf (pixels.header_extent h) c → number_at p c ≡ pixels.pixel_at h (raster_bytes h p) c
 number_in_bytes numbers h p c shape back inside =
     ap (λ (e : Extent). get_or p.numbers (index_of e c) (pos 0)) shape
-    ∙ ap (λ (xs : List ℤ). get_or xs (index_of (pixels.extent_of h) c) (pos 0)) (sym back.numbers)
+    ∙ ap (λ (xs : List ℤ). get_or xs (index_of (pixels.header_extent h) c) (pos 0)) (sym back.numbers)
     ∙ numbers h p.nodata (raster_bytes h p) c inside
 
 -- so the number of a product at a cell is that of its file
-number_kept : (i : Inputs) (e : Heights) (ps : ProductSet) → NumbersArePixels → IsMosaicOf i (tiling_of i) e → AreReadBack i ps → (p : Held) (c : Cell) →
-    IsCellOf e.extent c → number_at (raster_in ps p) c ≡ number_of i p c
+number_kept : (i : Inputs) (e : Heights) (ps : ProductSet) → NumbersArePixels → IsMosaicOf i (tiling_of i) e → AreReadBack i ps → (p : SetProduct) (c : Cell) →
+    IsCellOf e.extent c → number_at (raster_in ps p) c ≡ input_number i p c
 number_kept i e ps numbers mosaic read p c inside =
-    number_in_bytes numbers (header_of (tiling_of i) (product_of p)) (raster_in ps p) c (read.shapes p) (read.back p)
+    number_in_bytes numbers (made_header (tiling_of i) (product_of p)) (raster_in ps p) c (read.shapes p) (read.back p)
     (subst (λ (x : Extent). IsCellOf x c) mosaic.extent_is inside)
-    ∙ ap (λ (h : Fields). pixels.pixel_at h (raster_bytes (header_of (tiling_of i) (product_of p)) (raster_in ps p)) c) (says i ps read p)
+    ∙ ap (λ (h : Fields). pixels.pixel_at h (raster_bytes (made_header (tiling_of i) (product_of p)) (raster_in ps p)) c) (says i ps read p)
     ∙ ap (λ (body : List ℕ). pixels.pixel_at (fields_of i p) body c) (sym (read.rasters_are p))
 
 -- the grid and the products are those of the files
 grids_equal : (i : Inputs) (e : Heights) (sinks : List SinkLine) (ps : ProductSet) → NumbersArePixels → IsMosaicOf i (tiling_of i) e → sinks_of i.sinks ≡ Ok sinks → AreReadBack i ps →
-    AreEqual (whole.grid_of e sinks) (grid_of i) (whole.products_of ps) (products_of i)
+    AreEqual (whole.grid_of e sinks) (input_grid i) (whole.products_of ps) (input_products i)
 grids_equal i e sinks ps numbers mosaic listed read = record {
   extent = mosaic.extent_is;
   values = λ c inside. λ k. record {
@@ -165,7 +165,7 @@ grids_equal i e sinks ps numbers mosaic listed read = record {
 }
 
 -- the no-data numbers are the defaults
-default_said : (i : Inputs) (ps : ProductSet) → AreReadBack i ps → (p : Held) → default_no_data (product_of p) ≡ nodata_of i p
+default_said : (i : Inputs) (ps : ProductSet) → AreReadBack i ps → (p : SetProduct) → default_no_data (product_of p) ≡ input_nodata i p
 default_said i ps read p = ap (λ (h : Fields). unwrap_or h.nodata (default_no_data (product_of p))) (says i ps read p)
 
 defaults_said : (i : Inputs) (ps : ProductSet) → AreReadBack i ps → default_numbers ≡ nodata_numbers i
@@ -181,17 +181,17 @@ defaults_said i ps read = λ k. record {
 -- so the verdict on what was made, an acceptance with its counts, is that on the files
 verdict_kept : (i : Inputs) (e : Heights) (sinks : List SinkLine) (ps : ProductSet) → NumbersArePixels → EqualGridsHaveOneVerdict → IsMosaicOf i (tiling_of i) e → sinks_of i.sinks ≡ Ok sinks →
     AreMade (tiling_of i) e sinks ps → AreReadBack i ps →
-    IsVerdict (grid_of i) (products_of i) (nodata_numbers i) (Accepted (counts_of (whole.grid_of e sinks) (whole.products_of ps)))
+    IsVerdict (input_grid i) (input_products i) (nodata_numbers i) (Accepted (counts_of (whole.grid_of e sinks) (whole.products_of ps)))
 verdict_kept i e sinks ps numbers one_verdict mosaic listed made read =
     let accepted : Verdict = Accepted (counts_of (whole.grid_of e sinks) (whole.products_of ps)) in
-    subst (λ (n : NoDataNumbers). IsVerdict (grid_of i) (products_of i) n accepted) (defaults_said i ps read)
-    (one_verdict (whole.grid_of e sinks) (grid_of i) (whole.products_of ps) (products_of i) default_numbers
+    subst (λ (n : NoDataNumbers). IsVerdict (input_grid i) (input_products i) n accepted) (defaults_said i ps read)
+    (one_verdict (whole.grid_of e sinks) (input_grid i) (whole.products_of ps) (input_products i) default_numbers
     (grids_equal i e sinks ps numbers mosaic listed read) accepted (made.rules, refl))
 
 -- and the answer is an acceptance
 answer_is : (i : Inputs) (e : Heights) (sinks : List SinkLine) (ps : ProductSet) → NumbersArePixels → EqualGridsHaveOneVerdict → IsMosaicOf i (tiling_of i) e → sinks_of i.sinks ≡ Ok sinks →
     AreMade (tiling_of i) e sinks ps → AreReadBack i ps →
-    (answer : Result Verdict Refusal) → IsAnswer i answer → IsAcceptance (whole.grid_of e sinks) (whole.products_of ps) answer
+    (answer : Result Verdict Refusal) → IsAnswer i answer → IsMadeAcceptance (whole.grid_of e sinks) (whole.products_of ps) answer
 answer_is i e sinks ps numbers one_verdict mosaic listed made read (Ok (Accepted counts)) is =
     is.1.1 ∙ sym (verdict_kept i e sinks ps numbers one_verdict mosaic listed made read).1
 answer_is i e sinks ps numbers one_verdict mosaic listed made read (Ok (Rejected rule row col)) is =

@@ -21,6 +21,7 @@ use Rattle.drain_maker.specs.declared.product_files.SetFault.TheVariants.{WriteF
 use Rattle.drain_maker.specs.declared.product_files.SetFile.{SetFile}
 use Rattle.drain_maker.specs.declared.product_files.TheConstants.{FILE_COUNT, SET_FILES}
 use Rattle.drain_maker.specs.ProductFiles.{WritesFile, WritesFiles, file_bytes, set_bytes}
+use Rattle.drain_maker.proofs.ListPlaces.{get-seam, set-seam}
 
 -- no byte was taken
 appends-nothing : (taken : Option (List ℕ)) → Appends taken taken []
@@ -105,14 +106,6 @@ wrote-then sink [] [] us vs (t ∷ texts) more r first then = absurd first
 wrote-then sink (o ∷ olds) (n ∷ news) us vs [] more r first then = absurd first
 
 -- the k-th of a list after k others
-set-seam : {A : Type 0} (xs : List A) (y v : A) (ys : List A) → slice_set (xs ++ y ∷ ys) (length xs) v ≡ xs ++ v ∷ ys
-set-seam [] y v ys = refl
-set-seam (x ∷ xs) y v ys = ap (λ l. x ∷ l) (set-seam xs y v ys)
-
-get-seam : {A : Type 0} (xs : List A) (y d : A) (ys : List A) → slice_index_or (xs ++ y ∷ ys) (length xs) d ≡ y
-get-seam [] y d ys = refl
-get-seam (x ∷ xs) y d ys = get-seam xs y d ys
-
 seam : {A : Type 0} (now news rest : List A) (k : ℕ) (d : A) → now ≡ news ++ rest → k ≡ length news → k < length now →
     (more : List A) × (rest ≡ slice_index_or now k d ∷ more) × ((v : A) → slice_set now k v ≡ news ++ v ∷ more)
 seam now news [] k d is place below =

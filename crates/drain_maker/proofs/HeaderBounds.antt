@@ -11,7 +11,7 @@ use Rattle.drain_grid.specs.Values.{IsNoData}
 use Rattle.drain_header.specs.Fields.{IsPixelSize, IsCoordinate, AreWithinBounds}
 use Rattle.drain_mosaic.specs.Tiling.{Tiling, west_of, north_of, west_edge, north_edge, tiles_down, tiles_across}
 use Rattle.drain_verdict.specs.Refusals.{IsPlaced}
-use Rattle.drain_maker.specs.Headers.{bits_of, header_of, mosaic_place}
+use Rattle.drain_maker.specs.Headers.{bits_of, made_header, mosaic_place}
 use Rattle.drain_maker.proofs.Placing.{IsNear, spacing, no_way}
 
 -- a tiling of at most 8 by 8 tiles of a lawful side, whose edges are degrees
@@ -68,7 +68,7 @@ degrees_ok (negsuc n) near = record { low = omega (arith, ints); high = omega (a
 spacing_ok : (n : ℕ) → 1 ≤ n → IsCoordinate (pos (UNITS_PER_DEGREE / n))
 spacing_ok n some = record { low = omega (arith, ints); high = omega (arith, ints) }
 
-pub within_bounds : (t : Tiling) (p : Product) → IsSmall t → AreWithinBounds (header_of t p)
+pub within_bounds : (t : Tiling) (p : Product) → IsSmall t → AreWithinBounds (made_header t p)
 within_bounds t p small =
     let side : IsSide t.side = small.side in
     let wide : tiles_across t * (t.side - 1) + 1 ≤ 28801 = length_fits (tiles_across t) t.side small.across side.most in

@@ -11,4 +11,5 @@ pub mod FirstValues
 pub mod MosaicAnswers
 pub mod OneTile
 pub mod SeamAnswers
+pub mod ListPlaces
 pub mod TileLists

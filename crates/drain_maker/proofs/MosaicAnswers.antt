@@ -18,7 +18,7 @@ use Rattle.drain_mosaic.specs.Laws.{AgreementGivesElevation}
 use Rattle.drain_answer.specs.declared.refusal.Refusal.{Refusal}
 use Rattle.drain_answer.specs.declared.refusal.Refusal.TheVariants.{BadSide, BadName, NoTiles, RepeatedTile, BoxTooLarge, BadTileLength, SeamMismatch, OutOfMemory, ReadFailed}
 use Rattle.drain_verdict.specs.Inputs.{Inputs}
-use Rattle.drain_verdict.specs.Meaning.{tiling_of, tiles_of}
+use Rattle.drain_verdict.specs.Meaning.{tiling_of, input_tiles}
 use Rattle.drain_verdict.specs.Refusals.{Stands, NoneStandsBefore, refusal_order, place_among}
 use Rattle.drain_verdict.specs.Answers.{IsRefusal}
 use Rattle.drain_verdict.specs.Stages.{IsLayoutOf, IsLayoutRefusal}
@@ -52,7 +52,7 @@ past_tiles i all none =
     (none_more i (StandsOfTiles i) 5 none (at_tile i (λ b. ¬ StandsOfTiles i b) (λ c stands. none_of_another_length i all c stands.1)))
     (at_raster i (λ b. ¬ StandsOfTiles i b) (λ b no stands. no stands.1) (λ p stands. stands.0))
 
-past_seams : (i : Inputs) → mosaic.TilesAgree (tiling_of i) (tiles_of i) → NoneOfTilesBefore i 7 → (refusal : Refusal) → ¬ StandsOfTiles i refusal
+past_seams : (i : Inputs) → mosaic.TilesAgree (tiling_of i) (input_tiles i) → NoneOfTilesBefore i 7 → (refusal : Refusal) → ¬ StandsOfTiles i refusal
 past_seams i agree none =
     let seams : NoneOfTilesBefore i 8 = none_more i (StandsOfTiles i) 7 none (at_seam i (λ b. ¬ StandsOfTiles i b) (λ c stands. none_of_two_values i agree c stands.1)) in
     let lines : NoneOfTilesBefore i 9 = none_more i (StandsOfTiles i) 8 seams (at_bad_line i (λ b. ¬ StandsOfTiles i b) (λ n stands. stands.0)) in
@@ -127,7 +127,7 @@ mosaic_told law i t samples e is those joined none =
       tiling_is = is;
       extent_is = joined.shape;
       elevation_is = λ c inside.
-          elevation_is_first_value (tiling_of i) (tiles_of i) e law agree
+          elevation_is_first_value (tiling_of i) (input_tiles i) e law agree
           (of_inputs (λ u tiles. mosaic.IsElevation u tiles (elevation_at e)) i t samples is those.samples_are joined.values) c
           (subst (λ (x : Extent). IsCellOf x c) extent inside);
     }

@@ -7,7 +7,7 @@ use Rattle.std.proofs.lemmas.List.Elements.{All-nil, All-cons, All-head, All-tai
 use Rattle.std.proofs.Math.Decide.{dec_lt}
 use Rattle.drain_grid.specs.Tile.{IsSide}
 use Rattle.drain_hgt.specs.Corner.{Corner, IsWithin, IsOnMap}
-use Rattle.drain_hgt.specs.Name.{Names}
+use Rattle.drain_hgt.specs.Name.{IsNameOf}
 use Rattle.drain_mosaic.specs.Tiling.{Tiling, least, greatest, west_of, north_of}
 use Rattle.drain_verdict.specs.Inputs.{AreNames}
 use Rattle.drain_verdict.specs.Refusals.{IsBadName}
@@ -38,7 +38,7 @@ greatest_within limit m (x ∷ xs) start each =
     (All-tail (IsWithin limit) x xs each)
 
 -- each tile that is named is on the map
-all_on_map : (names : List (List ℕ)) (corners : List Corner) → AllZip Names names corners → All IsOnMap corners
+all_on_map : (names : List (List ℕ)) (corners : List Corner) → AllZip IsNameOf names corners → All IsOnMap corners
 all_on_map [] [] named = All-nil IsOnMap
 all_on_map [] (c ∷ corners) named = absurd named
 all_on_map (name ∷ names) [] named = absurd named
@@ -79,7 +79,7 @@ near_past limit (pos n) h = omega (arith, ints, h.high)
 near_past limit (negsuc zero) h = omega (arith, ints, h.low)
 near_past limit (negsuc (suc n)) h = omega (arith, ints, h.low)
 
-is_near : (side : ℕ) (names : List (List ℕ)) (corners : List Corner) → AllZip Names names corners → IsNear (record { side = side; corners = corners })
+is_near : (side : ℕ) (names : List (List ℕ)) (corners : List Corner) → AllZip IsNameOf names corners → IsNear (record { side = side; corners = corners })
 is_near side names corners named =
     let each = all_on_map names corners named in
     record {
@@ -89,14 +89,14 @@ is_near side names corners named =
 
 -- where no name is bad, it is not so that not each is the name of a tile
 none_bad : (names : List (List ℕ)) → ((k : ℕ) → ¬ IsBadName names k) → ¬ ¬ AreNames names
-none_bad [] none not_named = not_named (All-nil (λ name. (c : Corner) × Names name c))
+none_bad [] none not_named = not_named (All-nil (λ name. (c : Corner) × IsNameOf name c))
 none_bad (name ∷ names) none not_named =
     none 0 (record {
       name = name;
       is_there = refl;
       names_none = λ c named.
           none_bad names (λ k bad. none (suc k) (record { name = bad.name; is_there = bad.is_there; names_none = bad.names_none }))
-          (λ rest. not_named (All-cons (λ name. (c : Corner) × Names name c) name names (c, named) rest));
+          (λ rest. not_named (All-cons (λ name. (c : Corner) × IsNameOf name c) name names (c, named) rest));
     })
 
 -- what can't fail to be at most so much is at most so much
@@ -105,7 +105,7 @@ stays a b holds = elim (dec_lt b a) [ yes more ↦ absurd (holds (λ less. omega
 
 -- so the edges are degrees
 pub near_by_names : (side : ℕ) (names : List (List ℕ)) (corners : List Corner) → ((k : ℕ) → ¬ IsBadName names k) →
-    (AreNames names → AllZip Names names corners) → IsNear (record { side = side; corners = corners })
+    (AreNames names → AllZip IsNameOf names corners) → IsNear (record { side = side; corners = corners })
 near_by_names side names corners none named = record {
   west = stays _ 180 (λ far. none_bad names none (λ each. far (is_near side names corners (named each)).west));
   north = stays _ 90 (λ far. none_bad names none (λ each. far (is_near side names corners (named each)).north));

@@ -7,7 +7,7 @@ use Rattle.std.proofs.Common.{◌≡◌, ◌≢◌, ◌∙◌, ℕ, zero, suc, �
 use Rattle.std.proofs.lemmas.Bool.{false_from_ne_true, eqb-true}
 use Rattle.std.proofs.lemmas.List.{get_or-map}
 use Rattle.drain_grid.specs.declared.cell.Cell.{Cell}
-use Rattle.drain_grid.specs.declared.held.Held.TheVariants.{Con, Dir, Acc, Bas, Rnk}
+use Rattle.drain_grid.specs.declared.set_product.SetProduct.TheVariants.{Con, Dir, Acc, Bas, Rnk}
 use Rattle.drain_grid.specs.declared.rule.Rule.{Rule}
 use Rattle.drain_grid.specs.declared.rule.Rule.TheVariants.{VoidCell, Missing, BadCode, BelowGround, OpenRaised, NoSpill, SpillHeight, SpillRank, NotLeast, Slope, OutletCode, FlatStep, Accumulation, Label, SharedLabel}
 use Rattle.drain_grid.specs.Correct.{IsCorrect, RunsAreSound, GoesSteepest}
@@ -24,8 +24,8 @@ use Rattle.drain_grid.proofs.FromCorrect.{unranked_from_correct}
 use Rattle.drain_grid.proofs.PatchDecisions.{has_lower}
 use Rattle.drain_grid.proofs.Runs.{runs_end, index_of-below}
 use Rattle.drain_grid.proofs.Slopes.{steepest_cell, HasLower-lower_cell}
-use Rattle.drain_runs.specs.declared.flow.Flow.TheVariants.{Void}
-use Rattle.drain_runs.specs.Flows.{cell_flow, code_flow, AreFlowsOf}
+use Rattle.drain_paths.specs.declared.flow.Flow.TheVariants.{Void}
+use Rattle.drain_paths.specs.Flows.{cell_flow, code_flow, AreFlowsOf}
 use Rattle.drain_surface.specs.declared.codes.TheConstants as surface_codes
 use Rattle.drain_surface.specs.declared.level_queue.TheConstants.{MAX_CELLS}
 use Rattle.drain_surface.specs.Flats.{Laying, AreWaysOnFlats, ShowsWays}

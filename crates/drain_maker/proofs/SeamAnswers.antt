@@ -8,12 +8,12 @@ use Rattle.drain_mosaic.specs.Tiling.{Tiling}
 use Rattle.drain_mosaic.specs.Mosaic as mosaic
 use Rattle.drain_answer.specs.declared.refusal.Refusal.{Refusal}
 use Rattle.drain_verdict.specs.Inputs.{Inputs}
-use Rattle.drain_verdict.specs.Meaning.{tiling_of, tiles_of}
+use Rattle.drain_verdict.specs.Meaning.{tiling_of, input_tiles}
 use Rattle.drain_maker.specs.TileStages.{IsSeamFaultAs, IsSeamRefusal}
 
 -- what holds of the tiling and its tiles holds of the inputs
 pub of_inputs : (P : Tiling → List mosaic.Tile → Type 0) (i : Inputs) (t : Tiling) (samples : List (List ℤ)) → t ≡ tiling_of i → samples ≡ map samples_of i.tiles →
-    P t (mosaic.tiles_of t.corners samples) → P (tiling_of i) (tiles_of i)
+    P t (mosaic.tiles_of t.corners samples) → P (tiling_of i) (input_tiles i)
 of_inputs P i t samples tiling_is samples_are holds =
     subst (λ (s : List (List ℤ)). P (tiling_of i) (mosaic.tiles_of i.corners s)) samples_are
     (subst (λ (u : Tiling). P u (mosaic.tiles_of u.corners samples)) tiling_is holds)

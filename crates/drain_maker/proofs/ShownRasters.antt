@@ -9,13 +9,13 @@ use Rattle.drain_grid.specs.Rasters.{Heights, Pixels}
 use Rattle.drain_grid.specs.Size.{Extent}
 use Rattle.drain_grid.specs.Whole.{number_at}
 use Rattle.drain_grid.specs.WholeGrid.{grid_of}
-use Rattle.drain_runs.specs.declared.flow.Flow.{Flow}
-use Rattle.drain_runs.specs.Flows.{AreFlowsOf}
+use Rattle.drain_paths.specs.declared.flow.Flow.{Flow}
+use Rattle.drain_paths.specs.Flows.{AreFlowsOf}
 use Rattle.drain_surface.specs.declared.level_queue.TheConstants.{MAX_CELLS}
 use Rattle.drain_counts.specs.CodeFlows.{bytes_flows}
 use Rattle.drain_counts.specs.OfFlows.{OfFlows}
 use Rattle.drain_maker.specs.Counting.{AreCountsAndLabels, SomeRunsEnd}
-use Rattle.drain_maker.specs.RoutedProducts.{shown, AreRight}
+use Rattle.drain_maker.specs.RoutedProducts.{shown, AreRightProducts}
 use Rattle.drain_maker.specs.Routes.{AreRoutes}
 use Rattle.drain_maker.proofs.RoutedProducts.{routes_end, routes_keep_rules}
 
@@ -54,7 +54,7 @@ abbrev pub RastersAreRight : Heights → List SinkLine → Extent → Type 0
 RastersAreRight h sinks e = (con : List ℤ) (rnk dirs counts labels : List ℕ) (flows : List Flow) (rc rd ra rb rr : Pixels) → e.rows * e.cols ≤ MAX_CELLS →
     AreRoutes (grid_of h sinks) con rnk dirs → flows ≡ bytes_flows dirs → OfFlows e flows (λ g ps. AreCountsAndLabels g ps e counts labels) →
     rc ≡ heights e Con con → rd ≡ numbers e Dir dirs → ra ≡ numbers e Acc counts → rb ≡ numbers e Bas labels → rr ≡ numbers e Rnk rnk →
-    AreRight h sinks (showing rc rd ra rb rr)
+    AreRightProducts h sinks (showing rc rd ra rb rr)
 
 pub right : (h : Heights) (sinks : List SinkLine) (e : Extent) → e ≡ h.extent → RastersAreRight h sinks e
 right h sinks e same = subst (RastersAreRight h sinks) (sym same) at_grid
@@ -71,4 +71,4 @@ right h sinks e same = subst (RastersAreRight h sinks) (sym same) at_grid
         let shows : showing rc rd ra rb rr ≡ ps =
         showing_same rc rd ra rb rr (con_is ∙ ap (heights h.extent Con) routes.con_is) (dir_is ∙ ap (numbers h.extent Dir) routes.dir_is) acc_is bas_is
         (rnk_is ∙ ap (numbers h.extent Rnk) routes.rnk_is) in
-        subst (AreRight h sinks) (sym shows) (record { rules = made.2; correct = made.0; runs = made.1 })
+        subst (AreRightProducts h sinks) (sym shows) (record { rules = made.2; correct = made.0; runs = made.1 })

@@ -20,6 +20,7 @@ use Rattle.drain_device.specs.FaultLists.{SomeReadFails}
 use Rattle.drain_verdict.specs.Stages.{IsTileRefusal}
 use Rattle.drain_maker.specs.TileStages.{AreSamplesOf, IsOneTileRefusal}
 use Rattle.drain_device.proofs.FaultLists.{SomeReadFails-none, SomeReadFails-one, SomeReadFails-then, takes-none}
+use Rattle.drain_maker.proofs.ListPlaces.{get-seam, set-seam, slice_get-seam}
 
 -- a relation of two lists, place by place, holds of the parts, and of parts together
 AllZip-then : {A B : Type 0} (P : A → B → Type 0) (xs us : List A) (ys vs : List B) → AllZip P xs ys → AllZip P us vs → AllZip P (xs ++ us) (ys ++ vs)
@@ -53,18 +54,6 @@ AllZip-length P [] [] both = refl
 AllZip-length P [] (y ∷ ys) both = absurd both
 AllZip-length P (x ∷ xs) [] both = absurd both
 AllZip-length P (x ∷ xs) (y ∷ ys) both = omega (arith, AllZip-length P xs ys both.1)
-
-slice_get-seam : {A : Type 0} (xs : List A) (y : A) (ys : List A) → slice_get (xs ++ y ∷ ys) (length xs) ≡ Some y
-slice_get-seam [] y ys = refl
-slice_get-seam (x ∷ xs) y ys = slice_get-seam xs y ys
-
-set-seam : {A : Type 0} (xs : List A) (y v : A) (ys : List A) → slice_set (xs ++ y ∷ ys) (length xs) v ≡ xs ++ v ∷ ys
-set-seam [] y v ys = refl
-set-seam (x ∷ xs) y v ys = ap (λ l. x ∷ l) (set-seam xs y v ys)
-
-get-seam : {A : Type 0} (xs : List A) (y d : A) (ys : List A) → slice_index_or (xs ++ y ∷ ys) (length xs) d ≡ y
-get-seam [] y d ys = refl
-get-seam (x ∷ xs) y d ys = get-seam xs y d ys
 
 -- one tile's part: its device's faults, how far it was read, and its name
 pub record IsRead {R : Type 0} (bytes_left : R → Option (List ℕ)) (counts : R → FaultCounts) (side : ℕ) (old new : TileInput R) (Fails : Type 0) : Type 0 where

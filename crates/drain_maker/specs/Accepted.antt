@@ -1,15 +1,15 @@
 -- Products made for a mosaic are accepted: what the files are, and the answer to them.
 use Rattle.std.specs.Prelude.{◌≡◌, List, Result, Ok, Err}
 use Rattle.std.specs.List.{AllZip}
-use Rattle.drain_grid.specs.declared.held.Held.{Held}
-use Rattle.drain_grid.specs.Held.{product_of}
+use Rattle.drain_grid.specs.declared.set_product.SetProduct.{SetProduct}
+use Rattle.drain_grid.specs.SetProduct.{product_of}
 use Rattle.drain_grid.specs.declared.product_set.ProductSet.{ProductSet}
 use Rattle.drain_grid.specs.declared.sink_line.SinkLine.{SinkLine}
 use Rattle.drain_grid.specs.SinkTexts.{sinks_of}
 use Rattle.drain_grid.specs.Grid.{Grid, Products}
 use Rattle.drain_grid.specs.Rasters.{Heights}
 use Rattle.drain_grid.specs.WholeGrid.{grid_of, products_of, raster_in}
-use Rattle.drain_hgt.specs.Name.{Names}
+use Rattle.drain_hgt.specs.Name.{IsNameOf}
 use Rattle.drain_header.specs.Text.{text_of}
 use Rattle.drain_raster.specs.Bytes.{raster_bytes}
 use Rattle.drain_rules.specs.declared.verdict.Verdict.{Verdict}
@@ -21,29 +21,29 @@ use Rattle.drain_verdict.specs.Inputs.{Inputs, AreNames}
 use Rattle.drain_verdict.specs.Meaning.{tiling_of}
 use Rattle.drain_maker.specs.Mosaics.{IsMosaicOf}
 use Rattle.drain_verdict.specs.Answers.{IsAnswer}
-use Rattle.drain_maker.specs.Headers.{header_of}
+use Rattle.drain_maker.specs.Headers.{made_header}
 use Rattle.drain_maker.specs.Made.{AreMade}
 
 -- if each name names a tile, the corners are those of the named tiles
 abbrev pub AreNamed : Inputs → Type 0
-AreNamed i = AreNames i.names → AllZip Names i.names i.corners
+AreNamed i = AreNames i.names → AllZip IsNameOf i.names i.corners
 
 -- the products of these inputs are the files of these rasters: the text of each product's header, and the bytes of its raster
 pub record AreFilesOf (i : Inputs) (ps : ProductSet) : Type 0 where
-  pub headers_are : (p : Held) → i.header p ≡ text_of (header_of (tiling_of i) (product_of p))
-  pub rasters_are : (p : Held) → i.raster p ≡ raster_bytes (header_of (tiling_of i) (product_of p)) (raster_in ps p)
+  pub headers_are : (p : SetProduct) → i.header p ≡ text_of (made_header (tiling_of i) (product_of p))
+  pub rasters_are : (p : SetProduct) → i.raster p ≡ raster_bytes (made_header (tiling_of i) (product_of p)) (raster_in ps p)
 
 -- accepted with the counts of these products, unless memory runs out or a read fails
-abbrev pub IsAcceptance : Grid → Products → Result Verdict Refusal → Type 0
-IsAcceptance g ps (Ok (Accepted counts)) = counts ≡ counts_of g ps
-IsAcceptance g ps (Ok (Rejected rule row col)) = ⊥
-IsAcceptance g ps (Err OutOfMemory) = Unit {0}
-IsAcceptance g ps (Err ReadFailed) = Unit {0}
-IsAcceptance g ps (Err refusal) = ⊥
+abbrev pub IsMadeAcceptance : Grid → Products → Result Verdict Refusal → Type 0
+IsMadeAcceptance g ps (Ok (Accepted counts)) = counts ≡ counts_of g ps
+IsMadeAcceptance g ps (Ok (Rejected rule row col)) = ⊥
+IsMadeAcceptance g ps (Err OutOfMemory) = Unit {0}
+IsMadeAcceptance g ps (Err ReadFailed) = Unit {0}
+IsMadeAcceptance g ps (Err refusal) = ⊥
 
 -- products made for a mosaic and listed sinks are accepted with its tiles and that list
 abbrev pub MadeIsAccepted : Type 0
 MadeIsAccepted =
     (i : Inputs) (e : Heights) (sinks : List SinkLine) (ps : ProductSet) → AreNamed i → IsMosaicOf i (tiling_of i) e → sinks_of i.sinks ≡ Ok sinks →
     AreMade (tiling_of i) e sinks ps → AreFilesOf i ps →
-    (answer : Result Verdict Refusal) → IsAnswer i answer → IsAcceptance (grid_of e sinks) (products_of ps) answer
+    (answer : Result Verdict Refusal) → IsAnswer i answer → IsMadeAcceptance (grid_of e sinks) (products_of ps) answer

@@ -2,10 +2,10 @@
 use Rattle.std.specs.Prelude.{ℕ, List}
 use Rattle.drain_grid.specs.Grid.{Grid, Products}
 use Rattle.drain_grid.specs.Size.{Extent}
-use Rattle.drain_runs.specs.declared.flow.Flow.{Flow}
-use Rattle.drain_runs.specs.Flows.{AreFlowsOf}
+use Rattle.drain_paths.specs.declared.flow.Flow.{Flow}
+use Rattle.drain_paths.specs.Flows.{AreFlowsOf}
 use Rattle.drain_counts.specs.Basins.{AreBasinLabels}
-use Rattle.drain_counts.specs.OfFlows.{AllRunsEnd}
+use Rattle.drain_counts.specs.OfFlows.{AllFlowsEnd}
 use Rattle.drain_counts.specs.Upstream.{AreUpstreamCounts}
 
 -- both are right
@@ -15,4 +15,4 @@ pub record AreCountsAndLabels (g : Grid) (ps : Products) (e : Extent) (counts la
 
 -- the flows are those of some grid and products whose runs all end
 abbrev pub SomeRunsEnd : Extent → List Flow → Type 0
-SomeRunsEnd e flows = (g : Grid) × (ps : Products) × AreFlowsOf g ps e flows × AllRunsEnd g ps
+SomeRunsEnd e flows = (g : Grid) × (ps : Products) × AreFlowsOf g ps e flows × AllFlowsEnd g ps

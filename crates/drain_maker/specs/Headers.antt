@@ -33,8 +33,8 @@ mosaic_place t = record {
 }
 
 -- the header of a product: the least significant byte first, nothing to skip, rows without padding
-abbrev pub header_of : Tiling → Product → Fields
-header_of t p = record {
+abbrev pub made_header : Tiling → Product → Fields
+made_header t p = record {
   rows = (extent_of t).rows;
   cols = (extent_of t).cols;
   bits = bits_of p;

@@ -1,7 +1,7 @@
 -- The products of `make`: of the mosaic's shape, right by every rule, and fit to be written.
 use Rattle.std.specs.Prelude.{◌≡◌, ℕ, List, Result, Ok, Err}
-use Rattle.drain_grid.specs.declared.held.Held.{Held}
-use Rattle.drain_grid.specs.Held.{product_of}
+use Rattle.drain_grid.specs.declared.set_product.SetProduct.{SetProduct}
+use Rattle.drain_grid.specs.SetProduct.{product_of}
 use Rattle.drain_grid.specs.declared.product_set.ProductSet.{ProductSet}
 use Rattle.drain_grid.specs.declared.sink_line.SinkLine.{SinkLine}
 use Rattle.drain_grid.specs.OffData.{IsFirstOffData, IsOffData}
@@ -15,7 +15,7 @@ use Rattle.drain_raster.specs.Bytes.{CanSpellAll, CanSpellAllIn}
 use Rattle.drain_mosaic.specs.Tiling.{Tiling}
 use Rattle.drain_maker.specs.declared.maker.MakeRefusal.{MakeRefusal}
 use Rattle.drain_maker.specs.declared.maker.MakeRefusal.TheVariants.{MakerFault, OutOfMemory, SinkNotData}
-use Rattle.drain_maker.specs.Headers.{header_of, bits_of, is_signed}
+use Rattle.drain_maker.specs.Headers.{made_header, bits_of, is_signed}
 
 -- all rules of a check hold at every cell, with the default no-data numbers
 abbrev pub KeepsEveryRule : Heights → List SinkLine → ProductSet → Type 0
@@ -23,15 +23,15 @@ KeepsEveryRule e sinks ps = RulesHold (check_rules default_numbers) IsAnyRule (g
 
 -- the pixels of each product's header can encode each of its numbers
 abbrev pub CanBeWritten : Tiling → ProductSet → Type 0
-CanBeWritten t ps = (p : Held) → CanSpellAll (header_of t (product_of p)) (raster_in ps p)
+CanBeWritten t ps = (p : SetProduct) → CanSpellAll (made_header t (product_of p)) (raster_in ps p)
 
 -- the same of the pixels that the product has in every mosaic
-abbrev pub AreSpelled : ProductSet → Type 0
-AreSpelled ps = (p : Held) → CanSpellAllIn (is_signed (product_of p)) (bits_of (product_of p)) (raster_in ps p)
+abbrev pub AreMadeSpelled : ProductSet → Type 0
+AreMadeSpelled ps = (p : SetProduct) → CanSpellAllIn (is_signed (product_of p)) (bits_of (product_of p)) (raster_in ps p)
 
 -- each raster has a number for each cell, and numbers that some pixel encodes
 abbrev pub AreRasters : ProductSet → Type 0
-AreRasters ps = (p : Held) → ArePixels (raster_in ps p)
+AreRasters ps = (p : SetProduct) → ArePixels (raster_in ps p)
 
 -- each listed cell has data
 abbrev pub AreOnData : Heights → List SinkLine → Type 0

@@ -7,20 +7,20 @@ use Rattle.drain_text.specs.First.{IsFirst}
 use Rattle.drain_grid.specs.Rasters.{Heights}
 use Rattle.drain_grid.specs.Whole.{elevation_at}
 use Rattle.drain_hgt.specs.declared.input.TileInput.{TileInput}
-use Rattle.drain_hgt.specs.Name.{Names}
+use Rattle.drain_hgt.specs.Name.{IsNameOf}
 use Rattle.drain_hgt.specs.Inputs.{names_of}
 use Rattle.drain_mosaic.specs.Tiling.{Tiling, extent_of}
 use Rattle.drain_answer.specs.declared.refusal.Refusal.{Refusal}
 use Rattle.drain_answer.specs.declared.refusal.Refusal.TheVariants.{BadHeader, WrongShape, Misplaced, RasterShort, BadSinkLine, SinkNotData, OutOfMemory, ReadFailed}
 use Rattle.drain_verdict.specs.Inputs.{Inputs, AreNames}
-use Rattle.drain_verdict.specs.Meaning.{tiling_of, grid_of}
+use Rattle.drain_verdict.specs.Meaning.{tiling_of, input_grid}
 use Rattle.drain_verdict.specs.Refusals.{Stands, refusal_order}
 
 -- the arguments encode the tiles of these inputs, where the bytes of devices are known
 pub record TellTiles {R : Type 0} (bytes_left : R → Option (List ℕ)) (side : ℕ) (tiles : List (TileInput R)) (i : Inputs) : Type 0 where
   pub side_is : i.side ≡ side
   pub names_are : i.names ≡ names_of tiles
-  pub corners_are : AreNames i.names → AllZip Names i.names i.corners
+  pub corners_are : AreNames i.names → AllZip IsNameOf i.names i.corners
   pub tiles_are : AllZip (λ t body. bytes_left t.body ≡ Some body) tiles i.tiles
 
 -- the refusal is about side, names or tiles, and not about a product or a list of sinks
@@ -42,7 +42,7 @@ pub record IsMosaicOf (i : Inputs) (t : Tiling) (e : Heights) : Type 0 where
   pub readable : (refusal : Refusal) → ¬ StandsOfTiles i refusal
   pub tiling_is : t ≡ tiling_of i
   pub extent_is : e.extent ≡ extent_of t
-  pub elevation_is : (c : Cell) → IsCellOf e.extent c → elevation_at e c ≡ (grid_of i).elevation c
+  pub elevation_is : (c : Cell) → IsCellOf e.extent c → elevation_at e c ≡ (input_grid i).elevation c
 
 -- the refusal is the first of the tiles that applies; out of memory and a failed read say nothing of the bytes
 abbrev pub IsMosaicRefusal : Inputs → Refusal → Type 0

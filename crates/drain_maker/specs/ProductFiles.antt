@@ -7,12 +7,12 @@ use Rattle.drain_device.specs.Writes.{HandsOver}
 use Rattle.drain_grid.specs.declared.product_set.ProductSet.{ProductSet}
 use Rattle.drain_grid.specs.Rasters.{Pixels}
 use Rattle.drain_grid.specs.WholeGrid.{raster_in}
-use Rattle.drain_grid.specs.Held.{product_of, products}
+use Rattle.drain_grid.specs.SetProduct.{product_of, products}
 use Rattle.drain_header.specs.Fields.{Fields}
 use Rattle.drain_header.specs.Text.{text_of}
 use Rattle.drain_mosaic.specs.Tiling.{Tiling}
 use Rattle.drain_raster.specs.Bytes.{raster_bytes}
-use Rattle.drain_maker.specs.Headers.{header_of}
+use Rattle.drain_maker.specs.Headers.{made_header}
 use Rattle.drain_maker.specs.declared.product_files.Part.{Part}
 use Rattle.drain_maker.specs.declared.product_files.Part.TheVariants.{Header, Raster}
 use Rattle.drain_maker.specs.declared.product_files.SetFile.{SetFile}
@@ -25,11 +25,11 @@ part_bytes Header h p = text_of h
 part_bytes Raster h p = raster_bytes h p
 
 abbrev pub file_bytes : Tiling → ProductSet → SetFile → List ℕ
-file_bytes t ps file = part_bytes file.part (header_of t (product_of file.product)) (raster_in ps file.product)
+file_bytes t ps file = part_bytes file.part (made_header t (product_of file.product)) (raster_in ps file.product)
 
 -- the bytes of all files: of each product its header, and then its raster
 unfoldable pub set_bytes : Tiling → ProductSet → List (List ℕ)
-set_bytes t ps = flat_map (λ p. text_of (header_of t (product_of p)) ∷ raster_bytes (header_of t (product_of p)) (raster_in ps p) ∷ []) products
+set_bytes t ps = flat_map (λ p. text_of (made_header t (product_of p)) ∷ raster_bytes (made_header t (product_of p)) (raster_in ps p) ∷ []) products
 
 -- the file took its bytes, or a proper first part of them; the write failed exactly if the file failed for good
 pub record WritesFile {F : Type 0} (sink : Sink F) (old new : F) (bytes : List ℕ) (done : Result (Unit {0}) SetFault) : Type 0 where

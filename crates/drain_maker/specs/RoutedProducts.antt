@@ -12,16 +12,16 @@ use Rattle.drain_grid.specs.Rasters.{Heights}
 use Rattle.drain_grid.specs.Rule.{IsAnyRule}
 use Rattle.drain_grid.specs.Size.{Extent}
 use Rattle.drain_grid.specs.WholeGrid.{grid_of}
-use Rattle.drain_runs.specs.Flows.{AreFlowsOf}
+use Rattle.drain_paths.specs.Flows.{AreFlowsOf}
 use Rattle.drain_surface.specs.declared.level_queue.TheConstants.{MAX_CELLS}
 use Rattle.drain_surface.specs.Flats.{Laying, AreWaysOnFlats}
 use Rattle.drain_surface.specs.Floods.{Flooding, IsFlooded, con_at}
 use Rattle.drain_counts.specs.CodeFlows.{bytes_flows}
-use Rattle.drain_counts.specs.OfFlows.{AllRunsEnd}
+use Rattle.drain_counts.specs.OfFlows.{AllFlowsEnd}
 use Rattle.drain_maker.specs.Counting.{AreCountsAndLabels}
 
 -- correct products, sound runs, and every rule of a check at every cell
-pub record AreRight (e : Heights) (sinks : List SinkLine) (ps : Products) : Type 0 where
+pub record AreRightProducts (e : Heights) (sinks : List SinkLine) (ps : Products) : Type 0 where
   pub rules : RulesHold (check_rules default_numbers) IsAnyRule (grid_of e sinks) ps
   pub correct : IsCorrect (grid_of e sinks) ps default_numbers
   pub runs : RunsAreSound (grid_of e sinks) ps
@@ -45,7 +45,7 @@ shown e f w counts labels = record {
 abbrev pub RoutesEnd : Type 0
 RoutesEnd =
     (g : Grid) (f : Flooding) (w : Laying) (counts labels : List ℕ) → g.extent.rows * g.extent.cols ≤ MAX_CELLS → IsFlooded g f → AreWaysOnFlats g f w →
-    AreFlowsOf g (shown g.extent f w counts labels) g.extent (bytes_flows w.way) × AllRunsEnd g (shown g.extent f w counts labels)
+    AreFlowsOf g (shown g.extent f w counts labels) g.extent (bytes_flows w.way) × AllFlowsEnd g (shown g.extent f w counts labels)
 
 -- with right counts and labels the products are correct, every run is sound, and every rule of a check holds at every cell
 abbrev pub RoutesKeepRules : Type 0

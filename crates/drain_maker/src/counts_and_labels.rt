@@ -8,7 +8,7 @@ ghost use Rattle.drain_maker.specs.Counting.{SomeRunsEnd, AreCountsAndLabels};
 use crate::follow::{Follow, Part};
 use drain_counts::{accumulate, label_basins};
 use drain_grid::{OutOfMemory, Shape};
-use drain_runs::{CertifyRefusal, Flow};
+use drain_paths::{CertifyRefusal, Flow};
 use std::alloc::Global;
 
 /// The count and the label of each cell, in row order.

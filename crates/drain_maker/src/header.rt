@@ -2,7 +2,7 @@
 
 ghost use Rattle.std.specs.Prelude.{◌≡◌};
 ghost use Rattle.drain_header.specs.Fields.{IsCoordinate};
-ghost use Rattle.drain_maker.specs.Headers.{header_of, mosaic_place, bits_of, is_signed};
+ghost use Rattle.drain_maker.specs.Headers.{made_header, mosaic_place, bits_of, is_signed};
 
 use drain_grid::Product;
 use drain_header::{ByteOrdering, Header, Place};
@@ -14,7 +14,7 @@ use drain_mosaic::Layout;
 /// rows without padding. The place is the mosaic's north-west corner and the spacing of its samples, in units of 10^-15 degree, the
 /// spacing rounded down. The no-data number is the product's default. It needs no memory.
 pub fn product_header(layout: &Layout, product: Product) -> Header
-    ensures { result ≡ header_of layout.now product }
+    ensures { result ≡ made_header layout.now product }
 {
     let shape = layout.shape();
     let bits = bits_of(product);

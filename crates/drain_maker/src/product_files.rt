@@ -10,7 +10,7 @@ ghost use Rattle.drain_maker.specs.ProductFiles.{WritesFile, WritesFiles, file_b
 
 use crate::header::product_header;
 use drain_device::{ByteSink, GaveUp, Patience, write_all};
-use drain_grid::{Held, ProductSet, Raster};
+use drain_grid::{ProductSet, Raster, SetProduct};
 use drain_header::{Header, header_text};
 use drain_mosaic::Layout;
 use drain_raster::write_raster;
@@ -26,7 +26,7 @@ pub enum Part {
 /// A file of a product set.
 #[derive(Clone, Copy, PartialEq, Eq, Debug)]
 pub struct SetFile {
-    pub product: Held,
+    pub product: SetProduct,
     pub part: Part,
 }
 
@@ -36,43 +36,43 @@ pub const FILE_COUNT: usize = 10;
 /// The files of a product set in their order: of each product its header, and then its raster.
 pub const SET_FILES: [SetFile; FILE_COUNT] = [
     SetFile {
-        product: Held::Con,
+        product: SetProduct::Con,
         part: Part::Header,
     },
     SetFile {
-        product: Held::Con,
+        product: SetProduct::Con,
         part: Part::Raster,
     },
     SetFile {
-        product: Held::Dir,
+        product: SetProduct::Dir,
         part: Part::Header,
     },
     SetFile {
-        product: Held::Dir,
+        product: SetProduct::Dir,
         part: Part::Raster,
     },
     SetFile {
-        product: Held::Acc,
+        product: SetProduct::Acc,
         part: Part::Header,
     },
     SetFile {
-        product: Held::Acc,
+        product: SetProduct::Acc,
         part: Part::Raster,
     },
     SetFile {
-        product: Held::Bas,
+        product: SetProduct::Bas,
         part: Part::Header,
     },
     SetFile {
-        product: Held::Bas,
+        product: SetProduct::Bas,
         part: Part::Raster,
     },
     SetFile {
-        product: Held::Rnk,
+        product: SetProduct::Rnk,
         part: Part::Header,
     },
     SetFile {
-        product: Held::Rnk,
+        product: SetProduct::Rnk,
         part: Part::Raster,
     },
 ];
@@ -142,7 +142,7 @@ pub fn write_numbers<F: ByteSink>(
     raster: &Raster,
     to: &mut F,
 ) -> Result<(), SetFault>
-    requires shape { raster.now.extent ≡ pixels.extent_of header.now }
+    requires shape { raster.now.extent ≡ pixels.header_extent header.now }
     requires written { CanSpellAll header.now raster.now }
     ensures { WritesFile F.ByteSink to.old to.new (raster_bytes header.now raster.now) result }
 {

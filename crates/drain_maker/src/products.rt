@@ -3,8 +3,8 @@
 ghost use Rattle.std.specs.Prelude.{◌≡◌, IfOk};
 ghost use Rattle.drain_grid.specs.Product.{default_numbers};
 ghost use Rattle.drain_grid.specs.WholeGrid.{products_of, nodata_of};
-ghost use Rattle.drain_maker.specs.Made.{AreRasters, AreSpelled};
-ghost use Rattle.drain_maker.specs.RoutedProducts.{AreRight};
+ghost use Rattle.drain_maker.specs.Made.{AreRasters, AreMadeSpelled};
+ghost use Rattle.drain_maker.specs.RoutedProducts.{AreRightProducts};
 
 use crate::counts_and_labels::count_and_label;
 use crate::follow::Follow;
@@ -27,8 +27,8 @@ pub(crate) fn build(
 ) -> Result<ProductSet, OutOfMemory>
     ensures shape { IfOk result (λ products. products.con.extent ≡ elevation.now.extent) }
     ensures nodata { IfOk result (λ products. nodata_of products ≡ default_numbers) }
-    ensures right { IfOk result (λ products. AreRight elevation.now sinks.now (products_of products)) }
-    ensures written { IfOk result AreSpelled }
+    ensures right { IfOk result (λ products. AreRightProducts elevation.now sinks.now (products_of products)) }
+    ensures written { IfOk result AreMadeSpelled }
     ensures rasters { IfOk result AreRasters }
 {
     // The law that such products keep every rule.

@@ -7,7 +7,7 @@ use Rattle.std.proofs.lemmas.Bool.{ltb-true, lt-ltb, leb-true, le-leb}
 use Rattle.drain_grid.specs.declared.cell.Cell.{Cell}
 use Rattle.drain_grid.specs.Tile.{height_from}
 use Rattle.drain_mosaic.specs.Tiling.{Tiling, top_of, left_of}
-use Rattle.drain_mosaic.specs.Mosaic.{Tile, Gives, IsValue, sample_over}
+use Rattle.drain_mosaic.specs.Mosaic.{Covers, Tile, ShowsSample, IsValue, sample_over}
 use Rattle.drain_mosaic.specs.Joined.{value_from, first_value}
 use Rattle.drain_mosaic.specs.Laws.{AgreementGivesElevation}
 
@@ -25,7 +25,7 @@ four_true false b c d e = cc
 pub all_true : {A : Type 0} (a b c d : Bool) (x y : A) → a ≡ true → b ≡ true → c ≡ true → d ≡ true → cond (a && (b && (c && d))) x y ≡ x
 all_true a b c d x y p q r s = rw (p, q, r, s) refl
 
-pub gives_from : (t : Tiling) (tile : Tile) (c : Cell) (v : ℤ) → value_from t tile c ≡ Some v → Gives t tile c v
+pub gives_from : (t : Tiling) (tile : Tile) (c : Cell) (v : ℤ) → value_from t tile c ≡ Some v → ShowsSample t tile c v
 gives_from t tile c v e =
     let top = top_of t tile.corner in
     let left = left_of t tile.corner in
@@ -44,8 +44,9 @@ gives_from t tile c v e =
       | inr r ↦ (let p = r.1 in cc)
     ]
 
-pub from_gives : (t : Tiling) (tile : Tile) (c : Cell) (v : ℤ) → Gives t tile c v → value_from t tile c ≡ Some v
-from_gives t tile c v g =
+-- a tile gives its sample where it covers the cell
+pub covered : (t : Tiling) (tile : Tile) (c : Cell) → Covers t tile c → value_from t tile c ≡ height_from (sample_over t tile c)
+covered t tile c h =
     let top = top_of t tile.corner in
     let left = left_of t tile.corner in
     all_true
@@ -55,11 +56,13 @@ from_gives t tile c v g =
     (nat_lt c.col (left + t.side))
     (height_from (sample_over t tile c))
     None
-    (le-leb top c.row g.covers.from_top)
-    (lt-ltb c.row (top + t.side) g.covers.to_bottom)
-    (le-leb left c.col g.covers.from_left)
-    (lt-ltb c.col (left + t.side) g.covers.to_right)
-    ∙ g.is
+    (le-leb top c.row h.from_top)
+    (lt-ltb c.row (top + t.side) h.to_bottom)
+    (le-leb left c.col h.from_left)
+    (lt-ltb c.col (left + t.side) h.to_right)
+
+pub from_gives : (t : Tiling) (tile : Tile) (c : Cell) (v : ℤ) → ShowsSample t tile c v → value_from t tile c ≡ Some v
+from_gives t tile c v g = covered t tile c g.covers ∙ g.is
 
 pub any_here : {X : Type 0} (P : X → Type 0) (x : X) (xs : List X) → P x → Any P (x ∷ xs)
 any_here P x xs p = (0, x, omega arith, refl, p)
@@ -72,8 +75,8 @@ pub value_of_first : (t : Tiling) (tiles : List Tile) (c : Cell) (v : ℤ) → f
 value_of_first t [] c v e = cc
 value_of_first t (tile ∷ more) c v e =
     elim (value_from t tile c) as (λ o. value_from t tile c ≡ o → option_or o (first_value t more c) ≡ Some v → IsValue t (tile ∷ more) c v) [
-      | Some w ↦ λ is f. any_here (λ s. Gives t s c v) tile more (gives_from t tile c v (is ∙ f))
-      | None ↦ λ is f. any_later (λ s. Gives t s c v) tile more (value_of_first t more c v f)
+      | Some w ↦ λ is f. any_here (λ s. ShowsSample t s c v) tile more (gives_from t tile c v (is ∙ f))
+      | None ↦ λ is f. any_later (λ s. ShowsSample t s c v) tile more (value_of_first t more c v f)
     ] refl e
 
 -- a value of the cell means that the first value is there
@@ -85,7 +88,7 @@ is_some_first t (tile ∷ more) c v is =
       | None ↦ λ none. is_some_first t more c v (later is.0 is.1 is.2 is.3 is.4 none)
     ] refl
   where
-    later : (k : ℕ) (x : Tile) → k < length (tile ∷ more) → get_or (tile ∷ more) k x ≡ x → Gives t x c v → value_from t tile c ≡ None → IsValue t more c v
+    later : (k : ℕ) (x : Tile) → k < length (tile ∷ more) → get_or (tile ∷ more) k x ≡ x → ShowsSample t x c v → value_from t tile c ≡ None → IsValue t more c v
     later zero x below at gives none = (let p = from_gives t tile c v (rw (← at) at gives) in cc)
     later (suc k) x below at gives none = (k, x, omega arith, at, gives)
 

@@ -12,7 +12,7 @@ use Rattle.drain_mosaic.proofs.Placing.{any_default}
 use Rattle.drain_mosaic.proofs.Laying.{values-more, seam-more, seam-none}
 use Rattle.drain_mosaic.proofs.TileCalls.{read-none, read-so}
 use Rattle.drain_mosaic.specs.Streams.{Stream, end_stream, is_seam, next_stream}
-use Rattle.drain_mosaic.specs.PlacedRows.{AreTold, HasRead, HaveRead, IsAt, IsRowLaid, IsTileRowLaid, stream_of, streams_of}
+use Rattle.drain_mosaic.specs.PlacedRows.{AreTold, HasRead, HaveRead, IsPlacedAt, IsRowLaid, IsTileRowLaid, stream_of, streams_of}
 use Rattle.drain_mosaic.specs.declared.placed_rows.PlacedRows.{PlacedRows}
 use Rattle.drain_device.specs.declared.row_source.ReadFault.{ReadFault}
 use Rattle.drain_device.specs.declared.row_source.ReadFault.TheVariants.{WrongLength, ReadFailed, OutOfMemory, AlreadyFailed}
@@ -149,7 +149,7 @@ module _ (R : Type 0) (bl : R → Option (List ℕ)) (ct : R → FaultCounts) wh
 
 -- the first i tiles were laid over the row
 pub record Laying {R : Type 0} (bl : R → Option (List ℕ)) (side row i : ℕ) (old cur : List PlacedRows) (from now : List (TileInput R)) (start out : List ℤ) (seam : Option ℕ) : Type 0 where
-  pub at : All (IsAt side row) old → (k : ℕ) → k < i → (p : PlacedRows) → IsAt side (row + 1) (get_or cur k p)
+  pub at : All (IsPlacedAt side row) old → (k : ℕ) → k < i → (p : PlacedRows) → IsPlacedAt side (row + 1) (get_or cur k p)
   pub goes_on : AreTold bl from → (k : ℕ) → k < i → (p : PlacedRows) (t : TileInput R) → stream_of (get_or cur k p) (bl (get_or now k t).body) ≡ next_stream side row (stream_of (get_or old k p) (bl (get_or from k t).body))
   pub laid : AreTold bl from → All (λ z. z ≡ VOID) start → IsRowLaid side row (take i (streams_of bl old from)) out seam
 
@@ -174,12 +174,12 @@ module _ (R : Type 0) (bl : R → Option (List ℕ)) (ct : R → FaultCounts) (s
   }
 
   pub laying-more : (i : ℕ) (old cur : List PlacedRows) (from now : List (TileInput R)) (start out new : List ℤ) (seam found both : Option ℕ) (p0 q : PlacedRows) (t0 u : TileInput R) → i < length old → length cur ≡ length old → length now ≡ length from → length from ≡ length old → length new ≡ length out → both ≡ first_of seam found →
-      (IsAt side row (get_or cur i p0) → IsAt side (row + 1) q) →
+      (IsPlacedAt side row (get_or cur i p0) → IsPlacedAt side (row + 1) q) →
       (IsSome (bl (get_or now i t0).body) → stream_of q (bl u.body) ≡ next_stream side row (stream_of (get_or cur i p0) (bl (get_or now i t0).body))) →
       (IsSome (bl (get_or now i t0).body) → IsTileRowLaid side row (stream_of (get_or cur i p0) (bl (get_or now i t0).body)) out new found) →
       Gone bl ct i old cur from now → Laying bl side row i old cur from now start out seam → Laying bl side row (i + 1) old (set cur i q) from (set now i u) start new both
   laying-more i old cur from now start out new seam found both p0 q t0 u inside same same_from named wide is at_here goes_here laid_here g l = record {
-    at = λ all. below_more (λ k. (p : PlacedRows) → IsAt side (row + 1) (get_or (set cur i q) k p)) i
+    at = λ all. below_more (λ k. (p : PlacedRows) → IsPlacedAt side (row + 1) (get_or (set cur i q) k p)) i
         (λ k less p. let e1 : get_or (set cur i q) k p ≡ get_or cur k p = get_or-set_other cur i k q p (omega (arith, less)) in rw e1 (l.at all k less p))
         (λ p. let e1 : get_or (set cur i q) i p ≡ q = get_or-set_same cur i q p (omega arith) in rw e1 (at_here (let e : get_or cur i p0 ≡ get_or old i p0 = tile in rw e (all i p0 inside))));
     goes_on = λ told. below_more (λ k. (p : PlacedRows) (t : TileInput R) → stream_of (get_or (set cur i q) k p) (bl (get_or (set now i u) k t).body) ≡ next_stream side row (stream_of (get_or old k p) (bl (get_or from k t).body))) i

@@ -7,18 +7,19 @@ use Rattle.std.proofs.lemmas.List.{take-append-drop}
 use Rattle.std.proofs.lemmas.Option.{same_Some}
 use Rattle.drain_grid.specs.declared.cell.Cell.{Cell}
 use Rattle.drain_grid.specs.Tile.{height_from}
-use Rattle.drain_hgt.specs.Samples.{sample_at}
+use Rattle.drain_hgt.specs.Samples.{tile_sample_at}
 use Rattle.drain_mosaic.specs.Tiling.{Tiling, top_of, left_of, top_left_of}
 use Rattle.drain_mosaic.specs.Mosaic.{Tile, Covers, HasTwoValues, AreTiles, tiles_of}
 use Rattle.drain_mosaic.specs.Joined.{value_from, first_value}
 use Rattle.drain_mosaic.specs.JoinedRows.{AreTwo}
 use Rattle.drain_mosaic.proofs.Values.{first_value_push, GivesAnother, two_keep, two_new, two_split}
-use Rattle.drain_mosaic.proofs.Joining.{covered, uncovered}
+use Rattle.drain_mosaic.proofs.Agreement.{covered}
+use Rattle.drain_mosaic.proofs.Joining.{uncovered}
 use Rattle.drain_mosaic.proofs.TileRows.{tile_of, take_tile, place_is}
 
 -- what the code found of a cell in a tile
 pub record IsValueAt (side : ℕ) (place : Cell) (tile : List ℤ) (c : Cell) (value : Option ℤ) : Type 0 where
-  pub over : place.row ≤ c.row → c.row < place.row + side → place.col ≤ c.col → c.col < place.col + side → value ≡ height_from (sample_at side tile (c.row - place.row) (c.col - place.col))
+  pub over : place.row ≤ c.row → c.row < place.row + side → place.col ≤ c.col → c.col < place.col + side → value ≡ height_from (tile_sample_at side tile (c.row - place.row) (c.col - place.col))
   pub beside : (c.row < place.row) ⊎ (place.row + side ≤ c.row) ⊎ (c.col < place.col) ⊎ (place.col + side ≤ c.col) → value ≡ None
 
 pub value_is : (t : Tiling) (tile : Tile) (c : Cell) (value : Option ℤ) → IsValueAt t.side (top_left_of t tile.corner) tile.samples c value → value ≡ value_from t tile c

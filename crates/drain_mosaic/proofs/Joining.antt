@@ -8,12 +8,12 @@ use Rattle.std.proofs.lemmas.Option.{same_Some}
 use Rattle.drain_grid.specs.declared.cell.Cell.{Cell}
 use Rattle.drain_grid.specs.declared.tile.TheConstants.{VOID}
 use Rattle.drain_grid.specs.Tile.{height_from}
-use Rattle.drain_hgt.specs.Samples.{sample_at}
+use Rattle.drain_hgt.specs.Samples.{tile_sample_at}
 use Rattle.drain_mosaic.specs.Tiling.{Tiling, extent_of, top_of, left_of}
 use Rattle.drain_mosaic.specs.Mosaic.{Tile, Covers, HasTwoValues, sample_over}
 use Rattle.drain_mosaic.specs.Joined.{value_from, first_value}
 use Rattle.drain_mosaic.specs.JoinedRows.{IsLeastOf, ConflictOver, IsLaidOver, IsJoinedRow, first_of, filled}
-use Rattle.drain_mosaic.proofs.Agreement.{all_true, gives_from}
+use Rattle.drain_mosaic.proofs.Agreement.{covered, gives_from}
 use Rattle.drain_mosaic.proofs.Values.{or_none, first_value_push, GivesAnother, two_keep, two_new, two_split}
 
 -- the least place of two properties together
@@ -59,23 +59,7 @@ height_of_filled z s = elim (int_eq z VOID) as (λ b. int_eq z VOID ≡ b → he
   | false ↦ λ e. ap (λ b. cond b None (Some z)) e
 ] refl
 
--- what a tile gives, where it covers the cell and where it doesn't
-pub covered : (t : Tiling) (tile : Tile) (c : Cell) → Covers t tile c → value_from t tile c ≡ height_from (sample_over t tile c)
-covered t tile c h =
-    let top = top_of t tile.corner in
-    let left = left_of t tile.corner in
-    all_true
-    (nat_le top c.row)
-    (nat_lt c.row (top + t.side))
-    (nat_le left c.col)
-    (nat_lt c.col (left + t.side))
-    (height_from (sample_over t tile c))
-    None
-    (le-leb top c.row h.from_top)
-    (lt-ltb c.row (top + t.side) h.to_bottom)
-    (le-leb left c.col h.from_left)
-    (lt-ltb c.col (left + t.side) h.to_right)
-
+-- a tile gives nothing where it doesn't cover the cell
 pub uncovered : (t : Tiling) (tile : Tile) (c : Cell) → ¬ Covers t tile c → value_from t tile c ≡ None
 uncovered t tile c not = elim (value_from t tile c) as (λ o. value_from t tile c ≡ o → o ≡ None) [
   | Some v ↦ λ e. absurd (not (gives_from t tile c v e).covers)
@@ -105,7 +89,7 @@ passed t ts tile row samples seam aside joined = record {
 
 -- the tile's samples in the part that lies over the row
 abbrev pub IsPartOf : Tiling → Tile → ℕ → List ℤ → Type 0
-IsPartOf t tile row part = (k : ℕ) → k < t.side → slice_index_or part k VOID ≡ sample_at t.side tile.samples (row - top_of t tile.corner) k
+IsPartOf t tile row part = (k : ℕ) → k < t.side → slice_index_or part k VOID ≡ tile_sample_at t.side tile.samples (row - top_of t tile.corner) k
 
 -- a tile that was laid over the row
 pub laid : (t : Tiling) (ts : List Tile) (tile : Tile) (row : ℕ) (old new part : List ℤ) (seam found : Option ℕ) → length old ≡ (extent_of t).cols → top_of t tile.corner ≤ row → row < top_of t tile.corner + t.side → length part ≡ t.side

@@ -10,21 +10,21 @@ use Rattle.drain_mosaic.specs.declared.layout.TheConstants.{MAX_BOX}
 use Rattle.drain_mosaic.specs.declared.layout.LayoutFault.{LayoutFault}
 use Rattle.drain_mosaic.specs.declared.layout.LayoutFault.TheVariants.{NoTiles, RepeatedTile, BoxTooLarge, OutOfMemory}
 use Rattle.drain_mosaic.specs.Tiling.{Tiling, tiles_down, tiles_across}
-use Rattle.drain_mosaic.specs.LayoutFaults.{HasLayoutFault, IsRepeatedAt, IsLayout, AreNumbersOf, AreBoundsOf, order_of}
+use Rattle.drain_mosaic.specs.LayoutFaults.{HasLayoutFault, IsRepeatedAt, IsLayout, AreTilingNumbers, AreBoundsOf, layout_fault_order}
 
 -- there are tiles, each named once
 pub record AreNamedOnce (t : Tiling) : Type 0 where
   pub some : t.corners ≢ []
   pub once : (i : ℕ) (c : Corner) → ¬ IsRepeatedAt t.corners i c
 
-no_fault_before : (t : Tiling) → AreNamedOnce t → (fault : LayoutFault) → IsBefore (order_of fault) (2, 0) → ¬ HasLayoutFault t fault
+no_fault_before : (t : Tiling) → AreNamedOnce t → (fault : LayoutFault) → IsBefore (layout_fault_order fault) (2, 0) → ¬ HasLayoutFault t fault
 no_fault_before t named NoTiles before h = named.some h
 no_fault_before t named (RepeatedTile c) before h = named.once h.place c h.repeated
 no_fault_before t named BoxTooLarge (inl before) h = absurd (omega arith)
 no_fault_before t named BoxTooLarge (inr before) h = absurd (omega (arith, before.1))
 no_fault_before t named OutOfMemory before h = h
 
-pub too_large : (t : Tiling) → AreNamedOnce t → (MAX_BOX < tiles_down t) ⊎ (MAX_BOX < tiles_across t) → IsFirst order_of (HasLayoutFault t) BoxTooLarge
+pub too_large : (t : Tiling) → AreNamedOnce t → (MAX_BOX < tiles_down t) ⊎ (MAX_BOX < tiles_across t) → IsFirst layout_fault_order (HasLayoutFault t) BoxTooLarge
 too_large t named large = record { holds = large; first = no_fault_before t named }
 
 pub sound : (t : Tiling) (down across : ℕ) → AreNamedOnce t → down ≡ tiles_down t → across ≡ tiles_across t → down ≤ MAX_BOX → across ≤ MAX_BOX → (fault : LayoutFault) → ¬ HasLayoutFault t fault
@@ -38,12 +38,12 @@ pub is_some : (corners : List Corner) (empty : Bool) → empty ≡ false → emp
 is_some corners empty full is none = false≢true (sym full ∙ is ∙ ap (λ cs. length cs == 0) none)
 
 -- running out of memory says nothing of the tiles, so it is never their first fault
-pub not_memory : (t : Tiling) (fault : LayoutFault) → IsFirst order_of (HasLayoutFault t) fault → fault ≢ OutOfMemory
+pub not_memory : (t : Tiling) (fault : LayoutFault) → IsFirst layout_fault_order (HasLayoutFault t) fault → fault ≢ OutOfMemory
 not_memory t fault first e = subst (HasLayoutFault t) e first.holds
 
 -- tiles without a fault make a mosaic, and the code's numbers are those of its box
 pub layout_is : (t : Tiling) (down across : ℕ) (west north w n : ℤ) (shape : Extent) → IsSide t.side → ((fault : LayoutFault) → ¬ HasLayoutFault t fault) → AreBoundsOf t west north down across
-    → w ≡ west → n ≡ north → shape ≡ record { rows = down * (t.side - 1) + 1; cols = across * (t.side - 1) + 1 } → IsLayout t × AreNumbersOf t w n shape
+    → w ≡ west → n ≡ north → shape ≡ record { rows = down * (t.side - 1) + 1; cols = across * (t.side - 1) + 1 } → IsLayout t × AreTilingNumbers t w n shape
 layout_is t down across west north w n shape side sound bounds p q is = (
   record { side = side; sound = sound },
   record {

@@ -8,7 +8,7 @@ use Rattle.drain_grid.specs.Size.{Extent}
 use Rattle.drain_grid.specs.Tile.{IsSide}
 use Rattle.drain_hgt.specs.Corner.{Corner}
 use Rattle.drain_mosaic.specs.Tiling.{Tiling, least, greatest, west_of, north_of, extent_of, top_left_of, tiles_down, tiles_across}
-use Rattle.drain_mosaic.specs.LayoutFaults.{AreNumbersOf}
+use Rattle.drain_mosaic.specs.LayoutFaults.{AreTilingNumbers}
 use Rattle.drain_mosaic.proofs.Bounds.{least_le, greatest_ge, before_east, before_south, inside_box}
 
 -- a cell by its row and its column
@@ -21,7 +21,7 @@ pub record IsPlaced (t : Tiling) (i row col : ℕ) : Type 0 where
   pub rows_inside : row + t.side ≤ (extent_of t).rows
   pub cols_inside : col + t.side ≤ (extent_of t).cols
 
-pub placed : (t : Tiling) (west north : ℤ) (shape : Extent) (i : ℕ) (corner : Corner) (row col : ℕ) → IsSide t.side → AreNumbersOf t west north shape → i < length t.corners → corner ≡ get_or t.corners i corner
+pub placed : (t : Tiling) (west north : ℤ) (shape : Extent) (i : ℕ) (corner : Corner) (row col : ℕ) → IsSide t.side → AreTilingNumbers t west north shape → i < length t.corners → corner ≡ get_or t.corners i corner
     → row ≡ nat_abs (north -ℤ pos 1 -ℤ corner.lat) * (t.side - 1) → col ≡ nat_abs (corner.lon -ℤ west) * (t.side - 1) → IsPlaced t i row col
 placed t west north shape i corner row col side numbers inside is p q =
     let lats = map (λ c. c.lat) t.corners in

@@ -8,7 +8,7 @@ use Rattle.drain_grid.specs.declared.cell.Cell.{Cell}
 use Rattle.drain_grid.specs.declared.tile.TheConstants.{VOID}
 use Rattle.drain_hgt.specs.Corner.{Corner}
 use Rattle.drain_mosaic.specs.Tiling.{Tiling, extent_of}
-use Rattle.drain_mosaic.specs.Mosaic.{Gives, HasTwoValues, IsFirstSeam, IsValue, Tile, TilesAgree, tiles_of}
+use Rattle.drain_mosaic.specs.Mosaic.{ShowsSample, HasTwoValues, IsFirstSeam, IsValue, Tile, TilesAgree, tiles_of}
 use Rattle.drain_mosaic.specs.Joined.{first_value, value_from}
 use Rattle.drain_mosaic.specs.JoinedRows.{AgreeAbove, IsLeastOf, IsSeamAlong}
 use Rattle.drain_mosaic.proofs.Agreement.{any_here, any_later, from_gives, gives_from, is_some_first, value_of_first}
@@ -49,10 +49,10 @@ conflict-gives t (c ∷ corners) (body ∷ bodies) row col z some =
     split true here later any =
         let conflict = tests-conflict z sample here in
         let gives : value_from t tile cell ≡ Some sample = sym (stream-value t c body row col) ∙ height_of_data sample conflict.1 in
-        (sample, any_here (λ s. Gives t s cell sample) tile more (gives_from t tile cell sample gives), conflict.0, conflict.2)
+        (sample, any_here (λ s. ShowsSample t s cell sample) tile more (gives_from t tile cell sample gives), conflict.0, conflict.2)
     split false here later any =
         let found = later any in
-        (found.0, any_later (λ s. Gives t s cell found.0) tile more found.1, found.2, found.3)
+        (found.0, any_later (λ s. ShowsSample t s cell found.0) tile more found.1, found.2, found.3)
 
 -- and the other way round
 gives-conflict : (t : Tiling) (corners : List Corner) (bodies : List (List ℕ)) (row col : ℕ) (z v : ℤ) → z ≢ VOID → z ≢ v →
@@ -64,7 +64,7 @@ gives-conflict t (c ∷ corners) (body ∷ bodies) row col z v solid differ (zer
     let cell : Cell = record { row = row; col = col } in
     let sample = sample_given t.side row col (stream_after t.side 0 row (stream_at t c body)) in
     let rest = list_any (λ s. in_conflict z (sample_given t.side row col s)) (streams_after t.side 0 row (tile_streams t corners bodies)) in
-    let here : Gives t (given_tile t c body) cell v = subst (λ (y : Tile). Gives t y cell v) (sym at) gives in
+    let here : ShowsSample t (given_tile t c body) cell v = subst (λ (y : Tile). ShowsSample t y cell v) (sym at) gives in
     let is = data_of_height sample v (stream-value t c body row col ∙ from_gives t (given_tile t c body) cell v here) in
     ap (list_any (λ s. in_conflict z (sample_given t.side row col s))) (after-cons t.side 0 row (stream_at t c body) (tile_streams t corners bodies))
     ∙ or_left (in_conflict z sample) rest (conflict-tests z sample (solid, is.1, λ e. differ (e ∙ is.0)))

@@ -6,7 +6,7 @@ use Rattle.drain_grid.specs.declared.cell.Cell.{Cell}
 use Rattle.drain_grid.specs.declared.tile.TheConstants.{VOID}
 use Rattle.drain_grid.specs.Tile.{height_from}
 use Rattle.drain_hgt.specs.Corner.{Corner}
-use Rattle.drain_hgt.specs.Samples.{sample_at}
+use Rattle.drain_hgt.specs.Samples.{tile_sample_at}
 use Rattle.drain_mosaic.specs.Tiling.{Tiling, top_of, left_of, top_left_of}
 use Rattle.drain_mosaic.specs.Mosaic.{Tile, tiles_of}
 use Rattle.drain_mosaic.specs.Joined.{first_value, value_from}
@@ -51,7 +51,7 @@ stream-value t c body row col = value_is t (given_tile t c body) (record { row =
     left : s.place.col ≡ left_of t c
     left = ap (λ (p : Cell). p.col) place
 
-    here : top_of t c ≤ row → row < top_of t c + t.side → left_of t c ≤ col → col < left_of t c + t.side → sample ≡ sample_at t.side (given_samples t.side body) (row - top_of t c) (col - left_of t c)
+    here : top_of t c ≤ row → row < top_of t c + t.side → left_of t c ≤ col → col < left_of t c + t.side → sample ≡ tile_sample_at t.side (given_samples t.side body) (row - top_of t c) (col - left_of t c)
     here from_top to_bottom from_left to_right =
         sample-inside t.side row col s (omega (arith, top)) (omega (arith, top)) (omega (arith, left)) (omega (arith, left))
         ∙ ap (λ (xs : List ℤ). slice_index_or xs (col - s.place.col) VOID) (after-row_of t.side row begun from_top to_bottom)

@@ -7,7 +7,7 @@ use Rattle.drain_device.specs.declared.counts.FaultCounts.{FaultCounts}
 use Rattle.drain_device.proofs.PartFaultLemmas.{PartFails-none, PartFails-same}
 use Rattle.drain_device.specs.ComingRows.{nth_row, after_rows}
 use Rattle.drain_mosaic.specs.Streams.{Stream, is_over, next_stream}
-use Rattle.drain_mosaic.specs.PlacedRows.{HasRead, IsAt, stop_of}
+use Rattle.drain_mosaic.specs.PlacedRows.{HasRead, IsPlacedAt, stop_of}
 use Rattle.drain_device.specs.ComingRows.{Coming}
 use Rattle.drain_device.specs.RowSteps.{Gives, IsEmptyUnlessRow, IsLong, ReadsWithin, StaysEnded, Steps, coming_at, progress_after}
 use Rattle.drain_device.specs.ComingRows.Coming.{Wrong}
@@ -90,7 +90,7 @@ read-so known known_then counts counts_then old new F G there back read = record
 
 -- the rows left
 pub at-row : (side row : ℕ) (p : PlacedRows) (new : TileRows) (answer : Result RowStep ReadFault) → stop_of answer ≡ None → new.progress ≡ progress_after answer → (answer ≡ Ok Row → new.left + 1 ≡ p.rows.left) →
-    (p.rows.progress ≢ Going → answer ≢ Ok Row) → p.place.row ≤ row → row < p.place.row + side → IsAt side row p → IsAt side (row + 1) (record { place = p.place; rows = new })
+    (p.rows.progress ≢ Going → answer ≢ Ok Row) → p.place.row ≤ row → row < p.place.row + side → IsPlacedAt side row p → IsPlacedAt side (row + 1) (record { place = p.place; rows = new })
 at-row side row p new answer goes then less stays from_top to_bottom here = record { left_is = λ going. by_answer answer goes then less stays going }
   where
     by_answer : (answer : Result RowStep ReadFault) → stop_of answer ≡ None → new.progress ≡ progress_after answer → (answer ≡ Ok Row → new.left + 1 ≡ p.rows.left) → (p.rows.progress ≢ Going → answer ≢ Ok Row) → new.progress ≡ Going →
@@ -104,17 +104,17 @@ at-row side row p new answer goes then less stays from_top to_bottom here = reco
     by_answer (Ok Ended) goes then less stays going = absurd (let e : Done ≡ Going = sym then ∙ going in cc)
     by_answer (Err fault) goes then less stays going = absurd (let e : Stopped ≡ Going = sym then ∙ going in cc)
 
-pub at-beside : (side row : ℕ) (p : PlacedRows) → (row < p.place.row) ⊎ (p.place.row + side ≤ row) → IsAt side row p → IsAt side (row + 1) p
+pub at-beside : (side row : ℕ) (p : PlacedRows) → (row < p.place.row) ⊎ (p.place.row + side ≤ row) → IsPlacedAt side row p → IsPlacedAt side (row + 1) p
 at-beside side row p (inl above) here = record { left_is = λ going. omega (arith, here.left_is going) }
 at-beside side row p (inr below) here = record { left_is = λ going. omega (arith, here.left_is going) }
 
 -- a tile at row 0
-pub at-start : (side : ℕ) (p : PlacedRows) → p.rows.left ≡ side → IsAt side 0 p
+pub at-start : (side : ℕ) (p : PlacedRows) → p.rows.left ≡ side → IsPlacedAt side 0 p
 at-start side p is = record { left_is = λ going. omega (arith, is) }
 
 -- below the last row a tile has no row left, and a call that ends no mosaic finds its end
 pub ended-here : (side rows : ℕ) (p : PlacedRows) (new : TileRows) (answer : Result RowStep ReadFault) → stop_of answer ≡ None → new.progress ≡ progress_after answer → (answer ≡ Ok Row → new.left + 1 ≡ p.rows.left) →
-    (p.rows.progress ≢ Going → answer ≢ Ok Row) → p.place.row + side ≤ rows → IsAt side rows p → new.progress ≢ Going
+    (p.rows.progress ≢ Going → answer ≢ Ok Row) → p.place.row + side ≤ rows → IsPlacedAt side rows p → new.progress ≢ Going
 ended-here side rows p new (Ok Row) goes then less stays above here going = by_progress p.rows.progress refl
   where
     by_progress : (progress : Progress) → p.rows.progress ≡ progress → ⊥

@@ -9,7 +9,7 @@ use Rattle.std.proofs.lemmas.List.Quantifiers.{Any-push}
 use Rattle.std.proofs.lemmas.Option.{same_Some}
 use Rattle.drain_grid.specs.declared.cell.Cell.{Cell}
 use Rattle.drain_mosaic.specs.Tiling.{Tiling}
-use Rattle.drain_mosaic.specs.Mosaic.{Tile, Gives, IsValue, HasTwoValues}
+use Rattle.drain_mosaic.specs.Mosaic.{Tile, ShowsSample, IsValue, HasTwoValues}
 use Rattle.drain_mosaic.specs.Joined.{value_from, first_value}
 use Rattle.drain_mosaic.proofs.Agreement.{gives_from, from_gives, value_of_first, is_some_first, any_here, any_later}
 
@@ -30,9 +30,9 @@ first_value_push t (s ∷ ts) tile c = ap (option_or (value_from t s c)) (first_
 is_value_push : (t : Tiling) (ts : List Tile) (tile : Tile) (c : Cell) (v : ℤ) → IsValue t (ts ++ tile ∷ []) c v → IsValue t ts c v ⊎ (value_from t tile c ≡ Some v)
 is_value_push t [] tile c v (zero, x, below, at, gives) = inr (from_gives t tile c v (rw at gives))
 is_value_push t [] tile c v (suc k, x, below, at, gives) = absurd (omega arith)
-is_value_push t (s ∷ ts) tile c v (zero, x, below, at, gives) = inl (any_here (λ s. Gives t s c v) s ts (rw at gives))
+is_value_push t (s ∷ ts) tile c v (zero, x, below, at, gives) = inl (any_here (λ s. ShowsSample t s c v) s ts (rw at gives))
 is_value_push t (s ∷ ts) tile c v (suc k, x, below, at, gives) = elim (is_value_push t ts tile c v (k, x, omega arith, at, gives)) [
-  | inl is ↦ inl (any_later (λ s. Gives t s c v) s ts is)
+  | inl is ↦ inl (any_later (λ s. ShowsSample t s c v) s ts is)
   | inr from ↦ inr from
 ]
 
@@ -40,7 +40,7 @@ is_value_keep : (t : Tiling) (ts more : List Tile) (c : Cell) (v : ℤ) → IsVa
 is_value_keep t ts more c v (k, x, below, at, gives) = (k, x, omega (arith, length-append ts more), get_or_append_left ts more x k below ∙ at, gives)
 
 is_value_last : (t : Tiling) (ts : List Tile) (tile : Tile) (c : Cell) (v : ℤ) → value_from t tile c ≡ Some v → IsValue t (ts ++ tile ∷ []) c v
-is_value_last t ts tile c v from = Any-push (λ s. Gives t s c v) ts tile (gives_from t tile c v from)
+is_value_last t ts tile c v from = Any-push (λ s. ShowsSample t s c v) ts tile (gives_from t tile c v from)
 
 -- the tile gives the cell another value than the first
 pub record GivesAnother (t : Tiling) (ts : List Tile) (tile : Tile) (c : Cell) : Type 0 where

@@ -9,7 +9,7 @@ use Rattle.std.proofs.Math.Nat.{div-eq-sub-div, div-eq_of_lt, div-eq_of_eq-mul_l
 use Rattle.std.proofs.Math.Seq.{take-add}
 use Rattle.drain_grid.specs.declared.tile.TheConstants.{VOID}
 use Rattle.drain_grid.specs.Tile.{IsSide}
-use Rattle.drain_hgt.specs.Samples.{IsTile, samples_of, sample_at}
+use Rattle.drain_hgt.specs.Samples.{IsTile, samples_of, tile_sample_at}
 use Rattle.drain_mosaic.specs.Mosaic.{tiles_of}
 use Rattle.drain_hgt.specs.TileRows.{tile_rows}
 use Rattle.drain_device.specs.ComingRows.{nth_row}
@@ -36,7 +36,7 @@ one_more side body some long =
     more n d = omega arith
 
 -- the sample of a row at a column
-pub row-gives : (side left k col : ℕ) (body : List ℕ) → k < left → col < side → slice_index_or (nth_row k (tile_rows side left body)) col VOID ≡ sample_at side (given_samples side body) k col
+pub row-gives : (side left k col : ℕ) (body : List ℕ) → k < left → col < side → slice_index_or (nth_row k (tile_rows side left body)) col VOID ≡ tile_sample_at side (given_samples side body) k col
 row-gives side zero k col body above inside = absurd (omega arith)
 row-gives side (suc left) zero col body above inside = elim (cases_lt (length body) (2 * side)) [
   | inl short ↦ rw (lt-ltb (length body) (2 * side) short, none_whole side body short) refl

@@ -30,11 +30,11 @@ HasLayoutFault t BoxTooLarge = (MAX_BOX < tiles_down t) ⊎ (MAX_BOX < tiles_acr
 HasLayoutFault t OutOfMemory = ⊥
 
 -- the order in which faults are reported
-abbrev pub order_of : LayoutFault → ℕ × ℕ
-order_of NoTiles = (0, 0)
-order_of (RepeatedTile c) = (1, 0)
-order_of BoxTooLarge = (2, 0)
-order_of OutOfMemory = (3, 0)
+abbrev pub layout_fault_order : LayoutFault → ℕ × ℕ
+layout_fault_order NoTiles = (0, 0)
+layout_fault_order (RepeatedTile c) = (1, 0)
+layout_fault_order BoxTooLarge = (2, 0)
+layout_fault_order OutOfMemory = (3, 0)
 
 -- tiles that make a mosaic
 pub record IsLayout (t : Tiling) : Type 0 where
@@ -42,7 +42,7 @@ pub record IsLayout (t : Tiling) : Type 0 where
   pub sound : (fault : LayoutFault) → ¬ HasLayoutFault t fault
 
 -- the edges of the bounding box, and its shape
-pub record AreNumbersOf (t : Tiling) (west : ℤ) (north : ℤ) (shape : Extent) : Type 0 where
+pub record AreTilingNumbers (t : Tiling) (west : ℤ) (north : ℤ) (shape : Extent) : Type 0 where
   pub west_is : west ≡ west_of t
   pub north_is : north ≡ north_of t
   pub shape_is : shape ≡ extent_of t

@@ -5,7 +5,7 @@ use Rattle.drain_grid.specs.declared.cell.Cell.{Cell}
 use Rattle.drain_grid.specs.Extent.{IsCellOf, IsEarlier}
 use Rattle.drain_grid.specs.Tile.{height_from}
 use Rattle.drain_hgt.specs.Corner.{Corner}
-use Rattle.drain_hgt.specs.Samples.{sample_at}
+use Rattle.drain_hgt.specs.Samples.{tile_sample_at}
 use Rattle.drain_mosaic.specs.Tiling.{Tiling, extent_of, top_of, left_of}
 
 -- a named tile and its samples
@@ -28,16 +28,16 @@ pub record Covers (t : Tiling) (tile : Tile) (c : Cell) : Type 0 where
 
 -- the tile's sample at its place there
 abbrev pub sample_over : Tiling → Tile → Cell → ℤ
-sample_over t tile c = sample_at t.side tile.samples (c.row - top_of t tile.corner) (c.col - left_of t tile.corner)
+sample_over t tile c = tile_sample_at t.side tile.samples (c.row - top_of t tile.corner) (c.col - left_of t tile.corner)
 
 -- the tile gives the cell this value: it covers the cell, and its sample there is no void
-pub record Gives (t : Tiling) (tile : Tile) (c : Cell) (v : ℤ) : Type 0 where
+pub record ShowsSample (t : Tiling) (tile : Tile) (c : Cell) (v : ℤ) : Type 0 where
   pub covers : Covers t tile c
   pub is : height_from (sample_over t tile c) ≡ Some v
 
 -- some tile gives the cell this value
 abbrev pub IsValue : Tiling → List Tile → Cell → ℤ → Type 0
-IsValue t tiles c v = Any (λ tile. Gives t tile c v) tiles
+IsValue t tiles c v = Any (λ tile. ShowsSample t tile c v) tiles
 
 -- no cell has two values
 abbrev pub TilesAgree : Tiling → List Tile → Type 0

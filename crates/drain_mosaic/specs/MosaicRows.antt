@@ -44,7 +44,7 @@ pub record IsToldAtEnd {R : Type 0} (bytes_left : R → Option (List ℕ)) (m : 
   pub wrong_is : wrong_to_tell bytes_left m from ≡ first_stopped 0 m.tiles.items
 
 -- the rows to come, the seam and the tile of wrong length are those of these bodies, which the devices give
-pub record AreRowsOf {R : Type 0} (bytes_left : R → Option (List ℕ)) (t : Tiling) (m : MosaicRows) (from : List (TileInput R)) (bodies : List (List ℕ)) : Type 0 where
+pub record AreMosaicRowsOf {R : Type 0} (bytes_left : R → Option (List ℕ)) (t : Tiling) (m : MosaicRows) (from : List (TileInput R)) (bodies : List (List ℕ)) : Type 0 where
   pub told : AreTold bytes_left from
   pub rows_are : coming_of bytes_left m from ≡ mosaic_coming t bodies
   pub seam_is : seam_to_tell bytes_left m from ≡ seam_from (frame_of t) (extent_of t).rows 0 (tile_streams t t.corners bodies)

@@ -20,17 +20,17 @@ use Rattle.drain_mosaic.specs.Streams.{Stream, first_sample, in_conflict, is_sea
 use Rattle.drain_mosaic.specs.declared.placed_rows.PlacedRows.{PlacedRows}
 
 -- the tile has this side and lies within these rows and columns
-pub record IsWithin (side rows cols : ℕ) (p : PlacedRows) : Type 0 where
+pub record IsPlacedWithin (side rows cols : ℕ) (p : PlacedRows) : Type 0 where
   pub side_is : p.rows.side ≡ side
   pub above : p.place.row + side ≤ rows
   pub inside : p.place.col + side ≤ cols
 
 -- so does each tile
-abbrev pub AreWithin : ℕ → ℕ → ℕ → List PlacedRows → Type 0
-AreWithin side rows cols tiles = All (IsWithin side rows cols) tiles
+abbrev pub ArePlacedWithin : ℕ → ℕ → ℕ → List PlacedRows → Type 0
+ArePlacedWithin side rows cols tiles = All (IsPlacedWithin side rows cols) tiles
 
 -- the rows of the mosaic above this one were read of the tile, while it goes on
-pub record IsAt (side row : ℕ) (p : PlacedRows) : Type 0 where
+pub record IsPlacedAt (side row : ℕ) (p : PlacedRows) : Type 0 where
   pub left_is : p.rows.progress ≡ Going → p.rows.left ≡ side - (row - p.place.row)
 
 -- the tile at this corner is at its place, and its first row is to come

@@ -14,13 +14,13 @@ use Rattle.drain_mosaic.specs.LayoutFaults.{IsLayout}
 use Rattle.drain_mosaic.specs.Joined.{first_value}
 use Rattle.drain_mosaic.specs.Streams.{seam_from, wrong_from}
 use Rattle.drain_mosaic.specs.GivenTiles.{frame_of, given_tiles, mosaic_coming, tile_streams}
-use Rattle.drain_mosaic.specs.MosaicRows.{AreRowsOf, IsBegun}
+use Rattle.drain_mosaic.specs.MosaicRows.{AreMosaicRowsOf, IsBegun}
 use Rattle.drain_mosaic.specs.declared.mosaic_rows.MosaicRows.{MosaicRows}
 
 -- new rows are those of the bodies that the devices give
 abbrev pub NewRowsAreOfBodies : {R : Type 0} → (R → Option (List ℕ)) → Type 0
 NewRowsAreOfBodies {R} bytes_left =
-    (t : Tiling) (m : MosaicRows) (from : List (TileInput R)) (bodies : List (List ℕ)) → IsBegun t m → AreBodies bytes_left from bodies → AreRowsOf bytes_left t m from bodies
+    (t : Tiling) (m : MosaicRows) (from : List (TileInput R)) (bodies : List (List ℕ)) → IsBegun t m → AreBodies bytes_left from bodies → AreMosaicRowsOf bytes_left t m from bodies
 
 -- all rows come, and then the end
 abbrev pub RowsEnd : Type 0

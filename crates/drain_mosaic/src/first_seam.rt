@@ -4,7 +4,7 @@
 
 ghost use Rattle.std.specs.Prelude.{◌≡◌, ◌↔◌, ◌⊎◌, ◌+◌, ◌-◌, ◌*◌, ◌≤◌, ◌<◌, map, length, IsTrue, MatchOption, None};
 ghost use Rattle.drain_grid.specs.Tile.{height_from};
-ghost use Rattle.drain_hgt.specs.Samples.{sample_at};
+ghost use Rattle.drain_hgt.specs.Samples.{tile_sample_at};
 ghost use Rattle.drain_mosaic.specs.Mosaic.{AreTiles, tiles_of, TilesAgree, HasTwoValues, IsFirstSeam};
 ghost use Rattle.drain_mosaic.specs.JoinedRows.{IsSeamAlong, AreTwo};
 
@@ -60,7 +60,7 @@ fn has_two_values(layout: &Layout, tiles: &[Vec<i16>], cell: Cell) -> bool
 /// The value that a tile gives the cell, none if it gives none. `place` is the tile's north-west cell.
 fn value_at(place: Cell, side: u32, tile: &[i16], cell: Cell) -> Option<i16>
     requires { length tile.now ≡ side * side }
-    ensures over { place.row ≤ cell.row → cell.row < place.row + side → place.col ≤ cell.col → cell.col < place.col + side → result ≡ height_from (sample_at side tile.now (cell.row - place.row) (cell.col - place.col)) }
+    ensures over { place.row ≤ cell.row → cell.row < place.row + side → place.col ≤ cell.col → cell.col < place.col + side → result ≡ height_from (tile_sample_at side tile.now (cell.row - place.row) (cell.col - place.col)) }
     ensures beside { (cell.row < place.row) ⊎ (place.row + side ≤ cell.row) ⊎ (cell.col < place.col) ⊎ (place.col + side ≤ cell.col) → result ≡ None }
 {
     if cell.row < place.row || side <= cell.row - place.row {

@@ -8,7 +8,7 @@ ghost use Rattle.std.specs.Prelude.{◌≡◌, ◌≢◌, ◌+◌, ◌-◌, ◌*
 ghost use Rattle.drain_text.specs.First.{IsFirst};
 ghost use Rattle.drain_grid.specs.Tile.{IsSide};
 ghost use Rattle.drain_hgt.specs.Corner.{Corner, IsWithin};
-ghost use Rattle.drain_mosaic.specs.LayoutFaults.{HasLayoutFault, IsFirstRepeated, IsLayout, IsRepeatedAt, AreBoundsOf, order_of};
+ghost use Rattle.drain_mosaic.specs.LayoutFaults.{HasLayoutFault, IsFirstRepeated, IsLayout, IsRepeatedAt, AreBoundsOf, layout_fault_order};
 ghost use Rattle.drain_mosaic.specs.Tiling.{Tiling, least, greatest, west_of, north_of, extent_of, top_left_of};
 
 use drain_grid::{Cell, Shape};
@@ -49,14 +49,14 @@ pub struct Layout {
 }
 
 impl Model for Layout {
-    ghost use Rattle.drain_mosaic.specs.LayoutFaults.{IsLayout, AreNumbersOf};
+    ghost use Rattle.drain_mosaic.specs.LayoutFaults.{IsLayout, AreTilingNumbers};
     ghost use Rattle.drain_mosaic.specs.Tiling.{Tiling};
 
     ghost Value = { Tiling };
 
     ghost view = { λ l. record { side = l.side; corners = l.names.items } };
 
-    ghost invariant = { λ l. IsLayout (record { side = l.side; corners = l.names.items }) × AreNumbersOf (record { side = l.side; corners = l.names.items }) l.west l.north l.shape };
+    ghost invariant = { λ l. IsLayout (record { side = l.side; corners = l.names.items }) × AreTilingNumbers (record { side = l.side; corners = l.names.items }) l.west l.north l.shape };
 }
 
 impl Layout {
@@ -67,7 +67,7 @@ impl Layout {
         requires { IsSide side }
         ensures layout { IfOk result (λ layout. layout ≡ record { side = side; corners = names.now }) }
         ensures sound { IfOk result (λ layout. (fault : LayoutFault) → ¬ HasLayoutFault layout fault) }
-        ensures first_fault { IfErr result (λ fault. fault ≢ LayoutFault.OutOfMemory → IsFirst order_of (HasLayoutFault (record { side = side; corners = names.now })) fault) }
+        ensures first_fault { IfErr result (λ fault. fault ≢ LayoutFault.OutOfMemory → IsFirst layout_fault_order (HasLayoutFault (record { side = side; corners = names.now })) fault) }
 
         // Running out of memory never hides a fault.
         ensures wants_memory { result ≡ Err LayoutFault.OutOfMemory → (fault : LayoutFault) → ¬ HasLayoutFault (record { side = side; corners = names.now }) fault }
@@ -169,7 +169,7 @@ fn box_of(names: &[TileName]) -> Result<Bounds, LayoutFault>
     ensures down { IfOk result (λ b. b.down ≤ MAX_BOX) }
     ensures across { IfOk result (λ b. b.across ≤ MAX_BOX) }
     ensures sound { IsOk result → (side : ℕ) (fault : LayoutFault) → ¬ HasLayoutFault (record { side = side; corners = names.now }) fault }
-    ensures first_fault { IfErr result (λ fault. (side : ℕ) → IsFirst order_of (HasLayoutFault (record { side = side; corners = names.now })) fault) }
+    ensures first_fault { IfErr result (λ fault. (side : ℕ) → IsFirst layout_fault_order (HasLayoutFault (record { side = side; corners = names.now })) fault) }
 {
     if names.is_empty() {
         return Err(LayoutFault::NoTiles);

@@ -12,7 +12,7 @@ ghost use Rattle.drain_grid.specs.declared.tile.TheConstants.{VOID};
 ghost use Rattle.drain_grid.specs.Tile.{IsSample};
 ghost use Rattle.drain_hgt.specs.Inputs.{names_of};
 ghost use Rattle.drain_mosaic.specs.Streams.{cell_at};
-ghost use Rattle.drain_mosaic.specs.PlacedRows.{AreTold, AreWithin, HaveEnded, HaveRead, IsAt, first_stopped};
+ghost use Rattle.drain_mosaic.specs.PlacedRows.{AreTold, ArePlacedWithin, HaveEnded, HaveRead, IsPlacedAt, first_stopped};
 
 use crate::layout::Layout;
 use crate::overlay::VOID_NUMBER;
@@ -36,9 +36,9 @@ pub struct MosaicRows {
     tiles: Vec<PlacedRows>,
     tile_row: Vec<i64>,
     seam: Option<Cell>,
-    ghost within: { AreWithin side shape.rows shape.cols tiles.items },
+    ghost within: { ArePlacedWithin side shape.rows shape.cols tiles.items },
     ghost bounded: { row ≤ shape.rows },
-    ghost at_row: { progress ≡ Progress.Going → All (IsAt side row) tiles.items },
+    ghost at_row: { progress ≡ Progress.Going → All (IsPlacedAt side row) tiles.items },
     ghost ended: { progress ≡ Progress.Done → (row ≡ shape.rows) × HaveEnded tiles.items },
 }
 

@@ -8,7 +8,7 @@ ghost use Rattle.drain_grid.specs.declared.tile.TheConstants.{VOID};
 ghost use Rattle.drain_grid.specs.Tile.{IsSample};
 ghost use Rattle.drain_hgt.specs.Inputs.{names_of};
 ghost use Rattle.drain_mosaic.specs.Streams.{end_stream, next_stream};
-ghost use Rattle.drain_mosaic.specs.PlacedRows.{AreTold, AreWithin, HasRead, HaveEnded, HaveRead, IsAt, IsRowLaid, IsTileRowLaid, IsWithin, stop_of, stream_of, streams_of};
+ghost use Rattle.drain_mosaic.specs.PlacedRows.{AreTold, ArePlacedWithin, HasRead, HaveEnded, HaveRead, IsPlacedAt, IsRowLaid, IsTileRowLaid, IsPlacedWithin, stop_of, stream_of, streams_of};
 
 use crate::overlay::{first_of, lay_over};
 use drain_device::{ByteSource, ReadFault, RowSource, RowStep};
@@ -32,9 +32,9 @@ pub fn lay_tiles<R: ByteSource>(
     out: &mut [i64],
 ) -> Result<Option<usize>, ReadFault>
     requires named { length from.old ≡ length tiles.old }
-    requires within { (rows : ℕ) × AreWithin side rows (length out.old) tiles.old }
-    ensures within { (rows : ℕ) → AreWithin side rows (length out.old) tiles.old → AreWithin side rows (length out.old) tiles.new }
-    ensures at { All (IsAt side row) tiles.old → IfOk result (λ found. All (IsAt side (row + 1)) tiles.new) }
+    requires within { (rows : ℕ) × ArePlacedWithin side rows (length out.old) tiles.old }
+    ensures within { (rows : ℕ) → ArePlacedWithin side rows (length out.old) tiles.old → ArePlacedWithin side rows (length out.old) tiles.new }
+    ensures at { All (IsPlacedAt side row) tiles.old → IfOk result (λ found. All (IsPlacedAt side (row + 1)) tiles.new) }
     ensures names { names_of from.new ≡ names_of from.old }
     ensures read { HaveRead R.bytes_left R.counts tiles.old tiles.new from.old from.new (IsErrOf result ReadFault.ReadFailed) }
     ensures goes_on { AreTold R.bytes_left from.old → IfOk result (λ found. streams_of R.bytes_left tiles.new from.new ≡ map (next_stream side row) (streams_of R.bytes_left tiles.old from.old)) }
@@ -62,9 +62,9 @@ fn lay_tile<R: ByteSource>(
     tile_row: &mut Vec<i64>,
     out: &mut [i64],
 ) -> Result<Option<usize>, ReadFault>
-    requires within { (rows : ℕ) × IsWithin side rows (length out.old) tile.old }
-    ensures within { (rows : ℕ) → IsWithin side rows (length out.old) tile.old → IsWithin side rows (length out.old) tile.new }
-    ensures at { IsAt side row tile.old → IfOk result (λ found. IsAt side (row + 1) tile.new) }
+    requires within { (rows : ℕ) × IsPlacedWithin side rows (length out.old) tile.old }
+    ensures within { (rows : ℕ) → IsPlacedWithin side rows (length out.old) tile.old → IsPlacedWithin side rows (length out.old) tile.new }
+    ensures at { IsPlacedAt side row tile.old → IfOk result (λ found. IsPlacedAt side (row + 1) tile.new) }
     ensures read { HasRead (R.bytes_left from.old) (R.bytes_left from.new) (R.counts from.old) (R.counts from.new) tile.old tile.new (IsErrOf result ReadFault.ReadFailed) }
     ensures goes_on { IsSome (R.bytes_left from.old) → IfOk result (λ found. stream_of tile.new (R.bytes_left from.new) ≡ next_stream side row (stream_of tile.old (R.bytes_left from.old))) }
     ensures laid { IsSome (R.bytes_left from.old) → IfOk result (IsTileRowLaid side row (stream_of tile.old (R.bytes_left from.old)) out.old out.new) }
@@ -89,11 +89,11 @@ pub fn read_ends<R: ByteSource>(
     tile_row: &mut Vec<i64>,
 ) -> Result<(), ReadFault>
     requires named { length from.old ≡ length tiles.old }
-    ensures within { (side rows cols : ℕ) → AreWithin side rows cols tiles.old → AreWithin side rows cols tiles.new }
+    ensures within { (side rows cols : ℕ) → ArePlacedWithin side rows cols tiles.old → ArePlacedWithin side rows cols tiles.new }
     ensures names { names_of from.new ≡ names_of from.old }
     ensures read { HaveRead R.bytes_left R.counts tiles.old tiles.new from.old from.new (IsErrOf result ReadFault.ReadFailed) }
     ensures goes_on { AreTold R.bytes_left from.old → IfOk result (λ done. streams_of R.bytes_left tiles.new from.new ≡ map end_stream (streams_of R.bytes_left tiles.old from.old)) }
-    ensures ended { (side rows cols : ℕ) → AreWithin side rows cols tiles.old → All (IsAt side rows) tiles.old → IfOk result (λ done. HaveEnded tiles.new) }
+    ensures ended { (side rows cols : ℕ) → ArePlacedWithin side rows cols tiles.old → All (IsPlacedAt side rows) tiles.old → IfOk result (λ done. HaveEnded tiles.new) }
     ensures stops { IfErr result (λ fault. stop_of (Err fault) ≡ Some fault) }
 {
     for i in 0..tiles.len() {

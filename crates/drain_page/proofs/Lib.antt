@@ -1,2 +1,1 @@
 pub mod DegreeSteps
-pub mod LeastWays

@@ -3,14 +3,14 @@
 ghost use Rattle.std.specs.Prelude.{IfOk, string_bytes};
 ghost use Rattle.drain_page.specs.JsonLines.{IsJsonLine};
 
-use crate::facts::{Facts, Findings};
+use crate::expected_json::write_expected;
+use crate::facts::Facts;
 use crate::json_text::JsonText;
 use crate::patch_json::write_patch;
 use crate::refusal_json::write_refusal;
-use crate::refusal_note::RefusalNote;
 use crate::rules_json::{write_products, write_rules};
 use crate::run_json::write_run;
-use crate::wanted_json::write_wanted;
+use drain_explain::{Findings, RefusalDetail};
 use drain_grid::OutOfMemory;
 use drain_rules::Ranks;
 use std::alloc::{AllocError, Global};
@@ -31,38 +31,28 @@ pub fn failure_json(alloc: Global, line: &str) -> Result<String, OutOfMemory>
     object(alloc, line, &None, &None)
 }
 
+/// The object for the failure that there is no memory for an object.
+pub const NO_OBJECT: &str =
+    "{\"answer\":\"failed OutOfMemory\",\"refusal\":null,\"rows\":null,\"cols\":null,\"ranks\":null,\"rules\":[],\"products\":[],\"patch\":null,\"expected\":null,\"run\":null}\n";
+
 fn object(
     alloc: Global,
     answer: &str,
-    refusal: &Option<RefusalNote>,
+    refusal: &Option<RefusalDetail>,
     findings: &Option<Findings>,
 ) -> Result<String, OutOfMemory>
     ensures { IfOk result (λ line. IsJsonLine (string_bytes line)) }
 {
-    match written(alloc, answer, refusal, findings) {
-        Ok(line) => Ok(line),
-        Err(AllocError) => Err(OutOfMemory),
-    }
-}
-
-fn written(
-    alloc: Global,
-    answer: &str,
-    refusal: &Option<RefusalNote>,
-    findings: &Option<Findings>,
-) -> Result<String, AllocError>
-    ensures { IfOk result (λ line. IsJsonLine (string_bytes line)) }
-{
     let mut json = JsonText::new(alloc);
     write_page(alloc, &mut json, answer, refusal, findings)?;
-    json.into_line()
+    Ok(json.into_line()?)
 }
 
 fn write_page(
     alloc: Global,
     json: &mut JsonText,
     answer: &str,
-    refusal: &Option<RefusalNote>,
+    refusal: &Option<RefusalDetail>,
     findings: &Option<Findings>,
 ) -> Result<(), AllocError> {
     json.begin_object_item()?;
@@ -82,11 +72,11 @@ fn write_findings(
 ) -> Result<(), AllocError> {
     json.member("rows", findings.layout.shape().rows())?;
     json.member("cols", findings.layout.shape().cols())?;
-    json.member("ranks", findings.rules.ranks == Ranks::Asked)?;
+    json.member("ranks", findings.rules.ranks == Ranks::Checked)?;
     write_rules(json, findings)?;
     write_products(json, findings)?;
     write_patch(json, findings)?;
-    write_wanted(alloc, json, findings)?;
+    write_expected(alloc, json, findings)?;
     write_run(json, findings)
 }
 

@@ -1,8 +1,8 @@
 //! Words for directions, numbers of a raster and rules, for degrees of a header, and for bytes that may be no ASCII.
 
-use crate::wanted::{no_data, number};
 use arrayvec::ArrayString;
-use drain_grid::{CellValues, Code, Direction, Held, NoData, Rule, UNITS_PER_DEGREE};
+use drain_faults::product_presence::{nodata_of, number_at};
+use drain_grid::{CellValues, Code, Direction, NoData, Rule, SetProduct, UNITS_PER_DEGREE};
 use std::alloc::{AllocError, Global};
 use std::fmt::Write;
 
@@ -39,11 +39,11 @@ pub(crate) fn shown_code(code: i64) -> Shown {
 }
 
 /// The number of a product at a cell; `no data` for its no-data number.
-pub(crate) fn shown_number(values: &CellValues, held: Held, nodata: &NoData) -> Shown {
-    let number = number(values, held);
-    if number == no_data(nodata, held) {
+pub(crate) fn shown_number(values: &CellValues, product: SetProduct, nodata: &NoData) -> Shown {
+    let number = number_at(values, product);
+    if number == nodata_of(nodata, product) {
         shown_word("no data")
-    } else if held == Held::Dir {
+    } else if product == SetProduct::Dir {
         shown_code(number)
     } else {
         shown_signed("", number)

@@ -1,12 +1,11 @@
 //! The first cell at which a rule fails, with its values and its neighbours', as JSON.
 
-use crate::facts::Findings;
 use crate::json_text::{JsonText, JsonValue};
-use crate::patch_text::{ROUND, values_at};
+use crate::patch_text::rows_of;
 use crate::rules_json::CellOf;
-use crate::wanted::{no_data, number, shown_products};
-use drain_grid::{CellValues, Direction, Held, Patch};
-use drain_rules::Ranks;
+use drain_explain::Findings;
+use drain_faults::product_presence::{nodata_of, number_at};
+use drain_grid::{CellValues, SetProduct};
 use std::alloc::AllocError;
 
 /// The cell, and three rows of three cells with it in the middle; null if there is none.
@@ -15,36 +14,25 @@ pub(crate) fn write_patch(json: &mut JsonText, findings: &Findings) -> Result<()
         return json.null("patch");
     };
     json.begin_object("patch")?;
-    json.member(
-        "cell",
-        CellOf {
-            layout: &findings.layout,
-            cell: first.cell,
-        },
-    )?;
-    write_rows(json, &first.patch, findings)?;
-    json.end_object()
-}
-
-fn write_rows(json: &mut JsonText, patch: &Patch, findings: &Findings) -> Result<(), AllocError> {
+    json.member("cell", CellOf(&findings.layout, first.cell))?;
     json.begin_list("values")?;
-    for row in ROUND {
-        write_row(json, patch, findings, row)?;
+    for row in &rows_of(&first.patch) {
+        write_row(json, findings, row)?;
     }
-    json.end_list()
+    json.end_list()?;
+    json.end_object()
 }
 
 /// The values of three cells; null outside the mosaic.
 fn write_row(
     json: &mut JsonText,
-    patch: &Patch,
     findings: &Findings,
-    row: [Option<Direction>; 3],
+    row: &[Option<CellValues>],
 ) -> Result<(), AllocError> {
     json.begin_list_item()?;
-    for place in row {
-        match values_at(patch, place) {
-            Some(values) => write_values(json, &values, findings)?,
+    for cell in row {
+        match cell {
+            Some(values) => write_values(json, values, findings)?,
             None => None::<bool>.append(json)?,
         }
     }
@@ -60,19 +48,19 @@ fn write_values(
     json.begin_object_item()?;
     json.member("ground", values.z)?;
     json.member("sink", values.sink)?;
-    for held in shown_products(Ranks::Asked, None) {
-        json.member(held.product().name(), told_number(values, findings, *held))?;
+    for product in SetProduct::ALL {
+        let number = shown_number(values, findings, product);
+        json.member(product.product().name(), number)?;
     }
     json.end_object()
 }
 
-/// A product's number; none if it is the no-data number, or the product isn't looked at.
-fn told_number(values: &CellValues, findings: &Findings, held: Held) -> Option<i64> {
-    let number = number(values, held);
-    let shown = shown_products(findings.rules.ranks, findings.only);
-    if number == no_data(&findings.rules.nodata, held) || !shown.contains(&held) {
-        None
-    } else {
+/// A product's number; none if it is the no-data number, or the product wasn't looked at.
+fn shown_number(values: &CellValues, findings: &Findings, product: SetProduct) -> Option<i64> {
+    let number = number_at(values, product);
+    if findings.looks_at(product) && number != nodata_of(&findings.rules.nodata, product) {
         Some(number)
+    } else {
+        None
     }
 }

@@ -2,7 +2,7 @@
 
 use crate::json_text::{JsonText, JsonValue};
 use crate::names::{shown_bytes, units_text};
-use crate::refusal_note::{Extent, NoData, RefusalNote, TileValue};
+use drain_explain::{Extent, NotData, RefusalDetail, TileValue};
 use drain_grid::{MAX_SIDE, MIN_SIDE};
 use drain_header::Place;
 use std::alloc::{AllocError, Global};
@@ -11,60 +11,64 @@ use std::alloc::{AllocError, Global};
 pub(crate) fn write_refusal(
     alloc: Global,
     json: &mut JsonText,
-    note: &Option<RefusalNote>,
+    detail: &Option<RefusalDetail>,
 ) -> Result<(), AllocError> {
-    let Some(note) = note else {
+    let Some(detail) = detail else {
         return json.null("refusal");
     };
     json.begin_object("refusal")?;
-    json.member("about", kind(note))?;
-    write_members(alloc, json, note)?;
+    json.member("about", kind(detail))?;
+    write_members(alloc, json, detail)?;
     json.end_object()
 }
 
-fn kind(note: &RefusalNote) -> &'static str {
-    match note {
-        RefusalNote::Side(_) => "side",
-        RefusalNote::Name(_) => "name",
-        RefusalNote::Shape { .. } => "shape",
-        RefusalNote::Position { .. } => "position",
-        RefusalNote::TileLength { .. } => "tile_length",
-        RefusalNote::RasterLength { .. } => "raster_length",
-        RefusalNote::Seam { .. } => "seam",
-        RefusalNote::SinkLine { .. } => "sink_line",
-        RefusalNote::SinkCell { .. } => "sink_cell",
+fn kind(detail: &RefusalDetail) -> &'static str {
+    match detail {
+        RefusalDetail::Side(_) => "side",
+        RefusalDetail::Name(_) => "name",
+        RefusalDetail::Shape { .. } => "shape",
+        RefusalDetail::Position { .. } => "position",
+        RefusalDetail::TileLength { .. } => "tile_length",
+        RefusalDetail::RasterLength { .. } => "raster_length",
+        RefusalDetail::Seam { .. } => "seam",
+        RefusalDetail::SinkLine { .. } => "sink_line",
+        RefusalDetail::SinkCell { .. } => "sink_cell",
     }
 }
 
-fn write_members(alloc: Global, json: &mut JsonText, note: &RefusalNote) -> Result<(), AllocError> {
-    match note {
-        RefusalNote::Side(side) => write_side(json, *side),
-        RefusalNote::Name(name) => write_shown(alloc, json, name),
-        RefusalNote::Shape {
+fn write_members(
+    alloc: Global,
+    json: &mut JsonText,
+    detail: &RefusalDetail,
+) -> Result<(), AllocError> {
+    match detail {
+        RefusalDetail::Side(side) => write_side(json, *side),
+        RefusalDetail::Name(name) => write_shown(alloc, json, name),
+        RefusalDetail::Shape {
             product,
             expected,
             found,
         } => write_both(json, "product", product.name(), *expected, *found),
-        RefusalNote::Position {
+        RefusalDetail::Position {
             product,
             expected,
             found,
         } => write_both(json, "product", product.name(), *expected, *found),
-        RefusalNote::TileLength {
+        RefusalDetail::TileLength {
             tile,
             expected,
             found,
         } => write_both(json, "tile", tile.text().as_str(), *expected, *found),
-        RefusalNote::RasterLength {
+        RefusalDetail::RasterLength {
             product,
             expected,
             found,
         } => write_both(json, "product", product.name(), *expected, *found),
-        RefusalNote::Seam { first, other } => {
+        RefusalDetail::Seam { first, other } => {
             json.member("first", *first)?;
             json.member("other", *other)
         }
-        RefusalNote::SinkLine {
+        RefusalDetail::SinkLine {
             number,
             start,
             bytes,
@@ -73,7 +77,7 @@ fn write_members(alloc: Global, json: &mut JsonText, note: &RefusalNote) -> Resu
             write_shown(alloc, json, start)?;
             json.member("bytes", *bytes)
         }
-        RefusalNote::SinkCell {
+        RefusalDetail::SinkCell {
             number,
             row,
             col,
@@ -142,7 +146,7 @@ fn write_sink_cell(
     line: u64,
     row: u64,
     col: u64,
-    why: NoData,
+    why: NotData,
 ) -> Result<(), AllocError> {
     json.member("line", line)?;
     json.member("row", row)?;
@@ -150,8 +154,8 @@ fn write_sink_cell(
     json.member(
         "found",
         match why {
-            NoData::Void => "void",
-            NoData::Outside => "outside",
+            NotData::Void => "void",
+            NotData::Outside => "outside",
         },
     )
 }

@@ -1,7 +1,7 @@
 //! What was expected and found in refused inputs: a line each.
 
 use crate::names::{shown_bytes, units_text};
-use crate::refusal_note::{Extent, NoData, RefusalNote, TileValue};
+use drain_explain::{NotData, RefusalDetail};
 use drain_grid::{MAX_SIDE, MIN_SIDE, Product};
 use drain_header::Place;
 use std::alloc::{AllocError, Global};
@@ -10,88 +10,98 @@ use std::alloc::{AllocError, Global};
 pub(crate) fn push_refusal(
     alloc: Global,
     text: &mut String,
-    note: &RefusalNote,
+    detail: &RefusalDetail,
 ) -> Result<(), AllocError> {
-    text.push_str("expected: ")?;
-    push_expected(text, note)?;
-    text.push_str("\nfound: ")?;
-    push_found(alloc, text, note)?;
-    text.push_str("\n")
-}
-
-fn push_expected(text: &mut String, note: &RefusalNote) -> Result<(), AllocError> {
-    match note {
-        RefusalNote::Side(_) => write!(text, "a side from {MIN_SIDE} to {MAX_SIDE}"),
-        RefusalNote::Name(_) => text.push_str("the name of a tile, such as N36W085.hgt"),
-        RefusalNote::Shape {
+    match detail {
+        RefusalDetail::Side(side) => writeln!(
+            text,
+            "expected: a side from {MIN_SIDE} to {MAX_SIDE}\nfound: {side}"
+        ),
+        RefusalDetail::Name(name) => writeln!(
+            text,
+            "expected: the name of a tile, such as N36W085.hgt\nfound: {}",
+            shown_bytes(alloc, name)?
+        ),
+        RefusalDetail::Shape {
             product,
             expected,
-            ..
-        } => push_shape(text, *product, expected),
-        RefusalNote::Position {
+            found,
+        } => {
+            let name = product.name();
+            writeln!(
+                text,
+                "expected: {name} with {} rows and {} columns\nfound: {name} with {} rows and {} columns",
+                expected.rows, expected.cols, found.rows, found.cols
+            )
+        }
+        RefusalDetail::Position {
             product,
             expected,
-            ..
-        } => push_position(text, *product, expected),
-        RefusalNote::TileLength { tile, expected, .. } => {
-            write!(text, "{} of {expected} bytes", tile.text())
+            found,
+        } => {
+            push_position(text, "expected", *product, expected)?;
+            push_position(text, "found", *product, found)
         }
-        RefusalNote::RasterLength {
+        RefusalDetail::TileLength {
+            tile,
+            expected,
+            found,
+        } => {
+            let name = tile.text();
+            writeln!(
+                text,
+                "expected: {name} of {expected} bytes\nfound: {name} of {found} bytes"
+            )
+        }
+        RefusalDetail::RasterLength {
             product,
             expected,
-            ..
-        } => write!(text, "{}.bil of {expected} bytes", product.name()),
-        RefusalNote::Seam { first, .. } => {
-            text.push_str("one height at the cell: ")?;
-            push_seam(text, first)
+            found,
+        } => {
+            let name = product.name();
+            writeln!(
+                text,
+                "expected: {name}.bil of {expected} bytes\nfound: {name}.bil of {found} bytes"
+            )
         }
-        RefusalNote::SinkLine { number, .. } => {
-            write!(text, "line {number}: a row and a column, such as 12 7")
-        }
-        RefusalNote::SinkCell { number, .. } => write!(text, "line {number}: a data cell"),
-    }
-}
-
-fn push_found(alloc: Global, text: &mut String, note: &RefusalNote) -> Result<(), AllocError> {
-    match note {
-        RefusalNote::Side(side) => write!(text, "{side}"),
-        RefusalNote::Name(name) => text.push_str(shown_bytes(alloc, name)?.as_str()),
-        RefusalNote::Shape { product, found, .. } => push_shape(text, *product, found),
-        RefusalNote::Position { product, found, .. } => push_position(text, *product, found),
-        RefusalNote::TileLength { tile, found, .. } => {
-            write!(text, "{} of {found} bytes", tile.text())
-        }
-        RefusalNote::RasterLength { product, found, .. } => {
-            write!(text, "{}.bil of {found} bytes", product.name())
-        }
-        RefusalNote::Seam { other, .. } => push_seam(text, other),
-        RefusalNote::SinkLine {
+        RefusalDetail::Seam { first, other } => writeln!(
+            text,
+            "expected: one height at the cell: {} has {}\nfound: {} has {}",
+            first.tile.text(),
+            first.metres,
+            other.tile.text(),
+            other.metres
+        ),
+        RefusalDetail::SinkLine {
             number,
             start,
             bytes,
         } => push_sink_line(alloc, text, *number, start, *bytes),
-        RefusalNote::SinkCell { row, col, why, .. } => {
-            let why = no_data(*why);
-            write!(text, "row {row}, column {col}, {why}")
+        RefusalDetail::SinkCell {
+            number,
+            row,
+            col,
+            why,
+        } => {
+            let why = why_no_data(*why);
+            writeln!(
+                text,
+                "expected: line {number}: a data cell\nfound: row {row}, column {col}, {why}"
+            )
         }
     }
 }
 
-/// A product's rows and columns.
-fn push_shape(text: &mut String, product: Product, extent: &Extent) -> Result<(), AllocError> {
-    let name = product.name();
-    write!(
-        text,
-        "{name} with {} rows and {} columns",
-        extent.rows, extent.cols
-    )
-}
-
 /// A product's place, as in its header.
-fn push_position(text: &mut String, product: Product, place: &Place) -> Result<(), AllocError> {
-    write!(
+fn push_position(
+    text: &mut String,
+    word: &str,
+    product: Product,
+    place: &Place,
+) -> Result<(), AllocError> {
+    writeln!(
         text,
-        "{} at ULXMAP {}, ULYMAP {}, XDIM {}, YDIM {}",
+        "{word}: {} at ULXMAP {}, ULYMAP {}, XDIM {}, YDIM {}",
         product.name(),
         units_text(place.ulx),
         units_text(place.uly),
@@ -100,12 +110,7 @@ fn push_position(text: &mut String, product: Product, place: &Place) -> Result<(
     )
 }
 
-/// The height of a tile at the cell.
-fn push_seam(text: &mut String, value: &TileValue) -> Result<(), AllocError> {
-    write!(text, "{} has {}", value.tile.text(), value.metres)
-}
-
-/// The line, and how much of it is shown, if it isn't the whole line.
+/// A bad line of the list of sinks, and how much of it is shown, if it isn't the whole line.
 fn push_sink_line(
     alloc: Global,
     text: &mut String,
@@ -115,19 +120,24 @@ fn push_sink_line(
 ) -> Result<(), AllocError> {
     let line = shown_bytes(alloc, start)?;
     let shown = start.len() as u64;
+    writeln!(
+        text,
+        "expected: line {number}: a row and a column, such as 12 7"
+    )?;
     if shown >= bytes {
-        write!(text, "line {number}: {line}")
+        writeln!(text, "found: line {number}: {line}")
     } else {
-        write!(
+        writeln!(
             text,
-            "line {number}, the first {shown} of {bytes} bytes: {line}"
+            "found: line {number}, the first {shown} of {bytes} bytes: {line}"
         )
     }
 }
 
-fn no_data(why: NoData) -> &'static str {
+/// Why a listed cell isn't a data cell.
+fn why_no_data(why: NotData) -> &'static str {
     match why {
-        NoData::Void => "a void",
-        NoData::Outside => "outside the mosaic",
+        NotData::Void => "a void",
+        NotData::Outside => "outside the mosaic",
     }
 }

@@ -1,11 +1,10 @@
 //! The rules, and the products at voids and at data cells, as JSON.
 
 use crate::degrees::{latitude, longitude};
-use crate::facts::Findings;
 use crate::json_text::{JsonText, JsonValue};
-use crate::wanted::{is_tried, shown_products};
+use drain_explain::Findings;
 use drain_faults::{ProductFaults, RULES, RuleFaults};
-use drain_grid::{Cell, Held, Rule};
+use drain_grid::{Cell, Rule, SetProduct};
 use drain_mosaic::Layout;
 use std::alloc::AllocError;
 
@@ -13,7 +12,7 @@ use std::alloc::AllocError;
 pub(crate) fn write_rules(json: &mut JsonText, findings: &Findings) -> Result<(), AllocError> {
     json.begin_list("rules")?;
     for rule in RULES {
-        if is_tried(rule, findings.only) {
+        if findings.tries(rule) {
             write_rule(json, &findings.layout, rule, findings.by_rule.of(rule))?;
         }
     }
@@ -35,9 +34,15 @@ fn write_rule(
 /// Each product that was checked, with its faults by rules VoidCell and Missing.
 pub(crate) fn write_products(json: &mut JsonText, findings: &Findings) -> Result<(), AllocError> {
     json.begin_list("products")?;
-    for held in shown_products(findings.rules.ranks, findings.only) {
-        let faults = findings.by_product.of(*held);
-        write_product(json, &findings.layout, *held, faults)?;
+    for product in SetProduct::ALL {
+        if findings.looks_at(product) {
+            write_product(
+                json,
+                &findings.layout,
+                product,
+                findings.by_product.of(product),
+            )?;
+        }
     }
     json.end_list()
 }
@@ -45,11 +50,11 @@ pub(crate) fn write_products(json: &mut JsonText, findings: &Findings) -> Result
 fn write_product(
     json: &mut JsonText,
     layout: &Layout,
-    held: Held,
+    product: SetProduct,
     faults: &ProductFaults,
 ) -> Result<(), AllocError> {
     json.begin_object_item()?;
-    json.member("product", held)?;
+    json.member("product", product)?;
     json.begin_object("at_voids")?;
     end_with_faults(json, layout, &faults.at_voids)?;
     json.begin_object("at_data")?;
@@ -65,14 +70,14 @@ fn end_with_faults(
 ) -> Result<(), AllocError> {
     json.member("cells", faults.cells)?;
     match faults.first {
-        Some(cell) => json.member("first", CellOf { layout, cell })?,
+        Some(cell) => json.member("first", CellOf(layout, cell))?,
         None => json.null("first")?,
     }
     json.end_object()
 }
 
 /// A product, by its name.
-impl JsonValue for Held {
+impl JsonValue for SetProduct {
     fn append(self, json: &mut JsonText) -> Result<(), AllocError> {
         self.product().name().append(json)
     }
@@ -80,14 +85,11 @@ impl JsonValue for Held {
 
 /// A cell of a mosaic, with its degrees.
 #[derive(Clone, Copy)]
-pub(crate) struct CellOf<'a> {
-    pub layout: &'a Layout,
-    pub cell: Cell,
-}
+pub(crate) struct CellOf<'a>(pub &'a Layout, pub Cell);
 
 impl<'a> JsonValue for CellOf<'a> {
     fn append(self, json: &mut JsonText) -> Result<(), AllocError> {
-        let CellOf { layout, cell } = self;
+        let CellOf(layout, cell) = self;
         json.begin_object_item()?;
         json.member("row", cell.row)?;
         json.member("col", cell.col)?;

@@ -1,11 +1,10 @@
 //! A table of the rules that fail, and lines of those that hold and of those not checked.
 
 use crate::degrees::{latitude_text, longitude_text};
-use crate::facts::Findings;
 use crate::names::{shown_indented, shown_rule};
-use crate::wanted::{is_tried, shown_products};
+use drain_explain::Findings;
 use drain_faults::{RULES, RuleFaults};
-use drain_grid::Rule;
+use drain_grid::{Rule, SetProduct};
 use drain_mosaic::Layout;
 use drain_rules::Ranks;
 use std::alloc::AllocError;
@@ -19,8 +18,8 @@ pub(crate) fn push_rules(text: &mut String, findings: &Findings) -> Result<(), A
     push_names(text, "hold:", findings, Standing::Holds)?;
     push_names(text, "not tried:", findings, Standing::Untried)?;
     match findings.rules.ranks {
-        Ranks::Asked => Ok(()),
-        Ranks::Unasked => text.push_str("ranks: not checked\n"),
+        Ranks::Checked => Ok(()),
+        Ranks::Ignored => text.push_str("ranks: not checked\n"),
     }
 }
 
@@ -33,7 +32,7 @@ enum Standing {
 }
 
 fn standing_of(findings: &Findings, rule: Rule) -> Standing {
-    if !is_tried(rule, findings.only) {
+    if !findings.tries(rule) {
         Standing::Untried
     } else if findings.by_rule.of(rule).cells != 0 {
         Standing::Fails
@@ -68,14 +67,14 @@ fn push_failing(text: &mut String, findings: &Findings, rule: Rule) -> Result<()
 
 /// A line for each product that is at fault.
 fn push_products(text: &mut String, findings: &Findings, rule: Rule) -> Result<(), AllocError> {
-    for held in shown_products(findings.rules.ranks, findings.only) {
-        let product = findings.by_product.of(*held);
+    for product in SetProduct::ALL {
+        let faults = findings.by_product.of(product);
         let faults = match rule {
-            Rule::VoidCell => product.at_voids,
-            _ => product.at_data,
+            Rule::VoidCell => faults.at_voids,
+            _ => faults.at_data,
         };
-        if faults.cells != 0 {
-            let name = shown_indented(held.product().name());
+        if findings.looks_at(product) && faults.cells != 0 {
+            let name = shown_indented(product.product().name());
             push_faults(text, name.as_str(), &findings.layout, &faults)?;
         }
     }

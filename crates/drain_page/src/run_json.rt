@@ -1,11 +1,11 @@
 //! The first path without an end, as JSON.
 
-use crate::facts::Findings;
 use crate::json_text::{JsonText, JsonValue};
 use crate::rules_json::CellOf;
+use drain_explain::Findings;
 use drain_grid::Cell;
 use drain_mosaic::Layout;
-use drain_runs::{EndlessRun, LostBy};
+use drain_paths::{EndlessPath, LostBy};
 use std::alloc::AllocError;
 
 /// Where the path begins, and the ring or the cell to which it leads; null if there is none.
@@ -15,25 +15,19 @@ pub(crate) fn write_run(json: &mut JsonText, findings: &Findings) -> Result<(), 
     };
     let layout = &findings.layout;
     json.begin_object("run")?;
-    json.member(
-        "from",
-        CellOf {
-            layout,
-            cell: *cell,
-        },
-    )?;
+    json.member("from", CellOf(layout, *cell))?;
     write_end(json, layout, run)?;
     json.end_object()
 }
 
 /// The ring or the cell to which the path leads; the other is null.
-fn write_end(json: &mut JsonText, layout: &Layout, run: &EndlessRun) -> Result<(), AllocError> {
+fn write_end(json: &mut JsonText, layout: &Layout, run: &EndlessPath) -> Result<(), AllocError> {
     match run {
-        EndlessRun::Ring { cells, length } => {
+        EndlessPath::Ring { cells, length } => {
             write_ring(json, layout, cells, *length)?;
             json.null("lost")
         }
-        EndlessRun::Lost { cell, by } => {
+        EndlessPath::Lost { cell, by } => {
             json.null("ring")?;
             write_lost(json, layout, *cell, *by)
         }
@@ -51,11 +45,7 @@ fn write_ring(
     json.member("length", length as u64)?;
     json.begin_list("cells")?;
     for cell in cells {
-        CellOf {
-            layout,
-            cell: *cell,
-        }
-        .append(json)?;
+        CellOf(layout, *cell).append(json)?;
     }
     json.end_list()?;
     json.end_object()
@@ -69,7 +59,7 @@ fn write_lost(
     by: LostBy,
 ) -> Result<(), AllocError> {
     json.begin_object("lost")?;
-    json.member("cell", CellOf { layout, cell })?;
+    json.member("cell", CellOf(layout, cell))?;
     json.member(
         "by",
         match by {

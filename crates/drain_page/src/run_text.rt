@@ -1,19 +1,19 @@
 //! A path without an end, in words.
 
 use drain_grid::Cell;
-use drain_runs::{EndlessRun, LostBy};
+use drain_paths::{EndlessPath, LostBy};
 use std::alloc::AllocError;
 
 /// Appends the cell where the path begins, and where it leads.
-pub(crate) fn push_run(text: &mut String, from: Cell, run: &EndlessRun) -> Result<(), AllocError> {
+pub(crate) fn push_run(text: &mut String, from: Cell, run: &EndlessPath) -> Result<(), AllocError> {
     write!(
         text,
         "path without an end: from row {}, column {}",
         from.row, from.col
     )?;
     match run {
-        EndlessRun::Ring { cells, length } => push_ring(text, cells, *length),
-        EndlessRun::Lost { cell, by } => writeln!(
+        EndlessPath::Ring { cells, length } => push_ring(text, cells, *length),
+        EndlessPath::Lost { cell, by } => writeln!(
             text,
             "\n  path stops at row {}, column {}: {}",
             cell.row,

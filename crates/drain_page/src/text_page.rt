@@ -3,26 +3,18 @@
 ghost use Rattle.std.specs.Prelude.{◌≡◌, ◌++◌, ◌∷◌, ℕ, List, IfOk};
 ghost use Rattle.drain_page.specs.Lines.{line_of};
 
-use crate::facts::{Facts, Findings};
+use crate::facts::Facts;
 use crate::patch_text::push_first;
 use crate::refusal_text::push_refusal;
 use crate::rules_text::push_rules;
 use crate::run_text::push_run;
+use drain_explain::Findings;
 use drain_grid::OutOfMemory;
 use std::alloc::{AllocError, Global};
 
 /// The page: the answer's line, and then its explanation, part after part with an empty line between. Each line ends
 /// with a line feed.
 pub fn page_text(alloc: Global, facts: &Facts) -> Result<Vec<u8>, OutOfMemory>
-    ensures line_first { IfOk result (λ text. (rest : List ℕ) × (text.items ≡ line_of facts.now.answer ++ 10 ∷ rest)) }
-{
-    match page(alloc, facts) {
-        Ok(text) => Ok(text),
-        Err(AllocError) => Err(OutOfMemory),
-    }
-}
-
-fn page(alloc: Global, facts: &Facts) -> Result<Vec<u8>, AllocError>
     ensures line_first { IfOk result (λ text. (rest : List ℕ) × (text.items ≡ line_of facts.now.answer ++ 10 ∷ rest)) }
 {
     let mut text = Vec::new(alloc);
@@ -36,9 +28,9 @@ fn page(alloc: Global, facts: &Facts) -> Result<Vec<u8>, AllocError>
 /// The page below the answer's line.
 fn explanation(alloc: Global, facts: &Facts) -> Result<String, AllocError> {
     let mut text = String::new(alloc);
-    if let Some(note) = &facts.refusal {
+    if let Some(detail) = &facts.refusal {
         text.push_str("\n")?;
-        push_refusal(alloc, &mut text, note)?;
+        push_refusal(alloc, &mut text, detail)?;
     }
     if let Some(findings) = &facts.findings {
         push_findings(alloc, &mut text, findings)?;

@@ -1,6 +1,6 @@
 -- The line for the answer of an audit of some rasters. Its words are this project's own.
 use Rattle.std.specs.Prelude.{ℕ, List, ◌++◌, Result, Ok, Err, codes, decimal}
-use Rattle.drain_answer.specs.FillLines.{accepted_line as surface_line}
+use Rattle.drain_answer.specs.FillLines.{fill_accepted_line as surface_line}
 use Rattle.drain_answer.specs.Lines.{accepted_line, refusal_line, rejected_line}
 use Rattle.drain_answer.specs.declared.refusal.Refusal.{Refusal}
 use Rattle.drain_part_audit.specs.declared.part_verdict.PartVerdict.{PartVerdict}

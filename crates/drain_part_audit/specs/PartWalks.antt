@@ -11,11 +11,11 @@ use Rattle.drain_rules.specs.declared.verdict.Verdict.TheVariants.{Accepted, Rej
 use Rattle.drain_rules.specs.PatchRows.{AreRowPatches}
 use Rattle.drain_rules.specs.Verdicts.{counts_of}
 use Rattle.drain_part_audit.specs.declared.part_walk.PartWalk.{PartWalk}
-use Rattle.drain_part_audit.specs.PartFindings.{IsFindingOf}
+use Rattle.drain_part_audit.specs.PartFindings.{IsRowOutcomeOf}
 
 -- it is right of the grid and its products, for these no-data numbers
 abbrev pub IsRightPart : NoDataNumbers → Grid → Products → PartWalk → Type 0
-IsRightPart nodata g ps w = IsFindingOf (part_rules w.given nodata) (IsPartRule w.given) g ps w.rows w.labels w.finding
+IsRightPart nodata g ps w = IsRowOutcomeOf (part_rules w.given nodata) (IsPartRule w.given) g ps w.rows w.labels w.finding
 
 -- this holds of each grid of which the walk is right, where these are the patches of its next row
 abbrev pub OfNextPartRow : NoDataNumbers → PartWalk → ℕ → (ℕ → Patch) → (Grid → Products → Type 0) → Type 0

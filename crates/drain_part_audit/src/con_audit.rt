@@ -8,22 +8,22 @@ ghost use Rattle.drain_grid.specs.declared.sink_line.SinkLine.{SinkLine};
 ghost use Rattle.drain_grid.specs.Grid as grid;
 ghost use Rattle.drain_grid.specs.Grid.{Grid};
 ghost use Rattle.drain_hgt.specs.Inputs.{names_of};
-ghost use Rattle.drain_kernel.specs.declared.rules.Ranks.TheVariants.{Unasked};
+ghost use Rattle.drain_kernel.specs.declared.rules.Ranks.TheVariants.{Ignored};
 ghost use Rattle.drain_kernel.specs.declared.rules.Rules.{Rules};
 ghost use Rattle.drain_parts.specs.declared.given.Given.TheVariants.{Con};
 ghost use Rattle.drain_verdict.specs.Answers.{AreNotesOf};
-ghost use Rattle.drain_verdict.specs.Audits.{OfFour};
+ghost use Rattle.drain_verdict.specs.Audits.{ForAudit};
 ghost use Rattle.drain_verdict.specs.Stages.{IsLayoutOf};
 ghost use Rattle.drain_verdict.specs.Uses.{AuditUses};
-ghost use Rattle.drain_part_audit.specs.PartAudits.{IsPartAnswer, answer_in};
+ghost use Rattle.drain_part_audit.specs.PartAudits.{IsPartAnswer, part_answer_in};
 ghost use Rattle.drain_part_audit.specs.PartVerdicts.{IsConVerdict};
 ghost use Rattle.drain_part_audit.specs.PartWalks.{IsPartVerdictOf};
 
 use crate::given_rasters::GivenCon;
 use crate::joined::verdict_of_surface;
 use crate::part_audit::PartRead;
-use crate::part_notes::PartNotes;
 use crate::part_verdict::PartVerdict;
+use crate::part_visitor::PartVisitor;
 use drain_answer::Refusal;
 use drain_con_rows::ConRows;
 use drain_device::ByteSource;
@@ -31,16 +31,16 @@ use drain_grid::{OutOfMemory, Shape, parse_sinks};
 use drain_hgt::TileInput;
 use drain_hgt::laws::one_name;
 use drain_mosaic::Layout;
-use drain_rows::{BothNotes, RowNotes};
+use drain_paths::CellFlows;
+use drain_rows::{BothVisitors, RowVisitor};
 use drain_rules::{GridWalk, Ranks, Verdict};
-use drain_runs::CellFlows;
 use drain_verdict::AuditProducts;
 use drain_verdict::answer::answer_on;
 use std::alloc::Global;
 
 /// The answer to the bytes of inputs of this mosaic, of which con alone is given; each row of the grid is noted. If
 /// every rule about con holds, the elevations are flooded, and con is compared with the filled surface.
-pub fn audit_con<R: ByteSource, N: RowNotes + Drop>(
+pub fn audit_con<R: ByteSource, N: RowVisitor + Drop>(
     alloc: Global,
     layout: &Layout,
     sinks: &[u8],
@@ -51,18 +51,18 @@ pub fn audit_con<R: ByteSource, N: RowNotes + Drop>(
     requires laid { IsLayoutOf layout.now.side (names_of tiles.old) layout.now }
     requires uncounted { N.counts 0 more }
     requires unnoted { (rules : Rules) (g : Grid) (ps : grid.Products) → N.are_of rules g ps 0 more }
-    ensures answer { OfFour R.bytes_left layout.now.side tiles.old sinks.now products.old (λ inputs. IsPartAnswer Con inputs (answer_in result)) }
-    ensures noted { IfOk result (λ read. OfFour R.bytes_left layout.now.side tiles.old sinks.now products.old (λ inputs. AreNotesOf N.are_of Unasked inputs read.more)) }
+    ensures answer { ForAudit R.bytes_left layout.now.side tiles.old sinks.now products.old (λ inputs. IsPartAnswer Con inputs (part_answer_in result)) }
+    ensures noted { IfOk result (λ read. ForAudit R.bytes_left layout.now.side tiles.old sinks.now products.old (λ inputs. AreNotesOf N.are_of Ignored inputs read.more)) }
     ensures flows { IfOk result (λ read. read.flows ≡ []) }
     ensures uses { AuditUses R.bytes_left R.counts layout.now.side (tiles.old, products.old) (tiles.new, products.new) result }
 {
     // The law that bytes name one tile.
     one_name();
-    let mut notes = BothNotes {
+    let mut notes = BothVisitors {
         first: ConRows::new(alloc),
-        second: BothNotes {
-            first: PartNotes::<GivenCon>::new(alloc),
-            second: BothNotes {
+        second: BothVisitors {
+            first: PartVisitor::<GivenCon>::new(alloc),
+            second: BothVisitors {
                 first: more,
                 second: GridWalk::new(alloc),
             },
@@ -74,16 +74,16 @@ pub fn audit_con<R: ByteSource, N: RowNotes + Drop>(
         sinks,
         tiles,
         products,
-        Ranks::Unasked,
+        Ranks::Ignored,
         &mut notes,
     )?;
     let shape = layout.shape();
     let of_rules = notes.second.first.verdict(shape);
-    let BothNotes {
+    let BothVisitors {
         first: rows,
         second,
     } = notes;
-    let BothNotes { first: _, second } = second;
+    let BothVisitors { first: _, second } = second;
     let more = second.first;
     match verdict_on(alloc, rows, shape, sinks, &of_rules) {
         Ok(verdict) => Ok(PartRead {

@@ -3,15 +3,15 @@
 ghost use Rattle.std.specs.Prelude.{◌≡◌, ◌*◌, length, MatchOption};
 ghost use Rattle.drain_grid.specs.Certificate.{IsFirstEndless};
 ghost use Rattle.drain_grid.specs.Grid.{Grid, Products};
-ghost use Rattle.drain_runs.specs.Flows.{AreFlowsOf};
-ghost use Rattle.drain_runs.specs.KnownFlows.{AreKnownFlows};
+ghost use Rattle.drain_paths.specs.Flows.{AreFlowsOf};
+ghost use Rattle.drain_paths.specs.KnownFlows.{AreKnownFlows};
 ghost use Rattle.drain_rows.specs.Runs.{AllRunsEnd};
 ghost use Rattle.drain_part_audit.specs.Joined.{IsOfSurface, IsOfWays};
 
 use crate::part_verdict::PartVerdict;
 use drain_grid::{Cell, Shape};
+use drain_paths::CellFlows;
 use drain_rules::{Counts, FillCounts, Verdict};
-use drain_runs::CellFlows;
 
 /// The first data cell whose path doesn't end, from the flows of all cells of a grid. None if flows and cells differ in
 /// number, which never happens if the sources' bytes are known.

@@ -2,14 +2,14 @@
 
 use drain_grid::OutOfMemory;
 use drain_kernel::Rules;
-use drain_rows::{HeldRow, RowNotes};
+use drain_rows::{RowBuffer, RowVisitor};
 use drain_rules::ThreeRows;
 
 /// Nothing is noted of any row.
 #[derive(Drop)]
-pub struct NoNotes;
+pub struct NoVisitor;
 
-impl RowNotes for NoNotes {
+impl RowVisitor for NoVisitor {
     ghost use Rattle.std.specs.Prelude.{true};
 
     ghost counts = { λ n notes. Unit {0} };
@@ -22,7 +22,7 @@ impl RowNotes for NoNotes {
 
     fn note(
         &mut self,
-        _row: &HeldRow,
+        _row: &RowBuffer,
         _rows: &ThreeRows<'_>,
         _rules: &Rules,
     ) -> Result<(), OutOfMemory> {

@@ -4,18 +4,18 @@ ghost use Rattle.std.specs.Prelude.{◌≡◌, ◌↔◌, IfOk};
 ghost use Rattle.drain_grid.specs.Grid as grid;
 ghost use Rattle.drain_grid.specs.Grid.{Grid};
 ghost use Rattle.drain_hgt.specs.Inputs.{names_of};
-ghost use Rattle.drain_kernel.specs.declared.rules.Ranks.TheVariants.{Unasked};
+ghost use Rattle.drain_kernel.specs.declared.rules.Ranks.TheVariants.{Ignored};
 ghost use Rattle.drain_kernel.specs.declared.rules.Rules.{Rules};
 ghost use Rattle.drain_verdict.specs.Answers.{AreNotesOf};
-ghost use Rattle.drain_verdict.specs.Audits.{OfFour};
+ghost use Rattle.drain_verdict.specs.Audits.{ForAudit};
 ghost use Rattle.drain_verdict.specs.Stages.{IsLayoutOf};
 ghost use Rattle.drain_verdict.specs.Uses.{AuditUses};
-ghost use Rattle.drain_part_audit.specs.PartAudits.{AreRight, IsPartAnswer, answer_in};
+ghost use Rattle.drain_part_audit.specs.PartAudits.{ArePartsRight, IsPartAnswer, part_answer_in};
 ghost use Rattle.drain_part_audit.specs.PartVerdicts.{IsPartAcceptance};
 
 use crate::con_audit::audit_con;
 use crate::given_rasters::{GivenDir, GivenDirAcc, GivenDirBas};
-use crate::no_notes::NoNotes;
+use crate::no_notes::NoVisitor;
 use crate::part_verdict::PartVerdict;
 use crate::way_audit::audit_ways;
 use drain_answer::Refusal;
@@ -25,8 +25,8 @@ use drain_hgt::laws::one_name;
 use drain_mosaic::Layout;
 use drain_parts::Given;
 use drain_parts::laws::{part_is_local, surface_is_part};
-use drain_rows::RowNotes;
-use drain_runs::CellFlows;
+use drain_paths::CellFlows;
+use drain_rows::RowVisitor;
 use drain_verdict::AuditProducts;
 use drain_verdict::layout::layout_of;
 use std::alloc::Global;
@@ -56,10 +56,10 @@ pub fn audit_part<R: ByteSource>(
     given: Given,
 ) -> Result<PartVerdict, Refusal>
     // Unless memory ran out or a read failed, the answer is that of the bytes.
-    ensures answer { OfFour R.bytes_left side tiles.old sinks.now products.old (λ inputs. IsPartAnswer given inputs result) }
+    ensures answer { ForAudit R.bytes_left side tiles.old sinks.now products.old (λ inputs. IsPartAnswer given inputs result) }
 
     // If it gives a verdict, it accepts exactly if the given rasters are part of a correct set.
-    ensures exactly { IfOk result (λ verdict. OfFour R.bytes_left side tiles.old sinks.now products.old (λ inputs. IsPartAcceptance verdict ↔ AreRight given inputs)) }
+    ensures exactly { IfOk result (λ verdict. ForAudit R.bytes_left side tiles.old sinks.now products.old (λ inputs. IsPartAcceptance verdict ↔ ArePartsRight given inputs)) }
 
     // How far it reads, when a read fails, and what is unchanged: as for an audit.
     ensures uses { AuditUses R.bytes_left R.counts side (tiles.old, products.old) (tiles.new, products.new) result }
@@ -79,18 +79,18 @@ fn answer_of<R: ByteSource>(
     products: &mut AuditProducts<R>,
     given: Given,
 ) -> Result<PartVerdict, Refusal>
-    ensures answer { OfFour R.bytes_left side tiles.old sinks.now products.old (λ inputs. IsPartAnswer given inputs result) }
+    ensures answer { ForAudit R.bytes_left side tiles.old sinks.now products.old (λ inputs. IsPartAnswer given inputs result) }
     ensures uses { AuditUses R.bytes_left R.counts side (tiles.old, products.old) (tiles.new, products.new) result }
 {
     // The law that bytes name one tile.
     one_name();
     let layout = layout_of(alloc, side, tiles)?;
-    let read = audit_part_on(alloc, &layout, sinks, tiles, products, given, NoNotes)?;
+    let read = audit_part_on(alloc, &layout, sinks, tiles, products, given, NoVisitor)?;
     Ok(read.verdict)
 }
 
 /// The answer to the bytes of inputs of this mosaic; each row of the grid is noted.
-pub fn audit_part_on<R: ByteSource, N: RowNotes + Drop>(
+pub fn audit_part_on<R: ByteSource, N: RowVisitor + Drop>(
     alloc: Global,
     layout: &Layout,
     sinks: &[u8],
@@ -102,8 +102,8 @@ pub fn audit_part_on<R: ByteSource, N: RowNotes + Drop>(
     requires laid { IsLayoutOf layout.now.side (names_of tiles.old) layout.now }
     requires uncounted { N.counts 0 more }
     requires unnoted { (rules : Rules) (g : Grid) (ps : grid.Products) → N.are_of rules g ps 0 more }
-    ensures answer { OfFour R.bytes_left layout.now.side tiles.old sinks.now products.old (λ inputs. IsPartAnswer given inputs (answer_in result)) }
-    ensures noted { IfOk result (λ read. OfFour R.bytes_left layout.now.side tiles.old sinks.now products.old (λ inputs. AreNotesOf N.are_of Unasked inputs read.more)) }
+    ensures answer { ForAudit R.bytes_left layout.now.side tiles.old sinks.now products.old (λ inputs. IsPartAnswer given inputs (part_answer_in result)) }
+    ensures noted { IfOk result (λ read. ForAudit R.bytes_left layout.now.side tiles.old sinks.now products.old (λ inputs. AreNotesOf N.are_of Ignored inputs read.more)) }
     ensures uses { AuditUses R.bytes_left R.counts layout.now.side (tiles.old, products.old) (tiles.new, products.new) result }
 {
     match given {

@@ -32,7 +32,7 @@ impl PartPatchRow for ThreeRows<'_> {
         if given.has_acc() {
             let rules = Rules {
                 nodata: *nodata,
-                ranks: Ranks::Unasked,
+                ranks: Ranks::Ignored,
             };
             self.kept_from(&rules, from)
         } else if given.has_dir() {

@@ -3,9 +3,9 @@
 ghost use Rattle.std.specs.Prelude.{◌<◌, ◌+◌, ◌*◌, IfOk, OnErr};
 ghost use Rattle.drain_grid.specs.declared.cell.TheConstants.{MAX_LENGTH};
 ghost use Rattle.drain_parts.specs.PartRules.{IsPartRule, part_rules};
-ghost use Rattle.drain_rules.specs.Findings.{IsBounded};
+ghost use Rattle.drain_rules.specs.RowOutcomes.{IsBounded};
 ghost use Rattle.drain_rules.specs.PatchRows.{IsAtMost};
-ghost use Rattle.drain_part_audit.specs.PartFindings.{HasNewLabelOf, IsFindingOf, OfRowBelowOf};
+ghost use Rattle.drain_part_audit.specs.PartFindings.{HasNewLabelOf, IsRowOutcomeOf, OfRowBelowOf};
 
 use crate::part_patch_row::PartPatchRow;
 use crate::part_row::part_row;
@@ -13,7 +13,7 @@ use drain_basin::OutletLabels;
 use drain_grid::{Cell, NoData, OutOfMemory, Shape};
 use drain_parts::Given;
 use drain_rules::cell_rules::Stop;
-use drain_rules::finding::Finding;
+use drain_rules::row_outcome::RowOutcome;
 use drain_rules::tally::Tally;
 use drain_rules::{Counts, Verdict};
 use std::alloc::Global;
@@ -24,7 +24,7 @@ pub struct PartWalk {
     rows: u32,
     given: Given,
     labels: OutletLabels,
-    finding: Finding,
+    finding: RowOutcome,
     ghost bounded: { IsBounded rows finding },
 }
 
@@ -47,7 +47,7 @@ impl PartWalk {
             rows: 0,
             given,
             labels: OutletLabels::new(alloc),
-            finding: Finding::Sound(Tally::new()),
+            finding: RowOutcome::Sound(Tally::new()),
         }
     }
 
@@ -67,7 +67,7 @@ impl PartWalk {
         ensures finding { OnOk result (OfNextPartRow nodata.now self.old (R.len patches.now) (R.shown patches.now) (λ g ps. IsRightPart nodata.now g ps self.new)) }
         ensures err { OnErr result (OfNextPartRow nodata.now self.old (R.len patches.now) (R.shown patches.now) (HasNewLabelOf (part_rules self.old.given nodata.now) (IsPartRule self.old.given))) }
     {
-        if let Finding::Sound(total) = self.finding {
+        if let RowOutcome::Sound(total) = self.finding {
             match find_in_row(
                 total,
                 self.rows,
@@ -89,14 +89,14 @@ impl PartWalk {
         ensures verdict { (nodata : NoDataNumbers) (g : Grid) (ps : Products) → g.extent ≡ shape → self.now.rows ≡ g.extent.rows → IsRightPart nodata g ps self.now → IsPartVerdictOf self.now.given nodata g ps result }
     {
         match self.finding {
-            Finding::Sound(total) => Verdict::Accepted(Counts {
+            RowOutcome::Sound(total) => Verdict::Accepted(Counts {
                 rows: shape.rows(),
                 cols: shape.cols(),
                 data_cells: total.data_cells,
                 raised: total.raised,
                 outlets: total.outlets,
             }),
-            Finding::Faulty(cell, rule) => Verdict::Rejected {
+            RowOutcome::Faulty(cell, rule) => Verdict::Rejected {
                 rule,
                 row: cell.row,
                 col: cell.col,
@@ -114,10 +114,10 @@ fn find_in_row<R: PartPatchRow>(
     nodata: &NoData,
     given: Given,
     labels: &mut OutletLabels,
-) -> Result<Finding, OutOfMemory>
+) -> Result<RowOutcome, OutOfMemory>
     requires row { row < MAX_LENGTH }
     requires bounded { IsAtMost (row * MAX_LENGTH) total }
-    ensures finding { IfOk result (λ finding. OfRowBelowOf (part_rules given nodata.now) (IsPartRule given) row (R.len patches.now) (R.shown patches.now) labels.old total (λ g ps. IsFindingOf (part_rules given nodata.now) (IsPartRule given) g ps (row + 1) labels.new finding)) }
+    ensures finding { IfOk result (λ finding. OfRowBelowOf (part_rules given nodata.now) (IsPartRule given) row (R.len patches.now) (R.shown patches.now) labels.old total (λ g ps. IsRowOutcomeOf (part_rules given nodata.now) (IsPartRule given) g ps (row + 1) labels.new finding)) }
     ensures bounded { IfOk result (IsBounded (row + 1)) }
     ensures err { OnErr result (OfRowBelowOf (part_rules given nodata.now) (IsPartRule given) row (R.len patches.now) (R.shown patches.now) labels.old total (HasNewLabelOf (part_rules given nodata.now) (IsPartRule given))) }
 {
@@ -125,10 +125,10 @@ fn find_in_row<R: PartPatchRow>(
         Ok(tally) => {
             let mut sum = total;
             sum.join(tally);
-            Ok(Finding::Sound(sum))
+            Ok(RowOutcome::Sound(sum))
         }
         Err(end) => match end.stop {
-            Stop::Fault(rule) => Ok(Finding::Faulty(Cell { row, col: end.col }, rule)),
+            Stop::Fault(rule) => Ok(RowOutcome::Faulty(Cell { row, col: end.col }, rule)),
             Stop::OutOfMemory => Err(OutOfMemory),
         },
     }

@@ -5,7 +5,7 @@ use Rattle.drain_grid.specs.Grid.{Grid, Products}
 use Rattle.drain_grid.specs.Values.{NoDataNumbers}
 use Rattle.drain_kernel.specs.declared.rules.Rules.{Rules}
 use Rattle.drain_part_faults.specs.declared.part_walk.PartFaultWalk.{PartFaultWalk}
-use Rattle.drain_part_faults.specs.PartNotes.{ArePartNotes, IsPartRightOf}
+use Rattle.drain_part_faults.specs.PartVisitor.{ArePartNotes, IsPartRightOf}
 
 -- it is right of every grid
 pub begun : (walk : PartFaultWalk) → walk.rows ≡ 0 → ((nodata : NoDataNumbers) (g : Grid) (ps : Products) → IsPartRightOf nodata g ps walk) →

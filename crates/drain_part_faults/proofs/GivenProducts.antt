@@ -2,25 +2,25 @@
 use Rattle.std.proofs.Common.{◌≡◌, ◌↔◌, Bool, true, false, not, IsTrue, inl, refl, subst}
 use Rattle.std.proofs.lemmas.Bool.{false≢true, true≢false}
 use Rattle.drain_grid.specs.declared.cell.Cell.{Cell}
-use Rattle.drain_grid.specs.declared.held.Held.{Held}
-use Rattle.drain_grid.specs.declared.held.Held.TheVariants.{Con, Dir, Acc, Bas, Rnk}
+use Rattle.drain_grid.specs.declared.set_product.SetProduct.{SetProduct}
+use Rattle.drain_grid.specs.declared.set_product.SetProduct.TheVariants.{Con, Dir, Acc, Bas, Rnk}
 use Rattle.drain_grid.specs.declared.patch.Patch.{Patch}
 use Rattle.drain_grid.specs.declared.per_product.PerProduct.{PerProduct}
 use Rattle.drain_grid.specs.declared.rule.Rule.TheVariants.{VoidCell, Missing}
 use Rattle.drain_grid.specs.Values.{NoDataNumbers}
-use Rattle.drain_kernel.specs.declared.rules.Ranks.TheVariants.{Asked}
+use Rattle.drain_kernel.specs.declared.rules.Ranks.TheVariants.{Checked}
 use Rattle.drain_kernel.specs.declared.rules.Rules.{Rules}
 use Rattle.drain_faults.specs.declared.product_faults.ProductFaults.{ProductFaults}
-use Rattle.drain_faults.specs.ByProduct.{MissingHoldsOf, VoidCellHoldsOf, WhereAsked}
+use Rattle.drain_faults.specs.ByProduct.{MissingHoldsOf, VoidCellHoldsOf, WhereChecked}
 use Rattle.drain_faults.specs.Flags.{TellsFault}
 use Rattle.drain_faults.proofs.Flags.{tells_not, tells_same}
 use Rattle.drain_parts.specs.declared.given.Given.{Given}
-use Rattle.drain_parts.specs.Given.{IfGiven}
+use Rattle.drain_parts.specs.Given.{IfGiven, has_product}
 use Rattle.drain_parts.specs.PartRules.{part_rules}
-use Rattle.drain_part_faults.specs.PartProducts.{ArePartsNotedAt, IsPartNotedAt, MissingOfPart, VoidCellOfPart, has_product}
+use Rattle.drain_part_faults.specs.PartProducts.{ArePartsNotedAt, IsPartNotedAt, MissingOfPart, VoidCellOfPart}
 
 -- with ranks, the fact is required of each product
-of_asked : (product : Held) (P : Type 0) → WhereAsked product Asked P ↔ P
+of_asked : (product : SetProduct) (P : Type 0) → WhereChecked product Checked P ↔ P
 of_asked Con P = (λ h. h, λ h. h)
 of_asked Dir P = (λ h. h, λ h. h)
 of_asked Acc P = (λ h. h, λ h. h)
@@ -37,10 +37,10 @@ of_none : (b : Bool) (N P : Type 0) → b ≡ false → N → IfGiven b P
 of_none true N P is = absurd (true≢false is)
 of_none false N P is = λ n. tt
 
-module _ (given : Given) (nodata : NoDataNumbers) (product : Held) (p : Patch) where
+module _ (given : Given) (nodata : NoDataNumbers) (product : SetProduct) (p : Patch) where
   -- the rules as they are for products with these numbers
   abbrev rules : Rules
-  rules = record { nodata = nodata; ranks = Asked }
+  rules = record { nodata = nodata; ranks = Checked }
 
   -- tests of a given product
   pub void_told : (b : Bool) → IsTrue (has_product given product) → IsTrue b ↔ VoidCellHoldsOf rules product p → TellsFault (not b) (VoidCellOfPart given nodata product p)
@@ -66,14 +66,14 @@ module _ (given : Given) (nodata : NoDataNumbers) (product : Held) (p : Patch) w
 
 module _ (given : Given) (nodata : NoDataNumbers) (p : Patch) where
   -- where the rules hold each product keeps its part of them
-  void_of : part_rules given nodata p VoidCell → (product : Held) → VoidCellOfPart given nodata product p
+  void_of : part_rules given nodata p VoidCell → (product : SetProduct) → VoidCellOfPart given nodata product p
   void_of holds Con = λ void. (holds void).con_is
   void_of holds Dir = λ void. (holds void).dir_is
   void_of holds Acc = λ void. (holds void).acc_is
   void_of holds Bas = λ void. (holds void).bas_is
   void_of holds Rnk = λ void. tt
 
-  data_of : part_rules given nodata p Missing → (product : Held) → MissingOfPart given nodata product p
+  data_of : part_rules given nodata p Missing → (product : SetProduct) → MissingOfPart given nodata product p
   data_of holds Con = λ has. (holds has).con_differs
   data_of holds Dir = λ has. (holds has).dir_differs
   data_of holds Acc = λ has. (holds has).acc_differs

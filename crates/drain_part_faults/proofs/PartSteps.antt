@@ -12,18 +12,18 @@ use Rattle.drain_grid.specs.GridRules.{HoldsAt}
 use Rattle.drain_grid.specs.PerProduct.{of_product}
 use Rattle.drain_grid.specs.Rule.{IsAnyRule, IsLeastFault}
 use Rattle.drain_grid.specs.Values.{NoDataNumbers}
-use Rattle.drain_rules.specs.Findings.{cells_above}
+use Rattle.drain_rules.specs.RowOutcomes.{cells_above}
 use Rattle.drain_rules.specs.Labels.{IsOutletByCode}
 use Rattle.drain_rules.specs.PatchRows.{AreRowPatches}
 use Rattle.drain_rules.specs.Rows.{place}
 use Rattle.drain_rules.proofs.LabelsBefore.{AreLabelsBefore-more, AreLabelsBefore-row}
 use Rattle.drain_faults.specs.declared.fault_map.FaultMap.{FaultMap}
 use Rattle.drain_faults.specs.declared.faulty_patch.FaultyPatch.{FaultyPatch}
-use Rattle.drain_faults.specs.declared.found.Found.{Found}
+use Rattle.drain_faults.specs.declared.fault_tally.FaultTally.{FaultTally}
 use Rattle.drain_faults.specs.declared.product_faults.ProductFaults.{ProductFaults}
 use Rattle.drain_faults.specs.declared.rule_faults.RuleFaults.{RuleFaults}
 use Rattle.drain_faults.specs.CellFaults.{IsFirstNoted, IsNotedAt}
-use Rattle.drain_faults.specs.FaultMaps.{AreDrawn, pixel_of}
+use Rattle.drain_faults.specs.FaultMaps.{AreDrawn, fault_pixel}
 use Rattle.drain_faults.specs.FaultWalks.{IsNewOutletAt, cells_before}
 use Rattle.drain_faults.specs.PerRule.{of_rule}
 use Rattle.drain_faults.proofs.CellsBefore.{cells_before-all, cells_before-few, cells_before-more, cells_before-none}
@@ -87,7 +87,7 @@ module _ (given : Given) (nodata : NoDataNumbers) (g : Grid) (ps : Products) whe
         (noted product).at_data (so_far product).at_data;
   }
 
-  module _ (cs : List Cell) (row col : ℕ) (old new : Found) (map drawn : Option FaultMap) (inside : IsInside g (place row col)) (few : length cs + 1 < 2 ^ 32)
+  module _ (cs : List Cell) (row col : ℕ) (old new : FaultTally) (map drawn : Option FaultMap) (inside : IsInside g (place row col)) (few : length cs + 1 < 2 ^ 32)
       (noted : IsPartNoted given nodata (place row col) (patch_at g ps (place row col)) old new) (so_far : IsPartFound given nodata g ps cs (place row col) old map) where
     -- each rule, with one cell more
     rules_noted : ArePartFaults given nodata g ps (cs ++ place row col ∷ []) new.by_rule
@@ -104,7 +104,7 @@ module _ (given : Given) (nodata : NoDataNumbers) (g : Grid) (ps : Products) whe
 
     -- all that was found, with one cell more
     cell_noted : (least : Option Rule) → IsLeastFault IsAnyRule (HoldsIfTried given nodata old.labels (patch_at g ps (place row col))) least →
-        AreDrawn map drawn (pixel_of least (is_some (g.elevation (place row col))) ∷ []) →
+        AreDrawn map drawn (fault_pixel least (is_some (g.elevation (place row col))) ∷ []) →
         IsPartFound given nodata g ps (cs ++ place row col ∷ []) (place row (col + 1)) new drawn
     cell_noted least fault pixel = record {
       faults = rules_noted;
@@ -112,7 +112,7 @@ module _ (given : Given) (nodata : NoDataNumbers) (g : Grid) (ps : Products) whe
           (least_at given nodata g ps old.labels (place row col) inside so_far.before noted.first_is.least noted.first_is.least_is) noted.first_is.first_is
           so_far.first_patch;
       by_product = products_noted cs (place row col) old.by_product new.by_product few noted.by_product so_far.by_product;
-      drawn = map_more cs (place row col) (pixel_of least (is_some (g.elevation (place row col)))) map drawn
+      drawn = map_more cs (place row col) (fault_pixel least (is_some (g.elevation (place row col)))) map drawn
           (record { rule = least; least = least_at given nodata g ps old.labels (place row col) inside so_far.before least fault; number_is = refl }) pixel so_far.drawn;
       before = λ own.
           AreLabelsBefore-more g ps row col (values_at g ps (place row col)) old.labels new.labels inside refl (so_far.before own) (noted.admitted own);
@@ -121,12 +121,12 @@ module _ (given : Given) (nodata : NoDataNumbers) (g : Grid) (ps : Products) whe
 -- from row to row
 module _ (given : Given) (nodata : NoDataNumbers) (g : Grid) (ps : Products) (row cols : ℕ) (shown : ℕ → Patch) (are : AreRowPatches g ps row cols shown) where
   -- above a row is before its first place
-  pub found_begins : (found : Found) (map : Option FaultMap) → IsPartAbove given nodata g ps row found map →
+  pub found_begins : (found : FaultTally) (map : Option FaultMap) → IsPartAbove given nodata g ps row found map →
       IsPartFound given nodata g ps (cells_before g row 0) (place row 0) found map
   found_begins found map above = subst (λ cs. IsPartFound given nodata g ps cs (place row 0) found map) (sym (cells_before-none g row)) above
 
   -- before its end is above the next row
-  pub found_ends : (found : Found) (map : Option FaultMap) (col : ℕ) → col ≡ cols → IsPartFound given nodata g ps (cells_before g row col) (place row col) found map →
+  pub found_ends : (found : FaultTally) (map : Option FaultMap) (col : ℕ) → col ≡ cols → IsPartFound given nodata g ps (cells_before g row col) (place row col) found map →
       IsPartAbove given nodata g ps (row + 1) found map
   found_ends found map col last so_far =
       let at_end : IsPartFound given nodata g ps (cells_before g row g.extent.cols) (place row g.extent.cols) found map =
@@ -142,9 +142,9 @@ module _ (given : Given) (nodata : NoDataNumbers) (g : Grid) (ps : Products) (ro
       }
 
   -- one cell more that was noted
-  pub found_noted : (old new : Found) (map drawn : Option FaultMap) (col : ℕ) (p : Patch) (least : Option Rule) → row < 28801 → cols ≤ 28801 → col < cols → p ≡ shown col →
+  pub found_noted : (old new : FaultTally) (map drawn : Option FaultMap) (col : ℕ) (p : Patch) (least : Option Rule) → row < 28801 → cols ≤ 28801 → col < cols → p ≡ shown col →
       IsPartNoted given nodata (place row col) p old new → IsLeastFault IsAnyRule (HoldsIfTried given nodata old.labels p) least →
-      AreDrawn map drawn (pixel_of least (is_some p.here.z) ∷ []) → IsPartFound given nodata g ps (cells_before g row col) (place row col) old map →
+      AreDrawn map drawn (fault_pixel least (is_some p.here.z) ∷ []) → IsPartFound given nodata g ps (cells_before g row col) (place row col) old map →
       IsPartFound given nodata g ps (cells_before g row (col + 1)) (place row (col + 1)) new drawn
   found_noted old new map drawn col p least few narrow less is noted fault pixel so_far =
       let cell = place row col in
@@ -155,10 +155,10 @@ module _ (given : Given) (nodata : NoDataNumbers) (g : Grid) (ps : Products) (ro
       (cell_noted given nodata g ps (cells_before g row col) row col old new map drawn inside short
       (subst (λ q. IsPartNoted given nodata cell q old new) same noted) so_far least
       (subst (λ q. IsLeastFault IsAnyRule (HoldsIfTried given nodata old.labels q) least) same fault)
-      (subst (λ (q : Patch). AreDrawn map drawn (pixel_of least (is_some q.here.z) ∷ [])) same pixel))
+      (subst (λ (q : Patch). AreDrawn map drawn (fault_pixel least (is_some q.here.z) ∷ [])) same pixel))
 
   -- where a label found no room it is a new one
-  pub found_new : (found : Found) (map : Option FaultMap) (col : ℕ) (p : Patch) → col < cols → p ≡ shown col →
+  pub found_new : (found : FaultTally) (map : Option FaultMap) (col : ℕ) (p : Patch) → col < cols → p ≡ shown col →
       IsPartFound given nodata g ps (cells_before g row col) (place row col) found map →
       IsTrue (has_bas given) × IsOutletByCode p.here × ¬ IsAdmitted found.labels p.here.bas → IsNewOutletAt g ps (place row col)
   found_new found map col p less is so_far want =

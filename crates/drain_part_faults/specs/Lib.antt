@@ -1,4 +1,4 @@
 pub mod PartFaults
 pub mod PartFound
-pub mod PartNotes
+pub mod PartVisitor
 pub mod PartProducts

@@ -12,7 +12,7 @@ use Rattle.drain_faults.specs.declared.fault_map.FaultMap.{FaultMap}
 use Rattle.drain_faults.specs.declared.faulty_patch.FaultyPatch.{FaultyPatch}
 use Rattle.drain_faults.specs.declared.per_rule.PerRule.{PerRule}
 use Rattle.drain_faults.specs.declared.rule_faults.RuleFaults.{RuleFaults}
-use Rattle.drain_faults.specs.FaultMaps.{pixel_of}
+use Rattle.drain_faults.specs.FaultMaps.{fault_pixel}
 use Rattle.drain_faults.specs.Faults.{AreCellsWithout, IsFirstWithout}
 use Rattle.drain_faults.specs.PerRule.{of_rule}
 use Rattle.drain_parts.specs.declared.given.Given.{Given}
@@ -50,7 +50,7 @@ IsFirstPart given nodata g ps cs None = IsFirstWithout (AllHoldAt given nodata g
 pub record IsPartPixel (given : Given) (nodata : NoDataNumbers) (g : Grid) (ps : Products) (c : Cell) (n : ℕ) : Type 0 where
   pub rule : Option Rule
   pub least : IsLeastAt given nodata g ps c rule
-  pub number_is : n ≡ pixel_of rule (is_some (g.elevation c))
+  pub number_is : n ≡ fault_pixel rule (is_some (g.elevation c))
 
 -- the numbers are those of the list's cells, one after another
 abbrev pub ArePartPixels : Given → NoDataNumbers → Grid → Products → List Cell → List ℕ → Type 0

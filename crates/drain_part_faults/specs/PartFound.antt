@@ -6,12 +6,12 @@ use Rattle.drain_grid.specs.declared.patch.Patch.{Patch}
 use Rattle.drain_grid.specs.declared.rule.Rule.{Rule}
 use Rattle.drain_grid.specs.Grid.{Grid, Products}
 use Rattle.drain_grid.specs.Values.{NoDataNumbers}
-use Rattle.drain_rules.specs.Findings.{cells_above}
+use Rattle.drain_rules.specs.RowOutcomes.{cells_above}
 use Rattle.drain_rules.specs.Labels.{AreLabelsBefore, IsLabelOf}
 use Rattle.drain_rules.specs.PatchRows.{AreRowPatches}
 use Rattle.drain_rules.specs.Rows.{place}
 use Rattle.drain_faults.specs.declared.fault_map.FaultMap.{FaultMap}
-use Rattle.drain_faults.specs.declared.found.Found.{Found}
+use Rattle.drain_faults.specs.declared.fault_tally.FaultTally.{FaultTally}
 use Rattle.drain_faults.specs.CellFaults.{IsLeastNoted, IsNotedAt}
 use Rattle.drain_faults.specs.PerRule.{of_rule}
 use Rattle.drain_parts.specs.declared.given.Given.{Given}
@@ -21,7 +21,7 @@ use Rattle.drain_part_faults.specs.PartProducts.{AreFaultsByPart, ArePartsNotedA
 
 -- each rule and each product is recorded at the cell, SharedLabel by the labels so far; where labels are given the
 -- cell's is added if it is an outlet by code
-pub record IsPartNoted (given : Given) (nodata : NoDataNumbers) (cell : Cell) (p : Patch) (old new : Found) : Type 0 where
+pub record IsPartNoted (given : Given) (nodata : NoDataNumbers) (cell : Cell) (p : Patch) (old new : FaultTally) : Type 0 where
   pub each : (r : Rule) → IsNotedAt (HoldsIfTried given nodata old.labels p r) cell (of_rule old.by_rule r) (of_rule new.by_rule r)
   pub first_is : IsLeastNoted (HoldsIfTried given nodata old.labels p) cell p old.first new.first
   pub by_product : ArePartsNotedAt given nodata cell p old.by_product new.by_product
@@ -29,7 +29,7 @@ pub record IsPartNoted (given : Given) (nodata : NoDataNumbers) (cell : Cell) (p
 
 -- of the cells before a place: each rule's faults and each product's, the first cell with a fault, the map, and the
 -- labels of their outlets where labels are given
-pub record IsPartFound (given : Given) (nodata : NoDataNumbers) (g : Grid) (ps : Products) (cs : List Cell) (next : Cell) (found : Found) (map : Option FaultMap) : Type 0 where
+pub record IsPartFound (given : Given) (nodata : NoDataNumbers) (g : Grid) (ps : Products) (cs : List Cell) (next : Cell) (found : FaultTally) (map : Option FaultMap) : Type 0 where
   pub faults : ArePartFaults given nodata g ps cs found.by_rule
   pub first_patch : IsFirstPart given nodata g ps cs found.first
   pub by_product : AreFaultsByPart given nodata g ps cs found.by_product
@@ -37,10 +37,10 @@ pub record IsPartFound (given : Given) (nodata : NoDataNumbers) (g : Grid) (ps :
   pub before : IsTrue (has_bas given) → AreLabelsBefore g ps next found.labels
 
 -- of the rows above a row
-abbrev pub IsPartAbove : Given → NoDataNumbers → Grid → Products → ℕ → Found → Option FaultMap → Type 0
+abbrev pub IsPartAbove : Given → NoDataNumbers → Grid → Products → ℕ → FaultTally → Option FaultMap → Type 0
 IsPartAbove given nodata g ps row found map = IsPartFound given nodata g ps (cells_above g row) (place row 0) found map
 
 -- this holds of each grid of which these are the row's patches, where this was found and drawn above it
-abbrev pub OfPartRow : Given → NoDataNumbers → ℕ → ℕ → (ℕ → Patch) → Found → Option FaultMap → (Grid → Products → Type 0) → Type 0
+abbrev pub OfPartRow : Given → NoDataNumbers → ℕ → ℕ → (ℕ → Patch) → FaultTally → Option FaultMap → (Grid → Products → Type 0) → Type 0
 OfPartRow given nodata row cols shown found map P =
     (g : Grid) (ps : Products) → AreRowPatches g ps row cols shown → IsPartAbove given nodata g ps row found map → P g ps

@@ -3,7 +3,6 @@
 ghost use Rattle.std.specs.Prelude.{◌≡◌, ◌↔◌, ◌⊎◌, ℤ, IsTrue, IfOk, OnOk, OnErr};
 ghost use Rattle.drain_basin.specs.Admitted.{IsAdmitted};
 ghost use Rattle.drain_grid.specs.declared.rule.Rule.{Rule};
-ghost use Rattle.drain_grid.specs.Rule.{IsPatchRule};
 ghost use Rattle.drain_rules.specs.Labels.{IsLabelOf, IsOutletByCode};
 ghost use Rattle.drain_faults.specs.Flags.{TellsFault};
 ghost use Rattle.drain_faults.specs.PerRule.{of_rule};
@@ -13,6 +12,7 @@ ghost use Rattle.drain_part_faults.specs.PartFaults.{HoldsIfTried};
 use crate::part_faults::part_faults;
 use drain_basin::OutletLabels;
 use drain_faults::PerRule;
+use drain_faults::cell_faults::with_shared_label;
 use drain_grid::{NoData, OutOfMemory, Patch};
 use drain_parts::Given;
 use drain_rules::cell_rules::admits_label;
@@ -40,13 +40,4 @@ pub fn part_cell_faults(
         Ok(is_new) => Ok(with_shared_label(faults, !is_new)),
         Err(OutOfMemory) => Err(OutOfMemory),
     }
-}
-
-/// The same with this value for SharedLabel.
-fn with_shared_label(mut faults: PerRule<bool>, shared_label: bool) -> PerRule<bool>
-    ensures own { result.shared_label ≡ shared_label }
-    ensures others { (r : Rule) → IsPatchRule r → of_rule result r ≡ of_rule faults r }
-{
-    faults.shared_label = shared_label;
-    faults
 }

@@ -1,21 +1,21 @@
 //! An audit of some rasters that is explained.
 
-ghost use Rattle.std.specs.Prelude.{◌≡◌, IfOk, IfErr};
+ghost use Rattle.std.specs.Prelude.{◌≡◌, IfOk, IfErr, Some};
 ghost use Rattle.drain_grid.specs.Grid.{Grid, Products};
 ghost use Rattle.drain_hgt.specs.Inputs.{names_of};
 ghost use Rattle.drain_kernel.specs.declared.rules.Rules.{Rules};
-ghost use Rattle.drain_verdict.specs.Audits.{OfFour};
+ghost use Rattle.drain_verdict.specs.Audits.{ForAudit};
 ghost use Rattle.drain_verdict.specs.Stages.{IsLayoutOf};
 ghost use Rattle.drain_verdict.specs.Uses.{AuditUses};
 ghost use Rattle.drain_explain.specs.Explanations.{answer_in};
 ghost use Rattle.drain_part_audit.specs.PartAudits.{IsPartAnswer};
-ghost use Rattle.drain_part_faults.specs.PartNotes.{ArePartNotes};
+ghost use Rattle.drain_part_faults.specs.PartVisitor.{ArePartNotes};
 
 use crate::part_walk::PartFaultWalk;
 use drain_answer::{AuditVerdict, Refusal};
 use drain_device::ByteSource;
 use drain_explain::endless::endless_of;
-use drain_explain::{Explanation, Mapping};
+use drain_explain::{Explanation, Findings, Mapping};
 use drain_grid::{Cell, OutOfMemory, Shape};
 use drain_hgt::TileInput;
 use drain_hgt::laws::one_name;
@@ -23,8 +23,8 @@ use drain_mosaic::Layout;
 use drain_part_audit::PartVerdict;
 use drain_part_audit::part_audit::audit_part_on;
 use drain_parts::Given;
+use drain_paths::{CellFlows, EndlessPath};
 use drain_rules::{Ranks, Rules};
-use drain_runs::{CellFlows, EndlessRun};
 use drain_verdict::AuditProducts;
 use drain_verdict::layout::layout_of;
 use std::alloc::Global;
@@ -43,8 +43,9 @@ pub fn explain_part<R: ByteSource>(
     mapping: Mapping,
 ) -> Result<Explanation<PartVerdict>, Refusal>
     // The answer is that of an audit of these rasters.
-    ensures answer { OfFour R.bytes_left side tiles.old sinks.now products.old (λ inputs. IsPartAnswer given inputs (answer_in result)) }
-    ensures layout { IfOk result (λ e. IsLayoutOf side (names_of tiles.old) e.layout) }
+    ensures answer { ForAudit R.bytes_left side tiles.old sinks.now products.old (λ inputs. IsPartAnswer given inputs (answer_in result)) }
+    ensures layout { IfOk result (λ e. IsLayoutOf side (names_of tiles.old) e.findings.layout) }
+    ensures only { IfOk result (λ e. e.findings.only ≡ Some given) }
 
     // How far it reads, when a read fails, and what is unchanged: as for an audit.
     ensures uses { AuditUses R.bytes_left R.counts side (tiles.old, products.old) (tiles.new, products.new) result }
@@ -61,7 +62,10 @@ pub fn explain_part<R: ByteSource>(
         Ok(endless) => endless,
         Err(OutOfMemory) => return Err(Refusal::OutOfMemory),
     };
-    Ok(told_by_walk(read.verdict, layout, read.more, endless))
+    Ok(Explanation {
+        verdict: read.verdict,
+        findings: findings_of(layout, given, read.more, endless),
+    })
 }
 
 /// A walk that passed no row, which draws a map if one is required.
@@ -86,7 +90,7 @@ fn endless_in(
     flows: &CellFlows,
     shape: Shape,
     verdict: &PartVerdict,
-) -> Result<Option<(Cell, EndlessRun)>, OutOfMemory> {
+) -> Result<Option<(Cell, EndlessPath)>, OutOfMemory> {
     match verdict {
         PartVerdict::NoEnd { row, col } => {
             let named = AuditVerdict::NoEnd {
@@ -99,26 +103,26 @@ fn endless_in(
     }
 }
 
-/// The explanation of a verdict, by a walk over all rows.
-fn told_by_walk(
-    verdict: PartVerdict,
+/// What every cell showed, by a walk over all rows.
+fn findings_of(
     layout: Layout,
+    given: Given,
     walk: PartFaultWalk,
-    endless: Option<(Cell, EndlessRun)>,
-) -> Explanation<PartVerdict>
-    ensures verdict { result.verdict ≡ verdict }
+    endless: Option<(Cell, EndlessPath)>,
+) -> Findings
     ensures layout { result.layout ≡ layout }
+    ensures only { result.only ≡ Some given }
 {
     let first = walk.first_patch();
     let rules = Rules {
         nodata: walk.nodata(),
-        ranks: Ranks::Unasked,
+        ranks: Ranks::Ignored,
     };
     let (by_rule, by_product, map) = walk.into_faults();
-    Explanation {
-        verdict,
+    Findings {
         layout,
         rules,
+        only: Some(given),
         by_rule,
         by_product,
         first,

@@ -9,8 +9,8 @@ pub mod cell_faults;
 pub mod explained;
 pub mod part_faults;
 pub mod part_found;
-pub mod part_notes;
 pub mod part_products;
+pub mod part_visitor;
 pub mod part_walk;
 pub mod row_faults;
 

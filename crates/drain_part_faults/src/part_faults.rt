@@ -33,7 +33,7 @@ fn faults_from(first: Rule, patch: &Patch, nodata: &NoData, given: Given) -> Per
 {
     let rules = Rules {
         nodata: *nodata,
-        ranks: Ranks::Unasked,
+        ranks: Ranks::Ignored,
     };
     let all = patch_faults(patch, &rules);
     let has_dir = given.has_dir();

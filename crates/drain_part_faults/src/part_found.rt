@@ -10,8 +10,8 @@ ghost use Rattle.drain_part_faults.specs.PartFound.{IsPartNoted};
 
 use crate::cell_faults::part_cell_faults;
 use crate::part_products::note_parts;
+use drain_faults::fault_tally::FaultTally;
 use drain_faults::faulty_patch::note_patch;
-use drain_faults::found::Found;
 use drain_faults::rule_faults::note_rules;
 use drain_grid::{Cell, NoData, OutOfMemory, Patch, Rule};
 use drain_parts::Given;
@@ -19,7 +19,7 @@ use drain_parts::Given;
 /// Scans one more cell, the next in row order, with this patch, and returns the least rule about the given rasters that
 /// fails there. `OutOfMemory` comes only if labels are given, at an outlet whose label is new.
 pub(crate) fn note_cell(
-    found: &mut Found,
+    found: &mut FaultTally,
     cell: Cell,
     patch: &Patch,
     nodata: &NoData,

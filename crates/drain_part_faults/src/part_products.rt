@@ -4,11 +4,11 @@ ghost use Rattle.std.specs.Prelude.{◌≡◌};
 ghost use Rattle.drain_grid.specs.declared.rule.Rule.TheVariants.{VoidCell, Missing};
 ghost use Rattle.drain_faults.specs.Flags.{TellsFault};
 ghost use Rattle.drain_parts.specs.PartRules.{part_rules};
-ghost use Rattle.drain_part_faults.specs.PartProducts.{ArePartsNotedAt, IsPartNotedAt, has_product};
+ghost use Rattle.drain_part_faults.specs.PartProducts.{ArePartsNotedAt, IsPartNotedAt};
 
 use drain_faults::product_presence::{keeps_missing, keeps_void_cell};
 use drain_faults::{PerRule, ProductFaults};
-use drain_grid::{Cell, Held, NoData, Patch, PerProduct};
+use drain_grid::{Cell, NoData, Patch, PerProduct, SetProduct};
 use drain_kernel::{Ranks, Rules};
 use drain_parts::Given;
 
@@ -41,11 +41,11 @@ fn with_parts(
     ensures { ArePartsNotedAt given nodata.now cell patch.now so_far.now result }
 {
     PerProduct {
-        con: with_part(so_far.con, cell, patch, nodata, given, Held::Con),
-        dir: with_part(so_far.dir, cell, patch, nodata, given, Held::Dir),
-        acc: with_part(so_far.acc, cell, patch, nodata, given, Held::Acc),
-        bas: with_part(so_far.bas, cell, patch, nodata, given, Held::Bas),
-        rnk: with_part(so_far.rnk, cell, patch, nodata, given, Held::Rnk),
+        con: with_part(so_far.con, cell, patch, nodata, given, SetProduct::Con),
+        dir: with_part(so_far.dir, cell, patch, nodata, given, SetProduct::Dir),
+        acc: with_part(so_far.acc, cell, patch, nodata, given, SetProduct::Acc),
+        bas: with_part(so_far.bas, cell, patch, nodata, given, SetProduct::Bas),
+        rnk: with_part(so_far.rnk, cell, patch, nodata, given, SetProduct::Rnk),
     }
 }
 
@@ -56,34 +56,21 @@ fn with_part(
     patch: &Patch,
     nodata: &NoData,
     given: Given,
-    product: Held,
+    product: SetProduct,
 ) -> ProductFaults
     ensures { IsPartNotedAt given nodata.now cell patch.now product so_far result }
 {
-    if !is_given(given, product) {
+    if !given.has(product) {
         return so_far;
     }
     let rules = Rules {
         nodata: *nodata,
-        ranks: Ranks::Asked,
+        ranks: Ranks::Checked,
     };
     let is_void_kept = keeps_void_cell(patch, &rules, product);
     let is_data_kept = keeps_missing(patch, &rules, product);
     ProductFaults {
         at_voids: so_far.at_voids.with(cell, !is_void_kept),
         at_data: so_far.at_data.with(cell, !is_data_kept),
-    }
-}
-
-/// Whether the product is given.
-fn is_given(given: Given, product: Held) -> bool
-    ensures { result ≡ has_product given product }
-{
-    match product {
-        Held::Con => true,
-        Held::Dir => given.has_dir(),
-        Held::Acc => given.has_acc(),
-        Held::Bas => given.has_bas(),
-        Held::Rnk => false,
     }
 }

@@ -3,17 +3,17 @@
 ghost use Rattle.drain_grid.specs.declared.cell.TheConstants.{MAX_LENGTH};
 ghost use Rattle.std.specs.Prelude.{◌≡◌, ℤ, None};
 ghost use Rattle.drain_basin.specs.Admitted.{IsAdmitted};
-ghost use Rattle.drain_grid.specs.declared.held.Held.{Held};
+ghost use Rattle.drain_grid.specs.declared.set_product.SetProduct.{SetProduct};
 ghost use Rattle.drain_grid.specs.declared.rule.Rule.{Rule};
 ghost use Rattle.drain_grid.specs.PerProduct.{of_product};
 ghost use Rattle.drain_faults.specs.PerRule.{of_rule};
 
 use crate::row_faults::note_row_of;
 use drain_basin::OutletLabels;
-use drain_faults::found::Found;
+use drain_faults::fault_tally::FaultTally;
 use drain_faults::product_faults::no_faults;
 use drain_faults::{FaultMap, FaultyPatch, PerRule, ProductFaults, RuleFaults};
-use drain_grid::{NoData, OutOfMemory, PerProduct, Product, Shape};
+use drain_grid::{NoData, OutOfMemory, PerProduct, Shape};
 use drain_parts::Given;
 use drain_rules::PatchRow;
 use std::alloc::Global;
@@ -25,7 +25,7 @@ pub struct PartFaultWalk {
     given: Given,
     nodata: NoData,
     rows: u32,
-    found: Found,
+    found: FaultTally,
     map: Option<FaultMap>,
 }
 
@@ -33,11 +33,11 @@ impl PartFaultWalk {
     ghost use Rattle.std.specs.Prelude.{◌≡◌, ◌<◌, ◌+◌, ◌↔◌, ◌⊎◌, IfOk, IfSome, IsNone, IsSome, IsTrue, OnErr, OnOk};
     ghost use Rattle.drain_grid.specs.Grid.{Grid, Products};
     ghost use Rattle.drain_grid.specs.Values.{NoDataNumbers};
-    ghost use Rattle.drain_rules.specs.Findings.{cells_above};
+    ghost use Rattle.drain_rules.specs.RowOutcomes.{cells_above};
     ghost use Rattle.drain_faults.specs.FaultWalks.{HasNewOutlet};
     ghost use Rattle.drain_parts.specs.Given.{has_bas};
     ghost use Rattle.drain_part_faults.specs.PartFaults.{ArePartFaults, ArePartPixels, IsFirstPart, IsPartMap};
-    ghost use Rattle.drain_part_faults.specs.PartNotes.{IsPartRightOf, OfNextPartRow};
+    ghost use Rattle.drain_part_faults.specs.PartVisitor.{IsPartRightOf, OfNextPartFaultRow};
     ghost use Rattle.drain_part_faults.specs.PartProducts.{AreFaultsByPart};
 
     /// No row was scanned, and no map is drawn. This takes no memory.
@@ -49,7 +49,7 @@ impl PartFaultWalk {
     {
         PartFaultWalk {
             given,
-            nodata: default_numbers(),
+            nodata: NoData::defaults(),
             rows: 0,
             found: no_cell(alloc),
             map: None,
@@ -66,7 +66,7 @@ impl PartFaultWalk {
         let map = FaultMap::new(alloc, shape)?;
         Ok(PartFaultWalk {
             given,
-            nodata: default_numbers(),
+            nodata: NoData::defaults(),
             rows: 0,
             found: no_cell(alloc),
             map: Some(map),
@@ -82,9 +82,9 @@ impl PartFaultWalk {
         ensures rows { OnOk result (self.new.rows ≡ self.old.rows + 1) }
         ensures given { OnOk result (self.new.given ≡ self.old.given) }
         ensures nodata { OnOk result (self.new.nodata ≡ nodata.now) }
-        ensures found { OnOk result (OfNextPartRow nodata.now self.old (R.len patches.now) (R.shown patches.now) (λ g ps. IsPartRightOf nodata.now g ps self.new)) }
+        ensures found { OnOk result (OfNextPartFaultRow nodata.now self.old (R.len patches.now) (R.shown patches.now) (λ g ps. IsPartRightOf nodata.now g ps self.new)) }
         ensures drawn { OnOk result (IsSome self.new.map ↔ IsSome self.old.map) }
-        ensures err { OnErr result (IsSome self.old.map ⊎ (IsTrue (has_bas self.old.given) × OfNextPartRow nodata.now self.old (R.len patches.now) (R.shown patches.now) HasNewOutlet)) }
+        ensures err { OnErr result (IsSome self.old.map ⊎ (IsTrue (has_bas self.old.given) × OfNextPartFaultRow nodata.now self.old (R.len patches.now) (R.shown patches.now) HasNewOutlet)) }
     {
         note_row_of(
             &mut self.found,
@@ -169,28 +169,16 @@ impl PartFaultWalk {
 }
 
 /// What was found at no cell.
-fn no_cell(alloc: Global) -> Found
+fn no_cell(alloc: Global) -> FaultTally
     ensures labels { (label : ℤ) → ¬ IsAdmitted result.labels label }
     ensures by_rule { (r : Rule) → of_rule result.by_rule r ≡ record { cells = 0; first = None } }
-    ensures by_product { (product : Held) → of_product result.by_product product ≡ record { at_voids = record { cells = 0; first = None }; at_data = record { cells = 0; first = None } } }
+    ensures by_product { (product : SetProduct) → of_product result.by_product product ≡ record { at_voids = record { cells = 0; first = None }; at_data = record { cells = 0; first = None } } }
     ensures first { result.first ≡ None }
 {
-    Found {
+    FaultTally {
         labels: OutletLabels::new(alloc),
         by_rule: PerRule::same(RuleFaults::none()),
         by_product: no_faults(),
         first: None,
-    }
-}
-
-/// The no-data numbers, if headers give none.
-fn default_numbers() -> NoData {
-    NoData {
-        con: Product::Con.default_no_data(),
-        dir: Product::Dir.default_no_data(),
-        acc: Product::Acc.default_no_data(),
-        bas: Product::Bas.default_no_data(),
-        spl: Product::Spl.default_no_data(),
-        rnk: Product::Rnk.default_no_data(),
     }
 }

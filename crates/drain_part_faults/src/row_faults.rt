@@ -9,7 +9,7 @@ ghost use Rattle.drain_part_faults.specs.PartFound.{IsPartAbove, OfPartRow};
 use crate::part_found::note_cell;
 use drain_faults::FaultMap;
 use drain_faults::fault_map::draw_cell;
-use drain_faults::found::Found;
+use drain_faults::fault_tally::FaultTally;
 use drain_grid::{Cell, NoData, OutOfMemory, Patch};
 use drain_parts::Given;
 use drain_rules::PatchRow;
@@ -19,7 +19,7 @@ use drain_rules::PatchRow;
 /// The result is right for every grid with this row, and so is the map if there is one. `OutOfMemory` comes only with a
 /// map, or if labels are given at an outlet whose label is new.
 pub(crate) fn note_row_of<R: PatchRow>(
-    found: &mut Found,
+    found: &mut FaultTally,
     map: &mut Option<FaultMap>,
     row: u32,
     patches: &R,

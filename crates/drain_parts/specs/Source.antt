@@ -11,6 +11,6 @@ bytes_of bytes_left (Given source) = bytes_left source
 bytes_of bytes_left (Zeros n) = Some (replicate n 0)
 
 -- the source's faults, or none
-abbrev pub counts_of : {R : Type 0} → (R → FaultCounts) → MaybeSource R → FaultCounts
-counts_of counts (Given source) = counts source
-counts_of counts (Zeros n) = no_faults
+abbrev pub source_counts : {R : Type 0} → (R → FaultCounts) → MaybeSource R → FaultCounts
+source_counts counts (Given source) = counts source
+source_counts counts (Zeros n) = no_faults

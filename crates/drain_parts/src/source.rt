@@ -22,11 +22,11 @@ impl<R> MaybeSource<R> {
 }
 
 impl<R: ByteSource> ByteSource for MaybeSource<R> {
-    ghost use Rattle.drain_parts.specs.Source.{bytes_of, counts_of};
+    ghost use Rattle.drain_parts.specs.Source.{bytes_of, source_counts};
 
     ghost bytes_left = { bytes_of R.bytes_left };
 
-    ghost counts = { counts_of R.counts };
+    ghost counts = { source_counts R.counts };
 
     fn read_some(&mut self, out: &mut [u8]) -> Result<usize, DeviceFault> {
         match self {

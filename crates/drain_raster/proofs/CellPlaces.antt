@@ -7,7 +7,7 @@ use Rattle.std.proofs.lemmas.Nat.{mul-add-lt}
 use Rattle.drain_grid.specs.declared.cell.Cell.{Cell}
 use Rattle.drain_grid.specs.Size.{Extent}
 use Rattle.drain_grid.specs.Extent.{IsCellOf, index_of, row_cells, cells}
-use Rattle.drain_raster.specs.Pixels.{extent_of, pixel_at}
+use Rattle.drain_raster.specs.Pixels.{header_extent, pixel_at}
 use Rattle.drain_raster.specs.Laws.{NumbersArePixels}
 
 -- as many cells as rows times columns
@@ -48,4 +48,4 @@ made_at f e c x inside =
     ∙ ap f (cell_in_rows e.cols 0 e.rows c.row c.col c inside.row inside.col ∙ ap (λ r. record { row = r; col = c.col }) first)
 
 pub numbers_are_pixels : NumbersArePixels
-numbers_are_pixels h default body c inside = made_at (pixel_at h body) (extent_of h) c (pos 0) inside
+numbers_are_pixels h default body c inside = made_at (pixel_at h body) (header_extent h) c (pos 0) inside

@@ -6,7 +6,7 @@ use Rattle.drain_device.specs.ComingRows.{after_rows, ends_wrong, nth_row}
 use Rattle.drain_device.specs.ComingRows.Coming.{Wrong}
 use Rattle.drain_header.specs.Fields.{Fields}
 use Rattle.drain_raster.specs.Pixels.{IsShort, needed_len, pixel_len, pixel_of}
-use Rattle.drain_raster.specs.RasterRows.{bytes_of_rows, numbers_of, packed_len, raster_rows}
+use Rattle.drain_raster.specs.RasterRows.{bytes_of_rows, raster_numbers_of, packed_len, raster_rows}
 use Rattle.drain_raster.specs.Laws.{RasterRowsEnd, RasterRowsTellLengths, RasterRowsTakeWhatIsNeeded}
 use Rattle.drain_raster.proofs.PixelLemmas.{packed-fits}
 
@@ -62,7 +62,7 @@ none_behind h (suc left) gap body = elim (cases_lt (length body) (gap + packed_l
 ]
 
 -- this many numbers
-numbers_long : (len : ℕ) (number : List ℕ → ℤ) (n : ℕ) (bytes : List ℕ) → length (numbers_of len number n bytes) ≡ n
+numbers_long : (len : ℕ) (number : List ℕ → ℤ) (n : ℕ) (bytes : List ℕ) → length (raster_numbers_of len number n bytes) ≡ n
 numbers_long len number zero bytes = refl
 numbers_long len number (suc n) bytes = ap suc (numbers_long len number n (drop len bytes))
 

@@ -7,13 +7,13 @@ use Rattle.std.proofs.Math.Nat.{mul-le-mul_right}
 use Rattle.drain_device.specs.ComingRows.{nth_row}
 use Rattle.drain_header.specs.Fields.{Fields}
 use Rattle.drain_raster.specs.Pixels.{IsShort, needed_len, pixel_len, pixel_of}
-use Rattle.drain_raster.specs.RasterRows.{bytes_of_rows, numbers_of, packed_len, raster_rows}
+use Rattle.drain_raster.specs.RasterRows.{bytes_of_rows, raster_numbers_of, packed_len, raster_rows}
 use Rattle.drain_raster.specs.Laws.{RasterRowsArePixels}
 use Rattle.drain_raster.proofs.PixelLemmas.{packed-fits, spelled_by-take}
 use Rattle.drain_raster.proofs.RasterEnds.{raster_rows_take_what_is_needed}
 
 -- the number at a place
-numbers_of-at : (len : ℕ) (number : List ℕ → ℤ) (n col : ℕ) (d : ℤ) (bytes : List ℕ) → col < n → slice_index_or (numbers_of len number n bytes) col d ≡ number (take len (drop (col * len) bytes))
+numbers_of-at : (len : ℕ) (number : List ℕ → ℤ) (n col : ℕ) (d : ℤ) (bytes : List ℕ) → col < n → slice_index_or (raster_numbers_of len number n bytes) col d ≡ number (take len (drop (col * len) bytes))
 numbers_of-at len number zero col d bytes inside = absurd (omega arith)
 numbers_of-at len number (suc n) zero d bytes inside = let none : zero * len ≡ zero = omega arith in rw none refl
 numbers_of-at len number (suc n) (suc col) d bytes inside =

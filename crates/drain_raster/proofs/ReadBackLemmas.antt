@@ -10,7 +10,7 @@ use Rattle.drain_grid.specs.Extent.{IsCellOf, row_cells}
 use Rattle.drain_grid.specs.Rasters.{Pixels}
 use Rattle.drain_grid.specs.Whole.{number_at}
 use Rattle.drain_header.specs.Fields.{Fields, AreWithinBounds}
-use Rattle.drain_raster.specs.Pixels.{IsShort, pixel_len, pixel_place, pixel_of, pixel_at, extent_of}
+use Rattle.drain_raster.specs.Pixels.{IsShort, pixel_len, pixel_place, pixel_of, pixel_at, header_extent}
 use Rattle.drain_raster.specs.Bytes.{CanSpellAll, pixel_bytes, cells_bytes, cells_from, padding_len, bytes_of_row, raster_bytes}
 use Rattle.drain_raster.specs.Laws.{BytesReadBack}
 use Rattle.drain_raster.proofs.BufferLemmas.{cells_bytes-parts, rows-parts}
@@ -89,7 +89,7 @@ rows-listed f xs cols (suc rows) long each =
     ∙ sym (take-add (rows * cols) cols xs) ∙ ap (λ n. take n xs) (sym sum) ∙ ap (λ m. take (m * cols) xs) (sym more)
 
 -- the number at a cell comes back
-cell-back : (h : Fields) (p : Pixels) (r k : ℕ) → AreWithinBounds h → p.extent ≡ extent_of h → CanSpellAll h p → r < h.rows → k < h.cols →
+cell-back : (h : Fields) (p : Pixels) (r k : ℕ) → AreWithinBounds h → p.extent ≡ header_extent h → CanSpellAll h p → r < h.rows → k < h.cols →
     pixel_at h (raster_bytes h p) (cell_of r k) ≡ get_or p.numbers (r * h.cols + k) (pos 0)
 cell-back h p r k ok shape spelled above inside =
     let from = raster-from h p r k ok above inside in

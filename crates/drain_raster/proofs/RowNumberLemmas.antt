@@ -8,12 +8,12 @@ use Rattle.drain_device.proofs.FillLemmas.{take-put_mid_part}
 use Rattle.drain_grid.specs.Values.{IsPixel}
 use Rattle.drain_header.specs.Fields.{Fields, IsPixelSize}
 use Rattle.drain_raster.specs.Pixels.{pixel_len}
-use Rattle.drain_raster.specs.RasterRows.{numbers_of}
+use Rattle.drain_raster.specs.RasterRows.{raster_numbers_of}
 use Rattle.drain_raster.proofs.PixelLemmas.{pixel_len-most}
 
 -- the numbers of two parts
 numbers_of-both : (len : ℕ) (number : List ℕ → ℤ) (m n : ℕ) (xs ys : List ℕ) → length xs ≡ m * len →
-    numbers_of len number (m + n) (xs ++ ys) ≡ numbers_of len number m xs ++ numbers_of len number n ys
+    raster_numbers_of len number (m + n) (xs ++ ys) ≡ raster_numbers_of len number m xs ++ raster_numbers_of len number n ys
 numbers_of-both len number zero n [] ys is = let same : zero + n ≡ n = omega arith in rw same refl
 numbers_of-both len number zero n (x ∷ xs) ys is = absurd (omega arith)
 numbers_of-both len number (suc m) n xs ys is =
@@ -24,36 +24,36 @@ numbers_of-both len number (suc m) n xs ys is =
 
 -- one number more
 numbers_of-more : (len : ℕ) (number : List ℕ → ℤ) (m : ℕ) (bytes : List ℕ) →
-    numbers_of len number (m + 1) bytes ≡ numbers_of len number m bytes ++ number (take len (drop (m * len) bytes)) ∷ []
+    raster_numbers_of len number (m + 1) bytes ≡ raster_numbers_of len number m bytes ++ number (take len (drop (m * len) bytes)) ∷ []
 numbers_of-more len number zero bytes = let none : zero * len ≡ zero = omega arith in rw none refl
 numbers_of-more len number (suc m) bytes =
     let longer : suc m + 1 ≡ suc (m + 1) = omega arith in
     let place : len + m * len ≡ suc m * len = omega arith in
     rw longer (ap (λ zs. number (take len bytes) ∷ zs) (numbers_of-more len number m (drop len bytes)
-    ∙ ap (λ (ys : List ℕ). numbers_of len number m (drop len bytes) ++ number (take len ys) ∷ []) (drop-drop (m * len) len bytes ∙ ap (λ k. drop k bytes) place)))
+    ∙ ap (λ (ys : List ℕ). raster_numbers_of len number m (drop len bytes) ++ number (take len ys) ∷ []) (drop-drop (m * len) len bytes ∙ ap (λ k. drop k bytes) place)))
 
 -- one number more in its place
 pub number_put : (len : ℕ) (number : List ℕ → ℤ) (k stepped : ℕ) (bytes : List ℕ) (out : List ℤ) (x stored : ℤ) → stepped ≡ k + 1 → k < length out →
-    take k out ≡ numbers_of len number k bytes → All IsPixel (take k out) → stored ≡ x → x ≡ number (take len (drop (k * len) bytes)) → IsPixel x →
-    (take stepped (set out k stored) ≡ numbers_of len number stepped bytes) × All IsPixel (take stepped (set out k stored))
+    take k out ≡ raster_numbers_of len number k bytes → All IsPixel (take k out) → stored ≡ x → x ≡ number (take len (drop (k * len) bytes)) → IsPixel x →
+    (take stepped (set out k stored) ≡ raster_numbers_of len number stepped bytes) × All IsPixel (take stepped (set out k stored))
 number_put len number k stepped bytes out x stored is_next inside so_far pixels is_stored is_number is_pixel =
     let grown : take stepped (set out k stored) ≡ take k out ++ x ∷ [] =
     ap (λ m. take m (set out k stored)) is_next ∙ take_more_set out k stored inside ∙ ap (λ z. take k out ++ z ∷ []) is_stored in (
-      grown ∙ ap (λ zs. zs ++ x ∷ []) so_far ∙ ap (λ z. numbers_of len number k bytes ++ z ∷ []) is_number
-          ∙ sym (numbers_of-more len number k bytes) ∙ ap (λ m. numbers_of len number m bytes) (sym is_next),
+      grown ∙ ap (λ zs. zs ++ x ∷ []) so_far ∙ ap (λ z. raster_numbers_of len number k bytes ++ z ∷ []) is_number
+          ∙ sym (numbers_of-more len number k bytes) ∙ ap (λ m. raster_numbers_of len number m bytes) (sym is_next),
       subst (All IsPixel) (sym grown) (All-push IsPixel (take k out) x pixels is_pixel),
     )
 
 -- numbers of one chunk more
 pub chunk_put : (len : ℕ) (number : List ℕ → ℤ) (first came k stepped : ℕ) (before chunk : List ℕ) (out part : List ℤ) → stepped ≡ first + came → first ≤ length out → length part ≡ came →
-    length before ≡ first * len → take first out ≡ numbers_of len number first before → All IsPixel (take first out) → part ≡ numbers_of len number came chunk → All IsPixel part →
-    (take stepped (put_mid first k out part) ≡ numbers_of len number stepped (before ++ chunk)) × All IsPixel (take stepped (put_mid first k out part))
+    length before ≡ first * len → take first out ≡ raster_numbers_of len number first before → All IsPixel (take first out) → part ≡ raster_numbers_of len number came chunk → All IsPixel part →
+    (take stepped (put_mid first k out part) ≡ raster_numbers_of len number stepped (before ++ chunk)) × All IsPixel (take stepped (put_mid first k out part))
 chunk_put len number first came k stepped before chunk out part is_next within long long_before so_far pixels is are =
     let grown : take stepped (put_mid first k out part) ≡ take first out ++ part =
     ap (λ m. take m (put_mid first k out part)) is_next ∙ take-put_mid_part first k came out part within (omega arith)
     ∙ ap (λ zs. take first out ++ zs) (take_all came part (omega arith)) in (
-      grown ∙ ap (λ zs. zs ++ part) so_far ∙ ap (λ zs. numbers_of len number first before ++ zs) is
-          ∙ sym (numbers_of-both len number first came before chunk long_before) ∙ ap (λ m. numbers_of len number m (before ++ chunk)) (sym is_next),
+      grown ∙ ap (λ zs. zs ++ part) so_far ∙ ap (λ zs. raster_numbers_of len number first before ++ zs) is
+          ∙ sym (numbers_of-both len number first came before chunk long_before) ∙ ap (λ m. raster_numbers_of len number m (before ++ chunk)) (sym is_next),
       subst (All IsPixel) (sym grown) (All-append IsPixel (take first out) part pixels are),
     )
 

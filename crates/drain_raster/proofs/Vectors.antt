@@ -4,7 +4,7 @@ use Rattle.drain_grid.specs.Rasters.{Pixels}
 use Rattle.drain_header.specs.declared.header.ByteOrdering.{ByteOrdering}
 use Rattle.drain_header.specs.declared.header.ByteOrdering.TheVariants.{Least, Most}
 use Rattle.drain_header.specs.Fields.{Fields}
-use Rattle.drain_raster.specs.Pixels.{needed_len, extent_of, raster_of}
+use Rattle.drain_raster.specs.Pixels.{needed_len, header_extent, raster_of}
 use Rattle.drain_raster.specs.Bytes.{raster_bytes}
 
 -- two by two pixels of 16 bits, a byte to skip, and one after each row
@@ -28,7 +28,7 @@ abbrev numbers : List ℤ
 numbers = pos 1 ∷ neg_ℤ (pos 2) ∷ neg_ℤ (pos 32768) ∷ pos 2 ∷ []
 
 abbrev raster : Pixels
-raster = record { extent = extent_of (header Least); nodata = pos 7; numbers = numbers }
+raster = record { extent = header_extent (header Least); nodata = pos 7; numbers = numbers }
 
 ten_bytes : needed_len (header Least) ≡ 10
 ten_bytes = refl

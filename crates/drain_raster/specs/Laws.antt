@@ -7,7 +7,7 @@ use Rattle.drain_grid.specs.Extent.{IsCellOf}
 use Rattle.drain_grid.specs.Rasters.{Pixels, ArePixels}
 use Rattle.drain_grid.specs.Whole.{number_at}
 use Rattle.drain_header.specs.Fields.{Fields, AreWithinBounds}
-use Rattle.drain_raster.specs.Pixels.{IsShort, extent_of, needed_len, pixel_at, raster_of}
+use Rattle.drain_raster.specs.Pixels.{IsShort, header_extent, needed_len, pixel_at, raster_of}
 use Rattle.drain_raster.specs.Bytes.{CanSpellAll, raster_bytes}
 use Rattle.drain_raster.specs.RasterRows.{bytes_of_rows, raster_rows}
 
@@ -19,12 +19,12 @@ pub record ReadBack (h : Fields) (p : Pixels) : Type 0 where
 -- the bytes of a raster whose numbers pixels can encode are the raster again
 abbrev pub BytesReadBack : Type 0
 BytesReadBack =
-    (h : Fields) (p : Pixels) → AreWithinBounds h → ArePixels p → p.extent ≡ extent_of h → CanSpellAll h p → ReadBack h p
+    (h : Fields) (p : Pixels) → AreWithinBounds h → ArePixels p → p.extent ≡ header_extent h → CanSpellAll h p → ReadBack h p
 
 -- the number of a body's raster at a cell is the cell's pixel
 abbrev pub NumbersArePixels : Type 0
 NumbersArePixels =
-    (h : Fields) (default : ℤ) (body : List ℕ) (c : Cell) → IsCellOf (extent_of h) c → number_at (raster_of h default body) c ≡ pixel_at h body c
+    (h : Fields) (default : ℤ) (body : List ℕ) (c : Cell) → IsCellOf (header_extent h) c → number_at (raster_of h default body) c ≡ pixel_at h body c
 
 -- the rows of a raster that isn't short are its pixels
 abbrev pub RasterRowsArePixels : Type 0

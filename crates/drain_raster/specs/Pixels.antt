@@ -51,13 +51,13 @@ pub record AreSpelled (h : Fields) (len : ℕ) (number : List ℕ → ℤ) : Typ
   pub number_is : (bytes : List ℕ) → number bytes ≡ pixel_of h bytes
 
 -- the rows and columns of a header
-abbrev pub extent_of : Fields → Extent
-extent_of h = record { rows = h.rows; cols = h.cols }
+abbrev pub header_extent : Fields → Extent
+header_extent h = record { rows = h.rows; cols = h.cols }
 
 -- the raster of a body: its pixels in row order, with the header's no-data number or else this one
 abbrev pub raster_of : Fields → ℤ → List ℕ → Pixels
 raster_of h default body = record {
-  extent = extent_of h;
+  extent = header_extent h;
   nodata = unwrap_or h.nodata default;
-  numbers = map (pixel_at h body) (cells (extent_of h));
+  numbers = map (pixel_at h body) (cells (header_extent h));
 }

@@ -10,13 +10,13 @@ use Rattle.drain_raster.specs.Bytes.{padding_len}
 use Rattle.drain_raster.specs.Pixels.{pixel_len, pixel_of}
 
 -- count numbers of equal size, from the front of the bytes
-abbrev pub numbers_of : ℕ → (List ℕ → ℤ) → ℕ → List ℕ → List ℤ
-numbers_of len number zero bytes = []
-numbers_of len number (suc n) bytes = number (take len bytes) ∷ numbers_of len number n (drop len bytes)
+abbrev pub raster_numbers_of : ℕ → (List ℕ → ℤ) → ℕ → List ℕ → List ℤ
+raster_numbers_of len number zero bytes = []
+raster_numbers_of len number (suc n) bytes = number (take len bytes) ∷ raster_numbers_of len number n (drop len bytes)
 
 -- the pixels of a row
 abbrev pub pixels_of : Fields → List ℕ → List ℤ
-pixels_of h bytes = numbers_of (pixel_len h) (pixel_of h) h.cols bytes
+pixels_of h bytes = raster_numbers_of (pixel_len h) (pixel_of h) h.cols bytes
 
 -- how many bytes the pixels of a row take
 abbrev pub packed_len : Fields → ℕ

@@ -1,7 +1,7 @@
 //! The range of a header's pixels.
 
 ghost use Rattle.std.specs.Prelude.{◌≡◌, ◌<◌, ◌≤ℤ◌, ◌↔◌, IsTrue, MatchOption};
-ghost use Rattle.drain_raster.specs.Pixels.{extent_of};
+ghost use Rattle.drain_raster.specs.Pixels.{header_extent};
 ghost use Rattle.drain_raster.specs.Bytes.{least_number, greatest_number, CanSpellAll, CanSpellTo, IsFirstAlong, IsFirstOutOfRange};
 
 use drain_grid::{Cell, Raster};
@@ -58,7 +58,7 @@ impl Spelled {
 
 /// The first column of a row with a number that a pixel can't encode.
 fn first_in_row(header: &Header, spelled: Spelled, raster: &Raster, row: u32) -> Option<u32>
-    requires shape { raster.now.extent ≡ extent_of header.now }
+    requires shape { raster.now.extent ≡ header_extent header.now }
     requires least { spelled.least ≡ least_number header.now.signed header.now.bits }
     requires greatest { spelled.greatest ≡ greatest_number header.now.signed header.now.bits }
     requires inside { row < header.now.rows }
@@ -74,7 +74,7 @@ fn first_in_row(header: &Header, spelled: Spelled, raster: &Raster, row: u32) ->
 
 /// The first cell with a number that a pixel can't encode.
 pub fn first_out_of_range(header: &Header, raster: &Raster) -> Option<Cell>
-    requires shape { raster.now.extent ≡ extent_of header.now }
+    requires shape { raster.now.extent ≡ header_extent header.now }
     ensures { MatchOption result (CanSpellAll header.now raster.now) (IsFirstOutOfRange header.now raster.now) }
 {
     let spelled = Spelled::by(header);

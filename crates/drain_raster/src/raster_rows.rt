@@ -9,7 +9,7 @@ ghost use Rattle.drain_device.specs.declared.row_source.Progress.{Progress};
 ghost use Rattle.drain_grid.specs.Values.{IsPixel};
 ghost use Rattle.drain_raster.specs.Bytes.{padding_len};
 ghost use Rattle.drain_raster.specs.Pixels.{AreSpelled};
-ghost use Rattle.drain_raster.specs.RasterRows.{numbers_of, packed_len, pixels_behind, pixels_of, raster_coming, raster_most_bytes};
+ghost use Rattle.drain_raster.specs.RasterRows.{raster_numbers_of, packed_len, pixels_behind, pixels_of, raster_coming, raster_most_bytes};
 
 use crate::pixel::Pixel;
 use byteorder::{BigEndian, ByteOrder, LittleEndian};
@@ -220,7 +220,7 @@ fn read_numbers<P: Pixel, T: ByteOrder, R: ByteSource>(
 /// Replaces the numbers by those of the bytes.
 fn put_numbers<P: Pixel, T: ByteOrder>(out: &mut [i64], bytes: &[u8])
     requires { length bytes.now ≡ length out.old * P.len }
-    ensures items { out.new ≡ numbers_of P.len (P.reads T.number_of) (length out.old) bytes.now }
+    ensures items { out.new ≡ raster_numbers_of P.len (P.reads T.number_of) (length out.old) bytes.now }
     ensures pixels { All IsPixel out.new }
 {
     let len = P::len();

@@ -6,7 +6,7 @@ ghost use Rattle.drain_grid.specs.Extent.{row_cells, cells};
 ghost use Rattle.drain_grid.specs.Product.{default_no_data};
 ghost use Rattle.drain_grid.specs.Values.{IsPixel, IsNoData};
 ghost use Rattle.drain_raster.specs.Bytes.{cells_from};
-ghost use Rattle.drain_raster.specs.Pixels.{AreSpelled, needed_len, IsShort, pixel_at, extent_of, raster_of};
+ghost use Rattle.drain_raster.specs.Pixels.{AreSpelled, needed_len, IsShort, pixel_at, header_extent, raster_of};
 
 use crate::fault::RasterFault;
 use crate::pixel::Pixel;
@@ -43,7 +43,7 @@ pub fn nodata(header: &Header, product: Product) -> i64
 
 /// The rows and columns of the raster.
 fn shape(header: &Header) -> Shape
-    ensures { result ≡ extent_of header.now }
+    ensures { result ≡ header_extent header.now }
 {
     Shape::new(header.rows, header.cols).unwrap()
 }
@@ -101,7 +101,7 @@ fn push_rows<P: Pixel, T: ByteOrder>(numbers: &mut Vec<i64>, header: &Header, bo
     requires long { needed_len header.now ≤ length body.now }
     requires room { header.now.rows * header.now.cols ≤ vec_capacity numbers.old }
     requires empty { numbers.old.items ≡ [] }
-    ensures items { numbers.new.items ≡ map (pixel_at header.now body.now) (cells (extent_of header.now)) }
+    ensures items { numbers.new.items ≡ map (pixel_at header.now body.now) (cells (header_extent header.now)) }
     ensures len { vec_len numbers.new ≡ header.now.rows * header.now.cols }
     ensures pixels { All IsPixel numbers.new.items }
 {
@@ -115,7 +115,7 @@ fn push_pixels(numbers: &mut Vec<i64>, header: &Header, body: &[u8])
     requires long { needed_len header.now ≤ length body.now }
     requires room { header.now.rows * header.now.cols ≤ vec_capacity numbers.old }
     requires empty { numbers.old.items ≡ [] }
-    ensures items { numbers.new.items ≡ map (pixel_at header.now body.now) (cells (extent_of header.now)) }
+    ensures items { numbers.new.items ≡ map (pixel_at header.now body.now) (cells (header_extent header.now)) }
     ensures len { vec_len numbers.new ≡ header.now.rows * header.now.cols }
     ensures pixels { All IsPixel numbers.new.items }
 {

@@ -8,7 +8,7 @@ ghost use Rattle.drain_grid.specs.declared.cell.Cell.{Cell};
 ghost use Rattle.drain_grid.specs.Extent.{row_cells};
 ghost use Rattle.drain_grid.specs.declared.cell.TheConstants.{MAX_LENGTH};
 ghost use Rattle.drain_grid.specs.Rasters.{Pixels};
-ghost use Rattle.drain_raster.specs.Pixels.{extent_of};
+ghost use Rattle.drain_raster.specs.Pixels.{header_extent};
 ghost use Rattle.drain_raster.specs.Bytes.{AreWritten, CanSpellAll, CanSpellAllIn, IsFirstOutOfRange, cells_bytes, cells_from, bytes_of_row, raster_bytes};
 ghost use Rattle.drain_device.specs.Failing.{WriteFails};
 ghost use Rattle.drain_raster.specs.Writing.{Hands};
@@ -105,7 +105,7 @@ fn write_row<P: Pixel, T: ByteOrder, W: ByteSink>(
     patience: &mut Patience,
 ) -> Result<(), GaveUp>
     requires written { AreWritten header.now P.len P.bits P.signed (P.spells T.bytes_of) }
-    requires shape { raster.now.extent ≡ extent_of header.now }
+    requires shape { raster.now.extent ≡ header_extent header.now }
     requires spelled { CanSpellAll header.now raster.now }
     requires inside { row < header.now.rows }
     ensures { Hands (W.bytes_taken to.old) (W.bytes_taken to.new) (W.counts to.old) (W.counts to.new) (W.stalls to.old) (W.stalls to.new) patience.old patience.new result (bytes_of_row header.now raster.now row) }
@@ -123,7 +123,7 @@ fn write_rows<P: Pixel, T: ByteOrder, W: ByteSink>(
     patience: &mut Patience,
 ) -> Result<(), GaveUp>
     requires written { AreWritten header.now P.len P.bits P.signed (P.spells T.bytes_of) }
-    requires shape { raster.now.extent ≡ extent_of header.now }
+    requires shape { raster.now.extent ≡ header_extent header.now }
     requires spelled { CanSpellAll header.now raster.now }
     ensures { Hands (W.bytes_taken to.old) (W.bytes_taken to.new) (W.counts to.old) (W.counts to.new) (W.stalls to.old) (W.stalls to.new) patience.old patience.new result (flat_map (bytes_of_row header.now raster.now) (range_with_len 0 header.now.rows)) }
 {
@@ -140,7 +140,7 @@ fn write_body<W: ByteSink>(
     raster: &Raster,
     patience: &mut Patience,
 ) -> Result<(), GaveUp>
-    requires shape { raster.now.extent ≡ extent_of header.now }
+    requires shape { raster.now.extent ≡ header_extent header.now }
     requires spelled { CanSpellAll header.now raster.now }
     ensures { Hands (W.bytes_taken to.old) (W.bytes_taken to.new) (W.counts to.old) (W.counts to.new) (W.stalls to.old) (W.stalls to.new) patience.old patience.new result (flat_map (bytes_of_row header.now raster.now) (range_with_len 0 header.now.rows)) }
 {
@@ -181,7 +181,7 @@ fn write_all_bytes<W: ByteSink>(
     raster: &Raster,
     patience: &mut Patience,
 ) -> Result<(), GaveUp>
-    requires shape { raster.now.extent ≡ extent_of header.now }
+    requires shape { raster.now.extent ≡ header_extent header.now }
     requires spelled { CanSpellAll header.now raster.now }
     ensures { Hands (W.bytes_taken to.old) (W.bytes_taken to.new) (W.counts to.old) (W.counts to.new) (W.stalls to.old) (W.stalls to.new) patience.old patience.new result (raster_bytes header.now raster.now) }
 {
@@ -201,7 +201,7 @@ pub fn write_raster<W: ByteSink>(
     header: &Header,
     raster: &Raster,
 ) -> Result<(), WriteFault>
-    requires shape { raster.now.extent ≡ extent_of header.now }
+    requires shape { raster.now.extent ≡ header_extent header.now }
     ensures out_of_range { (c : Cell) → (result ≡ Err (WriteFault.OutOfRange c)) ↔ IsFirstOutOfRange header.now raster.now c }
     ensures untouched { (c : Cell) → result ≡ Err (WriteFault.OutOfRange c) → to.new ≡ to.old }
     ensures bytes { HandsOver (W.bytes_taken to.old) (W.bytes_taken to.new) result (raster_bytes header.now raster.now) }

@@ -1,7 +1,7 @@
 -- What follows from the clauses of results, and where a walk over rows stops.
 use Rattle.std.proofs.Common.{◌≡◌, ℕ, Option, Some, None, Result, Ok, Err, IfErr, OnOk}
 use Rattle.std.specs.Result.{IsErrAnd}
-use Rattle.drain_rows.specs.GridRows.{IsRowStop, IsRowsStop, ReadsOn}
+use Rattle.drain_rows.specs.GridRows.{IsWalkStop, IsRowsStop, ReadsOn}
 use Rattle.drain_rows.specs.declared.walk_stop.WalkStop.{WalkStop}
 use Rattle.drain_rows.specs.declared.walk_stop.WalkStop.TheVariants.{Source, OutOfMemory}
 
@@ -18,6 +18,6 @@ on-ok (Err told) follows holds = tt
 -- a stop of one call is one of all calls so far
 pub stops_then : {State Stop W V : Type 0} (has_read : State → State → ℕ → Option Stop → Type 0) (before here after : State) (one calls : ℕ) (stop : WalkStop Stop) →
     ((told : Option Stop) → ReadsOn has_read here after one told → ReadsOn has_read before after calls told) → (W → V) →
-    IsRowStop has_read here after one W stop → IsRowsStop has_read before after V stop
+    IsWalkStop has_read here after one W stop → IsRowsStop has_read before after V stop
 stops_then has_read before here after one calls (Source stop) more wants stops = (calls, more (Some stop) stops)
 stops_then has_read before here after one calls OutOfMemory more wants stops = (calls, (more None stops.0, wants stops.1))

@@ -4,8 +4,8 @@ use Rattle.std.specs.List.{All}
 use Rattle.std.proofs.lemmas.Bool.{lt-ltb, le-ltb}
 use Rattle.std.proofs.lemmas.List.FromFn.{get_or-map-range_with_len, length-map-range_with_len}
 use Rattle.drain_grid.specs.declared.cell.TheConstants.{MAX_LENGTH}
-use Rattle.drain_grid.specs.declared.held.Held.{Held}
-use Rattle.drain_grid.specs.declared.held.Held.TheVariants.{Con, Dir, Acc, Bas, Rnk}
+use Rattle.drain_grid.specs.declared.set_product.SetProduct.{SetProduct}
+use Rattle.drain_grid.specs.declared.set_product.SetProduct.TheVariants.{Con, Dir, Acc, Bas, Rnk}
 use Rattle.drain_grid.specs.declared.product_set.ProductSet.{ProductSet}
 use Rattle.drain_grid.specs.declared.sink_line.SinkLine.{SinkLine}
 use Rattle.drain_grid.specs.declared.tile.TheConstants.{VOID}
@@ -15,7 +15,7 @@ use Rattle.drain_grid.specs.Size.{Extent}
 use Rattle.drain_grid.specs.Tile.{IsSample, height_from}
 use Rattle.drain_grid.specs.Values.{IsPixel}
 use Rattle.drain_grid.specs.Whole.{number_at, number_row, sample_at}
-use Rattle.drain_grid.specs.Grid.{held_in}
+use Rattle.drain_grid.specs.Grid.{set_number_in}
 use Rattle.drain_grid.specs.WholeGrid.{grid_of, products_of, raster_in}
 use Rattle.drain_rules.specs.Rows.{place}
 use Rattle.drain_rules.specs.RowNumbers.{AreNumbersOf, AreRowNumbers, RowNumbers, blank}
@@ -40,12 +40,12 @@ row_says e ps sinks shaped r less = record {
   no_spill = λ col within. refl;
 }
   where
-    of : (p : Held) (col : ℕ) → col < e.extent.cols → get_or (number_row (raster_in ps p) r) col (pos 0) ≡ number_at (raster_in ps p) (place r col)
+    of : (p : SetProduct) (col : ℕ) → col < e.extent.cols → get_or (number_row (raster_in ps p) r) col (pos 0) ≡ number_at (raster_in ps p) (place r col)
     of p col within =
         let inside : col < (raster_in ps p).extent.cols = let same = ap (λ (x : Extent). x.cols) (shaped p) in omega (arith, same, within) in
         get_or-map-range_with_len (λ k. number_at (raster_in ps p) (place r k)) 0 (raster_in ps p).extent.cols col col (pos 0) inside (omega arith)
 
-    number : (p : Held) (col : ℕ) → col < e.extent.cols → get_or (of_product (row_in e ps r).products p) col (pos 0) ≡ held_in (products_of ps) p (place r col)
+    number : (p : SetProduct) (col : ℕ) → col < e.extent.cols → get_or (of_product (row_in e ps r).products p) col (pos 0) ≡ set_number_in (products_of ps) p (place r col)
     number Con col within = of Con col within
     number Dir col within = of Dir col within
     number Acc col within = of Acc col within
@@ -63,7 +63,7 @@ whole_rows e ps sinks shaped = record {
 
 -- what was read as a row is one
 pub row_whole : (e : Heights) (ps : ProductSet) (r : ℕ) (row : RowNumbers) → AreOfShape e.extent ps → e.extent.cols ≤ MAX_LENGTH →
-    row ≡ row_in e ps r → All IsSample row.z → ((p : Held) → All IsPixel (of_product row.products p)) → AreRowNumbers row
+    row ≡ row_in e ps r → All IsSample row.z → ((p : SetProduct) → All IsPixel (of_product row.products p)) → AreRowNumbers row
 row_whole e ps r row shaped narrow is samples pixels = record {
   narrow = let wide = cols in omega (arith, wide, narrow);
   long = λ p. of_length p ∙ sym cols;
@@ -74,10 +74,10 @@ row_whole e ps r row shaped narrow is samples pixels = record {
     cols : length row.z ≡ e.extent.cols
     cols = ap (λ (x : RowNumbers). length x.z) is ∙ length-map-range_with_len (λ col. sample_at e (place r col)) 0 e.extent.cols
 
-    of : (p : Held) → length (number_row (raster_in ps p) r) ≡ e.extent.cols
+    of : (p : SetProduct) → length (number_row (raster_in ps p) r) ≡ e.extent.cols
     of p = length-map-range_with_len (λ col. number_at (raster_in ps p) (place r col)) 0 (raster_in ps p).extent.cols ∙ ap (λ (x : Extent). x.cols) (shaped p)
 
-    of_length : (p : Held) → length (of_product row.products p) ≡ e.extent.cols
+    of_length : (p : SetProduct) → length (of_product row.products p) ≡ e.extent.cols
     of_length Con = ap (λ (x : RowNumbers). length x.products.con) is ∙ of Con
     of_length Dir = ap (λ (x : RowNumbers). length x.products.dir) is ∙ of Dir
     of_length Acc = ap (λ (x : RowNumbers). length x.products.acc) is ∙ of Acc

@@ -1,9 +1,9 @@
 -- The window as it moves down the rows.
 use Rattle.std.proofs.Common.{◌≡◌, ℕ, ℤ, ◌+◌, ◌<◌, All, List, [], length, refl, sym, ap, subst, ◌∙◌, arith}
 use Rattle.drain_grid.specs.PerProduct.{of_product}
-use Rattle.drain_grid.proofs.ByProduct.{by_held}
+use Rattle.drain_grid.proofs.ByProduct.{by_set_product}
 use Rattle.drain_grid.specs.Values.{IsPixel}
-use Rattle.drain_grid.specs.declared.held.Held.{Held}
+use Rattle.drain_grid.specs.declared.set_product.SetProduct.{SetProduct}
 use Rattle.drain_grid.specs.Grid.{Grid, Products}
 use Rattle.drain_rules.specs.declared.three_rows.ThreeRows.{ThreeRows}
 use Rattle.drain_rules.specs.PatchRows.{AreRowPatches}
@@ -13,17 +13,17 @@ use Rattle.drain_rules.specs.Rows.{place}
 use Rattle.drain_rules.specs.ThreeRows.{AreRowsAround, ThreeRowsShowPatches, patch_in}
 use Rattle.drain_grid.specs.declared.sink_line.SinkLine.{SinkLine}
 use Rattle.drain_rows.specs.GridRows.{AreRowsOf}
-use Rattle.drain_rows.specs.HeldRows.{IsMarked}
+use Rattle.drain_rows.specs.RowBuffers.{IsMarked}
 
 -- of these rows two are held: this one, and the one above it, where there is one
-pub record AreHeld (rows : ℕ → RowNumbers) (row : ℕ) (above here : RowNumbers) : Type 0 where
+pub record AreSetProducts (rows : ℕ → RowNumbers) (row : ℕ) (above here : RowNumbers) : Type 0 where
   pub here_is : here ≡ rows row
   pub above_is : (r : ℕ) → row ≡ r + 1 → above ≡ rows r
   pub none_above : row ≡ 0 → above ≡ blank
 
 -- no row is as many numbers of each
-none-of : (p : Held) → of_product blank.products p ≡ []
-none-of = by_held (λ p. of_product blank.products p ≡ []) refl refl refl refl refl
+none-of : (p : SetProduct) → of_product blank.products p ≡ []
+none-of = by_set_product (λ p. of_product blank.products p ≡ []) refl refl refl refl refl
 
 pub blank-whole : AreRowNumbers blank
 blank-whole = record {
@@ -47,7 +47,7 @@ row-marked g ps sinks rows r row all is marked inside =
 
 -- with the row below, three rows of the grid are in the window
 pub rows-around : (g : Grid) (ps : Products) (sinks : List SinkLine) (rows : ℕ → RowNumbers) (row : ℕ) (three : ThreeRows) → AreRowsOf g ps sinks rows → row < g.extent.rows →
-    AreHeld rows row three.above.numbers three.here.numbers → three.below.numbers ≡ rows (row + 1) →
+    AreSetProducts rows row three.above.numbers three.here.numbers → three.below.numbers ≡ rows (row + 1) →
     ((r : ℕ) → row ≡ r + 1 → IsMarked sinks r three.above) → IsMarked sinks row three.here → IsMarked sinks (row + 1) three.below → AreRowsAround g ps row three
 rows-around g ps sinks rows row three all inside are below_is above_marked here_marked below_marked = record {
   here = row-marked g ps sinks rows row three.here all are.here_is here_marked inside;
@@ -58,8 +58,8 @@ rows-around g ps sinks rows row three all inside are below_is above_marked here_
 }
 
 -- the window turned
-pub held-turned : (rows : ℕ → RowNumbers) (row : ℕ) (above here above_now here_now : RowNumbers) → AreHeld rows row above here → above_now ≡ above →
-    here_now ≡ here → AreHeld rows row above_now here_now
+pub held-turned : (rows : ℕ → RowNumbers) (row : ℕ) (above here above_now here_now : RowNumbers) → AreSetProducts rows row above here → above_now ≡ above →
+    here_now ≡ here → AreSetProducts rows row above_now here_now
 held-turned rows row above here above_now here_now are above_is here_is = record {
   here_is = here_is ∙ are.here_is;
   above_is = λ r is. above_is ∙ are.above_is r is;
@@ -68,7 +68,7 @@ held-turned rows row above here above_now here_now are above_is here_is = record
 
 -- so three rows that are those of the window, once it turned, show the patches of the row
 pub window-shows : ThreeRowsShowPatches → (g : Grid) (ps : Products) (sinks : List SinkLine) (rows : ℕ → RowNumbers) (row : ℕ) (three : ThreeRows) (above here below : MarkedRow) →
-    AreRowsOf g ps sinks rows → row < g.extent.rows → three.above ≡ above → three.here ≡ here → three.below ≡ below → AreHeld rows row above.numbers here.numbers →
+    AreRowsOf g ps sinks rows → row < g.extent.rows → three.above ≡ above → three.here ≡ here → three.below ≡ below → AreSetProducts rows row above.numbers here.numbers →
     below.numbers ≡ rows (row + 1) → ((r : ℕ) → row ≡ r + 1 → IsMarked sinks r above) → IsMarked sinks row here → IsMarked sinks (row + 1) below →
     AreRowPatches g ps row (length three.here.numbers.z) (patch_in three)
 window-shows law g ps sinks rows row three above here below all inside above_is here_is below_is held next above_marked here_marked below_marked =
@@ -80,7 +80,7 @@ window-shows law g ps sinks rows row three above here below all inside above_is 
     (subst (IsMarked sinks (row + 1)) (sym below_is) below_marked))
 
 -- one row further down
-pub held-more : (rows : ℕ → RowNumbers) (row : ℕ) (here below : RowNumbers) → here ≡ rows row → below ≡ rows (row + 1) → AreHeld rows (row + 1) here below
+pub held-more : (rows : ℕ → RowNumbers) (row : ℕ) (here below : RowNumbers) → here ≡ rows row → below ≡ rows (row + 1) → AreSetProducts rows (row + 1) here below
 held-more rows row here below here_is below_is = record {
   here_is = below_is;
   above_is = λ r is. let same : row ≡ r = omega (arith, is) in here_is ∙ ap rows same;

@@ -29,10 +29,10 @@ abbrev pub ReadsOn : {State Stop : Type 0} → (State → State → ℕ → Opti
 ReadsOn {State} has_read before after calls told = (start : State) (n : ℕ) → has_read start before n None → has_read start after (n + calls) told
 
 -- after this number of calls the source has stopped, or it has read on and memory ran out elsewhere
-abbrev pub IsRowStop : {State Stop : Type 0} → (State → State → ℕ → Option Stop → Type 0) → State → State → ℕ → Type 0 → WalkStop Stop → Type 0
-IsRowStop has_read before after calls Wants (Source stop) = ReadsOn has_read before after calls (Some stop)
-IsRowStop has_read before after calls Wants OutOfMemory = ReadsOn has_read before after calls None × Wants
+abbrev pub IsWalkStop : {State Stop : Type 0} → (State → State → ℕ → Option Stop → Type 0) → State → State → ℕ → Type 0 → WalkStop Stop → Type 0
+IsWalkStop has_read before after calls Wants (Source stop) = ReadsOn has_read before after calls (Some stop)
+IsWalkStop has_read before after calls Wants OutOfMemory = ReadsOn has_read before after calls None × Wants
 
 -- the same after some calls
 abbrev pub IsRowsStop : {State Stop : Type 0} → (State → State → ℕ → Option Stop → Type 0) → State → State → Type 0 → WalkStop Stop → Type 0
-IsRowsStop has_read before after Wants stopped = (calls : ℕ) × IsRowStop has_read before after calls Wants stopped
+IsRowsStop has_read before after Wants stopped = (calls : ℕ) × IsWalkStop has_read before after calls Wants stopped

@@ -1,5 +1,5 @@
 pub mod GridRows
-pub mod HeldRows
+pub mod RowBuffers
 pub mod ListedVoids
 pub mod NotedRows
 pub mod WholeRows

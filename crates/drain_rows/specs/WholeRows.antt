@@ -5,13 +5,13 @@ use Rattle.drain_grid.specs.Rasters.{Heights}
 use Rattle.drain_grid.specs.Size.{Extent}
 use Rattle.drain_grid.specs.Whole.{number_row, sample_row}
 use Rattle.drain_grid.specs.WholeGrid.{raster_in}
-use Rattle.drain_grid.specs.declared.held.Held.{Held}
+use Rattle.drain_grid.specs.declared.set_product.SetProduct.{SetProduct}
 use Rattle.drain_grid.specs.declared.product_set.ProductSet.{ProductSet}
 use Rattle.drain_rules.specs.RowNumbers.{RowNumbers, blank}
 
 -- all products have these rows and columns
 abbrev pub AreOfShape : Extent → ProductSet → Type 0
-AreOfShape e ps = (p : Held) → (raster_in ps p).extent ≡ e
+AreOfShape e ps = (p : SetProduct) → (raster_in ps p).extent ≡ e
 
 -- a row of them
 abbrev pub row_in : Heights → ProductSet → ℕ → RowNumbers

@@ -3,9 +3,9 @@
 ghost use Rattle.std.specs.Prelude.{◌≡◌, ℕ, List, length, Option, Some, None, OnOk, IfErr};
 ghost use Rattle.drain_rules.specs.RowNumbers.{RowNumbers, AreRowNumbers};
 ghost use Rattle.drain_rows.specs.GridRows.{IsNext, ReadsOn};
-ghost use Rattle.drain_rows.specs.HeldRows.{numbers_of};
+ghost use Rattle.drain_rows.specs.RowBuffers.{buffer_numbers};
 
-use crate::held_row::HeldRow;
+use crate::row_buffer::RowBuffer;
 
 /// A reader of a grid's rows, the northernmost first; each call borrows the tiles and products.
 pub trait GridRows<T, P> {
@@ -26,13 +26,13 @@ pub trait GridRows<T, P> {
         &mut self,
         tiles: &mut [T],
         products: &mut P,
-        out: &mut HeldRow,
+        out: &mut RowBuffer,
     ) -> Result<(), Self::Stop>
         requires counted { length tiles.old ≡ count self.old }
         ensures counted { count self.new ≡ count self.old }
         ensures as_many { length tiles.new ≡ length tiles.old }
-        ensures next { OnOk result (IsNext (gives (self.old, tiles.old, products.old)) (gives (self.new, tiles.new, products.new)) (numbers_of out.new)) }
-        ensures whole { OnOk result (AreRowNumbers (numbers_of out.new)) }
+        ensures next { OnOk result (IsNext (gives (self.old, tiles.old, products.old)) (gives (self.new, tiles.new, products.new)) (buffer_numbers out.new)) }
+        ensures whole { OnOk result (AreRowNumbers (buffer_numbers out.new)) }
         ensures reads { OnOk result (ReadsOn has_read (self.old, tiles.old, products.old) (self.new, tiles.new, products.new) 1 None) }
         ensures stops { IfErr result (λ stop. ReadsOn has_read (self.old, tiles.old, products.old) (self.new, tiles.new, products.new) 1 (Some stop)) };
 }

@@ -6,20 +6,20 @@ ghost use Rattle.drain_grid.specs.Grid.{Grid, Products};
 ghost use Rattle.drain_grid.specs.Unranked.{unranked};
 ghost use Rattle.drain_grid.specs.Values.{NoDataNumbers};
 ghost use Rattle.drain_rules.specs.Verdicts.{IsVerdictOf};
-ghost use Rattle.drain_runs.specs.Flows.{AreFlowsOf};
-ghost use Rattle.drain_runs.specs.KnownFlows.{AreKnownFlows};
+ghost use Rattle.drain_paths.specs.Flows.{AreFlowsOf};
+ghost use Rattle.drain_paths.specs.KnownFlows.{AreKnownFlows};
 ghost use Rattle.drain_rows.specs.Runs.{AllRunsEnd};
 
-use crate::held_row::HeldRow;
-use crate::row_notes::RowNotes;
+use crate::row_buffer::RowBuffer;
+use crate::row_visitor::RowVisitor;
 use drain_grid::laws::correct_by_rules_alone;
 use drain_grid::{Cell, OutOfMemory, Shape};
+use drain_paths::CellFlows;
 use drain_rules::{Rules, ThreeRows, Verdict};
-use drain_runs::CellFlows;
 
-impl RowNotes for CellFlows {
+impl RowVisitor for CellFlows {
     ghost use Rattle.std.specs.Prelude.{true};
-    ghost use Rattle.drain_runs.specs.Flows.{AreFirstFlows};
+    ghost use Rattle.drain_paths.specs.Flows.{AreFirstFlows};
 
     ghost counts = { λ n flows. Unit {0} };
 
@@ -31,7 +31,7 @@ impl RowNotes for CellFlows {
 
     fn note(
         &mut self,
-        row: &HeldRow,
+        row: &RowBuffer,
         _rows: &ThreeRows<'_>,
         _rules: &Rules,
     ) -> Result<(), OutOfMemory> {

@@ -8,16 +8,16 @@ ghost use Rattle.drain_kernel.specs.Rules.{tried};
 ghost use Rattle.drain_rules.specs.ThreeRows.{patch_in};
 ghost use Rattle.drain_rules.specs.Verdicts.{IsVerdictOf};
 ghost use Rattle.drain_rows.specs.GridRows.{OfGrid, ReadsOn, IsRowsStop};
-ghost use Rattle.drain_rows.specs.HeldRows.{HasItsLanes, numbers_of};
+ghost use Rattle.drain_rows.specs.RowBuffers.{LanesMatch, buffer_numbers};
 ghost use Rattle.drain_rows.specs.ListedVoids.{AreListedVoids};
 ghost use Rattle.drain_rows.specs.NotedRows.{OfNotedRow};
 ghost use Rattle.drain_rows.specs.declared.walk_stop.WalkStop.TheVariants as walk_stop;
 
 use crate::grid_rows::GridRows;
-use crate::held_row::HeldRow;
 use crate::listed_voids::ListedVoids;
 use crate::marked_rows::read_marked;
-use crate::row_notes::{RowNotes, RowVerdicts};
+use crate::row_buffer::RowBuffer;
+use crate::row_visitor::{RowVisitor, VerdictVisitor};
 use crate::walk_stop::WalkStop;
 use crate::window::Window;
 use drain_grid::{OutOfMemory, Shape, Sinks};
@@ -36,7 +36,7 @@ pub struct RowVerdict {
 ///
 /// It asks for one row more than there are, and gets none. It stops if the source does, or if memory runs out where the
 /// notes need memory or there are sinks.
-pub fn verdict_by_rows<T, P, S: GridRows<T, P>, K: RowVerdicts>(
+pub fn verdict_by_rows<T, P, S: GridRows<T, P>, K: VerdictVisitor>(
     alloc: Global,
     shape: Shape,
     sinks: &Sinks,
@@ -76,7 +76,7 @@ pub fn verdict_by_rows<T, P, S: GridRows<T, P>, K: RowVerdicts>(
 }
 
 /// Notes each row of the grid and its listed sinks that are voids, from an empty window and an empty list.
-fn note_rows<T, P, S: GridRows<T, P>, K: RowNotes>(
+fn note_rows<T, P, S: GridRows<T, P>, K: RowVisitor>(
     shape: Shape,
     sinks: &Sinks,
     rules: &Rules,
@@ -90,8 +90,8 @@ fn note_rows<T, P, S: GridRows<T, P>, K: RowNotes>(
     requires counted { length tiles.old ≡ S.count source.old }
     requires uncounted { K.counts 0 notes.old }
     requires unnoted { (g : Grid) (ps : Products) → K.are_of rules.now g ps 0 notes.old }
-    requires here { numbers_of window.old.here ≡ blank }
-    requires here_lanes { HasItsLanes window.old.here }
+    requires here { buffer_numbers window.old.here ≡ blank }
+    requires here_lanes { LanesMatch window.old.here }
     requires none { voids.old ≡ [] }
     ensures voids { OnOk result (OfGrid (S.gives (source.old, tiles.old, products.old)) shape sinks.now (λ g ps. AreListedVoids g voids.new)) }
     ensures noted { OnOk result (OfGrid (S.gives (source.old, tiles.old, products.old)) shape sinks.now (λ g ps. K.are_of rules.now g ps g.extent.rows notes.new)) }
@@ -132,19 +132,19 @@ fn note_rows<T, P, S: GridRows<T, P>, K: RowNotes>(
 }
 
 /// Notes a row of the grid.
-fn note_row<K: RowNotes, E>(
+fn note_row<K: RowVisitor, E>(
     notes: &mut K,
-    row: &HeldRow,
+    row: &RowBuffer,
     rows: &ThreeRows<'_>,
     rules: &Rules,
 ) -> Result<(), WalkStop<E>>
-    requires whole { AreRowNumbers (numbers_of row.now) }
+    requires whole { AreRowNumbers (buffer_numbers row.now) }
     requires counted { (n : ℕ) × (n < MAX_LENGTH) × K.counts n notes.old }
     ensures counted { OnOk result ((n : ℕ) → K.counts n notes.old → K.counts (n + 1) notes.new) }
-    ensures noted { OnOk result (OfNotedRow (numbers_of row.now) (length rows.now.here.numbers.z) (patch_in rows.now)
+    ensures noted { OnOk result (OfNotedRow (buffer_numbers row.now) (length rows.now.here.numbers.z) (patch_in rows.now)
         (λ g ps r. K.are_of rules.now g ps r notes.old → K.are_of rules.now g ps (r + 1) notes.new)) }
     ensures lasting { OnOk result (K.lasting notes.new ≡ K.lasting notes.old) }
-    ensures wants { OnErr result (OfNotedRow (numbers_of row.now) (length rows.now.here.numbers.z) (patch_in rows.now)
+    ensures wants { OnErr result (OfNotedRow (buffer_numbers row.now) (length rows.now.here.numbers.z) (patch_in rows.now)
         (λ g ps r. K.are_of rules.now g ps r notes.old → K.wants rules.now g ps)) }
     ensures err { IfErr result (λ stop. stop ≡ walk_stop.OutOfMemory) }
 {

@@ -6,11 +6,11 @@ ghost use Rattle.drain_grid.specs.declared.cell.TheConstants.{MAX_LENGTH};
 ghost use Rattle.drain_grid.specs.WholeGrid.{grid_of, nodata_of, products_of};
 ghost use Rattle.drain_rules.specs.RowNumbers.{AreRowNumbers};
 ghost use Rattle.drain_rules.specs.Verdicts.{IfAccepted, IsVerdict};
-ghost use Rattle.drain_rows.specs.HeldRows.{numbers_of};
+ghost use Rattle.drain_rows.specs.RowBuffers.{buffer_numbers};
 ghost use Rattle.drain_rows.specs.WholeRows.{AreOfShape, row_in};
 
 use crate::grid_rows::GridRows;
-use crate::held_row::HeldRow;
+use crate::row_buffer::RowBuffer;
 use crate::row_verdict::verdict_by_rows;
 use drain_grid::laws::correct_from_rules;
 use drain_grid::{Elevation, OutOfMemory, ProductSet, Shape, Sinks};
@@ -50,7 +50,7 @@ fn walk(
     let shape = shape_of(products);
     let rules = Rules {
         nodata: products.nodata(),
-        ranks: Ranks::Asked,
+        ranks: Ranks::Checked,
     };
     let mut rows = WholeRows {
         elevation,
@@ -105,7 +105,7 @@ impl<'a> GridRows<(), ()> for WholeRows<'a> {
         &mut self,
         _tiles: &mut [()],
         _products: &mut (),
-        out: &mut HeldRow,
+        out: &mut RowBuffer,
     ) -> Result<(), OutOfMemory> {
         if self.row >= self.elevation.shape().rows() {
             out.clear();
@@ -122,14 +122,14 @@ fn read_whole(
     elevation: &Elevation,
     products: &ProductSet,
     row: u32,
-    out: &mut HeldRow,
+    out: &mut RowBuffer,
 ) -> Result<(), OutOfMemory>
     requires same_shape { elevation.now.extent ≡ products.now.con.extent }
     requires shaped { AreOfShape elevation.now.extent products.now }
     requires narrow { elevation.now.extent.cols ≤ MAX_LENGTH }
     requires inside { row < elevation.now.extent.rows }
-    ensures row { OnOk result (numbers_of out.new ≡ row_in elevation.now products.now row) }
-    ensures whole { OnOk result (AreRowNumbers (numbers_of out.new)) }
+    ensures row { OnOk result (buffer_numbers out.new ≡ row_in elevation.now products.now row) }
+    ensures whole { OnOk result (AreRowNumbers (buffer_numbers out.new)) }
 {
     elevation.read_row(row, &mut out.z)?;
     products.con.read_row(row, &mut out.products.con)?;

@@ -2,9 +2,9 @@
 
 ghost use Rattle.std.specs.Prelude.{◌≡◌};
 ghost use Rattle.drain_rules.specs.RowNumbers.{AreRowNumbers, blank};
-ghost use Rattle.drain_rows.specs.HeldRows.{HasItsLanes, marked_of, numbers_of};
+ghost use Rattle.drain_rows.specs.RowBuffers.{LanesMatch, marked_of, buffer_numbers};
 
-use crate::held_row::HeldRow;
+use crate::row_buffer::RowBuffer;
 use drain_rules::ThreeRows;
 use std::alloc::Global;
 use std::mem::swap;
@@ -12,22 +12,22 @@ use std::mem::swap;
 /// A row, and those above and below it. The one below is there to be read into.
 #[derive(Drop)]
 pub struct Window {
-    pub above: HeldRow,
-    pub here: HeldRow,
-    pub below: HeldRow,
+    pub above: RowBuffer,
+    pub here: RowBuffer,
+    pub below: RowBuffer,
 }
 
 impl Window {
     /// No rows. This needs no memory.
     pub fn new(alloc: Global) -> Window
-        ensures above { numbers_of result.above ≡ blank }
-        ensures here { numbers_of result.here ≡ blank }
-        ensures here_lanes { HasItsLanes result.here }
+        ensures above { buffer_numbers result.above ≡ blank }
+        ensures here { buffer_numbers result.here ≡ blank }
+        ensures here_lanes { LanesMatch result.here }
     {
         Window {
-            above: HeldRow::new(alloc),
-            here: HeldRow::new(alloc),
-            below: HeldRow::new(alloc),
+            above: RowBuffer::new(alloc),
+            here: RowBuffer::new(alloc),
+            below: RowBuffer::new(alloc),
         }
     }
 
@@ -42,12 +42,12 @@ impl Window {
 
     /// The rows as slices.
     pub fn rows(&self) -> ThreeRows<'_>
-        requires above { AreRowNumbers (numbers_of self.now.above) }
-        requires here { AreRowNumbers (numbers_of self.now.here) }
-        requires below { AreRowNumbers (numbers_of self.now.below) }
-        requires above_lanes { HasItsLanes self.now.above }
-        requires here_lanes { HasItsLanes self.now.here }
-        requires below_lanes { HasItsLanes self.now.below }
+        requires above { AreRowNumbers (buffer_numbers self.now.above) }
+        requires here { AreRowNumbers (buffer_numbers self.now.here) }
+        requires below { AreRowNumbers (buffer_numbers self.now.below) }
+        requires above_lanes { LanesMatch self.now.above }
+        requires here_lanes { LanesMatch self.now.here }
+        requires below_lanes { LanesMatch self.now.below }
         ensures above { result.above ≡ marked_of self.now.above }
         ensures here { result.here ≡ marked_of self.now.here }
         ensures below { result.below ≡ marked_of self.now.below }

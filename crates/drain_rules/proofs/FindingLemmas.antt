@@ -6,7 +6,7 @@ use Rattle.drain_grid.specs.Rule.{IsAnyRule}
 use Rattle.drain_rules.specs.declared.tally.Tally.{Tally}
 use Rattle.drain_rules.specs.Labels.{AreLabelsBefore}
 use Rattle.drain_rules.specs.Rows.{place, HoldAlong, IsRowTally}
-use Rattle.drain_rules.specs.Findings.{AreSound}
+use Rattle.drain_rules.specs.RowOutcomes.{AreSound}
 use Rattle.drain_rules.proofs.GridLemmas.{CountsAbove-more}
 
 -- the next row keeps every rule too, and is counted

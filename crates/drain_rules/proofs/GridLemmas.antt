@@ -18,7 +18,7 @@ use Rattle.drain_rules.specs.declared.tally.Tally.{Tally}
 use Rattle.drain_rules.specs.FillVerdicts.{IsFillVerdict}
 use Rattle.drain_rules.specs.Labels.{HasNewLabel}
 use Rattle.drain_rules.specs.Verdicts.{has_outlet_code}
-use Rattle.drain_rules.specs.Findings.{cells_above, CountsAbove}
+use Rattle.drain_rules.specs.RowOutcomes.{cells_above, CountsAbove}
 use Rattle.drain_rules.specs.Rows.{place, HoldAlong, CountsAlong, IsRowFault, IsNewLabelAlong}
 
 range_with_len-more : (a n : ℕ) → range_with_len a (suc n) ≡ range_with_len a n ++ (a + n) ∷ []

@@ -4,7 +4,7 @@ use Rattle.std.specs.List.{count_by, range_with_len}
 use Rattle.std.proofs.lemmas.List.Sums.{sum_by-cons}
 use Rattle.drain_grid.specs.declared.patch.Patch.{Patch}
 use Rattle.drain_kernel.specs.declared.lanes.Lanes.{Lanes}
-use Rattle.drain_kernel.specs.Counts.{raised_count}
+use Rattle.drain_kernel.specs.Counts.{raised_lanes}
 use Rattle.drain_kernel.specs.Laws.{RaisedAreCounted, is_above_ground}
 use Rattle.drain_kernel.specs.Shown.{Shows}
 use Rattle.drain_rules.specs.KeptRuns.{raised_between, shows_raised}
@@ -23,7 +23,7 @@ count_same p q shown from (suc n) same =
 
 pub raised_counts : RaisedAreCounted → (lanes : Lanes) (shown : ℕ → Patch) (from end : ℕ) → from ≤ end →
     ((col : ℕ) → from ≤ col → col < end → Shows lanes col (shown col).here × IsSome (shown col).here.z) →
-    raised_count lanes from end ≡ raised_between shown from end
+    raised_lanes lanes from end ≡ raised_between shown from end
 raised_counts counted lanes shown from end forward each =
     counted lanes from end (λ col. (shown col).here) (λ col past less. (each col past less).0) (λ col past less. (each col past less).1)
     ∙ count_same shows_raised (λ col. is_above_ground (shown col).here) shown from (end - from)

@@ -9,7 +9,7 @@ use Rattle.drain_kernel.specs.Laws.{LanesShowNumbers}
 use Rattle.drain_kernel.specs.Shown.{IsInner, IsShown, IsShownAt, IsShownRound, Shows}
 use Rattle.drain_kernel.specs.Taken.{AreLanesOf}
 use Rattle.drain_rules.specs.declared.three_rows.ThreeRows.{ThreeRows}
-use Rattle.drain_rules.specs.MarkedRows.{MarkedRow, beside, values_in, west_of}
+use Rattle.drain_rules.specs.MarkedRows.{MarkedRow, beside, values_in, west_neighbor}
 use Rattle.drain_rules.specs.ThreeRows.{patch_in}
 
 -- the lanes are those of a row's numbers
@@ -20,7 +20,7 @@ AreTaken lanes row = AreLanesOf lanes row.numbers.z row.numbers.products
 beside_is : (row : MarkedRow) (col : ℕ) → col < length row.numbers.z → beside row col ≡ Some (values_in row col)
 beside_is row col less = rw (lt-ltb col (length row.numbers.z) less) refl
 
-west_is : (row : MarkedRow) (col : ℕ) → 1 ≤ col → col < length row.numbers.z → west_of row col ≡ Some (values_in row (col - 1))
+west_is : (row : MarkedRow) (col : ℕ) → 1 ≤ col → col < length row.numbers.z → west_neighbor row col ≡ Some (values_in row (col - 1))
 west_is row zero some less = absurd (omega (arith, some))
 west_is row (suc c) some less =
     let back : suc c - 1 ≡ c = omega arith in

@@ -2,7 +2,7 @@
 use Rattle.std.proofs.Common.{◌≡◌, ℕ, zero, suc, ℤ, ◌+◌, ◌-◌, ◌<◌, ◌≤◌, ◌↔◌, ◌⊎◌, cond, ◌&&◌, int_lt, is_some, unwrap_or, IsNone, IsSome, pos, Bool, List, Option, Some, None, inl, inr, refl, sym, subst, arith}
 use Rattle.std.specs.Ordering.{int_eq}
 use Rattle.drain_basin.specs.Admitted.{IsAdmitted}
-use Rattle.drain_grid.specs.declared.held.Held.TheVariants.{Con, Dir, Acc, Bas, Rnk}
+use Rattle.drain_grid.specs.declared.set_product.SetProduct.TheVariants.{Con, Dir, Acc, Bas, Rnk}
 use Rattle.drain_grid.specs.declared.patch.Patch.{Patch}
 use Rattle.drain_grid.specs.declared.rule.Rule.{Rule}
 use Rattle.drain_grid.specs.declared.rule.Rule.TheVariants.{VoidCell, Missing, BadCode, BelowGround, OpenRaised, NoSpill, SpillHeight, SpillRank, NotLeast, Slope, OutletCode, FlatStep, Accumulation, Label, SharedLabel}
@@ -12,9 +12,9 @@ use Rattle.drain_grid.specs.Rule.{IsAnyRule}
 use Rattle.drain_grid.specs.Unranked.{IsBlankWithoutRank}
 use Rattle.drain_grid.specs.Values.{IsBlankWithoutSpill, NoDataNumbers, Values}
 use Rattle.drain_kernel.specs.declared.rules.Ranks.{Ranks}
-use Rattle.drain_kernel.specs.declared.rules.Ranks.TheVariants.{Asked, Unasked}
+use Rattle.drain_kernel.specs.declared.rules.Ranks.TheVariants.{Checked, Ignored}
 use Rattle.drain_kernel.specs.declared.rules.Rules.{Rules}
-use Rattle.drain_kernel.specs.Asked.{IfAsked}
+use Rattle.drain_kernel.specs.Checked.{IfChecked}
 use Rattle.drain_kernel.specs.Rules.{rules_with, tried}
 use Rattle.drain_rules.specs.declared.tally.Tally.{Tally}
 use Rattle.drain_rules.specs.BlankVoids.{IsBlankVoid, IsRightVoid}
@@ -37,37 +37,37 @@ blank_five nodata v blank rank Rnk = rank
 
 -- each rule holds at such a void
 holds_at_void : (ranks : Ranks) (nodata : NoDataNumbers) (p : Patch) (r : Rule) → IsNone p.here.z → IsBlankWithoutRank nodata p.here →
-    IfAsked ranks (p.here.rnk ≡ nodata.rnk) → rules_with ranks nodata p r
-holds_at_void Asked nodata p VoidCell void blank rank = λ again. blank_five nodata p.here blank rank
-holds_at_void Unasked nodata p VoidCell void blank rank = λ again. blank
-holds_at_void Asked nodata p Missing void blank rank = λ there. not_both p.here.z void there
-holds_at_void Unasked nodata p Missing void blank rank = λ there. not_both p.here.z void there
-holds_at_void Asked nodata p BadCode void blank rank = λ there. not_both p.here.z void there
-holds_at_void Unasked nodata p BadCode void blank rank = λ there. not_both p.here.z void there
-holds_at_void Asked nodata p BelowGround void blank rank = λ there. not_both p.here.z void there
-holds_at_void Unasked nodata p BelowGround void blank rank = λ there. not_both p.here.z void there
-holds_at_void Asked nodata p OpenRaised void blank rank = λ opened. not_both p.here.z void opened.0
-holds_at_void Unasked nodata p OpenRaised void blank rank = λ opened. not_both p.here.z void opened.0
-holds_at_void Asked nodata p NoSpill void blank rank = tt
-holds_at_void Unasked nodata p NoSpill void blank rank = tt
-holds_at_void Asked nodata p SpillHeight void blank rank = tt
-holds_at_void Unasked nodata p SpillHeight void blank rank = tt
-holds_at_void Asked nodata p SpillRank void blank rank = tt
-holds_at_void Unasked nodata p SpillRank void blank rank = tt
-holds_at_void Asked nodata p NotLeast void blank rank = λ there. not_both p.here.z void there
-holds_at_void Unasked nodata p NotLeast void blank rank = λ there. not_both p.here.z void there
-holds_at_void Asked nodata p Slope void blank rank = λ lower. not_both p.here.z void lower.0
-holds_at_void Unasked nodata p Slope void blank rank = λ lower. not_both p.here.z void lower.0
-holds_at_void Asked nodata p OutletCode void blank rank = λ opened. not_both p.here.z void opened.0
-holds_at_void Unasked nodata p OutletCode void blank rank = λ opened. not_both p.here.z void opened.0
-holds_at_void Asked nodata p FlatStep void blank rank = λ closed. not_both p.here.z void closed.0
-holds_at_void Unasked nodata p FlatStep void blank rank = λ closed. not_both p.here.z void closed.0
-holds_at_void Asked nodata p Accumulation void blank rank = λ there. not_both p.here.z void there
-holds_at_void Unasked nodata p Accumulation void blank rank = λ there. not_both p.here.z void there
-holds_at_void Asked nodata p Label void blank rank = λ there. not_both p.here.z void there
-holds_at_void Unasked nodata p Label void blank rank = λ there. not_both p.here.z void there
-holds_at_void Asked nodata p SharedLabel void blank rank = tt
-holds_at_void Unasked nodata p SharedLabel void blank rank = tt
+    IfChecked ranks (p.here.rnk ≡ nodata.rnk) → rules_with ranks nodata p r
+holds_at_void Checked nodata p VoidCell void blank rank = λ again. blank_five nodata p.here blank rank
+holds_at_void Ignored nodata p VoidCell void blank rank = λ again. blank
+holds_at_void Checked nodata p Missing void blank rank = λ there. not_both p.here.z void there
+holds_at_void Ignored nodata p Missing void blank rank = λ there. not_both p.here.z void there
+holds_at_void Checked nodata p BadCode void blank rank = λ there. not_both p.here.z void there
+holds_at_void Ignored nodata p BadCode void blank rank = λ there. not_both p.here.z void there
+holds_at_void Checked nodata p BelowGround void blank rank = λ there. not_both p.here.z void there
+holds_at_void Ignored nodata p BelowGround void blank rank = λ there. not_both p.here.z void there
+holds_at_void Checked nodata p OpenRaised void blank rank = λ opened. not_both p.here.z void opened.0
+holds_at_void Ignored nodata p OpenRaised void blank rank = λ opened. not_both p.here.z void opened.0
+holds_at_void Checked nodata p NoSpill void blank rank = tt
+holds_at_void Ignored nodata p NoSpill void blank rank = tt
+holds_at_void Checked nodata p SpillHeight void blank rank = tt
+holds_at_void Ignored nodata p SpillHeight void blank rank = tt
+holds_at_void Checked nodata p SpillRank void blank rank = tt
+holds_at_void Ignored nodata p SpillRank void blank rank = tt
+holds_at_void Checked nodata p NotLeast void blank rank = λ there. not_both p.here.z void there
+holds_at_void Ignored nodata p NotLeast void blank rank = λ there. not_both p.here.z void there
+holds_at_void Checked nodata p Slope void blank rank = λ lower. not_both p.here.z void lower.0
+holds_at_void Ignored nodata p Slope void blank rank = λ lower. not_both p.here.z void lower.0
+holds_at_void Checked nodata p OutletCode void blank rank = λ opened. not_both p.here.z void opened.0
+holds_at_void Ignored nodata p OutletCode void blank rank = λ opened. not_both p.here.z void opened.0
+holds_at_void Checked nodata p FlatStep void blank rank = λ closed. not_both p.here.z void closed.0
+holds_at_void Ignored nodata p FlatStep void blank rank = λ closed. not_both p.here.z void closed.0
+holds_at_void Checked nodata p Accumulation void blank rank = λ there. not_both p.here.z void there
+holds_at_void Ignored nodata p Accumulation void blank rank = λ there. not_both p.here.z void there
+holds_at_void Checked nodata p Label void blank rank = λ there. not_both p.here.z void there
+holds_at_void Ignored nodata p Label void blank rank = λ there. not_both p.here.z void there
+holds_at_void Checked nodata p SharedLabel void blank rank = tt
+holds_at_void Ignored nodata p SharedLabel void blank rank = tt
 
 -- so it is a right void
 pub right_void : (rules : Rules) (p : Patch) → IsBlankVoid rules p.here → IsRightVoid (tried rules) p

@@ -3,12 +3,12 @@ use Rattle.std.proofs.Common.{◌≡◌, sym, ℕ, zero, suc, ◌+◌, ◌-◌, 
 use Rattle.std.specs.Prelude.{◌&&◌, nat_lt, option_map, if◌then◌else◌}
 use Rattle.std.proofs.lemmas.Bool.{cases_lt, lt-ltb, le-ltb}
 use Rattle.drain_grid.specs.declared.cell.Cell.{Cell}
-use Rattle.drain_grid.specs.declared.held.Held.TheVariants.{Con, Dir, Acc, Bas, Rnk}
+use Rattle.drain_grid.specs.declared.set_product.SetProduct.TheVariants.{Con, Dir, Acc, Bas, Rnk}
 use Rattle.drain_grid.specs.Size.{Extent}
 use Rattle.drain_grid.specs.Values.{Values}
 use Rattle.drain_grid.specs.Grid.{Grid, Products, patch_at, values_at}
 use Rattle.drain_rules.specs.declared.three_rows.ThreeRows.{ThreeRows}
-use Rattle.drain_rules.specs.MarkedRows.{IsNoRow, IsRowOf, MarkedRow, beside, values_in, west_of}
+use Rattle.drain_rules.specs.MarkedRows.{IsNoRow, IsRowOf, MarkedRow, beside, values_in, west_neighbor}
 use Rattle.drain_rules.specs.Rows.{place}
 use Rattle.drain_rules.specs.ThreeRows.{AreRowsAround, ThreeRowsShowPatches, patch_in}
 
@@ -41,7 +41,7 @@ there g ps n r c rr cc are is_row is_col =
     ]
 
 to_west : (g : Grid) (ps : Products) (n : MarkedRow) (r c rr cc : ℕ) → IsRowOf g ps r n → rr ≡ r + 1 → cc ≡ c →
-    west_of n c ≡ option_map (values_at g ps) (stepped g.extent rr cc)
+    west_neighbor n c ≡ option_map (values_at g ps) (stepped g.extent rr cc)
 to_west g ps n r zero rr cc are is_row is_col =
     let down : rr - 1 ≡ r = omega arith in
     rw (lt-ltb 0 rr (omega arith), down, lt-ltb r g.extent.rows are.numbers.inside, is_col) refl
@@ -54,7 +54,7 @@ gone g ps rr cc past = elim (cases_lt 0 rr) [
   | inr none ↦ rw (le-ltb 0 rr (omega (arith, none))) refl
 ]
 
-gone-west : (n : MarkedRow) (c : ℕ) → IsNoRow n → west_of n c ≡ None
+gone-west : (n : MarkedRow) (c : ℕ) → IsNoRow n → west_neighbor n c ≡ None
 gone-west n zero is = refl
 gone-west n (suc c) is = rw (is, le-ltb c 0 (omega arith)) refl
 
@@ -71,7 +71,7 @@ level g ps n c (suc r) cc are none is_col = elim (cases_lt r g.extent.rows) [
 ]
 
 level-west : (g : Grid) (ps : Products) (n : MarkedRow) (c rr cc : ℕ) → ((r : ℕ) → rr ≡ r + 1 → r < g.extent.rows → IsRowOf g ps r n) →
-    ((0 < rr → g.extent.rows ≤ rr - 1) → IsNoRow n) → cc ≡ c → west_of n c ≡ option_map (values_at g ps) (stepped g.extent rr cc)
+    ((0 < rr → g.extent.rows ≤ rr - 1) → IsNoRow n) → cc ≡ c → west_neighbor n c ≡ option_map (values_at g ps) (stepped g.extent rr cc)
 level-west g ps n c zero cc are none is_col = gone-west n c (none (λ h. absurd (omega arith))) ∙ gone g ps zero cc (λ h. absurd (omega arith))
 level-west g ps n c (suc r) cc are none is_col = elim (cases_lt r g.extent.rows) [
   | inl inside ↦ to_west g ps n r c (suc r) cc (are r (omega arith) inside) (omega arith) is_col

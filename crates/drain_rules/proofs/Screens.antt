@@ -1,7 +1,7 @@
 -- The heights of a row, some at a time, in 16 bits each.
 use Rattle.std.proofs.Common.{◌≡◌, ◌∙◌, ◌+◌, ◌-◌, ◌<◌, ◌≤◌, ℕ, ℤ, pos, List, length, drop, All, slice_index_or, slice_range, get_or-take, get_or-drop, inl, inr, FitsSigned, w16, rules, arith}
 use Rattle.std.proofs.lemmas.Bool.{cases_lt}
-use Rattle.drain_fill.specs.Below.{AreHeights, IsBelowAt}
+use Rattle.drain_fill.specs.Below.{AreRowHeights, IsBelowAt}
 use Rattle.drain_grid.specs.Tile.{IsSample}
 
 -- the first numbers fit, and are in their places
@@ -27,5 +27,5 @@ clear_on con ground at end above within before here place less = elim (cases_lt 
 ]
 
 -- samples fit 16 bits
-pub samples_fit : (samples : List ℤ) → All IsSample samples → AreHeights samples
+pub samples_fit : (samples : List ℤ) → All IsSample samples → AreRowHeights samples
 samples_fit samples all place less = let s = all place (pos 0) less in search (rules, s.low, s.high)

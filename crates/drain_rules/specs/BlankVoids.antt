@@ -5,7 +5,7 @@ use Rattle.drain_grid.specs.PatchRules.{Profile}
 use Rattle.drain_grid.specs.Rule.{IsPatchRule, IsLeastFault}
 use Rattle.drain_grid.specs.Unranked.{IsBlankWithoutRank}
 use Rattle.drain_grid.specs.Values.{Values}
-use Rattle.drain_kernel.specs.Asked.{IfAsked}
+use Rattle.drain_kernel.specs.Checked.{IfChecked}
 use Rattle.drain_kernel.specs.declared.rules.Rules.{Rules}
 
 -- a void at which every rule holds that looks at its patch only
@@ -17,4 +17,4 @@ pub record IsRightVoid (profile : Profile) (p : Patch) : Type 0 where
 pub record IsBlankVoid (rules : Rules) (v : Values) : Type 0 where
   pub is_void : IsNone v.z
   pub blank : IsBlankWithoutRank rules.nodata v
-  pub no_rank : IfAsked rules.ranks (v.rnk ≡ rules.nodata.rnk)
+  pub no_rank : IfChecked rules.ranks (v.rnk ≡ rules.nodata.rnk)

@@ -9,12 +9,12 @@ use Rattle.drain_grid.specs.Tile.{height_from}
 use Rattle.drain_grid.specs.Grid.{Grid, Products, no_sink}
 
 -- the number of n bytes, among numbers of n bytes that begin at start
-abbrev pub number_at : List ℕ → ℕ → ℕ → ℕ → ℕ
-number_at bytes start n place = big_number n (drop (start + n * place) bytes)
+abbrev pub fill_number_at : List ℕ → ℕ → ℕ → ℕ → ℕ
+fill_number_at bytes start n place = big_number n (drop (start + n * place) bytes)
 
 -- the same of two bytes in two's complement
 abbrev pub signed_at : List ℕ → ℕ → ℕ → ℤ
-signed_at bytes start place = cast_signed w16 (number_at bytes start 2 place)
+signed_at bytes start place = cast_signed w16 (fill_number_at bytes start 2 place)
 
 abbrev pub square : ℕ → Extent
 square side = record { rows = side; cols = side }
@@ -34,8 +34,8 @@ fill_products side bytes = record {
   dir = λ c. pos 0;
   acc = λ c. pos 0;
   bas = λ c. pos 0;
-  spl = λ c. pos (number_at bytes (4 * (side * side)) 1 (index_of (square side) c));
-  rnk = λ c. pos (number_at bytes (5 * (side * side)) 4 (index_of (square side) c));
+  spl = λ c. pos (fill_number_at bytes (4 * (side * side)) 1 (index_of (square side) c));
+  rnk = λ c. pos (fill_number_at bytes (5 * (side * side)) 4 (index_of (square side) c));
 }
 
 -- nine bytes for each cell

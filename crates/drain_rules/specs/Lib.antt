@@ -2,7 +2,7 @@ pub mod BlankVoids
 pub mod Fill
 pub mod FillVerdicts
 pub mod Filled
-pub mod Findings
+pub mod RowOutcomes
 pub mod GridWalks
 pub mod Cleared
 pub mod KeptRuns

@@ -30,9 +30,9 @@ abbrev pub beside : MarkedRow → ℕ → Option Values
 beside row col = if nat_lt col (length row.numbers.z) then Some (values_in row col) else None
 
 -- and none to the west of its first
-abbrev pub west_of : MarkedRow → ℕ → Option Values
-west_of row zero = None
-west_of row (suc col) = beside row col
+abbrev pub west_neighbor : MarkedRow → ℕ → Option Values
+west_neighbor row zero = None
+west_neighbor row (suc col) = beside row col
 
 -- no row
 abbrev pub IsNoRow : MarkedRow → Type 0

@@ -3,7 +3,7 @@ use Rattle.std.specs.Prelude.{◌≡◌, ℕ, pos, ◌+◌, ◌<◌}
 use Rattle.std.specs.List.{count_by}
 use Rattle.drain_grid.specs.declared.cell.Cell.{Cell}
 use Rattle.drain_grid.specs.declared.rule.Rule.{Rule}
-use Rattle.drain_grid.specs.Rule.{number_of, IsAnyRule}
+use Rattle.drain_grid.specs.Rule.{rule_number, IsAnyRule}
 use Rattle.drain_grid.specs.Extent.{row_cells}
 use Rattle.drain_grid.specs.Grid.{Grid, Products, HasData}
 use Rattle.drain_grid.specs.Counts.{is_data, is_raised}
@@ -30,7 +30,7 @@ pub record IsRowFault (profile : Profile) (IsOwn : Rule → Type 0) (g : Grid) (
   pub is_own : IsOwn rule
   pub fails : ¬ HoldsAt profile g ps (place row col) rule
   pub before : HoldAlong profile IsOwn g ps row col
-  pub smaller : (r : Rule) → IsOwn r → number_of r < number_of rule → HoldsAt profile g ps (place row col) r
+  pub smaller : (r : Rule) → IsOwn r → rule_number r < rule_number rule → HoldsAt profile g ps (place row col) r
 
 -- the cell is a data cell with code 0, and every rule holds there and at the earlier cells of the row
 pub record IsNewLabelAlong (profile : Profile) (g : Grid) (ps : Products) (row col : ℕ) : Type 0 where

@@ -4,14 +4,14 @@ use Rattle.drain_grid.specs.declared.patch.Patch.{Patch}
 use Rattle.drain_grid.specs.Grid.{Grid, Products}
 use Rattle.drain_rules.specs.declared.three_rows.ThreeRows.{ThreeRows}
 use Rattle.drain_rules.specs.PatchRows.{AreRowPatches}
-use Rattle.drain_rules.specs.MarkedRows.{IsNoRow, IsRowOf, values_in, beside, west_of}
+use Rattle.drain_rules.specs.MarkedRows.{IsNoRow, IsRowOf, values_in, beside, west_neighbor}
 
 -- the patch, its neighbours in the order of the directions
 abbrev pub patch_in : ThreeRows → ℕ → Patch
 patch_in rows col = record {
   here = values_in rows.here col;
-  around = beside rows.here (col + 1) ∷ beside rows.below (col + 1) ∷ beside rows.below col ∷ west_of rows.below col
-      ∷ west_of rows.here col ∷ west_of rows.above col ∷ beside rows.above col ∷ beside rows.above (col + 1) ∷ [];
+  around = beside rows.here (col + 1) ∷ beside rows.below (col + 1) ∷ beside rows.below col ∷ west_neighbor rows.below col
+      ∷ west_neighbor rows.here col ∷ west_neighbor rows.above col ∷ beside rows.above col ∷ beside rows.above (col + 1) ∷ [];
 }
 
 -- they are a row of the grid and those above and below it, none at the grid's edge

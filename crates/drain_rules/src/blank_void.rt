@@ -2,7 +2,7 @@
 
 ghost use Rattle.std.specs.Prelude.{◌≡◌, IsTrue};
 ghost use Rattle.drain_grid.specs.Unranked.{IsBlankWithoutRank};
-ghost use Rattle.drain_kernel.specs.Asked.{IfAsked};
+ghost use Rattle.drain_kernel.specs.Checked.{IfChecked};
 ghost use Rattle.drain_rules.specs.BlankVoids.{IsBlankVoid};
 
 use drain_grid::{CellValues, NoData};
@@ -27,10 +27,10 @@ fn is_blank(here: &CellValues, nodata: &NoData) -> bool
 
 /// Whether the rank is its no-data number, or isn't checked.
 fn has_no_rank(here: &CellValues, rules: &Rules) -> bool
-    ensures { IsTrue result → IfAsked rules.now.ranks (here.now.rnk ≡ rules.now.nodata.rnk) }
+    ensures { IsTrue result → IfChecked rules.now.ranks (here.now.rnk ≡ rules.now.nodata.rnk) }
 {
     match rules.ranks {
-        Ranks::Unasked => true,
-        Ranks::Asked => here.rnk == rules.nodata.rnk,
+        Ranks::Ignored => true,
+        Ranks::Checked => here.rnk == rules.nodata.rnk,
     }
 }

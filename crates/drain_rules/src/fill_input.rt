@@ -32,7 +32,7 @@ impl<'a> FillInput<'a> {
     ghost use Rattle.std.specs.Prelude.{◌≢◌};
     ghost use Rattle.drain_grid.specs.Extent.{IsCellOf};
     ghost use Rattle.drain_rules.specs.Fill.{square, IsFillLength};
-    ghost use Rattle.drain_rules.specs.Parts.{grid_of, products_of};
+    ghost use Rattle.drain_rules.specs.Parts.{parts_grid, parts_products};
     ghost use Rattle.drain_grid.specs.Values.{IsPixel};
 
     /// The parts of an input of the right length.
@@ -58,7 +58,7 @@ impl<'a> FillInput<'a> {
 
     fn ground(&self, cell: Cell) -> Option<i16>
         requires { IsCellOf (square self.now.shape.rows) cell }
-        ensures height { result ≡ (grid_of self.now).elevation cell }
+        ensures height { result ≡ (parts_grid self.now).elevation cell }
         ensures no_void { result ≢ Some VOID }
     {
         let index = self.shape.index(cell);
@@ -67,7 +67,7 @@ impl<'a> FillInput<'a> {
 
     fn conditioned(&self, cell: Cell) -> i64
         requires { IsCellOf (square self.now.shape.rows) cell }
-        ensures number { result ≡ (products_of self.now).con cell }
+        ensures number { result ≡ (parts_products self.now).con cell }
         ensures pixel { IsPixel result }
     {
         let index = self.shape.index(cell);
@@ -76,7 +76,7 @@ impl<'a> FillInput<'a> {
 
     fn spill_parent(&self, cell: Cell) -> i64
         requires { IsCellOf (square self.now.shape.rows) cell }
-        ensures number { result ≡ (products_of self.now).spl cell }
+        ensures number { result ≡ (parts_products self.now).spl cell }
         ensures pixel { IsPixel result }
     {
         let index = self.shape.index(cell);
@@ -85,7 +85,7 @@ impl<'a> FillInput<'a> {
 
     fn rank(&self, cell: Cell) -> i64
         requires { IsCellOf (square self.now.shape.rows) cell }
-        ensures number { result ≡ (products_of self.now).rnk cell }
+        ensures number { result ≡ (parts_products self.now).rnk cell }
         ensures pixel { IsPixel result }
     {
         let index = self.shape.index(cell);
@@ -96,11 +96,11 @@ impl<'a> FillInput<'a> {
 impl<'a> CellSource for FillInput<'a> {
     ghost use Rattle.drain_grid.specs.Grid.{values_at};
     ghost use Rattle.drain_rules.specs.Fill.{square};
-    ghost use Rattle.drain_rules.specs.Parts.{grid_of, products_of};
+    ghost use Rattle.drain_rules.specs.Parts.{parts_grid, parts_products};
 
     ghost size = { λ input. square input.shape.rows };
 
-    ghost shown = { λ input. values_at (grid_of input) (products_of input) };
+    ghost shown = { λ input. values_at (parts_grid input) (parts_products input) };
 
     fn shape(&self) -> Shape {
         self.shape

@@ -7,7 +7,7 @@ ghost use Rattle.drain_grid.specs.Rule.{IsFillRule};
 ghost use Rattle.drain_rules.specs.Fill.{fill_grid, fill_products};
 ghost use Rattle.drain_rules.specs.FillVerdicts.{IsFillAnswer, IsFillVerdict};
 ghost use Rattle.drain_rules.specs.Filled.{OnAccepted};
-ghost use Rattle.drain_rules.specs.Parts.{grid_of, products_of};
+ghost use Rattle.drain_rules.specs.Parts.{parts_grid, parts_products};
 ghost use Rattle.drain_rules.specs.Rows.{IsRowTally, IsRowFault};
 
 use crate::fill_input::{FillInput, fill_length};
@@ -55,8 +55,8 @@ pub struct RowFault {
 /// Tests rules 4 to 9 at the cells of a row, from west to east.
 fn check_fill_row(input: &FillInput<'_>, row: u32) -> Result<Tally, RowFault>
     requires { row < input.now.shape.rows }
-    ensures tally { IfOk result (IsRowTally fill_rules IsFillRule (grid_of input.now) (products_of input.now) row) }
-    ensures fault { IfErr result (λ fault. IsRowFault fill_rules IsFillRule (grid_of input.now) (products_of input.now) row fault.col fault.rule) }
+    ensures tally { IfOk result (IsRowTally fill_rules IsFillRule (parts_grid input.now) (parts_products input.now) row) }
+    ensures fault { IfErr result (λ fault. IsRowFault fill_rules IsFillRule (parts_grid input.now) (parts_products input.now) row fault.col fault.rule) }
 {
     let mut tally = Tally::new();
     for col in 0..input.side() {
@@ -71,7 +71,7 @@ fn check_fill_row(input: &FillInput<'_>, row: u32) -> Result<Tally, RowFault>
 
 /// Tests rules 4 to 9 at each cell in row order.
 fn fill_verdict(input: &FillInput<'_>) -> FillVerdict
-    ensures { IsFillVerdict (grid_of input.now) (products_of input.now) result }
+    ensures { IsFillVerdict (parts_grid input.now) (parts_products input.now) result }
 {
     let side = input.side();
     let mut total = Tally::new();

@@ -1,9 +1,9 @@
 //! The walk over a grid, row by row.
 
-ghost use Rattle.drain_rules.specs.Findings.{IsBounded};
+ghost use Rattle.drain_rules.specs.RowOutcomes.{IsBounded};
 
-use crate::finding::{Finding, find_in_row};
 use crate::patch_row::PatchRow;
+use crate::row_outcome::{RowOutcome, find_in_row};
 use crate::tally::Tally;
 use crate::verdict::{Counts, Verdict};
 use drain_basin::OutletLabels;
@@ -16,7 +16,7 @@ use std::alloc::Global;
 pub struct GridWalk {
     rows: u32,
     labels: OutletLabels,
-    finding: Finding,
+    finding: RowOutcome,
     ghost bounded: { IsBounded rows finding },
 }
 
@@ -38,7 +38,7 @@ impl GridWalk {
         GridWalk {
             rows: 0,
             labels: OutletLabels::new(alloc),
-            finding: Finding::Sound(Tally::new()),
+            finding: RowOutcome::Sound(Tally::new()),
         }
     }
 
@@ -53,7 +53,7 @@ impl GridWalk {
         ensures finding { OnOk result (OfNextRow (tried rules.now) self.old (R.len patches.now) (R.shown patches.now) (λ g ps. IsRightOf (tried rules.now) g ps self.new)) }
         ensures err { OnErr result (OfNextRow (tried rules.now) self.old (R.len patches.now) (R.shown patches.now) (HasNewLabel (tried rules.now))) }
     {
-        if let Finding::Sound(total) = self.finding {
+        if let RowOutcome::Sound(total) = self.finding {
             match find_in_row(total, self.rows, patches, rules, &mut self.labels) {
                 Ok(finding) => self.finding = finding,
                 Err(OutOfMemory) => return Err(OutOfMemory),
@@ -68,14 +68,14 @@ impl GridWalk {
         ensures verdict { (rules : Rules) (g : Grid) (ps : Products) → g.extent ≡ shape → self.now.rows ≡ g.extent.rows → IsRightOf (tried rules) g ps self.now → IsVerdictOf (tried rules) g ps result }
     {
         match self.finding {
-            Finding::Sound(total) => Verdict::Accepted(Counts {
+            RowOutcome::Sound(total) => Verdict::Accepted(Counts {
                 rows: shape.rows(),
                 cols: shape.cols(),
                 data_cells: total.data_cells,
                 raised: total.raised,
                 outlets: total.outlets,
             }),
-            Finding::Faulty(cell, rule) => Verdict::Rejected {
+            RowOutcome::Faulty(cell, rule) => Verdict::Rejected {
                 rule,
                 row: cell.row,
                 col: cell.col,

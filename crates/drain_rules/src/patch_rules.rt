@@ -45,8 +45,8 @@ pub fn presence_fault(patch: &Patch, rules: &Rules) -> Option<Rule>
     ensures least { IsLeastFault IsPresenceRule (tried rules.now patch.now) result }
 {
     match rules.ranks {
-        Ranks::Asked => patch.presence_fault_profile2(&rules.nodata),
-        Ranks::Unasked => patch.presence_fault_without_ranks(&rules.nodata),
+        Ranks::Checked => patch.presence_fault_profile2(&rules.nodata),
+        Ranks::Ignored => patch.presence_fault_without_ranks(&rules.nodata),
     }
 }
 
@@ -55,8 +55,8 @@ pub fn flat_fault(patch: &Patch, rules: &Rules) -> Option<Rule>
     ensures least { IsLeastFault (IsOnly Rule.FlatStep) (tried rules.now patch.now) result }
 {
     match rules.ranks {
-        Ranks::Asked => drain_flat::fault(patch),
-        Ranks::Unasked => drain_flat::fault_without_ranks(patch),
+        Ranks::Checked => drain_flat::fault(patch),
+        Ranks::Ignored => drain_flat::fault_without_ranks(patch),
     }
 }
 

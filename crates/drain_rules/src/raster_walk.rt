@@ -52,7 +52,7 @@ fn walk(
     let shape = elevation.shape();
     let rules = Rules {
         nodata: products.nodata(),
-        ranks: Ranks::Asked,
+        ranks: Ranks::Checked,
     };
     let mut walk = GridWalk::new(alloc);
     for row in 0..shape.rows() {

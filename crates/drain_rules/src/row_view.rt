@@ -1,20 +1,20 @@
 //! A row of a grid and its products, as slices of numbers and of marks.
 
 ghost use Rattle.std.specs.Prelude.{ℕ, ◌≡◌, ◌≢◌, ◌≤◌, ◌<◌, false, Some, option_copied, length, pos, slice_index_or};
-ghost use Rattle.drain_fill.specs.Below.{AreHeights, IsBelowAt};
+ghost use Rattle.drain_fill.specs.Below.{AreRowHeights, IsBelowAt};
 ghost use Rattle.drain_grid.specs.declared.cell.TheConstants.{MAX_LENGTH};
 ghost use Rattle.drain_grid.specs.declared.tile.TheConstants.{VOID};
 ghost use Rattle.drain_grid.specs.PerProduct.{of_product, per_product};
 ghost use Rattle.drain_grid.specs.Tile.{IsSample, height_from};
 ghost use Rattle.drain_grid.specs.Values.{IsPixel};
-ghost use Rattle.drain_rules.specs.MarkedRows.{values_in, beside, west_of};
+ghost use Rattle.drain_rules.specs.MarkedRows.{values_in, beside, west_neighbor};
 ghost use Rattle.drain_rules.specs.LanedRows.{AreLanesIfAny};
 ghost use Rattle.drain_rules.specs.RowNumbers.{AreRowNumbers};
 
 use crate::marks::unmarked_until;
 use crate::screen::cells_above_ground;
 use drain_grid::tile::height_from;
-use drain_grid::{CellValues, Held, PerProduct};
+use drain_grid::{CellValues, PerProduct, SetProduct};
 use drain_kernel::Lanes;
 use std::marker::Model;
 
@@ -78,7 +78,7 @@ impl<'a> RowView<'a> {
     pub fn cells_above_ground(&self) -> u32
         ensures within { result ≤ length self.now.numbers.z }
         ensures above { (col : ℕ) → col < result → ¬ IsBelowAt self.now.numbers.products.con self.now.numbers.z col }
-        ensures first { AreHeights self.now.numbers.products.con → result < length self.now.numbers.z → IsBelowAt self.now.numbers.products.con self.now.numbers.z result }
+        ensures first { AreRowHeights self.now.numbers.products.con → result < length self.now.numbers.z → IsBelowAt self.now.numbers.products.con self.now.numbers.z result }
     {
         cells_above_ground(self.products.con, self.z) as u32
     }
@@ -110,12 +110,12 @@ impl<'a> RowView<'a> {
         CellValues {
             z: self.height(col),
             sink: self.is_sink(col),
-            con: self.number(Held::Con, col),
-            dir: self.number(Held::Dir, col),
-            acc: self.number(Held::Acc, col),
-            bas: self.number(Held::Bas, col),
+            con: self.number(SetProduct::Con, col),
+            dir: self.number(SetProduct::Dir, col),
+            acc: self.number(SetProduct::Acc, col),
+            bas: self.number(SetProduct::Bas, col),
             spl: 0,
-            rnk: self.number(Held::Rnk, col),
+            rnk: self.number(SetProduct::Rnk, col),
         }
     }
 
@@ -132,7 +132,7 @@ impl<'a> RowView<'a> {
 
     /// The values to the west of a column, none at the first.
     pub fn west_of(&self, col: usize) -> Option<CellValues>
-        ensures { result ≡ west_of self.now col }
+        ensures { result ≡ west_neighbor self.now col }
     {
         match col {
             0 => None,
@@ -158,7 +158,7 @@ impl<'a> RowView<'a> {
     }
 
     /// The product's number at a column.
-    fn number(&self, product: Held, col: usize) -> i64
+    fn number(&self, product: SetProduct, col: usize) -> i64
         requires { col < length self.now.numbers.z }
         ensures number { result ≡ slice_index_or (of_product self.now.numbers.products product) col (pos 0) }
         ensures pixel { IsPixel result }

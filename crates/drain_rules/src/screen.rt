@@ -2,7 +2,7 @@
 
 ghost use Rattle.std.specs.Prelude.{◌≡◌, ◌<◌, ◌≤◌, ◌↔◌, ℕ, FitsSigned, IsTrue, length};
 ghost use Rattle.std.specs.Int.{w16};
-ghost use Rattle.drain_fill.specs.Below.{AreHeights, IsBelowAt};
+ghost use Rattle.drain_fill.specs.Below.{AreRowHeights, IsBelowAt};
 
 use drain_fill::first_below;
 
@@ -17,7 +17,7 @@ pub fn cells_above_ground(con: &[i64], ground: &[i64]) -> usize
     requires { length con.now ≡ length ground.now }
     ensures within { result ≤ length con.now }
     ensures above { (place : ℕ) → place < result → ¬ IsBelowAt con.now ground.now place }
-    ensures first { AreHeights con.now → AreHeights ground.now → result < length con.now → IsBelowAt con.now ground.now result }
+    ensures first { AreRowHeights con.now → AreRowHeights ground.now → result < length con.now → IsBelowAt con.now ground.now result }
 {
     let mut at = 0;
     while at < con.len() {
@@ -37,7 +37,7 @@ fn cells_of_block(con: &[i64], ground: &[i64]) -> usize
     requires short { length con.now ≤ BLOCK }
     ensures within { result ≤ length con.now }
     ensures above { (place : ℕ) → place < result → ¬ IsBelowAt con.now ground.now place }
-    ensures first { AreHeights con.now → AreHeights ground.now → result < length con.now → IsBelowAt con.now ground.now result }
+    ensures first { AreRowHeights con.now → AreRowHeights ground.now → result < length con.now → IsBelowAt con.now ground.now result }
 {
     let mut conditioned = [0; BLOCK];
     let mut heights = [0; BLOCK];
@@ -53,7 +53,7 @@ fn cells_of_block(con: &[i64], ground: &[i64]) -> usize
 /// Converts the numbers to 16 bits each, and returns whether all of them fit. Without a branch, so it is vectorised.
 fn narrow(out: &mut [i16], numbers: &[i64]) -> bool
     requires { length numbers.now ≡ length out.old }
-    ensures all { IsTrue result ↔ AreHeights numbers.now }
+    ensures all { IsTrue result ↔ AreRowHeights numbers.now }
     ensures same { IsTrue result → out.new ≡ numbers.now }
 {
     let mut all = true;

@@ -93,7 +93,7 @@ impl ThreeRows<'_> {
     {
         let rules = Rules {
             nodata: *nodata,
-            ranks: Ranks::Unasked,
+            ranks: Ranks::Ignored,
         };
         self.cleared_from(&rules, Sums::Untested, from)
     }

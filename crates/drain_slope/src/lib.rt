@@ -69,11 +69,11 @@ fn leads_steepest(patch: &Patch, steepest: u128) -> bool
 }
 
 /// The first direction with this key, if there is one.
-fn first_with_key(patch: &Patch, wanted: u128) -> Option<Direction>
-    ensures { IsFirstWithKey patch.now wanted result }
+fn first_with_key(patch: &Patch, expected: u128) -> Option<Direction>
+    ensures { IsFirstWithKey patch.now expected result }
 {
     for direction in Direction::ALL {
-        if key(patch, direction) == wanted {
+        if key(patch, direction) == expected {
             return Some(direction);
         }
     }

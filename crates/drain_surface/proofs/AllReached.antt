@@ -13,7 +13,7 @@ use Rattle.drain_grid.proofs.OpenAmong.{IsOpenAmong-gap}
 use Rattle.drain_grid.proofs.Neighbors.{step_lies}
 use Rattle.drain_grid.proofs.Inflows.{step_back}
 use Rattle.drain_surface.specs.declared.codes.TheConstants.{OPEN, UNREACHED}
-use Rattle.drain_surface.specs.Floods.{Flooding, mark_at, IsReached, IsFloodOf}
+use Rattle.drain_surface.specs.Floods.{Flooding, mark_at, IsReachedCell, IsFloodOf}
 use Rattle.drain_surface.specs.Laws.{AllAreReached}
 use Rattle.drain_surface.proofs.Cells.{none_or_some}
 
@@ -27,15 +27,15 @@ none_in xs x empty held =
     absurd (omega (arith, in_none.1))
 
 module _ (g : Grid) (f : Flooding) (level : ℤ) (flood : IsFloodOf g f level []) (no_ahead : f.ahead ≡ []) (no_waiting : f.waiting ≡ []) where
-  open_reached : (c : Cell) → HasData g c → IsOpenCell g c → IsReached g f c
+  open_reached : (c : Cell) → HasData g c → IsOpenCell g c → IsReachedCell g f c
   open_reached c here is_open = record { here = here; code = outlet_reached (mark_at g.extent f c) (flood.opened c is_open).mark }
 
   -- a data cell next to a gap is open
-  gap_reached : (c : Cell) (d : Direction) → HasData g c → IsGap (option_map g.elevation (step g.extent c d)) → IsReached g f c
+  gap_reached : (c : Cell) (d : Direction) → HasData g c → IsGap (option_map g.elevation (step g.extent c d)) → IsReachedCell g f c
   gap_reached c d here gap = open_reached c here (here.inside, IsOpenAmong-gap (g.elevation c) (g.sink c) _ here.is_data (d, gap))
 
   -- a data cell next to a reached one is reached
-  beside_reached : (c n : Cell) (d : Direction) → HasData g c → IsReached g f n → step g.extent n d ≡ Some c → IsReached g f c
+  beside_reached : (c n : Cell) (d : Direction) → HasData g c → IsReachedCell g f n → step g.extent n d ≡ Some c → IsReachedCell g f c
   beside_reached c n d here beside leads =
       elim (cases_eq (mark_at g.extent f c) UNREACHED) [
         | inl fresh ↦ (let kept = flood.frontier n c d beside (record { here = here; code = fresh }) leads in
@@ -51,7 +51,7 @@ module _ (g : Grid) (f : Flooding) (level : ℤ) (flood : IsFloodOf g f level []
   void_gap (Some z) h = cc
 
   from_step : (c : Cell) (o : Option Cell) → HasData g c → step g.extent c East ≡ o →
-      ((n : Cell) → HasData g n → step g.extent c East ≡ Some n → IsReached g f n) → IsReached g f c
+      ((n : Cell) → HasData g n → step g.extent c East ≡ Some n → IsReachedCell g f n) → IsReachedCell g f c
   from_step c None here leads onward =
       gap_reached c East here (subst (λ o. IsGap (option_map g.elevation o)) (sym leads) tt)
   from_step c (Some n) here leads onward =
@@ -62,7 +62,7 @@ module _ (g : Grid) (f : Flooding) (level : ℤ) (flood : IsFloodOf g f level []
       ]
 
   -- from n columns before the last
-  from_east : (k : ℕ) (c : Cell) → g.extent.cols ≡ c.col + suc k → HasData g c → IsReached g f c
+  from_east : (k : ℕ) (c : Cell) → g.extent.cols ≡ c.col + suc k → HasData g c → IsReachedCell g f c
   from_east zero c last here =
       from_step c (step g.extent c East) here refl (λ n there leads.
       (let lies = step_lies g.extent c n East leads in
@@ -75,7 +75,7 @@ module _ (g : Grid) (f : Flooding) (level : ℤ) (flood : IsFloodOf g f level []
       let on : n.col + 1 ≡ c.col + 2 = lies.1.1 in
       from_east k n (omega (arith, before, on)) there))
 
-  pub every_cell : (c : Cell) → HasData g c → IsReached g f c
+  pub every_cell : (c : Cell) → HasData g c → IsReachedCell g f c
   every_cell c here =
       let below : c.col < g.extent.cols = here.inside.col in
       from_east (g.extent.cols - suc c.col) c (omega (arith, below)) here

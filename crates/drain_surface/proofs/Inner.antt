@@ -7,13 +7,13 @@ use Rattle.drain_grid.specs.Extent.{IsCellOf, index_of}
 use Rattle.drain_grid.specs.Size.{Extent}
 use Rattle.drain_grid.proofs.Neighbors.{place, reach, step_gives, step_lies}
 use Rattle.drain_grid.proofs.Runs.{index_of-below}
-use Rattle.drain_surface.specs.Looks.{IsInner, IsPlaceBeside}
+use Rattle.drain_surface.specs.Looks.{IsInnerPlace, IsPlaceBeside}
 
 by_numbers : (row col rd cr cols r k index off width : ℕ) → (r + 1) * cols ≡ (row + rd) * cols → k + 1 ≡ col + cr → index ≡ row * cols + col →
     off ≡ rd * cols + cr → width ≡ cols → index + off - (width + 1) ≡ r * cols + k
 by_numbers row col rd cr cols r k index off width rows columns at behind wide = omega (arith, rows, columns, at, behind, wide)
 
-pub inner_beside : (e : Extent) (c : Cell) (d : Direction) (index off width : ℕ) → IsInner e c → index ≡ index_of e c → off ≡ rows_down d * e.cols + cols_right d →
+pub inner_beside : (e : Extent) (c : Cell) (d : Direction) (index off width : ℕ) → IsInnerPlace e c → index ≡ index_of e c → off ≡ rows_down d * e.cols + cols_right d →
     width ≡ e.cols → IsPlaceBeside e c d (index + off - (width + 1))
 inner_beside e c d index off width inner at behind wide =
     let most = reach d in

@@ -18,7 +18,7 @@ use Rattle.drain_grid.proofs.Decisions.{cases}
 use Rattle.drain_grid.proofs.PatchDecisions.{open_cell}
 use Rattle.drain_grid.proofs.Runs.{index_of-below}
 use Rattle.drain_surface.specs.declared.codes.TheConstants.{OPEN, UNREACHED, VOID, NO_HEIGHT}
-use Rattle.drain_surface.specs.Floods.{Flooding, con_at, mark_at, IsReached, IsUnreached, IsBlankIn, IsOpenIn, HasDescent, IsWaiting, IsAhead, IsCounted, IsFloodOf}
+use Rattle.drain_surface.specs.Floods.{Flooding, con_at, mark_at, IsReachedCell, IsUnreached, IsBlankIn, IsOpenIn, HasDescent, IsWaiting, IsAhead, IsCounted, IsFloodOf}
 use Rattle.drain_surface.specs.Laid.{Puts, Lays, IsLaid, IsBlankFlood, IsBesideGap}
 use Rattle.drain_surface.proofs.Cells.{same_index, same_or_other}
 
@@ -37,6 +37,10 @@ earlier_still k xs early i d less = one_more (get_or xs i d) (early i d less)
 
 pub at_most : (z : ℤ) → NO_HEIGHT <ℤ z → NO_HEIGHT ≤ℤ z
 at_most z above = omega (arith, ints)
+
+void_data : (z : Option ℤ) → IsNone z → IsSome z → ⊥
+void_data None h s = cc
+void_data (Some z) h s = cc
 
 -- before a first cell
 pub laid_none : (g : Grid) (f : Flooding) → IsCounted g f → ((c : Cell) → IsInside g c → IsBlankIn g f c) → f.ahead ≡ [] → f.waiting ≡ [] → IsLaid g f 0
@@ -85,10 +89,6 @@ module _ (g : Grid) (n : Cell) (inside_n : IsInside g n) where
     early = earlier_still (index_of g.extent n) f.ahead laid.early;
     waiting = laid.waiting;
   }
-    where
-      void_data : (z : Option ℤ) → IsNone z → IsSome z → ⊥
-      void_data None h s = cc
-      void_data (Some z) h s = cc
 
   -- a data cell is started
   module _ (old new : Flooding) (ground : ℤ) (here_n : HasData g n) (ground_is : height_at g n ≡ ground) (above : NO_HEIGHT <ℤ ground)
@@ -96,14 +96,37 @@ module _ (g : Grid) (n : Cell) (inside_n : IsInside g n) where
     low : NO_HEIGHT ≤ℤ ground
     low = at_most ground above
 
+    -- other cells stay as they were: voids, those that aren't open, and those ahead
+    voids_stay : (mark : ℕ) → Puts g.extent old new n ground mark → (c : Cell) → IsInside g c → IsNone (g.elevation c) → IsBlankIn g new c
+    voids_stay mark puts c inside void =
+        let differ : c ≢ n = λ same. void_data (g.elevation c) void (subst (λ x. IsSome (g.elevation x)) (sym same) here_n.is_data) in
+        let blank = laid.voids c inside void in
+        record { con = puts.con_same c inside differ ∙ blank.con; mark = puts.mark_same c inside differ ∙ blank.mark }
+
+    heights_stay : (c : Cell) → HasData g c → index_of g.extent c < index_of g.extent n + 1 → NO_HEIGHT <ℤ height_at g c
+    heights_stay c here less = elim (here_or_earlier c here.inside less) [
+      | inl same ↦ subst (λ x. NO_HEIGHT <ℤ height_at g x) (sym same) (subst (λ z. NO_HEIGHT <ℤ z) (sym ground_is) above)
+      | inr earlier ↦ laid.heights c here earlier.1
+    ]
+
+    ahead_stays : (mark : ℕ) → Puts g.extent old new n ground mark → (place : ℕ) → IsAhead g old NO_HEIGHT place → place < index_of g.extent n → IsAhead g new NO_HEIGHT place
+    ahead_stays mark puts place is less =
+        let differ : is.cell ≢ n = λ same. apart place (index_of g.extent n) less (is.place_is ∙ ap (index_of g.extent) same) in
+        record {
+          cell = is.cell;
+          reached = record {
+            here = is.reached.here;
+            code = λ h. is.reached.code (sym (puts.mark_same is.cell is.reached.here.inside differ) ∙ h);
+          };
+          place_is = is.place_is;
+          not_below = subst (λ z. NO_HEIGHT ≤ℤ z) (sym (puts.con_same is.cell is.reached.here.inside differ)) is.not_below;
+        }
+
     pub laid_open : IsOpenCell g n → Lays g.extent old new n ground true → IsLaid g new (index_of g.extent n + 1)
     laid_open open_n lays =
         let puts = lays.puts in record {
           counted = record { con = puts.con_long ∙ laid.counted.con; mark = puts.mark_long ∙ laid.counted.mark };
-          voids = λ c inside void.
-              (let differ : c ≢ n = λ same. void_n (g.elevation c) void (subst (λ x. IsSome (g.elevation x)) (sym same) here_n.is_data) in
-              let blank = laid.voids c inside void in
-              record { con = puts.con_same c inside differ ∙ blank.con; mark = puts.mark_same c inside differ ∙ blank.mark });
+          voids = voids_stay OPEN puts;
           opened = λ c is_open less. elim (here_or_earlier c is_open.0 less) [
             | inl same ↦ subst (λ x. IsOpenIn g new x × Contains new.ahead (index_of g.extent x)) (sym same) (
               record { con = puts.con_there ∙ sym ground_is; mark = puts.mark_there },
@@ -122,13 +145,10 @@ module _ (g : Grid) (n : Cell) (inside_n : IsInside g n) where
             | inr earlier ↦ (let was = laid.closed c here closed earlier.1 in
                 (puts.mark_same c here.inside earlier.0 ∙ was.0, puts.con_same c here.inside earlier.0 ∙ was.1))
           ];
-          heights = λ c here less. elim (here_or_earlier c here.inside less) [
-            | inl same ↦ subst (λ x. NO_HEIGHT <ℤ height_at g x) (sym same) (subst (λ z. NO_HEIGHT <ℤ z) (sym ground_is) above)
-            | inr earlier ↦ laid.heights c here earlier.1
-          ];
+          heights = heights_stay;
           ahead = subst (All (IsAhead g new NO_HEIGHT)) (sym lays.ahead)
               (All-push (IsAhead g new NO_HEIGHT) old.ahead (index_of g.extent n)
-              (λ k d less. still puts (get_or old.ahead k d) (laid.ahead k d less) (laid.early k d less))
+              (λ k d less. ahead_stays OPEN puts (get_or old.ahead k d) (laid.ahead k d less) (laid.early k d less))
               (record {
                 cell = n;
                 reached = record { here = here_n; code = outlet_reached (mark_at g.extent new n) puts.mark_there };
@@ -139,32 +159,12 @@ module _ (g : Grid) (n : Cell) (inside_n : IsInside g n) where
               (All-push (λ place. place < index_of g.extent n + 1) old.ahead (index_of g.extent n) (earlier_still (index_of g.extent n) old.ahead laid.early) (omega arith));
           waiting = lays.waiting ∙ laid.waiting;
         }
-      where
-        void_n : (z : Option ℤ) → IsNone z → IsSome z → ⊥
-        void_n None h s = cc
-        void_n (Some z) h s = cc
-
-        still : Puts g.extent old new n ground OPEN → (place : ℕ) → IsAhead g old NO_HEIGHT place → place < index_of g.extent n → IsAhead g new NO_HEIGHT place
-        still puts place is less =
-            let differ : is.cell ≢ n = λ same. apart place (index_of g.extent n) less (is.place_is ∙ ap (index_of g.extent) same) in
-            record {
-              cell = is.cell;
-              reached = record {
-                here = is.reached.here;
-                code = λ h. is.reached.code (sym (puts.mark_same is.cell is.reached.here.inside differ) ∙ h);
-              };
-              place_is = is.place_is;
-              not_below = subst (λ z. NO_HEIGHT ≤ℤ z) (sym (puts.con_same is.cell is.reached.here.inside differ)) is.not_below;
-            }
 
     pub laid_closed : ¬ IsOpenCell g n → Lays g.extent old new n ground false → IsLaid g new (index_of g.extent n + 1)
     laid_closed closed_n lays =
         let puts = lays.puts in record {
           counted = record { con = puts.con_long ∙ laid.counted.con; mark = puts.mark_long ∙ laid.counted.mark };
-          voids = λ c inside void.
-              (let differ : c ≢ n = λ same. void_n (g.elevation c) void (subst (λ x. IsSome (g.elevation x)) (sym same) here_n.is_data) in
-              let blank = laid.voids c inside void in
-              record { con = puts.con_same c inside differ ∙ blank.con; mark = puts.mark_same c inside differ ∙ blank.mark });
+          voids = voids_stay UNREACHED puts;
           opened = λ c is_open less. elim (here_or_earlier c is_open.0 less) [
             | inl same ↦ absurd (closed_n (subst (IsOpenCell g) same is_open))
             | inr earlier ↦ (let was = laid.opened c is_open earlier.1 in (
@@ -181,45 +181,25 @@ module _ (g : Grid) (n : Cell) (inside_n : IsInside g n) where
             | inr earlier ↦ (let was = laid.closed c here closed earlier.1 in
                 (puts.mark_same c here.inside earlier.0 ∙ was.0, puts.con_same c here.inside earlier.0 ∙ was.1))
           ];
-          heights = λ c here less. elim (here_or_earlier c here.inside less) [
-            | inl same ↦ subst (λ x. NO_HEIGHT <ℤ height_at g x) (sym same) (subst (λ z. NO_HEIGHT <ℤ z) (sym ground_is) above)
-            | inr earlier ↦ laid.heights c here earlier.1
-          ];
-          ahead = subst (All (IsAhead g new NO_HEIGHT)) (sym lays.ahead) (λ k d less. still puts (get_or old.ahead k d) (laid.ahead k d less) (laid.early k d less));
+          heights = heights_stay;
+          ahead = subst (All (IsAhead g new NO_HEIGHT)) (sym lays.ahead) (λ k d less. ahead_stays UNREACHED puts (get_or old.ahead k d) (laid.ahead k d less) (laid.early k d less));
           early = subst (All (λ place. place < index_of g.extent n + 1)) (sym lays.ahead) (earlier_still (index_of g.extent n) old.ahead laid.early);
           waiting = lays.waiting ∙ laid.waiting;
         }
-      where
-        void_n : (z : Option ℤ) → IsNone z → IsSome z → ⊥
-        void_n None h s = cc
-        void_n (Some z) h s = cc
-
-        still : Puts g.extent old new n ground UNREACHED → (place : ℕ) → IsAhead g old NO_HEIGHT place → place < index_of g.extent n → IsAhead g new NO_HEIGHT place
-        still puts place is less =
-            let differ : is.cell ≢ n = λ same. apart place (index_of g.extent n) less (is.place_is ∙ ap (index_of g.extent) same) in
-            record {
-              cell = is.cell;
-              reached = record {
-                here = is.reached.here;
-                code = λ h. is.reached.code (sym (puts.mark_same is.cell is.reached.here.inside differ) ∙ h);
-              };
-              place_is = is.place_is;
-              not_below = subst (λ z. NO_HEIGHT ≤ℤ z) (sym (puts.con_same is.cell is.reached.here.inside differ)) is.not_below;
-            }
 
 -- once all cells are started, the flood's level is below all ground
 module _ (g : Grid) (f : Flooding) (laid : IsLaid g f (g.extent.rows * g.extent.cols)) where
   below : (c : Cell) → IsInside g c → index_of g.extent c < g.extent.rows * g.extent.cols
   below c inside = index_of-below g.extent c inside
 
-  reached_open : (c : Cell) → IsReached g f c → IsOpenCell g c
+  reached_open : (c : Cell) → IsReachedCell g f c → IsOpenCell g c
   reached_open c reached =
       elim (cases (open_cell g c)) [
         | inl is_open ↦ is_open
         | inr closed ↦ absurd (reached.code (laid.closed c reached.here closed (below c reached.here.inside)).0)
       ]
 
-  at_ground : (c : Cell) → IsReached g f c → con_at g.extent f c ≡ height_at g c
+  at_ground : (c : Cell) → IsReachedCell g f c → con_at g.extent f c ≡ height_at g c
   at_ground c reached = (laid.opened c (reached_open c reached) (below c reached.here.inside)).0.con
 
   under_max : (con z other : ℤ) → con ≡ z → con ≤ℤ int_max z other

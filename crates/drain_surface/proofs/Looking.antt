@@ -12,7 +12,7 @@ use Rattle.drain_grid.specs.Size.{Extent}
 use Rattle.drain_grid.proofs.Options.{same_some}
 use Rattle.std.proofs.lemmas.List.{length_push}
 use Rattle.drain_surface.specs.Floods.{Flooding, con_at, mark_at, unreached, IsUnreached, Reaches, IsReachedFrom}
-use Rattle.drain_surface.specs.Looks.{IsLook, IsAround, IsBefore, PassesAt}
+use Rattle.drain_surface.specs.Looks.{IsLook, IsAround, IsLookedBefore, PassesLook}
 use Rattle.drain_surface.specs.Turns.{IsLessWork, IsLookedAround}
 use Rattle.drain_surface.proofs.Reaching.{kept_by_reaching, outlet_reached}
 
@@ -24,12 +24,12 @@ or_true_right a b h = or_right a b h
 
 -- before the first direction
 pub around_none : (g : Grid) (f : Flooding) (stand : ℤ) (busy : List ℕ) (c : Cell) (level : ℤ) (raises : Bool) →
-    IsBefore g f stand busy c level raises → IsAround g f stand busy c level raises false 0
+    IsLookedBefore g f stand busy c level raises → IsAround g f stand busy c level raises false 0
 around_none g f stand busy c level raises before = record { before = before; passed = λ i less. absurd (omega (arith, less)) }
 
 -- what was passed stays passed if no more is unreached
 passed_still : (g : Grid) (old new : Flooding) (c : Cell) (level : ℤ) (raises left more : Bool) (d : Direction) →
-    ((n : Cell) → IsUnreached g new n → IsUnreached g old n) → PassesAt g old c level raises left d → PassesAt g new c level raises (left || more) d
+    ((n : Cell) → IsUnreached g new n → IsUnreached g old n) → PassesLook g old c level raises left d → PassesLook g new c level raises (left || more) d
 passed_still g old new c level raises left more d fewer passes n fresh there =
     let was = passes n (fewer n fresh) there in
     (or_true_left left more was.0, was.1, was.2)
@@ -39,9 +39,9 @@ pub around_more : (g : Grid) (old new : Flooding) (stand : ℤ) (busy : List ℕ
     IsAround g old stand busy c level raises left k → IsLook g.extent old new c (get_or directions k East) level raises more →
     IsAround g new stand busy c level raises (left || more) (k + 1)
 around_more g old new stand busy c level raises left true k around (n, leaves) = record {
-  before = subst (λ f. IsBefore g f stand busy c level raises) (sym leaves.same) around.before;
+  before = subst (λ f. IsLookedBefore g f stand busy c level raises) (sym leaves.same) around.before;
   passed = λ i less. elim (cases_order i k) [
-    | inl here ↦ subst (λ j. PassesAt g new c level raises (left || true) (get_or directions j East)) (sym here)
+    | inl here ↦ subst (λ j. PassesLook g new c level raises (left || true) (get_or directions j East)) (sym here)
         (λ m fresh there.
         (let one : m ≡ n = same_some m n (sym there ∙ leaves.is.there) in
         let data_m : IsUnreached g old m = subst (λ f. IsUnreached g f m) leaves.same fresh in
@@ -52,9 +52,9 @@ around_more g old new stand busy c level raises left true k around (n, leaves) =
   ];
 }
 around_more g old new stand busy c level raises left false k around (inl passes) = record {
-  before = subst (λ f. IsBefore g f stand busy c level raises) (sym passes.same) around.before;
+  before = subst (λ f. IsLookedBefore g f stand busy c level raises) (sym passes.same) around.before;
   passed = λ i less. elim (cases_order i k) [
-    | inl here ↦ subst (λ j. PassesAt g new c level raises (left || false) (get_or directions j East)) (sym here)
+    | inl here ↦ subst (λ j. PassesLook g new c level raises (left || false) (get_or directions j East)) (sym here)
         (λ m fresh there.
         (let was : IsUnreached g old m = subst (λ f. IsUnreached g f m) passes.same fresh in
         absurd (passes.none m (record { there = there; fresh = was.code }))))
@@ -88,7 +88,7 @@ around_more g old new stand busy c level raises left false k around (inr (n, tak
         at_level = before.at_level;
       };
       passed = λ i less. elim (cases_order i k) [
-        | inl here ↦ subst (λ j. PassesAt g new c level raises (left || false) (get_or directions j East)) (sym here)
+        | inl here ↦ subst (λ j. PassesLook g new c level raises (left || false) (get_or directions j East)) (sym here)
             (λ m fresh there.
             (let one : m ≡ n = same_some m n (sym there ∙ takes.is.there) in
             absurd (outlet_reached (mark_at g.extent new n) reaches.mark_there (ap (mark_at g.extent new) (sym one) ∙ fresh.code))))
@@ -152,7 +152,7 @@ around_all g f stand busy c level raises left k last around = record {
   con = around.before.con;
   beside = λ n d fresh there.
       (let place = at_place d in
-      subst (PassesAt g f c level raises left) place.0 (around.passed (order_of d) (within (order_of d) k last place.1)) n fresh there);
+      subst (PassesLook g f c level raises left) place.0 (around.passed (order_of d) (within (order_of d) k last place.1)) n fresh there);
 }
   where
     within : (i k : ℕ) → k ≡ 8 → i < 8 → i < k

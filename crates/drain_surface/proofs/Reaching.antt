@@ -13,7 +13,7 @@ use Rattle.drain_grid.proofs.Inflows.{step_back}
 use Rattle.drain_grid.proofs.Least.{HasData-path}
 use Rattle.drain_grid.proofs.Neighbors.{step_lies, AreNeighbors-lies}
 use Rattle.drain_surface.specs.declared.codes.TheConstants.{OPEN, REACHED, UNREACHED, VOID}
-use Rattle.drain_surface.specs.Floods.{Flooding, con_at, mark_at, IsReached, IsUnreached, IsBlankIn, IsOpenIn, HasDescent, IsKept, IsWaiting, IsAhead, IsCounted, IsFloodOf, Reaches, IsReachedFrom}
+use Rattle.drain_surface.specs.Floods.{Flooding, con_at, mark_at, IsReachedCell, IsUnreached, IsBlankIn, IsOpenIn, HasDescent, IsKeptCell, IsWaiting, IsAhead, IsCounted, IsFloodOf, Reaches, IsReachedFrom}
 use Rattle.drain_surface.specs.Laws.{KeptByReaching}
 use Rattle.drain_surface.proofs.Cells.{same_or_other, none_or_some}
 use Rattle.drain_surface.proofs.Levels.{not_below, capped, no_lower, over_ground, over_from}
@@ -62,21 +62,21 @@ module _ (g : Grid) (old new : Flooding) (level : ℤ) (busy : List ℕ) (c n : 
       (subst (λ z. (con_at g.extent old c ≤ℤ z) ⊎ (con_at g.extent old c ≡ level)) ground_n from.raises)
 
   -- a cell that was reached isn't the new one
-  other : (b : Cell) → IsReached g old b → b ≢ n
+  other : (b : Cell) → IsReachedCell g old b → b ≢ n
   other b reached same = reached.code (ap (mark_at g.extent old) same ∙ from.new)
 
   -- it has what it had
-  con_kept : (b : Cell) → IsReached g old b → con_at g.extent new b ≡ con_at g.extent old b
+  con_kept : (b : Cell) → IsReachedCell g old b → con_at g.extent new b ≡ con_at g.extent old b
   con_kept b reached = reaches.con_same b reached.here.inside (other b reached)
 
-  still_reached : (b : Cell) → IsReached g old b → IsReached g new b
+  still_reached : (b : Cell) → IsReachedCell g old b → IsReachedCell g new b
   still_reached b reached = record {
     here = reached.here;
     code = λ h. reached.code (sym (reaches.mark_same b reached.here.inside (other b reached)) ∙ h);
   }
 
   -- one that is reached was reached, or is the new one
-  was_reached : (b : Cell) → IsReached g new b → b ≢ n → IsReached g old b
+  was_reached : (b : Cell) → IsReachedCell g new b → b ≢ n → IsReachedCell g old b
   was_reached b reached differ = record {
     here = reached.here;
     code = λ h. reached.code (reaches.mark_same b reached.here.inside differ ∙ h);
@@ -88,7 +88,7 @@ module _ (g : Grid) (old new : Flooding) (level : ℤ) (busy : List ℕ) (c n : 
       let differ : b ≢ n = λ same. outlet_reached (mark_at g.extent new n) reaches.mark_there (ap (mark_at g.extent new) (sym same) ∙ left.code) in
       (differ, record { here = left.here; code = sym (reaches.mark_same b left.here.inside differ) ∙ left.code })
 
-  n_reached : IsReached g new n
+  n_reached : IsReachedCell g new n
   n_reached = record { here = fresh.here; code = outlet_reached (mark_at g.extent new n) reaches.mark_there }
 
   new_counted : IsCounted g new
@@ -120,7 +120,7 @@ module _ (g : Grid) (old new : Flooding) (level : ℤ) (busy : List ℕ) (c n : 
         mark = reaches.mark_same b is_open.0 differ ∙ at.mark;
       }
 
-  new_closed : (b : Cell) → IsReached g new b → ¬ IsOpenCell g b → mark_at g.extent new b ≡ REACHED
+  new_closed : (b : Cell) → IsReachedCell g new b → ¬ IsOpenCell g b → mark_at g.extent new b ≡ REACHED
   new_closed b reached shut =
       elim (same_or_other b n) [
         | inl same ↦ subst (λ x. mark_at g.extent new x ≡ REACHED) (sym same) reaches.mark_there
@@ -128,7 +128,7 @@ module _ (g : Grid) (old new : Flooding) (level : ℤ) (busy : List ℕ) (c n : 
       ]
 
   -- it covers the ground
-  new_covers : (b : Cell) → IsReached g new b → height_at g b ≤ℤ con_at g.extent new b
+  new_covers : (b : Cell) → IsReachedCell g new b → height_at g b ≤ℤ con_at g.extent new b
   new_covers b reached =
       elim (same_or_other b n) [
         | inl same ↦ subst (λ x. height_at g x ≤ℤ con_at g.extent new x) (sym same)
@@ -138,12 +138,12 @@ module _ (g : Grid) (old new : Flooding) (level : ℤ) (busy : List ℕ) (c n : 
       ]
 
   -- along a path of reached cells nothing changed
-  still_falls : (b : Cell) (rest : List Cell) → IsReached g old b → IsPath g b rest → AllByRecursion (λ x. mark_at g.extent old x ≢ UNREACHED) rest →
+  still_falls : (b : Cell) (rest : List Cell) → IsReachedCell g old b → IsPath g b rest → AllByRecursion (λ x. mark_at g.extent old x ≢ UNREACHED) rest →
       NeverRises (con_at g.extent old) b rest →
       NeverRises (con_at g.extent new) b rest × AllByRecursion (λ x. mark_at g.extent new x ≢ UNREACHED) rest
   still_falls b [] at path reached falls = (tt, tt)
   still_falls b (m ∷ rest) at path reached falls =
-      let at_m : IsReached g old m = record { here = HasData-path g m rest path.2; code = reached.0 } in
+      let at_m : IsReachedCell g old m = record { here = HasData-path g m rest path.2; code = reached.0 } in
       let onward = still_falls m rest at_m path.2 reached.1 falls.1 in (
         (
           subst (λ z. con_at g.extent new m ≤ℤ z) (sym (con_kept b at)) (subst (λ z. z ≤ℤ con_at g.extent old b) (sym (con_kept m at_m)) falls.0),
@@ -152,7 +152,7 @@ module _ (g : Grid) (old new : Flooding) (level : ℤ) (busy : List ℕ) (c n : 
         ((still_reached m at_m).code, onward.1),
       )
 
-  kept_descent : (b : Cell) → IsReached g old b → HasDescent g old b → HasDescent g new b
+  kept_descent : (b : Cell) → IsReachedCell g old b → HasDescent g old b → HasDescent g new b
   kept_descent b at way =
       let still = still_falls b way.rest at way.path way.reached way.falls in
       record { rest = way.rest; path = way.path; falls = still.0; reached = still.1 }
@@ -172,14 +172,14 @@ module _ (g : Grid) (old new : Flooding) (level : ℤ) (busy : List ℕ) (c n : 
         reached = ((still_reached c from.from).code, way.reached);
       }
 
-  new_drains : (b : Cell) → IsReached g new b → HasDescent g new b
+  new_drains : (b : Cell) → IsReachedCell g new b → HasDescent g new b
   new_drains b reached =
       elim (same_or_other b n) [
         | inl same ↦ subst (HasDescent g new) (sym same) descent_of_n
         | inr differ ↦ (let was = was_reached b reached differ in kept_descent b was (flood.drains b was))
       ]
 
-  new_capped : (b : Cell) → IsReached g new b → con_at g.extent new b ≤ℤ int_max (height_at g b) level
+  new_capped : (b : Cell) → IsReachedCell g new b → con_at g.extent new b ≤ℤ int_max (height_at g b) level
   new_capped b reached =
       elim (same_or_other b n) [
         | inl same ↦ subst (λ x. con_at g.extent new x ≤ℤ int_max (height_at g x) level) (sym same)
@@ -189,7 +189,7 @@ module _ (g : Grid) (old new : Flooding) (level : ℤ) (busy : List ℕ) (c n : 
       ]
 
   -- a neighbour of the new cell is not below the level
-  beside_low : (a b : Cell) (way : Direction) → IsReached g new a → a ≢ n → step g.extent a way ≡ Some b → b ≡ n → level ≤ℤ con_at g.extent new a
+  beside_low : (a b : Cell) (way : Direction) → IsReachedCell g new a → a ≢ n → step g.extent a way ≡ Some b → b ≡ n → level ≤ℤ con_at g.extent new a
   beside_low a b way reached differ leads same =
       let was = was_reached a reached differ in
       let to_n : step g.extent a way ≡ Some n = leads ∙ ap (λ x. Some x) same in
@@ -198,7 +198,7 @@ module _ (g : Grid) (old new : Flooding) (level : ℤ) (busy : List ℕ) (c n : 
   low_anywhere : level ≤ℤ con_at g.extent new n
   low_anywhere = subst (λ z. level ≤ℤ z) (sym reaches.con_there) con_low
 
-  new_least : (a b : Cell) (way : Direction) → IsReached g new a → IsReached g new b → step g.extent a way ≡ Some b →
+  new_least : (a b : Cell) (way : Direction) → IsReachedCell g new a → IsReachedCell g new b → step g.extent a way ≡ Some b →
       con_at g.extent new a ≤ℤ int_max (height_at g a) (con_at g.extent new b)
   new_least a b way at_a at_b leads =
       elim (same_or_other b n) [
@@ -223,7 +223,7 @@ module _ (g : Grid) (old new : Flooding) (level : ℤ) (busy : List ℕ) (c n : 
   still_ahead : (place : ℕ) → Contains (busy ++ old.ahead) place → Contains (busy ++ new.ahead) place
   still_ahead place held = subst (λ xs. Contains xs place) (sym ahead_more) (Contains-append_left (busy ++ old.ahead) (index_of g.extent n ∷ []) place held)
 
-  kept_frontier : (a b : Cell) → IsReached g old a → IsKept g old level busy a b → IsKept g new level busy a b
+  kept_frontier : (a b : Cell) → IsReachedCell g old a → IsKeptCell g old level busy a b → IsKeptCell g new level busy a b
   kept_frontier a b was kept = record {
     not_below = subst (λ z. level ≤ℤ z) (sym (con_kept a was)) kept.not_below;
     held = elim kept.held [
@@ -236,7 +236,7 @@ module _ (g : Grid) (old new : Flooding) (level : ℤ) (busy : List ℕ) (c n : 
     ];
   }
 
-  new_frontier : (a b : Cell) (way : Direction) → IsReached g new a → IsUnreached g new b → step g.extent a way ≡ Some b → IsKept g new level busy a b
+  new_frontier : (a b : Cell) (way : Direction) → IsReachedCell g new a → IsUnreached g new b → step g.extent a way ≡ Some b → IsKeptCell g new level busy a b
   new_frontier a b way at_a at_b leads =
       elim (same_or_other a n) [
         | inl a_new ↦ record {

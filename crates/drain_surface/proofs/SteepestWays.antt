@@ -18,7 +18,7 @@ use Rattle.std.proofs.lemmas.List.{get_or_push, get_or_append_left}
 use Rattle.drain_surface.specs.declared.codes.TheConstants.{VOID, OPEN, REACHED}
 use Rattle.drain_surface.specs.declared.ways.Way.{Way}
 use Rattle.drain_surface.specs.Floods.{Flooding, con_at, mark_at, IsFlooded}
-use Rattle.drain_surface.specs.Ways.{IsLowerCell, IsWayDown, AreFirstCodes, way_code, key_down}
+use Rattle.drain_surface.specs.Ways.{IsLowerNeighbor, IsWayDown, AreFirstCodes, way_code, key_down}
 use Rattle.drain_surface.specs.Steepest.{IsKeyTo, IsKeyAt, IsSteeper, IsBest, IsCodeAt}
 use Rattle.drain_surface.proofs.Cells.{none_or_some, same_index}
 use Rattle.drain_surface.proofs.Looking.{at_place}
@@ -51,7 +51,7 @@ code_data g f c flooded inside code =
 
 module _ (g : Grid) (f : Flooding) (flooded : IsFlooded g f) (c : Cell) (level : ℤ) (level_is : level ≡ con_at g.extent f c) where
   -- if no key was found nothing is lower
-  none_lower : (d : Direction) → IsKeyAt g.extent f c level d None → (n : Cell) → IsLowerCell g f c d n → ⊥
+  none_lower : (d : Direction) → IsKeyAt g.extent f c level d None → (n : Cell) → IsLowerNeighbor g f c d n → ⊥
   none_lower d none n lower =
       elim (none n lower.there) [
         | inl void ↦ data_code g f n flooded lower.has_data void
@@ -63,7 +63,7 @@ module _ (g : Grid) (f : Flooding) (flooded : IsFlooded g f) (c : Cell) (level :
 
   -- if one was found it is that of a lower cell
   found_lower : (d : Direction) (key : ℕ) (n : Cell) → step g.extent c d ≡ Some n → IsKeyTo g.extent f n level d (Some key) →
-      IsLowerCell g f c d n × (pos key ≡ key_down g f c d n)
+      IsLowerNeighbor g f c d n × (pos key ≡ key_down g f c d n)
   found_lower d key n there is = (
     record {
       there = there;
@@ -73,12 +73,12 @@ module _ (g : Grid) (f : Flooding) (flooded : IsFlooded g f) (c : Cell) (level :
     is.2 ∙ ap (λ z. slope_key (is_straight d) (z -ℤ con_at g.extent f n)) level_is,
   )
 
-  one_cell : (d : Direction) (n m : Cell) → IsLowerCell g f c d n → step g.extent c d ≡ Some m → n ≡ m
+  one_cell : (d : Direction) (n m : Cell) → IsLowerNeighbor g f c d n → step g.extent c d ≡ Some m → n ≡ m
   one_cell d n m lower there = same_some n m (sym lower.there ∙ there)
 
   -- a way whose key is the greatest so far
   taken : (k : ℕ) (key : ℕ) (n : Cell) → k < 8 → step g.extent c (get_or directions k East) ≡ Some n → IsKeyTo g.extent f n level (get_or directions k East) (Some key) →
-      ((i : ℕ) → i < k → (m : Cell) → IsLowerCell g f c (get_or directions i East) m → key_down g f c (get_or directions i East) m <ℤ pos key) →
+      ((i : ℕ) → i < k → (m : Cell) → IsLowerNeighbor g f c (get_or directions i East) m → key_down g f c (get_or directions i East) m <ℤ pos key) →
       IsBest g f c (Some (record { key = key; direction = get_or directions k East })) (k + 1)
   taken k key n early there is earlier =
       let found = found_lower (get_or directions k East) key n there is in (
@@ -91,7 +91,7 @@ module _ (g : Grid) (f : Flooding) (flooded : IsFlooded g f) (c : Cell) (level :
               λ i less m lower.
                   elim (cases_order i k) [
                     | inl here ↦
-                        (let at_k : IsLowerCell g f c (get_or directions k East) m = subst (λ j. IsLowerCell g f c (get_or directions j East) m) here lower in
+                        (let at_k : IsLowerNeighbor g f c (get_or directions k East) m = subst (λ j. IsLowerNeighbor g f c (get_or directions j East) m) here lower in
                         let one : m ≡ n = one_cell (get_or directions k East) m n at_k there in
                         subst (λ j. key_down g f c (get_or directions j East) m ≤ℤ key_down g f c (get_or directions k East) n) (sym here)
                         (subst (λ x. key_down g f c (get_or directions k East) x ≤ℤ key_down g f c (get_or directions k East) n) (sym one) (self (key_down g f c (get_or directions k East) n))))
@@ -116,7 +116,7 @@ module _ (g : Grid) (f : Flooding) (flooded : IsFlooded g f) (c : Cell) (level :
       IsSteeper best (get_or directions k East) key new → IsBest g f c new (k + 1)
   best_more k None None new early best none same = subst (λ w. IsBest g f c w (k + 1)) (sym same) (λ i less n lower.
       elim (cases_order i k) [
-        | inl here ↦ none_lower (get_or directions k East) none n (subst (λ j. IsLowerCell g f c (get_or directions j East) n) here lower)
+        | inl here ↦ none_lower (get_or directions k East) none n (subst (λ j. IsLowerNeighbor g f c (get_or directions j East) n) here lower)
         | inr (inl before) ↦ best i before n lower
         | inr (inr after) ↦ absurd (omega (arith, less, after))
       ])
@@ -129,7 +129,7 @@ module _ (g : Grid) (f : Flooding) (flooded : IsFlooded g f) (c : Cell) (level :
         (
           λ i less m low.
               elim (cases_order i k) [
-                | inl here ↦ absurd (none_lower (get_or directions k East) none m (subst (λ j. IsLowerCell g f c (get_or directions j East) m) here low))
+                | inl here ↦ absurd (none_lower (get_or directions k East) none m (subst (λ j. IsLowerNeighbor g f c (get_or directions j East) m) here low))
                 | inr (inl before) ↦ earlier i before m low
                 | inr (inr after) ↦ absurd (omega (arith, less, after))
               ],
@@ -156,7 +156,7 @@ module _ (g : Grid) (f : Flooding) (flooded : IsFlooded g f) (c : Cell) (level :
               elim (cases_order i k) [
                 | inl here ↦
                     (let found = found_lower (get_or directions k East) key m there is in
-                    let at_k : IsLowerCell g f c (get_or directions k East) x = subst (λ j. IsLowerCell g f c (get_or directions j East) x) here low in
+                    let at_k : IsLowerNeighbor g f c (get_or directions k East) x = subst (λ j. IsLowerNeighbor g f c (get_or directions j East) x) here low in
                     let one : x ≡ m = one_cell (get_or directions k East) x m at_k there in
                     subst (λ j. key_down g f c (get_or directions j East) x ≤ℤ key_down g f c way.direction n) (sym here)
                     (subst (λ y. key_down g f c (get_or directions k East) y ≤ℤ key_down g f c way.direction n) (sym one)
@@ -183,7 +183,7 @@ module _ (g : Grid) (f : Flooding) (flooded : IsFlooded g f) (c : Cell) (level :
   pub none_best : (k : ℕ) → k ≡ 8 → IsBest g f c None k → IsWayDown g f c None
   none_best k last best d n lower =
       let place = at_place d in
-      best (order_of d) (within (order_of d) k last place.1) n (subst (λ e. IsLowerCell g f c e n) (sym place.0) lower)
+      best (order_of d) (within (order_of d) k last place.1) n (subst (λ e. IsLowerNeighbor g f c e n) (sym place.0) lower)
 
   pub way_best : (k : ℕ) (way : Way) → k ≡ 8 → IsBest g f c (Some way) k → IsWayDown g f c (Some way.direction)
   way_best k way last (n, (lower, (is, (earlier, first)))) = (
@@ -193,11 +193,11 @@ module _ (g : Grid) (f : Flooding) (flooded : IsFlooded g f) (c : Cell) (level :
       greatest = λ e m low.
           (let place = at_place e in
           subst (λ x. key_down g f c x m ≤ℤ key_down g f c way.direction n) place.0
-          (earlier (order_of e) (within (order_of e) k last place.1) m (subst (λ x. IsLowerCell g f c x m) (sym place.0) low)));
+          (earlier (order_of e) (within (order_of e) k last place.1) m (subst (λ x. IsLowerNeighbor g f c x m) (sym place.0) low)));
       first = λ e m less low.
           (let place = at_place e in
           subst (λ x. key_down g f c x m <ℤ key_down g f c way.direction n) place.0
-          (first (order_of e) less m (subst (λ x. IsLowerCell g f c x m) (sym place.0) low)));
+          (first (order_of e) less m (subst (λ x. IsLowerNeighbor g f c x m) (sym place.0) low)));
     },
   )
 

@@ -8,23 +8,23 @@ use Rattle.drain_grid.specs.declared.cell.Cell.{Cell}
 use Rattle.drain_grid.specs.Extent.{IsCellOf, index_of}
 use Rattle.drain_grid.specs.Grid.{Grid, IsInside, height_at}
 use Rattle.drain_grid.specs.Size.{Extent}
-use Rattle.drain_surface.specs.Floods.{Flooding, con_at, unreached, IsReached, IsWaiting, IsAhead, IsFloodOf}
-use Rattle.drain_surface.specs.Looks.{IsBefore}
-use Rattle.drain_surface.specs.Turns.{with_lists, IsOut, IsNext, IsLeftWaiting, IsLessWork, IsLookedAround, IsPopped}
+use Rattle.drain_surface.specs.Floods.{Flooding, con_at, unreached, IsReachedCell, IsWaiting, IsAhead, IsFloodOf}
+use Rattle.drain_surface.specs.Looks.{IsLookedBefore}
+use Rattle.drain_surface.specs.Turns.{with_lists, IsOut, IsNextTurn, IsLeftWaiting, IsLessWork, IsLookedAround, IsPopped}
 use Rattle.drain_surface.proofs.Cells.{same_index}
 use Rattle.drain_surface.proofs.Turns.{taken, deferred, recalled, left, risen, put_has, put_keeps, put_all}
 
 -- what a call returned for a cell
 abbrev pub LooksAround : Extent → Flooding → Flooding → Cell → ℤ → Bool → Bool → Type 0
 LooksAround e old new c level raises seen =
-    (g : Grid) (stand : ℤ) (busy : List ℕ) → g.extent ≡ e → IsBefore g old stand busy c level raises →
+    (g : Grid) (stand : ℤ) (busy : List ℕ) → g.extent ≡ e → IsLookedBefore g old stand busy c level raises →
     IsLookedAround g new stand busy c level raises seen
 
 -- a place on the trail is that of a reached cell
-ahead_reached : (g : Grid) (f : Flooding) (stand : ℤ) (c : Cell) (rest : List ℕ) → IsInside g c → All (IsAhead g f stand) (index_of g.extent c ∷ rest) → IsReached g f c
+ahead_reached : (g : Grid) (f : Flooding) (stand : ℤ) (c : Cell) (rest : List ℕ) → IsInside g c → All (IsAhead g f stand) (index_of g.extent c ∷ rest) → IsReachedCell g f c
 ahead_reached g f stand c rest inside all =
     let first = All-head (IsAhead g f stand) (index_of g.extent c) rest all in
-    subst (IsReached g f) (sym (same_index g.extent c first.cell inside first.reached.here.inside first.place_is)) first.reached
+    subst (IsReachedCell g f) (sym (same_index g.extent c first.cell inside first.reached.here.inside first.place_is)) first.reached
 
 module _ (g : Grid) (stand level : ℤ) (later : List ℕ) (c : Cell) (inside : IsInside g c) (raises : Bool) where
   -- nothing was left
@@ -90,7 +90,7 @@ module _ (g : Grid) (stand level : ℤ) (later : List ℕ) (c : Cell) (inside : 
 -- a busy cell, before its neighbours are looked at
 busy_before : (g : Grid) (s : Flooding) (stand level : ℤ) (later : List ℕ) (c : Cell) (raises : Bool) → IsInside g c →
     IsFloodOf g s stand (index_of g.extent c ∷ later) → level ≡ con_at g.extent s c → (raises ≡ true → level ≡ stand) →
-    IsBefore g s stand (index_of g.extent c ∷ later) c level raises
+    IsLookedBefore g s stand (index_of g.extent c ∷ later) c level raises
 busy_before g s stand level later c raises inside flood is at_level = record {
   flood = flood;
   reached = ahead_reached g s stand c (later ++ s.ahead) inside flood.ahead;
@@ -99,7 +99,7 @@ busy_before g s stand level later c raises inside flood is at_level = record {
 }
 
 -- the next cell of the trail is busy
-next_busy : (g : Grid) (old new : Flooding) (stand : ℤ) (later : List ℕ) (c : Cell) → g.extent ≡ old.extent → IsFloodOf g old stand later → IsNext old new c →
+next_busy : (g : Grid) (old new : Flooding) (stand : ℤ) (later : List ℕ) (c : Cell) → g.extent ≡ old.extent → IsFloodOf g old stand later → IsNextTurn old new c →
     IsFloodOf g new stand (index_of g.extent c ∷ later)
 next_busy g old new stand later c extent flood next =
     let out : IsOut (index_of g.extent c) old.ahead new.ahead = subst (λ e. IsOut (index_of e c) old.ahead new.ahead) (sym extent) next.out in
@@ -133,7 +133,7 @@ busy_deferred g s1 s2 stand level later c raises seen e1 inside is at_level look
     deferred g s2 stand later (index_of g.extent c) around.flood
 
 -- a cell of the trail: if it has an unreached neighbour it is for later, else nothing is left
-pub turn_passed : (g : Grid) (s0 s1 s2 : Flooding) (stand level : ℤ) (later : List ℕ) (c : Cell) (raises : Bool) → g.extent ≡ s0.extent → g.extent ≡ s1.extent → IsNext s0 s1 c →
+pub turn_passed : (g : Grid) (s0 s1 s2 : Flooding) (stand level : ℤ) (later : List ℕ) (c : Cell) (raises : Bool) → g.extent ≡ s0.extent → g.extent ≡ s1.extent → IsNextTurn s0 s1 c →
     level ≡ con_at s1.extent s1 c → (raises ≡ true → level ≡ stand) → LooksAround s1.extent s1 s2 c level raises false →
     IsFloodOf g s0 stand later → IsFloodOf g s2 stand later
 turn_passed g s0 s1 s2 stand level later c raises e0 e1 next is at_level looks flood =
@@ -141,7 +141,7 @@ turn_passed g s0 s1 s2 stand level later c raises e0 e1 next is at_level looks f
     (next_busy g s0 s1 stand later c e0 flood next)
 
 pub turn_deferred : (g : Grid) (s0 s1 s2 : Flooding) (stand level : ℤ) (later after : List ℕ) (c : Cell) (raises seen : Bool) → g.extent ≡ s0.extent → g.extent ≡ s1.extent →
-    IsNext s0 s1 c → level ≡ con_at s1.extent s1 c → (raises ≡ true → level ≡ stand) → LooksAround s1.extent s1 s2 c level raises seen →
+    IsNextTurn s0 s1 c → level ≡ con_at s1.extent s1 c → (raises ≡ true → level ≡ stand) → LooksAround s1.extent s1 s2 c level raises seen →
     after ≡ later ++ index_of g.extent c ∷ [] → IsFloodOf g s0 stand later → IsFloodOf g s2 stand after
 turn_deferred g s0 s1 s2 stand level later after c raises seen e0 e1 next is at_level looks grown flood =
     subst (IsFloodOf g s2 stand) (sym grown)
@@ -153,7 +153,7 @@ pub last_busy : (g : Grid) (s : Flooding) (stand : ℤ) (later rest : List ℕ) 
 last_busy g s stand later rest place is flood = recalled g s stand rest place (subst (IsFloodOf g s stand) is flood)
 
 -- how much is left to do after a turn
-next_work : (old new : Flooding) (c : Cell) → IsNext old new c →
+next_work : (old new : Flooding) (c : Cell) → IsNextTurn old new c →
     (unreached new ≡ unreached old) × (length old.ahead ≡ length new.ahead + 1)
 next_work old new c next = (ap unreached next.rest, one_less (index_of old.extent c) old.ahead new.ahead next.out)
   where
@@ -163,7 +163,7 @@ next_work old new c next = (ap unreached next.rest, one_less (index_of old.exten
         let long_ys : length ys ≡ length out.before + length out.after = ap (λ zs. length zs) out.new_are ∙ length-append out.before out.after in
         omega (arith, long_xs, long_ys)
 
-pub turn_work : (s0 s1 s2 : Flooding) (c : Cell) → IsNext s0 s1 c → IsLessWork s1 s2 →
+pub turn_work : (s0 s1 s2 : Flooding) (c : Cell) → IsNextTurn s0 s1 c → IsLessWork s1 s2 →
     (unreached s2 + length s2.ahead + 1 ≡ unreached s0 + length s0.ahead) × (s2.waiting ≡ s0.waiting)
 turn_work s0 s1 s2 c next less =
     let n = next_work s0 s1 c next in
@@ -174,7 +174,7 @@ turn_work s0 s1 s2 c next less =
 
 -- the first waiting cell, before its neighbours are looked at, at the level to which the flood rises
 pub popped_before : (g : Grid) (old new : Flooding) (stand level : ℤ) (c : Cell) → g.extent ≡ old.extent → IsFloodOf g old stand [] → old.ahead ≡ [] →
-    IsPopped old new level c → IsBefore g new level (index_of g.extent c ∷ []) c level true
+    IsPopped old new level c → IsLookedBefore g new level (index_of g.extent c ∷ []) c level true
 popped_before g old new stand level c extent flood done popped =
     let first : old.waiting ≡ (level, index_of g.extent c) ∷ new.waiting = subst (λ e. old.waiting ≡ (level, index_of e c) ∷ new.waiting) (sym extent) popped.first in
     let inside : IsInside g c = subst (λ e. IsCellOf e c) (sym extent) popped.inside in

@@ -9,7 +9,7 @@ use Rattle.drain_grid.specs.declared.direction.Direction.{Direction}
 use Rattle.drain_grid.specs.Extent.{index_of, step}
 use Rattle.drain_grid.specs.Grid.{Grid, IsInside, height_at}
 use Rattle.drain_surface.specs.Waiting.{Rises, IsPut}
-use Rattle.drain_surface.specs.Floods.{Flooding, con_at, IsReached, IsUnreached, IsKept, IsWaiting, IsAhead, IsFloodOf}
+use Rattle.drain_surface.specs.Floods.{Flooding, con_at, IsReachedCell, IsUnreached, IsKeptCell, IsWaiting, IsAhead, IsFloodOf}
 use Rattle.drain_surface.specs.Turns.{with_lists, IsOut}
 use Rattle.drain_surface.proofs.Cells.{same_index}
 use Rattle.drain_surface.proofs.AllReached.{none_in}
@@ -34,7 +34,7 @@ rest_not_below level item rest rises k d less = rises 0 (suc k) d (omega arith) 
 -- lists and at another level
 pub relisted : (g : Grid) (f : Flooding) (level higher : ℤ) (busy other : List ℕ) (ahead : List ℕ) (waiting : List (ℤ × ℕ)) →
     IsFloodOf g f level busy → level ≤ℤ higher →
-    ((c n : Cell) (d : Direction) → IsReached g f c → IsUnreached g f n → step g.extent c d ≡ Some n → IsKept g (with_lists f ahead waiting) higher other c n) →
+    ((c n : Cell) (d : Direction) → IsReachedCell g f c → IsUnreached g f n → step g.extent c d ≡ Some n → IsKeptCell g (with_lists f ahead waiting) higher other c n) →
     All (IsWaiting g (with_lists f ahead waiting) higher) waiting → All (IsAhead g (with_lists f ahead waiting) higher) (other ++ ahead) →
     IsFloodOf g (with_lists f ahead waiting) higher other
 relisted g f level higher busy other ahead waiting flood rises kept waits among = record {

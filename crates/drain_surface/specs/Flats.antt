@@ -15,7 +15,7 @@ use Rattle.drain_grid.specs.Grid.{Grid, Products, HasData, IsInside, IsOpenCell}
 use Rattle.drain_grid.specs.Size.{Extent}
 use Rattle.drain_surface.specs.declared.codes.TheConstants.{OPEN, REACHED, VOID, NO_RANK}
 use Rattle.drain_surface.specs.Floods.{Flooding, con_at}
-use Rattle.drain_surface.specs.Ways.{IsSteepestCell, IsWayDown}
+use Rattle.drain_surface.specs.Ways.{IsSteepestNeighbor, IsWayDown}
 
 -- the code and the rank of each cell in row order; the places of the cells on the trail
 pub record Laying : Type 0 where
@@ -57,11 +57,11 @@ AreFirstRanks ways ranks = (i : ℕ) → i < length ways → slice_index_or rank
 
 -- the steepest way down
 pub record IsDown (g : Grid) (f : Flooding) (w : Laying) (c : Cell) (d : Direction) (n : Cell) : Type 0 where
-  pub steepest : IsSteepestCell g f c d n
+  pub steepest : IsSteepestNeighbor g f c d n
   pub code : way_at g.extent w c ≡ code_of d
 
 -- an open cell with no lower neighbour
-pub record IsOutlet (g : Grid) (f : Flooding) (w : Laying) (c : Cell) : Type 0 where
+pub record IsFlatOutlet (g : Grid) (f : Flooding) (w : Laying) (c : Cell) : Type 0 where
   pub opens : IsOpenCell g c
   pub lowest : IsWayDown g f c None
   pub code : way_at g.extent w c ≡ OPEN
@@ -78,7 +78,7 @@ pub record IsAlong (g : Grid) (f : Flooding) (w : Laying) (c : Cell) (d : Direct
 
 abbrev pub HasWay : Grid → Flooding → Laying → Cell → Type 0
 HasWay g f w c =
-    ((d : Direction) × (n : Cell) × IsDown g f w c d n) ⊎ (IsOutlet g f w c ⊎ ((d : Direction) × (n : Cell) × IsAlong g f w c d n))
+    ((d : Direction) × (n : Cell) × IsDown g f w c d n) ⊎ (IsFlatOutlet g f w c ⊎ ((d : Direction) × (n : Cell) × IsAlong g f w c d n))
 
 -- a number of each kind for each cell
 pub record AreCounted (g : Grid) (w : Laying) : Type 0 where

@@ -38,7 +38,7 @@ abbrev pub unreached : Flooding → ℕ
 unreached f = count_by (λ mark. mark == UNREACHED) f.mark
 
 -- a data cell that is reached, and one that isn't
-pub record IsReached (g : Grid) (f : Flooding) (c : Cell) : Type 0 where
+pub record IsReachedCell (g : Grid) (f : Flooding) (c : Cell) : Type 0 where
   pub here : HasData g c
   pub code : mark_at g.extent f c ≢ UNREACHED
 
@@ -64,7 +64,7 @@ pub record HasDescent (g : Grid) (f : Flooding) (c : Cell) : Type 0 where
   pub reached : AllByRecursion (λ x. mark_at g.extent f x ≢ UNREACHED) rest
 
 -- a reached cell with an unreached neighbour: it is on the trail, or it waits and the neighbour is lower
-pub record IsKept (g : Grid) (f : Flooding) (level : ℤ) (busy : List ℕ) (c n : Cell) : Type 0 where
+pub record IsKeptCell (g : Grid) (f : Flooding) (level : ℤ) (busy : List ℕ) (c n : Cell) : Type 0 where
   pub not_below : level ≤ℤ con_at g.extent f c
   pub held : Contains (busy ++ f.ahead) (index_of g.extent c)
       ⊎ (Contains f.waiting (con_at g.extent f c, index_of g.extent c) × (height_at g n <ℤ con_at g.extent f c))
@@ -72,7 +72,7 @@ pub record IsKept (g : Grid) (f : Flooding) (level : ℤ) (busy : List ℕ) (c n
 -- a pair that waits: a reached cell at its conditioned elevation, not below the level
 pub record IsWaiting (g : Grid) (f : Flooding) (level : ℤ) (pair : ℤ × ℕ) : Type 0 where
   pub cell : Cell
-  pub reached : IsReached g f cell
+  pub reached : IsReachedCell g f cell
   pub place : pair.1 ≡ index_of g.extent cell
   pub con : con_at g.extent f cell ≡ pair.0
   pub not_below : level ≤ℤ pair.0
@@ -80,7 +80,7 @@ pub record IsWaiting (g : Grid) (f : Flooding) (level : ℤ) (pair : ℤ × ℕ)
 -- a place on the trail: that of a reached cell, not below the level
 pub record IsAhead (g : Grid) (f : Flooding) (level : ℤ) (place : ℕ) : Type 0 where
   pub cell : Cell
-  pub reached : IsReached g f cell
+  pub reached : IsReachedCell g f cell
   pub place_is : place ≡ index_of g.extent cell
   pub not_below : level ≤ℤ con_at g.extent f cell
 
@@ -97,15 +97,15 @@ pub record IsFloodOf (g : Grid) (f : Flooding) (level : ℤ) (busy : List ℕ) :
   pub heights : (c : Cell) → HasData g c → NO_HEIGHT <ℤ height_at g c
   pub ground : (c : Cell) → IsUnreached g f c → con_at g.extent f c ≡ height_at g c
   pub opened : (c : Cell) → IsOpenCell g c → IsOpenIn g f c
-  pub closed : (c : Cell) → IsReached g f c → ¬ IsOpenCell g c → mark_at g.extent f c ≡ REACHED
-  pub covers : (c : Cell) → IsReached g f c → height_at g c ≤ℤ con_at g.extent f c
-  pub drains : (c : Cell) → IsReached g f c → HasDescent g f c
+  pub closed : (c : Cell) → IsReachedCell g f c → ¬ IsOpenCell g c → mark_at g.extent f c ≡ REACHED
+  pub covers : (c : Cell) → IsReachedCell g f c → height_at g c ≤ℤ con_at g.extent f c
+  pub drains : (c : Cell) → IsReachedCell g f c → HasDescent g f c
   -- no reached neighbour shows a lower way out
-  pub least : (c n : Cell) (d : Direction) → IsReached g f c → IsReached g f n → step g.extent c d ≡ Some n →
+  pub least : (c n : Cell) (d : Direction) → IsReachedCell g f c → IsReachedCell g f n → step g.extent c d ≡ Some n →
       con_at g.extent f c ≤ℤ int_max (height_at g c) (con_at g.extent f n)
   -- nothing was raised above the level
-  pub capped : (c : Cell) → IsReached g f c → con_at g.extent f c ≤ℤ int_max (height_at g c) level
-  pub frontier : (c n : Cell) (d : Direction) → IsReached g f c → IsUnreached g f n → step g.extent c d ≡ Some n → IsKept g f level busy c n
+  pub capped : (c : Cell) → IsReachedCell g f c → con_at g.extent f c ≤ℤ int_max (height_at g c) level
+  pub frontier : (c n : Cell) (d : Direction) → IsReachedCell g f c → IsUnreached g f n → step g.extent c d ≡ Some n → IsKeptCell g f level busy c n
   pub waiting : All (IsWaiting g f level) f.waiting
   pub ahead : All (IsAhead g f level) (busy ++ f.ahead)
 
@@ -125,7 +125,7 @@ pub record Reaches (e : Extent) (old new : Flooding) (n : Cell) (con : ℤ) : Ty
 -- c is reached; its unreached neighbour n is reached from c, raised to c if it is lower, which is allowed only if c is
 -- at the flood's level
 pub record IsReachedFrom (g : Grid) (f : Flooding) (level : ℤ) (c : Cell) (d : Direction) (n : Cell) (con : ℤ) : Type 0 where
-  pub from : IsReached g f c
+  pub from : IsReachedCell g f c
   pub there : step g.extent c d ≡ Some n
   pub new : mark_at g.extent f n ≡ UNREACHED
   pub con_is : con ≡ int_max (con_at g.extent f n) (con_at g.extent f c)

@@ -11,7 +11,7 @@ use Rattle.drain_grid.specs.Rule.{IsFillRule, IsWayRule}
 use Rattle.drain_grid.specs.Path.{Drains, IsFilled}
 use Rattle.drain_surface.specs.Turns.{with_lists}
 use Rattle.drain_surface.specs.Flats.{Laying, AreLaid, IsSettledFrom, Settles, AreWaysOnFlats, ShowsWays}
-use Rattle.drain_surface.specs.Floods.{con_at, Flooding, IsFloodOf, IsReached, IsReachedFrom, Reaches, IsFlooded}
+use Rattle.drain_surface.specs.Floods.{con_at, Flooding, IsFloodOf, IsReachedCell, IsReachedFrom, Reaches, IsFlooded}
 
 -- what holds of a flood still holds after one more cell is reached
 abbrev pub KeptByReaching : Type 0
@@ -23,7 +23,7 @@ KeptByReaching =
 -- if the trail is empty and no cell waits, every data cell is reached
 abbrev pub AllAreReached : Type 0
 AllAreReached =
-    (g : Grid) (f : Flooding) (level : ℤ) → IsFloodOf g f level [] → f.ahead ≡ [] → f.waiting ≡ [] → (c : Cell) → HasData g c → IsReached g f c
+    (g : Grid) (f : Flooding) (level : ℤ) → IsFloodOf g f level [] → f.ahead ≡ [] → f.waiting ≡ [] → (c : Cell) → HasData g c → IsReachedCell g f c
 
 -- then the grid is flooded
 abbrev pub FloodIsDone : Type 0

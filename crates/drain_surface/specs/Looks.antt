@@ -9,7 +9,7 @@ use Rattle.drain_grid.specs.Extent.{IsCellOf, index_of, step}
 use Rattle.drain_grid.specs.Grid.{Grid, height_at}
 use Rattle.drain_grid.specs.Size.{Extent}
 use Rattle.drain_surface.specs.declared.codes.TheConstants.{UNREACHED}
-use Rattle.drain_surface.specs.Floods.{Flooding, con_at, mark_at, IsReached, IsUnreached, IsFloodOf, Reaches}
+use Rattle.drain_surface.specs.Floods.{Flooding, con_at, mark_at, IsReachedCell, IsUnreached, IsFloodOf, Reaches}
 
 -- n is the neighbour in this direction, and isn't reached
 pub record IsFreshAt (e : Extent) (f : Flooding) (c : Cell) (d : Direction) (n : Cell) : Type 0 where
@@ -17,7 +17,7 @@ pub record IsFreshAt (e : Extent) (f : Flooding) (c : Cell) (d : Direction) (n :
   pub fresh : mark_at e f n ≡ UNREACHED
 
 -- not on the edge of the grid
-pub record IsInner (e : Extent) (c : Cell) : Type 0 where
+pub record IsInnerPlace (e : Extent) (c : Cell) : Type 0 where
   pub north : 0 < c.row
   pub west : 0 < c.col
   pub south : c.row + 1 < e.rows
@@ -56,18 +56,18 @@ IsLook e old new c d level raises false = Passes e old new c d ⊎ ((n : Cell) �
 
 -- a cell whose neighbours are to be looked at: reached, with this conditioned elevation; it raises only at the flood's
 -- level
-pub record IsBefore (g : Grid) (f : Flooding) (stand : ℤ) (busy : List ℕ) (c : Cell) (level : ℤ) (raises : Bool) : Type 0 where
+pub record IsLookedBefore (g : Grid) (f : Flooding) (stand : ℤ) (busy : List ℕ) (c : Cell) (level : ℤ) (raises : Bool) : Type 0 where
   pub flood : IsFloodOf g f stand busy
-  pub reached : IsReached g f c
+  pub reached : IsReachedCell g f c
   pub con : con_at g.extent f c ≡ level
   pub at_level : raises ≡ true → level ≡ stand
 
 -- an unreached neighbour in a direction was left, and is lower
-abbrev pub PassesAt : Grid → Flooding → Cell → ℤ → Bool → Bool → Direction → Type 0
-PassesAt g f c level raises left d =
+abbrev pub PassesLook : Grid → Flooding → Cell → ℤ → Bool → Bool → Direction → Type 0
+PassesLook g f c level raises left d =
     (n : Cell) → IsUnreached g f n → step g.extent c d ≡ Some n → (left ≡ true) × (height_at g n <ℤ level) × (raises ≡ false)
 
 -- a cell whose neighbours in the first k directions were looked at
 pub record IsAround (g : Grid) (f : Flooding) (stand : ℤ) (busy : List ℕ) (c : Cell) (level : ℤ) (raises : Bool) (left : Bool) (k : ℕ) : Type 0 where
-  pub before : IsBefore g f stand busy c level raises
-  pub passed : (i : ℕ) → i < k → PassesAt g f c level raises left (get_or directions i East)
+  pub before : IsLookedBefore g f stand busy c level raises
+  pub passed : (i : ℕ) → i < k → PassesLook g f c level raises left (get_or directions i East)

@@ -11,7 +11,7 @@ use Rattle.drain_grid.specs.Slope.{slope_key}
 use Rattle.drain_surface.specs.declared.codes.TheConstants.{VOID}
 use Rattle.drain_surface.specs.declared.ways.Way.{Way}
 use Rattle.drain_surface.specs.Floods.{Flooding}
-use Rattle.drain_surface.specs.Ways.{IsLowerCell, IsWayCode, key_down}
+use Rattle.drain_surface.specs.Ways.{IsLowerNeighbor, IsWayCode, key_down}
 
 -- the code at a cell: VOID at a void, else that of its way
 pub record IsCodeAt (g : Grid) (f : Flooding) (c : Cell) (code : ℕ) : Type 0 where
@@ -55,8 +55,8 @@ IsSteeper (Some way) d (Some key) result =
 
 -- the best way in the first directions
 abbrev pub IsBest : Grid → Flooding → Cell → Option Way → ℕ → Type 0
-IsBest g f c None k = (i : ℕ) → i < k → (n : Cell) → IsLowerCell g f c (get_or directions i East) n → ⊥
+IsBest g f c None k = (i : ℕ) → i < k → (n : Cell) → IsLowerNeighbor g f c (get_or directions i East) n → ⊥
 IsBest g f c (Some way) k =
-    (n : Cell) × (IsLowerCell g f c way.direction n × ((pos way.key ≡ key_down g f c way.direction n)
-    × (((i : ℕ) → i < k → (m : Cell) → IsLowerCell g f c (get_or directions i East) m → key_down g f c (get_or directions i East) m ≤ℤ key_down g f c way.direction n)
-    × ((i : ℕ) → i < order_of way.direction → (m : Cell) → IsLowerCell g f c (get_or directions i East) m → key_down g f c (get_or directions i East) m <ℤ key_down g f c way.direction n))))
+    (n : Cell) × (IsLowerNeighbor g f c way.direction n × ((pos way.key ≡ key_down g f c way.direction n)
+    × (((i : ℕ) → i < k → (m : Cell) → IsLowerNeighbor g f c (get_or directions i East) m → key_down g f c (get_or directions i East) m ≤ℤ key_down g f c way.direction n)
+    × ((i : ℕ) → i < order_of way.direction → (m : Cell) → IsLowerNeighbor g f c (get_or directions i East) m → key_down g f c (get_or directions i East) m <ℤ key_down g f c way.direction n))))

@@ -6,7 +6,7 @@ use Rattle.drain_grid.specs.Extent.{IsCellOf, index_of, step}
 use Rattle.drain_grid.specs.Grid.{Grid, height_at}
 use Rattle.drain_grid.specs.Size.{Extent}
 use Rattle.drain_surface.specs.Waiting.{Rises, IsPut}
-use Rattle.drain_surface.specs.Floods.{Flooding, con_at, unreached, IsUnreached, IsFloodOf, IsReached}
+use Rattle.drain_surface.specs.Floods.{Flooding, con_at, unreached, IsUnreached, IsFloodOf, IsReachedCell}
 
 -- the same numbers, with another trail and other waiting cells
 abbrev pub with_lists : Flooding → List ℕ → List (ℤ × ℕ) → Flooding
@@ -30,7 +30,7 @@ pub record AreNone (old new : List ℕ) : Type 0 where
   pub still : new ≡ []
 
 -- some cell is taken from the trail
-pub record IsNext (old new : Flooding) (c : Cell) : Type 0 where
+pub record IsNextTurn (old new : Flooding) (c : Cell) : Type 0 where
   pub inside : IsCellOf old.extent c
   pub out : IsOut (index_of old.extent c) old.ahead new.ahead
   pub rest : new ≡ with_lists old new.ahead old.waiting
@@ -66,6 +66,6 @@ pub record IsLessWork (old new : Flooding) : Type 0 where
 -- the neighbours of a cell were looked at: an unreached one was left, and is lower
 pub record IsLookedAround (g : Grid) (f : Flooding) (stand : ℤ) (busy : List ℕ) (c : Cell) (level : ℤ) (raises left : Bool) : Type 0 where
   pub flood : IsFloodOf g f stand busy
-  pub reached : IsReached g f c
+  pub reached : IsReachedCell g f c
   pub con : con_at g.extent f c ≡ level
   pub beside : (n : Cell) (d : Direction) → IsUnreached g f n → step g.extent c d ≡ Some n → (left ≡ true) × (height_at g n <ℤ level) × (raises ≡ false)

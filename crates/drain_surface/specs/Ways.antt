@@ -11,7 +11,7 @@ use Rattle.drain_surface.specs.declared.codes.TheConstants.{VOID}
 use Rattle.drain_surface.specs.Floods.{Flooding, con_at, mark_at}
 
 -- n lies in this direction, has data and is lower
-pub record IsLowerCell (g : Grid) (f : Flooding) (c : Cell) (d : Direction) (n : Cell) : Type 0 where
+pub record IsLowerNeighbor (g : Grid) (f : Flooding) (c : Cell) (d : Direction) (n : Cell) : Type 0 where
   pub there : step g.extent c d ≡ Some n
   pub has_data : HasData g n
   pub below : con_at g.extent f n <ℤ con_at g.extent f c
@@ -21,15 +21,15 @@ abbrev pub key_down : Grid → Flooding → Cell → Direction → Cell → ℤ
 key_down g f c d n = slope_key (is_straight d) (con_at g.extent f c -ℤ con_at g.extent f n)
 
 -- no lower cell has a greater key, and none in an earlier direction as great a one
-pub record IsSteepestCell (g : Grid) (f : Flooding) (c : Cell) (d : Direction) (n : Cell) : Type 0 where
-  pub lower : IsLowerCell g f c d n
-  pub greatest : (e : Direction) (m : Cell) → IsLowerCell g f c e m → key_down g f c e m ≤ℤ key_down g f c d n
-  pub first : (e : Direction) (m : Cell) → order_of e < order_of d → IsLowerCell g f c e m → key_down g f c e m <ℤ key_down g f c d n
+pub record IsSteepestNeighbor (g : Grid) (f : Flooding) (c : Cell) (d : Direction) (n : Cell) : Type 0 where
+  pub lower : IsLowerNeighbor g f c d n
+  pub greatest : (e : Direction) (m : Cell) → IsLowerNeighbor g f c e m → key_down g f c e m ≤ℤ key_down g f c d n
+  pub first : (e : Direction) (m : Cell) → order_of e < order_of d → IsLowerNeighbor g f c e m → key_down g f c e m <ℤ key_down g f c d n
 
 -- the first steepest way down, none if no neighbour is lower
 abbrev pub IsWayDown : Grid → Flooding → Cell → Option Direction → Type 0
-IsWayDown g f c None = (d : Direction) (n : Cell) → IsLowerCell g f c d n → ⊥
-IsWayDown g f c (Some d) = (n : Cell) × IsSteepestCell g f c d n
+IsWayDown g f c None = (d : Direction) (n : Cell) → IsLowerNeighbor g f c d n → ⊥
+IsWayDown g f c (Some d) = (n : Cell) × IsSteepestNeighbor g f c d n
 
 -- the code of the way down, else the mark: that of an outlet, or of a cell from which no way leads on yet
 abbrev pub way_code : ℕ → Option Direction → ℕ

@@ -12,7 +12,7 @@ ghost use Rattle.drain_grid.specs.declared.direction.Direction.{Direction};
 ghost use Rattle.drain_grid.specs.Extent.{IsCellOf, index_of};
 ghost use Rattle.drain_grid.specs.Grid.{Grid};
 ghost use Rattle.drain_surface.specs.Floods.{IsFlooded, con_at};
-ghost use Rattle.drain_surface.specs.Looks.{IsInner};
+ghost use Rattle.drain_surface.specs.Looks.{IsInnerPlace};
 ghost use Rattle.drain_surface.specs.Flats.{first_rank, AreFirstRanks, Laying, way_at, rank_at, wayless, IsSettled, AreLaid, Settles, AreWaysOnFlats};
 ghost use Rattle.drain_surface.specs.Walks.{IsFlatAt, IsFlatPlace, IsLowEdgeAt, IsLowEdgeThere, IsWalk, IsPassed, IsLessWalk, IsNextPlace, IsDonePlaces};
 
@@ -153,7 +153,7 @@ impl Flats {
     ) -> bool
         requires same { self.now.extent ≡ flood.now.extent }
         requires inside { IsCellOf self.now.extent cell }
-        requires inner { IsTrue inner → IsInner self.now.extent cell }
+        requires inner { IsTrue inner → IsInnerPlace self.now.extent cell }
         ensures yes { IsTrue result → IsLowEdgeThere self.now.extent flood.now self.now cell level direction }
         ensures no { IsLowEdgeThere self.now.extent flood.now self.now cell level direction → IsTrue result }
     {
@@ -216,7 +216,7 @@ impl Flats {
     ) -> Result<(), OutOfMemory>
         requires same { self.old.extent ≡ flood.now.extent }
         requires inside { IsCellOf self.old.extent cell }
-        requires inner { IsTrue inner → IsInner self.old.extent cell }
+        requires inner { IsTrue inner → IsInnerPlace self.old.extent cell }
         ensures extent { self.new.extent ≡ self.old.extent }
         ensures look { OnOk result (IsWalk self.old.extent flood.now self.old self.new cell direction level rank) }
     {
@@ -240,7 +240,7 @@ impl Flats {
     ) -> Option<usize>
         requires same { self.now.extent ≡ flood.now.extent }
         requires inside { IsCellOf self.now.extent cell }
-        requires inner { IsTrue inner → IsInner self.now.extent cell }
+        requires inner { IsTrue inner → IsInnerPlace self.now.extent cell }
         ensures below { IfSome result (λ place. place < self.now.extent.rows * self.now.extent.cols) }
         ensures fresh { MatchOption result ((n : Cell) → IsFlatAt self.now.extent flood.now self.now cell direction level n → ⊥) (IsFlatPlace self.now.extent flood.now self.now cell direction level) }
     {
@@ -316,9 +316,7 @@ fn first_ranks(alloc: Global, way: &[u8]) -> Result<Vec<u32>, OutOfMemory>
 {
     let mut ranks = room_for_ranks(alloc, way.len())?;
     for place in 0..way.len() {
-        let Ok(()) = ranks.push(first_rank(way[place])) else {
-            return Err(OutOfMemory);
-        };
+        ranks.push(first_rank(way[place]))?;
     }
     Ok(ranks)
 }

@@ -18,8 +18,8 @@ ghost use Rattle.drain_grid.specs.declared.cell.Cell.{Cell};
 ghost use Rattle.drain_grid.specs.Extent.{IsCellOf, index_of};
 ghost use Rattle.drain_grid.specs.Grid.{Grid};
 ghost use Rattle.drain_surface.specs.Floods.{Flooding, con_at, mark_at, unreached, IsFloodOf, IsFlooded, Reaches};
-ghost use Rattle.drain_surface.specs.Looks.{IsFreshAt, IsFreshPlace, IsInner, IsLook, IsBefore};
-ghost use Rattle.drain_surface.specs.Turns.{with_lists, IsNext, IsDone, IsPopped, IsEmptied, IsLeftWaiting, IsLessWork, IsLookedAround};
+ghost use Rattle.drain_surface.specs.Looks.{IsFreshAt, IsFreshPlace, IsInnerPlace, IsLook, IsLookedBefore};
+ghost use Rattle.drain_surface.specs.Turns.{with_lists, IsNextTurn, IsDone, IsPopped, IsEmptied, IsLeftWaiting, IsLessWork, IsLookedAround};
 
 use crate::codes::{NO_HEIGHT, OPEN, REACHED, UNREACHED, VOID};
 use crate::laws::flood_is_filled;
@@ -87,9 +87,7 @@ impl Flood {
         let shape = elevation.shape();
         let mut flood = Flood::blank(alloc, shape)?;
         let mut listed = Vec::new(alloc);
-        let Ok(()) = listed.resize(shape.cols() as usize, false) else {
-            return Err(OutOfMemory);
-        };
+        listed.resize(shape.cols() as usize, false)?;
         for row in 0..shape.rows() {
             sinks.mark_row(row, listed.as_mut_slice());
             flood.lay_row(elevation, row, listed.as_slice())?;
@@ -189,10 +187,8 @@ impl Flood {
         ensures pushed { OnOk result (self.new ≡ with_lists self.old (self.old.ahead ++ index_of self.old.extent cell ∷ []) self.old.waiting) }
     {
         let place = self.shape.index(cell) as u32;
-        match self.trail.push(place) {
-            Ok(()) => Ok(()),
-            Err(_) => Err(OutOfMemory),
-        }
+        self.trail.push(place)?;
+        Ok(())
     }
 
     /// Reaches the unreached neighbours of a cell; lower ones only if it raises them. Returns whether a lower one was
@@ -206,7 +202,7 @@ impl Flood {
         requires inside { IsCellOf self.old.extent cell }
         ensures extent { self.new.extent ≡ self.old.extent }
         ensures work { OnOk result (IsLessWork self.old self.new) }
-        ensures around { IfOk result (λ left. (g : Grid) (stand : ℤ) (busy : List ℕ) → g.extent ≡ self.old.extent → IsBefore g self.old stand busy cell level raises → IsLookedAround g self.new stand busy cell level raises left) }
+        ensures around { IfOk result (λ left. (g : Grid) (stand : ℤ) (busy : List ℕ) → g.extent ≡ self.old.extent → IsLookedBefore g self.old stand busy cell level raises → IsLookedAround g self.new stand busy cell level raises left) }
     {
         let inner = is_inner(self.shape, cell);
         let mut left = false;
@@ -227,7 +223,7 @@ impl Flood {
         raises: bool,
     ) -> Result<bool, OutOfMemory>
         requires inside { IsCellOf self.old.extent cell }
-        requires inner { IsTrue inner → IsInner self.old.extent cell }
+        requires inner { IsTrue inner → IsInnerPlace self.old.extent cell }
         ensures extent { self.new.extent ≡ self.old.extent }
         ensures look { IfOk result (IsLook self.old.extent self.old self.new cell direction level raises) }
     {
@@ -245,7 +241,7 @@ impl Flood {
     /// The place of the neighbour in a direction, if it isn't reached.
     fn fresh(&self, cell: Cell, inner: bool, direction: Direction) -> Option<usize>
         requires inside { IsCellOf self.now.extent cell }
-        requires inner { IsTrue inner → IsInner self.now.extent cell }
+        requires inner { IsTrue inner → IsInnerPlace self.now.extent cell }
         ensures below { IfSome result (λ place. place < self.now.extent.rows * self.now.extent.cols) }
         ensures fresh { MatchOption result ((n : Cell) → IsFreshAt self.now.extent self.now cell direction n → ⊥) (IsFreshPlace self.now.extent self.now cell direction) }
     {
@@ -318,7 +314,7 @@ impl Flood {
     /// Takes the next cell of the trail.
     pub(crate) fn next(&mut self) -> Option<Cell>
         ensures extent { self.new.extent ≡ self.old.extent }
-        ensures next { MatchOption result (IsDone self.old self.new) (IsNext self.old self.new) }
+        ensures next { MatchOption result (IsDone self.old self.new) (IsNextTurn self.old self.new) }
     {
         match self.trail.pop() {
             Some(place) => Some(self.shape.cell(place as usize)),

@@ -11,10 +11,8 @@ pub(crate) fn defer(later: &mut Vec<u32>, shape: Shape, cell: Cell) -> Result<()
     requires { IsCellOf shape cell }
     ensures { OnOk result (later.new.items ≡ later.old.items ++ index_of shape cell ∷ []) }
 {
-    match later.push(shape.index(cell) as u32) {
-        Ok(()) => Ok(()),
-        Err(_) => Err(OutOfMemory),
-    }
+    later.push(shape.index(cell) as u32)?;
+    Ok(())
 }
 
 /// Takes out the cell that was added last.

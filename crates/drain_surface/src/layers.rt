@@ -10,10 +10,7 @@ pub(crate) fn heights(alloc: Global, height: i16, len: usize) -> Result<Vec<i16>
     ensures counted { IfOk result (λ heights. length heights.items ≡ len) }
     ensures same { IfOk result (λ heights. All (λ x. x ≡ height) heights.items) }
 {
-    match vec![in alloc; height; len] {
-        Ok(heights) => Ok(heights),
-        Err(_) => Err(OutOfMemory),
-    }
+    Ok(vec![in alloc; height; len]?)
 }
 
 /// The same mark, n times.
@@ -21,28 +18,19 @@ pub(crate) fn marks(alloc: Global, mark: u8, len: usize) -> Result<Vec<u8>, OutO
     ensures counted { IfOk result (λ marks. length marks.items ≡ len) }
     ensures same { IfOk result (λ marks. All (λ x. x ≡ mark) marks.items) }
 {
-    match vec![in alloc; mark; len] {
-        Ok(marks) => Ok(marks),
-        Err(_) => Err(OutOfMemory),
-    }
+    Ok(vec![in alloc; mark; len]?)
 }
 
 /// No code, with room for one per cell.
 pub(crate) fn room_for_codes(alloc: Global, cells: usize) -> Result<Vec<u8>, OutOfMemory>
     ensures { IfOk result (λ codes. codes.items ≡ []) }
 {
-    match Vec::with_capacity(alloc, cells) {
-        Ok(codes) => Ok(codes),
-        Err(_) => Err(OutOfMemory),
-    }
+    Ok(Vec::with_capacity(alloc, cells)?)
 }
 
 /// No rank, with room for one per cell.
 pub(crate) fn room_for_ranks(alloc: Global, cells: usize) -> Result<Vec<u32>, OutOfMemory>
     ensures { IfOk result (λ ranks. ranks.items ≡ []) }
 {
-    match Vec::with_capacity(alloc, cells) {
-        Ok(ranks) => Ok(ranks),
-        Err(_) => Err(OutOfMemory),
-    }
+    Ok(Vec::with_capacity(alloc, cells)?)
 }

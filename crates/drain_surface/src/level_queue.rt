@@ -126,10 +126,7 @@ fn same_numbers(alloc: Global, number: u32, len: usize) -> Result<Vec<u32>, OutO
     ensures counted { IfOk result (λ numbers. length numbers.items ≡ len) }
     ensures same { IfOk result (λ numbers. All (λ x. x ≡ number) numbers.items) }
 {
-    match vec![in alloc; number; len] {
-        Ok(numbers) => Ok(numbers),
-        Err(_) => Err(OutOfMemory),
-    }
+    Ok(vec![in alloc; number; len]?)
 }
 
 /// The least place from `from` on of a level that has an item, or the number of levels.

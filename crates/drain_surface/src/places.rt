@@ -3,14 +3,14 @@
 ghost use Rattle.std.specs.Prelude.{◌≡◌, ◌+◌, ◌*◌, ◌^◌, ◌<◌, None, MatchOption, IfSome, IsTrue};
 ghost use Rattle.drain_grid.specs.Direction.{rows_down, cols_right};
 ghost use Rattle.drain_grid.specs.Extent.{IsCellOf, step};
-ghost use Rattle.drain_surface.specs.Looks.{IsInner, IsPlaceBeside};
+ghost use Rattle.drain_surface.specs.Looks.{IsInnerPlace, IsPlaceBeside};
 
 use drain_grid::{Cell, Direction, Shape};
 
 /// Whether a cell isn't on the edge of the grid.
 pub(crate) fn is_inner(shape: Shape, cell: Cell) -> bool
     requires { IsCellOf shape cell }
-    ensures { IsTrue result → IsInner shape cell }
+    ensures { IsTrue result → IsInnerPlace shape cell }
 {
     0 < cell.row
         && 0 < cell.col
@@ -21,7 +21,7 @@ pub(crate) fn is_inner(shape: Shape, cell: Cell) -> bool
 /// The place of the neighbour in a direction, none outside the grid. An inner cell's is found without a test.
 pub(crate) fn beside(shape: Shape, cell: Cell, inner: bool, direction: Direction) -> Option<usize>
     requires inside { IsCellOf shape cell }
-    requires inner { IsTrue inner → IsInner shape cell }
+    requires inner { IsTrue inner → IsInnerPlace shape cell }
     ensures below { IfSome result (λ place. place < shape.rows * shape.cols) }
     ensures beside { MatchOption result (step shape cell direction ≡ None) (IsPlaceBeside shape cell direction) }
 {

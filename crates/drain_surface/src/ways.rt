@@ -10,7 +10,7 @@ ghost use Rattle.drain_grid.specs.Extent.{IsCellOf};
 ghost use Rattle.drain_grid.specs.Grid.{Grid};
 ghost use Rattle.drain_grid.specs.Slope.{slope_key};
 ghost use Rattle.drain_surface.specs.Floods.{IsFlooded, con_at, mark_at};
-ghost use Rattle.drain_surface.specs.Looks.{IsInner};
+ghost use Rattle.drain_surface.specs.Looks.{IsInnerPlace};
 ghost use Rattle.drain_surface.specs.Ways.{AreFirstCodes, IsWayDown};
 ghost use Rattle.drain_surface.specs.Steepest.{IsCodeAt, IsKeyAt, IsKeyThere, IsSteeper, key_or_none, way_or_none};
 
@@ -37,9 +37,7 @@ pub fn directions(alloc: Global, flood: &Flood) -> Result<Vec<u8>, OutOfMemory>
     let shape = flood.shape();
     let mut dirs = room_for_codes(alloc, shape.cells())?;
     for place in 0..shape.cells() {
-        let Ok(()) = dirs.push(direction_code(flood, shape.cell(place))) else {
-            return Err(OutOfMemory);
-        };
+        dirs.push(direction_code(flood, shape.cell(place)))?;
     }
     Ok(dirs)
 }
@@ -95,7 +93,7 @@ fn steeper(best: Way, direction: Direction, key: u64) -> Way
 /// The key of the way down in a direction, 0 if no lower cell is there.
 fn key(flood: &Flood, cell: Cell, inner: bool, level: i16, direction: Direction) -> u64
     requires inside { IsCellOf flood.now.extent cell }
-    requires inner { IsTrue inner → IsInner flood.now.extent cell }
+    requires inner { IsTrue inner → IsInnerPlace flood.now.extent cell }
     ensures { IsKeyAt flood.now.extent flood.now cell level direction (key_or_none result) }
 {
     match beside(flood.shape(), cell, inner, direction) {

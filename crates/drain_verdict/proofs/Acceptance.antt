@@ -14,22 +14,22 @@ use Rattle.drain_answer.specs.declared.refusal.Refusal.{Refusal}
 use Rattle.drain_answer.specs.declared.refusal.Refusal.TheVariants.{SeamMismatch}
 use Rattle.drain_verdict.specs.Headline.{IsRight}
 use Rattle.drain_verdict.specs.Inputs.{Inputs}
-use Rattle.drain_verdict.specs.Meaning.{tiling_of, tiles_of, grid_of, products_of, nodata_numbers}
+use Rattle.drain_verdict.specs.Meaning.{tiling_of, input_tiles, input_grid, input_products, nodata_numbers}
 use Rattle.drain_verdict.specs.Answers.{AreReadable, IsAnswer}
 
 same_value : (v w : ℤ) → ¬ (¬ (v ≡ w)) → v ≡ w
 same_value v w h = elim (ℤ_discrete v w) [ yes same ↦ same | no differ ↦ absurd (h differ) ]
 
 -- if no refusal applies, the tiles agree
-pub tiles_agree : (i : Inputs) → AreReadable i → TilesAgree (tiling_of i) (tiles_of i)
+pub tiles_agree : (i : Inputs) → AreReadable i → TilesAgree (tiling_of i) (input_tiles i)
 tiles_agree i readable c v w inside is_v is_w =
     same_value v w (λ differ. readable (SeamMismatch c) (inside, record { one = v; other = w; is_one = is_v; is_other = is_w; differ = differ }))
 
 -- correct products with sound runs, of tiles that agree, are right
-pub right_of : AgreementGivesElevation → (i : Inputs) → TilesAgree (tiling_of i) (tiles_of i) → IsCorrect (grid_of i) (products_of i) (nodata_numbers i) → RunsAreSound (grid_of i) (products_of i) → IsRight i
+pub right_of : AgreementGivesElevation → (i : Inputs) → TilesAgree (tiling_of i) (input_tiles i) → IsCorrect (input_grid i) (input_products i) (nodata_numbers i) → RunsAreSound (input_grid i) (input_products i) → IsRight i
 right_of law i agree correct sound = record {
   tiles_agree = agree;
-  elevation = law (tiling_of i) (tiles_of i) agree;
+  elevation = law (tiling_of i) (input_tiles i) agree;
   least_surface = correct.least;
   never_climbs = correct.never_climbs;
   steepest = correct.steepest;
@@ -46,7 +46,7 @@ right_of law i agree correct sound = record {
 -- if the answer is an acceptance, the inputs are right
 pub accepted_is_right : CorrectFromRules → AgreementGivesElevation → (i : Inputs) (counts : Counts) → IsAnswer i (Ok (Accepted counts)) → IsRight i
 accepted_is_right rules_are_enough law i counts answer =
-    let correct = rules_are_enough (grid_of i) (products_of i) (nodata_numbers i) answer.1.0 in
+    let correct = rules_are_enough (input_grid i) (input_products i) (nodata_numbers i) answer.1.0 in
     right_of law i (tiles_agree i answer.0) correct.0 correct.1
 
 -- a fact that follows from an acceptance of the inputs holds where the answer accepts

@@ -16,15 +16,15 @@ use Rattle.drain_grid.specs.Unranked.{unranked}
 use Rattle.drain_grid.specs.Values.{NoDataNumbers}
 use Rattle.drain_grid.proofs.Walks.{run_steps-le}
 use Rattle.drain_grid.proofs.Alike.{run_steps-alike}
-use Rattle.drain_runs.specs.declared.steps.TheConstants.{UNKNOWN}
+use Rattle.drain_paths.specs.declared.steps.TheConstants.{UNKNOWN}
 use Rattle.drain_rules.specs.Verdicts.{IsVerdictOf}
 use Rattle.drain_rules.specs.declared.verdict.Verdict.{Verdict}
 use Rattle.drain_rules.specs.declared.verdict.Verdict.TheVariants as checked
 use Rattle.drain_rows.specs.Runs.{AllRunsEnd}
 use Rattle.drain_verdict.specs.Answers.{AreReadable}
-use Rattle.drain_verdict.specs.Audits.{AreCorrect, IfAccepts, IsAcceptance, IsAuditAnswer, IsAuditVerdict, IsOfBoth, IsPlainAnswer, IsPlainVerdict, certified_nodata, certified_ranks}
+use Rattle.drain_verdict.specs.Audits.{AreCorrect, IfAccepts, IsAcceptance, IsAuditAnswer, IsAuditVerdict, IsOfBoth, IsAnswerWithoutRanks, IsPlainVerdict, certified_nodata, certified_ranks}
 use Rattle.drain_verdict.specs.Inputs.{Inputs}
-use Rattle.drain_verdict.specs.Meaning.{grid_of, products_of, nodata_numbers}
+use Rattle.drain_verdict.specs.Meaning.{input_grid, input_products, nodata_numbers}
 use Rattle.drain_answer.specs.declared.audit_verdict.AuditVerdict.{AuditVerdict}
 use Rattle.drain_answer.specs.declared.audit_verdict.AuditVerdict.TheVariants.{Accepted, Rejected, NoEnd}
 use Rattle.drain_answer.specs.declared.refusal.Refusal.{Refusal}
@@ -97,25 +97,25 @@ as_certified law g ps nodata audit extent is = by_kind audit is
     by_kind (NoEnd row col) is = is
 
 -- the same of answers
-pub answer_certified : RanksPlayNoPart → (i : Inputs) (answer : Result AuditVerdict Refusal) → IsPlainAnswer i answer → IsAuditAnswer i answer
-answer_certified law i (Ok verdict) is = (is.0, as_certified law (grid_of i) (products_of i) (nodata_numbers i) verdict is.1 is.2)
+pub answer_certified : RanksPlayNoPart → (i : Inputs) (answer : Result AuditVerdict Refusal) → IsAnswerWithoutRanks i answer → IsAuditAnswer i answer
+answer_certified law i (Ok verdict) is = (is.0, as_certified law (input_grid i) (input_products i) (nodata_numbers i) verdict is.1 is.2)
 answer_certified law i (Err refusal) is = is
 
 -- a fact of the inputs that follows from an answer that is a verdict
-pub when_given : (Told : Inputs → Type 0) (Fact : AuditVerdict → Inputs → Type 0) → ((verdict : AuditVerdict) (i : Inputs) → IsPlainAnswer i (Ok verdict) → Fact verdict i) →
-    (result : Result AuditVerdict Refusal) → ((i : Inputs) → Told i → IsPlainAnswer i result) → IfOk result (λ verdict. (i : Inputs) → Told i → Fact verdict i)
+pub when_given : (Told : Inputs → Type 0) (Fact : AuditVerdict → Inputs → Type 0) → ((verdict : AuditVerdict) (i : Inputs) → IsAnswerWithoutRanks i (Ok verdict) → Fact verdict i) →
+    (result : Result AuditVerdict Refusal) → ((i : Inputs) → Told i → IsAnswerWithoutRanks i result) → IfOk result (λ verdict. (i : Inputs) → Told i → Fact verdict i)
 when_given Told Fact follows (Ok verdict) answer = λ i told. follows verdict i (answer i told)
 when_given Told Fact follows (Err refusal) answer = tt
 
 -- a fact that follows from a verdict on correct products holds where the answer accepts
 pub when_audited : (Told Fact : Inputs → Type 0) → CorrectIsLocal → ((i : Inputs) → AreReadable i → AreCorrect i → Fact i) →
-    (result : Result AuditVerdict Refusal) → ((i : Inputs) → Told i → IsPlainAnswer i result) → IfAccepts result ((i : Inputs) → Told i → Fact i)
+    (result : Result AuditVerdict Refusal) → ((i : Inputs) → Told i → IsAnswerWithoutRanks i result) → IfAccepts result ((i : Inputs) → Told i → Fact i)
 when_audited Told Fact law follows (Ok (Accepted counts)) answer =
-    λ i told. follows i (answer i told).0 ((exactly law (grid_of i) (products_of i) (nodata_numbers i) (Accepted counts) (answer i told).2).0 tt)
+    λ i told. follows i (answer i told).0 ((exactly law (input_grid i) (input_products i) (nodata_numbers i) (Accepted counts) (answer i told).2).0 tt)
 when_audited Told Fact law follows (Ok (Rejected rule row col)) answer = tt
 when_audited Told Fact law follows (Ok (NoEnd row col)) answer = tt
 when_audited Told Fact law follows (Err refusal) answer = tt
 
 -- the runs of correct products are sound
-pub sound_of : SoundFromCorrect → (i : Inputs) → AreCorrect i → RunsAreSound (grid_of i) (products_of i)
-sound_of law i correct = law (grid_of i) (products_of i) (nodata_numbers i) correct
+pub sound_of : SoundFromCorrect → (i : Inputs) → AreCorrect i → RunsAreSound (input_grid i) (input_products i)
+sound_of law i correct = law (input_grid i) (input_products i) (nodata_numbers i) correct

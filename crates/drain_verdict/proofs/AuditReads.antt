@@ -1,11 +1,11 @@
 -- What was read of the devices of an audit's four products: con's device counts for the ranks too.
 use Rattle.std.proofs.Common.{◌≡◌, ℕ, List, Bool, IsTrue, Option, Some, None, Ok, Err, IfErr, OnOk, refl, subst}
 use Rattle.drain_device.specs.declared.counts.FaultCounts.{FaultCounts}
-use Rattle.drain_grid.specs.declared.held.Held.{Held}
-use Rattle.drain_grid.specs.declared.held.Held.TheVariants.{Con, Dir, Acc, Bas, Rnk}
+use Rattle.drain_grid.specs.declared.set_product.SetProduct.{SetProduct}
+use Rattle.drain_grid.specs.declared.set_product.SetProduct.TheVariants.{Con, Dir, Acc, Bas, Rnk}
 use Rattle.drain_grid.specs.declared.per_product.PerProduct.{PerProduct}
 use Rattle.drain_grid.specs.PerProduct.{of_product}
-use Rattle.drain_grid.proofs.ByProduct.{by_held}
+use Rattle.drain_grid.proofs.ByProduct.{by_set_product}
 use Rattle.drain_raster.specs.declared.raster_rows.RasterRows.{RasterRows}
 use Rattle.drain_verdict.specs.AuditInputs.{with_con_for_ranks, with_con_read_twice}
 use Rattle.drain_verdict.specs.InputReads.{RasterHasRead, RastersHaveRead, gave_up, told_by}
@@ -20,7 +20,7 @@ no_device (Ok done) (Err refusal) only up = let no : IsTrue (gave_up None (Some 
 no_device (Err refusal) after only up = let no = up in cc
 
 -- whether the product's device failed for good; that of con takes the place of the ranks
-abbrev failed_of_four : (con dir acc bas last : Answer) → Held → Bool
+abbrev failed_of_four : (con dir acc bas last : Answer) → SetProduct → Bool
 failed_of_four con dir acc bas last Rnk = failed_at con dir acc bas last Con
 failed_of_four con dir acc bas last p = failed_at con dir acc bas last p
 
@@ -52,10 +52,10 @@ module _ {R : Type 0} (bl : R → Option (List ℕ)) (ct : R → FaultCounts) (o
         failed = failed;
         exactly = (
           λ is. let found = some.0 is in
-              by_held (λ p. IsTrue (failed_at a b c d e p) → (q : Held) × IsTrue (failed q)) (λ up. (Con, up)) (λ up. (Dir, up)) (λ up. (Acc, up)) (λ up. (Bas, up)) (λ up. absurd (none up)) found.0 found.1,
-          λ found. some.1 (by_held (λ p. IsTrue (failed p) → (q : Held) × IsTrue (failed_at a b c d e q)) (λ up. (Con, up)) (λ up. (Dir, up)) (λ up. (Acc, up)) (λ up. (Bas, up)) (λ up. (Con, up)) found.0 found.1),
+              by_set_product (λ p. IsTrue (failed_at a b c d e p) → (q : SetProduct) × IsTrue (failed q)) (λ up. (Con, up)) (λ up. (Dir, up)) (λ up. (Acc, up)) (λ up. (Bas, up)) (λ up. absurd (none up)) found.0 found.1,
+          λ found. some.1 (by_set_product (λ p. IsTrue (failed p) → (q : SetProduct) × IsTrue (failed_at a b c d e q)) (λ up. (Con, up)) (λ up. (Dir, up)) (λ up. (Acc, up)) (λ up. (Bas, up)) (λ up. (Con, up)) found.0 found.1),
         );
-        each = by_held (λ p. IsPart (of_product (with_con_for_ranks lent) p).body (of_product (with_con_for_ranks then) p).body (of_product (with_con_read_twice old) p) (of_product (with_con_read_twice new) p) (failed p))
+        each = by_set_product (λ p. IsPart (of_product (with_con_for_ranks lent) p).body (of_product (with_con_for_ranks then) p).body (of_product (with_con_read_twice old) p) (of_product (with_con_read_twice new) p) (failed p))
             at_con at_dir at_acc at_bas at_con;
-        headers = by_held (λ p. (of_product (with_con_for_ranks then) p).header ≡ (of_product (with_con_for_ranks lent) p).header) refl refl refl refl refl;
+        headers = by_set_product (λ p. (of_product (with_con_for_ranks then) p).header ≡ (of_product (with_con_for_ranks lent) p).header) refl refl refl refl refl;
       }

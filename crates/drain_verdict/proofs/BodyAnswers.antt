@@ -3,9 +3,9 @@ use Rattle.std.proofs.Common.{◌≡◌, ℕ, ◌<◌, List, slice_get, Some, ar
 use Rattle.std.specs.List.{All}
 use Rattle.std.proofs.lemmas.Option.{get_or_from_slice_get, slice_get_within}
 use Rattle.drain_grid.specs.declared.cell.Cell.{Cell}
-use Rattle.drain_grid.specs.declared.held.Held.{Held}
+use Rattle.drain_grid.specs.declared.set_product.SetProduct.{SetProduct}
 use Rattle.drain_grid.specs.Extent.{index_of}
-use Rattle.drain_grid.specs.Held.{product_of, rank_of}
+use Rattle.drain_grid.specs.SetProduct.{product_of, rank_of}
 use Rattle.drain_grid.proofs.ByProduct.{of_held}
 use Rattle.drain_hgt.specs.Corner.{Corner}
 use Rattle.drain_hgt.specs.Samples.{IsTile}
@@ -17,7 +17,7 @@ use Rattle.drain_mosaic.specs.Mosaic.{TilesAgree, IsFirstSeam}
 use Rattle.drain_answer.specs.declared.refusal.Refusal.{Refusal}
 use Rattle.drain_answer.specs.declared.refusal.Refusal.TheVariants.{RepeatedTile, BadTileLength, RasterShort, SeamMismatch, OutOfMemory, ReadFailed}
 use Rattle.drain_verdict.specs.Inputs.{Inputs}
-use Rattle.drain_verdict.specs.Meaning.{tiling_of, tiles_of, fields_of}
+use Rattle.drain_verdict.specs.Meaning.{tiling_of, input_tiles, fields_of}
 use Rattle.drain_verdict.specs.Refusals.{HasBadLength, IsSeamFault, Stands, NoneStandsBefore, refusal_order, place_among}
 use Rattle.drain_verdict.specs.Answers.{IsRefusal}
 use Rattle.drain_verdict.specs.Stages.{IsTileRefusal}
@@ -53,12 +53,12 @@ tile_refused i OutOfMemory bad none = tt
 tile_refused i ReadFailed bad none = tt
 tile_refused i refusal bad none = absurd bad
 
-pub rasters_none : (i : Inputs) → ((p : Held) → ¬ IsShort (fields_of i p) (i.raster p)) → NoneStandsBefore i 6 → NoneStandsBefore i 7
+pub rasters_none : (i : Inputs) → ((p : SetProduct) → ¬ IsShort (fields_of i p) (i.raster p)) → NoneStandsBefore i 6 → NoneStandsBefore i 7
 rasters_none i long none =
     none_more i (Stands i) 6 none (at_raster i (λ b. ¬ Stands i b) (λ b no. no) (λ p stands. long p ((of_held (λ h. IsShort (fields_of i h) (i.raster h)) p).0 stands)))
 
 -- the refusal of a raster is the first
-pub raster_refused : (i : Inputs) (p : Held) → IsShort (fields_of i p) (i.raster p) → ((q : Held) → rank_of q < rank_of p → ¬ IsShort (fields_of i q) (i.raster q)) →
+pub raster_refused : (i : Inputs) (p : SetProduct) → IsShort (fields_of i p) (i.raster p) → ((q : SetProduct) → rank_of q < rank_of p → ¬ IsShort (fields_of i q) (i.raster q)) →
     NoneStandsBefore i 6 → IsRefusal i (RasterShort (product_of p))
 raster_refused i p short before none =
     let is_short = of_held (λ h. IsShort (fields_of i h) (i.raster h)) in
@@ -66,14 +66,14 @@ raster_refused i p short before none =
     (at_raster i (λ b. (refusal_order i b).1 < rank_of p → ¬ Stands i b) (λ b no less. no) (λ q less stands. before q less ((is_short q).0 stands)))
 
 -- where tiles agree, no cell has two values
-pub none_of_two_values : (i : Inputs) → TilesAgree (tiling_of i) (tiles_of i) → (c : Cell) → ¬ IsSeamFault i c
+pub none_of_two_values : (i : Inputs) → TilesAgree (tiling_of i) (input_tiles i) → (c : Cell) → ¬ IsSeamFault i c
 none_of_two_values i agree c fault = fault.1.differ (agree c fault.1.one fault.1.other fault.0 fault.1.is_one fault.1.is_other)
 
-pub seams_none : (i : Inputs) → TilesAgree (tiling_of i) (tiles_of i) → NoneStandsBefore i 7 → NoneStandsBefore i 8
+pub seams_none : (i : Inputs) → TilesAgree (tiling_of i) (input_tiles i) → NoneStandsBefore i 7 → NoneStandsBefore i 8
 seams_none i agree none = none_more i (Stands i) 7 none (at_seam i (λ b. ¬ Stands i b) (none_of_two_values i agree))
 
 -- the first cell where tiles differ has two values, and none before it
-pub first_of_two_values : (i : Inputs) (c : Cell) → IsFirstSeam (tiling_of i) (tiles_of i) c →
+pub first_of_two_values : (i : Inputs) (c : Cell) → IsFirstSeam (tiling_of i) (input_tiles i) c →
     IsSeamFault i c × ((b : Cell) → index_of (tiling.extent_of (tiling_of i)) b < index_of (tiling.extent_of (tiling_of i)) c → ¬ IsSeamFault i b)
 first_of_two_values i c first = (
   (first.inside, first.differ),
@@ -81,7 +81,7 @@ first_of_two_values i c first = (
 )
 
 -- the refusal of a seam is the first
-pub seam_refused : (i : Inputs) (c : Cell) → IsFirstSeam (tiling_of i) (tiles_of i) c → NoneStandsBefore i 7 → IsRefusal i (SeamMismatch c)
+pub seam_refused : (i : Inputs) (c : Cell) → IsFirstSeam (tiling_of i) (input_tiles i) c → NoneStandsBefore i 7 → IsRefusal i (SeamMismatch c)
 seam_refused i c first none =
     let e = tiling.extent_of (tiling_of i) in
     let told = first_of_two_values i c first in

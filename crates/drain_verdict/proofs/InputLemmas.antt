@@ -3,9 +3,9 @@ use Rattle.std.proofs.Common.{◌≡◌, ℕ, List, ◌↔◌, ◌⊎◌, inl, i
 use Rattle.drain_device.specs.declared.counts.FaultCounts.{FaultCounts}
 use Rattle.drain_grid.specs.declared.per_product.PerProduct.{PerProduct}
 use Rattle.drain_grid.specs.PerProduct.{of_product}
-use Rattle.drain_grid.specs.declared.held.Held.{Held}
-use Rattle.drain_grid.proofs.ByProduct.{by_held}
-use Rattle.drain_grid.specs.declared.held.Held.TheVariants.{Con, Dir, Acc, Bas, Rnk}
+use Rattle.drain_grid.specs.declared.set_product.SetProduct.{SetProduct}
+use Rattle.drain_grid.proofs.ByProduct.{by_set_product}
+use Rattle.drain_grid.specs.declared.set_product.SetProduct.TheVariants.{Con, Dir, Acc, Bas, Rnk}
 use Rattle.drain_raster.specs.declared.raster_rows.RasterRows.{RasterRows}
 use Rattle.drain_verdict.specs.InputReads.{RasterHasRead, RastersHaveRead, gave_up, told_by}
 use Rattle.drain_verdict.specs.Inputs.{Products}
@@ -58,7 +58,7 @@ fails_then (Err refusal) after stays = (
 )
 
 -- whether the product's device failed for good
-abbrev pub failed_at : (con dir acc bas rnk : Answer) → Held → Bool
+abbrev pub failed_at : (con dir acc bas rnk : Answer) → SetProduct → Bool
 failed_at con dir acc bas rnk Con = gave_up None (told_by con)
 failed_at con dir acc bas rnk Dir = gave_up (told_by con) (told_by dir)
 failed_at con dir acc bas rnk Acc = gave_up (told_by dir) (told_by acc)
@@ -73,23 +73,23 @@ pub record Stay (con dir acc bas rnk : Answer) : Type 0 where
   pub at_rnk : IfErr bas (λ refusal. rnk ≡ Err refusal)
 
 -- the last answer says that a device failed for good exactly if that of some product did
-pub some_failed : (con dir acc bas rnk : Answer) → Stay con dir acc bas rnk → HasFailed rnk ↔ ((p : Held) × IsTrue (failed_at con dir acc bas rnk p))
+pub some_failed : (con dir acc bas rnk : Answer) → Stay con dir acc bas rnk → HasFailed rnk ↔ ((p : SetProduct) × IsTrue (failed_at con dir acc bas rnk p))
 some_failed con dir acc bas rnk stay =
     let at_con = fails_then (Ok tt) con tt in
     let at_dir = fails_then con dir stay.at_dir in
     let at_acc = fails_then dir acc stay.at_acc in
     let at_bas = fails_then acc bas stay.at_bas in
     let at_rnk = fails_then bas rnk stay.at_rnk in
-    let from_con : HasFailed con → ((p : Held) × IsTrue (failed_at con dir acc bas rnk p)) = λ h. elim (at_con.0 h) [ inl none ↦ absurd (let no = none in cc) | inr up ↦ (Con, up) ] in
-    let from_dir : HasFailed dir → ((p : Held) × IsTrue (failed_at con dir acc bas rnk p)) = λ h. elim (at_dir.0 h) [ inl before ↦ from_con before | inr up ↦ (Dir, up) ] in
-    let from_acc : HasFailed acc → ((p : Held) × IsTrue (failed_at con dir acc bas rnk p)) = λ h. elim (at_acc.0 h) [ inl before ↦ from_dir before | inr up ↦ (Acc, up) ] in
-    let from_bas : HasFailed bas → ((p : Held) × IsTrue (failed_at con dir acc bas rnk p)) = λ h. elim (at_bas.0 h) [ inl before ↦ from_acc before | inr up ↦ (Bas, up) ] in
+    let from_con : HasFailed con → ((p : SetProduct) × IsTrue (failed_at con dir acc bas rnk p)) = λ h. elim (at_con.0 h) [ inl none ↦ absurd (let no = none in cc) | inr up ↦ (Con, up) ] in
+    let from_dir : HasFailed dir → ((p : SetProduct) × IsTrue (failed_at con dir acc bas rnk p)) = λ h. elim (at_dir.0 h) [ inl before ↦ from_con before | inr up ↦ (Dir, up) ] in
+    let from_acc : HasFailed acc → ((p : SetProduct) × IsTrue (failed_at con dir acc bas rnk p)) = λ h. elim (at_acc.0 h) [ inl before ↦ from_dir before | inr up ↦ (Acc, up) ] in
+    let from_bas : HasFailed bas → ((p : SetProduct) × IsTrue (failed_at con dir acc bas rnk p)) = λ h. elim (at_bas.0 h) [ inl before ↦ from_acc before | inr up ↦ (Bas, up) ] in
     let to_bas : HasFailed bas → HasFailed rnk = λ h. at_rnk.1 (inl h) in
     let to_acc : HasFailed acc → HasFailed rnk = λ h. to_bas (at_bas.1 (inl h)) in
     let to_dir : HasFailed dir → HasFailed rnk = λ h. to_acc (at_acc.1 (inl h)) in
     let to_con : HasFailed con → HasFailed rnk = λ h. to_dir (at_dir.1 (inl h)) in (
       λ h. elim (at_rnk.0 h) [ inl before ↦ from_bas before | inr up ↦ (Rnk, up) ],
-      λ some. by_held (λ p. IsTrue (failed_at con dir acc bas rnk p) → HasFailed rnk)
+      λ some. by_set_product (λ p. IsTrue (failed_at con dir acc bas rnk p) → HasFailed rnk)
           (λ up. to_con (at_con.1 (inr up))) (λ up. to_dir (at_dir.1 (inr up))) (λ up. to_acc (at_acc.1 (inr up)))
           (λ up. to_bas (at_bas.1 (inr up))) (λ up. at_rnk.1 (inr up)) some.0 some.1,
     )
@@ -106,7 +106,7 @@ with_bodies ps con dir acc bas rnk = record {
 
 module _ {R : Type 0} (bytes_left : R → Option (List ℕ)) (counts : R → FaultCounts) (old new : PerProduct RasterRows) (lent : Products R) where
   -- one product's part: between these answers its device was called, or left alone
-  abbrev pub IsPart : Held → R → Bool → Type 0
+  abbrev pub IsPart : SetProduct → R → Bool → Type 0
   IsPart p body failed = RasterHasRead (bytes_left (of_product lent p).body) (bytes_left body) (counts (of_product lent p).body) (counts body) (of_product old p) (of_product new p) (IsTrue failed)
 
   pub all_read : (con dir acc bas rnk : R) (a b c d e : Answer) → Stay a b c d e →
@@ -118,6 +118,6 @@ module _ {R : Type 0} (bytes_left : R → Option (List ℕ)) (counts : R → Fau
       record {
         failed = failed_at a b c d e;
         exactly = some_failed a b c d e stay;
-        each = by_held (λ p. IsPart p (of_product lent_then p).body (failed_at a b c d e p)) at_con at_dir at_acc at_bas at_rnk;
-        headers = by_held (λ p. (of_product lent_then p).header ≡ (of_product lent p).header) refl refl refl refl refl;
+        each = by_set_product (λ p. IsPart p (of_product lent_then p).body (failed_at a b c d e p)) at_con at_dir at_acc at_bas at_rnk;
+        headers = by_set_product (λ p. (of_product lent_then p).header ≡ (of_product lent p).header) refl refl refl refl refl;
       }

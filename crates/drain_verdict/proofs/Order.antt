@@ -1,10 +1,10 @@
 -- The order of refusals, kind by kind.
 use Rattle.std.proofs.Common.{◌≡◌, ℕ, ◌+◌, ◌<◌, arith, inl, inr, refl, subst, below_more}
 use Rattle.drain_grid.specs.declared.cell.Cell.{Cell}
-use Rattle.drain_grid.specs.declared.held.Held.{Held}
+use Rattle.drain_grid.specs.declared.set_product.SetProduct.{SetProduct}
 use Rattle.drain_grid.specs.declared.product.Product.TheVariants.{Spl}
-use Rattle.drain_grid.specs.Held.{product_of}
-use Rattle.drain_grid.proofs.ByProduct.{by_held_or_spill}
+use Rattle.drain_grid.specs.SetProduct.{product_of}
+use Rattle.drain_grid.proofs.ByProduct.{by_set_product_or_spill}
 use Rattle.drain_text.specs.First.{IsBefore, IsFirst}
 use Rattle.drain_hgt.specs.Corner.{Corner}
 use Rattle.drain_header.specs.declared.fault.HeaderFault.{HeaderFault}
@@ -30,19 +30,19 @@ at_layout i P none repeated large BoxTooLarge e = large
 at_layout i P none repeated large b e = absurd (omega arith)
 
 -- of those that name a product where it holds of each that names a held product, and of each that doesn't apply
-pub at_header : (i : Inputs) (P : Refusal → Type 0) → ((b : Refusal) → ¬ Stands i b → P b) → ((p : Held) (fault : HeaderFault) → P (BadHeader (product_of p) fault))
-    → ((p : Held) → P (WrongShape (product_of p))) → ((p : Held) → P (Misplaced (product_of p))) → (b : Refusal) → (refusal_order i b).0 ≡ 4 → P b
-at_header i P unless header shape place (BadHeader p fault) e = by_held_or_spill (λ p. P (BadHeader p fault)) (λ p. header p fault) (unless (BadHeader Spl fault) (λ h. h)) p
-at_header i P unless header shape place (WrongShape p) e = by_held_or_spill (λ p. P (WrongShape p)) shape (unless (WrongShape Spl) (λ h. h)) p
-at_header i P unless header shape place (Misplaced p) e = by_held_or_spill (λ p. P (Misplaced p)) place (unless (Misplaced Spl) (λ h. h)) p
+pub at_header : (i : Inputs) (P : Refusal → Type 0) → ((b : Refusal) → ¬ Stands i b → P b) → ((p : SetProduct) (fault : HeaderFault) → P (BadHeader (product_of p) fault))
+    → ((p : SetProduct) → P (WrongShape (product_of p))) → ((p : SetProduct) → P (Misplaced (product_of p))) → (b : Refusal) → (refusal_order i b).0 ≡ 4 → P b
+at_header i P unless header shape place (BadHeader p fault) e = by_set_product_or_spill (λ p. P (BadHeader p fault)) (λ p. header p fault) (unless (BadHeader Spl fault) (λ h. h)) p
+at_header i P unless header shape place (WrongShape p) e = by_set_product_or_spill (λ p. P (WrongShape p)) shape (unless (WrongShape Spl) (λ h. h)) p
+at_header i P unless header shape place (Misplaced p) e = by_set_product_or_spill (λ p. P (Misplaced p)) place (unless (Misplaced Spl) (λ h. h)) p
 at_header i P unless header shape place b e = absurd (omega arith)
 
 pub at_tile : (i : Inputs) (P : Refusal → Type 0) → ((c : Corner) → P (BadTileLength c)) → (b : Refusal) → (refusal_order i b).0 ≡ 5 → P b
 at_tile i P tile (BadTileLength c) e = tile c
 at_tile i P tile b e = absurd (omega arith)
 
-pub at_raster : (i : Inputs) (P : Refusal → Type 0) → ((b : Refusal) → ¬ Stands i b → P b) → ((p : Held) → P (RasterShort (product_of p))) → (b : Refusal) → (refusal_order i b).0 ≡ 6 → P b
-at_raster i P unless raster (RasterShort p) e = by_held_or_spill (λ p. P (RasterShort p)) raster (unless (RasterShort Spl) (λ h. h)) p
+pub at_raster : (i : Inputs) (P : Refusal → Type 0) → ((b : Refusal) → ¬ Stands i b → P b) → ((p : SetProduct) → P (RasterShort (product_of p))) → (b : Refusal) → (refusal_order i b).0 ≡ 6 → P b
+at_raster i P unless raster (RasterShort p) e = by_set_product_or_spill (λ p. P (RasterShort p)) raster (unless (RasterShort Spl) (λ h. h)) p
 at_raster i P unless raster b e = absurd (omega arith)
 
 pub at_seam : (i : Inputs) (P : Refusal → Type 0) → ((c : Cell) → P (SeamMismatch c)) → (b : Refusal) → (refusal_order i b).0 ≡ 7 → P b

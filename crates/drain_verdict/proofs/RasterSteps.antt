@@ -11,7 +11,7 @@ use Rattle.drain_device.specs.declared.row_source.Progress.{Progress}
 use Rattle.drain_device.specs.declared.row_source.Progress.TheVariants.{Stopped}
 use Rattle.drain_raster.specs.declared.raster_rows.RasterRows.{RasterRows}
 use Rattle.drain_raster.specs.RasterRows.{raster_coming, raster_rows}
-use Rattle.drain_verdict.specs.ToGive.{IsAfterTold, IsOneMore, IsRasterAfter}
+use Rattle.drain_verdict.specs.ToGive.{IsAfterTold, IsNextRow, IsRasterAfter}
 
 -- of what is to come after n rows this is taken, and this is left
 pub record IsTaken (start : Coming) (n : ℕ) (out : List ℤ) (left : Coming) : Type 0 where
@@ -61,7 +61,7 @@ was_wrong progress n start wrong stopped m same =
 
 pub took : (old new : RasterRows) (known known_then : Option (List ℕ)) (step : RowStep) (out : List ℤ) (start : Coming) (n : ℕ) →
     Gives (raster_coming old) (raster_coming new) known known_then (Ok step) out → new.progress ≡ progress_after (Ok step) → IsEmptyUnlessRow (Ok step) out →
-    IsAfterTold old known start n → IsOneMore new known_then start n out
+    IsAfterTold old known start n → IsNextRow new known_then start n out
 took old new None known_then step out start n gives progress empty before = absurd before
 took old new (Some bytes) None step out start n gives progress empty before = absurd gives
 took old new (Some bytes) (Some bytes_then) Row out start n gives progress empty before =
@@ -85,7 +85,7 @@ took old new (Some bytes) (Some bytes_then) Ended out start n gives progress emp
 
 pub found_short : (old new : RasterRows) (known known_then : Option (List ℕ)) (fault : ReadFault) (out : List ℤ) (start : Coming) (n : ℕ) → fault ≡ WrongLength →
     Gives (raster_coming old) (raster_coming new) known known_then (Err fault) out → new.progress ≡ Stopped → out ≡ [] →
-    IsAfterTold old known start n → IsOneMore new known_then start n out
+    IsAfterTold old known start n → IsNextRow new known_then start n out
 found_short old new None known_then fault out start n is gives progress empty before = absurd before
 found_short old new (Some bytes) None fault out start n is gives progress empty before = absurd gives
 found_short old new (Some bytes) (Some bytes_then) fault out start n is gives progress empty before =
@@ -103,7 +103,7 @@ stopped_is_wrong raster bytes stopped = ap (λ (p : Progress). coming_at p (rast
 
 pub was_short : (old new : RasterRows) (known known_then : Option (List ℕ)) (out : List ℤ) (start : Coming) (n : ℕ) →
     old.progress ≡ Stopped → new.progress ≡ Stopped → known_then ≡ known → out ≡ [] →
-    IsAfterTold old known start n → IsOneMore new known_then start n out
+    IsAfterTold old known start n → IsNextRow new known_then start n out
 was_short old new None known_then out start n stopped progress same empty before = absurd before
 was_short old new (Some bytes) known_then out start n stopped progress same empty before =
     let wrong = sym before.coming_is ∙ stopped_is_wrong old bytes stopped in

@@ -5,12 +5,12 @@ use Rattle.std.specs.List.{All}
 use Rattle.drain_device.specs.ComingRows.{nth_row}
 use Rattle.drain_grid.specs.declared.cell.Cell.{Cell}
 use Rattle.drain_grid.specs.declared.per_product.PerProduct.{PerProduct}
-use Rattle.drain_grid.specs.declared.held.Held.{Held}
-use Rattle.drain_grid.specs.declared.held.Held.TheVariants.{Con, Dir, Acc, Bas, Rnk}
+use Rattle.drain_grid.specs.declared.set_product.SetProduct.{SetProduct}
+use Rattle.drain_grid.specs.declared.set_product.SetProduct.TheVariants.{Con, Dir, Acc, Bas, Rnk}
 use Rattle.drain_grid.specs.PerProduct.{of_product}
 use Rattle.drain_grid.specs.declared.product.Product.TheVariants.{Spl}
-use Rattle.drain_grid.specs.Grid.{held_in}
-use Rattle.drain_grid.specs.Held.{OfHeld, product_of}
+use Rattle.drain_grid.specs.Grid.{set_number_in}
+use Rattle.drain_grid.specs.SetProduct.{OfSetProduct, product_of}
 use Rattle.drain_grid.specs.Product.{default_no_data}
 use Rattle.drain_grid.specs.Size.{Extent}
 use Rattle.drain_grid.specs.Values.{NoDataNumbers}
@@ -33,16 +33,16 @@ use Rattle.drain_grid.specs.declared.sink_line.SinkLine.{SinkLine}
 use Rattle.drain_grid.specs.SinkLines.{is_listed}
 use Rattle.drain_verdict.specs.Answers.{AreReadable, IsAnswer, IsAnswerWith}
 use Rattle.drain_rows.specs.GridRows.{AreRowsOf}
-use Rattle.drain_rows.specs.HeldRows.{IsEven}
+use Rattle.drain_rows.specs.RowBuffers.{IsEven}
 use Rattle.drain_verdict.specs.InputRows.{IsFirstOf, IsToldRefusal}
 use Rattle.drain_verdict.specs.Inputs.{Inputs}
-use Rattle.drain_verdict.specs.Meaning.{fields_of, grid_of, listed_in, nodata_in, nodata_numbers, nodata_of, products_of, tiles_of, tiling_of}
+use Rattle.drain_verdict.specs.Meaning.{fields_of, input_grid, listed_in, nodata_in, nodata_numbers, input_nodata, input_products, input_tiles, tiling_of}
 use Rattle.drain_verdict.specs.Refusals.{NoneStandsBefore}
 use Rattle.drain_verdict.specs.ToGive.{ToGive, given}
 use Rattle.drain_answer.specs.declared.refusal.Refusal.{Refusal}
 use Rattle.drain_answer.specs.declared.refusal.Refusal.TheVariants.{BadTileLength, RasterShort, SeamMismatch}
 use Rattle.drain_verdict.proofs.BodyAnswers.{raster_refused, rasters_none, seam_refused, seams_none, tile_refused, tiles_none}
-use Rattle.drain_grid.proofs.ByProduct.{by_held, by_held_or_spill, of_held}
+use Rattle.drain_grid.proofs.ByProduct.{by_set_product, by_set_product_or_spill, of_held}
 use Rattle.drain_verdict.proofs.RowEnd.{AreAtEnd, Laws}
 use Rattle.drain_verdict.proofs.RowGiven.{same_numbers}
 use Rattle.drain_verdict.proofs.RowStart.{is_row_given, row_given, to_give}
@@ -56,7 +56,7 @@ at_some : {A : Type 0} (o : Option A) (N : Type 0) (P : A → Type 0) (x : A) �
 at_some None N P x is m = absurd (let no : None ≡ Some x = is in cc)
 at_some (Some y) N P x is m = let same : y ≡ x = cc in subst P same m
 
-module _ (laws : Laws) (i : Inputs) (hs : PerProduct Fields) (fields : (p : Held) → of_product hs p ≡ fields_of i p) {wrong : Option ℕ} {Short : Held → Type 0} {seam : Option Cell}
+module _ (laws : Laws) (i : Inputs) (hs : PerProduct Fields) (fields : (p : SetProduct) → of_product hs p ≡ fields_of i p) {wrong : Option ℕ} {Short : SetProduct → Type 0} {seam : Option Cell}
     (at : AreAtEnd (tiling_of i) hs i wrong Short seam) where
   abbrev pub t : Tiling
   t = tiling_of i
@@ -69,29 +69,29 @@ module _ (laws : Laws) (i : Inputs) (hs : PerProduct Fields) (fields : (p : Held
   whole_tiles none = at_none _ (All (IsTile i.side) i.tiles) (IsFirstBadLength i.side i.tiles) (sym at.wrong_is ∙ none) (laws.lengths t i.tiles at.layout at.counted)
 
   -- then tiles give all their samples
-  all_given : wrong ≡ None → given_tiles t i.tiles ≡ tiles_of i
+  all_given : wrong ≡ None → given_tiles t i.tiles ≡ input_tiles i
   all_given none = laws.samples t i.tiles at.layout (whole_tiles none)
 
-  tiles_agree : wrong ≡ None → seam ≡ None → mosaic.TilesAgree t (tiles_of i)
+  tiles_agree : wrong ≡ None → seam ≡ None → mosaic.TilesAgree t (input_tiles i)
   tiles_agree none no_seam =
       subst (mosaic.TilesAgree t) (all_given none)
       (at_none _ (mosaic.TilesAgree t (given_tiles t i.tiles)) (mosaic.IsFirstSeam t (given_tiles t i.tiles)) (sym at.seam_is ∙ no_seam) (laws.seams t i.tiles at.layout))
 
-  tiles_differ : wrong ≡ None → (c : Cell) → seam ≡ Some c → mosaic.IsFirstSeam t (tiles_of i) c
+  tiles_differ : wrong ≡ None → (c : Cell) → seam ≡ Some c → mosaic.IsFirstSeam t (input_tiles i) c
   tiles_differ none c is =
       subst (λ (tiles : List mosaic.Tile). mosaic.IsFirstSeam t tiles c) (all_given none)
       (at_some _ (mosaic.TilesAgree t (given_tiles t i.tiles)) (mosaic.IsFirstSeam t (given_tiles t i.tiles)) c (sym at.seam_is ∙ is) (laws.seams t i.tiles at.layout))
 
-  short_there : (p : Held) → Short p → IsShort (fields_of i p) (i.raster p)
+  short_there : (p : SetProduct) → Short p → IsShort (fields_of i p) (i.raster p)
   short_there p short = subst (λ (h : Fields). IsShort h (i.raster p)) (fields p) ((at.short_is p).0 short)
 
-  short_back : (p : Held) → IsShort (fields_of i p) (i.raster p) → Short p
+  short_back : (p : SetProduct) → IsShort (fields_of i p) (i.raster p) → Short p
   short_back p short = (at.short_is p).1 (subst (λ (h : Fields). IsShort h (i.raster p)) (sym (fields p)) short)
 
-  long_enough : ((p : Held) → ¬ Short p) → (p : Held) → ¬ IsShort (of_product hs p) (i.raster p)
+  long_enough : ((p : SetProduct) → ¬ Short p) → (p : SetProduct) → ¬ IsShort (of_product hs p) (i.raster p)
   long_enough none p short = none p ((at.short_is p).1 short)
 
-  none_short : ((p : Held) → ¬ Short p) → (p : Held) → ¬ IsShort (fields_of i p) (i.raster p)
+  none_short : ((p : SetProduct) → ¬ Short p) → (p : SetProduct) → ¬ IsShort (fields_of i p) (i.raster p)
   none_short none p short = none p (short_back p short)
 
   -- the reported refusal is the first that applies
@@ -100,7 +100,7 @@ module _ (laws : Laws) (i : Inputs) (hs : PerProduct Fields) (fields : (p : Held
       tile_refused i (BadTileLength c)
       (k, named, at_some _ (All (IsTile i.side) i.tiles) (IsFirstBadLength i.side i.tiles) k (sym at.wrong_is ∙ is) (laws.lengths t i.tiles at.layout at.counted)) none
   told_refusal (RasterShort p) (none_wrong, first) none =
-      by_held_or_spill (λ p. OfHeld (IsFirstOf Short) p → IsAnswer i (Err (RasterShort p)))
+      by_set_product_or_spill (λ p. OfSetProduct (IsFirstOf Short) p → IsAnswer i (Err (RasterShort p)))
       (λ p is. let first = (of_held (IsFirstOf Short) p).0 is in
       raster_refused i p (short_there p first.holds) (λ q less short. first.before q less (short_back q short)) (tiles_none i (whole_tiles none_wrong) none))
       (λ no. absurd no) p first
@@ -109,64 +109,64 @@ module _ (laws : Laws) (i : Inputs) (hs : PerProduct Fields) (fields : (p : Held
   told_refusal refusal bad none = absurd bad
 
   -- a row of the grid: as many numbers of each as there are columns
-  cols_are : (p : Held) → (of_product hs p).cols ≡ (extent_of t).cols
+  cols_are : (p : SetProduct) → (of_product hs p).cols ≡ (extent_of t).cols
   cols_are p = ap (λ (e : Extent). e.cols) (at.shapes p)
 
-  rows_are : (p : Held) → (of_product hs p).rows ≡ (extent_of t).rows
+  rows_are : (p : SetProduct) → (of_product hs p).rows ≡ (extent_of t).rows
   rows_are p = ap (λ (e : Extent). e.rows) (at.shapes p)
 
-  raster_long : ((p : Held) → ¬ Short p) → (r : ℕ) → r < (extent_of t).rows → (p : Held) → length (nth_row r (rows_to_give.product p)) ≡ (extent_of t).cols
+  raster_long : ((p : SetProduct) → ¬ Short p) → (r : ℕ) → r < (extent_of t).rows → (p : SetProduct) → length (nth_row r (rows_to_give.product p)) ≡ (extent_of t).cols
   raster_long none r inside p =
       let same = rows_are p in
       (laws.raster_end (of_product hs p) (i.raster p) (at.bounds p)).long r (omega (arith, inside, same)) (long_enough none p) ∙ cols_are p
 
-  even : ((p : Held) → ¬ Short p) → (r : ℕ) → r < (extent_of t).rows → IsEven (given rows_to_give r)
+  even : ((p : SetProduct) → ¬ Short p) → (r : ℕ) → r < (extent_of t).rows → IsEven (given rows_to_give r)
   even none r inside =
       let wide = (laws.rows_whole t i.tiles).long r inside in
-      let each = λ (p : Held). raster_long none r inside p ∙ sym wide in
-      by_held (λ p. length (of_product (given rows_to_give r).products p) ≡ length (given rows_to_give r).z) (each Con) (each Dir) (each Acc) (each Bas) (each Rnk)
+      let each = λ (p : SetProduct). raster_long none r inside p ∙ sym wide in
+      by_set_product (λ p. length (of_product (given rows_to_give r).products p) ≡ length (given rows_to_give r).z) (each Con) (each Dir) (each Acc) (each Bas) (each Rnk)
 
-  number_given : ((p : Held) → ¬ Short p) → (r col : ℕ) → r < (extent_of t).rows → col < (extent_of t).cols → (p : Held) →
-      slice_index_or (nth_row r (rows_to_give.product p)) col (pos 0) ≡ held_in (products_of i) p (place r col)
+  number_given : ((p : SetProduct) → ¬ Short p) → (r col : ℕ) → r < (extent_of t).rows → col < (extent_of t).cols → (p : SetProduct) →
+      slice_index_or (nth_row r (rows_to_give.product p)) col (pos 0) ≡ set_number_in (input_products i) p (place r col)
   number_given none r col inside across p =
       let down = rows_are p in
       let over = cols_are p in
       laws.raster_pixels (of_product hs p) (i.raster p) r col (at.bounds p) (long_enough none p) (omega (arith, inside, down)) (omega (arith, across, over))
       ∙ ap (λ (h : Fields). pixels.pixel_at h (i.raster p) (place r col)) (fields p) ∙ number_is p
     where
-      number_is : (p : Held) → pixels.pixel_at (fields_of i p) (i.raster p) (place r col) ≡ held_in (products_of i) p (place r col)
-      number_is = by_held (λ p. pixels.pixel_at (fields_of i p) (i.raster p) (place r col) ≡ held_in (products_of i) p (place r col)) refl refl refl refl refl
+      number_is : (p : SetProduct) → pixels.pixel_at (fields_of i p) (i.raster p) (place r col) ≡ set_number_in (input_products i) p (place r col)
+      number_is = by_set_product (λ p. pixels.pixel_at (fields_of i p) (i.raster p) (place r col) ≡ set_number_in (input_products i) p (place r col)) refl refl refl refl refl
 
-  numbers_given : wrong ≡ None → ((p : Held) → ¬ Short p) → (r : ℕ) → r < (extent_of t).rows → AreNumbersOf (grid_of i) (products_of i) r (given rows_to_give r)
+  numbers_given : wrong ≡ None → ((p : SetProduct) → ¬ Short p) → (r : ℕ) → r < (extent_of t).rows → AreNumbersOf (input_grid i) (input_products i) r (given rows_to_give r)
   numbers_given none_wrong none r inside = record {
     inside = inside;
     cols_are = (laws.rows_whole t i.tiles).long r inside;
     elevation = λ col across. laws.first_values t i.tiles r col at.layout inside across ∙ ap (λ (tiles : List mosaic.Tile). first_value t tiles (place r col)) (all_given none_wrong);
     products = λ p col across. (let each = number_given none r col inside across in
-        by_held (λ p. slice_index_or (of_product (given rows_to_give r).products p) col (pos 0) ≡ held_in (products_of i) p (place r col)) (each Con) (each Dir) (each Acc) (each Bas) (each Rnk) p);
+        by_set_product (λ p. slice_index_or (of_product (given rows_to_give r).products p) col (pos 0) ≡ set_number_in (input_products i) p (place r col)) (each Con) (each Dir) (each Acc) (each Bas) (each Rnk) p);
     no_spill = λ col across. refl;
   }
 
   -- after the last row there is none
   none_given : given rows_to_give (extent_of t).rows ≡ blank
   none_given =
-      let each = λ (p : Held). subst (λ n. nth_row n (rows_to_give.product p) ≡ []) (rows_are p) (laws.raster_end (of_product hs p) (i.raster p) (at.bounds p)).none_behind in
+      let each = λ (p : SetProduct). subst (λ n. nth_row n (rows_to_give.product p) ≡ []) (rows_are p) (laws.raster_end (of_product hs p) (i.raster p) (at.bounds p)).none_behind in
       same_numbers (given rows_to_give (extent_of t).rows) blank (laws.rows_whole t i.tiles).none_behind
-      (by_held (λ p. of_product (given rows_to_give (extent_of t).rows).products p ≡ of_product blank.products p) (each Con) (each Dir) (each Acc) (each Bas) (each Rnk))
+      (by_set_product (λ p. of_product (given rows_to_give (extent_of t).rows).products p ≡ of_product blank.products p) (each Con) (each Dir) (each Acc) (each Bas) (each Rnk))
 
   blank_even : IsEven blank
-  blank_even = by_held (λ p. length (of_product blank.products p) ≡ length blank.z) refl refl refl refl refl
+  blank_even = by_set_product (λ p. length (of_product blank.products p) ≡ length blank.z) refl refl refl refl refl
 
   -- the rows that were given are those of the grid and of the products
-  pub rows_of_bytes : (sinks : List SinkLine) → sinks ≡ listed_in i → wrong ≡ None → ((p : Held) → ¬ Short p) → AreRowsOf (grid_of i) (products_of i) sinks (row_given rows_to_give)
+  pub rows_of_bytes : (sinks : List SinkLine) → sinks ≡ listed_in i → wrong ≡ None → ((p : SetProduct) → ¬ Short p) → AreRowsOf (input_grid i) (input_products i) sinks (row_given rows_to_give)
   rows_of_bytes sinks sinks_are none_wrong none = record {
-    row = λ r inside. subst (AreNumbersOf (grid_of i) (products_of i) r) (sym ((is_row_given rows_to_give r).even (even none r inside))) (numbers_given none_wrong none r inside);
+    row = λ r inside. subst (AreNumbersOf (input_grid i) (input_products i) r) (sym ((is_row_given rows_to_give r).even (even none r inside))) (numbers_given none_wrong none r inside);
     last = (is_row_given rows_to_give (extent_of t).rows).even (subst IsEven (sym none_given) blank_even) ∙ none_given;
     sinks_are = λ c inside. ap (λ (lines : List SinkLine). is_listed lines c) (sym sinks_are);
   }
 
   -- the numbers for no data are the headers'
-  nodata_at : (p : Held) → unwrap_or (of_product hs p).nodata (default_no_data (product_of p)) ≡ nodata_of i p
+  nodata_at : (p : SetProduct) → unwrap_or (of_product hs p).nodata (default_no_data (product_of p)) ≡ input_nodata i p
   nodata_at p = ap (λ (h : Fields). unwrap_or h.nodata (default_no_data (product_of p))) (fields p)
 
   pub nodata_are : nodata_in hs ≡ nodata_numbers i
@@ -185,5 +185,5 @@ module _ (laws : Laws) (i : Inputs) (hs : PerProduct Fields) (fields : (p : Held
       seams_none i (tiles_agree none_wrong no_seam) (rasters_none i (none_short none) (tiles_none i (whole_tiles none_wrong) before))
 
   -- and the verdict on the rows is the answer
-  pub verdict_is : (ranks : Ranks) (verdict : Verdict) → AreReadable i → IsVerdictOf (rules_with ranks (nodata_in hs)) (grid_of i) (products_of i) verdict → IsAnswerWith ranks i (Ok verdict)
-  verdict_is ranks verdict none is = (none, subst (λ (n : NoDataNumbers). IsVerdictOf (rules_with ranks n) (grid_of i) (products_of i) verdict) nodata_are is)
+  pub verdict_is : (ranks : Ranks) (verdict : Verdict) → AreReadable i → IsVerdictOf (rules_with ranks (nodata_in hs)) (input_grid i) (input_products i) verdict → IsAnswerWith ranks i (Ok verdict)
+  verdict_is ranks verdict none is = (none, subst (λ (n : NoDataNumbers). IsVerdictOf (rules_with ranks n) (input_grid i) (input_products i) verdict) nodata_are is)

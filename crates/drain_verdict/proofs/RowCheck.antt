@@ -4,7 +4,7 @@ use Rattle.drain_device.specs.declared.counts.FaultCounts.{FaultCounts}
 use Rattle.drain_device.specs.declared.row_source.Progress.TheVariants.{Stopped}
 use Rattle.drain_grid.specs.declared.cell.Cell.{Cell}
 use Rattle.drain_grid.specs.declared.per_product.PerProduct.{PerProduct}
-use Rattle.drain_grid.specs.declared.held.Held.{Held}
+use Rattle.drain_grid.specs.declared.set_product.SetProduct.{SetProduct}
 use Rattle.drain_grid.specs.PerProduct.{of_product}
 use Rattle.drain_grid.specs.declared.sink_line.SinkLine.{SinkLine}
 use Rattle.drain_grid.specs.Grid.{Grid}
@@ -37,7 +37,7 @@ use Rattle.drain_verdict.specs.Inputs.{Inputs, Products}
 use Rattle.drain_rows.specs.ListedVoids.{AreListedVoids}
 use Rattle.drain_verdict.specs.SinkListings.{IsBadLine, IsToldOfSinks}
 use Rattle.drain_verdict.specs.declared.sink_listing.SinkListing.{SinkListing}
-use Rattle.drain_verdict.specs.Meaning.{fields_of, grid_of, listed_in, nodata_in, products_of, tiling_of}
+use Rattle.drain_verdict.specs.Meaning.{fields_of, input_grid, listed_in, nodata_in, input_products, tiling_of}
 use Rattle.drain_verdict.specs.Refusals.{IsOfBodies, NoneStandsBefore, refusal_of}
 use Rattle.drain_verdict.specs.Stages.{AreRasterBodies}
 use Rattle.drain_verdict.specs.ToGive.{AreGiven, HaveCome, IsAfter}
@@ -56,7 +56,7 @@ pub record Read {R : Type 0} (bl : R → Option (List ℕ)) (ct : R → FaultCou
   pub laws : Laws
   pub of_bodies : NewRowsAreOfBodies bl
   pub layout : IsLayout t
-  pub shapes : (p : Held) → pixels.extent_of (of_product hs p) ≡ extent_of t
+  pub shapes : (p : SetProduct) → pixels.header_extent (of_product hs p) ≡ extent_of t
   pub counted : length i.tiles ≡ length t.corners
   pub begun : AreBegun t hs rows
   pub come : HaveCome bl ct (rows, tiles, ps) (rows_then, tiles_then, ps_then) (0 + (e.rows + 1)) None
@@ -80,31 +80,31 @@ module _ {R : Type 0} (bl : R → Option (List ℕ)) (ct : R → FaultCounts) (i
   goes told t read = mosaic_goes bl t hs i rows_then tiles_then ps_then (asked told t read) read.laws.rows_end
 
   -- the reported refusal is the answer
-  pub refusal_answers : (refusal : Refusal) (t : Tiling) → t ≡ tiling_of i → ((p : Held) → of_product hs p ≡ fields_of i p) → NoneStandsBefore i 5 →
+  pub refusal_answers : (refusal : Refusal) (t : Tiling) → t ≡ tiling_of i → ((p : SetProduct) → of_product hs p ≡ fields_of i p) → NoneStandsBefore i 5 →
       Read bl ct i hs rows rows_then tiles tiles_then ps ps_then e (Some refusal) t → IsAnswer i (Err refusal)
   refusal_answers refusal t is fields none read =
       let here = subst (Read bl ct i hs rows rows_then tiles tiles_then ps ps_then e (Some refusal)) is read in
       told_refusal here.laws i hs fields (ended (Some refusal) (tiling_of i) here) refusal (here.tells (goes (Some refusal) (tiling_of i) here)) none
 
   -- if none was reported, what holds of the grid that is given by rows holds of that of the inputs
-  pub given_holds : (sinks : List SinkLine) (P : Grid → grid.Products → Type 0) (t : Tiling) → t ≡ tiling_of i → ((p : Held) → of_product hs p ≡ fields_of i p) → sinks ≡ listed_in i →
-      OfGrid (AreGiven bl (rows, tiles, ps)) e sinks P → Read bl ct i hs rows rows_then tiles tiles_then ps ps_then e None t → P (grid_of i) (products_of i)
+  pub given_holds : (sinks : List SinkLine) (P : Grid → grid.Products → Type 0) (t : Tiling) → t ≡ tiling_of i → ((p : SetProduct) → of_product hs p ≡ fields_of i p) → sinks ≡ listed_in i →
+      OfGrid (AreGiven bl (rows, tiles, ps)) e sinks P → Read bl ct i hs rows rows_then tiles tiles_then ps ps_then e None t → P (input_grid i) (input_products i)
   given_holds sinks P t is fields sinks_are of_grid read =
       let here = subst (Read bl ct i hs rows rows_then tiles tiles_then ps ps_then e None) is read in
       let told = here.tells (goes None (tiling_of i) here) in
-      of_grid (row_given (to_give (tiling_of i) hs i.tiles i.raster)) (grid_of i) (products_of i)
+      of_grid (row_given (to_give (tiling_of i) hs i.tiles i.raster)) (input_grid i) (input_products i)
       (start_given bl (tiling_of i) hs rows tiles ps i.tiles i.raster here.of_bodies here.begun here.bodies here.rasters) (sym here.extent_is)
       (rows_of_bytes here.laws i hs fields (ended None (tiling_of i) here) sinks sinks_are told.0 told.1)
 
   -- and no refusal before the list of sinks applies
-  none_before : (t : Tiling) → t ≡ tiling_of i → ((p : Held) → of_product hs p ≡ fields_of i p) → NoneStandsBefore i 5 →
+  none_before : (t : Tiling) → t ≡ tiling_of i → ((p : SetProduct) → of_product hs p ≡ fields_of i p) → NoneStandsBefore i 5 →
       Read bl ct i hs rows rows_then tiles tiles_then ps ps_then e None t → NoneStandsBefore i 8
   none_before t is fields none read =
       let here = subst (Read bl ct i hs rows rows_then tiles tiles_then ps ps_then e None) is read in
       told_none here.laws i hs fields (ended None (tiling_of i) here) (here.tells (goes None (tiling_of i) here)) none
 
   -- so the refusal of the list is the answer, or else the verdict
-  pub sinks_answer : FoundOffDataIsRight → (listing : SinkListing) (voids : List Cell) (refusal : Refusal) (t : Tiling) → t ≡ tiling_of i → ((p : Held) → of_product hs p ≡ fields_of i p) → NoneStandsBefore i 5 →
+  pub sinks_answer : FoundOffDataIsRight → (listing : SinkListing) (voids : List Cell) (refusal : Refusal) (t : Tiling) → t ≡ tiling_of i → ((p : SetProduct) → of_product hs p ≡ fields_of i p) → NoneStandsBefore i 5 →
       listing.sinks ≡ listed_in i → IsBadLine (sinks_of i.sinks) listing.bad → OfGrid (AreGiven bl (rows, tiles, ps)) e listing.sinks (λ g products. AreListedVoids g voids) →
       IsToldOfSinks listing e voids (Some refusal) → Read bl ct i hs rows rows_then tiles tiles_then ps ps_then e None t → IsAnswer i (Err refusal)
   sinks_answer law listing voids refusal t is fields none sinks_are bad_is of_grid told read =
@@ -112,7 +112,7 @@ module _ {R : Type 0} (bl : R → Option (List ℕ)) (ct : R → FaultCounts) (i
       let extent = read.extent_is ∙ ap extent_of is in
       sinks_refused i listing e voids sinks_are bad_is extent voids_are law refusal told (none_before t is fields none read)
 
-  pub verdict_answers : FoundOffDataIsRight → (listing : SinkListing) (voids : List Cell) (ranks : Ranks) (nodata : NoDataNumbers) (verdict : Verdict) (t : Tiling) → t ≡ tiling_of i → ((p : Held) → of_product hs p ≡ fields_of i p) →
+  pub verdict_answers : FoundOffDataIsRight → (listing : SinkListing) (voids : List Cell) (ranks : Ranks) (nodata : NoDataNumbers) (verdict : Verdict) (t : Tiling) → t ≡ tiling_of i → ((p : SetProduct) → of_product hs p ≡ fields_of i p) →
       NoneStandsBefore i 5 → nodata ≡ nodata_in hs → listing.sinks ≡ listed_in i → IsBadLine (sinks_of i.sinks) listing.bad →
       OfGrid (AreGiven bl (rows, tiles, ps)) e listing.sinks (λ g products. AreListedVoids g voids) →
       OfGrid (AreGiven bl (rows, tiles, ps)) e listing.sinks (λ g products. IsVerdictOf (rules_with ranks nodata) g products verdict) →
@@ -124,18 +124,18 @@ module _ {R : Type 0} (bl : R → Option (List ℕ)) (ct : R → FaultCounts) (i
       let verdict_is_of = given_holds listing.sinks (λ g products. IsVerdictOf (rules_with ranks nodata) g products verdict) t is fields sinks_are of_grid read in
       verdict_is here.laws i hs fields (ended None (tiling_of i) here) ranks verdict
       (sinks_none i listing e voids sinks_are bad_is extent voids_are law told (none_before t is fields none read))
-      (subst (λ (n : NoDataNumbers). IsVerdictOf (rules_with ranks n) (grid_of i) (products_of i) verdict) nodata_is verdict_is_of)
+      (subst (λ (n : NoDataNumbers). IsVerdictOf (rules_with ranks n) (input_grid i) (input_products i) verdict) nodata_is verdict_is_of)
 
   -- and notes of the grid that is given are of the inputs' grid
   pub notes_hold : {K : Type 0} (are_of : Rules → Grid → grid.Products → ℕ → K → Type 0) (rules : Rules) (notes : K) (sinks : List SinkLine) (t : Tiling) → t ≡ tiling_of i →
-      ((p : Held) → of_product hs p ≡ fields_of i p) → rules.nodata ≡ nodata_in hs → sinks ≡ listed_in i →
+      ((p : SetProduct) → of_product hs p ≡ fields_of i p) → rules.nodata ≡ nodata_in hs → sinks ≡ listed_in i →
       OfGrid (AreGiven bl (rows, tiles, ps)) e sinks (λ g products. are_of rules g products g.extent.rows notes) → Read bl ct i hs rows rows_then tiles tiles_then ps ps_then e None t →
       AreNotesOf are_of rules.ranks i notes
   notes_hold are_of rules notes sinks t is fields nodata_is sinks_are of_grid read =
       let here = subst (Read bl ct i hs rows rows_then tiles tiles_then ps ps_then e None) is read in
       let numbers = nodata_is ∙ nodata_are here.laws i hs fields (ended None (tiling_of i) here) in
       let same : rules ≡ rules_at rules.ranks i = ap (λ (n : NoDataNumbers). rules_with_nodata rules n) numbers in
-      subst (λ (r : Rules). are_of r (grid_of i) (products_of i) (grid_of i).extent.rows notes) same
+      subst (λ (r : Rules). are_of r (input_grid i) (input_products i) (input_grid i).extent.rows notes) same
       (given_holds sinks (λ g products. are_of rules g products g.extent.rows notes) t is fields sinks_are of_grid read)
     where
       rules_with_nodata : Rules → NoDataNumbers → Rules

@@ -10,10 +10,10 @@ use Rattle.drain_device.specs.RowSteps.{most_at}
 use Rattle.drain_device.specs.declared.counts.FaultCounts.{FaultCounts}
 use Rattle.drain_device.proofs.FaultLists.{SomeReadFails-iff, SomeReadFails-none, SomeReadFails-one, SomeReadFails-then, any-cases, any-first, any-later, any-none}
 use Rattle.drain_grid.specs.declared.per_product.PerProduct.{PerProduct}
-use Rattle.drain_grid.specs.declared.held.Held.{Held}
-use Rattle.drain_grid.specs.declared.held.Held.TheVariants.{Con, Dir, Acc, Bas, Rnk}
+use Rattle.drain_grid.specs.declared.set_product.SetProduct.{SetProduct}
+use Rattle.drain_grid.specs.declared.set_product.SetProduct.TheVariants.{Con, Dir, Acc, Bas, Rnk}
 use Rattle.drain_grid.specs.PerProduct.{of_product}
-use Rattle.drain_grid.specs.Held.{products}
+use Rattle.drain_grid.specs.SetProduct.{products}
 use Rattle.drain_header.specs.Fields.{AreWithinBounds, Fields}
 use Rattle.drain_hgt.specs.Inputs.{TilesTakeAtMost}
 use Rattle.drain_hgt.specs.declared.input.TileInput.{TileInput}
@@ -63,7 +63,7 @@ SomeReadFails-each old new F (x ∷ xs) each =
     (SomeReadFails-one (each x)) (SomeReadFails-each old new F xs each)
 
 -- each product is among them
-among : (F : Held → Type 0) (p : Held) → F p → Any F products
+among : (F : SetProduct → Type 0) (p : SetProduct) → F p → Any F products
 among F Con f = (0, Con, omega arith, refl, f)
 among F Dir f = (1, Dir, omega arith, refl, f)
 among F Acc f = (2, Acc, omega arith, refl, f)
@@ -97,13 +97,13 @@ module _ {R : Type 0} (bl : R → Option (List ℕ)) (ct : R → FaultCounts) (t
   tiles_taken begun named read =
       reads-within R bl ct t rows.mosaic.tiles.items rows_then.mosaic.tiles.items tiles tiles_then (IsTrue read.tile_failed) begun.mosaic.tiles_are read.counted (named ∙ sym begun.counted) (read.as_many ∙ named ∙ sym begun.counted) read.tiles
 
-  pub bodies_taken : RasterRowsTakeWhatIsNeeded → ((p : Held) → AreWithinBounds (of_product hs p)) → AreBegun t hs rows → HaveBeenRead → (p : Held) → BodyTakesAtMost bl (of_product hs p) ps ps_then p
+  pub bodies_taken : RasterRowsTakeWhatIsNeeded → ((p : SetProduct) → AreWithinBounds (of_product hs p)) → AreBegun t hs rows → HaveBeenRead → (p : SetProduct) → BodyTakesAtMost bl (of_product hs p) ps ps_then p
   bodies_taken law ok begun read p =
       raster_taken law (of_product hs p) (of_product rows.rasters p) (of_product rows_then.rasters p) (bl (of_product ps p).body) (bl (of_product ps_then p).body) (ct (of_product ps p).body) (ct (of_product ps_then p).body)
       (IsTrue (read.product_failed p)) (ok p) (begun.raster p) (read.products p)
 
   -- the faults of the products' devices
-  products_fail : AreBegun t hs rows → (read : HaveBeenRead) → SomeReadFails (map ct (product_devices ps)) (map ct (product_devices ps_then)) ((p : Held) × IsTrue (read.product_failed p))
+  products_fail : AreBegun t hs rows → (read : HaveBeenRead) → SomeReadFails (map ct (product_devices ps)) (map ct (product_devices ps_then)) ((p : SetProduct) × IsTrue (read.product_failed p))
   products_fail begun read =
       SomeReadFails-iff ((λ some. (some.1, some.4)), (λ some. among (λ p. IsTrue (read.product_failed p)) some.0 some.1))
       (SomeReadFails-each (λ p. ct (of_product ps p).body) (λ p. ct (of_product ps_then p).body) (λ p. IsTrue (read.product_failed p)) products

@@ -7,7 +7,7 @@ use Rattle.drain_device.specs.declared.row_source.Progress.{Progress}
 use Rattle.drain_device.specs.declared.row_source.Progress.TheVariants.{Stopped}
 use Rattle.drain_grid.specs.declared.cell.Cell.{Cell}
 use Rattle.drain_grid.specs.declared.per_product.PerProduct.{PerProduct}
-use Rattle.drain_grid.specs.declared.held.Held.{Held}
+use Rattle.drain_grid.specs.declared.set_product.SetProduct.{SetProduct}
 use Rattle.drain_grid.specs.PerProduct.{of_product}
 use Rattle.drain_grid.specs.Size.{Extent}
 use Rattle.drain_header.specs.Fields.{AreWithinBounds, Fields}
@@ -42,13 +42,13 @@ pub record Laws : Type 0 where
   pub raster_pixels : RasterRowsArePixels
 
 -- what the readers hold once all rows were read: the first tile of wrong length, the short products, the first seam
-pub record AreAtEnd (t : Tiling) (hs : PerProduct Fields) (i : Inputs) (wrong : Option ℕ) (Short : Held → Type 0) (seam : Option Cell) : Type 0 where
+pub record AreAtEnd (t : Tiling) (hs : PerProduct Fields) (i : Inputs) (wrong : Option ℕ) (Short : SetProduct → Type 0) (seam : Option Cell) : Type 0 where
   pub layout : IsLayout t
   pub counted : length i.tiles ≡ length t.corners
-  pub bounds : (p : Held) → AreWithinBounds (of_product hs p)
-  pub shapes : (p : Held) → pixels.extent_of (of_product hs p) ≡ extent_of t
+  pub bounds : (p : SetProduct) → AreWithinBounds (of_product hs p)
+  pub shapes : (p : SetProduct) → pixels.header_extent (of_product hs p) ≡ extent_of t
   pub wrong_is : wrong ≡ wrong_from 0 (tile_streams t t.corners i.tiles)
-  pub short_is : (p : Held) → Short p ↔ IsShort (of_product hs p) (i.raster p)
+  pub short_is : (p : SetProduct) → Short p ↔ IsShort (of_product hs p) (i.raster p)
   pub seam_is : seam ≡ seam_from (frame_of t) (extent_of t).rows 0 (tile_streams t t.corners i.tiles)
 
 -- a product's rows have stopped exactly where its body is short
@@ -72,7 +72,7 @@ module _ {R : Type 0} (bl : R → Option (List ℕ)) (t : Tiling) (hs : PerProdu
   pub mosaic_goes : RowsEnd → (rows.mosaic.progress ≡ Stopped → ⊥)
   mosaic_goes law = not_stopped rows.mosaic.progress _ (after.mosaic.coming_is ∙ sym (end_taken (extent_of t).rows (mosaic_coming t i.tiles) (law t i.tiles)).left_is)
 
-  pub at_end : Laws → IsLayout t → length i.tiles ≡ length t.corners → ((p : Held) → AreWithinBounds (of_product hs p)) → ((p : Held) → pixels.extent_of (of_product hs p) ≡ extent_of t) →
+  pub at_end : Laws → IsLayout t → length i.tiles ≡ length t.corners → ((p : SetProduct) → AreWithinBounds (of_product hs p)) → ((p : SetProduct) → pixels.header_extent (of_product hs p) ≡ extent_of t) →
       AreAtEnd t hs i (first_stopped 0 rows.mosaic.tiles.items) (HasStopped rows) rows.mosaic.seam
   at_end laws layout counted bounds shapes =
       let told = after.mosaic.at_end (extent_of t).rows refl (laws.rows_end t i.tiles) in

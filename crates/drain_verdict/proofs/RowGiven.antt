@@ -4,18 +4,18 @@ use Rattle.std.specs.List.{All}
 use Rattle.drain_device.specs.declared.counts.FaultCounts.{FaultCounts}
 use Rattle.drain_device.specs.ComingRows.{Coming}
 use Rattle.drain_grid.specs.declared.cell.TheConstants.{MAX_LENGTH}
-use Rattle.drain_grid.specs.declared.held.Held.{Held}
-use Rattle.drain_grid.specs.declared.held.Held.TheVariants.{Con, Dir, Acc, Bas, Rnk}
+use Rattle.drain_grid.specs.declared.set_product.SetProduct.{SetProduct}
+use Rattle.drain_grid.specs.declared.set_product.SetProduct.TheVariants.{Con, Dir, Acc, Bas, Rnk}
 use Rattle.drain_grid.specs.PerProduct.{of_product}
 use Rattle.drain_grid.specs.Tile.{IsSample}
 use Rattle.drain_grid.specs.Values.{IsPixel}
 use Rattle.drain_hgt.specs.declared.input.TileInput.{TileInput}
 use Rattle.drain_rules.specs.RowNumbers.{AreRowNumbers, RowNumbers, blank}
 use Rattle.drain_rows.specs.GridRows.{IsNext}
-use Rattle.drain_rows.specs.HeldRows.{IsEven}
+use Rattle.drain_rows.specs.RowBuffers.{IsEven}
 use Rattle.drain_verdict.specs.InputReads.{InputsHaveRead, Reading}
 use Rattle.drain_verdict.specs.Inputs.{Products}
-use Rattle.drain_verdict.specs.ToGive.{AreGiven, HaveCome, IsAfter, IsAfterTold, IsMosaicAfter, IsMosaicOneMore, IsOneMore, ToGive, given}
+use Rattle.drain_verdict.specs.ToGive.{AreGiven, HaveCome, IsAfter, IsAfterTold, IsMosaicAfter, IsMosaicOneMore, IsNextRow, ToGive, given}
 use Rattle.drain_verdict.specs.declared.input_rows.InputRows.{InputRows}
 use Rattle.drain_answer.specs.declared.refusal.Refusal.{Refusal}
 
@@ -27,7 +27,7 @@ made_same : (z z2 con con2 dir dir2 acc acc2 bas bas2 rnk rnk2 : List ℤ) → z
 made_same z z2 con con2 dir dir2 acc acc2 bas bas2 rnk rnk2 a b c d e f = rw (a, b, c, d, e, f) refl
 
 -- numbers that are the same, list by list
-pub same_numbers : (a b : RowNumbers) → a.z ≡ b.z → ((p : Held) → of_product a.products p ≡ of_product b.products p) → a ≡ b
+pub same_numbers : (a b : RowNumbers) → a.z ≡ b.z → ((p : SetProduct) → of_product a.products p ≡ of_product b.products p) → a ≡ b
 same_numbers a b z each =
     made_same a.z b.z a.products.con b.products.con a.products.dir b.products.dir a.products.acc b.products.acc a.products.bas b.products.bas a.products.rnk b.products.rnk
     z (each Con) (each Dir) (each Acc) (each Bas) (each Rnk)
@@ -37,32 +37,32 @@ abbrev pub IsKept : RowNumbers → RowNumbers → Type 0
 IsKept row kept = (IsEven row × (kept ≡ row)) ⊎ ((¬ IsEven row) × (kept ≡ blank))
 
 -- it holds numbers of a row
-pub kept_numbers : (row kept : RowNumbers) → length row.z ≤ MAX_LENGTH → All IsSample row.z → ((p : Held) → All IsPixel (of_product row.products p)) → IsKept row kept → AreRowNumbers kept
+pub kept_numbers : (row kept : RowNumbers) → length row.z ≤ MAX_LENGTH → All IsSample row.z → ((p : SetProduct) → All IsPixel (of_product row.products p)) → IsKept row kept → AreRowNumbers kept
 kept_numbers row kept narrow samples pixels is = elim is [
   | inl whole ↦ subst AreRowNumbers (sym whole.1) (record { narrow = narrow; long = whole.0; samples = samples; pixels = pixels })
   | inr none ↦ subst AreRowNumbers (sym none.1) (record { narrow = omega arith; long = λ p. none_long p; samples = λ k t inside. absurd (omega (arith, inside)); pixels = λ p. none_pixels p })
 ]
   where
-    none_long : (p : Held) → length (of_product blank.products p) ≡ 0
+    none_long : (p : SetProduct) → length (of_product blank.products p) ≡ 0
     none_long Con = refl
     none_long Dir = refl
     none_long Acc = refl
     none_long Bas = refl
     none_long Rnk = refl
 
-    none_pixels : (p : Held) → All IsPixel (of_product blank.products p)
+    none_pixels : (p : SetProduct) → All IsPixel (of_product blank.products p)
     none_pixels p k t inside = absurd (let none = none_long p in omega (arith, inside, none))
 
 -- it is the next of those to give
 pub next_given : {R : Type 0} (bl : R → Option (List ℕ)) (old new : InputRows) (from now : List (TileInput R)) (ps ps_then : Products R) (row kept : RowNumbers) → IsKept row kept →
     ((t : ToGive) (n : ℕ) → IsMosaicAfter bl old.mosaic from t n → IsMosaicOneMore bl new.mosaic now t n row.z) →
-    ((p : Held) (start : Coming) (n : ℕ) → IsAfterTold (of_product old.rasters p) (bl (of_product ps p).body) start n →
-    IsOneMore (of_product new.rasters p) (bl (of_product ps_then p).body) start n (of_product row.products p)) →
+    ((p : SetProduct) (start : Coming) (n : ℕ) → IsAfterTold (of_product old.rasters p) (bl (of_product ps p).body) start n →
+    IsNextRow (of_product new.rasters p) (bl (of_product ps_then p).body) start n (of_product row.products p)) →
     IsNext (AreGiven bl (old, from, ps)) (AreGiven bl (new, now, ps_then)) kept
 next_given bl old new from now ps ps_then row kept is mosaic product rows n before =
     let t = before.to_give in
     let z = mosaic t n before.after.mosaic in
-    let each = λ (p : Held). product p (t.product p) n (before.after.product p) in
+    let each = λ (p : SetProduct). product p (t.product p) n (before.after.product p) in
     let same : row ≡ given t n = same_numbers row (given t n) z.out_is (list_by_list t each) in
     let next = before.rows_are n in (
       elim is [
@@ -76,8 +76,8 @@ next_given bl old new from now ps ps_then row kept is mosaic product rows n befo
       },
     )
   where
-    list_by_list : (t : ToGive) → ((p : Held) → IsOneMore (of_product new.rasters p) (bl (of_product ps_then p).body) (t.product p) n (of_product row.products p)) →
-        (p : Held) → of_product row.products p ≡ of_product (given t n).products p
+    list_by_list : (t : ToGive) → ((p : SetProduct) → IsNextRow (of_product new.rasters p) (bl (of_product ps_then p).body) (t.product p) n (of_product row.products p)) →
+        (p : SetProduct) → of_product row.products p ≡ of_product (given t n).products p
     list_by_list t each Con = (each Con).out_is
     list_by_list t each Dir = (each Dir).out_is
     list_by_list t each Acc = (each Acc).out_is
@@ -88,8 +88,8 @@ next_given bl old new from now ps ps_then row kept is mosaic product rows n befo
 pub come_more : {R : Type 0} (bl : R → Option (List ℕ)) (ct : R → FaultCounts) (start : Reading R) (old new : InputRows) (from now : List (TileInput R)) (ps ps_then : Products R) (row : RowNumbers) (calls : ℕ) →
     HaveCome bl ct start (old, from, ps) calls None → InputsHaveRead bl ct start (new, now, ps_then) None →
     ((t : ToGive) (n : ℕ) → IsMosaicAfter bl old.mosaic from t n → IsMosaicOneMore bl new.mosaic now t n row.z) →
-    ((p : Held) (first : Coming) (n : ℕ) → IsAfterTold (of_product old.rasters p) (bl (of_product ps p).body) first n →
-    IsOneMore (of_product new.rasters p) (bl (of_product ps_then p).body) first n (of_product row.products p)) →
+    ((p : SetProduct) (first : Coming) (n : ℕ) → IsAfterTold (of_product old.rasters p) (bl (of_product ps p).body) first n →
+    IsNextRow (of_product new.rasters p) (bl (of_product ps_then p).body) first n (of_product row.products p)) →
     HaveCome bl ct start (new, now, ps_then) (calls + 1) None
 come_more bl ct start old new from now ps ps_then row calls before reads mosaic product = record {
   reads = reads;

@@ -3,8 +3,8 @@ use Rattle.std.proofs.Common.{◌≡◌, ℕ, ◌⊎◌, List, length, Option, S
 use Rattle.std.proofs.lemmas.Bool.{cases_eq}
 use Rattle.drain_device.specs.RowSteps.{coming_at}
 use Rattle.drain_grid.specs.declared.per_product.PerProduct.{PerProduct}
-use Rattle.drain_grid.specs.declared.held.Held.{Held}
-use Rattle.drain_grid.specs.declared.held.Held.TheVariants.{Con, Dir, Acc, Bas, Rnk}
+use Rattle.drain_grid.specs.declared.set_product.SetProduct.{SetProduct}
+use Rattle.drain_grid.specs.declared.set_product.SetProduct.TheVariants.{Con, Dir, Acc, Bas, Rnk}
 use Rattle.drain_grid.specs.PerProduct.{of_product}
 use Rattle.drain_header.specs.Fields.{Fields}
 use Rattle.drain_hgt.specs.Inputs.{AreBodies}
@@ -21,10 +21,10 @@ use Rattle.drain_verdict.specs.Inputs.{Products}
 use Rattle.drain_verdict.specs.Stages.{AreRasterBodies}
 use Rattle.drain_verdict.specs.ToGive.{AreGiven, IsAfter, IsAfterTold, IsRasterAfter, IsRowGiven, ToGive, given}
 use Rattle.drain_verdict.specs.declared.input_rows.InputRows.{InputRows}
-use Rattle.drain_grid.proofs.ByProduct.{by_held}
+use Rattle.drain_grid.proofs.ByProduct.{by_set_product}
 
 -- what the bodies of tiles and products are to give
-abbrev pub to_give : Tiling → PerProduct Fields → List (List ℕ) → (Held → List ℕ) → ToGive
+abbrev pub to_give : Tiling → PerProduct Fields → List (List ℕ) → (SetProduct → List ℕ) → ToGive
 to_give t hs bodies rasters = record {
   mosaic = mosaic_coming t bodies;
   seam = seam_from (frame_of t) (extent_of t).rows 0 (tile_streams t t.corners bodies);
@@ -33,7 +33,7 @@ to_give t hs bodies rasters = record {
 }
 
 -- it holds of all products, or it doesn't, where that is so of each
-abbrev all_or_not : (P : Held → Type 0) → ((p : Held) → P p ⊎ ¬ P p) → ((p : Held) → P p) ⊎ ¬ ((p : Held) → P p)
+abbrev all_or_not : (P : SetProduct → Type 0) → ((p : SetProduct) → P p ⊎ ¬ P p) → ((p : SetProduct) → P p) ⊎ ¬ ((p : SetProduct) → P p)
 all_or_not P each = elim (each Con) [
   | inr not ↦ inr (λ all. not (all Con))
   | inl con ↦ elim (each Dir) [
@@ -44,7 +44,7 @@ all_or_not P each = elim (each Con) [
         | inr not ↦ inr (λ all. not (all Bas))
         | inl bas ↦ elim (each Rnk) [
           | inr not ↦ inr (λ all. not (all Rnk))
-          | inl rnk ↦ inl (by_held P con dir acc bas rnk)
+          | inl rnk ↦ inl (by_set_product P con dir acc bas rnk)
         ]
       ]
     ]
@@ -81,7 +81,7 @@ raster_after_none h raster bytes known begun told =
     subst (λ (k : Option (List ℕ)). IsAfterTold raster k (raster_rows h h.rows h.skip bytes) 0) (sym told) start
 
 -- no row was requested
-pub after_none : {R : Type 0} (bl : R → Option (List ℕ)) (t : Tiling) (hs : PerProduct Fields) (rows : InputRows) (tiles : List (TileInput R)) (ps : Products R) (bodies : List (List ℕ)) (rasters : Held → List ℕ) →
+pub after_none : {R : Type 0} (bl : R → Option (List ℕ)) (t : Tiling) (hs : PerProduct Fields) (rows : InputRows) (tiles : List (TileInput R)) (ps : Products R) (bodies : List (List ℕ)) (rasters : SetProduct → List ℕ) →
     NewRowsAreOfBodies bl → AreBegun t hs rows → AreBodies bl tiles bodies → AreRasterBodies bl ps rasters → IsAfter bl rows tiles ps (to_give t hs bodies rasters) 0
 after_none bl t hs rows tiles ps bodies rasters law begun are raster_are =
     let mosaic = law t rows.mosaic tiles bodies begun.mosaic are in
@@ -97,7 +97,7 @@ after_none bl t hs rows tiles ps bodies rasters law begun are raster_are =
     }
 
 -- the rows of the bytes are to be given
-pub start_given : {R : Type 0} (bl : R → Option (List ℕ)) (t : Tiling) (hs : PerProduct Fields) (rows : InputRows) (tiles : List (TileInput R)) (ps : Products R) (bodies : List (List ℕ)) (rasters : Held → List ℕ) →
+pub start_given : {R : Type 0} (bl : R → Option (List ℕ)) (t : Tiling) (hs : PerProduct Fields) (rows : InputRows) (tiles : List (TileInput R)) (ps : Products R) (bodies : List (List ℕ)) (rasters : SetProduct → List ℕ) →
     NewRowsAreOfBodies bl → AreBegun t hs rows → AreBodies bl tiles bodies → AreRasterBodies bl ps rasters → AreGiven bl (rows, tiles, ps) (row_given (to_give t hs bodies rasters)) 0
 start_given bl t hs rows tiles ps bodies rasters law begun are raster_are = record {
   to_give = to_give t hs bodies rasters;

@@ -15,7 +15,7 @@ use Rattle.drain_grid.specs.Size.{Extent}
 use Rattle.drain_verdict.specs.Answers.{AreReadable, IsRefusal}
 use Rattle.drain_verdict.specs.Inputs.{Inputs}
 use Rattle.drain_rows.specs.ListedVoids.{AreListedVoids, has_data_but}
-use Rattle.drain_verdict.specs.Meaning.{grid_of, listed_in}
+use Rattle.drain_verdict.specs.Meaning.{input_grid, listed_in}
 use Rattle.drain_verdict.specs.Refusals.{NoneStandsBefore, Stands, refusal_order}
 use Rattle.drain_verdict.specs.SinkListings.{IsBadLine, IsToldOfSinks}
 use Rattle.drain_verdict.specs.declared.sink_listing.SinkListing.{SinkListing}
@@ -42,7 +42,7 @@ no_bad : (lines : Result (List SinkLine) ℕ) (n : ℕ) → IsBadLine lines None
 no_bad lines n fine bad = let no : Ok fine.0 ≡ Err n = sym fine.1 ∙ bad in cc
 
 module _ (i : Inputs) (listing : SinkListing) (e : Extent) (voids : List Cell) (sinks_are : listing.sinks ≡ listed_in i) (bad_is : IsBadLine (sinks_of i.sinks) listing.bad)
-    (extent_is : e ≡ (grid_of i).extent) (voids_are : AreListedVoids (grid_of i) voids) where
+    (extent_is : e ≡ (input_grid i).extent) (voids_are : AreListedVoids (input_grid i) voids) where
   -- the first bad line is reported first
   bad_refused : (n : ℕ) → listing.bad ≡ Some n → NoneStandsBefore i 8 → IsRefusal i (BadSinkLine n)
   bad_refused n is none =
@@ -57,35 +57,35 @@ module _ (i : Inputs) (listing : SinkListing) (e : Extent) (voids : List Cell) (
 
   -- a listed cell has data exactly where it is said so
   told_there : (k : ℕ) (s : SinkLine) → slice_get listing.sinks k ≡ Some s →
-      (has_data_but e voids s.cell ≡ true → HasData (grid_of i) s.cell) × (has_data_but e voids s.cell ≡ false → ¬ HasData (grid_of i) s.cell)
+      (has_data_but e voids s.cell ≡ true → HasData (input_grid i) s.cell) × (has_data_but e voids s.cell ≡ false → ¬ HasData (input_grid i) s.cell)
   told_there k s at = elim (cases_lt s.cell.row e.rows) [
-    | inr past ↦ (let none = λ (has : HasData (grid_of i) s.cell). (let rows = ap (λ (x : Extent). x.rows) extent_is in let row = has.inside.row in absurd (omega (arith, past, rows, row))) in
+    | inr past ↦ (let none = λ (has : HasData (input_grid i) s.cell). (let rows = ap (λ (x : Extent). x.rows) extent_is in let row = has.inside.row in absurd (omega (arith, past, rows, row))) in
         (λ told. absurd (let no : false ≡ true = sym (rw (le-ltb s.cell.row e.rows past) refl) ∙ told in cc), λ told. none))
     | inl row ↦ elim (cases_lt s.cell.col e.cols) [
-      | inr past ↦ (let none = λ (has : HasData (grid_of i) s.cell). (let cols = ap (λ (x : Extent). x.cols) extent_is in let col = has.inside.col in absurd (omega (arith, past, cols, col))) in
+      | inr past ↦ (let none = λ (has : HasData (input_grid i) s.cell). (let cols = ap (λ (x : Extent). x.cols) extent_is in let col = has.inside.col in absurd (omega (arith, past, cols, col))) in
           (λ told. absurd (let no : false ≡ true = sym (rw (lt-ltb s.cell.row e.rows row, le-ltb s.cell.col e.cols past) refl) ∙ told in cc), λ told. none))
       | inl col ↦ (let rows = ap (λ (x : Extent). x.rows) extent_is in
           let cols = ap (λ (x : Extent). x.cols) extent_is in
-          let inside : IsCellOf (grid_of i).extent s.cell = record { row = omega (arith, row, rows); col = omega (arith, col, cols) } in
-          let listed : (grid_of i).sink s.cell ≡ true = ap (λ (lines : List SinkLine). is_listed lines s.cell) (sym sinks_are) ∙ listed_there listing.sinks k s at in
-          let said : has_data_but e voids s.cell ≡ is_some ((grid_of i).elevation s.cell) =
-          rw (lt-ltb s.cell.row e.rows row, lt-ltb s.cell.col e.cols col) (ap not (voids_are s.cell inside ∙ rw listed refl) ∙ twice ((grid_of i).elevation s.cell)) in
+          let inside : IsCellOf (input_grid i).extent s.cell = record { row = omega (arith, row, rows); col = omega (arith, col, cols) } in
+          let listed : (input_grid i).sink s.cell ≡ true = ap (λ (lines : List SinkLine). is_listed lines s.cell) (sym sinks_are) ∙ listed_there listing.sinks k s at in
+          let said : has_data_but e voids s.cell ≡ is_some ((input_grid i).elevation s.cell) =
+          rw (lt-ltb s.cell.row e.rows row, lt-ltb s.cell.col e.cols col) (ap not (voids_are s.cell inside ∙ rw listed refl) ∙ twice ((input_grid i).elevation s.cell)) in
           (λ told. record { inside = inside; is_data = sym said ∙ told }, λ told has. (let no : true ≡ false = sym has.is_data ∙ sym said ∙ told in cc)))
     ]
   ]
 
   told_of_grid : (k : ℕ) (s : SinkLine) → slice_get (listed_in i) k ≡ Some s →
-      (has_data_but e voids s.cell ≡ true → HasData (grid_of i) s.cell) × (has_data_but e voids s.cell ≡ false → ¬ HasData (grid_of i) s.cell)
+      (has_data_but e voids s.cell ≡ true → HasData (input_grid i) s.cell) × (has_data_but e voids s.cell ≡ false → ¬ HasData (input_grid i) s.cell)
   told_of_grid k s at = told_there k s (subst (λ (sinks : List SinkLine). slice_get sinks k ≡ Some s) (sym sinks_are) at)
 
-  off_is : FoundOffDataIsRight → (found : Option ℕ) → IsLeastOff (has_data_but e voids) listing.sinks (length listing.sinks) found → IsOffAnswer (grid_of i) (listed_in i) found
+  off_is : FoundOffDataIsRight → (found : Option ℕ) → IsLeastOff (has_data_but e voids) listing.sinks (length listing.sinks) found → IsOffAnswer (input_grid i) (listed_in i) found
   off_is law found least =
-      law (grid_of i) (listed_in i) (has_data_but e voids) found told_of_grid
+      law (input_grid i) (listed_in i) (has_data_but e voids) found told_of_grid
       (subst (λ (sinks : List SinkLine). IsLeastOff (has_data_but e voids) sinks (length sinks) found) sinks_are least)
 
   off_refused : FoundOffDataIsRight → (n : ℕ) → IsLeastLine (has_data_but e voids) listing.sinks (length listing.sinks) n → NoneStandsBefore i 9 → IsRefusal i (SinkNotData n)
   off_refused law n least none =
-      let first : IsFirstOffData (grid_of i) (listed_in i) n = off_is law (Some n) least in
+      let first : IsFirstOffData (input_grid i) (listed_in i) n = off_is law (Some n) least in
       first_of i (Stands i) 9 n (SinkNotData n) refl first.off none
       (at_off_data i (λ b. (refusal_order i b).1 < n → ¬ Stands i b) (λ m less stands. first.first m less stands))
 
@@ -98,5 +98,5 @@ module _ (i : Inputs) (listing : SinkListing) (e : Extent) (voids : List Cell) (
   -- if none is reported, none applies
   pub sinks_none : FoundOffDataIsRight → IsToldOfSinks listing e voids None → NoneStandsBefore i 8 → AreReadable i
   sinks_none law told none =
-      let never : IsOffAnswer (grid_of i) (listed_in i) None = off_is law None told.1 in
+      let never : IsOffAnswer (input_grid i) (listed_in i) None = off_is law None told.1 in
       readable i (none_more i (Stands i) 9 (lines_none told.0 none) (at_off_data i (λ b. ¬ Stands i b) (λ n stands. never n stands)))

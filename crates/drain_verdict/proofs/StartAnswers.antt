@@ -1,24 +1,25 @@
 -- The stages of the layout and the headers, put together.
-use Rattle.std.proofs.Common.{◌≡◌, ℕ, List, length, Err, IsErrOf, sym, subst, ◌∙◌}
+use Rattle.std.proofs.Common.{◌≡◌, ℕ, List, length, Err, IsErrOf, sym, ap, subst, ◌∙◌}
 use Rattle.std.specs.Prelude.{Option}
 use Rattle.std.specs.List.{AllZip}
 use Rattle.std.proofs.lemmas.List.{length-map}
 use Rattle.std.proofs.lemmas.Slice.Zip.{AllZip-long}
-use Rattle.drain_grid.specs.declared.held.Held.{Held}
+use Rattle.drain_grid.specs.Size.{Extent}
+use Rattle.drain_grid.specs.declared.set_product.SetProduct.{SetProduct}
 use Rattle.drain_grid.specs.declared.per_product.PerProduct.{PerProduct}
-use Rattle.drain_grid.specs.Held.{product_of}
+use Rattle.drain_grid.specs.SetProduct.{product_of}
 use Rattle.drain_grid.specs.PerProduct.{of_product}
 use Rattle.drain_hgt.specs.declared.input.TileInput.{TileInput}
 use Rattle.drain_hgt.specs.Corner.{Corner}
-use Rattle.drain_hgt.specs.Name.{Names}
+use Rattle.drain_hgt.specs.Name.{IsNameOf}
 use Rattle.drain_hgt.specs.Laws.{OneName}
 use Rattle.drain_hgt.specs.Inputs.{names_of}
 use Rattle.drain_header.specs.Fields.{Fields}
-use Rattle.drain_mosaic.specs.Tiling.{Tiling}
+use Rattle.drain_mosaic.specs.Tiling.{Tiling, extent_of}
 use Rattle.drain_answer.specs.declared.refusal.Refusal.{Refusal}
 use Rattle.drain_answer.specs.declared.refusal.Refusal.TheVariants.{ReadFailed}
 use Rattle.drain_verdict.specs.Inputs.{Inputs, Tell, Products}
-use Rattle.drain_verdict.specs.Meaning.{tiling_of, fields_of}
+use Rattle.drain_verdict.specs.Meaning.{fields_of, input_grid, tiling_of}
 use Rattle.drain_verdict.specs.Refusals.{NoneStandsBefore}
 use Rattle.drain_verdict.specs.Answers.{IsAnswer}
 use Rattle.drain_verdict.specs.Devices.{RasterTakesAtMost, BodyTakesAtMost}
@@ -27,8 +28,8 @@ use Rattle.drain_verdict.proofs.LayoutAnswers.{layout_is, layout_none, layout_re
 use Rattle.drain_verdict.proofs.HeaderAnswers.{headers_none, headers_are, header_refused}
 
 -- a layout has a name for each tile
-pub named_each : {R : Type 0} (tiles : List (TileInput R)) (corners : List Corner) → AllZip Names (names_of tiles) corners → length tiles ≡ length corners
-named_each tiles corners named = sym (AllZip-long Names (names_of tiles) corners named ∙ length-map tiles (λ t. t.name))
+pub named_each : {R : Type 0} (tiles : List (TileInput R)) (corners : List Corner) → AllZip IsNameOf (names_of tiles) corners → length tiles ≡ length corners
+named_each tiles corners named = sym (AllZip-long IsNameOf (names_of tiles) corners named ∙ length-map tiles (λ t. t.name))
 
 -- what is known of a side and names is known of those of the inputs
 pub told_of_inputs : (P : ℕ → List (List ℕ) → Type 0) (i : Inputs) (side : ℕ) (names : List (List ℕ)) → i.side ≡ side → i.names ≡ names → P side names → P i.side i.names
@@ -51,6 +52,11 @@ at_side bytes_left side tiles sinks ps i t is tell = subst (λ s. Tell bytes_lef
 pub layout_of_inputs : OneName → {R : Type 0} (bytes_left : R → Option (List ℕ)) (side : ℕ) (tiles : List (TileInput R)) (sinks : List ℕ) (ps : Products R) (i : Inputs) (t : Tiling) →
     Tell bytes_left side tiles sinks ps i → IsLayoutOf side (names_of tiles) t → t ≡ tiling_of i
 layout_of_inputs one bytes_left side tiles sinks ps i t tell is = layout_is one i tell.corners_are t (layout_told bytes_left side tiles sinks ps i t tell is)
+
+-- and a shape of its size is that of the grid
+pub shape_of_inputs : OneName → {R : Type 0} (bytes_left : R → Option (List ℕ)) (t : Tiling) (tiles : List (TileInput R)) (sinks : List ℕ) (ps : Products R) (i : Inputs) (shape : Extent) →
+    Tell bytes_left t.side tiles sinks ps i → IsLayoutOf t.side (names_of tiles) t → shape ≡ extent_of t → shape ≡ (input_grid i).extent
+shape_of_inputs one bytes_left t tiles sinks ps i shape tell is shape_is = shape_is ∙ ap extent_of (layout_of_inputs one bytes_left t.side tiles sinks ps i t tell is)
 
 -- the refusal of the layout is the answer
 pub layout_answer : OneName → {R : Type 0} (bytes_left : R → Option (List ℕ)) (side : ℕ) (tiles : List (TileInput R)) (sinks : List ℕ) (ps : Products R) (i : Inputs) (refusal : Refusal) →
@@ -81,7 +87,7 @@ header_reads_none t ps refusal bad is =
 -- the layout is that of the inputs, the headers are theirs, and no refusal before the tiles applies
 pub started : OneName → {R : Type 0} (bytes_left : R → Option (List ℕ)) (side : ℕ) (tiles : List (TileInput R)) (sinks : List ℕ) (ps : Products R) (i : Inputs) (t : Tiling) (hs : PerProduct Fields) →
     Tell bytes_left side tiles sinks ps i → IsLayoutOf side (names_of tiles) t → AreHeadersFor t ps hs →
-    (t ≡ tiling_of i) × ((p : Held) → of_product hs p ≡ fields_of i p) × NoneStandsBefore i 5
+    (t ≡ tiling_of i) × ((p : SetProduct) → of_product hs p ≡ fields_of i p) × NoneStandsBefore i 5
 started one bytes_left side tiles sinks ps i t hs tell is headers =
     let there = layout_told bytes_left side tiles sinks ps i t tell is in
     let same = layout_is one i tell.corners_are t there in
@@ -89,6 +95,6 @@ started one bytes_left side tiles sinks ps i t hs tell is headers =
     (same, headers_are i ps hs tell.headers_are right, headers_none i ps hs tell.headers_are right (layout_none one i tell.corners_are t there))
 
 -- what a header needs is what its text says
-pub takes_as_told : {R : Type 0} (bytes_left : R → Option (List ℕ)) (t : Tiling) (old new : Products R) (hs : PerProduct Fields) → AreHeadersFor t old hs → (p : Held) →
+pub takes_as_told : {R : Type 0} (bytes_left : R → Option (List ℕ)) (t : Tiling) (old new : Products R) (hs : PerProduct Fields) → AreHeadersFor t old hs → (p : SetProduct) →
     BodyTakesAtMost bytes_left (of_product hs p) old new p → RasterTakesAtMost bytes_left old new p
 takes_as_told bytes_left t old new hs headers p taken = subst (λ (h : Fields). BodyTakesAtMost bytes_left h old new p) (headers p).described.fields taken

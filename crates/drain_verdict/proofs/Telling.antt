@@ -5,7 +5,7 @@ use Rattle.std.proofs.lemmas.Bool.{false≢true}
 use Rattle.std.proofs.lemmas.List.Elements.{All-head, All-tail}
 use Rattle.drain_hgt.specs.declared.input.TileInput.{TileInput}
 use Rattle.drain_hgt.specs.Corner.{Corner}
-use Rattle.drain_hgt.specs.Name.{Names}
+use Rattle.drain_hgt.specs.Name.{IsNameOf}
 use Rattle.drain_hgt.specs.Laws.{NamesGiveCorners}
 use Rattle.drain_hgt.specs.Inputs.{names_of}
 use Rattle.drain_grid.specs.PerProduct.{of_product}
@@ -22,13 +22,13 @@ told_is (Some bytes) some = refl
 told_is None some = absurd (false≢true some)
 
 -- names that name tiles name those that the function gives
-corners_named : (corner_of : List ℕ → Corner) → ((bytes : List ℕ) (c : Corner) → Names bytes c → corner_of bytes ≡ c) →
-    (names : List (List ℕ)) → AreNames names → AllZip Names names (map corner_of names)
+corners_named : (corner_of : List ℕ → Corner) → ((bytes : List ℕ) (c : Corner) → IsNameOf bytes c → corner_of bytes ≡ c) →
+    (names : List (List ℕ)) → AreNames names → AllZip IsNameOf names (map corner_of names)
 corners_named corner_of gives [] all = tt
 corners_named corner_of gives (name ∷ names) all =
-    let P : List ℕ → Type 0 = λ bytes. (c : Corner) × Names bytes c in
-    let here : (c : Corner) × Names name c = All-head P name names all in
-    (subst (Names name) (sym (gives name here.0 here.1)) here.1, corners_named corner_of gives names (All-tail P name names all))
+    let P : List ℕ → Type 0 = λ bytes. (c : Corner) × IsNameOf bytes c in
+    let here : (c : Corner) × IsNameOf name c = All-head P name names all in
+    (subst (IsNameOf name) (sym (gives name here.0 here.1)) here.1, corners_named corner_of gives names (All-tail P name names all))
 
 -- each tile's body is its source's bytes
 bodies_told : {R : Type 0} (bytes_left : R → Option (List ℕ)) (tiles : List (TileInput R)) → All (λ tile. IsSome (bytes_left tile.body)) tiles →

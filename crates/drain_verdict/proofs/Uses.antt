@@ -13,7 +13,7 @@ use Rattle.drain_verdict.specs.Uses.{AuditUses, UsesInputs}
 use Rattle.drain_verdict.specs.declared.audit_products.AuditProducts.{AuditProducts}
 use Rattle.drain_answer.specs.declared.refusal.Refusal.{Refusal}
 use Rattle.drain_answer.specs.declared.refusal.Refusal.TheVariants.{ReadFailed}
-use Rattle.drain_verdict.proofs.AuditDevices.{devices_of_four}
+use Rattle.drain_verdict.proofs.AuditDevices.{devices_of_four, failed_alike}
 use Rattle.drain_verdict.proofs.Devices.{tiles_take_none}
 
 -- an answer about bodies may change the inputs
@@ -63,3 +63,8 @@ four_used bytes_left counts side old new answer audit alike untouched uses = rec
   headers = uses.headers;
   untouched = untouched;
 }
+
+-- the same of a refusal
+pub four_failed : {R A B : Type 0} (bytes_left : R → Option (List ℕ)) (counts : R → FaultCounts) (side : ℕ) (old new : List (TileInput R) × AuditProducts R) (refusal : Refusal) →
+    UsesInputs {T = A} with_con_for_ranks (λ ts ps. devices_of ts (with_con_for_ranks ps)) bytes_left counts side old new (Err refusal) → AuditUses {T = B} bytes_left counts side old new (Err refusal)
+four_failed bytes_left counts side old new refusal uses = four_used bytes_left counts side old new (Err refusal) (Err refusal) (failed_alike refusal) uses.untouched uses

@@ -7,11 +7,11 @@ use Rattle.drain_kernel.specs.Rules.{rules_with}
 use Rattle.drain_rules.specs.Verdicts.{IsVerdictOf}
 use Rattle.drain_kernel.specs.declared.rules.Ranks.{Ranks}
 use Rattle.drain_kernel.specs.declared.rules.Rules.{Rules}
-use Rattle.drain_kernel.specs.declared.rules.Ranks.TheVariants.{Asked}
+use Rattle.drain_kernel.specs.declared.rules.Ranks.TheVariants.{Checked}
 use Rattle.drain_answer.specs.declared.refusal.Refusal.{Refusal}
 use Rattle.drain_answer.specs.declared.refusal.Refusal.TheVariants.{OutOfMemory, ReadFailed}
 use Rattle.drain_verdict.specs.Inputs.{Inputs}
-use Rattle.drain_verdict.specs.Meaning.{grid_of, products_of, nodata_numbers}
+use Rattle.drain_verdict.specs.Meaning.{input_grid, input_products, nodata_numbers}
 use Rattle.drain_verdict.specs.Refusals.{Stands, refusal_order}
 
 -- no refusal applies
@@ -26,12 +26,12 @@ IsRefusal i refusal = IsFirst (refusal_order i) (Stands i) refusal
 
 -- the answer to the inputs, with ranks checked or not
 abbrev pub IsAnswerWith : Ranks → Inputs → Result Verdict Refusal → Type 0
-IsAnswerWith ranks i (Ok verdict) = AreReadable i × IsVerdictOf (rules_with ranks (nodata_numbers i)) (grid_of i) (products_of i) verdict
+IsAnswerWith ranks i (Ok verdict) = AreReadable i × IsVerdictOf (rules_with ranks (nodata_numbers i)) (input_grid i) (input_products i) verdict
 IsAnswerWith ranks i (Err refusal) = IsRefusal i refusal
 
 -- the answer of a check, which checks ranks
 abbrev pub IsAnswer : Inputs → Result Verdict Refusal → Type 0
-IsAnswer = IsAnswerWith Asked
+IsAnswer = IsAnswerWith Checked
 
 -- the rules that are checked of the inputs, with ranks or not
 abbrev pub rules_at : Ranks → Inputs → Rules
@@ -39,4 +39,4 @@ rules_at ranks i = record { nodata = nodata_numbers i; ranks = ranks }
 
 -- notes of a grid's rows that are of all rows of the inputs' grid, under these rules
 abbrev pub AreNotesOf : {K : Type 0} → (Rules → Grid → Products → ℕ → K → Type 0) → Ranks → Inputs → K → Type 0
-AreNotesOf are_of ranks i notes = are_of (rules_at ranks i) (grid_of i) (products_of i) (grid_of i).extent.rows notes
+AreNotesOf are_of ranks i notes = are_of (rules_at ranks i) (input_grid i) (input_products i) (input_grid i).extent.rows notes

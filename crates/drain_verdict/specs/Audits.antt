@@ -13,7 +13,7 @@ use Rattle.drain_rows.specs.Runs.{AllRunsEnd}
 use Rattle.drain_rules.specs.Verdicts.{IsVerdict, IsVerdictOf}
 use Rattle.drain_rules.specs.declared.verdict.Verdict.{Verdict}
 use Rattle.drain_rules.specs.declared.verdict.Verdict.TheVariants as checked
-use Rattle.drain_runs.specs.declared.steps.TheConstants.{UNKNOWN}
+use Rattle.drain_paths.specs.declared.steps.TheConstants.{UNKNOWN}
 use Rattle.drain_verdict.specs.declared.audit_products.AuditProducts.{AuditProducts}
 use Rattle.drain_answer.specs.declared.audit_verdict.AuditVerdict.{AuditVerdict}
 use Rattle.drain_answer.specs.declared.audit_verdict.AuditVerdict.TheVariants.{Accepted, Rejected, NoEnd}
@@ -21,7 +21,7 @@ use Rattle.drain_answer.specs.declared.refusal.Refusal.{Refusal}
 use Rattle.drain_verdict.specs.AuditInputs.{with_con_for_ranks}
 use Rattle.drain_verdict.specs.Answers.{AreReadable, IsRefusal}
 use Rattle.drain_verdict.specs.Inputs.{Inputs, Tell}
-use Rattle.drain_verdict.specs.Meaning.{grid_of, products_of, nodata_numbers}
+use Rattle.drain_verdict.specs.Meaning.{input_grid, input_products, nodata_numbers}
 
 -- ranks as `certify` gives them: the number of steps of each data cell's path, and 4294967295 at voids
 abbrev pub certified_ranks : Grid → Products → Cell → ℤ
@@ -42,7 +42,7 @@ IsAuditVerdict g ps nodata (Rejected rule row col) = AllRunsEnd g ps × IsVerdic
 
 -- the answer to the inputs: the first refusal that applies, else the verdict
 abbrev pub IsAuditAnswer : Inputs → Result AuditVerdict Refusal → Type 0
-IsAuditAnswer i (Ok verdict) = AreReadable i × IsAuditVerdict (grid_of i) (products_of i) (nodata_numbers i) verdict
+IsAuditAnswer i (Ok verdict) = AreReadable i × IsAuditVerdict (input_grid i) (input_products i) (nodata_numbers i) verdict
 IsAuditAnswer i (Err refusal) = IsRefusal i refusal
 
 -- the same without ranks: the first path without an end; else the verdict of the rules that ignore them
@@ -51,9 +51,9 @@ IsPlainVerdict g ps nodata (NoEnd row col) = IsFirstEndless g ps (record { row =
 IsPlainVerdict g ps nodata (Accepted counts) = AllRunsEnd g ps × IsVerdictOf (unranked nodata) g ps (checked.Accepted counts)
 IsPlainVerdict g ps nodata (Rejected rule row col) = AllRunsEnd g ps × IsVerdictOf (unranked nodata) g ps (checked.Rejected rule row col)
 
-abbrev pub IsPlainAnswer : Inputs → Result AuditVerdict Refusal → Type 0
-IsPlainAnswer i (Ok verdict) = AreReadable i × IsExtent (grid_of i).extent × IsPlainVerdict (grid_of i) (products_of i) (nodata_numbers i) verdict
-IsPlainAnswer i (Err refusal) = IsRefusal i refusal
+abbrev pub IsAnswerWithoutRanks : Inputs → Result AuditVerdict Refusal → Type 0
+IsAnswerWithoutRanks i (Ok verdict) = AreReadable i × IsExtent (input_grid i).extent × IsPlainVerdict (input_grid i) (input_products i) (nodata_numbers i) verdict
+IsAnswerWithoutRanks i (Err refusal) = IsRefusal i refusal
 
 -- the verdict of the rules, and the first path without an end, if there is one, make this one
 abbrev pub IsOfBoth : Verdict → Option Cell → AuditVerdict → Type 0
@@ -68,8 +68,8 @@ IsAcceptance (Rejected rule row col) = ⊥
 IsAcceptance (NoEnd row col) = ⊥
 
 -- the fact holds of the inputs of the call, with con's bytes in place of ranks, of which no fact says anything
-abbrev pub OfFour : {R : Type 0} → (R → Option (List ℕ)) → ℕ → List (TileInput R) → List ℕ → AuditProducts R → (Inputs → Type 0) → Type 0
-OfFour bytes_left side tiles sinks ps Fact = (i : Inputs) → Tell bytes_left side tiles sinks (with_con_for_ranks ps) i → Fact i
+abbrev pub ForAudit : {R : Type 0} → (R → Option (List ℕ)) → ℕ → List (TileInput R) → List ℕ → AuditProducts R → (Inputs → Type 0) → Type 0
+ForAudit bytes_left side tiles sinks ps Fact = (i : Inputs) → Tell bytes_left side tiles sinks (with_con_for_ranks ps) i → Fact i
 
 -- the fact holds where the answer is an acceptance
 abbrev pub IfAccepts : Result AuditVerdict Refusal → Type 0 → Type 0
@@ -80,8 +80,8 @@ IfAccepts (Err refusal) P = Unit {0}
 
 -- where the answer is an acceptance, the fact holds of the inputs of the call
 abbrev pub AuditMeans : {R : Type 0} → (Inputs → Type 0) → (R → Option (List ℕ)) → ℕ → List (TileInput R) → List ℕ → AuditProducts R → Result AuditVerdict Refusal → Type 0
-AuditMeans Fact bytes_left side tiles sinks ps answer = IfAccepts answer (OfFour bytes_left side tiles sinks ps Fact)
+AuditMeans Fact bytes_left side tiles sinks ps answer = IfAccepts answer (ForAudit bytes_left side tiles sinks ps Fact)
 
 -- the products of the inputs are correct
 abbrev pub AreCorrect : Inputs → Type 0
-AreCorrect i = IsCorrect (grid_of i) (products_of i) (nodata_numbers i)
+AreCorrect i = IsCorrect (input_grid i) (input_products i) (nodata_numbers i)

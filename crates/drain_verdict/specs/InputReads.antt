@@ -3,7 +3,7 @@ use Rattle.std.specs.Prelude.{◌≡◌, ℕ, ◌⊎◌, ◌↔◌, List, length
 use Rattle.drain_device.specs.PartFailing.{PartFails}
 use Rattle.drain_device.specs.RowSteps.{ReadsWithin}
 use Rattle.drain_device.specs.declared.counts.FaultCounts.{FaultCounts}
-use Rattle.drain_grid.specs.declared.held.Held.{Held}
+use Rattle.drain_grid.specs.declared.set_product.SetProduct.{SetProduct}
 use Rattle.drain_grid.specs.declared.per_product.PerProduct.{PerProduct}
 use Rattle.drain_grid.specs.PerProduct.{of_product}
 use Rattle.drain_hgt.specs.declared.input.TileInput.{TileInput}
@@ -54,7 +54,7 @@ abbrev pub as_read : {R P : Type 0} → (PerProduct RasterRows → PerProduct Ra
 as_read readers_of inputs_of s = (with_rasters readers_of s.0, s.1, inputs_of s.2)
 
 -- the body of a product
-abbrev pub product_body : {R : Type 0} → Reading R → Held → R
+abbrev pub product_body : {R : Type 0} → Reading R → SetProduct → R
 product_body s p = (of_product (products_lent s) p).body
 
 -- a refusal of reading: memory ran out, or a device failed for good
@@ -63,27 +63,27 @@ IsOfReading told = MatchOption told (Unit {0}) (λ refusal. (refusal ≡ OutOfMe
 
 -- calls for all products, from one state to the other: a device that failed for good ended the last
 pub record RastersHaveRead {R : Type 0} (bytes_left : R → Option (List ℕ)) (counts : R → FaultCounts) (old new : PerProduct RasterRows) (lent lent_then : Products R) (told : Option Refusal) : Type 0 where
-  pub failed : Held → Bool
-  pub exactly : (told ≡ Some ReadFailed) ↔ ((p : Held) × IsTrue (failed p))
-  pub each : (p : Held) →
+  pub failed : SetProduct → Bool
+  pub exactly : (told ≡ Some ReadFailed) ↔ ((p : SetProduct) × IsTrue (failed p))
+  pub each : (p : SetProduct) →
       RasterHasRead (bytes_left (of_product lent p).body) (bytes_left (of_product lent_then p).body) (counts (of_product lent p).body) (counts (of_product lent_then p).body)
       (of_product old p) (of_product new p) (IsTrue (failed p))
-  pub headers : (p : Held) → (of_product lent_then p).header ≡ (of_product lent p).header
+  pub headers : (p : SetProduct) → (of_product lent_then p).header ≡ (of_product lent p).header
 
 -- calls for all of them, from one state to the other: a device that failed for good ended the last
 pub record InputsHaveRead {R : Type 0} (bytes_left : R → Option (List ℕ)) (counts : R → FaultCounts) (start now : Reading R) (told : Option Refusal) : Type 0 where
   pub tile_failed : Bool
-  pub product_failed : Held → Bool
-  pub exactly : (told ≡ Some ReadFailed) ↔ (IsTrue tile_failed ⊎ ((p : Held) × IsTrue (product_failed p)))
+  pub product_failed : SetProduct → Bool
+  pub exactly : (told ≡ Some ReadFailed) ↔ (IsTrue tile_failed ⊎ ((p : SetProduct) × IsTrue (product_failed p)))
   pub of_reading : IsOfReading told
   pub counted : length (readers now).mosaic.tiles.items ≡ length (readers start).mosaic.tiles.items
   pub as_many : length (tiles_lent now) ≡ length (tiles_lent start)
   pub tiles : HaveRead bytes_left counts (readers start).mosaic.tiles.items (readers now).mosaic.tiles.items (tiles_lent start) (tiles_lent now) (IsTrue tile_failed)
-  pub products : (p : Held) →
+  pub products : (p : SetProduct) →
       RasterHasRead (bytes_left (product_body start p)) (bytes_left (product_body now p)) (counts (product_body start p)) (counts (product_body now p))
       (of_product (readers start).rasters p) (of_product (readers now).rasters p) (IsTrue (product_failed p))
   pub names : names_of (tiles_lent now) ≡ names_of (tiles_lent start)
-  pub headers : (p : Held) → (of_product (products_lent now) p).header ≡ (of_product (products_lent start) p).header
+  pub headers : (p : SetProduct) → (of_product (products_lent now) p).header ≡ (of_product (products_lent start) p).header
 
 -- the same where a check's answer says whether some device failed for good
 pub record HaveBeenRead {R : Type 0} (bytes_left : R → Option (List ℕ)) (counts : R → FaultCounts) (start now : Reading R) (Fails : Type 0) : Type 0 where

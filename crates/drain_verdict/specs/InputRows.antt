@@ -4,9 +4,9 @@ use Rattle.drain_device.specs.Patience.{full_patience}
 use Rattle.drain_device.specs.declared.row_source.Progress.TheVariants.{Going, Stopped}
 use Rattle.drain_grid.specs.declared.cell.Cell.{Cell}
 use Rattle.drain_grid.specs.declared.per_product.PerProduct.{PerProduct}
-use Rattle.drain_grid.specs.declared.held.Held.{Held}
+use Rattle.drain_grid.specs.declared.set_product.SetProduct.{SetProduct}
 use Rattle.drain_grid.specs.PerProduct.{of_product}
-use Rattle.drain_grid.specs.Held.{OfHeld, rank_of}
+use Rattle.drain_grid.specs.SetProduct.{OfSetProduct, rank_of}
 use Rattle.drain_header.specs.Fields.{AreWithinBounds, Fields}
 use Rattle.drain_mosaic.specs.MosaicRows.{IsBegun}
 use Rattle.drain_mosaic.specs.Tiling.{Tiling}
@@ -27,26 +27,26 @@ pub record IsRasterBegun (h : Fields) (raster : RasterRows) : Type 0 where
 pub record AreBegun (t : Tiling) (hs : PerProduct Fields) (rows : InputRows) : Type 0 where
   pub mosaic : IsBegun t rows.mosaic
   pub counted : length rows.mosaic.tiles.items ≡ length t.corners
-  pub bounds : (p : Held) → AreWithinBounds (of_product hs p)
-  pub raster : (p : Held) → IsRasterBegun (of_product hs p) (of_product rows.rasters p)
+  pub bounds : (p : SetProduct) → AreWithinBounds (of_product hs p)
+  pub raster : (p : SetProduct) → IsRasterBegun (of_product hs p) (of_product rows.rasters p)
 
 -- the rows of the product have stopped
-abbrev pub HasStopped : InputRows → Held → Type 0
+abbrev pub HasStopped : InputRows → SetProduct → Type 0
 HasStopped rows p = (of_product rows.rasters p).progress ≡ Stopped
 
 -- it holds of this product and of none before it
-pub record IsFirstOf (Holds : Held → Type 0) (p : Held) : Type 0 where
+pub record IsFirstOf (Holds : SetProduct → Type 0) (p : SetProduct) : Type 0 where
   pub holds : Holds p
-  pub before : (q : Held) → rank_of q < rank_of p → ¬ Holds q
+  pub before : (q : SetProduct) → rank_of q < rank_of p → ¬ Holds q
 
 -- the first product of which it holds, if there is one
-abbrev pub IsFirstProduct : (Held → Type 0) → Option Held → Type 0
-IsFirstProduct Holds found = MatchOption found ((p : Held) → ¬ Holds p) (IsFirstOf Holds)
+abbrev pub IsFirstProduct : (SetProduct → Type 0) → Option SetProduct → Type 0
+IsFirstProduct Holds found = MatchOption found ((p : SetProduct) → ¬ Holds p) (IsFirstOf Holds)
 
 -- the refusal for a tile of wrong length, else the first short product, else a seam; none if there is none of them
-abbrev pub IsToldRefusal : Tiling → Option ℕ → (Held → Type 0) → Option Cell → Option Refusal → Type 0
-IsToldRefusal t wrong Short seam None = (wrong ≡ None) × ((p : Held) → ¬ Short p) × (seam ≡ None)
+abbrev pub IsToldRefusal : Tiling → Option ℕ → (SetProduct → Type 0) → Option Cell → Option Refusal → Type 0
+IsToldRefusal t wrong Short seam None = (wrong ≡ None) × ((p : SetProduct) → ¬ Short p) × (seam ≡ None)
 IsToldRefusal t wrong Short seam (Some (BadTileLength c)) = (k : ℕ) × (wrong ≡ Some k) × (slice_get t.corners k ≡ Some c)
-IsToldRefusal t wrong Short seam (Some (RasterShort p)) = (wrong ≡ None) × OfHeld (IsFirstOf Short) p
-IsToldRefusal t wrong Short seam (Some (SeamMismatch c)) = (wrong ≡ None) × ((p : Held) → ¬ Short p) × (seam ≡ Some c)
+IsToldRefusal t wrong Short seam (Some (RasterShort p)) = (wrong ≡ None) × OfSetProduct (IsFirstOf Short) p
+IsToldRefusal t wrong Short seam (Some (SeamMismatch c)) = (wrong ≡ None) × ((p : SetProduct) → ¬ Short p) × (seam ≡ Some c)
 IsToldRefusal t wrong Short seam (Some refusal) = ⊥

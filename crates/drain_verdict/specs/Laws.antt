@@ -1,7 +1,7 @@
 -- What the contracts of a check rest on.
 use Rattle.std.specs.Prelude.{ℕ, List, Option, IsSome}
 use Rattle.std.specs.List.{All}
-use Rattle.drain_grid.specs.declared.held.Held.{Held}
+use Rattle.drain_grid.specs.declared.set_product.SetProduct.{SetProduct}
 use Rattle.drain_hgt.specs.declared.input.TileInput.{TileInput}
 use Rattle.drain_grid.specs.PerProduct.{of_product}
 use Rattle.drain_verdict.specs.Inputs.{Inputs, Tell, Products}
@@ -10,5 +10,5 @@ use Rattle.drain_verdict.specs.Inputs.{Inputs, Tell, Products}
 abbrev pub InputsAreTold : {R : Type 0} → (R → Option (List ℕ)) → Type 0
 InputsAreTold {R} bytes_left =
     (side : ℕ) (tiles : List (TileInput R)) (sinks : List ℕ) (ps : Products R) →
-    All (λ tile. IsSome (bytes_left tile.body)) tiles → ((p : Held) → IsSome (bytes_left (of_product ps p).body)) →
+    All (λ tile. IsSome (bytes_left tile.body)) tiles → ((p : SetProduct) → IsSome (bytes_left (of_product ps p).body)) →
     (i : Inputs) × Tell bytes_left side tiles sinks ps i

@@ -4,18 +4,18 @@ use Rattle.std.specs.Prelude.{◌≡◌, ℕ, suc, ◌+◌, ◌-◌, ◌*◌, �
 use Rattle.std.specs.Ordering.{int_eq}
 use Rattle.drain_grid.specs.declared.cell.Cell.{Cell}
 use Rattle.drain_grid.specs.declared.degree.TheConstants.{UNITS_PER_DEGREE}
-use Rattle.drain_grid.specs.declared.held.Held.{Held}
-use Rattle.drain_grid.specs.Held.{OfHeld, place_of}
+use Rattle.drain_grid.specs.declared.set_product.SetProduct.{SetProduct}
+use Rattle.drain_grid.specs.SetProduct.{OfSetProduct, place_of}
 use Rattle.drain_grid.specs.Extent.{IsCellOf, index_of}
 use Rattle.drain_grid.specs.Tile.{IsSide}
 use Rattle.drain_grid.specs.SinkTexts.{sinks_of}
 use Rattle.drain_grid.specs.OffData.{IsOffData}
 use Rattle.drain_hgt.specs.Corner.{Corner}
-use Rattle.drain_hgt.specs.Name.{Names}
+use Rattle.drain_hgt.specs.Name.{IsNameOf}
 use Rattle.drain_hgt.specs.Samples.{IsTile}
 use Rattle.drain_header.specs.declared.header.Place.{Place}
 use Rattle.drain_header.specs.Faults.{Answers}
-use Rattle.drain_raster.specs.Pixels.{extent_of, IsShort}
+use Rattle.drain_raster.specs.Pixels.{header_extent, IsShort}
 use Rattle.drain_mosaic.specs.declared.layout.LayoutFault.{LayoutFault}
 use Rattle.drain_mosaic.specs.Tiling as tiling
 use Rattle.drain_mosaic.specs.LayoutFaults.{HasLayoutFault}
@@ -25,13 +25,13 @@ use Rattle.drain_answer.specs.declared.refusal.Refusal.TheVariants.{BadSide, Bad
 use Rattle.drain_rows.specs.declared.walk_stop.WalkStop.{WalkStop}
 use Rattle.drain_rows.specs.declared.walk_stop.WalkStop.TheVariants as walk_stop
 use Rattle.drain_verdict.specs.Inputs.{Inputs}
-use Rattle.drain_verdict.specs.Meaning.{tiling_of, tiles_of, fields_of, listed_in, grid_of}
+use Rattle.drain_verdict.specs.Meaning.{tiling_of, input_tiles, fields_of, listed_in, input_grid}
 
 -- the name in this place names no tile
 pub record IsBadName (names : List (List ℕ)) (place : ℕ) : Type 0 where
   pub name : List ℕ
   pub is_there : slice_get names place ≡ Some name
-  pub names_none : (c : Corner) → ¬ Names name c
+  pub names_none : (c : Corner) → ¬ IsNameOf name c
 
 -- within the given number of units of one another
 abbrev pub AreWithin : ℕ → ℤ → ℤ → Type 0
@@ -45,8 +45,8 @@ pub record IsPlaced (t : tiling.Tiling) (place : Place) : Type 0 where
   pub ydim : AreWithin (10 ^ 6 * (t.side - 1)) (place.ydim *ℤ pos (t.side - 1)) (pos UNITS_PER_DEGREE)
 
 -- the product's header gives the rows and columns of the mosaic
-abbrev pub HasShape : Inputs → Held → Type 0
-HasShape i p = extent_of (fields_of i p) ≡ tiling.extent_of (tiling_of i)
+abbrev pub HasShape : Inputs → SetProduct → Type 0
+HasShape i p = header_extent (fields_of i p) ≡ tiling.extent_of (tiling_of i)
 
 -- a tile at the corner has a body of another length
 pub record HasBadLength (i : Inputs) (c : Corner) : Type 0 where
@@ -58,7 +58,7 @@ pub record HasBadLength (i : Inputs) (c : Corner) : Type 0 where
 
 -- a cell of the mosaic has two values
 abbrev pub IsSeamFault : Inputs → Cell → Type 0
-IsSeamFault i c = IsCellOf (tiling.extent_of (tiling_of i)) c × HasTwoValues (tiling_of i) (tiles_of i) c
+IsSeamFault i c = IsCellOf (tiling.extent_of (tiling_of i)) c × HasTwoValues (tiling_of i) (input_tiles i) c
 
 -- what each refusal says, of a product only if a check reads it; out of memory and a failed read aren't about bytes
 abbrev pub Stands : Inputs → Refusal → Type 0
@@ -67,14 +67,14 @@ Stands i (BadName k) = IsBadName i.names k
 Stands i NoTiles = HasLayoutFault (tiling_of i) LayoutFault.NoTiles
 Stands i (RepeatedTile c) = HasLayoutFault (tiling_of i) (LayoutFault.RepeatedTile c)
 Stands i BoxTooLarge = HasLayoutFault (tiling_of i) LayoutFault.BoxTooLarge
-Stands i (BadHeader p fault) = OfHeld (λ h. Answers (i.header h) (Err fault)) p
-Stands i (WrongShape p) = OfHeld (λ h. ¬ HasShape i h) p
-Stands i (Misplaced p) = OfHeld (λ h. ¬ IsPlaced (tiling_of i) (fields_of i h).place) p
+Stands i (BadHeader p fault) = OfSetProduct (λ h. Answers (i.header h) (Err fault)) p
+Stands i (WrongShape p) = OfSetProduct (λ h. ¬ HasShape i h) p
+Stands i (Misplaced p) = OfSetProduct (λ h. ¬ IsPlaced (tiling_of i) (fields_of i h).place) p
 Stands i (BadTileLength c) = HasBadLength i c
-Stands i (RasterShort p) = OfHeld (λ h. IsShort (fields_of i h) (i.raster h)) p
+Stands i (RasterShort p) = OfSetProduct (λ h. IsShort (fields_of i h) (i.raster h)) p
 Stands i (SeamMismatch c) = IsSeamFault i c
 Stands i (BadSinkLine n) = sinks_of i.sinks ≡ Err n
-Stands i (SinkNotData n) = IsOffData (grid_of i) (listed_in i) n
+Stands i (SinkNotData n) = IsOffData (input_grid i) (listed_in i) n
 Stands i OutOfMemory = ⊥
 Stands i ReadFailed = ⊥
 

@@ -1,23 +1,23 @@
 -- What the stages of a check find: the layout, the headers and the tiles; or the first refusal of their kind.
 use Rattle.std.specs.Prelude.{◌≡◌, ℕ, ◌<◌, List, slice_get, Option, Some, Err}
 use Rattle.std.specs.List.{AllZip}
-use Rattle.drain_grid.specs.declared.held.Held.{Held}
+use Rattle.drain_grid.specs.declared.set_product.SetProduct.{SetProduct}
 use Rattle.drain_grid.specs.declared.product.Product.{Product}
 use Rattle.drain_grid.specs.declared.per_product.PerProduct.{PerProduct}
 use Rattle.drain_text.specs.First.{IsFirst}
 use Rattle.drain_grid.specs.Tile.{IsSide}
 use Rattle.drain_grid.specs.PerProduct.{of_product}
-use Rattle.drain_grid.specs.Held.{product_of, rank_of}
+use Rattle.drain_grid.specs.SetProduct.{product_of, rank_of}
 use Rattle.drain_hgt.specs.Corner.{Corner}
-use Rattle.drain_hgt.specs.Name.{Names}
+use Rattle.drain_hgt.specs.Name.{IsNameOf}
 use Rattle.drain_hgt.specs.Inputs.{IsFirstBadLength}
 use Rattle.drain_header.specs.Fields.{Fields}
 use Rattle.drain_header.specs.Faults.{Answers, Describes}
-use Rattle.drain_raster.specs.Pixels.{extent_of}
+use Rattle.drain_raster.specs.Pixels.{header_extent}
 use Rattle.drain_mosaic.specs.declared.layout.LayoutFault.{LayoutFault}
 use Rattle.drain_mosaic.specs.declared.layout.LayoutFault.TheVariants as layout
 use Rattle.drain_mosaic.specs.Tiling as tiling
-use Rattle.drain_mosaic.specs.LayoutFaults.{HasLayoutFault, order_of}
+use Rattle.drain_mosaic.specs.LayoutFaults.{HasLayoutFault, layout_fault_order}
 use Rattle.drain_answer.specs.declared.refusal.Refusal.{Refusal}
 use Rattle.drain_answer.specs.declared.refusal.Refusal.TheVariants.{BadSide, BadName, NoTiles, RepeatedTile, BoxTooLarge, BadHeader, WrongShape, Misplaced, BadTileLength, OutOfMemory, ReadFailed}
 use Rattle.drain_verdict.specs.Inputs.{Products}
@@ -27,7 +27,7 @@ use Rattle.drain_verdict.specs.Refusals.{IsBadName, IsPlaced}
 pub record IsLayoutOf (side : ℕ) (names : List (List ℕ)) (t : tiling.Tiling) : Type 0 where
   pub side_is : t.side ≡ side
   pub in_range : IsSide side
-  pub named : AllZip Names names t.corners
+  pub named : AllZip IsNameOf names t.corners
   pub sound : (fault : LayoutFault) → ¬ HasLayoutFault t fault
 
 -- the first name that names no tile
@@ -38,8 +38,8 @@ pub record IsFirstBadName (names : List (List ℕ)) (place : ℕ) : Type 0 where
 -- the names are those of tiles, and this is the first fault of their list
 pub record IsLayoutFault (side : ℕ) (names : List (List ℕ)) (fault : LayoutFault) : Type 0 where
   pub corners : List Corner
-  pub named : AllZip Names names corners
-  pub first : IsFirst order_of (HasLayoutFault (record { side = side; corners = corners })) fault
+  pub named : AllZip IsNameOf names corners
+  pub first : IsFirst layout_fault_order (HasLayoutFault (record { side = side; corners = corners })) fault
 
 -- why the names alone are refused
 abbrev pub IsNameRefusal : List (List ℕ) → Refusal → Type 0
@@ -67,20 +67,20 @@ IsLayoutRefusal side names refusal = ⊥
 -- the text describes a header with the shape and the place of the mosaic
 pub record IsHeaderFor (t : tiling.Tiling) (text : List ℕ) (h : Fields) : Type 0 where
   pub described : Describes text h
-  pub shape : extent_of h ≡ tiling.extent_of t
+  pub shape : header_extent h ≡ tiling.extent_of t
   pub placed : IsPlaced t h.place
 
 -- the text describes a header of another shape
 pub record HasWrongShape (t : tiling.Tiling) (text : List ℕ) : Type 0 where
   pub fields : Fields
   pub described : Describes text fields
-  pub shape_is_not : ¬ (extent_of fields ≡ tiling.extent_of t)
+  pub shape_is_not : ¬ (header_extent fields ≡ tiling.extent_of t)
 
 -- the text describes a header of the right shape that lies elsewhere
 pub record IsElsewhere (t : tiling.Tiling) (text : List ℕ) : Type 0 where
   pub fields : Fields
   pub described : Describes text fields
-  pub shape : extent_of fields ≡ tiling.extent_of t
+  pub shape : header_extent fields ≡ tiling.extent_of t
   pub not_placed : ¬ IsPlaced t fields.place
 
 -- why the header of a product is refused
@@ -91,14 +91,14 @@ IsHeaderRefusal t p text (Misplaced q) = (q ≡ p) × IsElsewhere t text
 IsHeaderRefusal t p text refusal = ⊥
 
 -- each text is a correct header, and these are they
-abbrev pub AreHeadersOf : tiling.Tiling → (Held → List ℕ) → PerProduct Fields → Type 0
-AreHeadersOf t text hs = (p : Held) → IsHeaderFor t (text p) (of_product hs p)
+abbrev pub AreHeadersOf : tiling.Tiling → (SetProduct → List ℕ) → PerProduct Fields → Type 0
+AreHeadersOf t text hs = (p : SetProduct) → IsHeaderFor t (text p) (of_product hs p)
 
 -- the first product whose text is refused, and why
-pub record IsFirstRefusalOf (t : tiling.Tiling) (text : Held → List ℕ) (refusal : Refusal) : Type 0 where
-  pub product : Held
+pub record IsFirstRefusalOf (t : tiling.Tiling) (text : SetProduct → List ℕ) (refusal : Refusal) : Type 0 where
+  pub product : SetProduct
   pub refused : IsHeaderRefusal t (product_of product) (text product) refusal
-  pub before : (q : Held) → rank_of q < rank_of product → (h : Fields) × IsHeaderFor t (text q) h
+  pub before : (q : SetProduct) → rank_of q < rank_of product → (h : Fields) × IsHeaderFor t (text q) h
 
 -- the header of each product is right
 abbrev pub AreHeadersFor : {R : Type 0} → tiling.Tiling → Products R → PerProduct Fields → Type 0
@@ -116,5 +116,5 @@ IsTileRefusal t bodies ReadFailed = Unit {0}
 IsTileRefusal t bodies refusal = ⊥
 
 -- the products have these bodies
-abbrev pub AreRasterBodies : {R : Type 0} → (R → Option (List ℕ)) → Products R → (Held → List ℕ) → Type 0
-AreRasterBodies bytes_left ps bodies = (p : Held) → bytes_left (of_product ps p).body ≡ Some (bodies p)
+abbrev pub AreRasterBodies : {R : Type 0} → (R → Option (List ℕ)) → Products R → (SetProduct → List ℕ) → Type 0
+AreRasterBodies bytes_left ps bodies = (p : SetProduct) → bytes_left (of_product ps p).body ≡ Some (bodies p)

@@ -5,7 +5,7 @@ use Rattle.drain_device.specs.ComingRows.Coming.{End, Wrong}
 use Rattle.drain_device.specs.declared.counts.FaultCounts.{FaultCounts}
 use Rattle.drain_device.specs.declared.row_source.Progress.TheVariants.{Stopped}
 use Rattle.drain_grid.specs.declared.cell.Cell.{Cell}
-use Rattle.drain_grid.specs.declared.held.Held.{Held}
+use Rattle.drain_grid.specs.declared.set_product.SetProduct.{SetProduct}
 use Rattle.drain_grid.specs.PerProduct.{of_product, per_product}
 use Rattle.drain_hgt.specs.declared.input.TileInput.{TileInput}
 use Rattle.drain_raster.specs.declared.raster_rows.RasterRows.{RasterRows}
@@ -15,7 +15,7 @@ use Rattle.drain_mosaic.specs.MosaicRows.{IsToldAtEnd, coming_of, seam_to_tell, 
 use Rattle.drain_mosaic.specs.declared.mosaic_rows.MosaicRows.{MosaicRows}
 use Rattle.drain_rules.specs.RowNumbers.{RowNumbers, blank}
 use Rattle.drain_verdict.specs.InputReads.{InputsHaveRead, Reading, products_lent, readers, tiles_lent}
-use Rattle.drain_rows.specs.HeldRows.{IsEven}
+use Rattle.drain_rows.specs.RowBuffers.{IsEven}
 use Rattle.drain_verdict.specs.Inputs.{Products}
 use Rattle.drain_verdict.specs.declared.input_rows.InputRows.{InputRows}
 use Rattle.drain_answer.specs.declared.refusal.Refusal.{Refusal}
@@ -25,7 +25,7 @@ pub record ToGive : Type 0 where
   pub mosaic : Coming
   pub seam : Option Cell
   pub wrong : Option ℕ
-  pub product : Held → Coming
+  pub product : SetProduct → Coming
 
 -- the rows of this number
 abbrev pub given : ToGive → ℕ → RowNumbers
@@ -46,7 +46,7 @@ abbrev pub IsAfterTold : RasterRows → Option (List ℕ) → Coming → ℕ →
 IsAfterTold raster known start n = MatchOption known ⊥ (λ bytes. IsRasterAfter raster bytes start n)
 
 -- one row more was requested, and this came
-pub record IsOneMore (raster : RasterRows) (known : Option (List ℕ)) (start : Coming) (n : ℕ) (out : List ℤ) : Type 0 where
+pub record IsNextRow (raster : RasterRows) (known : Option (List ℕ)) (start : Coming) (n : ℕ) (out : List ℤ) : Type 0 where
   pub after : IsAfterTold raster known start (n + 1)
   pub out_is : out ≡ nth_row n start
 
@@ -66,7 +66,7 @@ pub record IsMosaicOneMore {R : Type 0} (bytes_left : R → Option (List ℕ)) (
 -- this number of rows of all was requested
 pub record IsAfter {R : Type 0} (bytes_left : R → Option (List ℕ)) (rows : InputRows) (tiles : List (TileInput R)) (ps : Products R) (t : ToGive) (n : ℕ) : Type 0 where
   pub mosaic : IsMosaicAfter bytes_left rows.mosaic tiles t n
-  pub product : (p : Held) → IsAfterTold (of_product rows.rasters p) (bytes_left (of_product ps p).body) (t.product p) n
+  pub product : (p : SetProduct) → IsAfterTold (of_product rows.rasters p) (bytes_left (of_product ps p).body) (t.product p) n
 
 -- these are the rows to give, from this one on
 pub record AreGiven {R : Type 0} (bytes_left : R → Option (List ℕ)) (s : Reading R) (rows : ℕ → RowNumbers) (n : ℕ) : Type 0 where

@@ -2,7 +2,7 @@
 use Rattle.std.specs.Prelude.{◌≡◌, ℕ, List, map, Option, Result, IfErr, IsErrOf}
 use Rattle.drain_device.specs.FaultLists.{SomeReadFails}
 use Rattle.drain_device.specs.declared.counts.FaultCounts.{FaultCounts}
-use Rattle.drain_grid.specs.declared.held.Held.{Held}
+use Rattle.drain_grid.specs.declared.set_product.SetProduct.{SetProduct}
 use Rattle.drain_grid.specs.PerProduct.{of_product}
 use Rattle.drain_hgt.specs.declared.input.TileInput.{TileInput}
 use Rattle.drain_hgt.specs.Inputs.{names_of, TilesTakeAtMost}
@@ -19,12 +19,12 @@ pub record UsesInputs {R P T : Type 0} (inputs_of : P → Products R) (devices :
     (old new : List (TileInput R) × P) (answer : Result T Refusal) : Type 0 where
   -- of a tile at most one byte past its end is read, of a raster nothing past its last needed byte
   pub tiles_within : TilesTakeAtMost bytes_left side old.0 new.0
-  pub rasters_within : (p : Held) → RasterTakesAtMost bytes_left (inputs_of old.1) (inputs_of new.1) p
+  pub rasters_within : (p : SetProduct) → RasterTakesAtMost bytes_left (inputs_of old.1) (inputs_of new.1) p
   -- the answer is that a read failed exactly where a device failed or was interrupted for the 1,000th time
   pub faults : SomeReadFails (map counts (devices old.0 old.1)) (map counts (devices new.0 new.1)) (IsErrOf answer ReadFailed)
   -- names and headers are unchanged
   pub names : names_of new.0 ≡ names_of old.0
-  pub headers : (p : Held) → (of_product (inputs_of new.1) p).header ≡ (of_product (inputs_of old.1) p).header
+  pub headers : (p : SetProduct) → (of_product (inputs_of new.1) p).header ≡ (of_product (inputs_of old.1) p).header
   -- a refusal of side, names, layout or headers leaves every device and every value as it was
   pub untouched : IfErr answer (λ refusal. ¬ IsOfBodies refusal → (new.0 ≡ old.0) × (new.1 ≡ old.1))
 

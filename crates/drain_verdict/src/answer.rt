@@ -6,14 +6,14 @@
 
 ghost use Rattle.std.specs.Prelude.{◌≡◌, length, map, IfErr, IsErrOf, OnOk};
 ghost use Rattle.drain_grid.specs.declared.per_product.PerProduct.{PerProduct};
-ghost use Rattle.drain_grid.specs.declared.held.Held.{Held};
+ghost use Rattle.drain_grid.specs.declared.set_product.SetProduct.{SetProduct};
 ghost use Rattle.drain_grid.specs.Grid as grid;
 ghost use Rattle.drain_grid.specs.Grid.{Grid};
 ghost use Rattle.drain_kernel.specs.declared.rules.Rules as declared;
 ghost use Rattle.drain_header.specs.Fields.{Fields};
 ghost use Rattle.drain_grid.specs.PerProduct.{of_product};
 ghost use Rattle.drain_mosaic.specs.Tiling as tiling;
-ghost use Rattle.drain_raster.specs.Pixels.{extent_of};
+ghost use Rattle.drain_raster.specs.Pixels.{header_extent};
 ghost use Rattle.drain_verdict.specs.Inputs.{Inputs, Tell};
 ghost use Rattle.drain_verdict.specs.InputReads.{HaveBeenRead, as_read, with_rasters};
 ghost use Rattle.drain_verdict.specs.InputRows.{AreBegun};
@@ -49,7 +49,7 @@ use drain_mosaic::laws::{
 use drain_raster::laws::{
     raster_rows_are_pixels, raster_rows_end, raster_rows_take_what_is_needed,
 };
-use drain_rows::{RowVerdicts, WalkStop, verdict_by_rows};
+use drain_rows::{VerdictVisitor, WalkStop, verdict_by_rows};
 use drain_rules::{Ranks, Rules, Verdict};
 use std::alloc::Global;
 
@@ -57,7 +57,7 @@ use std::alloc::Global;
 /// of sinks. Each row of the grid is noted, and rules are checked with ranks or without.
 ///
 /// See `check` for the order of refusals, and for how far it reads.
-pub fn answer_on<R: ByteSource, P: ProductInputs<R>, K: RowVerdicts>(
+pub fn answer_on<R: ByteSource, P: ProductInputs<R>, K: VerdictVisitor>(
     alloc: Global,
     layout: &Layout,
     sinks: &[u8],
@@ -81,7 +81,7 @@ pub fn answer_on<R: ByteSource, P: ProductInputs<R>, K: RowVerdicts>(
 }
 
 /// The answer to the bodies once the layout and the headers are right: the verdict on their rows, or a refusal.
-fn answer_to_bodies<R: ByteSource, P: ProductInputs<R>, K: RowVerdicts>(
+fn answer_to_bodies<R: ByteSource, P: ProductInputs<R>, K: VerdictVisitor>(
     alloc: Global,
     layout: &Layout,
     headers: PerProduct<Header>,
@@ -92,22 +92,22 @@ fn answer_to_bodies<R: ByteSource, P: ProductInputs<R>, K: RowVerdicts>(
     notes: &mut K,
 ) -> Result<Verdict, Refusal>
     requires named { length tiles.old ≡ length layout.now.corners }
-    requires shapes { (p : Held) → extent_of (of_product headers p) ≡ tiling.extent_of layout.now }
+    requires shapes { (p : SetProduct) → header_extent (of_product headers p) ≡ tiling.extent_of layout.now }
     requires alike { P.are_alike headers }
     requires uncounted { K.counts 0 notes.old }
     requires unnoted { (rules : declared.Rules) (g : Grid) (ps : grid.Products) → K.are_of rules g ps 0 notes.old }
-    ensures answer { (inputs : Inputs) → layout.now ≡ tiling_of inputs → ((p : Held) → of_product headers p ≡ fields_of inputs p)
+    ensures answer { (inputs : Inputs) → layout.now ≡ tiling_of inputs → ((p : SetProduct) → of_product headers p ≡ fields_of inputs p)
         → AreBodies R.bytes_left tiles.old inputs.tiles → AreRasterBodies R.bytes_left (P.inputs products.old) inputs.raster
         → inputs.sinks ≡ sinks.now → NoneStandsBefore inputs 5 → IsAnswerWith ranks inputs result }
     ensures lasting { OnOk result (K.lasting notes.new ≡ K.lasting notes.old) }
-    ensures noted { OnOk result ((inputs : Inputs) → layout.now ≡ tiling_of inputs → ((p : Held) → of_product headers p ≡ fields_of inputs p)
+    ensures noted { OnOk result ((inputs : Inputs) → layout.now ≡ tiling_of inputs → ((p : SetProduct) → of_product headers p ≡ fields_of inputs p)
         → AreBodies R.bytes_left tiles.old inputs.tiles → AreRasterBodies R.bytes_left (P.inputs products.old) inputs.raster
         → inputs.sinks ≡ sinks.now → AreNotesOf K.are_of ranks inputs notes.new) }
     ensures tiles_within { TilesTakeAtMost R.bytes_left layout.now.side tiles.old tiles.new }
-    ensures rasters_within { (p : Held) → BodyTakesAtMost R.bytes_left (of_product headers p) (P.inputs products.old) (P.inputs products.new) p }
+    ensures rasters_within { (p : SetProduct) → BodyTakesAtMost R.bytes_left (of_product headers p) (P.inputs products.old) (P.inputs products.new) p }
     ensures faults { SomeReadFails (map R.counts (devices_of tiles.old (P.inputs products.old))) (map R.counts (devices_of tiles.new (P.inputs products.new))) (IsErrOf result Refusal.ReadFailed) }
     ensures names { names_of tiles.new ≡ names_of tiles.old }
-    ensures headers { (p : Held) → (of_product (P.inputs products.new) p).header ≡ (of_product (P.inputs products.old) p).header }
+    ensures headers { (p : SetProduct) → (of_product (P.inputs products.new) p).header ≡ (of_product (P.inputs products.old) p).header }
     ensures of_bodies { IfErr result IsOfBodies }
 {
     // The law that the rows of a raster have the bytes that it needs.
@@ -126,7 +126,7 @@ fn answer_to_bodies<R: ByteSource, P: ProductInputs<R>, K: RowVerdicts>(
 
 /// The verdict on the rows of new readers, or the refusal that they report after the last row, or that of the list of
 /// sinks.
-fn answer_to_rows<R: ByteSource, P: ProductInputs<R>, K: RowVerdicts>(
+fn answer_to_rows<R: ByteSource, P: ProductInputs<R>, K: VerdictVisitor>(
     alloc: Global,
     layout: &Layout,
     listing: &SinkListing,
@@ -141,15 +141,15 @@ fn answer_to_rows<R: ByteSource, P: ProductInputs<R>, K: RowVerdicts>(
     requires uncounted { K.counts 0 notes.old }
     requires unnoted { (rules : declared.Rules) (g : Grid) (ps : grid.Products) → K.are_of rules g ps 0 notes.old }
     ensures answer { (inputs : Inputs) (hs : PerProduct Fields) → AreBegun layout.now hs (with_rasters P.readers rows.old) → rules.now.nodata ≡ nodata_in hs
-        → ((p : Held) → extent_of (of_product hs p) ≡ tiling.extent_of layout.now)
-        → layout.now ≡ tiling_of inputs → ((p : Held) → of_product hs p ≡ fields_of inputs p)
+        → ((p : SetProduct) → header_extent (of_product hs p) ≡ tiling.extent_of layout.now)
+        → layout.now ≡ tiling_of inputs → ((p : SetProduct) → of_product hs p ≡ fields_of inputs p)
         → AreBodies R.bytes_left tiles.old inputs.tiles → AreRasterBodies R.bytes_left (P.inputs products.old) inputs.raster
         → listing.now.sinks ≡ listed_in inputs → IsBadLine (sinks_of inputs.sinks) listing.now.bad
         → NoneStandsBefore inputs 5 → IsAnswerWith rules.now.ranks inputs result }
     ensures lasting { OnOk result (K.lasting notes.new ≡ K.lasting notes.old) }
     ensures noted { OnOk result ((inputs : Inputs) (hs : PerProduct Fields) → AreBegun layout.now hs (with_rasters P.readers rows.old) → rules.now.nodata ≡ nodata_in hs
-        → ((p : Held) → extent_of (of_product hs p) ≡ tiling.extent_of layout.now)
-        → layout.now ≡ tiling_of inputs → ((p : Held) → of_product hs p ≡ fields_of inputs p)
+        → ((p : SetProduct) → header_extent (of_product hs p) ≡ tiling.extent_of layout.now)
+        → layout.now ≡ tiling_of inputs → ((p : SetProduct) → of_product hs p ≡ fields_of inputs p)
         → AreBodies R.bytes_left tiles.old inputs.tiles → AreRasterBodies R.bytes_left (P.inputs products.old) inputs.raster
         → listing.now.sinks ≡ listed_in inputs → AreNotesOf K.are_of rules.now.ranks inputs notes.new) }
     ensures reads { HaveBeenRead R.bytes_left R.counts (as_read P.readers P.inputs (rows.old, tiles.old, products.old)) (as_read P.readers P.inputs (rows.new, tiles.new, products.new)) (IsErrOf result Refusal.ReadFailed) }

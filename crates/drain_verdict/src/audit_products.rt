@@ -14,7 +14,7 @@ use crate::next_rows::read_raster;
 use crate::product_inputs::ProductInputs;
 use drain_answer::Refusal;
 use drain_device::ByteSource;
-use drain_grid::{Held, OutOfMemory, PerProduct};
+use drain_grid::{OutOfMemory, PerProduct, SetProduct};
 use drain_header::Header;
 use drain_mosaic::Layout;
 use drain_raster::RasterRows;
@@ -71,16 +71,16 @@ impl<R: ByteSource> ProductInputs<R> for AuditProducts<R> {
         copy_row(told, &out.con, &mut out.rnk)
     }
 
-    fn first_short(&self, rasters: &PerProduct<RasterRows>) -> Option<Held> {
+    fn first_short(&self, rasters: &PerProduct<RasterRows>) -> Option<SetProduct> {
         first_stopped(rasters)
     }
 }
 
 /// The first product whose rows have stopped; the substitute for ranks has stopped where con has.
-fn first_stopped(rasters: &PerProduct<RasterRows>) -> Option<Held>
+fn first_stopped(rasters: &PerProduct<RasterRows>) -> Option<SetProduct>
     ensures { IsFirstProduct (λ p. (of_product (with_con_read_twice rasters.now) p).progress ≡ Progress.Stopped) result }
 {
-    for product in Held::ALL {
+    for product in SetProduct::ALL {
         if reader_of(rasters, product).is_stopped() {
             return Some(product);
         }
@@ -89,11 +89,11 @@ fn first_stopped(rasters: &PerProduct<RasterRows>) -> Option<Held>
 }
 
 /// The reader of a product, or its substitute.
-fn reader_of(rasters: &PerProduct<RasterRows>, product: Held) -> &RasterRows
+fn reader_of(rasters: &PerProduct<RasterRows>, product: SetProduct) -> &RasterRows
     ensures { result.now ≡ of_product (with_con_read_twice rasters.now) product }
 {
     match product {
-        Held::Rnk => &rasters.con,
+        SetProduct::Rnk => &rasters.con,
         _ => rasters.of(product),
     }
 }

@@ -8,14 +8,14 @@ ghost use Rattle.std.specs.Prelude.{◌≡◌, ◌↔◌, ◌*◌, [], length, I
 ghost use Rattle.drain_grid.specs.Grid as grid;
 ghost use Rattle.drain_grid.specs.Grid.{Grid};
 ghost use Rattle.drain_hgt.specs.Inputs.{names_of};
-ghost use Rattle.drain_kernel.specs.declared.rules.Ranks.TheVariants.{Unasked};
+ghost use Rattle.drain_kernel.specs.declared.rules.Ranks.TheVariants.{Ignored};
 ghost use Rattle.drain_kernel.specs.declared.rules.Rules.{Rules};
 ghost use Rattle.drain_mosaic.specs.Tiling.{extent_of};
-ghost use Rattle.drain_runs.specs.KnownFlows.{AreKnownFlows};
+ghost use Rattle.drain_paths.specs.KnownFlows.{AreKnownFlows};
 ghost use Rattle.drain_verdict.specs.Answers.{AreNotesOf};
-ghost use Rattle.drain_verdict.specs.Audits.{AreCorrect, AuditMeans, IsAcceptance, IsAuditAnswer, IsPlainAnswer, OfFour};
+ghost use Rattle.drain_verdict.specs.Audits.{AreCorrect, AuditMeans, IsAcceptance, IsAuditAnswer, IsAnswerWithoutRanks, ForAudit};
 ghost use Rattle.drain_verdict.specs.Headline.{IsRight, TilesAreOne, ElevationIsTheirs};
-ghost use Rattle.drain_verdict.specs.Meaning.{grid_of, products_of};
+ghost use Rattle.drain_verdict.specs.Meaning.{input_grid, input_products};
 ghost use Rattle.drain_verdict.specs.Stages.{IsLayoutOf};
 ghost use Rattle.drain_verdict.specs.Uses.{AuditUses};
 
@@ -30,9 +30,9 @@ use drain_hgt::TileInput;
 use drain_hgt::laws::one_name;
 use drain_mosaic::Layout;
 use drain_mosaic::laws::agreement_gives_elevation;
-use drain_rows::{BothNotes, RowVerdicts, first_endless};
+use drain_paths::CellFlows;
+use drain_rows::{BothVisitors, VerdictVisitor, first_endless};
 use drain_rules::{GridWalk, Ranks};
-use drain_runs::CellFlows;
 use std::alloc::Global;
 
 /// Whether the four products of the tiles are correct, or the first refusal.
@@ -51,12 +51,12 @@ pub fn audit<R: ByteSource>(
     products: &mut AuditProducts<R>,
 ) -> Result<AuditVerdict, Refusal>
     // Unless memory ran out or a read failed, the answer is that of the bytes.
-    ensures answer { OfFour R.bytes_left side tiles.old sinks.now products.old (λ inputs. IsAuditAnswer inputs result) }
+    ensures answer { ForAudit R.bytes_left side tiles.old sinks.now products.old (λ inputs. IsAuditAnswer inputs result) }
 
     // If it gives a verdict, the tiles agree on one elevation raster, and it accepts exactly correct products.
-    ensures tiles_agree { IfOk result (λ verdict. OfFour R.bytes_left side tiles.old sinks.now products.old TilesAreOne) }
-    ensures elevation { IfOk result (λ verdict. OfFour R.bytes_left side tiles.old sinks.now products.old ElevationIsTheirs) }
-    ensures exactly { IfOk result (λ verdict. OfFour R.bytes_left side tiles.old sinks.now products.old (λ inputs. IsAcceptance verdict ↔ AreCorrect inputs)) }
+    ensures tiles_agree { IfOk result (λ verdict. ForAudit R.bytes_left side tiles.old sinks.now products.old TilesAreOne) }
+    ensures elevation { IfOk result (λ verdict. ForAudit R.bytes_left side tiles.old sinks.now products.old ElevationIsTheirs) }
+    ensures exactly { IfOk result (λ verdict. ForAudit R.bytes_left side tiles.old sinks.now products.old (λ inputs. IsAcceptance verdict ↔ AreCorrect inputs)) }
 
     // Whenever it accepts, the inputs are right: `IsRight` has a field for each sentence.
     ensures right { AuditMeans IsRight R.bytes_left side tiles.old sinks.now products.old result }
@@ -80,13 +80,13 @@ fn audit_of<R: ByteSource>(
     sinks: &[u8],
     products: &mut AuditProducts<R>,
 ) -> Result<AuditVerdict, Refusal>
-    ensures answer { OfFour R.bytes_left side tiles.old sinks.now products.old (λ inputs. IsPlainAnswer inputs result) }
+    ensures answer { ForAudit R.bytes_left side tiles.old sinks.now products.old (λ inputs. IsAnswerWithoutRanks inputs result) }
     ensures uses { AuditUses R.bytes_left R.counts side (tiles.old, products.old) (tiles.new, products.new) result }
 {
     // The law that bytes name one tile.
     one_name();
     let layout = layout_of(alloc, side, tiles)?;
-    let mut notes = BothNotes {
+    let mut notes = BothVisitors {
         first: CellFlows::new(alloc),
         second: GridWalk::new(alloc),
     };
@@ -95,28 +95,28 @@ fn audit_of<R: ByteSource>(
 
 /// The answer to the bytes of inputs of this mosaic, without ranks; each row of the grid is noted. After a verdict the
 /// flows are known to be those of the grid, except for cells whose paths were found to end.
-pub fn audit_on<R: ByteSource, K: RowVerdicts>(
+pub fn audit_on<R: ByteSource, K: VerdictVisitor>(
     alloc: Global,
     layout: &Layout,
     sinks: &[u8],
     tiles: &mut [TileInput<R>],
     products: &mut AuditProducts<R>,
-    notes: &mut BothNotes<CellFlows, K>,
+    notes: &mut BothVisitors<CellFlows, K>,
 ) -> Result<AuditVerdict, Refusal>
     requires laid { IsLayoutOf layout.now.side (names_of tiles.old) layout.now }
     requires empty { notes.old.first ≡ [] }
     requires uncounted { K.counts 0 notes.old.second }
     requires unnoted { (rules : Rules) (g : Grid) (ps : grid.Products) → K.are_of rules g ps 0 notes.old.second }
-    ensures answer { OfFour R.bytes_left layout.now.side tiles.old sinks.now products.old (λ inputs. IsPlainAnswer inputs result) }
+    ensures answer { ForAudit R.bytes_left layout.now.side tiles.old sinks.now products.old (λ inputs. IsAnswerWithoutRanks inputs result) }
     ensures lasting { OnOk result (K.lasting notes.new.second ≡ K.lasting notes.old.second) }
-    ensures noted { OnOk result (OfFour R.bytes_left layout.now.side tiles.old sinks.now products.old (λ inputs. AreNotesOf K.are_of Unasked inputs notes.new.second)) }
-    ensures flows { OnOk result (OfFour R.bytes_left layout.now.side tiles.old sinks.now products.old (λ inputs. AreKnownFlows (grid_of inputs) (products_of inputs) (extent_of layout.now) notes.new.first)) }
-    ensures counted { OnOk result (OfFour R.bytes_left layout.now.side tiles.old sinks.now products.old (λ inputs. length notes.new.first ≡ (extent_of layout.now).rows * (extent_of layout.now).cols)) }
+    ensures noted { OnOk result (ForAudit R.bytes_left layout.now.side tiles.old sinks.now products.old (λ inputs. AreNotesOf K.are_of Ignored inputs notes.new.second)) }
+    ensures flows { OnOk result (ForAudit R.bytes_left layout.now.side tiles.old sinks.now products.old (λ inputs. AreKnownFlows (input_grid inputs) (input_products inputs) (extent_of layout.now) notes.new.first)) }
+    ensures counted { OnOk result (ForAudit R.bytes_left layout.now.side tiles.old sinks.now products.old (λ inputs. length notes.new.first ≡ (extent_of layout.now).rows * (extent_of layout.now).cols)) }
     ensures uses { AuditUses R.bytes_left R.counts layout.now.side (tiles.old, products.old) (tiles.new, products.new) result }
 {
     // The law that bytes name one tile.
     one_name();
-    let ranks = Ranks::Unasked;
+    let ranks = Ranks::Ignored;
     let verdict = answer_on(alloc, layout, sinks, tiles, products, ranks, notes)?;
     let endless = first_endless(&mut notes.first, layout.shape(), &verdict);
     Ok(verdict_of_both(&verdict, endless))

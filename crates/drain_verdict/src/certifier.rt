@@ -1,11 +1,11 @@
 //! Ranks for directions: the number of steps of each cell's path.
 
 ghost use Rattle.std.specs.Prelude.{◌≡◌, IfOk, IfErr};
-ghost use Rattle.drain_runs.specs.Ways.{ground_of, directions_of};
-ghost use Rattle.drain_runs.specs.Ranks.{AreRanks, IsRefusal};
+ghost use Rattle.drain_paths.specs.Ways.{ground_of, directions_of};
+ghost use Rattle.drain_paths.specs.Ranks.{AreRanks, IsRankRefusal};
 
 use drain_grid::{Elevation, OutOfMemory, Raster};
-use drain_runs::{CertifyRefusal, steps_of};
+use drain_paths::{CertifyRefusal, steps_of};
 use std::alloc::Global;
 
 /// Ranks that fall at each step along the codes: for each data cell the number of steps to its path's end, for voids
@@ -16,7 +16,7 @@ use std::alloc::Global;
 pub fn certify(alloc: Global, elevation: &Elevation, dir: &Raster) -> Result<Raster, CertifyRefusal>
     requires same_shape { elevation.now.extent ≡ dir.now.extent }
     ensures ranks { IfOk result (AreRanks (ground_of elevation.now) (directions_of dir.now)) }
-    ensures err { IfErr result (IsRefusal (ground_of elevation.now) (directions_of dir.now)) }
+    ensures err { IfErr result (IsRankRefusal (ground_of elevation.now) (directions_of dir.now)) }
 {
     let steps = steps_of(alloc, elevation, dir)?;
     match steps.raster(alloc) {

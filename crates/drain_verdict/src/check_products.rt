@@ -12,7 +12,7 @@ use crate::next_rows::read_rasters;
 use crate::product_inputs::ProductInputs;
 use drain_answer::Refusal;
 use drain_device::ByteSource;
-use drain_grid::{Held, PerProduct};
+use drain_grid::{PerProduct, SetProduct};
 use drain_header::Header;
 use drain_mosaic::Layout;
 use drain_raster::RasterRows;
@@ -53,16 +53,16 @@ impl<R: ByteSource> ProductInputs<R> for PerProduct<RasterInput<R>> {
         read_rasters(rasters, self, out)
     }
 
-    fn first_short(&self, rasters: &PerProduct<RasterRows>) -> Option<Held> {
+    fn first_short(&self, rasters: &PerProduct<RasterRows>) -> Option<SetProduct> {
         first_stopped(rasters)
     }
 }
 
 /// The first product whose rows have stopped.
-fn first_stopped(rasters: &PerProduct<RasterRows>) -> Option<Held>
+fn first_stopped(rasters: &PerProduct<RasterRows>) -> Option<SetProduct>
     ensures { IsFirstProduct (λ p. (of_product rasters.now p).progress ≡ Progress.Stopped) result }
 {
-    for product in Held::ALL {
+    for product in SetProduct::ALL {
         if rasters.of(product).is_stopped() {
             return Some(product);
         }

@@ -73,7 +73,7 @@ fn answer_of<R: ByteSource>(
         sinks,
         tiles,
         products,
-        Ranks::Asked,
+        Ranks::Checked,
         &mut GridWalk::new(alloc),
     )
 }

@@ -1,23 +1,23 @@
 //! The headers of all products: each is read, and must have the mosaic's shape and place; and their no-data numbers.
 
 ghost use Rattle.std.specs.Prelude.{◌≡◌, ◌↔◌, IsTrue, IfOk, IfErr};
-ghost use Rattle.drain_raster.specs.Pixels.{extent_of};
+ghost use Rattle.drain_raster.specs.Pixels.{header_extent};
 ghost use Rattle.drain_mosaic.specs.Tiling as tiling;
-ghost use Rattle.drain_grid.specs.Held.{product_of};
+ghost use Rattle.drain_grid.specs.SetProduct.{product_of};
 ghost use Rattle.drain_grid.specs.PerProduct.{of_product};
 ghost use Rattle.drain_verdict.specs.Meaning.{nodata_in};
 ghost use Rattle.drain_verdict.specs.Stages.{IsHeaderFor, IsHeaderRefusal, AreHeadersOf, IsFirstRefusalOf};
 
 use crate::placing::is_placed;
 use drain_answer::Refusal;
-use drain_grid::{Held, NoData, PerProduct, Product};
+use drain_grid::{NoData, PerProduct, Product, SetProduct};
 use drain_header::{Header, parse_header};
 use drain_mosaic::Layout;
 use drain_raster::nodata;
 
 /// Whether the header gives the rows and columns of the mosaic.
 fn has_shape(layout: &Layout, header: &Header) -> bool
-    ensures { IsTrue result ↔ (extent_of header.now ≡ tiling.extent_of layout.now) }
+    ensures { IsTrue result ↔ (header_extent header.now ≡ tiling.extent_of layout.now) }
 {
     let shape = layout.shape();
     header.rows == shape.rows() && header.cols == shape.cols()
@@ -54,7 +54,7 @@ pub fn read_headers(
     ensures headers { IfOk result (AreHeadersOf layout.now (λ p. (of_product texts.now p).now)) }
     ensures refusal { IfErr result (IsFirstRefusalOf layout.now (λ p. (of_product texts.now p).now)) }
 {
-    let read = |product: Held| -> Result<Header, Refusal>
+    let read = |product: SetProduct| -> Result<Header, Refusal>
         ensures header { IfOk result (IsHeaderFor layout.entry.now (of_product texts.entry.now product).now) }
         ensures refusal { IfErr result (IsHeaderRefusal layout.entry.now (product_of product) (of_product texts.entry.now product).now) }
     { read_header(layout, product.product(), texts.of(product)) };

@@ -15,7 +15,7 @@ use drain_header::Header;
 use drain_hgt::TileInput;
 use drain_mosaic::{Layout, MosaicRows};
 use drain_raster::RasterRows;
-use drain_rows::{GridRows, HeldRow};
+use drain_rows::{GridRows, RowBuffer};
 use std::alloc::Global;
 
 /// Readers of the mosaic's rows and of each product's.
@@ -91,7 +91,7 @@ impl<R: ByteSource, P: ProductInputs<R>> GridRows<TileInput<R>, P> for InputRows
         &mut self,
         tiles: &mut [TileInput<R>],
         products: &mut P,
-        out: &mut HeldRow,
+        out: &mut RowBuffer,
     ) -> Result<(), Refusal> {
         read_mosaic(&mut self.mosaic, tiles, &mut out.z)?;
         products.read_rasters(&mut self.rasters, &mut out.products)?;

@@ -2,7 +2,7 @@
 
 ghost use Rattle.std.specs.Prelude.{IfOk, IfErr};
 ghost use Rattle.std.specs.List.{AllZip};
-ghost use Rattle.drain_hgt.specs.Name.{Names};
+ghost use Rattle.drain_hgt.specs.Name.{IsNameOf};
 ghost use Rattle.drain_hgt.specs.Inputs.{names_of};
 ghost use Rattle.drain_verdict.specs.Stages.{IsLayoutOf, IsLayoutRefusal, IsNameRefusal, IsLayoutFaultAs};
 
@@ -30,7 +30,7 @@ pub fn layout_of<R>(alloc: Global, side: u32, tiles: &[TileInput<R>]) -> Result<
 
 /// The named tiles, in their order, or the first name that names none.
 fn read_names<R>(alloc: Global, tiles: &[TileInput<R>]) -> Result<Vec<TileName>, Refusal>
-    ensures names { IfOk result (λ names. AllZip Names (names_of tiles.now) names.items) }
+    ensures names { IfOk result (λ names. AllZip IsNameOf (names_of tiles.now) names.items) }
     ensures refusal { IfErr result (IsNameRefusal (names_of tiles.now)) }
 {
     let mut names = Vec::new(alloc);

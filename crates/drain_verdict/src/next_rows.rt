@@ -5,14 +5,14 @@ ghost use Rattle.std.specs.Prelude.{◌≡◌, ◌≤◌, ℕ, None, Err, length
 ghost use Rattle.std.specs.List.{All};
 ghost use Rattle.drain_device.specs.ComingRows.{Coming};
 ghost use Rattle.drain_grid.specs.declared.cell.TheConstants.{MAX_LENGTH};
-ghost use Rattle.drain_grid.specs.declared.held.Held.{Held};
+ghost use Rattle.drain_grid.specs.declared.set_product.SetProduct.{SetProduct};
 ghost use Rattle.drain_grid.specs.PerProduct.{of_product};
 ghost use Rattle.drain_grid.specs.Tile.{IsSample};
 ghost use Rattle.drain_grid.specs.Values.{IsPixel};
 ghost use Rattle.drain_mosaic.specs.PlacedRows.{HaveRead};
 ghost use Rattle.drain_hgt.specs.Inputs.{names_of};
 ghost use Rattle.drain_verdict.specs.InputReads.{IsOfReading, RasterHasRead, RastersHaveRead, gave_up, told_by};
-ghost use Rattle.drain_verdict.specs.ToGive.{IsAfterTold, IsMosaicAfter, IsMosaicOneMore, IsOneMore, ToGive};
+ghost use Rattle.drain_verdict.specs.ToGive.{IsAfterTold, IsMosaicAfter, IsMosaicOneMore, IsNextRow, ToGive};
 
 use crate::input::Products;
 use drain_answer::Refusal;
@@ -52,8 +52,8 @@ pub fn read_rasters<R: ByteSource>(
     products: &mut Products<R>,
     out: &mut PerProduct<Vec<i64>>,
 ) -> Result<(), Refusal>
-    ensures rows { OnOk result ((p : Held) (start : Coming) (n : ℕ) → IsAfterTold (of_product rasters.old p) (R.bytes_left (of_product products.old p).body) start n → IsOneMore (of_product rasters.new p) (R.bytes_left (of_product products.new p).body) start n (of_product out.new p).items) }
-    ensures pixels { OnOk result ((p : Held) → All IsPixel (of_product out.new p).items) }
+    ensures rows { OnOk result ((p : SetProduct) (start : Coming) (n : ℕ) → IsAfterTold (of_product rasters.old p) (R.bytes_left (of_product products.old p).body) start n → IsNextRow (of_product rasters.new p) (R.bytes_left (of_product products.new p).body) start n (of_product out.new p).items) }
+    ensures pixels { OnOk result ((p : SetProduct) → All IsPixel (of_product out.new p).items) }
     ensures read { RastersHaveRead R.bytes_left R.counts rasters.old rasters.new products.old products.new (told_by result) }
     ensures of_reading { IsOfReading (told_by result) }
 {
@@ -76,7 +76,7 @@ pub fn read_raster<R: ByteSource>(
     body: &mut R,
     out: &mut Vec<i64>,
 ) -> Result<(), Refusal>
-    ensures rows { OnOk result ((start : Coming) (n : ℕ) → IsAfterTold raster.old (R.bytes_left body.old) start n → IsOneMore raster.new (R.bytes_left body.new) start n out.new.items) }
+    ensures rows { OnOk result ((start : Coming) (n : ℕ) → IsAfterTold raster.old (R.bytes_left body.old) start n → IsNextRow raster.new (R.bytes_left body.new) start n out.new.items) }
     ensures pixels { OnOk result (All IsPixel out.new.items) }
     ensures read { RasterHasRead (R.bytes_left body.old) (R.bytes_left body.new) (R.counts body.old) (R.counts body.new) raster.old raster.new (IsTrue (gave_up (told_by told) (told_by result))) }
     ensures stays { IfErr told (λ refusal. result ≡ Err refusal) }

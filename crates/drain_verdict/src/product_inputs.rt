@@ -4,7 +4,7 @@ ghost use Rattle.std.specs.Prelude.{◌≡◌, ℕ, List, OnOk, IfOk, IfErr};
 ghost use Rattle.std.specs.List.{All};
 ghost use Rattle.drain_device.specs.ComingRows.{Coming};
 ghost use Rattle.drain_device.specs.declared.row_source.Progress.{Progress};
-ghost use Rattle.drain_grid.specs.declared.held.Held.{Held};
+ghost use Rattle.drain_grid.specs.declared.set_product.SetProduct.{SetProduct};
 ghost use Rattle.drain_grid.specs.declared.per_product.PerProduct.{PerProduct};
 ghost use Rattle.drain_grid.specs.PerProduct.{of_product};
 ghost use Rattle.drain_grid.specs.Values.{IsPixel};
@@ -14,11 +14,11 @@ ghost use Rattle.drain_verdict.specs.InputReads.{IsOfReading, RastersHaveRead, t
 ghost use Rattle.drain_verdict.specs.InputRows.{IsFirstProduct, IsRasterBegun};
 ghost use Rattle.drain_verdict.specs.Inputs.{Products};
 ghost use Rattle.drain_verdict.specs.Stages.{AreHeadersFor, IsFirstHeaderRefusal};
-ghost use Rattle.drain_verdict.specs.ToGive.{IsAfterTold, IsOneMore};
+ghost use Rattle.drain_verdict.specs.ToGive.{IsAfterTold, IsNextRow};
 
 use drain_answer::Refusal;
 use drain_device::ByteSource;
-use drain_grid::{Held, PerProduct};
+use drain_grid::{PerProduct, SetProduct};
 use drain_header::Header;
 use drain_mosaic::Layout;
 use drain_raster::RasterRows;
@@ -44,7 +44,7 @@ pub trait ProductInputs<R: ByteSource> {
     /// Readers of rasters with these headers, each from its first byte on.
     fn begin(&self, headers: PerProduct<Header>) -> PerProduct<RasterRows>
         requires alike { are_alike headers }
-        ensures begun { (p : Held) → IsRasterBegun (of_product headers p) (of_product (readers result) p) };
+        ensures begun { (p : SetProduct) → IsRasterBegun (of_product headers p) (of_product (readers result) p) };
 
     /// Reads the next row of each product. The first refusal ends it.
     fn read_rasters(
@@ -52,12 +52,12 @@ pub trait ProductInputs<R: ByteSource> {
         rasters: &mut PerProduct<RasterRows>,
         out: &mut PerProduct<Vec<i64>>,
     ) -> Result<(), Refusal>
-        ensures rows { OnOk result ((p : Held) (start : Coming) (n : ℕ) → IsAfterTold (of_product (readers rasters.old) p) (R.bytes_left (of_product (inputs self.old) p).body) start n → IsOneMore (of_product (readers rasters.new) p) (R.bytes_left (of_product (inputs self.new) p).body) start n (of_product out.new p).items) }
-        ensures pixels { OnOk result ((p : Held) → All IsPixel (of_product out.new p).items) }
+        ensures rows { OnOk result ((p : SetProduct) (start : Coming) (n : ℕ) → IsAfterTold (of_product (readers rasters.old) p) (R.bytes_left (of_product (inputs self.old) p).body) start n → IsNextRow (of_product (readers rasters.new) p) (R.bytes_left (of_product (inputs self.new) p).body) start n (of_product out.new p).items) }
+        ensures pixels { OnOk result ((p : SetProduct) → All IsPixel (of_product out.new p).items) }
         ensures read { RastersHaveRead R.bytes_left R.counts (readers rasters.old) (readers rasters.new) (inputs self.old) (inputs self.new) (told_by result) }
         ensures of_reading { IsOfReading (told_by result) };
 
     /// The first product whose rows have stopped.
-    fn first_short(&self, rasters: &PerProduct<RasterRows>) -> Option<Held>
+    fn first_short(&self, rasters: &PerProduct<RasterRows>) -> Option<SetProduct>
         ensures { IsFirstProduct (λ p. (of_product (readers rasters.now) p).progress ≡ Progress.Stopped) result };
 }

@@ -8,12 +8,12 @@ pub fn same<C: Debug + Drop, T: PartialEq + Debug + Drop>(
     rt: &impl Abort,
     case: C,
     given: T,
-    wanted: T,
+    expected: T,
 ) {
-    assert_eq!(rt; given, wanted, "{case:?}");
+    assert_eq!(rt; given, expected, "{case:?}");
 }
 
 /// The same of numbers in row order.
-pub fn same_numbers<C: Debug + Drop>(rt: &impl Abort, case: C, given: &[i64], wanted: &[i64]) {
-    assert_eq!(rt; given, wanted, "{case:?}");
+pub fn same_numbers<C: Debug + Drop>(rt: &impl Abort, case: C, given: &[i64], expected: &[i64]) {
+    assert_eq!(rt; given, expected, "{case:?}");
 }

@@ -40,7 +40,7 @@ fn begun_with_a_pit(alloc: Global) -> Result<Begun, Fail> {
 #[test]
 fn parts_begin_in_their_order(rt: HostRuntime) -> Result<(), Fail> {
     let begun = begun_with_a_pit(rt.alloc())?;
-    let wanted = [
+    let expected = [
         Some(Part::Surface),
         Some(Part::Directions),
         Some(Part::Labels),
@@ -48,6 +48,6 @@ fn parts_begin_in_their_order(rt: HostRuntime) -> Result<(), Fail> {
         None,
     ];
     let first = begun.first;
-    assert_eq!(rt; (first, begun.number), (wanted, 4));
+    assert_eq!(rt; (first, begun.number), (expected, 4));
     Ok(())
 }

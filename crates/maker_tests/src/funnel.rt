@@ -45,7 +45,7 @@ fn verdict_and_greatest(alloc: Global) -> Result<(Verdict, i64), Fail> {
 
 #[test]
 fn every_cell_drains_through_one_outlet(rt: HostRuntime) -> Result<(), Fail> {
-    let wanted = Verdict::Accepted(Counts {
+    let expected = Verdict::Accepted(Counts {
         rows: SIDE,
         cols: SIDE,
         data_cells: SIDE * SIDE,
@@ -53,7 +53,7 @@ fn every_cell_drains_through_one_outlet(rt: HostRuntime) -> Result<(), Fail> {
         outlets: 1,
     });
     let (verdict, greatest) = verdict_and_greatest(rt.alloc())?;
-    same(&rt, "verdict", verdict, wanted);
+    same(&rt, "verdict", verdict, expected);
     same(&rt, "greatest", greatest, i64::from(SIDE * SIDE));
     Ok(())
 }

@@ -9,18 +9,18 @@ use std::alloc::Global;
 use std::test::Fail;
 
 /// Whether this is the text of the header of one tile's heights.
-fn is_text_of_heights(alloc: Global, wanted: &str) -> Result<bool, Fail> {
+fn is_text_of_heights(alloc: Global, expected: &str) -> Result<bool, Fail> {
     let layout = one_tile(alloc, 3)?;
     let text = header_text(alloc, &product_header(&layout, Product::Con))?;
-    Ok(text.as_slice() == wanted.as_bytes())
+    Ok(text.as_slice() == expected.as_bytes())
 }
 
 #[test]
 fn text_of_heights(rt: HostRuntime) -> Result<(), Fail> {
-    let wanted =
+    let expected =
         "BYTEORDER I\nLAYOUT BIL\nNROWS 3\nNCOLS 3\nNBANDS 1\nNBITS 16\nBANDROWBYTES 6\nTOTALROWBYTES 6\nSKIPBYTES 0\nPIXELTYPE SIGNEDINT\nULXMAP 0.000000000000000\nULYMAP 1.000000000000000\nXDIM 0.500000000000000\nYDIM 0.500000000000000\nNODATA -32768\n";
-    let is_wanted = is_text_of_heights(rt.alloc(), wanted)?;
-    same(&rt, "heights", (wanted.len(), is_wanted), (230, true));
+    let is_expected = is_text_of_heights(rt.alloc(), expected)?;
+    same(&rt, "heights", (expected.len(), is_expected), (230, true));
     Ok(())
 }
 
@@ -45,8 +45,8 @@ static PIXELS: [(Product, u8, u32, bool, i64); 6] = [
 #[test]
 fn pixels_of_each_product(rt: HostRuntime) -> Result<(), Fail> {
     for &(product, bits, row_bytes, signed, nodata) in &PIXELS {
-        let wanted = (bits, row_bytes, signed, Some(nodata));
-        same(&rt, product, pixels_of(rt.alloc(), product)?, wanted);
+        let expected = (bits, row_bytes, signed, Some(nodata));
+        same(&rt, product, pixels_of(rt.alloc(), product)?, expected);
     }
     Ok(())
 }

@@ -94,8 +94,8 @@ fn four_popped(alloc: Global) -> Result<Option<FirstFive>, OutOfMemory> {
 fn a_queue_after_refused_memory(rt: HostRuntime) -> Result<(), Fail> {
     let right = Ok(Some(IN_ORDER));
     let first = four_popped(rt.alloc());
-    let wanted = owed(rt.alloc(), Err(OutOfMemory), right);
-    same(&rt, "first", first, wanted);
+    let expected = owed(rt.alloc(), Err(OutOfMemory), right);
+    same(&rt, "first", first, expected);
     same(&rt, "again", four_popped(rt.alloc()), right);
     Ok(())
 }

@@ -6,7 +6,7 @@ ghost use Rattle.drain_mosaic.specs.Tiling.{extent_of};
 use crate::agree::{same, same_numbers};
 use crate::made::{con_of_nine, elevation, numbers_made, one_tile};
 use crate::raster_numbers::Numbers;
-use drain_grid::{Elevation, Held, SinkFault, VOID, parse_sinks};
+use drain_grid::{Elevation, SetProduct, SinkFault, VOID, parse_sinks};
 use drain_hgt::TileName;
 use drain_maker::{MakeRefusal, make};
 use drain_mosaic::Layout;
@@ -19,7 +19,7 @@ use worked::memory::owed_unless_right;
 type Tile<'a> = (u32, &'a [i16]);
 
 /// The numbers of a product made of one tile with the sinks of the text.
-fn made(alloc: Global, tile: Tile, list: &str, product: Held) -> Result<Numbers, Fail> {
+fn made(alloc: Global, tile: Tile, list: &str, product: SetProduct) -> Result<Numbers, Fail> {
     let sinks = parse_sinks(alloc, list.as_bytes())?;
     numbers_made(alloc, tile, &sinks, product)
 }
@@ -30,11 +30,11 @@ fn gives(
     alloc: Global,
     tile: Tile,
     list: &str,
-    product: Held,
-    wanted: &[i64],
+    product: SetProduct,
+    expected: &[i64],
 ) -> Result<(), Fail> {
     let given = made(alloc, tile, list, product)?;
-    same_numbers(rt, (product, list), given.as_slice(), wanted);
+    same_numbers(rt, (product, list), given.as_slice(), expected);
     Ok(())
 }
 
@@ -42,12 +42,12 @@ fn gives(
 const PIT: [i16; 9] = [5, 5, 5, 5, 1, 5, 5, 5, 5];
 
 /// A product, and its numbers.
-static OF_PIT: [(Held, [i64; 9]); 5] = [
-    (Held::Con, [5, 5, 5, 5, 1, 5, 5, 5, 5]),
-    (Held::Dir, [2, 4, 8, 1, 0, 16, 128, 64, 32]),
-    (Held::Acc, [1, 1, 1, 1, 9, 1, 1, 1, 1]),
-    (Held::Bas, [1; 9]),
-    (Held::Rnk, [0; 9]),
+static OF_PIT: [(SetProduct, [i64; 9]); 5] = [
+    (SetProduct::Con, [5, 5, 5, 5, 1, 5, 5, 5, 5]),
+    (SetProduct::Dir, [2, 4, 8, 1, 0, 16, 128, 64, 32]),
+    (SetProduct::Acc, [1, 1, 1, 1, 9, 1, 1, 1, 1]),
+    (SetProduct::Bas, [1; 9]),
+    (SetProduct::Rnk, [0; 9]),
 ];
 
 /// Lists of the pit.
@@ -55,9 +55,9 @@ static PIT_LISTS: [&str; 3] = ["1 1", "1 1\n1 1", "\n1 1\r\n\n0 2\n1 1\n"];
 
 #[test]
 fn a_listed_pit_is_the_one_outlet(rt: HostRuntime) -> Result<(), Fail> {
-    for &(product, wanted) in &OF_PIT {
+    for &(product, expected) in &OF_PIT {
         for &list in &PIT_LISTS {
-            gives(&rt, rt.alloc(), (3, &PIT), list, product, &wanted)?;
+            gives(&rt, rt.alloc(), (3, &PIT), list, product, &expected)?;
         }
     }
     Ok(())
@@ -82,10 +82,17 @@ static LOWEST_WAYS: [(&str, i64, i64, i64); 5] = [
 fn water_gets_to_a_listed_sink_over_the_lowest_way(rt: HostRuntime) -> Result<(), Fail> {
     for &(list, left, middle, right) in &LOWEST_WAYS {
         let (l, m, r) = (left, middle, right);
-        let wanted = [
+        let expected = [
             9, 9, 9, 9, 9, 9, l, m, r, 9, 9, l, m, r, 9, 9, l, m, r, 9, 9, 9, 9, 9, 9,
         ];
-        gives(&rt, rt.alloc(), (5, &COLUMNS), list, Held::Con, &wanted)?;
+        gives(
+            &rt,
+            rt.alloc(),
+            (5, &COLUMNS),
+            list,
+            SetProduct::Con,
+            &expected,
+        )?;
     }
     Ok(())
 }
@@ -99,14 +106,14 @@ static OF_FLAT: [i64; 25] = [
 #[test]
 fn ranks_round_a_listed_cell_of_a_flat(rt: HostRuntime) -> Result<(), Fail> {
     let flat = (5, [7; 25].as_slice());
-    gives(&rt, rt.alloc(), flat, "2 2", Held::Rnk, &OF_FLAT)
+    gives(&rt, rt.alloc(), flat, "2 2", SetProduct::Rnk, &OF_FLAT)
 }
 
 /// A product, and its numbers in each row.
-static OF_SLOPE: [(Held, [i64; 4]); 3] = [
-    (Held::Con, [4, 3, 2, 1]),
-    (Held::Dir, [1, 1, 1, 0]),
-    (Held::Acc, [1, 2, 3, 4]),
+static OF_SLOPE: [(SetProduct, [i64; 4]); 3] = [
+    (SetProduct::Con, [4, 3, 2, 1]),
+    (SetProduct::Dir, [1, 1, 1, 0]),
+    (SetProduct::Acc, [1, 2, 3, 4]),
 ];
 
 /// Rows that fall from west to east.
@@ -117,9 +124,9 @@ static SLOPE: [i16; 16] = [4, 3, 2, 1, 4, 3, 2, 1, 4, 3, 2, 1, 4, 3, 2, 1];
 fn listed_cells_of_a_slope_drain_on(rt: HostRuntime) -> Result<(), Fail> {
     for &(product, row) in &OF_SLOPE {
         let [a, b, c, d] = row;
-        let wanted = [a, b, c, d, a, b, c, d, a, b, c, d, a, b, c, d];
+        let expected = [a, b, c, d, a, b, c, d, a, b, c, d, a, b, c, d];
         let list = "1 1\n2 2";
-        gives(&rt, rt.alloc(), (4, &SLOPE), list, product, &wanted)?;
+        gives(&rt, rt.alloc(), (4, &SLOPE), list, product, &expected)?;
     }
     Ok(())
 }
@@ -135,11 +142,11 @@ static OPEN_CELLS: [&str; 4] = ["0 0", "4 4\n\n0 3\n2 0\n0 3", "3 3", "2 3\n3 3\
 /// What is open without a list is unchanged: cells of the edge, and a cell next to a void.
 #[test]
 fn listed_cells_that_are_open_change_nothing(rt: HostRuntime) -> Result<(), Fail> {
-    for product in Held::ALL {
+    for product in SetProduct::ALL {
         let without = made(rt.alloc(), (5, &WITH_A_VOID), "", product)?;
         for &list in &OPEN_CELLS {
-            let wanted = without.as_slice();
-            gives(&rt, rt.alloc(), (5, &WITH_A_VOID), list, product, wanted)?;
+            let expected = without.as_slice();
+            gives(&rt, rt.alloc(), (5, &WITH_A_VOID), list, product, expected)?;
         }
     }
     Ok(())
@@ -207,8 +214,8 @@ fn a_listed_pit_after_refused_memory(rt: HostRuntime) -> Result<(), Fail> {
     let name = TileName::parse(b"N00E000.hgt")?;
     let right = Ok(Some([5, 5, 5, 5, 1, 5, 5, 5, 5]));
     let first = con_with(rt.alloc(), name, "1 1");
-    let wanted = owed_unless_right(rt.alloc(), first, Err(MakeRefusal::OutOfMemory), right);
-    same(&rt, "first", first, wanted);
+    let expected = owed_unless_right(rt.alloc(), first, Err(MakeRefusal::OutOfMemory), right);
+    same(&rt, "first", first, expected);
     same(&rt, "again", con_with(rt.alloc(), name, "1 1"), right);
     Ok(())
 }
@@ -219,8 +226,8 @@ fn a_sink_outside_after_refused_memory(rt: HostRuntime) -> Result<(), Fail> {
     let name = TileName::parse(b"N00E000.hgt")?;
     let right = Err(MakeRefusal::SinkNotData(2));
     let first = con_with(rt.alloc(), name, "1 1\n1 3");
-    let wanted = owed_unless_right(rt.alloc(), first, Err(MakeRefusal::OutOfMemory), right);
-    same(&rt, "first", first, wanted);
+    let expected = owed_unless_right(rt.alloc(), first, Err(MakeRefusal::OutOfMemory), right);
+    same(&rt, "first", first, expected);
     let again = con_with(rt.alloc(), name, "1 1\n1 3");
     same(&rt, "again", again, right);
     Ok(())

@@ -7,27 +7,18 @@ ghost use Rattle.drain_mosaic.specs.Tiling.{extent_of};
 use crate::agree::same;
 use crate::made::{elevation, judged, one_tile};
 use crate::terrain_samples::{TERRAINS, Terrain, samples};
-use drain_grid::{Cell, Direction, Elevation, ProductSet, Raster, Sinks, parse_sinks};
+use drain_grid::{Cell, Direction, Elevation, ProductSet, Sinks, parse_sinks};
 use drain_mosaic::Layout;
 use drain_rules::Verdict;
 use std::alloc::Global;
 use std::test::Fail;
+use worked::pixels::number;
 
 /// The elevation of a cell; none at a void and outside the grid.
 fn ground(elevation: &Elevation, cell: Cell) -> Option<i64> {
     let shape = elevation.shape();
     if cell.row < shape.rows() && cell.col < shape.cols() {
         elevation.z(cell).map(i64::from)
-    } else {
-        None
-    }
-}
-
-/// The number of a cell, if it is one of the raster's.
-fn number(raster: &Raster, cell: Cell) -> Option<i64> {
-    let shape = raster.shape();
-    if cell.row < shape.rows() && cell.col < shape.cols() {
-        Some(raster.value(cell))
     } else {
         None
     }

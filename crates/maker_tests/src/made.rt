@@ -6,7 +6,7 @@ ghost use Rattle.drain_mosaic.specs.Tiling.{extent_of};
 
 use crate::raster_numbers::Numbers;
 use drain_grid::tile::is_side;
-use drain_grid::{Elevation, Held, ProductSet, Sinks};
+use drain_grid::{Elevation, ProductSet, SetProduct, Sinks};
 use drain_hgt::TileName;
 use drain_maker::{MakeRefusal, make};
 use drain_mosaic::Layout;
@@ -51,7 +51,7 @@ pub fn numbers_made(
     alloc: Global,
     (side, samples): (u32, &[i16]),
     sinks: &Sinks,
-    product: Held,
+    product: SetProduct,
 ) -> Result<Numbers, Fail> {
     let products = made_of_tile(alloc, side, samples, sinks)?;
     Ok(Numbers::of(products.raster(product)))

@@ -3,7 +3,7 @@
 use crate::agree::{same, same_numbers};
 use crate::made::{accepted, con_of_nine, numbers_made, one_tile};
 use crate::raster_numbers::Numbers;
-use drain_grid::{Held, Sinks, VOID};
+use drain_grid::{SetProduct, Sinks, VOID};
 use drain_hgt::TileName;
 use drain_maker::MakeRefusal;
 use drain_rules::Counts;
@@ -13,7 +13,7 @@ use std::test::Fail;
 use worked::memory::owed_unless_right;
 
 /// The numbers of a product made of one tile.
-fn made(alloc: Global, tile: (u32, &[i16]), product: Held) -> Result<Numbers, Fail> {
+fn made(alloc: Global, tile: (u32, &[i16]), product: SetProduct) -> Result<Numbers, Fail> {
     numbers_made(alloc, tile, &Sinks::none(alloc), product)
 }
 
@@ -22,46 +22,58 @@ fn gives(
     rt: &impl Abort,
     alloc: Global,
     tile: (u32, &[i16]),
-    product: Held,
-    wanted: &[i64],
+    product: SetProduct,
+    expected: &[i64],
 ) -> Result<(), Fail> {
     let given = made(alloc, tile, product)?;
-    same_numbers(rt, product, given.as_slice(), wanted);
+    same_numbers(rt, product, given.as_slice(), expected);
     Ok(())
 }
 
 /// The sample of a tile, a product, and its numbers.
-static OF_FOUR: [(i16, Held, [i64; 4]); 10] = [
-    (0, Held::Con, [0, 0, 0, 0]),
-    (0, Held::Dir, [0, 0, 0, 0]),
-    (0, Held::Acc, [1, 1, 1, 1]),
-    (0, Held::Bas, [1, 2, 3, 4]),
-    (0, Held::Rnk, [0, 0, 0, 0]),
-    (VOID, Held::Con, [-32768, -32768, -32768, -32768]),
-    (VOID, Held::Dir, [255, 255, 255, 255]),
-    (VOID, Held::Acc, [0, 0, 0, 0]),
-    (VOID, Held::Bas, [0, 0, 0, 0]),
+static OF_FOUR: [(i16, SetProduct, [i64; 4]); 10] = [
+    (0, SetProduct::Con, [0, 0, 0, 0]),
+    (0, SetProduct::Dir, [0, 0, 0, 0]),
+    (0, SetProduct::Acc, [1, 1, 1, 1]),
+    (0, SetProduct::Bas, [1, 2, 3, 4]),
+    (0, SetProduct::Rnk, [0, 0, 0, 0]),
+    (VOID, SetProduct::Con, [-32768, -32768, -32768, -32768]),
+    (VOID, SetProduct::Dir, [255, 255, 255, 255]),
+    (VOID, SetProduct::Acc, [0, 0, 0, 0]),
+    (VOID, SetProduct::Bas, [0, 0, 0, 0]),
     (
         VOID,
-        Held::Rnk,
+        SetProduct::Rnk,
         [4294967295, 4294967295, 4294967295, 4294967295],
     ),
 ];
 
 #[test]
 fn tiles_of_four_samples(rt: HostRuntime) -> Result<(), Fail> {
-    for &(sample, product, wanted) in &OF_FOUR {
-        gives(&rt, rt.alloc(), (2, &[sample; 4]), product, &wanted)?;
+    for &(sample, product, expected) in &OF_FOUR {
+        gives(&rt, rt.alloc(), (2, &[sample; 4]), product, &expected)?;
     }
     Ok(())
 }
 
 /// A product, and its numbers.
-static OF_SLOPE: [(Held, [i64; 16]); 4] = [
-    (Held::Con, [4, 3, 2, 1, 4, 3, 2, 1, 4, 3, 2, 1, 4, 3, 2, 1]),
-    (Held::Dir, [1, 1, 1, 0, 1, 1, 1, 0, 1, 1, 1, 0, 1, 1, 1, 0]),
-    (Held::Acc, [1, 2, 3, 4, 1, 2, 3, 4, 1, 2, 3, 4, 1, 2, 3, 4]),
-    (Held::Bas, [1, 1, 1, 1, 2, 2, 2, 2, 3, 3, 3, 3, 4, 4, 4, 4]),
+static OF_SLOPE: [(SetProduct, [i64; 16]); 4] = [
+    (
+        SetProduct::Con,
+        [4, 3, 2, 1, 4, 3, 2, 1, 4, 3, 2, 1, 4, 3, 2, 1],
+    ),
+    (
+        SetProduct::Dir,
+        [1, 1, 1, 0, 1, 1, 1, 0, 1, 1, 1, 0, 1, 1, 1, 0],
+    ),
+    (
+        SetProduct::Acc,
+        [1, 2, 3, 4, 1, 2, 3, 4, 1, 2, 3, 4, 1, 2, 3, 4],
+    ),
+    (
+        SetProduct::Bas,
+        [1, 1, 1, 1, 2, 2, 2, 2, 3, 3, 3, 3, 4, 4, 4, 4],
+    ),
 ];
 
 /// Rows that fall from west to east.
@@ -69,8 +81,8 @@ static SLOPE: [i16; 16] = [4, 3, 2, 1, 4, 3, 2, 1, 4, 3, 2, 1, 4, 3, 2, 1];
 
 #[test]
 fn slope_to_the_east(rt: HostRuntime) -> Result<(), Fail> {
-    for &(product, wanted) in &OF_SLOPE {
-        gives(&rt, rt.alloc(), (4, &SLOPE), product, &wanted)?;
+    for &(product, expected) in &OF_SLOPE {
+        gives(&rt, rt.alloc(), (4, &SLOPE), product, &expected)?;
     }
     Ok(())
 }
@@ -83,17 +95,17 @@ static OF_FLAT: [i64; 25] = [
 /// A flat at the edge of the grid is crossed by the shortest path.
 #[test]
 fn ranks_on_a_flat(rt: HostRuntime) -> Result<(), Fail> {
-    gives(&rt, rt.alloc(), (5, &[7; 25]), Held::Rnk, &OF_FLAT)
+    gives(&rt, rt.alloc(), (5, &[7; 25]), SetProduct::Rnk, &OF_FLAT)
 }
 
 /// A pit in the middle, lower than the edge.
 static PIT: [i16; 9] = [5, 5, 5, 5, 1, 5, 5, 5, 5];
 
 /// A product, its number at the edge, and in the middle; none if that isn't 0.
-static OF_PIT: [(Held, i64, Option<i64>); 3] = [
-    (Held::Con, 5, Some(5)),
-    (Held::Dir, 0, None),
-    (Held::Rnk, 0, Some(1)),
+static OF_PIT: [(SetProduct, i64, Option<i64>); 3] = [
+    (SetProduct::Con, 5, Some(5)),
+    (SetProduct::Dir, 0, None),
+    (SetProduct::Rnk, 0, Some(1)),
 ];
 
 /// A pit of one cell is filled, and drains to one of the eight cells of the edge: which of them isn't defined.
@@ -105,7 +117,7 @@ fn pit_in_the_middle(rt: HostRuntime) -> Result<(), Fail> {
         given.list[4] = edge;
         same_numbers(&rt, product, given.as_slice(), &[edge; 9]);
         let is_right = match middle {
-            Some(wanted) => in_middle == wanted,
+            Some(expected) => in_middle == expected,
             None => in_middle != 0,
         };
         same(&rt, (product, in_middle), is_right, true);
@@ -118,7 +130,7 @@ static COUNTS_OF_PIT: [i64; 9] = [1, 1, 1, 1, 1, 1, 1, 1, 2];
 
 #[test]
 fn accumulation_at_a_pit(rt: HostRuntime) -> Result<(), Fail> {
-    let mut counts = made(rt.alloc(), (3, &PIT), Held::Acc)?;
+    let mut counts = made(rt.alloc(), (3, &PIT), SetProduct::Acc)?;
     let in_middle = counts.list[4];
     counts.list[..9].sort_unstable();
     same(&rt, "in the middle", in_middle, 1);
@@ -143,8 +155,8 @@ fn pit_after_refused_memory(rt: HostRuntime) -> Result<(), Fail> {
     let name = TileName::parse(b"N00E000.hgt")?;
     let right = Ok(Some([5; 9]));
     let first = con_without_sinks(rt.alloc(), name);
-    let wanted = owed_unless_right(rt.alloc(), first, Err(MakeRefusal::OutOfMemory), right);
-    same(&rt, "first", first, wanted);
+    let expected = owed_unless_right(rt.alloc(), first, Err(MakeRefusal::OutOfMemory), right);
+    same(&rt, "first", first, expected);
     same(&rt, "again", con_without_sinks(rt.alloc(), name), right);
     let counted = Counts {
         rows: 3,

@@ -43,14 +43,14 @@ fn first_wrong(alloc: Global, eighth: u8) -> Result<Option<(u32, Counts)>, Fail>
     for place in 0..64 {
         let choice = 64 * u32::from(eighth) + place;
         let (zeros, counts) = choice_made(alloc, choice)?;
-        let wanted = Counts {
+        let expected = Counts {
             rows: 5,
             cols: 5,
             data_cells: 25,
             raised: u32::try_from(zeros)?,
             outlets: 16,
         };
-        if counts != wanted {
+        if counts != expected {
             return Ok(Some((choice, counts)));
         }
     }
@@ -117,14 +117,14 @@ fn apart_made(alloc: Global) -> Result<Counts, Fail> {
 
 #[test]
 fn tiles_apart(rt: HostRuntime) -> Result<(), Fail> {
-    let wanted = Counts {
+    let expected = Counts {
         rows: 3,
         cols: 7,
         data_cells: 18,
         raised: 0,
         outlets: 16,
     };
-    same(&rt, "apart", apart_made(rt.alloc())?, wanted);
+    same(&rt, "apart", apart_made(rt.alloc())?, expected);
     Ok(())
 }
 

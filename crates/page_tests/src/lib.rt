@@ -4,11 +4,11 @@
 #[cfg(test)]
 mod agree;
 #[cfg(test)]
+mod expected;
+#[cfg(test)]
 mod refusals;
 #[cfg(test)]
 mod runs;
-#[cfg(test)]
-mod wanted;
 #[cfg(test)]
 mod whole;
 #[cfg(test)]

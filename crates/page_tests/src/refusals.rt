@@ -2,15 +2,16 @@
 
 use crate::worked::{json_has, text_has};
 use drain_answer::Refusal;
+use drain_explain::{Extent, NotData, RefusalDetail, TileValue};
 use drain_grid::{Cell, Product};
 use drain_header::Place;
 use drain_hgt::TileName;
-use drain_page::{Answer, Extent, Facts, NoData, RefusalNote, TileValue};
+use drain_page::{Answer, Facts};
 use std::alloc::Global;
 use std::test::Fail;
 
 /// The facts of a refusal.
-fn refused(refusal: Refusal, note: RefusalNote) -> Facts {
+fn refused(refusal: Refusal, note: RefusalDetail) -> Facts {
     Facts {
         answer: Answer::Check(Err(refusal)),
         refusal: Some(note),
@@ -36,14 +37,14 @@ fn place(west: i32) -> Place {
 fn facts(alloc: Global, kind: usize) -> Result<Facts, Fail> {
     let tile = TileName::parse(b"N36W085.hgt")?;
     Ok(match kind {
-        0 => refused(Refusal::BadSide, RefusalNote::Side(7000)),
+        0 => refused(Refusal::BadSide, RefusalDetail::Side(7000)),
         1 => refused(
             Refusal::BadName(0),
-            RefusalNote::Name(bytes(alloc, b"S1\\\xe9.hgt")?),
+            RefusalDetail::Name(bytes(alloc, b"S1\\\xe9.hgt")?),
         ),
         2 => refused(
             Refusal::WrongShape(Product::Con),
-            RefusalNote::Shape {
+            RefusalDetail::Shape {
                 product: Product::Con,
                 expected: Extent { rows: 3, cols: 5 },
                 found: Extent { rows: 4, cols: 5 },
@@ -51,7 +52,7 @@ fn facts(alloc: Global, kind: usize) -> Result<Facts, Fail> {
         ),
         3 => refused(
             Refusal::Misplaced(Product::Dir),
-            RefusalNote::Position {
+            RefusalDetail::Position {
                 product: Product::Dir,
                 expected: place(-105),
                 found: place(-104),
@@ -59,7 +60,7 @@ fn facts(alloc: Global, kind: usize) -> Result<Facts, Fail> {
         ),
         4 => refused(
             Refusal::BadTileLength(tile),
-            RefusalNote::TileLength {
+            RefusalDetail::TileLength {
                 tile,
                 expected: 18,
                 found: 17,
@@ -67,7 +68,7 @@ fn facts(alloc: Global, kind: usize) -> Result<Facts, Fail> {
         ),
         5 => refused(
             Refusal::RasterShort(Product::Rnk),
-            RefusalNote::RasterLength {
+            RefusalDetail::RasterLength {
                 product: Product::Rnk,
                 expected: 36,
                 found: 0,
@@ -75,14 +76,14 @@ fn facts(alloc: Global, kind: usize) -> Result<Facts, Fail> {
         ),
         6 => refused(
             Refusal::SeamMismatch(Cell { row: 2, col: 0 }),
-            RefusalNote::Seam {
+            RefusalDetail::Seam {
                 first: TileValue { tile, metres: -3 },
                 other: TileValue { tile, metres: 120 },
             },
         ),
         7 => refused(
             Refusal::BadSinkLine(2),
-            RefusalNote::SinkLine {
+            RefusalDetail::SinkLine {
                 number: 2,
                 start: bytes(alloc, b"1\t2")?,
                 bytes: 3,
@@ -90,25 +91,25 @@ fn facts(alloc: Global, kind: usize) -> Result<Facts, Fail> {
         ),
         8 => refused(
             Refusal::SinkNotData(2),
-            RefusalNote::SinkCell {
+            RefusalDetail::SinkCell {
                 number: 2,
                 row: 4294967296,
                 col: 7,
-                why: NoData::Void,
+                why: NotData::Void,
             },
         ),
         9 => refused(
             Refusal::SinkNotData(3),
-            RefusalNote::SinkCell {
+            RefusalDetail::SinkCell {
                 number: 3,
                 row: 4,
                 col: 7,
-                why: NoData::Outside,
+                why: NotData::Outside,
             },
         ),
         10 => refused(
             Refusal::BadSinkLine(7),
-            RefusalNote::SinkLine {
+            RefusalDetail::SinkLine {
                 number: 7,
                 start: bytes(alloc, b"1 \xc3")?,
                 bytes: 100000000,
@@ -116,7 +117,7 @@ fn facts(alloc: Global, kind: usize) -> Result<Facts, Fail> {
         ),
         _ => refused(
             Refusal::BadName(1),
-            RefusalNote::Name(bytes(alloc, b"\"\\\x7f\0/")?),
+            RefusalDetail::Name(bytes(alloc, b"\"\\\x7f\0/")?),
         ),
     })
 }

@@ -4,14 +4,14 @@ use crate::worked::{json_has, no_fault, text_has};
 use drain_answer::AuditVerdict;
 use drain_grid::Cell;
 use drain_page::{Answer, Facts};
+use drain_paths::{EndlessPath, LostBy};
 use drain_rules::Ranks;
-use drain_runs::{EndlessRun, LostBy};
 use std::alloc::Global;
 use std::test::Fail;
 
 /// The facts of an audit in which the path of row 0, column 3 doesn't end.
-fn no_end(alloc: Global, run: EndlessRun) -> Result<Facts, Fail> {
-    let mut findings = no_fault(alloc, Ranks::Unasked)?;
+fn no_end(alloc: Global, run: EndlessPath) -> Result<Facts, Fail> {
+    let mut findings = no_fault(alloc, Ranks::Ignored)?;
     findings.endless = Some((Cell { row: 0, col: 3 }, run));
     Ok(Facts {
         answer: Answer::Audit(Ok(AuditVerdict::NoEnd { row: 0, col: 3 })),
@@ -24,7 +24,7 @@ fn no_end(alloc: Global, run: EndlessRun) -> Result<Facts, Fail> {
 fn ring(alloc: Global, length: usize) -> Result<Facts, Fail> {
     let told = [Cell { row: 1, col: 1 }, Cell { row: 1, col: 2 }];
     let cells = told.to_vec(alloc)?;
-    no_end(alloc, EndlessRun::Ring { cells, length })
+    no_end(alloc, EndlessPath::Ring { cells, length })
 }
 
 /// A case of a ring, how many cells it has, and its text.
@@ -80,7 +80,7 @@ static LOST_AS_JSON: &str =
 
 fn lost(alloc: Global, by: LostBy) -> Result<Facts, Fail> {
     let cell = Cell { row: 3, col: 0 };
-    no_end(alloc, EndlessRun::Lost { cell, by })
+    no_end(alloc, EndlessPath::Lost { cell, by })
 }
 
 #[test]

@@ -6,9 +6,10 @@ use crate::worked::{
     Numbers, cell, cells, json_of, no_cell, no_fault, product, rejected, text_is, void,
 };
 use drain_answer::{AuditVerdict, Refusal};
+use drain_explain::Findings;
 use drain_faults::FaultyPatch;
 use drain_grid::{Cell, Patch, Rule};
-use drain_page::{Answer, Facts, Findings};
+use drain_page::{Answer, Facts, NO_OBJECT, failure_json};
 use drain_rules::{Counts, Ranks, Verdict};
 use std::alloc::Global;
 use std::test::Fail;
@@ -33,7 +34,7 @@ fn edge() -> Result<Patch, &'static str> {
 }
 
 fn two_rules(alloc: Global) -> Result<Findings, Fail> {
-    let mut findings = no_fault(alloc, Ranks::Asked)?;
+    let mut findings = no_fault(alloc, Ranks::Checked)?;
     findings.by_rule.missing = cells(2, 0, 1);
     findings.by_rule.slope = cells(1, 2, 0);
     findings.by_product.acc = product(no_cell(), cells(2, 0, 1));
@@ -72,7 +73,7 @@ fn accepted(alloc: Global) -> Result<Facts, Fail> {
     Ok(Facts {
         answer: Answer::Audit(Ok(AuditVerdict::Accepted(counts))),
         refusal: None,
-        findings: Some(no_fault(alloc, Ranks::Unasked)?),
+        findings: Some(no_fault(alloc, Ranks::Ignored)?),
     })
 }
 
@@ -108,5 +109,12 @@ fn the_line_alone(rt: HostRuntime) -> Result<(), Fail> {
     text_is(&rt, rt.alloc(), "no tiles", no_tiles(), "refused NoTiles\n")?;
     let json = json_of(rt.alloc(), &no_tiles())?;
     same_text(&rt, "no tiles as JSON", &json, NO_TILES);
+    Ok(())
+}
+
+#[test]
+fn the_object_without_memory(rt: HostRuntime) -> Result<(), Fail> {
+    let json = failure_json(rt.alloc(), "failed OutOfMemory")?;
+    same_text(&rt, "no memory", &json, NO_OBJECT);
     Ok(())
 }

@@ -2,11 +2,12 @@
 //! north and 105 west.
 
 use crate::agree::{has, same_text};
+use drain_explain::Findings;
 use drain_faults::{FaultyPatch, PerRule, ProductFaults, RuleFaults};
 use drain_grid::{Cell, CellValues, NoData, Patch, PerProduct, Rule};
 use drain_hgt::TileName;
 use drain_mosaic::Layout;
-use drain_page::{Answer, Facts, Findings, page_json, page_text};
+use drain_page::{Answer, Facts, page_json, page_text};
 use drain_rules::{Ranks, Rules, Verdict};
 use std::alloc::Global;
 use std::process::Abort;
@@ -84,6 +85,7 @@ pub fn no_fault(alloc: Global, ranks: Ranks) -> Result<Findings, Fail> {
             rnk: product(no_cell(), no_cell()),
         },
         first: None,
+        map: None,
         endless: None,
     })
 }
@@ -169,8 +171,8 @@ pub fn text_is(
     alloc: Global,
     case: &str,
     facts: Facts,
-    wanted: &str,
+    expected: &str,
 ) -> Result<(), Fail> {
-    same_text(rt, case, &text_of(alloc, &facts)?, wanted);
+    same_text(rt, case, &text_of(alloc, &facts)?, expected);
     Ok(())
 }

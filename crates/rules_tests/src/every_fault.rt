@@ -4,7 +4,7 @@
 ghost use Rattle.std.specs.Prelude.{◌≡◌};
 
 use crate::examples::{Part, changed, elevation, products};
-use crate::rows_of_numbers::{COLS, faults_by_rows};
+use crate::rows_of_numbers::{COLS, faults_by_rows, level_rows};
 use crate::unasked_ranks::put;
 use drain_faults::{FaultWalk, RULES, RuleFaults};
 use drain_grid::{Cell, Elevation, OutOfMemory, ProductSet, Rule, Shape, Sinks};
@@ -13,7 +13,6 @@ use std::alloc::Global;
 use std::process::Abort;
 use std::test::Fail;
 use worked::grids::{slope, voids};
-use worked::shafts::Shafts;
 
 /// A grid and its products.
 #[derive(Drop)]
@@ -69,7 +68,7 @@ pub fn walk_over(alloc: Global, example: &Given, ranks: Ranks) -> Result<FaultWa
 pub type Told = (Rule, u32, (u32, u32));
 
 /// What the walk finds of the rules that fail, the row and column of the first patch with a fault, and the numbers of the map.
-type Found = (&'static [Told], Option<(u32, u32)>, &'static [u8]);
+type FaultTally = (&'static [Told], Option<(u32, u32)>, &'static [u8]);
 
 /// What the walk found of a rule.
 fn found_of(walk: &FaultWalk, rule: Rule) -> RuleFaults {
@@ -77,8 +76,8 @@ fn found_of(walk: &FaultWalk, rule: Rule) -> RuleFaults {
 }
 
 /// The result for a rule that isn't named: no cell.
-pub fn wanted_of(wanted: &[Told], rule: Rule) -> RuleFaults {
-    for (named, cells, (row, col)) in wanted {
+pub fn expected_of(expected: &[Told], rule: Rule) -> RuleFaults {
+    for (named, cells, (row, col)) in expected {
         if *named == rule {
             return RuleFaults {
                 cells: *cells,
@@ -93,8 +92,8 @@ pub fn wanted_of(wanted: &[Told], rule: Rule) -> RuleFaults {
 }
 
 /// Ends the test where the two differ.
-pub fn same(rt: &impl Abort, case: &str, given: RuleFaults, wanted: RuleFaults) {
-    assert_eq!(rt; given, wanted, "{case}");
+pub fn same(rt: &impl Abort, case: &str, given: RuleFaults, expected: RuleFaults) {
+    assert_eq!(rt; given, expected, "{case}");
 }
 
 /// The first cell with a fault, none where there is none.
@@ -106,13 +105,13 @@ fn first_cell(walk: &FaultWalk) -> Option<(u32, u32)> {
 }
 
 /// Looks that the walk found these faults and no others, and this cell first.
-fn expect_found(rt: &impl Abort, walk: &FaultWalk, wanted: &[Told], first: Option<(u32, u32)>) {
+fn expect_found(rt: &impl Abort, walk: &FaultWalk, expected: &[Told], first: Option<(u32, u32)>) {
     for rule in RULES {
         same(
             rt,
             rule.name(),
             found_of(walk, rule),
-            wanted_of(wanted, rule),
+            expected_of(expected, rule),
         );
     }
     assert_eq!(rt; first_cell(walk), first);
@@ -127,8 +126,8 @@ fn pixels_of(walk: &FaultWalk) -> &[u8] {
 }
 
 /// Ends the test where the map has other numbers.
-fn same_pixels(rt: &impl Abort, given: &[u8], wanted: &[u8]) {
-    assert_eq!(rt; given, wanted);
+fn same_pixels(rt: &impl Abort, given: &[u8], expected: &[u8]) {
+    assert_eq!(rt; given, expected);
 }
 
 /// Looks that the walk finds these faults and no others, this cell first, and that the map has these numbers.
@@ -136,18 +135,18 @@ fn expect_on(
     rt: &impl Abort,
     alloc: Global,
     example: &Given,
-    (wanted, first, pixels): Found,
+    (expected, first, pixels): FaultTally,
 ) -> Result<(), Fail> {
     let verdict = rules_verdict(alloc, example)?;
-    let walk = walk_over(alloc, example, Ranks::Asked)?;
-    expect_found(rt, &walk, wanted, first);
+    let walk = walk_over(alloc, example, Ranks::Checked)?;
+    expect_found(rt, &walk, expected, first);
     same_pixels(rt, pixels_of(&walk), pixels);
     same_verdict(rt, &walk, example, verdict);
     Ok(())
 }
 
 /// The same on an example that is made for it.
-fn expect(rt: &impl Abort, alloc: Global, example: Given, found: Found) -> Result<(), Fail> {
+fn expect(rt: &impl Abort, alloc: Global, example: Given, found: FaultTally) -> Result<(), Fail> {
     expect_on(rt, alloc, &example, found)
 }
 
@@ -157,8 +156,8 @@ fn rules_verdict(alloc: Global, example: &Given) -> Result<Verdict, OutOfMemory>
 }
 
 /// Looks that the walk over every fault gives this verdict.
-fn same_verdict(rt: &impl Abort, walk: &FaultWalk, example: &Given, wanted: Verdict) {
-    assert_eq!(rt; walk.verdict(example.elevation.shape()), wanted);
+fn same_verdict(rt: &impl Abort, walk: &FaultWalk, example: &Given, expected: Verdict) {
+    assert_eq!(rt; walk.verdict(example.elevation.shape()), expected);
 }
 
 /// The slope with a number changed.
@@ -174,7 +173,7 @@ pub fn changed_slope(
 }
 
 /// No fault on the slope, and none on voids.
-static RIGHT: [Found; 2] = [(&[], None, &[0; 16]), (&[], None, &[255; 4])];
+static RIGHT: [FaultTally; 2] = [(&[], None, &[0; 16]), (&[], None, &[255; 4])];
 
 #[test]
 fn right_products(rt: HostRuntime) -> Result<(), Fail> {
@@ -184,7 +183,7 @@ fn right_products(rt: HostRuntime) -> Result<(), Fail> {
 }
 
 /// The cell leads south and no longer east: past its steepest, to another label; two cells have another inflow.
-static LEADS_ASIDE: Found = (
+static LEADS_ASIDE: FaultTally = (
     &[
         (Rule::Slope, 1, (1, 1)),
         (Rule::Accumulation, 2, (1, 2)),
@@ -201,7 +200,7 @@ fn a_direction_that_leads_aside(rt: HostRuntime) -> Result<(), Fail> {
 }
 
 /// The no-data number of directions is no code either, and names no neighbour.
-static MISSING: Found = (
+static MISSING: FaultTally = (
     &[
         (Rule::Missing, 1, (1, 1)),
         (Rule::BadCode, 1, (1, 1)),
@@ -219,7 +218,7 @@ fn a_missing_direction(rt: HostRuntime) -> Result<(), Fail> {
 }
 
 /// The last row's outlet has the label of the first row's.
-static SHARED: Found = (
+static SHARED: FaultTally = (
     &[(Rule::Label, 1, (3, 2)), (Rule::SharedLabel, 1, (3, 3))],
     Some((3, 2)),
     &[0, 0, 0, 0, 0, 0, 0, 0, 0, 0, 0, 0, 0, 0, 14, 15],
@@ -238,7 +237,7 @@ fn changed_voids(alloc: Global, row: u8, col: u8, number: i64) -> Result<Given, 
 }
 
 /// A void has a number.
-static NUMBERED: Found = (
+static NUMBERED: FaultTally = (
     &[(Rule::VoidCell, 1, (0, 1))],
     Some((0, 1)),
     &[255, 1, 255, 255],
@@ -259,12 +258,7 @@ static INSIDE: [Told; 3] = [
 
 /// The numbers of three long rows, in which a cell inside is an outlet. Lanes clear the cells next to it.
 fn long_rows(alloc: Global) -> Result<Vec<i64>, Fail> {
-    let shafts = Shafts {
-        rows: 3,
-        cols: COLS,
-        listed: &[],
-    };
-    let mut numbers = shafts.numbers(alloc)?;
+    let mut numbers = level_rows(alloc)?;
     put(&mut numbers, (Part::Dir, (1, 300), 0))?;
     Ok(numbers)
 }
@@ -294,10 +288,10 @@ fn shape_of_rows() -> Result<Shape, Fail> {
 
 /// Looks that the verdict is the fault of the first row.
 fn expect_rejected(rt: &impl Abort, walk: &FaultWalk, shape: Shape) {
-    let wanted = Verdict::Rejected {
+    let expected = Verdict::Rejected {
         rule: Rule::Accumulation,
         row: 0,
         col: 300,
     };
-    assert_eq!(rt; walk.verdict(shape), wanted);
+    assert_eq!(rt; walk.verdict(shape), expected);
 }

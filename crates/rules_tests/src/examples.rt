@@ -5,7 +5,7 @@ ghost use Rattle.drain_grid.specs.Values.{IsNoData, IsPixel};
 
 use drain_grid::values::{GREATEST_PIXEL, LEAST_PIXEL};
 use drain_grid::{
-    Elevation, Held, PerProduct, Product, ProductSet, Raster, Rule, Shape, Sinks, parse_sinks,
+    Elevation, PerProduct, Product, ProductSet, Raster, Rule, SetProduct, Shape, Sinks, parse_sinks,
 };
 use drain_rules::{Counts, Verdict, verdict_of};
 use std::alloc::Global;
@@ -75,15 +75,15 @@ fn part_of(numbers: &[i64], cells: usize, part: Part) -> &[i64] {
 }
 
 /// The part of a product, and its number for no data: the default one, but of con.
-fn product_of(product: Held, con_nodata: i16) -> (Part, i64)
+fn product_of(product: SetProduct, con_nodata: i16) -> (Part, i64)
     ensures { IsNoData result.1 }
 {
     match product {
-        Held::Con => (Part::Con, con_nodata.into()),
-        Held::Dir => (Part::Dir, Product::Dir.default_no_data()),
-        Held::Acc => (Part::Acc, Product::Acc.default_no_data()),
-        Held::Bas => (Part::Bas, Product::Bas.default_no_data()),
-        Held::Rnk => (Part::Rnk, Product::Rnk.default_no_data()),
+        SetProduct::Con => (Part::Con, con_nodata.into()),
+        SetProduct::Dir => (Part::Dir, Product::Dir.default_no_data()),
+        SetProduct::Acc => (Part::Acc, Product::Acc.default_no_data()),
+        SetProduct::Bas => (Part::Bas, Product::Bas.default_no_data()),
+        SetProduct::Rnk => (Part::Rnk, Product::Rnk.default_no_data()),
     }
 }
 
@@ -97,7 +97,7 @@ pub fn products(
 ) -> Result<ProductSet, Fail>
     ensures { IfOk result (λ products. products.con.extent ≡ shape) }
 {
-    let made = |product: Held| -> Result<Raster, Fail>
+    let made = |product: SetProduct| -> Result<Raster, Fail>
         ensures { IfOk result (λ raster. raster.extent ≡ shape) }
     {
         let (part, nodata) = product_of(product, con_nodata);
@@ -210,8 +210,8 @@ pub fn changed(
 
 /// Ends the test if the two verdicts differ, and reports the case. A call of it is cheaper to prove than an assertion
 /// in place.
-pub fn same(rt: &impl Abort, case: &str, given: Verdict, wanted: Verdict) {
-    assert_eq!(rt; given, wanted, "{case}");
+pub fn same(rt: &impl Abort, case: &str, given: Verdict, expected: Verdict) {
+    assert_eq!(rt; given, expected, "{case}");
 }
 
 /// The same of any two.
@@ -219,9 +219,9 @@ pub fn equal<C: Debug + Drop, T: PartialEq + Debug + Drop>(
     rt: &impl Abort,
     case: C,
     given: T,
-    wanted: T,
+    expected: T,
 ) {
-    assert_eq!(rt; given, wanted, "{case:?}");
+    assert_eq!(rt; given, expected, "{case:?}");
 }
 
 pub fn rejected(rule: Rule, row: u8, col: u8) -> Verdict {

@@ -1,7 +1,7 @@
 //! Every fault of given rasters, on the worked slope with one number changed: each is that of all rasters, as far as it
 //! is about given ones.
 
-use crate::every_fault::{Given as Example, Told, changed_slope, same, wanted_of};
+use crate::every_fault::{Given as Example, Told, changed_slope, expected_of, same};
 use crate::examples::Part;
 use drain_faults::RULES;
 use drain_grid::{OutOfMemory, Rule};
@@ -43,7 +43,7 @@ fn expect(
     alloc: Global,
     example: &Example,
     given: Given,
-    wanted: &[Told],
+    expected: &[Told],
     (place, number): (usize, u8),
 ) -> Result<(), Fail> {
     let walk = walk_over(alloc, example, given)?;
@@ -52,7 +52,7 @@ fn expect(
             rt,
             rule.name(),
             *walk.faults().of(rule),
-            wanted_of(wanted, rule),
+            expected_of(expected, rule),
         );
     }
     assert_eq!(rt; pixel_at(&walk, place), Some(number));

@@ -1,10 +1,9 @@
 //! Which cells of three long rows their lanes clear: no contract says that they clear most.
 
 use crate::examples::equal;
-use crate::rows_of_numbers::{COLS, kept_by_lanes};
+use crate::rows_of_numbers::{COLS, kept_by_lanes, level_rows};
 use drain_rules::Kept;
 use std::test::Fail;
-use worked::shafts::Shafts;
 
 /// Cells before this column from the other on, none of them raised.
 fn level(end: u32) -> Kept {
@@ -32,12 +31,7 @@ static LEVEL_ROWS: [(&str, u8, u32, u32); 12] = [
 
 #[test]
 fn cells_of_level_rows(rt: HostRuntime) -> Result<(), Fail> {
-    let shafts = Shafts {
-        rows: 3,
-        cols: COLS,
-        listed: &[],
-    };
-    let numbers = shafts.numbers(rt.alloc())?;
+    let numbers = level_rows(rt.alloc())?;
     for &(text, row, from, end) in &LEVEL_ROWS {
         let kept = kept_by_lanes(rt.alloc(), text.as_bytes(), &numbers, row, from)?;
         equal(&rt, (text, row, from), kept, level(end));
@@ -62,12 +56,7 @@ static BESIDE: [(u32, u32); 3] = [(1, 49), (49, 49), (52, 180)];
 
 #[test]
 fn cells_beside_a_void(rt: HostRuntime) -> Result<(), Fail> {
-    let shafts = Shafts {
-        rows: 3,
-        cols: COLS,
-        listed: &[],
-    };
-    let mut numbers = shafts.numbers(rt.alloc())?;
+    let mut numbers = level_rows(rt.alloc())?;
     for &nodata in &NO_DATA {
         put_void(&mut numbers, nodata);
         for &(from, end) in &BESIDE {

@@ -2,13 +2,12 @@
 //! without lanes.
 
 use crate::examples::{Part, accepted, same};
-use crate::rows_of_numbers::{COLS, verdict_by_rows};
+use crate::rows_of_numbers::{level_rows, verdict_by_rows};
 use crate::unasked_ranks::put;
 use drain_grid::Rule;
 use drain_rules::{Ranks, Verdict};
 use std::alloc::Global;
 use std::test::Fail;
-use worked::shafts::Shafts;
 
 /// The columns at which strides of 64, of 8 and of 1 begin and end.
 static COLUMNS: [u16; 14] = [
@@ -32,12 +31,7 @@ fn verdict_at(
     number: i64,
     ranks: Ranks,
 ) -> Result<Verdict, Fail> {
-    let shafts = Shafts {
-        rows: 3,
-        cols: COLS,
-        listed: &[],
-    };
-    let mut numbers = shafts.numbers(alloc)?;
+    let mut numbers = level_rows(alloc)?;
     put(&mut numbers, (part, (1, col), number))?;
     verdict_by_rows(alloc, b"", &numbers, ranks)
 }
@@ -46,7 +40,7 @@ fn verdict_at(
 #[test]
 fn a_label_at_the_ends_of_strides(rt: HostRuntime) -> Result<(), Fail> {
     for &col in &COLUMNS {
-        let given = verdict_at(rt.alloc(), Part::Bas, col, 5000, Ranks::Asked)?;
+        let given = verdict_at(rt.alloc(), Part::Bas, col, 5000, Ranks::Checked)?;
         same(&rt, "a label", given, rejected(Rule::Label, 1, col));
     }
     Ok(())
@@ -56,7 +50,7 @@ fn a_label_at_the_ends_of_strides(rt: HostRuntime) -> Result<(), Fail> {
 #[test]
 fn a_code_at_the_ends_of_strides(rt: HostRuntime) -> Result<(), Fail> {
     for &col in &COLUMNS {
-        let given = verdict_at(rt.alloc(), Part::Dir, col, 0, Ranks::Unasked)?;
+        let given = verdict_at(rt.alloc(), Part::Dir, col, 0, Ranks::Ignored)?;
         same(&rt, "a code", given, rejected(Rule::Accumulation, 0, col));
     }
     Ok(())
@@ -69,7 +63,7 @@ static UNFIT: [(&str, i64); 2] = [("less than 0", -1), ("the least pixel", -2147
 #[test]
 fn ranks_that_fit_no_lane(rt: HostRuntime) -> Result<(), Fail> {
     for &(name, rank) in &UNFIT {
-        let given = verdict_at(rt.alloc(), Part::Rnk, 300, rank, Ranks::Unasked)?;
+        let given = verdict_at(rt.alloc(), Part::Rnk, 300, rank, Ranks::Ignored)?;
         same(&rt, name, given, accepted(3, 600, 1800, 0, 1202));
     }
     Ok(())

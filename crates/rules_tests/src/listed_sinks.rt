@@ -5,6 +5,7 @@ use crate::rows_of_numbers::{COLS, verdict_by_rows};
 use drain_grid::Rule;
 use drain_rules::{Ranks, Verdict};
 use std::alloc::Global;
+use std::process::Abort;
 use std::test::Fail;
 use worked::grids::{LISTED_PIT_SINKS, listed_pit, parted, pit, voids};
 use worked::shafts::Shafts;
@@ -20,18 +21,27 @@ static OF_LISTED_PIT: [(&str, bool); 6] = [
     ("0 4\n4 0\n3 3\n11 1\n1 11\n1 4294967295", false),
 ];
 
-#[test]
-fn a_pit_that_is_listed_and_not(rt: HostRuntime) -> Result<(), Fail> {
-    for &(text, is_listed) in &OF_LISTED_PIT {
-        let wanted = if is_listed {
-            accepted(3, 3, 9, 0, 1)
-        } else {
-            rejected(Rule::FlatStep, 1, 1)
-        };
-        let given = verdict_listing(rt.alloc(), text.as_bytes(), 3, 3, &listed_pit())?;
-        same(&rt, text, given, wanted);
+/// Ends the test where the verdict on these 3 by 3 cells with one of these lists is another than if the list has the
+/// pit, or hasn't.
+fn each_list(
+    rt: &impl Abort,
+    alloc: Global,
+    numbers: &[i64],
+    lists: &[(&str, bool)],
+    (listed, unlisted): (Verdict, Verdict),
+) -> Result<(), Fail> {
+    for &(text, is_listed) in lists {
+        let expected = if is_listed { listed } else { unlisted };
+        let given = verdict_listing(alloc, text.as_bytes(), 3, 3, numbers)?;
+        same(rt, text, given, expected);
     }
     Ok(())
+}
+
+#[test]
+fn a_pit_that_is_listed_and_not(rt: HostRuntime) -> Result<(), Fail> {
+    let verdicts = (accepted(3, 3, 9, 0, 1), rejected(Rule::FlatStep, 1, 1));
+    each_list(&rt, rt.alloc(), &listed_pit(), &OF_LISTED_PIT, verdicts)
 }
 
 /// Lists, each with whether it has the pit.
@@ -46,16 +56,8 @@ static OF_FILLED_PIT: [(&str, bool); 5] = [
 /// Cells that are open of themselves, and cells outside the grid, change nothing.
 #[test]
 fn a_filled_pit_with_sinks(rt: HostRuntime) -> Result<(), Fail> {
-    for &(text, is_listed) in &OF_FILLED_PIT {
-        let wanted = if is_listed {
-            rejected(Rule::OpenRaised, 1, 1)
-        } else {
-            accepted(3, 3, 9, 1, 8)
-        };
-        let given = verdict_listing(rt.alloc(), text.as_bytes(), 3, 3, &pit())?;
-        same(&rt, text, given, wanted);
-    }
-    Ok(())
+    let verdicts = (rejected(Rule::OpenRaised, 1, 1), accepted(3, 3, 9, 1, 8));
+    each_list(&rt, rt.alloc(), &pit(), &OF_FILLED_PIT, verdicts)
 }
 
 /// Lists of voids.
@@ -151,7 +153,7 @@ fn long_verdicts(alloc: Global, left_out: u16, more: &str) -> Result<[Verdict; 2
     }
     Ok([
         verdict_listing(alloc, &text, 3, COLS.into(), &numbers)?,
-        verdict_by_rows(alloc, &text, &numbers, Ranks::Asked)?,
+        verdict_by_rows(alloc, &text, &numbers, Ranks::Checked)?,
     ])
 }
 
@@ -177,10 +179,10 @@ static LONG_ROWS: [(u16, &str, Option<(Rule, u32)>); 11] = [
 #[test]
 fn long_rows_by_rasters_and_by_rows(rt: HostRuntime) -> Result<(), Fail> {
     for &(left_out, more, fault) in &LONG_ROWS {
-        let wanted = long_verdict(fault);
+        let expected = long_verdict(fault);
         let [by_rasters, by_rows] = long_verdicts(rt.alloc(), left_out, more)?;
-        same(&rt, "by rasters", by_rasters, wanted);
-        same(&rt, "by rows", by_rows, wanted);
+        same(&rt, "by rasters", by_rasters, expected);
+        same(&rt, "by rows", by_rows, expected);
     }
     Ok(())
 }

@@ -3,24 +3,23 @@
 
 use crate::every_fault::{Given, example, walk_over};
 use crate::examples::{Part, changed, equal};
-use crate::rows_of_numbers::{COLS, faults_by_rows};
+use crate::rows_of_numbers::{faults_by_rows, level_rows};
 use crate::unasked_ranks::put;
 use drain_faults::{FaultWalk, ProductFaults, RuleFaults};
-use drain_grid::{Cell, Held};
+use drain_grid::{Cell, SetProduct};
 use drain_rules::Ranks;
 use std::alloc::Global;
 use std::process::Abort;
 use std::test::Fail;
 use worked::grids::{slope, voids};
-use worked::shafts::Shafts;
 
 /// The products, their parts, and their no-data numbers.
-static PRODUCTS: [(Held, Part, i64); 5] = [
-    (Held::Con, Part::Con, -32768),
-    (Held::Dir, Part::Dir, 255),
-    (Held::Acc, Part::Acc, 0),
-    (Held::Bas, Part::Bas, 0),
-    (Held::Rnk, Part::Rnk, 4294967295),
+static PRODUCTS: [(SetProduct, Part, i64); 5] = [
+    (SetProduct::Con, Part::Con, -32768),
+    (SetProduct::Dir, Part::Dir, 255),
+    (SetProduct::Acc, Part::Acc, 0),
+    (SetProduct::Bas, Part::Bas, 0),
+    (SetProduct::Rnk, Part::Rnk, 4294967295),
 ];
 
 /// So many cells, and the first of them.
@@ -59,15 +58,20 @@ fn walk_along(alloc: Global, given: &Given, ranks: Ranks) -> Result<FaultWalk, F
 }
 
 /// Checks that the walk returns these faults of a product.
-fn expect(rt: &impl Abort, walk: &FaultWalk, product: Held, wanted: ProductFaults) {
-    equal(rt, product, *walk.by_product().of(product), wanted);
+fn expect(rt: &impl Abort, walk: &FaultWalk, product: SetProduct, expected: ProductFaults) {
+    equal(rt, product, *walk.by_product().of(product), expected);
 }
 
 /// Checks that it returns these faults of one product, and none of any other.
-fn expect_alone(rt: &impl Abort, walk: &FaultWalk, product: Held, wanted: ProductFaults) {
-    for held in Held::ALL {
+fn expect_alone(rt: &impl Abort, walk: &FaultWalk, product: SetProduct, expected: ProductFaults) {
+    for held in SetProduct::ALL {
         let none = ProductFaults::none();
-        expect(rt, walk, held, if held == product { wanted } else { none });
+        expect(
+            rt,
+            walk,
+            held,
+            if held == product { expected } else { none },
+        );
     }
 }
 
@@ -77,43 +81,43 @@ fn expect_faults(
     alloc: Global,
     side: u8,
     numbers: &[i64],
-    product: Held,
-    wanted: ProductFaults,
+    product: SetProduct,
+    expected: ProductFaults,
 ) -> Result<(), Fail> {
-    let asked = walk(alloc, side, numbers, Ranks::Asked)?;
-    expect_alone(rt, &asked, product, wanted);
-    let unasked = walk(alloc, side, numbers, Ranks::Unasked)?;
+    let asked = walk(alloc, side, numbers, Ranks::Checked)?;
+    expect_alone(rt, &asked, product, expected);
+    let unasked = walk(alloc, side, numbers, Ranks::Ignored)?;
     let none = ProductFaults::none();
-    let is_rank = product == Held::Rnk;
-    expect_alone(rt, &unasked, product, if is_rank { none } else { wanted });
+    let is_rank = product == SetProduct::Rnk;
+    expect_alone(rt, &unasked, product, if is_rank { none } else { expected });
     Ok(())
 }
 
 #[test]
 fn right_products(rt: HostRuntime) -> Result<(), Fail> {
     let none = ProductFaults::none();
-    expect_faults(&rt, rt.alloc(), 4, &slope(), Held::Con, none)?;
-    expect_faults(&rt, rt.alloc(), 2, &voids(), Held::Con, none)
+    expect_faults(&rt, rt.alloc(), 4, &slope(), SetProduct::Con, none)?;
+    expect_faults(&rt, rt.alloc(), 2, &voids(), SetProduct::Con, none)
 }
 
 #[test]
 fn one_product_with_numbers_at_voids(rt: HostRuntime) -> Result<(), Fail> {
-    let wanted = at_voids(cells(2, 0, 1));
+    let expected = at_voids(cells(2, 0, 1));
     for &(product, part, _) in &PRODUCTS {
         let one = changed(rt.alloc(), 2, &voids(), part, 0, 1, 7)?;
         let two = changed(rt.alloc(), 2, &one, part, 1, 0, 8)?;
-        expect_faults(&rt, rt.alloc(), 2, &two, product, wanted)?;
+        expect_faults(&rt, rt.alloc(), 2, &two, product, expected)?;
     }
     Ok(())
 }
 
 #[test]
 fn one_product_without_numbers_at_data_cells(rt: HostRuntime) -> Result<(), Fail> {
-    let wanted = at_data(cells(2, 1, 2));
+    let expected = at_data(cells(2, 1, 2));
     for &(product, part, nodata) in &PRODUCTS {
         let one = changed(rt.alloc(), 4, &slope(), part, 1, 2, nodata)?;
         let two = changed(rt.alloc(), 4, &one, part, 3, 0, nodata)?;
-        expect_faults(&rt, rt.alloc(), 4, &two, product, wanted)?;
+        expect_faults(&rt, rt.alloc(), 4, &two, product, expected)?;
     }
     Ok(())
 }
@@ -129,31 +133,26 @@ fn products_at_a_void_and_at_a_data_cell(rt: HostRuntime) -> Result<(), Fail> {
         at_data: cells(1, 3, 3),
     };
     let none = ProductFaults::none();
-    for (ranks, rank) in [(Ranks::Asked, numbered), (Ranks::Unasked, none)] {
+    for (ranks, rank) in [(Ranks::Checked, numbered), (Ranks::Ignored, none)] {
         let walk = walk(rt.alloc(), 4, &numbers, ranks)?;
-        expect(&rt, &walk, Held::Con, numbered);
-        expect(&rt, &walk, Held::Dir, numbered);
-        expect(&rt, &walk, Held::Acc, both);
-        expect(&rt, &walk, Held::Bas, numbered);
-        expect(&rt, &walk, Held::Rnk, rank);
+        expect(&rt, &walk, SetProduct::Con, numbered);
+        expect(&rt, &walk, SetProduct::Dir, numbered);
+        expect(&rt, &walk, SetProduct::Acc, both);
+        expect(&rt, &walk, SetProduct::Bas, numbered);
+        expect(&rt, &walk, SetProduct::Rnk, rank);
     }
     Ok(())
 }
 
 #[test]
 fn a_product_without_numbers_inside_long_rows(rt: HostRuntime) -> Result<(), Fail> {
-    let shafts = Shafts {
-        rows: 3,
-        cols: COLS,
-        listed: &[],
-    };
-    let mut numbers = shafts.numbers(rt.alloc())?;
+    let mut numbers = level_rows(rt.alloc())?;
     // Lanes clear the cells next to them.
     put(&mut numbers, (Part::Bas, (1, 300), 0))?;
     put(&mut numbers, (Part::Bas, (2, 9), 0))?;
     for is_laned in [true, false] {
         let walk = faults_by_rows(rt.alloc(), &numbers, is_laned)?;
-        expect_alone(&rt, &walk, Held::Bas, at_data(cells(2, 1, 300)));
+        expect_alone(&rt, &walk, SetProduct::Bas, at_data(cells(2, 1, 300)));
     }
     Ok(())
 }

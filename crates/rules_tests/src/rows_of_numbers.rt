@@ -12,8 +12,9 @@ use drain_faults::FaultWalk;
 use drain_grid::{NoData, PerProduct, Shape, Sinks, parse_sinks};
 use drain_kernel::Lanes;
 use drain_rules::{GridWalk, Kept, PatchRow, Ranks, RowView, Rules, ThreeRows, Verdict};
-use std::alloc::Global;
+use std::alloc::{AllocError, Global};
 use std::test::Fail;
+use worked::shafts::Shafts;
 
 /// How many columns there are.
 pub const COLS: u16 = 600;
@@ -60,6 +61,16 @@ fn are_row_numbers(z: &[i64], products: &PerProduct<&[i64]>) -> bool
         && are_pixels(products.acc, count)
         && are_pixels(products.bas, count)
         && are_pixels(products.rnk, count)
+}
+
+/// The numbers of three level rows with no listed cell.
+pub fn level_rows(alloc: Global) -> Result<Vec<i64>, AllocError> {
+    let shafts = Shafts {
+        rows: 3,
+        cols: COLS,
+        listed: &[],
+    };
+    shafts.numbers(alloc)
 }
 
 /// A row of a part.
@@ -231,7 +242,7 @@ pub fn faults_by_rows(alloc: Global, numbers: &[i64], is_laned: bool) -> Result<
     let given = Given {
         numbers,
         marks: &marks,
-        ranks: Ranks::Asked,
+        ranks: Ranks::Checked,
         is_laned,
     };
     let mut walk = FaultWalk::new(alloc);
@@ -251,7 +262,7 @@ pub fn kept_by_lanes(
     let given = Given {
         numbers,
         marks: &marks,
-        ranks: Ranks::Asked,
+        ranks: Ranks::Checked,
         is_laned: true,
     };
     match kept_in_row(given, row, from, &mut Room::new(alloc)) {
@@ -266,7 +277,7 @@ fn kept_in_row(given: Given<'_>, row: u8, from: u32, room: &mut Room) -> Option<
     if from > rows.cols() {
         return None;
     }
-    Some(rows.kept_from(&rules_with(Ranks::Asked), from))
+    Some(rows.kept_from(&rules_with(Ranks::Checked), from))
 }
 
 /// The verdict on the numbers of the six parts, with the sinks of a text, the same with lanes and without; with ranks

@@ -69,9 +69,9 @@ fn accepts_the_spill_level_alone(rt: HostRuntime) -> Result<(), Fail> {
             for &(code, place) in &BESIDE_THE_MIDDLE {
                 let answer = check_fill(3, input_of(&heights, con, code).as_slice());
                 let accepted = matches!(answer, Ok(FillVerdict::Accepted(_)));
-                let wanted = con == level && raised_by(&heights, place) == level;
+                let expected = con == level && raised_by(&heights, place) == level;
                 let case = (("tile", number), ("con", con), ("code", code));
-                equal(&rt, case, accepted, wanted);
+                equal(&rt, case, accepted, expected);
             }
         }
     }

@@ -2,21 +2,15 @@
 //! the rules.
 
 use crate::examples::{Part, accepted, rejected, same};
-use crate::rows_of_numbers::{COLS, verdict_by_rows};
+use crate::rows_of_numbers::{COLS, level_rows, verdict_by_rows};
 use drain_grid::Rule;
 use drain_rules::{Ranks, Verdict};
 use std::alloc::{AllocError, Global};
 use std::test::Fail;
-use worked::shafts::Shafts;
 
 /// Three level rows, whose cells inside drain north; each cell has this rank.
 fn long_rows(alloc: Global, rank: i64) -> Result<Vec<i64>, AllocError> {
-    let shafts = Shafts {
-        rows: 3,
-        cols: COLS,
-        listed: &[],
-    };
-    let mut numbers = shafts.numbers(alloc)?;
+    let mut numbers = level_rows(alloc)?;
     let cells = 3 * COLS as usize;
     for place in 0..numbers.len() {
         if place >= Part::Rnk as usize * cells {
@@ -44,7 +38,7 @@ fn verdict_changed(alloc: Global, one: Change, other: Change) -> Result<Verdict,
     let mut numbers = long_rows(alloc, UNRANKED)?;
     put(&mut numbers, one)?;
     put(&mut numbers, other)?;
-    verdict_by_rows(alloc, b"", &numbers, Ranks::Unasked)
+    verdict_by_rows(alloc, b"", &numbers, Ranks::Ignored)
 }
 
 /// The number for no rank.
@@ -55,17 +49,17 @@ static RANKS: [(&str, i64, Ranks, Option<(Rule, u8, u8)>); 4] = [
     (
         "equal ranks, asked for",
         0,
-        Ranks::Asked,
+        Ranks::Checked,
         Some((Rule::FlatStep, 1, 1)),
     ),
-    ("equal ranks", 0, Ranks::Unasked, None),
+    ("equal ranks", 0, Ranks::Ignored, None),
     (
         "no ranks, asked for",
         UNRANKED,
-        Ranks::Asked,
+        Ranks::Checked,
         Some((Rule::Missing, 0, 0)),
     ),
-    ("no ranks", UNRANKED, Ranks::Unasked, None),
+    ("no ranks", UNRANKED, Ranks::Ignored, None),
 ];
 
 /// The verdict on the rows where this is the fault.

@@ -3,12 +3,12 @@
 use crate::agree::{same, same_line};
 use crate::example::{Example, one_tile};
 use crate::inputs::{ConHeaded, products_at_once, tiles_at_once};
-use crate::runs::{Asked, line_of};
+use crate::runs::{Checked, line_of};
 use crate::sink_orders::with_a_gap;
 use crate::tells::{each_tells, tells};
 use drain_answer::line::Line;
 use drain_device::ByteSource;
-use drain_grid::Held;
+use drain_grid::SetProduct;
 use drain_hgt::TileInput;
 use drain_verdict::Products;
 use std::alloc::{AllocError, Global};
@@ -32,14 +32,14 @@ fn accepts_right_products_of_one_tile(rt: HostRuntime) -> Result<(), Fail> {
             "accepted rows=4 cols=4 data=16 raised=0 outlets=4",
         ),
     ];
-    each_tells(&rt, rt.alloc(), Asked::Check, &cases)
+    each_tells(&rt, rt.alloc(), Checked::Check, &cases)
 }
 
 #[test]
 fn accepts_tiles_with_a_gap_between_them(rt: HostRuntime) -> Result<(), Fail> {
     let line = "accepted rows=3 cols=7 data=18 raised=0 outlets=16";
     let example = with_a_gap(&[]);
-    tells(&rt, rt.alloc(), Asked::Check, "a gap", &example, line)
+    tells(&rt, rt.alloc(), Checked::Check, "a gap", &example, line)
 }
 
 /// How many bytes a source still gives.
@@ -65,8 +65,8 @@ fn bytes_left<R: ByteSource>(tiles: &mut [TileInput<R>], products: &mut Products
 }
 
 /// The first product without the header that it was made with.
-fn other_header<R>(products: &Products<R>, made: &Example) -> Option<Held> {
-    for product in Held::ALL {
+fn other_header<R>(products: &Products<R>, made: &Example) -> Option<SetProduct> {
+    for product in SetProduct::ALL {
         let header = products.of(product).header.as_slice();
         if header != made.raster(product).header.as_slice() {
             return Some(product);
@@ -86,7 +86,7 @@ fn other_name<R>(tiles: &[TileInput<R>], made: &Example) -> Option<usize> {
 }
 
 /// The line of a check, the bytes that it leaves, and a product with a changed header and a tile with a changed name.
-type Leftovers = (Line, BytesLeft, (Option<Held>, Option<usize>));
+type Leftovers = (Line, BytesLeft, (Option<SetProduct>, Option<usize>));
 
 fn left_by<R: ByteSource>(
     alloc: Global,

@@ -3,13 +3,13 @@
 use crate::bytes::Bytes;
 use crate::example::{Example, changed, grid_of, header_on, one_tile};
 use crate::faults::{Times, goes_on_after};
-use crate::inputs::Owner;
 use crate::listed_sinks::{Lie, listed_pit_with, round_a_void, two_tiles};
-use crate::runs::Asked;
+use crate::runs::Checked;
 use crate::sink_orders::with_a_gap;
+use crate::sources::MIDDLES;
 use crate::tells::{Changes, changes_tell, each_tells, tells_twice};
 use drain_device::DeviceFault;
-use drain_grid::Held;
+use drain_grid::SetProduct;
 use std::test::Fail;
 use worked::grids::{
     LEVEL_LINE, LISTED_PIT_LINE, LISTED_PIT_SINKS, PIT_LINE, SLOPE_LINE, UNLISTED_PIT_LINE,
@@ -30,7 +30,7 @@ fn accepts_right_products_of_one_tile(rt: HostRuntime) -> Result<(), Fail> {
         (round_a_void(), void_inside),
         (listed_pit_with(LISTED_PIT_SINKS), LISTED_PIT_LINE),
     ];
-    each_tells(&rt, rt.alloc(), Asked::Audit, &cases)
+    each_tells(&rt, rt.alloc(), Checked::Audit, &cases)
 }
 
 #[test]
@@ -44,7 +44,7 @@ fn accepts_right_products_of_two_tiles(rt: HostRuntime) -> Result<(), Fail> {
         (two_tiles(alloc, Lie::Below, (3, 1), "3 1")?, below),
         (with_a_gap(&[]), parted),
     ];
-    each_tells(&rt, rt.alloc(), Asked::Audit, &cases)
+    each_tells(&rt, rt.alloc(), Checked::Audit, &cases)
 }
 
 /// Numbers of the slope that are changed, and the line of the rejection. Its places are counted through its samples and its products, 16 of each.
@@ -66,7 +66,7 @@ static CHANGES: [Changes; 6] = [
 
 #[test]
 fn rejects_a_changed_slope(rt: HostRuntime) -> Result<(), Fail> {
-    changes_tell(&rt, rt.alloc(), Asked::Audit, (4, ""), &slope(), &CHANGES)
+    changes_tell(&rt, rt.alloc(), Checked::Audit, (4, ""), &slope(), &CHANGES)
 }
 
 /// A path without an end is reported before the rules: con is too high in the second of these.
@@ -81,11 +81,11 @@ fn rejects_flats_that_lead_nowhere(rt: HostRuntime) -> Result<(), Fail> {
         (one_tile(3, &changed(&pit(), &[(22, 0)])), UNLISTED_PIT_LINE),
         (listed_pit_with(""), UNLISTED_PIT_LINE),
     ];
-    each_tells(&rt, rt.alloc(), Asked::Audit, &cases)
+    each_tells(&rt, rt.alloc(), Checked::Audit, &cases)
 }
 
 /// Puts this line before those of a product's header.
-fn put_first(example: &mut Example, product: Held, line: &str) {
+fn put_first(example: &mut Example, product: SetProduct, line: &str) {
     let mut header = Bytes::of(line.as_bytes());
     header.extend(header_on(product, grid_of(example.side)).as_slice());
     example.raster_mut(product).header = header;
@@ -95,14 +95,14 @@ fn put_first(example: &mut Example, product: Held, line: &str) {
 #[test]
 fn rejects_beside_other_numbers_of_nodata(rt: HostRuntime) -> Result<(), Fail> {
     let mut wrong_code = one_tile(4, &changed(&slope(), &[(32, 255)]));
-    put_first(&mut wrong_code, Held::Dir, "NODATA 9\n");
+    put_first(&mut wrong_code, SetProduct::Dir, "NODATA 9\n");
     let mut missing = one_tile(2, &level());
-    put_first(&mut missing, Held::Con, "NODATA 0\n");
+    put_first(&mut missing, SetProduct::Con, "NODATA 0\n");
     let cases = [
         (wrong_code, "rejected NoEnd row=0 col=0"),
         (missing, "rejected rule=2 Missing row=0 col=0"),
     ];
-    each_tells(&rt, rt.alloc(), Asked::Audit, &cases)
+    each_tells(&rt, rt.alloc(), Checked::Audit, &cases)
 }
 
 /// Puts one of the faults of the test below into the filled pit.
@@ -112,8 +112,8 @@ fn put_fault(example: &mut Example, fault: usize) {
     match fault {
         0 => example.side = 1,
         1 => example.tiles[0].name = Bytes::of(b"x"),
-        2 => example.con.header = header_on(Held::Con, no_west),
-        3 => example.bas.header = header_on(Held::Bas, too_high),
+        2 => example.con.header = header_on(SetProduct::Con, no_west),
+        3 => example.bas.header = header_on(SetProduct::Bas, too_high),
         4 => {
             example.tiles[0].body.pop();
             example.con.body.pop();
@@ -145,21 +145,12 @@ fn refuses_by_the_first_fault(rt: HostRuntime) -> Result<(), Fail> {
         each_tells(
             &rt,
             rt.alloc(),
-            Asked::Audit,
+            Checked::Audit,
             &[(alone, line), (together, line)],
         )?;
     }
     Ok(())
 }
-
-/// Owners of sources, each with a call in its middle.
-static MIDDLES: [(Owner, u64); 5] = [
-    (Owner::Tile, 17),
-    (Owner::Raster(Held::Con), 17),
-    (Owner::Raster(Held::Dir), 9),
-    (Owner::Raster(Held::Acc), 33),
-    (Owner::Raster(Held::Bas), 33),
-];
 
 /// How often a source faults, how, and the expected line.
 static DEVICE_FAULTS: [Times; 2] = [
@@ -170,18 +161,16 @@ static DEVICE_FAULTS: [Times; 2] = [
 /// Each body of the slope faults in its middle, and then continues.
 #[test]
 fn bodies_that_go_on_after_a_fault(rt: HostRuntime) -> Result<(), Fail> {
-    let slope = one_tile(4, &slope());
-    for &middle in &MIDDLES {
-        goes_on_after(
-            &rt,
-            rt.alloc(),
-            Asked::Audit,
-            &slope,
-            middle,
-            &DEVICE_FAULTS,
-        )?;
-    }
-    Ok(())
+    // The last of the middles is that of the ranks, which an audit doesn't read.
+    let (asked, slope) = (Checked::Audit, one_tile(4, &slope()));
+    goes_on_after(
+        &rt,
+        rt.alloc(),
+        asked,
+        &slope,
+        &MIDDLES[..5],
+        &DEVICE_FAULTS,
+    )
 }
 
 #[test]
@@ -189,7 +178,7 @@ fn pit_after_refused_memory(rt: HostRuntime) {
     tells_twice(
         &rt,
         rt.alloc(),
-        Asked::Audit,
+        Checked::Audit,
         &one_tile(3, &pit()),
         PIT_LINE,
     );
@@ -200,7 +189,7 @@ fn ring_after_refused_memory(rt: HostRuntime) {
     tells_twice(
         &rt,
         rt.alloc(),
-        Asked::Audit,
+        Checked::Audit,
         &one_tile(4, &ring()),
         RING_LINE,
     );
@@ -209,5 +198,5 @@ fn ring_after_refused_memory(rt: HostRuntime) {
 #[test]
 fn listed_pit_after_refused_memory(rt: HostRuntime) {
     let example = listed_pit_with(LISTED_PIT_SINKS);
-    tells_twice(&rt, rt.alloc(), Asked::Audit, &example, LISTED_PIT_LINE);
+    tells_twice(&rt, rt.alloc(), Checked::Audit, &example, LISTED_PIT_LINE);
 }

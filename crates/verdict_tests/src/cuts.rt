@@ -3,8 +3,8 @@
 use crate::agree::same_line;
 use crate::bytes::Bytes;
 use crate::example::{Example, one_tile};
-use crate::runs::{Asked, told, told_at_once};
-use drain_grid::Held;
+use crate::runs::{Checked, told, told_at_once};
+use drain_grid::SetProduct;
 use std::test::Fail;
 use worked::grids::{SLOPE_LINE, slope};
 
@@ -19,19 +19,19 @@ fn a_tile_at_each_length(rt: HostRuntime) -> Result<(), Fail> {
         };
         let mut cut = whole;
         cut.tiles[0].body = whole.tiles[0].body.first(length);
-        let given = told(rt.alloc(), Asked::Check, &cut)?;
+        let given = told(rt.alloc(), Checked::Check, &cut)?;
         same_line(&rt, ("a tile", length), &given, line);
     }
     Ok(())
 }
 
 /// A product, how many bytes its raster has, and the line if there are fewer.
-static RASTERS: [(Held, usize, &str); 5] = [
-    (Held::Con, 32, "refused RasterShort con"),
-    (Held::Dir, 16, "refused RasterShort dir"),
-    (Held::Acc, 64, "refused RasterShort acc"),
-    (Held::Bas, 64, "refused RasterShort bas"),
-    (Held::Rnk, 64, "refused RasterShort rnk"),
+static RASTERS: [(SetProduct, usize, &str); 5] = [
+    (SetProduct::Con, 32, "refused RasterShort con"),
+    (SetProduct::Dir, 16, "refused RasterShort dir"),
+    (SetProduct::Acc, 64, "refused RasterShort acc"),
+    (SetProduct::Bas, 64, "refused RasterShort bas"),
+    (SetProduct::Rnk, 64, "refused RasterShort rnk"),
 ];
 
 #[test]
@@ -42,7 +42,7 @@ fn each_raster_at_each_length(rt: HostRuntime) -> Result<(), Fail> {
             let line = if length < needed { short } else { SLOPE_LINE };
             let mut cut = whole;
             cut.raster_mut(product).body = whole.raster(product).body.first(length);
-            let given = told(rt.alloc(), Asked::Check, &cut)?;
+            let given = told(rt.alloc(), Checked::Check, &cut)?;
             same_line(&rt, (short, length), &given, line);
         }
     }
@@ -154,7 +154,7 @@ fn a_header_at_each_length(rt: HostRuntime) -> Result<(), Fail> {
         for bytes in 0..=line.len() {
             row = row_at(row, number, bytes);
             let cut = slope_headed(&before, line, bytes);
-            let given = told_at_once(rt.alloc(), Asked::Check, &cut)?;
+            let given = told_at_once(rt.alloc(), Checked::Check, &cut)?;
             same_line(&rt, (line, bytes), &given, told_by(row));
         }
         before.extend(line.as_bytes());

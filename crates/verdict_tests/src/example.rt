@@ -1,7 +1,7 @@
 //! The inputs of a check, made from small arrays of numbers.
 
 use crate::bytes::Bytes;
-use drain_grid::Held;
+use drain_grid::SetProduct;
 
 /// A tile's name and its bytes.
 #[derive(Clone, Copy)]
@@ -55,23 +55,23 @@ impl Example {
         self.tile_count = self.tile_count.saturating_add(1);
     }
 
-    pub fn raster(&self, product: Held) -> &RasterBytes {
+    pub fn raster(&self, product: SetProduct) -> &RasterBytes {
         match product {
-            Held::Con => &self.con,
-            Held::Dir => &self.dir,
-            Held::Acc => &self.acc,
-            Held::Bas => &self.bas,
-            Held::Rnk => &self.rnk,
+            SetProduct::Con => &self.con,
+            SetProduct::Dir => &self.dir,
+            SetProduct::Acc => &self.acc,
+            SetProduct::Bas => &self.bas,
+            SetProduct::Rnk => &self.rnk,
         }
     }
 
-    pub fn raster_mut(&mut self, product: Held) -> &mut RasterBytes {
+    pub fn raster_mut(&mut self, product: SetProduct) -> &mut RasterBytes {
         match product {
-            Held::Con => &mut self.con,
-            Held::Dir => &mut self.dir,
-            Held::Acc => &mut self.acc,
-            Held::Bas => &mut self.bas,
-            Held::Rnk => &mut self.rnk,
+            SetProduct::Con => &mut self.con,
+            SetProduct::Dir => &mut self.dir,
+            SetProduct::Acc => &mut self.acc,
+            SetProduct::Bas => &mut self.bas,
+            SetProduct::Rnk => &mut self.rnk,
         }
     }
 }
@@ -87,16 +87,16 @@ pub fn grid_of(side: u32) -> &'static str {
 }
 
 /// The lines of a header on a product's pixels.
-fn pixels_of(product: Held) -> &'static str {
+fn pixels_of(product: SetProduct) -> &'static str {
     match product {
-        Held::Con => "BYTEORDER I\nNBITS 16\nPIXELTYPE SIGNEDINT\n",
-        Held::Dir => "BYTEORDER I\nNBITS 8\n",
+        SetProduct::Con => "BYTEORDER I\nNBITS 16\nPIXELTYPE SIGNEDINT\n",
+        SetProduct::Dir => "BYTEORDER I\nNBITS 8\n",
         _ => "BYTEORDER I\nNBITS 32\nPIXELTYPE UNSIGNEDINT\n",
     }
 }
 
 /// A product's header with these lines on its grid.
-pub fn header_on(product: Held, grid: &str) -> Bytes {
+pub fn header_on(product: SetProduct, grid: &str) -> Bytes {
     let mut header = Bytes::of(grid.as_bytes());
     header.extend(pixels_of(product).as_bytes());
     header
@@ -116,16 +116,16 @@ pub fn tile(name: &str, samples: &[i64]) -> TileBytes {
 }
 
 /// A number as a product's pixel, its least significant byte first.
-fn push_pixel(body: &mut Bytes, product: Held, number: i64) {
+fn push_pixel(body: &mut Bytes, product: SetProduct, number: i64) {
     let bytes = number.to_le_bytes();
     match product {
-        Held::Con => body.extend(&bytes[..2]),
-        Held::Dir => body.extend(&bytes[..1]),
+        SetProduct::Con => body.extend(&bytes[..2]),
+        SetProduct::Dir => body.extend(&bytes[..1]),
         _ => body.extend(&bytes[..4]),
     }
 }
 
-fn raster(product: Held, grid: &str, numbers: &[i64]) -> RasterBytes {
+fn raster(product: SetProduct, grid: &str, numbers: &[i64]) -> RasterBytes {
     let mut body = Bytes::new();
     for number in numbers {
         push_pixel(&mut body, product, *number);
@@ -144,11 +144,11 @@ pub fn products_on(side: u32, grid: &str, numbers: &[i64]) -> Example {
         tiles: [tile("", &[]); 3],
         tile_count: 0,
         sinks: Bytes::new(),
-        con: raster(Held::Con, grid, &numbers[..cells]),
-        dir: raster(Held::Dir, grid, &numbers[cells..2 * cells]),
-        acc: raster(Held::Acc, grid, &numbers[2 * cells..3 * cells]),
-        bas: raster(Held::Bas, grid, &numbers[3 * cells..4 * cells]),
-        rnk: raster(Held::Rnk, grid, &numbers[4 * cells..]),
+        con: raster(SetProduct::Con, grid, &numbers[..cells]),
+        dir: raster(SetProduct::Dir, grid, &numbers[cells..2 * cells]),
+        acc: raster(SetProduct::Acc, grid, &numbers[2 * cells..3 * cells]),
+        bas: raster(SetProduct::Bas, grid, &numbers[3 * cells..4 * cells]),
+        rnk: raster(SetProduct::Rnk, grid, &numbers[4 * cells..]),
     }
 }
 

@@ -4,7 +4,7 @@
 use crate::agree::same_line;
 use crate::example::Example;
 use crate::inputs::{Faulty, Owner};
-use crate::runs::{Asked, told_slowly};
+use crate::runs::{Checked, told_slowly};
 use drain_device::DeviceFault;
 use drain_device::faults::Scripted;
 use std::alloc::Global;
@@ -24,7 +24,7 @@ pub struct FaultyCalls {
 pub fn tells_beside(
     rt: &impl Abort,
     alloc: Global,
-    asked: Asked,
+    asked: Checked,
     case: &str,
     example: &Example,
     calls: FaultyCalls,
@@ -68,7 +68,7 @@ pub fn fails_at_each_call(
             last,
             answer: DeviceFault::Failed,
         };
-        tells_beside(rt, alloc, Asked::Check, case, example, calls, owed)?;
+        tells_beside(rt, alloc, Checked::Check, case, example, calls, owed)?;
     }
     Ok(())
 }
@@ -76,23 +76,25 @@ pub fn fails_at_each_call(
 /// How often a source faults, how, and the expected line.
 pub type Times = (u64, DeviceFault, &'static str);
 
-/// The same if an owner's source faults this often from this call on, and then continues.
+/// The same if the source of each of these owners faults this often from this call on, and then continues.
 pub fn goes_on_after(
     rt: &impl Abort,
     alloc: Global,
-    asked: Asked,
+    asked: Checked,
     example: &Example,
-    (owner, first): (Owner, u64),
+    middles: &[(Owner, u64)],
     cases: &[Times],
 ) -> Result<(), Fail> {
-    for &(times, answer, line) in cases {
-        let calls = FaultyCalls {
-            owner,
-            first,
-            last: first.saturating_add(times).saturating_sub(1),
-            answer,
-        };
-        tells_beside(rt, alloc, asked, "goes on", example, calls, line)?;
+    for &(owner, first) in middles {
+        for &(times, answer, line) in cases {
+            let calls = FaultyCalls {
+                owner,
+                first,
+                last: first.saturating_add(times).saturating_sub(1),
+                answer,
+            };
+            tells_beside(rt, alloc, asked, "goes on", example, calls, line)?;
+        }
     }
     Ok(())
 }

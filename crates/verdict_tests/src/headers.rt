@@ -1,9 +1,9 @@
 //! Headers of the pit's products on the tile S01E007: which are right, and which fault is reported of the others.
 
 use crate::example::{Example, header_on, tile_on};
-use crate::runs::Asked;
+use crate::runs::Checked;
 use crate::tells::tells;
-use drain_grid::Held;
+use drain_grid::SetProduct;
 use std::test::Fail;
 use worked::grids::{PIT_LINE, pit};
 
@@ -25,8 +25,8 @@ const TOO_NARROW: &str = "NROWS 3\nNCOLS 3\nULXMAP 7\nULYMAP 0\nXDIM 0.499999998
 /// The pit with these lines on the grid in the headers of con and acc, and the other headers right.
 fn pit_headed(con: &str, acc: &str) -> Example {
     let mut example = tile_on(3, "S01E007.hgt", RIGHT, &pit());
-    example.con.header = header_on(Held::Con, con);
-    example.acc.header = header_on(Held::Acc, acc);
+    example.con.header = header_on(SetProduct::Con, con);
+    example.acc.header = header_on(SetProduct::Acc, acc);
     example
 }
 
@@ -60,7 +60,7 @@ static HEADERS: [(&str, &str, &str, &str); 7] = [
 fn headers_of_one_tile(rt: HostRuntime) -> Result<(), Fail> {
     for &(con, acc, case, line) in &HEADERS {
         let example = pit_headed(con, acc);
-        tells(&rt, rt.alloc(), Asked::Check, case, &example, line)?;
+        tells(&rt, rt.alloc(), Checked::Check, case, &example, line)?;
     }
     Ok(())
 }

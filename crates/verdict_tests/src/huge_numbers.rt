@@ -8,25 +8,7 @@ use std::alloc::{AllocError, Global};
 use std::process::Abort;
 use std::test::Fail;
 use worked::grids::{PIT_LINE, pit, voids};
-
-/// The lines of con's header on the pit.
-static LINES_OF_PIT: [&str; 15] = [
-    "BYTEORDER I",
-    "LAYOUT BIL",
-    "NROWS 3",
-    "NCOLS 3",
-    "NBANDS 1",
-    "NBITS 16",
-    "BANDROWBYTES 6",
-    "TOTALROWBYTES 6",
-    "SKIPBYTES 0",
-    "PIXELTYPE SIGNEDINT",
-    "ULXMAP 0.000000000000000",
-    "ULYMAP 1.000000000000000",
-    "XDIM 0.500000000000000",
-    "YDIM 0.500000000000000",
-    "NODATA -32768",
-];
+use worked::headers::CON_LINES;
 
 /// The lines of con's header on four voids.
 static LINES_OF_VOIDS: [&str; 15] = [
@@ -147,7 +129,7 @@ fn numbers_at_their_bounds(rt: HostRuntime) -> Result<(), Fail> {
     let example = one_tile(3, &pit());
     for &(number, replaced, owed) in &AT_BOUNDS {
         let short = (number, HeaderLine::short(replaced));
-        header_tells(&rt, rt.alloc(), &example, &LINES_OF_PIT, short, owed)?;
+        header_tells(&rt, rt.alloc(), &example, &CON_LINES, short, owed)?;
     }
     Ok(())
 }
@@ -173,7 +155,7 @@ fn decimals_of_60_000_digits(rt: HostRuntime) -> Result<(), Fail> {
             digit: Some(digit),
             end,
         };
-        header_tells(&rt, rt.alloc(), &example, &LINES_OF_PIT, (11, long), owed)?;
+        header_tells(&rt, rt.alloc(), &example, &CON_LINES, (11, long), owed)?;
     }
     Ok(())
 }

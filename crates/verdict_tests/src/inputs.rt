@@ -4,7 +4,7 @@
 use crate::example::{Example, RasterBytes, TileBytes};
 use drain_device::faults::{ScriptSource, Scripted};
 use drain_device::{ByteList, DeviceFault, SliceSource};
-use drain_grid::{Held, PerProduct};
+use drain_grid::{PerProduct, SetProduct};
 use drain_hgt::TileInput;
 use drain_verdict::{Products, RasterInput};
 use std::alloc::{AllocError, Global};
@@ -13,7 +13,7 @@ use std::alloc::{AllocError, Global};
 #[derive(Clone, Copy, PartialEq, Eq, Debug)]
 pub enum Owner {
     Tile,
-    Raster(Held),
+    Raster(SetProduct),
 }
 
 /// When the sources of an owner fault; the others never do.
@@ -89,12 +89,12 @@ impl<'a> ConHeaded<'a> {
 
 fn raster_of_con_headed<'a>(
     alloc: Global,
-    product: Held,
+    product: SetProduct,
     headed: ConHeaded<'a>,
 ) -> Result<RasterInput<SliceSource<'a>>, AllocError> {
     let raster = headed.example.raster(product);
     match product {
-        Held::Con => raster_at_once(alloc, headed.header, raster),
+        SetProduct::Con => raster_at_once(alloc, headed.header, raster),
         _ => raster_at_once(alloc, raster.header.as_slice(), raster),
     }
 }
@@ -104,7 +104,7 @@ pub fn products_at_once<'a>(
     alloc: Global,
     headed: ConHeaded<'a>,
 ) -> Result<Products<SliceSource<'a>>, AllocError> {
-    let input = |product: Held| -> Result<RasterInput<SliceSource<'_>>, AllocError> {
+    let input = |product: SetProduct| -> Result<RasterInput<SliceSource<'_>>, AllocError> {
         raster_of_con_headed(alloc, product, headed)
     };
     PerProduct::from_each(&input)
@@ -152,7 +152,7 @@ pub struct SlowExample<'a> {
 
 fn slow_raster<'a>(
     alloc: Global,
-    product: Held,
+    product: SetProduct,
     slowly: SlowExample<'a>,
 ) -> Result<RasterInput<ScriptSource<'a>>, AllocError> {
     let raster = slowly.example.raster(product);
@@ -171,7 +171,7 @@ pub fn slow_products<'a>(
     alloc: Global,
     slowly: SlowExample<'a>,
 ) -> Result<Products<ScriptSource<'a>>, AllocError> {
-    let input = |product: Held| -> Result<RasterInput<ScriptSource<'_>>, AllocError> {
+    let input = |product: SetProduct| -> Result<RasterInput<ScriptSource<'_>>, AllocError> {
         slow_raster(alloc, product, slowly)
     };
     PerProduct::from_each(&input)

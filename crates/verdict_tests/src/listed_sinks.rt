@@ -3,10 +3,10 @@
 use crate::example::{Example, one_tile, products_on, tile, tile_on};
 use crate::faults::{FaultyCalls, fails_at_each_call, tells_beside};
 use crate::inputs::Owner;
-use crate::runs::Asked;
+use crate::runs::Checked;
 use crate::tells::{Changes, changes_tell, lists_tell, tells};
 use drain_device::DeviceFault;
-use drain_grid::Held;
+use drain_grid::SetProduct;
 use std::alloc::Global;
 use std::test::Fail;
 use worked::grids::{
@@ -200,7 +200,7 @@ static TWO_TILES: [(Lie, (u8, u16), &str, &str); 18] = [
 fn sinks_of_two_tiles(rt: HostRuntime) -> Result<(), Fail> {
     for &(lie, cell, text, line) in &TWO_TILES {
         let example = two_tiles(rt.alloc(), lie, cell, text)?;
-        tells(&rt, rt.alloc(), Asked::Check, text, &example, line)?;
+        tells(&rt, rt.alloc(), Checked::Check, text, &example, line)?;
     }
     Ok(())
 }
@@ -216,9 +216,9 @@ static BESIDE_A_FAULT: [(&str, &str); 4] = [
 /// Owners of sources, each with the number of calls of its source.
 static CALLS: [(Owner, u64); 4] = [
     (Owner::Tile, 19),
-    (Owner::Raster(Held::Con), 18),
-    (Owner::Raster(Held::Dir), 9),
-    (Owner::Raster(Held::Rnk), 36),
+    (Owner::Raster(SetProduct::Con), 18),
+    (Owner::Raster(SetProduct::Dir), 9),
+    (Owner::Raster(SetProduct::Rnk), 36),
 ];
 
 #[test]
@@ -238,10 +238,10 @@ static INTERRUPTIONS: [(Owner, u64, u64, bool); 8] = [
     (Owner::Tile, 5, 1003, true),
     (Owner::Tile, 1, 1000, false),
     (Owner::Tile, 5, 1004, false),
-    (Owner::Raster(Held::Dir), 1, 999, true),
-    (Owner::Raster(Held::Dir), 5, 1003, true),
-    (Owner::Raster(Held::Dir), 1, 1000, false),
-    (Owner::Raster(Held::Dir), 5, 1004, false),
+    (Owner::Raster(SetProduct::Dir), 1, 999, true),
+    (Owner::Raster(SetProduct::Dir), 5, 1003, true),
+    (Owner::Raster(SetProduct::Dir), 1, 1000, false),
+    (Owner::Raster(SetProduct::Dir), 5, 1004, false),
 ];
 
 #[test]
@@ -256,7 +256,7 @@ fn sources_that_are_interrupted_beside_a_list(rt: HostRuntime) -> Result<(), Fai
                 last,
                 answer: DeviceFault::Interrupted,
             };
-            tells_beside(&rt, rt.alloc(), Asked::Check, text, &pit, calls, owed)?;
+            tells_beside(&rt, rt.alloc(), Checked::Check, text, &pit, calls, owed)?;
         }
     }
     Ok(())
@@ -278,7 +278,7 @@ fn rules_beside_a_list(rt: HostRuntime) -> Result<(), Fail> {
     changes_tell(
         &rt,
         rt.alloc(),
-        Asked::Check,
+        Checked::Check,
         (3, LISTED_PIT_SINKS),
         &listed_pit(),
         &RULES,

@@ -3,7 +3,7 @@
 use crate::agree::same_line;
 use crate::bytes::Bytes;
 use crate::example::{Example, tile_on};
-use crate::runs::{Asked, told_at_once};
+use crate::runs::{Checked, told_at_once};
 use std::test::Fail;
 
 const GRID: &str =
@@ -76,7 +76,7 @@ fn a_thousand_sinks(rt: HostRuntime) -> Result<(), Fail> {
     let level = level();
     for &(left_out, last, line) in &LISTS {
         let listed = level.with_sinks(list(left_out, last));
-        let given = told_at_once(rt.alloc(), Asked::Check, &listed)?;
+        let given = told_at_once(rt.alloc(), Checked::Check, &listed)?;
         same_line(&rt, last, &given, line);
     }
     Ok(())

@@ -2,7 +2,7 @@
 
 use crate::bytes::Bytes;
 use crate::example::{Example, bare, one_tile, products_on, tile};
-use crate::runs::Asked;
+use crate::runs::Checked;
 use crate::tells::{each_tells, tells};
 use std::test::Fail;
 use worked::grids::pit;
@@ -33,7 +33,7 @@ static NAMES: [(u32, &[&str], &str); 6] = [
 fn tells_the_side_before_the_names_before_the_headers(rt: HostRuntime) -> Result<(), Fail> {
     for &(side, names, line) in &NAMES {
         let example = bare(side, names, TWO_BANDS);
-        tells(&rt, rt.alloc(), Asked::Check, line, &example, line)?;
+        tells(&rt, rt.alloc(), Checked::Check, line, &example, line)?;
     }
     Ok(())
 }
@@ -62,7 +62,7 @@ fn tells_a_product_before_the_next_and_the_tiles(rt: HostRuntime) -> Result<(), 
         tells(
             &rt,
             rt.alloc(),
-            Asked::Check,
+            Checked::Check,
             line,
             &headed(con, dir, rnk),
             line,
@@ -85,7 +85,7 @@ fn torn() -> Example {
 #[test]
 fn tells_a_seam_before_the_rules(rt: HostRuntime) -> Result<(), Fail> {
     let line = "refused SeamMismatch row=0 col=1";
-    tells(&rt, rt.alloc(), Asked::Check, "a seam", &torn(), line)
+    tells(&rt, rt.alloc(), Checked::Check, "a seam", &torn(), line)
 }
 
 #[test]
@@ -103,5 +103,5 @@ fn tells_a_tile_before_a_raster_before_a_seam(rt: HostRuntime) -> Result<(), Fai
         (short_tile, "refused BadTileLength N00E001.hgt"),
         (short_rasters, "refused RasterShort dir"),
     ];
-    each_tells(&rt, rt.alloc(), Asked::Check, &cases)
+    each_tells(&rt, rt.alloc(), Checked::Check, &cases)
 }

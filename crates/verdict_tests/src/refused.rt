@@ -2,49 +2,50 @@
 
 use crate::agree::same_line;
 use crate::example::{Example, bare, header_on, one_tile, products_on, tile};
-use crate::runs::Asked;
+use crate::runs::Checked;
 use crate::tells::{each_tells, tells};
-use drain_grid::Held;
+use drain_grid::SetProduct;
 use drain_verdict::{Refusal, report};
 use std::test::Fail;
 use worked::grids::{PIT_LINE, pit, ring};
+use worked::headers::USUAL;
 
 /// The pit, with these lines on the grid in a product's header.
-fn pit_on(product: Held, grid: &str) -> Example {
+fn pit_on(product: SetProduct, grid: &str) -> Example {
     let mut example = one_tile(3, &pit());
     example.raster_mut(product).header = header_on(product, grid);
     example
 }
 
 /// A product, the lines on its grid, and the expected line.
-static PLACES_AND_SHAPES: [(Held, &str, &str); 6] = [
+static PLACES_AND_SHAPES: [(SetProduct, &str, &str); 6] = [
     (
-        Held::Con,
+        SetProduct::Con,
         "NROWS 3\nNCOLS 3\nULXMAP 0.000001\nULYMAP 1\nXDIM 0.5\nYDIM 0.5\n",
         PIT_LINE,
     ),
     (
-        Held::Con,
+        SetProduct::Con,
         "NROWS 3\nNCOLS 3\nULXMAP 0.000001000000001\nULYMAP 1\nXDIM 0.5\nYDIM 0.5\n",
         "refused Misplaced con",
     ),
     (
-        Held::Con,
+        SetProduct::Con,
         "NROWS 3\nNCOLS 3\nULXMAP 0\nULYMAP 1\nXDIM 0.500000001\nYDIM 0.5\n",
         PIT_LINE,
     ),
     (
-        Held::Con,
+        SetProduct::Con,
         "NROWS 3\nNCOLS 3\nULXMAP 0\nULYMAP 1\nXDIM 0.500000001000001\nYDIM 0.5\n",
         "refused Misplaced con",
     ),
     (
-        Held::Dir,
+        SetProduct::Dir,
         "NROWS 4\nNCOLS 3\nULXMAP 0\nULYMAP 1\nXDIM 0.5\nYDIM 0.5\n",
         "refused WrongShape dir",
     ),
     (
-        Held::Dir,
+        SetProduct::Dir,
         "NROWS 3\nNCOLS 3\nULYMAP 1\nXDIM 0.5\nYDIM 0.5\n",
         "refused BadHeader dir MissingKey ULXMAP",
     ),
@@ -56,7 +57,7 @@ fn refuses_other_places_and_shapes(rt: HostRuntime) -> Result<(), Fail> {
         tells(
             &rt,
             rt.alloc(),
-            Asked::Check,
+            Checked::Check,
             grid,
             &pit_on(product, grid),
             line,
@@ -80,42 +81,38 @@ fn refuses_bodies_of_another_length(rt: HostRuntime) -> Result<(), Fail> {
         (short_tile, "refused BadTileLength N00E000.hgt"),
         (long_tile, "refused BadTileLength N00E000.hgt"),
     ];
-    each_tells(&rt, rt.alloc(), Asked::Check, &cases)
+    each_tells(&rt, rt.alloc(), Checked::Check, &cases)
 }
 
 /// Two tiles of side 2 that differ in the middle of the first row.
-#[test]
-fn refuses_tiles_that_differ(rt: HostRuntime) -> Result<(), Fail> {
+pub fn torn() -> Example {
     let grid = "NROWS 2\nNCOLS 3\nULXMAP 0\nULYMAP 1\nXDIM 1\nYDIM 1\n";
-    let mut example = products_on(2, grid, &[0; 30]);
-    example.push_tile(tile("N00E000.hgt", &[1, 2, 3, 4]));
-    example.push_tile(tile("N00E001.hgt", &[9, 5, 4, 6]));
-    let line = "refused SeamMismatch row=0 col=1";
-    tells(&rt, rt.alloc(), Asked::Check, "a seam", &example, line)
+    let mut torn = products_on(2, grid, &[0; 30]);
+    torn.push_tile(tile("N00E000.hgt", &[1, 2, 3, 4]));
+    torn.push_tile(tile("N00E001.hgt", &[9, 5, 4, 6]));
+    torn
 }
 
-/// A usual tool's header of the tile N37W105, except its spaces.
-const USUAL: &str = "BYTEORDER I
-LAYOUT BIL
-NROWS 1201
-NCOLS 1201
-NBANDS 1
-NBITS 16
-BANDROWBYTES 2402
-TOTALROWBYTES 2402
-PIXELTYPE SIGNEDINT
-ULXMAP -105
-ULYMAP 38
-XDIM 0.000833333333333333
-YDIM 0.000833333333333333
-NODATA -32768
-";
+/// The line of a check of them.
+pub const TORN_LINE: &str = "refused SeamMismatch row=0 col=1";
+
+#[test]
+fn refuses_tiles_that_differ(rt: HostRuntime) -> Result<(), Fail> {
+    tells(
+        &rt,
+        rt.alloc(),
+        Checked::Check,
+        "a seam",
+        &torn(),
+        TORN_LINE,
+    )
+}
 
 #[test]
 fn takes_the_headers_of_usual_tools(rt: HostRuntime) -> Result<(), Fail> {
     let example = bare(1201, &["N37W105.hgt"], USUAL);
     let line = "refused BadTileLength N37W105.hgt";
-    tells(&rt, rt.alloc(), Asked::Check, "usual", &example, line)
+    tells(&rt, rt.alloc(), Checked::Check, "usual", &example, line)
 }
 
 #[test]

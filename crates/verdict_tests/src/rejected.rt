@@ -1,9 +1,9 @@
 //! Products that break one rule each, or one rule before another.
 
 use crate::example::{changed, header_on, one_tile};
-use crate::runs::Asked;
+use crate::runs::Checked;
 use crate::tells::{Changes, changes_tell, each_tells, tells};
-use drain_grid::Held;
+use drain_grid::SetProduct;
 use std::test::Fail;
 use worked::grids::{level, needless_crest, pit, ring, slope, voids};
 
@@ -23,7 +23,7 @@ fn rejects_a_changed_slope(rt: HostRuntime) -> Result<(), Fail> {
     changes_tell(
         &rt,
         rt.alloc(),
-        Asked::Check,
+        Checked::Check,
         (4, ""),
         &slope(),
         &CHANGED_SLOPES,
@@ -44,7 +44,7 @@ fn rejects_a_changed_pit(rt: HostRuntime) -> Result<(), Fail> {
     changes_tell(
         &rt,
         rt.alloc(),
-        Asked::Check,
+        Checked::Check,
         (3, ""),
         &pit(),
         &CHANGED_PITS,
@@ -65,7 +65,7 @@ fn rejects_by_the_other_rules(rt: HostRuntime) -> Result<(), Fail> {
             "rejected rule=12 FlatStep row=1 col=1",
         ),
     ];
-    each_tells(&rt, rt.alloc(), Asked::Check, &cases)
+    each_tells(&rt, rt.alloc(), Checked::Check, &cases)
 }
 
 /// Cells with data, whose number is the header's no-data number.
@@ -73,9 +73,9 @@ fn rejects_by_the_other_rules(rt: HostRuntime) -> Result<(), Fail> {
 fn rejects_the_number_of_nodata(rt: HostRuntime) -> Result<(), Fail> {
     let mut example = one_tile(2, &level());
     let grid = "NODATA 0\nNROWS 2\nNCOLS 2\nULXMAP 0\nULYMAP 1\nXDIM 1\nYDIM 1\n";
-    example.con.header = header_on(Held::Con, grid);
+    example.con.header = header_on(SetProduct::Con, grid);
     let line = "rejected rule=2 Missing row=0 col=0";
-    tells(&rt, rt.alloc(), Asked::Check, "no data", &example, line)
+    tells(&rt, rt.alloc(), Checked::Check, "no data", &example, line)
 }
 
 /// Labels of the slope that are changed, and the line of the rejection.
@@ -86,5 +86,12 @@ static ONE_LABEL: [Changes; 1] = [(
 
 #[test]
 fn rejects_two_outlets_of_one_label(rt: HostRuntime) -> Result<(), Fail> {
-    changes_tell(&rt, rt.alloc(), Asked::Check, (4, ""), &slope(), &ONE_LABEL)
+    changes_tell(
+        &rt,
+        rt.alloc(),
+        Checked::Check,
+        (4, ""),
+        &slope(),
+        &ONE_LABEL,
+    )
 }

@@ -13,7 +13,7 @@ use std::test::Fail;
 
 /// What is run on an example.
 #[derive(Clone, Copy)]
-pub enum Asked {
+pub enum Checked {
     Check,
     /// The ranks aren't passed.
     Audit,
@@ -53,37 +53,37 @@ fn audit_line_of<R: ByteSource>(
 /// The line for these tiles and products, with the side and the list of the example.
 fn answered<R: ByteSource + Drop>(
     alloc: Global,
-    asked: Asked,
+    asked: Checked,
     example: &Example,
     tiles: &mut [TileInput<R>],
     mut products: Products<R>,
 ) -> Line {
     match asked {
-        Asked::Check => line_of(alloc, example, tiles, &mut products),
-        Asked::Audit => audit_line_of(alloc, example, tiles, &mut without_ranks(products)),
+        Checked::Check => line_of(alloc, example, tiles, &mut products),
+        Checked::Audit => audit_line_of(alloc, example, tiles, &mut without_ranks(products)),
     }
 }
 
-fn told_of(alloc: Global, asked: Asked, headed: ConHeaded<'_>) -> Result<Line, AllocError> {
+fn told_of(alloc: Global, asked: Checked, headed: ConHeaded<'_>) -> Result<Line, AllocError> {
     let mut tiles = tiles_at_once(alloc, headed.example.tiles())?;
     let products = products_at_once(alloc, headed)?;
     Ok(answered(alloc, asked, headed.example, &mut tiles, products))
 }
 
 /// The line when sources give all bytes at once.
-pub fn told_at_once(alloc: Global, asked: Asked, example: &Example) -> Result<Line, AllocError> {
+pub fn told_at_once(alloc: Global, asked: Checked, example: &Example) -> Result<Line, AllocError> {
     told_of(alloc, asked, ConHeaded::by_itself(example))
 }
 
 /// The line of a check whose sources give all bytes at once, with this header of con.
 pub fn told_of_header(alloc: Global, example: &Example, header: &[u8]) -> Result<Line, AllocError> {
-    told_of(alloc, Asked::Check, ConHeaded { example, header })
+    told_of(alloc, Checked::Check, ConHeaded { example, header })
 }
 
 /// The line when sources give one byte a call, and fault by this script.
 pub fn told_slowly(
     alloc: Global,
-    asked: Asked,
+    asked: Checked,
     example: &Example,
     faulty: Faulty,
 ) -> Result<Line, AllocError> {
@@ -93,7 +93,7 @@ pub fn told_slowly(
 }
 
 /// The line when sources never fault: the same whether they give all bytes at once or one byte a call.
-pub fn told(alloc: Global, asked: Asked, example: &Example) -> Result<Line, Fail> {
+pub fn told(alloc: Global, asked: Checked, example: &Example) -> Result<Line, Fail> {
     let line = told_at_once(alloc, asked, example)?;
     let slow = told_slowly(alloc, asked, example, Faulty::never())?;
     agreed(line, &slow)

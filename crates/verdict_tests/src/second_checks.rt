@@ -3,7 +3,7 @@
 
 use crate::example::one_tile;
 use crate::listed_sinks::{filled_pit_with, listed_pit_with};
-use crate::runs::Asked;
+use crate::runs::Checked;
 use crate::tells::tells_twice;
 use worked::grids::{
     LEVEL_LINE, LISTED_PIT_LINE, PIT_LINE, SLOPE_LINE, UNLISTED_PIT_LINE, VOIDS_LINE, level, pit,
@@ -15,7 +15,7 @@ fn pit_after_refused_memory(rt: HostRuntime) {
     tells_twice(
         &rt,
         rt.alloc(),
-        Asked::Check,
+        Checked::Check,
         &one_tile(3, &pit()),
         PIT_LINE,
     );
@@ -26,7 +26,7 @@ fn level_tile_after_refused_memory(rt: HostRuntime) {
     tells_twice(
         &rt,
         rt.alloc(),
-        Asked::Check,
+        Checked::Check,
         &one_tile(2, &level()),
         LEVEL_LINE,
     );
@@ -37,7 +37,7 @@ fn voids_after_refused_memory(rt: HostRuntime) {
     tells_twice(
         &rt,
         rt.alloc(),
-        Asked::Check,
+        Checked::Check,
         &one_tile(2, &voids()),
         VOIDS_LINE,
     );
@@ -48,7 +48,7 @@ fn slope_after_refused_memory(rt: HostRuntime) {
     tells_twice(
         &rt,
         rt.alloc(),
-        Asked::Check,
+        Checked::Check,
         &one_tile(4, &slope()),
         SLOPE_LINE,
     );
@@ -60,13 +60,13 @@ const SINKS: &str = "1 1\n0 0\n0 1\n0 2\n1 0\n1 2\n2 0\n2 1\n2 2\n1 1\n";
 #[test]
 fn listed_pit_after_refused_memory(rt: HostRuntime) {
     let example = listed_pit_with(SINKS);
-    tells_twice(&rt, rt.alloc(), Asked::Check, &example, LISTED_PIT_LINE);
+    tells_twice(&rt, rt.alloc(), Checked::Check, &example, LISTED_PIT_LINE);
 }
 
 #[test]
 fn unlisted_pit_after_refused_memory(rt: HostRuntime) {
     let example = listed_pit_with("2 2\n0 0\n");
-    tells_twice(&rt, rt.alloc(), Asked::Check, &example, UNLISTED_PIT_LINE);
+    tells_twice(&rt, rt.alloc(), Checked::Check, &example, UNLISTED_PIT_LINE);
 }
 
 #[test]
@@ -75,7 +75,7 @@ fn bad_line_after_refused_memory(rt: HostRuntime) {
     tells_twice(
         &rt,
         rt.alloc(),
-        Asked::Check,
+        Checked::Check,
         &example,
         "refused BadSinkLine 7",
     );
@@ -87,7 +87,7 @@ fn cell_outside_after_refused_memory(rt: HostRuntime) {
     tells_twice(
         &rt,
         rt.alloc(),
-        Asked::Check,
+        Checked::Check,
         &example,
         "refused SinkNotData 3",
     );
@@ -99,7 +99,7 @@ fn listed_voids_after_refused_memory(rt: HostRuntime) {
     tells_twice(
         &rt,
         rt.alloc(),
-        Asked::Check,
+        Checked::Check,
         &example,
         "refused SinkNotData 1",
     );

@@ -4,6 +4,7 @@ use crate::agree::same_line;
 use crate::bytes::Bytes;
 use crate::example::{Example, bare, changed, one_tile, products_on, tile};
 use crate::listed_sinks::{filled_pit_with, listed_pit_with};
+use crate::refused::{TORN_LINE, torn};
 use crate::tells::{any_list_tells, lists_tell};
 use drain_verdict::{Refusal, report};
 use std::test::Fail;
@@ -173,12 +174,7 @@ static BESIDE_A_SEAM: [&str; 4] = ["x", "9 9", "0 1", "0 1\n0 0 0"];
 /// Two tiles of side 2 that differ in the middle of the first row, with a list.
 #[test]
 fn tells_a_seam_before_a_list(rt: HostRuntime) -> Result<(), Fail> {
-    let grid = "NROWS 2\nNCOLS 3\nULXMAP 0\nULYMAP 1\nXDIM 1\nYDIM 1\n";
-    let mut torn = products_on(2, grid, &[0; 30]);
-    torn.push_tile(tile("N00E000.hgt", &[1, 2, 3, 4]));
-    torn.push_tile(tile("N00E001.hgt", &[9, 5, 4, 6]));
-    let line = "refused SeamMismatch row=0 col=1";
-    any_list_tells(&rt, rt.alloc(), &torn, &BESIDE_A_SEAM, line)
+    any_list_tells(&rt, rt.alloc(), &torn(), &BESIDE_A_SEAM, TORN_LINE)
 }
 
 #[test]

@@ -3,9 +3,9 @@
 use crate::example::one_tile;
 use crate::faults::{FaultyCalls, Times, fails_at_each_call, goes_on_after, tells_beside};
 use crate::inputs::Owner;
-use crate::runs::Asked;
+use crate::runs::Checked;
 use drain_device::DeviceFault;
-use drain_grid::Held;
+use drain_grid::SetProduct;
 use std::test::Fail;
 use worked::grids::{PIT_LINE, SLOPE_LINE, pit, slope};
 
@@ -25,8 +25,8 @@ fn bears_999_interruptions_of_each_source(rt: HostRuntime) -> Result<(), Fail> {
     let pit = one_tile(3, &pit());
     for owner in [
         Owner::Tile,
-        Owner::Raster(Held::Con),
-        Owner::Raster(Held::Rnk),
+        Owner::Raster(SetProduct::Con),
+        Owner::Raster(SetProduct::Rnk),
     ] {
         for &(first, last, line) in &INTERRUPTIONS {
             let calls = FaultyCalls {
@@ -35,7 +35,7 @@ fn bears_999_interruptions_of_each_source(rt: HostRuntime) -> Result<(), Fail> {
                 last,
                 answer: DeviceFault::Interrupted,
             };
-            tells_beside(&rt, rt.alloc(), Asked::Check, "pit", &pit, calls, line)?;
+            tells_beside(&rt, rt.alloc(), Checked::Check, "pit", &pit, calls, line)?;
         }
     }
     Ok(())
@@ -44,11 +44,11 @@ fn bears_999_interruptions_of_each_source(rt: HostRuntime) -> Result<(), Fail> {
 /// Owners of sources, each with the number of calls of its source.
 static CALLS: [(Owner, u64); 6] = [
     (Owner::Tile, 19),
-    (Owner::Raster(Held::Con), 18),
-    (Owner::Raster(Held::Dir), 9),
-    (Owner::Raster(Held::Acc), 36),
-    (Owner::Raster(Held::Bas), 36),
-    (Owner::Raster(Held::Rnk), 36),
+    (Owner::Raster(SetProduct::Con), 18),
+    (Owner::Raster(SetProduct::Dir), 9),
+    (Owner::Raster(SetProduct::Acc), 36),
+    (Owner::Raster(SetProduct::Bas), 36),
+    (Owner::Raster(SetProduct::Rnk), 36),
 ];
 
 /// A tile of 18 bytes is read once more, for its end; a raster isn't.
@@ -62,13 +62,13 @@ fn never_takes_a_failed_source_for_its_end(rt: HostRuntime) -> Result<(), Fail> 
 }
 
 /// Owners of sources, each with a call in its middle.
-static MIDDLES: [(Owner, u64); 6] = [
+pub static MIDDLES: [(Owner, u64); 6] = [
     (Owner::Tile, 17),
-    (Owner::Raster(Held::Con), 17),
-    (Owner::Raster(Held::Dir), 9),
-    (Owner::Raster(Held::Acc), 33),
-    (Owner::Raster(Held::Bas), 33),
-    (Owner::Raster(Held::Rnk), 33),
+    (Owner::Raster(SetProduct::Con), 17),
+    (Owner::Raster(SetProduct::Dir), 9),
+    (Owner::Raster(SetProduct::Acc), 33),
+    (Owner::Raster(SetProduct::Bas), 33),
+    (Owner::Raster(SetProduct::Rnk), 33),
 ];
 
 /// How often a source faults, how, and the expected line.
@@ -81,16 +81,6 @@ static DEVICE_FAULTS: [Times; 3] = [
 /// Each body of the slope faults in its middle, and then continues.
 #[test]
 fn bodies_that_go_on_after_a_fault(rt: HostRuntime) -> Result<(), Fail> {
-    let slope = one_tile(4, &slope());
-    for &middle in &MIDDLES {
-        goes_on_after(
-            &rt,
-            rt.alloc(),
-            Asked::Check,
-            &slope,
-            middle,
-            &DEVICE_FAULTS,
-        )?;
-    }
-    Ok(())
+    let (asked, slope) = (Checked::Check, one_tile(4, &slope()));
+    goes_on_after(&rt, rt.alloc(), asked, &slope, &MIDDLES, &DEVICE_FAULTS)
 }

@@ -2,7 +2,7 @@
 
 use crate::agree::same_line;
 use crate::example::{Example, changed, one_tile};
-use crate::runs::{Asked, told, told_at_once};
+use crate::runs::{Checked, told, told_at_once};
 use drain_answer::line::Line;
 use drain_verdict::{Refusal, report};
 use std::alloc::Global;
@@ -14,7 +14,7 @@ use worked::memory::owed_unless_right;
 pub fn tells(
     rt: &impl Abort,
     alloc: Global,
-    asked: Asked,
+    asked: Checked,
     case: &str,
     example: &Example,
     owed: &str,
@@ -28,7 +28,7 @@ pub fn tells(
 pub fn each_tells(
     rt: &impl Abort,
     alloc: Global,
-    asked: Asked,
+    asked: Checked,
     cases: &[(Example, &str)],
 ) -> Result<(), Fail> {
     for (place, (example, line)) in cases.iter().enumerate() {
@@ -38,6 +38,18 @@ pub fn each_tells(
     Ok(())
 }
 
+/// The same of a check of an example with this list, which names the case.
+fn list_tells(
+    rt: &impl Abort,
+    alloc: Global,
+    example: &Example,
+    list: &str,
+    owed: &str,
+) -> Result<(), Fail> {
+    let listing = example.listing(list);
+    tells(rt, alloc, Checked::Check, list, &listing, owed)
+}
+
 /// The same of checks of an example with each of these lists.
 pub fn lists_tell(
     rt: &impl Abort,
@@ -45,8 +57,8 @@ pub fn lists_tell(
     example: &Example,
     lists: &[(&str, &str)],
 ) -> Result<(), Fail> {
-    for &(text, line) in lists {
-        tells(rt, alloc, Asked::Check, text, &example.listing(text), line)?;
+    for &(list, line) in lists {
+        list_tells(rt, alloc, example, list, line)?;
     }
     Ok(())
 }
@@ -59,8 +71,8 @@ pub fn any_list_tells(
     lists: &[&str],
     owed: &str,
 ) -> Result<(), Fail> {
-    for &text in lists {
-        tells(rt, alloc, Asked::Check, text, &example.listing(text), owed)?;
+    for &list in lists {
+        list_tells(rt, alloc, example, list, owed)?;
     }
     Ok(())
 }
@@ -72,7 +84,7 @@ pub type Changes = (&'static [(usize, i64)], &'static str);
 pub fn changes_tell<const N: usize>(
     rt: &impl Abort,
     alloc: Global,
-    asked: Asked,
+    asked: Checked,
     (side, list): (u32, &str),
     numbers: &[i64; N],
     cases: &[Changes],
@@ -86,7 +98,7 @@ pub fn changes_tell<const N: usize>(
 }
 
 /// The line when bytes come at once. If the inputs run out of memory, that is its line.
-fn line_told(alloc: Global, asked: Asked, example: &Example) -> Line {
+fn line_told(alloc: Global, asked: Checked, example: &Example) -> Line {
     match told_at_once(alloc, asked, example) {
         Ok(line) => line,
         Err(_) => report(&Err(Refusal::OutOfMemory)),
@@ -94,7 +106,7 @@ fn line_told(alloc: Global, asked: Asked, example: &Example) -> Line {
 }
 
 /// Fails the test if a line isn't the expected one, or if after it, on fresh inputs, a line isn't the right one.
-pub fn tells_twice(rt: &impl Abort, alloc: Global, asked: Asked, example: &Example, right: &str) {
+pub fn tells_twice(rt: &impl Abort, alloc: Global, asked: Checked, example: &Example, right: &str) {
     let first = line_told(alloc, asked, example);
     let line = owed_unless_right(alloc, first.as_str(), "failed OutOfMemory", right);
     same_line(rt, "first", &first, line);

@@ -4,7 +4,7 @@ ghost use Rattle.std.specs.Prelude.{◌≡◌, IfOk};
 
 use crate::agree::same_line;
 use drain_answer::line::Line;
-use drain_grid::{Elevation, Held, PerProduct, ProductSet, Raster, Shape, Sinks};
+use drain_grid::{Elevation, PerProduct, ProductSet, Raster, SetProduct, Shape, Sinks};
 use drain_verdict::{Refusal, report, verdict_row_by_row};
 use std::alloc::Global;
 use std::test::Fail;
@@ -22,7 +22,12 @@ fn elevation(alloc: Global, shape: Shape) -> Result<Elevation, Fail>
 }
 
 /// A raster of four numbers.
-fn raster(alloc: Global, shape: Shape, product: Held, numbers: [u8; 4]) -> Result<Raster, Fail>
+fn raster(
+    alloc: Global,
+    shape: Shape,
+    product: SetProduct,
+    numbers: [u8; 4],
+) -> Result<Raster, Fail>
     ensures { IfOk result (λ raster. raster.extent ≡ shape) }
 {
     let numbers = Vec::from_slice(alloc, &numbers)?;
@@ -37,12 +42,12 @@ fn raster(alloc: Global, shape: Shape, product: Held, numbers: [u8; 4]) -> Resul
 fn products(alloc: Global, shape: Shape, counts: [u8; 4]) -> Result<ProductSet, Fail>
     ensures { IfOk result (λ products. products.con.extent ≡ shape) }
 {
-    let made = |product: Held| -> Result<Raster, Fail>
+    let made = |product: SetProduct| -> Result<Raster, Fail>
         ensures { IfOk result (λ raster. raster.extent ≡ shape) }
     {
         let numbers = match product {
-            Held::Acc => counts,
-            Held::Bas => [1, 2, 3, 4],
+            SetProduct::Acc => counts,
+            SetProduct::Bas => [1, 2, 3, 4],
             _ => [0; 4],
         };
         raster(alloc, shape, product, numbers)

@@ -1,6 +1,10 @@
-//! What tests share: small grids with products, and whether memory was just refused.
+//! What tests share: small grids with products, headers, a raster's number at any cell, at which calls a scripted device
+//! answers otherwise, and whether memory was just refused.
 #![tactic(auto)]
 
+pub mod calls;
 pub mod grids;
+pub mod headers;
 pub mod memory;
+pub mod pixels;
 pub mod shafts;

@@ -3,7 +3,7 @@
 ghost use Rattle.std.specs.Prelude.{◌≡◌, ◌*◌, IfOk, All, map, length};
 ghost use Rattle.drain_grid.specs.Tile.{IsSide};
 
-use super::{samples_made, seam_fault, turn};
+use super::{four_tiles, samples_made, seam_fault, turn};
 use crate::agree::same;
 use crate::tiles::{four_named, two_named};
 use drain_grid::{Cell, Elevation};
@@ -23,16 +23,15 @@ fn eight_named(names: &[&str; 8]) -> Result<[TileName; 8], NameFault> {
 fn eight_tiles(alloc: Global, samples: &[[i16; 4]; 8]) -> Result<[Vec<i16>; 8], AllocError>
     ensures { IfOk result (λ tiles. All (λ tile. length tile ≡ 4) (map (λ tile. tile.items) tiles)) }
 {
-    Ok([
-        Vec::from_slice(alloc, &samples[0])?,
-        Vec::from_slice(alloc, &samples[1])?,
-        Vec::from_slice(alloc, &samples[2])?,
-        Vec::from_slice(alloc, &samples[3])?,
-        Vec::from_slice(alloc, &samples[4])?,
-        Vec::from_slice(alloc, &samples[5])?,
-        Vec::from_slice(alloc, &samples[6])?,
-        Vec::from_slice(alloc, &samples[7])?,
-    ])
+    let [first, second, third, fourth] = four_tiles(
+        alloc,
+        &[samples[0], samples[1], samples[2], samples[3]],
+    )?;
+    let [fifth, sixth, seventh, eighth] = four_tiles(
+        alloc,
+        &[samples[4], samples[5], samples[6], samples[7]],
+    )?;
+    Ok([first, second, third, fourth, fifth, sixth, seventh, eighth])
 }
 
 /// What eight tiles of side 2 give together.
@@ -109,15 +108,15 @@ fn fault_of_turned(
 #[test]
 fn eight_tiles_that_agree(rt: HostRuntime) -> Result<(), Fail> {
     let given = samples_made(rt.alloc(), eight(rt.alloc(), &WIDE, &ROW)?)?;
-    let wanted = [
+    let expected = [
         1, 2, 3, 4, 5, 6, 7, 8, 9, 11, 12, 13, 14, 15, 16, 17, 18, 19,
     ];
-    same(&rt, "wide", given.as_slice(), wanted.as_slice());
+    same(&rt, "wide", given.as_slice(), expected.as_slice());
     let given = samples_made(rt.alloc(), eight(rt.alloc(), &TALL, &COLUMN)?)?;
-    let wanted = [
+    let expected = [
         1, 11, 2, 12, 3, 13, 4, 14, 5, 15, 6, 16, 7, 17, 8, 18, 9, 19,
     ];
-    same(&rt, "tall", given.as_slice(), wanted.as_slice());
+    same(&rt, "tall", given.as_slice(), expected.as_slice());
     Ok(())
 }
 
@@ -128,13 +127,13 @@ fn eight_tiles_that_differ(rt: HostRuntime) -> Result<(), Fail> {
         let tile = seam as usize;
         for (place, row) in [(0, 0), (2, 1)] {
             let fault = fault_of_turned(rt.alloc(), &WIDE, &ROW, tile, place)?;
-            let wanted = SeamFault::SeamMismatch(Cell { row, col: seam });
-            same(&rt, (tile, place), fault, Some(wanted));
+            let expected = SeamFault::SeamMismatch(Cell { row, col: seam });
+            same(&rt, (tile, place), fault, Some(expected));
         }
         for (place, col) in [(0, 0), (1, 1)] {
             let fault = fault_of_turned(rt.alloc(), &TALL, &COLUMN, tile, place)?;
-            let wanted = SeamFault::SeamMismatch(Cell { row: seam, col });
-            same(&rt, (tile, place), fault, Some(wanted));
+            let expected = SeamFault::SeamMismatch(Cell { row: seam, col });
+            same(&rt, (tile, place), fault, Some(expected));
         }
     }
     Ok(())

@@ -152,8 +152,8 @@ fn a_full_box(rt: HostRuntime) -> Result<(), Fail> {
         let cell = layout.place(tile);
         *place = (cell.row, cell.col);
     }
-    let wanted = [(7, 0), (7, 7), (0, 0), (0, 7)];
-    same(&rt, "a full box", (sizes, places), ((9, 9, 64), wanted));
+    let expected = [(7, 0), (7, 7), (0, 0), (0, 7)];
+    same(&rt, "a full box", (sizes, places), ((9, 9, 64), expected));
     Ok(())
 }
 

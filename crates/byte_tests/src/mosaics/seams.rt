@@ -73,9 +73,9 @@ static EASTERN: [(&str, [i16; 9], Option<u32>); 11] = [
 fn one_beside_the_other(rt: HostRuntime) -> Result<(), Fail> {
     let west = [1, 2, 3, 4, 5, 6, 7, 8, 9];
     for &(case, east, row) in &EASTERN {
-        let wanted = row.map(|row| Cell { row, col: 2 });
+        let expected = row.map(|row| Cell { row, col: 2 });
         let seams = seams_both_ways(rt.alloc(), ["N00E000.hgt", "N00E001.hgt"], west, east)?;
-        same(&rt, case, seams, [wanted, wanted]);
+        same(&rt, case, seams, [expected, expected]);
     }
     Ok(())
 }
@@ -98,9 +98,9 @@ static SOUTHERN: [(&str, [i16; 9], Option<u32>); 9] = [
 fn one_above_the_other(rt: HostRuntime) -> Result<(), Fail> {
     let north = [1, 2, 3, 4, 5, 6, 7, 8, 9];
     for &(case, south, col) in &SOUTHERN {
-        let wanted = col.map(|col| Cell { row: 2, col });
+        let expected = col.map(|col| Cell { row: 2, col });
         let seams = seams_both_ways(rt.alloc(), ["N01E000.hgt", "N00E000.hgt"], north, south)?;
-        same(&rt, case, seams, [wanted, wanted]);
+        same(&rt, case, seams, [expected, expected]);
     }
     Ok(())
 }

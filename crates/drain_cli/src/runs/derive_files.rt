@@ -1,37 +1,32 @@
 //! Deriving rasters of the directions in a folder, and writing them into another.
 
 ghost use Rattle.std.specs.Prelude.{◌≡◌, IfOk, length};
-ghost use Rattle.drain_derive.specs.declared.derived_files.TheConstants.{DERIVED_COUNT};
 ghost use Rattle.drain_derive.specs.DerivedFiles.{CanBeDerived};
+ghost use Rattle.drain_derive.specs.declared.derived_files.TheConstants.{DERIVED_COUNT};
 
-use crate::args::command_line::{Derivation, Judged};
-use crate::files::file_id::FileId;
-use crate::files::open_failure::print_open_fault;
-use crate::files::open_files::{OpenFault, Opener, derived_paths};
-use crate::files::open_judged::{DirectionFiles, open_directions};
-use crate::files::outputs::{Failure, Outputs};
-use crate::files::overwriting::{over_input, print_overwritten};
-use crate::print::print_failure;
 use crate::runs::derive_set::derive_set;
-use crate::runs::write_derived::write_derived_and_place;
-use crate::status::Status;
+use crate::runs::write_set::write_derived_and_place;
+use drain_args::requests::{CheckArgs, DeriveArgs};
 use drain_derive::Derived;
-use drain_device::{BodyFault, ByteSink, write_nothing};
+use drain_derive::derived_files::DERIVED_FILES;
+use drain_device::ByteSink;
+use drain_files::file_id::FileId;
+use drain_files::open_failure::print_open_fault;
+use drain_files::open_files::Opener;
+use drain_files::open_judged::{OpenFiles, open_directions};
+use drain_files::output_paths::{output_paths, print_overwriting};
+use drain_files::outputs::{Failure, Outputs};
 use drain_mosaic::Layout;
 
 /// Derives rasters of the directions in a folder, writes them into another, and returns the exit status. The files are
 /// created once nothing is left to refuse.
-///
-/// If standard output is closed nothing is opened: the first file would take its place.
-pub fn derive_files(rt: &HostRuntime, asked: &Derivation<'_>, out: &mut impl ByteSink) -> u8 {
-    if write_nothing(out).is_err() {
-        return Status::Failed.code();
-    }
-    let Ok(paths) = derived_paths(rt.alloc(), asked.out) else {
-        return print_failure(out, BodyFault::OutOfMemory);
+pub fn derive_files(rt: &HostRuntime, args: &DeriveArgs<'_>, out: &mut impl ByteSink) -> u8 {
+    let paths = match output_paths(rt.alloc(), args.out, &DERIVED_FILES, out) {
+        Ok(paths) => paths,
+        Err(status) => return status,
     };
     let mut opener = Opener::new(rt);
-    match derived_of_files(&mut opener, &asked.judged, paths.as_slice(), out) {
+    match derived_of_files(&mut opener, &args.inputs, paths.as_slice(), out) {
         Ok((layout, derived)) => {
             write_at(rt, paths.as_slice(), opener.ids(), &layout, &derived, out)
         }
@@ -43,34 +38,32 @@ pub fn derive_files(rt: &HostRuntime, asked: &Derivation<'_>, out: &mut impl Byt
 /// the exit status. Files at the paths of outputs that are inputs are a usage error.
 fn derived_of_files(
     opener: &mut Opener<'_>,
-    judged: &Judged<'_>,
+    args: &CheckArgs<'_>,
     outputs: &[String],
     out: &mut impl ByteSink,
 ) -> Result<(Layout, Derived), u8>
     ensures written { IfOk result (λ set. CanBeDerived set.0 set.1) }
 {
-    match open_directions(opener, judged) {
-        Ok(
-            DirectionFiles {
-                mut tiles,
-                mut products,
-                sinks,
-            },
-        ) => {
-            if let Some(path) = over_input(opener.rt(), outputs, opener.ids()) {
-                return Err(print_overwritten(opener.rt(), path));
-            }
-            derive_set(
-                opener.alloc(),
-                judged.side,
-                tiles.as_mut_slice(),
-                sinks.as_slice(),
-                &mut products,
-                out,
-            )
-        }
-        Err(fault) => Err(print_open_fault(opener.rt(), fault, out)),
+    let files = match open_directions(opener, args) {
+        Ok(files) => files,
+        Err(fault) => return Err(print_open_fault(opener.rt(), fault, out)),
+    };
+    if let Some(status) = print_overwriting(opener, outputs) {
+        return Err(status);
     }
+    let OpenFiles {
+        mut tiles,
+        mut products,
+        sinks,
+    } = files;
+    derive_set(
+        opener.alloc(),
+        args.side,
+        tiles.as_mut_slice(),
+        sinks.as_slice(),
+        &mut products,
+        out,
+    )
 }
 
 /// Creates the files at these paths and writes them, and returns the exit status.
@@ -98,7 +91,6 @@ fn write_at(
         ),
         Err(fault) => print_open_fault(rt, fault, out),
     };
-    outputs.abandon();
-    outputs.print_failure();
+    outputs.end();
     status
 }

@@ -8,8 +8,6 @@ ghost use Rattle.drain_derive.specs.declared.derived.Derived.{Derived};
 ghost use Rattle.drain_derive.specs.declared.reading.DeriveRefusal.{DeriveRefusal};
 ghost use Rattle.drain_mosaic.specs.Tiling.{Tiling};
 
-use crate::print::print_line;
-use crate::status::Status;
 use drain_answer::answer_report::refusal_line;
 use drain_answer::audit_report;
 use drain_answer::line::Line;
@@ -18,6 +16,8 @@ use drain_device::{ByteSink, ByteSource};
 use drain_grid::Product;
 use drain_hgt::TileInput;
 use drain_mosaic::Layout;
+use drain_print::print::print_line;
+use drain_print::status::Status;
 use drain_verdict::{AuditProducts, AuditVerdict, Refusal};
 use std::alloc::Global;
 

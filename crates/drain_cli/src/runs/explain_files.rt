@@ -2,52 +2,51 @@
 
 ghost use Rattle.std.specs.Prelude.{◌≡◌, length};
 
-use crate::args::command_line::Explained;
-use crate::files::file_id::FileId;
-use crate::files::file_paths::{header_path, raster_path};
-use crate::files::map_file::write_map;
-use crate::files::map_place::{MapClash, map_clash, map_paths};
-use crate::files::open_files::{OpenFault, Opener};
-use crate::files::open_judged::{OpenFiles, Rasters, open_judged};
-use crate::files::outputs::{Failure, Outputs, look};
-use crate::files::placing::{Placing, place_written};
-use crate::files::reason::print_reason;
-use crate::progress::gauge::Gauge;
-use crate::runs::explain_page::{Beside, Form, MapFault};
+use crate::runs::explain_page::{ExplainOutput, MapFault};
 use crate::runs::no_page::print_no_page;
-use crate::runs::refusal_facts::refusal_note;
 use crate::runs::run_explain::run_explain;
-use crate::status::Status;
+use crate::runs::second_look;
+use drain_args::form::Form;
+use drain_args::requests::ExplainArgs;
 use drain_device::{ByteSink, write_nothing};
-use drain_explain::Mapping;
+use drain_explain::{Mapping, SecondLook};
+use drain_files::file_id::FileId;
+use drain_files::file_paths::{header_path, raster_path};
+use drain_files::map_file::write_map;
+use drain_files::map_place::{MapClash, map_clash, map_paths};
+use drain_files::open_files::{OpenFault, Opener};
+use drain_files::open_judged::{OpenFiles, Rasters, open_judged};
+use drain_files::outputs::{Failure, Outputs, look};
+use drain_files::placing::{Placing, place_written};
+use drain_files::reason::print_reason;
 use drain_grid::Product;
 use drain_maker::product_files::SetFault;
 use drain_mosaic::Layout;
-use drain_page::RefusalNote;
-use drain_verdict::Refusal;
+use drain_print::status::Status;
+use drain_progress::progress::Progress;
 use std::alloc::Global;
 
 /// Explains the products of a folder, and returns the exit status.
 ///
 /// If a map is required and standard output is closed nothing is opened: the map would take its place. Ranks are
 /// checked if a file of theirs is there.
-pub fn explain_files(rt: &HostRuntime, asked: &Explained<'_>, out: &mut impl ByteSink) -> u8 {
-    if asked.map.is_some() && write_nothing(out).is_err() {
+pub fn explain_files(rt: &HostRuntime, args: &ExplainArgs<'_>, out: &mut impl ByteSink) -> u8 {
+    if args.map.is_some() && write_nothing(out).is_err() {
         return Status::Failed.code();
     }
-    match rasters_of(rt, asked) {
-        Ok(rasters) => explain_opened(rt, asked, rasters, out),
-        Err(fault) => print_unopened(rt, fault, form(asked), out),
+    match rasters_of(rt, args) {
+        Ok(rasters) => explain_opened(rt, args, rasters, out),
+        Err(fault) => print_unopened(rt, fault, form(args), out),
     }
 }
 
 /// These rasters alone, if a list is given; else those of a check if the folder has a header or a raster of ranks, and
 /// those of an audit if it has none. A failure is never taken for their absence.
-fn rasters_of(rt: &HostRuntime, asked: &Explained<'_>) -> Result<Rasters, OpenFault> {
-    if let Some(given) = asked.only {
+fn rasters_of(rt: &HostRuntime, args: &ExplainArgs<'_>) -> Result<Rasters, OpenFault> {
+    if let Some(given) = args.only {
         return Ok(Rasters::Alone(given));
     }
-    let folder = asked.judged.products;
+    let folder = args.inputs.products;
     let header = header_path(rt.alloc(), folder, Product::Rnk)?;
     if look(rt, header.as_str())?.is_some() {
         return Ok(Rasters::OfCheck);
@@ -62,13 +61,13 @@ fn rasters_of(rt: &HostRuntime, asked: &Explained<'_>) -> Result<Rasters, OpenFa
 /// Explains the answer of a check or of an audit.
 fn explain_opened(
     rt: &HostRuntime,
-    asked: &Explained<'_>,
+    args: &ExplainArgs<'_>,
     rasters: Rasters,
     out: &mut impl ByteSink,
 ) -> u8 {
-    let gauge = Gauge::new(rt, asked.judged.progress);
+    let progress = Progress::new(rt, args.inputs.progress);
     let mut opener = Opener::new(rt);
-    match open_judged(&mut opener, &asked.judged, rasters, &gauge) {
+    match open_judged(&mut opener, &args.inputs, rasters, &progress) {
         Ok(
             OpenFiles {
                 mut tiles,
@@ -76,44 +75,43 @@ fn explain_opened(
                 sinks,
             },
         ) => {
-            if let Some(status) = refused_map(rt, asked, opener.ids(), out) {
+            if let Some(status) = refused_map(rt, args, opener.ids(), out) {
                 return status;
             }
             run_explain(
                 rt.alloc(),
-                asked.judged.side,
+                args.inputs.side,
                 tiles.as_mut_slice(),
                 sinks.as_slice(),
                 &mut products,
-                mapping(asked),
-                form(asked),
-                &mut AtHand {
+                mapping(args),
+                form(args),
+                &mut OnDisk {
                     rt,
-                    asked,
-                    sinks: sinks.as_slice(),
+                    args,
                     inputs: opener.into_ids(),
                 },
                 out,
             )
         }
-        Err(fault) => print_unopened(rt, fault, form(asked), out),
+        Err(fault) => print_unopened(rt, fault, form(args), out),
     }
 }
 
 /// If a map is required that must not be written there, prints why, and returns the exit status.
 fn refused_map(
     rt: &HostRuntime,
-    asked: &Explained<'_>,
+    args: &ExplainArgs<'_>,
     inputs: &[FileId],
     out: &mut impl ByteSink,
 ) -> Option<u8> {
-    match map_clash(rt, asked.judged.products, asked.map?, inputs) {
+    match map_clash(rt, args.inputs.products, args.map?, inputs) {
         Ok(None) => None,
         Ok(Some((path, clash))) => {
             print_clash(rt, path.as_str(), clash);
             Some(Status::Refused.code())
         }
-        Err(fault) => Some(print_unopened(rt, fault, form(asked), out)),
+        Err(fault) => Some(print_unopened(rt, fault, form(args), out)),
     }
 }
 
@@ -141,34 +139,43 @@ fn print_clash(rt: &HostRuntime, path: &str, clash: MapClash) {
 }
 
 /// Whether a map is drawn.
-fn mapping(asked: &Explained<'_>) -> Mapping {
-    match asked.map {
+fn mapping(args: &ExplainArgs<'_>) -> Mapping {
+    match args.map {
         Some(_) => Mapping::Drawn,
         None => Mapping::Undrawn,
     }
 }
 
 /// The form of the explanation.
-fn form(asked: &Explained<'_>) -> Form {
-    if asked.json { Form::Json } else { Form::Text }
+fn form(args: &ExplainArgs<'_>) -> Form {
+    if args.json { Form::Json } else { Form::Text }
 }
 
-/// The arguments, the list of sinks, the files at their paths, and which plain files were opened.
+/// The arguments, the files at their paths, and which plain files were opened.
 #[derive(Drop)]
-struct AtHand<'r, 'a, 'e, 's> {
+struct OnDisk<'r, 'a, 'e> {
     rt: &'r HostRuntime,
-    asked: &'a Explained<'e>,
-    sinks: &'s [u8],
+    args: &'a ExplainArgs<'e>,
     inputs: Vec<FileId>,
 }
 
-impl<'r, 'a, 'e, 's> Beside for AtHand<'r, 'a, 'e, 's> {
-    fn note_of(&mut self, refusal: Refusal) -> Option<RefusalNote> {
-        refusal_note(self.rt, &self.asked.judged, self.sinks, refusal)
+impl<'r, 'a, 'e> SecondLook for OnDisk<'r, 'a, 'e> {
+    fn tile_length(&mut self, place: usize) -> Option<u64> {
+        second_look::tile_length(self.rt, &self.args.inputs, place)
     }
 
+    fn raster_length(&mut self, product: Product) -> Option<u64> {
+        second_look::raster_length(self.rt, &self.args.inputs, product)
+    }
+
+    fn sample(&mut self, place: usize, start: u64) -> Option<i16> {
+        second_look::sample(self.rt, &self.args.inputs, place, start)
+    }
+}
+
+impl<'r, 'a, 'e> ExplainOutput for OnDisk<'r, 'a, 'e> {
     fn save_map(&mut self, layout: &Layout, pixels: &[u8]) -> Result<(), MapFault> {
-        match self.asked.map {
+        match self.args.map {
             Some(stem) => save(self.rt, stem, self.inputs.as_slice(), layout, pixels),
             None => Ok(()),
         }
@@ -202,8 +209,7 @@ fn save(
         }
         Err(OpenFault::Body(_)) => Err(MapFault::OutOfMemory),
     };
-    outputs.abandon();
-    outputs.print_failure();
+    outputs.end();
     saved
 }
 

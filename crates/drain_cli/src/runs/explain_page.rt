@@ -2,24 +2,15 @@
 
 ghost use Rattle.drain_cli.specs.ExplainRuns.{Tells};
 
-use crate::print::print_text;
+use crate::answer::answer_status;
 use crate::runs::no_page::{NoPage, print_no_page};
-use crate::status::Status;
+use drain_args::form::Form;
 use drain_device::ByteSink;
-use drain_faults::FaultMap;
+use drain_explain::Findings;
 use drain_mosaic::Layout;
-use drain_page::{Facts, RefusalNote, page_json, page_text};
-use drain_verdict::Refusal;
+use drain_page::{Facts, page_json, page_text};
+use drain_print::print::print_text;
 use std::alloc::Global;
-
-/// The form of an explanation.
-#[derive(Clone, Copy)]
-pub enum Form {
-    /// As a page to read.
-    Text,
-    /// As one JSON object.
-    Json,
-}
 
 /// Why a map wasn't saved.
 #[derive(Drop)]
@@ -32,11 +23,8 @@ pub enum MapFault {
     OutOfMemory,
 }
 
-/// What an explanation needs besides its inputs: details of a refusal, and the place of a map.
-pub trait Beside {
-    /// What was expected and found in refused inputs; none if there are no details, or they can't be found again.
-    fn note_of(&mut self, refusal: Refusal) -> Option<RefusalNote>;
-
+/// The place of a map.
+pub trait ExplainOutput {
     /// Saves the map of the faults.
     fn save_map(&mut self, layout: &Layout, pixels: &[u8]) -> Result<(), MapFault>;
 }
@@ -46,26 +34,31 @@ pub trait Beside {
 ///
 /// If the map can't be saved it prints why in place of the page, and if memory is refused for the page it prints that:
 /// in the form of the page.
-pub fn tell<B: Beside, W: ByteSink>(
+pub fn tell<B: ExplainOutput, W: ByteSink>(
     alloc: Global,
     facts: &Facts,
-    map: &Option<FaultMap>,
     form: Form,
     beside: &mut B,
     out: &mut W,
 ) -> u8
     ensures { Tells W.ByteSink out.old out.new form facts.now.answer result }
 {
-    match save(facts, map, beside) {
+    match save(facts, beside) {
         Ok(()) => print_page(alloc, facts, form, out),
         Err(fault) => print_no_page(alloc, &fault.into(), form, out),
     }
 }
 
 /// Saves the map, if there is one.
-fn save<B: Beside>(facts: &Facts, map: &Option<FaultMap>, beside: &mut B) -> Result<(), MapFault> {
-    match (&facts.findings, map) {
-        (Some(findings), Some(map)) => beside.save_map(&findings.layout, &map.pixels),
+fn save<B: ExplainOutput>(facts: &Facts, beside: &mut B) -> Result<(), MapFault> {
+    match &facts.findings {
+        Some(
+            Findings {
+                layout,
+                map: Some(map),
+                ..
+            },
+        ) => beside.save_map(layout, &map.pixels),
         _ => Ok(()),
     }
 }
@@ -74,7 +67,7 @@ fn save<B: Beside>(facts: &Facts, map: &Option<FaultMap>, beside: &mut B) -> Res
 fn print_page<W: ByteSink>(alloc: Global, facts: &Facts, form: Form, out: &mut W) -> u8
     ensures { Tells W.ByteSink out.old out.new form facts.now.answer result }
 {
-    let status = Status::of_answer(&facts.answer);
+    let status = answer_status(&facts.answer);
     match form {
         Form::Text => match page_text(alloc, facts) {
             Ok(page) => print_text(out, &page, status),

@@ -1,58 +1,38 @@
 //! Making products of the tiles at some paths, and writing them into a folder.
 
 ghost use Rattle.std.specs.Prelude.{◌≡◌, IfOk, length};
-ghost use Rattle.drain_maker.specs.declared.product_files.TheConstants.{FILE_COUNT};
 ghost use Rattle.drain_maker.specs.Made.{CanBeWritten};
+ghost use Rattle.drain_maker.specs.declared.product_files.TheConstants.{FILE_COUNT};
 ghost use Rattle.drain_mosaic.specs.Tiling.{extent_of};
 
-use crate::files::file_id::FileId;
-use crate::files::open_failure::print_open_fault;
-use crate::files::open_files::{Opener, create_files, list_at, open_tiles, set_paths};
-use crate::files::outputs::{Failure, Outputs};
-use crate::files::overwriting::{over_input, print_overwritten};
-use crate::print::print_failure;
-use crate::progress::gauge::{Gauge, MakeWatch};
-use crate::progress::watched_rows::watch_tiles;
 use crate::runs::make_set::make_set_followed;
 use crate::runs::write_set::write_and_place;
-use crate::status::Status;
-use drain_device::{BodyFault, ByteSink, write_nothing};
+use drain_args::requests::MakeArgs;
+use drain_device::ByteSink;
+use drain_files::file_id::FileId;
+use drain_files::open_failure::print_open_fault;
+use drain_files::open_files::{Opener, create_files, list_at, open_tiles};
+use drain_files::output_paths::{output_paths, print_overwriting};
+use drain_files::outputs::{Failure, Outputs};
 use drain_grid::ProductSet;
+use drain_maker::product_files::SET_FILES;
 use drain_mosaic::Layout;
+use drain_progress::progress::{MakeProgress, Progress};
+use drain_progress::rows::count_tiles;
 
 /// Makes products of tiles and writes them into a folder, and returns the exit status. The files are created once
 /// nothing is left to refuse.
-///
-/// If standard output is closed nothing is opened: the first file would take its place, and the line would go into that
-/// file.
-pub fn make_from_files<'a>(
-    rt: &HostRuntime,
-    gauge: &'a Gauge<'a>,
-    side: u32,
-    folder: &str,
-    sinks: Option<&str>,
-    tiles: &[&str],
-    out: &mut impl ByteSink,
-) -> u8 {
-    if write_nothing(out).is_err() {
-        return Status::Failed.code();
-    }
-    let Ok(paths) = set_paths(rt.alloc(), folder) else {
-        return print_failure(out, BodyFault::OutOfMemory);
+pub fn make_from_files(rt: &HostRuntime, args: &MakeArgs<'_>, out: &mut impl ByteSink) -> u8 {
+    let progress = Progress::new(rt, args.progress);
+    let paths = match output_paths(rt.alloc(), args.out, &SET_FILES, out) {
+        Ok(paths) => paths,
+        Err(status) => return status,
     };
     let mut opener = Opener::new(rt);
-    match made_of_files(
-        &mut opener,
-        gauge,
-        side,
-        sinks,
-        tiles,
-        paths.as_slice(),
-        out,
-    ) {
+    match made_of_files(&mut opener, &progress, args, paths.as_slice(), out) {
         Ok((layout, products)) => write_at(
             rt,
-            gauge,
+            &progress,
             paths.as_slice(),
             opener.ids(),
             &layout,
@@ -67,43 +47,40 @@ pub fn make_from_files<'a>(
 /// exit status. Files at the paths of outputs that are inputs are a usage error.
 fn made_of_files<'a>(
     opener: &mut Opener<'_>,
-    gauge: &'a Gauge<'a>,
-    side: u32,
-    sinks: Option<&str>,
-    tiles: &[&str],
+    progress: &'a Progress<'a>,
+    args: &MakeArgs<'_>,
     outputs: &[String],
     out: &mut impl ByteSink,
 ) -> Result<(Layout, ProductSet), u8>
     ensures same_shape { IfOk result (λ set. set.1.con.extent ≡ extent_of set.0) }
     ensures written { IfOk result (λ set. CanBeWritten set.0 set.1) }
 {
-    let mut tiles = match open_tiles(opener, tiles) {
+    let mut tiles = match open_tiles(opener, args.tiles.as_slice()) {
         Ok(tiles) => tiles,
         Err(fault) => return Err(print_open_fault(opener.rt(), fault, out)),
     };
-    watch_tiles(tiles.as_mut_slice(), side, gauge);
-    match list_at(opener, sinks) {
-        Ok(sinks) => {
-            if let Some(path) = over_input(opener.rt(), outputs, opener.ids()) {
-                return Err(print_overwritten(opener.rt(), path));
-            }
-            make_set_followed(
-                opener.alloc(),
-                side,
-                tiles.as_mut_slice(),
-                sinks.as_slice(),
-                &mut MakeWatch(gauge),
-                out,
-            )
-        }
-        Err(fault) => Err(print_open_fault(opener.rt(), fault, out)),
+    count_tiles(tiles.as_mut_slice(), args.side, progress);
+    let sinks = match list_at(opener, args.sinks) {
+        Ok(sinks) => sinks,
+        Err(fault) => return Err(print_open_fault(opener.rt(), fault, out)),
+    };
+    if let Some(status) = print_overwriting(opener, outputs) {
+        return Err(status);
     }
+    make_set_followed(
+        opener.alloc(),
+        args.side,
+        tiles.as_mut_slice(),
+        sinks.as_slice(),
+        &mut MakeProgress(progress),
+        out,
+    )
 }
 
 /// Creates the files of the products at these paths and writes them, and returns the exit status.
 fn write_at<'g>(
     rt: &HostRuntime,
-    gauge: &'g Gauge<'g>,
+    progress: &'g Progress<'g>,
     paths: &[String],
     inputs: &[FileId],
     layout: &Layout,
@@ -116,7 +93,7 @@ fn write_at<'g>(
 {
     let failure = Failure::none();
     let mut outputs = Outputs::new(rt, &failure);
-    let status = match create_files(&mut outputs, paths, inputs, layout, gauge) {
+    let status = match create_files(&mut outputs, paths, inputs, layout, progress) {
         Ok(mut files) => write_and_place(
             rt.alloc(),
             layout,
@@ -127,7 +104,6 @@ fn write_at<'g>(
         ),
         Err(fault) => print_open_fault(rt, fault, out),
     };
-    outputs.abandon();
-    outputs.print_failure();
+    outputs.end();
     status
 }

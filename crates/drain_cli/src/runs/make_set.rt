@@ -5,12 +5,10 @@ ghost use Rattle.drain_device.specs.FaultLists.{SomeReadFails};
 ghost use Rattle.drain_hgt.specs.Inputs.{names_of, tile_devices, TilesTakeAtMost};
 ghost use Rattle.drain_cli.specs.declared.runs.make_set.NoSet.{NoSet};
 ghost use Rattle.drain_cli.specs.MadeSets.{IsSetOf, IsNoSet};
-ghost use Rattle.drain_answer.specs.Lines.{refusal_line};
-ghost use Rattle.drain_cli.specs.Printing.{Prints};
+ghost use Rattle.drain_print.specs.Printing.{Prints};
 ghost use Rattle.drain_cli.specs.SetRuns.{no_set_line, no_set_status};
 
-use crate::print::print_line;
-use crate::status::Status;
+use drain_answer::answer_report::refusal_line;
 use drain_answer::line::{Line, words};
 use drain_device::{ByteSink, ByteSource};
 use drain_grid::{ProductSet, SinkFault, parse_sinks};
@@ -18,7 +16,9 @@ use drain_hgt::TileInput;
 use drain_maker::follow::{Follow, Unfollowed};
 use drain_maker::{MakeRefusal, make_followed, read_mosaic};
 use drain_mosaic::Layout;
-use drain_verdict::{Refusal, Verdict, report};
+use drain_print::print::print_line;
+use drain_print::status::Status;
+use drain_verdict::Refusal;
 use std::alloc::Global;
 
 /// Why there is no product set.
@@ -116,21 +116,13 @@ fn line_of(why: &NoSet) -> Line
     ensures { result.bytes ≡ no_set_line why.now }
 {
     match why {
-        NoSet::Tiles(refusal) => refused(*refusal),
-        NoSet::Sinks(SinkFault::BadSinkLine(line)) => refused(Refusal::BadSinkLine(*line)),
+        NoSet::Tiles(refusal) => refusal_line(*refusal),
+        NoSet::Sinks(SinkFault::BadSinkLine(line)) => refusal_line(Refusal::BadSinkLine(*line)),
         NoSet::Sinks(SinkFault::OutOfMemory) => words("failed OutOfMemory"),
-        NoSet::Maker(MakeRefusal::SinkNotData(line)) => refused(Refusal::SinkNotData(*line)),
+        NoSet::Maker(MakeRefusal::SinkNotData(line)) => refusal_line(Refusal::SinkNotData(*line)),
         NoSet::Maker(MakeRefusal::MakerFault) => words("refused MakerFault"),
         NoSet::Maker(MakeRefusal::OutOfMemory) => words("failed OutOfMemory"),
     }
-}
-
-/// The line of a refusal, as in a check.
-fn refused(refusal: Refusal) -> Line
-    ensures { result.bytes ≡ refusal_line refusal }
-{
-    let answer: Result<Verdict, Refusal> = Err(refusal);
-    report(&answer)
 }
 
 /// Its exit status.

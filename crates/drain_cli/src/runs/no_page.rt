@@ -2,20 +2,17 @@
 
 ghost use Rattle.std.specs.Prelude.{◌≡◌, ◌++◌, ℕ, List, IfOk, codes, string_bytes};
 ghost use Rattle.drain_cli.specs.ExplainRuns.{IsNoPage, IsNoPageLine, IsFailureObject};
-ghost use Rattle.drain_cli.specs.Printing.{PrintsText};
+ghost use Rattle.drain_print.specs.Printing.{PrintsText};
 
-use crate::files::open_failure::print_open_failure;
-use crate::files::open_files::OpenFault;
-use crate::print::{print_failure, print_text};
-use crate::runs::explain_page::{Form, MapFault};
-use crate::status::Status;
+use crate::runs::explain_page::MapFault;
+use drain_args::form::Form;
 use drain_device::{BodyFault, ByteSink};
-use drain_page::failure_json;
+use drain_files::open_failure::print_open_failure;
+use drain_files::open_files::OpenFault;
+use drain_page::{NO_OBJECT, failure_json};
+use drain_print::print::{print_failure, print_text};
+use drain_print::status::Status;
 use std::alloc::{AllocError, Global};
-
-/// The object for a failure if there is no memory for one. It has the members of every page.
-const NO_OBJECT: &str =
-    "{\"answer\":\"failed OutOfMemory\",\"refusal\":null,\"rows\":null,\"cols\":null,\"ranks\":null,\"rules\":[],\"products\":[],\"patch\":null,\"expected\":null,\"run\":null}\n";
 
 /// Why there is no page.
 #[derive(Drop)]

@@ -1,35 +1,29 @@
 //! A run of `drain explain`: products are checked or audited against their tiles, and what is wrong with them is printed.
 
-ghost use Rattle.std.specs.Prelude.{◌≡◌};
-ghost use Rattle.drain_explain.specs.Explanations.{answer_in};
 ghost use Rattle.drain_page.specs.declared.facts.Answer.{Answer};
 ghost use Rattle.drain_cli.specs.ExplainRuns.{IsOutcome, Tells};
 
-use crate::runs::explain_page::{Beside, Form, tell};
+use crate::runs::explain_page::{ExplainOutput, tell};
+use drain_args::form::Form;
 use drain_device::{ByteSink, ByteSource};
-use drain_explain::{Explanation, Mapping, explain_audit, explain_check};
-use drain_faults::FaultMap;
+use drain_explain::{
+    Findings, Mapping, RefusalDetail, SecondLook, answer_and_findings, detail_of, explain_audit,
+    explain_check,
+};
+use drain_files::open_judged::JudgedProducts;
+use drain_grid::PerProduct;
 use drain_hgt::TileInput;
-use drain_page::{Answer, Facts, Findings, RefusalNote};
+use drain_page::{Answer, Facts};
 use drain_part_faults::explain_part;
 use drain_parts::Given;
-use drain_verdict::{AuditProducts, Products, Refusal};
+use drain_verdict::Refusal;
 use std::alloc::Global;
-
-/// The products that are judged: five by a check, four by an audit, or some of these.
-#[derive(Drop)]
-pub enum JudgedProducts<R> {
-    Check(Products<R>),
-    Audit(AuditProducts<R>),
-    /// Of the four these alone: no number of another matters.
-    Part(AuditProducts<R>, Given),
-}
 
 /// Explains the answer of a check or of an audit: prints a page that begins with its line, and returns its exit status.
 ///
 /// It reads and reports what `run_check` or `run_audit` does, at the same times. A map is saved before the page is
 /// printed. The status is 3 if memory is refused for the page, the map can't be saved, or the page can't be written.
-pub fn run_explain<R: ByteSource, B: Beside, W: ByteSink>(
+pub fn run_explain<R: ByteSource, B: ExplainOutput + SecondLook, W: ByteSink>(
     alloc: Global,
     side: u32,
     tiles: &mut [TileInput<R>],
@@ -44,13 +38,20 @@ pub fn run_explain<R: ByteSource, B: Beside, W: ByteSink>(
         × IsOutcome R.ByteSource side tiles.old tiles.new sinks.now products.old products.new answer
         × Tells W.ByteSink out.old out.new form answer result }
 {
-    let (answer, findings, map) = explain_products(alloc, side, tiles, sinks, products, mapping);
+    let (answer, findings) = explain_products(alloc, side, tiles, sinks, products, mapping);
+    let refusal = match refusal_of(&answer) {
+        Some(refusal) => {
+            let headers = headers_of(products);
+            detail_of(alloc, refusal, side, tiles, &headers, sinks, beside)
+        }
+        None => None,
+    };
     let facts = Facts {
         answer,
-        refusal: note_of(beside, &answer),
+        refusal,
         findings,
     };
-    tell(alloc, &facts, &map, form, beside, out)
+    tell(alloc, &facts, form, beside, out)
 }
 
 /// The answer to the products, and what is wrong with them.
@@ -61,67 +62,53 @@ fn explain_products<R: ByteSource>(
     sinks: &[u8],
     products: &mut JudgedProducts<R>,
     mapping: Mapping,
-) -> (Answer, Option<Findings>, Option<FaultMap>)
+) -> (Answer, Option<Findings>)
     ensures { IsOutcome R.ByteSource side tiles.old tiles.new sinks.now products.old products.new result.0 }
 {
     match products {
         JudgedProducts::Check(products) => {
             let explained = explain_check(alloc, side, tiles, sinks, products, mapping);
-            let (answer, findings, map) = parts_of(explained, None);
-            (Answer::Check(answer), findings, map)
+            let (answer, findings) = answer_and_findings(explained);
+            (Answer::Check(answer), findings)
         }
         JudgedProducts::Audit(products) => {
             let explained = explain_audit(alloc, side, tiles, sinks, products, mapping);
-            let (answer, findings, map) = parts_of(explained, None);
-            (Answer::Audit(answer), findings, map)
+            let (answer, findings) = answer_and_findings(explained);
+            (Answer::Audit(answer), findings)
         }
         JudgedProducts::Part(products, given) => {
-            let only = *given;
-            let explained = explain_part(alloc, side, tiles, sinks, products, only, mapping);
-            let (answer, findings, map) = parts_of(explained, Some(only));
-            (Answer::Part(answer), findings, map)
+            let explained = explain_part(alloc, side, tiles, sinks, products, *given, mapping);
+            let (answer, findings) = answer_and_findings(explained);
+            (Answer::Part(answer), findings)
         }
     }
 }
 
-/// The details of a refusal beyond its line.
-fn note_of<B: Beside>(beside: &mut B, answer: &Answer) -> Option<RefusalNote> {
+/// Why there is no verdict.
+fn refusal_of(answer: &Answer) -> Option<Refusal> {
     match answer {
         Answer::Check(Err(refusal)) | Answer::Audit(Err(refusal)) | Answer::Part(Err(refusal)) =>
-            beside.note_of(*refusal),
+            Some(*refusal),
         _ => None,
     }
 }
 
-/// The verdict or the refusal, what the rules say of every cell, and the map if one was drawn.
-fn parts_of<V>(
-    explained: Result<Explanation<V>, Refusal>,
-    only: Option<Given>,
-) -> (Result<V, Refusal>, Option<Findings>, Option<FaultMap>)
-    ensures { result.0 ≡ answer_in explained }
-{
-    let explanation = match explained {
-        Ok(explanation) => explanation,
-        Err(refusal) => return (Err(refusal), None, None),
-    };
-    let Explanation {
-        verdict,
-        layout,
-        rules,
-        by_rule,
-        by_product,
-        first,
-        map,
-        endless,
-    } = explanation;
-    let findings = Findings {
-        layout,
-        rules,
-        only,
-        by_rule,
-        by_product,
-        first,
-        endless,
-    };
-    (Ok(verdict), Some(findings), map)
+/// The headers of the products, empty for ranks that weren't opened.
+fn headers_of<R>(products: &JudgedProducts<R>) -> PerProduct<&[u8]> {
+    match products {
+        JudgedProducts::Check(products) => PerProduct {
+            con: products.con.header.as_slice(),
+            dir: products.dir.header.as_slice(),
+            acc: products.acc.header.as_slice(),
+            bas: products.bas.header.as_slice(),
+            rnk: products.rnk.header.as_slice(),
+        },
+        JudgedProducts::Audit(products) | JudgedProducts::Part(products, _) => PerProduct {
+            con: products.con.header.as_slice(),
+            dir: products.dir.header.as_slice(),
+            acc: products.acc.header.as_slice(),
+            bas: products.bas.header.as_slice(),
+            rnk: &[],
+        },
+    }
 }

@@ -1,23 +1,29 @@
-//! The last part of a run of `drain make`: the files are written and get their names, and the result is printed.
+//! The last part of a run of `drain make` or `drain derive`: the files are written and get their names, and the result is
+//! printed.
 
 ghost use Rattle.std.specs.Prelude.{◌≡◌, ◌++◌, ◌≤◌, length, Result, codes, decimal};
-ghost use Rattle.drain_mosaic.specs.Tiling.{Tiling, extent_of};
+ghost use Rattle.drain_cli.specs.DerivedSets.{derived_line};
+ghost use Rattle.drain_cli.specs.SetRuns.{made_line, written_line, written_status};
+ghost use Rattle.drain_derive.specs.DerivedFiles.{CanBeDerived, derived_bytes};
+ghost use Rattle.drain_derive.specs.declared.derived_files.TheConstants.{DERIVED_COUNT};
+ghost use Rattle.drain_files.specs.Placings.{IsNamed};
 ghost use Rattle.drain_maker.specs.Made.{CanBeWritten};
+ghost use Rattle.drain_maker.specs.ProductFiles.{WritesFiles, set_bytes};
 ghost use Rattle.drain_maker.specs.declared.product_files.SetFault.{SetFault};
 ghost use Rattle.drain_maker.specs.declared.product_files.TheConstants.{FILE_COUNT};
-ghost use Rattle.drain_cli.specs.Placings.{IsPlaced};
-ghost use Rattle.drain_cli.specs.Printing.{Prints};
-ghost use Rattle.drain_maker.specs.ProductFiles.{WritesFiles, set_bytes};
-ghost use Rattle.drain_cli.specs.SetRuns.{made_line, written_line, written_status};
+ghost use Rattle.drain_mosaic.specs.Tiling.{Tiling, extent_of};
+ghost use Rattle.drain_print.specs.Printing.{Prints};
 
-use crate::files::placing::{InPlace, Placing, place_written};
-use crate::print::print_line;
-use crate::status::Status;
 use drain_answer::line::{Line, push_number, words};
+use drain_derive::Derived;
+use drain_derive::derived_files::write_derived;
 use drain_device::ByteSink;
+use drain_files::placing::{InPlace, Placing, place_written};
 use drain_grid::{ProductSet, Shape};
 use drain_maker::product_files::{SetFault, write_files};
 use drain_mosaic::Layout;
+use drain_print::print::print_line;
+use drain_print::status::Status;
 use std::alloc::Global;
 
 /// Writes header and raster of each product, in the order of `SET_FILES`, prints `made rows=R cols=C` and returns the
@@ -60,21 +66,56 @@ pub fn write_and_place<F: ByteSink, P: Placing, W: ByteSink>(
     requires written { CanBeWritten layout.now products.now }
     ensures run { (done told : Result (Unit {0}) SetFault)
         × WritesFiles F.ByteSink files.old files.new (set_bytes layout.now products.now) done
-        × IsPlaced P.has_placed places.old places.new done told
+        × IsNamed P.has_placed places.old places.new done told
         × Prints W.ByteSink out.old out.new (made_line layout.now told) (written_status told) result }
 {
-    let done = write_files(alloc, layout, products, files);
-    let told = place_written(done, places);
-    print_line(
-        out,
-        &line_of("made rows=", layout.shape(), &told),
-        status_of(&told),
-    )
+    let written = write_files(alloc, layout, products, files);
+    place_and_print("made rows=", layout, written, places, out)
+}
+
+/// Writes header and raster of accumulation, labels and ranks, in the order of `DERIVED_FILES`, gives the files their
+/// names, prints `derived rows=R cols=C` and returns the exit status.
+///
+/// Faults, lines and statuses are those of `write_and_place`. No name is given before every file has all its bytes.
+pub fn write_derived_and_place<F: ByteSink, P: Placing, W: ByteSink>(
+    alloc: Global,
+    layout: &Layout,
+    derived: &Derived,
+    files: &mut [F],
+    places: &mut P,
+    out: &mut W,
+) -> u8
+    requires counted { length files.old ≡ DERIVED_COUNT }
+    requires written { CanBeDerived layout.now derived.now }
+    ensures run { (done told : Result (Unit {0}) SetFault)
+        × WritesFiles F.ByteSink files.old files.new (derived_bytes layout.now derived.now) done
+        × IsNamed P.has_placed places.old places.new done told
+        × Prints W.ByteSink out.old out.new (derived_line layout.now told) (written_status told) result }
+{
+    let written = write_derived(alloc, layout, derived, files);
+    place_and_print("derived rows=", layout, written, places, out)
+}
+
+/// Gives the files their names if all were written, prints the line of the result, which begins with this text, and
+/// returns the exit status.
+fn place_and_print<P: Placing, W: ByteSink>(
+    text: &'static str,
+    layout: &Layout,
+    written: Result<(), SetFault>,
+    places: &mut P,
+    out: &mut W,
+) -> u8
+    requires { length text.now ≤ 40 }
+    ensures { (told : Result (Unit {0}) SetFault) × IsNamed P.has_placed places.old places.new written told
+        × Prints W.ByteSink out.old out.new (written_line text.now layout.now told) (written_status told) result }
+{
+    let told = place_written(written, places);
+    print_line(out, &line_of(text, layout.shape(), &told), status_of(&told))
 }
 
 /// The line for the result of writing rasters of this shape: these words and the numbers of rows and columns, if all
 /// were written.
-pub(crate) fn line_of(text: &'static str, shape: Shape, done: &Result<(), SetFault>) -> Line
+fn line_of(text: &'static str, shape: Shape, done: &Result<(), SetFault>) -> Line
     requires { length text.now ≤ 40 }
     ensures { (t : Tiling) → shape ≡ extent_of t → result.bytes ≡ written_line text.now t done.now }
 {
@@ -97,7 +138,7 @@ fn shape_line(text: &'static str, shape: Shape) -> Line
 }
 
 /// The exit status for the result of writing.
-pub(crate) fn status_of(done: &Result<(), SetFault>) -> Status
+fn status_of(done: &Result<(), SetFault>) -> Status
     ensures { result ≡ written_status done.now }
 {
     match done {

@@ -5,4 +5,4 @@ use Rattle.drain_slope.specs.Key.{key_at}
 use Rattle.drain_slope.proofs.first_with_key.Given as goal
 
 abbrev pub invariant-loop-direction : goal.invariant-loop-direction
-invariant-loop-direction l = (k : ℕ) → k < l.direction-index → key_at l.patch (get_or directions k East) ≢ pos l.wanted
+invariant-loop-direction l = (k : ℕ) → k < l.direction-index → key_at l.patch (get_or directions k East) ≢ pos l.expected

@@ -2,8 +2,8 @@
 use Rattle.std.proofs.Common.{◌≡◌, ◌≢◌, ◌<◌, ◌*◌, length}
 use Rattle.drain_grid.specs.declared.cell.Cell.{Cell}
 use Rattle.drain_grid.specs.Extent.{IsCellOf, index_of}
-use Rattle.drain_runs.specs.declared.flow.Flow.TheVariants.{Void}
-use Rattle.drain_runs.specs.Flows.{flow_at}
+use Rattle.drain_paths.specs.declared.flow.Flow.TheVariants.{Void}
+use Rattle.drain_paths.specs.Flows.{flow_at}
 use Rattle.drain_counts.specs.OfFlows.{OfFlows}
 use Rattle.drain_counts.specs.CellNumbers.{cell_number}
 use Rattle.drain_counts.specs.Passing.{IsPassing}

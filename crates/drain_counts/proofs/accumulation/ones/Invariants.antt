@@ -1,6 +1,6 @@
 -- The cells so far have theirs.
 use Rattle.std.proofs.Common.{◌≡◌, ◌<◌, ℕ, length, get_or}
-use Rattle.drain_runs.specs.declared.flow.Flow.TheVariants.{Void}
+use Rattle.drain_paths.specs.declared.flow.Flow.TheVariants.{Void}
 use Rattle.drain_counts.specs.CellNumbers.{one_of}
 use Rattle.drain_counts.proofs.accumulation.ones.Given as goal
 

@@ -2,8 +2,8 @@
 use Rattle.std.proofs.Common.{◌≡◌, ◌≢◌}
 use Rattle.drain_grid.specs.Extent.{IsCellOf}
 use Rattle.drain_grid.proofs.Walks.{IsWalk}
-use Rattle.drain_runs.specs.declared.flow.Flow.TheVariants.{Void}
-use Rattle.drain_runs.specs.Flows.{flow_at}
+use Rattle.drain_paths.specs.declared.flow.Flow.TheVariants.{Void}
+use Rattle.drain_paths.specs.Flows.{flow_at}
 use Rattle.drain_counts.specs.OfFlows.{OfFlows}
 use Rattle.drain_counts.proofs.basins.label_ahead.Given as goal
 

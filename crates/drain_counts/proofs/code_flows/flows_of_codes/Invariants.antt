@@ -1,6 +1,6 @@
 -- The codes so far have their flows.
 use Rattle.std.proofs.Common.{◌≡◌, ◌<◌, ℕ, length, get_or}
-use Rattle.drain_runs.specs.declared.flow.Flow.TheVariants.{Void}
+use Rattle.drain_paths.specs.declared.flow.Flow.TheVariants.{Void}
 use Rattle.drain_counts.specs.CodeFlows.{byte_flow}
 use Rattle.drain_counts.proofs.code_flows.flows_of_codes.Given as goal
 

@@ -1,5 +1,5 @@
 use Rattle.std.proofs.Common.{◌≡◌, ◌∙◌, get_or, refl, sym, ap, arith, rules}
-use Rattle.drain_runs.specs.declared.flow.Flow.TheVariants.{Void}
+use Rattle.drain_paths.specs.declared.flow.Flow.TheVariants.{Void}
 use Rattle.drain_grid.proofs.Options.{none_some}
 use Rattle.drain_counts.proofs.FlowCells.{data_at, flow_of_data}
 use Rattle.drain_counts.proofs.InflowLemmas.{inflows_few, inflows_past, inflows_ahead}

@@ -3,7 +3,7 @@ use Rattle.drain_grid.specs.Size.{Extent}
 use Rattle.drain_counts.specs.CellNumbers.{cell_number}
 use Rattle.drain_counts.proofs.FlowCells.{data_at}
 use Rattle.drain_counts.proofs.GridOfFlows.{grid_of_flows, products_of_flows, are_flows}
-use Rattle.drain_counts.proofs.PassingLemmas.{IsPassing-last, IsPassing-on, ahead_apart, ahead_some, ahead_fits, shorter_ahead, stays_ahead}
+use Rattle.drain_counts.proofs.PassingLemmas.{IsPassing-last, IsPassing-on, flow_apart, flow_fits, flow_shorter, flow_some, stays_ahead}
 use Rattle.drain_counts.proofs.passing.pass_counts.Goals as goal
 
 pub returns-in_default-clause-passing : goal.returns-in_default-clause-passing
@@ -17,55 +17,20 @@ returns-in_default-clause-passing c = λ g ps are.
 
 pub pass_on-requires-clause-apart : goal.pass_on-requires-clause-apart
 pass_on-requires-clause-apart c =
-    let e = c.args.shape in
-    let flows = c.args.flows.now in
-    let g = grid_of_flows e flows in
-    let ps = products_of_flows e flows in
-    let are = are_flows e flows in
-    let inv = c.walk.invariant in
-    let here = data_at g ps e flows are c.walk.here inv.inside inv.has_data in
-    let ready : cell_number e c.walk.waits c.walk.here ≡ 0 = sym c.waits_at.ensures ∙ c.walk-test.true in
-    ahead_apart g ps e c.walk.waits c.walk.counts (inv.passing g ps are) c.walk.here here ready c.in-Some.ahead (c.in-Some.ensures.leads g ps are here)
+    flow_apart c.args.shape c.args.flows.now c.walk.waits c.walk.counts c.walk.invariant.passing c.walk.here c.in-Some.ahead c.walk.invariant.inside c.walk.invariant.has_data (sym c.waits_at.ensures ∙ c.walk-test.true) c.in-Some.ensures.leads
 
 pub pass_on-requires-clause-some : goal.pass_on-requires-clause-some
 pass_on-requires-clause-some c =
-    let e = c.args.shape in
-    let flows = c.args.flows.now in
-    let g = grid_of_flows e flows in
-    let ps = products_of_flows e flows in
-    let are = are_flows e flows in
-    let inv = c.walk.invariant in
-    let here = data_at g ps e flows are c.walk.here inv.inside inv.has_data in
-    let ready : cell_number e c.walk.waits c.walk.here ≡ 0 = sym c.waits_at.ensures ∙ c.walk-test.true in
-    ahead_some g ps e c.walk.waits c.walk.counts (inv.passing g ps are) c.walk.here here ready c.in-Some.ahead (c.in-Some.ensures.leads g ps are here)
+    flow_some c.args.shape c.args.flows.now c.walk.waits c.walk.counts c.walk.invariant.passing c.walk.here c.in-Some.ahead c.walk.invariant.inside c.walk.invariant.has_data (sym c.waits_at.ensures ∙ c.walk-test.true) c.in-Some.ensures.leads
 
 pub pass_on-requires-clause-fits : goal.pass_on-requires-clause-fits
 pass_on-requires-clause-fits c =
-    let e = c.args.shape in
-    let flows = c.args.flows.now in
-    let g = grid_of_flows e flows in
-    let ps = products_of_flows e flows in
-    let are = are_flows e flows in
-    let inv = c.walk.invariant in
-    let here = data_at g ps e flows are c.walk.here inv.inside inv.has_data in
-    let ready : cell_number e c.walk.waits c.walk.here ≡ 0 = sym c.waits_at.ensures ∙ c.walk-test.true in
-    let fits = ahead_fits g ps e c.walk.waits c.walk.counts (inv.passing g ps are) c.walk.here here ready c.in-Some.ahead (c.in-Some.ensures.leads g ps are here) in
-    let cells : g.extent.rows * g.extent.cols ≡ e.rows * e.cols = ap (λ (x : Extent). x.rows * x.cols) are.extent in
-    let product = c.cells-cells.ensures.product in
-    let few = c.cells-cells.ensures.few in
-    omega (arith, fits, cells, product, few)
+    let fits = flow_fits c.args.shape c.args.flows.now c.walk.waits c.walk.counts c.walk.invariant.passing c.walk.here c.in-Some.ahead c.walk.invariant.inside c.walk.invariant.has_data (sym c.waits_at.ensures ∙ c.walk-test.true) c.in-Some.ensures.leads in
+    omega (arith, fits, c.cells-cells.ensures.product, c.cells-cells.ensures.few)
 
 pub walk-smaller : goal.walk-smaller
 walk-smaller c =
-    let e = c.args.shape in
-    let flows = c.args.flows.now in
-    let g = grid_of_flows e flows in
-    let ps = products_of_flows e flows in
-    let are = are_flows e flows in
-    let inv = c.walk.invariant in
-    let here = data_at g ps e flows are c.walk.here inv.inside inv.has_data in
-    let ends = (inv.passing g ps are).ends in
-    shorter_ahead g ps c.walk.here c.in-Some.ahead ends here (c.in-Some.ensures.leads g ps are here)
+    flow_shorter c.args.shape c.args.flows.now c.walk.waits c.walk.counts c.walk.invariant.passing c.walk.here c.in-Some.ahead c.walk.invariant.inside c.walk.invariant.has_data (sym c.waits_at.ensures ∙ c.walk-test.true) c.in-Some.ensures.leads
 
 pub walk-preserved : goal.walk-preserved
 walk-preserved c =

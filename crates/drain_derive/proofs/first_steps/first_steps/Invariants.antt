@@ -1,6 +1,6 @@
 -- The cells so far have theirs.
 use Rattle.std.proofs.Common.{◌≡◌, ◌<◌, ℕ, length, get_or}
-use Rattle.drain_runs.specs.declared.flow.Flow.TheVariants.{Void}
+use Rattle.drain_paths.specs.declared.flow.Flow.TheVariants.{Void}
 use Rattle.drain_derive.specs.RunSteps.{first_step}
 use Rattle.drain_derive.proofs.first_steps.first_steps.Given as goal
 

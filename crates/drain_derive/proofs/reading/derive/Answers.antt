@@ -1,7 +1,7 @@
 use Rattle.std.proofs.Common.{Ok, refl, sym, subst}
 use Rattle.drain_mosaic.specs.Tiling.{Tiling}
 use Rattle.drain_verdict.specs.AuditInputs.{audit_devices, with_con_for_ranks}
-use Rattle.drain_verdict.specs.Meaning.{grid_of, products_of}
+use Rattle.drain_verdict.specs.Meaning.{input_grid, input_products}
 use Rattle.drain_verdict.proofs.Uses.{uses_alike}
 use Rattle.drain_derive.specs.DerivedFiles.{CanBeDerived}
 use Rattle.drain_derive.specs.Reading.{reading_in}
@@ -13,7 +13,7 @@ pub returns-in-Ok-clause-derived : goal.returns-in-Ok-clause-derived
 returns-in-Ok-clause-derived g c =
     if_ok_more c.derive_read.result _ _ (λ made derived inputs tell.
     (let flows = c.in-Ok.ensures.flows inputs tell in
-    (flows.0, derived (grid_of inputs) (products_of inputs) flows.1))) c.derive_read.ensures.derived
+    (flows.0, derived (input_grid inputs) (input_products inputs) flows.1))) c.derive_read.ensures.derived
 
 pub returns-in-Ok-clause-written : goal.returns-in-Ok-clause-written
 returns-in-Ok-clause-written g c =
@@ -24,7 +24,7 @@ pub returns-in-Ok-clause-err : goal.returns-in-Ok-clause-err
 returns-in-Ok-clause-err g c =
     if_err_more c.derive_read.result _ _ (λ why told inputs tell.
     (let flows = c.in-Ok.ensures.flows inputs tell in
-    derive_refusal inputs why flows.0 (told (grid_of inputs) (products_of inputs) flows.1))) c.derive_read.ensures.err
+    derive_refusal inputs why flows.0 (told (input_grid inputs) (input_products inputs) flows.1))) c.derive_read.ensures.err
 
 pub returns-in-Ok-clause-uses : goal.returns-in-Ok-clause-uses
 returns-in-Ok-clause-uses g c =

@@ -1,7 +1,7 @@
 use Rattle.std.proofs.Common.{sym, subst}
 use Rattle.drain_grid.specs.Size.{Extent}
 use Rattle.drain_mosaic.specs.Tiling.{extent_of}
-use Rattle.drain_runs.specs.Flows.{AreFlowsOf}
+use Rattle.drain_paths.specs.Flows.{AreFlowsOf}
 use Rattle.drain_derive.proofs.ReadingLemmas.{flows_refusal}
 use Rattle.drain_derive.proofs.reading.derive_read.Goals as goal
 

@@ -2,10 +2,10 @@ use Rattle.std.proofs.Common.{Ok, Err, refl, sym, ap, subst}
 use Rattle.std.proofs.lemmas.Result.{err_from_is_err_and}
 use Rattle.drain_grid.specs.Size.{Extent}
 use Rattle.drain_mosaic.specs.Tiling.{extent_of}
-use Rattle.drain_runs.specs.Flows.{AreFirstFlows, AreFlowsOf}
-use Rattle.drain_runs.proofs.GridFlows.{AreFirstFlows-none, AreFlowsOf-all}
+use Rattle.drain_paths.specs.Flows.{AreFirstFlows, AreFlowsOf}
+use Rattle.drain_paths.proofs.GridFlows.{AreFirstFlows-none, AreFlowsOf-all}
 use Rattle.drain_verdict.specs.AuditInputs.{with_con_for_ranks}
-use Rattle.drain_verdict.specs.Meaning.{grid_of, products_of}
+use Rattle.drain_verdict.specs.Meaning.{input_grid, input_products}
 use Rattle.drain_verdict.proofs.AuditDevices.{failed_alike}
 use Rattle.drain_verdict.proofs.StartAnswers.{layout_of_inputs}
 use Rattle.drain_verdict.proofs.Uses.{four_used}
@@ -31,9 +31,9 @@ returns-clause-flows g c =
     (let bl = g.R.ByteSource.bytes_left in
     let qs = with_con_for_ranks c.args.products.now in
     let is = layout_of_inputs c.one_name.ensures bl c.args.layout.now.side c.args.tiles.now c.args.sinks.now qs inputs c.args.layout.now tell c.requires.laid in
-    let flows = AreFlowsOf-all (grid_of inputs) (products_of inputs) (grid_of inputs).extent c.answer_on.new.notes.first (c.in_ok-answer_on.ensures.noted inputs tell).0 in (
+    let flows = AreFlowsOf-all (input_grid inputs) (input_products inputs) (input_grid inputs).extent c.answer_on.new.notes.first (c.in_ok-answer_on.ensures.noted inputs tell).0 in (
       (c.in_ok-answer_on.ensures.answer inputs tell).0,
-      subst (λ (e : Extent). AreFlowsOf (grid_of inputs) (products_of inputs) e c.answer_on.new.notes.first) (sym (ap extent_of is)) flows,
+      subst (λ (e : Extent). AreFlowsOf (input_grid inputs) (input_products inputs) e c.answer_on.new.notes.first) (sym (ap extent_of is)) flows,
     )))
 
 pub returns-clause-err : goal.returns-clause-err

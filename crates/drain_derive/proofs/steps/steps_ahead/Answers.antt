@@ -1,9 +1,9 @@
 use Rattle.std.proofs.Common.{◌≡◌, ◌∙◌, IfNone, IfSome, MatchOption, Option, Some, None, sym, arith}
 use Rattle.drain_grid.proofs.Walks.{IsWalk-more, IsWalk-endless}
-use Rattle.drain_runs.proofs.FlowWalks.{too_far}
+use Rattle.drain_paths.proofs.FlowWalks.{too_far}
 use Rattle.drain_counts.specs.CellNumbers.{cell_number}
 use Rattle.drain_counts.proofs.FlowCells.{data_at}
-use Rattle.drain_runs.specs.declared.steps.TheConstants.{UNKNOWN}
+use Rattle.drain_paths.specs.declared.steps.TheConstants.{UNKNOWN}
 use Rattle.drain_derive.specs.declared.steps.Ahead.{Ahead}
 use Rattle.drain_derive.proofs.StepLemmas.{IsRight-walk, endless_here, too_long}
 use Rattle.drain_derive.proofs.steps.steps_ahead.Goals as goal

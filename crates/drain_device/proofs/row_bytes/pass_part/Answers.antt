@@ -19,7 +19,7 @@ returns-in_err-read_part-clause-bytes g c =
     let passed = c.loop-left.invariant.passed in (
       [],
       rw (told.1, told.2) (fails-later (bytes_left c.args.from.now) (bytes_left c.loop-left.from) (bytes_left c.read_part.new.from) passed.0 c.read_part.new.out _ c.args.count c.in_err-read_part.field-0.0 passed.1
-          (omega (arith, passed.2, length-take c.min-wanted.result c.loop-left.chunk, c.min-wanted.ensures)) c.in_err-read_part.ensures.bytes []),
+          (omega (arith, passed.2, length-take c.min-expected.result c.loop-left.chunk, c.min-expected.ensures)) c.in_err-read_part.ensures.bytes []),
     )
 
 pub returns-in_err-read_part-clause-faults : goal.returns-in_err-read_part-clause-faults
@@ -39,7 +39,7 @@ loop-left-preserved g c =
       passed = (
         passed.0 ++ c.read_part.new.out,
         Consumes-trans (bytes_left c.args.from.now) (bytes_left c.loop-left.from) (bytes_left c.read_part.new.from) passed.0 c.read_part.new.out passed.1 came.1,
-        omega (arith, length-append passed.0 c.read_part.new.out, passed.2, came.0, c.read_part.auto.out, c.min-wanted.ensures, length-take c.min-wanted.result c.loop-left.chunk),
+        omega (arith, length-append passed.0 c.read_part.new.out, passed.2, came.0, c.read_part.auto.out, c.min-expected.ensures, length-take c.min-expected.result c.loop-left.chunk),
       );
       asked = PartFails-then (counts c.args.from.now) (counts c.loop-left.from) (counts c.read_part.new.from) _ _ _ ⊥ ⊥ (λ x. x) c.loop-left.invariant.asked
           (PartFails-ok (counts c.loop-left.from) (counts c.read_part.new.from) _ _ _ c.in_ok-read_part.ensures.faults);

@@ -1,15 +1,13 @@
 use Rattle.std.proofs.Common.{Option, Ok, Err, sym, subst}
 use Rattle.std.specs.Prelude.{IfSome}
 use Rattle.std.proofs.lemmas.Result.{err_from_is_err_and}
-use Rattle.drain_kernel.specs.declared.rules.Ranks.TheVariants.{Unasked}
+use Rattle.drain_kernel.specs.declared.rules.Ranks.TheVariants.{Ignored}
 use Rattle.drain_grid.specs.Size.{Extent}
-use Rattle.drain_runs.specs.KnownFlows.{AreKnownFlows}
+use Rattle.drain_paths.specs.KnownFlows.{AreKnownFlows}
 use Rattle.drain_verdict.specs.AuditInputs.{audit_devices, with_con_for_ranks}
-use Rattle.drain_verdict.specs.Meaning.{grid_of, products_of}
+use Rattle.drain_verdict.specs.Meaning.{input_grid, input_products}
 use Rattle.drain_grid.specs.declared.cell.Cell.{Cell}
-use Rattle.drain_runs.specs.declared.endless_run.EndlessRun.{EndlessRun}
-use Rattle.drain_verdict.specs.Audits.{IsAuditAnswer}
-use Rattle.drain_answer.specs.declared.audit_verdict.AuditVerdict.{AuditVerdict}
+use Rattle.drain_paths.specs.declared.endless_path.EndlessPath.{EndlessPath}
 use Rattle.drain_explain.specs.Explanations.{IsEndlessOf}
 use Rattle.drain_verdict.proofs.AuditAnswers.{answer_certified}
 use Rattle.drain_verdict.proofs.AuditDevices.{failed_alike, none_alike}
@@ -48,23 +46,21 @@ returns-in_err-verdict-clause-uses g c =
 
 pub returns-clause-uses : goal.returns-clause-uses
 returns-clause-uses g c =
-    uses_alike with_con_for_ranks audit_devices g.R.ByteSource.bytes_left g.R.ByteSource.counts c.in_ok-layout.layout.side c.args.side (c.args.tiles.now, c.args.products.now) (c.audit_on.new.tiles, c.audit_on.new.products) (Ok c.in_ok-verdict.verdict) (Ok c.told_by_notes.result) c.in_ok-layout.ensures.layout.side_is (none_alike c.in_ok-verdict.verdict c.told_by_notes.result) tt c.in_ok-verdict.ensures.uses
+    uses_alike with_con_for_ranks audit_devices g.R.ByteSource.bytes_left g.R.ByteSource.counts c.in_ok-layout.layout.side c.args.side (c.args.tiles.now, c.args.products.now) (c.audit_on.new.tiles, c.audit_on.new.products) (Ok c.in_ok-verdict.verdict) (Ok (record { verdict = c.in_ok-verdict.verdict; findings = c.findings_of.result })) c.in_ok-layout.ensures.layout.side_is (none_alike c.in_ok-verdict.verdict _) tt c.in_ok-verdict.ensures.uses
 
 pub returns-clause-answer : goal.returns-clause-answer
 returns-clause-answer g c = λ inputs tell.
-    subst (λ (verdict : AuditVerdict). IsAuditAnswer inputs (Ok verdict)) (sym c.told_by_notes.ensures.verdict)
-    (answer_certified c.ranks_play_no_part.ensures inputs (Ok c.in_ok-verdict.verdict) (c.in_ok-verdict.ensures.answer inputs
-    (at_side g.R.ByteSource.bytes_left c.args.side c.args.tiles.now c.args.sinks.now (with_con_for_ranks c.args.products.now) inputs c.in_ok-layout.layout c.in_ok-layout.ensures.layout tell)))
+    answer_certified c.ranks_play_no_part.ensures inputs (Ok c.in_ok-verdict.verdict) (c.in_ok-verdict.ensures.answer inputs
+    (at_side g.R.ByteSource.bytes_left c.args.side c.args.tiles.now c.args.sinks.now (with_con_for_ranks c.args.products.now) inputs c.in_ok-layout.layout c.in_ok-layout.ensures.layout tell))
 
 pub returns-clause-explained : goal.returns-clause-explained
 returns-clause-explained g c = λ inputs tell.
-    c.told_by_notes.ensures.explained Unasked inputs (c.in_ok-verdict.ensures.noted inputs
+    c.findings_of.ensures.found Ignored inputs (c.in_ok-verdict.ensures.noted inputs
     (at_side g.R.ByteSource.bytes_left c.args.side c.args.tiles.now c.args.sinks.now (with_con_for_ranks c.args.products.now) inputs c.in_ok-layout.layout c.in_ok-layout.ensures.layout tell))
 
 pub returns-clause-endless : goal.returns-clause-endless
 returns-clause-endless g c = λ inputs tell.
     let here = at_side g.R.ByteSource.bytes_left c.args.side c.args.tiles.now c.args.sinks.now (with_con_for_ranks c.args.products.now) inputs c.in_ok-layout.layout c.in_ok-layout.ensures.layout tell in
-    let known = subst (λ (e : Extent). AreKnownFlows (grid_of inputs) (products_of inputs) e c.audit_on.new.notes.first) (sym c.shape-2.ensures) (c.in_ok-verdict.ensures.flows inputs here) in
-    let told = endless-told inputs c.in_ok-verdict.verdict c.in-Ok-endless_of.endless (c.in_ok-verdict.ensures.answer inputs here) (c.in-Ok-endless_of.ensures (grid_of inputs) (products_of inputs) known) in
-    subst (λ (verdict : AuditVerdict). IfSome c.told_by_notes.result.endless (IsEndlessOf inputs verdict)) (sym c.told_by_notes.ensures.verdict)
-    (subst (λ (o : Option (Cell × EndlessRun)). IfSome o (IsEndlessOf inputs c.in_ok-verdict.verdict)) (sym c.told_by_notes.ensures.endless) told)
+    let known = subst (λ (e : Extent). AreKnownFlows (input_grid inputs) (input_products inputs) e c.audit_on.new.notes.first) (sym c.shape-2.ensures) (c.in_ok-verdict.ensures.flows inputs here) in
+    let told = endless-told inputs c.in_ok-verdict.verdict c.in-Ok-endless_of.endless (c.in_ok-verdict.ensures.answer inputs here) (c.in-Ok-endless_of.ensures (input_grid inputs) (input_products inputs) known) in
+    subst (λ (o : Option (Cell × EndlessPath)). IfSome o (IsEndlessOf inputs c.in_ok-verdict.verdict)) (sym c.findings_of.ensures.endless) told

@@ -1,8 +1,6 @@
-use Rattle.std.proofs.Common.{Ok, Err, sym, subst}
+use Rattle.std.proofs.Common.{Ok, Err}
 use Rattle.std.proofs.lemmas.Result.{err_from_is_err_and}
-use Rattle.drain_kernel.specs.declared.rules.Ranks.TheVariants.{Asked}
-use Rattle.drain_rules.specs.declared.verdict.Verdict.{Verdict}
-use Rattle.drain_verdict.specs.Answers.{IsAnswer}
+use Rattle.drain_kernel.specs.declared.rules.Ranks.TheVariants.{Checked}
 use Rattle.drain_verdict.specs.Devices.{devices_of}
 use Rattle.drain_verdict.proofs.AuditDevices.{failed_alike, none_alike}
 use Rattle.drain_verdict.proofs.Uses.{uses_alike, uses_none}
@@ -39,14 +37,14 @@ returns-in_err-verdict-clause-uses g c =
 
 pub returns-clause-uses : goal.returns-clause-uses
 returns-clause-uses g c =
-    uses_alike (λ ps. ps) devices_of g.R.ByteSource.bytes_left g.R.ByteSource.counts c.in_ok-layout.layout.side c.args.side (c.args.tiles.now, c.args.products.now) (c.answer_on.new.tiles, c.answer_on.new.products) (Ok c.in_ok-verdict.verdict) (Ok c.told_by_notes.result) c.in_ok-layout.ensures.layout.side_is (none_alike c.in_ok-verdict.verdict c.told_by_notes.result) tt c.in_ok-verdict.ensures.uses
+    uses_alike (λ ps. ps) devices_of g.R.ByteSource.bytes_left g.R.ByteSource.counts c.in_ok-layout.layout.side c.args.side (c.args.tiles.now, c.args.products.now) (c.answer_on.new.tiles, c.answer_on.new.products) (Ok c.in_ok-verdict.verdict) (Ok (record { verdict = c.in_ok-verdict.verdict; findings = c.findings_of.result })) c.in_ok-layout.ensures.layout.side_is (none_alike c.in_ok-verdict.verdict _) tt c.in_ok-verdict.ensures.uses
 
 pub returns-clause-answer : goal.returns-clause-answer
 returns-clause-answer g c = λ inputs tell.
-    subst (λ (verdict : Verdict). IsAnswer inputs (Ok verdict)) (sym c.told_by_notes.ensures.verdict) (c.in_ok-verdict.ensures.answer inputs
-    (at_side g.R.ByteSource.bytes_left c.args.side c.args.tiles.now c.args.sinks.now c.args.products.now inputs c.in_ok-layout.layout c.in_ok-layout.ensures.layout tell))
+    c.in_ok-verdict.ensures.answer inputs
+    (at_side g.R.ByteSource.bytes_left c.args.side c.args.tiles.now c.args.sinks.now c.args.products.now inputs c.in_ok-layout.layout c.in_ok-layout.ensures.layout tell)
 
 pub returns-clause-explained : goal.returns-clause-explained
 returns-clause-explained g c = λ inputs tell.
-    c.told_by_notes.ensures.explained Asked inputs (c.in_ok-verdict.ensures.noted inputs
+    c.findings_of.ensures.found Checked inputs (c.in_ok-verdict.ensures.noted inputs
     (at_side g.R.ByteSource.bytes_left c.args.side c.args.tiles.now c.args.sinks.now c.args.products.now inputs c.in_ok-layout.layout c.in_ok-layout.ensures.layout tell))

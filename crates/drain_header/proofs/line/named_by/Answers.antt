@@ -2,7 +2,7 @@ use Rattle.std.proofs.Common.{ℕ, List, ◌+◌, drop, get_or, sym, ap, ◌∙�
 use Rattle.std.specs.Prelude.{find, cond, Some}
 use Rattle.std.proofs.lemmas.List.{at_drop_more}
 use Rattle.drain_header.specs.declared.key.Key.TheVariants.{Nrows}
-use Rattle.drain_header.specs.Lines.{keys, name_of, reads}
+use Rattle.drain_header.specs.Lines.{keys, key_name, reads}
 use Rattle.drain_header.proofs.line.named_by.Goals as goal
 
 pub loop-key-preserved : goal.loop-key-preserved
@@ -11,5 +11,5 @@ loop-key-preserved c =
     let word = c.args.word.now in
     let other = sym (c.reads.ensures ∙ ap (λ (name : List ℕ). reads name word) c.name.ensures) ∙ c.if-reads.false in
     c.loop-key.invariant
-    ∙ at_drop_more (find (λ key. reads (name_of key) word)) keys i Nrows c.loop-key-test.true
-    ∙ ap (λ b. cond b (Some (get_or keys i Nrows)) (find (λ key. reads (name_of key) word) (drop (i + 1) keys))) other
+    ∙ at_drop_more (find (λ key. reads (key_name key) word)) keys i Nrows c.loop-key-test.true
+    ∙ ap (λ b. cond b (Some (get_or keys i Nrows)) (find (λ key. reads (key_name key) word) (drop (i + 1) keys))) other

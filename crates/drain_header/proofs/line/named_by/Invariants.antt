@@ -1,7 +1,7 @@
 use Rattle.std.proofs.Common.{◌≡◌, drop}
 use Rattle.std.specs.Prelude.{find}
-use Rattle.drain_header.specs.Lines.{keys, name_of, named_key, reads}
+use Rattle.drain_header.specs.Lines.{keys, key_name, named_key, reads}
 use Rattle.drain_header.proofs.line.named_by.Given as goal
 
 abbrev pub invariant-loop-key : goal.invariant-loop-key
-invariant-loop-key l = named_key l.word ≡ find (λ key. reads (name_of key) l.word) (drop l.key-index keys)
+invariant-loop-key l = named_key l.word ≡ find (λ key. reads (key_name key) l.word) (drop l.key-index keys)

@@ -4,7 +4,7 @@ use Rattle.std.proofs.lemmas.List.{take_all}
 use Rattle.std.proofs.lemmas.List.Elements.{All-set}
 use Rattle.drain_mosaic.proofs.Calls.{gone-start, gone-more, gone-fault, gone-well, found-more, laying-start, laying-more, streams-next, streams-len}
 use Rattle.drain_mosaic.specs.Streams.{Stream, next_stream}
-use Rattle.drain_mosaic.specs.PlacedRows.{IsRowLaid, IsWithin, streams_of}
+use Rattle.drain_mosaic.specs.PlacedRows.{IsRowLaid, IsPlacedWithin, streams_of}
 use Rattle.drain_mosaic.specs.declared.placed_rows.PlacedRows.{PlacedRows}
 use Rattle.drain_device.specs.declared.row_source.ReadFault.TheVariants.{ReadFailed}
 use Rattle.drain_mosaic.proofs.placed_rows.lay_tiles.Goals as goal
@@ -24,15 +24,15 @@ lay_tile-requires g c =
     let r = c.requires.within in
     let tile : PlacedRows = get_or c.loop-i.tiles c.loop-i.i c.index-tiles-i.result in
     let wide : length c.loop-i.out ≡ length c.args.out.now = omega arith in
-    record { within = (r.0, subst (λ n. IsWithin c.args.side r.0 n tile) (sym wide) (c.loop-i.invariant.within r.0 r.1 c.loop-i.i c.index-tiles-i.result (omega arith))) }
+    record { within = (r.0, subst (λ n. IsPlacedWithin c.args.side r.0 n tile) (sym wide) (c.loop-i.invariant.within r.0 r.1 c.loop-i.i c.index-tiles-i.result (omega arith))) }
 
 pub returns-in-Err-clause-within : goal.returns-in-Err-clause-within
 returns-in-Err-clause-within g c rows within =
     let tile : PlacedRows = get_or c.loop-i.tiles c.loop-i.i c.index-tiles-i.result in
     let wide : length c.loop-i.out ≡ length c.args.out.now = omega arith in
     let before = c.loop-i.invariant.within rows within in
-    All-set (IsWithin c.args.side rows (length c.args.out.now)) c.loop-i.tiles c.loop-i.i c.lay_tile.new.tile
-    (subst (λ n. IsWithin c.args.side rows n c.lay_tile.new.tile) wide (c.lay_tile.ensures.within rows (subst (λ n. IsWithin c.args.side rows n tile) (sym wide) (before c.loop-i.i c.index-tiles-i.result (omega arith))))) before
+    All-set (IsPlacedWithin c.args.side rows (length c.args.out.now)) c.loop-i.tiles c.loop-i.i c.lay_tile.new.tile
+    (subst (λ n. IsPlacedWithin c.args.side rows n c.lay_tile.new.tile) wide (c.lay_tile.ensures.within rows (subst (λ n. IsPlacedWithin c.args.side rows n tile) (sym wide) (before c.loop-i.i c.index-tiles-i.result (omega arith))))) before
 
 pub returns-in-Err-clause-read : goal.returns-in-Err-clause-read
 returns-in-Err-clause-read g c =
@@ -46,8 +46,8 @@ loop-i-preserved g c =
     record {
       within = λ rows within.
           let before = c.loop-i.invariant.within rows within in
-          All-set (IsWithin c.args.side rows (length c.args.out.now)) c.loop-i.tiles c.loop-i.i c.lay_tile.new.tile
-          (subst (λ n. IsWithin c.args.side rows n c.lay_tile.new.tile) wide (c.lay_tile.ensures.within rows (subst (λ n. IsWithin c.args.side rows n tile) (sym wide) (before c.loop-i.i c.index-tiles-i.result (omega arith))))) before;
+          All-set (IsPlacedWithin c.args.side rows (length c.args.out.now)) c.loop-i.tiles c.loop-i.i c.lay_tile.new.tile
+          (subst (λ n. IsPlacedWithin c.args.side rows n c.lay_tile.new.tile) wide (c.lay_tile.ensures.within rows (subst (λ n. IsPlacedWithin c.args.side rows n tile) (sym wide) (before c.loop-i.i c.index-tiles-i.result (omega arith))))) before;
       samples = λ all. c.lay_tile.ensures.samples (c.loop-i.invariant.samples all);
       found = found-more (length c.args.out.now) c.loop-i.seam c.in-Ok.found c.first_of-seam.result c.first_of-seam.ensures c.loop-i.invariant.found (subst (λ n. MatchOption c.in-Ok.found (Unit {0}) (λ col. col < n)) wide c.in-Ok.ensures.found);
       names = names-kept c.loop-i.from c.loop-i.i c.index-from-i.result c.lay_tile.new.from (omega arith) ∙ c.loop-i.invariant.names;

@@ -2,14 +2,14 @@ use Rattle.std.specs.List.{All}
 use Rattle.drain_grid.specs.Tile.{IsSample}
 use Rattle.std.proofs.Common.{◌≡◌, ℕ, ◌<◌, length, MatchOption}
 use Rattle.drain_hgt.specs.Inputs.{names_of}
-use Rattle.drain_mosaic.specs.PlacedRows.{AreWithin}
+use Rattle.drain_mosaic.specs.PlacedRows.{ArePlacedWithin}
 use Rattle.drain_mosaic.proofs.Calls.{Gone, Laying}
 use Rattle.drain_mosaic.proofs.placed_rows.lay_tiles.Given as goal
 
 -- the tiles so far were laid; the tiles stay where they are, and what was found is a column
 abbrev pub invariant-loop-i : goal.invariant-loop-i
 invariant-loop-i g l = record {
-  within : (rows : ℕ) → AreWithin l.side rows (length l.fn.out) l.fn.tiles → AreWithin l.side rows (length l.fn.out) l.tiles;
+  within : (rows : ℕ) → ArePlacedWithin l.side rows (length l.fn.out) l.fn.tiles → ArePlacedWithin l.side rows (length l.fn.out) l.tiles;
   samples : All IsSample l.fn.out → All IsSample l.out;
   found : MatchOption l.seam (Unit {0}) (λ col. col < length l.fn.out);
   names : names_of l.from ≡ names_of l.fn.from;

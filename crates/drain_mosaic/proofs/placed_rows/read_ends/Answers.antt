@@ -5,7 +5,7 @@ use Rattle.drain_mosaic.proofs.TileCalls.{tile-goes, ended-here, goes-unfailed, 
 use Rattle.drain_grid.specs.declared.cell.Cell.{Cell}
 use Rattle.drain_mosaic.specs.Streams.{Stream, end_stream}
 use Rattle.drain_device.specs.ComingRows.{Coming}
-use Rattle.drain_mosaic.specs.PlacedRows.{HasEnded, IsAt, IsWithin, stop_of}
+use Rattle.drain_mosaic.specs.PlacedRows.{HasEnded, IsPlacedAt, IsPlacedWithin, stop_of}
 use Rattle.drain_mosaic.specs.declared.placed_rows.PlacedRows.{PlacedRows}
 use Rattle.drain_device.specs.declared.row_source.ReadFault.TheVariants.{ReadFailed}
 use Rattle.drain_mosaic.proofs.placed_rows.read_ends.Goals as goal
@@ -52,8 +52,8 @@ loop-i-preserved g c =
           (λ p.
           let e1 : get_or (set c.loop-i.tiles c.loop-i.i q) c.loop-i.i p ≡ q = get_or-set_same c.loop-i.tiles c.loop-i.i q p (omega arith) in
           let e2 : tile ≡ get_or c.args.tiles.now c.loop-i.i c.index-tiles-i.result = c.loop-i.invariant.gone.rest c.loop-i.i c.index-tiles-i.result (omega arith) in
-          let here : IsAt side rows tile = rw e2 (all c.loop-i.i c.index-tiles-i.result (omega arith)) in
-          let there : IsWithin side rows cols tile = rw e2 (within c.loop-i.i c.index-tiles-i.result (omega arith)) in
+          let here : IsPlacedAt side rows tile = rw e2 (all c.loop-i.i c.index-tiles-i.result (omega arith)) in
+          let there : IsPlacedWithin side rows cols tile = rw e2 (within c.loop-i.i c.index-tiles-i.result (omega arith)) in
           rw e1 (ended-here side rows tile c.next_row-answer.new.self answer goes c.next_row-answer.ensures.after c.next_row-answer.ensures.left (stays-no_row tile.rows.progress answer c.next_row-answer.ensures.stays) there.above here));
       goes_on = ends-more g.row.R.Denot g.R.ByteSource.bytes_left g.R.ByteSource.counts c.loop-i.i c.args.tiles.now c.loop-i.tiles c.args.from.now c.loop-i.from c.index-tiles-i.result q c.index-from-i.result
           (record { name = (get_or c.loop-i.from c.loop-i.i c.index-from-i.result).name; body = c.next_row-answer.new.from }) (omega arith) (omega arith) (omega arith) (omega arith)

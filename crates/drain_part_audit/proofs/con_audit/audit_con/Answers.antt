@@ -4,12 +4,11 @@ use Rattle.drain_answer.specs.declared.refusal.Refusal.TheVariants.{OutOfMemory}
 use Rattle.drain_con_rows.specs.ConRows.{AreFirstCon}
 use Rattle.drain_grid.specs.Size.{Extent}
 use Rattle.drain_grid.specs.SinkTexts.{sinks_of}
-use Rattle.drain_mosaic.specs.Tiling.{extent_of}
 use Rattle.drain_verdict.specs.AuditInputs.{with_con_for_ranks}
-use Rattle.drain_verdict.specs.Meaning.{grid_of, listed_in, nodata_numbers, products_of}
-use Rattle.drain_verdict.proofs.AuditDevices.{failed_alike, none_alike}
-use Rattle.drain_verdict.proofs.StartAnswers.{layout_of_inputs}
-use Rattle.drain_verdict.proofs.Uses.{four_used}
+use Rattle.drain_verdict.specs.Meaning.{input_grid, listed_in, nodata_numbers, input_products}
+use Rattle.drain_verdict.proofs.AuditDevices.{none_alike}
+use Rattle.drain_verdict.proofs.StartAnswers.{shape_of_inputs}
+use Rattle.drain_verdict.proofs.Uses.{four_failed, four_used}
 use Rattle.drain_part_audit.proofs.PartVerdicts.{listed_ok, memory_alike}
 use Rattle.drain_part_audit.proofs.con_audit.audit_con.Goals as goal
 
@@ -27,23 +26,18 @@ returns-in_err-_of_all-clause-answer g c =
 pub returns-in_err-_of_all-clause-uses : goal.returns-in_err-_of_all-clause-uses
 returns-in_err-_of_all-clause-uses g c =
     let told = err_from_is_err_and c.from_residual.result c.from_residual.ensures.1 in
-    let uses = c.in_err-_of_all.ensures.uses in
-    rw (told.1, told.2) (four_used g.R.ByteSource.bytes_left g.R.ByteSource.counts c.args.layout.now.side (c.args.tiles.now, c.args.products.now) (c.answer_on.new.tiles, c.answer_on.new.products)
-    (Err c.in_err-_of_all.field-0.0) (Err c.in_err-_of_all.field-0.0) (failed_alike c.in_err-_of_all.field-0.0) uses.untouched uses)
+    rw (told.1, told.2) (four_failed g.R.ByteSource.bytes_left g.R.ByteSource.counts c.args.layout.now.side (c.args.tiles.now, c.args.products.now) (c.answer_on.new.tiles, c.answer_on.new.products) c.in_err-_of_all.field-0.0 c.in_err-_of_all.ensures.uses)
 
 pub returns-in-Ok-clause-answer : goal.returns-in-Ok-clause-answer
 returns-in-Ok-clause-answer g c = λ inputs tell.
-    let bl = g.R.ByteSource.bytes_left in
-    let qs = with_con_for_ranks c.args.products.now in
-    let is = layout_of_inputs c.one_name.ensures bl c.args.layout.now.side c.args.tiles.now c.args.sinks.now qs inputs c.args.layout.now tell c.requires.laid in
-    let extent : c.shape-shape.result ≡ (grid_of inputs).extent = c.shape-shape.ensures ∙ ap extent_of is in
+    let extent = shape_of_inputs c.one_name.ensures g.R.ByteSource.bytes_left c.args.layout.now c.args.tiles.now c.args.sinks.now (with_con_for_ranks c.args.products.now) inputs c.shape-shape.result tell c.requires.laid c.shape-shape.ensures in
     let noted = c.in_ok-_of_all.ensures.noted inputs tell in
     let answer = c.in_ok-_of_all.ensures.answer inputs tell in
     let listed = ap sinks_of (sym tell.sinks_are) ∙ listed_ok inputs answer.0 in
-    let rows = subst (λ (e : Extent). AreFirstCon (grid_of inputs) (products_of inputs) e.rows c.answer_on.new.notes.first) (sym extent) noted.0 in (
+    let rows = subst (λ (e : Extent). AreFirstCon (input_grid inputs) (input_products inputs) e.rows c.answer_on.new.notes.first) (sym extent) noted.0 in (
       answer.0,
-      c.in-Ok.ensures.verdict (nodata_numbers inputs) (listed_in inputs) (grid_of inputs) (products_of inputs) (sym extent) listed (λ c inside. refl) rows
-          (c.verdict-of_rules.ensures.verdict (nodata_numbers inputs) (grid_of inputs) (products_of inputs) (sym extent) noted.1.0),
+      c.in-Ok.ensures.verdict (nodata_numbers inputs) (listed_in inputs) (input_grid inputs) (input_products inputs) (sym extent) listed (λ c inside. refl) rows
+          (c.verdict-of_rules.ensures.verdict (nodata_numbers inputs) (input_grid inputs) (input_products inputs) (sym extent) noted.1.0),
     )
 
 pub returns-in-Ok-clause-noted : goal.returns-in-Ok-clause-noted

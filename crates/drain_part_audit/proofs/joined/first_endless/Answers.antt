@@ -1,4 +1,4 @@
-use Rattle.drain_runs.proofs.KnownWays.{AreKnownFlows-grid}
+use Rattle.drain_paths.proofs.KnownWays.{AreKnownFlows-grid}
 use Rattle.drain_part_audit.proofs.joined.first_endless.Goals as goal
 
 pub returns-else-len-cells-clause-known : goal.returns-else-len-cells-clause-known

@@ -1,7 +1,6 @@
-use Rattle.std.proofs.Common.{Ok, Err, sym, subst}
+use Rattle.std.proofs.Common.{Ok, Err}
 use Rattle.std.proofs.lemmas.Result.{err_from_is_err_and}
 use Rattle.drain_part_audit.specs.PartAudits.{IsPartAnswer}
-use Rattle.drain_part_audit.specs.declared.part_verdict.PartVerdict.{PartVerdict}
 use Rattle.drain_verdict.specs.AuditInputs.{audit_devices, with_con_for_ranks}
 use Rattle.drain_verdict.proofs.AuditDevices.{failed_alike, none_alike}
 use Rattle.drain_verdict.proofs.Uses.{uses_alike, uses_none}
@@ -30,6 +29,5 @@ returns-in_err-read-clause-answer g c = λ inputs tell.
 
 pub returns-clause-answer : goal.returns-clause-answer
 returns-clause-answer g c = λ inputs tell.
-    subst (λ (verdict : PartVerdict). IsPartAnswer c.args.given inputs (Ok verdict)) (sym c.told_by_walk.ensures.verdict)
-    (c.in_ok-read.ensures.answer inputs
-    (at_side g.R.ByteSource.bytes_left c.args.side c.args.tiles.now c.args.sinks.now (with_con_for_ranks c.args.products.now) inputs c.in_ok-layout.layout c.in_ok-layout.ensures.layout tell))
+    c.in_ok-read.ensures.answer inputs
+    (at_side g.R.ByteSource.bytes_left c.args.side c.args.tiles.now c.args.sinks.now (with_con_for_ranks c.args.products.now) inputs c.in_ok-layout.layout c.in_ok-layout.ensures.layout tell)

@@ -4,13 +4,13 @@ use Rattle.drain_part_faults.specs.PartProducts.{MissingOfPart, VoidCellOfPart}
 use Rattle.drain_part_faults.proofs.GivenProducts.{data_told, not_noted, void_told}
 use Rattle.drain_part_faults.proofs.part_products.with_part.Goals as goal
 
-pub returns-then-not-is_given : goal.returns-then-not-is_given
-returns-then-not-is_given c =
-    not_noted c.args.given c.args.nodata.now c.args.product c.args.patch.now c.args.cell c.args.so_far (sym c.is_given.ensures ∙ c.if-not-is_given.true)
+pub returns-then-not-has : goal.returns-then-not-has
+returns-then-not-has c =
+    not_noted c.args.given c.args.nodata.now c.args.product c.args.patch.now c.args.cell c.args.so_far (sym c.has.ensures ∙ c.if-not-has.true)
 
 pub returns : goal.returns
 returns c =
-    let is = sym c.is_given.ensures ∙ c.if-not-is_given.false in
+    let is = sym c.has.ensures ∙ c.if-not-has.false in
     let kept = c.keeps_void_cell-is_void_kept in
     let there = c.keeps_missing-is_data_kept in
     record {

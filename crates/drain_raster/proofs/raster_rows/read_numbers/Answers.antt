@@ -5,7 +5,7 @@ use Rattle.std.proofs.KnownBytes.{Consumes-trans}
 use Rattle.drain_device.proofs.PartFaultLemmas.{PartFails-ok, PartFails-then}
 use Rattle.drain_device.proofs.PartLemmas.{fails-later}
 use Rattle.drain_device.proofs.FillLemmas.{within-put_mid}
-use Rattle.drain_raster.specs.RasterRows.{numbers_of}
+use Rattle.drain_raster.specs.RasterRows.{raster_numbers_of}
 use Rattle.drain_raster.proofs.RowNumberLemmas.{chunk_fits, chunk_long, chunk_put, chunk_within}
 use Rattle.drain_raster.proofs.raster_rows.read_numbers.Goals as goal
 
@@ -62,7 +62,7 @@ loop-first-preserved g c =
     omega (arith, c.min-came.ensures, length-take (first + more - first) (drop first c.loop-first.out), length-drop first c.loop-first.out) in
     let part_long : length c.put_numbers.new.out ≡ more = omega (arith, numbers, c.put_numbers.auto.out) in
     let put = chunk_put g.P.Pixel.len number first more (first + more - first) (first + more) came.0 c.read_part.new.out c.loop-first.out c.put_numbers.new.out refl inv.within part_long
-    came.2 came.3 inv.pixels (c.put_numbers.ensures.items ∙ ap (λ n. numbers_of g.P.Pixel.len number n c.read_part.new.out) numbers) c.put_numbers.ensures.pixels in
+    came.2 came.3 inv.pixels (c.put_numbers.ensures.items ∙ ap (λ n. raster_numbers_of g.P.Pixel.len number n c.read_part.new.out) numbers) c.put_numbers.ensures.pixels in
     record {
       within = within-put_mid first (first + more - first) more c.loop-first.out c.put_numbers.new.out inv.within (omega (arith, part_long));
       came = (

@@ -2,7 +2,7 @@ use Rattle.std.proofs.Common.{◌≡◌, ℕ, ◌-◌, ◌*◌, ◌≤◌, List,
 use Rattle.std.specs.Io.KnownBytes.{Consumes}
 use Rattle.drain_grid.specs.Values.{IsPixel}
 use Rattle.drain_device.specs.PartFailing.{PartFails}
-use Rattle.drain_raster.specs.RasterRows.{numbers_of}
+use Rattle.drain_raster.specs.RasterRows.{raster_numbers_of}
 use Rattle.drain_raster.proofs.raster_rows.read_numbers.Given as goal
 
 -- the numbers that were passed came, and nothing failed for good
@@ -14,7 +14,7 @@ invariant-loop-first g l =
     record {
       within : l.first ≤ length l.out;
       came : (bytes : List ℕ) × Consumes (bytes_left l.fn.from) (bytes_left l.from) bytes × (length bytes ≡ l.first * len)
-          × (take l.first l.out ≡ numbers_of len (g.P.Pixel.reads g.T.ByteOrder.number_of) l.first bytes);
+          × (take l.first l.out ≡ raster_numbers_of len (g.P.Pixel.reads g.T.ByteOrder.number_of) l.first bytes);
       pixels : All IsPixel (take l.first l.out);
       asked : PartFails (counts l.fn.from) (counts l.from) l.fn.patience l.patience ⊥;
     }

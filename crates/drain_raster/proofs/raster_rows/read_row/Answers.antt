@@ -10,8 +10,8 @@ use Rattle.drain_raster.proofs.RasterRowLemmas.{row-comes}
 use Rattle.drain_raster.proofs.raster_rows.read_row.Goals as goal
 
 -- a vector that grew has the required length
-grown : {long wanted : ℕ} (was : ℕ) {ok failed : Bool} → long ≡ cond ok wanted was → ok ≡ not failed → failed ≡ false → long ≡ wanted
-grown {wanted = wanted} was is unless well = is ∙ ap (λ b. cond b wanted was) (unless ∙ ap not well)
+grown : {long expected : ℕ} (was : ℕ) {ok failed : Bool} → long ≡ cond ok expected was → ok ≡ not failed → failed ≡ false → long ≡ expected
+grown {expected = expected} was is unless well = is ∙ ap (λ b. cond b expected was) (unless ∙ ap not well)
 
 pub returns-in-Err-read_pixels-clause-row : goal.returns-in-Err-read_pixels-clause-row
 returns-in-Err-read_pixels-clause-row g c =

@@ -2,7 +2,7 @@
 use Rattle.std.proofs.Common.{subst}
 use Rattle.drain_grid.specs.Unranked.{unranked}
 use Rattle.drain_rules.specs.Verdicts.{IsVerdictOf}
-use Rattle.drain_runs.proofs.KnownWays.{AreKnownFlows-grid}
+use Rattle.drain_paths.proofs.KnownWays.{AreKnownFlows-grid}
 use Rattle.drain_rows.proofs.row_flows.first_endless.Goals as goal
 
 pub returns-in-Accepted-clause-first : goal.returns-in-Accepted-clause-first

@@ -1,7 +1,7 @@
 use Rattle.std.proofs.Common.{◌≡◌, None, inl, ◌+◌, ◌<◌, inr, refl, sym, ap, subst, ◌∙◌, arith, rules}
 use Rattle.drain_grid.specs.Size.{Extent}
 use Rattle.drain_rules.specs.RowNumbers.{AreNumbersOf, AreRowNumbers}
-use Rattle.drain_rows.specs.HeldRows.{HasItsLanes, IsMarked, marked_of, numbers_of}
+use Rattle.drain_rows.specs.RowBuffers.{LanesMatch, IsMarked, marked_of, buffer_numbers}
 use Rattle.drain_rows.specs.ListedVoids.{AreVoidsBefore}
 use Rattle.drain_rows.proofs.RowResults.{stops_then, told-of}
 use Rattle.drain_rows.proofs.VoidRows.{voids-all, voids-more, voids-none}
@@ -54,7 +54,7 @@ returns-in_err-note_row-clause-stops g c =
             (marked_of c.read_marked-in-loop-row.new.held) all inside (c.rows-shown.ensures.above ∙ ap marked_of c.turn.ensures.above) (c.rows-shown.ensures.here ∙ ap marked_of c.turn.ensures.here)
             c.rows-shown.ensures.below (inv.held rows gives) (read.next rows (row + 1) (inv.given rows gives)).0 inv.here_marked inv.below_marked read.marked in
             c.in_err-note_row.ensures.wants grid ps row
-            (subst (AreNumbersOf grid ps row) (sym (ap numbers_of c.turn.ensures.here ∙ (inv.held rows gives).here_is)) (all.row row inside)) shown
+            (subst (AreNumbersOf grid ps row) (sym (ap buffer_numbers c.turn.ensures.here ∙ (inv.held rows gives).here_is)) (all.row row inside)) shown
             (inv.noted rows grid ps gives extent all)),
       ),
     ))
@@ -67,13 +67,13 @@ loop-row-preserved g c =
     record {
       counted = c.in_ok-note_row.ensures.counted row inv.counted;
       as_many = read.as_many ∙ inv.as_many ∙ sym read.counted;
-      here_whole = subst (λ n. AreRowNumbers n) (ap numbers_of (sym c.turn.ensures.here)) inv.below_whole;
+      here_whole = subst (λ n. AreRowNumbers n) (ap buffer_numbers (sym c.turn.ensures.here)) inv.below_whole;
       below_whole = read.whole;
-      here_lanes = subst HasItsLanes (sym c.turn.ensures.here) inv.below_lanes;
+      here_lanes = subst LanesMatch (sym c.turn.ensures.here) inv.below_lanes;
       below_lanes = read.lanes;
       given = λ rows gives. (read.next rows (row + 1) (inv.given rows gives)).1;
       held = λ rows gives.
-          held-more rows row (numbers_of c.turn.new.self.here) (numbers_of c.read_marked-in-loop-row.new.held) (ap numbers_of c.turn.ensures.here ∙ (inv.held rows gives).here_is)
+          held-more rows row (buffer_numbers c.turn.new.self.here) (buffer_numbers c.read_marked-in-loop-row.new.held) (ap buffer_numbers c.turn.ensures.here ∙ (inv.held rows gives).here_is)
           (read.next rows (row + 1) (inv.given rows gives)).0;
       here_marked = λ r is.
           let same : row ≡ r = omega (arith, is) in
@@ -90,7 +90,7 @@ loop-row-preserved g c =
           (marked_of c.read_marked-in-loop-row.new.held) all inside (c.rows-shown.ensures.above ∙ ap marked_of c.turn.ensures.above) (c.rows-shown.ensures.here ∙ ap marked_of c.turn.ensures.here)
           c.rows-shown.ensures.below (inv.held rows gives) (read.next rows (row + 1) (inv.given rows gives)).0 inv.here_marked inv.below_marked read.marked in
           c.in_ok-note_row.ensures.noted grid ps row
-          (subst (AreNumbersOf grid ps row) (sym (ap numbers_of c.turn.ensures.here ∙ (inv.held rows gives).here_is)) (all.row row inside)) shown
+          (subst (AreNumbersOf grid ps row) (sym (ap buffer_numbers c.turn.ensures.here ∙ (inv.held rows gives).here_is)) (all.row row inside)) shown
           (inv.noted rows grid ps gives extent all);
       lasting = c.in_ok-note_row.ensures.lasting ∙ inv.lasting;
       reads = λ start n before. let same : n + (row + 1) + 1 ≡ n + (row + 1 + 1) = omega arith in subst (λ k. g.S.GridRows.has_read start (c.read_marked-in-loop-row.new.source, c.read_marked-in-loop-row.new.tiles, c.read_marked-in-loop-row.new.products) k None) same (read.reads start (n + (row + 1)) (inv.reads start n before));
@@ -106,7 +106,7 @@ pub returns-clause-noted : goal.returns-clause-noted
 returns-clause-noted g c = λ rows grid ps gives extent all.
     let count = ap (λ (e : Extent). e.rows) extent in
     let last : c.loop-row.row ≡ grid.extent.rows = omega (arith, c.loop-row-test.false, c.loop-row.auto.row-end, c.rows-row-end.ensures, count) in
-    subst (λ n. g.K.RowNotes.are_of c.args.rules.now grid ps n c.loop-row.notes) last (c.loop-row.invariant.noted rows grid ps gives extent all)
+    subst (λ n. g.K.RowVisitor.are_of c.args.rules.now grid ps n c.loop-row.notes) last (c.loop-row.invariant.noted rows grid ps gives extent all)
 
 pub returns-clause-given : goal.returns-clause-given
 returns-clause-given g c = λ rows gives.

@@ -2,9 +2,9 @@ use Rattle.std.proofs.Common.{◌≡◌, ◌+◌, ℕ, None, length}
 use Rattle.drain_grid.specs.Grid.{Grid, Products}
 use Rattle.drain_rules.specs.RowNumbers.{AreRowNumbers, RowNumbers}
 use Rattle.drain_rows.specs.GridRows.{OfGrid, ReadsOn}
-use Rattle.drain_rows.specs.HeldRows.{HasItsLanes, IsMarked, marked_of, numbers_of}
+use Rattle.drain_rows.specs.RowBuffers.{LanesMatch, IsMarked, marked_of, buffer_numbers}
 use Rattle.drain_rows.specs.ListedVoids.{AreVoidsBefore}
-use Rattle.drain_rows.proofs.WindowLemmas.{AreHeld}
+use Rattle.drain_rows.proofs.WindowLemmas.{AreSetProducts}
 use Rattle.drain_rows.proofs.row_verdict.note_rows.Given as goal
 
 -- the row below the window is the next to be noted, and the notes are of the rows before it
@@ -12,20 +12,20 @@ abbrev pub invariant-loop-row : goal.invariant-loop-row
 invariant-loop-row g l =
     let source = g.S.GridRows in
     record {
-      counted : g.K.RowNotes.counts l.row l.notes;
+      counted : g.K.RowVisitor.counts l.row l.notes;
       as_many : length l.tiles ≡ source.count l.source;
-      here_whole : AreRowNumbers (numbers_of l.window.here);
-      below_whole : AreRowNumbers (numbers_of l.window.below);
-      here_lanes : HasItsLanes l.window.here;
-      below_lanes : HasItsLanes l.window.below;
+      here_whole : AreRowNumbers (buffer_numbers l.window.here);
+      below_whole : AreRowNumbers (buffer_numbers l.window.below);
+      here_lanes : LanesMatch l.window.here;
+      below_lanes : LanesMatch l.window.below;
       given : (rows : ℕ → RowNumbers) → source.gives (l.fn.source, l.fn.tiles, l.fn.products) rows 0 →
           source.gives (l.source, l.tiles, l.products) rows (l.row + 1);
       held : (rows : ℕ → RowNumbers) → source.gives (l.fn.source, l.fn.tiles, l.fn.products) rows 0 →
-          AreHeld rows l.row (numbers_of l.window.here) (numbers_of l.window.below);
+          AreSetProducts rows l.row (buffer_numbers l.window.here) (buffer_numbers l.window.below);
       here_marked : (r : ℕ) → l.row ≡ r + 1 → IsMarked l.sinks r (marked_of l.window.here);
       below_marked : IsMarked l.sinks l.row (marked_of l.window.below);
       voids : OfGrid (source.gives (l.fn.source, l.fn.tiles, l.fn.products)) l.fn.shape l.sinks (λ (grid : Grid) (ps : Products). AreVoidsBefore grid (l.row + 1) l.voids);
-      noted : OfGrid (source.gives (l.fn.source, l.fn.tiles, l.fn.products)) l.fn.shape l.sinks (λ (grid : Grid) (ps : Products). g.K.RowNotes.are_of l.rules grid ps l.row l.notes);
-      lasting : g.K.RowNotes.lasting l.notes ≡ g.K.RowNotes.lasting l.fn.notes;
+      noted : OfGrid (source.gives (l.fn.source, l.fn.tiles, l.fn.products)) l.fn.shape l.sinks (λ (grid : Grid) (ps : Products). g.K.RowVisitor.are_of l.rules grid ps l.row l.notes);
+      lasting : g.K.RowVisitor.lasting l.notes ≡ g.K.RowVisitor.lasting l.fn.notes;
       reads : ReadsOn source.has_read (l.fn.source, l.fn.tiles, l.fn.products) (l.source, l.tiles, l.products) (l.row + 1) None;
     }

@@ -1,10 +1,10 @@
 use Rattle.std.proofs.Common.{◌≡◌, ◌≤◌, refl, sym, ap, subst, ◌∙◌, arith, rules}
 use Rattle.drain_grid.specs.declared.cell.TheConstants.{MAX_LENGTH}
-use Rattle.drain_grid.specs.declared.held.Held.TheVariants.{Con}
+use Rattle.drain_grid.specs.declared.set_product.SetProduct.TheVariants.{Con}
 use Rattle.drain_grid.specs.Size.{Extent}
 use Rattle.drain_grid.specs.Values.{NoDataNumbers}
 use Rattle.drain_grid.specs.WholeGrid.{grid_of, products_of}
-use Rattle.drain_kernel.specs.declared.rules.Ranks.TheVariants.{Asked}
+use Rattle.drain_kernel.specs.declared.rules.Ranks.TheVariants.{Checked}
 use Rattle.drain_rules.specs.Verdicts.{IsVerdict}
 use Rattle.drain_rows.specs.WholeRows.{row_or_blank}
 use Rattle.drain_rows.proofs.WholeRowLemmas.{whole_rows}
@@ -31,4 +31,4 @@ returns-in-Ok c =
     record { verdict = subst (λ (nodata : NoDataNumbers). IsVerdict g (products_of ps) nodata c.in-Ok.found.verdict) c.nodata.ensures found }
 
 pub verdict_by_rows-requires-clause-unnoted : goal.verdict_by_rows-requires-clause-unnoted
-verdict_by_rows-requires-clause-unnoted c = λ grid ps. record { rows_are = c.new.ensures.rows; right = c.new.ensures.finding (record { nodata = c.nodata.result; ranks = Asked }) grid ps }
+verdict_by_rows-requires-clause-unnoted c = λ grid ps. record { rows_are = c.new.ensures.rows; right = c.new.ensures.finding (record { nodata = c.nodata.result; ranks = Checked }) grid ps }

@@ -2,7 +2,7 @@ use Rattle.std.proofs.Common.{None, Some, arith, ap}
 use Rattle.drain_grid.specs.declared.patch.Patch.{Patch}
 use Rattle.drain_grid.specs.Rule.{IsFillRule}
 use Rattle.drain_grid.specs.PatchRules.{fill_rules}
-use Rattle.drain_rules.specs.Parts.{grid_of, products_of}
+use Rattle.drain_rules.specs.Parts.{parts_grid, parts_products}
 use Rattle.drain_rules.specs.Rows.{place}
 use Rattle.drain_rules.proofs.Faults.{IsLeastFault-patch}
 use Rattle.drain_rules.proofs.RowLemmas.{HoldAlong-more, IsRowFault-cell, CountsAlong-more}
@@ -10,16 +10,16 @@ use Rattle.drain_rules.proofs.fill_walk.check_fill_row.Goals as goal
 
 pub returns-in-Some-clause-fault : goal.returns-in-Some-clause-fault
 returns-in-Some-clause-fault c =
-    let g = grid_of c.args.input.now in
-    let ps = products_of c.args.input.now in
+    let g = parts_grid c.args.input.now in
+    let ps = parts_products c.args.input.now in
     IsRowFault-cell fill_rules IsFillRule g ps c.args.row c.loop-col.col c.in-Some.rule (omega (arith, c.side-col-end.ensures)) c.loop-col.invariant.holds
     (IsLeastFault-patch fill_rules IsFillRule g ps (place c.args.row c.loop-col.col) (Some c.in-Some.rule) (λ r own. (omega (arith, own.0), omega (arith, own.1)))
     (rw c.at-patch.ensures at c.in-Some.ensures.least))
 
 pub loop-col-preserved : goal.loop-col-preserved
 loop-col-preserved c =
-    let g = grid_of c.args.input.now in
-    let ps = products_of c.args.input.now in
+    let g = parts_grid c.args.input.now in
+    let ps = parts_products c.args.input.now in
     let inv = c.loop-col.invariant in
     record {
       holds = HoldAlong-more fill_rules IsFillRule g ps c.args.row c.loop-col.col inv.holds

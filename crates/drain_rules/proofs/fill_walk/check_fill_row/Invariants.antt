@@ -1,15 +1,15 @@
 use Rattle.std.proofs.Common.{◌≤◌}
 use Rattle.drain_grid.specs.Rule.{IsFillRule}
 use Rattle.drain_grid.specs.PatchRules.{fill_rules}
-use Rattle.drain_rules.specs.Parts.{grid_of, products_of}
+use Rattle.drain_rules.specs.Parts.{parts_grid, parts_products}
 use Rattle.drain_rules.specs.Rows.{HoldAlong, CountsAlong}
 use Rattle.drain_rules.proofs.fill_walk.check_fill_row.Given as goal
 
 -- the cells that were passed keep the rules and are counted
 abbrev pub invariant-loop-col : goal.invariant-loop-col
 invariant-loop-col l = record {
-  holds : HoldAlong fill_rules IsFillRule (grid_of l.input) (products_of l.input) l.row l.col;
-  counted : CountsAlong (grid_of l.input) (products_of l.input) l.row l.col l.tally;
+  holds : HoldAlong fill_rules IsFillRule (parts_grid l.input) (parts_products l.input) l.row l.col;
+  counted : CountsAlong (parts_grid l.input) (parts_products l.input) l.row l.col l.tally;
   data_bound : l.tally.data_cells ≤ l.col;
   raised_bound : l.tally.raised ≤ l.tally.data_cells;
   outlets_bound : l.tally.outlets ≤ l.tally.data_cells;

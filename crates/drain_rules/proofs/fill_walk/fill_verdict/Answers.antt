@@ -1,7 +1,7 @@
 use Rattle.std.proofs.Common.{◌≡◌, arith, below_more}
 use Rattle.drain_grid.specs.Rule.{IsFillRule}
 use Rattle.drain_grid.specs.PatchRules.{fill_rules}
-use Rattle.drain_rules.specs.Parts.{grid_of, products_of}
+use Rattle.drain_rules.specs.Parts.{parts_grid, parts_products}
 use Rattle.drain_rules.specs.Rows.{HoldAlong}
 use Rattle.drain_rules.proofs.GridLemmas.{CountsAbove-more, IsFirstFault-row, IsFillVerdict-above, tallies_fit}
 use Rattle.drain_rules.proofs.fill_walk.fill_verdict.Goals as goal
@@ -9,30 +9,30 @@ use Rattle.drain_rules.proofs.fill_walk.fill_verdict.Goals as goal
 pub join-requires-clause-data_fit : goal.join-requires-clause-data_fit
 join-requires-clause-data_fit c =
     let side : c.side-side.result ≡ c.args.input.now.shape.rows = c.side-side.ensures in
-    (tallies_fit (grid_of c.args.input.now) (products_of c.args.input.now) c.loop-row.row _ _ (omega (arith, side)) (omega (arith, side))
+    (tallies_fit (parts_grid c.args.input.now) (parts_products c.args.input.now) c.loop-row.row _ _ (omega (arith, side)) (omega (arith, side))
     (omega (arith, side)) c.loop-row.invariant.counted c.in-Ok.ensures.tally.counted).0
 
 pub join-requires-clause-raised_fit : goal.join-requires-clause-raised_fit
 join-requires-clause-raised_fit c =
     let side : c.side-side.result ≡ c.args.input.now.shape.rows = c.side-side.ensures in
-    (tallies_fit (grid_of c.args.input.now) (products_of c.args.input.now) c.loop-row.row _ _ (omega (arith, side)) (omega (arith, side))
+    (tallies_fit (parts_grid c.args.input.now) (parts_products c.args.input.now) c.loop-row.row _ _ (omega (arith, side)) (omega (arith, side))
     (omega (arith, side)) c.loop-row.invariant.counted c.in-Ok.ensures.tally.counted).1
 
 pub join-requires-clause-outlets_fit : goal.join-requires-clause-outlets_fit
 join-requires-clause-outlets_fit c =
     let side : c.side-side.result ≡ c.args.input.now.shape.rows = c.side-side.ensures in
-    (tallies_fit (grid_of c.args.input.now) (products_of c.args.input.now) c.loop-row.row _ _ (omega (arith, side)) (omega (arith, side))
+    (tallies_fit (parts_grid c.args.input.now) (parts_products c.args.input.now) c.loop-row.row _ _ (omega (arith, side)) (omega (arith, side))
     (omega (arith, side)) c.loop-row.invariant.counted c.in-Ok.ensures.tally.counted).2
 
 pub returns-in-Err : goal.returns-in-Err
 returns-in-Err c =
-    IsFirstFault-row fill_rules IsFillRule (grid_of c.args.input.now) (products_of c.args.input.now) c.loop-row.row c.in-Err.fault.col c.in-Err.fault.rule
+    IsFirstFault-row fill_rules IsFillRule (parts_grid c.args.input.now) (parts_products c.args.input.now) c.loop-row.row c.in-Err.fault.col c.in-Err.fault.rule
     (omega (arith, c.side-side.ensures)) c.loop-row.invariant.holds c.in-Err.ensures.fault
 
 pub loop-row-preserved : goal.loop-row-preserved
 loop-row-preserved c =
-    let g = grid_of c.args.input.now in
-    let ps = products_of c.args.input.now in
+    let g = parts_grid c.args.input.now in
+    let ps = parts_products c.args.input.now in
     let inv = c.loop-row.invariant in
     let here = c.in-Ok.ensures.tally in
     record {
@@ -43,8 +43,8 @@ loop-row-preserved c =
 
 pub returns : goal.returns
 returns c =
-    let g = grid_of c.args.input.now in
-    let ps = products_of c.args.input.now in
+    let g = parts_grid c.args.input.now in
+    let ps = parts_products c.args.input.now in
     let inv = c.loop-row.invariant in
     let side : c.side-side.result ≡ c.args.input.now.shape.rows = c.side-side.ensures in
     let last : c.loop-row.row ≡ c.args.input.now.shape.rows = omega (arith, side) in

@@ -5,7 +5,7 @@ use Rattle.drain_grid.specs.Grid.{Grid, Products, patch_at}
 use Rattle.drain_grid.specs.PatchRules.{check_rules}
 use Rattle.drain_grid.specs.Values.{NoDataNumbers}
 use Rattle.drain_grid.specs.WholeGrid.{grid_of, products_of}
-use Rattle.drain_kernel.specs.declared.rules.Ranks.TheVariants.{Asked}
+use Rattle.drain_kernel.specs.declared.rules.Ranks.TheVariants.{Checked}
 use Rattle.drain_rules.specs.Labels.{HasNewLabel}
 use Rattle.drain_rules.specs.PatchRows.{AreRowPatches}
 use Rattle.drain_rules.specs.Rows.{place}
@@ -23,7 +23,7 @@ own-patches g ps row at inside same =
 pub loop-row-init : goal.loop-row-init
 loop-row-init c = record {
   counted = c.new-walk.ensures.rows;
-  right = c.new-walk.ensures.finding (record { nodata = c.nodata.result; ranks = Asked }) (grid_of c.args.elevation.now c.args.sinks.now) (products_of c.args.products.now);
+  right = c.new-walk.ensures.finding (record { nodata = c.nodata.result; ranks = Checked }) (grid_of c.args.elevation.now c.args.sinks.now) (products_of c.args.products.now);
 }
 
 pub returns-in_err-check_row-clause-err : goal.returns-in_err-check_row-clause-err
@@ -57,5 +57,5 @@ returns-clause-verdict c =
     let rows : c.shape-shape.result.rows ≡ c.args.elevation.now.extent.rows = ap (λ (e : Extent). e.rows) c.shape-shape.ensures in
     let last : c.loop-row.walk.rows ≡ c.args.elevation.now.extent.rows =
     omega (arith, inv.counted, c.loop-row-test.false, c.loop-row.auto.row-end, c.rows-row-end.ensures, rows) in
-    let verdict = c.verdict.ensures.verdict (record { nodata = c.nodata.result; ranks = Asked }) g ps (sym c.shape-shape.ensures) last inv.right in
+    let verdict = c.verdict.ensures.verdict (record { nodata = c.nodata.result; ranks = Checked }) g ps (sym c.shape-shape.ensures) last inv.right in
     subst (λ (n : NoDataNumbers). IsVerdict g ps n c.verdict.result) c.nodata.ensures verdict

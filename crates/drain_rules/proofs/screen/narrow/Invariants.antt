@@ -1,5 +1,5 @@
 use Rattle.std.proofs.Common.{◌≡◌, IsTrue, length}
-use Rattle.drain_fill.specs.Below.{AreHeights}
+use Rattle.drain_fill.specs.Below.{AreRowHeights}
 use Rattle.drain_rules.proofs.Screens.{ArePut}
 use Rattle.drain_rules.proofs.screen.narrow.Given as goal
 
@@ -8,5 +8,5 @@ abbrev pub invariant-loop-place : goal.invariant-loop-place
 invariant-loop-place l = record {
   long : length l.out ≡ length l.numbers;
   put : IsTrue l.all → ArePut l.numbers l.out l.place;
-  misfit : ¬ IsTrue l.all → ¬ AreHeights l.numbers;
+  misfit : ¬ IsTrue l.all → ¬ AreRowHeights l.numbers;
 }

@@ -139,7 +139,7 @@ returns-clause-noted g c = λ inputs hs begun nodata shapes is fields tiles rast
     let new = c.verdict_by_rows.new in
     let layout : IsLayout c.args.layout.now = c.makes_a_mosaic.ensures in
     notes_hold bl ct inputs hs (with_rasters g.P.ProductInputs.readers c.args.rows.now) (with_rasters g.P.ProductInputs.readers new.source) c.args.tiles.now new.tiles (g.P.ProductInputs.inputs c.args.products.now) (g.P.ProductInputs.inputs new.products) c.shape-shape.result
-    g.K.RowNotes.are_of c.args.rules.now new.notes c.args.listing.now.sinks c.args.layout.now is fields nodata sinks c.in-Ok.ensures.noted (record {
+    g.K.RowVisitor.are_of c.args.rules.now new.notes c.args.listing.now.sinks c.args.layout.now is fields nodata sinks c.in-Ok.ensures.noted (record {
       extent_is = c.shape-shape.ensures;
       laws = record {
         rows_end = c.rows_end.ensures;

@@ -3,7 +3,7 @@ use Rattle.drain_verdict.specs.AuditInputs.{with_con_for_ranks}
 use Rattle.drain_verdict.specs.Audits.{AreCorrect, IsAcceptance}
 use Rattle.drain_verdict.specs.Headline.{IsRight, TilesAreOne, ElevationIsTheirs}
 use Rattle.drain_verdict.specs.Inputs.{Tell}
-use Rattle.drain_verdict.specs.Meaning.{grid_of, nodata_numbers, products_of, tiles_of, tiling_of}
+use Rattle.drain_verdict.specs.Meaning.{input_grid, nodata_numbers, input_products, input_tiles, tiling_of}
 use Rattle.drain_verdict.proofs.Acceptance.{right_of, tiles_agree}
 use Rattle.drain_verdict.proofs.AuditAnswers.{answer_certified, exactly, sound_of, when_audited, when_given}
 use Rattle.drain_verdict.proofs.auditor.audit.Goals as goal
@@ -14,7 +14,7 @@ returns-clause-answer g c = λ inputs tell. answer_certified c.ranks_play_no_par
 pub returns-clause-exactly : goal.returns-clause-exactly
 returns-clause-exactly g c =
     when_given (Tell g.R.ByteSource.bytes_left c.args.side c.args.tiles.now c.args.sinks.now (with_con_for_ranks c.args.products.now)) (λ verdict inputs. IsAcceptance verdict ↔ AreCorrect inputs)
-    (λ verdict inputs answer. exactly c.correct_is_local.ensures (grid_of inputs) (products_of inputs) (nodata_numbers inputs) verdict answer.2) c.audit_of.result c.audit_of.ensures.answer
+    (λ verdict inputs answer. exactly c.correct_is_local.ensures (input_grid inputs) (input_products inputs) (nodata_numbers inputs) verdict answer.2) c.audit_of.result c.audit_of.ensures.answer
 
 pub returns-clause-tiles_agree : goal.returns-clause-tiles_agree
 returns-clause-tiles_agree g c =
@@ -24,7 +24,7 @@ returns-clause-tiles_agree g c =
 pub returns-clause-elevation : goal.returns-clause-elevation
 returns-clause-elevation g c =
     when_given (Tell g.R.ByteSource.bytes_left c.args.side c.args.tiles.now c.args.sinks.now (with_con_for_ranks c.args.products.now)) (λ verdict. ElevationIsTheirs)
-    (λ verdict inputs answer. c.agreement_gives_elevation.ensures (tiling_of inputs) (tiles_of inputs) (tiles_agree inputs answer.0)) c.audit_of.result c.audit_of.ensures.answer
+    (λ verdict inputs answer. c.agreement_gives_elevation.ensures (tiling_of inputs) (input_tiles inputs) (tiles_agree inputs answer.0)) c.audit_of.result c.audit_of.ensures.answer
 
 pub returns-clause-right : goal.returns-clause-right
 returns-clause-right g c =

@@ -1,16 +1,15 @@
-use Rattle.std.proofs.Common.{◌≡◌, ◌*◌, ◌∙◌, Ok, Err, refl, sym, ap, subst, rules}
+use Rattle.std.proofs.Common.{◌*◌, ◌∙◌, Ok, refl, sym, ap, subst, rules}
 use Rattle.std.proofs.lemmas.Result.{err_from_is_err_and}
 use Rattle.drain_grid.specs.Size.{Extent, IsExtent}
-use Rattle.drain_mosaic.specs.Tiling.{extent_of}
-use Rattle.drain_runs.specs.Flows.{AreFirstFlows}
-use Rattle.drain_runs.specs.KnownFlows.{AreKnownFlows}
-use Rattle.drain_runs.proofs.GridFlows.{AreFirstFlows-none, AreFlowsOf-all}
+use Rattle.drain_paths.specs.Flows.{AreFirstFlows}
+use Rattle.drain_paths.specs.KnownFlows.{AreKnownFlows}
+use Rattle.drain_paths.proofs.GridFlows.{AreFirstFlows-none, AreFlowsOf-all}
 use Rattle.drain_verdict.specs.AuditInputs.{with_con_for_ranks}
-use Rattle.drain_verdict.specs.Meaning.{grid_of, nodata_numbers, products_of}
+use Rattle.drain_verdict.specs.Meaning.{input_grid, nodata_numbers, input_products}
 use Rattle.drain_verdict.proofs.AuditAnswers.{both_are}
-use Rattle.drain_verdict.proofs.AuditDevices.{failed_alike, none_alike}
-use Rattle.drain_verdict.proofs.StartAnswers.{layout_of_inputs}
-use Rattle.drain_verdict.proofs.Uses.{four_used}
+use Rattle.drain_verdict.proofs.AuditDevices.{none_alike}
+use Rattle.drain_verdict.proofs.StartAnswers.{shape_of_inputs}
+use Rattle.drain_verdict.proofs.Uses.{four_failed, four_used}
 use Rattle.drain_verdict.proofs.auditor.audit_on.Goals as goal
 
 pub answer_on-requires-clause-unnoted : goal.answer_on-requires-clause-unnoted
@@ -22,9 +21,7 @@ answer_on-requires-clause-unnoted g c = λ rules grid ps. (
 pub returns-in_err-verdict-clause-uses : goal.returns-in_err-verdict-clause-uses
 returns-in_err-verdict-clause-uses g c =
     let told = err_from_is_err_and c.from_residual.result c.from_residual.ensures.1 in
-    let uses = c.in_err-verdict.ensures.uses in
-    rw (told.1, told.2) (four_used g.R.ByteSource.bytes_left g.R.ByteSource.counts c.args.layout.now.side (c.args.tiles.now, c.args.products.now) (c.answer_on.new.tiles, c.answer_on.new.products)
-    (Err c.in_err-verdict.field-0.0) (Err c.in_err-verdict.field-0.0) (failed_alike c.in_err-verdict.field-0.0) uses.untouched uses)
+    rw (told.1, told.2) (four_failed g.R.ByteSource.bytes_left g.R.ByteSource.counts c.args.layout.now.side (c.args.tiles.now, c.args.products.now) (c.answer_on.new.tiles, c.answer_on.new.products) c.in_err-verdict.field-0.0 c.in_err-verdict.ensures.uses)
 
 pub returns-clause-uses : goal.returns-clause-uses
 returns-clause-uses g c =
@@ -36,34 +33,25 @@ returns-clause-noted g c = λ inputs tell. (c.in_ok-verdict.ensures.noted inputs
 
 pub returns-clause-flows : goal.returns-clause-flows
 returns-clause-flows g c = λ inputs tell.
-    let bl = g.R.ByteSource.bytes_left in
-    let qs = with_con_for_ranks c.args.products.now in
-    let is = layout_of_inputs c.one_name.ensures bl c.args.layout.now.side c.args.tiles.now c.args.sinks.now qs inputs c.args.layout.now tell c.requires.laid in
-    let extent : c.shape.result ≡ (grid_of inputs).extent = c.shape.ensures ∙ ap extent_of is in
-    let flows = subst (λ (e : Extent). AreFirstFlows (grid_of inputs) (products_of inputs) e e.rows c.answer_on.new.notes.first) (sym extent) (c.in_ok-verdict.ensures.noted inputs tell).0 in
-    subst (λ (e : Extent). AreKnownFlows (grid_of inputs) (products_of inputs) e c.first_endless-endless.new.flows) c.shape.ensures
-    (c.first_endless-endless.ensures.known (grid_of inputs) (products_of inputs) (AreFlowsOf-all (grid_of inputs) (products_of inputs) c.shape.result c.answer_on.new.notes.first flows))
+    let extent = shape_of_inputs c.one_name.ensures g.R.ByteSource.bytes_left c.args.layout.now c.args.tiles.now c.args.sinks.now (with_con_for_ranks c.args.products.now) inputs c.shape.result tell c.requires.laid c.shape.ensures in
+    let flows = subst (λ (e : Extent). AreFirstFlows (input_grid inputs) (input_products inputs) e e.rows c.answer_on.new.notes.first) (sym extent) (c.in_ok-verdict.ensures.noted inputs tell).0 in
+    subst (λ (e : Extent). AreKnownFlows (input_grid inputs) (input_products inputs) e c.first_endless-endless.new.flows) c.shape.ensures
+    (c.first_endless-endless.ensures.known (input_grid inputs) (input_products inputs) (AreFlowsOf-all (input_grid inputs) (input_products inputs) c.shape.result c.answer_on.new.notes.first flows))
 
 pub returns-clause-counted : goal.returns-clause-counted
 returns-clause-counted g c = λ inputs tell.
-    let bl = g.R.ByteSource.bytes_left in
-    let qs = with_con_for_ranks c.args.products.now in
-    let is = layout_of_inputs c.one_name.ensures bl c.args.layout.now.side c.args.tiles.now c.args.sinks.now qs inputs c.args.layout.now tell c.requires.laid in
-    let extent : c.shape.result ≡ (grid_of inputs).extent = c.shape.ensures ∙ ap extent_of is in
-    let flows = subst (λ (e : Extent). AreFirstFlows (grid_of inputs) (products_of inputs) e e.rows c.answer_on.new.notes.first) (sym extent) (c.in_ok-verdict.ensures.noted inputs tell).0 in
+    let extent = shape_of_inputs c.one_name.ensures g.R.ByteSource.bytes_left c.args.layout.now c.args.tiles.now c.args.sinks.now (with_con_for_ranks c.args.products.now) inputs c.shape.result tell c.requires.laid c.shape.ensures in
+    let flows = subst (λ (e : Extent). AreFirstFlows (input_grid inputs) (input_products inputs) e e.rows c.answer_on.new.notes.first) (sym extent) (c.in_ok-verdict.ensures.noted inputs tell).0 in
     c.first_endless-endless.ensures.counted ∙ flows.counted ∙ ap (λ (e : Extent). e.rows * e.cols) c.shape.ensures
 
 pub returns-clause-answer : goal.returns-clause-answer
 returns-clause-answer g c = λ inputs tell.
-    let bl = g.R.ByteSource.bytes_left in
-    let qs = with_con_for_ranks c.args.products.now in
-    let is = layout_of_inputs c.one_name.ensures bl c.args.layout.now.side c.args.tiles.now c.args.sinks.now qs inputs c.args.layout.now tell c.requires.laid in
-    let extent : c.shape.result ≡ (grid_of inputs).extent = c.shape.ensures ∙ ap extent_of is in
-    let flows = subst (λ (e : Extent). AreFirstFlows (grid_of inputs) (products_of inputs) e e.rows c.answer_on.new.notes.first) (sym extent) (c.in_ok-verdict.ensures.noted inputs tell).0 in
+    let extent = shape_of_inputs c.one_name.ensures g.R.ByteSource.bytes_left c.args.layout.now c.args.tiles.now c.args.sinks.now (with_con_for_ranks c.args.products.now) inputs c.shape.result tell c.requires.laid c.shape.ensures in
+    let flows = subst (λ (e : Extent). AreFirstFlows (input_grid inputs) (input_products inputs) e e.rows c.answer_on.new.notes.first) (sym extent) (c.in_ok-verdict.ensures.noted inputs tell).0 in
     let answer = c.in_ok-verdict.ensures.answer inputs tell in (
       answer.0,
       subst IsExtent extent (search rules),
-      both_are (grid_of inputs) (products_of inputs) (nodata_numbers inputs) c.in_ok-verdict.verdict c.first_endless-endless.result c.verdict_of_both.result c.verdict_of_both.ensures
-          (c.first_endless-endless.ensures.first (grid_of inputs) (products_of inputs) (nodata_numbers inputs) answer.1 flows.counted
-          (AreFlowsOf-all (grid_of inputs) (products_of inputs) c.shape.result c.answer_on.new.notes.first flows)) answer.1,
+      both_are (input_grid inputs) (input_products inputs) (nodata_numbers inputs) c.in_ok-verdict.verdict c.first_endless-endless.result c.verdict_of_both.result c.verdict_of_both.ensures
+          (c.first_endless-endless.ensures.first (input_grid inputs) (input_products inputs) (nodata_numbers inputs) answer.1 flows.counted
+          (AreFlowsOf-all (input_grid inputs) (input_products inputs) c.shape.result c.answer_on.new.notes.first flows)) answer.1,
     )

@@ -1,7 +1,7 @@
 use Rattle.std.proofs.Common.{rules}
-use Rattle.drain_runs.specs.Ways.{ground_of, directions_of}
-use Rattle.drain_runs.specs.Steps.{AreNumbers}
-use Rattle.drain_runs.proofs.RankLemmas.{AreRanks-numbers}
+use Rattle.drain_paths.specs.Ways.{ground_of, directions_of}
+use Rattle.drain_paths.specs.Steps.{AreNumbers}
+use Rattle.drain_paths.proofs.RankLemmas.{AreRanks-numbers}
 use Rattle.drain_verdict.proofs.certifier.certify.Goals as goal
 
 pub returns-in-Ok-clause-ranks : goal.returns-in-Ok-clause-ranks

@@ -1,12 +1,12 @@
 use Rattle.std.proofs.Common.{sym, ◌∙◌}
-use Rattle.drain_grid.specs.declared.held.Held.{Held}
-use Rattle.drain_grid.specs.declared.held.Held.TheVariants.{Con, Dir, Acc, Bas, Rnk}
+use Rattle.drain_grid.specs.declared.set_product.SetProduct.{SetProduct}
+use Rattle.drain_grid.specs.declared.set_product.SetProduct.TheVariants.{Con, Dir, Acc, Bas, Rnk}
 use Rattle.verdict_tests.proofs.whole_rows.products.Goals as goal
 
 -- each raster has the shape
 pub invariant_of-result : goal.invariant_of-result
 invariant_of-result c =
-    let shaped = λ (p : Held). (c.in_ok-con.ensures.each p).1 in
+    let shaped = λ (p : SetProduct). (c.in_ok-con.ensures.each p).1 in
     record {
       dir_shape = shaped Dir ∙ sym (shaped Con);
       acc_shape = shaped Acc ∙ sym (shaped Con);

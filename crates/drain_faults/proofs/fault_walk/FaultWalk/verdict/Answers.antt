@@ -1,6 +1,6 @@
 use Rattle.std.proofs.Common.{Some, None, subst}
 use Rattle.drain_kernel.specs.Rules.{tried}
-use Rattle.drain_rules.specs.Findings.{cells_above}
+use Rattle.drain_rules.specs.RowOutcomes.{cells_above}
 use Rattle.drain_faults.specs.Faults.{IsFirstPatch}
 use Rattle.drain_faults.proofs.CountSteps.{counts_are}
 use Rattle.drain_faults.proofs.RowOrder.{all_hold, first_fault}

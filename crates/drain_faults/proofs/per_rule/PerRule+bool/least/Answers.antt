@@ -1,7 +1,7 @@
 use Rattle.std.proofs.Common.{◌≡◌, ◌+◌, ◌<◌, false, true, get_or, below_more, sym, ◌∙◌, arith}
 use Rattle.std.proofs.lemmas.Bool.{false≢true}
 use Rattle.drain_grid.specs.declared.rule.Rule.TheVariants.{VoidCell}
-use Rattle.drain_grid.specs.Rule.{number_of}
+use Rattle.drain_grid.specs.Rule.{rule_number}
 use Rattle.drain_grid.proofs.RuleNumbers.{rules}
 use Rattle.drain_faults.specs.PerRule.{of_rule}
 use Rattle.drain_faults.proofs.RulePlaces.{of_each, of_lesser, place_at}
@@ -11,7 +11,7 @@ pub returns-then-of : goal.returns-then-of
 returns-then-of c =
     let i = c.loop-rule.rule-index in
     let within : i < 15 = omega arith in
-    let number : number_of (get_or rules i VoidCell) ≡ i + 1 = place_at i within in
+    let number : rule_number (get_or rules i VoidCell) ≡ i + 1 = place_at i within in
     let is_set : of_rule c.args.self.now (get_or rules i VoidCell) ≡ true = sym c.of.ensures ∙ c.if-of.true in (
       (omega (arith, number), omega (arith, number)),
       λ unset. false≢true (sym unset ∙ is_set),

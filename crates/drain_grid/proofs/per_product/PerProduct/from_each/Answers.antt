@@ -1,12 +1,12 @@
 use Rattle.std.proofs.Common.{◌<◌, arith}
 use Rattle.std.proofs.lemmas.Result.{err_from_is_err_and}
-use Rattle.drain_grid.specs.declared.held.Held.{Held}
-use Rattle.drain_grid.specs.declared.held.Held.TheVariants.{Con, Dir, Acc, Bas, Rnk}
-use Rattle.drain_grid.specs.Held.{rank_of}
+use Rattle.drain_grid.specs.declared.set_product.SetProduct.{SetProduct}
+use Rattle.drain_grid.specs.declared.set_product.SetProduct.TheVariants.{Con, Dir, Acc, Bas, Rnk}
+use Rattle.drain_grid.specs.SetProduct.{rank_of}
 use Rattle.drain_grid.proofs.per_product.PerProduct.from_each.Goals as goal
 
 -- the products before the last
-before_rnk : (P : Held → Type 0) → P Con → P Dir → P Acc → P Bas → (q : Held) → rank_of q < rank_of Rnk → P q
+before_rnk : (P : SetProduct → Type 0) → P Con → P Dir → P Acc → P Bas → (q : SetProduct) → rank_of q < rank_of Rnk → P q
 before_rnk P con dir acc bas Con less = con
 before_rnk P con dir acc bas Dir less = dir
 before_rnk P con dir acc bas Acc less = acc

@@ -10,6 +10,6 @@ invariant_of-result c = record {
   rising = IsNonDecreasingBy-from_sort (λ x. x) _ c.sort_unstable.ensures.sorted;
   theirs =
       subst (λ places. IsPermutation places c.sort_unstable.new.self.items)
-      (c.in-Ok.ensures ∙ ap (map wide_place) c.cells.ensures ∙ map-map wide_place (λ s. s.cell) c.args.lines) c.sort_unstable.ensures.permutation;
+      (c.in_ok-places.ensures ∙ ap (map wide_place) c.cells.ensures ∙ map-map wide_place (λ s. s.cell) c.args.lines) c.sort_unstable.ensures.permutation;
   narrow = c.requires;
 }

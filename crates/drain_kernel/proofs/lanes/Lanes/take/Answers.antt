@@ -1,9 +1,9 @@
 use Rattle.std.proofs.Common.{◌≡◌, ◌≢◌, ℕ, ◌<◌, Bool, true, ◌&&◌, List, slice_index, sym, ◌∙◌, subst}
 use Rattle.std.proofs.lemmas.Bool.{and_parts}
-use Rattle.drain_grid.specs.declared.held.Held.TheVariants.{Con, Dir, Acc, Bas, Rnk}
-use Rattle.drain_kernel.specs.Asked.{IfAsked}
+use Rattle.drain_grid.specs.declared.set_product.SetProduct.TheVariants.{Con, Dir, Acc, Bas, Rnk}
+use Rattle.drain_kernel.specs.Checked.{IfChecked}
 use Rattle.drain_kernel.specs.declared.rules.Ranks.{Ranks}
-use Rattle.drain_kernel.specs.declared.rules.Ranks.TheVariants.{Asked, Unasked}
+use Rattle.drain_kernel.specs.declared.rules.Ranks.TheVariants.{Checked, Ignored}
 use Rattle.drain_kernel.proofs.lanes.Lanes.take.Goals as goal
 
 -- all six fit
@@ -39,9 +39,9 @@ invariant_of-self-else-not-fit c =
       bas_len = same_len _ _ _ _ (c.take_numbers-3.ensures.len fit.bas_fits) (c.requires Bas) cols;
     }
 
-asked_len : (ranks : Ranks) (lanes numbers cols z : ℕ) → IfAsked ranks (lanes ≡ numbers) → numbers ≡ cols → z ≡ cols → IfAsked ranks (lanes ≡ z)
-asked_len Asked lanes numbers cols z own long here = same_len lanes numbers cols z own long here
-asked_len Unasked lanes numbers cols z own long here = tt
+asked_len : (ranks : Ranks) (lanes numbers cols z : ℕ) → IfChecked ranks (lanes ≡ numbers) → numbers ≡ cols → z ≡ cols → IfChecked ranks (lanes ≡ z)
+asked_len Checked lanes numbers cols z own long here = same_len lanes numbers cols z own long here
+asked_len Ignored lanes numbers cols z own long here = tt
 
 -- the elevations with which the others are taken are those in the lanes
 no_void : (z held : List ℕ) → z ≡ held → (k : ℕ) → slice_index held k ≢ 0 → slice_index z k ≢ 0

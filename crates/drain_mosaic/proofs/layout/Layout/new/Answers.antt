@@ -3,7 +3,7 @@ use Rattle.std.proofs.lemmas.Int.{to_z-of_z}
 use Rattle.drain_hgt.specs.Corner.{Corner}
 use Rattle.drain_mosaic.specs.Tiling.{Tiling}
 use Rattle.drain_mosaic.specs.declared.layout.LayoutFault.TheVariants.{OutOfMemory}
-use Rattle.drain_mosaic.specs.LayoutFaults.{IsLayout, AreNumbersOf}
+use Rattle.drain_mosaic.specs.LayoutFaults.{IsLayout, AreTilingNumbers}
 use Rattle.drain_mosaic.proofs.LayoutOrder.{not_memory, layout_is}
 use Rattle.drain_mosaic.proofs.layout.Layout.new.Goals as goal
 
@@ -25,4 +25,4 @@ invariant_of-result c =
     let west = to_z-of_z w16 b.west fits_west in
     let north = to_z-of_z w16 b.north fits_north in
     let is = layout_is t b.down b.across b.west b.north _ _ c.shape_of-shape.result c.requires (c.in-Ok.ensures.sound refl c.args.side) (c.in-Ok.ensures.bounds c.args.side) west north c.shape_of-shape.ensures in
-    subst (λ (cs : List Corner). IsLayout (record { side = c.args.side; corners = cs }) × AreNumbersOf (record { side = c.args.side; corners = cs }) (to_z w16 (of_z w16 b.west)) (to_z w16 (of_z w16 b.north)) c.shape_of-shape.result) (sym c.in-Ok-from_slice.ensures.items) is
+    subst (λ (cs : List Corner). IsLayout (record { side = c.args.side; corners = cs }) × AreTilingNumbers (record { side = c.args.side; corners = cs }) (to_z w16 (of_z w16 b.west)) (to_z w16 (of_z w16 b.north)) c.shape_of-shape.result) (sym c.in-Ok-from_slice.ensures.items) is

@@ -1,7 +1,7 @@
 use Rattle.std.proofs.Common.{◌≡◌, take, vec_len}
 use Rattle.drain_mosaic.specs.Tiling.{extent_of}
 use Rattle.std.specs.List.{All, AllZip}
-use Rattle.drain_mosaic.specs.PlacedRows.{AreWithin, IsAt, IsAtStart}
+use Rattle.drain_mosaic.specs.PlacedRows.{ArePlacedWithin, IsPlacedAt, IsAtStart}
 use Rattle.drain_mosaic.proofs.mosaic_rows.MosaicRows.new.Given as goal
 
 -- the tiles that were placed lie within the mosaic
@@ -9,6 +9,6 @@ abbrev pub invariant-loop-i : goal.invariant-loop-i
 invariant-loop-i l = record {
   counted : vec_len l.tiles ≡ l.i;
   tiles_are : AllZip (IsAtStart l.layout) (take l.i l.layout.corners) l.tiles.items;
-  at_row : All (IsAt l.side 0) l.tiles.items;
-  within : AreWithin l.side (extent_of l.layout).rows (extent_of l.layout).cols l.tiles.items;
+  at_row : All (IsPlacedAt l.side 0) l.tiles.items;
+  within : ArePlacedWithin l.side (extent_of l.layout).rows (extent_of l.layout).cols l.tiles.items;
 }

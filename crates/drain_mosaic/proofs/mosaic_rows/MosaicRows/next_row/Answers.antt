@@ -3,7 +3,7 @@ use Rattle.std.specs.Option.{option_or}
 use Rattle.drain_grid.specs.declared.tile.TheConstants.{VOID}
 use Rattle.drain_grid.specs.Tile.{IsSample}
 use Rattle.drain_mosaic.specs.Streams.{Frame, end_stream, next_stream}
-use Rattle.drain_mosaic.specs.PlacedRows.{AreWithin, HasEnded, IsAt, IsWithin, streams_of}
+use Rattle.drain_mosaic.specs.PlacedRows.{ArePlacedWithin, HasEnded, IsPlacedAt, IsPlacedWithin, streams_of}
 use Rattle.drain_mosaic.proofs.Lent.{all_back, all_lent, as_long, back, done-or-going, found-fits, going-or-done, have-back-err, have-back-ok, is_back, laid-by, lent, lent-voids, row-below, stopped-or-done, stopped-or-going, streams-back}
 use Rattle.drain_mosaic.proofs.MosaicSteps.{mosaic-step, seam-end, seam-step, wrong-end, wrong-row, wrong-stopped}
 use Rattle.drain_mosaic.proofs.mosaic_rows.MosaicRows.next_row.Goals as goal
@@ -17,20 +17,20 @@ invariant_of-self g c =
     let s = c.args.self.now in
     let is : s.row ≡ s.shape.rows = c.if-self-rows.true ∙ c.rows.ensures in
     let came = lent c.deref_mut.ensures.value c.deref_mut.ensures.len c.read_ends.auto.tiles in
-    let within = all_lent (IsWithin s.side s.shape.rows s.shape.cols) c.deref_mut.ensures.value s.within in
-    let at = all_lent (IsAt s.side s.row) c.deref_mut.ensures.value (s.at_row c.in-Going.is) in
+    let within = all_lent (IsPlacedWithin s.side s.shape.rows s.shape.cols) c.deref_mut.ensures.value s.within in
+    let at = all_lent (IsPlacedAt s.side s.row) c.deref_mut.ensures.value (s.at_row c.in-Going.is) in
     record {
-      within = all_back (IsWithin s.side s.shape.rows s.shape.cols) came (c.in-Ok.ensures.within s.side s.shape.rows s.shape.cols within);
+      within = all_back (IsPlacedWithin s.side s.shape.rows s.shape.cols) came (c.in-Ok.ensures.within s.side s.shape.rows s.shape.cols within);
       bounded = s.bounded;
       at_row = λ e. absurd (done-or-going e);
-      ended = λ e. (is, all_back HasEnded came (c.in-Ok.ensures.ended s.side s.row s.shape.cols (subst (λ n. AreWithin s.side n s.shape.cols c.deref_mut.result.now) (sym is) within) at));
+      ended = λ e. (is, all_back HasEnded came (c.in-Ok.ensures.ended s.side s.row s.shape.cols (subst (λ n. ArePlacedWithin s.side n s.shape.cols c.deref_mut.result.now) (sym is) within) at));
     }
 
 pub invariant_of-self-in-Err : goal.invariant_of-self-in-Err
 invariant_of-self-in-Err g c =
     let s = c.args.self.now in
     let came = lent c.deref_mut.ensures.value c.deref_mut.ensures.len c.read_ends.auto.tiles in
-    let P = IsWithin s.side s.shape.rows s.shape.cols in
+    let P = IsPlacedWithin s.side s.shape.rows s.shape.cols in
     record {
       within = all_back P came (c.in-Err.ensures.within s.side s.shape.rows s.shape.cols (all_lent P c.deref_mut.ensures.value s.within));
       bounded = s.bounded;
@@ -64,9 +64,9 @@ returns-in-Ok-clause-at_end g c is_ended =
     let is : s.row ≡ s.shape.rows = c.if-self-rows.true ∙ c.rows.ensures in
     let value = c.deref_mut.ensures.value in
     let came = lent value c.deref_mut.ensures.len c.read_ends.auto.tiles in
-    let within = all_lent (IsWithin s.side s.shape.rows s.shape.cols) value s.within in
-    let at = all_lent (IsAt s.side s.row) value (s.at_row c.in-Going.is) in
-    let ended = c.in-Ok.ensures.ended s.side s.row s.shape.cols (subst (λ n. AreWithin s.side n s.shape.cols c.deref_mut.result.now) (sym is) within) at in
+    let within = all_lent (IsPlacedWithin s.side s.shape.rows s.shape.cols) value s.within in
+    let at = all_lent (IsPlacedAt s.side s.row) value (s.at_row c.in-Going.is) in
+    let ended = c.in-Ok.ensures.ended s.side s.row s.shape.cols (subst (λ n. ArePlacedWithin s.side n s.shape.cols c.deref_mut.result.now) (sym is) within) at in
     record {
       seam_is = seam-end (frame s.side s.shape.rows s.shape.cols) s.shape.rows s.row (streams_of g.R.ByteSource.bytes_left (back s.tiles.items c.read_ends.new.tiles s.tiles.len) c.read_ends.new.from) s.seam is;
       wrong_is = wrong-stopped g.R.ByteSource.bytes_left (back s.tiles.items c.read_ends.new.tiles s.tiles.len) c.read_ends.new.from 0 (c.read_ends.auto.from ∙ c.requires.named ∙ sym (as_long came)) (all_back HasEnded came ended);
@@ -83,7 +83,7 @@ pub lay_tiles-requires-clause-within : goal.lay_tiles-requires-clause-within
 lay_tiles-requires-clause-within g c =
     let s = c.args.self.now in
     let wide : length c.deref_mut-3.result.now ≡ s.shape.cols = ap length c.deref_mut-3.ensures.value ∙ c.in-Ok-put_voids.ensures.long ∙ c.cols.ensures in
-    (s.shape.rows, subst (λ n. AreWithin s.side s.shape.rows n c.deref_mut-2.result.now) (sym wide) (all_lent (IsWithin s.side s.shape.rows s.shape.cols) c.deref_mut-2.ensures.value s.within))
+    (s.shape.rows, subst (λ n. ArePlacedWithin s.side s.shape.rows n c.deref_mut-2.result.now) (sym wide) (all_lent (IsPlacedWithin s.side s.shape.rows s.shape.cols) c.deref_mut-2.ensures.value s.within))
 
 pub cell_at-requires : goal.cell_at-requires
 cell_at-requires g c = found-fits c.in-Ok-lay_tiles.found (ap length c.deref_mut-3.ensures.value ∙ c.in-Ok-put_voids.ensures.long) c.cols.type_inv c.in-Ok-lay_tiles.ensures.found
@@ -94,12 +94,12 @@ invariant_of-self-in-Ok-lay_tiles g c =
     let value = c.deref_mut-2.ensures.value in
     let came = lent value c.deref_mut-2.ensures.len c.lay_tiles.auto.tiles in
     let wide : length c.deref_mut-3.result.now ≡ s.shape.cols = ap length c.deref_mut-3.ensures.value ∙ c.in-Ok-put_voids.ensures.long ∙ c.cols.ensures in
-    let P = IsWithin s.side s.shape.rows s.shape.cols in
+    let P = IsPlacedWithin s.side s.shape.rows s.shape.cols in
     record {
       within = all_back P came
-          (subst (λ n. AreWithin s.side s.shape.rows n c.lay_tiles.new.tiles) wide (c.lay_tiles.ensures.within s.shape.rows (subst (λ n. AreWithin s.side s.shape.rows n c.deref_mut-2.result.now) (sym wide) (all_lent P value s.within))));
+          (subst (λ n. ArePlacedWithin s.side s.shape.rows n c.lay_tiles.new.tiles) wide (c.lay_tiles.ensures.within s.shape.rows (subst (λ n. ArePlacedWithin s.side s.shape.rows n c.deref_mut-2.result.now) (sym wide) (all_lent P value s.within))));
       bounded = omega (arith, row-below s.bounded c.rows.ensures c.if-self-rows.false);
-      at_row = λ e. all_back (IsAt s.side (s.row + 1)) came (c.in-Ok-lay_tiles.ensures.at (all_lent (IsAt s.side s.row) value (s.at_row c.in-Going.is)));
+      at_row = λ e. all_back (IsPlacedAt s.side (s.row + 1)) came (c.in-Ok-lay_tiles.ensures.at (all_lent (IsPlacedAt s.side s.row) value (s.at_row c.in-Going.is)));
       ended = λ e. absurd (going-or-done c.in-Going.is e);
     }
 
@@ -109,10 +109,10 @@ invariant_of-self-in-Err-lay_tiles g c =
     let value = c.deref_mut-2.ensures.value in
     let came = lent value c.deref_mut-2.ensures.len c.lay_tiles.auto.tiles in
     let wide : length c.deref_mut-3.result.now ≡ s.shape.cols = ap length c.deref_mut-3.ensures.value ∙ c.in-Ok-put_voids.ensures.long ∙ c.cols.ensures in
-    let P = IsWithin s.side s.shape.rows s.shape.cols in
+    let P = IsPlacedWithin s.side s.shape.rows s.shape.cols in
     record {
       within = all_back P came
-          (subst (λ n. AreWithin s.side s.shape.rows n c.lay_tiles.new.tiles) wide (c.lay_tiles.ensures.within s.shape.rows (subst (λ n. AreWithin s.side s.shape.rows n c.deref_mut-2.result.now) (sym wide) (all_lent P value s.within))));
+          (subst (λ n. ArePlacedWithin s.side s.shape.rows n c.lay_tiles.new.tiles) wide (c.lay_tiles.ensures.within s.shape.rows (subst (λ n. ArePlacedWithin s.side s.shape.rows n c.deref_mut-2.result.now) (sym wide) (all_lent P value s.within))));
       bounded = s.bounded;
       at_row = λ e. absurd (stopped-or-going e);
       ended = λ e. absurd (stopped-or-done e);

@@ -1,6 +1,6 @@
 use Rattle.std.proofs.Common.{◌≡◌, ◌<◌, length, ap, subst, arith}
-use Rattle.drain_fill.specs.Below.{AreHeights, IsBelowAt}
-use Rattle.drain_grid.specs.declared.held.Held.TheVariants.{Con}
+use Rattle.drain_fill.specs.Below.{AreRowHeights, IsBelowAt}
+use Rattle.drain_grid.specs.declared.set_product.SetProduct.TheVariants.{Con}
 use Rattle.drain_rules.specs.MarkedRows.{MarkedRow}
 use Rattle.drain_rules.proofs.Screens.{samples_fit}
 use Rattle.drain_rules.proofs.row_view.RowView.cells_above_ground.Goals as goal
@@ -18,6 +18,6 @@ returns-clause-within c =
 
 pub returns-clause-first : goal.returns-clause-first
 returns-clause-first c =
-    subst (λ (row : MarkedRow). AreHeights row.numbers.products.con → c.cells_above_ground.result < length row.numbers.z → IsBelowAt row.numbers.products.con row.numbers.z c.cells_above_ground.result)
+    subst (λ (row : MarkedRow). AreRowHeights row.numbers.products.con → c.cells_above_ground.result < length row.numbers.z → IsBelowAt row.numbers.products.con row.numbers.z c.cells_above_ground.result)
     c.self.view_is
     (λ fit less. c.cells_above_ground.ensures.first fit (samples_fit c.self.inside.z.now c.self.invariant.numbers.samples) (omega (arith, less, c.self.invariant.numbers.long Con)))

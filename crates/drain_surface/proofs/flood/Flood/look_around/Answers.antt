@@ -2,7 +2,7 @@ use Rattle.std.proofs.Common.{◌≡◌, ◌∙◌, ◌||◌, sym, ap, subst, ar
 use mir.Syntax.{w16}
 use mir.Val.{to_z, of_z}
 use Rattle.std.proofs.lemmas.Int.{to_z-of_z}
-use Rattle.drain_surface.specs.Looks.{IsBefore}
+use Rattle.drain_surface.specs.Looks.{IsLookedBefore}
 use Rattle.drain_surface.specs.Turns.{IsLookedAround}
 use Rattle.drain_surface.proofs.Looking.{around_on, around_all, less_more}
 use Rattle.drain_surface.proofs.flood.Flood.look_around.Goals as goal
@@ -28,7 +28,7 @@ loop-direction-preserved c =
 
 pub returns-clause-around : goal.returns-clause-around
 returns-clause-around c = λ g stand busy same before.
-    subst (λ z. IsBefore g c.args.self.now stand busy c.args.cell z c.args.raises →
+    subst (λ z. IsLookedBefore g c.args.self.now stand busy c.args.cell z c.args.raises →
     IsLookedAround g c.loop-direction.self stand busy c.args.cell z c.args.raises c.loop-direction.left) (to_z-of_z w16 c.args.level c.ranges.level)
     (λ known. around_all g c.loop-direction.self stand busy c.args.cell _ c.args.raises c.loop-direction.left c.loop-direction.direction-index (omega arith)
     (c.loop-direction.invariant.around g stand busy same known))

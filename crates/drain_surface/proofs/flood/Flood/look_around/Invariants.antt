@@ -1,7 +1,7 @@
 -- The neighbours in the directions so far were looked at.
 use Rattle.std.proofs.Common.{◌≡◌, ℕ, ℤ, List}
 use Rattle.drain_grid.specs.Grid.{Grid}
-use Rattle.drain_surface.specs.Looks.{IsBefore, IsAround}
+use Rattle.drain_surface.specs.Looks.{IsLookedBefore, IsAround}
 use Rattle.drain_surface.specs.Turns.{IsLessWork}
 use Rattle.drain_surface.proofs.flood.Flood.look_around.Given as goal
 
@@ -10,6 +10,6 @@ invariant-loop-direction l = record {
   extent : l.self.extent ≡ l.fn.self.extent;
   work : IsLessWork l.fn.self l.self;
   around : (g : Grid) → (stand : ℤ) → (busy : List ℕ) → g.extent ≡ l.fn.self.extent →
-      IsBefore g l.fn.self stand busy l.cell l.level l.raises →
+      IsLookedBefore g l.fn.self stand busy l.cell l.level l.raises →
       IsAround g l.self stand busy l.cell l.level l.raises l.left l.direction-index;
 }

@@ -2,9 +2,9 @@ use Rattle.std.proofs.Common.{◌≡◌, ◌∙◌, ℕ, List, ap, sym, rules, R
 use Rattle.drain_text.specs.Text.{lines_of}
 use Rattle.drain_header.specs.Header.{header_of}
 use Rattle.drain_grid.specs.PerProduct.{of_product}
-use Rattle.drain_grid.proofs.ByProduct.{by_held}
-use Rattle.drain_grid.specs.declared.held.Held.{Held}
-use Rattle.drain_grid.specs.declared.held.Held.TheVariants.{Con, Rnk}
+use Rattle.drain_grid.proofs.ByProduct.{by_set_product}
+use Rattle.drain_grid.specs.declared.set_product.SetProduct.{SetProduct}
+use Rattle.drain_grid.specs.declared.set_product.SetProduct.TheVariants.{Con, Rnk}
 use Rattle.drain_grid.specs.declared.per_product.PerProduct.{PerProduct}
 use Rattle.drain_header.specs.Fields.{Fields}
 use Rattle.drain_mosaic.specs.Tiling.{Tiling}
@@ -15,7 +15,7 @@ use Rattle.drain_verdict.proofs.InputLemmas.{over_err}
 use Rattle.drain_verdict.proofs.audit_products.AuditProductsProductInputs.read_headers.Goals as goal
 
 -- two headers of one text are one
-alike : {E : Type 0} (r : Result (PerProduct Fields) E) (t : Tiling) (text : Held → List ℕ) → IfOk r (AreHeadersOf t text) → text Rnk ≡ text Con → IfOk r (λ hs. hs.rnk ≡ hs.con)
+alike : {E : Type 0} (r : Result (PerProduct Fields) E) (t : Tiling) (text : SetProduct → List ℕ) → IfOk r (AreHeadersOf t text) → text Rnk ≡ text Con → IfOk r (λ hs. hs.rnk ≡ hs.con)
 alike (Ok hs) t text are same = (are Rnk).described.fields ∙ ap (λ (x : List ℕ). header_of (lines_of x)) same ∙ sym (are Con).described.fields
 alike (Err e) t text are same = tt
 
@@ -26,5 +26,5 @@ pub returns-clause-refusal : goal.returns-clause-refusal
 returns-clause-refusal g c =
     over_err c.read_headers.result _ _
     (λ e found. told_of_same c.args.layout.now _ (λ p. (of_product (with_con_for_ranks c.args.self.now) p).header) e found
-    (by_held _ (search rules) (search rules) (search rules) (search rules) (search rules)))
+    (by_set_product _ (search rules) (search rules) (search rules) (search rules) (search rules)))
     c.read_headers.ensures.refusal

@@ -1,12 +1,12 @@
 use Rattle.std.proofs.Common.{◌+◌, Some, None, inl, inr, rules}
 use Rattle.std.specs.List.{All}
-use Rattle.drain_grid.specs.declared.held.Held.TheVariants.{Con, Dir, Acc, Bas, Rnk}
+use Rattle.drain_grid.specs.declared.set_product.SetProduct.TheVariants.{Con, Dir, Acc, Bas, Rnk}
 use Rattle.drain_grid.specs.PerProduct.{of_product, per_product}
 use Rattle.drain_grid.specs.Values.{IsPixel}
 use Rattle.drain_rules.specs.RowNumbers.{RowNumbers}
-use Rattle.drain_rows.specs.HeldRows.{numbers_of}
+use Rattle.drain_rows.specs.RowBuffers.{buffer_numbers}
 use Rattle.drain_verdict.specs.InputReads.{as_read, with_rasters}
-use Rattle.drain_grid.proofs.ByProduct.{by_held}
+use Rattle.drain_grid.proofs.ByProduct.{by_set_product}
 use Rattle.drain_rows.proofs.RowResults.{told-of}
 use Rattle.drain_verdict.proofs.RowGiven.{IsKept, come_more, come_refused, kept_numbers, next_given}
 use Rattle.drain_verdict.proofs.RowReads.{by_mosaic, by_rasters, one_read, rasters_none, reads_then}
@@ -47,24 +47,24 @@ returns-clause-reads g c =
     (reads_then bl ct (as_read g.P.ProductInputs.readers g.P.ProductInputs.inputs start) _ _ None before.reads
     (one_read bl ct (with_rasters g.P.ProductInputs.readers c.args.self.now) _ c.args.tiles.now c.read_mosaic.new.tiles (g.P.ProductInputs.inputs c.args.products.now) (g.P.ProductInputs.inputs c.read_rasters.new.self) None None None (by_rasters None)
     other.of_reading one.counted (search rules) one.names one.read other.read))
-    one.rows (let each = other.rows in by_held _ (each Con) (each Dir) (each Acc) (each Bas) (each Rnk))
+    one.rows (let each = other.rows in by_set_product _ (each Con) (each Dir) (each Acc) (each Bas) (each Rnk))
 
 pub returns-clause-whole : goal.returns-clause-whole
 returns-clause-whole g c =
     let row : RowNumbers = record { z = c.read_mosaic.new.out.items; products = per_product (λ p. (of_product c.read_rasters.new.out p).items) } in
-    let kept : IsKept row (numbers_of c.if-not-is_even.out) = elim c.if-not-is_even.branch [
+    let kept : IsKept row (buffer_numbers c.if-not-is_even.out) = elim c.if-not-is_even.branch [
       | then-not-is_even w ↦ inr (search rules, search rules)
       | else-not-is_even w ↦ inl (search rules, search rules)
     ] in
-    kept_numbers row (numbers_of c.if-not-is_even.out) c.in_ok-read_mosaic.ensures.narrow c.in_ok-read_mosaic.ensures.samples
-    (let each = c.in_ok-read_rasters.ensures.pixels in by_held (λ p. All IsPixel (of_product row.products p)) (each Con) (each Dir) (each Acc) (each Bas) (each Rnk)) kept
+    kept_numbers row (buffer_numbers c.if-not-is_even.out) c.in_ok-read_mosaic.ensures.narrow c.in_ok-read_mosaic.ensures.samples
+    (let each = c.in_ok-read_rasters.ensures.pixels in by_set_product (λ p. All IsPixel (of_product row.products p)) (each Con) (each Dir) (each Acc) (each Bas) (each Rnk)) kept
 
 pub returns-clause-next : goal.returns-clause-next
 returns-clause-next g c =
     let row : RowNumbers = record { z = c.read_mosaic.new.out.items; products = per_product (λ p. (of_product c.read_rasters.new.out p).items) } in
-    let kept : IsKept row (numbers_of c.if-not-is_even.out) = elim c.if-not-is_even.branch [
+    let kept : IsKept row (buffer_numbers c.if-not-is_even.out) = elim c.if-not-is_even.branch [
       | then-not-is_even w ↦ inr (search rules, search rules)
       | else-not-is_even w ↦ inl (search rules, search rules)
     ] in
-    next_given g.R.ByteSource.bytes_left (with_rasters g.P.ProductInputs.readers c.args.self.now) _ c.args.tiles.now c.read_mosaic.new.tiles (g.P.ProductInputs.inputs c.args.products.now) (g.P.ProductInputs.inputs c.read_rasters.new.self) row (numbers_of c.if-not-is_even.out) kept
-    c.in_ok-read_mosaic.ensures.rows (let each = c.in_ok-read_rasters.ensures.rows in by_held _ (each Con) (each Dir) (each Acc) (each Bas) (each Rnk))
+    next_given g.R.ByteSource.bytes_left (with_rasters g.P.ProductInputs.readers c.args.self.now) _ c.args.tiles.now c.read_mosaic.new.tiles (g.P.ProductInputs.inputs c.args.products.now) (g.P.ProductInputs.inputs c.read_rasters.new.self) row (buffer_numbers c.if-not-is_even.out) kept
+    c.in_ok-read_mosaic.ensures.rows (let each = c.in_ok-read_rasters.ensures.rows in by_set_product _ (each Con) (each Dir) (each Acc) (each Bas) (each Rnk))

@@ -1,0 +1,74 @@
+-- Which request the arguments make: by the name of the command, and by the values that were found for each argument.
+use Rattle.std.specs.Prelude.{◌≡◌, ◌⊎◌, ◌++◌, ℕ, Bool, true, false, [], map, Option, Some, None, option_map, unwrap_or, codes}
+use Rattle.std.specs.Str.Parse.{digits_value, without_leading_plus}
+use Rattle.std.specs.Borrow.{Bor}
+use Rattle.clap.specs.Matches.{first_value, matched_of, one_text, raw_values}
+use Rattle.clap.specs.Walk.{Text}
+use Rattle.clap.specs.declared.parser.matches.Found.{Found}
+use Rattle.drain_args.specs.declared.requests.CheckArgs.{CheckArgs}
+use Rattle.drain_args.specs.declared.requests.MakeArgs.{MakeArgs}
+use Rattle.drain_args.specs.declared.requests.Request.{Request}
+use Rattle.drain_args.specs.declared.requests.Request.TheVariants.{Audit, Check, Derive, Explain, Make, Fill, Header}
+use Rattle.drain_args.specs.declared.commands.TheConstants.{DEFAULT_SIDE}
+use Rattle.drain_parts.specs.declared.given.Given.{Given}
+use Rattle.drain_parts.specs.declared.given.Given.TheVariants.{Con, ConDir, ConDirAcc, ConDirBas}
+
+-- a flag is set exactly if it is there: its value is then true
+abbrev pub IsFlag : Text → Found → Bool → Type 0
+IsFlag name f set =
+    (one_text f name ≡ Some (codes "true") → set ≡ true)
+    × ((one_text f name ≡ Some (codes "false") → set ≡ false) × (one_text f name ≡ None → set ≡ false))
+
+-- the side is the number that was given, or the default
+abbrev pub IsSideOption : Found → ℕ → Type 0
+IsSideOption f side =
+    (one_text f (codes "side") ≡ None → side ≡ DEFAULT_SIDE)
+    × ((t : Text) → one_text f (codes "side") ≡ Some t → (side ≡ digits_value 10 (without_leading_plus t)) ⊎ (side ≡ DEFAULT_SIDE))
+
+-- the inputs to be checked are those of the options and of the arguments without one
+pub record IsCheckArgs (f : Found) (args : CheckArgs) : Type 0 where
+  pub side : IsSideOption f args.side
+  pub products : args.products.now ≡ unwrap_or (first_value f (codes "products")) []
+  pub sinks : option_map (λ path. path.now) args.sinks ≡ first_value f (codes "sinks")
+  pub tiles : map (λ path. path.now) args.tiles.items ≡ unwrap_or (option_map raw_values (matched_of f (codes "tiles"))) []
+  pub progress : IsFlag (codes "progress") f args.progress
+
+-- what products are made of, and the folder for them, are those of the options and of the arguments without one
+pub record IsMakeArgs (f : Found) (args : MakeArgs) : Type 0 where
+  pub side : IsSideOption f args.side
+  pub out : args.out.now ≡ unwrap_or (first_value f (codes "out")) []
+  pub sinks : option_map (λ path. path.now) args.sinks ≡ first_value f (codes "sinks")
+  pub tiles : map (λ path. path.now) args.tiles.items ≡ unwrap_or (option_map raw_values (matched_of f (codes "tiles"))) []
+  pub progress : IsFlag (codes "progress") f args.progress
+
+abbrev pub map_ending : Text
+map_ending = codes ".bil"
+
+-- the map is in the files whose name is given with .bil behind it
+abbrev pub IsMap : Found → Option (Bor Text) → Type 0
+IsMap f None = first_value f (codes "map") ≡ None
+IsMap f (Some stem) = first_value f (codes "map") ≡ Some (stem.now ++ map_ending)
+
+-- the list of rasters as it is written
+abbrev pub list_text : Given → Text
+list_text Con = codes "con"
+list_text ConDir = codes "con,dir"
+list_text ConDirAcc = codes "con,dir,acc"
+list_text ConDirBas = codes "con,dir,bas"
+
+-- the rasters are those of the list that is given; without one, or with all four in it, they are all four
+abbrev pub IsOnlyOption : Found → Option Given → Type 0
+IsOnlyOption f None = (first_value f (codes "only") ≡ None) ⊎ (first_value f (codes "only") ≡ Some (codes "con,dir,acc,bas"))
+IsOnlyOption f (Some given) = first_value f (codes "only") ≡ Some (list_text given)
+
+-- the name of a command, and the values of its arguments, make this request
+abbrev pub IsRequestOf : Text → Found → Request → Type 0
+IsRequestOf name f (Audit args) = (name ≡ codes "audit") × (IsCheckArgs f args.inputs × IsOnlyOption f args.only)
+IsRequestOf name f (Check args) = (name ≡ codes "check") × IsCheckArgs f args
+IsRequestOf name f (Explain args) =
+    (name ≡ codes "explain") × (IsCheckArgs f args.inputs × (IsOnlyOption f args.only × (IsMap f args.map × IsFlag (codes "json") f args.json)))
+IsRequestOf name f (Make args) = (name ≡ codes "make") × IsMakeArgs f args
+IsRequestOf name f (Derive args) =
+    (name ≡ codes "derive") × (IsCheckArgs f args.inputs × (args.out.now ≡ unwrap_or (first_value f (codes "out")) []))
+IsRequestOf name f (Fill side) = (name ≡ codes "fill") × IsSideOption f side
+IsRequestOf name f (Header path) = (name ≡ codes "header") × (path.now ≡ unwrap_or (first_value f (codes "file")) [])

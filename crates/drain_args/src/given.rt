@@ -1,0 +1,53 @@
+//! The values of a command's arguments, as `clap` found them: by the names of the arguments.
+
+ghost use Rattle.std.specs.Prelude.{◌≡◌, [], IfOk, codes, map, option_map, unwrap_or};
+ghost use Rattle.clap.specs.Matches.{first_value, found_of, matched_of, raw_values};
+ghost use Rattle.drain_args.specs.Requests.{IsFlag, IsSideOption};
+
+use crate::commands::DEFAULT_SIDE;
+use clap::ArgMatches;
+use std::alloc::{AllocError, Global};
+
+/// The value of a required argument; empty if it isn't there.
+pub fn text_given<'a>(given: &ArgMatches<'a>, name: &str) -> &'a str
+    ensures { result.now ≡ unwrap_or (first_value (found_of given.now) name.now) [] }
+{
+    match given.get_str(name) {
+        Some(text) => text,
+        None => "",
+    }
+}
+
+/// The value of an argument that may be absent.
+pub fn option_given<'a>(given: &ArgMatches<'a>, name: &str) -> Option<&'a str>
+    ensures { option_map (λ text. text.now) result ≡ first_value (found_of given.now) name.now }
+{
+    given.get_str(name)
+}
+
+/// Whether a flag is there.
+pub fn flag_given(given: &ArgMatches<'_>, name: &str) -> bool
+    ensures { IsFlag name.now (found_of given.now) result }
+{
+    given.get_flag(name)
+}
+
+/// The paths of the tiles, in the order given.
+pub fn tiles_given<'a>(alloc: Global, given: &ArgMatches<'a>) -> Result<Vec<&'a str>, AllocError>
+    ensures { IfOk result (λ tiles. map (λ tile. tile.now) tiles.items ≡ unwrap_or (option_map raw_values (matched_of (found_of given.now) (codes "tiles"))) []) }
+{
+    match given.get_strs("tiles") {
+        Some(tiles) => Vec::from_slice(alloc, tiles),
+        None => Ok(Vec::new(alloc)),
+    }
+}
+
+/// The requested side, or the default.
+pub fn side_given(given: &ArgMatches<'_>) -> u32
+    ensures { IsSideOption (found_of given.now) result }
+{
+    match given.get_one::<u32>("side") {
+        Some(side) => side,
+        None => DEFAULT_SIDE,
+    }
+}

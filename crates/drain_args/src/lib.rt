@@ -1,0 +1,10 @@
+//! The command line: what each command takes, its help texts, and the request that the arguments make.
+#![tactic(auto)]
+
+pub mod clusters;
+pub(crate) mod commands;
+pub mod explain_texts;
+pub mod form;
+pub mod given;
+pub mod help_texts;
+pub mod requests;

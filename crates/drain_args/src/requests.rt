@@ -1,0 +1,260 @@
+//! The command-line arguments: which command is required.
+
+ghost use Rattle.std.specs.Prelude.{◌≡◌, ◌++◌, IfOk, IfSome, codes};
+ghost use Rattle.clap.specs.Matches.{found_of};
+ghost use Rattle.drain_args.specs.Requests.{IsCheckArgs, IsMakeArgs, IsMap, IsOnlyOption, IsRequestOf, map_ending};
+
+use crate::clusters::first_cluster;
+use crate::commands::{AUDIT, CommandSpec, EXPLAIN, command, program};
+use crate::given::{flag_given, option_given, side_given, text_given, tiles_given};
+use crate::{explain_texts, help_texts};
+use clap::error::ErrorKind;
+use clap::{ArgMatches, Error};
+use drain_parts::Given;
+use std::alloc::{AllocError, Global};
+
+/// The request of the arguments.
+#[derive(Drop)]
+pub enum Request<'a> {
+    /// `drain audit`: check the four products in this folder, or some of them alone, without ranks.
+    Audit(AuditArgs<'a>),
+    /// `drain check`: check the five products in this folder.
+    Check(CheckArgs<'a>),
+    /// `drain explain`: report what is wrong with the products in this folder, where, and how much of it.
+    Explain(ExplainArgs<'a>),
+    /// `drain make`: make products of tiles, and write them into this folder.
+    Make(MakeArgs<'a>),
+    /// `drain derive`: compute accumulation, labels and ranks of the directions in this folder, and write them into
+    /// another.
+    Derive(DeriveArgs<'a>),
+    /// `drain fill`: check a conditioned surface from standard input.
+    Fill { side: u32 },
+    /// `drain header`: print the header file at this path.
+    Header { path: &'a str },
+}
+
+/// The inputs to be checked: the products in this folder, the tiles at these paths, the list of sinks at this path; and
+/// whether progress is reported.
+#[derive(Drop)]
+pub struct CheckArgs<'a> {
+    pub side: u32,
+    pub products: &'a str,
+    pub sinks: Option<&'a str>,
+    pub tiles: Vec<&'a str>,
+    pub progress: bool,
+}
+
+/// What is to be audited: all four products, or these alone.
+#[derive(Drop)]
+pub struct AuditArgs<'a> {
+    pub inputs: CheckArgs<'a>,
+    pub only: Option<Given>,
+}
+
+/// What products are made of, the tiles at these paths and the list of sinks at this path; the folder for them; and
+/// whether progress is reported.
+#[derive(Drop)]
+pub struct MakeArgs<'a> {
+    pub side: u32,
+    pub out: &'a str,
+    pub sinks: Option<&'a str>,
+    pub tiles: Vec<&'a str>,
+    pub progress: bool,
+}
+
+/// What is to be derived from, and the folder for it.
+#[derive(Drop)]
+pub struct DeriveArgs<'a> {
+    pub inputs: CheckArgs<'a>,
+    pub out: &'a str,
+}
+
+/// What is to be explained, as a text or as JSON; and the path of a map of the faults, without `.bil`.
+#[derive(Drop)]
+pub struct ExplainArgs<'a> {
+    pub inputs: CheckArgs<'a>,
+    pub only: Option<Given>,
+    pub map: Option<&'a str>,
+    pub json: bool,
+}
+
+/// The request of the arguments. The first argument is the program's own name.
+///
+/// Help and the version come as an error of their kind, as in `clap`, and so does a usage error. An argument such as
+/// `-h.hgt` is one: `clap` would take it for `-h`.
+pub fn parse<'a>(alloc: Global, args: &'a [String]) -> Result<Request<'a>, Error> {
+    if let Some(word) = first_cluster(args.get(1..).unwrap_or(&[])) {
+        return Err(bad_cluster(alloc, word)?);
+    }
+    let matches = program(alloc)?.try_get_matches_from(args)?;
+    match matches.subcommand() {
+        Some((name, given)) => request_of(alloc, name, given),
+        None => Err(no_command(alloc)?),
+    }
+}
+
+/// The usage error for an argument of several letters behind one hyphen.
+fn bad_cluster(alloc: Global, word: &str) -> Result<Error, AllocError> {
+    let message = format!(in alloc;
+        "{word:?} is no option; for a file write ./ before its name, or -- before all files"
+    )?;
+    let mut program = program(alloc)?;
+    program.error(ErrorKind::UnknownArgument, message.as_str())
+}
+
+/// The usage error where no command of the program is named.
+fn no_command(alloc: Global) -> Result<Error, AllocError> {
+    let mut program = program(alloc)?;
+    program.error(ErrorKind::MissingSubcommand, "a command is required")
+}
+
+/// The request of the command of this name, with these values of its arguments.
+///
+/// A map whose name doesn't end in `.bil` is a usage error, and so is a name that is no command's.
+pub fn request_of<'a>(
+    alloc: Global,
+    name: &str,
+    given: &ArgMatches<'a>,
+) -> Result<Request<'a>, Error>
+    ensures { IfOk result (IsRequestOf name.now (found_of given.now)) }
+{
+    match name {
+        "audit" => audit_request(alloc, given),
+        "check" => Ok(Request::Check(check_args(alloc, given)?)),
+        "explain" => explain_request(alloc, given),
+        "make" => Ok(Request::Make(make_args(alloc, given)?)),
+        "derive" => Ok(derive_request(alloc, given)?),
+        "fill" => Ok(Request::Fill {
+            side: side_given(given),
+        }),
+        "header" => Ok(Request::Header {
+            path: text_given(given, "file"),
+        }),
+        _ => Err(no_command(alloc)?),
+    }
+}
+
+/// The inputs to be checked.
+fn check_args<'a>(alloc: Global, given: &ArgMatches<'a>) -> Result<CheckArgs<'a>, AllocError>
+    ensures { IfOk result (IsCheckArgs (found_of given.now)) }
+{
+    let tiles = tiles_given(alloc, given)?;
+    Ok(CheckArgs {
+        side: side_given(given),
+        products: text_given(given, "products"),
+        sinks: option_given(given, "sinks"),
+        tiles,
+        progress: flag_given(given, "progress"),
+    })
+}
+
+/// What is to be audited.
+fn audit_request<'a>(alloc: Global, given: &ArgMatches<'a>) -> Result<Request<'a>, Error>
+    ensures { IfOk result (IsRequestOf (codes "audit") (found_of given.now)) }
+{
+    let Ok(only) = only_given(given) else {
+        return Err(bad_value(alloc, &AUDIT, help_texts::BAD_LIST)?);
+    };
+    let inputs = check_args(alloc, given)?;
+    Ok(Request::Audit(AuditArgs { inputs, only }))
+}
+
+/// The list of rasters is another one.
+#[derive(Clone, Copy)]
+struct OtherList;
+
+/// Which rasters are audited alone, none for all four.
+fn only_given(given: &ArgMatches<'_>) -> Result<Option<Given>, OtherList>
+    ensures { IfOk result (IsOnlyOption (found_of given.now)) }
+{
+    let Some(list) = option_given(given, "only") else {
+        return Ok(None);
+    };
+    match list {
+        "con" => Ok(Some(Given::Con)),
+        "con,dir" => Ok(Some(Given::ConDir)),
+        "con,dir,acc" => Ok(Some(Given::ConDirAcc)),
+        "con,dir,bas" => Ok(Some(Given::ConDirBas)),
+        "con,dir,acc,bas" => Ok(None),
+        _ => Err(OtherList),
+    }
+}
+
+/// The usage error for the value of an argument of this command.
+fn bad_value(
+    alloc: Global,
+    spec: &'static CommandSpec,
+    message: &'static str,
+) -> Result<Error, AllocError> {
+    let name = format!(in alloc; "drain {}", spec.name)?;
+    let mut command = command(alloc, spec)?.bin_name(name.as_str())?;
+    command.error(ErrorKind::ValueValidation, message)
+}
+
+/// What is to be explained.
+fn explain_request<'a>(alloc: Global, given: &ArgMatches<'a>) -> Result<Request<'a>, Error>
+    ensures { IfOk result (IsRequestOf (codes "explain") (found_of given.now)) }
+{
+    let Ok(map) = map_given(given) else {
+        return Err(bad_value(alloc, &EXPLAIN, explain_texts::BAD_MAP)?);
+    };
+    let Ok(only) = only_given(given) else {
+        return Err(bad_value(alloc, &EXPLAIN, help_texts::BAD_LIST)?);
+    };
+    let inputs = check_args(alloc, given)?;
+    Ok(Request::Explain(ExplainArgs {
+        inputs,
+        only,
+        map,
+        json: flag_given(given, "json"),
+    }))
+}
+
+/// The path of a map has another ending.
+#[derive(Clone, Copy)]
+struct OtherEnding;
+
+/// The path of a map, without `.bil`.
+fn map_given<'a>(given: &ArgMatches<'a>) -> Result<Option<&'a str>, OtherEnding>
+    ensures { IfOk result (IsMap (found_of given.now)) }
+{
+    let Some(path) = option_given(given, "map") else {
+        return Ok(None);
+    };
+    match map_stem(path) {
+        Some(stem) => Ok(Some(stem)),
+        None => Err(OtherEnding),
+    }
+}
+
+/// The part of a map's path before `.bil`, none if the path ends otherwise.
+pub fn map_stem(path: &str) -> Option<&str>
+    ensures { IfSome result (λ stem. path.now ≡ stem.now ++ map_ending) }
+{
+    path.strip_suffix(".bil")
+}
+
+/// What is to be made.
+fn make_args<'a>(alloc: Global, given: &ArgMatches<'a>) -> Result<MakeArgs<'a>, AllocError>
+    ensures { IfOk result (IsMakeArgs (found_of given.now)) }
+{
+    let tiles = tiles_given(alloc, given)?;
+    Ok(MakeArgs {
+        side: side_given(given),
+        out: text_given(given, "out"),
+        sinks: option_given(given, "sinks"),
+        tiles,
+        progress: flag_given(given, "progress"),
+    })
+}
+
+/// What is to be derived.
+fn derive_request<'a>(alloc: Global, given: &ArgMatches<'a>) -> Result<Request<'a>, AllocError>
+    ensures { IfOk result (IsRequestOf (codes "derive") (found_of given.now)) }
+{
+    let inputs = check_args(alloc, given)?;
+    Ok(Request::Derive(DeriveArgs {
+        inputs,
+        out: text_given(given, "out"),
+    }))
+}

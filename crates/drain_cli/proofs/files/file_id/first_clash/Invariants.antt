@@ -1,7 +1,0 @@
-use Rattle.std.proofs.Common.{ℕ, ◌<◌}
-use Rattle.drain_cli.specs.FileIds.{Clashes}
-use Rattle.drain_cli.proofs.files.file_id.first_clash.Given as goal
-
--- no output so far clashes
-abbrev pub invariant-loop-k : goal.invariant-loop-k
-invariant-loop-k l = (k : ℕ) → k < l.k → ¬ Clashes l.fn.outputs l.fn.inputs k

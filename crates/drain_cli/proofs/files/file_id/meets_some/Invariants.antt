@@ -1,9 +1,0 @@
-use Rattle.std.proofs.Common.{◌≡◌, ℕ, ◌<◌, Some}
-use Rattle.std.specs.Prelude.{slice_get}
-use Rattle.drain_cli.specs.FileIds.{Meets}
-use Rattle.drain_cli.specs.declared.files.file_id.Target.{Target}
-use Rattle.drain_cli.proofs.files.file_id.meets_some.Given as goal
-
--- the output meets none of the others so far
-abbrev pub invariant-loop-other : goal.invariant-loop-other
-invariant-loop-other l = (k : ℕ) (other : Target) → k < l.other-index → slice_get l.fn.others k ≡ Some other → ¬ Meets l.fn.output other

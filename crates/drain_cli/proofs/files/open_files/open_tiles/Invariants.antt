@@ -1,9 +1,0 @@
-use Rattle.std.proofs.Common.{take}
-use Rattle.std.specs.List.{AllZip}
-use Rattle.drain_hgt.specs.Inputs.{names_of}
-use Rattle.drain_cli.specs.FilePaths.{IsLastPart}
-use Rattle.drain_cli.proofs.files.open_files.open_tiles.Given as goal
-
--- the tiles so far have the names of their paths
-abbrev pub invariant-loop-path : goal.invariant-loop-path
-invariant-loop-path l = AllZip (λ path name. IsLastPart path.now name) (take l.path-index l.fn.paths) (names_of l.tiles.items)

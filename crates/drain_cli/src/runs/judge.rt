@@ -1,0 +1,99 @@
+//! Runs of `drain check` and `drain audit`: rasters are judged against the tiles that they were made from, and the
+//! answer is printed.
+
+ghost use Rattle.std.specs.Prelude.{◌≡◌, Result};
+ghost use Rattle.drain_answer.specs.AuditLines.{audit_report_line};
+ghost use Rattle.drain_answer.specs.Lines.{report_line};
+ghost use Rattle.drain_answer.specs.declared.audit_verdict.AuditVerdict.{AuditVerdict};
+ghost use Rattle.drain_answer.specs.declared.refusal.Refusal.{Refusal};
+ghost use Rattle.drain_cli.specs.AnswerStatuses.{answer_status};
+ghost use Rattle.drain_cli.specs.JudgedRuns.{IsAuditOutcome, IsCheckOutcome, IsPartOutcome};
+ghost use Rattle.drain_page.specs.declared.facts.Answer.TheVariants.{Audit, Check, Part};
+ghost use Rattle.drain_part_audit.specs.PartAudits.{ArePartsRight};
+ghost use Rattle.drain_part_audit.specs.PartLines.{part_report_line};
+ghost use Rattle.drain_part_audit.specs.declared.part_verdict.PartVerdict.{PartVerdict};
+ghost use Rattle.drain_print.specs.Printing.{Prints};
+ghost use Rattle.drain_rules.specs.declared.verdict.Verdict.{Verdict};
+ghost use Rattle.drain_verdict.specs.Audits.{AreCorrect, ForAudit};
+ghost use Rattle.drain_verdict.specs.Headline.{ForCheck, IsRight};
+
+use crate::answer::print_answer;
+use drain_device::{ByteSink, ByteSource};
+use drain_hgt::TileInput;
+use drain_page::Answer;
+use drain_part_audit::audit_part;
+use drain_parts::Given;
+use drain_verdict::{AuditProducts, Products, audit, check};
+use std::alloc::Global;
+
+/// Checks products against their tiles, prints the line of the answer and returns the exit status.
+///
+/// `side` is the number of samples along an edge of each tile, and `sinks` a list of inland sinks, a line `ROW COL`
+/// each. Of a tile at most one byte past its end is read, and of a raster nothing past its last needed byte. The
+/// statuses: 0 accepted, 1 rejected, 2 refused, 3 if memory was refused (`failed OutOfMemory`), a source failed for
+/// good (`failed ReadFailed`), or the line couldn't be written.
+pub fn run_check<R: ByteSource, W: ByteSink>(
+    alloc: Global,
+    side: u32,
+    tiles: &mut [TileInput<R>],
+    sinks: &[u8],
+    products: &mut Products<R>,
+    out: &mut W,
+) -> u8
+    ensures run { (answer : Result Verdict Refusal)
+        × IsCheckOutcome R.ByteSource side tiles.old tiles.new sinks.now products.old products.new answer
+        × Prints W.ByteSink out.old out.new (report_line answer) (answer_status (Check answer)) result }
+
+    // A run ends with 0 only if the tiles agree and the products are correct.
+    ensures correct { result ≡ 0 → ForCheck R.bytes_left side tiles.old sinks.now products.old IsRight }
+{
+    let answer = check(alloc, side, tiles, sinks, products);
+    print_answer(out, &Answer::Check(answer))
+}
+
+/// Audits products against their tiles, prints the line of the answer and returns the exit status.
+///
+/// Arguments, reading and statuses are those of `run_check`.
+pub fn run_audit<R: ByteSource, W: ByteSink>(
+    alloc: Global,
+    side: u32,
+    tiles: &mut [TileInput<R>],
+    sinks: &[u8],
+    products: &mut AuditProducts<R>,
+    out: &mut W,
+) -> u8
+    ensures run { (answer : Result AuditVerdict Refusal)
+        × IsAuditOutcome R.ByteSource side tiles.old tiles.new sinks.now products.old products.new answer
+        × Prints W.ByteSink out.old out.new (audit_report_line answer) (answer_status (Audit answer)) result }
+
+    // A run ends with 0 only if the tiles agree and the products are correct, and with 1 only if the products aren't.
+    ensures correct { result ≡ 0 → ForAudit R.bytes_left side tiles.old sinks.now products.old IsRight }
+    ensures not_correct { result ≡ 1 → ForAudit R.bytes_left side tiles.old sinks.now products.old (λ inputs. ¬ AreCorrect inputs) }
+{
+    let answer = audit(alloc, side, tiles, sinks, products);
+    print_answer(out, &Answer::Audit(answer))
+}
+
+/// Audits the given rasters against their tiles, prints the line of the answer and returns the exit status.
+///
+/// Arguments, reading and statuses are those of `run_check`. Of a raster that isn't given no number matters.
+pub fn run_part_audit<R: ByteSource, W: ByteSink>(
+    alloc: Global,
+    side: u32,
+    tiles: &mut [TileInput<R>],
+    sinks: &[u8],
+    products: &mut AuditProducts<R>,
+    given: Given,
+    out: &mut W,
+) -> u8
+    ensures run { (answer : Result PartVerdict Refusal)
+        × IsPartOutcome R.ByteSource given side tiles.old tiles.new sinks.now products.old products.new answer
+        × Prints W.ByteSink out.old out.new (part_report_line answer) (answer_status (Part answer)) result }
+
+    // A run ends with 0 only if the given rasters are part of a correct set, and with 1 only if they aren't.
+    ensures correct { result ≡ 0 → ForAudit R.bytes_left side tiles.old sinks.now products.old (ArePartsRight given) }
+    ensures not_correct { result ≡ 1 → ForAudit R.bytes_left side tiles.old sinks.now products.old (λ inputs. ¬ ArePartsRight given inputs) }
+{
+    let answer = audit_part(alloc, side, tiles, sinks, products, given);
+    print_answer(out, &Answer::Part(answer))
+}

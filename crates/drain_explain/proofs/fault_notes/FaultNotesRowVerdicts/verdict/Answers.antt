@@ -1,6 +1,0 @@
-use Rattle.drain_explain.proofs.fault_notes.FaultNotesRowVerdicts.verdict.Goals as goal
-
-pub returns : goal.returns
-returns c = λ rules g ps extent are.
-    let walk = are.walk_is in
-    c.verdict.ensures rules g ps extent walk.rows_are walk.by_rule walk.counted

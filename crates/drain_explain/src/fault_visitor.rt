@@ -1,0 +1,92 @@
+//! The faults of a grid's rows, which also give the verdict.
+
+ghost use Rattle.std.specs.Prelude.{◌≡◌, ◌↔◌, IfOk, IsSome};
+ghost use Rattle.drain_grid.specs.Grid.{Grid, Products};
+ghost use Rattle.drain_kernel.specs.declared.rules.Rules.{Rules};
+ghost use Rattle.drain_explain.specs.FaultVisitor.{AreFaultNotes, IsWalkNoted};
+ghost use Rattle.drain_explain.specs.declared.fault_visitor.Mapping.TheVariants.{Drawn};
+
+use drain_faults::FaultWalk;
+use drain_grid::{NoData, OutOfMemory, Shape};
+use drain_rows::{RowBuffer, RowVisitor, VerdictVisitor};
+use drain_rules::{Ranks, Rules, ThreeRows, Verdict};
+use std::alloc::Global;
+
+/// Whether a map of the faults is required, which takes a byte for each cell.
+#[derive(Clone, Copy, PartialEq, Eq, Debug)]
+pub enum Mapping {
+    Drawn,
+    Undrawn,
+}
+
+/// The result of the rows so far, with their map if one is required; the rules checked at the last row.
+#[derive(Drop)]
+pub struct FaultVisitor {
+    pub walk: FaultWalk,
+    pub rules: Rules,
+}
+
+impl FaultVisitor {
+    /// No row. It takes a byte for each cell of the shape for a map, else no memory.
+    pub fn new(
+        alloc: Global,
+        shape: Shape,
+        mapping: Mapping,
+        ranks: Ranks,
+    ) -> Result<FaultVisitor, OutOfMemory>
+        ensures rows { IfOk result (λ notes. notes.walk.rows ≡ 0) }
+        ensures begun { IfOk result (λ notes. (rules : Rules) (g : Grid) (ps : Products) → AreFaultNotes rules g ps 0 notes) }
+        ensures drawn { IfOk result (λ notes. IsSome notes.walk.map ↔ (mapping ≡ Drawn)) }
+    {
+        let walk = new_walk(alloc, shape, mapping)?;
+        Ok(FaultVisitor {
+            walk,
+            rules: Rules {
+                nodata: NoData::defaults(),
+                ranks,
+            },
+        })
+    }
+}
+
+/// A walk that passed no row, which draws a map if one is required.
+fn new_walk(alloc: Global, shape: Shape, mapping: Mapping) -> Result<FaultWalk, OutOfMemory>
+    ensures rows { IfOk result (λ walk. walk.rows ≡ 0) }
+    ensures begun { IfOk result (λ walk. (rules : Rules) (g : Grid) (ps : Products) → IsWalkNoted rules g ps 0 walk) }
+    ensures drawn { IfOk result (λ walk. IsSome walk.map ↔ (mapping ≡ Drawn)) }
+{
+    match mapping {
+        Mapping::Drawn => Ok(FaultWalk::drawing(alloc, shape)?),
+        Mapping::Undrawn => Ok(FaultWalk::new(alloc)),
+    }
+}
+
+impl RowVisitor for FaultVisitor {
+    ghost use Rattle.std.specs.Prelude.{◌≡◌, is_some};
+    ghost use Rattle.drain_explain.specs.FaultVisitor.{AreFaultNotes};
+
+    ghost counts = { λ n notes. notes.walk.rows ≡ n };
+
+    ghost are_of = { AreFaultNotes };
+
+    ghost wants = { λ rules g ps. Unit {0} };
+
+    ghost lasting = { λ notes. is_some notes.walk.map };
+
+    fn note(
+        &mut self,
+        _row: &RowBuffer,
+        rows: &ThreeRows<'_>,
+        rules: &Rules,
+    ) -> Result<(), OutOfMemory> {
+        self.walk.note_row(rows, rules)?;
+        self.rules = *rules;
+        Ok(())
+    }
+}
+
+impl VerdictVisitor for FaultVisitor {
+    fn verdict(&self, shape: Shape) -> Verdict {
+        self.walk.verdict(shape)
+    }
+}

@@ -1,0 +1,76 @@
+//! What the rules say of every cell of a mosaic, and which rules and products were looked at.
+
+ghost use Rattle.std.specs.Prelude.{◌≡◌, IsTrue};
+ghost use Rattle.drain_grid.specs.declared.patch.Patch.{Patch};
+ghost use Rattle.drain_explain.specs.Findings.{judged, looks_at, rules_of};
+
+use drain_faults::{FaultMap, FaultyPatch, PerRule, ProductFaults, RuleFaults};
+use drain_grid::{Cell, PerProduct, Rule, SetProduct};
+use drain_mosaic::Layout;
+use drain_parts::Given;
+use drain_paths::EndlessPath;
+use drain_rules::{Ranks, Rules};
+
+/// What every cell of a mosaic showed.
+#[derive(Drop)]
+pub struct Findings {
+    /// The mosaic.
+    pub layout: Layout,
+    /// The rules that were checked: with ranks or without, and the no-data numbers.
+    pub rules: Rules,
+    /// The rasters that were looked at alone; none if all were.
+    pub only: Option<Given>,
+    /// For each rule the number of cells at which it fails, and the first.
+    pub by_rule: PerRule<RuleFaults>,
+    /// For each product the number of cells at which it breaks rule VoidCell or Missing, and the first.
+    pub by_product: PerProduct<ProductFaults>,
+    /// The first cell at which any rule fails, and what it shows.
+    pub first: Option<FaultyPatch>,
+    /// With a map, a number for each cell in row order: that of the least rule that fails there; 0 if none does, and
+    /// 255 at a void.
+    pub map: Option<FaultMap>,
+    /// Of an audit, the first data cell whose path doesn't end, and where its path leads.
+    pub endless: Option<(Cell, EndlessPath)>,
+}
+
+impl Findings {
+    /// Whether the rules looked at this product.
+    pub fn looks_at(&self, product: SetProduct) -> bool
+        ensures { result ≡ looks_at self.now product }
+    {
+        match (self.only, product) {
+            (Some(given), product) => given.has(product),
+            (None, SetProduct::Rnk) => self.rules.ranks == Ranks::Checked,
+            (None, _) => true,
+        }
+    }
+
+    /// Whether the rule was tried: not if it judges a product that wasn't looked at, or none of a set.
+    pub fn tries(&self, rule: Rule) -> bool
+        // A rule from VoidCell to Label that wasn't tried is none of those that were checked: it requires nothing.
+        ensures untried { ¬ IsTrue result → (p : Patch) → rules_of self.now p rule }
+    {
+        match rule {
+            Rule::VoidCell | Rule::Missing => true,
+            _ => match judged_product(rule) {
+                Some(product) => self.looks_at(product),
+                None => false,
+            },
+        }
+    }
+}
+
+/// The product whose number the rule judges. None of VoidCell and Missing, which judge each, and of the rules on spill
+/// parents, which no set holds.
+pub fn judged_product(rule: Rule) -> Option<SetProduct>
+    ensures { result ≡ judged rule }
+{
+    match rule {
+        Rule::VoidCell | Rule::Missing => None,
+        Rule::NoSpill | Rule::SpillHeight | Rule::SpillRank => None,
+        Rule::BelowGround | Rule::OpenRaised | Rule::NotLeast => Some(SetProduct::Con),
+        Rule::BadCode | Rule::Slope | Rule::OutletCode | Rule::FlatStep => Some(SetProduct::Dir),
+        Rule::Accumulation => Some(SetProduct::Acc),
+        Rule::Label | Rule::SharedLabel => Some(SetProduct::Bas),
+    }
+}

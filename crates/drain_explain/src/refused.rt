@@ -1,0 +1,177 @@
+//! What was expected and found in refused inputs: from the inputs as they were handed in, and a second look at files for
+//! their lengths and the heights at a seam.
+
+ghost use Rattle.std.specs.Prelude.{◌≡◌, IfSome};
+ghost use Rattle.drain_explain.specs.RefusalDetails.{IsDetailOf, IsNameDetail, IsPositionDetail, IsRasterLengthDetail, IsShapeDetail, IsTileLengthDetail, place_for, text_given};
+ghost use Rattle.drain_grid.specs.PerProduct.{of_product};
+ghost use Rattle.drain_hgt.specs.Inputs.{names_of};
+ghost use Rattle.drain_verdict.specs.Stages.{IsLayoutOf};
+
+use crate::refusal_detail::{Extent, RefusalDetail};
+use crate::seam_detail::seam_detail;
+use crate::second_look::SecondLook;
+use crate::sink_detail::{sink_cell_detail, sink_line_detail};
+use drain_answer::Refusal;
+use drain_grid::{PerProduct, Product};
+use drain_header::{Place, parse_header};
+use drain_hgt::tile::tile_length;
+use drain_hgt::{TileInput, TileName};
+use drain_mosaic::Layout;
+use drain_raster::needed_len;
+use drain_verdict::layout::layout_of;
+use std::alloc::Global;
+
+/// The details of a refusal beyond its line, of these inputs. None if there are none, memory runs out, or a file can't be
+/// looked at again.
+pub fn detail_of<R, L: SecondLook>(
+    alloc: Global,
+    refusal: Refusal,
+    side: u32,
+    tiles: &[TileInput<R>],
+    headers: &PerProduct<&[u8]>,
+    sinks: &[u8],
+    look: &mut L,
+) -> Option<RefusalDetail>
+    ensures { IfSome result (IsDetailOf side (names_of tiles.now) (λ p. (of_product headers.now p).now) sinks.now refusal) }
+{
+    match refusal {
+        Refusal::BadSide => Some(RefusalDetail::Side(side)),
+        Refusal::BadName(place) => name_detail(alloc, tiles, place),
+        Refusal::RasterShort(product) => {
+            raster_length_detail(product, text_of(headers, product), look)
+        }
+        Refusal::BadSinkLine(number) => sink_line_detail(alloc, sinks, number),
+        Refusal::WrongShape(product) => {
+            shape_detail(
+                &mosaic(alloc, side, tiles)?,
+                product,
+                text_of(headers, product),
+            )
+        }
+        Refusal::Misplaced(product) => {
+            position_detail(
+                &mosaic(alloc, side, tiles)?,
+                product,
+                text_of(headers, product),
+            )
+        }
+        Refusal::BadTileLength(tile) => {
+            tile_length_detail(&mosaic(alloc, side, tiles)?, tile, look)
+        }
+        Refusal::SeamMismatch(cell) => seam_detail(&mosaic(alloc, side, tiles)?, cell, look),
+        Refusal::SinkNotData(number) => {
+            sink_cell_detail(&mosaic(alloc, side, tiles)?, sinks, number)
+        }
+        _ => None,
+    }
+}
+
+/// The mosaic of the tiles.
+fn mosaic<R>(alloc: Global, side: u32, tiles: &[TileInput<R>]) -> Option<Layout>
+    ensures { IfSome result (IsLayoutOf side (names_of tiles.now)) }
+{
+    layout_of(alloc, side, tiles).ok()
+}
+
+/// The product's header as it was handed in, empty for one that no set has.
+fn text_of<'a>(headers: &PerProduct<&'a [u8]>, product: Product) -> &'a [u8]
+    ensures { result.now ≡ text_given (λ p. (of_product headers.now p).now) product }
+{
+    match product {
+        Product::Con => headers.con,
+        Product::Dir => headers.dir,
+        Product::Acc => headers.acc,
+        Product::Bas => headers.bas,
+        Product::Rnk => headers.rnk,
+        Product::Spl => &[],
+    }
+}
+
+/// The name in this place, as it was given.
+fn name_detail<R>(alloc: Global, tiles: &[TileInput<R>], place: usize) -> Option<RefusalDetail>
+    ensures { IfSome result (IsNameDetail (names_of tiles.now) place) }
+{
+    let tile = tiles.get(place)?;
+    let name = Vec::from_slice(alloc, tile.name.as_slice()).ok()?;
+    Some(RefusalDetail::Name(name))
+}
+
+/// The rows and columns of the mosaic, and those of the product's header.
+fn shape_detail(layout: &Layout, product: Product, text: &[u8]) -> Option<RefusalDetail>
+    ensures { IfSome result (IsShapeDetail layout.now product text.now) }
+{
+    let header = parse_header(text).ok()?;
+    let shape = layout.shape();
+    Some(RefusalDetail::Shape {
+        product,
+        expected: Extent {
+            rows: shape.rows(),
+            cols: shape.cols(),
+        },
+        found: Extent {
+            rows: header.rows,
+            cols: header.cols,
+        },
+    })
+}
+
+/// The place of the mosaic, and that of the product's header.
+fn position_detail(layout: &Layout, product: Product, text: &[u8]) -> Option<RefusalDetail>
+    ensures { IfSome result (IsPositionDetail layout.now product text.now) }
+{
+    let header = parse_header(text).ok()?;
+    Some(RefusalDetail::Position {
+        product,
+        expected: place_for(layout),
+        found: header.place,
+    })
+}
+
+/// The place that a raster of the mosaic has.
+fn place_for(layout: &Layout) -> Place
+    ensures { result ≡ place_for layout.now }
+{
+    let spacing = layout.spacing();
+    Place {
+        ulx: layout.west_edge(),
+        uly: layout.north_edge(),
+        xdim: spacing,
+        ydim: spacing,
+    }
+}
+
+/// The bytes that a tile has, and those of the file.
+fn tile_length_detail<L: SecondLook>(
+    layout: &Layout,
+    tile: TileName,
+    look: &mut L,
+) -> Option<RefusalDetail>
+    ensures { IfSome result (IsTileLengthDetail layout.now tile) }
+{
+    for place in 0..layout.len() {
+        if layout.name(place) == tile {
+            return Some(RefusalDetail::TileLength {
+                tile,
+                expected: tile_length(layout.side()) as u64,
+                found: look.tile_length(place)?,
+            });
+        }
+    }
+    None
+}
+
+/// The bytes that a raster needs by its header, and those of the file.
+fn raster_length_detail<L: SecondLook>(
+    product: Product,
+    text: &[u8],
+    look: &mut L,
+) -> Option<RefusalDetail>
+    ensures { IfSome result (IsRasterLengthDetail product text.now) }
+{
+    let header = parse_header(text).ok()?;
+    Some(RefusalDetail::RasterLength {
+        product,
+        expected: needed_len(&header) as u64,
+        found: look.raster_length(product)?,
+    })
+}

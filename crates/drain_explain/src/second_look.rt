@@ -1,0 +1,15 @@
+//! What details of a refusal need besides the inputs that were handed in: a second look at files.
+
+use drain_grid::Product;
+
+/// A second look at the files of inputs. It gives nothing if a file can't be looked at again.
+pub trait SecondLook {
+    /// How many bytes the tile in this place of the list has.
+    fn tile_length(&mut self, place: usize) -> Option<u64>;
+
+    /// How many bytes the product's raster has.
+    fn raster_length(&mut self, product: Product) -> Option<u64>;
+
+    /// The sample that begins at this byte of the tile in this place of the list.
+    fn sample(&mut self, place: usize, start: u64) -> Option<i16>;
+}

@@ -1,0 +1,3 @@
+pub mod ClashLemmas
+pub mod PathLemmas
+pub mod TileNames

@@ -1,0 +1,8 @@
+use Rattle.std.proofs.Common.{◌≡◌, ℕ, ◌<◌, Some}
+use Rattle.std.specs.Prelude.{slice_get}
+use Rattle.drain_files.specs.declared.file_id.FileId.{FileId}
+use Rattle.drain_files.proofs.file_id.is_among.Given as goal
+
+-- no input so far is the file
+abbrev pub invariant-loop-input : goal.invariant-loop-input
+invariant-loop-input l = (k : ℕ) (input : FileId) → k < l.input-index → slice_get l.fn.inputs k ≡ Some input → ¬ (l.fn.id ≡ input)

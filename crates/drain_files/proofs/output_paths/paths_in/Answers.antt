@@ -1,0 +1,16 @@
+use Rattle.std.proofs.Common.{◌≡◌, ◌++◌, ◌∷◌, [], string_bytes, take, rules}
+use Rattle.std.proofs.lemmas.List.{take_more}
+use Rattle.drain_grid.specs.declared.set_product.SetProduct.TheVariants.{Con}
+use Rattle.drain_maker.specs.declared.product_files.Part.TheVariants.{Header}
+use Rattle.drain_files.specs.FilePaths.{IsPathOf}
+use Rattle.drain_files.proofs.TileNames.{AllZip-more}
+use Rattle.drain_files.proofs.output_paths.paths_in.Goals as goal
+
+pub loop-file-preserved : goal.loop-file-preserved
+loop-file-preserved c =
+    let pushed : c.push.new.self.items ≡ c.loop-file.paths.items ++ c.in_ok-path_of.field-0 ∷ [] = search rules in (
+      search rules,
+      rw (pushed, take_more c.args.files.now c.loop-file.file-index (record { product = Con; part = Header }) c.loop-file-test.true)
+          (AllZip-more (λ file path. IsPathOf c.args.folder.now file (string_bytes path)) (take c.loop-file.file-index c.args.files.now) c.loop-file.paths.items _ c.in_ok-path_of.field-0
+          c.loop-file.invariant.1 c.in_ok-path_of.ensures),
+    )

@@ -1,0 +1,20 @@
+use Rattle.std.proofs.Common.{◌-◌, ◌≤◌, vec_len}
+use Rattle.std.specs.Io.KnownBytes.{Consumes}
+use Rattle.drain_device.specs.Counts.{Answered}
+use Rattle.drain_device.specs.Patience.{full_patience}
+use Rattle.drain_files.proofs.whole_input.read_whole.Given as goal
+
+-- the body holds what came, and there were only interruptions, all of them counted
+abbrev pub invariant-chunks : goal.invariant-chunks
+invariant-chunks g l =
+    let bytes_left = g.R.ByteSource.bytes_left in
+    let counts = g.R.ByteSource.counts in
+    record {
+      within : vec_len l.body ≤ l.limit;
+      came : Consumes (bytes_left l.fn.from) (bytes_left l.from) l.body.items;
+      fewer : l.patience ≤ full_patience;
+      answered : Answered (counts l.fn.from) (counts l.from) 0 (full_patience - l.patience);
+    }
+
+abbrev pub decreases-chunks : goal.decreases-chunks
+decreases-chunks g l = l.limit - vec_len l.body

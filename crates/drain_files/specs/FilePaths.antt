@@ -1,0 +1,49 @@
+-- The paths of products' files, and the name in a tile's path.
+use Rattle.std.specs.Prelude.{◌≡◌, ◌≢◌, ◌⊎◌, ◌==◌, ℕ, List, [], ◌∷◌, ◌++◌, codes, decimal, if◌then◌else◌}
+use Rattle.std.specs.List.{All, ends_with}
+use Rattle.drain_grid.specs.declared.product.Product.{Product}
+use Rattle.drain_grid.specs.declared.product.Product.TheVariants.{Con, Dir, Acc, Bas, Rnk}
+use Rattle.drain_grid.specs.Product.{product_name}
+use Rattle.drain_grid.specs.SetProduct.{product_of}
+use Rattle.drain_maker.specs.declared.product_files.Part.{Part}
+use Rattle.drain_maker.specs.declared.product_files.Part.TheVariants.{Header, Raster}
+use Rattle.drain_maker.specs.declared.product_files.SetFile.{SetFile}
+
+abbrev pub slash : ℕ
+slash = 47
+
+-- what separates the path of a folder from the name of a file in it: a slash, or nothing after a slash
+abbrev pub separator : List ℕ → List ℕ
+separator folder = if ends_with (λ a b. a == b) folder (slash ∷ []) then [] else slash ∷ []
+
+-- the path of a product's file with this ending, as DIR/con.hdr
+abbrev pub product_path : List ℕ → Product → List ℕ → List ℕ
+product_path folder product ending = folder ++ separator folder ++ product_name product ++ ending
+
+abbrev pub header_ending : List ℕ
+header_ending = codes ".hdr"
+
+abbrev pub raster_ending : List ℕ
+raster_ending = codes ".bil"
+
+-- the ending of a file's name, by what of a product it holds
+abbrev pub ending_of : Part → List ℕ
+ending_of Header = header_ending
+ending_of Raster = raster_ending
+
+-- the name is the whole path, or follows the path's last slash
+pub record IsLastPart (path name : List ℕ) : Type 0 where
+  pub ends : (path ≡ name) ⊎ ((folder : List ℕ) × (path ≡ folder ++ slash ∷ name))
+  pub has_no_slash : All (λ byte. byte ≢ slash) name
+
+-- the path of a file of a product set in this folder
+abbrev pub IsPathOf : List ℕ → SetFile → List ℕ → Type 0
+IsPathOf folder file path = path ≡ product_path folder (product_of file.product) (ending_of file.part)
+
+-- the name of an output that isn't whole yet, as drain-1.part
+abbrev pub part_name : ℕ → List ℕ
+part_name number = codes "drain-" ++ decimal number ++ codes ".part"
+
+-- the name of a product that a check reads
+abbrev pub IsProductName : List ℕ → Type 0
+IsProductName name = (name ≡ product_name Con) ⊎ ((name ≡ product_name Dir) ⊎ ((name ≡ product_name Acc) ⊎ ((name ≡ product_name Bas) ⊎ (name ≡ product_name Rnk))))

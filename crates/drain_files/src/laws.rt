@@ -1,0 +1,15 @@
+//! A law on the constants.
+//!
+//! A law is a function with an empty body: its contract is the law, and a caller gets the law by calling it.
+
+ghost use Rattle.std.specs.Prelude.{◌≡◌};
+
+use crate::sink_file::MAX_LIST_BYTES;
+use crate::whole_input::CHUNK_BYTES;
+
+/// The numerals of the constants in definitions: a list of sinks has at most 2^32 bytes and is read by 16,384 of them.
+/// This project's own.
+pub fn constants()
+    ensures max_list_bytes { MAX_LIST_BYTES ≡ 4294967296 }
+    ensures chunk_bytes { CHUNK_BYTES ≡ 16384 }
+{}

@@ -1,0 +1,195 @@
+//! Opening files to read, tiles and a list of sinks among them, and creating files to write.
+
+ghost use Rattle.std.specs.Prelude.{◌≡◌, IfOk, length, vec_len};
+ghost use Rattle.std.specs.List.{AllZip};
+ghost use Rattle.drain_hgt.specs.Inputs.{names_of};
+ghost use Rattle.drain_files.specs.FilePaths.{IsLastPart};
+ghost use Rattle.drain_maker.specs.declared.product_files.TheConstants.{FILE_COUNT};
+
+use crate::file_id::FileId;
+use crate::file_paths::tile_name;
+use crate::outputs::{OutputSink, Outputs};
+use crate::reason::Reason;
+use crate::sink_file::read_list;
+use drain_device::{BodyFault, ByteList, Reader, Writer};
+use drain_hgt::TileInput;
+use drain_maker::product_files::{Part, SET_FILES, SetFile};
+use drain_mosaic::Layout;
+use drain_parts::MaybeSource;
+use drain_progress::counted_device::CountedDevice;
+use drain_progress::progress::Progress;
+use drain_progress::rows::written_rows;
+use std::alloc::{AllocError, Global};
+use std::fs::File;
+use std::io;
+use std::io::ErrorKind;
+
+/// A file to read, or zeros in place of a missing raster, and a file to write; rows of each may be counted.
+pub type InputFile<'a> = CountedDevice<'a, MaybeSource<Reader<File>>>;
+
+pub type OutputFile<'g, 'a> = CountedDevice<'g, Writer<OutputSink<'a>>>;
+
+/// Opens files to read, and keeps which plain files these are.
+#[derive(Drop)]
+pub struct Opener<'a> {
+    rt: &'a HostRuntime,
+    ids: Vec<FileId>,
+}
+
+impl<'a> Opener<'a> {
+    pub fn new(rt: &'a HostRuntime) -> Opener<'a> {
+        Opener {
+            rt,
+            ids: Vec::new(rt.alloc()),
+        }
+    }
+
+    pub fn rt(&self) -> &'a HostRuntime {
+        self.rt
+    }
+
+    /// Where its memory comes from.
+    pub fn alloc(&self) -> Global {
+        self.rt.alloc()
+    }
+
+    /// The plain files that were opened.
+    pub fn ids(&self) -> &[FileId] {
+        self.ids.as_slice()
+    }
+
+    pub fn into_ids(self) -> Vec<FileId> {
+        let Opener { rt: _, ids } = self;
+        ids
+    }
+
+    /// Opens a file to read.
+    pub fn open(&mut self, path: &str) -> Result<Reader<File>, OpenFault> {
+        match self.opened(path) {
+            Ok(file) => Ok(Reader::new(file)),
+            Err(error) => Err(OpenFault::at(self.rt, path, &error)),
+        }
+    }
+
+    fn opened(&mut self, path: &str) -> io::Result<File> {
+        let file = File::open(self.rt, path)?;
+        if let Some(id) = FileId::of_plain(&file.metadata()?) {
+            self.ids.push(id)?;
+        }
+        Ok(file)
+    }
+}
+
+/// Why the files aren't open.
+#[derive(Drop)]
+pub enum OpenFault {
+    /// The file at this path can't be opened, for this reason.
+    Open(String, Reason),
+    /// A header or a list of sinks can't be read, or memory was refused.
+    Body(BodyFault),
+}
+
+impl OpenFault {
+    /// That the file at this path can't be opened, or that memory was refused.
+    pub fn at(rt: &HostRuntime, path: &str, error: &io::Error) -> OpenFault {
+        if error.kind() == ErrorKind::OutOfMemory {
+            return OpenFault::no_memory();
+        }
+        OpenFault::because(rt, path, Reason::of(error))
+    }
+
+    /// That the file at this path can't be opened, for this reason.
+    pub fn because(rt: &HostRuntime, path: &str, reason: Reason) -> OpenFault {
+        match String::from_str(rt.alloc(), path) {
+            Ok(path) => OpenFault::Open(path, reason),
+            Err(_) => OpenFault::no_memory(),
+        }
+    }
+
+    pub fn no_memory() -> OpenFault {
+        OpenFault::Body(BodyFault::OutOfMemory)
+    }
+}
+
+impl From<AllocError> for OpenFault {
+    fn from(_fault: AllocError) -> OpenFault {
+        OpenFault::no_memory()
+    }
+}
+
+/// Opens the tiles at these paths, in their order; each has the name at the end of its path. The first fault ends it.
+pub fn open_tiles<'a>(
+    opener: &mut Opener<'_>,
+    paths: &[&str],
+) -> Result<Vec<TileInput<InputFile<'a>>>, OpenFault>
+    ensures { IfOk result (λ tiles. AllZip (λ path name. IsLastPart path.now name) paths.now (names_of tiles.items)) }
+{
+    let mut tiles = Vec::new(opener.alloc());
+    for path in paths {
+        if tiles.push(open_tile(opener, path)?).is_err() {
+            return Err(OpenFault::no_memory());
+        }
+    }
+    Ok(tiles)
+}
+
+fn open_tile<'a>(opener: &mut Opener<'_>, path: &str) -> Result<TileInput<InputFile<'a>>, OpenFault>
+    ensures { IfOk result (λ tile. IsLastPart path.now tile.name) }
+{
+    let name = Vec::from_slice(opener.alloc(), tile_name(path.as_bytes()))?;
+    let body = CountedDevice::new(MaybeSource::Given(opener.open(path)?));
+    Ok(TileInput {
+        name: ByteList::new(name),
+        body,
+    })
+}
+
+/// The bytes of the list of sinks at this path; none if no list is named.
+pub fn list_at(opener: &mut Opener<'_>, path: Option<&str>) -> Result<Vec<u8>, OpenFault> {
+    let alloc = opener.alloc();
+    let Some(path) = path else {
+        return Ok(Vec::new(alloc));
+    };
+    let mut file = opener.open(path)?;
+    match read_list(alloc, &mut file) {
+        Ok(list) => Ok(list),
+        Err(fault) => Err(OpenFault::Body(fault)),
+    }
+}
+
+/// Creates the files of a product set at these paths, in the order of `SET_FILES`, and has the rows of rasters counted.
+/// The first fault ends it.
+pub fn create_files<'g, 'a>(
+    outputs: &mut Outputs<'a>,
+    paths: &'a [String],
+    inputs: &[FileId],
+    layout: &Layout,
+    progress: &'g Progress<'g>,
+) -> Result<Vec<OutputFile<'g, 'a>>, OpenFault>
+    requires { length paths.now ≡ FILE_COUNT }
+    ensures { IfOk result (λ files. vec_len files ≡ FILE_COUNT) }
+{
+    let begun = outputs.begin(paths, inputs)?;
+    let mut files = Vec::new(outputs.alloc());
+    for file in begun {
+        let place = SET_FILES[files.len()];
+        if files.push(counted(file, place, layout, progress)).is_err() {
+            return Err(OpenFault::no_memory());
+        }
+    }
+    Ok(files)
+}
+
+/// The file, whose rows are counted if it is a raster's.
+fn counted<'g, 'a>(
+    begun: Writer<OutputSink<'a>>,
+    file: SetFile,
+    layout: &Layout,
+    progress: &'g Progress<'g>,
+) -> OutputFile<'g, 'a> {
+    let mut created = CountedDevice::new(begun);
+    if let Part::Raster = file.part {
+        created.count_by(progress.counter(written_rows(layout, file.product)));
+    }
+    created
+}

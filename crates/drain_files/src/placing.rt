@@ -1,0 +1,41 @@
+//! What gives written files their own names, and when that is done: once all of them are whole.
+
+ghost use Rattle.std.specs.Prelude.{◌≡◌, Ok, Result};
+ghost use Rattle.drain_files.specs.Placings.{IsNamed};
+ghost use Rattle.drain_maker.specs.declared.product_files.SetFault.{SetFault};
+
+use drain_maker::product_files::SetFault;
+
+/// Files that are written under other names, and take their own when they are whole.
+pub trait Placing {
+    /// A call led from the one state to the other, with this result.
+    ghost has_placed: { Self → Self → Result (Unit {0}) SetFault → Type 0 };
+
+    /// Gives each file its own name.
+    fn place(&mut self) -> Result<(), SetFault>
+        ensures { has_placed self.old self.new result };
+}
+
+/// Files that are written under their own names.
+#[derive(Drop)]
+pub struct InPlace;
+
+impl Placing for InPlace {
+    ghost has_placed = { λ old new result. result ≡ Ok tt };
+
+    fn place(&mut self) -> Result<(), SetFault> {
+        Ok(())
+    }
+}
+
+/// Gives the files their names if all of them were written, and returns what is to be reported. After a fault no name
+/// changes.
+pub fn place_written<P: Placing>(
+    written: Result<(), SetFault>,
+    places: &mut P,
+) -> Result<(), SetFault>
+    ensures { IsNamed P.has_placed places.old places.new written result }
+{
+    written?;
+    places.place()
+}

@@ -1,0 +1,99 @@
+//! Which way each cell of a grid leads, a byte per cell, taken row by row.
+
+ghost use Rattle.std.specs.Prelude.{◌≡◌, ◌≢◌, ◌<◌, ◌++◌, [], length, All, OnOk, OnErr, slice_index_or};
+ghost use Rattle.drain_grid.specs.Tile.{IsSample};
+ghost use Rattle.drain_grid.specs.Values.{IsPixel};
+ghost use Rattle.drain_paths.specs.Flows.{flows_of};
+
+use crate::flow::{Flow, flow_of, flow_table};
+use drain_grid::OutOfMemory;
+use std::alloc::Global;
+use std::marker::Model;
+
+/// The flows of the cells that were taken so far, in row order.
+#[derive(Drop)]
+pub struct CellFlows {
+    flows: Vec<Flow>,
+}
+
+impl Model for CellFlows {
+    ghost use Rattle.std.specs.Prelude.{List};
+    ghost use Rattle.drain_paths.specs.declared.flow.Flow.{Flow};
+
+    ghost Value = { List Flow };
+
+    ghost view = { λ f. f.flows.items };
+}
+
+impl CellFlows {
+    ghost use Rattle.std.specs.Prelude.{slice_set};
+    ghost use Rattle.drain_paths.specs.declared.flow.Flow.TheVariants.{Void};
+
+    /// No cell. This takes no memory.
+    pub fn new(alloc: Global) -> CellFlows
+        ensures { result ≡ [] }
+    {
+        CellFlows {
+            flows: Vec::new(alloc),
+        }
+    }
+
+    /// Takes the next row: each cell's sample (-32768 is a void) and direction number. Without memory nothing is
+    /// changed.
+    pub fn push_row(&mut self, samples: &[i64], dir: &[i64]) -> Result<(), OutOfMemory>
+        requires cells { length samples.now ≡ length dir.now }
+        requires samples { All IsSample samples.now }
+        requires pixels { All IsPixel dir.now }
+        ensures ok { OnOk result (self.new ≡ self.old ++ flows_of samples.now dir.now) }
+        ensures err { OnErr result (self.new ≡ self.old) }
+    {
+        let before = self.len();
+        self.flows.resize(before + samples.len(), Flow::Void)?;
+        fill(&mut self.flows[before..], samples, dir);
+        Ok(())
+    }
+
+    /// How many cells were taken.
+    pub fn len(&self) -> usize
+        ensures { result ≡ length self.now }
+    {
+        self.flows.len()
+    }
+
+    /// The flows, in row order.
+    pub fn as_slice(&self) -> &[Flow]
+        ensures { result.now ≡ self.now }
+    {
+        self.flows.as_slice()
+    }
+
+    /// The flow of the cell with this many cells before it.
+    pub(crate) fn at(&self, index: usize) -> Flow
+        requires { index < length self.now }
+        ensures { result ≡ slice_index_or self.now index Void }
+    {
+        self.flows[index]
+    }
+
+    /// Records that the run of the cell with this many cells before it is known to end.
+    pub(crate) fn set_ended(&mut self, index: usize)
+        requires { index < length self.old }
+        ensures { self.new ≡ slice_set self.old index Flow.Ends }
+    {
+        self.flows[index] = Flow::Ends;
+    }
+}
+
+/// The flows of a row, one to each place.
+fn fill(out: &mut [Flow], samples: &[i64], dir: &[i64])
+    requires cells { length out.old ≡ length samples.now }
+    requires numbers { length samples.now ≡ length dir.now }
+    requires samples { All IsSample samples.now }
+    requires pixels { All IsPixel dir.now }
+    ensures { out.new ≡ flows_of samples.now dir.now }
+{
+    let table = flow_table();
+    for k in 0..samples.len() {
+        out[k] = flow_of(&table, samples[k], dir[k]);
+    }
+}

@@ -1,0 +1,97 @@
+//! Which way a cell's code leads, in one byte.
+
+ghost use Rattle.std.specs.Prelude.{◌≡◌, ◌<◌, pos};
+ghost use Rattle.drain_grid.specs.Tile.{height_from};
+ghost use Rattle.drain_paths.specs.FlowTable.{IsFlowTable};
+ghost use Rattle.drain_paths.specs.Flows.{cell_flow, code_flow, direction_of};
+
+use drain_grid::{Direction, VOID};
+use std::mem::size_of;
+
+/// What is kept of a cell: whether it has data, and where its code leads.
+#[repr(u8)]
+#[derive(Clone, Copy, PartialEq, Eq, Debug)]
+pub enum Flow {
+    /// No elevation.
+    Void,
+    /// The number is no code: it isn't 0, and it names no direction.
+    Lost,
+    /// The run of the cell is known to end: at first where its code is 0.
+    Ends,
+    ToEast,
+    ToSouthEast,
+    ToSouth,
+    ToSouthWest,
+    ToWest,
+    ToNorthWest,
+    ToNorth,
+    ToNorthEast,
+}
+
+impl Flow {
+    /// The direction in which the code leads, if it leads on.
+    pub fn direction(self) -> Option<Direction>
+        ensures { result ≡ direction_of self }
+    {
+        match self {
+            Flow::Void | Flow::Lost | Flow::Ends => None,
+            Flow::ToEast => Some(Direction::East),
+            Flow::ToSouthEast => Some(Direction::SouthEast),
+            Flow::ToSouth => Some(Direction::South),
+            Flow::ToSouthWest => Some(Direction::SouthWest),
+            Flow::ToWest => Some(Direction::West),
+            Flow::ToNorthWest => Some(Direction::NorthWest),
+            Flow::ToNorth => Some(Direction::North),
+            Flow::ToNorthEast => Some(Direction::NorthEast),
+        }
+    }
+}
+
+/// One byte: there are up to 829,497,601 of them.
+const _: () = prove!(size_of::<Flow>() == 1);
+
+/// The flows of data cells with the numbers from 0 to 129, each at its number's place.
+pub(crate) fn flow_table() -> [Flow; 130]
+    ensures { IsFlowTable result }
+{
+    let mut table = [Flow::Lost; 130];
+    table[0] = Flow::Ends;
+    table[1] = Flow::ToEast;
+    table[2] = Flow::ToSouthEast;
+    table[4] = Flow::ToSouth;
+    table[8] = Flow::ToSouthWest;
+    table[16] = Flow::ToWest;
+    table[32] = Flow::ToNorthWest;
+    table[64] = Flow::ToNorth;
+    table[128] = Flow::ToNorthEast;
+    table
+}
+
+/// The flow of a cell, from its sample (-32768 is a void) and its direction number, whatever that is. Which way a
+/// cell leads is unpredictable, so the flow is looked up in a table, without a branch.
+#[inline(always)]
+pub(crate) fn flow_of(table: &[Flow; 130], sample: i64, number: i64) -> Flow
+    requires { IsFlowTable table.now }
+    ensures { result ≡ cell_flow (height_from sample) number }
+{
+    // looked up at a void too, so that the test makes no jump either
+    let with_data = table[place_of(number)];
+    if sample == i64::from(VOID) {
+        Flow::Void
+    } else {
+        with_data
+    }
+}
+
+/// The place in the table for a number: 129 is no code, as no number past it or below 0 is.
+#[inline(always)]
+fn place_of(number: i64) -> usize
+    ensures place { result < 130 }
+    ensures flow { code_flow (pos result) ≡ code_flow number }
+{
+    if number < 0 || number > 128 {
+        129
+    } else {
+        number as usize
+    }
+}

@@ -1,0 +1,3 @@
+pub mod ProgressLines
+pub mod RowEnds
+pub mod Throttle

@@ -1,0 +1,30 @@
+-- The meaning of a row in vectors.
+use Rattle.std.specs.Prelude.{◌≡◌, ℕ, ◌<◌, false, IsTrue, List, length, slice_index_or}
+use Rattle.drain_grid.specs.declared.set_product.SetProduct.{SetProduct}
+use Rattle.drain_grid.specs.PerProduct.{of_product, per_product}
+use Rattle.drain_grid.specs.declared.sink_line.SinkLine.{SinkLine}
+use Rattle.drain_grid.specs.SinkLines.{is_listed}
+use Rattle.drain_kernel.specs.Taken.{AreLanesOf}
+use Rattle.drain_rules.specs.MarkedRows.{MarkedRow}
+use Rattle.drain_rules.specs.RowNumbers.{RowNumbers}
+use Rattle.drain_rows.specs.declared.row_buffer.RowBuffer.{RowBuffer}
+
+-- its numbers as lists
+abbrev pub buffer_numbers : RowBuffer → RowNumbers
+buffer_numbers row = record { z = row.z.items; products = per_product (λ p. (of_product row.products p).items) }
+
+-- the same with its marks
+abbrev pub marked_of : RowBuffer → MarkedRow
+marked_of row = record { numbers = buffer_numbers row; sinks = row.sinks.items }
+
+-- the listed sinks of the row with this number are marked, and no other column
+abbrev pub IsMarked : List SinkLine → ℕ → MarkedRow → Type 0
+IsMarked sinks r row = (col : ℕ) → col < length row.numbers.z → slice_index_or row.sinks col false ≡ is_listed sinks (record { row = r; col = col })
+
+-- each product has as many numbers as there are elevations
+abbrev pub IsEven : RowNumbers → Type 0
+IsEven row = (p : SetProduct) → length (of_product row.products p) ≡ length row.z
+
+-- if its numbers fit lanes, these are its lanes
+abbrev pub LanesMatch : RowBuffer → Type 0
+LanesMatch row = IsTrue row.fit → AreLanesOf row.lanes row.z.items (buffer_numbers row).products

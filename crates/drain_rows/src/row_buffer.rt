@@ -1,0 +1,152 @@
+//! A row of a grid and its products in vectors, which are reused for their memory.
+
+ghost use Rattle.std.specs.Prelude.{◌≡◌, ◌↔◌, ◌||◌, ℕ, [], false, slice_index_or, IsTrue, OnOk, OnErr};
+ghost use Rattle.drain_grid.specs.declared.cell.Cell.{Cell};
+ghost use Rattle.drain_rules.specs.RowNumbers.{AreRowNumbers, blank};
+ghost use Rattle.drain_rows.specs.RowBuffers.{LanesMatch};
+ghost use Rattle.drain_rows.specs.ListedVoids.{is_among, is_listed_void};
+
+use crate::listed_voids::ListedVoids;
+use drain_grid::{OutOfMemory, PerProduct, Sinks};
+use drain_kernel::Lanes;
+use drain_rules::{Ranks, RowView};
+use std::alloc::Global;
+
+/// The elevations of one row, and each product's numbers, both empty if there is no row; marks at its listed sinks; and
+/// the numbers once more in lanes.
+///
+/// It may be filled one vector after the other. Only a whole row can be viewed: as many numbers of each. No marks mean
+/// no sinks. Lanes are useful if the numbers fit them, and must be filled again for each row.
+#[derive(Drop)]
+pub struct RowBuffer {
+    pub z: Vec<i64>,
+    pub products: PerProduct<Vec<i64>>,
+    pub sinks: Vec<bool>,
+    lanes: Lanes,
+    fit: bool,
+}
+
+impl RowBuffer {
+    ghost use Rattle.drain_rows.specs.RowBuffers.{IsEven, IsMarked, marked_of, buffer_numbers};
+
+    /// No row. This needs no memory.
+    pub fn new(alloc: Global) -> RowBuffer
+        ensures numbers { buffer_numbers result ≡ blank }
+        ensures lanes { LanesMatch result }
+    {
+        RowBuffer {
+            z: Vec::new(alloc),
+            products: PerProduct {
+                con: Vec::new(alloc),
+                dir: Vec::new(alloc),
+                acc: Vec::new(alloc),
+                bas: Vec::new(alloc),
+                rnk: Vec::new(alloc),
+            },
+            sinks: Vec::new(alloc),
+            lanes: Lanes::new(alloc),
+            fit: false,
+        }
+    }
+
+    /// Forgets the row, and keeps its memory.
+    pub fn clear(&mut self)
+        ensures { buffer_numbers self.new ≡ blank }
+    {
+        self.z.clear();
+        self.products.con.clear();
+        self.products.dir.clear();
+        self.products.acc.clear();
+        self.products.bas.clear();
+        self.products.rnk.clear();
+    }
+
+    /// Whether there are as many numbers of each product as elevations.
+    pub fn is_even(&self) -> bool
+        ensures { IsTrue result ↔ IsEven (buffer_numbers self.now) }
+    {
+        let len = self.z.len();
+        let products = &self.products;
+        products.con.len() == len
+            && products.dir.len() == len
+            && products.acc.len() == len
+            && products.bas.len() == len
+            && products.rnk.len() == len
+    }
+
+    /// Marks the listed sinks of the row of this number, and notes those that are voids. Without sinks it needs no
+    /// memory.
+    pub fn mark(
+        &mut self,
+        row: u32,
+        sinks: &Sinks,
+        voids: &mut ListedVoids,
+    ) -> Result<(), OutOfMemory>
+        requires whole { AreRowNumbers (buffer_numbers self.old) }
+        ensures numbers { buffer_numbers self.new ≡ buffer_numbers self.old }
+        ensures marked { OnOk result (IsMarked sinks.now row (marked_of self.new)) }
+        ensures noted { OnOk result ((c : Cell) → is_among voids.new c ≡ (is_among voids.old c || is_listed_void row (buffer_numbers self.new).z self.new.sinks.items c)) }
+        ensures wants { OnErr result (¬ (sinks.now ≡ [])) }
+    {
+        if sinks.count() == 0 {
+            self.sinks.clear();
+            return Ok(());
+        }
+        self.sinks.resize(self.z.len(), false)?;
+        sinks.mark_row(row, self.sinks.as_mut_slice());
+        if !is_any_marked(self.sinks.as_slice()) {
+            self.sinks.clear();
+            return Ok(());
+        }
+        voids.note_row(row, self.z.as_slice(), self.sinks.as_slice())
+    }
+
+    /// Fills the lanes of the row, for rules with these ranks.
+    pub fn take_lanes(&mut self, ranks: Ranks)
+        requires whole { AreRowNumbers (buffer_numbers self.old) }
+        ensures marked { marked_of self.new ≡ marked_of self.old }
+        ensures lanes { LanesMatch self.new }
+    {
+        let products = &self.products;
+        let slices = PerProduct {
+            con: products.con.as_slice(),
+            dir: products.dir.as_slice(),
+            acc: products.acc.as_slice(),
+            bas: products.bas.as_slice(),
+            rnk: products.rnk.as_slice(),
+        };
+        self.fit = self.lanes.take(self.z.as_slice(), &slices, ranks);
+    }
+
+    /// The row as slices, with its lanes if they fit.
+    pub fn view(&self) -> RowView<'_>
+        requires numbers { AreRowNumbers (buffer_numbers self.now) }
+        requires lanes { LanesMatch self.now }
+        ensures { result ≡ marked_of self.now }
+    {
+        let lanes = if self.fit { Some(&self.lanes) } else { None };
+        RowView::new(
+            self.z.as_slice(),
+            self.sinks.as_slice(),
+            PerProduct {
+                con: self.products.con.as_slice(),
+                dir: self.products.dir.as_slice(),
+                acc: self.products.acc.as_slice(),
+                bas: self.products.bas.as_slice(),
+                rnk: self.products.rnk.as_slice(),
+            },
+            lanes,
+        )
+    }
+}
+
+/// Whether anything is marked. It has no branch, so that many marks are tested together.
+fn is_any_marked(marks: &[bool]) -> bool
+    ensures { result ≡ false → (place : ℕ) → slice_index_or marks.now place false ≡ false }
+{
+    let mut is_any = false;
+    for mark in marks {
+        is_any |= *mark;
+    }
+    is_any
+}

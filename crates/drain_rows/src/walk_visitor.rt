@@ -1,0 +1,37 @@
+//! The notes of a check: a walk that stops at the first fault, and keeps counts and labels of outlets.
+
+use crate::row_buffer::RowBuffer;
+use crate::row_visitor::{RowVisitor, VerdictVisitor};
+use drain_grid::{OutOfMemory, Shape};
+use drain_kernel::Rules;
+use drain_rules::{GridWalk, ThreeRows, Verdict};
+
+impl RowVisitor for GridWalk {
+    ghost use Rattle.std.specs.Prelude.{◌≡◌, true};
+    ghost use Rattle.drain_kernel.specs.Rules.{tried};
+    ghost use Rattle.drain_rules.specs.Labels.{HasNewLabel};
+    ghost use Rattle.drain_rows.specs.NotedRows.{IsWalkOf};
+
+    ghost counts = { λ n walk. walk.rows ≡ n };
+
+    ghost are_of = { λ rules g ps rows walk. IsWalkOf rules g ps rows walk };
+
+    ghost wants = { λ rules g ps. HasNewLabel (tried rules) g ps };
+
+    ghost lasting = { λ walk. true };
+
+    fn note(
+        &mut self,
+        _row: &RowBuffer,
+        rows: &ThreeRows<'_>,
+        rules: &Rules,
+    ) -> Result<(), OutOfMemory> {
+        self.check_row(rows, rules)
+    }
+}
+
+impl VerdictVisitor for GridWalk {
+    fn verdict(&self, shape: Shape) -> Verdict {
+        self.verdict(shape)
+    }
+}

@@ -1,7 +1,0 @@
-pub mod EndlessRuns
-pub mod FlowTable
-pub mod Flows
-pub mod KnownFlows
-pub mod Ranks
-pub mod Steps
-pub mod Ways
