@@ -1,0 +1,14 @@
+pub mod CornerCells
+pub mod FirstLemmas
+pub mod FirstOfFaults
+pub mod JudgedCells
+pub mod NewNumbers
+pub mod SortedOutlets
+pub mod SameValues
+pub mod SortedSeams
+pub mod SameNoData
+pub mod FlatLists
+pub mod MergedUnions
+pub mod MergeMeaning
+pub mod MapRefusals
+pub mod MovedWindows

@@ -1,0 +1,90 @@
+-- The verdict in words of lists is the verdict on the union.
+use Rattle.std.proofs.Common.{◌≡◌, inl, inr, Some, None, List, sym, subst, arith}
+use Rattle.drain_grid.specs.declared.cell.Cell.{Cell}
+use Rattle.drain_grid.specs.declared.rule.Rule.{Rule}
+use Rattle.drain_grid.specs.declared.rule.Rule.TheVariants.{SharedLabel}
+use Rattle.drain_grid.specs.Grid.{Grid, Products}
+use Rattle.drain_grid.specs.GridRules.{IsFirstFault}
+use Rattle.drain_grid.specs.Rule.{IsAnyRule, IsPatchRule}
+use Rattle.drain_grid.specs.Size.{Extent}
+use Rattle.drain_grid.specs.Unranked.{unranked}
+use Rattle.drain_grid.specs.Values.{NoDataNumbers}
+use Rattle.drain_rules.specs.declared.verdict.Verdict.{Verdict}
+use Rattle.drain_rules.specs.declared.verdict.Verdict.TheVariants.{Accepted as WindowAccepted, Rejected as WindowRejected}
+use Rattle.drain_windows.specs.declared.place.Place.{Place}
+use Rattle.drain_merge.specs.declared.faults.Fault.{Fault}
+use Rattle.drain_merge.specs.declared.judged_window.JudgedWindow.{JudgedWindow}
+use Rattle.drain_merge.specs.declared.merge_verdict.MergeVerdict.{MergeVerdict}
+use Rattle.drain_merge.specs.declared.merge_verdict.MergeVerdict.TheVariants.{Accepted, Rejected}
+use Rattle.drain_merge.specs.Faults.{fault_in, IsFirstOfFaults}
+use Rattle.drain_merge.specs.Merges.{IsMerged}
+use Rattle.drain_merge.specs.Sizes.{FitsNumbers}
+use Rattle.drain_merge.specs.UnionVerdicts.{IsRejected, SomeIsRejected, IsTriedWith, IsUnionVerdict}
+use Rattle.drain_merge.proofs.MergedUnions.{can_merge, union_of_all, is_correct, not_correct, first_of_patches, first_shared_label}
+
+rejected_if : (p : Place) (v : Verdict) (fault : Fault) → fault_in p v ≡ Some fault → IsRejected v
+rejected_if p (WindowAccepted counts) fault is = none_some is
+  where
+    none_some : {f : Fault} → None ≡ Some f → ⊥
+    none_some same = cc
+rejected_if p (WindowRejected rule row col) fault is = tt
+
+some_rejected : (ws : List JudgedWindow) (fault : Fault) → IsFirstOfFaults ws (Some fault) → SomeIsRejected ws
+some_rejected ws fault first = (first.0.0, first.0.1, rejected_if first.0.0.report.place first.0.0.verdict fault first.0.2)
+
+any_patch : (q : Rule) → IsPatchRule q → IsAnyRule q
+any_patch q own = (own.0, omega (arith, own.1))
+
+-- of the rules with which one of a patch is tried
+as_tried : (n : NoDataNumbers) (u : Grid) (ps : Products) (c : Cell) (r : Rule) → IsPatchRule r → IsFirstFault (unranked n) IsPatchRule u ps c r →
+    IsFirstFault (unranked n) (IsTriedWith r) u ps c r
+as_tried n u ps c SharedLabel own fault = absurd (omega (arith, own.1))
+as_tried n u ps c r own fault = fault
+
+pub union_verdict : (e : Extent) → FitsNumbers e → (ws : List JudgedWindow) (v : MergeVerdict) → IsMerged e ws v → IsUnionVerdict e ws v
+union_verdict e short ws (Accepted counts) (one, fill, lists) = record {
+  nodata = one.0;
+  one_nodata = one.1;
+  can = inr (can_merge e one.0 ws one.1 fill lists.1);
+  means = λ window_of from. record {
+    one_union = inr (union_of_all e short.rows short.cols one.0 ws one.1 fill window_of from lists.0 lists.1);
+    exactly = λ u ps size are. ((λ yes. is_correct e short.rows short.cols one.0 ws one.1 fill window_of from u ps size are lists.0 lists.2), (λ correct. tt));
+    first = λ u ps size are. tt;
+  };
+}
+union_verdict e short ws (Rejected fault) (one, fill, inl first) = record {
+  nodata = one.0;
+  one_nodata = one.1;
+  can = inl (some_rejected ws fault first);
+  means = λ window_of from. record {
+    one_union = inl (some_rejected ws fault first);
+    exactly = λ u ps size are. (
+      (λ no. absurd no),
+      (λ correct.
+          absurd
+          (not_correct e short.rows short.cols one.0 ws one.1 fill window_of from u ps size are IsPatchRule fault.cell fault.rule any_patch
+          (first_of_patches e short.rows short.cols one.0 ws one.1 fill window_of from u ps size are fault first) correct)),
+    );
+    first = λ u ps size are.
+        (let told = first_of_patches e short.rows short.cols one.0 ws one.1 fill window_of from u ps size are fault first in
+        as_tried one.0 u ps fault.cell fault.rule told.is_own told);
+  };
+}
+union_verdict e short ws (Rejected fault) (one, fill, inr (none, same, rule, first)) = record {
+  nodata = one.0;
+  one_nodata = one.1;
+  can = inr (can_merge e one.0 ws one.1 fill same);
+  means = λ window_of from. record {
+    one_union = inr (union_of_all e short.rows short.cols one.0 ws one.1 fill window_of from none same);
+    exactly = λ u ps size are. (
+      (λ no. absurd no),
+      (λ correct.
+          absurd
+          (not_correct e short.rows short.cols one.0 ws one.1 fill window_of from u ps size are IsAnyRule fault.cell SharedLabel (λ q own. own)
+          (first_shared_label e short.rows short.cols one.0 ws one.1 fill window_of from u ps size are none fault.cell first) correct)),
+    );
+    first = λ u ps size are.
+        subst (λ (r : Rule). IsFirstFault (unranked one.0) (IsTriedWith r) u ps fault.cell r) (sym rule)
+        (first_shared_label e short.rows short.cols one.0 ws one.1 fill window_of from u ps size are none fault.cell first);
+  };
+}

@@ -1,0 +1,14 @@
+use Rattle.std.proofs.Common.{subst}
+use Rattle.std.proofs.lemmas.Result.{IfOk-weaker}
+use Rattle.drain_merge.specs.Merges.{IsMerged}
+use Rattle.drain_merge.specs.Sizes.{FitsNumbers}
+use Rattle.drain_merge.specs.UnionVerdicts.{IsUnionVerdict}
+use Rattle.drain_merge.proofs.MergeMeaning.{union_verdict}
+use Rattle.drain_merge.proofs.merger.merge.Goals as goal
+
+pub returns-clause-means : goal.returns-clause-means
+returns-clause-means c =
+    let size = c.args.size in
+    let windows = c.args.windows.now in
+    IfOk-weaker c.merged.result (IsMerged size windows) (IsUnionVerdict size windows) (union_verdict size (subst FitsNumbers c.size.view_is c.size.invariant) windows)
+    c.merged.ensures.lists

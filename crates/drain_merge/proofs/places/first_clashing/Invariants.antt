@@ -1,0 +1,7 @@
+use Rattle.std.specs.List.{AllWithin}
+use Rattle.drain_windows.specs.declared.place.TheConstants.{SEAM_DEPTH}
+use Rattle.drain_merge.specs.Places.{MeetInSeams}
+use Rattle.drain_merge.proofs.places.first_clashing.Given as goal
+
+abbrev pub invariant-loop-i : goal.invariant-loop-i
+invariant-loop-i l = AllWithin (λ p. MeetInSeams SEAM_DEPTH p l.place) l.places 0 l.i

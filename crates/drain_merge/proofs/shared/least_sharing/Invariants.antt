@@ -1,0 +1,6 @@
+use Rattle.std.proofs.Common.{◌<◌, ◌≤◌, length}
+use Rattle.drain_merge.specs.Shared.{IsLeastSharing}
+use Rattle.drain_merge.proofs.shared.least_sharing.Given as goal
+
+abbrev pub invariant-loop-place : goal.invariant-loop-place
+invariant-loop-place l = (1 < l.place → l.place ≤ length l.outlets) × IsLeastSharing l.outlets l.place l.first

@@ -1,0 +1,81 @@
+-- What a merge of windows returns, in words of its lists. These definitions are this project's own.
+use Rattle.std.specs.Prelude.{◌≡◌, ◌⊎◌, Some, None, List, [], slice_index_or}
+use Rattle.std.specs.List.{All, AllPairs}
+use Rattle.drain_grid.specs.declared.cell.Cell.{Cell}
+use Rattle.drain_grid.specs.declared.rule.Rule.TheVariants.{SharedLabel}
+use Rattle.drain_grid.specs.Extent.{IsCellOf}
+use Rattle.drain_grid.specs.Size.{Extent}
+use Rattle.drain_grid.specs.Values.{NoDataNumbers}
+use Rattle.drain_windows.specs.declared.place.Place.{Place}
+use Rattle.drain_windows.specs.declared.place.TheConstants.{SEAM_DEPTH}
+use Rattle.drain_windows.specs.Windows.{IsPlaceIn, IsJudgedAtSome}
+use Rattle.drain_merge.specs.declared.judged_window.JudgedWindow.{JudgedWindow}
+use Rattle.drain_merge.specs.declared.merge_verdict.MergeRefusal.{MergeRefusal}
+use Rattle.drain_merge.specs.declared.merge_verdict.MergeRefusal.TheVariants.{NoReport, OtherNoData, OutsideUnion, Overlap, LeftOut, SeamsDiffer, OutOfMemory}
+use Rattle.drain_merge.specs.declared.merge_verdict.MergeVerdict.{MergeVerdict}
+use Rattle.drain_merge.specs.declared.merge_verdict.MergeVerdict.TheVariants.{Accepted, Rejected}
+use Rattle.drain_merge.specs.Corners.{IsFirstUnjudged}
+use Rattle.drain_merge.specs.Faults.{IsFirstOfFaults}
+use Rattle.drain_merge.specs.JudgedWindows.{places_of, all_outlets, all_seams}
+use Rattle.drain_merge.specs.Places.{IsFirstFailing, IsFirstClash, MeetInSeams}
+use Rattle.drain_merge.specs.Seams.{IsFirstDifference}
+use Rattle.drain_merge.specs.Shared.{IsFirstSharing}
+use Rattle.drain_merge.specs.Totals.{AreCountsOf}
+
+-- all windows have these no-data numbers
+abbrev pub HaveNoData : NoDataNumbers → List JudgedWindow → Type 0
+HaveNoData nodata windows = All (λ w. w.report.nodata ≡ nodata) windows
+
+abbrev pub HaveOneNoData : List JudgedWindow → Type 0
+HaveOneNoData windows = (nodata : NoDataNumbers) × HaveNoData nodata windows
+
+-- the first window has these no-data numbers
+abbrev pub BeginWith : NoDataNumbers → List JudgedWindow → Type 0
+BeginWith nodata windows = (d : JudgedWindow) → (slice_index_or windows 0 d).report.nodata ≡ nodata
+
+-- the places lie in a union of this size, overlap in their seams alone, and judge each of its cells
+pub record FillUnion (e : Extent) (places : List Place) : Type 0 where
+  pub placed : All (IsPlaceIn e) places
+  pub meet : AllPairs (MeetInSeams SEAM_DEPTH) places
+  pub whole : (c : Cell) → IsCellOf e c → IsJudgedAtSome places c
+
+-- why windows are refused for their no-data numbers: the list is empty, or this is the first window that has other
+-- numbers than the first one
+abbrev pub IsNoDataRefusal : List JudgedWindow → MergeRefusal → Type 0
+IsNoDataRefusal windows NoReport = windows ≡ []
+IsNoDataRefusal windows (OtherNoData k) =
+    (nodata : NoDataNumbers) × BeginWith nodata windows × IsFirstFailing (λ w. w.report.nodata ≡ nodata) windows (Some k)
+IsNoDataRefusal windows other = ⊥
+
+-- why places are refused
+abbrev pub IsPlaceRefusal : Extent → List Place → MergeRefusal → Type 0
+IsPlaceRefusal e places (OutsideUnion k) = IsFirstFailing (IsPlaceIn e) places (Some k)
+IsPlaceRefusal e places (Overlap clash) = All (IsPlaceIn e) places × IsFirstClash SEAM_DEPTH places (Some clash)
+IsPlaceRefusal e places (LeftOut c) =
+    All (IsPlaceIn e) places × AllPairs (MeetInSeams SEAM_DEPTH) places × IsFirstUnjudged e places (Some c)
+IsPlaceRefusal e places OutOfMemory = Unit {0}
+IsPlaceRefusal e places other = ⊥
+
+-- why windows are refused: each refusal where it is said, and where no earlier one is
+abbrev pub IsMergeRefusal : Extent → List JudgedWindow → MergeRefusal → Type 0
+IsMergeRefusal e windows (SeamsDiffer c) =
+    HaveOneNoData windows × FillUnion e (places_of windows) × IsFirstOfFaults windows None × IsFirstDifference (all_seams windows) (Some c)
+IsMergeRefusal e windows OutOfMemory = HaveOneNoData windows
+IsMergeRefusal e windows NoReport = IsNoDataRefusal windows NoReport
+IsMergeRefusal e windows (OtherNoData k) = IsNoDataRefusal windows (OtherNoData k)
+IsMergeRefusal e windows (OutsideUnion k) = HaveOneNoData windows × IsPlaceRefusal e (places_of windows) (OutsideUnion k)
+IsMergeRefusal e windows (Overlap clash) = HaveOneNoData windows × IsPlaceRefusal e (places_of windows) (Overlap clash)
+IsMergeRefusal e windows (LeftOut c) = HaveOneNoData windows × IsPlaceRefusal e (places_of windows) (LeftOut c)
+
+-- the verdict in words of the lists: the first fault of a window; else the first cell of an outlet with the label of one
+-- at an earlier cell; else the counts
+abbrev pub IsListVerdict : Extent → List JudgedWindow → MergeVerdict → Type 0
+IsListVerdict e windows (Accepted counts) =
+    IsFirstOfFaults windows None × IsFirstDifference (all_seams windows) None × IsFirstSharing (all_outlets windows) None × AreCountsOf e windows counts
+IsListVerdict e windows (Rejected fault) =
+    IsFirstOfFaults windows (Some fault)
+    ⊎ (IsFirstOfFaults windows None × IsFirstDifference (all_seams windows) None × (fault.rule ≡ SharedLabel)
+    × IsFirstSharing (all_outlets windows) (Some fault.cell))
+
+abbrev pub IsMerged : Extent → List JudgedWindow → MergeVerdict → Type 0
+IsMerged e windows v = HaveOneNoData windows × FillUnion e (places_of windows) × IsListVerdict e windows v

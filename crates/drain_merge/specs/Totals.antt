@@ -1,0 +1,41 @@
+-- The counts of a union. These definitions are this project's own.
+use Rattle.std.specs.Prelude.{◌≡◌, ℕ, ◌-◌, ◌^◌, min, List, sum_by}
+use Rattle.drain_grid.specs.Size.{Extent}
+use Rattle.drain_rules.specs.declared.verdict.Verdict.{Verdict}
+use Rattle.drain_rules.specs.declared.verdict.Verdict.TheVariants.{Accepted, Rejected}
+use Rattle.drain_merge.specs.declared.judged_window.JudgedWindow.{JudgedWindow}
+use Rattle.drain_merge.specs.declared.totals.UnionCounts.{UnionCounts}
+
+-- the number, or the greatest of 64 bits
+abbrev pub capped : ℕ → ℕ
+capped n = min n (2 ^ 64 - 1)
+
+-- the counts of an accepted window
+abbrev pub data_cells_in : Verdict → ℕ
+data_cells_in (Accepted counts) = counts.data_cells
+data_cells_in (Rejected rule row col) = 0
+
+abbrev pub raised_in : Verdict → ℕ
+raised_in (Accepted counts) = counts.raised
+raised_in (Rejected rule row col) = 0
+
+abbrev pub outlets_in : Verdict → ℕ
+outlets_in (Accepted counts) = counts.outlets
+outlets_in (Rejected rule row col) = 0
+
+abbrev pub data_cells_of : JudgedWindow → ℕ
+data_cells_of w = data_cells_in w.verdict
+
+abbrev pub raised_of : JudgedWindow → ℕ
+raised_of w = raised_in w.verdict
+
+abbrev pub outlets_of : JudgedWindow → ℕ
+outlets_of w = outlets_in w.verdict
+
+-- the size of the union, and the sums of its windows' counts
+pub record AreCountsOf (e : Extent) (windows : List JudgedWindow) (counts : UnionCounts) : Type 0 where
+  pub rows : counts.rows ≡ e.rows
+  pub cols : counts.cols ≡ e.cols
+  pub data_cells : counts.data_cells ≡ capped (sum_by data_cells_of windows)
+  pub raised : counts.raised ≡ capped (sum_by raised_of windows)
+  pub outlets : counts.outlets ≡ capped (sum_by outlets_of windows)

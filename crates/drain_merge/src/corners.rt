@@ -1,0 +1,108 @@
+//! The first cell of a union that no window judges.
+//!
+//! Such a cell lies where a corner row crosses a corner column: row 0 or one on which the judged rows of some window end,
+//! and likewise a column (`drain_windows::laws::corners_tell_whole`). So these crossings are tried, and no other cell.
+
+ghost use Rattle.std.specs.Prelude.{◌≡◌, ◌↔◌, ◌<◌, ◌++◌, ◌∷◌, [], map, length, IsTrue, IfOk};
+ghost use Rattle.std.specs.List.Sorted.{IsNonDecreasing, IsPermutation};
+ghost use Rattle.drain_windows.specs.Windows.{judged_bottom, judged_right};
+ghost use Rattle.drain_merge.specs.Corners.{IsFirstUnjudged, IsFirstInRow, IsFirstCrossing, IsNewBelow};
+
+use crate::judged::is_judged;
+use crate::union_size::{UnionSize, end_of};
+use drain_grid::{Cell, OutOfMemory};
+use drain_windows::Place;
+use std::alloc::Global;
+
+/// The first cell of a union, in row order, that none of these windows judges.
+pub fn first_unjudged(
+    alloc: Global,
+    size: UnionSize,
+    places: &[Place],
+) -> Result<Option<Cell>, OutOfMemory>
+    ensures { IfOk result (IsFirstUnjudged size places.now) }
+{
+    let rows = corner_rows(alloc, places)?;
+    let cols = corner_cols(alloc, places)?;
+    Ok(first_crossing(size, &rows, &cols, places))
+}
+
+/// The corner rows of these windows, from north to south.
+fn corner_rows(alloc: Global, places: &[Place]) -> Result<Vec<u64>, OutOfMemory>
+    ensures rising { IfOk result (λ rows. IsNonDecreasing rows.items) }
+    ensures theirs { IfOk result (λ rows. IsPermutation (map judged_bottom places.now ++ 0 ∷ []) rows.items) }
+{
+    let ends: Result<Vec<u64>, _> = places.iter().map(|place| bottom_of(place)).collect(alloc);
+    let mut rows = ends?;
+    rows.push(0)?;
+    rows.sort_unstable();
+    Ok(rows)
+}
+
+/// The corner columns of these windows, from west to east.
+fn corner_cols(alloc: Global, places: &[Place]) -> Result<Vec<u64>, OutOfMemory>
+    ensures rising { IfOk result (λ cols. IsNonDecreasing cols.items) }
+    ensures theirs { IfOk result (λ cols. IsPermutation (map judged_right places.now ++ 0 ∷ []) cols.items) }
+{
+    let ends: Result<Vec<u64>, _> = places.iter().map(|place| right_of(place)).collect(alloc);
+    let mut cols = ends?;
+    cols.push(0)?;
+    cols.sort_unstable();
+    Ok(cols)
+}
+
+/// One more than the last row that the window at this place judges.
+fn bottom_of(place: &Place) -> u64
+    ensures { result ≡ judged_bottom place.now }
+{
+    end_of(place.top, place.extent.rows()).saturating_sub(u64::from(place.inner.south))
+}
+
+/// One more than the last column that the window at this place judges.
+fn right_of(place: &Place) -> u64
+    ensures { result ≡ judged_right place.now }
+{
+    end_of(place.left, place.extent.cols()).saturating_sub(u64::from(place.inner.east))
+}
+
+/// The first crossing of these rows and columns, in row order, that lies in a union of this size and that no window
+/// judges.
+fn first_crossing(size: UnionSize, rows: &[u64], cols: &[u64], places: &[Place]) -> Option<Cell>
+    requires rows_rise { IsNonDecreasing rows.now }
+    requires cols_rise { IsNonDecreasing cols.now }
+    ensures { IsFirstCrossing size rows.now cols.now places.now result }
+{
+    for i in 0..rows.len() {
+        if is_new_below(rows, i, size.rows) {
+            let row = rows[i] as u32;
+            if let Some(col) = first_along(size.cols, row, cols, places) {
+                return Some(Cell { row, col });
+            }
+        }
+    }
+    None
+}
+
+/// The first of these columns of a row that no window judges.
+fn first_along(end: u32, row: u32, cols: &[u64], places: &[Place]) -> Option<u32>
+    requires { IsNonDecreasing cols.now }
+    ensures { IsFirstInRow end row cols.now places.now result }
+{
+    for i in 0..cols.len() {
+        if is_new_below(cols, i, end) {
+            let col = cols[i] as u32;
+            if !is_judged(places, Cell { row, col }) {
+                return Some(col);
+            }
+        }
+    }
+    None
+}
+
+/// Whether the number at this place is below the end, and isn't the one before it.
+fn is_new_below(numbers: &[u64], place: usize, end: u32) -> bool
+    requires { place < length numbers.now }
+    ensures { IsTrue result ↔ IsNewBelow numbers.now place end }
+{
+    numbers[place] < u64::from(end) && (place == 0 || numbers[place - 1] != numbers[place])
+}

@@ -1,0 +1,29 @@
+//! What the windows of a union hand over, put together: one verdict on the union.
+#![tactic(auto)]
+
+mod corners;
+pub mod faults;
+mod judged;
+pub mod judged_window;
+pub mod laws;
+mod lists;
+pub mod map_merge;
+pub mod merge_verdict;
+pub mod merger;
+mod moved;
+mod nodata;
+pub mod places;
+mod row_order;
+mod seams;
+mod shared;
+pub mod totals;
+pub mod union_size;
+
+pub use faults::Fault;
+pub use judged_window::JudgedWindow;
+pub use map_merge::{MapVerdict, UnionBox, merge_on_map};
+pub use merge_verdict::{MergeRefusal, MergeVerdict};
+pub use merger::merge;
+pub use places::Clash;
+pub use totals::UnionCounts;
+pub use union_size::UnionSize;

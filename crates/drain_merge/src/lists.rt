@@ -1,0 +1,42 @@
+//! What all windows list, put together.
+
+ghost use Rattle.std.specs.Prelude.{◌≡◌, map, IfOk};
+ghost use Rattle.drain_merge.specs.JudgedWindows.{places_of, all_outlets, all_seams};
+
+use crate::judged_window::JudgedWindow;
+use drain_grid::OutOfMemory;
+use drain_windows::{Outlet, Place, Shown};
+use std::alloc::Global;
+
+/// Where the windows lie.
+pub fn places(alloc: Global, windows: &[JudgedWindow]) -> Result<Vec<Place>, OutOfMemory>
+    ensures { IfOk result (λ places. places.items ≡ places_of windows.now) }
+{
+    let mut places = Vec::new(alloc);
+    for window in windows {
+        places.push(window.report.place)?;
+    }
+    Ok(places)
+}
+
+/// The outlets of all windows.
+pub fn outlets(alloc: Global, windows: &[JudgedWindow]) -> Result<Vec<Outlet>, OutOfMemory>
+    ensures { IfOk result (λ outlets. outlets.items ≡ all_outlets windows.now) }
+{
+    let mut outlets = Vec::new(alloc);
+    for window in windows {
+        outlets.extend_from_slice(&window.report.outlets)?;
+    }
+    Ok(outlets)
+}
+
+/// What all windows show along their seams.
+pub fn seams(alloc: Global, windows: &[JudgedWindow]) -> Result<Vec<Shown>, OutOfMemory>
+    ensures { IfOk result (λ seams. seams.items ≡ all_seams windows.now) }
+{
+    let mut seams = Vec::new(alloc);
+    for window in windows {
+        seams.extend_from_slice(&window.report.seams)?;
+    }
+    Ok(seams)
+}

@@ -1,0 +1,102 @@
+//! The merge of windows that lie on a map: the box that holds them, and the verdict on it.
+
+ghost use Rattle.std.specs.Prelude.{◌≡◌, ◌-◌, ◌^◌, min, map, IfOk, IfErr};
+ghost use Rattle.drain_merge.specs.MapBoxes.{box_of, IsMapVerdict, IsMapRefusal};
+ghost use Rattle.drain_merge.specs.Moved.{judged_from};
+
+use crate::judged_window::JudgedWindow;
+use crate::merge_verdict::{MergeRefusal, MergeVerdict};
+use crate::merger::merge;
+use crate::moved::moved_window;
+use crate::union_size::{UnionSize, end_of};
+use drain_grid::{Cell, OutOfMemory};
+use drain_windows::Place;
+use std::alloc::Global;
+
+/// The box that holds a union: the map's row and column of its first cell, and its size.
+#[derive(Clone, Copy, PartialEq, Eq, Debug)]
+pub struct UnionBox {
+    pub origin: Cell,
+    pub size: UnionSize,
+}
+
+/// The verdict on a union, with its box. Rows and columns of the verdict count from the box's first cell.
+#[derive(Clone, Copy, PartialEq, Eq, Debug)]
+pub struct MapVerdict {
+    pub bounds: UnionBox,
+    pub verdict: MergeVerdict,
+}
+
+/// The verdict on the union of windows whose places and cells count the rows and columns of a map: on the smallest box
+/// that holds them. A side that isn't inner has to be an edge of this box.
+pub fn merge_on_map(alloc: Global, windows: Vec<JudgedWindow>) -> Result<MapVerdict, MergeRefusal>
+    ensures means { IfOk result (IsMapVerdict windows.items) }
+    ensures refusal { IfErr result (IsMapRefusal windows.items) }
+{
+    let bounds = union_box(&windows);
+    let moved = moved_windows(alloc, bounds.origin, windows)?;
+    match merge(alloc, bounds.size, &moved) {
+        Ok(verdict) => Ok(MapVerdict { bounds, verdict }),
+        Err(refusal) => Err(refusal),
+    }
+}
+
+/// The windows, counted from this cell.
+fn moved_windows(
+    alloc: Global,
+    origin: Cell,
+    windows: Vec<JudgedWindow>,
+) -> Result<Vec<JudgedWindow>, OutOfMemory>
+    ensures { IfOk result (λ moved. moved.items ≡ map (judged_from origin) windows.items) }
+{
+    let moved: Result<Vec<JudgedWindow>, _> = windows
+        .into_iter()
+        .map(|window| moved_window(origin, window))
+        .collect(alloc);
+    Ok(moved?)
+}
+
+/// The smallest box that holds these windows.
+fn union_box(windows: &[JudgedWindow]) -> UnionBox
+    ensures { result ≡ box_of windows.now }
+{
+    let mut top = u32::MAX;
+    let mut left = u32::MAX;
+    let mut bottom = 0;
+    let mut right = 0;
+    for window in windows {
+        let place = place_of(window);
+        top = top.min(place.top);
+        left = left.min(place.left);
+        bottom = end_of(place.top, place.extent.rows()).max(bottom);
+        right = end_of(place.left, place.extent.cols()).max(right);
+    }
+    let origin = Cell {
+        row: top,
+        col: left,
+    };
+    let size = UnionSize {
+        rows: length_between(top, bottom),
+        cols: length_between(left, right),
+    };
+    UnionBox { origin, size }
+}
+
+/// Where the window lies.
+fn place_of(window: &JudgedWindow) -> Place
+    ensures { result ≡ window.now.report.place }
+{
+    window.report.place
+}
+
+/// How many rows or columns there are from the first one up to an end, at most the greatest number of 32 bits.
+fn length_between(first: u32, end: u64) -> u32
+    ensures { result ≡ min (end - first) (2 ^ 32 - 1) }
+{
+    let length = end.saturating_sub(u64::from(first));
+    if length < u64::from(u32::MAX) {
+        length as u32
+    } else {
+        u32::MAX
+    }
+}

@@ -1,0 +1,101 @@
+//! What a window hands over, with rows and columns counted from another cell.
+
+ghost use Rattle.std.specs.Prelude.{◌≡◌, map};
+ghost use Rattle.drain_merge.specs.Moved.{cell_from, judged_from, outlet_from, place_from, report_from, shown_from};
+
+use crate::judged_window::JudgedWindow;
+use drain_grid::Cell;
+use drain_windows::{Outlet, Place, Report, Shown};
+
+/// What a window hands over, with rows and columns counted from this cell.
+pub(crate) fn moved_window(origin: Cell, window: JudgedWindow) -> JudgedWindow
+    ensures { result ≡ judged_from origin window }
+{
+    let JudgedWindow { report, verdict } = window;
+    JudgedWindow {
+        report: moved_report(origin, report),
+        verdict,
+    }
+}
+
+/// The report, counted from this cell.
+fn moved_report(origin: Cell, report: Report) -> Report
+    ensures { result ≡ report_from origin report }
+{
+    let Report {
+        place,
+        nodata,
+        holds,
+        mut outlets,
+        mut seams,
+    } = report;
+    move_outlets(origin, outlets.as_mut_slice());
+    move_seams(origin, seams.as_mut_slice());
+    Report {
+        place: moved_place(origin, place),
+        nodata,
+        holds,
+        outlets,
+        seams,
+    }
+}
+
+/// Counts the outlets' cells from this cell.
+fn move_outlets(origin: Cell, outlets: &mut [Outlet])
+    ensures { outlets.new ≡ map (outlet_from origin) outlets.old }
+{
+    for i in 0..outlets.len() {
+        outlets[i] = moved_outlet(origin, outlets[i]);
+    }
+}
+
+/// Counts the cells of what is shown from this cell.
+fn move_seams(origin: Cell, seams: &mut [Shown])
+    ensures { seams.new ≡ map (shown_from origin) seams.old }
+{
+    for i in 0..seams.len() {
+        seams[i] = moved_shown(origin, seams[i]);
+    }
+}
+
+/// The place, counted from this cell.
+fn moved_place(origin: Cell, place: Place) -> Place
+    ensures { result ≡ place_from origin place }
+{
+    Place {
+        top: place.top.saturating_sub(origin.row),
+        left: place.left.saturating_sub(origin.col),
+        extent: place.extent,
+        inner: place.inner,
+    }
+}
+
+/// The outlet, with its cell counted from this one.
+fn moved_outlet(origin: Cell, outlet: Outlet) -> Outlet
+    ensures { result ≡ outlet_from origin outlet }
+{
+    Outlet {
+        label: outlet.label,
+        cell: moved_cell(origin, outlet.cell),
+    }
+}
+
+/// What is shown, with its cell counted from this one.
+fn moved_shown(origin: Cell, shown: Shown) -> Shown
+    ensures { result ≡ shown_from origin shown }
+{
+    Shown {
+        cell: moved_cell(origin, shown.cell),
+        values: shown.values,
+    }
+}
+
+/// The cell, counted from the origin.
+fn moved_cell(origin: Cell, cell: Cell) -> Cell
+    ensures { result ≡ cell_from origin cell }
+{
+    Cell {
+        row: cell.row.saturating_sub(origin.row),
+        col: cell.col.saturating_sub(origin.col),
+    }
+}

@@ -1,0 +1,56 @@
+//! The counts of a union.
+
+ghost use Rattle.std.specs.Prelude.{◌≡◌, ◌+◌};
+ghost use Rattle.drain_merge.specs.Totals.{AreCountsOf, capped, data_cells_of, raised_of, outlets_of};
+
+use crate::judged_window::JudgedWindow;
+use crate::union_size::UnionSize;
+use drain_rules::Verdict;
+
+/// The size of a union, and how many of its cells have data, are raised, and are outlets. A count that doesn't fit is
+/// the greatest number of 64 bits; no count of a union's own cells is as large.
+#[derive(Clone, Copy, PartialEq, Eq, Debug)]
+pub struct UnionCounts {
+    pub rows: u32,
+    pub cols: u32,
+    pub data_cells: u64,
+    pub raised: u64,
+    pub outlets: u64,
+}
+
+/// The counts of a union of this size: the sums of those of its windows.
+pub(crate) fn total(size: UnionSize, windows: &[JudgedWindow]) -> UnionCounts
+    ensures { AreCountsOf size windows.now result }
+{
+    let mut counts = UnionCounts {
+        rows: size.rows,
+        cols: size.cols,
+        data_cells: 0,
+        raised: 0,
+        outlets: 0,
+    };
+    for window in windows {
+        counts = with_window(counts, window);
+    }
+    counts
+}
+
+/// The counts with those of one window more.
+fn with_window(counts: UnionCounts, window: &JudgedWindow) -> UnionCounts
+    ensures rows { result.rows ≡ counts.rows }
+    ensures cols { result.cols ≡ counts.cols }
+    ensures data_cells { result.data_cells ≡ capped (counts.data_cells + data_cells_of window.now) }
+    ensures raised { result.raised ≡ capped (counts.raised + raised_of window.now) }
+    ensures outlets { result.outlets ≡ capped (counts.outlets + outlets_of window.now) }
+{
+    match &window.verdict {
+        Verdict::Accepted(more) => UnionCounts {
+            rows: counts.rows,
+            cols: counts.cols,
+            data_cells: counts.data_cells.saturating_add(u64::from(more.data_cells)),
+            raised: counts.raised.saturating_add(u64::from(more.raised)),
+            outlets: counts.outlets.saturating_add(u64::from(more.outlets)),
+        },
+        Verdict::Rejected { .. } => counts,
+    }
+}

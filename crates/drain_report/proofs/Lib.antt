@@ -1,0 +1,4 @@
+pub mod NumberLemmas
+pub mod ReadLemmas
+pub mod FactLemmas
+pub mod ListLemmas

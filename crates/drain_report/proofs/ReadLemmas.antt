@@ -1,0 +1,94 @@
+-- Numbers that are read one after another, and numbers that are appended.
+use Rattle.std.proofs.Common.{◌≡◌, ℕ, zero, suc, ◌+◌, ◌<◌, List, [], ◌∷◌, ◌++◌, ℤ, length, take, get_or, arith, refl, sym, ap, ◌∙◌, length-append, append-nil, append_assoc, rules}
+use Rattle.std.specs.Fmt.{signed_decimal}
+use Rattle.std.proofs.lemmas.List.{take_more}
+use Rattle.drain_report.specs.Lines.{IsLong, AreLong, line, spaced, AreNumbersThen, IsNumberThen}
+
+pub spaced-append : (xs ys : List ℤ) → spaced (xs ++ ys) ≡ spaced xs ++ spaced ys
+spaced-append [] ys = refl
+spaced-append (x ∷ xs) ys = ap (λ t. 32 ∷ (signed_decimal x ++ t)) (spaced-append xs ys) ∙ sym (append_assoc (32 ∷ signed_decimal x) (spaced xs) (spaced ys))
+
+-- one number more is read
+pub sound_more : (text rest after : List ℕ) (done more : List ℤ) (n : ℤ) → text ≡ spaced done ++ rest → rest ≡ 32 ∷ (signed_decimal n ++ after) → more ≡ done ++ n ∷ [] → text ≡ spaced more ++ after
+sound_more text rest after done more n was next is =
+    was ∙ ap (λ t. spaced done ++ t) next
+    ∙ sym (append_assoc (spaced done) (32 ∷ signed_decimal n) after)
+    ∙ ap (λ t. (spaced done ++ t) ++ after) (sym (append-nil (32 ∷ signed_decimal n)))
+    ∙ ap (λ t. t ++ after) (sym (spaced-append done (n ∷ [])))
+    ∙ ap (λ ns. spaced ns ++ after) (sym is)
+
+-- of the numbers that a text has, these are read, and the rest has the others
+pub record IsLeft (ns done : List ℤ) (rest after : List ℕ) : Type 0 where
+  pub left : List ℤ
+  pub whole : ns ≡ done ++ left
+  pub long : AreLong left
+  pub is : rest ≡ spaced left ++ 10 ∷ after
+
+pub all_left : (ns : List ℤ) (text after : List ℕ) → AreNumbersThen text ns after → IsLeft ns [] text after
+all_left ns text after h = record { left = ns; whole = refl; long = h.long; is = h.is }
+
+-- the next one of them
+pub record IsNext (ns done : List ℤ) (rest after : List ℕ) : Type 0 where
+  pub n : ℤ
+  pub c : ℕ
+  pub then : List ℕ
+  pub number : IsNumberThen rest n c then
+  pub left : IsLeft ns (done ++ n ∷ []) (c ∷ then) after
+
+next_of : (ns done left : List ℤ) (rest after : List ℕ) → ns ≡ done ++ left → AreLong left → rest ≡ spaced left ++ 10 ∷ after → length done < length ns → IsNext ns done rest after
+next_of ns done [] rest after whole long is less = absurd (omega (arith, ap length whole, length-append done []))
+next_of ns done (n ∷ []) rest after whole long is less = record {
+  n = n;
+  c = 10;
+  then = after;
+  number = record { long = long.0; ends = search rules; is = is ∙ ap (λ t. 32 ∷ (t ++ 10 ∷ after)) (append-nil (signed_decimal n)) };
+  left = record { left = []; whole = whole ∙ sym (append-nil (done ++ n ∷ [])); long = tt; is = refl };
+}
+next_of ns done (n ∷ (m ∷ left)) rest after whole long is less = record {
+  n = n;
+  c = 32;
+  then = signed_decimal m ++ spaced left ++ 10 ∷ after;
+  number = record { long = long.0; ends = search rules; is = is ∙ simp append_assoc };
+  left = record { left = m ∷ left; whole = whole ∙ sym (append_assoc done (n ∷ []) (m ∷ left)); long = long.1; is = simp append_assoc };
+}
+
+pub next : (ns done : List ℤ) (rest after : List ℕ) → IsLeft ns done rest after → length done < length ns → IsNext ns done rest after
+next ns done rest after h less = next_of ns done h.left rest after h.whole h.long h.is less
+
+-- none is left
+none_of : (ns done left : List ℤ) (rest after : List ℕ) → ns ≡ done ++ left → rest ≡ spaced left ++ 10 ∷ after → length done ≡ length ns → (done ≡ ns) × (rest ≡ 10 ∷ after)
+none_of ns done [] rest after whole is same = (sym (whole ∙ append-nil done), is)
+none_of ns done (n ∷ left) rest after whole is same = absurd (omega (arith, ap length whole, length-append done (n ∷ left)))
+
+pub none_left : (ns done : List ℤ) (rest after : List ℕ) → IsLeft ns done rest after → length done ≡ length ns → (done ≡ ns) × (rest ≡ 10 ∷ after)
+none_left ns done rest after h same = none_of ns done h.left rest after h.whole h.is same
+
+-- one number more is appended
+pub pushed_more : (ns : List ℤ) (k : ℕ) (d : ℤ) (before was now : List ℕ) → k < length ns → was ≡ before ++ spaced (take k ns) → now ≡ was ++ 32 ∷ signed_decimal (get_or ns k d) → now ≡ before ++ spaced (take (k + 1) ns)
+pushed_more ns k d before was now less had is =
+    is ∙ ap (λ t. t ++ 32 ∷ signed_decimal (get_or ns k d)) had
+    ∙ append_assoc before (spaced (take k ns)) (32 ∷ signed_decimal (get_or ns k d))
+    ∙ ap (λ t. before ++ (spaced (take k ns) ++ t)) (sym (append-nil (32 ∷ signed_decimal (get_or ns k d))))
+    ∙ ap (λ t. before ++ t) (sym (spaced-append (take k ns) (get_or ns k d ∷ [])))
+    ∙ ap (λ t. before ++ spaced t) (sym (take_more ns k d less))
+
+-- the parts of a line
+pub line_joined : (word : List ℕ) (ns : List ℤ) (text after end rest : List ℕ) → text ≡ word ++ after → after ≡ spaced ns ++ end → end ≡ 10 ∷ rest → text ≡ line word ns ++ rest
+line_joined word ns text after end rest one two three =
+    one ∙ ap (λ t. word ++ t) (two ∙ ap (λ t. spaced ns ++ t) three ∙ sym (append_assoc (spaced ns) (10 ∷ []) rest)) ∙ sym (append_assoc word (spaced ns ++ 10 ∷ []) rest)
+
+pub long_at : (ns : List ℤ) (k : ℕ) (d : ℤ) → AreLong ns → k < length ns → IsLong (get_or ns k d)
+long_at [] k d long less = absurd (omega arith)
+long_at (n ∷ ns) zero d long less = long.0
+long_at (n ∷ ns) (suc k) d long less = long_at ns k d long.1 (omega arith)
+
+-- the next number was read
+pub read_more : (ns done more : List ℤ) (rest after : List ℕ) (n : ℤ) {was : List ℕ} (step : IsNext ns done was after) → n ≡ step.n → rest ≡ step.c ∷ step.then → more ≡ done ++ n ∷ [] → IsLeft ns more rest after
+read_more ns done more rest after n step number text is = rw (is, number, text) step.left
+
+pub line_split : (word : List ℕ) (ns : List ℤ) (rest : List ℕ) → line word ns ++ rest ≡ word ++ (spaced ns ++ 10 ∷ rest)
+line_split word ns rest = append_assoc word (spaced ns ++ 10 ∷ []) rest ∙ ap (λ t. word ++ t) (append_assoc (spaced ns) (10 ∷ []) rest)
+
+pub long-append : (xs ys : List ℤ) → AreLong xs → AreLong ys → AreLong (xs ++ ys)
+long-append [] ys p q = q
+long-append (x ∷ xs) ys p q = (p.0, long-append xs ys p.1 q)

@@ -1,0 +1,12 @@
+use Rattle.std.proofs.Common.{◌≡◌, ◌++◌, ℕ, ℤ, List, take, length}
+use Rattle.drain_report.specs.Lines.{spaced, AreLong, AreNumbersThen}
+use Rattle.drain_report.proofs.ReadLemmas.{IsLeft}
+use Rattle.drain_report.proofs.lines.read_numbers.Given as goal
+
+abbrev pub invariant-loop-k : goal.invariant-loop-k
+invariant-loop-k l = record {
+  len : length l.numbers ≡ length l.initial.numbers;
+  sound : l.text ≡ spaced (take l.k l.numbers) ++ l.rest;
+  long : AreLong (take l.k l.numbers);
+  back : (ns : List ℤ) (rest : List ℕ) → length ns ≡ length l.initial.numbers → AreNumbersThen l.text ns rest → IsLeft ns (take l.k l.numbers) l.rest rest;
+}

@@ -1,0 +1,136 @@
+-- The facts of a report as numbers, each kind on lines of its own. The order of the numbers is this project's own.
+use Rattle.std.specs.Prelude.{◌≡◌, ◌<◌, ◌^◌, ℕ, ℤ, pos, Bool, true, false, Option, Some, None, List, [], ◌∷◌, ◌++◌, length, codes, if◌then◌else◌}
+use Rattle.std.specs.Int.{w16}
+use Rattle.std.specs.Int.RustNames.{FitsSigned}
+use Rattle.drain_grid.specs.declared.cell.Cell.{Cell}
+use Rattle.drain_grid.specs.declared.tile.TheConstants.{VOID}
+use Rattle.drain_grid.specs.Values.{Values, AreInRange, NoDataNumbers}
+use Rattle.drain_windows.specs.declared.outlet.Outlet.{Outlet}
+use Rattle.drain_windows.specs.declared.report.Shown.{Shown}
+use Rattle.drain_windows.specs.declared.place.Place.{Place}
+use Rattle.drain_windows.specs.declared.place.InnerSides.{InnerSides}
+use Rattle.drain_windows.specs.Reports.{Report}
+use Rattle.drain_grid.specs.Size.{IsExtent}
+use Rattle.drain_grid.specs.Rule.{rule_number}
+use Rattle.drain_grid.specs.declared.rule.Rule.{Rule}
+use Rattle.drain_rules.specs.declared.verdict.Counts.{Counts}
+use Rattle.drain_rules.specs.declared.verdict.Verdict.{Verdict}
+use Rattle.drain_rules.specs.declared.verdict.Verdict.TheVariants.{Accepted, Rejected}
+use Rattle.drain_hgt.specs.Corner.{Corner}
+use Rattle.drain_hgt.specs.Name.{name_of}
+use Rattle.drain_report.specs.Lines.{IsLong, line}
+
+-- a row and a column of 32 bits
+pub record IsNarrow (c : Cell) : Type 0 where
+  pub row : c.row < 2 ^ 32
+  pub col : c.col < 2 ^ 32
+
+-- outlet LABEL ROW COL
+abbrev pub outlet_numbers : Outlet → List ℤ
+outlet_numbers o = o.label ∷ pos o.cell.row ∷ pos o.cell.col ∷ []
+
+abbrev pub outlet_line : Outlet → List ℕ
+outlet_line o = line (codes "outlet") (outlet_numbers o)
+
+pub record IsOutlet (o : Outlet) : Type 0 where
+  pub label : IsLong o.label
+  pub cell : IsNarrow o.cell
+
+-- a void has the number of a void in a tile
+abbrev pub height_number : Option ℤ → ℤ
+height_number None = VOID
+height_number (Some z) = z
+
+abbrev pub IsHeight : Option ℤ → Type 0
+IsHeight None = Unit {0}
+IsHeight (Some z) = FitsSigned w16 z
+
+abbrev pub flag_number : Bool → ℤ
+flag_number b = pos (if b then 1 else 0)
+
+-- seam ROW COL Z SINK CON DIR ACC BAS SPL RNK
+abbrev pub values_numbers : Values → List ℤ
+values_numbers v = height_number v.z ∷ flag_number v.sink ∷ v.con ∷ v.dir ∷ v.acc ∷ v.bas ∷ v.spl ∷ v.rnk ∷ []
+
+abbrev pub shown_numbers : Shown → List ℤ
+shown_numbers s = pos s.cell.row ∷ pos s.cell.col ∷ values_numbers s.values
+
+abbrev pub shown_line : Shown → List ℕ
+shown_line s = line (codes "seam") (shown_numbers s)
+
+pub record IsShown (s : Shown) : Type 0 where
+  pub cell : IsNarrow s.cell
+  pub height : IsHeight s.values.z
+  pub values : AreInRange s.values
+
+-- a text for each, one after another
+abbrev pub all_text : {X : Type 0} → (X → List ℕ) → List X → List ℕ
+all_text f [] = []
+all_text f (x ∷ xs) = f x ++ all_text f xs
+
+abbrev pub AllAre : {X : Type 0} → (X → Type 0) → List X → Type 0
+AllAre P [] = Unit {0}
+AllAre P (x ∷ xs) = P x × AllAre P xs
+
+-- a line of one whole number
+abbrev pub count_line : List ℕ → ℕ → List ℕ
+count_line word n = line word (pos n ∷ [])
+
+-- inner NORTH SOUTH WEST EAST, then window TOP LEFT ROWS COLS before them
+abbrev pub side_numbers : InnerSides → List ℤ
+side_numbers s = flag_number s.north ∷ flag_number s.south ∷ flag_number s.west ∷ flag_number s.east ∷ []
+
+abbrev pub place_numbers : Place → List ℤ
+place_numbers p = pos p.top ∷ pos p.left ∷ pos p.extent.rows ∷ pos p.extent.cols ∷ side_numbers p.inner
+
+abbrev pub place_line : Place → List ℕ
+place_line p = line (codes "window") (place_numbers p)
+
+pub record IsPlace (p : Place) : Type 0 where
+  pub top : p.top < 2 ^ 32
+  pub left : p.left < 2 ^ 32
+  pub extent : IsExtent p.extent
+
+-- nodata CON DIR ACC BAS SPL RNK
+abbrev pub nodata_numbers : NoDataNumbers → List ℤ
+nodata_numbers n = n.con ∷ n.dir ∷ n.acc ∷ n.bas ∷ n.spl ∷ n.rnk ∷ []
+
+abbrev pub nodata_line : NoDataNumbers → List ℕ
+nodata_line n = line (codes "nodata") (nodata_numbers n)
+
+abbrev pub count_numbers : Counts → List ℤ
+count_numbers c = pos c.rows ∷ pos c.cols ∷ pos c.data_cells ∷ pos c.raised ∷ pos c.outlets ∷ []
+
+abbrev pub fault_numbers : Rule → ℕ → ℕ → List ℤ
+fault_numbers rule row col = pos (rule_number rule) ∷ pos row ∷ pos col ∷ []
+
+-- accepted ROWS COLS DATA RAISED OUTLETS, or rejected RULE ROW COL
+abbrev pub verdict_line : Verdict → List ℕ
+verdict_line (Accepted c) = line (codes "accepted") (count_numbers c)
+verdict_line (Rejected rule row col) = line (codes "rejected") (fault_numbers rule row col)
+
+abbrev pub is_accepted : Verdict → Bool
+is_accepted (Accepted c) = true
+is_accepted (Rejected rule row col) = false
+
+-- the verdict of a fault with these numbers
+abbrev pub IsRejection : List ℤ → Verdict → Type 0
+IsRejection ns (Accepted c) = ⊥
+IsRejection ns (Rejected rule row col) = ns ≡ fault_numbers rule row col
+
+-- tile NAME
+abbrev pub tile_line : Corner → List ℕ
+tile_line c = codes "tile " ++ (name_of c ++ 10 ∷ [])
+
+-- all lines of a report
+abbrev pub head_text : ℕ → Place → NoDataNumbers → Verdict → List ℕ
+head_text side place nodata verdict =
+    codes "drain-window-report 1\n" ++ (count_line (codes "side") side ++ (place_line place ++ (nodata_line nodata ++ verdict_line verdict)))
+
+abbrev pub list_text : {X : Type 0} → List ℕ → (X → List ℕ) → List X → List ℕ
+list_text word f xs = count_line word (length xs) ++ all_text f xs
+
+abbrev pub report_text : ℕ → List Corner → Verdict → Report → List ℕ
+report_text side tiles verdict r =
+    head_text side r.place r.nodata verdict ++ (list_text (codes "tiles") tile_line tiles ++ (list_text (codes "outlets") outlet_line r.outlets
+    ++ (list_text (codes "seams") shown_line r.seams ++ codes "end\n")))

@@ -1,0 +1,2 @@
+pub mod WindowReports
+pub mod WindowVerdicts

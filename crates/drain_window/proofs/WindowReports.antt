@@ -1,0 +1,110 @@
+-- From the notes of all rows to the report on a window, and the verdict.
+use Rattle.std.proofs.Common.{◌≡◌, ℕ, ◌+◌, ◌-◌, ◌<◌, ◌≤◌, true, false, List, refl, sym, ap, subst, arith}
+use Rattle.std.specs.List.Sorted.{IsPermutation}
+use Rattle.std.proofs.lemmas.List.Sorted.{Contains-permutation, IsPermutation-sym}
+use Rattle.drain_grid.specs.declared.cell.Cell.{Cell}
+use Rattle.drain_grid.specs.declared.rule.Rule.{Rule}
+use Rattle.drain_grid.specs.Grid.{Grid, Products}
+use Rattle.drain_grid.specs.Unranked.{unranked}
+use Rattle.drain_grid.proofs.Neighbors.{same_place}
+use Rattle.drain_grid.specs.Values.{NoDataNumbers}
+use Rattle.drain_kernel.specs.declared.rules.Ranks.TheVariants.{Ignored}
+use Rattle.drain_rules.specs.declared.row_outcome.RowOutcome.TheVariants.{Sound, Faulty}
+use Rattle.drain_rules.specs.declared.tally.Tally.{Tally}
+use Rattle.drain_windows.specs.declared.outlet.Outlet.{Outlet}
+use Rattle.drain_windows.specs.declared.place.Place.{Place}
+use Rattle.drain_windows.specs.declared.place.TheConstants.{SEAM_DEPTH}
+use Rattle.drain_windows.specs.declared.report.Shown.{Shown}
+use Rattle.drain_windows.specs.Cuts.{window_at}
+use Rattle.drain_windows.specs.Outlets.{IsSortedByLabel, ListsOutlets}
+use Rattle.drain_windows.specs.Reports.{IsReportOf, ListsSeams}
+use Rattle.drain_windows.specs.Windows.{moved, IsFirstInside, IsPlaceIn, RulesHoldInside}
+use Rattle.drain_window_walk.specs.Areas.{judged_area}
+use Rattle.drain_window_walk.specs.JudgedAreas.{IsJudgedOutcome}
+use Rattle.drain_window_walk.specs.Laws.{IsOfWindow, ListsJudged, WalkJudgesWindow, WalkListsSeams}
+use Rattle.drain_window_walk.specs.SeamRows.{ListsSeamsAbove}
+use Rattle.drain_window_walk.specs.SeamWalks.{IsSeamWalkOf}
+use Rattle.drain_window_walk.specs.WindowWalks.{IsWindowWalkOf}
+use Rattle.drain_window_walk.specs.declared.area.Area.{Area}
+use Rattle.drain_window_walk.specs.declared.seam_walk.SeamWalk.{SeamWalk}
+use Rattle.drain_window_walk.specs.declared.window_walk.WindowWalk.{WindowWalk}
+use Rattle.drain_window.specs.WindowNotes.{AreOfWindow}
+
+-- a sorted list of the same outlets is that of the window
+listed : (nodata : NoDataNumbers) (origin : Cell) (p : Place) (g : Grid) (ps : Products) (outlets sorted : List Outlet) → IsSortedByLabel sorted → IsPermutation outlets sorted →
+    ListsJudged (window_at origin p g ps) outlets → ListsOutlets (window_at origin p g ps) sorted
+listed nodata origin p g ps outlets sorted rise moves lists = record {
+  sorted = rise;
+  sound = λ x has. lists.sound x (Contains-permutation sorted outlets x (IsPermutation-sym outlets sorted moves) has);
+  complete = λ c outlet. Contains-permutation outlets sorted _ moves (lists.complete c outlet);
+}
+
+module _ (judges : WalkJudgesWindow) (lists : WalkListsSeams) (nodata : NoDataNumbers) (origin : Cell) (p : Place) (g : Grid) (ps : Products) (walk : WindowWalk) (seams : SeamWalk)
+    (of : AreOfWindow p origin walk seams) (placed : IsPlaceIn g.extent p) (some : 0 < g.extent.rows)
+    (walked : IsWindowWalkOf (record { nodata = nodata; ranks = Ignored }) g ps g.extent.rows walk) (listed_seams : IsSeamWalkOf g ps g.extent.rows seams) where
+  pub nodata_is : walk.nodata ≡ nodata
+  nodata_is = walked.nodata_is some
+
+  -- the grid is wide enough for the area
+  wide : walk.area.right ≤ g.extent.cols
+  wide =
+      let right : walk.area.right ≡ (judged_area p).right = ap (λ (a : Area). a.right) of.area in
+      let fits : p.left + p.extent.cols ≤ g.extent.cols = placed.cols in
+      omega (arith, right)
+
+  outcome_is : IsJudgedOutcome (unranked nodata) (judged_area p) origin g ps g.extent.rows walk.outlets.items walk.outcome
+  outcome_is =
+      subst (λ n. IsJudgedOutcome (unranked nodata) (judged_area p) origin g ps n walk.outlets.items walk.outcome) walked.rows_are
+      (subst (λ o. IsJudgedOutcome (unranked nodata) (judged_area p) o g ps walk.rows walk.outlets.items walk.outcome) of.walk_origin
+      (subst (λ a. IsJudgedOutcome (unranked nodata) a walk.origin g ps walk.rows walk.outlets.items walk.outcome) of.area (walked.right wide)))
+
+  pub of_window : IsOfWindow nodata origin p g ps walk.outlets.items walk.outcome
+  of_window = judges nodata origin p g ps walk.outlets.items walk.outcome placed outcome_is
+
+  pub seams_are : ListsSeams SEAM_DEPTH (window_at origin p g ps) seams.seams.items
+  seams_are =
+      let fits : seams.place.left + seams.place.extent.cols ≤ g.extent.cols =
+      subst (λ (q : Place). q.left + q.extent.cols ≤ g.extent.cols) (sym of.place) placed.cols in
+      lists origin p g ps seams.seams.items placed
+      (subst (λ n. ListsSeamsAbove origin p g ps n seams.seams.items) listed_seams.rows_are
+      (subst (λ o. ListsSeamsAbove o p g ps seams.rows seams.seams.items) of.seam_origin
+      (subst (λ q. ListsSeamsAbove seams.origin q g ps seams.rows seams.seams.items) of.place (listed_seams.right fits))))
+
+-- the report on a window where the rules hold
+pub report_sound : (nodata at : NoDataNumbers) (origin : Cell) (p : Place) (g : Grid) (ps : Products) (outlets sorted : List Outlet) (shown : List Shown) (tally : Tally) → at ≡ nodata →
+    IsOfWindow nodata origin p g ps outlets (Sound tally) → IsSortedByLabel sorted → IsPermutation outlets sorted → ListsSeams SEAM_DEPTH (window_at origin p g ps) shown →
+    IsReportOf SEAM_DEPTH (window_at origin p g ps) (record { place = moved origin p; nodata = at; holds = true; outlets = sorted; seams = shown })
+report_sound nodata at origin p g ps outlets sorted shown tally same of rise moves seams = record {
+  place = refl;
+  extent = refl;
+  holds = (λ is. subst (λ n. RulesHoldInside n (window_at origin p g ps)) (sym same) of.0, λ holds. refl);
+  outlets = λ is. listed nodata origin p g ps outlets sorted rise moves of.1;
+  seams = λ is. seams;
+}
+
+-- and where one fails
+pub report_faulty : (nodata at : NoDataNumbers) (origin : Cell) (p : Place) (g : Grid) (ps : Products) (outlets : List Outlet) (cell : Cell) (rule : Rule) (none : List Outlet) (nothing : List Shown) → at ≡ nodata →
+    IsOfWindow nodata origin p g ps outlets (Faulty cell rule) →
+    IsReportOf SEAM_DEPTH (window_at origin p g ps) (record { place = moved origin p; nodata = at; holds = false; outlets = none; seams = nothing })
+report_faulty nodata at origin p g ps outlets cell rule none nothing same of = record {
+  place = refl;
+  extent = refl;
+  holds = (
+    λ is. absurd (let no : ⊥ = cc in no),
+    λ holds.
+        (let first = of.2 in
+        absurd (first.fails (subst (λ n. RulesHoldInside n (window_at origin p g ps)) same holds of.0 rule first.judged first.is_own))),
+  );
+  outlets = λ is. absurd (let no : ⊥ = cc in no);
+  seams = λ is. absurd (let no : ⊥ = cc in no);
+}
+
+-- the first fault, in the window's rows and columns
+pub fault_in_window : (nodata : NoDataNumbers) (origin : Cell) (p : Place) (g : Grid) (ps : Products) (outlets : List Outlet) (cell : Cell) (rule : Rule) (row col : ℕ) →
+    row ≡ cell.row - p.top → col ≡ cell.col - p.left → IsOfWindow nodata origin p g ps outlets (Faulty cell rule) →
+    IsFirstInside nodata (window_at origin p g ps) (record { row = row; col = col }) rule
+fault_in_window nodata origin p g ps outlets cell rule row col row_is col_is (c, is, first) =
+    let at_row : p.top + c.row ≡ cell.row = ap (λ (x : Cell). x.row) is in
+    let at_col : p.left + c.col ≡ cell.col = ap (λ (x : Cell). x.col) is in
+    let same : c ≡ record { row = row; col = col } = same_place c (record { row = row; col = col }) (omega (arith, at_row, row_is)) (omega (arith, at_col, col_is)) in
+    subst (λ x. IsFirstInside nodata (window_at origin p g ps) x rule) same first

@@ -1,0 +1,62 @@
+use Rattle.std.proofs.Common.{◌∙◌, true, false, refl, sym, subst}
+use Rattle.drain_windows.specs.declared.place.Place.{Place}
+use Rattle.drain_windows.specs.declared.place.TheConstants.{SEAM_DEPTH}
+use Rattle.drain_windows.specs.Cuts.{window_at}
+use Rattle.drain_windows.specs.Reports.{IsReportOf}
+use Rattle.drain_window.proofs.WindowReports.{fault_in_window, nodata_is, of_window, report_faulty, report_sound, seams_are}
+use Rattle.drain_window.proofs.answered.answered.Goals as goal
+
+pub returns-in-Sound : goal.returns-in-Sound
+returns-in-Sound c = λ nodata g ps placed some walked listed.
+    let judges = c.walk_judges_window.ensures in
+    let lists = c.walk_lists_seams.ensures in
+    let p = c.args.place.now in
+    let of = c.if-not-are_of.ensures refl in
+    let at = nodata_is judges lists nodata c.args.origin p g ps c.args.walk c.args.seams of placed some walked listed in
+    let k = c.counts_of.ensures in
+    let found = rw c.in-Sound.is at (of_window judges lists nodata c.args.origin p g ps c.args.walk c.args.seams of placed some walked listed) in
+    record {
+      nodata_is = at;
+      report = subst (λ (q : Place). IsReportOf SEAM_DEPTH (window_at c.args.origin p g ps) (record {
+        place = q;
+        nodata = c.args.walk.nodata;
+        holds = true;
+        outlets = c.sorted.result.items;
+        seams = c.args.seams.seams.items;
+      })) (sym c.moved-at.ensures)
+          (report_sound nodata c.args.walk.nodata c.args.origin p g ps c.args.walk.outlets.items c.sorted.result.items c.args.seams.seams.items c.in-Sound.total at found
+          c.sorted.ensures.sorted c.sorted.ensures.permutation (seams_are judges lists nodata c.args.origin p g ps c.args.walk c.args.seams of placed some walked listed));
+      verdict = (
+        found.0,
+        record {
+          rows = k.rows;
+          cols = k.cols;
+          data_cells = k.data_cells ∙ found.2.data_cells;
+          raised = k.raised ∙ found.2.raised;
+          outlets = k.outlets ∙ found.2.outlets;
+        },
+      );
+    }
+
+pub returns-in-Faulty : goal.returns-in-Faulty
+returns-in-Faulty c = λ nodata g ps placed some walked listed.
+    let judges = c.walk_judges_window.ensures in
+    let lists = c.walk_lists_seams.ensures in
+    let p = c.args.place.now in
+    let of = c.if-not-are_of.ensures refl in
+    let at = nodata_is judges lists nodata c.args.origin p g ps c.args.walk c.args.seams of placed some walked listed in
+    let found = rw c.in-Faulty.is at (of_window judges lists nodata c.args.origin p g ps c.args.walk c.args.seams of placed some walked listed) in
+    record {
+      nodata_is = at;
+      report = subst (λ (q : Place). IsReportOf SEAM_DEPTH (window_at c.args.origin p g ps) (record {
+        place = q;
+        nodata = c.args.walk.nodata;
+        holds = false;
+        outlets = c.new.result.items;
+        seams = c.new-in-Faulty.result.items;
+      })) (sym c.moved-at.ensures)
+          (report_faulty nodata c.args.walk.nodata c.args.origin p g ps c.args.walk.outlets.items c.in-Faulty.cell c.in-Faulty.rule c.new.result.items
+          c.new-in-Faulty.result.items at found);
+      verdict = fault_in_window nodata c.args.origin p g ps c.args.walk.outlets.items c.in-Faulty.cell c.in-Faulty.rule c.saturating_sub.result
+          c.saturating_sub-in-Faulty.result c.saturating_sub.ensures c.saturating_sub-in-Faulty.ensures found;
+    }

@@ -1,0 +1,60 @@
+use Rattle.std.proofs.Common.{◌≡◌, ◌<◌, ◌∙◌, Ok, Err, ap, subst, arith, rules}
+use Rattle.std.proofs.lemmas.Result.{err_from_is_err_and}
+use Rattle.drain_grid.specs.declared.cell.Cell.{Cell}
+use Rattle.drain_grid.specs.Size.{Extent, IsExtent}
+use Rattle.drain_mosaic.specs.Tiling.{extent_of}
+use Rattle.drain_verdict.specs.AuditInputs.{with_con_for_ranks}
+use Rattle.drain_verdict.specs.Meaning.{input_grid, input_products, nodata_numbers}
+use Rattle.drain_answer.specs.declared.refusal.Refusal.TheVariants.{OutOfMemory}
+use Rattle.drain_verdict.proofs.AuditDevices.{failed_alike, none_alike}
+use Rattle.drain_verdict.proofs.StartAnswers.{layout_of_inputs}
+use Rattle.drain_verdict.proofs.Uses.{four_used}
+use Rattle.drain_windows.specs.Windows.{IsPlaceIn}
+use Rattle.drain_window.specs.MapOrigins.{map_origin}
+use Rattle.drain_window.specs.WindowAnswers.{IsAnswerOn}
+use Rattle.drain_window.proofs.WindowVerdicts.{memory_alike}
+use Rattle.drain_window.proofs.judge.answer_at.Goals as goal
+
+pub answer_on-requires-clause-unnoted : goal.answer_on-requires-clause-unnoted
+answer_on-requires-clause-unnoted g c = λ rules grid ps. (
+  c.new.ensures.right grid ps,
+  (c.new-2.ensures.right rules grid ps, record { rows_are = c.new-3.ensures.rows; right = c.new-3.ensures.finding rules grid ps }),
+)
+
+pub returns-in_err-_of_all-clause-answer : goal.returns-in_err-_of_all-clause-answer
+returns-in_err-_of_all-clause-answer g c =
+    let told = err_from_is_err_and c.from_residual.result c.from_residual.ensures.1 in
+    rw (told.1, told.2) (λ inputs tell. c.in_err-_of_all.ensures.answer inputs tell)
+
+pub returns-in_err-_of_all-clause-uses : goal.returns-in_err-_of_all-clause-uses
+returns-in_err-_of_all-clause-uses g c =
+    let told = err_from_is_err_and c.from_residual.result c.from_residual.ensures.1 in
+    let uses = c.in_err-_of_all.ensures.uses in
+    rw (told.1, told.2) (four_used g.R.ByteSource.bytes_left g.R.ByteSource.counts c.args.layout.now.side (c.args.tiles.now, c.args.products.now) (c.answer_on.new.tiles, c.answer_on.new.products)
+    (Err c.in_err-_of_all.field-0.0) (Err c.in_err-_of_all.field-0.0) (failed_alike c.in_err-_of_all.field-0.0) uses.untouched uses)
+
+pub returns-in-Some-clause-answer : goal.returns-in-Some-clause-answer
+returns-in-Some-clause-answer g c = λ inputs tell.
+    let is = layout_of_inputs c.one_name.ensures g.R.ByteSource.bytes_left c.args.layout.now.side c.args.tiles.now c.args.sinks.now
+    (with_con_for_ranks c.args.products.now) inputs c.args.layout.now tell c.requires.laid in
+    let extent : c.shape-shape.result ≡ (input_grid inputs).extent = c.shape-shape.ensures ∙ ap extent_of is in
+    let fits : IsExtent (input_grid inputs).extent = subst IsExtent extent (search rules) in
+    let some : 0 < (input_grid inputs).extent.rows = omega (arith, fits.some_row) in
+    let placed = subst (λ (e : Extent). IsPlaceIn e c.args.place.now) (ap extent_of is) c.requires.placed in
+    let noted = c.in_ok-_of_all.ensures.noted inputs tell in
+    let answer = c.in_ok-_of_all.ensures.answer inputs tell in (
+      answer.0,
+      subst (λ (o : Cell). IsAnswerOn (nodata_numbers inputs) o c.args.place.now (input_grid inputs) (input_products inputs) c.in-Some.answer)
+          (c.map_origin-origin.ensures.origin ∙ ap map_origin is)
+          (c.in-Some.ensures (nodata_numbers inputs) (input_grid inputs) (input_products inputs) placed some noted.1.0 noted.0),
+    )
+
+pub returns-in-Some-clause-uses : goal.returns-in-Some-clause-uses
+returns-in-Some-clause-uses g c =
+    four_used g.R.ByteSource.bytes_left g.R.ByteSource.counts c.args.layout.now.side (c.args.tiles.now, c.args.products.now) (c.answer_on.new.tiles, c.answer_on.new.products)
+    (Ok c.in_ok-_of_all._of_all) (Ok _) (none_alike c.in_ok-_of_all._of_all _) tt c.in_ok-_of_all.ensures.uses
+
+pub returns-clause-uses : goal.returns-clause-uses
+returns-clause-uses g c =
+    four_used g.R.ByteSource.bytes_left g.R.ByteSource.counts c.args.layout.now.side (c.args.tiles.now, c.args.products.now) (c.answer_on.new.tiles, c.answer_on.new.products)
+    (Ok c.in_ok-_of_all._of_all) (Err OutOfMemory) (memory_alike c.in_ok-_of_all._of_all) (λ not. absurd (not tt)) c.in_ok-_of_all.ensures.uses

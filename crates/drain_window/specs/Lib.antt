@@ -1,0 +1,3 @@
+pub mod MapOrigins
+pub mod WindowAnswers
+pub mod WindowNotes

@@ -1,0 +1,75 @@
+-- What a run on one window answers. Source: this project's own.
+use Rattle.std.specs.Prelude.{◌≡◌, Result, Ok, Err}
+use Rattle.std.specs.List.{count_by}
+use Rattle.drain_answer.specs.declared.refusal.Refusal.{Refusal}
+use Rattle.drain_answer.specs.declared.refusal.Refusal.TheVariants.{BoxTooLarge}
+use Rattle.drain_grid.specs.declared.cell.Cell.{Cell}
+use Rattle.drain_grid.specs.declared.rule.Rule.{Rule}
+use Rattle.drain_grid.specs.Counts.{is_data, is_raised}
+use Rattle.drain_grid.specs.Grid.{Grid, Products}
+use Rattle.drain_grid.specs.Values.{NoDataNumbers}
+use Rattle.drain_rules.specs.declared.verdict.Counts.{Counts}
+use Rattle.drain_rules.specs.declared.verdict.Verdict.{Verdict}
+use Rattle.drain_rules.specs.declared.verdict.Verdict.TheVariants.{Accepted, Rejected}
+use Rattle.drain_rules.specs.Verdicts.{has_outlet_code}
+use Rattle.drain_verdict.specs.Answers.{AreReadable, IsRefusal}
+use Rattle.drain_verdict.specs.Inputs.{Inputs}
+use Rattle.drain_verdict.specs.Meaning.{input_grid, input_products, nodata_numbers, tiling_of}
+use Rattle.drain_windows.specs.declared.place.Place.{Place}
+use Rattle.drain_windows.specs.declared.place.TheConstants.{SEAM_DEPTH}
+use Rattle.drain_windows.specs.Cuts.{window_at}
+use Rattle.drain_windows.specs.Reports.{IsReportOf}
+use Rattle.drain_windows.specs.Windows.{Window, IsFirstInside, IsPlaceIn, RulesHoldInside}
+use Rattle.drain_window_walk.specs.Areas.{cells_in, judged_area}
+use Rattle.drain_window.specs.MapOrigins.{map_origin}
+use Rattle.drain_window.specs.declared.window_answer.WindowAnswer.{WindowAnswer}
+use Rattle.drain_window.specs.declared.window_answer.WindowRefusal.{WindowRefusal}
+use Rattle.drain_window.specs.declared.window_answer.WindowRefusal.TheVariants.{Inputs as OfInputs, OutsideMosaic}
+
+-- the window that lies at this place of the inputs' mosaic, as a window of a union of all tiles on the map
+abbrev pub window_of : Place → Inputs → Window
+window_of p i = window_at (map_origin (tiling_of i)) p (input_grid i) (input_products i)
+
+-- the size of the window, and how many of its judged cells have data, are raised, and are outlets by their code
+pub record AreJudgedCounts (p : Place) (g : Grid) (ps : Products) (k : Counts) : Type 0 where
+  pub rows : k.rows ≡ p.extent.rows
+  pub cols : k.cols ≡ p.extent.cols
+  pub data_cells : k.data_cells ≡ count_by (is_data g) (cells_in (judged_area p))
+  pub raised : k.raised ≡ count_by (is_raised g ps) (cells_in (judged_area p))
+  pub outlets : k.outlets ≡ count_by (has_outlet_code g ps) (cells_in (judged_area p))
+
+-- accepted where the rules hold at every judged cell, else rejected with the first fault, in the window's rows and columns
+abbrev pub IsJudgedVerdict : NoDataNumbers → Cell → Place → Grid → Products → Verdict → Type 0
+IsJudgedVerdict nodata origin p g ps (Accepted counts) = RulesHoldInside nodata (window_at origin p g ps) × AreJudgedCounts p g ps counts
+IsJudgedVerdict nodata origin p g ps (Rejected rule row col) = IsFirstInside nodata (window_at origin p g ps) (record { row = row; col = col }) rule
+
+-- the report and the verdict on the window at a place of a grid, which begins at this cell of the union
+pub record IsAnswerOn (nodata : NoDataNumbers) (origin : Cell) (p : Place) (g : Grid) (ps : Products) (a : WindowAnswer) : Type 0 where
+  pub nodata_is : a.report.nodata ≡ nodata
+  pub report : IsReportOf SEAM_DEPTH (window_at origin p g ps) a.report
+  pub verdict : IsJudgedVerdict nodata origin p g ps a.verdict
+
+-- the answer to the inputs: no refusal applies, and the window is reported; else the place lies outside the mosaic, or
+-- the refusal is the first that applies
+abbrev pub IsWindowAnswer : Place → Inputs → Result WindowAnswer WindowRefusal → Type 0
+IsWindowAnswer p i (Ok a) =
+    AreReadable i × IsPlaceIn (input_grid i).extent p × IsAnswerOn (nodata_numbers i) (map_origin (tiling_of i)) p (input_grid i) (input_products i) a
+IsWindowAnswer p i (Err (OfInputs refusal)) = IsRefusal i refusal
+IsWindowAnswer p i (Err OutsideMosaic) = ¬ IsPlaceIn (input_grid i).extent p
+
+-- the answer, with a place outside the mosaic as a refusal for which no header is looked at
+abbrev pub as_refused : Result WindowAnswer WindowRefusal → Result WindowAnswer Refusal
+as_refused (Ok a) = Ok a
+as_refused (Err (OfInputs refusal)) = Err refusal
+as_refused (Err OutsideMosaic) = Err BoxTooLarge
+
+-- the same of an answer once the place is known to lie in the mosaic
+abbrev pub IsPlacedAnswer : Place → Inputs → Result WindowAnswer Refusal → Type 0
+IsPlacedAnswer p i (Ok a) =
+    AreReadable i × IsAnswerOn (nodata_numbers i) (map_origin (tiling_of i)) p (input_grid i) (input_products i) a
+IsPlacedAnswer p i (Err refusal) = IsRefusal i refusal
+
+-- this holds of the first fault, where the verdict is a rejection
+abbrev pub IfRejected : Verdict → (Cell → Rule → Type 0) → Type 0
+IfRejected (Accepted counts) P = Unit {0}
+IfRejected (Rejected rule row col) P = P (record { row = row; col = col }) rule

@@ -1,0 +1,142 @@
+//! The answer from what was noted of the rows.
+
+ghost use Rattle.std.specs.Prelude.{◌≡◌, ◌<◌, IsTrue, IfSome};
+ghost use Rattle.std.specs.List.Sorted.{IsPermutation};
+ghost use Rattle.drain_grid.specs.Grid.{Grid, Products};
+ghost use Rattle.drain_grid.specs.Values.{NoDataNumbers};
+ghost use Rattle.drain_kernel.specs.declared.rules.Ranks.TheVariants.{Ignored};
+ghost use Rattle.drain_window.specs.WindowAnswers.{IsAnswerOn};
+ghost use Rattle.drain_window.specs.WindowNotes.{AreOfWindow};
+ghost use Rattle.drain_window_walk.specs.SeamRows.{EndsInRange, IsOrigin};
+ghost use Rattle.drain_window_walk.specs.SeamWalks.{IsSeamWalkOf};
+ghost use Rattle.drain_window_walk.specs.WindowWalks.{IsWindowWalkOf};
+ghost use Rattle.drain_windows.specs.Outlets.{IsSortedByLabel};
+ghost use Rattle.drain_windows.specs.Windows.{IsPlaceIn};
+
+use crate::window_answer::WindowAnswer;
+use drain_grid::Cell;
+use drain_rules::row_outcome::RowOutcome;
+use drain_rules::tally::Tally;
+use drain_rules::{Counts, Verdict};
+use drain_window_walk::laws::{walk_judges_window, walk_lists_seams};
+use drain_window_walk::{Area, SeamWalk, WindowWalk};
+use drain_windows::{Outlet, Place, Report, sort_by_label};
+use std::alloc::Global;
+
+/// The answer from the notes of all rows of a grid, for the window at this place of it. None if the notes are of
+/// another window, which never happens.
+pub(crate) fn answered(
+    alloc: Global,
+    place: &Place,
+    origin: Cell,
+    walk: WindowWalk,
+    seams: SeamWalk,
+) -> Option<WindowAnswer>
+    requires placed { EndsInRange place.now }
+    requires moved { IsOrigin origin }
+    ensures { IfSome result (λ a. (nodata : NoDataNumbers) (g : Grid) (ps : Products) → IsPlaceIn g.extent place.now → 0 < g.extent.rows
+        → IsWindowWalkOf (record { nodata = nodata; ranks = Ignored }) g ps g.extent.rows walk → IsSeamWalkOf g ps g.extent.rows seams → IsAnswerOn nodata origin place.now g ps a) }
+{
+    // The laws on what the notes say of the window.
+    walk_judges_window();
+    walk_lists_seams();
+    if !are_of(place, origin, &walk, &seams) {
+        return None;
+    }
+    let at = place.moved(origin);
+    let nodata = walk.nodata;
+    match walk.outcome {
+        RowOutcome::Sound(total) => {
+            Some(WindowAnswer {
+                report: Report {
+                    place: at,
+                    nodata,
+                    holds: true,
+                    outlets: sorted(walk.outlets),
+                    seams: seams.seams,
+                },
+                verdict: Verdict::Accepted(counts_of(place, &total)),
+            })
+        }
+        RowOutcome::Faulty(cell, rule) => Some(WindowAnswer {
+            report: Report {
+                place: at,
+                nodata,
+                holds: false,
+                outlets: Vec::new(alloc),
+                seams: Vec::new(alloc),
+            },
+            verdict: Verdict::Rejected {
+                rule,
+                row: cell.row.saturating_sub(place.top),
+                col: cell.col.saturating_sub(place.left),
+            },
+        }),
+    }
+}
+
+/// The size of the window, and the counts of its judged cells.
+fn counts_of(place: &Place, total: &Tally) -> Counts
+    ensures rows { result.rows ≡ place.now.extent.rows }
+    ensures cols { result.cols ≡ place.now.extent.cols }
+    ensures data_cells { result.data_cells ≡ total.now.data_cells }
+    ensures raised { result.raised ≡ total.now.raised }
+    ensures outlets { result.outlets ≡ total.now.outlets }
+{
+    Counts {
+        rows: place.extent.rows(),
+        cols: place.extent.cols(),
+        data_cells: total.data_cells,
+        raised: total.raised,
+        outlets: total.outlets,
+    }
+}
+
+/// Whether the notes are of the window at this place.
+fn are_of(place: &Place, origin: Cell, walk: &WindowWalk, seams: &SeamWalk) -> bool
+    requires { EndsInRange place.now }
+    ensures { IsTrue result → AreOfWindow place.now origin walk.now seams.now }
+{
+    let area = Area::judged_in(place);
+    if !same_area(&walk.area, &area) {
+        return false;
+    }
+    if !same_cell(walk.origin, origin) {
+        return false;
+    }
+    if !same_place(&seams.place, place) {
+        return false;
+    }
+    same_cell(seams.origin, origin)
+}
+
+/// Whether the two are one area.
+fn same_area(a: &Area, b: &Area) -> bool
+    ensures { IsTrue result → a.now ≡ b.now }
+{
+    a == b
+}
+
+/// Whether the two are one cell.
+fn same_cell(a: Cell, b: Cell) -> bool
+    ensures { IsTrue result → a ≡ b }
+{
+    a == b
+}
+
+/// Whether the two are one place.
+fn same_place(a: &Place, b: &Place) -> bool
+    ensures { IsTrue result → a.now ≡ b.now }
+{
+    a == b
+}
+
+/// The same outlets, sorted by label.
+fn sorted(outlets: Vec<Outlet>) -> Vec<Outlet>
+    ensures sorted { IsSortedByLabel result.items }
+    ensures permutation { IsPermutation outlets.items result.items }
+{
+    let mut outlets = outlets;
+    sort_by_label(outlets.as_mut_slice());
+    outlets
+}

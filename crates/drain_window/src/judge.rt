@@ -1,0 +1,153 @@
+//! One window of a union, from the bytes of its tiles and products.
+
+ghost use Rattle.std.specs.Prelude.{◌≡◌, Ok, IfOk};
+ghost use Rattle.drain_hgt.specs.Inputs.{names_of};
+ghost use Rattle.drain_mosaic.specs.Tiling.{extent_of};
+ghost use Rattle.drain_verdict.specs.Audits.{ForAudit};
+ghost use Rattle.drain_verdict.specs.Meaning.{nodata_numbers};
+ghost use Rattle.drain_verdict.specs.Stages.{IsLayoutOf};
+ghost use Rattle.drain_windows.specs.declared.place.TheConstants.{SEAM_DEPTH};
+ghost use Rattle.drain_windows.specs.Reports.{IsReportOf};
+ghost use Rattle.drain_windows.specs.Windows.{IsFirstInside, IsPlaceIn};
+ghost use Rattle.drain_verdict.specs.Uses.{AuditUses};
+ghost use Rattle.drain_window.specs.WindowAnswers.{as_refused, IfRejected, IsPlacedAnswer, IsWindowAnswer, window_of};
+
+use crate::answered::answered;
+use crate::map_origin::map_origin;
+use crate::window_answer::{WindowAnswer, WindowRefusal};
+use drain_answer::Refusal;
+use drain_device::ByteSource;
+use drain_hgt::TileInput;
+use drain_hgt::laws::one_name;
+use drain_mosaic::Layout;
+use drain_rows::BothVisitors;
+use drain_rules::{GridWalk, Ranks};
+use drain_verdict::AuditProducts;
+use drain_verdict::answer::answer_on;
+use drain_verdict::layout::layout_of;
+use drain_window_walk::{Area, SeamWalk, WindowWalk};
+use drain_windows::Place;
+use std::alloc::Global;
+
+/// Whether the rules hold at the judged cells of one window, with its report; or why that isn't answered.
+///
+/// `side`, `tiles`, `sinks` and `products` are those of an audit of the mosaic of the tiles. `place` is where the window
+/// lies in this mosaic: on its inner sides the union goes on, and each other side has to be an edge of the mosaic. The
+/// rules are tried at each cell of the window but those of the outermost row or column of an inner side. The report has
+/// the window's place on the map. Memory: the outlets of the window, what it shows along its seams, and three rows.
+pub fn judge_window<R: ByteSource>(
+    alloc: Global,
+    side: u32,
+    tiles: &mut [TileInput<R>],
+    sinks: &[u8],
+    products: &mut AuditProducts<R>,
+    place: &Place,
+) -> Result<WindowAnswer, WindowRefusal>
+    // Unless memory ran out or a read failed, the answer is that of the bytes.
+    ensures answer { ForAudit R.bytes_left side tiles.old sinks.now products.old (λ inputs. IsWindowAnswer place.now inputs result) }
+
+    // What is handed over is a report on the window, with the no-data numbers of the products.
+    ensures report { IfOk result (λ a. ForAudit R.bytes_left side tiles.old sinks.now products.old (λ inputs. IsReportOf SEAM_DEPTH (window_of place.now inputs) a.report)) }
+    ensures nodata { IfOk result (λ a. ForAudit R.bytes_left side tiles.old sinks.now products.old (λ inputs. a.report.nodata ≡ nodata_numbers inputs)) }
+
+    // How far it reads, when a read fails, and what is unchanged: as for an audit.
+    ensures uses { AuditUses R.bytes_left R.counts side (tiles.old, products.old) (tiles.new, products.new) (as_refused result) }
+
+    // A rejection has the first fault of the window.
+    ensures first { IfOk result (λ a. IfRejected a.verdict (λ cell rule. ForAudit R.bytes_left side tiles.old sinks.now products.old (λ inputs. IsFirstInside (nodata_numbers inputs) (window_of place.now inputs) cell rule))) }
+{
+    answer_of(alloc, side, tiles, sinks, products, place)
+}
+
+/// The answer to the bytes.
+fn answer_of<R: ByteSource>(
+    alloc: Global,
+    side: u32,
+    tiles: &mut [TileInput<R>],
+    sinks: &[u8],
+    products: &mut AuditProducts<R>,
+    place: &Place,
+) -> Result<WindowAnswer, WindowRefusal>
+    ensures answer { ForAudit R.bytes_left side tiles.old sinks.now products.old (λ inputs. IsWindowAnswer place.now inputs result) }
+    ensures uses { AuditUses R.bytes_left R.counts side (tiles.old, products.old) (tiles.new, products.new) (as_refused result) }
+{
+    // The law that bytes name one tile.
+    one_name();
+    match layout_of(alloc, side, tiles) {
+        Ok(layout) => answer_in(alloc, &layout, sinks, tiles, products, place),
+        Err(refusal) => Err(WindowRefusal::Inputs(refusal)),
+    }
+}
+
+/// The answer to the bytes of inputs of this mosaic.
+fn answer_in<R: ByteSource>(
+    alloc: Global,
+    layout: &Layout,
+    sinks: &[u8],
+    tiles: &mut [TileInput<R>],
+    products: &mut AuditProducts<R>,
+    place: &Place,
+) -> Result<WindowAnswer, WindowRefusal>
+    requires laid { IsLayoutOf layout.now.side (names_of tiles.old) layout.now }
+    ensures answer { ForAudit R.bytes_left layout.now.side tiles.old sinks.now products.old (λ inputs. IsWindowAnswer place.now inputs result) }
+    ensures uses { AuditUses R.bytes_left R.counts layout.now.side (tiles.old, products.old) (tiles.new, products.new) (as_refused result) }
+{
+    // The law that bytes name one tile.
+    one_name();
+    if !place.lies_in(layout.shape()) {
+        return Err(WindowRefusal::OutsideMosaic);
+    }
+    match answer_at(alloc, layout, sinks, tiles, products, place) {
+        Ok(answer) => Ok(answer),
+        Err(refusal) => Err(WindowRefusal::Inputs(refusal)),
+    }
+}
+
+/// The answer to the bytes of inputs of this mosaic, for a place that lies in it.
+fn answer_at<R: ByteSource>(
+    alloc: Global,
+    layout: &Layout,
+    sinks: &[u8],
+    tiles: &mut [TileInput<R>],
+    products: &mut AuditProducts<R>,
+    place: &Place,
+) -> Result<WindowAnswer, Refusal>
+    requires laid { IsLayoutOf layout.now.side (names_of tiles.old) layout.now }
+    requires placed { IsPlaceIn (extent_of layout.now) place.now }
+    ensures answer { ForAudit R.bytes_left layout.now.side tiles.old sinks.now products.old (λ inputs. IsPlacedAnswer place.now inputs result) }
+    ensures uses { AuditUses R.bytes_left R.counts layout.now.side (tiles.old, products.old) (tiles.new, products.new) result }
+{
+    // The law that bytes name one tile.
+    one_name();
+    let shape = layout.shape();
+    let origin = map_origin(layout);
+    let mut notes = BothVisitors {
+        first: SeamWalk::new(alloc, *place, origin),
+        second: BothVisitors {
+            first: WindowWalk::new(alloc, Area::judged_in(place), origin),
+            second: GridWalk::new(alloc),
+        },
+    };
+    let _of_all = answer_on(
+        alloc,
+        layout,
+        sinks,
+        tiles,
+        products,
+        Ranks::Ignored,
+        &mut notes,
+    )?;
+    let _rows = shape.rows();
+    let BothVisitors {
+        first: seams,
+        second,
+    } = notes;
+    let BothVisitors {
+        first: walk,
+        second: _,
+    } = second;
+    match answered(alloc, place, origin, walk, seams) {
+        Some(answer) => Ok(answer),
+        None => Err(Refusal::OutOfMemory),
+    }
+}

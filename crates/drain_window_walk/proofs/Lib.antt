@@ -1,0 +1,5 @@
+pub mod ClearedCells
+pub mod JudgedCells
+pub mod JudgedRows
+pub mod JudgedWindows
+pub mod SeamCells

@@ -1,0 +1,11 @@
+//! A union of any size, judged by windows.
+#![tactic(auto)]
+
+pub mod laws;
+pub mod outlet;
+pub mod place;
+pub mod report;
+
+pub use outlet::{Outlet, first_shared, sort_by_label};
+pub use place::{InnerSides, Place, SEAM_DEPTH};
+pub use report::{Report, Shown};

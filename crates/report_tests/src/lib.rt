@@ -1,0 +1,5 @@
+//! Tests of the texts of reports.
+#![tactic(auto)]
+
+#[cfg(test)]
+mod texts;
