@@ -5,7 +5,7 @@ It reports, each with its file and line:
 - a path, a link, a target of `make`, or a command or option of `drain` that doesn't exist;
 - a line of README.md over 100 characters, a README.md over 80 lines, and a line of the other pages or of docs/ over
   120 characters (200 in a table; code is exempt);
-- a word that readers don't know (WORDS), outside code; and docs/ over 30,000 words in all;
+- a word that readers don't know (WORDS), outside code; and docs/ over 31,000 words in all;
 - with PROGRAM, an example whose output isn't what the program prints.
 
 An example is a fenced block with a line `$ drain ..` or `$ build/drain ..`. All its lines `$ ..` are run, in order, by
@@ -28,7 +28,7 @@ import sys
 import tempfile
 from collections.abc import Iterator
 
-README_LINE, README_LINES, DOCS_LINE, TABLE_LINE, DOCS_WORDS = 100, 80, 120, 200, 30_000
+README_LINE, README_LINES, DOCS_LINE, TABLE_LINE, DOCS_WORDS = 100, 80, 120, 200, 31_000
 WORDS = re.compile(
     r"\b(noughts?|want\s+of\s+memory|(?:is|are|was|were)\s+(?:told|asked\s+for)|hand(?:s|ed)\s+out|whoever"
     r"|a\s+word\s+on|faults?\s+of\s+the\s+words)\b",
