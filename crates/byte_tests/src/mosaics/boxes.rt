@@ -3,7 +3,7 @@
 ghost use Rattle.std.specs.Prelude.{◌≡◌, ◌*◌, IfOk, All, map, length};
 ghost use Rattle.drain_grid.specs.Tile.{IsSide};
 
-use super::{four_tiles, samples_made, seam_fault, turn};
+use super::{samples_made, seam_fault, turn};
 use crate::agree::same;
 use crate::tiles::{four_named, two_named};
 use drain_grid::{Cell, Elevation};
@@ -23,15 +23,16 @@ fn eight_named(names: &[&str; 8]) -> Result<[TileName; 8], NameFault> {
 fn eight_tiles(alloc: Global, samples: &[[i16; 4]; 8]) -> Result<[Vec<i16>; 8], AllocError>
     ensures { IfOk result (λ tiles. All (λ tile. length tile ≡ 4) (map (λ tile. tile.items) tiles)) }
 {
-    let [first, second, third, fourth] = four_tiles(
-        alloc,
-        &[samples[0], samples[1], samples[2], samples[3]],
-    )?;
-    let [fifth, sixth, seventh, eighth] = four_tiles(
-        alloc,
-        &[samples[4], samples[5], samples[6], samples[7]],
-    )?;
-    Ok([first, second, third, fourth, fifth, sixth, seventh, eighth])
+    Ok([
+        Vec::from_slice(alloc, &samples[0])?,
+        Vec::from_slice(alloc, &samples[1])?,
+        Vec::from_slice(alloc, &samples[2])?,
+        Vec::from_slice(alloc, &samples[3])?,
+        Vec::from_slice(alloc, &samples[4])?,
+        Vec::from_slice(alloc, &samples[5])?,
+        Vec::from_slice(alloc, &samples[6])?,
+        Vec::from_slice(alloc, &samples[7])?,
+    ])
 }
 
 /// What eight tiles of side 2 give together.
