@@ -1,4 +1,4 @@
-//! What a run on one window hands over.
+//! A window's report and its verdict.
 
 use drain_rules::Verdict;
 use drain_windows::Report;

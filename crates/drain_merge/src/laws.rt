@@ -4,8 +4,8 @@
 
 ghost use Rattle.drain_merge.specs.MapLaws.{BoxBegins, JudgedFromMap};
 
-/// What is handed over of a window of a map is, counted from a cell before it, so of the window counted from there. So
-/// what `merge` promises of windows of a union holds of those of a map.
+/// The report of a window of a map, counted from a cell before it, is a report of the window counted from there. So what
+/// `merge` promises of windows of a union holds of those of a map.
 pub fn judged_from_map()
     ensures { JudgedFromMap }
 {}

@@ -1,4 +1,4 @@
-//! What the windows of a union hand over, put together: one verdict on the union.
+//! The reports of the windows of a union, combined into one verdict on the union.
 #![tactic(auto)]
 
 mod corners;

@@ -1,4 +1,4 @@
-//! The verdict on a union, from what its windows hand over.
+//! The verdict on a union, from the reports of its windows.
 
 ghost use Rattle.std.specs.Prelude.{IfOk, IfErr, OnOk};
 ghost use Rattle.drain_merge.specs.JudgedWindows.{places_of, all_outlets, all_seams};
@@ -32,7 +32,7 @@ pub fn merge(
     size: UnionSize,
     windows: &[JudgedWindow],
 ) -> Result<MergeVerdict, MergeRefusal>
-    // The verdict accepts exactly if the products of the union are correct, and else it tells their first fault.
+    // The verdict accepts exactly if the products of the union are correct, and else it names their first fault.
     ensures means { IfOk result (IsUnionVerdict size windows.now) }
 
     // What it is computed from, and the counts.

@@ -1,4 +1,4 @@
-//! What a window hands over, with rows and columns counted from another cell.
+//! A window's report, with rows and columns counted from another cell.
 
 ghost use Rattle.std.specs.Prelude.{◌≡◌, map};
 ghost use Rattle.drain_merge.specs.Moved.{cell_from, judged_from, outlet_from, place_from, report_from, shown_from};
@@ -7,7 +7,7 @@ use crate::judged_window::JudgedWindow;
 use drain_grid::Cell;
 use drain_windows::{Outlet, Place, Report, Shown};
 
-/// What a window hands over, with rows and columns counted from this cell.
+/// A window's report, with rows and columns counted from this cell.
 pub(crate) fn moved_window(origin: Cell, window: JudgedWindow) -> JudgedWindow
     ensures { result ≡ judged_from origin window }
 {

@@ -46,7 +46,7 @@ pub fn judge_window<R: ByteSource>(
     // Unless memory ran out or a read failed, the answer is that of the bytes.
     ensures answer { ForAudit R.bytes_left side tiles.old sinks.now products.old (λ inputs. IsWindowAnswer place.now inputs result) }
 
-    // What is handed over is a report on the window, with the no-data numbers of the products.
+    // The report is that of the window, with the no-data numbers of the products.
     ensures report { IfOk result (λ a. ForAudit R.bytes_left side tiles.old sinks.now products.old (λ inputs. IsReportOf SEAM_DEPTH (window_of place.now inputs) a.report)) }
     ensures nodata { IfOk result (λ a. ForAudit R.bytes_left side tiles.old sinks.now products.old (λ inputs. a.report.nodata ≡ nodata_numbers inputs)) }
 

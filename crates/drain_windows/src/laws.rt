@@ -42,7 +42,7 @@ pub fn merge_is_exact()
     ensures { MergeIsExact }
 {}
 
-/// Whether places judge each cell is told by the cells at crossings of corner rows and corner columns.
+/// Places judge each cell if they judge the cells at crossings of corner rows and corner columns.
 pub fn corners_tell_whole()
     ensures { CornersTellWhole }
 {}
@@ -57,7 +57,7 @@ pub fn least_fault_is_first()
     ensures { LeastFaultIsFirst }
 {}
 
-/// Whether two places overlap in their seams is told by their edges.
+/// The edges of two places decide whether they overlap in their seams alone.
 pub fn edges_tell_overlap()
     ensures { EdgesTellOverlap }
 {}

@@ -1,4 +1,4 @@
-//! What a run on one window hands over.
+//! A report on one window.
 
 use crate::outlet::Outlet;
 use crate::place::Place;
