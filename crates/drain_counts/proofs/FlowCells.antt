@@ -19,7 +19,7 @@ use Rattle.drain_paths.specs.KnownFlows.{IsKnownFlow, AreKnownFlows}
 use Rattle.drain_paths.proofs.KnownWays.{AreKnownFlows-grid, stuck_outside, stuck_void, leads_on}
 use Rattle.drain_paths.proofs.NextCells.{next-unnamed, next-of_no_code, no_void}
 
-with_height : (z : Option ℤ) (n : ℤ) → IsSome z → cell_flow z n ≡ code_flow n
+pub with_height : (z : Option ℤ) (n : ℤ) → IsSome z → cell_flow z n ≡ code_flow n
 with_height None n some = absurd (false≢true some)
 with_height (Some z) n some = refl
 

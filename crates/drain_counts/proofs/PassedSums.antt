@@ -122,3 +122,39 @@ module _ (g : Grid) (ps : Products) (c : Cell) (f : Cell → ℕ) (small : (m : 
       let split = handed_same g ps c f (λ m. sum_by (λ d. part d m) directions) whole in
       let most = some_at_most directions in
       omega (arith, split, most)
+
+  part_there : (d : Direction) (m : Cell) → FlowsFrom g ps c d m → part d m ≡ f m
+  unfolding part
+  part_there d m from_m = ap (λ b. cond b (f m) 0) from_m.names_back
+
+  -- what is passed on from one direction
+  passed_one : (d : Direction) (n : ℕ) → ((m : Cell) → FlowsFrom g ps c d m → n ≡ f m) → (((m : Cell) → FlowsFrom g ps c d m → ⊥) → n ≡ 0) →
+      handed_on g ps c (part d) ≡ n
+  passed_one d n flows none = elim (share_cases g ps c d) [
+    | inl flow ↦
+        handed_one g ps c (part d) d flow.0 flow.1 (λ e m from_m apart. part_apart d e m from_m apart) ∙ (part_there d flow.0 flow.1 ∙ sym (flows flow.0 flow.1))
+    | inr idle ↦
+        (let nothing : (m : Cell) → FlowsFrom g ps c d m → ⊥ =
+        λ m from_m. (let is = share_flow g ps c d m (λ x. 1) from_m in let isnt = idle (λ x. 1) in absurd (omega (arith, is, isnt))) in
+        handed_none g ps c (part d) (λ e m from_m. elim (cases_Bool (names (ps.dir m) (opposite d))) [
+          | inl named ↦ absurd (nothing m (subst (λ x. FlowsFrom g ps c x m) (names_one (ps.dir m) e d from_m.names_back named) from_m))
+          | inr other ↦ part_none d m other
+        ]) ∙ sym (none nothing))
+  ]
+
+  module _ (n : Direction → ℕ) (flows : (d : Direction) (m : Cell) → FlowsFrom g ps c d m → n d ≡ f m)
+      (none : (d : Direction) → ((m : Cell) → FlowsFrom g ps c d m → ⊥) → n d ≡ 0) where
+    passed_from : (ds : List Direction) → handed_on g ps c (λ m. sum_by (λ d. part d m) ds) ≡ sum_by n ds
+    passed_from [] = handed_none g ps c (λ m. sum_by (λ d. part d m) []) (λ d m from_m. refl)
+    passed_from (d ∷ ds) =
+        let split = handed_same g ps c (λ m. sum_by (λ e. part e m) (d ∷ ds)) (λ m. part d m + sum_by (λ e. part e m) ds)
+        (λ e m from_m. sum_by-cons (λ e. part e m) d ds) in
+        let parts = passed_add g ps c (part d) (λ m. sum_by (λ e. part e m) ds) in
+        let one = passed_one d (n d) (flows d) (none d) in
+        let rest = passed_from ds in
+        let more = sum_by-cons n d ds in
+        omega (arith, split, parts, one, rest, more)
+
+    -- the sum of what is passed on from each direction
+    pub passed_sum : handed_on g ps c f ≡ sum_by n directions
+    passed_sum = handed_same g ps c f (λ m. sum_by (λ d. part d m) directions) whole ∙ passed_from directions

@@ -32,11 +32,11 @@ use Rattle.drain_paths.specs.Flows.{flow_at, AreFlowsOf}
 use Rattle.drain_counts.specs.declared.inflows.TheConstants.{PASSED_ON}
 use Rattle.drain_counts.specs.CellNumbers.{cell_number, IsPutAt, one_of, ones_of}
 use Rattle.drain_counts.specs.Passing.{has_passed, still, IsPassing, IsPassedOn, StaysAway}
-use Rattle.drain_counts.specs.Inflows.{is_before, AreInflowsBefore}
+use Rattle.drain_counts.specs.Inflows.{AreInflows}
 use Rattle.drain_counts.specs.OfFlows.{AllFlowsEnd}
 use Rattle.drain_counts.specs.Upstream.{AreUpstreamCounts}
 use Rattle.drain_counts.proofs.FlowCells.{data_at, flow_of_data, flow_of_void}
-use Rattle.drain_counts.proofs.InflowLemmas.{is_before_yes, inflows_few}
+use Rattle.drain_counts.proofs.InflowLemmas.{inflows_few}
 use Rattle.drain_counts.proofs.PassedSums.{passed_most}
 use Rattle.drain_counts.proofs.Shares.{IsMore, share_elsewhere, share_ahead}
 use Rattle.drain_counts.specs.OfFlows.{OfFlows}
@@ -76,13 +76,12 @@ one_of-some ToNorthEast some = refl
 
 -- at the start each data cell has 1, and waits for all that flow into it
 pub IsPassing-start : (g : Grid) (ps : Products) (e : Extent) (flows : List Flow) (waits : List ℕ) → AreFlowsOf g ps e flows → length flows ≡ e.rows * e.cols →
-    AllFlowsEnd g ps → AreInflowsBefore g ps e (e.rows * e.cols) waits → IsPassing g ps e waits (ones_of flows)
+    AllFlowsEnd g ps → AreInflows g ps e waits → IsPassing g ps e waits (ones_of flows)
 IsPassing-start g ps e flows waits are counted ends inflows = record {
   extent = are.extent;
   ends = ends;
-  waiting = λ c here waits_c. inflows.each c here ∙ handed_same g ps c (is_before e (e.rows * e.cols)) (still e waits (λ m. 1))
-      (λ d m from_m. (let data_m = HasData-flow g ps c d m from_m in
-      is_before_yes e (e.rows * e.cols) m (index_of-below e m (in_grid g e m are.extent data_m.inside)) ∙ sym (unmarked (λ x. 1) m data_m)));
+  waiting = λ c here waits_c. inflows.each c (in_grid g e c are.extent here.inside) here ∙ handed_same g ps c (λ m. 1) (still e waits (λ m. 1))
+      (λ d m from_m. sym (unmarked (λ x. 1) m (HasData-flow g ps c d m from_m)));
   done = λ c here handed. absurd (false≢true (sym (unmarked_at c here) ∙ handed));
   counted = λ c here.
       (let parts = upstream_count-parts g ps (ended_chains g ps ends) c here in
@@ -94,7 +93,7 @@ IsPassing-start g ps e flows waits are counted ends inflows = record {
 }
   where
     unmarked_at : (c : Cell) → HasData g c → has_passed e waits c ≡ false
-    unmarked_at c here = few_unmarked (cell_number e waits c) (inflows_few g ps e (e.rows * e.cols) waits c inflows here)
+    unmarked_at c here = few_unmarked (cell_number e waits c) (inflows_few g ps e waits c (inflows.each c (in_grid g e c are.extent here.inside)) here)
 
     unmarked : (f : Cell → ℕ) (c : Cell) → HasData g c → still e waits f c ≡ f c
     unmarked f c here = ap (λ b. cond b 0 (f c)) (unmarked_at c here)

@@ -3,7 +3,6 @@
 
 pub mod accumulation;
 pub mod basins;
-mod cell_order;
 pub mod code_flows;
 mod inflows;
 pub mod laws;

@@ -24,3 +24,5 @@ pub mod LowEdges
 pub mod SurfaceRules
 pub mod Batches
 pub mod FlatsPresent
+pub mod FirstFalls
+pub mod LaneRows

@@ -1,37 +1,31 @@
--- The best way so far, one direction further; the best of all directions is the way down.
-use Rattle.std.proofs.Common.{◌≡◌, ◌≢◌, ℕ, ◌+◌, ◌*◌, ◌<◌, ◌≤◌, ◌∙◌, inl, inr, ℤ, pos, ◌-ℤ◌, ◌≤ℤ◌, ◌<ℤ◌, List, [], ◌∷◌, ◌++◌, Option, Some, None, length, get_or, refl, sym, ap, subst, arith}
-use Rattle.std.proofs.lemmas.Bool.{cases_order, cases_eq}
+-- The first steepest way down of a cell, from three rows of lanes.
+use Rattle.std.proofs.Common.{◌≡◌, ◌≢◌, ◌⊎◌, ◌∙◌, ℕ, ◌+◌, ◌-◌, ◌*◌, ◌<◌, ◌≤◌, ◌==◌, inl, inr, ℤ, pos, ◌+ℤ◌, ◌-ℤ◌, ◌≤ℤ◌, ◌<ℤ◌, Bool, true, false, List, Option, Some, None, slice_index, if◌then◌else◌, refl, sym, ap, subst, arith}
+use Rattle.std.proofs.lemmas.Bool.{ne_eqb}
 use Rattle.std.proofs.lemmas.Int.{ints}
 use Rattle.drain_grid.specs.declared.cell.Cell.{Cell}
 use Rattle.drain_grid.specs.declared.direction.Direction.{Direction}
-use Rattle.drain_grid.specs.declared.direction.Direction.TheVariants.{East}
-use Rattle.drain_grid.specs.Direction.{directions, is_straight, order_of}
-use Rattle.drain_grid.specs.Extent.{index_of, step}
+use Rattle.drain_grid.specs.declared.direction.Direction.TheVariants.{East, SouthEast, South, SouthWest, West, NorthWest, North, NorthEast}
+use Rattle.drain_grid.specs.Direction.{code_of, cols_right, is_straight, rows_down}
+use Rattle.drain_grid.specs.Extent.{step}
 use Rattle.drain_grid.specs.Grid.{Grid, HasData, IsInside}
 use Rattle.drain_grid.specs.Slope.{slope_key}
-use Rattle.drain_grid.proofs.Decisions.{cases, each_below, same_number}
-use Rattle.drain_grid.proofs.Neighbors.{step_lies}
-use Rattle.drain_grid.proofs.Options.{same_some}
+use Rattle.drain_grid.proofs.Decisions.{cases}
+use Rattle.drain_grid.proofs.Neighbors.{reach, step_gives, step_lies}
+use Rattle.drain_grid.proofs.Options.{none_some}
 use Rattle.drain_grid.proofs.PatchDecisions.{open_cell}
-use Rattle.drain_grid.proofs.Runs.{index_of-below}
-use Rattle.std.proofs.lemmas.List.{get_or_push, get_or_append_left}
-use Rattle.drain_surface.specs.declared.codes.TheConstants.{VOID, OPEN, REACHED}
-use Rattle.drain_surface.specs.declared.ways.Way.{Way}
+use Rattle.drain_surface.specs.declared.falls.TheConstants.{GAP}
+use Rattle.drain_surface.specs.declared.codes.TheConstants.{NO_HEIGHT, VOID, OPEN, REACHED}
 use Rattle.drain_surface.specs.Floods.{Flooding, con_at, mark_at, IsFlooded}
-use Rattle.drain_surface.specs.Ways.{IsLowerNeighbor, IsWayDown, AreFirstCodes, way_code, key_down}
-use Rattle.drain_surface.specs.Steepest.{IsKeyTo, IsKeyAt, IsSteeper, IsBest, IsCodeAt}
-use Rattle.drain_surface.proofs.Cells.{none_or_some, same_index}
-use Rattle.drain_surface.proofs.Looking.{at_place}
+use Rattle.drain_surface.specs.Lanes.{AreRowLanes, IsLane, fall_at, level_of_lane}
+use Rattle.drain_surface.specs.Ways.{IsCodeAt, IsLowerNeighbor, IsWayDown, key_down}
+use Rattle.drain_surface.proofs.Cells.{none_or_some}
+use Rattle.drain_surface.proofs.FirstFalls.{IsFirstFall, MeansFall, fall_means, key_of, weight}
 
 outlet_differs : (code : ℕ) → code ≡ OPEN → code ≡ VOID → ⊥
 outlet_differs code outlet none = absurd (omega arith)
 
 reached_differs : (code : ℕ) → code ≡ REACHED → code ≡ VOID → ⊥
 reached_differs code reached none = absurd (omega arith)
-
--- the direction at a place has that place
-place_at : (k : ℕ) → k < 8 → order_of (get_or directions k East) ≡ k
-place_at = (each_below (λ k. same_number (order_of (get_or directions k East)) k) 8).sound refl
 
 -- a flooded grid has no void's code at a data cell
 pub data_code : (g : Grid) (f : Flooding) (c : Cell) → IsFlooded g f → HasData g c → mark_at g.extent f c ≢ VOID
@@ -41,202 +35,229 @@ data_code g f c flooded here code =
       | inr closed ↦ reached_differs (mark_at g.extent f c) (flooded.closed c here closed) code
     ]
 
--- a cell that shows no void's code has data
-pub code_data : (g : Grid) (f : Flooding) (c : Cell) → IsFlooded g f → IsInside g c → mark_at g.extent f c ≢ VOID → HasData g c
-code_data g f c flooded inside code =
-    elim (none_or_some (g.elevation c)) [
-      | inl void ↦ absurd (code (flooded.voids c inside void).mark)
-      | inr some ↦ record { inside = inside; is_data = some }
-    ]
+-- the row in which the neighbour in a direction lies
+abbrev pub row_beside : List ℕ → List ℕ → List ℕ → Direction → List ℕ
+row_beside a h b East = h
+row_beside a h b SouthEast = b
+row_beside a h b South = b
+row_beside a h b SouthWest = b
+row_beside a h b West = h
+row_beside a h b NorthWest = a
+row_beside a h b North = a
+row_beside a h b NorthEast = a
 
-module _ (g : Grid) (f : Flooding) (flooded : IsFlooded g f) (c : Cell) (level : ℤ) (level_is : level ≡ con_at g.extent f c) where
-  -- if no key was found nothing is lower
-  none_lower : (d : Direction) → IsKeyAt g.extent f c level d None → (n : Cell) → IsLowerNeighbor g f c d n → ⊥
-  none_lower d none n lower =
-      elim (none n lower.there) [
-        | inl void ↦ data_code g f n flooded lower.has_data void
-        | inr most ↦ (let below = lower.below in not_both (con_at g.extent f n) (con_at g.extent f c) level level_is most below)
+-- and its lane
+abbrev pub lane_beside : List ℕ → List ℕ → List ℕ → ℕ → Direction → ℕ
+lane_beside a h b col East = slice_index h (col + 2)
+lane_beside a h b col SouthEast = slice_index b (col + 2)
+lane_beside a h b col South = slice_index b (col + 1)
+lane_beside a h b col SouthWest = slice_index b col
+lane_beside a h b col West = slice_index h col
+lane_beside a h b col NorthWest = slice_index a col
+lane_beside a h b col North = slice_index a (col + 1)
+lane_beside a h b col NorthEast = slice_index a (col + 2)
+
+same_col : (col : ℕ) → col ≡ col + 0
+same_col col = omega arith
+
+lane_in_row : (a h b : List ℕ) (col : ℕ) (d : Direction) → lane_beside a h b col d ≡ slice_index (row_beside a h b d) (col + cols_right d)
+lane_in_row a h b col East = refl
+lane_in_row a h b col SouthEast = refl
+lane_in_row a h b col South = refl
+lane_in_row a h b col SouthWest = ap (slice_index b) (same_col col)
+lane_in_row a h b col West = ap (slice_index h) (same_col col)
+lane_in_row a h b col NorthWest = ap (slice_index a) (same_col col)
+lane_in_row a h b col North = refl
+lane_in_row a h b col NorthEast = refl
+
+abbrev pub level_in : List ℕ → ℕ → ℕ
+level_in h col = slice_index h (col + 1)
+
+-- what the code at a column means
+pub fall_at_means : (a h b : List ℕ) (col : ℕ) → MeansFall (level_of_lane (level_in h col)) (lane_beside a h b col) (fall_at a h b col)
+fall_at_means a h b col = fall_means (level_in h col) (lane_beside a h b col)
+
+level_data : (lane : ℕ) → lane < GAP → level_of_lane lane ≡ lane
+level_data lane less = ap (λ b. if b then 0 else lane) (ne_eqb lane GAP (λ same. absurd (omega (arith, same, less))))
+
+level_void : (lane : ℕ) → lane ≡ GAP → level_of_lane lane ≡ 0
+level_void lane gap = ap level_of_lane gap
+
+-- the drop of the heights is that of the lanes
+key_is : (s : Bool) (x y : ℤ) (level lane : ℕ) → pos level ≡ x +ℤ pos 32767 → pos lane ≡ y +ℤ pos 32767 → lane ≤ level →
+    slope_key s (x -ℤ y) ≡ pos (weight s ((level - lane) * (level - lane)))
+key_is s x y level lane level_is lane_is most = ap (slope_key s) drop_is ∙ of_natural s (level - lane)
+  where
+    drop_is : x -ℤ y ≡ pos (level - lane)
+    drop_is = omega (arith, ints)
+
+    of_natural : (s : Bool) (drop : ℕ) → slope_key s (pos drop) ≡ pos (weight s (drop * drop))
+    of_natural true drop = refl
+    of_natural false drop = refl
+
+less_lanes : (x y : ℤ) (p q : ℕ) → pos p ≡ x +ℤ pos 32767 → pos q ≡ y +ℤ pos 32767 → x <ℤ y → p < q
+less_lanes x y p q p_is q_is less = omega (arith, ints)
+
+less_heights : (x y : ℤ) (p q : ℕ) → pos p ≡ x +ℤ pos 32767 → pos q ≡ y +ℤ pos 32767 → p < q → x <ℤ y
+less_heights x y p q p_is q_is less = omega (arith, ints)
+
+above_ground : (a b c : ℤ) → a <ℤ b → b ≤ℤ c → a <ℤ c
+above_ground a b c less most = omega (arith, ints)
+
+le_of_keys : (a b : ℤ) (x y : ℕ) → a ≡ pos x → b ≡ pos y → x ≤ y → a ≤ℤ b
+le_of_keys a b x y is_x is_y most = omega (arith, ints)
+
+lt_of_keys : (a b : ℤ) (x y : ℕ) → a ≡ pos x → b ≡ pos y → x < y → a <ℤ b
+lt_of_keys a b x y is_x is_y less = omega (arith, ints)
+
+not_both : (p q : ℕ) → p < q → q ≤ p → ⊥
+not_both p q less most = absurd (omega (arith, less, most))
+
+no_gap : (lane : ℕ) → lane ≡ GAP → lane < GAP → ⊥
+no_gap lane gap less = absurd (omega (arith, gap, less))
+
+less_weak : (p q : ℕ) → p < q → p ≤ q
+less_weak p q less = omega (arith, less)
+
+below_gap : (p q : ℕ) → p < q → q < GAP → p < GAP
+below_gap p q less most = omega (arith, less, most)
+
+some_or_none : (o : Option Cell) → (o ≡ None) ⊎ ((n : Cell) × (o ≡ Some n))
+some_or_none None = inl refl
+some_or_none (Some n) = inr (n, refl)
+
+-- a data cell of a flooded grid, and three rows of lanes round it
+module _ (g : Grid) (f : Flooding) (flooded : IsFlooded g f) (c : Cell) (inside : IsInside g c) (a h b : List ℕ)
+    (rows : (d : Direction) → AreRowLanes g.extent f (c.row + rows_down d) (row_beside a h b d)) where
+  abbrev L : Direction → ℕ
+  L d = lane_beside a h b c.col d
+
+  abbrev level : ℕ
+  level = level_in h c.col
+
+  data_height : (n : Cell) → HasData g n → NO_HEIGHT <ℤ con_at g.extent f n
+  data_height n here = above_ground _ _ _ (flooded.heights n here) (flooded.covers n here)
+
+  lane_there : (d : Direction) (n : Cell) → step g.extent c d ≡ Some n → IsLane (con_at g.extent f n) (L d)
+  lane_there d n there =
+      let lies = step_lies g.extent c n d there in
+      subst (IsLane (con_at g.extent f n)) (sym (lane_in_row a h b c.col d))
+      (subst (λ k. IsLane (con_at g.extent f n) (slice_index (row_beside a h b d) k)) lies.1.1 ((rows d).heights n lies.0 lies.1.0))
+
+  own : IsLane (con_at g.extent f c) level
+  own = (rows East).heights c inside refl
+
+  -- a lane that isn't a gap is that of a data cell
+  data_there : (d : Direction) → L d < GAP → (n : Cell) × (step g.extent c d ≡ Some n) × HasData g n
+  data_there d less =
+      elim (some_or_none (step g.extent c d)) [
+        | inl none ↦
+            (let gap : L d ≡ GAP = lane_in_row a h b c.col d ∙ (rows d).gaps (c.col + cols_right d) (within c.col (cols_right d) g.extent.cols inside.col (reach d).1)
+            (λ n in_n row col. none_some n (sym none ∙ step_gives g.extent c n d in_n (row, col))) in
+            absurd (no_gap (L d) gap less))
+        | inr (n, there) ↦
+            elim (none_or_some (g.elevation n)) [
+              | inl void ↦
+                  (let con = (flooded.voids n (step_lies g.extent c n d there).0 void).con in
+                  absurd (no_gap (L d) ((lane_there d n there).none con) less))
+              | inr some ↦ (n, there, record { inside = (step_lies g.extent c n d there).0; is_data = some })
+            ]
       ]
     where
-      not_both : (there here level : ℤ) → level ≡ here → level ≤ℤ there → there <ℤ here → ⊥
-      not_both there here level is most below = absurd (omega (arith, ints))
+      within : (col right cols : ℕ) → col < cols → right ≤ 2 → col + right < cols + 2
+      within col right cols less most = omega (arith, less, most)
 
-  -- if one was found it is that of a lower cell
-  found_lower : (d : Direction) (key : ℕ) (n : Cell) → step g.extent c d ≡ Some n → IsKeyTo g.extent f n level d (Some key) →
-      IsLowerNeighbor g f c d n × (pos key ≡ key_down g f c d n)
-  found_lower d key n there is = (
-    record {
-      there = there;
-      has_data = code_data g f n flooded (step_lies g.extent c n d there).0 is.0;
-      below = subst (λ z. con_at g.extent f n <ℤ z) level_is is.1;
-    },
-    is.2 ∙ ap (λ z. slope_key (is_straight d) (z -ℤ con_at g.extent f n)) level_is,
-  )
+  module _ (here : HasData g c) where
+    level_is : pos level ≡ con_at g.extent f c +ℤ pos 32767
+    level_is = own.some (data_height c here)
 
-  one_cell : (d : Direction) (n m : Cell) → IsLowerNeighbor g f c d n → step g.extent c d ≡ Some m → n ≡ m
-  one_cell d n m lower there = same_some n m (sym lower.there ∙ there)
+    lower_lane : (d : Direction) (n : Cell) → IsLowerNeighbor g f c d n → (pos (L d) ≡ con_at g.extent f n +ℤ pos 32767) × (L d < level)
+    lower_lane d n lower =
+        let is = (lane_there d n lower.there).some (data_height n lower.has_data) in
+        (is, less_lanes _ _ _ _ is level_is lower.below)
 
-  -- a way whose key is the greatest so far
-  taken : (k : ℕ) (key : ℕ) (n : Cell) → k < 8 → step g.extent c (get_or directions k East) ≡ Some n → IsKeyTo g.extent f n level (get_or directions k East) (Some key) →
-      ((i : ℕ) → i < k → (m : Cell) → IsLowerNeighbor g f c (get_or directions i East) m → key_down g f c (get_or directions i East) m <ℤ pos key) →
-      IsBest g f c (Some (record { key = key; direction = get_or directions k East })) (k + 1)
-  taken k key n early there is earlier =
-      let found = found_lower (get_or directions k East) key n there is in (
-        n,
-        (
-          found.0,
-          (
-            found.1,
-            (
-              λ i less m lower.
-                  elim (cases_order i k) [
-                    | inl here ↦
-                        (let at_k : IsLowerNeighbor g f c (get_or directions k East) m = subst (λ j. IsLowerNeighbor g f c (get_or directions j East) m) here lower in
-                        let one : m ≡ n = one_cell (get_or directions k East) m n at_k there in
-                        subst (λ j. key_down g f c (get_or directions j East) m ≤ℤ key_down g f c (get_or directions k East) n) (sym here)
-                        (subst (λ x. key_down g f c (get_or directions k East) x ≤ℤ key_down g f c (get_or directions k East) n) (sym one) (self (key_down g f c (get_or directions k East) n))))
-                    | inr (inl before) ↦ subst (λ z. key_down g f c (get_or directions i East) m ≤ℤ z) found.1 (weaker (key_down g f c (get_or directions i East) m) (pos key) (earlier i before m lower))
-                    | inr (inr after) ↦ absurd (omega (arith, less, after))
-                  ],
-              λ i less m lower. subst (λ z. key_down g f c (get_or directions i East) m <ℤ z) found.1
-                  (earlier i (subst (λ p. i < p) (place_at k early) less) m lower),
-            ),
-          ),
-        ),
-      )
-    where
-      weaker : (a b : ℤ) → a <ℤ b → a ≤ℤ b
-      weaker a b less = omega (arith, ints)
+    key_of_lane : (d : Direction) (n : Cell) → IsLowerNeighbor g f c d n → key_down g f c d n ≡ pos (key_of level L d)
+    key_of_lane d n lower =
+        let lane = lower_lane d n lower in
+        key_is (is_straight d) (con_at g.extent f c) (con_at g.extent f n) level (L d) level_is lane.0 (less_weak _ _ lane.1)
 
-      self : (z : ℤ) → z ≤ℤ z
-      self z = omega (arith, ints)
+    none_down : ((d : Direction) → level ≤ L d) → IsWayDown g f c None
+    none_down most d n lower = not_both _ _ (lower_lane d n lower).1 (most d)
 
-  -- one direction more
-  pub best_more : (k : ℕ) (best : Option Way) (key : Option ℕ) (new : Option Way) → k < 8 → IsBest g f c best k → IsKeyAt g.extent f c level (get_or directions k East) key →
-      IsSteeper best (get_or directions k East) key new → IsBest g f c new (k + 1)
-  best_more k None None new early best none same = subst (λ w. IsBest g f c w (k + 1)) (sym same) (λ i less n lower.
-      elim (cases_order i k) [
-        | inl here ↦ none_lower (get_or directions k East) none n (subst (λ j. IsLowerNeighbor g f c (get_or directions j East) n) here lower)
-        | inr (inl before) ↦ best i before n lower
-        | inr (inr after) ↦ absurd (omega (arith, less, after))
-      ])
-  best_more k (Some way) None new early (n, (lower, (is, (earlier, first)))) none same = subst (λ w. IsBest g f c w (k + 1)) (sym same) (
-    n,
-    (
-      lower,
-      (
-        is,
-        (
-          λ i less m low.
-              elim (cases_order i k) [
-                | inl here ↦ absurd (none_lower (get_or directions k East) none m (subst (λ j. IsLowerNeighbor g f c (get_or directions j East) m) here low))
-                | inr (inl before) ↦ earlier i before m low
-                | inr (inr after) ↦ absurd (omega (arith, less, after))
-              ],
-          first,
-        ),
-      ),
-    ),
-  )
-  best_more k None (Some key) new early best (n, there, is) same = subst (λ w. IsBest g f c w (k + 1)) (sym same)
-      (taken k key n early there is (λ i less m lower. absurd (best i less m lower)))
-  best_more k (Some way) (Some key) new early (n, (lower, (way_is, (earlier, first)))) (m, there, is) (inl (more, same)) = subst (λ w. IsBest g f c w (k + 1)) (sym same)
-      (taken k key m early there is (λ i less x low. under (key_down g f c (get_or directions i East) x) (key_down g f c way.direction n) way.key key way_is more (earlier i less x low)))
-    where
-      under : (a b : ℤ) (old new : ℕ) → pos old ≡ b → old < new → a ≤ℤ b → a <ℤ pos new
-      under a b old new is more most = omega (arith, ints)
-  best_more k (Some way) (Some key) new early (n, (lower, (way_is, (earlier, first)))) (m, there, is) (inr (most, same)) = subst (λ w. IsBest g f c w (k + 1)) (sym same) (
-    n,
-    (
-      lower,
-      (
-        way_is,
-        (
-          λ i less x low.
-              elim (cases_order i k) [
-                | inl here ↦
-                    (let found = found_lower (get_or directions k East) key m there is in
-                    let at_k : IsLowerNeighbor g f c (get_or directions k East) x = subst (λ j. IsLowerNeighbor g f c (get_or directions j East) x) here low in
-                    let one : x ≡ m = one_cell (get_or directions k East) x m at_k there in
-                    subst (λ j. key_down g f c (get_or directions j East) x ≤ℤ key_down g f c way.direction n) (sym here)
-                    (subst (λ y. key_down g f c (get_or directions k East) y ≤ℤ key_down g f c way.direction n) (sym one)
-                    (under (key_down g f c (get_or directions k East) m) (key_down g f c way.direction n) key way.key found.1 way_is most)))
-                | inr (inl before) ↦ earlier i before x low
-                | inr (inr after) ↦ absurd (omega (arith, less, after))
-              ],
-          first,
-        ),
-      ),
-    ),
-  )
-    where
-      under : (a b : ℤ) (key old : ℕ) → pos key ≡ a → pos old ≡ b → key ≤ old → a ≤ℤ b
-      under a b key old is_a is_b most = omega (arith, ints)
+    first_down : (d : Direction) → IsFirstFall level L d → IsWayDown g f c (Some d)
+    first_down d first =
+        let found = data_there d (below_gap _ _ first.lower (own.below (data_height c here))) in
+        let n = found.0 in
+        let is = (lane_there d n found.1).some (data_height n found.2) in
+        let lower : IsLowerNeighbor g f c d n =
+        record { there = found.1; has_data = found.2; below = less_heights _ _ _ _ is level_is first.lower } in (
+          n,
+          record {
+            lower = lower;
+            greatest = λ e m low. le_of_keys _ _ _ _ (key_of_lane e m low) (key_of_lane d n lower) (first.greatest e);
+            first = λ e m less low. lt_of_keys _ _ _ _ (key_of_lane e m low) (key_of_lane d n lower) (first.first e less);
+          },
+        )
 
-  pub best_none : IsBest g f c None 0
-  best_none i less n lower = absurd (omega (arith, less))
+-- a direction's code is put as it is
+code_put : (d : Direction) (mark : ℕ) → (if code_of d == 0 then mark else code_of d) ≡ code_of d
+code_put East mark = refl
+code_put SouthEast mark = refl
+code_put South mark = refl
+code_put SouthWest mark = refl
+code_put West mark = refl
+code_put NorthWest mark = refl
+code_put North mark = refl
+code_put NorthEast mark = refl
 
-  -- of all directions
-  within : (i k : ℕ) → k ≡ 8 → i < 8 → i < k
-  within i k last less = omega arith
+code_small : (d : Direction) → code_of d < 256
+code_small East = omega arith
+code_small SouthEast = omega arith
+code_small South = omega arith
+code_small SouthWest = omega arith
+code_small West = omega arith
+code_small NorthWest = omega arith
+code_small North = omega arith
+code_small NorthEast = omega arith
 
-  pub none_best : (k : ℕ) → k ≡ 8 → IsBest g f c None k → IsWayDown g f c None
-  none_best k last best d n lower =
-      let place = at_place d in
-      best (order_of d) (within (order_of d) k last place.1) n (subst (λ e. IsLowerNeighbor g f c e n) (sym place.0) lower)
-
-  pub way_best : (k : ℕ) (way : Way) → k ≡ 8 → IsBest g f c (Some way) k → IsWayDown g f c (Some way.direction)
-  way_best k way last (n, (lower, (is, (earlier, first)))) = (
-    n,
-    record {
-      lower = lower;
-      greatest = λ e m low.
-          (let place = at_place e in
-          subst (λ x. key_down g f c x m ≤ℤ key_down g f c way.direction n) place.0
-          (earlier (order_of e) (within (order_of e) k last place.1) m (subst (λ x. IsLowerNeighbor g f c x m) (sym place.0) low)));
-      first = λ e m less low.
-          (let place = at_place e in
-          subst (λ x. key_down g f c x m <ℤ key_down g f c way.direction n) place.0
-          (first (order_of e) less m (subst (λ x. IsLowerNeighbor g f c x m) (sym place.0) low)));
-    },
-  )
-
--- the code at a void, and at a data cell
-pub void_code : (g : Grid) (f : Flooding) (c : Cell) → IsFlooded g f → mark_at g.extent f c ≡ VOID → IsCodeAt g f c VOID
-void_code g f c flooded code = record { void = λ v. refl; way = λ here. absurd (data_code g f c flooded here code) }
-
-pub way_code_at : (g : Grid) (f : Flooding) (c : Cell) (code : ℕ) (way : Option Direction) → IsFlooded g f → IsInside g c → mark_at g.extent f c ≢ VOID →
-    IsWayDown g f c way → code ≡ way_code (mark_at g.extent f c) way → IsCodeAt g f c code
-way_code_at g f c code way flooded inside coded down is = record {
-  void = λ v. absurd (coded (flooded.voids c inside v).mark);
-  way = λ here. record { way = way; down = down; is = is };
-}
-
--- a code after the others is that of the next cell
-pub pushed_code : (g : Grid) (f : Flooding) (items more : List ℕ) (place : ℕ) (cell : Cell) (code : ℕ) → length items ≡ place → more ≡ items ++ code ∷ [] →
-    IsInside g cell → index_of g.extent cell ≡ place → IsCodeAt g f cell code →
-    ((c : Cell) → IsInside g c → index_of g.extent c < place → IsCodeAt g f c (get_or items (index_of g.extent c) 0)) →
-    (c : Cell) → IsInside g c → index_of g.extent c < place + 1 → IsCodeAt g f c (get_or more (index_of g.extent c) 0)
-pushed_code g f items more place cell code long pushed inside at here earlier c inside_c less =
-    elim (cases_eq (index_of g.extent c) place) [
-      | inl same ↦
-          (let one : c ≡ cell = same_index g.extent c cell inside_c inside (same ∙ sym at) in
-          let stands : get_or more (index_of g.extent c) 0 ≡ code =
-          ap (λ xs. get_or xs (index_of g.extent c) 0) pushed ∙ get_or_push items code 0 (index_of g.extent c) (long ∙ sym same) in
-          subst (IsCodeAt g f c) (sym stands) (subst (λ x. IsCodeAt g f x code) (sym one) here))
-      | inr other ↦
-          (let before : index_of g.extent c < place = omega (arith, less, other) in
-          let within : index_of g.extent c < length items = omega (arith, before, long) in
-          let stands : get_or more (index_of g.extent c) 0 ≡ get_or items (index_of g.extent c) 0 =
-          ap (λ xs. get_or xs (index_of g.extent c) 0) pushed ∙ get_or_append_left items (code ∷ []) 0 (index_of g.extent c) within in
-          subst (IsCodeAt g f c) (sym stands) (earlier c inside_c before))
+pub fall_small : (a h b : List ℕ) (col code : ℕ) → code ≡ fall_at a h b col → code < 256
+fall_small a h b col code is =
+    elim (fall_at_means a h b col) [
+      | inl (none, most) ↦ (let zero : code ≡ 0 = is ∙ none in omega (arith, zero))
+      | inr (d, named, first) ↦ subst (λ k. k < 256) (sym (is ∙ named)) (code_small d)
     ]
 
--- once each cell has its code
-pub all_coded : (g : Grid) (f : Flooding) (items : List ℕ) (place : ℕ) → length items ≡ place → place ≡ g.extent.rows * g.extent.cols →
-    ((c : Cell) → IsInside g c → index_of g.extent c < place → IsCodeAt g f c (get_or items (index_of g.extent c) 0)) → AreFirstCodes g f items
-all_coded g f items place long last each = record {
-  counted = long ∙ last;
-  voids = λ c inside void. (each c inside (subst (λ n. index_of g.extent c < n) (sym last) (index_of-below g.extent c inside))).void void;
-  ways = λ c here. (each c here.inside (subst (λ n. index_of g.extent c < n) (sym last) (index_of-below g.extent c here.inside))).way here;
+-- so the code that is put is right
+pub code_from_lanes : (g : Grid) (f : Flooding) (c : Cell) (a h b : List ℕ) (code mark put : ℕ) → IsFlooded g f → IsInside g c →
+    ((d : Direction) → AreRowLanes g.extent f (c.row + rows_down d) (row_beside a h b d)) → code ≡ fall_at a h b c.col → mark ≡ mark_at g.extent f c →
+    put ≡ (if code == 0 then mark else code) → IsCodeAt g f c put
+code_from_lanes g f c a h b code mark put flooded inside rows code_is mark_is put_is = record {
+  void = λ void.
+      (let blank = flooded.voids c inside void in
+      let gap = (own g f flooded c inside a h b rows).none blank.con in
+      elim (fall_at_means a h b c.col) [
+        | inl (none, most) ↦ put_mark (code_is ∙ none) ∙ blank.mark
+        | inr (d, named, first) ↦ absurd (none_below _ _ (level_void _ gap) first.lower)
+      ]);
+  way = λ here.
+      (let level_is : level_of_lane (level_in h c.col) ≡ level_in h c.col =
+      level_data (level_in h c.col) ((own g f flooded c inside a h b rows).below (data_height g f flooded c inside a h b rows c here)) in
+      elim (subst (λ z. MeansFall z (lane_beside a h b c.col) (fall_at a h b c.col)) level_is (fall_at_means a h b c.col)) [
+        | inl (none, most) ↦ record {
+          way = None;
+          down = none_down g f flooded c inside a h b rows here most;
+          is = put_mark (code_is ∙ none);
+        }
+        | inr (d, named, first) ↦ record {
+          way = Some d;
+          down = first_down g f flooded c inside a h b rows here d first;
+          is = put_is ∙ (ap (λ k. if k == 0 then mark else k) (code_is ∙ named) ∙ code_put d mark);
+        }
+      ]);
 }
+  where
+    put_mark : code ≡ 0 → put ≡ mark_at g.extent f c
+    put_mark none = put_is ∙ (ap (λ k. if k == 0 then mark else k) none ∙ mark_is)
+
+    none_below : (lane top : ℕ) → top ≡ 0 → lane < top → ⊥
+    none_below lane top none less = absurd (omega (arith, none, less))

@@ -42,6 +42,11 @@ pub record IsWayCode (g : Grid) (f : Flooding) (c : Cell) (code : ℕ) : Type 0 
   pub down : IsWayDown g f c way
   pub is : code ≡ way_code (mark_at g.extent f c) way
 
+-- the code at a cell: VOID at a void, else that of its way
+pub record IsCodeAt (g : Grid) (f : Flooding) (c : Cell) (code : ℕ) : Type 0 where
+  pub void : IsNone (g.elevation c) → code ≡ VOID
+  pub way : HasData g c → IsWayCode g f c code
+
 -- a code for each cell, VOID at voids
 pub record AreFirstCodes (g : Grid) (f : Flooding) (dirs : List ℕ) : Type 0 where
   pub counted : length dirs ≡ g.extent.rows * g.extent.cols

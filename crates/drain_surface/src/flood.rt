@@ -288,12 +288,20 @@ impl Flood {
         self.mark[self.shape.index(cell)]
     }
 
-    /// The same, by the cell's place.
-    pub(crate) fn mark_at(&self, place: usize) -> u8
-        requires { place < self.now.extent.rows * self.now.extent.cols }
-        ensures { result ≡ slice_index_or self.now.mark place 0 }
+    /// The heights of all cells, in row order.
+    pub(crate) fn heights(&self) -> &[i16]
+        ensures heights { result.now ≡ self.now.con }
+        ensures counted { length result.now ≡ self.now.extent.rows * self.now.extent.cols }
     {
-        self.mark[place]
+        self.con.as_slice()
+    }
+
+    /// The marks of all cells, in row order.
+    pub(crate) fn marks(&self) -> &[u8]
+        ensures marks { result.now ≡ self.now.mark }
+        ensures counted { length result.now ≡ self.now.extent.rows * self.now.extent.cols }
+    {
+        self.mark.as_slice()
     }
 
     /// Reaches the cell at a place, and puts it at the end of the trail.

@@ -21,11 +21,11 @@ pub(crate) fn marks(alloc: Global, mark: u8, len: usize) -> Result<Vec<u8>, OutO
     Ok(vec![in alloc; mark; len]?)
 }
 
-/// No code, with room for one per cell.
-pub(crate) fn room_for_codes(alloc: Global, cells: usize) -> Result<Vec<u8>, OutOfMemory>
-    ensures { IfOk result (λ codes. codes.items ≡ []) }
+/// Room for lanes or codes of a row, all 0.
+pub(crate) fn lanes(alloc: Global, len: usize) -> Result<Vec<u16>, OutOfMemory>
+    ensures { IfOk result (λ lanes. length lanes.items ≡ len) }
 {
-    Ok(Vec::with_capacity(alloc, cells)?)
+    Ok(vec![in alloc; 0u16; len]?)
 }
 
 /// No rank, with room for one per cell.

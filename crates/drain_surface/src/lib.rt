@@ -4,6 +4,7 @@
 #![tactic(auto)]
 
 pub mod codes;
+mod falls;
 pub mod flats;
 pub mod flood;
 mod later;

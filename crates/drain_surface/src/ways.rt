@@ -4,29 +4,18 @@
 //! Source: D8 (O'Callaghan and Mark 1984). Slopes are compared by twice their squares, whole numbers, as in
 //! drain_slope.
 
-ghost use Rattle.std.specs.Prelude.{◌≡◌, ◌<◌, ◌^◌, ◌<ℤ◌, ◌≤ℤ◌, ◌-ℤ◌, ◌*◌, pos, IfOk, length, IsTrue};
-ghost use Rattle.drain_grid.specs.Direction.{code_of, is_straight};
-ghost use Rattle.drain_grid.specs.Extent.{IsCellOf};
+ghost use Rattle.std.specs.Prelude.{◌≡◌, ◌+◌, ◌*◌, IfOk, OnOk, length};
+ghost use Rattle.drain_grid.specs.Direction.{code_of};
 ghost use Rattle.drain_grid.specs.Grid.{Grid};
-ghost use Rattle.drain_grid.specs.Slope.{slope_key};
-ghost use Rattle.drain_surface.specs.Floods.{IsFlooded, con_at, mark_at};
-ghost use Rattle.drain_surface.specs.Looks.{IsInnerPlace};
-ghost use Rattle.drain_surface.specs.Ways.{AreFirstCodes, IsWayDown};
-ghost use Rattle.drain_surface.specs.Steepest.{IsCodeAt, IsKeyAt, IsKeyThere, IsSteeper, key_or_none, way_or_none};
+ghost use Rattle.drain_surface.specs.Floods.{IsFlooded};
+ghost use Rattle.drain_surface.specs.Ways.{AreFirstCodes};
 
 use crate::codes::VOID;
+use crate::falls::put_row;
 use crate::flood::Flood;
-use crate::layers::room_for_codes;
-use crate::places::{beside, is_inner};
-use drain_grid::{Cell, Direction, OutOfMemory};
+use crate::layers::{lanes, marks};
+use drain_grid::{Direction, OutOfMemory};
 use std::alloc::Global;
-
-/// A way down, and twice the square of its slope.
-#[derive(Clone, Copy)]
-pub struct Way {
-    pub key: u64,
-    pub direction: Direction,
-}
 
 /// The codes in row order: VOID at voids, OPEN at outlets, REACHED at closed cells without a lower neighbour.
 #[inline(never)]
@@ -35,104 +24,53 @@ pub fn directions(alloc: Global, flood: &Flood) -> Result<Vec<u8>, OutOfMemory>
     ensures codes { IfOk result (λ dirs. (g : Grid) → g.extent ≡ flood.now.extent → IsFlooded g flood.now → AreFirstCodes g flood.now dirs.items) }
 {
     let shape = flood.shape();
-    let mut dirs = room_for_codes(alloc, shape.cells())?;
-    for place in 0..shape.cells() {
-        dirs.push(direction_code(flood, shape.cell(place)))?;
-    }
+    let mut dirs = marks(alloc, VOID, shape.cells())?;
+    put_all(alloc, flood, dirs.as_mut_slice())?;
     Ok(dirs)
 }
 
-/// The code of one cell.
-fn direction_code(flood: &Flood, cell: Cell) -> u8
-    requires { IsCellOf flood.now.extent cell }
-    ensures { (g : Grid) → g.extent ≡ flood.now.extent → IsFlooded g flood.now → IsCodeAt g flood.now cell result }
+/// Puts the code of each cell at its place.
+fn put_all(alloc: Global, flood: &Flood, dirs: &mut [u8]) -> Result<(), OutOfMemory>
+    requires { length dirs.old ≡ flood.now.extent.rows * flood.now.extent.cols }
+    ensures counted { length dirs.new ≡ length dirs.old }
+    ensures codes { OnOk result ((g : Grid) → g.extent ≡ flood.now.extent → IsFlooded g flood.now → AreFirstCodes g flood.now dirs.new) }
 {
-    let mark = flood.mark(cell);
-    if mark == VOID {
-        return VOID;
-    }
-    match steepest(flood, cell) {
-        Some(direction) => code(direction),
-        None => mark,
-    }
+    let cols = flood.shape().cols() as usize;
+    let mut above = lanes(alloc, cols + 2)?;
+    let mut here = lanes(alloc, cols + 2)?;
+    let mut below = lanes(alloc, cols + 2)?;
+    let mut codes = lanes(alloc, cols)?;
+    put_rows(
+        flood,
+        above.as_mut_slice(),
+        here.as_mut_slice(),
+        below.as_mut_slice(),
+        codes.as_mut_slice(),
+        dirs,
+    );
+    Ok(())
 }
 
-/// The first of the steepest ways down, none if no neighbour is lower.
-fn steepest(flood: &Flood, cell: Cell) -> Option<Direction>
-    requires { IsCellOf flood.now.extent cell }
-    ensures { (g : Grid) → g.extent ≡ flood.now.extent → IsFlooded g flood.now → IsWayDown g flood.now cell result }
+/// The same, with room for three rows of lanes and for the codes of a row.
+fn put_rows(
+    flood: &Flood,
+    above: &mut [u16],
+    here: &mut [u16],
+    below: &mut [u16],
+    codes: &mut [u16],
+    dirs: &mut [u8],
+)
+    requires above_len { length above.old ≡ flood.now.extent.cols + 2 }
+    requires here_len { length here.old ≡ flood.now.extent.cols + 2 }
+    requires below_len { length below.old ≡ flood.now.extent.cols + 2 }
+    requires codes_len { length codes.old ≡ flood.now.extent.cols }
+    requires dirs_len { length dirs.old ≡ flood.now.extent.rows * flood.now.extent.cols }
+    ensures counted { length dirs.new ≡ length dirs.old }
+    ensures codes { (g : Grid) → g.extent ≡ flood.now.extent → IsFlooded g flood.now → AreFirstCodes g flood.now dirs.new }
 {
-    let level = flood.height(cell);
-    let inner = is_inner(flood.shape(), cell);
-    let mut best = Way {
-        key: 0,
-        direction: Direction::East,
-    };
-    for direction in Direction::ALL {
-        best = steeper(best, direction, key(flood, cell, inner, level, direction));
+    for row in 0..flood.shape().rows() {
+        put_row(flood, row, above, here, below, codes, dirs);
     }
-    if best.key == 0 {
-        None
-    } else {
-        Some(best.direction)
-    }
-}
-
-/// The steeper of the best way so far and the one in this direction. A key of 0 means no way, so one comparison
-/// decides, without a branch that can't be predicted.
-fn steeper(best: Way, direction: Direction, key: u64) -> Way
-    ensures { IsSteeper (way_or_none best) direction (key_or_none key) (way_or_none result) }
-{
-    if best.key < key {
-        Way { key, direction }
-    } else {
-        best
-    }
-}
-
-/// The key of the way down in a direction, 0 if no lower cell is there.
-fn key(flood: &Flood, cell: Cell, inner: bool, level: i16, direction: Direction) -> u64
-    requires inside { IsCellOf flood.now.extent cell }
-    requires inner { IsTrue inner → IsInnerPlace flood.now.extent cell }
-    ensures { IsKeyAt flood.now.extent flood.now cell level direction (key_or_none result) }
-{
-    match beside(flood.shape(), cell, inner, direction) {
-        Some(place) => key_to(flood, place, level, direction),
-        None => 0,
-    }
-}
-
-/// The key of the way down to the cell at a place, 0 if it isn't lower.
-fn key_to(flood: &Flood, place: usize, level: i16, direction: Direction) -> u64
-    requires { place < flood.now.extent.rows * flood.now.extent.cols }
-    ensures { IsKeyThere flood.now place level direction (key_or_none result) }
-{
-    if flood.mark_at(place) == VOID {
-        return 0;
-    }
-    key_of_drop(
-        direction.is_straight(),
-        drop_between(level, flood.level_at(place)),
-    )
-}
-
-/// How far down it is, 0 if it isn't lower.
-fn drop_between(level: i16, there: i16) -> u64
-    ensures few { result < 2 ^ 16 }
-    ensures down { there <ℤ level → pos result ≡ level -ℤ there }
-    ensures not { level ≤ℤ there → result ≡ 0 }
-{
-    let down = i64::from(level) - i64::from(there);
-    down.max(0) as u64
-}
-
-/// The key of a drop.
-fn key_of_drop(straight: bool, drop: u64) -> u64
-    requires { drop < 2 ^ 16 }
-    ensures { pos result ≡ slope_key straight (pos drop) }
-{
-    let square = drop * drop;
-    if straight { 2 * square } else { square }
 }
 
 /// The code of a direction, in a byte.

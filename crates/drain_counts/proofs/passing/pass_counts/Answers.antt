@@ -1,8 +1,6 @@
-use Rattle.std.proofs.Common.{◌≡◌, ◌*◌, ◌∙◌, sym, ap, arith, rules}
-use Rattle.drain_grid.specs.Size.{Extent}
+use Rattle.std.proofs.Common.{◌≡◌, ◌∙◌, sym, arith, rules}
 use Rattle.drain_counts.specs.CellNumbers.{cell_number}
 use Rattle.drain_counts.proofs.FlowCells.{data_at}
-use Rattle.drain_counts.proofs.GridOfFlows.{grid_of_flows, products_of_flows, are_flows}
 use Rattle.drain_counts.proofs.PassingLemmas.{IsPassing-last, IsPassing-on, flow_apart, flow_fits, flow_shorter, flow_some, stays_ahead}
 use Rattle.drain_counts.proofs.passing.pass_counts.Goals as goal
 
