@@ -77,6 +77,7 @@ bench: build/drain build/benches
 	bench/rasters.sh build/benches
 	bench/mosaic.sh build/benches
 	bench/lanes.sh build/benches
+	bench/windows.py build/drain
 
 clean:
 	rm -rf build crates/*/out

@@ -136,8 +136,8 @@ class Documents(unittest.TestCase):
             self.assertEqual(check_docs.faults_of(folder), expected)
 
     def test_words_are_counted(self) -> None:
-        expected = ["62000 characters, more than 120", "31003 words, more than 31000"]
-        self.assertEqual(self.faults("x " * 31_000)[0], expected)
+        expected = ["64000 characters, more than 120", "32003 words, more than 32000"]
+        self.assertEqual(self.faults("x " * 32_000)[0], expected)
 
 
 class Example(unittest.TestCase):

@@ -1,11 +1,12 @@
 #!/usr/bin/env python3
-"""Checks the documents: README.md and the other pages beside it, docs/*.md, the README of each crate and of companion/.
+"""Checks the documents: README.md and the other pages beside it, docs/*.md, the README of each crate, of each folder of
+examples/, and of companion/.
 
 It reports, each with its file and line:
 - a path, a link, a target of `make`, or a command or option of `drain` that doesn't exist;
 - a line of README.md over 100 characters, a README.md over 80 lines, and a line of the other pages or of docs/ over
   120 characters (200 in a table; code is exempt);
-- a word that readers don't know (WORDS), outside code; and docs/ over 31,000 words in all;
+- a word that readers don't know (WORDS), outside code; and docs/ over 32,000 words in all;
 - with PROGRAM, an example whose output isn't what the program prints.
 
 An example is a fenced block with a line `$ drain ..` or `$ build/drain ..`. All its lines `$ ..` are run, in order, by
@@ -28,13 +29,13 @@ import sys
 import tempfile
 from collections.abc import Iterator
 
-README_LINE, README_LINES, DOCS_LINE, TABLE_LINE, DOCS_WORDS = 100, 80, 120, 200, 31_000
+README_LINE, README_LINES, DOCS_LINE, TABLE_LINE, DOCS_WORDS = 100, 80, 120, 200, 32_000
 WORDS = re.compile(
     r"\b(noughts?|want\s+of\s+memory|(?:is|are|was|were)\s+(?:told|asked\s+for)|hand(?:s|ed)\s+out|whoever"
     r"|a\s+word\s+on|faults?\s+of\s+the\s+words)\b",
     re.IGNORECASE,
 )
-FOLDERS = "docs|crates|tools|tests|samples|bench|companion"
+FOLDERS = "docs|crates|tools|tests|samples|bench|companion|examples"
 PATH = re.compile(rf"(?<![\w./*-])(?:{FOLDERS})/[\w.*/+-]*")
 CRATE_PATH = re.compile(r"(?<![\w./*-])\w+/(?:src|specs|proofs|more-edits)/[\w./]*")
 DOCUMENT = re.compile(r"(?<![\w./-])[A-Z][A-Z_]+\.md\b")
@@ -275,7 +276,8 @@ def write_examples(document: pathlib.Path, faults: list[tuple[Shown, list[str]]]
 
 
 def documents_of(root: pathlib.Path) -> list[pathlib.Path]:
-    patterns = ("README.md", "CONTRIBUTING.md", "docs/*.md", "crates/*/README.md", "companion/README.md")
+    patterns = ["README.md", "CONTRIBUTING.md", "docs/*.md"]
+    patterns += [f"{folder}/README.md" for folder in ("crates/*", "companion", "examples/*")]
     return [path for pattern in patterns for path in sorted(root.glob(pattern))]
 
 

@@ -1,6 +1,6 @@
 #!/usr/bin/env bash
 # The merge gate: what documents name is there; every proof from nothing and the tests (rt ci); the edits that name their function;
-# then the program and its own tests, the documents' examples, a first run, releases, the companion, and tests with memory refused.
+# then the program and its own tests, the documents' examples, a first run, releases, the companion, windows, and tests with memory refused.
 # Each step from rt ci on ends with a line of its seconds: on the clock, and of processors.
 # Usage: tools/gate.sh
 set -euo pipefail
@@ -40,10 +40,12 @@ time tests/library.sh build/libdrain.a
 time tests/first_run.sh build/drain
 time tests/shipping.sh build
 time tests/companion.sh build/drain
+time tests/continent.sh build/drain
 time tests/program/run.sh build/drain build/benches
 # The static program, where the object that it is linked from was made in this run.
 if [ -f build/drain.o ] && command -v gcc >/dev/null; then
     tools/static_program.sh build/drain build/drain.o build/drain-static
     time tests/program/run.sh build/drain-static build/benches
 fi
-time tests/refused_memory.sh byte_tests cell_tests rules_tests page_tests verdict_tests maker_tests derive_tests cli_tests
+time tests/refused_memory.sh byte_tests cell_tests rules_tests page_tests merge_tests report_tests verdict_tests window_tests maker_tests derive_tests \
+    cli_tests

@@ -137,9 +137,27 @@ class Faults:
         self.apart = scratch / "apart"
         words = ["explain", "--side", "3", "--products", str(self.apart), str(self.tile), str(self.other)]
         self.explain_seam, self.seam_object = (Run(drain, [*words, *form], "", status=2) for form in ([], ["--json"]))
+        self.window, self.window_over = (self.window_run("0,0,3,2", "e", self.made / "report.txt", "cols=2 data=3 raised=0 outlets=3") for _ in range(2))
+        self.reports, self.texts = [scratch / "west.txt", scratch / "east.txt"], []
+        self.merge = Run(drain, ["merge", *map(str, self.reports)], self.check.line)
+        self.merge_listed = Run(drain, [*self.merge.words, *self.listing], "refused SinkLeftOut 1\n", status=2)
         self.fill = Run(drain, ["fill", "--side", "3"], "accepted rows=3 cols=3 data=9 raised=1\n", stdin=PIT / "pit-3.fill")
         header = subprocess.run([drain, "header", PIT / "pit-3/con.hdr"], stdout=subprocess.PIPE, check=True).stdout.decode()
         self.header = Run(drain, ["header", str(PIT / "pit-3/con.hdr")], header)
+
+    def window_run(self, box, inner, report, counts):
+        """The pit's products in a window of all rows: its box, its inner side, its report and its counts."""
+        words = ["window", "--box", box, "--inner", inner, "--report", str(report), *self.check.words[1:]]
+        return Run(self.drain, words, f"accepted rows=3 {counts}\n")
+
+    def report(self):
+        """The reports of two windows that overlap in columns 0 and 1."""
+        self.restore()
+        for run in (self.window_run("0,0,3,2", "e", self.reports[0], "cols=2 data=3 raised=0 outlets=3"),
+                    self.window_run("0,0,3,3", "w", self.reports[1], "cols=3 data=6 raised=1 outlets=5")):
+            if not run.is_right(run.under()):
+                sys.exit("FAILED: window does not succeed where no call fails")
+        self.texts = [report.read_bytes() for report in self.reports]
 
     def restore(self, run=None):
         """The pit and its products as they should be, and the folder that a run writes into: empty, or with files of the same
@@ -154,6 +172,8 @@ class Faults:
         for name in FILES:
             shutil.copy(PIT / "pit-3" / name, self.products / name)
         shutil.copy(PIT / "pit-3" / "N00E000.hgt", self.tile)
+        for report, text in zip(self.reports, self.texts):
+            report.write_bytes(text)
 
     def part(self):
         """A second tile that differs on the seam, and products of the shape of both."""
@@ -234,6 +254,11 @@ class Faults:
             runs.append(Run(self.drain, ["audit", "--only", "con", *judged], f"accepted {counts.rpartition(' ')[0]}\n"))
             runs.append(Run(self.drain, ["audit", "--only", "con,dir,bas", *judged], f"accepted {counts}\n"))
             runs.append(Run(self.drain, ["derive", "--out", str(self.made), *judged], f"derived rows={side} cols={side}\n"))
+            window = ["window", "--box", f"0,0,{side},{side}", "--report"]
+            runs.append(Run(self.drain, [*window, str(self.made / "report.txt"), *judged], f"accepted {counts}\n"))
+            report = str(folder / "report.txt")
+            Run(self.drain, [*window, report, *judged], "").under()
+            runs.append(Run(self.drain, ["merge", report, *listing], f"accepted {counts}\n"))
         bends_line = "accepted rows=201 cols=201 data=40401 raised=0 outlets=800"
         for write, answer in ((bends, bends_line), (ring, "rejected NoEnd row=1 col=1")):
             folder = self.scratch / write.__name__
@@ -277,19 +302,20 @@ class Faults:
 
     def killed(self):
         """A run that writes files is killed in place of each call that creates, writes or renames one."""
-        for run in (self.make, self.make_over, self.derive, self.derive_over, self.explain_over):
+        for run in (self.make, self.make_over, self.derive, self.derive_over, self.window, self.window_over, self.explain_over):
             for call in ("open", "write", "rename"):
                 for name, ended in self.each_call(run, call, "killed"):
                     self.judge(name, ended == (-9, "", ""), ended)
                     self.look_at_what_is_left(run, call, "killed", name, ended)
 
     def changed(self):
-        """A tile or raster is cut or written over between two reads of a check, an audit or a derivation: it answers some line
-        of its own."""
-        begins = ("accepted ", "derived ", "rejected ", "refused RasterShort ", "refused BadTileLength ", "failed ReadFailed")
+        """A tile, a raster or a report is cut or written over between two reads of a check, an audit, a window, a derivation or
+        a merge: it answers some line of its own."""
+        begins = ("accepted ", "derived ", "rejected ", "refused RasterShort ", "refused BadTileLength ", "refused BadReport ", "failed ReadFailed")
         rasters = [self.products / f"{product}.bil" for product in PRODUCTS]
         parts = [(self.parts[0], [self.tile, *rasters[:1]]), (self.parts[1], [self.tile, *rasters[:2]]), (self.derive, [self.tile, rasters[1]])]
-        for run, files in ((self.check, [self.tile, *rasters]), (self.audit, [self.tile, *rasters[:-1]]), *parts):
+        four = [self.tile, *rasters[:-1]]
+        for run, files in ((self.check, [self.tile, *rasters]), (self.audit, four), (self.window, four), (self.merge, self.reports), *parts):
             for file in files:
                 for how in ("cut", "turned"):
                     for name, ended in self.each_call(run, "read", how, FAIL_FILE=str(file)):
@@ -321,9 +347,9 @@ class Faults:
         self.right[run] = contents(self.made)
 
     def all(self):
-        makers = [self.make, self.make_listed, self.make_over, self.derive, self.derive_over]
+        makers = [self.make, self.make_listed, self.make_over, self.derive, self.derive_over, self.window, self.window_over]
         explained = [self.explain, self.explain_object, self.explain_over]
-        judged = [self.check, self.audit, *self.parts, self.check_listed, self.audit_listed, self.con_listed]
+        judged = [self.check, self.audit, *self.parts, self.check_listed, self.audit_listed, self.con_listed, self.merge, self.merge_listed]
         runs = [*judged, *explained, *makers, self.fill, self.header]
         self.makers = makers
         self.calls = {call: runs for call in TELLS}
@@ -331,12 +357,14 @@ class Faults:
         self.calls["look"] = [*judged, *explained, *makers]
         self.calls["rename"] = [*explained, *makers]
         self.over, self.right = {}, {}
-        for run in (self.make, self.make_listed, self.derive, self.explain, self.explain_object):
+        self.report()
+        for run in (self.make, self.make_listed, self.derive, self.window, self.explain, self.explain_object):
             self.learn(run)
         self.over[self.make_over] = self.right[self.make_listed]
         self.over[self.derive_over] = {file: b"of before" for file in self.right[self.derive]}
+        self.over[self.window_over] = {"report.txt": b"of before"}
         self.over[self.explain_over] = {"faults.hdr": b"of before", "faults.bil": b"of before"}
-        for run in (self.make_over, self.derive_over, self.explain_over):
+        for run in (self.make_over, self.derive_over, self.window_over, self.explain_over):
             self.learn(run)
         self.part()
         for run in (self.explain_seam, self.seam_object):

@@ -2,7 +2,7 @@
 
 use drain_device::faults::{ScriptSource, Scripted};
 use drain_device::{BodyFault, DeviceFault};
-use drain_files::sink_file::read_list;
+use drain_files::text_file::read_text;
 use std::alloc::Global;
 use std::process::Abort;
 use std::test::Fail;
@@ -42,7 +42,7 @@ fn came(
         return Ok(None);
     }
     let mut source = ScriptSource::new(list, most, script);
-    let came = read_list(alloc, &mut source)?;
+    let came = read_text(alloc, &mut source)?;
     Ok(if came.as_slice() == list {
         Some(came.len())
     } else {

@@ -7,9 +7,12 @@ use Rattle.clap.specs.Walk.{Text}
 use Rattle.clap.specs.declared.parser.matches.Found.{Found}
 use Rattle.drain_args.specs.declared.requests.CheckArgs.{CheckArgs}
 use Rattle.drain_args.specs.declared.requests.MakeArgs.{MakeArgs}
+use Rattle.drain_args.specs.declared.requests.MergeArgs.{MergeArgs}
+use Rattle.drain_args.specs.declared.requests.WindowArgs.{WindowArgs}
 use Rattle.drain_args.specs.declared.requests.Request.{Request}
-use Rattle.drain_args.specs.declared.requests.Request.TheVariants.{Audit, Check, Derive, Explain, Make, Fill, Header}
+use Rattle.drain_args.specs.declared.requests.Request.TheVariants.{Audit, Check, Derive, Explain, Window, Merge, Make, Fill, Header}
 use Rattle.drain_args.specs.declared.commands.TheConstants.{DEFAULT_SIDE}
+use Rattle.drain_args.specs.PlaceTexts.{IsBox, IsInner}
 use Rattle.drain_parts.specs.declared.given.Given.{Given}
 use Rattle.drain_parts.specs.declared.given.Given.TheVariants.{Con, ConDir, ConDirAcc, ConDirBas}
 
@@ -41,6 +44,18 @@ pub record IsMakeArgs (f : Found) (args : MakeArgs) : Type 0 where
   pub tiles : map (λ path. path.now) args.tiles.items ≡ unwrap_or (option_map raw_values (matched_of f (codes "tiles"))) []
   pub progress : IsFlag (codes "progress") f args.progress
 
+-- the window's place is that of the options, and its report goes into the file of another
+pub record IsWindowArgs (f : Found) (args : WindowArgs) : Type 0 where
+  pub inputs : IsCheckArgs f args.inputs
+  pub box : IsBox (unwrap_or (first_value f (codes "box")) []) args.place
+  pub inner : IsInner (unwrap_or (first_value f (codes "inner")) []) args.place.inner
+  pub report : args.report.now ≡ unwrap_or (first_value f (codes "report")) []
+
+-- the reports are the arguments without an option, in their order
+pub record IsMergeArgs (f : Found) (args : MergeArgs) : Type 0 where
+  pub reports : map (λ path. path.now) args.reports.items ≡ unwrap_or (option_map raw_values (matched_of f (codes "reports"))) []
+  pub sinks : option_map (λ path. path.now) args.sinks ≡ first_value f (codes "sinks")
+
 abbrev pub map_ending : Text
 map_ending = codes ".bil"
 
@@ -67,6 +82,8 @@ IsRequestOf name f (Audit args) = (name ≡ codes "audit") × (IsCheckArgs f arg
 IsRequestOf name f (Check args) = (name ≡ codes "check") × IsCheckArgs f args
 IsRequestOf name f (Explain args) =
     (name ≡ codes "explain") × (IsCheckArgs f args.inputs × (IsOnlyOption f args.only × (IsMap f args.map × IsFlag (codes "json") f args.json)))
+IsRequestOf name f (Window args) = (name ≡ codes "window") × IsWindowArgs f args
+IsRequestOf name f (Merge args) = (name ≡ codes "merge") × IsMergeArgs f args
 IsRequestOf name f (Make args) = (name ≡ codes "make") × IsMakeArgs f args
 IsRequestOf name f (Derive args) =
     (name ≡ codes "derive") × (IsCheckArgs f args.inputs × (args.out.now ≡ unwrap_or (first_value f (codes "out")) []))

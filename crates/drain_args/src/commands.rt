@@ -1,6 +1,6 @@
 //! The program and its commands, as described to `clap`: their names, help texts and arguments.
 
-use crate::{explain_texts, help_texts};
+use crate::{explain_texts, help_texts, window_texts};
 use clap::builder::ValueParser;
 use clap::{Arg, ArgAction, Command};
 use std::alloc::{AllocError, Global};
@@ -25,7 +25,11 @@ enum ArgSpec {
     Progress,
     Map,
     Json,
+    WindowBox,
+    Inner,
+    Report,
     Tiles,
+    Reports,
     Header,
 }
 
@@ -84,6 +88,31 @@ pub(crate) const EXPLAIN: CommandSpec = CommandSpec {
     ],
 };
 
+pub(crate) const WINDOW: CommandSpec = CommandSpec {
+    name: "window",
+    about: window_texts::WINDOW_ABOUT,
+    long_about: window_texts::WINDOW_LONG_ABOUT,
+    after: window_texts::WINDOW_AFTER,
+    args: &[
+        ArgSpec::Side,
+        ArgSpec::Products,
+        ArgSpec::WindowBox,
+        ArgSpec::Inner,
+        ArgSpec::Report,
+        ArgSpec::Sinks,
+        ArgSpec::Progress,
+        ArgSpec::Tiles,
+    ],
+};
+
+const MERGE: CommandSpec = CommandSpec {
+    name: "merge",
+    about: window_texts::MERGE_ABOUT,
+    long_about: window_texts::MERGE_LONG_ABOUT,
+    after: window_texts::MERGE_AFTER,
+    args: &[ArgSpec::Sinks, ArgSpec::Reports],
+};
+
 const MAKE: CommandSpec = CommandSpec {
     name: "make",
     about: help_texts::MAKE_ABOUT,
@@ -129,7 +158,9 @@ const HEADER: CommandSpec = CommandSpec {
 };
 
 /// The commands, in the order of the program's help.
-static COMMANDS: [CommandSpec; 7] = [AUDIT, CHECK, EXPLAIN, MAKE, DERIVE, FILL, HEADER];
+static COMMANDS: [CommandSpec; 9] = [
+    AUDIT, CHECK, EXPLAIN, WINDOW, MERGE, MAKE, DERIVE, FILL, HEADER,
+];
 
 /// The program and its commands.
 pub(crate) fn program<'a>(alloc: Global) -> Result<Command<'a>, AllocError> {
@@ -190,7 +221,11 @@ fn argument<'a>(alloc: Global, spec: ArgSpec) -> Arg<'a> {
         ArgSpec::Progress => flag(alloc, "progress", help_texts::PROGRESS_HELP),
         ArgSpec::Map => file(alloc, "map", explain_texts::MAP_HELP),
         ArgSpec::Json => flag(alloc, "json", explain_texts::JSON_HELP),
-        ArgSpec::Tiles => tiles(alloc),
+        ArgSpec::WindowBox => window_box(alloc),
+        ArgSpec::Inner => inner(alloc),
+        ArgSpec::Report => file(alloc, "report", window_texts::REPORT_HELP).required(true),
+        ArgSpec::Tiles => paths(alloc, "tiles", "TILE", help_texts::TILES_HELP),
+        ArgSpec::Reports => paths(alloc, "reports", "REPORT", window_texts::REPORTS_HELP),
         ArgSpec::Header => header(alloc),
     }
 }
@@ -225,15 +260,31 @@ fn only<'a>(alloc: Global) -> Arg<'a> {
     path(alloc, "only", "LIST", help_texts::ONLY_HELP).long("only")
 }
 
-fn tiles<'a>(alloc: Global) -> Arg<'a> {
-    path(alloc, "tiles", "TILE", help_texts::TILES_HELP).action(ArgAction::Append)
+fn window_box<'a>(alloc: Global) -> Arg<'a> {
+    path(alloc, "box", "TOP,LEFT,ROWS,COLS", window_texts::BOX_HELP)
+        .long("box")
+        .required(true)
+}
+
+fn inner<'a>(alloc: Global) -> Arg<'a> {
+    path(alloc, "inner", "SIDES", window_texts::INNER_HELP).long("inner")
+}
+
+/// Any number of paths without a name of their own.
+fn paths<'a>(
+    alloc: Global,
+    name: &'static str,
+    value: &'static str,
+    help: &'static str,
+) -> Arg<'a> {
+    path(alloc, name, value, help).action(ArgAction::Append)
 }
 
 fn header<'a>(alloc: Global) -> Arg<'a> {
     path(alloc, "file", "FILE", help_texts::FILE_HELP).required(true)
 }
 
-/// A path, which isn't empty.
+/// A path or another text, which isn't empty.
 fn path<'a>(alloc: Global, name: &'static str, value: &'static str, help: &'static str) -> Arg<'a> {
     Arg::new(alloc, name)
         .value_name(value)

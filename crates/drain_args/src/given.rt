@@ -1,6 +1,6 @@
 //! The values of a command's arguments, as `clap` found them: by the names of the arguments.
 
-ghost use Rattle.std.specs.Prelude.{◌≡◌, [], IfOk, codes, map, option_map, unwrap_or};
+ghost use Rattle.std.specs.Prelude.{◌≡◌, [], IfOk, map, option_map, unwrap_or};
 ghost use Rattle.clap.specs.Matches.{first_value, found_of, matched_of, raw_values};
 ghost use Rattle.drain_args.specs.Requests.{IsFlag, IsSideOption};
 
@@ -32,12 +32,16 @@ pub fn flag_given(given: &ArgMatches<'_>, name: &str) -> bool
     given.get_flag(name)
 }
 
-/// The paths of the tiles, in the order given.
-pub fn tiles_given<'a>(alloc: Global, given: &ArgMatches<'a>) -> Result<Vec<&'a str>, AllocError>
-    ensures { IfOk result (λ tiles. map (λ tile. tile.now) tiles.items ≡ unwrap_or (option_map raw_values (matched_of (found_of given.now) (codes "tiles"))) []) }
+/// The paths of an argument that may be repeated, in the order given.
+pub fn paths_given<'a>(
+    alloc: Global,
+    given: &ArgMatches<'a>,
+    name: &str,
+) -> Result<Vec<&'a str>, AllocError>
+    ensures { IfOk result (λ paths. map (λ path. path.now) paths.items ≡ unwrap_or (option_map raw_values (matched_of (found_of given.now) name.now)) []) }
 {
-    match given.get_strs("tiles") {
-        Some(tiles) => Vec::from_slice(alloc, tiles),
+    match given.get_strs(name) {
+        Some(paths) => Vec::from_slice(alloc, paths),
         None => Ok(Vec::new(alloc)),
     }
 }

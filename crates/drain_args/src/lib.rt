@@ -7,4 +7,6 @@ pub mod explain_texts;
 pub mod form;
 pub mod given;
 pub mod help_texts;
+pub mod place_texts;
 pub mod requests;
+pub mod window_texts;

@@ -2,15 +2,17 @@
 
 ghost use Rattle.std.specs.Prelude.{◌≡◌, ◌++◌, IfOk, IfSome, codes};
 ghost use Rattle.clap.specs.Matches.{found_of};
-ghost use Rattle.drain_args.specs.Requests.{IsCheckArgs, IsMakeArgs, IsMap, IsOnlyOption, IsRequestOf, map_ending};
+ghost use Rattle.drain_args.specs.Requests.{IsCheckArgs, IsMakeArgs, IsMap, IsMergeArgs, IsOnlyOption, IsRequestOf, map_ending};
 
 use crate::clusters::first_cluster;
-use crate::commands::{AUDIT, CommandSpec, EXPLAIN, command, program};
-use crate::given::{flag_given, option_given, side_given, text_given, tiles_given};
-use crate::{explain_texts, help_texts};
+use crate::commands::{AUDIT, CommandSpec, EXPLAIN, WINDOW, command, program};
+use crate::given::{flag_given, option_given, paths_given, side_given, text_given};
+use crate::place_texts::{inner_sides, window_place};
+use crate::{explain_texts, help_texts, window_texts};
 use clap::error::ErrorKind;
 use clap::{ArgMatches, Error};
 use drain_parts::Given;
+use drain_windows::Place;
 use std::alloc::{AllocError, Global};
 
 /// The request of the arguments.
@@ -22,6 +24,10 @@ pub enum Request<'a> {
     Check(CheckArgs<'a>),
     /// `drain explain`: report what is wrong with the products in this folder, where, and how much of it.
     Explain(ExplainArgs<'a>),
+    /// `drain window`: judge one window of a union, and write its report.
+    Window(WindowArgs<'a>),
+    /// `drain merge`: put the reports of a union's windows together.
+    Merge(MergeArgs<'a>),
     /// `drain make`: make products of tiles, and write them into this folder.
     Make(MakeArgs<'a>),
     /// `drain derive`: compute accumulation, labels and ranks of the directions in this folder, and write them into
@@ -49,6 +55,21 @@ pub struct CheckArgs<'a> {
 pub struct AuditArgs<'a> {
     pub inputs: CheckArgs<'a>,
     pub only: Option<Given>,
+}
+
+/// The mosaic and the products in this folder, where the window lies in the mosaic, and the path of its report.
+#[derive(Drop)]
+pub struct WindowArgs<'a> {
+    pub inputs: CheckArgs<'a>,
+    pub place: Place,
+    pub report: &'a str,
+}
+
+/// The reports at these paths, and the list of the union's sinks at this path.
+#[derive(Drop)]
+pub struct MergeArgs<'a> {
+    pub reports: Vec<&'a str>,
+    pub sinks: Option<&'a str>,
 }
 
 /// What products are made of, the tiles at these paths and the list of sinks at this path; the folder for them; and
@@ -110,7 +131,8 @@ fn no_command(alloc: Global) -> Result<Error, AllocError> {
 
 /// The request of the command of this name, with these values of its arguments.
 ///
-/// A map whose name doesn't end in `.bil` is a usage error, and so is a name that is no command's.
+/// A map whose name doesn't end in `.bil` is a usage error, and so are another list of rasters, a box that is none, other
+/// letters than those of sides, and a name that is no command's.
 pub fn request_of<'a>(
     alloc: Global,
     name: &str,
@@ -122,6 +144,8 @@ pub fn request_of<'a>(
         "audit" => audit_request(alloc, given),
         "check" => Ok(Request::Check(check_args(alloc, given)?)),
         "explain" => explain_request(alloc, given),
+        "window" => window_request(alloc, given),
+        "merge" => Ok(Request::Merge(merge_args(alloc, given)?)),
         "make" => Ok(Request::Make(make_args(alloc, given)?)),
         "derive" => Ok(derive_request(alloc, given)?),
         "fill" => Ok(Request::Fill {
@@ -138,7 +162,7 @@ pub fn request_of<'a>(
 fn check_args<'a>(alloc: Global, given: &ArgMatches<'a>) -> Result<CheckArgs<'a>, AllocError>
     ensures { IfOk result (IsCheckArgs (found_of given.now)) }
 {
-    let tiles = tiles_given(alloc, given)?;
+    let tiles = paths_given(alloc, given, "tiles")?;
     Ok(CheckArgs {
         side: side_given(given),
         products: text_given(given, "products"),
@@ -234,11 +258,40 @@ pub fn map_stem(path: &str) -> Option<&str>
     path.strip_suffix(".bil")
 }
 
+/// The window to be judged.
+fn window_request<'a>(alloc: Global, given: &ArgMatches<'a>) -> Result<Request<'a>, Error>
+    ensures { IfOk result (IsRequestOf (codes "window") (found_of given.now)) }
+{
+    let Some(inner) = inner_sides(text_given(given, "inner")) else {
+        return Err(bad_value(alloc, &WINDOW, window_texts::BAD_INNER)?);
+    };
+    let Some(place) = window_place(text_given(given, "box"), inner) else {
+        return Err(bad_value(alloc, &WINDOW, window_texts::BAD_BOX)?);
+    };
+    let inputs = check_args(alloc, given)?;
+    Ok(Request::Window(WindowArgs {
+        inputs,
+        place,
+        report: text_given(given, "report"),
+    }))
+}
+
+/// The reports to be put together.
+fn merge_args<'a>(alloc: Global, given: &ArgMatches<'a>) -> Result<MergeArgs<'a>, AllocError>
+    ensures { IfOk result (IsMergeArgs (found_of given.now)) }
+{
+    let reports = paths_given(alloc, given, "reports")?;
+    Ok(MergeArgs {
+        reports,
+        sinks: option_given(given, "sinks"),
+    })
+}
+
 /// What is to be made.
 fn make_args<'a>(alloc: Global, given: &ArgMatches<'a>) -> Result<MakeArgs<'a>, AllocError>
     ensures { IfOk result (IsMakeArgs (found_of given.now)) }
 {
-    let tiles = tiles_given(alloc, given)?;
+    let tiles = paths_given(alloc, given, "tiles")?;
     Ok(MakeArgs {
         side: side_given(given),
         out: text_given(given, "out"),

@@ -20,6 +20,8 @@ use drain_files::reason::{Reason, print_reason};
 use drain_print::print::{print_failure, print_text};
 use drain_print::status::Status;
 use drain_progress::progress::Progress;
+use drain_union::merge_files::merge_files;
+use drain_union::window_files::window_files;
 use std::alloc::Global;
 use std::fs::File;
 use std::io;
@@ -55,6 +57,8 @@ fn run(rt: &HostRuntime, args: &[String], out: &mut impl ByteSink) -> u8 {
         Ok(Request::Explain(args)) => explain_files(rt, &args, out),
         Ok(Request::Make(args)) => make_from_files(rt, &args, out),
         Ok(Request::Derive(args)) => derive_files(rt, &args, out),
+        Ok(Request::Window(args)) => window_files(rt, &args, out),
+        Ok(Request::Merge(args)) => merge_files(rt, &args, out),
         Ok(Request::Fill { side }) => run_fill(rt.alloc(), side, &mut Reader::new(rt.stdin()), out),
         Ok(Request::Header { path }) => header_of_file(rt, path, out),
         Err(error) if error.kind() == ErrorKind::OutOfMemory => print_no_memory(rt, out),

@@ -1,6 +1,6 @@
 pub mod FileIds
 pub mod FilePaths
-pub mod LongLists
+pub mod LongTexts
 pub mod MapFiles
 pub mod OpenFailures
 pub mod Placings

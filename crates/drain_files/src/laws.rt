@@ -4,12 +4,12 @@
 
 ghost use Rattle.std.specs.Prelude.{◌≡◌};
 
-use crate::sink_file::MAX_LIST_BYTES;
+use crate::text_file::MAX_TEXT_BYTES;
 use crate::whole_input::CHUNK_BYTES;
 
-/// The numerals of the constants in definitions: a list of sinks has at most 2^32 bytes and is read by 16,384 of them.
-/// This project's own.
+/// The numerals of the constants in definitions: a text has at most 2^32 bytes and is read by 16,384 of them. This
+/// project's own.
 pub fn constants()
-    ensures max_list_bytes { MAX_LIST_BYTES ≡ 4294967296 }
+    ensures max_text_bytes { MAX_TEXT_BYTES ≡ 4294967296 }
     ensures chunk_bytes { CHUNK_BYTES ≡ 16384 }
 {}

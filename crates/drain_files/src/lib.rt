@@ -13,5 +13,6 @@ pub mod output_paths;
 pub mod outputs;
 pub mod placing;
 pub mod reason;
-pub mod sink_file;
+pub mod text_file;
 pub mod whole_input;
+pub mod whole_output;

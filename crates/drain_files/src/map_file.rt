@@ -2,10 +2,11 @@
 
 ghost use Rattle.std.specs.Prelude.{◌≡◌, ◌∷◌, []};
 ghost use Rattle.drain_header.specs.Text.{text_of};
-ghost use Rattle.drain_maker.specs.ProductFiles.{WritesFile, WritesFiles};
+ghost use Rattle.drain_maker.specs.ProductFiles.{WritesFiles};
 ghost use Rattle.drain_files.specs.MapFiles.{map_header};
 
-use drain_device::{ByteSink, GaveUp, Patience, write_all};
+use crate::whole_output::write_bytes;
+use drain_device::ByteSink;
 use drain_grid::Product;
 use drain_header::{Header, header_text};
 use drain_maker::product_files::SetFault;
@@ -36,15 +37,5 @@ pub fn write_map<F: ByteSink>(
     match write_bytes(header, &text) {
         Ok(()) => write_bytes(raster, pixels),
         Err(fault) => Err(fault),
-    }
-}
-
-/// Writes the bytes of a file.
-fn write_bytes<F: ByteSink>(to: &mut F, bytes: &[u8]) -> Result<(), SetFault>
-    ensures { WritesFile F.ByteSink to.old to.new bytes.now result }
-{
-    match write_all(to, bytes, &mut Patience::new()) {
-        Ok(()) => Ok(()),
-        Err(GaveUp) => Err(SetFault::WriteFailed),
     }
 }

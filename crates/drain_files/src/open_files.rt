@@ -10,7 +10,7 @@ use crate::file_id::FileId;
 use crate::file_paths::tile_name;
 use crate::outputs::{OutputSink, Outputs};
 use crate::reason::Reason;
-use crate::sink_file::read_list;
+use crate::text_file::read_text;
 use drain_device::{BodyFault, ByteList, Reader, Writer};
 use drain_hgt::TileInput;
 use drain_maker::product_files::{Part, SET_FILES, SetFile};
@@ -150,9 +150,14 @@ pub fn list_at(opener: &mut Opener<'_>, path: Option<&str>) -> Result<Vec<u8>, O
     let Some(path) = path else {
         return Ok(Vec::new(alloc));
     };
+    text_at(opener, path)
+}
+
+/// The bytes of the text at this path. The file is closed again.
+pub fn text_at(opener: &mut Opener<'_>, path: &str) -> Result<Vec<u8>, OpenFault> {
     let mut file = opener.open(path)?;
-    match read_list(alloc, &mut file) {
-        Ok(list) => Ok(list),
+    match read_text(opener.alloc(), &mut file) {
+        Ok(text) => Ok(text),
         Err(fault) => Err(OpenFault::Body(fault)),
     }
 }

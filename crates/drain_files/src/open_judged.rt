@@ -78,6 +78,23 @@ pub fn open_judged<'a>(
     })
 }
 
+/// Opens the files of a window of a mosaic: those of an audit.
+pub fn open_audited<'a>(
+    opener: &mut Opener<'_>,
+    args: &CheckArgs<'_>,
+    progress: &'a Progress<'a>,
+) -> Result<OpenFiles<'a, AuditProducts<InputFile<'a>>>, OpenFault> {
+    let tiles = open_tiles(opener, args.tiles.as_slice())?;
+    let mut products = open_four(opener, args.products, Rasters::OfAudit)?;
+    count_con(&mut products.con, progress);
+    let sinks = list_at(opener, args.sinks)?;
+    Ok(OpenFiles {
+        tiles,
+        products,
+        sinks,
+    })
+}
+
 /// Opens the tiles, the directions and the list of sinks. Directions alone are given: their header and zeros take the
 /// place of the other rasters.
 pub fn open_directions<'a>(

@@ -58,14 +58,14 @@ pub fn output_paths<W: ByteSink>(
     }
 }
 
-/// If one of these paths leads to an input, prints the usage error for the first, and returns the exit status. Where
-/// that can't be found out, the file is tested when it is created.
-pub fn print_overwriting(opener: &Opener<'_>, paths: &[String]) -> Option<u8> {
+/// If one of these paths of outputs, such as `the products`, leads to an input, prints the usage error for the first,
+/// and returns the exit status. Where that can't be found out, the file is tested when it is created.
+pub fn print_overwriting(opener: &Opener<'_>, outputs: &str, paths: &[String]) -> Option<u8> {
     for path in paths {
         if let Ok(target) = target_at(opener.rt(), path.as_str()) {
             if is_input(target, opener.ids()) {
                 let _ = eprintln!(opener.rt();
-                    "error: the products would overwrite {path}, which is an input"
+                    "error: {outputs} would overwrite {path}, which is an input"
                 );
                 return Some(Status::Refused.code());
             }

@@ -5,7 +5,7 @@ use Rattle.std.proofs.lemmas.List.{take_more}
 use Rattle.std.proofs.lemmas.List.Elements.{Contains-append_left, Contains-push, Contains-push_cases}
 use Rattle.drain_windows.proofs.FirstFaults.{pair_trans}
 use Rattle.drain_merge.specs.declared.faults.Fault.{Fault}
-use Rattle.drain_merge.specs.declared.judged_window.JudgedWindow.{JudgedWindow}
+use Rattle.drain_windows.specs.declared.window_report.WindowReport.{WindowReport}
 use Rattle.drain_merge.specs.Faults.{union_fault, ComesBefore, IsEarlierFault, IsFirstOfFaults}
 use Rattle.drain_merge.proofs.SortedOutlets.{earlier_differs}
 
@@ -19,9 +19,9 @@ not_before_itself a (inr same) = absurd (omega (arith, same.1))
 some_same : (a b : Fault) → Some a ≡ Some b → a ≡ b
 some_same a b same = cc
 
-module _ (ws : List JudgedWindow) (w : JudgedWindow) where
+module _ (ws : List WindowReport) (w : WindowReport) where
   -- a window of those before, or this one
-  old_or_new : (P : JudgedWindow → Type 0) → ((x : JudgedWindow) → Contains ws x → P x) → P w → (x : JudgedWindow) → Contains (ws ++ w ∷ []) x → P x
+  old_or_new : (P : WindowReport → Type 0) → ((x : WindowReport) → Contains ws x → P x) → P w → (x : WindowReport) → Contains (ws ++ w ∷ []) x → P x
   old_or_new P old new x has =
       elim (Contains-push_cases ws w x has) [
         | inl before ↦ old x before
@@ -63,7 +63,7 @@ module _ (ws : List JudgedWindow) (w : JudgedWindow) where
         (λ here before. old.1 (subst (λ f. ComesBefore f a) (some_same other b (sym here ∙ is)) before)) x has here,
   )
 
-pub fault_of_next : (ws : List JudgedWindow) (n : ℕ) (w : JudgedWindow) (first found : Option Fault) → n < length ws → w ≡ slice_index_or ws n w →
+pub fault_of_next : (ws : List WindowReport) (n : ℕ) (w : WindowReport) (first found : Option Fault) → n < length ws → w ≡ slice_index_or ws n w →
     IsFirstOfFaults (take n ws) first → IsEarlierFault first (union_fault w) found → IsFirstOfFaults (take (n + 1) ws) found
 fault_of_next ws n w first found below is before earlier =
     let more : take (n + 1) ws ≡ take n ws ++ w ∷ [] = take_more ws n w below ∙ ap (λ x. take n ws ++ x ∷ []) (sym is) in

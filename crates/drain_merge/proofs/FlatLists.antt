@@ -3,8 +3,8 @@ use Rattle.std.proofs.Common.{◌≡◌, zero, suc, inl, inr, List, [], ◌∷�
 use Rattle.std.specs.List.{Contains, flat_map}
 use Rattle.std.proofs.lemmas.List.Elements.{Contains-append_left, Contains-append_right, Contains-append_cases}
 use Rattle.drain_windows.specs.declared.place.Place.{Place}
-use Rattle.drain_merge.specs.declared.judged_window.JudgedWindow.{JudgedWindow}
-use Rattle.drain_merge.specs.JudgedWindows.{reports_of, places_of}
+use Rattle.drain_windows.specs.declared.window_report.WindowReport.{WindowReport}
+use Rattle.drain_merge.specs.Lists.{reports_of, places_of}
 
 first_one : {X : Type 0} (x : X) (xs : List X) → Contains (x ∷ xs) x
 first_one x xs = (0, omega arith, refl)
@@ -27,6 +27,6 @@ in_flat f (v ∷ xs) x y (suc k, below, is) inside =
     Contains-append_right (f v) (flat_map f xs) y (in_flat f xs x y (k, omega (arith, below), is) inside)
 
 -- where the windows lie, as their reports say
-pub same_places : (ws : List JudgedWindow) → map (λ r. r.place) (reports_of ws) ≡ places_of ws
+pub same_places : (ws : List WindowReport) → map (λ r. r.place) (reports_of ws) ≡ places_of ws
 same_places [] = refl
 same_places (w ∷ ws) = ap (λ (ps : List Place). w.report.place ∷ ps) (same_places ws)

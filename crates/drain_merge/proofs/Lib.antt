@@ -1,7 +1,6 @@
 pub mod CornerCells
 pub mod FirstLemmas
 pub mod FirstOfFaults
-pub mod JudgedCells
 pub mod NewNumbers
 pub mod SortedOutlets
 pub mod SameValues
@@ -12,3 +11,6 @@ pub mod MergedUnions
 pub mod MergeMeaning
 pub mod MapRefusals
 pub mod MovedWindows
+pub mod CellLists
+pub mod CellSets
+pub mod TakenSinks

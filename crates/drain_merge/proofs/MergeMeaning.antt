@@ -13,7 +13,7 @@ use Rattle.drain_rules.specs.declared.verdict.Verdict.{Verdict}
 use Rattle.drain_rules.specs.declared.verdict.Verdict.TheVariants.{Accepted as WindowAccepted, Rejected as WindowRejected}
 use Rattle.drain_windows.specs.declared.place.Place.{Place}
 use Rattle.drain_merge.specs.declared.faults.Fault.{Fault}
-use Rattle.drain_merge.specs.declared.judged_window.JudgedWindow.{JudgedWindow}
+use Rattle.drain_windows.specs.declared.window_report.WindowReport.{WindowReport}
 use Rattle.drain_merge.specs.declared.merge_verdict.MergeVerdict.{MergeVerdict}
 use Rattle.drain_merge.specs.declared.merge_verdict.MergeVerdict.TheVariants.{Accepted, Rejected}
 use Rattle.drain_merge.specs.Faults.{fault_in, IsFirstOfFaults}
@@ -29,7 +29,7 @@ rejected_if p (WindowAccepted counts) fault is = none_some is
     none_some same = cc
 rejected_if p (WindowRejected rule row col) fault is = tt
 
-some_rejected : (ws : List JudgedWindow) (fault : Fault) → IsFirstOfFaults ws (Some fault) → SomeIsRejected ws
+some_rejected : (ws : List WindowReport) (fault : Fault) → IsFirstOfFaults ws (Some fault) → SomeIsRejected ws
 some_rejected ws fault first = (first.0.0, first.0.1, rejected_if first.0.0.report.place first.0.0.verdict fault first.0.2)
 
 any_patch : (q : Rule) → IsPatchRule q → IsAnyRule q
@@ -41,7 +41,7 @@ as_tried : (n : NoDataNumbers) (u : Grid) (ps : Products) (c : Cell) (r : Rule) 
 as_tried n u ps c SharedLabel own fault = absurd (omega (arith, own.1))
 as_tried n u ps c r own fault = fault
 
-pub union_verdict : (e : Extent) → FitsNumbers e → (ws : List JudgedWindow) (v : MergeVerdict) → IsMerged e ws v → IsUnionVerdict e ws v
+pub union_verdict : (e : Extent) → FitsNumbers e → (ws : List WindowReport) (v : MergeVerdict) → IsMerged e ws v → IsUnionVerdict e ws v
 union_verdict e short ws (Accepted counts) (one, fill, lists) = record {
   nodata = one.0;
   one_nodata = one.1;

@@ -31,9 +31,9 @@ use Rattle.drain_windows.proofs.ReportMerges.{from_map, to_map, one_union}
 use Rattle.drain_windows.proofs.Unions.{by_patch, correct_by_windows, outlet_there, outlet_back, bas_same}
 use Rattle.drain_windows.proofs.WindowPatches.{patch_of_window}
 use Rattle.drain_merge.specs.declared.faults.Fault.{Fault}
-use Rattle.drain_merge.specs.declared.judged_window.JudgedWindow.{JudgedWindow}
+use Rattle.drain_windows.specs.declared.window_report.WindowReport.{WindowReport}
 use Rattle.drain_merge.specs.Faults.{cell_there, fault_in, union_fault, IsFirstOfFaults}
-use Rattle.drain_merge.specs.JudgedWindows.{reports_of, places_of, all_outlets, all_seams}
+use Rattle.drain_merge.specs.Lists.{reports_of, places_of, all_outlets, all_seams}
 use Rattle.drain_merge.specs.Merges.{HaveNoData, FillUnion}
 use Rattle.drain_merge.specs.Places.{MeetInSeams}
 use Rattle.drain_merge.specs.Shared.{IsFirstSharing}
@@ -41,11 +41,11 @@ use Rattle.drain_merge.specs.UnionVerdicts.{IsVerdictInside, AreJudgedFrom, wind
 use Rattle.drain_merge.proofs.FlatLists.{from_flat, in_flat, same_places}
 
 -- an element of the reports is a window's
-from_reports : (ws : List JudgedWindow) (r : Report) → Contains (reports_of ws) r → (j : JudgedWindow) × Contains ws j × (j.report ≡ r)
-from_reports ws r has = from_map (λ (j : JudgedWindow). j.report) ws r has
+from_reports : (ws : List WindowReport) (r : Report) → Contains (reports_of ws) r → (j : WindowReport) × Contains ws j × (j.report ≡ r)
+from_reports ws r has = from_map (λ (j : WindowReport). j.report) ws r has
 
 -- where places fill a union, and what is shown agrees, the reports can be merged
-pub can_merge : (e : Extent) (nodata : NoDataNumbers) (ws : List JudgedWindow) → HaveNoData nodata ws → FillUnion e (places_of ws) →
+pub can_merge : (e : Extent) (nodata : NoDataNumbers) (ws : List WindowReport) → HaveNoData nodata ws → FillUnion e (places_of ws) →
     ShowTheSame (all_seams ws) (all_seams ws) → CanMerge SEAM_DEPTH e nodata (reports_of ws)
 can_merge e nodata ws one fill same = record {
   placed = λ r has.
@@ -53,10 +53,10 @@ can_merge e nodata ws one fill same = record {
       All-contains (IsPlaceIn e) (places_of ws) r.place fill.placed (subst (λ (ps : List Place). Contains ps r.place) (same_places ws) at));
   one_nodata = λ r has.
       (let found = from_reports ws r has in
-      sym (ap (λ (x : Report). x.nodata) found.2) ∙ All-contains (λ (j : JudgedWindow). j.report.nodata ≡ nodata) ws found.0 one found.1);
+      sym (ap (λ (x : Report). x.nodata) found.2) ∙ All-contains (λ (j : WindowReport). j.report.nodata ≡ nodata) ws found.0 one found.1);
   whole = λ c inside. subst (λ (ps : List Place). IsJudgedAtSome ps c) (sym (same_places ws)) (fill.whole c inside);
   overlaps = λ i j d before below.
-      (let here : length (reports_of ws) ≡ length ws = length-map ws (λ (w : JudgedWindow). w.report) in
+      (let here : length (reports_of ws) ≡ length ws = length-map ws (λ (w : WindowReport). w.report) in
       let there : length (map (λ (x : Report). x.place) (reports_of ws)) ≡ length (reports_of ws) = length-map (reports_of ws) (λ (x : Report). x.place) in
       let same_length : length (places_of ws) ≡ length (map (λ (x : Report). x.place) (reports_of ws)) = ap (λ (ps : List Place). length ps) (sym (same_places ws)) in
       edges_tell_overlap SEAM_DEPTH (slice_index_or (reports_of ws) i d).place (slice_index_or (reports_of ws) j d).place
@@ -75,7 +75,7 @@ can_merge e nodata ws one fill same = record {
     shown_by : (r : Report) (x : Shown) → Contains (reports_of ws) r → Contains r.seams x → Contains (all_seams ws) x
     shown_by r x has inside =
         let found = from_reports ws r has in
-        in_flat (λ (j : JudgedWindow). j.report.seams) ws found.0 x found.1 (subst (λ (q : Report). Contains q.seams x) (sym found.2) inside)
+        in_flat (λ (j : WindowReport). j.report.seams) ws found.0 x found.1 (subst (λ (q : Report). Contains q.seams x) (sym found.2) inside)
 
 -- the fault of a rejected window, at the window's cell
 fault_inside : (n : NoDataNumbers) (w : Window) (p : Place) (v : Verdict) (fault : Fault) → fault_in p v ≡ Some fault → IsVerdictInside n w v →
@@ -113,21 +113,21 @@ there_is e p c short_rows short_cols placed inside =
     fits : (n : ℕ) → n < 2 ^ 32 → min n (2 ^ 32 - 1) ≡ n
     fits n below = omega arith
 
-module _ (e : Extent) (short_rows : e.rows < 2 ^ 32) (short_cols : e.cols < 2 ^ 32) (nodata : NoDataNumbers) (ws : List JudgedWindow)
+module _ (e : Extent) (short_rows : e.rows < 2 ^ 32) (short_cols : e.cols < 2 ^ 32) (nodata : NoDataNumbers) (ws : List WindowReport)
     (one : HaveNoData nodata ws) (fill : FillUnion e (places_of ws)) (window_of : Report → Window) (from : AreJudgedFrom window_of ws) where
   abbrev windows : List Window
   windows = windows_of window_of ws
 
-  nodata_is : (j : JudgedWindow) → Contains ws j → j.report.nodata ≡ nodata
-  nodata_is j has = All-contains (λ (x : JudgedWindow). x.report.nodata ≡ nodata) ws j one has
+  nodata_is : (j : WindowReport) → Contains ws j → j.report.nodata ≡ nodata
+  nodata_is j has = All-contains (λ (x : WindowReport). x.report.nodata ≡ nodata) ws j one has
 
-  placed : (j : JudgedWindow) → Contains ws j → IsPlaceIn e j.report.place
-  placed j has = All-contains (IsPlaceIn e) (places_of ws) j.report.place fill.placed (to_map (λ (x : JudgedWindow). x.report.place) ws j has)
+  placed : (j : WindowReport) → Contains ws j → IsPlaceIn e j.report.place
+  placed j has = All-contains (IsPlaceIn e) (places_of ws) j.report.place fill.placed (to_map (λ (x : WindowReport). x.report.place) ws j has)
 
-  to_window : (j : JudgedWindow) → Contains ws j → Contains windows (window_of j.report)
-  to_window j has = to_map window_of (reports_of ws) j.report (to_map (λ (x : JudgedWindow). x.report) ws j has)
+  to_window : (j : WindowReport) → Contains ws j → Contains windows (window_of j.report)
+  to_window j has = to_map window_of (reports_of ws) j.report (to_map (λ (x : WindowReport). x.report) ws j has)
 
-  from_window : (w : Window) → Contains windows w → (j : JudgedWindow) × Contains ws j × (window_of j.report ≡ w)
+  from_window : (w : Window) → Contains windows w → (j : WindowReport) × Contains ws j × (window_of j.report ≡ w)
   from_window w has =
       let r = from_map window_of (reports_of ws) w has in
       let j = from_reports ws r.0 r.1 in
@@ -136,13 +136,13 @@ module _ (e : Extent) (short_rows : e.rows < 2 ^ 32) (short_cols : e.cols < 2 ^ 
   judge : JudgeAll e windows
   judge c inside =
       let at = fill.whole c inside in
-      let j = from_map (λ (x : JudgedWindow). x.report.place) ws at.0 at.1 in (
+      let j = from_map (λ (x : WindowReport). x.report.place) ws at.0 at.1 in (
         window_of j.0.report,
         to_window j.0 j.1,
         subst (λ (p : Place). (x : Cell) × IsJudgedIn p x × (in_union p x ≡ c)) (sym j.2 ∙ (from j.0 j.1).report.place) at.2,
       )
 
-  verdict_inside : (j : JudgedWindow) → Contains ws j → IsVerdictInside nodata (window_of j.report) j.verdict
+  verdict_inside : (j : WindowReport) → Contains ws j → IsVerdictInside nodata (window_of j.report) j.verdict
   verdict_inside j has = subst (λ (n : NoDataNumbers). IsVerdictInside n (window_of j.report) j.verdict) (nodata_is j has) (from j has).verdict
 
   -- where no window has a fault
@@ -152,11 +152,11 @@ module _ (e : Extent) (short_rows : e.rows < 2 ^ 32) (short_cols : e.cols < 2 ^ 
         let j = from_window w has in
         subst (RulesHoldInside nodata) j.2 (holds_inside nodata (window_of j.0.report) j.0.report.place j.0.verdict (none j.0 j.1) (verdict_inside j.0 j.1))
 
-    says_so : (j : JudgedWindow) → Contains ws j → IsTrue j.report.holds
+    says_so : (j : WindowReport) → Contains ws j → IsTrue j.report.holds
     says_so j has = (from j has).report.holds.1
         (subst (λ (n : NoDataNumbers). RulesHoldInside n (window_of j.report)) (sym (nodata_is j has)) (hold (window_of j.report) (to_window j has)))
 
-    listed : (j : JudgedWindow) (has : Contains ws j) → ListsOutlets (window_of j.report) j.report.outlets
+    listed : (j : WindowReport) (has : Contains ws j) → ListsOutlets (window_of j.report) j.report.outlets
     listed j has = (from j has).report.outlets (says_so j has)
 
     -- an outlet that is judged is in the list of all
@@ -166,7 +166,7 @@ module _ (e : Extent) (short_rows : e.rows < 2 ^ 32) (short_cols : e.cols < 2 ^ 
         let j = from_window w has in
         let there = subst (λ (x : Window). IsJudgedOutlet x c) (sym j.2) outlet in
         subst (λ (x : Window). Contains (all_outlets ws) (record { label = x.products.bas c; cell = in_union x.place c })) j.2
-        (in_flat (λ (x : JudgedWindow). x.report.outlets) ws j.0 _ j.1 ((listed j.0 j.1).complete c there))
+        (in_flat (λ (x : WindowReport). x.report.outlets) ws j.0 _ j.1 ((listed j.0 j.1).complete c there))
 
     unshared : ShareNoLabel (all_outlets ws) (all_outlets ws) → NoLabelIsShared windows
     unshared none_shares v w at_v at_w a b out_a out_b same = none_shares _ _ (in_all v at_v a out_a) (in_all w at_w b out_b) same
@@ -201,7 +201,7 @@ module _ (e : Extent) (short_rows : e.rows < 2 ^ 32) (short_cols : e.cols < 2 ^ 
         (least_fault_is_first u ps nodata windows are judge_u w inside.0 fault.rule (to_window j has) inside.1 (λ v at. others v at there))
       where
         -- a cell of a window is the union's cell that its report tells
-        cell_of : (j : JudgedWindow) → Contains ws j → (c : Cell) → IsCellOf (window_of j.report).place.extent c →
+        cell_of : (j : WindowReport) → Contains ws j → (c : Cell) → IsCellOf (window_of j.report).place.extent c →
             in_union (window_of j.report).place c ≡ cell_there j.report.place c.row c.col
         cell_of j has c inside =
             let is : j.report.place ≡ (window_of j.report).place = (from j has).report.place in
@@ -214,7 +214,7 @@ module _ (e : Extent) (short_rows : e.rows < 2 ^ 32) (short_cols : e.cols < 2 ^ 
             subst (λ (x : Window). RulesHoldInside nodata x ⊎ IsNotBefore nodata x at fault.rule) j.2
             (by_verdict j.0 j.1 (union_fault j.0) refl)
           where
-            by_verdict : (j : JudgedWindow) → Contains ws j → (o : Option Fault) → union_fault j ≡ o →
+            by_verdict : (j : WindowReport) → Contains ws j → (o : Option Fault) → union_fault j ≡ o →
                 RulesHoldInside nodata (window_of j.report) ⊎ IsNotBefore nodata (window_of j.report) at fault.rule
             by_verdict j has None is = inl (holds_inside nodata (window_of j.report) j.report.place j.verdict is (verdict_inside j has))
             by_verdict j has (Some other) is =
@@ -251,7 +251,7 @@ module _ (e : Extent) (short_rows : e.rows < 2 ^ 32) (short_cols : e.cols < 2 ^ 
     -- and what is in the list is an outlet of the union
     outlet_of_union : IsFirstOfFaults ws None → (x : Outlet) → Contains (all_outlets ws) x → HasData u x.cell × (ps.dir x.cell ≡ pos 0) × (x.label ≡ ps.bas x.cell)
     outlet_of_union none x has =
-        let j = from_flat (λ (k : JudgedWindow). k.report.outlets) ws x has in
+        let j = from_flat (λ (k : WindowReport). k.report.outlets) ws x has in
         let at = to_window j.0 j.1 in
         let out = (listed none j.0 j.1).sound x j.2 in
         let there = outlet_there u ps nodata windows are judge_u (window_of j.0.report) at out.0 out.1 in (

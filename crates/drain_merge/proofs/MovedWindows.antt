@@ -13,10 +13,10 @@ use Rattle.drain_windows.specs.declared.place.Place.{Place}
 use Rattle.drain_windows.specs.declared.place.TheConstants.{SEAM_DEPTH}
 use Rattle.drain_windows.specs.declared.report.Shown.{Shown}
 use Rattle.drain_windows.specs.Outlets.{ListsOutlets, IsSortedByLabel}
-use Rattle.drain_windows.specs.Reports.{IsOnSeam, ListsSeams}
+use Rattle.drain_windows.specs.Reports.{IsOnSeam, ListsSeams, ListsSinks}
 use Rattle.drain_windows.specs.Windows.{Window, in_union, IsJudgedIn, IsJudgedOutlet, RulesHoldInside}
 use Rattle.drain_windows.proofs.ReportMerges.{from_map, to_map}
-use Rattle.drain_merge.specs.declared.judged_window.JudgedWindow.{JudgedWindow}
+use Rattle.drain_windows.specs.declared.window_report.WindowReport.{WindowReport}
 use Rattle.drain_merge.specs.MapBoxes.{top_of, left_of}
 use Rattle.drain_merge.specs.MapLaws.{JudgedFromMap, BoxBegins}
 use Rattle.drain_merge.specs.Moved.{cell_from, place_from, outlet_from, shown_from, window_from}
@@ -104,6 +104,17 @@ seams_there o w xs top left lists = record {
       (to_map (shown_from o) xs _ (lists.complete c (seam_back o w.place c on)));
 }
 
+sinks_there : (o : Cell) (w : Window) (xs : List Cell) → o.row ≤ w.place.top → o.col ≤ w.place.left → ListsSinks w xs → ListsSinks (window_from o w) (map (cell_from o) xs)
+sinks_there o w xs top left lists = record {
+  sound = λ x has.
+      (let y = from_map (cell_from o) xs x has in
+      let at = lists.sound y.0 y.1 in
+      (at.0, judged_there o w.place at.0 at.1, at.2, cell_moved o w.place top left at.0 ∙ ap (cell_from o) at.3 ∙ y.2));
+  complete = λ c judged is.
+      subst (λ (k : Cell). Contains (map (cell_from o) xs) k) (sym (cell_moved o w.place top left c))
+      (to_map (cell_from o) xs _ (lists.complete c (judged_back o w.place c judged) is));
+}
+
 pub judged_from_map : JudgedFromMap
 judged_from_map o w j is row col =
     let top : o.row ≤ w.place.top = subst (λ (p : Place). o.row ≤ p.top) is.report.place row in
@@ -118,18 +129,19 @@ judged_from_map o w j is row col =
         );
         outlets = λ holds. outlets_there o w j.report.outlets top left (is.report.outlets holds);
         seams = λ holds. seams_there o w j.report.seams top left (is.report.seams holds);
+        sinks = λ holds. sinks_there o w j.report.sinks top left (is.report.sinks holds);
       };
       verdict = verdict_there o j.report.nodata w j.verdict is.verdict;
     }
 
 -- no window begins before the least row
-least_start : (f : JudgedWindow → ℕ) (m : ℕ) (ws : List JudgedWindow) → fold (λ n w. min n (f w)) m ws ≤ m
+least_start : (f : WindowReport → ℕ) (m : ℕ) (ws : List WindowReport) → fold (λ n w. min n (f w)) m ws ≤ m
 least_start f m [] = omega arith
 least_start f m (w ∷ ws) =
     let rest : fold (λ n w. min n (f w)) (min m (f w)) ws ≤ min m (f w) = least_start f (min m (f w)) ws in
     omega arith
 
-least_of_all : (f : JudgedWindow → ℕ) (m : ℕ) (ws : List JudgedWindow) (w : JudgedWindow) → Contains ws w → fold (λ n w. min n (f w)) m ws ≤ f w
+least_of_all : (f : WindowReport → ℕ) (m : ℕ) (ws : List WindowReport) (w : WindowReport) → Contains ws w → fold (λ n w. min n (f w)) m ws ≤ f w
 least_of_all f m [] w has = absurd (omega (arith, has.1))
 least_of_all f m (v ∷ ws) w (zero, below, is) =
     let rest : fold (λ n w. min n (f w)) (min m (f v)) ws ≤ min m (f v) = least_start f (min m (f v)) ws in

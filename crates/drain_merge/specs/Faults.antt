@@ -7,7 +7,7 @@ use Rattle.drain_rules.specs.declared.verdict.Verdict.{Verdict}
 use Rattle.drain_rules.specs.declared.verdict.Verdict.TheVariants.{Accepted, Rejected}
 use Rattle.drain_windows.specs.declared.place.Place.{Place}
 use Rattle.drain_merge.specs.declared.faults.Fault.{Fault}
-use Rattle.drain_merge.specs.declared.judged_window.JudgedWindow.{JudgedWindow}
+use Rattle.drain_windows.specs.declared.window_report.WindowReport.{WindowReport}
 
 -- the union's cell at this row and column of a place; one that no union has where the numbers don't fit
 abbrev pub cell_there : Place → ℕ → ℕ → Cell
@@ -18,7 +18,7 @@ abbrev pub fault_in : Place → Verdict → Option Fault
 fault_in p (Accepted counts) = None
 fault_in p (Rejected rule row col) = Some (record { cell = cell_there p row col; rule = rule })
 
-abbrev pub union_fault : JudgedWindow → Option Fault
+abbrev pub union_fault : WindowReport → Option Fault
 union_fault w = fault_in w.report.place w.verdict
 
 -- at an earlier cell, or at one cell of an earlier rule
@@ -32,8 +32,8 @@ IsEarlierFault (Some a) None found = found ≡ Some a
 IsEarlierFault (Some a) (Some b) found = ((found ≡ Some b) × ComesBefore b a) ⊎ ((found ≡ Some a) × ¬ ComesBefore b a)
 
 -- a fault of some window before which none of another comes, none where each window is accepted
-abbrev pub IsFirstOfFaults : List JudgedWindow → Option Fault → Type 0
-IsFirstOfFaults windows None = (w : JudgedWindow) → Contains windows w → union_fault w ≡ None
+abbrev pub IsFirstOfFaults : List WindowReport → Option Fault → Type 0
+IsFirstOfFaults windows None = (w : WindowReport) → Contains windows w → union_fault w ≡ None
 IsFirstOfFaults windows (Some fault) =
-    ((w : JudgedWindow) × Contains windows w × (union_fault w ≡ Some fault))
-    × ((w : JudgedWindow) (other : Fault) → Contains windows w → union_fault w ≡ Some other → ¬ ComesBefore other fault)
+    ((w : WindowReport) × Contains windows w × (union_fault w ≡ Some fault))
+    × ((w : WindowReport) (other : Fault) → Contains windows w → union_fault w ≡ Some other → ¬ ComesBefore other fault)

@@ -1,14 +1,15 @@
 pub mod Corners
 pub mod Faults
-pub mod Judged
-pub mod JudgedWindows
+pub mod Lists
 pub mod Places
 pub mod Seams
 pub mod Shared
 pub mod Totals
+pub mod UnionSinks
 pub mod Merges
 pub mod UnionVerdicts
 pub mod Sizes
 pub mod Moved
 pub mod MapBoxes
 pub mod MapLaws
+pub mod MergeLines

@@ -1,36 +1,45 @@
 -- The box on a map that holds windows, and the verdict on it. These definitions are this project's own.
-use Rattle.std.specs.Prelude.{◌≡◌, ℕ, ◌+◌, ◌-◌, ◌^◌, min, max, List, map, fold}
-use Rattle.drain_merge.specs.declared.judged_window.JudgedWindow.{JudgedWindow}
+use Rattle.std.specs.Prelude.{◌≡◌, ℕ, ◌+◌, ◌-◌, ◌^◌, ◌⊎◌, min, max, Some, List, map, fold, slice_index_or}
+use Rattle.std.specs.List.{All}
+use Rattle.drain_grid.specs.Grid.{Grid, Products}
+use Rattle.drain_grid.specs.Size.{Extent}
+use Rattle.drain_windows.specs.Reports.{Report}
+use Rattle.drain_windows.specs.Windows.{Window, AreWindowsOf}
+use Rattle.drain_windows.specs.declared.window_report.WindowReport.{WindowReport}
 use Rattle.drain_merge.specs.declared.map_merge.MapVerdict.{MapVerdict}
 use Rattle.drain_merge.specs.declared.map_merge.UnionBox.{UnionBox}
 use Rattle.drain_merge.specs.declared.merge_verdict.MergeRefusal.{MergeRefusal}
-use Rattle.drain_merge.specs.declared.merge_verdict.MergeRefusal.TheVariants.{OutOfMemory}
+use Rattle.drain_merge.specs.declared.merge_verdict.MergeRefusal.TheVariants.{OtherSide, OutOfMemory}
+use Rattle.drain_merge.specs.declared.merge_verdict.MergeVerdict.{MergeVerdict}
+use Rattle.drain_merge.specs.declared.union_sinks.UnionSinks.{UnionSinks}
 use Rattle.drain_merge.specs.Merges.{IsMergeRefusal}
 use Rattle.drain_merge.specs.Moved.{judged_from}
-use Rattle.drain_merge.specs.UnionVerdicts.{IsUnionVerdict}
+use Rattle.drain_merge.specs.Places.{IsFirstFailing}
+use Rattle.drain_merge.specs.UnionSinks.{HasSinks, IsSinkRefusal, TakeSinks}
+use Rattle.drain_merge.specs.UnionVerdicts.{AreJudgedFrom, IsUnionVerdict, SomeIsRejected, windows_of}
 
 -- the least and the greatest number that windows have
-abbrev pub least_by : (JudgedWindow → ℕ) → List JudgedWindow → ℕ
+abbrev pub least_by : (WindowReport → ℕ) → List WindowReport → ℕ
 least_by f windows = fold (λ m w. min m (f w)) (2 ^ 32 - 1) windows
 
-abbrev pub greatest_by : (JudgedWindow → ℕ) → List JudgedWindow → ℕ
+abbrev pub greatest_by : (WindowReport → ℕ) → List WindowReport → ℕ
 greatest_by f windows = fold (λ m w. max (f w) m) 0 windows
 
-abbrev pub top_of : JudgedWindow → ℕ
+abbrev pub top_of : WindowReport → ℕ
 top_of w = w.report.place.top
 
-abbrev pub left_of : JudgedWindow → ℕ
+abbrev pub left_of : WindowReport → ℕ
 left_of w = w.report.place.left
 
 -- one more than the last row and the last column
-abbrev pub bottom_end : JudgedWindow → ℕ
+abbrev pub bottom_end : WindowReport → ℕ
 bottom_end w = w.report.place.top + w.report.place.extent.rows
 
-abbrev pub right_end : JudgedWindow → ℕ
+abbrev pub right_end : WindowReport → ℕ
 right_end w = w.report.place.left + w.report.place.extent.cols
 
 -- the smallest box that holds the windows
-abbrev pub box_of : List JudgedWindow → UnionBox
+abbrev pub box_of : List WindowReport → UnionBox
 box_of windows = record {
   origin = record { row = least_by top_of windows; col = least_by left_of windows };
   size = record {
@@ -40,15 +49,48 @@ box_of windows = record {
 }
 
 -- the windows, counted from the first cell of their box
-abbrev pub boxed : List JudgedWindow → List JudgedWindow
+abbrev pub boxed : List WindowReport → List WindowReport
 boxed windows = map (judged_from (box_of windows).origin) windows
 
--- the verdict is that on the box
-pub record IsMapVerdict (windows : List JudgedWindow) (m : MapVerdict) : Type 0 where
+-- the tiles of all windows have one side
+abbrev pub HaveSide : ℕ → List WindowReport → Type 0
+HaveSide side windows = All (λ w. w.side ≡ side) windows
+
+abbrev pub HaveOneSide : List WindowReport → Type 0
+HaveOneSide windows = (side : ℕ) × HaveSide side windows
+
+-- why windows are refused for the sides of their tiles: this is the first window that has another side than the first
+abbrev pub IsSideRefusal : List WindowReport → MergeRefusal → Type 0
+IsSideRefusal windows (OtherSide k) =
+    (side : ℕ) × ((d : WindowReport) → (slice_index_or windows 0 d).side ≡ side) × IsFirstFailing (λ w. w.side ≡ side) windows (Some k)
+IsSideRefusal windows other = ⊥
+
+-- the verdict is that on the box, and the windows lie on one map
+pub record IsMapVerdict (windows : List WindowReport) (m : MapVerdict) : Type 0 where
+  pub one_side : HaveOneSide windows
   pub bounds : m.bounds ≡ box_of windows
   pub verdict : IsUnionVerdict (box_of windows).size (boxed windows) m.verdict
 
--- and so is a refusal, unless memory runs out
-abbrev pub IsMapRefusal : List JudgedWindow → MergeRefusal → Type 0
-IsMapRefusal windows OutOfMemory = Unit {0}
-IsMapRefusal windows refusal = IsMergeRefusal (box_of windows).size (boxed windows) refusal
+-- unless a window is rejected the windows took the sinks of the union
+abbrev pub AreTaken : UnionSinks → List WindowReport → Type 0
+AreTaken sinks windows = SomeIsRejected windows ⊎ ((¬ SomeIsRejected windows) × TakeSinks sinks windows)
+
+-- unless a window is rejected, each union of which these are the windows has these sinks
+abbrev pub HasMapSinks : UnionSinks → List WindowReport → Type 0
+HasMapSinks sinks windows =
+    SomeIsRejected (boxed windows)
+    ⊎ ((window_of : Report → Window) → AreJudgedFrom window_of (boxed windows) → (u : Grid) (ps : Products) →
+    u.extent ≡ (box_of windows).size → AreWindowsOf u ps (windows_of window_of (boxed windows)) → HasSinks sinks u)
+
+-- why windows of a union of this size are refused: by their reports, or, where they have a verdict and none is rejected,
+-- for their sinks
+abbrev pub IsBoxRefusal : Extent → UnionSinks → List WindowReport → MergeRefusal → Type 0
+IsBoxRefusal e sinks windows refusal =
+    IsMergeRefusal e windows refusal
+    ⊎ (((v : MergeVerdict) × IsUnionVerdict e windows v) × (¬ SomeIsRejected windows) × IsSinkRefusal sinks windows refusal)
+
+-- a refusal of windows on a map is one for their sides, or one on the box, unless memory runs out
+abbrev pub IsMapRefusal : UnionSinks → List WindowReport → MergeRefusal → Type 0
+IsMapRefusal sinks windows OutOfMemory = Unit {0}
+IsMapRefusal sinks windows refusal =
+    IsSideRefusal windows refusal ⊎ (HaveOneSide windows × IsBoxRefusal (box_of windows).size sinks (boxed windows) refusal)

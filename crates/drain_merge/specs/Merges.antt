@@ -9,29 +9,29 @@ use Rattle.drain_grid.specs.Values.{NoDataNumbers}
 use Rattle.drain_windows.specs.declared.place.Place.{Place}
 use Rattle.drain_windows.specs.declared.place.TheConstants.{SEAM_DEPTH}
 use Rattle.drain_windows.specs.Windows.{IsPlaceIn, IsJudgedAtSome}
-use Rattle.drain_merge.specs.declared.judged_window.JudgedWindow.{JudgedWindow}
+use Rattle.drain_windows.specs.declared.window_report.WindowReport.{WindowReport}
 use Rattle.drain_merge.specs.declared.merge_verdict.MergeRefusal.{MergeRefusal}
-use Rattle.drain_merge.specs.declared.merge_verdict.MergeRefusal.TheVariants.{NoReport, OtherNoData, OutsideUnion, Overlap, LeftOut, SeamsDiffer, OutOfMemory}
+use Rattle.drain_merge.specs.declared.merge_verdict.MergeRefusal.TheVariants.{NoReports, OtherSide, OtherNoData, OutsideUnion, Overlap, LeftOut, SeamsDiffer, SinkLeftOut, SinkNotListed, OutOfMemory}
 use Rattle.drain_merge.specs.declared.merge_verdict.MergeVerdict.{MergeVerdict}
 use Rattle.drain_merge.specs.declared.merge_verdict.MergeVerdict.TheVariants.{Accepted, Rejected}
 use Rattle.drain_merge.specs.Corners.{IsFirstUnjudged}
 use Rattle.drain_merge.specs.Faults.{IsFirstOfFaults}
-use Rattle.drain_merge.specs.JudgedWindows.{places_of, all_outlets, all_seams}
+use Rattle.drain_merge.specs.Lists.{places_of, all_outlets, all_seams}
 use Rattle.drain_merge.specs.Places.{IsFirstFailing, IsFirstClash, MeetInSeams}
 use Rattle.drain_merge.specs.Seams.{IsFirstDifference}
 use Rattle.drain_merge.specs.Shared.{IsFirstSharing}
 use Rattle.drain_merge.specs.Totals.{AreCountsOf}
 
 -- all windows have these no-data numbers
-abbrev pub HaveNoData : NoDataNumbers → List JudgedWindow → Type 0
+abbrev pub HaveNoData : NoDataNumbers → List WindowReport → Type 0
 HaveNoData nodata windows = All (λ w. w.report.nodata ≡ nodata) windows
 
-abbrev pub HaveOneNoData : List JudgedWindow → Type 0
+abbrev pub HaveOneNoData : List WindowReport → Type 0
 HaveOneNoData windows = (nodata : NoDataNumbers) × HaveNoData nodata windows
 
 -- the first window has these no-data numbers
-abbrev pub BeginWith : NoDataNumbers → List JudgedWindow → Type 0
-BeginWith nodata windows = (d : JudgedWindow) → (slice_index_or windows 0 d).report.nodata ≡ nodata
+abbrev pub BeginWith : NoDataNumbers → List WindowReport → Type 0
+BeginWith nodata windows = (d : WindowReport) → (slice_index_or windows 0 d).report.nodata ≡ nodata
 
 -- the places lie in a union of this size, overlap in their seams alone, and judge each of its cells
 pub record FillUnion (e : Extent) (places : List Place) : Type 0 where
@@ -41,8 +41,8 @@ pub record FillUnion (e : Extent) (places : List Place) : Type 0 where
 
 -- why windows are refused for their no-data numbers: the list is empty, or this is the first window that has other
 -- numbers than the first one
-abbrev pub IsNoDataRefusal : List JudgedWindow → MergeRefusal → Type 0
-IsNoDataRefusal windows NoReport = windows ≡ []
+abbrev pub IsNoDataRefusal : List WindowReport → MergeRefusal → Type 0
+IsNoDataRefusal windows NoReports = windows ≡ []
 IsNoDataRefusal windows (OtherNoData k) =
     (nodata : NoDataNumbers) × BeginWith nodata windows × IsFirstFailing (λ w. w.report.nodata ≡ nodata) windows (Some k)
 IsNoDataRefusal windows other = ⊥
@@ -57,11 +57,14 @@ IsPlaceRefusal e places OutOfMemory = Unit {0}
 IsPlaceRefusal e places other = ⊥
 
 -- why windows are refused: each refusal where it is said, and where no earlier one is
-abbrev pub IsMergeRefusal : Extent → List JudgedWindow → MergeRefusal → Type 0
+abbrev pub IsMergeRefusal : Extent → List WindowReport → MergeRefusal → Type 0
 IsMergeRefusal e windows (SeamsDiffer c) =
     HaveOneNoData windows × FillUnion e (places_of windows) × IsFirstOfFaults windows None × IsFirstDifference (all_seams windows) (Some c)
 IsMergeRefusal e windows OutOfMemory = HaveOneNoData windows
-IsMergeRefusal e windows NoReport = IsNoDataRefusal windows NoReport
+IsMergeRefusal e windows NoReports = IsNoDataRefusal windows NoReports
+IsMergeRefusal e windows (OtherSide k) = ⊥
+IsMergeRefusal e windows (SinkLeftOut n) = ⊥
+IsMergeRefusal e windows (SinkNotListed c) = ⊥
 IsMergeRefusal e windows (OtherNoData k) = IsNoDataRefusal windows (OtherNoData k)
 IsMergeRefusal e windows (OutsideUnion k) = HaveOneNoData windows × IsPlaceRefusal e (places_of windows) (OutsideUnion k)
 IsMergeRefusal e windows (Overlap clash) = HaveOneNoData windows × IsPlaceRefusal e (places_of windows) (Overlap clash)
@@ -69,7 +72,7 @@ IsMergeRefusal e windows (LeftOut c) = HaveOneNoData windows × IsPlaceRefusal e
 
 -- the verdict in words of the lists: the first fault of a window; else the first cell of an outlet with the label of one
 -- at an earlier cell; else the counts
-abbrev pub IsListVerdict : Extent → List JudgedWindow → MergeVerdict → Type 0
+abbrev pub IsListVerdict : Extent → List WindowReport → MergeVerdict → Type 0
 IsListVerdict e windows (Accepted counts) =
     IsFirstOfFaults windows None × IsFirstDifference (all_seams windows) None × IsFirstSharing (all_outlets windows) None × AreCountsOf e windows counts
 IsListVerdict e windows (Rejected fault) =
@@ -77,5 +80,5 @@ IsListVerdict e windows (Rejected fault) =
     ⊎ (IsFirstOfFaults windows None × IsFirstDifference (all_seams windows) None × (fault.rule ≡ SharedLabel)
     × IsFirstSharing (all_outlets windows) (Some fault.cell))
 
-abbrev pub IsMerged : Extent → List JudgedWindow → MergeVerdict → Type 0
+abbrev pub IsMerged : Extent → List WindowReport → MergeVerdict → Type 0
 IsMerged e windows v = HaveOneNoData windows × FillUnion e (places_of windows) × IsListVerdict e windows v

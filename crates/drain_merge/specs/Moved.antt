@@ -6,7 +6,7 @@ use Rattle.drain_windows.specs.declared.place.Place.{Place}
 use Rattle.drain_windows.specs.declared.report.Shown.{Shown}
 use Rattle.drain_windows.specs.Reports.{Report}
 use Rattle.drain_windows.specs.Windows.{Window}
-use Rattle.drain_merge.specs.declared.judged_window.JudgedWindow.{JudgedWindow}
+use Rattle.drain_windows.specs.declared.window_report.WindowReport.{WindowReport}
 
 abbrev pub cell_from : Cell → Cell → Cell
 cell_from origin c = record { row = c.row - origin.row; col = c.col - origin.col }
@@ -27,10 +27,11 @@ report_from origin r = record {
   holds = r.holds;
   outlets = map (outlet_from origin) r.outlets;
   seams = map (shown_from origin) r.seams;
+  sinks = map (cell_from origin) r.sinks;
 }
 
-abbrev pub judged_from : Cell → JudgedWindow → JudgedWindow
-judged_from origin j = record { report = report_from origin j.report; verdict = j.verdict }
+abbrev pub judged_from : Cell → WindowReport → WindowReport
+judged_from origin j = record { side = j.side; tiles = j.tiles; verdict = j.verdict; report = report_from origin j.report }
 
 -- the window, as one of a union that begins at this cell
 abbrev pub window_from : Cell → Window → Window

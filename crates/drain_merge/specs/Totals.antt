@@ -3,7 +3,7 @@ use Rattle.std.specs.Prelude.{◌≡◌, ℕ, ◌-◌, ◌^◌, min, List, sum_b
 use Rattle.drain_grid.specs.Size.{Extent}
 use Rattle.drain_rules.specs.declared.verdict.Verdict.{Verdict}
 use Rattle.drain_rules.specs.declared.verdict.Verdict.TheVariants.{Accepted, Rejected}
-use Rattle.drain_merge.specs.declared.judged_window.JudgedWindow.{JudgedWindow}
+use Rattle.drain_windows.specs.declared.window_report.WindowReport.{WindowReport}
 use Rattle.drain_merge.specs.declared.totals.UnionCounts.{UnionCounts}
 
 -- the number, or the greatest of 64 bits
@@ -23,17 +23,17 @@ abbrev pub outlets_in : Verdict → ℕ
 outlets_in (Accepted counts) = counts.outlets
 outlets_in (Rejected rule row col) = 0
 
-abbrev pub data_cells_of : JudgedWindow → ℕ
+abbrev pub data_cells_of : WindowReport → ℕ
 data_cells_of w = data_cells_in w.verdict
 
-abbrev pub raised_of : JudgedWindow → ℕ
+abbrev pub raised_of : WindowReport → ℕ
 raised_of w = raised_in w.verdict
 
-abbrev pub outlets_of : JudgedWindow → ℕ
+abbrev pub outlets_of : WindowReport → ℕ
 outlets_of w = outlets_in w.verdict
 
 -- the size of the union, and the sums of its windows' counts
-pub record AreCountsOf (e : Extent) (windows : List JudgedWindow) (counts : UnionCounts) : Type 0 where
+pub record AreCountsOf (e : Extent) (windows : List WindowReport) (counts : UnionCounts) : Type 0 where
   pub rows : counts.rows ≡ e.rows
   pub cols : counts.cols ≡ e.cols
   pub data_cells : counts.data_cells ≡ capped (sum_by data_cells_of windows)

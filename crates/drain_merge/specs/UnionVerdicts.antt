@@ -15,10 +15,10 @@ use Rattle.drain_rules.specs.declared.verdict.Verdict.TheVariants.{Accepted as W
 use Rattle.drain_windows.specs.declared.place.TheConstants.{SEAM_DEPTH}
 use Rattle.drain_windows.specs.Reports.{Report, IsReportOf, CanMerge}
 use Rattle.drain_windows.specs.Windows.{Window, RulesHoldInside, IsFirstInside, AreWindowsOf}
-use Rattle.drain_merge.specs.declared.judged_window.JudgedWindow.{JudgedWindow}
+use Rattle.drain_windows.specs.declared.window_report.WindowReport.{WindowReport}
 use Rattle.drain_merge.specs.declared.merge_verdict.MergeVerdict.{MergeVerdict}
 use Rattle.drain_merge.specs.declared.merge_verdict.MergeVerdict.TheVariants.{Accepted, Rejected}
-use Rattle.drain_merge.specs.JudgedWindows.{reports_of}
+use Rattle.drain_merge.specs.Lists.{reports_of}
 use Rattle.drain_merge.specs.Merges.{HaveNoData}
 
 -- accepted where the rules hold at each judged cell, else rejected with the first fault there
@@ -27,16 +27,16 @@ IsVerdictInside nodata w (WindowAccepted counts) = RulesHoldInside nodata w
 IsVerdictInside nodata w (WindowRejected rule row col) = IsFirstInside nodata w (record { row = row; col = col }) rule
 
 -- this is handed over of the window
-pub record IsJudgedFrom (w : Window) (j : JudgedWindow) : Type 0 where
+pub record IsJudgedFrom (w : Window) (j : WindowReport) : Type 0 where
   pub report : IsReportOf SEAM_DEPTH w j.report
   pub verdict : IsVerdictInside j.report.nodata w j.verdict
 
 -- what is handed over is so of these windows
-abbrev pub AreJudgedFrom : (Report → Window) → List JudgedWindow → Type 0
-AreJudgedFrom window_of judged = (j : JudgedWindow) → Contains judged j → IsJudgedFrom (window_of j.report) j
+abbrev pub AreJudgedFrom : (Report → Window) → List WindowReport → Type 0
+AreJudgedFrom window_of judged = (j : WindowReport) → Contains judged j → IsJudgedFrom (window_of j.report) j
 
 -- the windows
-abbrev pub windows_of : (Report → Window) → List JudgedWindow → List Window
+abbrev pub windows_of : (Report → Window) → List WindowReport → List Window
 windows_of window_of judged = map window_of (reports_of judged)
 
 -- some window is rejected
@@ -44,8 +44,8 @@ abbrev pub IsRejected : Verdict → Type 0
 IsRejected (WindowAccepted counts) = ⊥
 IsRejected (WindowRejected rule row col) = Unit {0}
 
-abbrev pub SomeIsRejected : List JudgedWindow → Type 0
-SomeIsRejected judged = (j : JudgedWindow) × Contains judged j × IsRejected j.verdict
+abbrev pub SomeIsRejected : List WindowReport → Type 0
+SomeIsRejected judged = (j : WindowReport) × Contains judged j × IsRejected j.verdict
 
 abbrev pub IsAccepted : MergeVerdict → Type 0
 IsAccepted (Accepted counts) = Unit {0}
@@ -63,7 +63,7 @@ TellsFirstFault nodata u ps (Rejected fault) = IsFirstFault (unranked nodata) (I
 
 -- unless a window is rejected these are the windows of one union; and of each union of which they are, the products are
 -- correct exactly where the verdict accepts, and the fault that it tells is the first
-pub record IsVerdictOn (e : Extent) (nodata : NoDataNumbers) (judged : List JudgedWindow) (window_of : Report → Window) (v : MergeVerdict) : Type 0 where
+pub record IsVerdictOn (e : Extent) (nodata : NoDataNumbers) (judged : List WindowReport) (window_of : Report → Window) (v : MergeVerdict) : Type 0 where
   pub one_union : SomeIsRejected judged
       ⊎ ((u : Grid) × (ps : Products) × (u.extent ≡ e) × AreWindowsOf u ps (windows_of window_of judged))
   pub exactly : (u : Grid) (ps : Products) → u.extent ≡ e → AreWindowsOf u ps (windows_of window_of judged) → IsAccepted v ↔ IsCorrect u ps nodata
@@ -71,7 +71,7 @@ pub record IsVerdictOn (e : Extent) (nodata : NoDataNumbers) (judged : List Judg
 
 -- the verdict on what is handed over of windows: these have one set of no-data numbers, unless one is rejected their
 -- reports can be merged, and the verdict is right on whatever windows the reports are of
-pub record IsUnionVerdict (e : Extent) (judged : List JudgedWindow) (v : MergeVerdict) : Type 0 where
+pub record IsUnionVerdict (e : Extent) (judged : List WindowReport) (v : MergeVerdict) : Type 0 where
   pub nodata : NoDataNumbers
   pub one_nodata : HaveNoData nodata judged
   pub can : SomeIsRejected judged ⊎ CanMerge SEAM_DEPTH e nodata (reports_of judged)

@@ -9,9 +9,10 @@ ghost use Rattle.drain_windows.specs.Windows.{judged_bottom, judged_right};
 ghost use Rattle.drain_merge.specs.Corners.{IsFirstUnjudged, IsFirstInRow, IsFirstCrossing, IsNewBelow};
 
 use crate::judged::is_judged;
-use crate::union_size::{UnionSize, end_of};
+use crate::union_size::UnionSize;
 use drain_grid::{Cell, OutOfMemory};
 use drain_windows::Place;
+use drain_windows::place::end_of;
 use std::alloc::Global;
 
 /// The first cell of a union, in row order, that none of these windows judges.

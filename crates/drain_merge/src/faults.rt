@@ -3,10 +3,10 @@
 ghost use Rattle.std.specs.Prelude.{◌≡◌, ◌↔◌, IsTrue};
 ghost use Rattle.drain_merge.specs.Faults.{union_fault, ComesBefore, IsFirstOfFaults, IsEarlierFault};
 
-use crate::judged_window::JudgedWindow;
 use crate::row_order::is_earlier;
 use drain_grid::{Cell, Rule};
 use drain_rules::Verdict;
+use drain_windows::WindowReport;
 
 /// A cell of the union at which this rule fails.
 #[derive(Clone, Copy, PartialEq, Eq, Debug)]
@@ -16,7 +16,7 @@ pub struct Fault {
 }
 
 /// The first of the faults that windows have, in the union's row order, and at one cell in the order of the rules.
-pub(crate) fn first_fault(windows: &[JudgedWindow]) -> Option<Fault>
+pub(crate) fn first_fault(windows: &[WindowReport]) -> Option<Fault>
     ensures { IsFirstOfFaults windows.now result }
 {
     let mut first = None;
@@ -27,7 +27,7 @@ pub(crate) fn first_fault(windows: &[JudgedWindow]) -> Option<Fault>
 }
 
 /// The fault of a rejected window, at the union's cell.
-fn fault_of(window: &JudgedWindow) -> Option<Fault>
+fn fault_of(window: &WindowReport) -> Option<Fault>
     ensures { result ≡ union_fault window.now }
 {
     match window.verdict {

@@ -1,16 +1,19 @@
 //! The merge of windows that lie on a map: the box that holds them, and the verdict on it.
 
-ghost use Rattle.std.specs.Prelude.{◌≡◌, ◌-◌, ◌^◌, min, map, IfOk, IfErr};
-ghost use Rattle.drain_merge.specs.MapBoxes.{box_of, IsMapVerdict, IsMapRefusal};
+ghost use Rattle.std.specs.Prelude.{◌≡◌, ◌-◌, ◌^◌, min, map, IfOk, IfErr, OnOk};
+ghost use Rattle.drain_merge.specs.MapBoxes.{AreTaken, box_of, HasMapSinks, IsBoxRefusal, IsMapVerdict, IsMapRefusal};
 ghost use Rattle.drain_merge.specs.Moved.{judged_from};
+ghost use Rattle.drain_merge.specs.UnionVerdicts.{IsUnionVerdict};
 
-use crate::judged_window::JudgedWindow;
 use crate::merge_verdict::{MergeRefusal, MergeVerdict};
 use crate::merger::merge;
 use crate::moved::moved_window;
-use crate::union_size::{UnionSize, end_of};
+use crate::sides::check_sides;
+use crate::union_sinks::{UnionSinks, check_sinks, some_is_rejected};
+use crate::union_size::UnionSize;
 use drain_grid::{Cell, OutOfMemory};
-use drain_windows::Place;
+use drain_windows::place::end_of;
+use drain_windows::{Place, WindowReport};
 use std::alloc::Global;
 
 /// The box that holds a union: the map's row and column of its first cell, and its size.
@@ -28,28 +31,56 @@ pub struct MapVerdict {
 }
 
 /// The verdict on the union of windows whose places and cells count the rows and columns of a map: on the smallest box
-/// that holds them. A side that isn't inner has to be an edge of this box.
-pub fn merge_on_map(alloc: Global, windows: Vec<JudgedWindow>) -> Result<MapVerdict, MergeRefusal>
+/// that holds them. A side that isn't inner has to be an edge of this box. Unless a window is rejected, the windows have
+/// to have taken the sinks of the union.
+pub fn merge_on_map(
+    alloc: Global,
+    windows: Vec<WindowReport>,
+    sinks: &UnionSinks,
+) -> Result<MapVerdict, MergeRefusal>
+    // The verdict accepts exactly if the products of the union are correct, and else it names their first fault.
     ensures means { IfOk result (IsMapVerdict windows.items) }
-    ensures refusal { IfErr result (IsMapRefusal windows.items) }
+
+    // Unless a window is rejected, the union has the sinks that are listed.
+    ensures sinks { IfOk result (λ verdict. HasMapSinks sinks.now windows.items) }
+
+    // Each refusal comes where it is the first that applies, unless memory runs out.
+    ensures refusal { IfErr result (IsMapRefusal sinks.now windows.items) }
 {
+    check_sides(&windows)?;
     let bounds = union_box(&windows);
     let moved = moved_windows(alloc, bounds.origin, windows)?;
-    match merge(alloc, bounds.size, &moved) {
-        Ok(verdict) => Ok(MapVerdict { bounds, verdict }),
-        Err(refusal) => Err(refusal),
+    let verdict = verdict_on(alloc, bounds.size, &moved, sinks)?;
+    Ok(MapVerdict { bounds, verdict })
+}
+
+/// The verdict on these windows of a union of this size, which has these sinks.
+fn verdict_on(
+    alloc: Global,
+    size: UnionSize,
+    windows: &[WindowReport],
+    sinks: &UnionSinks,
+) -> Result<MergeVerdict, MergeRefusal>
+    ensures means { IfOk result (IsUnionVerdict size windows.now) }
+    ensures taken { OnOk result (AreTaken sinks.now windows.now) }
+    ensures refusal { IfErr result (IsBoxRefusal size sinks.now windows.now) }
+{
+    let verdict = merge(alloc, size, windows)?;
+    if !some_is_rejected(windows) {
+        check_sinks(alloc, windows, sinks)?;
     }
+    Ok(verdict)
 }
 
 /// The windows, counted from this cell.
 fn moved_windows(
     alloc: Global,
     origin: Cell,
-    windows: Vec<JudgedWindow>,
-) -> Result<Vec<JudgedWindow>, OutOfMemory>
+    windows: Vec<WindowReport>,
+) -> Result<Vec<WindowReport>, OutOfMemory>
     ensures { IfOk result (λ moved. moved.items ≡ map (judged_from origin) windows.items) }
 {
-    let moved: Result<Vec<JudgedWindow>, _> = windows
+    let moved: Result<Vec<WindowReport>, _> = windows
         .into_iter()
         .map(|window| moved_window(origin, window))
         .collect(alloc);
@@ -57,7 +88,7 @@ fn moved_windows(
 }
 
 /// The smallest box that holds these windows.
-fn union_box(windows: &[JudgedWindow]) -> UnionBox
+fn union_box(windows: &[WindowReport]) -> UnionBox
     ensures { result ≡ box_of windows.now }
 {
     let mut top = u32::MAX;
@@ -83,7 +114,7 @@ fn union_box(windows: &[JudgedWindow]) -> UnionBox
 }
 
 /// Where the window lies.
-fn place_of(window: &JudgedWindow) -> Place
+fn place_of(window: &WindowReport) -> Place
     ensures { result ≡ window.now.report.place }
 {
     window.report.place

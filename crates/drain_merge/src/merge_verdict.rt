@@ -21,7 +21,11 @@ pub enum MergeVerdict {
 pub enum MergeRefusal {
     /// The list is empty.
     #[error("there is no report")]
-    NoReport,
+    NoReports,
+    /// The first window whose tiles have another side than those of the first one of the list. `merge_on_map` alone
+    /// compares sides.
+    #[error("the tiles of a window have another side")]
+    OtherSide(usize),
     /// The first window that has other no-data numbers than the first one of the list.
     #[error("a window has other no-data numbers")]
     OtherNoData(usize),
@@ -38,6 +42,14 @@ pub enum MergeRefusal {
     /// Each window is accepted, and this is the first cell, in row order, at which two show other values.
     #[error("two windows differ at a cell")]
     SeamsDiffer(Cell),
+    /// Each window is accepted, and this is the number of the first line of the union's list of sinks whose cell no
+    /// window took as a sink. `merge_on_map` alone compares sinks.
+    #[error("line {0} of the list of sinks was taken by no window")]
+    SinkLeftOut(u64),
+    /// Each line of the list was taken, and this is the first cell, in the order of the reports, that a window took as a
+    /// sink and the list doesn't have.
+    #[error("a window took a sink that isn't listed")]
+    SinkNotListed(Cell),
     /// Out of memory. This may come at any step after `OtherNoData`.
     #[error("out of memory")]
     OutOfMemory,

@@ -1,7 +1,7 @@
 //! The verdict on a union, from the reports of its windows.
 
 ghost use Rattle.std.specs.Prelude.{IfOk, IfErr, OnOk};
-ghost use Rattle.drain_merge.specs.JudgedWindows.{places_of, all_outlets, all_seams};
+ghost use Rattle.drain_merge.specs.Lists.{places_of, all_outlets, all_seams};
 ghost use Rattle.drain_merge.specs.Seams.{IsFirstDifference};
 ghost use Rattle.drain_merge.specs.Shared.{IsFirstSharing};
 ghost use Rattle.drain_merge.specs.Merges.{HaveOneNoData, FillUnion, IsNoDataRefusal, IsPlaceRefusal, IsMergeRefusal, IsMerged};
@@ -9,7 +9,6 @@ ghost use Rattle.drain_merge.specs.UnionVerdicts.{IsUnionVerdict};
 
 use crate::corners::first_unjudged;
 use crate::faults::{Fault, first_fault};
-use crate::judged_window::JudgedWindow;
 use crate::lists::{outlets, places, seams};
 use crate::merge_verdict::{MergeRefusal, MergeVerdict};
 use crate::nodata::{first_other, nodata_of};
@@ -19,7 +18,7 @@ use crate::shared::first_sharing;
 use crate::totals::total;
 use crate::union_size::UnionSize;
 use drain_grid::{Cell, OutOfMemory, Rule};
-use drain_windows::Place;
+use drain_windows::{Place, WindowReport};
 use std::alloc::Global;
 
 /// The verdict on the union of these windows, or why there is none.
@@ -30,7 +29,7 @@ use std::alloc::Global;
 pub fn merge(
     alloc: Global,
     size: UnionSize,
-    windows: &[JudgedWindow],
+    windows: &[WindowReport],
 ) -> Result<MergeVerdict, MergeRefusal>
     // The verdict accepts exactly if the products of the union are correct, and else it names their first fault.
     ensures means { IfOk result (IsUnionVerdict size windows.now) }
@@ -50,7 +49,7 @@ pub fn merge(
 fn merged(
     alloc: Global,
     size: UnionSize,
-    windows: &[JudgedWindow],
+    windows: &[WindowReport],
 ) -> Result<MergeVerdict, MergeRefusal>
     ensures lists { IfOk result (IsMerged size windows.now) }
     ensures refusal { IfErr result (IsMergeRefusal size windows.now) }
@@ -73,12 +72,12 @@ fn merged(
 }
 
 /// Refuses windows with several no-data numbers, and an empty list.
-fn check_nodata(windows: &[JudgedWindow]) -> Result<(), MergeRefusal>
+fn check_nodata(windows: &[WindowReport]) -> Result<(), MergeRefusal>
     ensures one { OnOk result (HaveOneNoData windows.now) }
     ensures refusal { IfErr result (IsNoDataRefusal windows.now) }
 {
     let Some(first) = windows.first() else {
-        return Err(MergeRefusal::NoReport);
+        return Err(MergeRefusal::NoReports);
     };
     match first_other(windows, nodata_of(first)) {
         Some(place) => Err(MergeRefusal::OtherNoData(place)),
@@ -90,7 +89,7 @@ fn check_nodata(windows: &[JudgedWindow]) -> Result<(), MergeRefusal>
 fn check_places(
     alloc: Global,
     size: UnionSize,
-    windows: &[JudgedWindow],
+    windows: &[WindowReport],
 ) -> Result<(), MergeRefusal>
     ensures fill { OnOk result (FillUnion size (places_of windows.now)) }
     ensures refusal { IfErr result (IsPlaceRefusal size (places_of windows.now)) }
@@ -117,7 +116,7 @@ fn check_union(alloc: Global, size: UnionSize, places: &[Place]) -> Result<(), M
 }
 
 /// The first cell, in row order, at which two windows show other values along their seams.
-fn differing_seam(alloc: Global, windows: &[JudgedWindow]) -> Result<Option<Cell>, OutOfMemory>
+fn differing_seam(alloc: Global, windows: &[WindowReport]) -> Result<Option<Cell>, OutOfMemory>
     ensures { IfOk result (IsFirstDifference (all_seams windows.now)) }
 {
     let mut seams = seams(alloc, windows)?;
@@ -125,7 +124,7 @@ fn differing_seam(alloc: Global, windows: &[JudgedWindow]) -> Result<Option<Cell
 }
 
 /// The first cell, in row order, of an outlet with the label of one at an earlier cell.
-fn shared_label(alloc: Global, windows: &[JudgedWindow]) -> Result<Option<Cell>, OutOfMemory>
+fn shared_label(alloc: Global, windows: &[WindowReport]) -> Result<Option<Cell>, OutOfMemory>
     ensures { IfOk result (IsFirstSharing (all_outlets windows.now)) }
 {
     let mut outlets = outlets(alloc, windows)?;

@@ -3,18 +3,24 @@
 ghost use Rattle.std.specs.Prelude.{◌≡◌, map};
 ghost use Rattle.drain_merge.specs.Moved.{cell_from, judged_from, outlet_from, place_from, report_from, shown_from};
 
-use crate::judged_window::JudgedWindow;
 use drain_grid::Cell;
-use drain_windows::{Outlet, Place, Report, Shown};
+use drain_windows::{Outlet, Place, Report, Shown, WindowReport};
 
 /// A window's report, with rows and columns counted from this cell.
-pub(crate) fn moved_window(origin: Cell, window: JudgedWindow) -> JudgedWindow
+pub(crate) fn moved_window(origin: Cell, window: WindowReport) -> WindowReport
     ensures { result ≡ judged_from origin window }
 {
-    let JudgedWindow { report, verdict } = window;
-    JudgedWindow {
-        report: moved_report(origin, report),
+    let WindowReport {
+        side,
+        tiles,
         verdict,
+        report,
+    } = window;
+    WindowReport {
+        side,
+        tiles,
+        verdict,
+        report: moved_report(origin, report),
     }
 }
 
@@ -28,15 +34,18 @@ fn moved_report(origin: Cell, report: Report) -> Report
         holds,
         mut outlets,
         mut seams,
+        mut sinks,
     } = report;
     move_outlets(origin, outlets.as_mut_slice());
     move_seams(origin, seams.as_mut_slice());
+    move_sinks(origin, sinks.as_mut_slice());
     Report {
         place: moved_place(origin, place),
         nodata,
         holds,
         outlets,
         seams,
+        sinks,
     }
 }
 
@@ -55,6 +64,15 @@ fn move_seams(origin: Cell, seams: &mut [Shown])
 {
     for i in 0..seams.len() {
         seams[i] = moved_shown(origin, seams[i]);
+    }
+}
+
+/// Counts the listed sinks from this cell.
+fn move_sinks(origin: Cell, sinks: &mut [Cell])
+    ensures { sinks.new ≡ map (cell_from origin) sinks.old }
+{
+    for i in 0..sinks.len() {
+        sinks[i] = moved_cell(origin, sinks[i]);
     }
 }
 

@@ -3,11 +3,11 @@
 ghost use Rattle.std.specs.Prelude.{◌≡◌, ◌↔◌, IsTrue};
 ghost use Rattle.drain_merge.specs.Places.{IsFirstFailing};
 
-use crate::judged_window::JudgedWindow;
 use drain_grid::NoData;
+use drain_windows::WindowReport;
 
 /// The first window with other no-data numbers than these.
-pub fn first_other(windows: &[JudgedWindow], nodata: NoData) -> Option<usize>
+pub fn first_other(windows: &[WindowReport], nodata: NoData) -> Option<usize>
     ensures { IsFirstFailing (λ w. w.report.nodata ≡ nodata) windows.now result }
 {
     for i in 0..windows.len() {
@@ -19,7 +19,7 @@ pub fn first_other(windows: &[JudgedWindow], nodata: NoData) -> Option<usize>
 }
 
 /// The window's no-data numbers.
-pub fn nodata_of(window: &JudgedWindow) -> NoData
+pub fn nodata_of(window: &WindowReport) -> NoData
     ensures { result ≡ window.now.report.nodata }
 {
     window.report.nodata

@@ -6,7 +6,8 @@ ghost use Rattle.drain_windows.specs.Reports.{AreApart, ReachesInto};
 ghost use Rattle.std.specs.Prelude.{◌≡◌, ◌↔◌, ◌+◌, IsTrue};
 ghost use Rattle.drain_merge.specs.Places.{IsFirstFailing, IsFirstClash, MeetInSeams};
 
-use crate::union_size::{UnionSize, end_of};
+use crate::union_size::UnionSize;
+use drain_windows::place::end_of;
 use drain_windows::{Place, SEAM_DEPTH};
 
 /// The first place that doesn't lie in a union of this size, or has a side that isn't inner and isn't the union's edge.

@@ -3,9 +3,9 @@
 ghost use Rattle.std.specs.Prelude.{◌≡◌, ◌+◌};
 ghost use Rattle.drain_merge.specs.Totals.{AreCountsOf, capped, data_cells_of, raised_of, outlets_of};
 
-use crate::judged_window::JudgedWindow;
 use crate::union_size::UnionSize;
 use drain_rules::Verdict;
+use drain_windows::WindowReport;
 
 /// The size of a union, and how many of its cells have data, are raised, and are outlets. A count that doesn't fit is
 /// the greatest number of 64 bits; no count of a union's own cells is as large.
@@ -19,7 +19,7 @@ pub struct UnionCounts {
 }
 
 /// The counts of a union of this size: the sums of those of its windows.
-pub(crate) fn total(size: UnionSize, windows: &[JudgedWindow]) -> UnionCounts
+pub(crate) fn total(size: UnionSize, windows: &[WindowReport]) -> UnionCounts
     ensures { AreCountsOf size windows.now result }
 {
     let mut counts = UnionCounts {
@@ -36,7 +36,7 @@ pub(crate) fn total(size: UnionSize, windows: &[JudgedWindow]) -> UnionCounts
 }
 
 /// The counts with those of one window more.
-fn with_window(counts: UnionCounts, window: &JudgedWindow) -> UnionCounts
+fn with_window(counts: UnionCounts, window: &WindowReport) -> UnionCounts
     ensures rows { result.rows ≡ counts.rows }
     ensures cols { result.cols ≡ counts.cols }
     ensures data_cells { result.data_cells ≡ capped (counts.data_cells + data_cells_of window.now) }

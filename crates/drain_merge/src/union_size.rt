@@ -1,6 +1,6 @@
 //! The size of a union.
 
-ghost use Rattle.std.specs.Prelude.{◌≡◌, ◌↔◌, ◌+◌, IsTrue};
+ghost use Rattle.std.specs.Prelude.{◌↔◌, IsTrue};
 
 use drain_windows::Place;
 use std::marker::Model;
@@ -32,23 +32,6 @@ impl UnionSize {
     pub fn has_place(self, place: &Place) -> bool
         ensures { IsTrue result ↔ IsPlaceIn self place.now }
     {
-        let bottom = end_of(place.top, place.extent.rows());
-        let right = end_of(place.left, place.extent.cols());
-        let rows = u64::from(self.rows);
-        let cols = u64::from(self.cols);
-        let inner = place.inner;
-        bottom <= rows
-            && right <= cols
-            && (inner.north || place.top == 0)
-            && (inner.south || bottom == rows)
-            && (inner.west || place.left == 0)
-            && (inner.east || right == cols)
+        place.fits(self.rows, self.cols)
     }
-}
-
-/// One more than the last of so many rows or columns from the first on.
-pub(crate) fn end_of(first: u32, count: u32) -> u64
-    ensures { result ≡ first + count }
-{
-    u64::from(first) + u64::from(count)
 }

@@ -1,4 +1,9 @@
 pub mod NumberLemmas
 pub mod ReadLemmas
 pub mod FactLemmas
+pub mod ListedNumbers
+pub mod SameFacts
 pub mod ListLemmas
+pub mod TileLemmas
+pub mod TextLemmas
+pub mod FaultLemmas

@@ -1,7 +1,8 @@
 -- Facts that are read one after another, a line each, and facts that are appended.
 use Rattle.std.proofs.Common.{◌≡◌, ℕ, ◌+◌, ◌<◌, List, [], ◌∷◌, ◌++◌, length, take, get_or, arith, refl, sym, ap, ◌∙◌, length-append, append-nil, append_assoc}
 use Rattle.std.proofs.lemmas.List.{take_more}
-use Rattle.drain_report.specs.Facts.{all_text, list_text, count_line, AllAre}
+use Rattle.drain_report.specs.Facts.{count_line}
+use Rattle.drain_report.specs.Lists.{all_text, list_text, AllAre}
 
 module _ {X : Type 0} (f : X → List ℕ) where
   pub all-append : (xs ys : List X) → all_text f (xs ++ ys) ≡ all_text f xs ++ all_text f ys
@@ -24,6 +25,18 @@ module _ {X : Type 0} (f : X → List ℕ) where
       ∙ ap (λ t. before ++ (all_text f (take k xs) ++ t)) (sym (append-nil (f (get_or xs k d))))
       ∙ ap (λ t. before ++ t) (sym (all-append (take k xs) (get_or xs k d ∷ [])))
       ∙ ap (λ t. before ++ all_text f t) (sym (take_more xs k d less))
+
+  -- the same of the fact at a place
+  pub list_pushed_at : (xs : List X) (k : ℕ) (x : X) (before was now : List ℕ) → k < length xs → x ≡ get_or xs k x → was ≡ before ++ all_text f (take k xs) → now ≡ was ++ f x → now ≡ before ++ all_text f (take (k + 1) xs)
+  list_pushed_at xs k x before was now less at had is = list_pushed xs k x before was now less had (is ∙ ap (λ y. was ++ f y) at)
+
+-- what holds of each of them, and of one more
+all_then : {X : Type 0} (P : X → Type 0) (xs : List X) (x : X) → AllAre P xs → P x → AllAre P (xs ++ x ∷ [])
+all_then P [] x are is = (is, tt)
+all_then P (y ∷ ys) x are is = (are.0, all_then P ys x are.1 is)
+
+pub all_more : {X : Type 0} (P : X → Type 0) (xs : List X) (k : ℕ) (x : X) → k < length xs → x ≡ get_or xs k x → AllAre P (take k xs) → P x → AllAre P (take (k + 1) xs)
+all_more P xs k x less at are is = rw (take_more xs k x less, ← at) (all_then P (take k xs) x are is)
 
 -- of the facts that a text has, these are read, and the rest has the others
 pub record IsToCome {X : Type 0} (f : X → List ℕ) (P : X → Type 0) (xs done : List X) (rest after : List ℕ) : Type 0 where
@@ -68,23 +81,10 @@ ended f P xs done rest after h same = ended_of f xs done h.left rest after h.who
 pub come : {X : Type 0} (f : X → List ℕ) (P : X → Type 0) (xs done : List X) (rest after was : List ℕ) (x : X) (step : IsComing f P xs done was after) → x ≡ step.x → rest ≡ step.then → IsToCome f P xs (done ++ x ∷ []) rest after
 come f P xs done rest after was x step same text = rw (text, same) step.left
 
--- parts that were appended one after another
-pub five : (t0 t1 t2 t3 t4 t5 a b c d e : List ℕ) → t1 ≡ t0 ++ a → t2 ≡ t1 ++ b → t3 ≡ t2 ++ c → t4 ≡ t3 ++ d → t5 ≡ t4 ++ e → t5 ≡ t0 ++ (a ++ (b ++ (c ++ (d ++ e))))
-five t0 t1 t2 t3 t4 t5 a b c d e p q r s t = rw (t, s, r, q, p) (simp append_assoc)
-
-pub two : (t0 t1 t2 a b : List ℕ) → t1 ≡ t0 ++ a → t2 ≡ t1 ++ b → t2 ≡ t0 ++ (a ++ b)
-two t0 t1 t2 a b p q = rw (q, p) (append_assoc t0 a b)
-
-pub five_new : (t0 t1 t2 t3 t4 t5 a b c d e : List ℕ) → t0 ≡ [] → t1 ≡ t0 ++ a → t2 ≡ t1 ++ b → t3 ≡ t2 ++ c → t4 ≡ t3 ++ d → t5 ≡ t4 ++ e → t5 ≡ a ++ (b ++ (c ++ (d ++ e)))
-five_new t0 t1 t2 t3 t4 t5 a b c d e new p q r s t = five t0 t1 t2 t3 t4 t5 a b c d e p q r s t ∙ ap (λ u. u ++ (a ++ (b ++ (c ++ (d ++ e))))) new
-
--- parts that were read one after another
-pub read_five : (text r1 r2 r3 r4 r5 a b c d e : List ℕ) → text ≡ a ++ r1 → r1 ≡ b ++ r2 → r2 ≡ c ++ r3 → r3 ≡ d ++ r4 → r4 ≡ e ++ r5 → text ≡ (a ++ (b ++ (c ++ (d ++ e)))) ++ r5
-read_five text r1 r2 r3 r4 r5 a b c d e p q r s t = rw (p, q, r, s, t) (simp append_assoc)
-
-pub read_all : (text r1 r2 r3 r4 a b c d e : List ℕ) → text ≡ a ++ r1 → r1 ≡ b ++ r2 → r2 ≡ c ++ r3 → r3 ≡ d ++ r4 → r4 ≡ e → text ≡ a ++ (b ++ (c ++ (d ++ e)))
-read_all text r1 r2 r3 r4 a b c d e p q r s t = p ∙ ap (λ u. a ++ u) (q ∙ ap (λ u. b ++ u) (r ∙ ap (λ u. c ++ u) (s ∙ ap (λ u. d ++ u) t)))
-
+-- a list that was read after how many there are
 pub read_list : {X : Type 0} (f : X → List ℕ) (word text r1 r2 : List ℕ) (n : ℕ) (xs : List X) → text ≡ count_line word n ++ r1 → r1 ≡ all_text f xs ++ r2 → length xs ≡ n → text ≡ list_text word f xs ++ r2
 read_list f word text r1 r2 n xs p q long =
     p ∙ ap (λ (m : ℕ). count_line word m ++ r1) (sym long) ∙ ap (λ u. count_line word (length xs) ++ u) q ∙ sym (append_assoc (count_line word (length xs)) (all_text f xs) r2)
+
+pub list_split : {X : Type 0} (f : X → List ℕ) (word : List ℕ) (xs : List X) (rest : List ℕ) → list_text word f xs ++ rest ≡ count_line word (length xs) ++ (all_text f xs ++ rest)
+list_split f word xs rest = append_assoc (count_line word (length xs)) (all_text f xs) rest

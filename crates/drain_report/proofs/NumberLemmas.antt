@@ -68,10 +68,10 @@ ok_same r a b p q = cc
 pub not_both : {E : Type 0} (r : Result ℤ E) (e : E) (b : ℤ) → r ≡ Err e → r ≡ Ok b → ⊥
 not_both r e b p q = cc
 
-pub some_same : (a b : ℤ) → Some a ≡ Some b → a ≡ b
+pub some_same : {X : Type 0} (a b : X) → Some a ≡ Some b → a ≡ b
 some_same a b e = cc
 
-pub none_some : (b : ℤ) → None ≡ Some b → ⊥
+pub none_some : {X : Type 0} (b : X) → None ≡ Some b → ⊥
 none_some b e = cc
 
 -- a test for difference that fails at equal texts

@@ -2,7 +2,7 @@
 use Rattle.std.proofs.Common.{◌≡◌, ℕ, zero, suc, ◌+◌, ◌<◌, List, [], ◌∷◌, ◌++◌, ℤ, length, take, get_or, arith, refl, sym, ap, ◌∙◌, length-append, append-nil, append_assoc, rules}
 use Rattle.std.specs.Fmt.{signed_decimal}
 use Rattle.std.proofs.lemmas.List.{take_more}
-use Rattle.drain_report.specs.Lines.{IsLong, AreLong, line, spaced, AreNumbersThen, IsNumberThen}
+use Rattle.drain_report.specs.Lines.{IsLong, AreLong, line, spaced, IsNumberThen}
 
 pub spaced-append : (xs ys : List ℤ) → spaced (xs ++ ys) ≡ spaced xs ++ spaced ys
 spaced-append [] ys = refl
@@ -23,9 +23,6 @@ pub record IsLeft (ns done : List ℤ) (rest after : List ℕ) : Type 0 where
   pub whole : ns ≡ done ++ left
   pub long : AreLong left
   pub is : rest ≡ spaced left ++ 10 ∷ after
-
-pub all_left : (ns : List ℤ) (text after : List ℕ) → AreNumbersThen text ns after → IsLeft ns [] text after
-all_left ns text after h = record { left = ns; whole = refl; long = h.long; is = h.is }
 
 -- the next one of them
 pub record IsNext (ns done : List ℤ) (rest after : List ℕ) : Type 0 where
@@ -71,11 +68,6 @@ pushed_more ns k d before was now less had is =
     ∙ ap (λ t. before ++ (spaced (take k ns) ++ t)) (sym (append-nil (32 ∷ signed_decimal (get_or ns k d))))
     ∙ ap (λ t. before ++ t) (sym (spaced-append (take k ns) (get_or ns k d ∷ [])))
     ∙ ap (λ t. before ++ spaced t) (sym (take_more ns k d less))
-
--- the parts of a line
-pub line_joined : (word : List ℕ) (ns : List ℤ) (text after end rest : List ℕ) → text ≡ word ++ after → after ≡ spaced ns ++ end → end ≡ 10 ∷ rest → text ≡ line word ns ++ rest
-line_joined word ns text after end rest one two three =
-    one ∙ ap (λ t. word ++ t) (two ∙ ap (λ t. spaced ns ++ t) three ∙ sym (append_assoc (spaced ns) (10 ∷ []) rest)) ∙ sym (append_assoc word (spaced ns ++ 10 ∷ []) rest)
 
 pub long_at : (ns : List ℤ) (k : ℕ) (d : ℤ) → AreLong ns → k < length ns → IsLong (get_or ns k d)
 long_at [] k d long less = absurd (omega arith)

@@ -1,5 +1,5 @@
 -- The facts of a report as numbers, each kind on lines of its own. The order of the numbers is this project's own.
-use Rattle.std.specs.Prelude.{◌≡◌, ◌<◌, ◌^◌, ℕ, ℤ, pos, Bool, true, false, Option, Some, None, List, [], ◌∷◌, ◌++◌, length, codes, if◌then◌else◌}
+use Rattle.std.specs.Prelude.{◌≡◌, ◌<◌, ◌^◌, ℕ, ℤ, pos, Bool, true, false, Option, Some, None, List, [], ◌∷◌, ◌++◌, codes, if◌then◌else◌}
 use Rattle.std.specs.Int.{w16}
 use Rattle.std.specs.Int.RustNames.{FitsSigned}
 use Rattle.drain_grid.specs.declared.cell.Cell.{Cell}
@@ -9,7 +9,6 @@ use Rattle.drain_windows.specs.declared.outlet.Outlet.{Outlet}
 use Rattle.drain_windows.specs.declared.report.Shown.{Shown}
 use Rattle.drain_windows.specs.declared.place.Place.{Place}
 use Rattle.drain_windows.specs.declared.place.InnerSides.{InnerSides}
-use Rattle.drain_windows.specs.Reports.{Report}
 use Rattle.drain_grid.specs.Size.{IsExtent}
 use Rattle.drain_grid.specs.Rule.{rule_number}
 use Rattle.drain_grid.specs.declared.rule.Rule.{Rule}
@@ -31,6 +30,13 @@ outlet_numbers o = o.label ∷ pos o.cell.row ∷ pos o.cell.col ∷ []
 
 abbrev pub outlet_line : Outlet → List ℕ
 outlet_line o = line (codes "outlet") (outlet_numbers o)
+
+-- sink ROW COL
+abbrev pub sink_numbers : Cell → List ℤ
+sink_numbers c = pos c.row ∷ pos c.col ∷ []
+
+abbrev pub sink_line : Cell → List ℕ
+sink_line c = line (codes "sink") (sink_numbers c)
 
 pub record IsOutlet (o : Outlet) : Type 0 where
   pub label : IsLong o.label
@@ -63,15 +69,6 @@ pub record IsShown (s : Shown) : Type 0 where
   pub height : IsHeight s.values.z
   pub values : AreInRange s.values
 
--- a text for each, one after another
-abbrev pub all_text : {X : Type 0} → (X → List ℕ) → List X → List ℕ
-all_text f [] = []
-all_text f (x ∷ xs) = f x ++ all_text f xs
-
-abbrev pub AllAre : {X : Type 0} → (X → Type 0) → List X → Type 0
-AllAre P [] = Unit {0}
-AllAre P (x ∷ xs) = P x × AllAre P xs
-
 -- a line of one whole number
 abbrev pub count_line : List ℕ → ℕ → List ℕ
 count_line word n = line word (pos n ∷ [])
@@ -101,6 +98,13 @@ nodata_line n = line (codes "nodata") (nodata_numbers n)
 abbrev pub count_numbers : Counts → List ℤ
 count_numbers c = pos c.rows ∷ pos c.cols ∷ pos c.data_cells ∷ pos c.raised ∷ pos c.outlets ∷ []
 
+pub record CountsFit (c : Counts) : Type 0 where
+  pub rows : c.rows < 2 ^ 32
+  pub cols : c.cols < 2 ^ 32
+  pub data_cells : c.data_cells < 2 ^ 32
+  pub raised : c.raised < 2 ^ 32
+  pub outlets : c.outlets < 2 ^ 32
+
 abbrev pub fault_numbers : Rule → ℕ → ℕ → List ℤ
 fault_numbers rule row col = pos (rule_number rule) ∷ pos row ∷ pos col ∷ []
 
@@ -108,6 +112,11 @@ fault_numbers rule row col = pos (rule_number rule) ∷ pos row ∷ pos col ∷ 
 abbrev pub verdict_line : Verdict → List ℕ
 verdict_line (Accepted c) = line (codes "accepted") (count_numbers c)
 verdict_line (Rejected rule row col) = line (codes "rejected") (fault_numbers rule row col)
+
+-- its numbers are of 32 bits
+abbrev pub VerdictFits : Verdict → Type 0
+VerdictFits (Accepted c) = CountsFit c
+VerdictFits (Rejected rule row col) = IsNarrow (record { row = row; col = col })
 
 abbrev pub is_accepted : Verdict → Bool
 is_accepted (Accepted c) = true
@@ -121,16 +130,3 @@ IsRejection ns (Rejected rule row col) = ns ≡ fault_numbers rule row col
 -- tile NAME
 abbrev pub tile_line : Corner → List ℕ
 tile_line c = codes "tile " ++ (name_of c ++ 10 ∷ [])
-
--- all lines of a report
-abbrev pub head_text : ℕ → Place → NoDataNumbers → Verdict → List ℕ
-head_text side place nodata verdict =
-    codes "drain-window-report 1\n" ++ (count_line (codes "side") side ++ (place_line place ++ (nodata_line nodata ++ verdict_line verdict)))
-
-abbrev pub list_text : {X : Type 0} → List ℕ → (X → List ℕ) → List X → List ℕ
-list_text word f xs = count_line word (length xs) ++ all_text f xs
-
-abbrev pub report_text : ℕ → List Corner → Verdict → Report → List ℕ
-report_text side tiles verdict r =
-    head_text side r.place r.nodata verdict ++ (list_text (codes "tiles") tile_line tiles ++ (list_text (codes "outlets") outlet_line r.outlets
-    ++ (list_text (codes "seams") shown_line r.seams ++ codes "end\n")))

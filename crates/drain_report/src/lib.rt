@@ -1,15 +1,24 @@
 //! The text of a window's report: what a run on a window writes into a file, and what a merge reads.
 #![tactic(auto)]
 
+mod count;
 mod facts;
 mod fault;
 mod head;
 mod lines;
 mod lists;
+mod nodata;
 mod numbers;
+mod outlets;
+mod place;
+mod read;
+mod report_line;
+mod seams;
+mod sinks;
 mod tiles;
-mod verdict_lines;
-pub mod window_report;
+mod verdict;
+mod write;
 
 pub use fault::ReportFault;
-pub use window_report::{WindowReport, read_report, write_report};
+pub use read::read_report;
+pub use write::write_report;

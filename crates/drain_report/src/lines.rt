@@ -1,7 +1,8 @@
 //! Lines of a report: a word, and numbers with a space before each.
 
-ghost use Rattle.std.specs.Prelude.{◌≡◌, ℤ, ℕ, List, ◌∷◌, ◌++◌, IfSome, IfOk, OnOk, MatchOption, MatchResult, length};
+ghost use Rattle.std.specs.Prelude.{◌≡◌, ◌<◌, ◌^◌, ℤ, ℕ, List, ◌∷◌, ◌++◌, IfSome, IfOk, OnOk, MatchOption, MatchResult, length};
 ghost use Rattle.std.specs.Fmt.{signed_decimal};
+ghost use Rattle.drain_report.specs.Faults.{IsAt, IsPast, IsLineFault, line_feeds};
 ghost use Rattle.drain_report.specs.Lines.{spaced, line, AreLong, AreNumbersThen, IsLineThen};
 
 use crate::fault::ReportFault;
@@ -79,6 +80,7 @@ pub fn read_line<'a>(
     ensures sound { IfOk result (λ after. lines.entry.rest.now ≡ line word.now numbers.new ++ after.rest.now) }
     ensures long { IfOk result (λ _. AreLong numbers.new) }
     ensures back { (ns : List ℤ) (rest : List ℕ) → length ns ≡ length numbers.old → IsLineThen lines.entry.rest.now word.now ns rest → MatchResult result (λ after. (numbers.new ≡ ns) × (after.rest.now ≡ rest)) (λ _. ⊥) }
+    ensures place { (feeds : ℕ) → feeds < 2 ^ 63 → line_feeds word.now ≡ 0 → IsAt feeds lines.entry.number lines.entry.rest.now → MatchResult result (λ after. IsPast feeds lines.entry.number after.number after.rest.now) (IsLineFault feeds lines.entry.number) }
 {
     match line_after(lines.rest, word.as_bytes(), numbers) {
         Some(rest) => Ok(Lines {
@@ -90,11 +92,12 @@ pub fn read_line<'a>(
 }
 
 /// Why the next line can't be read: there is none, or it is another one.
-pub fn unread(lines: Lines) -> ReportFault {
-    if memchr(b'\n', lines.rest).is_none() {
-        ReportFault::MissingLine(lines.number)
-    } else {
-        ReportFault::BadLine(lines.number)
+pub fn unread(lines: Lines) -> ReportFault
+    ensures { (feeds : ℕ) → IsAt feeds lines.entry.number lines.entry.rest.now → IsLineFault feeds lines.entry.number result }
+{
+    match memchr(b'\n', lines.rest) {
+        None => ReportFault::MissingLine(lines.number),
+        Some(_) => ReportFault::BadLine(lines.number),
     }
 }
 

@@ -1,84 +1,83 @@
-//! The lists of a report: outlets, and cells of seams.
+//! Lists of a report: how many lines there are, then the lines.
 
-ghost use Rattle.std.specs.Prelude.{◌≡◌, ℕ, List, ◌++◌, IfOk, OnOk, MatchResult, length};
-ghost use Rattle.drain_windows.specs.declared.outlet.Outlet.{Outlet as OutletOf};
-ghost use Rattle.drain_windows.specs.declared.report.Shown.{Shown as ShownOf};
+ghost use Rattle.std.specs.Prelude.{◌≡◌, ◌<◌, ◌≤◌, ◌^◌, ℕ, List, ◌++◌, IfOk, OnOk, MatchResult, length};
 ghost use Rattle.drain_report.specs.declared.fault.ReportFault.{ReportFault as FaultOf};
-ghost use Rattle.drain_report.specs.Facts.{IsOutlet, outlet_line, IsShown, shown_line, all_text, AllAre};
+ghost use Rattle.drain_report.specs.Faults.{IsAt, IsPast, IsListFault, line_feeds};
+ghost use Rattle.drain_report.specs.Lists.{AllAre, IsListOf, all_text, list_text};
 
-use crate::facts::{push_outlet, push_shown, read_outlet, read_shown};
+use crate::count::{push_count, read_count};
 use crate::fault::ReportFault;
 use crate::lines::Lines;
+use crate::report_line::ReportLine;
 use drain_grid::OutOfMemory;
-use drain_windows::{Outlet, Shown};
 use std::alloc::Global;
 
-/// Reads so many lines of outlets.
-pub fn read_outlets<'a>(
+/// Reads a list of this word.
+pub fn read_list<'a, T: ReportLine>(
+    alloc: Global,
+    lines: Lines<'a>,
+    word: &str,
+) -> Result<(Vec<T>, Lines<'a>), ReportFault>
+    ensures sound { IfOk result (λ found. lines.entry.rest.now ≡ list_text word.now T.line_of found.0.items ++ found.1.rest.now) }
+    ensures back { (xs : List T) (rest : List ℕ) → IsListOf T.fits xs → lines.entry.rest.now ≡ list_text word.now T.line_of xs ++ rest → MatchResult result (λ found. (found.0.items ≡ xs) × (found.1.rest.now ≡ rest)) (λ fault. fault ≡ ReportFault.OutOfMemory) }
+    ensures place { (feeds : ℕ) → feeds < 2 ^ 63 → line_feeds word.now ≡ 0 → IsAt feeds lines.entry.number lines.entry.rest.now → MatchResult result (λ found. IsPast feeds lines.entry.number found.1.number found.1.rest.now) (IsListFault feeds lines.entry.number) }
+{
+    let (count, first) = match read_count(lines, word) {
+        Ok(read) => read,
+        Err(fault) => return Err(fault),
+    };
+    read_lines(alloc, first, count)
+}
+
+/// Reads so many lines.
+fn read_lines<'a, T: ReportLine>(
     alloc: Global,
     first: Lines<'a>,
     count: u32,
-) -> Result<(Vec<Outlet>, Lines<'a>), ReportFault>
+) -> Result<(Vec<T>, Lines<'a>), ReportFault>
     ensures len { IfOk result (λ found. length found.0.items ≡ count) }
-    ensures sound { IfOk result (λ found. first.entry.rest.now ≡ all_text outlet_line found.0.items ++ found.1.rest.now) }
-    ensures back { (os : List OutletOf) (rest : List ℕ) → length os ≡ count → AllAre IsOutlet os → first.entry.rest.now ≡ all_text outlet_line os ++ rest → MatchResult result (λ found. (found.0.items ≡ os) × (found.1.rest.now ≡ rest)) (λ fault. fault ≡ ReportFault.OutOfMemory) }
+    ensures sound { IfOk result (λ found. first.entry.rest.now ≡ all_text T.line_of found.0.items ++ found.1.rest.now) }
+    ensures back { (xs : List T) (rest : List ℕ) → length xs ≡ count → AllAre T.fits xs → first.entry.rest.now ≡ all_text T.line_of xs ++ rest → MatchResult result (λ found. (found.0.items ≡ xs) × (found.1.rest.now ≡ rest)) (λ fault. fault ≡ ReportFault.OutOfMemory) }
+    ensures place { (feeds : ℕ) → feeds < 2 ^ 63 → IsAt feeds first.entry.number first.entry.rest.now → MatchResult result (λ found. (first.entry.number ≤ found.1.number) × IsAt feeds found.1.number found.1.rest.now) (IsListFault feeds first.entry.number) }
 {
-    let mut outlets = Vec::new(alloc);
+    let mut items = Vec::new(alloc);
     let mut lines = first;
     for _ in 0..count {
-        let (outlet, next) = match read_outlet(lines) {
+        let (item, next) = match T::read_from(lines) {
             Ok(read) => read,
             Err(fault) => return Err(fault),
         };
-        let Ok(_) = outlets.push(outlet) else {
+        let Ok(_) = items.push(item) else {
             return Err(ReportFault::OutOfMemory);
         };
         lines = next;
     }
-    Ok((outlets, lines))
+    Ok((items, lines))
 }
 
-/// Appends the lines of outlets.
-pub fn push_outlets(text: &mut Vec<u8>, outlets: &[Outlet]) -> Result<(), OutOfMemory>
-    ensures { OnOk result (text.new.items ≡ text.old.items ++ all_text outlet_line outlets.now) }
+/// Appends a list of this word; one longer than 32 bits count is refused as memory is.
+pub fn push_list<T: ReportLine>(
+    text: &mut Vec<u8>,
+    word: &str,
+    items: &[T],
+) -> Result<(), OutOfMemory>
+    ensures written { OnOk result (text.new.items ≡ text.old.items ++ list_text word.now T.line_of items.now) }
+    ensures in_range { OnOk result (IsListOf T.fits items.now) }
 {
-    for outlet in outlets {
-        push_outlet(text, outlet)?;
-    }
-    Ok(())
+    let Ok(count) = u32::try_from(items.len()) else {
+        return Err(OutOfMemory);
+    };
+    push_count(text, word, count)?;
+    push_lines(text, items)
 }
 
-/// Reads so many lines of cells on seams.
-pub fn read_seams<'a>(
-    alloc: Global,
-    first: Lines<'a>,
-    count: u32,
-) -> Result<(Vec<Shown>, Lines<'a>), ReportFault>
-    ensures len { IfOk result (λ found. length found.0.items ≡ count) }
-    ensures sound { IfOk result (λ found. first.entry.rest.now ≡ all_text shown_line found.0.items ++ found.1.rest.now) }
-    ensures back { (os : List ShownOf) (rest : List ℕ) → length os ≡ count → AllAre IsShown os → first.entry.rest.now ≡ all_text shown_line os ++ rest → MatchResult result (λ found. (found.0.items ≡ os) × (found.1.rest.now ≡ rest)) (λ fault. fault ≡ ReportFault.OutOfMemory) }
+/// Appends the lines.
+fn push_lines<T: ReportLine>(text: &mut Vec<u8>, items: &[T]) -> Result<(), OutOfMemory>
+    ensures written { OnOk result (text.new.items ≡ text.old.items ++ all_text T.line_of items.now) }
+    ensures in_range { OnOk result (AllAre T.fits items.now) }
 {
-    let mut seams = Vec::new(alloc);
-    let mut lines = first;
-    for _ in 0..count {
-        let (shown, next) = match read_shown(lines) {
-            Ok(read) => read,
-            Err(fault) => return Err(fault),
-        };
-        let Ok(_) = seams.push(shown) else {
-            return Err(ReportFault::OutOfMemory);
-        };
-        lines = next;
-    }
-    Ok((seams, lines))
-}
-
-/// Appends the lines of cells on seams.
-pub fn push_seams(text: &mut Vec<u8>, seams: &[Shown]) -> Result<(), OutOfMemory>
-    ensures { OnOk result (text.new.items ≡ text.old.items ++ all_text shown_line seams.now) }
-{
-    for shown in seams {
-        push_shown(text, shown)?;
+    for item in items {
+        item.push_to(text)?;
     }
     Ok(())
 }

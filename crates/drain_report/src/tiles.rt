@@ -1,20 +1,25 @@
 //! The tiles of a report, by their names.
 
-ghost use Rattle.std.specs.Prelude.{◌≡◌, ◌++◌, IfSome, IfOk, OnOk, length};
+ghost use Rattle.std.specs.Prelude.{◌≡◌, ℕ, List, ◌++◌, IfSome, MatchOption};
+ghost use Rattle.drain_hgt.specs.Corner.{Corner, IsOnMap};
 ghost use Rattle.drain_hgt.specs.Name.{name_of};
-ghost use Rattle.drain_report.specs.Facts.{tile_line, all_text};
+ghost use Rattle.drain_report.specs.Facts.{tile_line};
 
 use crate::fault::ReportFault;
 use crate::lines::{Lines, after_word, push, unread};
+use crate::report_line::ReportLine;
 use drain_grid::OutOfMemory;
 use drain_hgt::TileName;
+use drain_hgt::laws::{name_reads_back, one_name};
 use drain_hgt::name::NAME_LENGTH;
-use std::alloc::Global;
 
 /// The tile that a text names first, as names are printed, and what follows the name.
 fn first_name(text: &[u8]) -> Option<(TileName, &[u8])>
-    ensures { IfSome result (λ found. text.now ≡ name_of found.0 ++ found.1.now) }
+    ensures sound { IfSome result (λ found. text.now ≡ name_of found.0 ++ found.1.now) }
+    ensures back { (c : Corner) (rest : List ℕ) → IsOnMap c → text.now ≡ name_of c ++ rest → MatchOption result ⊥ (λ found. (found.0 ≡ c) × (found.1.now ≡ rest)) }
 {
+    name_reads_back();
+    one_name();
     if text.len() < NAME_LENGTH {
         return None;
     }
@@ -30,7 +35,8 @@ fn first_name(text: &[u8]) -> Option<(TileName, &[u8])>
 
 /// The tile of the first line, and what follows the line.
 fn first_tile(text: &[u8]) -> Option<(TileName, &[u8])>
-    ensures { IfSome result (λ found. text.now ≡ tile_line found.0 ++ found.1.now) }
+    ensures sound { IfSome result (λ found. text.now ≡ tile_line found.0 ++ found.1.now) }
+    ensures back { (c : Corner) (rest : List ℕ) → IsOnMap c → text.now ≡ tile_line c ++ rest → MatchOption result ⊥ (λ found. (found.0 ≡ c) × (found.1.now ≡ rest)) }
 {
     let Some(after) = after_word(text, b"tile ") else {
         return None;
@@ -44,61 +50,26 @@ fn first_tile(text: &[u8]) -> Option<(TileName, &[u8])>
     Some((tile, rest))
 }
 
-/// Reads the line of a tile.
-pub fn read_tile<'a>(lines: Lines<'a>) -> Result<(TileName, Lines<'a>), ReportFault>
-    ensures { IfOk result (λ found. lines.entry.rest.now ≡ tile_line found.0 ++ found.1.rest.now) }
-{
-    match first_tile(lines.rest) {
-        Some((tile, rest)) => Ok((
-            tile,
-            Lines {
-                rest,
-                number: lines.number.saturating_add(1),
-            },
-        )),
-        None => Err(unread(lines)),
-    }
-}
+impl ReportLine for TileName {
+    ghost line_of = { tile_line };
 
-/// Appends the line of a tile.
-pub fn push_tile(text: &mut Vec<u8>, tile: TileName) -> Result<(), OutOfMemory>
-    ensures { OnOk result (text.new.items ≡ text.old.items ++ tile_line tile) }
-{
-    push(text, b"tile ")?;
-    push(text, tile.text().as_bytes())?;
-    push(text, b"\n")
-}
+    ghost fits = { IsOnMap };
 
-/// Reads so many lines of tiles.
-pub fn read_tiles<'a>(
-    alloc: Global,
-    first: Lines<'a>,
-    count: u32,
-) -> Result<(Vec<TileName>, Lines<'a>), ReportFault>
-    ensures len { IfOk result (λ found. length found.0.items ≡ count) }
-    ensures sound { IfOk result (λ found. first.entry.rest.now ≡ all_text tile_line found.0.items ++ found.1.rest.now) }
-{
-    let mut tiles = Vec::new(alloc);
-    let mut lines = first;
-    for _ in 0..count {
-        let (tile, next) = match read_tile(lines) {
-            Ok(read) => read,
-            Err(fault) => return Err(fault),
+    fn read_from<'a>(lines: Lines<'a>) -> Result<(TileName, Lines<'a>), ReportFault> {
+        let Some(found) = first_tile(lines.rest) else {
+            return Err(unread(lines));
         };
-        let Ok(_) = tiles.push(tile) else {
-            return Err(ReportFault::OutOfMemory);
+        let next = Lines {
+            rest: found.1,
+            number: lines.number.saturating_add(1),
         };
-        lines = next;
+        Ok((found.0, next))
     }
-    Ok((tiles, lines))
-}
 
-/// Appends the lines of tiles.
-pub fn push_tiles(text: &mut Vec<u8>, tiles: &[TileName]) -> Result<(), OutOfMemory>
-    ensures { OnOk result (text.new.items ≡ text.old.items ++ all_text tile_line tiles.now) }
-{
-    for tile in tiles {
-        push_tile(text, *tile)?;
+    fn push_to(&self, text: &mut Vec<u8>) -> Result<(), OutOfMemory> {
+        let _on_map = self.lat();
+        push(text, b"tile ")?;
+        push(text, self.text().as_bytes())?;
+        push(text, b"\n")
     }
-    Ok(())
 }

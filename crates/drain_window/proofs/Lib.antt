@@ -1,2 +1,4 @@
+pub mod SinkLists
 pub mod WindowReports
 pub mod WindowVerdicts
+pub mod WindowUses

@@ -2,12 +2,13 @@
 use Rattle.std.specs.Prelude.{◌≡◌, Result, Ok, Err}
 use Rattle.std.specs.List.{count_by}
 use Rattle.drain_answer.specs.declared.refusal.Refusal.{Refusal}
-use Rattle.drain_answer.specs.declared.refusal.Refusal.TheVariants.{BoxTooLarge}
+use Rattle.drain_answer.specs.declared.refusal.Refusal.TheVariants.{BoxTooLarge, OutOfMemory}
 use Rattle.drain_grid.specs.declared.cell.Cell.{Cell}
 use Rattle.drain_grid.specs.declared.rule.Rule.{Rule}
 use Rattle.drain_grid.specs.Counts.{is_data, is_raised}
 use Rattle.drain_grid.specs.Grid.{Grid, Products}
 use Rattle.drain_grid.specs.Values.{NoDataNumbers}
+use Rattle.drain_mosaic.specs.Tiling.{Tiling}
 use Rattle.drain_rules.specs.declared.verdict.Counts.{Counts}
 use Rattle.drain_rules.specs.declared.verdict.Verdict.{Verdict}
 use Rattle.drain_rules.specs.declared.verdict.Verdict.TheVariants.{Accepted, Rejected}
@@ -16,13 +17,13 @@ use Rattle.drain_verdict.specs.Answers.{AreReadable, IsRefusal}
 use Rattle.drain_verdict.specs.Inputs.{Inputs}
 use Rattle.drain_verdict.specs.Meaning.{input_grid, input_products, nodata_numbers, tiling_of}
 use Rattle.drain_windows.specs.declared.place.Place.{Place}
+use Rattle.drain_windows.specs.declared.window_report.WindowReport.{WindowReport}
 use Rattle.drain_windows.specs.declared.place.TheConstants.{SEAM_DEPTH}
 use Rattle.drain_windows.specs.Cuts.{window_at}
-use Rattle.drain_windows.specs.Reports.{IsReportOf}
+use Rattle.drain_windows.specs.Reports.{Report, IsReportOf}
 use Rattle.drain_windows.specs.Windows.{Window, IsFirstInside, IsPlaceIn, RulesHoldInside}
 use Rattle.drain_window_walk.specs.Areas.{cells_in, judged_area}
 use Rattle.drain_window.specs.MapOrigins.{map_origin}
-use Rattle.drain_window.specs.declared.window_answer.WindowAnswer.{WindowAnswer}
 use Rattle.drain_window.specs.declared.window_answer.WindowRefusal.{WindowRefusal}
 use Rattle.drain_window.specs.declared.window_answer.WindowRefusal.TheVariants.{Inputs as OfInputs, OutsideMosaic}
 
@@ -44,29 +45,40 @@ IsJudgedVerdict nodata origin p g ps (Accepted counts) = RulesHoldInside nodata 
 IsJudgedVerdict nodata origin p g ps (Rejected rule row col) = IsFirstInside nodata (window_at origin p g ps) (record { row = row; col = col }) rule
 
 -- the report and the verdict on the window at a place of a grid, which begins at this cell of the union
-pub record IsAnswerOn (nodata : NoDataNumbers) (origin : Cell) (p : Place) (g : Grid) (ps : Products) (a : WindowAnswer) : Type 0 where
-  pub nodata_is : a.report.nodata ≡ nodata
-  pub report : IsReportOf SEAM_DEPTH (window_at origin p g ps) a.report
-  pub verdict : IsJudgedVerdict nodata origin p g ps a.verdict
+pub record IsAnswerOn (nodata : NoDataNumbers) (origin : Cell) (p : Place) (g : Grid) (ps : Products) (v : Verdict) (r : Report) : Type 0 where
+  pub nodata_is : r.nodata ≡ nodata
+  pub report : IsReportOf SEAM_DEPTH (window_at origin p g ps) r
+  pub verdict : IsJudgedVerdict nodata origin p g ps v
+
+-- what is handed over names the tiles of the inputs
+pub record IsOfTiles (i : Inputs) (a : WindowReport) : Type 0 where
+  pub side : a.side ≡ i.side
+  pub tiles : a.tiles.items ≡ i.corners
+
+-- the verdict and the report are handed over with the side and the tiles of this mosaic, unless memory runs out
+abbrev pub IsWithTiles : Tiling → Verdict → Report → Result WindowReport WindowRefusal → Type 0
+IsWithTiles t v r (Ok a) = (a.side ≡ t.side) × (a.tiles.items ≡ t.corners) × (a.verdict ≡ v) × (a.report ≡ r)
+IsWithTiles t v r (Err refusal) = refusal ≡ OfInputs OutOfMemory
 
 -- the answer to the inputs: no refusal applies, and the window is reported; else the place lies outside the mosaic, or
 -- the refusal is the first that applies
-abbrev pub IsWindowAnswer : Place → Inputs → Result WindowAnswer WindowRefusal → Type 0
+abbrev pub IsWindowAnswer : Place → Inputs → Result WindowReport WindowRefusal → Type 0
 IsWindowAnswer p i (Ok a) =
-    AreReadable i × IsPlaceIn (input_grid i).extent p × IsAnswerOn (nodata_numbers i) (map_origin (tiling_of i)) p (input_grid i) (input_products i) a
+    AreReadable i × IsPlaceIn (input_grid i).extent p × IsOfTiles i a
+    × IsAnswerOn (nodata_numbers i) (map_origin (tiling_of i)) p (input_grid i) (input_products i) a.verdict a.report
 IsWindowAnswer p i (Err (OfInputs refusal)) = IsRefusal i refusal
 IsWindowAnswer p i (Err OutsideMosaic) = ¬ IsPlaceIn (input_grid i).extent p
 
 -- the answer, with a place outside the mosaic as a refusal for which no header is looked at
-abbrev pub as_refused : Result WindowAnswer WindowRefusal → Result WindowAnswer Refusal
+abbrev pub as_refused : Result WindowReport WindowRefusal → Result WindowReport Refusal
 as_refused (Ok a) = Ok a
 as_refused (Err (OfInputs refusal)) = Err refusal
 as_refused (Err OutsideMosaic) = Err BoxTooLarge
 
 -- the same of an answer once the place is known to lie in the mosaic
-abbrev pub IsPlacedAnswer : Place → Inputs → Result WindowAnswer Refusal → Type 0
+abbrev pub IsPlacedAnswer : Place → Inputs → Result (Verdict × Report) Refusal → Type 0
 IsPlacedAnswer p i (Ok a) =
-    AreReadable i × IsAnswerOn (nodata_numbers i) (map_origin (tiling_of i)) p (input_grid i) (input_products i) a
+    AreReadable i × IsAnswerOn (nodata_numbers i) (map_origin (tiling_of i)) p (input_grid i) (input_products i) a.0 a.1
 IsPlacedAnswer p i (Err refusal) = IsRefusal i refusal
 
 -- this holds of the first fault, where the verdict is a rejection

@@ -10,10 +10,11 @@ ghost use Rattle.drain_window.specs.WindowNotes.{AreOfWindow};
 ghost use Rattle.drain_window_walk.specs.SeamRows.{EndsInRange, IsOrigin};
 ghost use Rattle.drain_window_walk.specs.SeamWalks.{IsSeamWalkOf};
 ghost use Rattle.drain_window_walk.specs.WindowWalks.{IsWindowWalkOf};
+ghost use Rattle.drain_windows.specs.Cuts.{window_at};
 ghost use Rattle.drain_windows.specs.Outlets.{IsSortedByLabel};
+ghost use Rattle.drain_windows.specs.Reports.{ListsSinks};
 ghost use Rattle.drain_windows.specs.Windows.{IsPlaceIn};
 
-use crate::window_answer::WindowAnswer;
 use drain_grid::Cell;
 use drain_rules::row_outcome::RowOutcome;
 use drain_rules::tally::Tally;
@@ -23,19 +24,20 @@ use drain_window_walk::{Area, SeamWalk, WindowWalk};
 use drain_windows::{Outlet, Place, Report, sort_by_label};
 use std::alloc::Global;
 
-/// The answer from the notes of all rows of a grid, for the window at this place of it. None if the notes are of
-/// another window, which never happens.
+/// The verdict and the report from the notes of all rows of a grid, for the window at this place of it, and the listed
+/// sinks that it judges. None if the notes are of another window, which never happens.
 pub(crate) fn answered(
     alloc: Global,
     place: &Place,
     origin: Cell,
     walk: WindowWalk,
     seams: SeamWalk,
-) -> Option<WindowAnswer>
+    sinks: Vec<Cell>,
+) -> Option<(Verdict, Report)>
     requires placed { EndsInRange place.now }
     requires moved { IsOrigin origin }
     ensures { IfSome result (λ a. (nodata : NoDataNumbers) (g : Grid) (ps : Products) → IsPlaceIn g.extent place.now → 0 < g.extent.rows
-        → IsWindowWalkOf (record { nodata = nodata; ranks = Ignored }) g ps g.extent.rows walk → IsSeamWalkOf g ps g.extent.rows seams → IsAnswerOn nodata origin place.now g ps a) }
+        → IsWindowWalkOf (record { nodata = nodata; ranks = Ignored }) g ps g.extent.rows walk → IsSeamWalkOf g ps g.extent.rows seams → ListsSinks (window_at origin place.now g ps) sinks.items → IsAnswerOn nodata origin place.now g ps a.0 a.1) }
 {
     // The laws on what the notes say of the window.
     walk_judges_window();
@@ -46,32 +48,32 @@ pub(crate) fn answered(
     let at = place.moved(origin);
     let nodata = walk.nodata;
     match walk.outcome {
-        RowOutcome::Sound(total) => {
-            Some(WindowAnswer {
-                report: Report {
-                    place: at,
-                    nodata,
-                    holds: true,
-                    outlets: sorted(walk.outlets),
-                    seams: seams.seams,
-                },
-                verdict: Verdict::Accepted(counts_of(place, &total)),
-            })
-        }
-        RowOutcome::Faulty(cell, rule) => Some(WindowAnswer {
-            report: Report {
+        RowOutcome::Sound(total) => Some((
+            Verdict::Accepted(counts_of(place, &total)),
+            Report {
+                place: at,
+                nodata,
+                holds: true,
+                outlets: sorted(walk.outlets),
+                seams: seams.seams,
+                sinks,
+            },
+        )),
+        RowOutcome::Faulty(cell, rule) => Some((
+            Verdict::Rejected {
+                rule,
+                row: cell.row.saturating_sub(place.top),
+                col: cell.col.saturating_sub(place.left),
+            },
+            Report {
                 place: at,
                 nodata,
                 holds: false,
                 outlets: Vec::new(alloc),
                 seams: Vec::new(alloc),
+                sinks: Vec::new(alloc),
             },
-            verdict: Verdict::Rejected {
-                rule,
-                row: cell.row.saturating_sub(place.top),
-                col: cell.col.saturating_sub(place.left),
-            },
-        }),
+        )),
     }
 }
 

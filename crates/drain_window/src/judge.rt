@@ -10,23 +10,25 @@ ghost use Rattle.drain_windows.specs.declared.place.TheConstants.{SEAM_DEPTH};
 ghost use Rattle.drain_windows.specs.Reports.{IsReportOf};
 ghost use Rattle.drain_windows.specs.Windows.{IsFirstInside, IsPlaceIn};
 ghost use Rattle.drain_verdict.specs.Uses.{AuditUses};
-ghost use Rattle.drain_window.specs.WindowAnswers.{as_refused, IfRejected, IsPlacedAnswer, IsWindowAnswer, window_of};
+ghost use Rattle.drain_window.specs.WindowAnswers.{as_refused, IfRejected, IsPlacedAnswer, IsWindowAnswer, IsWithTiles, window_of};
 
 use crate::answered::answered;
+use crate::judged_sinks::judged_sinks;
 use crate::map_origin::map_origin;
-use crate::window_answer::{WindowAnswer, WindowRefusal};
+use crate::tile_names::tile_names;
+use crate::window_answer::WindowRefusal;
 use drain_answer::Refusal;
 use drain_device::ByteSource;
 use drain_hgt::TileInput;
 use drain_hgt::laws::one_name;
 use drain_mosaic::Layout;
 use drain_rows::BothVisitors;
-use drain_rules::{GridWalk, Ranks};
+use drain_rules::{GridWalk, Ranks, Verdict};
 use drain_verdict::AuditProducts;
 use drain_verdict::answer::answer_on;
 use drain_verdict::layout::layout_of;
 use drain_window_walk::{Area, SeamWalk, WindowWalk};
-use drain_windows::Place;
+use drain_windows::{Place, Report, WindowReport};
 use std::alloc::Global;
 
 /// Whether the rules hold at the judged cells of one window, with its report; or why that isn't answered.
@@ -42,7 +44,7 @@ pub fn judge_window<R: ByteSource>(
     sinks: &[u8],
     products: &mut AuditProducts<R>,
     place: &Place,
-) -> Result<WindowAnswer, WindowRefusal>
+) -> Result<WindowReport, WindowRefusal>
     // Unless memory ran out or a read failed, the answer is that of the bytes.
     ensures answer { ForAudit R.bytes_left side tiles.old sinks.now products.old (λ inputs. IsWindowAnswer place.now inputs result) }
 
@@ -67,7 +69,7 @@ fn answer_of<R: ByteSource>(
     sinks: &[u8],
     products: &mut AuditProducts<R>,
     place: &Place,
-) -> Result<WindowAnswer, WindowRefusal>
+) -> Result<WindowReport, WindowRefusal>
     ensures answer { ForAudit R.bytes_left side tiles.old sinks.now products.old (λ inputs. IsWindowAnswer place.now inputs result) }
     ensures uses { AuditUses R.bytes_left R.counts side (tiles.old, products.old) (tiles.new, products.new) (as_refused result) }
 {
@@ -87,7 +89,7 @@ fn answer_in<R: ByteSource>(
     tiles: &mut [TileInput<R>],
     products: &mut AuditProducts<R>,
     place: &Place,
-) -> Result<WindowAnswer, WindowRefusal>
+) -> Result<WindowReport, WindowRefusal>
     requires laid { IsLayoutOf layout.now.side (names_of tiles.old) layout.now }
     ensures answer { ForAudit R.bytes_left layout.now.side tiles.old sinks.now products.old (λ inputs. IsWindowAnswer place.now inputs result) }
     ensures uses { AuditUses R.bytes_left R.counts layout.now.side (tiles.old, products.old) (tiles.new, products.new) (as_refused result) }
@@ -98,7 +100,7 @@ fn answer_in<R: ByteSource>(
         return Err(WindowRefusal::OutsideMosaic);
     }
     match answer_at(alloc, layout, sinks, tiles, products, place) {
-        Ok(answer) => Ok(answer),
+        Ok((verdict, report)) => with_tiles(alloc, layout, verdict, report),
         Err(refusal) => Err(WindowRefusal::Inputs(refusal)),
     }
 }
@@ -111,7 +113,7 @@ fn answer_at<R: ByteSource>(
     tiles: &mut [TileInput<R>],
     products: &mut AuditProducts<R>,
     place: &Place,
-) -> Result<WindowAnswer, Refusal>
+) -> Result<(Verdict, Report), Refusal>
     requires laid { IsLayoutOf layout.now.side (names_of tiles.old) layout.now }
     requires placed { IsPlaceIn (extent_of layout.now) place.now }
     ensures answer { ForAudit R.bytes_left layout.now.side tiles.old sinks.now products.old (λ inputs. IsPlacedAnswer place.now inputs result) }
@@ -146,8 +148,31 @@ fn answer_at<R: ByteSource>(
         first: walk,
         second: _,
     } = second;
-    match answered(alloc, place, origin, walk, seams) {
+    let Ok(sinks) = judged_sinks(alloc, sinks, place, origin) else {
+        return Err(Refusal::OutOfMemory);
+    };
+    match answered(alloc, place, origin, walk, seams, sinks) {
         Some(answer) => Ok(answer),
         None => Err(Refusal::OutOfMemory),
+    }
+}
+
+/// What is handed over of a window of this mosaic: the verdict and the report, with the side and the tiles.
+fn with_tiles(
+    alloc: Global,
+    layout: &Layout,
+    verdict: Verdict,
+    report: Report,
+) -> Result<WindowReport, WindowRefusal>
+    ensures { IsWithTiles layout.now verdict report result }
+{
+    match tile_names(alloc, layout) {
+        Ok(tiles) => Ok(WindowReport {
+            side: layout.side(),
+            tiles,
+            verdict,
+            report,
+        }),
+        Err(_) => Err(WindowRefusal::Inputs(Refusal::OutOfMemory)),
     }
 }

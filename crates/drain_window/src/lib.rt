@@ -3,8 +3,12 @@
 
 mod answered;
 pub mod judge;
+mod judged_sinks;
 pub mod map_origin;
+mod tile_names;
 pub mod window_answer;
+pub mod window_lines;
 
 pub use judge::judge_window;
-pub use window_answer::{WindowAnswer, WindowRefusal};
+pub use window_answer::WindowRefusal;
+pub use window_lines::window_line;

@@ -1,17 +1,7 @@
-//! What a run on one window answers.
+//! Why a window isn't judged.
 
 use drain_answer::Refusal;
-use drain_rules::Verdict;
-use drain_windows::Report;
 use thiserror::Error;
-
-/// The report on a window, and the verdict on its judged cells: accepted with the size of the window and the counts of
-/// its judged cells, or rejected with the first fault, in the window's rows and columns.
-#[derive(Drop)]
-pub struct WindowAnswer {
-    pub report: Report,
-    pub verdict: Verdict,
-}
 
 /// Why a window isn't judged.
 #[derive(Clone, Copy, PartialEq, Eq, Debug, Error)]

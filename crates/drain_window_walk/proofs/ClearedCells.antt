@@ -30,6 +30,30 @@ raised-more shown from col past =
     let one_more : col + 1 - from ≡ col - from + 1 = omega arith in
     rw one_more (sum_by-map-range_with_len_more (λ p. cond (shows_raised p) 1 0) shown from (col - from) col (omega arith))
 
+-- those up to a column and those from it on are all
+raised-upto : (shown : ℕ → Patch) (from middle n : ℕ) → from ≤ middle →
+    raised_between shown from (middle + n) ≡ raised_between shown from middle + raised_between shown middle (middle + n)
+raised-upto shown from middle zero past =
+    let same : middle + 0 ≡ middle = omega arith in
+    let none : raised_between shown middle (middle + 0) ≡ 0 = ap (raised_between shown middle) same ∙ raised-none shown middle in
+    let all : raised_between shown from (middle + 0) ≡ raised_between shown from middle = ap (raised_between shown from) same in
+    omega (arith, none, all)
+raised-upto shown from middle (suc n) past =
+    let same : middle + suc n ≡ middle + n + 1 = omega arith in
+    let before = raised-upto shown from middle n past in
+    let first : raised_between shown from (middle + suc n) ≡ raised_between shown from (middle + n) + cond (shows_raised (shown (middle + n))) 1 0 =
+    ap (raised_between shown from) same ∙ raised-more shown from (middle + n) (omega arith) in
+    let second : raised_between shown middle (middle + suc n) ≡ raised_between shown middle (middle + n) + cond (shows_raised (shown (middle + n))) 1 0 =
+    ap (raised_between shown middle) same ∙ raised-more shown middle (middle + n) (omega arith) in
+    omega (arith, before, first, second)
+
+pub raised-split : (shown : ℕ → Patch) (from middle end : ℕ) → from ≤ middle → middle ≤ end →
+    raised_between shown from end ≡ raised_between shown from middle + raised_between shown middle end
+raised-split shown from middle end before behind =
+    let same : middle + (end - middle) ≡ end = omega arith in
+    subst (λ n. raised_between shown from n ≡ raised_between shown from middle + raised_between shown middle n) same
+    (raised-upto shown from middle (end - middle) before)
+
 -- a data cell adds 1 to their count, and one that is no outlet adds none to that of outlets
 counts_one : (z : Option ℤ) → IsSome z → ◌≡◌ {A = ℕ} (cond (is_some z) 1 0) 1
 counts_one z is = ap (λ b. cond b 1 0) is

@@ -89,7 +89,26 @@ fn kept_within<R: PatchRow>(patches: &R, rules: &Rules, from: u32, end: u32) -> 
     }
     Kept {
         end,
-        raised: raised_until(patches, from, end),
+        raised: raised_before(patches, rules, kept, from, end),
+    }
+}
+
+/// How many cells of a run of cleared ones are raised before a column. The run begins at `from`.
+///
+/// A run that begins at this column mostly stops where the other does: then the two counts tell, and no cell is looked
+/// at by its patch.
+fn raised_before<R: PatchRow>(patches: &R, rules: &Rules, run: Kept, from: u32, end: u32) -> u32
+    requires before { from ≤ end }
+    requires beyond { end ≤ run.end }
+    requires within { run.end ≤ R.len patches.now }
+    requires raised { run.raised ≡ raised_between (R.shown patches.now) from run.end }
+    ensures { result ≡ raised_between (R.shown patches.now) from end }
+{
+    let beyond = patches.kept_from(rules, end);
+    if beyond.end == run.end {
+        run.raised - beyond.raised
+    } else {
+        raised_until(patches, from, end)
     }
 }
 

@@ -1,4 +1,5 @@
 pub mod Cuts
+pub mod Judged
 pub mod Laws
 pub mod Outlets
 pub mod Reports

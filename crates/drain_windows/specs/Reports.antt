@@ -1,6 +1,6 @@
 -- What a run on one window hands over, and when reports can be put together.
 -- Source: what each tile of a large raster hands over is its edge (Barnes 2016); these facts are this project's own.
-use Rattle.std.specs.Prelude.{◌≡◌, ◌↔◌, ℕ, ◌+◌, ◌<◌, ◌≤◌, ◌⊎◌, Bool, IsTrue, List, map}
+use Rattle.std.specs.Prelude.{◌≡◌, ◌↔◌, ℕ, ◌+◌, ◌<◌, ◌≤◌, ◌⊎◌, Bool, true, IsTrue, List, map}
 use Rattle.std.specs.List.{Contains, AllPairs}
 use Rattle.drain_grid.specs.declared.cell.Cell.{Cell}
 use Rattle.drain_grid.specs.Size.{Extent}
@@ -10,7 +10,7 @@ use Rattle.drain_grid.specs.Grid.{values_at}
 use Rattle.drain_windows.specs.declared.outlet.Outlet.{Outlet}
 use Rattle.drain_windows.specs.declared.place.Place.{Place}
 use Rattle.drain_windows.specs.declared.report.Shown.{Shown}
-use Rattle.drain_windows.specs.Windows.{Window, in_union, IsPlaceIn, IsJudgedAtSome, RulesHoldInside}
+use Rattle.drain_windows.specs.Windows.{Window, in_union, IsPlaceIn, IsJudgedIn, IsJudgedAtSome, RulesHoldInside}
 use Rattle.drain_windows.specs.Outlets.{ListsOutlets}
 
 -- one of the outermost so many rows or columns of an inner side
@@ -27,14 +27,20 @@ pub record ListsSeams (depth : ℕ) (w : Window) (xs : List Shown) : Type 0 wher
   pub complete : (c : Cell) → IsOnSeam depth w.place c →
       Contains xs (record { cell = in_union w.place c; values = values_at w.grid w.products c })
 
+-- the list holds the union's cell of each listed sink that the window judges, and nothing else
+pub record ListsSinks (w : Window) (xs : List Cell) : Type 0 where
+  pub sound : (x : Cell) → Contains xs x → (c : Cell) × IsJudgedIn w.place c × (w.grid.sink c ≡ true) × (in_union w.place c ≡ x)
+  pub complete : (c : Cell) → IsJudgedIn w.place c → w.grid.sink c ≡ true → Contains xs (in_union w.place c)
+
 -- a report on one window: where it lies, the no-data numbers, whether the rules hold at its judged cells, and where
--- they do, the outlets that it judged and what it shows along its seams
+-- they do, the outlets that it judged, what it shows along its seams, and the listed sinks that it judged
 pub record Report : Type 0 where
   pub place : Place
   pub nodata : NoDataNumbers
   pub holds : Bool
   pub outlets : List Outlet
   pub seams : List Shown
+  pub sinks : List Cell
 
 -- what a run on a window promises of its report: a rejected window is read to its first fault alone
 pub record IsReportOf (depth : ℕ) (w : Window) (r : Report) : Type 0 where
@@ -43,6 +49,7 @@ pub record IsReportOf (depth : ℕ) (w : Window) (r : Report) : Type 0 where
   pub holds : IsTrue r.holds ↔ RulesHoldInside r.nodata w
   pub outlets : IsTrue r.holds → ListsOutlets w r.outlets
   pub seams : IsTrue r.holds → ListsSeams depth w r.seams
+  pub sinks : IsTrue r.holds → ListsSinks w r.sinks
 
 -- two windows overlap along their seams alone
 abbrev pub OverlapInSeams : ℕ → Place → Place → Type 0

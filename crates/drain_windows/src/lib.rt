@@ -5,7 +5,9 @@ pub mod laws;
 pub mod outlet;
 pub mod place;
 pub mod report;
+pub mod window_report;
 
 pub use outlet::{Outlet, first_shared, sort_by_label};
 pub use place::{InnerSides, Place, SEAM_DEPTH};
 pub use report::{Report, Shown};
+pub use window_report::WindowReport;

@@ -1,6 +1,7 @@
 //! Where a window lies.
 
 ghost use Rattle.std.specs.Prelude.{◌≡◌, ◌↔◌, ◌+◌, ◌^◌, ◌<◌, IsTrue};
+ghost use Rattle.drain_windows.specs.Judged.{IsJudgedAlong};
 
 use drain_grid::{Cell, Shape};
 
@@ -27,6 +28,7 @@ pub struct Place {
 }
 
 impl Place {
+    ghost use Rattle.drain_windows.specs.Judged.{IsJudgedAt};
     ghost use Rattle.drain_windows.specs.Reports.{IsOnSeam};
     ghost use Rattle.drain_windows.specs.Windows.{IsPlaceIn, moved};
 
@@ -34,16 +36,43 @@ impl Place {
     pub fn lies_in(&self, shape: Shape) -> bool
         ensures { IsTrue result ↔ IsPlaceIn shape self.now }
     {
+        self.fits(shape.rows(), shape.cols())
+    }
+
+    /// The same of a union of so many rows and columns, which may be more than a shape has.
+    pub fn fits(&self, rows: u32, cols: u32) -> bool
+        ensures { IsTrue result ↔ IsPlaceIn (record { rows = rows; cols = cols }) self.now }
+    {
         let bottom = end_of(self.top, self.extent.rows());
         let right = end_of(self.left, self.extent.cols());
-        let rows = u64::from(shape.rows());
-        let cols = u64::from(shape.cols());
+        let rows = u64::from(rows);
+        let cols = u64::from(cols);
         bottom <= rows
             && right <= cols
             && (self.inner.north || self.top == 0)
             && (self.inner.south || bottom == rows)
             && (self.inner.west || self.left == 0)
             && (self.inner.east || right == cols)
+    }
+
+    /// Whether this cell of the union is judged in the window that lies here.
+    pub fn judges(&self, cell: Cell) -> bool
+        ensures { IsTrue result ↔ IsJudgedAt self.now cell }
+    {
+        let inner = self.inner;
+        judges_along(
+            self.top,
+            self.extent.rows(),
+            inner.north,
+            inner.south,
+            cell.row,
+        ) && judges_along(
+            self.left,
+            self.extent.cols(),
+            inner.west,
+            inner.east,
+            cell.col,
+        )
     }
 
     /// Whether a cell of it lies in one of the outermost so many rows or columns of an inner side.
@@ -76,8 +105,17 @@ impl Place {
     }
 }
 
+/// Whether one of so many rows or columns from the first on, without the outermost one on an inner side, is this one.
+fn judges_along(first: u32, count: u32, inner_before: bool, inner_behind: bool, at: u32) -> bool
+    ensures { IsTrue result ↔ IsJudgedAlong first count inner_before inner_behind at }
+{
+    let end = u64::from(first) + u64::from(count);
+    let here = u64::from(at);
+    first <= at && here < end && (!inner_before || first < at) && (!inner_behind || here + 1 < end)
+}
+
 /// One more than the last of so many rows or columns from the first on.
-fn end_of(first: u32, count: u32) -> u64
+pub fn end_of(first: u32, count: u32) -> u64
     ensures { result ≡ first + count }
 {
     u64::from(first) + u64::from(count)

@@ -13,7 +13,7 @@ pub struct Shown {
 }
 
 /// A report on one window: where it lies, the no-data numbers, whether the rules hold at its judged cells, and if they
-/// do, the outlets there and what it shows along its seams.
+/// do, the outlets there, what it shows along its seams, and the listed sinks there.
 #[derive(Drop)]
 pub struct Report {
     pub place: Place,
@@ -21,6 +21,7 @@ pub struct Report {
     pub holds: bool,
     pub outlets: Vec<Outlet>,
     pub seams: Vec<Shown>,
+    pub sinks: Vec<Cell>,
 }
 
 impl Model for Report {
@@ -28,5 +29,5 @@ impl Model for Report {
 
     ghost Value = { Reports.Report };
 
-    ghost view = { λ r. record { place = r.place; nodata = r.nodata; holds = r.holds; outlets = r.outlets.items; seams = r.seams.items } };
+    ghost view = { λ r. record { place = r.place; nodata = r.nodata; holds = r.holds; outlets = r.outlets.items; seams = r.seams.items; sinks = r.sinks.items } };
 }

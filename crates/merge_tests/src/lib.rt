@@ -2,6 +2,14 @@
 #![tactic(auto)]
 
 #[cfg(test)]
+mod agree;
+#[cfg(test)]
+mod answers;
+#[cfg(test)]
+mod lines;
+#[cfg(test)]
+mod maps;
+#[cfg(test)]
 mod unions;
 #[cfg(test)]
 mod windows;

@@ -1,144 +1,154 @@
 //! Verdicts and refusals of a union of four windows.
 
-use crate::windows::{accepted, at, outlet, rejected};
-use drain_grid::{Cell, Rule};
-use drain_merge::{
-    Clash, Fault, JudgedWindow, MergeRefusal, MergeVerdict, UnionCounts, UnionSize, merge,
-};
-use std::alloc::Global;
+use crate::agree::same_line;
+use crate::answers::{FIRST, merged, merged_on_map};
+use crate::windows::{NE, NW, SE, SIZE, SW, WHOLE, Window};
+use drain_grid::Cell;
+use drain_merge::{UnionSinks, UnionSize};
 use std::test::Fail;
 
-const SIZE: UnionSize = UnionSize { rows: 4, cols: 4 };
-
-fn ensure(is: bool, what: &'static str) -> Result<(), Fail> {
-    if is { Ok(()) } else { Err(Fail::new(what)) }
-}
-
-/// The four windows, whose outlets have these labels.
-fn four(alloc: Global, labels: [i64; 4]) -> Result<Vec<JudgedWindow>, Fail> {
-    let mut windows = Vec::new(alloc);
-    windows.push(accepted(alloc, at(false, false), outlet(labels[0], 0, 0), 7)?)?;
-    windows.push(accepted(alloc, at(false, true), outlet(labels[1], 0, 3), 7)?)?;
-    windows.push(accepted(alloc, at(true, false), outlet(labels[2], 3, 0), 7)?)?;
-    windows.push(accepted(alloc, at(true, true), outlet(labels[3], 3, 3), 7)?)?;
-    Ok(windows)
-}
-
-#[test]
-fn whole(rt: HostRuntime) -> Result<(), Fail> {
-    let windows = four(rt.alloc(), [1, 2, 3, 4])?;
-    let right = Ok(MergeVerdict::Accepted(UnionCounts {
-        rows: 4,
-        cols: 4,
-        data_cells: 16,
-        raised: 4,
-        outlets: 4,
-    }));
-    ensure(
-        merge(rt.alloc(), SIZE, &windows) == right,
-        "the whole union",
-    )
-}
-
-#[test]
-fn label_of_windows_far_apart(rt: HostRuntime) -> Result<(), Fail> {
-    let windows = four(rt.alloc(), [2, 9, 3, 2])?;
-    let right = Ok(MergeVerdict::Rejected(Fault {
-        cell: Cell { row: 3, col: 3 },
-        rule: Rule::SharedLabel,
-    }));
-    ensure(merge(rt.alloc(), SIZE, &windows) == right, "a shared label")
-}
-
-#[test]
-fn first_of_two_labels(rt: HostRuntime) -> Result<(), Fail> {
-    let windows = four(rt.alloc(), [1, 9, 9, 1])?;
-    let right = Ok(MergeVerdict::Rejected(Fault {
-        cell: Cell { row: 3, col: 0 },
-        rule: Rule::SharedLabel,
-    }));
-    ensure(
-        merge(rt.alloc(), SIZE, &windows) == right,
+/// The windows in the order of the list, and the line.
+static UNIONS: [(&str, &[Window], &str); 14] = [
+    ("the whole union", &[NW, NE, SW, SE], WHOLE),
+    ("in another order", &[SE, NW, SW, NE], WHOLE),
+    ("no report", &[], "refused NoReports"),
+    (
+        "counts above 32 bits",
+        &[
+            Window {
+                counts: (4294967295, 4294967295, 4294967295),
+                ..NW
+            },
+            Window {
+                counts: (4294967295, 1, 3000000000),
+                ..NE
+            },
+            SW,
+            SE,
+        ],
+        "accepted rows=4 cols=4 data=8589934598 raised=4294967298 outlets=7294967297",
+    ),
+    (
+        "a label of windows far apart",
+        &[
+            Window { label: 2, ..NW },
+            Window { label: 9, ..NE },
+            SW,
+            Window { label: 2, ..SE },
+        ],
+        "rejected rule=15 SharedLabel row=3 col=3",
+    ),
+    (
         "two shared labels",
-    )
-}
-
-#[test]
-fn first_rejected_window(rt: HostRuntime) -> Result<(), Fail> {
-    let alloc = rt.alloc();
-    let mut windows = Vec::new(alloc);
-    windows.push(accepted(rt.alloc(), at(false, false), outlet(1, 0, 0), 7)?)?;
-    windows.push(rejected(rt.alloc(), at(true, true), 1, 1)?)?;
-    windows.push(rejected(rt.alloc(), at(true, false), 1, 0)?)?;
-    windows.push(accepted(rt.alloc(), at(false, true), outlet(2, 0, 3), 7)?)?;
-    let right = Ok(MergeVerdict::Rejected(Fault {
-        cell: Cell { row: 2, col: 0 },
-        rule: Rule::Slope,
-    }));
-    ensure(
-        merge(rt.alloc(), SIZE, &windows) == right,
-        "rejected windows",
-    )
-}
-
-#[test]
-fn window_left_out(rt: HostRuntime) -> Result<(), Fail> {
-    let alloc = rt.alloc();
-    let mut windows = Vec::new(alloc);
-    windows.push(accepted(rt.alloc(), at(false, false), outlet(1, 0, 0), 7)?)?;
-    windows.push(accepted(rt.alloc(), at(true, false), outlet(3, 3, 0), 7)?)?;
-    windows.push(accepted(rt.alloc(), at(true, true), outlet(4, 3, 3), 7)?)?;
-    let right = Err(MergeRefusal::LeftOut(Cell { row: 0, col: 2 }));
-    ensure(
-        merge(rt.alloc(), SIZE, &windows) == right,
-        "a window left out",
-    )
-}
-
-#[test]
-fn window_given_twice(rt: HostRuntime) -> Result<(), Fail> {
-    let mut windows = four(rt.alloc(), [1, 2, 3, 4])?;
-    windows.push(accepted(rt.alloc(), at(false, true), outlet(2, 0, 3), 7)?)?;
-    let right = Err(MergeRefusal::Overlap(Clash {
-        earlier: 1,
-        later: 4,
-    }));
-    ensure(
-        merge(rt.alloc(), SIZE, &windows) == right,
+        &[
+            NW,
+            Window { label: 9, ..NE },
+            Window { label: 9, ..SW },
+            Window { label: 1, ..SE },
+        ],
+        "rejected rule=15 SharedLabel row=3 col=0",
+    ),
+    (
+        "two rejected windows",
+        &[
+            NW,
+            Window {
+                fault: Some((1, 1)),
+                ..SE
+            },
+            Window {
+                fault: Some((1, 0)),
+                ..SW
+            },
+            NE,
+        ],
+        "rejected rule=10 Slope row=2 col=0",
+    ),
+    (
+        "a rejected window beside a shared label and other seams",
+        &[
+            NW,
+            Window { label: 1, ..NE },
+            Window { acc: 8, ..SW },
+            Window {
+                fault: Some((1, 1)),
+                ..SE
+            },
+        ],
+        "rejected rule=10 Slope row=2 col=2",
+    ),
+    (
+        "other no-data numbers before an overlap",
+        &[NW, NE, Window { void: -9999, ..SW }, NW],
+        "refused OtherNoData 2",
+    ),
+    (
+        "a side where the union goes on",
+        &[NW, NE, SW, Window { south: false, ..SE }],
+        "refused OutsideUnion 3",
+    ),
+    (
         "a window given twice",
-    )
-}
+        &[NW, NE, SW, SE, NE],
+        "refused Overlap 1 4",
+    ),
+    (
+        "a window left out",
+        &[NW, SW, SE],
+        "refused LeftOut row=0 col=2",
+    ),
+    (
+        "seams that differ",
+        &[NW, NE, SW, Window { acc: 8, ..SE }],
+        "refused SeamsDiffer row=1 col=1",
+    ),
+    (
+        "seams that differ before a shared label",
+        &[NW, Window { acc: 8, ..NE }, SW, Window { label: 1, ..SE }],
+        "refused SeamsDiffer row=0 col=1",
+    ),
+];
 
 #[test]
-fn seams_that_differ(rt: HostRuntime) -> Result<(), Fail> {
-    let alloc = rt.alloc();
-    let mut windows = Vec::new(alloc);
-    windows.push(accepted(rt.alloc(), at(false, false), outlet(1, 0, 0), 7)?)?;
-    windows.push(accepted(rt.alloc(), at(false, true), outlet(2, 0, 3), 7)?)?;
-    windows.push(accepted(rt.alloc(), at(true, false), outlet(3, 3, 0), 7)?)?;
-    windows.push(accepted(rt.alloc(), at(true, true), outlet(4, 3, 3), 8)?)?;
-    let right = Err(MergeRefusal::SeamsDiffer(Cell { row: 1, col: 1 }));
-    ensure(
-        merge(rt.alloc(), SIZE, &windows) == right,
-        "seams that differ",
-    )
+fn unions(rt: HostRuntime) -> Result<(), Fail> {
+    for &(case, windows, line) in &UNIONS {
+        let given = merged(rt.alloc(), SIZE, windows)?;
+        same_line(&rt, case, &given, line);
+    }
+    Ok(())
 }
+
+/// Cells of maps at which the union may begin. From the last one it reaches to the greatest numbers of 32 bits.
+static ORIGINS: [(u32, u32); 3] = [(0, 0), (62400, 90001), (4294967292, 4294967292)];
+
+/// Rows and columns of the lines are those of the union, wherever it begins.
+#[test]
+fn unions_on_a_map(rt: HostRuntime) -> Result<(), Fail> {
+    for &(row, col) in &ORIGINS {
+        for &(case, windows, line) in &UNIONS {
+            let origin = Cell { row, col };
+            let sinks = &UnionSinks::AsTaken;
+            let given = merged_on_map(&rt, rt.alloc(), case, origin, windows, sinks)?;
+            same_line(&rt, case, &given, line);
+        }
+    }
+    Ok(())
+}
+
+/// Rows and columns of a union that the four windows don't fill, and the line.
+static SIZES: [(u32, u32, &str); 4] = [
+    (4, 3, "refused OutsideUnion 1"),
+    (4, 5, "refused OutsideUnion 1"),
+    (3, 4, "refused OutsideUnion 2"),
+    (5, 4, "refused OutsideUnion 2"),
+];
 
 #[test]
 fn other_sizes(rt: HostRuntime) -> Result<(), Fail> {
-    let windows = four(rt.alloc(), [1, 2, 3, 4])?;
-    let narrow = UnionSize { rows: 4, cols: 3 };
-    let wide = UnionSize { rows: 4, cols: 5 };
-    ensure(
-        merge(rt.alloc(), narrow, &windows) == Err(MergeRefusal::OutsideUnion(1)),
-        "a union that is too narrow",
-    )?;
-    ensure(
-        merge(rt.alloc(), wide, &windows) == Err(MergeRefusal::OutsideUnion(1)),
-        "a union that is too wide",
-    )?;
-    ensure(
-        merge(rt.alloc(), SIZE, &[]) == Err(MergeRefusal::NoReport),
-        "no report",
-    )
+    for &(rows, cols, line) in &SIZES {
+        let size = UnionSize { rows, cols };
+        let given = merged(rt.alloc(), size, &[NW, NE, SW, SE])?;
+        same_line(&rt, "another size", &given, line);
+    }
+    Ok(())
 }

@@ -1,101 +1,220 @@
 //! The windows of a union of 4 rows and 4 columns: boxes of 3 rows and 3 columns that overlap by two.
 
 use drain_grid::{Cell, CellValues, NoData, Rule, Shape};
-use drain_merge::JudgedWindow;
+use drain_merge::UnionSize;
 use drain_rules::{Counts, Verdict};
-use drain_windows::{InnerSides, Outlet, Place, Report, SEAM_DEPTH, Shown};
-use std::alloc::Global;
+use drain_windows::{InnerSides, Outlet, Place, Report, SEAM_DEPTH, Shown, WindowReport};
+use std::alloc::{AllocError, Global};
 use std::test::Fail;
 
-/// Where a window lies: `south` and `east` say in which row and column of windows.
+/// The size of the union.
+pub const SIZE: UnionSize = UnionSize { rows: 4, cols: 4 };
+
+/// The line of its four windows as they are below.
+pub const WHOLE: &str = "accepted rows=4 cols=4 data=16 raised=4 outlets=4";
+
+/// What a window hands over, in rows and columns of the union.
 #[derive(Clone, Copy)]
-pub struct Position {
+pub struct Window {
+    /// The side of its tiles.
+    pub side: u32,
+    /// The no-data number of its conditioned elevations.
+    pub void: i16,
+    /// Its first row and its first column.
+    pub first: (u32, u32),
+    /// Whether its inner sides are those of a window in the south, or else in the north.
     pub south: bool,
+    /// Whether its inner sides are those of a window in the east, or else in the west.
     pub east: bool,
+    /// The cell of the window at which the slope is wrong, if there is one.
+    pub fault: Option<(u32, u32)>,
+    /// Its data cells, raised cells and outlets.
+    pub counts: (u32, u32, u32),
+    /// The label of its outlet, and the cell.
+    pub label: i64,
+    pub outlet: (u32, u32),
+    /// The accumulation that it shows along its seams.
+    pub acc: i64,
+    /// The listed sinks that it took.
+    pub sinks: &'static [(u32, u32)],
 }
 
-/// The window in this row and column of windows.
-pub fn at(south: bool, east: bool) -> Position {
-    Position { south, east }
+/// The window in the north-west of the union.
+pub const NW: Window = Window {
+    side: 3,
+    void: -32768,
+    first: (0, 0),
+    south: false,
+    east: false,
+    fault: None,
+    counts: (4, 1, 1),
+    label: 1,
+    outlet: (0, 0),
+    acc: 7,
+    sinks: &[],
+};
+
+/// The window in the north-east.
+pub const NE: Window = Window {
+    first: (0, 1),
+    east: true,
+    label: 2,
+    outlet: (0, 3),
+    ..NW
+};
+
+/// The window in the south-west.
+pub const SW: Window = Window {
+    first: (1, 0),
+    south: true,
+    label: 3,
+    outlet: (3, 0),
+    ..NW
+};
+
+/// The window in the south-east.
+pub const SE: Window = Window {
+    first: (1, 1),
+    south: true,
+    east: true,
+    label: 4,
+    outlet: (3, 3),
+    ..NW
+};
+
+/// The reports on these windows of a union that begins at this cell of a map.
+pub fn reports(alloc: Global, origin: Cell, windows: &[Window]) -> Result<Vec<WindowReport>, Fail> {
+    let mut reports = Vec::new(alloc);
+    for window in windows {
+        reports.push(window.report(alloc, origin)?)?;
+    }
+    Ok(reports)
 }
 
-/// What a window hands over that has this outlet, and shows this accumulation along its seams.
-pub fn accepted(
-    alloc: Global,
-    at: Position,
-    outlet: Outlet,
-    acc: i64,
-) -> Result<JudgedWindow, Fail> {
-    let place = place(at)?;
-    let values = CellValues::new(Some(5), false, 5, 1, acc, 1, 0, 0).ok_or("values")?;
+impl Window {
+    /// The report on this window of a union that begins at this cell of a map.
+    fn report(&self, alloc: Global, origin: Cell) -> Result<WindowReport, Fail> {
+        let Some(extent) = Shape::new(3, 3) else {
+            return Err(Fail::new("a shape"));
+        };
+        let first = at(origin, self.first);
+        let place = Place {
+            top: first.row,
+            left: first.col,
+            extent,
+            inner: self.inner(),
+        };
+        let report = match self.fault {
+            None => self.accepted(alloc, origin, place)?,
+            Some(_) => self.rejected(alloc, place),
+        };
+        Ok(WindowReport {
+            side: self.side,
+            tiles: Vec::new(alloc),
+            verdict: self.verdict(),
+            report,
+        })
+    }
+
+    fn inner(&self) -> InnerSides {
+        InnerSides {
+            north: self.south,
+            south: !self.south,
+            west: self.east,
+            east: !self.east,
+        }
+    }
+
+    fn verdict(&self) -> Verdict {
+        let (data_cells, raised, outlets) = self.counts;
+        match self.fault {
+            None => Verdict::Accepted(Counts {
+                rows: 3,
+                cols: 3,
+                data_cells,
+                raised,
+                outlets,
+            }),
+            Some((row, col)) => Verdict::Rejected {
+                rule: Rule::Slope,
+                row,
+                col,
+            },
+        }
+    }
+
+    fn nodata(&self) -> NoData {
+        let mut nodata = NoData::defaults();
+        nodata.con = i64::from(self.void);
+        nodata
+    }
+
+    fn accepted(&self, alloc: Global, origin: Cell, place: Place) -> Result<Report, Fail> {
+        Ok(Report {
+            place,
+            nodata: self.nodata(),
+            holds: true,
+            outlets: self.outlets(alloc, origin)?,
+            seams: seams(alloc, &place, self.acc)?,
+            sinks: cells(alloc, origin, self.sinks)?,
+        })
+    }
+
+    fn rejected(&self, alloc: Global, place: Place) -> Report {
+        Report {
+            place,
+            nodata: self.nodata(),
+            holds: false,
+            outlets: Vec::new(alloc),
+            seams: Vec::new(alloc),
+            sinks: Vec::new(alloc),
+        }
+    }
+
+    fn outlets(&self, alloc: Global, origin: Cell) -> Result<Vec<Outlet>, AllocError> {
+        let mut outlets = Vec::new(alloc);
+        outlets.push(Outlet {
+            label: self.label,
+            cell: at(origin, self.outlet),
+        })?;
+        Ok(outlets)
+    }
+}
+
+/// What a window of 3 rows and 3 columns shows along its seams: this accumulation.
+fn seams(alloc: Global, place: &Place, acc: i64) -> Result<Vec<Shown>, Fail> {
+    let Some(values) = CellValues::new(Some(5), false, 5, 1, acc, 1, 0, 0) else {
+        return Err(Fail::new("values"));
+    };
+    let first = Cell {
+        row: place.top,
+        col: place.left,
+    };
     let mut seams = Vec::new(alloc);
-    for row in 0..3u32 {
-        for col in 0..3u32 {
+    for row in 0..3 {
+        for col in 0..3 {
             if place.is_on_seam(SEAM_DEPTH, Cell { row, col }) {
-                let cell = Cell {
-                    row: row + u32::from(at.south),
-                    col: col + u32::from(at.east),
-                };
+                let cell = at(first, (row, col));
                 seams.push(Shown { cell, values })?;
             }
         }
     }
-    let mut outlets = Vec::new(alloc);
-    outlets.push(outlet)?;
-    let report = Report {
-        place,
-        nodata: NoData::defaults(),
-        holds: true,
-        outlets,
-        seams,
-    };
-    let verdict = Verdict::Accepted(Counts {
-        rows: 3,
-        cols: 3,
-        data_cells: 4,
-        raised: 1,
-        outlets: 1,
-    });
-    Ok(JudgedWindow { report, verdict })
+    Ok(seams)
 }
 
-/// A window in which a rule fails at this cell of it.
-pub fn rejected(alloc: Global, at: Position, row: u32, col: u32) -> Result<JudgedWindow, Fail> {
-    let report = Report {
-        place: place(at)?,
-        nodata: NoData::defaults(),
-        holds: false,
-        outlets: Vec::new(alloc),
-        seams: Vec::new(alloc),
-    };
-    let verdict = Verdict::Rejected {
-        rule: Rule::Slope,
-        row,
-        col,
-    };
-    Ok(JudgedWindow { report, verdict })
-}
-
-/// An outlet of the union.
-pub fn outlet(label: i64, row: u32, col: u32) -> Outlet {
-    Outlet {
-        label,
-        cell: Cell { row, col },
+/// The map's cells of these cells of a union.
+fn cells(alloc: Global, origin: Cell, places: &[(u32, u32)]) -> Result<Vec<Cell>, AllocError> {
+    let mut cells = Vec::new(alloc);
+    for place in places {
+        cells.push(at(origin, *place))?;
     }
+    Ok(cells)
 }
 
-/// The place of a window.
-fn place(at: Position) -> Result<Place, Fail> {
-    let extent = Shape::new(3, 3).ok_or("a shape")?;
-    Ok(Place {
-        top: u32::from(at.south),
-        left: u32::from(at.east),
-        extent,
-        inner: InnerSides {
-            north: at.south,
-            south: !at.south,
-            west: at.east,
-            east: !at.east,
-        },
-    })
+/// The map's cell in this row and column from the first one.
+fn at(first: Cell, (row, col): (u32, u32)) -> Cell {
+    Cell {
+        row: first.row.saturating_add(row),
+        col: first.col.saturating_add(col),
+    }
 }

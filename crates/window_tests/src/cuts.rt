@@ -1,68 +1,41 @@
 //! Two windows of changed products beside an audit of the whole: the same answer.
 
-use crate::inputs::{Slope, products, right_slope, tile};
+use crate::agree::same;
+use crate::inputs::{Inputs, Slope, right_slope};
+use crate::places::{Window, answer};
 use drain_answer::AuditVerdict;
-use drain_grid::Shape;
 use drain_verdict::audit;
-use drain_window::judge_window;
-use drain_windows::{InnerSides, Outlet, Place, first_shared, sort_by_label};
-use std::alloc::{AllocError, Global};
+use drain_windows::{Outlet, first_shared, sort_by_label};
+use std::alloc::Global;
 use std::test::Fail;
 
-/// The upper three rows, and the lower three.
-fn place(top: u32) -> Option<Place> {
-    let extent = Shape::new(3, 4)?;
-    Some(Place {
-        top,
-        left: 0,
-        extent,
-        inner: InnerSides {
-            north: top > 0,
-            south: top == 0,
-            west: false,
-            east: false,
-        },
-    })
-}
-
 /// Whether an audit accepts the whole.
-fn audited(alloc: Global, slope: &Slope) -> Result<bool, AllocError> {
-    let mut tiles = [tile(alloc, slope)?];
-    let mut products = products(alloc, slope)?;
-    match audit(alloc, 4, &mut tiles, b"", &mut products) {
-        Ok(AuditVerdict::Accepted(_)) => Ok(true),
+fn audited(alloc: Global, inputs: &Inputs) -> Result<bool, Fail> {
+    let mut tiles = inputs.tiles(alloc)?;
+    let mut products = inputs.products(alloc)?;
+    match audit(alloc, inputs.side, &mut tiles, b"", &mut products)? {
+        AuditVerdict::Accepted(_) => Ok(true),
         _ => Ok(false),
     }
 }
 
-/// Whether the rules hold in the window that begins at this row; its outlets are put to the others.
+/// Whether the rules hold in this window; its outlets are put to the others.
 fn holds(
     alloc: Global,
-    slope: &Slope,
-    top: u32,
+    inputs: &Inputs,
+    window: Window,
     outlets: &mut Vec<Outlet>,
-) -> Result<bool, AllocError> {
-    let Some(place) = place(top) else {
-        return Ok(false);
-    };
-    let mut tiles = [tile(alloc, slope)?];
-    let mut products = products(alloc, slope)?;
-    match judge_window(alloc, 4, &mut tiles, b"", &mut products, &place) {
-        Ok(answer) => {
-            for outlet in answer.report.outlets.as_slice() {
-                outlets.push(*outlet)?;
-            }
-            Ok(answer.report.holds)
-        }
-        Err(_) => Ok(false),
-    }
+) -> Result<bool, Fail> {
+    let window = answer(alloc, inputs, window)??;
+    outlets.extend_from_slice(&window.report.outlets)?;
+    Ok(window.report.holds)
 }
 
-/// Whether both windows are accepted and no label is shared.
-fn merged(alloc: Global, slope: &Slope) -> Result<bool, AllocError> {
+/// Whether the upper three rows and the lower three are accepted, and no label is shared.
+fn merged(alloc: Global, inputs: &Inputs) -> Result<bool, Fail> {
     let mut outlets = Vec::new(alloc);
-    let upper = holds(alloc, slope, 0, &mut outlets)?;
-    let lower = holds(alloc, slope, 1, &mut outlets)?;
+    let upper = holds(alloc, inputs, (0, 0, 3, 4, "s"), &mut outlets)?;
+    let lower = holds(alloc, inputs, (1, 0, 3, 4, "n"), &mut outlets)?;
     sort_by_label(outlets.as_mut_slice());
     Ok(upper && lower && first_shared(outlets.as_slice()).is_none())
 }
@@ -88,14 +61,13 @@ fn changed(product: u32, cell: usize, number: u8) -> Slope {
 
 #[test]
 fn two_windows_accept_what_an_audit_accepts(rt: HostRuntime) -> Result<(), Fail> {
-    let alloc = rt.alloc();
     for product in 0..4 {
         for cell in 0..16 {
             for number in [0, 1, 2, 4, 9, 255] {
                 let slope = changed(product, cell, number);
-                if audited(alloc, &slope)? != merged(alloc, &slope)? {
-                    return Err(Fail::new("an audit of the whole and two windows"));
-                }
+                let inputs = slope.listing("");
+                let given = merged(rt.alloc(), &inputs)?;
+                same(&rt, "two windows", given, audited(rt.alloc(), &inputs)?);
             }
         }
     }

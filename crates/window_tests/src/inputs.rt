@@ -1,11 +1,66 @@
-//! The slope of 4 by 4 cells as a tile and its products, in bytes.
+//! Tiles and their products, in bytes.
 
 use drain_device::{ByteList, SliceSource};
 use drain_hgt::TileInput;
 use drain_verdict::{AuditProducts, RasterInput};
 use std::alloc::{AllocError, Global};
 
-/// The tile N00E000 of side 4 and its four products, in bytes.
+/// Tiles that all have these samples, their products, and a list of sinks.
+#[derive(Clone, Copy)]
+pub struct Inputs<'a> {
+    pub side: u32,
+    pub names: &'a [&'a str],
+    pub samples: &'a [u8],
+    /// The headers of the conditioned elevations, and of the other rasters.
+    pub headers: (&'a str, &'a str),
+    pub con: &'a [u8],
+    pub dir: &'a [u8],
+    pub acc: &'a [u8],
+    pub bas: &'a [u8],
+    pub sinks: &'a str,
+}
+
+impl<'a> Inputs<'a> {
+    /// The tiles as they are read.
+    pub fn tiles(&self, alloc: Global) -> Result<Vec<TileInput<SliceSource<'a>>>, AllocError> {
+        let mut tiles = Vec::new(alloc);
+        for name in self.names {
+            tiles.push(TileInput {
+                name: list(alloc, name)?,
+                body: SliceSource::new(self.samples),
+            })?;
+        }
+        Ok(tiles)
+    }
+
+    /// The products as they are read.
+    pub fn products(&self, alloc: Global) -> Result<AuditProducts<SliceSource<'a>>, AllocError> {
+        let (of_heights, of_numbers) = self.headers;
+        Ok(AuditProducts {
+            con: raster(alloc, of_heights, self.con)?,
+            dir: raster(alloc, of_numbers, self.dir)?,
+            acc: raster(alloc, of_numbers, self.acc)?,
+            bas: raster(alloc, of_numbers, self.bas)?,
+        })
+    }
+}
+
+fn list(alloc: Global, text: &str) -> Result<ByteList, AllocError> {
+    Ok(ByteList::new(text.as_bytes().to_vec(alloc)?))
+}
+
+fn raster<'a>(
+    alloc: Global,
+    header: &str,
+    body: &'a [u8],
+) -> Result<RasterInput<SliceSource<'a>>, AllocError> {
+    Ok(RasterInput {
+        header: list(alloc, header)?,
+        body: SliceSource::new(body),
+    })
+}
+
+/// The samples of the tile N00E000 of side 4, and the numbers of its four products.
 #[derive(Clone, Copy)]
 pub struct Slope {
     pub tile: [u8; 32],
@@ -32,44 +87,41 @@ pub fn right_slope() -> Slope {
     }
 }
 
-const GRID_16: &[u8] =
-    b"NROWS 4\nNCOLS 4\nULXMAP 0\nULYMAP 1\nXDIM 0.333333333333333\nYDIM 0.333333333333333\nBYTEORDER I\nNBITS 16\nPIXELTYPE SIGNEDINT\n";
+/// The headers of the slope's products.
+const SLOPE_HEADERS: (&str, &str) = (
+    "NROWS 4\nNCOLS 4\nULXMAP 0\nULYMAP 1\nXDIM 0.333333333333333\nYDIM 0.333333333333333\nBYTEORDER I\nNBITS 16\nPIXELTYPE SIGNEDINT\n",
+    "NROWS 4\nNCOLS 4\nULXMAP 0\nULYMAP 1\nXDIM 0.333333333333333\nYDIM 0.333333333333333\nBYTEORDER I\nNBITS 8\n",
+);
 
-const GRID_8: &[u8] =
-    b"NROWS 4\nNCOLS 4\nULXMAP 0\nULYMAP 1\nXDIM 0.333333333333333\nYDIM 0.333333333333333\nBYTEORDER I\nNBITS 8\n";
-
-fn list(alloc: Global, bytes: &[u8]) -> Result<ByteList, AllocError> {
-    Ok(ByteList::new(bytes.to_vec(alloc)?))
+impl Slope {
+    /// The inputs, with this list of sinks.
+    pub fn listing<'a>(&'a self, sinks: &'a str) -> Inputs<'a> {
+        Inputs {
+            side: 4,
+            names: &["N00E000.hgt"],
+            samples: &self.tile,
+            headers: SLOPE_HEADERS,
+            con: &self.con,
+            dir: &self.dir,
+            acc: &self.acc,
+            bas: &self.bas,
+            sinks,
+        }
+    }
 }
 
-fn raster<'a>(
-    alloc: Global,
-    header: &[u8],
-    body: &'a [u8],
-) -> Result<RasterInput<SliceSource<'a>>, AllocError> {
-    Ok(RasterInput {
-        header: list(alloc, header)?,
-        body: SliceSource::new(body),
-    })
-}
-
-/// The tile as it is read.
-pub fn tile<'a>(alloc: Global, slope: &'a Slope) -> Result<TileInput<SliceSource<'a>>, AllocError> {
-    Ok(TileInput {
-        name: list(alloc, b"N00E000.hgt")?,
-        body: SliceSource::new(&slope.tile),
-    })
-}
-
-/// The products as they are read.
-pub fn products<'a>(
-    alloc: Global,
-    slope: &'a Slope,
-) -> Result<AuditProducts<SliceSource<'a>>, AllocError> {
-    Ok(AuditProducts {
-        con: raster(alloc, GRID_16, &slope.con)?,
-        dir: raster(alloc, GRID_8, &slope.dir)?,
-        acc: raster(alloc, GRID_8, &slope.acc)?,
-        bas: raster(alloc, GRID_8, &slope.bas)?,
-    })
-}
+/// Two level tiles of side 2, the eastern one first: 2 rows of 3 outlets.
+pub const LEVEL_TILES: Inputs = Inputs {
+    side: 2,
+    names: &["n00e001.HGT", "N00E000.hgt"],
+    samples: &[0; 8],
+    headers: (
+        "NROWS 2\nNCOLS 3\nULXMAP 0\nULYMAP 1\nXDIM 1\nYDIM 1\nBYTEORDER I\nNBITS 16\nPIXELTYPE SIGNEDINT\n",
+        "NROWS 2\nNCOLS 3\nULXMAP 0\nULYMAP 1\nXDIM 1\nYDIM 1\nBYTEORDER I\nNBITS 8\n",
+    ),
+    con: &[0; 12],
+    dir: &[0; 6],
+    acc: &[1; 6],
+    bas: &[6, 5, 4, 3, 2, 1],
+    sinks: "",
+};

@@ -1,179 +1,153 @@
-//! Windows of the slope, judged apart.
+//! The lines of windows.
 
-use crate::inputs::{Slope, products, right_slope, tile};
-use drain_grid::{Cell, Rule, Shape};
-use drain_rules::{Counts, Verdict};
-use drain_window::{WindowAnswer, WindowRefusal, judge_window};
-use drain_windows::{InnerSides, Outlet, Place};
-use std::alloc::{AllocError, Global};
+use crate::agree::same_line;
+use crate::inputs::{Inputs, LEVEL_TILES, right_slope};
+use crate::places::{Window, answer};
+use drain_window::window_line;
+use std::alloc::Global;
+use std::process::Abort;
 use std::test::Fail;
 
-const NONE: InnerSides = InnerSides {
-    north: false,
-    south: false,
-    west: false,
-    east: false,
-};
-
-const SOUTH: InnerSides = InnerSides {
-    north: false,
-    south: true,
-    west: false,
-    east: false,
-};
-
-const NORTH: InnerSides = InnerSides {
-    north: true,
-    south: false,
-    west: false,
-    east: false,
-};
-
-const EAST: InnerSides = InnerSides {
-    north: false,
-    south: false,
-    west: false,
-    east: true,
-};
-
-const WEST: InnerSides = InnerSides {
-    north: false,
-    south: false,
-    west: true,
-    east: false,
-};
-
-fn ensure(is: bool, what: &'static str) -> Result<(), Fail> {
-    if is { Ok(()) } else { Err(Fail::new(what)) }
-}
-
-fn place(top: u32, left: u32, rows: u32, cols: u32, inner: InnerSides) -> Option<Place> {
-    let extent = Shape::new(rows, cols)?;
-    Some(Place {
-        top,
-        left,
-        extent,
-        inner,
-    })
-}
-
-fn judged(
+/// Fails the test if the answer to a window isn't this line.
+fn tells(
+    rt: &impl Abort,
     alloc: Global,
-    slope: &Slope,
-    place: &Place,
-) -> Result<Result<WindowAnswer, WindowRefusal>, AllocError> {
-    let mut tiles = [tile(alloc, slope)?];
-    let mut products = products(alloc, slope)?;
-    Ok(judge_window(alloc, 4, &mut tiles, b"", &mut products, place))
+    inputs: &Inputs,
+    window: Window,
+    line: &str,
+) -> Result<(), Fail> {
+    let answer = answer(alloc, inputs, window)?;
+    same_line(rt, line, &window_line(&answer), line);
+    Ok(())
 }
 
-fn accepted(rows: u32, cols: u32, data_cells: u32, outlets: u32) -> Option<Verdict> {
-    Some(Verdict::Accepted(Counts {
-        rows,
-        cols,
-        data_cells,
-        raised: 0,
-        outlets,
-    }))
-}
+/// Windows of the slope, each with its line. The counts of two that overlap by two rows, or by two columns, add up to
+/// those of the whole.
+static RIGHT: [(Window, &str); 9] = [
+    (
+        (0, 0, 4, 4, ""),
+        "accepted rows=4 cols=4 data=16 raised=0 outlets=4",
+    ),
+    (
+        (0, 0, 3, 4, "s"),
+        "accepted rows=3 cols=4 data=8 raised=0 outlets=2",
+    ),
+    (
+        (1, 0, 3, 4, "n"),
+        "accepted rows=3 cols=4 data=8 raised=0 outlets=2",
+    ),
+    (
+        (0, 0, 4, 3, "e"),
+        "accepted rows=4 cols=3 data=8 raised=0 outlets=0",
+    ),
+    (
+        (0, 1, 4, 3, "w"),
+        "accepted rows=4 cols=3 data=8 raised=0 outlets=4",
+    ),
+    // One judged cell, and none.
+    (
+        (1, 1, 3, 3, "nesw"),
+        "accepted rows=3 cols=3 data=1 raised=0 outlets=0",
+    ),
+    (
+        (1, 1, 2, 2, "nesw"),
+        "accepted rows=2 cols=2 data=0 raised=0 outlets=0",
+    ),
+    // A side where the union ends has to be the mosaic's edge.
+    ((0, 0, 3, 4, ""), "refused BadBox"),
+    ((2, 0, 3, 4, "n"), "refused BadBox"),
+];
 
-fn verdict(
-    alloc: Global,
-    slope: &Slope,
-    place: Option<Place>,
-) -> Result<Option<Verdict>, AllocError> {
-    let Some(place) = place else {
-        return Ok(None);
-    };
-    match judged(alloc, slope, &place)? {
-        Ok(answer) => Ok(Some(answer.verdict)),
-        Err(_) => Ok(None),
-    }
-}
-
-/// The counts of two windows that overlap by two rows, or by two columns, add up to those of the whole.
 #[test]
-fn accepts_windows_of_right_products(rt: HostRuntime) -> Result<(), Fail> {
-    let alloc = rt.alloc();
+fn windows_of_right_products(rt: HostRuntime) -> Result<(), Fail> {
     let right = right_slope();
-    let cases = [
-        (place(0, 0, 4, 4, NONE), accepted(4, 4, 16, 4)),
-        (place(0, 0, 3, 4, SOUTH), accepted(3, 4, 8, 2)),
-        (place(1, 0, 3, 4, NORTH), accepted(3, 4, 8, 2)),
-        (place(0, 0, 4, 3, EAST), accepted(4, 3, 8, 0)),
-        (place(0, 1, 4, 3, WEST), accepted(4, 3, 8, 4)),
-        // A side where the union ends has to be the mosaic's edge.
-        (place(0, 0, 3, 4, NONE), None),
-        (place(2, 0, 3, 4, NORTH), None),
-    ];
-    for (place, expected) in cases {
-        let given = verdict(alloc, &right, place)?;
-        ensure(given == expected, "the verdict on a window")?;
+    for &(window, line) in &RIGHT {
+        tells(&rt, rt.alloc(), &right.listing(""), window, line)?;
     }
     Ok(())
 }
 
-/// One number changed: the window that judges its cell rejects it there, and the other one doesn't look at it.
+/// The same where the accumulation of the cell in row 1 and column 3 is wrong: the window that judges it rejects it
+/// there, in its own rows and columns, and the other one doesn't look at it.
+static WRONG: [(Window, &str); 4] = [
+    (
+        (0, 0, 3, 4, "s"),
+        "rejected rule=13 Accumulation row=1 col=3",
+    ),
+    (
+        (1, 0, 3, 4, "n"),
+        "accepted rows=3 cols=4 data=8 raised=0 outlets=2",
+    ),
+    (
+        (0, 0, 4, 3, "e"),
+        "accepted rows=4 cols=3 data=8 raised=0 outlets=0",
+    ),
+    (
+        (0, 1, 4, 3, "w"),
+        "rejected rule=13 Accumulation row=1 col=2",
+    ),
+];
+
 #[test]
-fn rejects_in_the_window_that_judges_the_cell(rt: HostRuntime) -> Result<(), Fail> {
-    let alloc = rt.alloc();
+fn windows_of_a_wrong_product(rt: HostRuntime) -> Result<(), Fail> {
     let mut wrong = right_slope();
     wrong.acc[7] = 5;
-    let rejected = Some(Verdict::Rejected {
-        rule: Rule::Accumulation,
-        row: 1,
-        col: 3,
-    });
-    let north = verdict(alloc, &wrong, place(0, 0, 3, 4, SOUTH))?;
-    ensure(north == rejected, "the northern window")?;
-    let south = verdict(alloc, &wrong, place(1, 0, 3, 4, NORTH))?;
-    ensure(south == accepted(3, 4, 8, 2), "the southern window")?;
-    let beside = verdict(alloc, &wrong, place(0, 1, 4, 3, WEST))?;
-    let there = Some(Verdict::Rejected {
-        rule: Rule::Accumulation,
-        row: 1,
-        col: 2,
-    });
-    ensure(beside == there, "the eastern window, in its own columns")
+    for &(window, line) in &WRONG {
+        tells(&rt, rt.alloc(), &wrong.listing(""), window, line)?;
+    }
+    Ok(())
 }
 
-/// The tile begins 89 degrees south of the pole and 180 degrees east of the antimeridian, 3 cells each.
+/// Inputs that an audit refuses, each with its line.
+static REFUSED: [(Inputs, &str); 6] = [
+    (
+        Inputs {
+            side: 1,
+            ..LEVEL_TILES
+        },
+        "refused BadSide",
+    ),
+    (
+        Inputs {
+            names: &["N00E001.hgt", "N00E000"],
+            ..LEVEL_TILES
+        },
+        "refused BadName 1",
+    ),
+    (
+        Inputs {
+            names: &[],
+            ..LEVEL_TILES
+        },
+        "refused NoTiles",
+    ),
+    (
+        Inputs {
+            con: &[0; 11],
+            ..LEVEL_TILES
+        },
+        "refused RasterShort con",
+    ),
+    (
+        Inputs {
+            sinks: "0 0\nx",
+            ..LEVEL_TILES
+        },
+        "refused BadSinkLine 2",
+    ),
+    (
+        Inputs {
+            sinks: "0 0\n\n2 0",
+            ..LEVEL_TILES
+        },
+        "refused SinkNotData 3",
+    ),
+];
+
 #[test]
-fn reports_outlets_and_seams(rt: HostRuntime) -> Result<(), Fail> {
-    let alloc = rt.alloc();
-    let right = right_slope();
-    let Some(place) = place(1, 0, 3, 4, NORTH) else {
-        return ensure(false, "a place");
-    };
-    match judged(alloc, &right, &place)? {
-        Ok(answer) => reports(&answer),
-        Err(_) => ensure(false, "a report"),
+fn inputs_that_an_audit_refuses(rt: HostRuntime) -> Result<(), Fail> {
+    for (inputs, line) in &REFUSED {
+        tells(&rt, rt.alloc(), inputs, (0, 0, 2, 2, "e"), line)?;
     }
-}
-
-fn reports(answer: &WindowAnswer) -> Result<(), Fail> {
-    let report = &answer.report;
-    ensure(report.holds, "the rules hold")?;
-    ensure(report.place.top == 268, "the row on the map")?;
-    ensure(report.place.left == 540, "the column on the map")?;
-    let first = Outlet {
-        label: 1,
-        cell: Cell { row: 270, col: 543 },
-    };
-    let second = Outlet {
-        label: 8,
-        cell: Cell { row: 269, col: 543 },
-    };
-    ensure(
-        report.outlets.as_slice() == [first, second].as_slice(),
-        "outlets by label",
-    )?;
-    ensure(report.seams.len() == 8, "two rows of seams")?;
-    match report.seams.get(5) {
-        Some(shown) => {
-            ensure(shown.cell == Cell { row: 269, col: 541 }, "a seam's cell")?;
-            ensure(shown.values.acc == 2, "and its accumulation")
-        }
-        None => ensure(false, "a cell of a seam"),
-    }
+    Ok(())
 }

@@ -48,7 +48,7 @@ fn derived_of_files(
         Ok(files) => files,
         Err(fault) => return Err(print_open_fault(opener.rt(), fault, out)),
     };
-    if let Some(status) = print_overwriting(opener, outputs) {
+    if let Some(status) = print_overwriting(opener, "the products", outputs) {
         return Err(status);
     }
     let OpenFiles {

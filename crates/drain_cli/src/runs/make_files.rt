@@ -64,7 +64,7 @@ fn made_of_files<'a>(
         Ok(sinks) => sinks,
         Err(fault) => return Err(print_open_fault(opener.rt(), fault, out)),
     };
-    if let Some(status) = print_overwriting(opener, outputs) {
+    if let Some(status) = print_overwriting(opener, "the products", outputs) {
         return Err(status);
     }
     make_set_followed(

@@ -1,9 +1,20 @@
-use Rattle.std.proofs.Common.{ap, ◌∙◌}
-use Rattle.drain_merge.specs.MapBoxes.{box_of}
+use Rattle.std.proofs.Common.{List, ap, subst, ◌∙◌}
+use Rattle.std.proofs.lemmas.Result.{err_from_is_err_and}
+use Rattle.drain_windows.specs.declared.window_report.WindowReport.{WindowReport}
+use Rattle.drain_merge.specs.MapBoxes.{box_of, HaveOneSide}
 use Rattle.drain_merge.proofs.MapRefusals.{map_refusal}
+use Rattle.drain_merge.proofs.TakenSinks.{map_sinks}
 use Rattle.drain_merge.proofs.map_merge.merge_on_map.Goals as goal
 
-pub returns-clause-refusal : goal.returns-clause-refusal
-returns-clause-refusal c =
-    map_refusal c.args.windows.items c.deref-2.result.now c.union_box-bounds.result c.in-Err.refusal (c.union_box-bounds.ensures ∙ ap box_of c.deref.ensures.value)
-    (c.deref-2.ensures.value ∙ c.in_ok-moved.ensures) c.in-Err.ensures.refusal
+pub returns-in_err-verdict-clause-refusal : goal.returns-in_err-verdict-clause-refusal
+returns-in_err-verdict-clause-refusal c =
+    let told = err_from_is_err_and c.from_residual-in_err-verdict.result c.from_residual-in_err-verdict.ensures.1 in
+    let one = subst (λ (ws : List WindowReport). HaveOneSide ws) c.deref.ensures.value c.in_ok-check_sides.ensures.one in
+    rw (told.1, told.2) (map_refusal c.args.sinks.now c.args.windows.items c.deref-3.result.now c.union_box-bounds.result c.in_err-verdict.field-0.0 one
+    (c.union_box-bounds.ensures ∙ ap box_of c.deref-2.ensures.value) (c.deref-3.ensures.value ∙ c.in_ok-moved.ensures) c.in_err-verdict.ensures.refusal)
+
+pub returns-clause-sinks : goal.returns-clause-sinks
+returns-clause-sinks c =
+    map_sinks c.args.sinks.now c.args.windows.items c.deref-3.result.now c.union_box-bounds.result c.in_ok-verdict.verdict
+    (c.union_box-bounds.ensures ∙ ap box_of c.deref-2.ensures.value) (c.deref-3.ensures.value ∙ c.in_ok-moved.ensures) c.in_ok-verdict.ensures.means
+    c.in_ok-verdict.ensures.taken

@@ -7,7 +7,7 @@ use Rattle.drain_window.proofs.WindowReports.{fault_in_window, nodata_is, of_win
 use Rattle.drain_window.proofs.answered.answered.Goals as goal
 
 pub returns-in-Sound : goal.returns-in-Sound
-returns-in-Sound c = λ nodata g ps placed some walked listed.
+returns-in-Sound c = λ nodata g ps placed some walked listed sinks.
     let judges = c.walk_judges_window.ensures in
     let lists = c.walk_lists_seams.ensures in
     let p = c.args.place.now in
@@ -23,9 +23,10 @@ returns-in-Sound c = λ nodata g ps placed some walked listed.
         holds = true;
         outlets = c.sorted.result.items;
         seams = c.args.seams.seams.items;
+        sinks = c.args.sinks.items;
       })) (sym c.moved-at.ensures)
-          (report_sound nodata c.args.walk.nodata c.args.origin p g ps c.args.walk.outlets.items c.sorted.result.items c.args.seams.seams.items c.in-Sound.total at found
-          c.sorted.ensures.sorted c.sorted.ensures.permutation (seams_are judges lists nodata c.args.origin p g ps c.args.walk c.args.seams of placed some walked listed));
+          (report_sound nodata c.args.walk.nodata c.args.origin p g ps c.args.walk.outlets.items c.sorted.result.items c.args.seams.seams.items c.args.sinks.items c.in-Sound.total at found
+          c.sorted.ensures.sorted c.sorted.ensures.permutation (seams_are judges lists nodata c.args.origin p g ps c.args.walk c.args.seams of placed some walked listed) sinks);
       verdict = (
         found.0,
         record {
@@ -39,7 +40,7 @@ returns-in-Sound c = λ nodata g ps placed some walked listed.
     }
 
 pub returns-in-Faulty : goal.returns-in-Faulty
-returns-in-Faulty c = λ nodata g ps placed some walked listed.
+returns-in-Faulty c = λ nodata g ps placed some walked listed sinks.
     let judges = c.walk_judges_window.ensures in
     let lists = c.walk_lists_seams.ensures in
     let p = c.args.place.now in
@@ -54,9 +55,10 @@ returns-in-Faulty c = λ nodata g ps placed some walked listed.
         holds = false;
         outlets = c.new.result.items;
         seams = c.new-in-Faulty.result.items;
+        sinks = c.new-in-Faulty-2.result.items;
       })) (sym c.moved-at.ensures)
           (report_faulty nodata c.args.walk.nodata c.args.origin p g ps c.args.walk.outlets.items c.in-Faulty.cell c.in-Faulty.rule c.new.result.items
-          c.new-in-Faulty.result.items at found);
+          c.new-in-Faulty.result.items c.new-in-Faulty-2.result.items at found);
       verdict = fault_in_window nodata c.args.origin p g ps c.args.walk.outlets.items c.in-Faulty.cell c.in-Faulty.rule c.saturating_sub.result
           c.saturating_sub-in-Faulty.result c.saturating_sub.ensures c.saturating_sub-in-Faulty.ensures found;
     }

@@ -1,10 +1,12 @@
-use Rattle.std.proofs.Common.{◌≡◌, ◌<◌, ◌∙◌, Ok, Err, ap, subst, arith, rules}
+use Rattle.std.proofs.Common.{◌≡◌, ℕ, ◌<◌, ◌∙◌, List, Ok, Err, ap, subst, arith, rules}
 use Rattle.std.proofs.lemmas.Result.{err_from_is_err_and}
 use Rattle.drain_grid.specs.declared.cell.Cell.{Cell}
 use Rattle.drain_grid.specs.Size.{Extent, IsExtent}
+use Rattle.drain_grid.specs.SinkLines.{is_listed}
+use Rattle.drain_grid.specs.SinkTexts.{sinks_of}
 use Rattle.drain_mosaic.specs.Tiling.{extent_of}
 use Rattle.drain_verdict.specs.AuditInputs.{with_con_for_ranks}
-use Rattle.drain_verdict.specs.Meaning.{input_grid, input_products, nodata_numbers}
+use Rattle.drain_verdict.specs.Meaning.{input_grid, input_products, lines_in, nodata_numbers}
 use Rattle.drain_answer.specs.declared.refusal.Refusal.TheVariants.{OutOfMemory}
 use Rattle.drain_verdict.proofs.AuditDevices.{failed_alike, none_alike}
 use Rattle.drain_verdict.proofs.StartAnswers.{layout_of_inputs}
@@ -42,11 +44,12 @@ returns-in-Some-clause-answer g c = λ inputs tell.
     let some : 0 < (input_grid inputs).extent.rows = omega (arith, fits.some_row) in
     let placed = subst (λ (e : Extent). IsPlaceIn e c.args.place.now) (ap extent_of is) c.requires.placed in
     let noted = c.in_ok-_of_all.ensures.noted inputs tell in
+    let listed = c.in-Ok.ensures (input_grid inputs) (input_products inputs) (ap (λ (text : List ℕ). is_listed (lines_in (sinks_of text))) tell.sinks_are) in
     let answer = c.in_ok-_of_all.ensures.answer inputs tell in (
       answer.0,
-      subst (λ (o : Cell). IsAnswerOn (nodata_numbers inputs) o c.args.place.now (input_grid inputs) (input_products inputs) c.in-Some.answer)
+      subst (λ (o : Cell). IsAnswerOn (nodata_numbers inputs) o c.args.place.now (input_grid inputs) (input_products inputs) c.in-Some.answer.0 c.in-Some.answer.1)
           (c.map_origin-origin.ensures.origin ∙ ap map_origin is)
-          (c.in-Some.ensures (nodata_numbers inputs) (input_grid inputs) (input_products inputs) placed some noted.1.0 noted.0),
+          (c.in-Some.ensures (nodata_numbers inputs) (input_grid inputs) (input_products inputs) placed some noted.1.0 noted.0 listed),
     )
 
 pub returns-in-Some-clause-uses : goal.returns-in-Some-clause-uses
@@ -56,5 +59,10 @@ returns-in-Some-clause-uses g c =
 
 pub returns-clause-uses : goal.returns-clause-uses
 returns-clause-uses g c =
+    four_used g.R.ByteSource.bytes_left g.R.ByteSource.counts c.args.layout.now.side (c.args.tiles.now, c.args.products.now) (c.answer_on.new.tiles, c.answer_on.new.products)
+    (Ok c.in_ok-_of_all._of_all) (Err OutOfMemory) (memory_alike c.in_ok-_of_all._of_all) (λ not. absurd (not tt)) c.in_ok-_of_all.ensures.uses
+
+pub returns-in_default-clause-uses : goal.returns-in_default-clause-uses
+returns-in_default-clause-uses g c =
     four_used g.R.ByteSource.bytes_left g.R.ByteSource.counts c.args.layout.now.side (c.args.tiles.now, c.args.products.now) (c.answer_on.new.tiles, c.answer_on.new.products)
     (Ok c.in_ok-_of_all._of_all) (Err OutOfMemory) (memory_alike c.in_ok-_of_all._of_all) (λ not. absurd (not tt)) c.in_ok-_of_all.ensures.uses

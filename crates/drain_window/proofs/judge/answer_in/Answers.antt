@@ -6,7 +6,9 @@ use Rattle.drain_verdict.specs.AuditInputs.{audit_devices, with_con_for_ranks}
 use Rattle.drain_verdict.proofs.StartAnswers.{layout_of_inputs}
 use Rattle.drain_verdict.proofs.Uses.{uses_none}
 use Rattle.drain_windows.specs.Windows.{IsPlaceIn}
-use Rattle.drain_window.proofs.WindowVerdicts.{outside_reads_none}
+use Rattle.drain_verdict.proofs.AuditDevices.{failed_alike}
+use Rattle.drain_window.proofs.WindowUses.{used_again, with_tiles_uses}
+use Rattle.drain_window.proofs.WindowVerdicts.{outside_reads_none, with_tiles_answer}
 use Rattle.drain_window.proofs.judge.answer_in.Goals as goal
 
 pub returns-then-not-lies_in-clause-answer : goal.returns-then-not-lies_in-clause-answer
@@ -27,4 +29,14 @@ returns-in-Ok-clause-answer g c = λ inputs tell.
     (with_con_for_ranks c.args.products.now) inputs c.args.layout.now tell c.requires.laid in
     let placed = subst (λ (e : Extent). IsPlaceIn e c.args.place.now) (c.shape.ensures ∙ ap extent_of is) (c.if-not-lies_in.ensures.0 refl) in
     let answer = c.in-Ok.ensures.answer inputs tell in
-    (answer.0, placed, answer.1)
+    with_tiles_answer c.args.layout.now c.in-Ok.verdict c.in-Ok.report c.with_tiles.result c.with_tiles.ensures c.args.place.now inputs is answer.0 placed answer.1
+
+pub returns-in-Ok-clause-uses : goal.returns-in-Ok-clause-uses
+returns-in-Ok-clause-uses g c =
+    with_tiles_uses g.R.ByteSource.bytes_left g.R.ByteSource.counts c.args.layout.now.side (c.args.tiles.now, c.args.products.now) (c.answer_at.new.tiles, c.answer_at.new.products)
+    c.args.layout.now c.in-Ok.verdict c.in-Ok.report c.with_tiles.result c.with_tiles.ensures c.in-Ok.ensures.uses
+
+pub returns-in-Err-clause-uses : goal.returns-in-Err-clause-uses
+returns-in-Err-clause-uses g c =
+    used_again g.R.ByteSource.bytes_left g.R.ByteSource.counts c.args.layout.now.side (c.args.tiles.now, c.args.products.now) (c.answer_at.new.tiles, c.answer_at.new.products)
+    (Err c.in-Err.refusal) (Err c.in-Err.refusal) (failed_alike c.in-Err.refusal) c.in-Err.ensures.uses.untouched c.in-Err.ensures.uses

@@ -1,0 +1,31 @@
+-- A set of cells in an order of cells: what an insertion adds.
+use Rattle.std.proofs.Common.{◌≡◌, ◌||◌, Bool, true, false, cond, Ordering, List, [], ◌∷◌, refl, sym, ap, ◌∙◌, arith}
+use Rattle.std.specs.List.{list_any}
+use Rattle.std.specs.Ordering.{is_eq}
+use Rattle.std.specs.BTreeMap.{is_at}
+use Rattle.std.specs.BTreeSet.{BTreeSet, Updates}
+use Rattle.std.proofs.lemmas.Bool.Decides.{nat_tests}
+use Rattle.drain_grid.specs.declared.cell.Cell.{Cell}
+use Rattle.drain_grid.specs.Extent.{same_cell}
+use Rattle.drain_merge.specs.UnionSinks.{has_cell}
+
+-- in the order two cells are equal exactly where they are one
+module _ (cmp : Cell → Cell → Ordering) (one : (a b : Cell) → is_eq (cmp a b) ≡ same_cell a b) where
+  among : (q : Cell) (keys : List Cell) → list_any (is_at (cmp q)) keys ≡ has_cell keys q
+  among q [] = refl
+  among q (k ∷ keys) = ap (λ b. b || list_any (is_at (cmp q)) keys) (one q k) ∙ ap (λ b. same_cell q k || b) (among q keys)
+
+  either : (here same : Bool) (there : Bool) → here ≡ same → cond here true there ≡ (same || there)
+  either true true there is = refl
+  either false false there is = refl
+  either true false there is = absurd (cc)
+  either false true there is = absurd (cc)
+
+  turned : (a b : Cell) → same_cell a b ≡ same_cell b a
+  turned a b = grind (arith, nat_tests)
+
+  -- after an insertion the new cell is among them, and those that were
+  pub inserted : (old new : BTreeSet Cell) (key : Cell) → Updates cmp old new key true → (q : Cell) → has_cell new.keys q ≡ (same_cell q key || has_cell old.keys q)
+  inserted old new key updates q =
+      sym (among q new.keys) ∙ updates.0 q ∙ either (is_at (cmp key) q) (same_cell q key) (list_any (is_at (cmp q)) old.keys) (one key q ∙ turned key q)
+      ∙ ap (λ b. same_cell q key || b) (among q old.keys)

@@ -1,0 +1,65 @@
+-- The sinks of a union, and those that its windows took. These definitions are this project's own.
+use Rattle.std.specs.Prelude.{◌≡◌, ℕ, ◌<◌, Bool, true, false, Option, Some, None, List, slice_get}
+use Rattle.std.specs.List.{list_any}
+use Rattle.drain_grid.specs.declared.cell.Cell.{Cell}
+use Rattle.drain_grid.specs.declared.sink_line.SinkLine.{SinkLine}
+use Rattle.drain_grid.specs.Extent.{IsCellOf, same_cell}
+use Rattle.drain_grid.specs.Grid.{Grid}
+use Rattle.drain_grid.specs.SinkLines.{is_listed}
+use Rattle.drain_windows.specs.declared.window_report.WindowReport.{WindowReport}
+use Rattle.drain_merge.specs.declared.merge_verdict.MergeRefusal.{MergeRefusal}
+use Rattle.drain_merge.specs.declared.merge_verdict.MergeRefusal.TheVariants.{SinkLeftOut, SinkNotListed, OutOfMemory}
+use Rattle.drain_merge.specs.declared.union_sinks.UnionSinks.{UnionSinks}
+use Rattle.drain_merge.specs.declared.union_sinks.UnionSinks.TheVariants.{AsTaken, Listed}
+use Rattle.drain_merge.specs.Lists.{all_sinks}
+
+-- it is one of these cells
+abbrev pub has_cell : List Cell → Cell → Bool
+has_cell cells c = list_any (same_cell c) cells
+
+-- each line's cell is one of these
+abbrev pub HaveLines : List SinkLine → List Cell → Type 0
+HaveLines lines cells = (k : ℕ) (s : SinkLine) → slice_get lines k ≡ Some s → has_cell cells s.cell ≡ true
+
+-- each of these cells is listed
+abbrev pub AreListed : List SinkLine → List Cell → Type 0
+AreListed lines cells = (k : ℕ) (c : Cell) → slice_get cells k ≡ Some c → is_listed lines c ≡ true
+
+-- the windows took the sinks of these lines, and no others
+abbrev pub TakeLines : List SinkLine → List WindowReport → Type 0
+TakeLines lines windows = HaveLines lines (all_sinks windows) × AreListed lines (all_sinks windows)
+
+-- the windows took the sinks of the union
+abbrev pub TakeSinks : UnionSinks → List WindowReport → Type 0
+TakeSinks AsTaken windows = Unit {0}
+TakeSinks (Listed lines) windows = TakeLines lines windows
+
+-- the number of the first line whose cell is none of these, none where there is no such line
+abbrev pub IsFirstLeftOut : List SinkLine → List Cell → Option ℕ → Type 0
+IsFirstLeftOut lines cells None = HaveLines lines cells
+IsFirstLeftOut lines cells (Some n) =
+    (k : ℕ) × (s : SinkLine) × (slice_get lines k ≡ Some s) × (s.line ≡ n) × (has_cell cells s.cell ≡ false)
+    × ((j : ℕ) (t : SinkLine) → j < k → slice_get lines j ≡ Some t → has_cell cells t.cell ≡ true)
+
+-- the first of these cells that isn't listed, none where all are
+abbrev pub IsFirstNotListed : List SinkLine → List Cell → Option Cell → Type 0
+IsFirstNotListed lines cells None = AreListed lines cells
+IsFirstNotListed lines cells (Some c) =
+    (k : ℕ) × (slice_get cells k ≡ Some c) × (is_listed lines c ≡ false)
+    × ((j : ℕ) (d : Cell) → j < k → slice_get cells j ≡ Some d → is_listed lines d ≡ true)
+
+-- why windows are refused that took other sinks than those of these lines
+abbrev pub IsListedRefusal : List SinkLine → List WindowReport → MergeRefusal → Type 0
+IsListedRefusal lines windows (SinkLeftOut n) = IsFirstLeftOut lines (all_sinks windows) (Some n)
+IsListedRefusal lines windows (SinkNotListed c) = HaveLines lines (all_sinks windows) × IsFirstNotListed lines (all_sinks windows) (Some c)
+IsListedRefusal lines windows OutOfMemory = Unit {0}
+IsListedRefusal lines windows other = ⊥
+
+abbrev pub IsSinkRefusal : UnionSinks → List WindowReport → MergeRefusal → Type 0
+IsSinkRefusal AsTaken windows refusal = ⊥
+IsSinkRefusal (Listed lines) windows refusal = IsListedRefusal lines windows refusal
+
+-- a grid has these sinks: those of the list, if there is one
+abbrev pub HasSinks : UnionSinks → Grid → Type 0
+HasSinks AsTaken u = Unit {0}
+HasSinks (Listed lines) u = (c : Cell) → IsCellOf u.extent c → u.sink c ≡ is_listed lines c

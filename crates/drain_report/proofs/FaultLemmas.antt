@@ -1,0 +1,132 @@
+-- Line feeds of a text, and where a fault is: each line has one line feed, its last byte.
+use Rattle.std.proofs.Common.{◌≡◌, ℕ, zero, suc, ◌+◌, ◌-◌, ◌^◌, ◌<◌, ◌≤◌, min, inl, inr, Bool, true, false, List, [], ◌∷◌, ◌++◌, ℤ, length, arith, refl, ap, ◌∙◌}
+use Rattle.std.specs.Prelude.{codes}
+use Rattle.std.proofs.lemmas.Bool.{cases_Bool}
+use Rattle.std.proofs.lemmas.Bool.Decides.{nat_tests}
+use Rattle.memchr.specs.Find.{Passes, Nowhere, is_byte}
+use Rattle.drain_hgt.specs.Corner.{Corner}
+use Rattle.drain_hgt.specs.Name.{name_of, spelled}
+use Rattle.std.specs.Fmt.{signed_decimal}
+use Rattle.drain_report.specs.declared.fault.ReportFault.{ReportFault}
+use Rattle.drain_report.specs.declared.fault.ReportFault.TheVariants.{WrongVersion, MissingLine, BadLine, OutOfRange, AfterEnd, OutOfMemory}
+use Rattle.drain_report.specs.declared.head.Head.{Head}
+use Rattle.drain_report.specs.Lines.{AreLong, IsInk, line, spaced}
+use Rattle.drain_report.specs.Facts.{tile_line}
+use Rattle.drain_report.specs.Faults.{line_feeds, IsAt, IsPast, IsLineFault, IsListFault, IsEndFault, HasVersion, FaultFits}
+use Rattle.drain_report.specs.Head.{head_text, version_line}
+use Rattle.drain_report.specs.Contents.{Contents, end_line, report_text}
+use Rattle.drain_report.proofs.NumberLemmas.{signed_ink}
+use Rattle.drain_report.proofs.TextLemmas.{version_first}
+use Rattle.drain_report.proofs.TileLemmas.{tile_split}
+
+pub feeds-append : (xs ys : List ℕ) → line_feeds (xs ++ ys) ≡ line_feeds xs + line_feeds ys
+feeds-append [] ys = omega arith
+feeds-append (x ∷ xs) ys = let more = feeds-append xs ys in omega (arith, more)
+
+-- no byte above the space is a line feed
+pub ink_feeds : (xs : List ℕ) → IsInk xs → line_feeds xs ≡ 0
+ink_feeds [] ink = refl
+ink_feeds (x ∷ xs) ink = let more = ink_feeds xs ink.1 in let above = ink.0 in grind (arith, nat_tests)
+
+spaced_feeds : (ns : List ℤ) → AreLong ns → line_feeds (spaced ns) ≡ 0
+spaced_feeds [] long = refl
+spaced_feeds (n ∷ ns) long =
+    let here = ink_feeds (signed_decimal n) (signed_ink n long.0) in
+    let more = spaced_feeds ns long.1 in
+    let all = feeds-append (signed_decimal n) (spaced ns) in
+    omega (arith, all, here, more)
+
+-- a line of numbers has one
+pub line_feed : (word : List ℕ) (ns : List ℤ) (rest : List ℕ) → line_feeds word ≡ 0 → AreLong ns → line_feeds (line word ns ++ rest) ≡ line_feeds rest + 1
+line_feed word ns rest none long =
+    let all = feeds-append (line word ns) rest in
+    let front = feeds-append word (spaced ns ++ 10 ∷ []) in
+    let numbers = feeds-append (spaced ns) (10 ∷ []) in
+    let few = spaced_feeds ns long in
+    let last : line_feeds (10 ∷ []) ≡ 1 = refl in
+    omega (arith, all, front, numbers, few, none, last)
+
+spelled_ink : (south : Bool) (lat : ℕ) (west : Bool) (lon : ℕ) → IsInk (spelled south lat west lon)
+spelled_ink true lat true lon = (omega arith, (omega arith, (omega arith, (omega arith, (omega arith, (omega arith, (omega arith, (omega arith, (omega arith, (omega arith, (omega arith, tt)))))))))))
+spelled_ink true lat false lon = (omega arith, (omega arith, (omega arith, (omega arith, (omega arith, (omega arith, (omega arith, (omega arith, (omega arith, (omega arith, (omega arith, tt)))))))))))
+spelled_ink false lat true lon = (omega arith, (omega arith, (omega arith, (omega arith, (omega arith, (omega arith, (omega arith, (omega arith, (omega arith, (omega arith, (omega arith, tt)))))))))))
+spelled_ink false lat false lon = (omega arith, (omega arith, (omega arith, (omega arith, (omega arith, (omega arith, (omega arith, (omega arith, (omega arith, (omega arith, (omega arith, tt)))))))))))
+
+-- a tile's line has one
+pub tile_feed : (c : Corner) (rest : List ℕ) → line_feeds (tile_line c ++ rest) ≡ line_feeds rest + 1
+tile_feed c rest =
+    let none = ink_feeds (name_of c) (spelled_ink _ _ _ _) in
+    let name = feeds-append (name_of c) (10 ∷ rest) in
+    let word = feeds-append (codes "tile ") (name_of c ++ 10 ∷ rest) in
+    let last : line_feeds (10 ∷ rest) ≡ 1 + line_feeds rest = refl in
+    let first : line_feeds (codes "tile ") ≡ 0 = refl in
+    ap line_feeds (tile_split c rest) ∙ omega (arith, none, name, word, last, first)
+
+-- the line after one that was read
+pub line_past : (text rest : List ℕ) (feeds n m : ℕ) → line_feeds text ≡ line_feeds rest + 1 → IsAt feeds n text → feeds < 2 ^ 63 → m ≡ min (n + 1) (2 ^ 64 - 1) → IsPast feeds n m rest
+line_past text rest feeds n m one at few is = (omega (arith, one, at, few, is), omega (arith, one, at, few, is))
+
+-- a text without a line feed, and one with one
+pub no_feed : (text : List ℕ) → Nowhere (Passes (is_byte 10) text) 0 (length text) → line_feeds text ≡ 0
+no_feed [] none = refl
+no_feed (x ∷ xs) none =
+    let more = no_feed xs (λ k low less here. none (suc k) (omega arith) (omega arith) here) in
+    elim (cases_Bool (is_byte 10 x)) [
+      | inl is ↦ absurd (none 0 (omega arith) (omega arith) is)
+      | inr other ↦ rw other (omega (arith, more))
+    ]
+
+pub some_feed : (text : List ℕ) (k : ℕ) → k < length text → Passes (is_byte 10) text k → 1 ≤ line_feeds text
+some_feed [] k less here = absurd (omega arith)
+some_feed (x ∷ xs) zero less here = rw here (omega arith)
+some_feed (x ∷ xs) (suc k) less here = let more = some_feed xs k (omega arith) here in omega (arith, more)
+
+-- a fault of a later line
+pub from_later : (feeds first n : ℕ) (fault : ReportFault) → first ≤ n → IsLineFault feeds n fault → IsLineFault feeds first fault
+from_later feeds first n WrongVersion less is = absurd is
+from_later feeds first n (MissingLine k) less is = (omega (arith, is.0), is.1)
+from_later feeds first n (BadLine k) less is = (omega (arith, is.0), is.1)
+from_later feeds first n (OutOfRange k) less is = (omega (arith, is.0), is.1)
+from_later feeds first n AfterEnd less is = absurd is
+from_later feeds first n OutOfMemory less is = absurd is
+
+pub list_later : (feeds first n : ℕ) (fault : ReportFault) → first ≤ n → IsListFault feeds n fault → IsListFault feeds first fault
+list_later feeds first n fault less (inl of_line) = inl (from_later feeds first n fault less of_line)
+list_later feeds first n fault less (inr memory) = inr memory
+
+-- what a fault of a line says of the whole text
+pub line_fits : (text : List ℕ) (n : ℕ) (fault : ReportFault) → HasVersion text → 2 ≤ n → IsLineFault (line_feeds text) n fault → FaultFits text fault
+line_fits text n WrongVersion version least is = absurd is
+line_fits text n (MissingLine k) version least is = (version, from_later (line_feeds text) 2 n (MissingLine k) least is)
+line_fits text n (BadLine k) version least is = (version, from_later (line_feeds text) 2 n (BadLine k) least is)
+line_fits text n (OutOfRange k) version least is = (version, from_later (line_feeds text) 2 n (OutOfRange k) least is)
+line_fits text n AfterEnd version least is = absurd is
+line_fits text n OutOfMemory version least is = absurd is
+
+pub list_fits : (text rest : List ℕ) (head : Head) (n : ℕ) (fault : ReportFault) → text ≡ head_text head ++ rest → 2 ≤ n → IsListFault (line_feeds text) n fault → FaultFits text fault
+list_fits text rest head n fault is least (inl of_line) = line_fits text n fault (version_first text rest head is) least of_line
+list_fits text rest head n fault is least (inr memory) = rw memory (head, rest, is)
+
+pub end_fits : (text rest : List ℕ) (n : ℕ) (fault : ReportFault) (w : Contents) → HasVersion text → 2 ≤ n → ((more : List ℕ) → rest ≡ end_line ++ more → text ≡ report_text w ++ more)
+    → IsEndFault (line_feeds text) n rest fault → FaultFits text fault
+end_fits text rest n fault w version least whole (inl of_line) = line_fits text n fault version least of_line
+end_fits text rest n fault w version least whole (inr goes_on) =
+    let on = goes_on.1 in rw goes_on.0 (w, (on.0, on.1, whole on.0 on.2))
+
+-- the second line
+pub at_two : (text : List ℕ) (n : ℕ) (rest : List ℕ) → text ≡ version_line ++ rest → n ≡ 2 → IsAt (line_feeds text) n rest
+at_two text n rest is second =
+    let all = feeds-append version_line rest in
+    let first : line_feeds version_line ≡ 1 = refl in
+    let same = ap line_feeds is in
+    omega (arith, all, first, same, second)
+
+-- no more line feeds than bytes
+pub few_feeds : (text : List ℕ) → line_feeds text ≤ length text
+few_feeds [] = omega arith
+few_feeds (x ∷ xs) =
+    let more = few_feeds xs in
+    elim (cases_Bool (is_byte 10 x)) [
+      | inl is ↦ rw is (omega (arith, more))
+      | inr other ↦ rw other (omega (arith, more))
+    ]

@@ -1,0 +1,122 @@
+use Rattle.std.proofs.Common.{◌++◌, ◌∙◌, ◌<◌, ◌≤◌, ◌^◌, refl, arith}
+use Rattle.std.specs.Prelude.{codes}
+use Rattle.drain_report.specs.Facts.{count_line, place_line, nodata_line, verdict_line}
+use Rattle.drain_report.specs.Faults.{HasVersion, line_feeds}
+use Rattle.drain_report.specs.Head.{version_line}
+use Rattle.drain_report.proofs.FaultLemmas.{at_two, few_feeds, line_fits}
+use Rattle.drain_report.proofs.TextLemmas.{five_split, read_five, same_head}
+use Rattle.drain_report.proofs.head.read_head.Goals as goal
+
+pub returns-in-Err-clause-back : goal.returns-in-Err-clause-back
+returns-in-Err-clause-back c = λ head rest fit is.
+    let whole = is ∙ five_split version_line (count_line (codes "side") head.side) (place_line head.place) (nodata_line head.nodata) (verdict_line head.verdict) rest in
+    c.in-Err.ensures.back (count_line (codes "side") head.side ++ (place_line head.place ++ (nodata_line head.nodata ++ (verdict_line head.verdict ++ rest)))) whole
+
+pub returns-in-Err-read_count-clause-back : goal.returns-in-Err-read_count-clause-back
+returns-in-Err-read_count-clause-back c = λ head rest fit is.
+    let whole = is ∙ five_split version_line (count_line (codes "side") head.side) (place_line head.place) (nodata_line head.nodata) (verdict_line head.verdict) rest in
+    let after_version = c.in-Ok.ensures.back (count_line (codes "side") head.side ++ (place_line head.place ++ (nodata_line head.nodata ++ (verdict_line head.verdict ++ rest)))) whole in
+    c.in-Err-read_count.ensures.back head.side (place_line head.place ++ (nodata_line head.nodata ++ (verdict_line head.verdict ++ rest))) fit.side after_version
+
+pub returns-in-Err-read_place-clause-back : goal.returns-in-Err-read_place-clause-back
+returns-in-Err-read_place-clause-back c = λ head rest fit is.
+    let whole = is ∙ five_split version_line (count_line (codes "side") head.side) (place_line head.place) (nodata_line head.nodata) (verdict_line head.verdict) rest in
+    let after_version = c.in-Ok.ensures.back (count_line (codes "side") head.side ++ (place_line head.place ++ (nodata_line head.nodata ++ (verdict_line head.verdict ++ rest)))) whole in
+    let side = c.in-Ok-read_count.ensures.back head.side (place_line head.place ++ (nodata_line head.nodata ++ (verdict_line head.verdict ++ rest))) fit.side after_version in
+    c.in-Err-read_place.ensures.back head.place (nodata_line head.nodata ++ (verdict_line head.verdict ++ rest)) fit.place side.1
+
+pub returns-in-Err-read_nodata-clause-back : goal.returns-in-Err-read_nodata-clause-back
+returns-in-Err-read_nodata-clause-back c = λ head rest fit is.
+    let whole = is ∙ five_split version_line (count_line (codes "side") head.side) (place_line head.place) (nodata_line head.nodata) (verdict_line head.verdict) rest in
+    let after_version = c.in-Ok.ensures.back (count_line (codes "side") head.side ++ (place_line head.place ++ (nodata_line head.nodata ++ (verdict_line head.verdict ++ rest)))) whole in
+    let side = c.in-Ok-read_count.ensures.back head.side (place_line head.place ++ (nodata_line head.nodata ++ (verdict_line head.verdict ++ rest))) fit.side after_version in
+    let place = c.in-Ok-read_place.ensures.back head.place (nodata_line head.nodata ++ (verdict_line head.verdict ++ rest)) fit.place side.1 in
+    c.in-Err-read_nodata.ensures.back head.nodata (verdict_line head.verdict ++ rest) fit.nodata place.1
+
+pub returns-in-Err-read_verdict-clause-back : goal.returns-in-Err-read_verdict-clause-back
+returns-in-Err-read_verdict-clause-back c = λ head rest fit is.
+    let whole = is ∙ five_split version_line (count_line (codes "side") head.side) (place_line head.place) (nodata_line head.nodata) (verdict_line head.verdict) rest in
+    let after_version = c.in-Ok.ensures.back (count_line (codes "side") head.side ++ (place_line head.place ++ (nodata_line head.nodata ++ (verdict_line head.verdict ++ rest)))) whole in
+    let side = c.in-Ok-read_count.ensures.back head.side (place_line head.place ++ (nodata_line head.nodata ++ (verdict_line head.verdict ++ rest))) fit.side after_version in
+    let place = c.in-Ok-read_place.ensures.back head.place (nodata_line head.nodata ++ (verdict_line head.verdict ++ rest)) fit.place side.1 in
+    let nodata = c.in-Ok-read_nodata.ensures.back head.nodata (verdict_line head.verdict ++ rest) fit.nodata place.1 in
+    c.in-Err-read_verdict.ensures.back head.verdict rest fit.verdict nodata.1
+
+pub returns-clause-sound : goal.returns-clause-sound
+returns-clause-sound c =
+    read_five c.args.text.now c.in-Ok.read.rest.now c.in-Ok-read_count.read.1.rest.now c.in-Ok-read_place.read.1.rest.now c.in-Ok-read_nodata.read.1.rest.now c.in-Ok-read_verdict.read.1.rest.now
+    version_line (count_line (codes "side") c.in-Ok-read_count.read.0) (place_line c.in-Ok-read_place.read.0) (nodata_line c.in-Ok-read_nodata.read.0) (verdict_line c.in-Ok-read_verdict.read.0)
+    c.in-Ok.ensures.sound c.in-Ok-read_count.ensures.sound c.in-Ok-read_place.ensures.sound c.in-Ok-read_nodata.ensures.sound c.in-Ok-read_verdict.ensures.sound
+
+pub returns-clause-back : goal.returns-clause-back
+returns-clause-back c = λ head rest fit is.
+    let whole = is ∙ five_split version_line (count_line (codes "side") head.side) (place_line head.place) (nodata_line head.nodata) (verdict_line head.verdict) rest in
+    let after_version = c.in-Ok.ensures.back (count_line (codes "side") head.side ++ (place_line head.place ++ (nodata_line head.nodata ++ (verdict_line head.verdict ++ rest)))) whole in
+    let side = c.in-Ok-read_count.ensures.back head.side (place_line head.place ++ (nodata_line head.nodata ++ (verdict_line head.verdict ++ rest))) fit.side after_version in
+    let place = c.in-Ok-read_place.ensures.back head.place (nodata_line head.nodata ++ (verdict_line head.verdict ++ rest)) fit.place side.1 in
+    let nodata = c.in-Ok-read_nodata.ensures.back head.nodata (verdict_line head.verdict ++ rest) fit.nodata place.1 in
+    let verdict = c.in-Ok-read_verdict.ensures.back head.verdict rest fit.verdict nodata.1 in
+    (same_head head _ _ _ _ side.0 place.0 nodata.0 verdict.0, verdict.1)
+
+pub returns-in-Err-clause-place : goal.returns-in-Err-clause-place
+returns-in-Err-clause-place c = c.in-Err.ensures.place
+
+pub returns-in-Err-read_count-clause-place : goal.returns-in-Err-read_count-clause-place
+returns-in-Err-read_count-clause-place c =
+    let version : HasVersion c.args.text.now = (c.in-Ok.read.rest.now, c.in-Ok.ensures.sound) in
+    let first = at_two c.args.text.now c.in-Ok.read.number c.in-Ok.read.rest.now c.in-Ok.ensures.sound c.in-Ok.ensures.place in
+    let two : 2 ≤ c.in-Ok.read.number = omega (arith, c.in-Ok.ensures.place) in
+    let few : line_feeds c.args.text.now < 2 ^ 63 = omega (arith, few_feeds c.args.text.now) in
+    line_fits c.args.text.now c.in-Ok.read.number c.in-Err-read_count.fault version two (c.in-Err-read_count.ensures.place (line_feeds c.args.text.now) few refl first)
+
+pub returns-in-Err-read_place-clause-place : goal.returns-in-Err-read_place-clause-place
+returns-in-Err-read_place-clause-place c =
+    let version : HasVersion c.args.text.now = (c.in-Ok.read.rest.now, c.in-Ok.ensures.sound) in
+    let first = at_two c.args.text.now c.in-Ok.read.number c.in-Ok.read.rest.now c.in-Ok.ensures.sound c.in-Ok.ensures.place in
+    let two : 2 ≤ c.in-Ok.read.number = omega (arith, c.in-Ok.ensures.place) in
+    let few : line_feeds c.args.text.now < 2 ^ 63 = omega (arith, few_feeds c.args.text.now) in
+    let read_count = c.in-Ok-read_count.ensures.place (line_feeds c.args.text.now) few refl first in
+    let low_read_count : 2 ≤ c.in-Ok-read_count.read.1.number = omega (arith, two, read_count.0) in
+    line_fits c.args.text.now c.in-Ok-read_count.read.1.number c.in-Err-read_place.fault version low_read_count (c.in-Err-read_place.ensures.place (line_feeds c.args.text.now) few read_count.1)
+
+pub returns-in-Err-read_nodata-clause-place : goal.returns-in-Err-read_nodata-clause-place
+returns-in-Err-read_nodata-clause-place c =
+    let version : HasVersion c.args.text.now = (c.in-Ok.read.rest.now, c.in-Ok.ensures.sound) in
+    let first = at_two c.args.text.now c.in-Ok.read.number c.in-Ok.read.rest.now c.in-Ok.ensures.sound c.in-Ok.ensures.place in
+    let two : 2 ≤ c.in-Ok.read.number = omega (arith, c.in-Ok.ensures.place) in
+    let few : line_feeds c.args.text.now < 2 ^ 63 = omega (arith, few_feeds c.args.text.now) in
+    let read_count = c.in-Ok-read_count.ensures.place (line_feeds c.args.text.now) few refl first in
+    let low_read_count : 2 ≤ c.in-Ok-read_count.read.1.number = omega (arith, two, read_count.0) in
+    let read_place = c.in-Ok-read_place.ensures.place (line_feeds c.args.text.now) few read_count.1 in
+    let low_read_place : 2 ≤ c.in-Ok-read_place.read.1.number = omega (arith, low_read_count, read_place.0) in
+    line_fits c.args.text.now c.in-Ok-read_place.read.1.number c.in-Err-read_nodata.fault version low_read_place (c.in-Err-read_nodata.ensures.place (line_feeds c.args.text.now) few read_place.1)
+
+pub returns-in-Err-read_verdict-clause-place : goal.returns-in-Err-read_verdict-clause-place
+returns-in-Err-read_verdict-clause-place c =
+    let version : HasVersion c.args.text.now = (c.in-Ok.read.rest.now, c.in-Ok.ensures.sound) in
+    let first = at_two c.args.text.now c.in-Ok.read.number c.in-Ok.read.rest.now c.in-Ok.ensures.sound c.in-Ok.ensures.place in
+    let two : 2 ≤ c.in-Ok.read.number = omega (arith, c.in-Ok.ensures.place) in
+    let few : line_feeds c.args.text.now < 2 ^ 63 = omega (arith, few_feeds c.args.text.now) in
+    let read_count = c.in-Ok-read_count.ensures.place (line_feeds c.args.text.now) few refl first in
+    let low_read_count : 2 ≤ c.in-Ok-read_count.read.1.number = omega (arith, two, read_count.0) in
+    let read_place = c.in-Ok-read_place.ensures.place (line_feeds c.args.text.now) few read_count.1 in
+    let low_read_place : 2 ≤ c.in-Ok-read_place.read.1.number = omega (arith, low_read_count, read_place.0) in
+    let read_nodata = c.in-Ok-read_nodata.ensures.place (line_feeds c.args.text.now) few read_place.1 in
+    let low_read_nodata : 2 ≤ c.in-Ok-read_nodata.read.1.number = omega (arith, low_read_place, read_nodata.0) in
+    line_fits c.args.text.now c.in-Ok-read_nodata.read.1.number c.in-Err-read_verdict.fault version low_read_nodata (c.in-Err-read_verdict.ensures.place (line_feeds c.args.text.now) few read_nodata.1)
+
+pub returns-clause-place : goal.returns-clause-place
+returns-clause-place c =
+    let version : HasVersion c.args.text.now = (c.in-Ok.read.rest.now, c.in-Ok.ensures.sound) in
+    let first = at_two c.args.text.now c.in-Ok.read.number c.in-Ok.read.rest.now c.in-Ok.ensures.sound c.in-Ok.ensures.place in
+    let two : 2 ≤ c.in-Ok.read.number = omega (arith, c.in-Ok.ensures.place) in
+    let few : line_feeds c.args.text.now < 2 ^ 63 = omega (arith, few_feeds c.args.text.now) in
+    let read_count = c.in-Ok-read_count.ensures.place (line_feeds c.args.text.now) few refl first in
+    let low_read_count : 2 ≤ c.in-Ok-read_count.read.1.number = omega (arith, two, read_count.0) in
+    let read_place = c.in-Ok-read_place.ensures.place (line_feeds c.args.text.now) few read_count.1 in
+    let low_read_place : 2 ≤ c.in-Ok-read_place.read.1.number = omega (arith, low_read_count, read_place.0) in
+    let read_nodata = c.in-Ok-read_nodata.ensures.place (line_feeds c.args.text.now) few read_place.1 in
+    let low_read_nodata : 2 ≤ c.in-Ok-read_nodata.read.1.number = omega (arith, low_read_place, read_nodata.0) in
+    let read_verdict = c.in-Ok-read_verdict.ensures.place (line_feeds c.args.text.now) few read_nodata.1 in
+    let low_read_verdict : 2 ≤ c.in-Ok-read_verdict.read.1.number = omega (arith, low_read_nodata, read_verdict.0) in
+    (omega (arith, low_read_nodata, read_verdict.0), read_verdict.1)

@@ -1,8 +1,0 @@
-use Rattle.std.specs.Prelude.{codes}
-use Rattle.drain_report.specs.Facts.{shown_line}
-use Rattle.drain_report.proofs.ListLemmas.{read_list}
-use Rattle.drain_report.proofs.window_report.read_seam_list.Goals as goal
-
-pub returns : goal.returns
-returns c = read_list shown_line (codes "seams") c.args.lines.rest.now c.in-Ok.read.1.rest.now c.in-Ok-read_seams.read.1.rest.now c.in-Ok.read.0 c.in-Ok-read_seams.read.0.items
-    c.in-Ok.ensures.sound c.in-Ok-read_seams.ensures.sound c.in-Ok-read_seams.ensures.len

@@ -1,0 +1,101 @@
+//! The line of a window's place.
+
+ghost use Rattle.std.specs.Prelude.{◌≡◌, ◌<◌, ◌^◌, ℕ, List, ◌++◌, drop, length, Some, IfSome, IfOk, OnOk, MatchResult};
+ghost use Rattle.drain_grid.specs.Size.{IsExtent};
+ghost use Rattle.drain_windows.specs.declared.place.InnerSides.{InnerSides as SidesOf};
+ghost use Rattle.drain_windows.specs.declared.place.Place.{Place as PlaceOf};
+ghost use Rattle.drain_report.specs.Lines.{AreLong};
+ghost use Rattle.drain_report.specs.Faults.{IsAt, IsPast, IsLineFault};
+ghost use Rattle.drain_report.specs.Facts.{side_numbers, place_numbers, place_line, IsPlace};
+
+use crate::facts::{cell_at, flag_at};
+use crate::fault::ReportFault;
+use crate::lines::{Lines, push_line, read_line};
+use drain_grid::{Cell, OutOfMemory, Shape};
+use drain_windows::{InnerSides, Place};
+
+/// The inner sides, which follow the place's four numbers.
+fn sides(numbers: &[i64]) -> Option<InnerSides>
+    requires long { AreLong numbers.now }
+    requires len { length numbers.now ≡ 8 }
+    ensures sound { IfSome result (λ s. drop 4 numbers.now ≡ side_numbers s) }
+    ensures back { (s : SidesOf) → drop 4 numbers.now ≡ side_numbers s → result ≡ Some s }
+{
+    let north = flag_at(numbers, 4)?;
+    let south = flag_at(numbers, 5)?;
+    let west = flag_at(numbers, 6)?;
+    let east = flag_at(numbers, 7)?;
+    Some(InnerSides {
+        north,
+        south,
+        west,
+        east,
+    })
+}
+
+/// The place of these numbers.
+fn place(numbers: &[i64]) -> Option<Place>
+    requires long { AreLong numbers.now }
+    requires len { length numbers.now ≡ 8 }
+    ensures sound { IfSome result (λ p. numbers.now ≡ place_numbers p) }
+    ensures back { (p : PlaceOf) → IsPlace p → numbers.now ≡ place_numbers p → result ≡ Some p }
+{
+    let corner = cell_at(numbers, 0)?;
+    let size = cell_at(numbers, 2)?;
+    let extent = Shape::new(size.row, size.col)?;
+    let inner = sides(numbers)?;
+    Some(Place {
+        top: corner.row,
+        left: corner.col,
+        extent,
+        inner,
+    })
+}
+
+/// Reads the line of the window's place.
+pub fn read_place<'a>(lines: Lines<'a>) -> Result<(Place, Lines<'a>), ReportFault>
+    ensures sound { IfOk result (λ found. lines.entry.rest.now ≡ place_line found.0 ++ found.1.rest.now) }
+    ensures back { (p : PlaceOf) (rest : List ℕ) → IsPlace p → lines.entry.rest.now ≡ place_line p ++ rest → MatchResult result (λ found. (found.0 ≡ p) × (found.1.rest.now ≡ rest)) (λ _. ⊥) }
+    ensures place { (feeds : ℕ) → feeds < 2 ^ 63 → IsAt feeds lines.entry.number lines.entry.rest.now → MatchResult result (λ found. IsPast feeds lines.entry.number found.1.number found.1.rest.now) (IsLineFault feeds lines.entry.number) }
+{
+    let mut numbers = [0i64; 8];
+    let next = match read_line(lines, "window", &mut numbers) {
+        Ok(next) => next,
+        Err(fault) => return Err(fault),
+    };
+    let Some(place) = place(&numbers) else {
+        return Err(ReportFault::OutOfRange(lines.number));
+    };
+    Ok((place, next))
+}
+
+/// The rows and columns of a shape.
+fn size(extent: Shape) -> Cell
+    ensures size { result ≡ record { row = extent.rows; col = extent.cols } }
+    ensures in_range { IsExtent extent }
+{
+    Cell {
+        row: extent.rows(),
+        col: extent.cols(),
+    }
+}
+
+/// Appends the line of the window's place.
+pub fn push_place(text: &mut Vec<u8>, place: &Place) -> Result<(), OutOfMemory>
+    ensures written { OnOk result (text.new.items ≡ text.old.items ++ place_line place.now) }
+    ensures in_range { OnOk result (IsPlace place.now) }
+{
+    let size = size(place.extent);
+    let inner = place.inner;
+    let numbers = [
+        i64::from(place.top),
+        i64::from(place.left),
+        i64::from(size.row),
+        i64::from(size.col),
+        i64::from(inner.north),
+        i64::from(inner.south),
+        i64::from(inner.west),
+        i64::from(inner.east),
+    ];
+    push_line(text, "window", &numbers)
+}

@@ -1,0 +1,93 @@
+//! Reading a report.
+
+ghost use Rattle.std.specs.Prelude.{◌≡◌, ℕ, IfErr, IfOk, OnOk, IsOk, MatchResult};
+ghost use Rattle.drain_report.specs.declared.fault.ReportFault.{ReportFault as FaultOf};
+ghost use Rattle.drain_report.specs.Facts.{is_accepted};
+ghost use Rattle.drain_report.specs.Faults.{FaultFits, IsAt, IsEndFault};
+ghost use Rattle.drain_report.specs.Contents.{Contents, ContentsFit, contents_of, end_line, report_text};
+
+use crate::fault::ReportFault;
+use crate::head::read_head;
+use crate::lines::{Lines, after_word, unread};
+use crate::lists::read_list;
+use drain_rules::Verdict;
+use drain_windows::{Report, WindowReport};
+use std::alloc::Global;
+
+/// The report that a text holds.
+///
+/// The lines stand in the order in which they are written, each number as it is printed; the first line that differs
+/// is the fault.
+pub fn read_report(alloc: Global, text: &[u8]) -> Result<WindowReport, ReportFault>
+    ensures sound { IfOk result (λ window. text.now ≡ report_text (contents_of window)) }
+    ensures holds { IfOk result (λ window. window.report.holds ≡ is_accepted window.verdict) }
+
+    // What was written is read again, unless memory runs out.
+    ensures back { (w : Contents) → ContentsFit w → text.now ≡ report_text w → MatchResult result (λ window. contents_of window ≡ w) (λ fault. fault ≡ ReportFault.OutOfMemory) }
+
+    // What a fault says of the text.
+    ensures fault { IfErr result (FaultFits text.now) }
+{
+    let (head, lines) = match read_head(text) {
+        Ok(read) => read,
+        Err(fault) => return Err(fault),
+    };
+    let (tiles, lines) = match read_list(alloc, lines, "tiles") {
+        Ok(read) => read,
+        Err(fault) => return Err(fault),
+    };
+    let (sinks, lines) = match read_list(alloc, lines, "sinks") {
+        Ok(read) => read,
+        Err(fault) => return Err(fault),
+    };
+    let (outlets, lines) = match read_list(alloc, lines, "outlets") {
+        Ok(read) => read,
+        Err(fault) => return Err(fault),
+    };
+    let (seams, lines) = match read_list(alloc, lines, "seams") {
+        Ok(read) => read,
+        Err(fault) => return Err(fault),
+    };
+    if let Err(fault) = read_end(lines) {
+        return Err(fault);
+    }
+    Ok(WindowReport {
+        side: head.side,
+        tiles,
+        verdict: head.verdict,
+        report: Report {
+            place: head.place,
+            nodata: head.nodata,
+            holds: accepts(&head.verdict),
+            outlets,
+            seams,
+            sinks,
+        },
+    })
+}
+
+/// Whether the rules hold, by the verdict.
+fn accepts(verdict: &Verdict) -> bool
+    ensures { result ≡ is_accepted verdict.now }
+{
+    match verdict {
+        Verdict::Accepted(_) => true,
+        Verdict::Rejected { .. } => false,
+    }
+}
+
+/// Reads the last line, after which nothing follows.
+fn read_end(lines: Lines) -> Result<(), ReportFault>
+    ensures sound { OnOk result (lines.entry.rest.now ≡ end_line) }
+    ensures back { lines.entry.rest.now ≡ end_line → IsOk result }
+    ensures fault { (feeds : ℕ) → IsAt feeds lines.entry.number lines.entry.rest.now → IfErr result (IsEndFault feeds lines.entry.number lines.entry.rest.now) }
+{
+    let Some(rest) = after_word(lines.rest, b"end\n") else {
+        return Err(unread(lines));
+    };
+    if rest.is_empty() {
+        Ok(())
+    } else {
+        Err(ReportFault::AfterEnd)
+    }
+}

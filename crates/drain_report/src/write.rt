@@ -1,0 +1,38 @@
+//! Writing a report.
+
+ghost use Rattle.std.specs.Prelude.{◌≡◌, IfOk, OnOk};
+ghost use Rattle.drain_report.specs.Facts.{is_accepted};
+ghost use Rattle.drain_report.specs.Contents.{ContentsFit, contents_of, report_text};
+
+use crate::head::{Head, push_head};
+use crate::lines::push;
+use crate::lists::push_list;
+use drain_grid::OutOfMemory;
+use drain_windows::WindowReport;
+use std::alloc::Global;
+
+/// The text of a report, in ASCII.
+///
+/// The lists are as long as 32 bits count; a longer one is refused as memory is.
+pub fn write_report(alloc: Global, window: &WindowReport) -> Result<Vec<u8>, OutOfMemory>
+    ensures written { IfOk result (λ text. text.items ≡ report_text (contents_of window.now)) }
+
+    // So from this text the report is read again.
+    ensures in_range { OnOk result (window.now.report.holds ≡ is_accepted window.now.verdict → ContentsFit (contents_of window.now)) }
+{
+    let mut text = Vec::new(alloc);
+    let report = &window.report;
+    let head = Head {
+        side: window.side,
+        place: report.place,
+        nodata: report.nodata,
+        verdict: window.verdict,
+    };
+    push_head(&mut text, &head)?;
+    push_list(&mut text, "tiles", &window.tiles)?;
+    push_list(&mut text, "sinks", &report.sinks)?;
+    push_list(&mut text, "outlets", &report.outlets)?;
+    push_list(&mut text, "seams", &report.seams)?;
+    push(&mut text, b"end\n")?;
+    Ok(text)
+}

@@ -1,0 +1,2 @@
+pub mod UnionStatuses
+pub mod ReportTexts

@@ -1,0 +1,4 @@
+pub mod MergeRuns
+pub mod ReportInputs
+pub mod ReportOutputs
+pub mod WindowRuns

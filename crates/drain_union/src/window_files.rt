@@ -1,0 +1,101 @@
+//! Judging one window of a union from files, and writing its report.
+
+ghost use Rattle.std.specs.Prelude.{◌≡◌, IfOk, length, vec_len};
+
+use crate::judge_run::judge_or_print;
+use crate::report_output::report_and_print;
+use drain_args::requests::WindowArgs;
+use drain_device::{BodyFault, ByteSink, write_nothing};
+use drain_files::file_id::FileId;
+use drain_files::open_failure::print_open_fault;
+use drain_files::open_files::Opener;
+use drain_files::open_judged::{OpenFiles, open_audited};
+use drain_files::output_paths::print_overwriting;
+use drain_files::outputs::{Failure, Outputs};
+use drain_print::print::print_failure;
+use drain_print::status::Status;
+use drain_progress::progress::Progress;
+use drain_windows::WindowReport;
+use std::alloc::{AllocError, Global};
+
+/// Judges a window of the mosaic of these tiles, writes its report, prints the line and returns the exit status. The
+/// report's file is created once nothing is left to refuse.
+pub fn window_files(rt: &HostRuntime, args: &WindowArgs<'_>, out: &mut impl ByteSink) -> u8 {
+    // If standard output is closed no file may be opened, as the first would take its place.
+    if write_nothing(out).is_err() {
+        return Status::Failed.code();
+    }
+    let Ok(path) = report_path(rt.alloc(), args.report) else {
+        return print_failure(out, BodyFault::OutOfMemory);
+    };
+    let progress = Progress::new(rt, args.inputs.progress);
+    let mut opener = Opener::new(rt);
+    match judged_files(&mut opener, args, path.as_slice(), &progress, out) {
+        Ok(window) => write_at(rt, path.as_slice(), opener.ids(), &window, out),
+        Err(status) => status,
+    }
+}
+
+/// The path of the report, as the list of the paths of outputs.
+fn report_path(alloc: Global, path: &str) -> Result<Vec<String>, AllocError>
+    ensures { IfOk result (λ paths. vec_len paths ≡ 1) }
+{
+    let mut paths = Vec::new(alloc);
+    paths.push(String::from_str(alloc, path)?)?;
+    Ok(paths)
+}
+
+/// What is to be reported of the window of these files, which are closed again; or it prints why there is nothing, and
+/// returns the exit status. A report at the path of an input is a usage error.
+fn judged_files<'a>(
+    opener: &mut Opener<'_>,
+    args: &WindowArgs<'_>,
+    report: &[String],
+    progress: &'a Progress<'a>,
+    out: &mut impl ByteSink,
+) -> Result<WindowReport, u8> {
+    let files = match open_audited(opener, &args.inputs, progress) {
+        Ok(files) => files,
+        Err(fault) => return Err(print_open_fault(opener.rt(), fault, out)),
+    };
+    if let Some(status) = print_overwriting(opener, "the report", report) {
+        return Err(status);
+    }
+    let OpenFiles {
+        mut tiles,
+        mut products,
+        sinks,
+    } = files;
+    judge_or_print(
+        opener.alloc(),
+        args.inputs.side,
+        tiles.as_mut_slice(),
+        sinks.as_slice(),
+        &mut products,
+        &args.place,
+        out,
+    )
+}
+
+/// Creates the file at this path and writes the report, and returns the exit status.
+fn write_at(
+    rt: &HostRuntime,
+    path: &[String],
+    inputs: &[FileId],
+    window: &WindowReport,
+    out: &mut impl ByteSink,
+) -> u8
+    requires { length path.now ≡ 1 }
+{
+    let failure = Failure::none();
+    let mut outputs = Outputs::new(rt, &failure);
+    let status = match outputs.begin(path, inputs) {
+        Ok(mut files) => {
+            let file = &mut files.as_mut_slice()[0];
+            report_and_print(rt.alloc(), window, file, &mut outputs, out)
+        }
+        Err(fault) => print_open_fault(rt, fault, out),
+    };
+    outputs.end();
+    status
+}

@@ -1,0 +1,68 @@
+//! The listed sinks that a window judges.
+
+ghost use Rattle.std.specs.Prelude.{◌≡◌, IfOk, length};
+ghost use Rattle.drain_grid.specs.Grid.{Grid, Products};
+ghost use Rattle.drain_grid.specs.SinkLines.{is_listed};
+ghost use Rattle.drain_grid.specs.SinkTexts.{sinks_of};
+ghost use Rattle.drain_verdict.specs.Meaning.{lines_in};
+ghost use Rattle.drain_window.specs.JudgedSinks.{AreLinesInside, union_cell};
+ghost use Rattle.drain_window_walk.specs.SeamRows.{EndsInRange, IsOrigin};
+ghost use Rattle.drain_windows.specs.Cuts.{window_at};
+ghost use Rattle.drain_windows.specs.Judged.{IsJudgedAt};
+ghost use Rattle.drain_windows.specs.Reports.{ListsSinks};
+
+use drain_grid::{Cell, OutOfMemory, Sinks, parse_sinks};
+use drain_windows::Place;
+use std::alloc::Global;
+
+/// The union's cells of the sinks in this list that the window at this place of a mosaic judges; the mosaic begins at
+/// the union's cell `origin`. A list that can't be read has none.
+pub(crate) fn judged_sinks(
+    alloc: Global,
+    list: &[u8],
+    place: &Place,
+    origin: Cell,
+) -> Result<Vec<Cell>, OutOfMemory>
+    requires placed { EndsInRange place.now }
+    requires moved { IsOrigin origin }
+    ensures { IfOk result (λ cells. (g : Grid) (ps : Products) → g.sink ≡ is_listed (lines_in (sinks_of list.now)) → ListsSinks (window_at origin place.now g ps) cells.items) }
+{
+    match parse_sinks(alloc, list) {
+        Ok(sinks) => sinks_inside(alloc, &sinks, place, origin),
+        Err(_) => Err(OutOfMemory),
+    }
+}
+
+/// The union's cells of the lines of this list that the window judges.
+fn sinks_inside(
+    alloc: Global,
+    sinks: &Sinks,
+    place: &Place,
+    origin: Cell,
+) -> Result<Vec<Cell>, OutOfMemory>
+    requires placed { EndsInRange place.now }
+    requires moved { IsOrigin origin }
+    ensures { IfOk result (λ cells. AreLinesInside origin place.now sinks.now (length sinks.now) cells.items) }
+{
+    let mut cells = Vec::new(alloc);
+    for i in 0..sinks.count() {
+        let (_line, cell) = sinks.entry(i);
+        if place.judges(cell) {
+            cells.push(union_cell(place, origin, cell))?;
+        }
+    }
+    Ok(cells)
+}
+
+/// The union's cell that is this judged cell of the mosaic.
+fn union_cell(place: &Place, origin: Cell, cell: Cell) -> Cell
+    requires placed { EndsInRange place.now }
+    requires moved { IsOrigin origin }
+    requires judged { IsJudgedAt place.now cell }
+    ensures { result ≡ union_cell origin cell }
+{
+    Cell {
+        row: origin.row + cell.row,
+        col: origin.col + cell.col,
+    }
+}

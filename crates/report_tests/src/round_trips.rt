@@ -1,0 +1,59 @@
+//! Texts that are read and written again.
+
+use crate::texts::text;
+use drain_grid::{Cell, Rule};
+use drain_report::{read_report, write_report};
+use drain_rules::Verdict;
+use std::test::Fail;
+
+#[test]
+fn an_accepted_window_is_read_and_written_again(rt: HostRuntime) -> Result<(), Fail> {
+    let bytes = text(rt.alloc())?;
+    let window = read_report(rt.alloc(), &bytes)?;
+    assert_eq!(rt; window.side, 1201);
+    assert_eq!(rt; window.tiles.len(), 2);
+    assert_eq!(rt; window.report.holds, true);
+    assert_eq!(rt; window.report.sinks.len(), 2);
+    let second = Cell {
+        row: 62401,
+        col: 90002,
+    };
+    assert_eq!(rt; window.report.sinks[1], second);
+    assert_eq!(rt; window.report.outlets.len(), 1);
+    assert_eq!(rt; window.report.seams.len(), 3);
+    assert_eq!(rt; window.report.seams[0].values.z, None);
+    assert_eq!(rt; window.report.seams[1].values.z, Some(-5));
+    assert_eq!(rt; window.report.seams[1].values.sink, true);
+    let again = write_report(rt.alloc(), &window)?;
+    assert_eq!(rt; again.as_slice(), bytes.as_slice());
+    Ok(())
+}
+
+/// A rejected window: its lists are empty, as it is read to its first fault alone.
+const REJECTED: &[u8] = b"drain-window-report 1
+side 3601
+window 0 0 1 28801 0 0 0 0
+nodata -32768 255 10000000000 -10000000000 255 0
+rejected 15 0 28800
+tiles 0
+sinks 0
+outlets 0
+seams 0
+end
+";
+
+#[test]
+fn a_rejected_window_is_read_and_written_again(rt: HostRuntime) -> Result<(), Fail> {
+    let window = read_report(rt.alloc(), REJECTED)?;
+    let expected = Verdict::Rejected {
+        rule: Rule::SharedLabel,
+        row: 0,
+        col: 28800,
+    };
+    assert_eq!(rt; window.verdict, expected);
+    assert_eq!(rt; window.report.holds, false);
+    assert_eq!(rt; window.report.sinks.len(), 0);
+    let again = write_report(rt.alloc(), &window)?;
+    assert_eq!(rt; again.as_slice(), REJECTED);
+    Ok(())
+}

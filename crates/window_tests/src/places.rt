@@ -1,0 +1,42 @@
+//! Where windows lie, and the answers to them.
+
+use crate::inputs::Inputs;
+use drain_grid::Shape;
+use drain_window::{WindowRefusal, judge_window};
+use drain_windows::{InnerSides, Place, WindowReport};
+use std::alloc::Global;
+use std::test::Fail;
+
+/// The row and the column of the first cell, how many there are of both, and a letter for each inner side.
+pub type Window = (u32, u32, u32, u32, &'static str);
+
+/// The place of a window.
+pub fn place((top, left, rows, cols, inner): Window) -> Result<Place, Fail> {
+    let Some(extent) = Shape::new(rows, cols) else {
+        return Err(Fail::new("a shape"));
+    };
+    Ok(Place {
+        top,
+        left,
+        extent,
+        inner: InnerSides {
+            north: inner.contains('n'),
+            south: inner.contains('s'),
+            west: inner.contains('w'),
+            east: inner.contains('e'),
+        },
+    })
+}
+
+/// The answer to a window of these inputs.
+pub fn answer(
+    alloc: Global,
+    inputs: &Inputs,
+    window: Window,
+) -> Result<Result<WindowReport, WindowRefusal>, Fail> {
+    let place = place(window)?;
+    let mut tiles = inputs.tiles(alloc)?;
+    let mut products = inputs.products(alloc)?;
+    let sinks = inputs.sinks.as_bytes();
+    Ok(judge_window(alloc, inputs.side, &mut tiles, sinks, &mut products, &place))
+}

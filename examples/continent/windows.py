@@ -1,0 +1,208 @@
+#!/usr/bin/python3
+"""Plans the windows by which a union of SRTM tiles is judged: OUT/windows.txt, a line for each.
+
+    NAME BOX INNER MOSAIC TILE..
+
+BOX is the window in the mosaic of its tiles, MOSAIC this mosaic in the union, each as ROW,COL,ROWS,COLS. INNER has the
+sides on which the union goes on, letters of n e s w, or - for none. NAME is its row and column among the windows.
+
+A window is W by W tiles. On its inner sides it begins one row or column behind the edge that its first tile shares with
+the tile before, and ends two behind the edge of its last tile. So two windows overlap by exactly two rows or columns,
+and all tiles over a window's cells are its own or the next ones south and east, which are handed in too.
+"""
+
+import argparse
+import os
+import re
+import sys
+from collections.abc import Sequence
+from dataclasses import dataclass
+from pathlib import Path
+from typing import NamedTuple
+
+LEAST_SIDE, MOST_SIDE, MOST_TILES = 4, 3601, 8
+TILE = re.compile(r"([NS])(\d\d)([EW])(\d\d\d)(?:\.hgt)?", re.IGNORECASE)
+VOID_SAMPLE = b"\x80\x00"
+
+
+class Corner(NamedTuple):
+    """The south-west corner of a tile, in whole degrees north and east."""
+
+    lat: int
+    lon: int
+
+    def __str__(self) -> str:
+        north, east = "NS"[self.lat < 0], "EW"[self.lon < 0]
+        return f"{north}{abs(self.lat):02d}{east}{abs(self.lon):03d}"
+
+
+class Box(NamedTuple):
+    """The first row and column of a box of cells, and its size."""
+
+    row: int
+    col: int
+    rows: int
+    cols: int
+
+    def __str__(self) -> str:
+        return ",".join(map(str, self))
+
+
+@dataclass(frozen=True)
+class Window:
+    """A line of the plan."""
+
+    name: str
+    box: Box
+    """The window in the mosaic of its tiles."""
+
+    inner: str
+    mosaic: Box
+    """The mosaic in the union."""
+
+    tiles: Sequence[str]
+
+    def __str__(self) -> str:
+        return " ".join([self.name, str(self.box), self.inner or "-", str(self.mosaic), *self.tiles])
+
+    @staticmethod
+    def of(words: Sequence[str]) -> "Window":
+        """The window of a line's words."""
+        name, box, inner, mosaic, *tiles = words
+        return Window(name, box_of(box), inner.replace("-", ""), box_of(mosaic), tiles)
+
+
+class Span(NamedTuple):
+    """The rows of a window, or its columns."""
+
+    tile: int
+    """The first tile that is handed in, counted from the union's edge."""
+
+    tiles: int
+    first: int
+    """The first cell, counted from the union's edge."""
+
+    cells: int
+    before: bool
+    """Whether the union goes on before the first cell."""
+
+    behind: bool
+
+
+def box_of(text: str) -> Box:
+    row, col, rows, cols = map(int, text.split(","))
+    return Box(row, col, rows, cols)
+
+
+def corner_of(name: str) -> Corner | None:
+    """The corner that a tile's name has; None of another name."""
+    if not (match := TILE.fullmatch(name)):
+        return None
+    north, lat, east, lon = match.groups()
+    return Corner(int(lat) * (1 if north in "Nn" else -1), int(lon) * (1 if east in "Ee" else -1))
+
+
+def spans(tiles: int, width: int, steps: int) -> list[Span]:
+    """The windows along one side of a union of this many tiles, each of `steps` cells and one."""
+    found = []
+    for tile in range(0, tiles, width):
+        end = min(tile + width, tiles)
+        before, behind = tile > 0, end < tiles
+        first, last = tile * steps + before, end * steps + 2 * behind
+        found.append(Span(tile, end + behind - tile, first, last - first + 1, before, behind))
+    return found
+
+
+def window_of(down: Span, across: Span, name: str, steps: int, tiles: Sequence[str]) -> Window:
+    mosaic = Box(down.tile * steps, across.tile * steps, down.tiles * steps + 1, across.tiles * steps + 1)
+    box = Box(down.first - mosaic.row, across.first - mosaic.col, down.cells, across.cells)
+    sides = zip("nesw", (down.before, across.behind, down.behind, across.before))
+    return Window(name, box, "".join(side for side, is_inner in sides if is_inner), mosaic, tiles)
+
+
+class Tiles:
+    """The tiles of a folder, with voids for corners where it has none."""
+
+    def __init__(self, folder: Path, voids: Path, side: int) -> None:
+        corners = ((corner_of(path.name), path) for path in sorted(folder.iterdir()) if path.suffix)
+        self.paths = {corner: os.path.abspath(path) for corner, path in corners if corner}
+        self.voids, self.side = voids, side
+
+    def over(self, first: Corner, last: Corner) -> list[str]:
+        """The tiles from the north-west one to the south-east one. Voids stand in at these two where they are missing,
+        so that the tiles' mosaic is this box."""
+        box = [Corner(lat, lon) for lat in range(first.lat, last.lat - 1, -1) for lon in range(first.lon, last.lon + 1)]
+        needed = [corner for corner in box if corner in self.paths or corner in (first, last)]
+        return [self.paths.get(corner) or self.void(corner) for corner in needed]
+
+    def void(self, corner: Corner) -> str:
+        """A tile of voids with the name of this corner."""
+        self.voids.mkdir(parents=True, exist_ok=True)
+        voids, link = self.voids / "voids", self.voids / f"{corner}.hgt"
+        if not voids.exists():
+            voids.write_bytes(VOID_SAMPLE * self.side**2)
+        if not link.is_symlink():
+            link.symlink_to(voids.name)
+        return os.path.abspath(link)
+
+
+def plan(tiles: Tiles, first: Corner, last: Corner, width: int) -> list[Window]:
+    """The windows of the union from its north-west tile to its south-east one, row by row."""
+    steps = tiles.side - 1
+    downs = spans(first.lat - last.lat + 1, width, steps)
+    acrosses = spans(last.lon - first.lon + 1, width, steps)
+    digits = len(str(max(len(downs), len(acrosses)) - 1))
+    windows = []
+    for i, down in enumerate(downs):
+        for j, across in enumerate(acrosses):
+            north_west = Corner(first.lat - down.tile, first.lon + across.tile)
+            south_east = Corner(north_west.lat - down.tiles + 1, north_west.lon + across.tiles - 1)
+            name = f"r{i:0{digits}d}c{j:0{digits}d}"
+            windows.append(window_of(down, across, name, steps, tiles.over(north_west, south_east)))
+    return windows
+
+
+def main() -> None:
+    about, _, more = (__doc__ or "").partition("\n")
+    form = argparse.RawDescriptionHelpFormatter
+    parser = argparse.ArgumentParser(description=about, epilog=more, formatter_class=form)
+    parser.add_argument("--side", type=int, default=1201, help="samples along an edge of each tile [default: 1201]")
+    parser.add_argument(
+        "--width", type=int, default=3, metavar="W", help="tiles along an edge of a window [default: 3]"
+    )
+    parser.add_argument(
+        "--box",
+        nargs=2,
+        metavar="TILE",
+        help="the north-west and the south-east tile of the union, as"
+        " N59W125 N24W067 [default: the bounding box of all tiles]",
+    )
+    parser.add_argument("tiles", type=Path, metavar="TILES", help="the folder of the tiles")
+    parser.add_argument("out", type=Path, metavar="OUT", help="the folder to write windows.txt into")
+    given = parser.parse_args()
+    if not LEAST_SIDE <= given.side <= MOST_SIDE:
+        sys.exit(f"--side {given.side} isn't from {LEAST_SIDE} to {MOST_SIDE}")
+    if not 1 <= given.width < MOST_TILES:
+        sys.exit(f"--width {given.width} isn't from 1 to {MOST_TILES - 1}: a window needs the tiles next to it too")
+    tiles = Tiles(given.tiles, given.out / "voids", given.side)
+    corners = [corner_of(name) for name in given.box] if given.box else list(tiles.paths)
+    if not corners or None in corners:
+        sys.exit(f"no tile's name: {' '.join(given.box)}" if given.box else f"no tiles in {given.tiles}")
+    known = [corner for corner in corners if corner]
+    first = Corner(max(corner.lat for corner in known), min(corner.lon for corner in known))
+    last = Corner(min(corner.lat for corner in known), max(corner.lon for corner in known))
+    given.out.mkdir(parents=True, exist_ok=True)
+    windows = plan(tiles, first, last, given.width)
+    if any(len(str(window).split()) != 4 + len(window.tiles) for window in windows):
+        sys.exit("the path of a tile has a space: move the tiles, or give a path without one")
+    file, text = given.out / "windows.txt", "".join(f"{window}\n" for window in windows)
+    if file.exists() and file.read_text(encoding="utf-8") != text:
+        sys.exit(f"{file} is another plan: take a new OUT, as reports of other windows may be there")
+    file.write_text(text, encoding="utf-8")
+    steps = given.side - 1
+    size = f"{(first.lat - last.lat + 1) * steps + 1} rows, {(last.lon - first.lon + 1) * steps + 1} columns"
+    print(f"{len(windows)} windows of a union of {size}, from {first} to {last}")
+
+
+if __name__ == "__main__":
+    main()

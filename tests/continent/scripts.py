@@ -1,0 +1,19 @@
+"""Where the scripts of examples/continent are, and what several tests of them need."""
+
+import sys
+from pathlib import Path
+
+ROOT = Path(__file__).resolve().parents[2]
+EXAMPLE = ROOT / "examples/continent"
+sys.dont_write_bytecode = True
+sys.path[:0] = [str(EXAMPLE), str(ROOT / "tests/program")]
+
+
+SHELL_LOOP = """
+while read -r words; do "$HERE/job.sh" $words || echo "failed: $words"; done <"$OUT/windows.txt"
+"$HERE/merge.sh"
+"""
+
+
+def void_tile(side: int) -> bytes:
+    return b"\x80\x00" * side**2

@@ -1,0 +1,231 @@
+"""Rasters and lists of sinks that are cut out of those of a union, compared with slices of arrays."""
+
+import subprocess
+import sys
+import tempfile
+import unittest
+from collections.abc import Sequence
+from pathlib import Path
+
+import numpy as np
+from osgeo import gdal
+from scripts import EXAMPLE
+
+from cut import NO_DATA, cut_sinks
+from windows import Box, Window
+
+gdal.UseExceptions()
+STEPS = 10
+ROWS, COLS = 31, 41
+WEST, NORTH = -3, 2
+"""The union: 3 by 4 tiles of side 11, from N01W003 to S01E000."""
+
+KINDS = {"con": np.dtype("i2"), "dir": np.dtype("u1"), "acc": np.dtype("u4"), "bas": np.dtype("u4")}
+GDAL_KINDS = {
+    "i1": gdal.GDT_Int16,
+    "i2": gdal.GDT_Int16,
+    "u1": gdal.GDT_Byte,
+    "u4": gdal.GDT_UInt32,
+    "f4": gdal.GDT_Float32,
+}
+MIDDLE = Window(
+    "r1c1", Box(1, 1, 12, 12), "nesw", Box(10, 10, 21, 21), ["x/N00W002.hgt", "x/N00W001.hgt", "x/S01W001.hgt"]
+)
+CORNER = Window("r2c3", Box(1, 1, 10, 10), "nw", Box(20, 30, 11, 11), ["x/S01E000.hgt"])
+
+
+def numbers(kind: np.dtype, seed: int) -> np.ndarray:
+    limits = np.iinfo(kind)
+    return np.random.default_rng(seed).integers(limits.min, limits.max, (ROWS, COLS), kind, endpoint=True)
+
+
+def write_bil(
+    path: Path, array: np.ndarray, order: str = "I", skipped: int = 0, padding: int = 0, more: str = ""
+) -> None:
+    pixels = array.astype(array.dtype.newbyteorder("<" if order == "I" else ">"))
+    path.write_bytes(b"s" * skipped + b"".join(row.tobytes() + b"p" * padding for row in pixels))
+    rows, cols = array.shape
+    kind = "SIGNEDINT" if array.dtype.kind == "i" else "UNSIGNEDINT"
+    path.with_suffix(".hdr").write_text(
+        f"nrows {rows}\nNCOLS {cols}\r\nNBITS {8 * array.itemsize}\nPIXELTYPE {kind}\nBYTEORDER {order}\n"
+        f"SKIPBYTES {skipped}\n"
+        f"TOTALROWBYTES {cols * array.itemsize + padding}\nULXMAP {WEST}.0\nULYMAP {NORTH}\nXDIM 0.1\nYDIM 0.1\n{more}"
+    )
+
+
+def write_tif(
+    path: Path,
+    array: np.ndarray,
+    nodata: float | None = None,
+    west: float = WEST,
+    step: float = 0.1,
+    options: Sequence[str] = (),
+) -> None:
+    rows, cols = array.shape
+    name = array.dtype.str[1:]
+    file = gdal.GetDriverByName("GTiff").Create(str(path), cols, rows, 1, GDAL_KINDS[name], list(options))
+    file.SetGeoTransform([west - step / 2, step, 0, NORTH + step / 2, 0, -step])
+    file.GetRasterBand(1).WriteArray(array)
+    if nodata is not None:
+        file.GetRasterBand(1).SetNoDataValue(nodata)
+
+
+class Cuts(unittest.TestCase):
+    """The script, on small rasters."""
+
+    def setUp(self) -> None:
+        scratch = tempfile.TemporaryDirectory()
+        self.addCleanup(scratch.cleanup)
+        self.folder = Path(scratch.name)
+        self.rasters, self.cut = self.folder / "rasters", self.folder / "cut"
+        self.rasters.mkdir()
+        self.cut.mkdir()
+        self.arrays = {name: numbers(kind, seed) for seed, (name, kind) in enumerate(KINDS.items())}
+        for name, array in self.arrays.items():
+            write_bil(self.rasters / f"{name}.bil", array)
+
+    def run_script(self, window: Window, *words: str) -> str:
+        command = [
+            sys.executable,
+            "-B",
+            str(EXAMPLE / "cut.py"),
+            "--side",
+            str(STEPS + 1),
+            *words,
+            self.rasters,
+            self.cut,
+        ]
+        run = subprocess.run([*command, *str(window).split()], capture_output=True, text=True, check=False)
+        self.assertEqual(run.returncode, 1 if run.stderr else 0)
+        return run.stderr.strip()
+
+    def judge(self, window: Window, arrays: dict[str, np.ndarray]) -> None:
+        """Compares what was cut, as GDAL reads it, with slices of these arrays."""
+        top, left, rows, cols = window.mosaic
+        for name, array in arrays.items():
+            # Without PIXELTYPE GDAL takes 8 and 32 bits for unsigned, as drain does.
+            file = gdal.Open(str(self.cut / f"{name}.bil"))
+            found = file.ReadAsArray()
+            self.assertEqual((found.shape, found.dtype), ((rows, cols), array.dtype), name)
+            np.testing.assert_array_equal(found, array[top : top + rows, left : left + cols], name)
+            expected = [WEST + left / STEPS - 0.05, 0.1, 0, NORTH - top / STEPS + 0.05, 0, -0.1]
+            np.testing.assert_allclose(file.GetGeoTransform(), expected, rtol=0, atol=1e-12)
+
+    def test_bil(self) -> None:
+        for window in (MIDDLE, CORNER):
+            self.assertEqual(self.run_script(window), "")
+            self.judge(window, self.arrays)
+
+    def test_bil_of_other_forms(self) -> None:
+        self.arrays = {
+            name: numbers(np.dtype(kind), 9)
+            for name, kind in [("con", "i4"), ("dir", "i2"), ("acc", "u2"), ("bas", "i4")]
+        }
+        for skipped, (name, array) in enumerate(self.arrays.items()):
+            write_bil(self.rasters / f"{name}.bil", array, "IM"[skipped % 2], 5 * skipped, 3 * (3 - skipped))
+        self.assertEqual(self.run_script(MIDDLE), "")
+        self.judge(MIDDLE, self.arrays)
+
+    def test_no_data_numbers(self) -> None:
+        write_bil(self.rasters / "con.bil", self.arrays["con"], more="NODATA -9999.0\n")
+        self.assertEqual(self.run_script(MIDDLE), "")
+        for name, nodata in {**NO_DATA, "con": -9999}.items():
+            file = gdal.Open(str(self.cut / f"{name}.bil"))
+            self.assertEqual(file.GetRasterBand(1).GetNoDataValue(), nodata)
+
+    def test_rasters_that_gdal_reads(self) -> None:
+        for path in self.rasters.iterdir():
+            path.unlink()
+        tiled = ["TILED=YES", "BLOCKXSIZE=16", "BLOCKYSIZE=16", "COMPRESS=DEFLATE"]
+        for name in ("con", "dir", "acc"):
+            write_tif(self.rasters / f"{name}.tif", self.arrays[name], options=tiled)
+        bas = self.arrays["bas"]
+        write_tif(self.folder / "west.tif", bas[:, :20])
+        write_tif(self.folder / "east.tif", bas[:, 20:], west=WEST + 2)
+        gdal.BuildVRT(
+            str(self.rasters / "bas.vrt"), [str(self.folder / "west.tif"), str(self.folder / "east.tif")]
+        ).FlushCache()
+        for window in (MIDDLE, CORNER):
+            self.assertEqual(self.run_script(window), "")
+            self.judge(window, self.arrays)
+
+    def test_cells_that_a_raster_lacks(self) -> None:
+        """Rasters of 15 by 12 cells from the union's cell (12, 14) on, in a mosaic of 21 by 21 from (10, 10) on."""
+        for name, array in self.arrays.items():
+            write_bil(self.rasters / f"{name}.bil", array[12:27, 14:26])
+            header = self.rasters / f"{name}.hdr"
+            header.write_text(
+                header.read_text().replace("ULXMAP -3.0", "ULXMAP -1.6").replace("ULYMAP 2", "ULYMAP 0.8")
+            )
+        self.assertEqual(self.run_script(MIDDLE), "")
+        for name, array in self.arrays.items():
+            expected = np.full_like(array, NO_DATA[name])
+            expected[12:27, 14:26] = array[12:27, 14:26]
+            self.judge(MIDDLE, {name: expected})
+
+    def test_a_raster_elsewhere(self) -> None:
+        for header in self.rasters.glob("*.hdr"):
+            header.write_text(header.read_text().replace("ULYMAP 2", "ULYMAP 12"))
+        self.assertEqual(self.run_script(MIDDLE), "")
+        self.judge(MIDDLE, {name: np.full_like(array, NO_DATA[name]) for name, array in self.arrays.items()})
+
+    def test_rasters_that_are_refused(self) -> None:
+        con, header = self.rasters / "con.bil", self.rasters / "con.hdr"
+        text, pixels = header.read_text(), con.read_bytes()
+        for name, old, new, said in [
+            ("half a pixel off", "ULXMAP -3.0", "ULXMAP -3.05", "aren't whole cells"),
+            ("other pixels", "XDIM 0.1", "XDIM 0.05", "0.05 degrees wide"),
+            ("no place", "ULYMAP 2\n", "", "no header of a raster: 'ULYMAP'"),
+            ("floating point", "SIGNEDINT", "FLOAT", "not one band of whole numbers"),
+            ("64 bits", "NBITS 16", "NBITS 64", "not one band of whole numbers"),
+            ("no number", "nrows 31", "nrows x", "no header of a raster"),
+        ]:
+            with self.subTest(name):
+                self.assertIn(old, text)
+                header.write_text(text.replace(old, new))
+                self.assertIn(said, self.run_script(MIDDLE))
+        header.write_text(text + "NODATA 70000\n")
+        self.assertIn(
+            "don't hold the no-data number 70000",
+            self.run_script(Window("w", Box(0, 0, 9, 9), "", Box(30, 0, 11, 11), ["S02W003.hgt"])),
+        )
+        header.write_text(text)
+        con.write_bytes(pixels[: 31 * COLS * 2 - 23])
+        self.assertIn("con.bil: row 30 is cut short", self.run_script(MIDDLE))
+        con.unlink()
+        self.assertIn("no con.bil, con.vrt or con.tif", self.run_script(MIDDLE))
+        write_tif(self.rasters / "con.tif", np.zeros((ROWS, COLS), "f4"))
+        self.assertIn("1 bands of Float32; one of whole numbers is needed", self.run_script(MIDDLE))
+        (self.rasters / "con.tif").write_bytes(b"none")
+        self.assertIn("con.tif", self.run_script(MIDDLE))
+
+    def test_a_list_of_sinks(self) -> None:
+        (self.folder / "sinks.txt").write_bytes(b"10 10\n11 11\n30 30\n\n22 22")
+        self.assertEqual(self.run_script(MIDDLE, "--sinks", str(self.folder / "sinks.txt")), "")
+        self.assertEqual((self.cut / "sinks.txt").read_bytes(), b"\n1 1\n\n\n12 12\n")
+
+
+class Sinks(unittest.TestCase):
+    """Lines of a list, in a window of rows and columns 11 to 22 of the union, counted from row and column 10."""
+
+    def test_lines(self) -> None:
+        for line, expected in [
+            (b"11 11\n", b"1 1\n"),
+            (b" \t012  13 \r\n", b"2 3\n"),
+            (b"22 22", b"12 12\n"),
+            (b"10 11\n", b"\n"),
+            (b"11 23\n", b"\n"),
+            (b"4294967295 0\n", b"\n"),
+            (b"4294967296 0\n", b"4294967296 0\n"),
+            (b"\n", b"\n"),
+            (b"-1 11\n", b"-1 11\n"),
+            (b"11\n", b"11\n"),
+            (b"11 11 11\n", b"11 11 11\n"),
+            (b"x", b"x"),
+        ]:
+            with self.subTest(line):
+                self.assertEqual(list(cut_sinks(iter([line]), MIDDLE)), [expected])
+
+
+if __name__ == "__main__":
+    unittest.main()

@@ -1,0 +1,275 @@
+"""What the scripts of examples/continent do with each answer and each failure, with a stand-in for `drain`."""
+
+import errno
+import os
+import shutil
+import signal
+import subprocess
+import sys
+import tempfile
+import time
+import unittest
+from pathlib import Path
+
+from scripts import EXAMPLE, SHELL_LOOP
+
+SIDE = 5
+PROGRAM = """#!/bin/sh
+# Stands in for `drain`: notes its words in $OUT/words, writes a report, and does what $OUT/answer says.
+echo "$*" >>"$OUT/words"
+if [ "$1" = merge ]; then echo 'accepted of all'; exit; fi
+while [ "$1" != --report ]; do shift; done
+[ "$answer" != hang ] || cat "$OUT/hang"
+read -r status line <"$OUT/answer"
+[ "$status" -ge 2 ] || echo report >"$2"
+[ -z "$line" ] || echo "$line"
+exit "$status"
+"""
+
+
+def heed_interrupts() -> None:
+    """A shell has what it starts in the background ignore interrupts."""
+    signal.signal(signal.SIGINT, signal.SIG_DFL)
+
+
+def reports_of(out: Path) -> list[str]:
+    return sorted(path.name for path in (out / "reports").glob("*"))
+
+
+class Jobs(unittest.TestCase):
+    """A union of 3 by 3 tiles, in 9 windows."""
+
+    def setUp(self) -> None:
+        scratch = tempfile.TemporaryDirectory()
+        self.addCleanup(scratch.cleanup)
+        self.folder = Path(scratch.name)
+        self.out = self.folder / "out"
+        for folder in ("tiles", "rasters"):
+            (self.folder / folder).mkdir()
+        for lat in range(3):
+            for lon in range(3):
+                (self.folder / f"tiles/N{lat:02d}E{lon:03d}.hgt").touch()
+        cells = 3 * (SIDE - 1) + 1
+        for name in ("con", "dir", "acc", "bas"):
+            (self.folder / f"rasters/{name}.bil").write_bytes(bytes(4 * cells**2))
+            header = f"NROWS {cells}\nNCOLS {cells}\nNBITS 32\nULXMAP 0\nULYMAP 3\nXDIM 0.25\nYDIM 0.25\nNODATA 0\n"
+            (self.folder / f"rasters/{name}.hdr").write_text(header)
+        self.program = self.folder / "drain"
+        self.program.write_text(PROGRAM)
+        self.program.chmod(0o755)
+        command = [sys.executable, "-B", EXAMPLE / "windows.py", "--side", str(SIDE), "--width", "1"]
+        subprocess.run([*command, self.folder / "tiles", self.out], check=True, stdout=subprocess.DEVNULL)
+        self.lines = (self.out / "windows.txt").read_text().splitlines()
+        known = {"DRAIN": self.program, "SIDE": SIDE, "RASTERS": self.folder / "rasters", "OUT": self.out}
+        self.env = {**os.environ, **{key: str(value) for key, value in known.items()}}
+        self.answer("0 accepted rows=1")
+
+    def answer(self, text: str) -> None:
+        (self.out / "answer").write_text(f"{text}\n")
+
+    def run_script(self, name: str, *words: str, **env: str) -> subprocess.CompletedProcess[str]:
+        env = {**self.env, **env}
+        return subprocess.run([EXAMPLE / name, *words], env=env, capture_output=True, text=True, check=False)
+
+    def job(self, window: int = 4, **env: str) -> int:
+        return self.run_script("job.sh", *self.lines[window].split(), **env).returncode
+
+    def calls(self) -> list[str]:
+        """The words with which the program was called since the last time."""
+        path = self.out / "words"
+        found = path.read_text().splitlines() if path.exists() else []
+        path.unlink(missing_ok=True)
+        return found
+
+    def hold_up(self) -> int:
+        """Waits until a program that hangs reads its pipe; it ends when the pipe is closed. Before that a shell that starts it might take
+        the signal."""
+        until = time.monotonic() + 60
+        while True:
+            try:
+                return os.open(self.out / "hang", os.O_WRONLY | os.O_NONBLOCK)
+            except OSError as error:
+                if error.errno != errno.ENXIO or time.monotonic() > until:
+                    raise
+            time.sleep(0.02)
+
+    def kept(self) -> dict[str, str]:
+        """What is there of answers, and of folders for work."""
+        folders = ("lines", "reports", "work")
+        return {
+            f"{name}/{path.name}": path.read_text() if path.is_file() else ""
+            for name in folders
+            for path in (self.out / name).glob("*")
+        }
+
+    def test_answers(self) -> None:
+        """An answer is kept, and isn't asked for again; only a refused window has no report."""
+        for answer, line in [
+            ("0 accepted rows=1", "accepted rows=1\n"),
+            ("1 rejected rule=4", "rejected rule=4\n"),
+            ("2 refused BadSide", "refused BadSide\n"),
+        ]:
+            with self.subTest(answer):
+                shutil.rmtree(self.out / "lines", ignore_errors=True)
+                shutil.rmtree(self.out / "reports", ignore_errors=True)
+                self.answer(answer)
+                self.assertEqual(self.job(), 0)
+                reports = {} if answer[0] == "2" else {"reports/r1c1.txt": "report\n"}
+                self.assertEqual(self.kept(), {"lines/r1c1.txt": line, **reports})
+                self.assertEqual(len(self.calls()), 1)
+                self.answer("3 failed ReadFailed")
+                self.assertEqual(self.job(), 0)
+                self.assertEqual(self.calls(), [])
+
+    def test_failures(self) -> None:
+        """A failure leaves nothing, and the next run tries again."""
+        for answer in ("3 failed OutOfMemory", "3", "2", "137", "101 panicked", "0", "1"):
+            with self.subTest(answer):
+                self.answer(answer)
+                self.assertEqual(self.job(), 3)
+                self.assertEqual(self.kept(), {})
+        self.assertEqual(len(self.calls()), 7)
+        self.answer("0 accepted rows=1")
+        self.assertEqual(self.job(), 0)
+        self.assertEqual(len(self.kept()), 2)
+
+    def test_rasters_that_are_missing(self) -> None:
+        (self.folder / "rasters/acc.bil").unlink()
+        run = self.run_script("job.sh", *self.lines[4].split())
+        self.assertEqual((run.returncode, run.stdout), (3, ""))
+        self.assertIn("r1c1: no acc.bil", run.stderr)
+        self.assertEqual((self.kept(), self.calls()), ({}, []))
+
+    def test_words(self) -> None:
+        self.job()
+        (words,) = self.calls()
+        tiles = " ".join(
+            str(self.folder / f"tiles/{name}.hgt") for name in ("N01E001", "N01E002", "N00E001", "N00E002")
+        )
+        work = self.out / "work"
+        expected = f"--inner nesw {tiles}"
+        self.assertEqual(
+            words, f"window --side 5 --products {work}/r1c1.cut --box 1,1,6,6 --report {work}/r1c1/report {expected}"
+        )
+
+    def test_words_of_one_window_with_sinks(self) -> None:
+        """A window with no inner side, with a list of sinks, cut below another folder."""
+        tile = self.folder / "tiles/N00E002.hgt"
+        (self.folder / "sinks.txt").write_text("9 9\n1 1\n")
+        keep = self.folder / "drain-keep"
+        keep.write_text(
+            f'#!/bin/sh\ncp "{self.folder}/cuts/w.cut/sinks.txt" "{self.folder}/kept"\nexec "{self.program}" "$@"\n'
+        )
+        keep.chmod(0o755)
+        env = {"SINKS": str(self.folder / "sinks.txt"), "CUTS": str(self.folder / "cuts"), "DRAIN": str(keep)}
+        run = self.run_script("job.sh", "w", "0,0,5,5", "-", "8,8,5,5", str(tile), **env)
+        self.assertEqual((run.returncode, run.stderr), (0, ""))
+        (words,) = self.calls()
+        cut = self.folder / "cuts/w.cut"
+        self.assertTrue(
+            words.startswith(f"window --side 5 --products {cut} --box 0,0,5,5 --report {self.out}/work/w/report")
+        )
+        self.assertTrue(words.endswith(f" --sinks {cut}/sinks.txt {tile}"))
+        self.assertEqual((self.folder / "kept").read_text(), "1 1\n\n")
+        self.assertEqual(list((self.folder / "cuts").iterdir()), [])
+
+    def test_half_an_answer(self) -> None:
+        """A line without its report, or a report without its line, is no answer."""
+        for lost in ("reports", "lines"):
+            self.job()
+            self.calls()
+            (self.out / lost / "r1c1.txt").unlink()
+            self.assertEqual(self.job(), 0)
+            self.assertEqual((len(self.calls()), len(self.kept())), (1, 2))
+
+    def test_signals(self) -> None:
+        """A job that is stopped leaves no answer; one that is killed leaves a folder, which the next run replaces."""
+        os.mkfifo(self.out / "hang")
+        for number, status, left in [
+            (signal.SIGTERM, 143, set()),
+            (signal.SIGINT, 130, set()),
+            (signal.SIGKILL, -9, {"work/r1c1", "work/r1c1.cut"}),
+        ]:
+            with self.subTest(number):
+                words = [EXAMPLE / "job.sh", *self.lines[4].split()]
+                job = subprocess.Popen(
+                    words, env={**self.env, "answer": "hang"}, start_new_session=True, preexec_fn=heed_interrupts
+                )
+                self.addCleanup(os.close, self.hold_up())
+                os.killpg(job.pid, number)
+                self.assertEqual(job.wait(60), status)
+                self.assertEqual(set(self.kept()), left)
+                self.calls()
+        self.assertEqual(self.job(), 0)
+        self.assertEqual(set(self.kept()), {"lines/r1c1.txt", "reports/r1c1.txt"})
+
+    def test_merge(self) -> None:
+        """All reports are handed over; windows without one are named."""
+        for window in (0, 2, 4):
+            self.job(window)
+        self.answer("2 refused BadSide")
+        self.job(7)
+        self.calls()
+        run = self.run_script("merge.sh", SINKS="list of sinks")
+        reports = " ".join(f"{self.out}/reports/{name}.txt" for name in ("r0c0", "r0c2", "r1c1"))
+        self.assertEqual((run.returncode, run.stdout), (0, "accepted of all\n"))
+        self.assertEqual(self.calls(), [f"merge --sinks list of sinks {reports}"])
+        named = {line.split(": ")[0]: line.split(": ")[1] for line in run.stderr.splitlines()}
+        self.assertEqual(
+            named,
+            {**dict.fromkeys(("r0c1", "r1c0", "r1c2", "r2c0", "r2c2"), "no answer yet"), "r2c1": "refused BadSide"},
+        )
+
+    def judge_all(self, run: subprocess.CompletedProcess[str]) -> None:
+        self.assertEqual((run.returncode, run.stderr), (0, ""))
+        self.assertEqual(reports_of(self.out), [f"r{i}c{j}.txt" for i in range(3) for j in range(3)])
+
+    def test_a_loop_of_the_shell(self) -> None:
+        env = {**self.env, "HERE": str(EXAMPLE)}
+        run = subprocess.run(["sh", "-c", SHELL_LOOP], env=env, capture_output=True, text=True, check=False)
+        self.judge_all(run)
+        self.assertEqual(run.stdout, "accepted of all\n")
+
+    @unittest.skipUnless(shutil.which("parallel"), "GNU parallel isn't installed")
+    def test_parallel(self) -> None:
+        run = self.run_script("parallel.sh", "3")
+        self.judge_all(run)
+        self.assertEqual((run.stdout, len(self.calls())), ("accepted of all\n", 10))
+        self.answer("3 failed OutOfMemory")
+        (self.out / "lines/r2c2.txt").unlink()
+        self.assertEqual(self.run_script("parallel.sh", "3").returncode, 3)
+        self.assertEqual(len(self.calls()), 2)
+
+    def test_tasks_of_an_array(self) -> None:
+        for task in range(1, 5):
+            env = {"SLURM_ARRAY_TASK_COUNT": "4", "SLURM_ARRAY_TASK_ID": str(task), "HERE": str(EXAMPLE)}
+            run = self.run_script("slurm.sh", **env)
+            self.assertEqual((run.returncode, run.stderr), (0, ""))
+            self.assertEqual(len(self.calls()), 3 if task == 1 else 2)
+        self.judge_all(run)
+        (self.out / "lines/r0c0.txt").unlink()
+        self.answer("3 failed OutOfMemory")
+        env = {"SLURM_ARRAY_TASK_COUNT": "4", "SLURM_ARRAY_TASK_ID": "1", "HERE": str(EXAMPLE)}
+        self.assertEqual(self.run_script("slurm.sh", **env).returncode, 3)
+
+    @unittest.skipUnless(shutil.which("snakemake"), "snakemake isn't installed")
+    def test_snakemake(self) -> None:
+        command = [
+            "snakemake",
+            "--snakefile",
+            EXAMPLE / "Snakefile",
+            "--cores",
+            "2",
+            "--keep-going",
+            "--rerun-incomplete",
+            "--nolock",
+        ]
+        for calls in (10, 0):
+            run = subprocess.run(command, cwd=self.folder, env=self.env, capture_output=True, text=True, check=False)
+            self.assertEqual(run.returncode, 0, run.stderr)
+            self.assertEqual((self.out / "verdict.txt").read_text(), "accepted of all\n")
+            self.assertEqual((len(reports_of(self.out)), len(self.calls())), (9, calls))
+
+
+if __name__ == "__main__":
+    unittest.main()
