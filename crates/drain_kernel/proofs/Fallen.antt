@@ -1,5 +1,5 @@
 -- A cell that lies on its ground and falls is kept, whatever lies beside it.
-use Rattle.std.proofs.Common.{◌≡◌, ◌≢◌, ℕ, ◌≤◌, ℤ, pos, ◌≤ℤ◌, Bool, true, false, ◌==◌, ◌&&◌, map, List, Option, Some, None, IsNone, IsSome, is_some, unwrap_or, slice_index, inr, refl, sym, ◌∙◌, ap, subst, arith, if◌then◌else◌}
+use Rattle.std.proofs.Common.{◌≡◌, ◌≢◌, ℕ, ◌<◌, ℤ, pos, ◌≤ℤ◌, Bool, true, false, ◌==◌, ◌&&◌, map, List, Option, Some, None, IsNone, IsSome, is_some, unwrap_or, slice_index, inr, refl, sym, ◌∙◌, ap, subst, arith, if◌then◌else◌}
 use Rattle.std.specs.Int.{int_max}
 use Rattle.std.proofs.lemmas.Bool.{false≢true, and_parts}
 use Rattle.std.proofs.lemmas.Bool.Decides.{Decides-eqb}
@@ -27,9 +27,9 @@ use Rattle.drain_kernel.specs.Falls.{FallsAt, keeps_fall, seen_code, seen_con}
 use Rattle.drain_kernel.specs.Kept.{IsKept}
 use Rattle.drain_kernel.specs.Rules.{rules_with, tested, tried, without_sums}
 use Rattle.drain_kernel.specs.Shown.{lowered, height_of, HasDataAt, HaveRanks, IsShownRound, Shows, row_beside, col_beside}
-use Rattle.drain_kernel.specs.Tests.{AreComplete, adds_up, passed_on}
+use Rattle.drain_kernel.specs.Tests.{adds_up, passed_on}
 use Rattle.drain_kernel.proofs.Inland.{le_from, no_void, of_each, some_height}
-use Rattle.drain_kernel.proofs.Meaning.{is_complete, no_outlet, not_zero}
+use Rattle.drain_kernel.proofs.Meaning.{AreComplete, are_complete, is_complete, no_outlet, not_zero}
 use Rattle.drain_kernel.proofs.NamedNumbers.{named_is, names_some}
 use Rattle.drain_kernel.proofs.Numbers.{Numbers, numbers_in, patch_of, values_are, values_of}
 use Rattle.drain_kernel.proofs.Summed.{if_tested, summed}
@@ -44,9 +44,9 @@ seen_data z hidden x there = by_test (z == 0) (Decides-eqb z 0).0
     by_test true is = absurd (there (is refl))
     by_test false is = refl
 
--- a con that is seen no higher than any height is that of a neighbour with data
-seen_low : (z con : ℕ) → seen_con z con ≤ 65535 → z ≢ 0
-seen_low z con low zero = let none : 4294967295 ≤ 65535 = subst (λ x. seen_con x con ≤ 65535) zero low in absurd (omega (arith, none))
+-- a con that is seen below the greatest height is that of a neighbour with data
+seen_low : (z con : ℕ) → seen_con z con < 65535 → z ≢ 0
+seen_low z con low zero = let none : 65535 < 65535 = subst (λ x. seen_con x con < 65535) zero low in absurd (omega (arith, none))
 
 -- a lane with an elevation isn't 0
 some_lane : (z : ℕ) (o : Option ℤ) → o ≡ height_of z → IsSome o → z ≢ 0
@@ -101,7 +101,7 @@ seen_are_values : (row : Lanes) (k : ℕ) (v : Values) → Shows row k v → Has
     }) ≡ v
 seen_are_values row k v s there =
     let con : lowered (seen_con (slice_index row.z.items k) (slice_index row.con.items k)) ≡ v.con =
-    ap lowered (seen_data (slice_index row.z.items k) 4294967295 (slice_index row.con.items k) there) ∙ sym (s.con_is there) in
+    ap lowered (seen_data (slice_index row.z.items k) 65535 (slice_index row.con.items k) there) ∙ sym (s.con_is there) in
     λ i. record {
       z = sym s.z_is i;
       sink = v.sink;
@@ -268,7 +268,7 @@ is_kept_there rules sums above here below k p shown have passes =
       level = fall.level;
       way = fall.way;
       label = fall.label;
-      complete = passes.complete;
+      complete = are_complete rules.nodata here k passes.has_way passes.has_counts;
     } in
     let sum = if_tested sums _ _ (sum_from above here below k p shown) passes.sum in
     let rank = rank_from rules.ranks rules.nodata above here below k p.here shown.cell fall.has_data have passes.rank in

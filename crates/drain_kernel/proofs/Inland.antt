@@ -13,7 +13,7 @@ use Rattle.drain_grid.specs.Patch.{neighbor, height, IsDataNeighbor, IsOpen}
 use Rattle.drain_grid.specs.PatchRules.{BelowGroundHolds, NotLeastHolds}
 use Rattle.drain_grid.proofs.Options.{same_some}
 use Rattle.drain_kernel.specs.Shown.{lowered, height_of}
-use Rattle.drain_kernel.specs.Tests.{have_data, keeps_surface}
+use Rattle.drain_kernel.specs.Tests.{keeps_surface}
 use Rattle.drain_kernel.proofs.Numbers.{Numbers, values_of, patch_of}
 use Rattle.drain_kernel.proofs.NamedNumbers.{least_bound}
 
@@ -43,20 +43,6 @@ no_void z h void = by_test (z == 0) h ((Decides-eqb z 0).1 void)
     by_test : (b : Bool) → not b ≡ true → b ≢ true
     by_test true e same = false≢true e
     by_test false e same = false≢true same
-
--- what the test of voids gives
-pub all_have_data : (z : ℕ) (zs : Direction → ℕ) → have_data z (map zs directions) ≡ true → (z ≢ 0) × ((d : Direction) → zs d ≢ 0)
-unfolding have_data
-all_have_data z zs h =
-    let ne = and_parts _ _ h in
-    let nth = and_parts _ _ ne.0 in
-    let nw = and_parts _ _ nth.0 in
-    let w = and_parts _ _ nw.0 in
-    let sw = and_parts _ _ w.0 in
-    let s = and_parts _ _ sw.0 in
-    let se = and_parts _ _ s.0 in
-    let e = and_parts _ _ se.0 in
-    (no_void z e.0, λ d. no_void (zs d) (of_each (λ d. not (zs d == 0) ≡ true) e.1 se.1 s.1 sw.1 w.1 nw.1 nth.1 ne.1 d))
 
 pub some_height : (z : ℕ) → z ≢ 0 → height_of z ≡ Some (lowered z)
 some_height z there = by_test (z == 0) (Decides-eqb z 0).0

@@ -1,6 +1,11 @@
 pub mod Alongs
 pub mod NamedNumbers
 pub mod Keys
+pub mod Squares
+pub mod Capped
+pub mod SmallSums
+pub mod SmallRanks
+pub mod Labels
 pub mod Summed
 pub mod PassedOn
 pub mod Counting

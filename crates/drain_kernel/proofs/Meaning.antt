@@ -1,7 +1,7 @@
 -- A cell whose numbers pass every test is kept.
-use Rattle.std.proofs.Common.{◌≡◌, ◌≢◌, ◌⊎◌, ◌<◌, ℕ, pos, true, ◌==◌, max, map, List, Option, slice_index, IsNone, is_some, inl, inr, sym, ◌∙◌, ap, subst, arith}
-use Rattle.std.proofs.lemmas.Bool.{false≢true, and_parts}
-use Rattle.std.proofs.lemmas.Bool.Decides.{Decides-eqb, Decides-ltb}
+use Rattle.std.proofs.Common.{◌≡◌, ◌≢◌, ℕ, pos, true, ◌==◌, map, List, Option, slice_index, IsNone, is_some, inr, sym, ◌∙◌, ap, subst}
+use Rattle.std.proofs.lemmas.Bool.{false≢true}
+use Rattle.std.proofs.lemmas.Bool.Decides.{Decides-eqb}
 use Rattle.drain_grid.specs.declared.direction.Direction.{Direction}
 use Rattle.drain_grid.specs.declared.direction.Direction.TheVariants.{East, SouthEast, South, SouthWest, West, NorthWest, North, NorthEast}
 use Rattle.drain_grid.specs.declared.set_product.SetProduct.{SetProduct}
@@ -12,7 +12,7 @@ use Rattle.drain_grid.specs.declared.rule.Rule.TheVariants.{VoidCell, Missing, B
 use Rattle.drain_grid.specs.Direction.{directions, code_of, opposite}
 use Rattle.drain_grid.specs.SetProduct.{product_of}
 use Rattle.drain_grid.specs.Values.{Values, NoDataNumbers, value_of, number_for}
-use Rattle.drain_grid.specs.PatchRules.{AccumulationHolds, inflow, check_rules}
+use Rattle.drain_grid.specs.PatchRules.{AccumulationHolds, LabelHolds, inflow, check_rules}
 use Rattle.drain_grid.specs.Unranked.{unranked}
 use Rattle.drain_kernel.specs.declared.lanes.Lanes.{Lanes}
 use Rattle.drain_kernel.specs.declared.rules.Ranks.{Ranks}
@@ -20,32 +20,30 @@ use Rattle.drain_kernel.specs.declared.rules.Ranks.TheVariants.{Checked, Ignored
 use Rattle.drain_kernel.specs.declared.rules.Rules.{Rules}
 use Rattle.drain_kernel.specs.declared.rules.Sums.{Sums}
 use Rattle.drain_kernel.specs.Checked.{IfChecked, IfTested}
-use Rattle.drain_kernel.specs.Columns.{is_inland_at, PassesAt, RanksPassAt}
+use Rattle.drain_kernel.specs.Columns.{HasCountsAt, HasWayAt, IsInlandAt, PassesAt, RanksPassAt}
 use Rattle.drain_kernel.specs.Kept.{IsKept}
 use Rattle.drain_kernel.specs.Rules.{rules_with, tested, tried, without_sums}
-use Rattle.drain_kernel.specs.Shown.{height_of, HaveRanks, IsShown, HasRanks, row_beside, col_beside}
-use Rattle.drain_kernel.specs.Tests.{AreComplete, keeps_accumulation, adds_up}
-use Rattle.drain_kernel.proofs.Inland.{IsInland, all_have_data, inland_from, of_each, not_open, OfSurface, of_surface}
+use Rattle.drain_kernel.specs.Shown.{lowered, height_of, HasDataAt, HaveRanks, IsShown, HasRanks, row_beside, col_beside}
+use Rattle.drain_kernel.specs.Tests.{adds_up}
+use Rattle.drain_kernel.proofs.Inland.{IsInland, inland_from, of_each, not_open, OfSurface, of_surface}
 use Rattle.drain_kernel.proofs.Numbers.{Numbers, HaveDataAt, values_of, patch_of, numbers_in, numbers_beside, patch_is, neighbor_is}
-use Rattle.drain_kernel.proofs.PassedOn.{inflow_is, inflow_passed, total_is}
+use Rattle.drain_kernel.proofs.PassedOn.{inflow_passed, total_is}
 use Rattle.drain_kernel.proofs.Summed.{if_tested, summed}
-use Rattle.drain_kernel.proofs.Ways.{OfDirection, of_direction, FallsOrNears, falls_or_nears_from, flat_step_from}
+use Rattle.drain_kernel.proofs.Ways.{OfDirection, of_direction, of_label, FallsOrNears, falls_or_nears_from, flat_step_from}
+
+-- the four numbers aren't their products' no-data numbers
+pub record AreComplete (nodata : NoDataNumbers) (con dir acc bas : ℕ) : Type 0 where
+  pub con_differs : lowered con ≢ nodata.con
+  pub dir_differs : pos dir ≢ nodata.dir
+  pub acc_differs : pos acc ≢ nodata.acc
+  pub bas_differs : pos bas ≢ nodata.bas
+
+pub are_complete : (nodata : NoDataNumbers) (h : Lanes) (k : ℕ) → HasWayAt nodata h k → HasCountsAt nodata h k →
+    AreComplete nodata (slice_index h.con.items k) (slice_index h.dir.items k) (slice_index h.acc.items k) (slice_index h.bas.items k)
+are_complete nodata h k way counts =
+    record { con_differs = way.con_differs; dir_differs = way.dir_differs; acc_differs = counts.acc_differs; bas_differs = counts.bas_differs }
 
 -- what the test of the accumulation gives
-of_accumulation : (here : Numbers) (n : Direction → Numbers) (around : List (Option Values)) → IsInland here n around →
-    keeps_accumulation here.acc (map (λ d. (n d).dir) directions) (map (λ d. (n d).acc) directions) ≡ true → AccumulationHolds (patch_of here around)
-unfolding keeps_accumulation
-of_accumulation here n around known h =
-    let parts = and_parts _ _ h in
-    let most : max (max (max (n East).acc (n SouthEast).acc) (max (n South).acc (n SouthWest).acc))
-    (max (max (n West).acc (n NorthWest).acc) (max (n North).acc (n NorthEast).acc)) < 268435456 = (Decides-ltb _ _).0 parts.0 in
-    let small = of_each (λ d. (n d).acc < 268435456) (omega arith) (omega arith) (omega arith) (omega arith) (omega arith) (omega arith) (omega arith) (omega arith) in
-    let from = λ (d : Direction). ap (λ o. inflow o d) (known.neighbor_is d) ∙
-    inflow_is (is_some (height_of (n d).z)) ((n d).dir == code_of (opposite d)) (n d).acc (ap is_some (known.beside_is d)) (small d) in
-    λ _. total_is here.acc _ _ _ _ _ _ _ _ _ _ _ _ _ _ _ _ (from East) (from SouthEast) (from South) (from SouthWest) (from West) (from NorthWest)
-    (from North) (from NorthEast) ((Decides-eqb _ _).0 parts.1)
-
--- and what that of large numbers gives
 of_sum : (here : Numbers) (n : Direction → Numbers) (around : List (Option Values)) → IsInland here n around →
     adds_up here.acc (map (λ d. (n d).dir) directions) (map (λ d. (n d).acc) directions) ≡ true → AccumulationHolds (patch_of here around)
 unfolding adds_up
@@ -55,18 +53,12 @@ of_sum here n around known h =
     λ _. total_is here.acc _ _ _ _ _ _ _ _ _ _ _ _ _ _ _ _ (from East) (from SouthEast) (from South) (from SouthWest) (from West) (from NorthWest)
     (from North) (from NorthEast) ((Decides-eqb _ _).0 h)
 
--- one of the two passes
-of_either : (here : Numbers) (n : Direction → Numbers) (around : List (Option Values)) → IsInland here n around →
-    (keeps_accumulation here.acc (map (λ d. (n d).dir) directions) (map (λ d. (n d).acc) directions) ≡ true) ⊎
-    (adds_up here.acc (map (λ d. (n d).dir) directions) (map (λ d. (n d).acc) directions) ≡ true) → AccumulationHolds (patch_of here around)
-of_either here n around known (inl small) = of_accumulation here n around known small
-of_either here n around known (inr any) = of_sum here n around known any
-
 -- what the tests without ranks and sums give together
 record Passed (nodata : NoDataNumbers) (here : Numbers) (n : Direction → Numbers) (around : List (Option Values)) : Type 0 where
   inland : IsInland here n around
   surface : OfSurface here around
   direction : OfDirection here around
+  label : LabelHolds (patch_of here around)
   complete : AreComplete nodata here.con here.dir here.acc here.bas
 
 -- no rule without ranks but Accumulation fails
@@ -90,7 +82,7 @@ of_unranked nodata here n around passed Slope = passed.direction.slope
 of_unranked nodata here n around passed OutletCode = λ opened. absurd (not_open here n around passed.inland opened)
 of_unranked nodata here n around passed FlatStep = passed.direction.level_step
 of_unranked nodata here n around passed Accumulation = tt
-of_unranked nodata here n around passed Label = passed.direction.label
+of_unranked nodata here n around passed Label = passed.label
 of_unranked nodata here n around passed SharedLabel = tt
 
 -- what the tests of ranks give besides
@@ -122,7 +114,7 @@ of_check nodata here n around passed ranked Slope = passed.direction.slope
 of_check nodata here n around passed ranked OutletCode = λ opened. absurd (not_open here n around passed.inland opened)
 of_check nodata here n around passed ranked FlatStep = flat_step_from here n around passed.inland passed.direction.level_step ranked.nears
 of_check nodata here n around passed ranked Accumulation = tt
-of_check nodata here n around passed ranked Label = passed.direction.label
+of_check nodata here n around passed ranked Label = passed.label
 of_check nodata here n around passed ranked SharedLabel = tt
 
 of_rules : (ranks : Ranks) (sums : Sums) (nodata : NoDataNumbers) (here : Numbers) (n : Direction → Numbers) (around : List (Option Values)) →
@@ -138,10 +130,12 @@ pub no_outlet : (d : Direction) → code_of d ≢ 0
 no_outlet = of_each (λ d. code_of d ≢ 0) (λ e. cc) (λ e. cc) (λ e. cc) (λ e. cc) (λ e. cc) (λ e. cc) (λ e. cc) (λ e. cc)
 
 -- the test of voids, of the nine columns
-have_data_from : (above here below : Lanes) (k : ℕ) → is_inland_at above here below k ≡ true → HaveDataAt above here below k
-have_data_from above here below k h =
-    let known = all_have_data (slice_index here.z.items k) (λ d. slice_index (row_beside above here below d).z.items (col_beside k d)) h in
-    record { here_has = known.0; beside_has = known.1 }
+have_data_from : (above here below : Lanes) (k : ℕ) → IsInlandAt above here below k → HaveDataAt above here below k
+have_data_from above here below k known = record {
+  here_has = known.here_is.middle;
+  beside_has = of_each (λ d. HasDataAt (row_beside above here below d) (col_beside k d)) known.here_is.right known.below_is.right known.below_is.middle
+      known.below_is.left known.here_is.left known.above_is.left known.above_is.middle known.above_is.right;
+}
 
 pub not_zero : (code d : ℕ) → pos code ≡ pos d → d ≢ 0 → pos code ≢ pos 0
 not_zero code d is differs h = differs (same_natural d 0 (sym is ∙ h))
@@ -179,9 +173,10 @@ is_kept rules sums above here below k p shown have passes =
       inland = known;
       surface = of_surface at n p.around known passes.surface;
       direction = direction;
-      complete = passes.complete;
+      label = of_label at n p.around known passes.label;
+      complete = are_complete rules.nodata here k passes.has_way passes.has_counts;
     } in
-    let sum = if_tested sums _ _ (of_either at n p.around known) passes.accumulation in
+    let sum = if_tested sums _ _ (of_sum at n p.around known) passes.accumulation in
     let ranked = ranked_from rules.ranks rules.nodata above here below k p shown nine have passes.ranks in
     subst (IsKept (tested sums (tried rules))) (sym (patch_is above here below k p shown nine.here_has)) (record {
       holds = λ r own. of_rules rules.ranks sums rules.nodata at n p.around passed sum ranked r;

@@ -13,7 +13,7 @@ use Rattle.drain_grid.specs.Unranked.{IsLevelStep, LevelStepHolds}
 use Rattle.drain_grid.proofs.Options.{same_some}
 use Rattle.drain_kernel.specs.Around.{least_straight_in, least_across_in}
 use Rattle.drain_kernel.specs.Shown.{lowered}
-use Rattle.drain_kernel.specs.Tests.{keeps_direction, falls_steepest, steps_along, falls_or_nears}
+use Rattle.drain_kernel.specs.Tests.{keeps_direction, keeps_label, falls_steepest, steps_along, falls_or_nears}
 use Rattle.drain_kernel.proofs.Inland.{IsInland, is_beside, of_beside, le_from}
 use Rattle.drain_kernel.proofs.Keys.{weight, key_is, straight_is_greatest, across_is_greatest}
 use Rattle.drain_kernel.proofs.NamedNumbers.{named_is, names_some, straight_is, least_straight_bound, least_across_bound, least_bound}
@@ -25,10 +25,10 @@ lt_lowered a b h = omega (arith, ints)
 lt_from_lowered : (a b : ℕ) → lowered a <ℤ lowered b → a < b
 lt_from_lowered a b h = omega (arith, ints)
 
--- data neighbours have these numbers, and each neighbour has data whose con is no higher than any height
+-- data neighbours have these numbers, and each neighbour has data whose con is below the greatest height
 pub record AreSeen (here : Numbers) (n : Direction → Numbers) (around : List (Option Values)) : Type 0 where
   pub data_is : (d : Direction) (m : Values) → IsDataNeighbor (patch_of here around) d m → values_of (n d) ≡ m
-  pub has_data : (d : Direction) → (n d).con ≤ 65535 → IsDataNeighbor (patch_of here around) d (values_of (n d))
+  pub has_data : (d : Direction) → (n d).con < 65535 → IsDataNeighbor (patch_of here around) d (values_of (n d))
 
 seen_inland : (here : Numbers) (n : Direction → Numbers) (around : List (Option Values)) → IsInland here n around → AreSeen here n around
 seen_inland here n around known = record {
@@ -125,21 +125,16 @@ pub record OfDirection (here : Numbers) (around : List (Option Values)) : Type 0
   pub named : NamesSome (pos here.dir)
   pub slope : SlopeHolds (patch_of here around)
   pub level_step : LevelStepHolds (patch_of here around)
-  pub label : LabelHolds (patch_of here around)
 
 pub of_direction : (here : Numbers) (n : Direction → Numbers) (around : List (Option Values)) → IsInland here n around →
-    keeps_direction here.con here.dir (map (λ d. (n d).con) directions) here.bas (map (λ d. (n d).bas) directions) ≡ true → OfDirection here around
+    keeps_direction here.con here.dir (map (λ d. (n d).con) directions) ≡ true → OfDirection here around
 unfolding keeps_direction
 of_direction here n around known h =
-    let labelled = and_parts _ _ h in
-    let goes = and_parts _ _ labelled.0 in
+    let goes = and_parts _ _ h in
     let fits = and_parts _ _ goes.0 in
     let code = names_some here.dir fits.0 in
     let d = code.0 in
     let most = le_from _ _ fits.1 in
-    let label : LabelHolds (patch_of here around) = λ _ e m named beside.
-    of_beside here n around known e m (λ v. pos here.bas ≡ v.bas)
-    (ap pos (sym ((Decides-eqb _ _).0 labelled.1) ∙ named_is (λ d. (n d).bas) here.dir e named)) beside in
     elim (or_cases _ _ goes.1) [
       | inl falls ↦ (
           let steepest = steepest_from here n around (seen_inland here n around known) d code.1 most falls in
@@ -147,7 +142,6 @@ of_direction here n around known h =
             named = code;
             slope = λ _. (d, code.1, steepest);
             level_step = λ closed none. absurd (none (closed.0, (d, (steepest.0, steepest.1.lower))));
-            label = label;
           })
       | inr along ↦ (
           let step = step_from here n around known d code.1 along in
@@ -155,9 +149,15 @@ of_direction here n around known h =
             named = code;
             slope = λ lower. absurd (step.0 lower);
             level_step = λ _ _. (d, values_of (n d), step.1);
-            label = label;
           })
     ]
+
+-- what the test of the label gives
+pub of_label : (here : Numbers) (n : Direction → Numbers) (around : List (Option Values)) → IsInland here n around →
+    keeps_label here.dir here.bas (map (λ d. (n d).bas) directions) ≡ true → LabelHolds (patch_of here around)
+of_label here n around known h = λ _ e m named beside.
+    of_beside here n around known e m (λ v. pos here.bas ≡ v.bas)
+    (ap pos (sym ((Decides-eqb _ _).0 h) ∙ named_is (λ d. (n d).bas) here.dir e named)) beside
 
 -- the code leads to a smaller conditioned elevation, or to a smaller rank
 abbrev pub FallsOrNears : Numbers → (Direction → Numbers) → Type 0

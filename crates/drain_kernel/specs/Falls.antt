@@ -5,12 +5,12 @@ use Rattle.drain_kernel.specs.declared.rules.Rules.{Rules}
 use Rattle.drain_kernel.specs.declared.rules.Sums.{Sums}
 use Rattle.drain_kernel.specs.Around.{around_in, is_direction_code, named_in}
 use Rattle.drain_kernel.specs.Checked.{IfChecked, IfTested}
-use Rattle.drain_kernel.specs.Columns.{HasRankAt, IsCompleteColumn}
+use Rattle.drain_kernel.specs.Columns.{HasCountsAt, HasRankAt, HasWayAt}
 use Rattle.drain_kernel.specs.Tests.{adds_up, falls_steepest}
 
--- a neighbour's conditioned elevation: at a void higher than any height
+-- a neighbour's conditioned elevation: at a void no lower than any height
 abbrev pub seen_con : ℕ → ℕ → ℕ
-seen_con z con = if z == 0 then 4294967295 else con
+seen_con z con = if z == 0 then 65535 else con
 
 -- its direction: at a void none
 abbrev pub seen_code : ℕ → ℕ → ℕ
@@ -46,5 +46,6 @@ seen_sum_at a h b k =
 pub record FallsAt (rules : Rules) (sums : Sums) (a h b : Lanes) (k : ℕ) : Type 0 where
   pub fall : IsTrue (keeps_fall_at a h b k)
   pub sum : IfTested sums (IsTrue (seen_sum_at a h b k))
-  pub complete : IsCompleteColumn rules.nodata h k
+  pub has_way : HasWayAt rules.nodata h k
+  pub has_counts : HasCountsAt rules.nodata h k
   pub rank : IfChecked rules.ranks (HasRankAt rules.nodata h k)

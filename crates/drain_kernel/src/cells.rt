@@ -1,39 +1,20 @@
 //! The tests at one cell, without a branch, so that a loop of them can take many cells at a time.
 
-ghost use Rattle.std.specs.Prelude.{◌≡◌, ◌≢◌, ◌≤◌, ◌<◌, ◌^◌, IsTrue, pos, ◌-ℤ◌};
-ghost use Rattle.drain_kernel.specs.Tests.{AreComplete, have_data, keeps_surface, keeps_direction, keeps_accumulation, adds_up, falls_steepest, steps_along, square_of_drop, handed_on, passed_on};
+ghost use Rattle.std.specs.Prelude.{◌≡◌, ◌≢◌, IsTrue, pos, ◌-ℤ◌};
+ghost use Rattle.drain_kernel.specs.Tests.{keeps_direction, keeps_label, keeps_surface, falls_steepest, steps_along, square_of_drop};
 
 use crate::around::{is_direction, is_straight, least_across, least_straight, named};
-use crate::narrowing::{is_lane, lane};
+use crate::narrowing::{is_lane, is_short_lane, lane, short_lane};
+use crate::wide::named_wide;
 use drain_grid::NoData;
 
-/// Accumulations below this add up, eight of them, within 32 bits.
-const LARGE: u32 = 268435456;
-
 /// The greatest height in a lane, where heights are 32768 more than they are.
-pub(crate) const HIGHEST: u32 = 65535;
-
-/// Whether a cell and its neighbours have data.
-#[inline(always)]
-#[tactic(auto, unfolding(crate::specs::Tests::have_data))]
-pub fn have_data(z: u32, zs: [u32; 8]) -> bool
-    ensures { result ≡ have_data z zs }
-{
-    (z != 0)
-        & (zs[0] != 0)
-        & (zs[1] != 0)
-        & (zs[2] != 0)
-        & (zs[3] != 0)
-        & (zs[4] != 0)
-        & (zs[5] != 0)
-        & (zs[6] != 0)
-        & (zs[7] != 0)
-}
+pub(crate) const HIGHEST: u16 = 65535;
 
 /// The rules of the conditioned elevation, at a cell where all have data.
 #[inline(always)]
 #[tactic(auto, unfolding(crate::specs::Tests::keeps_surface))]
-pub fn keeps_surface(height: u32, con: u32, cons: [u32; 8]) -> bool
+pub fn keeps_surface(height: u16, con: u16, cons: [u16; 8]) -> bool
     ensures { result ≡ keeps_surface height con cons }
 {
     let least = least_straight(cons).min(least_across(cons));
@@ -42,17 +23,17 @@ pub fn keeps_surface(height: u32, con: u32, cons: [u32; 8]) -> bool
 
 /// The square of a drop, 0 if there is none.
 #[inline(always)]
-fn square_of_drop(con: u32, low: u32) -> u32
+fn square_of_drop(con: u16, low: u16) -> u32
     ensures { result ≡ square_of_drop con low }
 {
-    let drop = con.saturating_sub(low).min(HIGHEST);
+    let drop = u32::from(con.saturating_sub(low));
     drop * drop
 }
 
 /// Whether the code leads down the steepest way.
 #[inline(always)]
 #[tactic(auto, unfolding(crate::specs::Tests::falls_steepest))]
-pub(crate) fn falls_steepest(con: u32, code: u32, cons: [u32; 8]) -> bool
+pub(crate) fn falls_steepest(con: u16, code: u16, cons: [u16; 8]) -> bool
     ensures { result ≡ falls_steepest con code cons }
 {
     let next = named(code, cons);
@@ -68,76 +49,29 @@ pub(crate) fn falls_steepest(con: u32, code: u32, cons: [u32; 8]) -> bool
 /// Whether no neighbour is lower, and the code leads along the flat.
 #[inline(always)]
 #[tactic(auto, unfolding(crate::specs::Tests::steps_along))]
-fn steps_along(con: u32, code: u32, cons: [u32; 8]) -> bool
+pub(crate) fn steps_along(con: u16, code: u16, cons: [u16; 8]) -> bool
     ensures { result ≡ steps_along con code cons }
 {
     let least = least_straight(cons).min(least_across(cons));
     (named(code, cons) == con) & (con <= least)
 }
 
-/// The rules of the direction, without ranks, and of the label, at a cell where all have data.
+/// The rules of the direction, without ranks, at a cell where all have data.
 #[inline(always)]
 #[tactic(auto, unfolding(crate::specs::Tests::keeps_direction))]
-pub fn keeps_direction(con: u32, code: u32, cons: [u32; 8], label: u32, labels: [u32; 8]) -> bool
-    ensures { result ≡ keeps_direction con code cons label labels }
+pub fn keeps_direction(con: u16, code: u16, cons: [u16; 8]) -> bool
+    ensures { result ≡ keeps_direction con code cons }
 {
     let goes = falls_steepest(con, code, cons) | steps_along(con, code, cons);
-    is_direction(code) & (con <= HIGHEST) & goes & (named(code, labels) == label)
+    is_direction(code) & (con <= HIGHEST) & goes
 }
 
-/// What a neighbour passes on.
+/// The rule of the label, at a cell where all have data.
 #[inline(always)]
-fn handed_on(code: u32, back: u32, acc: u32) -> u32
-    ensures number { result ≡ handed_on code back acc }
-    ensures small { result ≤ 268435456 }
+pub fn keeps_label(code: u16, label: u32, labels: [u32; 8]) -> bool
+    ensures { result ≡ keeps_label code label labels }
 {
-    let capped = acc.min(LARGE);
-    if code == back { capped } else { 0 }
-}
-
-/// The rule of the accumulation, at a cell where all have data.
-#[inline(always)]
-#[tactic(auto, unfolding(crate::specs::Tests::keeps_accumulation))]
-pub fn keeps_accumulation(acc: u32, codes: [u32; 8], accs: [u32; 8]) -> bool
-    ensures { result ≡ keeps_accumulation acc codes accs }
-{
-    let first = handed_on(codes[0], 16, accs[0])
-        + handed_on(codes[1], 32, accs[1])
-        + handed_on(codes[2], 64, accs[2])
-        + handed_on(codes[3], 128, accs[3]);
-    let second = handed_on(codes[4], 1, accs[4])
-        + handed_on(codes[5], 2, accs[5])
-        + handed_on(codes[6], 4, accs[6])
-        + handed_on(codes[7], 8, accs[7]);
-    let low = accs[0].max(accs[1]).max(accs[2].max(accs[3]));
-    let high = accs[4].max(accs[5]).max(accs[6].max(accs[7]));
-    (low.max(high) < LARGE) & (acc == first + second + 1)
-}
-
-/// What a neighbour passes on, however large it is.
-#[inline(always)]
-fn passed_on(code: u32, back: u32, acc: u32) -> u64
-    ensures number { result ≡ passed_on code back acc }
-    ensures small { result < 2 ^ 32 }
-{
-    if code == back { u64::from(acc) } else { 0 }
-}
-
-/// The rule of the accumulation, at a cell where all have data, by sums of 64 bits, however large the numbers are.
-#[inline(always)]
-#[tactic(auto, unfolding(crate::specs::Tests::adds_up))]
-pub fn adds_up(acc: u32, codes: [u32; 8], accs: [u32; 8]) -> bool
-    ensures { result ≡ adds_up acc codes accs }
-{
-    let first = passed_on(codes[0], 16, accs[0])
-        + passed_on(codes[1], 32, accs[1])
-        + passed_on(codes[2], 64, accs[2])
-        + passed_on(codes[3], 128, accs[3]);
-    let second = passed_on(codes[4], 1, accs[4])
-        + passed_on(codes[5], 2, accs[5])
-        + passed_on(codes[6], 4, accs[6])
-        + passed_on(codes[7], 8, accs[7]);
-    u64::from(acc) == first + second + 1
+    named_wide(u32::from(code), labels) == label
 }
 
 /// Whether a lane isn't this number, converted to a lane first: so lanes are compared with lanes, and a loop converts
@@ -149,25 +83,33 @@ pub fn differs(here: u32, number: i64) -> bool
     !is_lane(number) | (here != lane(number))
 }
 
+/// The same of a lane of 16 bits.
+#[inline(always)]
+fn differs_short(here: u16, number: i64) -> bool
+    ensures { IsTrue result → pos here ≢ number }
+{
+    !is_short_lane(number) | (here != short_lane(number))
+}
+
 /// Whether a conditioned elevation isn't its no-data number.
 #[inline(always)]
-fn con_differs(con: u32, nodata: &NoData) -> bool
+pub fn con_differs(con: u16, nodata: &NoData) -> bool
     ensures { IsTrue result → pos con -ℤ pos 32768 ≢ nodata.now.con }
 {
-    differs(con, nodata.con + 32768)
+    differs_short(con, nodata.con + 32768)
 }
 
 /// The same of a direction.
 #[inline(always)]
-fn dir_differs(dir: u32, nodata: &NoData) -> bool
+pub fn dir_differs(dir: u16, nodata: &NoData) -> bool
     ensures { IsTrue result → pos dir ≢ nodata.now.dir }
 {
-    differs(dir, nodata.dir)
+    differs_short(dir, nodata.dir)
 }
 
 /// The same of an accumulation.
 #[inline(always)]
-fn acc_differs(acc: u32, nodata: &NoData) -> bool
+pub fn acc_differs(acc: u32, nodata: &NoData) -> bool
     ensures { IsTrue result → pos acc ≢ nodata.now.acc }
 {
     differs(acc, nodata.acc)
@@ -175,19 +117,8 @@ fn acc_differs(acc: u32, nodata: &NoData) -> bool
 
 /// The same of a label.
 #[inline(always)]
-fn bas_differs(bas: u32, nodata: &NoData) -> bool
+pub fn bas_differs(bas: u32, nodata: &NoData) -> bool
     ensures { IsTrue result → pos bas ≢ nodata.now.bas }
 {
     differs(bas, nodata.bas)
-}
-
-/// Whether none of the four numbers is its product's no-data number.
-#[inline(always)]
-pub fn are_complete(con: u32, dir: u32, acc: u32, bas: u32, nodata: &NoData) -> bool
-    ensures { IsTrue result → AreComplete nodata.now con dir acc bas }
-{
-    con_differs(con, nodata)
-        & dir_differs(dir, nodata)
-        & acc_differs(acc, nodata)
-        & bas_differs(bas, nodata)
 }

@@ -10,29 +10,28 @@ ghost use Rattle.drain_kernel.specs.Kept.{IsKept};
 ghost use Rattle.drain_kernel.specs.Rules.{tested, tried, unsummed};
 ghost use Rattle.drain_kernel.specs.Shown.{cols, HasRanks, HaveRanks, IsInner, IsShownRound};
 
-use crate::around::{around, is_direction, named};
-use crate::cells::{HIGHEST, adds_up, falls_steepest};
-use crate::columns::is_complete;
+use crate::around::{around, is_direction};
+use crate::cells::{HIGHEST, falls_steepest, keeps_label};
+use crate::columns::{has_counts, has_way};
 use crate::kept::ranks_are_there;
 use crate::lanes::Lanes;
 use crate::ranked::has_rank;
 use crate::rules::{Ranks, Rules, Sums};
+use crate::sums::adds_up;
+use crate::wide::around_wide;
 use drain_grid::NoData;
 
-/// Higher than any conditioned elevation in a lane.
-const HIDDEN: u32 = 4294967295;
-
-/// The conditioned elevation of a neighbour; a void's is higher than any.
+/// The conditioned elevation of a neighbour; a void's is no lower than any.
 #[inline(always)]
-fn seen_con(z: u32, con: u32) -> u32
+fn seen_con(z: u16, con: u16) -> u16
     ensures { result ≡ seen_con z con }
 {
-    if z == 0 { HIDDEN } else { con }
+    if z == 0 { HIGHEST } else { con }
 }
 
 /// The direction of a neighbour; a void has none.
 #[inline(always)]
-fn seen_code(z: u32, code: u32) -> u32
+fn seen_code(z: u16, code: u16) -> u16
     ensures { result ≡ seen_code z code }
 {
     if z == 0 { 0 } else { code }
@@ -40,7 +39,7 @@ fn seen_code(z: u32, code: u32) -> u32
 
 /// Those of eight neighbours.
 #[inline(always)]
-fn seen_cons(zs: [u32; 8], cons: [u32; 8]) -> [u32; 8]
+fn seen_cons(zs: [u16; 8], cons: [u16; 8]) -> [u16; 8]
     ensures { result ≡ each_seen seen_con zs cons }
 {
     [
@@ -57,7 +56,7 @@ fn seen_cons(zs: [u32; 8], cons: [u32; 8]) -> [u32; 8]
 
 /// The directions of eight neighbours.
 #[inline(always)]
-fn seen_codes(zs: [u32; 8], codes: [u32; 8]) -> [u32; 8]
+fn seen_codes(zs: [u16; 8], codes: [u16; 8]) -> [u16; 8]
     ensures { result ≡ each_seen seen_code zs codes }
 {
     [
@@ -76,10 +75,10 @@ fn seen_codes(zs: [u32; 8], codes: [u32; 8]) -> [u32; 8]
 #[inline(always)]
 #[tactic(auto, unfolding(crate::specs::Falls::keeps_fall))]
 fn keeps_fall(
-    height: u32,
-    con: u32,
-    code: u32,
-    cons: [u32; 8],
+    height: u16,
+    con: u16,
+    code: u16,
+    cons: [u16; 8],
     label: u32,
     labels: [u32; 8],
 ) -> bool
@@ -90,7 +89,7 @@ fn keeps_fall(
         & (con <= HIGHEST)
         & is_direction(code)
         & falls_steepest(con, code, cons)
-        & (named(code, labels) == label)
+        & keeps_label(code, label, labels)
 }
 
 /// The same at a column.
@@ -103,7 +102,7 @@ fn fall_holds(above: &Lanes, here: &Lanes, below: &Lanes, k: usize) -> bool
 {
     let zs = around(&above.z, &here.z, &below.z, k);
     let cons = around(&above.con, &here.con, &below.con, k);
-    let labels = around(&above.bas, &here.bas, &below.bas, k);
+    let labels = around_wide(&above.bas, &here.bas, &below.bas, k);
     keeps_fall(
         here.z[k],
         here.con[k],
@@ -124,7 +123,7 @@ fn seen_sum_holds(above: &Lanes, here: &Lanes, below: &Lanes, k: usize) -> bool
 {
     let zs = around(&above.z, &here.z, &below.z, k);
     let codes = around(&above.dir, &here.dir, &below.dir, k);
-    let accs = around(&above.acc, &here.acc, &below.acc, k);
+    let accs = around_wide(&above.acc, &here.acc, &below.acc, k);
     adds_up(here.acc[k], seen_codes(zs, codes), accs)
 }
 
@@ -175,7 +174,8 @@ fn tests_pass(
         && here.dir[k] != 0
         && fall_holds(above, here, below, k)
         && keeps_sum(above, here, below, sums, k)
-        && is_complete(here, &rules.nodata, k)
+        && has_way(here, &rules.nodata, k)
+        && has_counts(here, &rules.nodata, k)
         && keeps_rank(here, rules, k)
 }
 

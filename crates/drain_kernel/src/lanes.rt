@@ -1,29 +1,37 @@
-//! A row of a grid and its products, in numbers of 32 bits.
+//! A row of a grid and its products, in numbers of 16 bits where that is enough, else of 32.
 
 ghost use Rattle.std.specs.Prelude.{◌≡◌, IsTrue, length, vec_len};
 ghost use Rattle.drain_kernel.specs.Checked.{IfChecked};
-ghost use Rattle.drain_kernel.specs.Lanes.{AreLanes};
+ghost use Rattle.drain_kernel.specs.Lanes.{AreCapped, AreLanes};
 
-use crate::narrowing::{take_elevations, take_heights, take_numbers};
+use crate::narrowing::{
+    take_capped, take_elevations, take_heights, take_numbers, take_short_numbers,
+};
 use crate::rules::Ranks;
 use drain_grid::PerProduct;
 use std::alloc::Global;
 
 /// The numbers of a row, next to each other for each column. Heights, z and con, are 32768 more than they are, and z is
-/// 0 at a void. Ranks are kept if they are checked. At a void a product's lane is 0 if its number doesn't fit; it is
-/// ignored.
+/// 0 at a void. Ranks are kept if they are checked. At a void a product's lane may be any number; it is ignored.
+/// Accumulations and ranks are there once more in 16 bits, 65535 where they are more.
 #[derive(Drop)]
 pub struct Lanes {
-    pub(crate) z: Vec<u32>,
-    pub(crate) con: Vec<u32>,
-    pub(crate) dir: Vec<u32>,
+    pub(crate) z: Vec<u16>,
+    pub(crate) con: Vec<u16>,
+    pub(crate) dir: Vec<u16>,
     pub(crate) acc: Vec<u32>,
     pub(crate) bas: Vec<u32>,
     pub(crate) rnk: Vec<u32>,
+    pub(crate) capped_acc: Vec<u16>,
+    pub(crate) capped_rnk: Vec<u16>,
     ghost con_len: { vec_len con ≡ vec_len z },
     ghost dir_len: { vec_len dir ≡ vec_len z },
     ghost acc_len: { vec_len acc ≡ vec_len z },
     ghost bas_len: { vec_len bas ≡ vec_len z },
+    ghost capped_acc_len: { vec_len capped_acc ≡ vec_len acc },
+    ghost acc_is_capped: { AreCapped acc.items capped_acc.items (vec_len acc) },
+    ghost capped_rnk_len: { vec_len capped_rnk ≡ vec_len rnk },
+    ghost rnk_is_capped: { AreCapped rnk.items capped_rnk.items (vec_len rnk) },
 }
 
 impl Lanes {
@@ -45,12 +53,14 @@ impl Lanes {
             acc: Vec::new(alloc),
             bas: Vec::new(alloc),
             rnk: Vec::new(alloc),
+            capped_acc: Vec::new(alloc),
+            capped_rnk: Vec::new(alloc),
         }
     }
 
     /// Replaces the row by these numbers, with ranks if they are checked, and returns whether it has them now. At each
-    /// column z must fit 16 signed bits, and except at voids con too, and the others 32 unsigned bits; memory is taken
-    /// if there is too little room. Else it has no row.
+    /// column z must fit 16 signed bits, and except at voids con too, dir 16 unsigned bits, and the others 32; memory
+    /// is taken if there is too little room. Else it has no row.
     pub fn take(&mut self, z: &[i64], products: &PerProduct<&[i64]>, ranks: Ranks) -> bool
         requires { (p : SetProduct) → length (of_product products.now p).now ≡ length z.now }
         ensures lanes { IsTrue result → AreLanesOf self.new z.now (per_product (λ p. (of_product products.now p).now)) }
@@ -58,19 +68,24 @@ impl Lanes {
         ensures nothing { result ≡ false → cols self.new ≡ 0 }
     {
         let z_fits = take_elevations(z, &mut self.z);
-        let elevations: &[u32] = &self.z;
+        let elevations: &[u16] = &self.z;
         let fit = z_fits
             & take_heights(elevations, products.con, &mut self.con)
-            & take_numbers(elevations, products.dir, &mut self.dir)
+            & take_short_numbers(elevations, products.dir, &mut self.dir)
             & take_numbers(elevations, products.acc, &mut self.acc)
             & take_numbers(elevations, products.bas, &mut self.bas)
-            & take_ranks(elevations, products.rnk, ranks, &mut self.rnk);
+            & take_ranks(elevations, products.rnk, ranks, &mut self.rnk)
+            & take_capped(&self.acc, &mut self.capped_acc)
+            & take_capped(&self.rnk, &mut self.capped_rnk);
         if !fit {
             self.z.clear();
             self.con.clear();
             self.dir.clear();
             self.acc.clear();
             self.bas.clear();
+            self.rnk.clear();
+            self.capped_acc.clear();
+            self.capped_rnk.clear();
         }
         fit
     }
@@ -117,7 +132,7 @@ impl Lanes {
 }
 
 /// Takes ranks if they are checked, else none.
-fn take_ranks(z: &[u32], numbers: &[i64], ranks: Ranks, out: &mut Vec<u32>) -> bool
+fn take_ranks(z: &[u16], numbers: &[i64], ranks: Ranks, out: &mut Vec<u32>) -> bool
     ensures len { IsTrue result → IfChecked ranks (vec_len out.new ≡ length numbers.now) }
     ensures lanes { IsTrue result → vec_len out.new ≡ length numbers.now → AreLanes z.now numbers.now out.new.items (length numbers.now) }
 {

@@ -9,10 +9,13 @@ pub mod kept;
 pub mod lanes;
 pub mod laws;
 mod narrowing;
+mod near;
 mod ranked;
 pub mod rules;
 mod stretches;
 mod strides;
+mod sums;
+mod wide;
 
 pub use falls::{falls_at, routed_falls_at};
 pub use kept::{kept_until, routed_until};

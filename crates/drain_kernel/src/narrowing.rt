@@ -1,8 +1,8 @@
-//! Numbers of 64 bits, converted to lanes of 32. At a void, where the elevation's lane is 0, a product's number need
-//! not fit.
+//! Numbers of 64 bits, converted to lanes of 16 or 32. At a void, where the elevation's lane is 0, a product's number
+//! need not fit.
 
-ghost use Rattle.std.specs.Prelude.{◌≡◌, ◌≢◌, ◌↔◌, ◌<◌, ◌^◌, ◌+ℤ◌, IsTrue, pos, length, vec_len};
-ghost use Rattle.drain_kernel.specs.Lanes.{AreLanes, AreElevationLanes, AreHeightLanes, is_lane, is_height};
+ghost use Rattle.std.specs.Prelude.{◌≡◌, ◌≢◌, ◌↔◌, ◌<◌, ◌≤◌, ◌^◌, ◌+ℤ◌, IsTrue, min, pos, length, slice_index, vec_len};
+ghost use Rattle.drain_kernel.specs.Lanes.{AreCapped, AreLanes, AreElevationLanes, AreHeightLanes, is_lane, is_short_lane, is_height};
 
 /// The lower 32 of these bits.
 #[inline(always)]
@@ -10,6 +10,14 @@ fn low_half(bits: u64) -> u32
     ensures { bits < 2 ^ 32 → result ≡ bits }
 {
     (bits & 0xFFFF_FFFF) as u32
+}
+
+/// The lowest 16.
+#[inline(always)]
+fn low_quarter(bits: u64) -> u16
+    ensures { bits < 2 ^ 16 → result ≡ bits }
+{
+    (bits & 0xFFFF) as u16
 }
 
 /// The upper 32.
@@ -38,15 +46,77 @@ pub fn is_lane(number: i64) -> bool
 
 /// Whether 32 unsigned bits hold the number, or it is at a void, where the elevation's lane is 0.
 #[inline(always)]
-fn is_lane_at(z: u32, number: i64) -> bool
+fn is_lane_at(z: u16, number: i64) -> bool
     ensures { IsTrue result → z ≢ 0 → IsTrue (is_lane number) }
 {
     is_lane(number) | (z == 0)
 }
 
+/// The number, if 16 bits hold it; else its lowest 16 bits.
+#[inline(always)]
+pub fn short_lane(number: i64) -> u16
+    ensures { IsTrue (is_short_lane number) → pos result ≡ number }
+{
+    low_quarter(number.cast_unsigned())
+}
+
+/// Whether 16 unsigned bits hold the number.
+#[inline(always)]
+pub fn is_short_lane(number: i64) -> bool
+    ensures { result ≡ is_short_lane number }
+{
+    let bits = number.cast_unsigned();
+    (high_half(bits) == 0) & (low_half(bits) <= 65535)
+}
+
+/// Whether 16 unsigned bits hold the number, or it is at a void.
+#[inline(always)]
+fn is_short_lane_at(z: u16, number: i64) -> bool
+    ensures { IsTrue result → z ≢ 0 → IsTrue (is_short_lane number) }
+{
+    is_short_lane(number) | (z == 0)
+}
+
+/// Converts the numbers of a row to lanes of 16 bits, and returns whether all fit that aren't at a void.
+#[inline(never)]
+fn put_short_numbers(z: &[u16], numbers: &[i64], out: &mut [u16]) -> bool
+    requires z_len { length z.now ≡ length numbers.now }
+    requires out_len { length out.old ≡ length numbers.now }
+    ensures len { length out.new ≡ length out.old }
+    ensures lanes { IsTrue result → AreLanes z.now numbers.now out.new (length numbers.now) }
+{
+    let mut all = true;
+    for k in 0..numbers.len() {
+        let number = numbers[k];
+        all &= is_short_lane_at(z[k], number);
+        out[k] = short_lane(number);
+    }
+    all
+}
+
+/// The number, or 65535 if it is more.
+#[inline(always)]
+fn capped(number: u32) -> u16
+    ensures { result ≡ min number 65535 }
+{
+    number.min(65535) as u16
+}
+
+/// Puts the lanes of a row into 16 bits each, 65535 where they are more.
+#[inline(never)]
+fn put_capped(numbers: &[u32], out: &mut [u16])
+    requires { length out.old ≡ length numbers.now }
+    ensures len { length out.new ≡ length out.old }
+    ensures capped { AreCapped numbers.now out.new (length numbers.now) }
+{
+    for k in 0..numbers.len() {
+        out[k] = capped(numbers[k]);
+    }
+}
+
 /// Converts the numbers of a row to lanes, and returns whether all fit that aren't at a void.
 #[inline(never)]
-fn put_numbers(z: &[u32], numbers: &[i64], out: &mut [u32]) -> bool
+fn put_numbers(z: &[u16], numbers: &[i64], out: &mut [u32]) -> bool
     requires z_len { length z.now ≡ length numbers.now }
     requires out_len { length out.old ≡ length numbers.now }
     ensures len { length out.new ≡ length out.old }
@@ -72,10 +142,10 @@ fn lifted(number: i64) -> u64
 
 /// 32768 more than a height, if it has 16 bits.
 #[inline(always)]
-fn height_lane(number: i64) -> u32
+fn height_lane(number: i64) -> u16
     ensures { IsTrue (is_height number) → pos result ≡ number +ℤ pos 32768 }
 {
-    low_half(lifted(number))
+    low_quarter(lifted(number))
 }
 
 /// Whether 16 signed bits hold the number.
@@ -89,7 +159,7 @@ fn is_height(number: i64) -> bool
 
 /// Whether 16 signed bits hold the number, or it is at a void.
 #[inline(always)]
-fn is_height_at(z: u32, number: i64) -> bool
+fn is_height_at(z: u16, number: i64) -> bool
     ensures { IsTrue result → z ≢ 0 → IsTrue (is_height number) }
 {
     is_height(number) | (z == 0)
@@ -97,7 +167,7 @@ fn is_height_at(z: u32, number: i64) -> bool
 
 /// Converts the heights of a row to lanes, 32768 more than they are; returns whether all not at a void have 16 bits.
 #[inline(never)]
-fn put_heights(z: &[u32], numbers: &[i64], out: &mut [u32]) -> bool
+fn put_heights(z: &[u16], numbers: &[i64], out: &mut [u16]) -> bool
     requires z_len { length z.now ≡ length numbers.now }
     requires out_len { length out.old ≡ length numbers.now }
     ensures len { length out.new ≡ length out.old }
@@ -114,7 +184,7 @@ fn put_heights(z: &[u32], numbers: &[i64], out: &mut [u32]) -> bool
 
 /// Converts the elevations of a row to lanes, 32768 more than they are, and returns whether all have 16 bits.
 #[inline(never)]
-fn put_elevations(numbers: &[i64], out: &mut [u32]) -> bool
+fn put_elevations(numbers: &[i64], out: &mut [u16]) -> bool
     requires { length out.old ≡ length numbers.now }
     ensures len { length out.new ≡ length out.old }
     ensures lanes { IsTrue result → AreElevationLanes numbers.now out.new (length numbers.now) }
@@ -129,7 +199,7 @@ fn put_elevations(numbers: &[i64], out: &mut [u32]) -> bool
 }
 
 /// Replaces the lanes by the elevations of a row, and returns whether all fit and memory sufficed.
-pub fn take_elevations(numbers: &[i64], out: &mut Vec<u32>) -> bool
+pub fn take_elevations(numbers: &[i64], out: &mut Vec<u16>) -> bool
     ensures len { IsTrue result → vec_len out.new ≡ length numbers.now }
     ensures lanes { IsTrue result → AreElevationLanes numbers.now out.new.items (length numbers.now) }
 {
@@ -141,7 +211,7 @@ pub fn take_elevations(numbers: &[i64], out: &mut Vec<u32>) -> bool
 
 /// The same of a product's numbers, which need not fit at voids. It takes none if there are not as many elevation
 /// lanes.
-pub fn take_numbers(z: &[u32], numbers: &[i64], out: &mut Vec<u32>) -> bool
+pub fn take_numbers(z: &[u16], numbers: &[i64], out: &mut Vec<u32>) -> bool
     ensures len { IsTrue result → vec_len out.new ≡ length numbers.now }
     ensures lanes { IsTrue result → AreLanes z.now numbers.now out.new.items (length numbers.now) }
 {
@@ -152,7 +222,7 @@ pub fn take_numbers(z: &[u32], numbers: &[i64], out: &mut Vec<u32>) -> bool
 }
 
 /// The same of a product's heights.
-pub fn take_heights(z: &[u32], numbers: &[i64], out: &mut Vec<u32>) -> bool
+pub fn take_heights(z: &[u16], numbers: &[i64], out: &mut Vec<u16>) -> bool
     ensures len { IsTrue result → vec_len out.new ≡ length numbers.now }
     ensures lanes { IsTrue result → AreHeightLanes z.now numbers.now out.new.items (length numbers.now) }
 {
@@ -160,4 +230,27 @@ pub fn take_heights(z: &[u32], numbers: &[i64], out: &mut Vec<u32>) -> bool
         return false;
     }
     put_heights(z, numbers, out)
+}
+
+/// The same of a product's numbers in 16 bits.
+pub fn take_short_numbers(z: &[u16], numbers: &[i64], out: &mut Vec<u16>) -> bool
+    ensures len { IsTrue result → vec_len out.new ≡ length numbers.now }
+    ensures lanes { IsTrue result → AreLanes z.now numbers.now out.new.items (length numbers.now) }
+{
+    if z.len() != numbers.len() || out.resize(numbers.len(), 0).is_err() {
+        return false;
+    }
+    put_short_numbers(z, numbers, out)
+}
+
+/// Replaces the numbers by lanes in 16 bits each, 65535 where they are more, and returns whether memory sufficed.
+pub fn take_capped(numbers: &[u32], out: &mut Vec<u16>) -> bool
+    ensures len { IsTrue result → vec_len out.new ≡ length numbers.now }
+    ensures capped { IsTrue result → AreCapped numbers.now out.new.items (length numbers.now) }
+{
+    if out.resize(numbers.len(), 0).is_err() {
+        return false;
+    }
+    put_capped(numbers, out);
+    true
 }

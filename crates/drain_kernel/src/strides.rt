@@ -2,14 +2,15 @@
 
 ghost use Rattle.std.specs.Prelude.{◌≡◌, ◌≤◌, ◌<◌, IsTrue, vec_len};
 ghost use Rattle.drain_kernel.specs.Checked.{IfChecked, IfTested};
-ghost use Rattle.drain_kernel.specs.Columns.{Along, PassesAt, RanksPassAt, SumPassesAt};
+ghost use Rattle.drain_kernel.specs.Columns.{Along, PassesAt, RanksPassAt, adds_up_at, keeps_direction_at, keeps_label_at};
 ghost use Rattle.drain_kernel.specs.Shown.{HaveRanks};
 
 use crate::lanes::Lanes;
-use crate::ranked::{all_have_ranks, all_ranked};
+use crate::ranked::{all_have_ranks, all_ranked, all_ranked_small};
 use crate::rules::{Ranks, Rules, Sums};
 use crate::stretches::{
-    all_accumulation, all_complete, all_direction, all_inland, all_sums, all_surface,
+    all_directions, all_have_counts, all_have_ways, all_inland, all_labels, all_near_directions,
+    all_small_sums, all_sums, all_surface, have_one_label,
 };
 
 /// Whether the tests of ranks pass, if ranks are checked.
@@ -32,13 +33,14 @@ fn ranks_pass(
     match rules.ranks {
         Ranks::Ignored => true,
         Ranks::Checked => {
-            all_ranked(above, here, below, from, end)
+            (all_ranked_small(above, here, below, from, end)
+                || all_ranked(above, here, below, from, end))
                 && all_have_ranks(here, &rules.nodata, from, end)
         }
     }
 }
 
-/// Whether the rule of the accumulation holds, if sums are tested: by sums of 32 bits, else by sums of 64.
+/// Whether the rule of the accumulation holds, if sums are tested: by sums of 16 bits, else by sums of 64.
 fn sums_pass(
     above: &Lanes,
     here: &Lanes,
@@ -52,15 +54,40 @@ fn sums_pass(
     requires above_len { end < vec_len above.now.z }
     requires here_len { end < vec_len here.now.z }
     requires below_len { end < vec_len below.now.z }
-    ensures { IsTrue result → Along from end (λ k. IfTested sums (SumPassesAt above.now here.now below.now k)) }
+    ensures { IsTrue result → Along from end (λ k. IfTested sums (IsTrue (adds_up_at above.now here.now below.now k))) }
 {
     match sums {
         Sums::Untested => true,
         Sums::Tested => {
-            all_accumulation(above, here, below, from, end)
+            all_small_sums(above, here, below, from, end)
                 || all_sums(above, here, below, from, end)
         }
     }
+}
+
+/// Whether the rules of the direction, without ranks, hold: by squares of 16 bits, else by squares of 32.
+fn directions_pass(above: &Lanes, here: &Lanes, below: &Lanes, from: usize, end: usize) -> bool
+    requires inner { 1 ≤ from }
+    requires ordered { from ≤ end }
+    requires above_len { end < vec_len above.now.z }
+    requires here_len { end < vec_len here.now.z }
+    requires below_len { end < vec_len below.now.z }
+    ensures { IsTrue result → Along from end (λ k. IsTrue (keeps_direction_at above.now here.now below.now k)) }
+{
+    all_near_directions(above, here, below, from, end)
+        || all_directions(above, here, below, from, end)
+}
+
+/// Whether the rule of the label holds: as there is one label only, else by the label that each code leads to.
+fn labels_pass(above: &Lanes, here: &Lanes, below: &Lanes, from: usize, end: usize) -> bool
+    requires inner { 1 ≤ from }
+    requires ordered { from ≤ end }
+    requires above_len { end < vec_len above.now.z }
+    requires here_len { end < vec_len here.now.z }
+    requires below_len { end < vec_len below.now.z }
+    ensures { IsTrue result → Along from end (λ k. IsTrue (keeps_label_at above.now here.now below.now k)) }
+{
+    have_one_label(above, here, below, from, end) || all_labels(above, here, below, from, end)
 }
 
 /// Whether all tests pass. The test of voids comes first: at right products little else fails, and it is the cheapest.
@@ -83,9 +110,11 @@ fn all_pass(
 {
     all_inland(above, here, below, from, end)
         && all_surface(above, here, below, from, end)
-        && all_direction(above, here, below, from, end)
+        && directions_pass(above, here, below, from, end)
+        && labels_pass(above, here, below, from, end)
         && sums_pass(above, here, below, sums, from, end)
-        && all_complete(here, &rules.nodata, from, end)
+        && all_have_ways(here, &rules.nodata, from, end)
+        && all_have_counts(here, &rules.nodata, from, end)
         && ranks_pass(above, here, below, rules, from, end)
 }
 

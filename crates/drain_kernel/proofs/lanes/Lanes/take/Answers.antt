@@ -1,42 +1,65 @@
-use Rattle.std.proofs.Common.{◌≡◌, ◌≢◌, ℕ, ◌<◌, Bool, true, ◌&&◌, List, slice_index, sym, ◌∙◌, subst}
+use Rattle.std.proofs.Common.{◌≡◌, ◌≢◌, ℕ, ◌<◌, Bool, true, ◌&&◌, List, length, slice_index, sym, ◌∙◌, subst}
 use Rattle.std.proofs.lemmas.Bool.{and_parts}
 use Rattle.drain_grid.specs.declared.set_product.SetProduct.TheVariants.{Con, Dir, Acc, Bas, Rnk}
 use Rattle.drain_kernel.specs.Checked.{IfChecked}
+use Rattle.drain_kernel.specs.Lanes.{AreCapped}
 use Rattle.drain_kernel.specs.declared.rules.Ranks.{Ranks}
 use Rattle.drain_kernel.specs.declared.rules.Ranks.TheVariants.{Checked, Ignored}
 use Rattle.drain_kernel.proofs.lanes.Lanes.take.Goals as goal
 
--- all six fit
-record AllFit (z con dir acc bas rnk : Bool) : Type 0 where
+-- all fit
+record AllFit (z con dir acc bas rnk capped_acc capped_rnk : Bool) : Type 0 where
   z_fits : z ≡ true
   con_fits : con ≡ true
   dir_fits : dir ≡ true
   acc_fits : acc ≡ true
   bas_fits : bas ≡ true
   rnk_fits : rnk ≡ true
+  acc_is_capped : capped_acc ≡ true
+  rnk_is_capped : capped_rnk ≡ true
 
-all_fit : (z con dir acc bas rnk : Bool) → (((((z && con) && dir) && acc) && bas) && rnk) ≡ true → AllFit z con dir acc bas rnk
-all_fit z con dir acc bas rnk h =
-    let five = and_parts _ rnk h in
+all_fit : (z con dir acc bas rnk capped_acc capped_rnk : Bool) →
+    (((((((z && con) && dir) && acc) && bas) && rnk) && capped_acc) && capped_rnk) ≡ true → AllFit z con dir acc bas rnk capped_acc capped_rnk
+all_fit z con dir acc bas rnk capped_acc capped_rnk h =
+    let seven = and_parts _ capped_rnk h in
+    let six = and_parts _ capped_acc seven.0 in
+    let five = and_parts _ rnk six.0 in
     let four = and_parts _ bas five.0 in
     let three = and_parts _ acc four.0 in
     let two = and_parts _ dir three.0 in
     let one = and_parts z con two.0 in
-    record { z_fits = one.0; con_fits = one.1; dir_fits = two.1; acc_fits = three.1; bas_fits = four.1; rnk_fits = five.1 }
+    record {
+      z_fits = one.0;
+      con_fits = one.1;
+      dir_fits = two.1;
+      acc_fits = three.1;
+      bas_fits = four.1;
+      rnk_fits = five.1;
+      acc_is_capped = six.1;
+      rnk_is_capped = seven.1;
+    }
 
 same_len : (lanes numbers cols z : ℕ) → lanes ≡ numbers → numbers ≡ cols → z ≡ cols → lanes ≡ z
 same_len lanes numbers cols z own long here = own ∙ long ∙ sym here
 
+-- the numbers that were capped are those in the lanes
+capped_of : (slice held capped : List ℕ) (n : ℕ) → slice ≡ held → length slice ≡ n → AreCapped slice capped (length slice) → AreCapped held capped n
+capped_of slice held capped n same long are = subst (AreCapped held capped) long (subst (λ xs. AreCapped xs capped (length slice)) same are)
+
 pub invariant_of-self-else-not-fit : goal.invariant_of-self-else-not-fit
 invariant_of-self-else-not-fit c =
-    let fit = all_fit c.take_elevations-z_fits.result c.take_heights.result c.take_numbers.result c.take_numbers-2.result c.take_numbers-3.result
-    c.take_ranks.result c.if-not-fit.false in
+    let fit = all_fit c.take_elevations-z_fits.result c.take_heights.result c.take_short_numbers.result c.take_numbers.result c.take_numbers-2.result
+    c.take_ranks.result c.take_capped.result c.take_capped-2.result c.if-not-fit.false in
     let cols = c.take_elevations-z_fits.ensures.len fit.z_fits in
     record {
       con_len = same_len _ _ _ _ (c.take_heights.ensures.len fit.con_fits) (c.requires Con) cols;
-      dir_len = same_len _ _ _ _ (c.take_numbers.ensures.len fit.dir_fits) (c.requires Dir) cols;
-      acc_len = same_len _ _ _ _ (c.take_numbers-2.ensures.len fit.acc_fits) (c.requires Acc) cols;
-      bas_len = same_len _ _ _ _ (c.take_numbers-3.ensures.len fit.bas_fits) (c.requires Bas) cols;
+      dir_len = same_len _ _ _ _ (c.take_short_numbers.ensures.len fit.dir_fits) (c.requires Dir) cols;
+      acc_len = same_len _ _ _ _ (c.take_numbers.ensures.len fit.acc_fits) (c.requires Acc) cols;
+      bas_len = same_len _ _ _ _ (c.take_numbers-2.ensures.len fit.bas_fits) (c.requires Bas) cols;
+      capped_acc_len = c.take_capped.ensures.len fit.acc_is_capped ∙ c.deref.ensures.len;
+      acc_is_capped = capped_of _ _ _ _ c.deref.ensures.value c.deref.ensures.len (c.take_capped.ensures.capped fit.acc_is_capped);
+      capped_rnk_len = c.take_capped-2.ensures.len fit.rnk_is_capped ∙ c.deref-2.ensures.len;
+      rnk_is_capped = capped_of _ _ _ _ c.deref-2.ensures.value c.deref-2.ensures.len (c.take_capped-2.ensures.capped fit.rnk_is_capped);
     }
 
 asked_len : (ranks : Ranks) (lanes numbers cols z : ℕ) → IfChecked ranks (lanes ≡ numbers) → numbers ≡ cols → z ≡ cols → IfChecked ranks (lanes ≡ z)
@@ -49,23 +72,23 @@ no_void z held same k there = subst (λ zs. slice_index zs k ≢ 0) (sym same) t
 
 pub returns-else-not-fit-clause-lanes : goal.returns-else-not-fit-clause-lanes
 returns-else-not-fit-clause-lanes c = λ all.
-    let fit = all_fit c.take_elevations-z_fits.result c.take_heights.result c.take_numbers.result c.take_numbers-2.result c.take_numbers-3.result
-    c.take_ranks.result all in
+    let fit = all_fit c.take_elevations-z_fits.result c.take_heights.result c.take_short_numbers.result c.take_numbers.result c.take_numbers-2.result
+    c.take_ranks.result c.take_capped.result c.take_capped-2.result all in
     let cols = c.take_elevations-z_fits.ensures.len fit.z_fits in
     let beside = no_void _ _ c.deref-elevations.ensures.value in
     record {
       len = cols;
       elevations = c.take_elevations-z_fits.ensures.lanes fit.z_fits;
       con = λ k less there. c.take_heights.ensures.lanes fit.con_fits k (subst (λ n. k < n) (sym (c.requires Con)) less) (beside k there);
-      dir = λ k less there. c.take_numbers.ensures.lanes fit.dir_fits k (subst (λ n. k < n) (sym (c.requires Dir)) less) (beside k there);
-      acc = λ k less there. c.take_numbers-2.ensures.lanes fit.acc_fits k (subst (λ n. k < n) (sym (c.requires Acc)) less) (beside k there);
-      bas = λ k less there. c.take_numbers-3.ensures.lanes fit.bas_fits k (subst (λ n. k < n) (sym (c.requires Bas)) less) (beside k there);
+      dir = λ k less there. c.take_short_numbers.ensures.lanes fit.dir_fits k (subst (λ n. k < n) (sym (c.requires Dir)) less) (beside k there);
+      acc = λ k less there. c.take_numbers.ensures.lanes fit.acc_fits k (subst (λ n. k < n) (sym (c.requires Acc)) less) (beside k there);
+      bas = λ k less there. c.take_numbers-2.ensures.lanes fit.bas_fits k (subst (λ n. k < n) (sym (c.requires Bas)) less) (beside k there);
       rnk = λ has k less there. c.take_ranks.ensures.lanes fit.rnk_fits (has ∙ cols ∙ sym (c.requires Rnk)) k
           (subst (λ n. k < n) (sym (c.requires Rnk)) less) (beside k there);
     }
 
 pub returns-else-not-fit-clause-ranked : goal.returns-else-not-fit-clause-ranked
 returns-else-not-fit-clause-ranked c = λ all.
-    let fit = all_fit c.take_elevations-z_fits.result c.take_heights.result c.take_numbers.result c.take_numbers-2.result c.take_numbers-3.result
-    c.take_ranks.result all in
+    let fit = all_fit c.take_elevations-z_fits.result c.take_heights.result c.take_short_numbers.result c.take_numbers.result c.take_numbers-2.result
+    c.take_ranks.result c.take_capped.result c.take_capped-2.result all in
     asked_len c.args.ranks _ _ _ _ (c.take_ranks.ensures.len fit.rnk_fits) (c.requires Rnk) (c.take_elevations-z_fits.ensures.len fit.z_fits)

@@ -1,6 +1,6 @@
 use Rattle.std.proofs.Common.{IsTrue}
 use Rattle.drain_kernel.specs.Columns.{Along, keeps_direction_at}
-use Rattle.drain_kernel.proofs.stretches.all_direction.Given as goal
+use Rattle.drain_kernel.proofs.stretches.all_near_directions.Given as goal
 
 -- the columns that were passed pass the test
 abbrev pub invariant-loop-k : goal.invariant-loop-k

@@ -1,0 +1,30 @@
+-- Where all labels are one, a code leads to this label.
+use Rattle.std.proofs.Common.{◌≡◌, ℕ, ◌+◌, ◌-◌, ◌≤◌, ◌<◌, Bool, true, false, ◌==◌, List, slice_index, refl, sym, ◌∙◌, arith, if◌then◌else◌}
+use Rattle.std.proofs.lemmas.Bool.Decides.{Decides-eqb}
+use Rattle.drain_kernel.specs.declared.lanes.Lanes.{Lanes}
+use Rattle.drain_kernel.specs.Around.{named_in}
+use Rattle.drain_kernel.specs.Columns.{Along, keeps_label_at}
+
+either : (b : Bool) (x y label : ℕ) → x ≡ label → y ≡ label → (if b then x else y) ≡ label
+either true x y label one two = one
+either false x y label one two = two
+
+pub one_label : (a h b : Lanes) (label from end : ℕ) → 1 ≤ from → Along (from - 1) (end + 1) (λ k. slice_index a.bas.items k ≡ label) →
+    Along (from - 1) (end + 1) (λ k. slice_index h.bas.items k ≡ label) → Along (from - 1) (end + 1) (λ k. slice_index b.bas.items k ≡ label) →
+    Along from end (λ k. keeps_label_at a h b k ≡ true)
+one_label a h b label from end inner above here below k low high =
+    let code = slice_index h.dir.items k in
+    let left : from - 1 ≤ k - 1 = omega (arith, low) in
+    let at : from - 1 ≤ k = omega (arith, low) in
+    let right : from - 1 ≤ k + 1 = omega (arith, low) in
+    let left_in : k - 1 < end + 1 = omega (arith, high) in
+    let at_in : k < end + 1 = omega (arith, high) in
+    let right_in : k + 1 < end + 1 = omega (arith, high) in
+    let one = either (code == 2) _ _ label (below (k + 1) right right_in) (here (k + 1) right right_in) in
+    let two = either (code == 4) _ _ label (below k at at_in) one in
+    let three = either (code == 8) _ _ label (below (k - 1) left left_in) two in
+    let four = either (code == 16) _ _ label (here (k - 1) left left_in) three in
+    let five = either (code == 32) _ _ label (above (k - 1) left left_in) four in
+    let six = either (code == 64) _ _ label (above k at at_in) five in
+    let seven = either (code == 128) _ _ label (above (k + 1) right right_in) six in
+    (Decides-eqb _ _).1 (seven ∙ sym (here k at at_in))
