@@ -1,10 +1,11 @@
 use Rattle.std.proofs.Common.{◌≡◌, IsTrue, length}
-use Rattle.drain_kernel.specs.Lanes.{AreHeightLanes}
+use Rattle.drain_kernel.specs.Lanes.{AllFit, HoldHeights, is_height}
 use Rattle.drain_kernel.proofs.narrowing.put_heights.Given as goal
 
--- the numbers that were passed are there, if all of them fit that are at no void
+-- the lanes that were passed are there, and all fit if none was found that doesn't
 abbrev pub invariant-loop-k : goal.invariant-loop-k
 invariant-loop-k l = record {
   len : length l.out ≡ length l.numbers;
-  lanes : IsTrue l.all → AreHeightLanes l.z l.numbers l.out l.k;
+  lanes : HoldHeights l.numbers l.out l.k;
+  fit : IsTrue l.all → AllFit is_height l.numbers l.k;
 }

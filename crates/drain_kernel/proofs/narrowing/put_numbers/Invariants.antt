@@ -1,10 +1,11 @@
 use Rattle.std.proofs.Common.{◌≡◌, IsTrue, length}
-use Rattle.drain_kernel.specs.Lanes.{AreLanes}
+use Rattle.drain_kernel.specs.Lanes.{AllFit, HoldFitting, is_lane}
 use Rattle.drain_kernel.proofs.narrowing.put_numbers.Given as goal
 
--- the numbers that were passed are there, if all of them fit that are at no void
+-- the lanes that were passed are there, and all fit if none was found that doesn't
 abbrev pub invariant-loop-k : goal.invariant-loop-k
 invariant-loop-k l = record {
   len : length l.out ≡ length l.numbers;
-  lanes : IsTrue l.all → AreLanes l.z l.numbers l.out l.k;
+  lanes : HoldFitting is_lane l.numbers l.out l.k;
+  fit : IsTrue l.all → AllFit is_lane l.numbers l.k;
 }
