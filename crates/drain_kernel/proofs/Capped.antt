@@ -1,5 +1,5 @@
 -- Numbers round a column, and the same capped.
-use Rattle.std.proofs.Common.{◌≡◌, ℕ, ◌+◌, ◌-◌, ◌<◌, ◌≤◌, Bool, true, false, ◌==◌, min, List, slice_index, refl, arith, if◌then◌else◌}
+use Rattle.std.proofs.Common.{◌≡◌, ℕ, ◌+◌, ◌-◌, ◌<◌, Bool, true, false, ◌==◌, min, List, slice_index, arith, if◌then◌else◌}
 use Rattle.drain_kernel.specs.Around.{around_in, named_in}
 use Rattle.drain_kernel.specs.Lanes.{AreCapped}
 

@@ -1,8 +1,7 @@
 -- Where all labels are one, a code leads to this label.
-use Rattle.std.proofs.Common.{◌≡◌, ℕ, ◌+◌, ◌-◌, ◌≤◌, ◌<◌, Bool, true, false, ◌==◌, List, slice_index, refl, sym, ◌∙◌, arith, if◌then◌else◌}
+use Rattle.std.proofs.Common.{◌≡◌, ℕ, ◌+◌, ◌-◌, ◌≤◌, ◌<◌, Bool, true, false, ◌==◌, slice_index, sym, ◌∙◌, arith, if◌then◌else◌}
 use Rattle.std.proofs.lemmas.Bool.Decides.{Decides-eqb}
 use Rattle.drain_kernel.specs.declared.lanes.Lanes.{Lanes}
-use Rattle.drain_kernel.specs.Around.{named_in}
 use Rattle.drain_kernel.specs.Columns.{Along, keeps_label_at}
 
 either : (b : Bool) (x y label : ℕ) → x ≡ label → y ≡ label → (if b then x else y) ≡ label

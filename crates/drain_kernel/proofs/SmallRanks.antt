@@ -1,8 +1,8 @@
 -- Ranks of 16 bits: one that is smaller is that of a smaller rank.
-use Rattle.std.proofs.Common.{◌≡◌, ℕ, ◌+◌, ◌<◌, true, ◌||◌, min, nat_lt, List, IsTrue, slice_index, inl, inr, arith}
+use Rattle.std.proofs.Common.{◌≡◌, ℕ, ◌+◌, ◌<◌, min, List, IsTrue, slice_index, inl, inr, arith}
 use Rattle.std.proofs.lemmas.Bool.{or_cases, or_left, or_right}
 use Rattle.std.proofs.lemmas.Bool.Decides.{Decides-ltb}
-use Rattle.drain_kernel.specs.Around.{around_in, named_in}
+use Rattle.drain_kernel.specs.Around.{around_in}
 use Rattle.drain_kernel.specs.Lanes.{AreCapped}
 use Rattle.drain_kernel.specs.Tests.{falls_or_nears}
 use Rattle.drain_kernel.proofs.Capped.{EachCapped, around_capped, named_capped}

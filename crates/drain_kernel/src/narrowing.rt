@@ -28,6 +28,14 @@ fn high_half(bits: u64) -> u32
     (bits >> 32) as u32
 }
 
+/// Whether they are 16 bits at most. Halves are compared, not numbers of 64 bits, so that four go at once.
+#[inline(always)]
+fn is_quarter(bits: u64) -> bool
+    ensures { IsTrue result ↔ (bits < 2 ^ 16) }
+{
+    (high_half(bits) == 0) & (low_half(bits) <= 65535)
+}
+
 /// The number, if 32 bits hold it; else its lower 32 bits.
 #[inline(always)]
 pub fn lane(number: i64) -> u32
@@ -36,7 +44,7 @@ pub fn lane(number: i64) -> u32
     low_half(number.cast_unsigned())
 }
 
-/// Whether 32 unsigned bits hold the number. Halves are compared, not numbers of 64 bits, so that four go at once.
+/// Whether 32 unsigned bits hold the number.
 #[inline(always)]
 pub fn is_lane(number: i64) -> bool
     ensures { result ≡ is_lane number }
@@ -57,8 +65,7 @@ pub fn short_lane(number: i64) -> u16
 pub fn is_short_lane(number: i64) -> bool
     ensures { result ≡ is_short_lane number }
 {
-    let bits = number.cast_unsigned();
-    (high_half(bits) == 0) & (low_half(bits) <= 65535)
+    is_quarter(number.cast_unsigned())
 }
 
 /// 32768 more than the number, in 64 bits.
@@ -83,8 +90,7 @@ fn height_lane(number: i64) -> u16
 fn is_height(number: i64) -> bool
     ensures { result ≡ is_height number }
 {
-    let bits = lifted(number);
-    (high_half(bits) == 0) & (low_half(bits) <= 65535)
+    is_quarter(lifted(number))
 }
 
 /// Converts the numbers of a row to lanes, and returns whether all fit, at voids too.

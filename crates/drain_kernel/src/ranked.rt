@@ -83,13 +83,7 @@ pub(crate) fn has_rank(here: &Lanes, nodata: &NoData, k: usize) -> bool
 
 /// Whether each code leads to a smaller conditioned elevation, or to a smaller rank that is below 65535.
 #[inline(never)]
-pub fn all_ranked_small(
-    above: &Lanes,
-    here: &Lanes,
-    below: &Lanes,
-    from: usize,
-    end: usize,
-) -> bool
+pub fn all_ranked_small(above: &Lanes, here: &Lanes, below: &Lanes, from: usize, end: usize) -> bool
     requires inner { 1 ≤ from }
     requires ordered { from ≤ end }
     requires above_len { end < vec_len above.now.z }

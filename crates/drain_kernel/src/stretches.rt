@@ -56,7 +56,13 @@ pub fn all_surface(above: &Lanes, here: &Lanes, below: &Lanes, from: usize, end:
 
 /// Whether the rules of the direction, without ranks, hold, and no neighbour is far below.
 #[inline(never)]
-pub fn all_near_directions(above: &Lanes, here: &Lanes, below: &Lanes, from: usize, end: usize) -> bool
+pub fn all_near_directions(
+    above: &Lanes,
+    here: &Lanes,
+    below: &Lanes,
+    from: usize,
+    end: usize,
+) -> bool
     requires inner { 1 ≤ from }
     requires ordered { from ≤ end }
     requires above_len { end < vec_len above.now.z }

@@ -59,8 +59,7 @@ fn sums_pass(
     match sums {
         Sums::Untested => true,
         Sums::Tested => {
-            all_small_sums(above, here, below, from, end)
-                || all_sums(above, here, below, from, end)
+            all_small_sums(above, here, below, from, end) || all_sums(above, here, below, from, end)
         }
     }
 }
