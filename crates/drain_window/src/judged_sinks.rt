@@ -16,7 +16,7 @@ use drain_windows::Place;
 use std::alloc::Global;
 
 /// The union's cells of the sinks in this list that the window at this place of a mosaic judges; the mosaic begins at
-/// the union's cell `origin`. A list that can't be read has none.
+/// the union's cell `origin`. A list that isn't one, which was refused before, is out of memory here.
 pub(crate) fn judged_sinks(
     alloc: Global,
     list: &[u8],

@@ -109,7 +109,7 @@ impl Place {
 fn judges_along(first: u32, count: u32, inner_before: bool, inner_behind: bool, at: u32) -> bool
     ensures { IsTrue result ↔ IsJudgedAlong first count inner_before inner_behind at }
 {
-    let end = u64::from(first) + u64::from(count);
+    let end = end_of(first, count);
     let here = u64::from(at);
     first <= at && here < end && (!inner_before || first < at) && (!inner_behind || here + 1 < end)
 }
