@@ -136,13 +136,13 @@ impl MosaicRows {
         ensures keeps_shape { self.new.shape ≡ self.old.shape }
         ensures keeps_tiles { length self.new.tiles.items ≡ length self.old.tiles.items }
     {
-        out.clear();
         match self.progress {
-            Progress::Done => return Ok(RowStep::Ended),
-            Progress::Stopped => return Err(ReadFault::AlreadyFailed),
+            Progress::Done => return no_row(out, Ok(RowStep::Ended)),
+            Progress::Stopped => return no_row(out, Err(ReadFault::AlreadyFailed)),
             Progress::Going => {}
         }
         if self.row == self.shape.rows() {
+            out.clear();
             return match read_ends(&mut self.tiles, from, &mut self.tile_row) {
                 Ok(()) => {
                     self.progress = Progress::Done;
@@ -175,6 +175,15 @@ impl MosaicRows {
             }
         }
     }
+}
+
+/// Leaves the vector empty, and returns the answer.
+fn no_row(out: &mut Vec<i64>, answer: Result<RowStep, ReadFault>) -> Result<RowStep, ReadFault>
+    ensures answer { result ≡ answer }
+    ensures empty { out.new.items ≡ [] }
+{
+    out.clear();
+    answer
 }
 
 /// The first cell if there is one, else the other.
