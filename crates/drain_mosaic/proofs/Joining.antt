@@ -1,8 +1,8 @@
 -- One tile more over a row of the mosaic.
 use Rattle.std.proofs.Common.{◌≡◌, ◌≢◌, ℕ, ◌+◌, ◌-◌, ◌<◌, ◌≤◌, ℤ, min, List, [], ◌∷◌, ◌++◌, length, Option, Some, None, arith, refl, sym, ap, ◌∙◌, inl, inr, subst, true, false, int_eq, cond}
-use Rattle.std.specs.Prelude.{◌⊎◌, slice_index_or, nat_le, nat_lt}
+use Rattle.std.specs.Prelude.{◌⊎◌, slice_index_or}
 use Rattle.std.specs.Option.{option_or}
-use Rattle.std.proofs.lemmas.Bool.{false≢true, cases_lt, lt-ltb, le-leb}
+use Rattle.std.proofs.lemmas.Bool.{false≢true, cases_lt}
 use Rattle.std.proofs.lemmas.Bool.Decides.{Decides-int_eq}
 use Rattle.std.proofs.lemmas.Option.{same_Some}
 use Rattle.drain_grid.specs.declared.cell.Cell.{Cell}
@@ -10,7 +10,7 @@ use Rattle.drain_grid.specs.declared.tile.TheConstants.{VOID}
 use Rattle.drain_grid.specs.Tile.{height_from}
 use Rattle.drain_hgt.specs.Samples.{tile_sample_at}
 use Rattle.drain_mosaic.specs.Tiling.{Tiling, extent_of, top_of, left_of}
-use Rattle.drain_mosaic.specs.Mosaic.{Tile, Covers, HasTwoValues, sample_over}
+use Rattle.drain_mosaic.specs.Mosaic.{Tile, Covers, HasTwoValues}
 use Rattle.drain_mosaic.specs.Joined.{value_from, first_value}
 use Rattle.drain_mosaic.specs.JoinedRows.{IsLeastOf, ConflictOver, IsLaidOver, IsJoinedRow, first_of, filled}
 use Rattle.drain_mosaic.proofs.Agreement.{covered, gives_from}

@@ -12,6 +12,7 @@ pub mod Placing
 pub mod Beginnings
 pub mod RowSamples
 pub mod Laying
+pub mod Alone
 pub mod TileCalls
 pub mod Calls
 pub mod MosaicSteps

@@ -6,6 +6,7 @@ pub mod first_seam;
 pub mod laws;
 pub mod layout;
 pub mod mosaic_rows;
+mod one_row;
 mod overlay;
 mod placed_rows;
 pub mod seams;

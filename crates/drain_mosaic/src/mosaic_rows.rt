@@ -1,7 +1,7 @@
 //! The rows of a mosaic, one at a time, from tiles that go on together.
 //!
-//! A row starts as voids, and the next row of each tile over it fills them. So only one row of the mosaic and one row
-//! of a tile are in memory, and each tile's device is read a row at a time.
+//! A row starts as voids, and the next row of each tile over it fills them; the row of an only tile is read as it is.
+//! So only one row of the mosaic and one row of a tile are in memory, and each tile's device is read a row at a time.
 
 ghost use Rattle.std.specs.Prelude.{◌≡◌, ◌≢◌, ◌≤◌, ◌<◌, ◌^◌, [], None, length, IfOk, IfErr, IfSome, IsErrOf, MatchOption, Ok, OnOk};
 ghost use Rattle.std.specs.List.{All};
@@ -15,8 +15,8 @@ ghost use Rattle.drain_mosaic.specs.Streams.{cell_at};
 ghost use Rattle.drain_mosaic.specs.PlacedRows.{AreTold, ArePlacedWithin, HaveEnded, HaveRead, IsPlacedAt, first_stopped};
 
 use crate::layout::Layout;
-use crate::overlay::VOID_NUMBER;
-use crate::placed_rows::{PlacedRows, lay_tiles, read_ends};
+use crate::one_row::read_row;
+use crate::placed_rows::{PlacedRows, read_ends};
 use drain_device::{ByteSource, Progress, ReadFault, RowStep};
 use drain_grid::{Cell, OutOfMemory, Shape};
 use drain_hgt::{TileInput, TileRows};
@@ -136,13 +136,13 @@ impl MosaicRows {
         ensures keeps_shape { self.new.shape ≡ self.old.shape }
         ensures keeps_tiles { length self.new.tiles.items ≡ length self.old.tiles.items }
     {
-        out.clear();
         match self.progress {
-            Progress::Done => return Ok(RowStep::Ended),
-            Progress::Stopped => return Err(ReadFault::AlreadyFailed),
+            Progress::Done => return no_row(out, Ok(RowStep::Ended)),
+            Progress::Stopped => return no_row(out, Err(ReadFault::AlreadyFailed)),
             Progress::Going => {}
         }
         if self.row == self.shape.rows() {
+            out.clear();
             return match read_ends(&mut self.tiles, from, &mut self.tile_row) {
                 Ok(()) => {
                     self.progress = Progress::Done;
@@ -154,15 +154,12 @@ impl MosaicRows {
                 }
             };
         }
-        let Ok(()) = put_voids(out, self.shape.cols() as usize) else {
-            self.progress = Progress::Stopped;
-            return Err(ReadFault::OutOfMemory);
-        };
-        match lay_tiles(
+        match read_row(
             &mut self.tiles,
             from,
             self.side,
             self.row,
+            self.shape.cols(),
             &mut self.tile_row,
             out,
         ) {
@@ -180,18 +177,13 @@ impl MosaicRows {
     }
 }
 
-/// Makes a row of voids.
-fn put_voids(out: &mut Vec<i64>, count: usize) -> Result<(), OutOfMemory>
-    ensures long { IfOk result (λ done. length out.new.items ≡ count) }
-    ensures voids { IfOk result (λ done. All (λ z. z ≡ VOID) out.new.items) }
-    ensures empty { IfErr result (λ fault. out.new.items ≡ []) }
+/// Leaves the vector empty, and returns the answer.
+fn no_row(out: &mut Vec<i64>, answer: Result<RowStep, ReadFault>) -> Result<RowStep, ReadFault>
+    ensures answer { result ≡ answer }
+    ensures empty { out.new.items ≡ [] }
 {
     out.clear();
-    if out.resize(count, VOID_NUMBER).is_err() {
-        out.clear();
-        return Err(OutOfMemory);
-    }
-    Ok(())
+    answer
 }
 
 /// The first cell if there is one, else the other.

@@ -107,7 +107,7 @@ pub fn read_ends<R: ByteSource>(
 
 /// The fault of an answer that ends the mosaic's rows: of a device or of memory. A tile of wrong length doesn't end
 /// them.
-fn stop_of(answer: Result<RowStep, ReadFault>) -> Option<ReadFault>
+pub fn stop_of(answer: Result<RowStep, ReadFault>) -> Option<ReadFault>
     ensures { result ≡ stop_of answer }
 {
     match answer {

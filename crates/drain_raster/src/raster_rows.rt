@@ -9,6 +9,7 @@ ghost use Rattle.drain_device.specs.declared.row_source.Progress.{Progress};
 ghost use Rattle.drain_grid.specs.Values.{IsPixel};
 ghost use Rattle.drain_raster.specs.Bytes.{padding_len};
 ghost use Rattle.drain_raster.specs.Pixels.{AreSpelled};
+ghost use Rattle.drain_raster.specs.declared.raster_rows.TheConstants.{CHUNK_BYTES};
 ghost use Rattle.drain_raster.specs.RasterRows.{raster_numbers_of, packed_len, pixels_behind, pixels_of, raster_coming, raster_most_bytes};
 
 use crate::pixel::Pixel;
@@ -18,6 +19,7 @@ use drain_device::{
 };
 use drain_header::ByteOrdering::{Least, Most};
 use drain_header::Header;
+use std::alloc::Global;
 
 /// How many pixels are read at once: 16 KiB of the largest.
 const CHUNK_PIXELS: usize = 4096;
@@ -31,6 +33,8 @@ const CHUNK_BYTES: usize = 4 * CHUNK_PIXELS;
 /// read, so no byte after the last pixel is read. It returns `WrongLength` at the row in which a byte of some pixel is
 /// missing; `OutOfMemory` if memory for a row runs out, and then it reads nothing.
 ///
+/// It keeps the memory that a row's bytes are read into, 16 KiB.
+///
 /// Source: the Esri description of BIL files.
 #[derive(Drop)]
 pub struct RasterRows {
@@ -39,6 +43,7 @@ pub struct RasterRows {
     gap: u32,
     progress: Progress,
     patience: Patience,
+    chunk: Option<Vec<u8>>,
 }
 
 impl RasterRows {
@@ -58,6 +63,7 @@ impl RasterRows {
             gap,
             progress: Progress::Going,
             patience: Patience::new(),
+            chunk: None,
         }
     }
 
@@ -112,7 +118,14 @@ impl<R: ByteSource> RowSource<R> for RasterRows {
             out.clear();
             return Ok(RowStep::Ended);
         }
-        match read_row(from, &self.header, self.gap, &mut self.patience, out) {
+        match read_row(
+            from,
+            &self.header,
+            self.gap,
+            &mut self.patience,
+            &mut self.chunk,
+            out,
+        ) {
             Ok(()) => {
                 self.left -= 1;
                 self.gap = padding(&self.header);
@@ -139,6 +152,7 @@ fn read_row<R: ByteSource>(
     header: &Header,
     gap: u32,
     patience: &mut Patience,
+    kept: &mut Option<Vec<u8>>,
     out: &mut Vec<i64>,
 ) -> Result<(), ReadFault>
     ensures row { (bytes : List ℕ) × RowComes (pixels_behind header.now gap) (gap + packed_len header.now) (R.bytes_left from.old) (R.bytes_left from.new) result out.new.items bytes }
@@ -147,20 +161,45 @@ fn read_row<R: ByteSource>(
     ensures pixels { All IsPixel out.new.items }
     ensures no_memory { IsErrOf result ReadFault.OutOfMemory → from.new ≡ from.old }
 {
-    // A row of the same length as before reuses the buffer.
+    // A row of the same length as before reuses the buffer, and each row the chunk of the one before.
     if out.resize(header.cols as usize, 0).is_err() {
         out.clear();
         return Err(ReadFault::OutOfMemory);
     }
-    if let Err(fault) = pass_part(from, gap as usize, patience) {
+    let mut chunk = chunk_of(kept.take(), *out.allocator());
+    if chunk.resize(CHUNK_BYTES, 0).is_err() {
+        out.clear();
+        return Err(ReadFault::OutOfMemory);
+    }
+    if let Err(fault) = skip(from, gap as usize, patience) {
         out.clear();
         return Err(fault);
     }
-    if let Err(fault) = read_pixels(from, header, patience, out) {
+    if let Err(fault) = read_pixels(from, header, patience, &mut chunk, out) {
         out.clear();
         return Err(fault);
     }
+    *kept = Some(chunk);
     Ok(())
+}
+
+/// The memory that was kept, or an empty vector.
+fn chunk_of(kept: Option<Vec<u8>>, alloc: Global) -> Vec<u8> {
+    match kept {
+        Some(chunk) => chunk,
+        None => Vec::new(alloc),
+    }
+}
+
+/// Skips `count` bytes, with the errors of `pass_part`. Most rows have none to skip.
+fn skip<R: ByteSource>(from: &mut R, count: usize, patience: &mut Patience) -> Result<(), ReadFault>
+    ensures bytes { (bytes : List ℕ) × PartComes count (R.bytes_left from.old) (R.bytes_left from.new) result bytes }
+    ensures faults { PartFails (R.counts from.old) (R.counts from.new) patience.old patience.new (IsErrOf result ReadFault.ReadFailed) }
+{
+    if count == 0 {
+        return Ok(());
+    }
+    pass_part(from, count, patience)
 }
 
 /// Reads as many pixels as there are columns.
@@ -168,24 +207,34 @@ fn read_pixels<R: ByteSource>(
     from: &mut R,
     header: &Header,
     patience: &mut Patience,
+    chunk: &mut [u8],
     out: &mut [i64],
 ) -> Result<(), ReadFault>
-    requires { length out.old ≡ header.now.cols }
+    requires room { CHUNK_BYTES ≤ length chunk.old }
+    requires cols { length out.old ≡ header.now.cols }
     ensures bytes { (bytes : List ℕ) × PartComes (packed_len header.now) (R.bytes_left from.old) (R.bytes_left from.new) result bytes × OnOk result (out.new ≡ pixels_of header.now bytes) }
     ensures faults { PartFails (R.counts from.old) (R.counts from.new) patience.old patience.new (IsErrOf result ReadFault.ReadFailed) }
     ensures pixels { OnOk result (All IsPixel out.new) }
 {
     match (header.bits, header.signed, header.order) {
-        (8, false, _) => read_numbers::<u8, LittleEndian, R>(from, header, patience, out),
-        (8, true, _) => read_numbers::<i8, LittleEndian, R>(from, header, patience, out),
-        (16, false, Least) => read_numbers::<u16, LittleEndian, R>(from, header, patience, out),
-        (16, false, Most) => read_numbers::<u16, BigEndian, R>(from, header, patience, out),
-        (16, true, Least) => read_numbers::<i16, LittleEndian, R>(from, header, patience, out),
-        (16, true, Most) => read_numbers::<i16, BigEndian, R>(from, header, patience, out),
-        (_, false, Least) => read_numbers::<u32, LittleEndian, R>(from, header, patience, out),
-        (_, false, Most) => read_numbers::<u32, BigEndian, R>(from, header, patience, out),
-        (_, true, Least) => read_numbers::<i32, LittleEndian, R>(from, header, patience, out),
-        (_, true, Most) => read_numbers::<i32, BigEndian, R>(from, header, patience, out),
+        (8, false, _) => read_numbers::<u8, LittleEndian, R>(from, header, patience, chunk, out),
+        (8, true, _) => read_numbers::<i8, LittleEndian, R>(from, header, patience, chunk, out),
+        (16, false, Least) => read_numbers::<u16, LittleEndian, R>(
+            from, header, patience, chunk, out,
+        ),
+        (16, false, Most) => read_numbers::<u16, BigEndian, R>(from, header, patience, chunk, out),
+        (16, true, Least) => read_numbers::<i16, LittleEndian, R>(
+            from, header, patience, chunk, out,
+        ),
+        (16, true, Most) => read_numbers::<i16, BigEndian, R>(from, header, patience, chunk, out),
+        (_, false, Least) => read_numbers::<u32, LittleEndian, R>(
+            from, header, patience, chunk, out,
+        ),
+        (_, false, Most) => read_numbers::<u32, BigEndian, R>(from, header, patience, chunk, out),
+        (_, true, Least) => read_numbers::<i32, LittleEndian, R>(
+            from, header, patience, chunk, out,
+        ),
+        (_, true, Most) => read_numbers::<i32, BigEndian, R>(from, header, patience, chunk, out),
     }
 }
 
@@ -194,8 +243,10 @@ fn read_numbers<P: Pixel, T: ByteOrder, R: ByteSource>(
     from: &mut R,
     header: &Header,
     patience: &mut Patience,
+    chunk: &mut [u8],
     out: &mut [i64],
 ) -> Result<(), ReadFault>
+    requires room { CHUNK_BYTES ≤ length chunk.old }
     requires spelled { AreSpelled header.now P.len (P.reads T.number_of) }
     requires cols { length out.old ≡ header.now.cols }
     ensures bytes { (bytes : List ℕ) × PartComes (packed_len header.now) (R.bytes_left from.old) (R.bytes_left from.new) result bytes × OnOk result (out.new ≡ pixels_of header.now bytes) }
@@ -205,7 +256,6 @@ fn read_numbers<P: Pixel, T: ByteOrder, R: ByteSource>(
     // The proof knows the header's invariant once a field of it was read.
     let _bits = header.bits;
     let len = P::len();
-    let mut chunk = [0; CHUNK_BYTES];
     let mut first = 0;
     while first < out.len() {
         let came = CHUNK_PIXELS.min(out.len() - first);

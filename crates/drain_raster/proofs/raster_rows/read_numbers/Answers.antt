@@ -9,15 +9,15 @@ use Rattle.drain_raster.specs.RasterRows.{raster_numbers_of}
 use Rattle.drain_raster.proofs.RowNumberLemmas.{chunk_fits, chunk_long, chunk_put, chunk_within}
 use Rattle.drain_raster.proofs.raster_rows.read_numbers.Goals as goal
 
-pub slice_bounds-chunk-end : goal.slice_bounds-chunk-end
-slice_bounds-chunk-end g c =
-    let fits = chunk_fits c.args.header.now _ c.min-came.result _ _ (omega (arith, c.min-came.ensures)) c.len-len.ensures c.requires.spelled.len_is c.header.view_is c.header.invariant.bits_ok in
-    omega (arith, fits)
-
 pub slice_bounds-part-end : goal.slice_bounds-part-end
 slice_bounds-part-end g c =
     let fits = chunk_fits c.args.header.now _ c.min-came.result _ _ (omega (arith, c.min-came.ensures)) c.len-len.ensures c.requires.spelled.len_is c.header.view_is c.header.invariant.bits_ok in
-    sym (length-take-le (c.min-came.result * c.len-len.result) c.loop-first.chunk (omega (arith, fits)))
+    omega (arith, fits, c.requires.room, c.loop-first.auto.chunk)
+
+pub slice_bounds-part-end-in-loop-first : goal.slice_bounds-part-end-in-loop-first
+slice_bounds-part-end-in-loop-first g c =
+    let fits = chunk_fits c.args.header.now _ c.min-came.result _ _ (omega (arith, c.min-came.ensures)) c.len-len.ensures c.requires.spelled.len_is c.header.view_is c.header.invariant.bits_ok in
+    sym (length-take-le (c.min-came.result * c.len-len.result) c.loop-first.chunk (omega (arith, fits, c.requires.room, c.loop-first.auto.chunk)))
 
 pub returns-in_err-read_part-clause-bytes : goal.returns-in_err-read_part-clause-bytes
 returns-in_err-read_part-clause-bytes g c =
@@ -43,7 +43,7 @@ returns-in_err-read_part-clause-faults g c =
 pub put_numbers-requires : goal.put_numbers-requires
 put_numbers-requires g c =
     let fits = chunk_fits c.args.header.now _ c.min-came.result _ _ (omega (arith, c.min-came.ensures)) c.len-len.ensures c.requires.spelled.len_is c.header.view_is c.header.invariant.bits_ok in
-    let long : length c.read_part.new.out ≡ c.min-came.result * c.len-len.result = c.in_ok-read_part.ensures.bytes.0 ∙ length-take-le (c.min-came.result * c.len-len.result) c.loop-first.chunk (omega (arith, fits)) in
+    let long : length c.read_part.new.out ≡ c.min-came.result * c.len-len.result = c.in_ok-read_part.ensures.bytes.0 ∙ length-take-le (c.min-came.result * c.len-len.result) c.loop-first.chunk (omega (arith, fits, c.requires.room, c.loop-first.auto.chunk)) in
     chunk_long c.loop-first.first c.min-came.result c.len-len.result g.P.Pixel.len c.loop-first.out c.read_part.new.out (omega (arith, c.min-came.ensures)) long c.len-len.ensures
 
 pub loop-first-preserved : goal.loop-first-preserved
@@ -57,7 +57,7 @@ loop-first-preserved g c =
     let more = c.min-came.result in
     let fits = chunk_fits c.args.header.now _ more _ _ (omega (arith, c.min-came.ensures)) c.len-len.ensures c.requires.spelled.len_is c.header.view_is c.header.invariant.bits_ok in
     let long : length c.read_part.new.out ≡ more * g.P.Pixel.len =
-    c.in_ok-read_part.ensures.bytes.0 ∙ length-take-le (more * c.len-len.result) c.loop-first.chunk (omega (arith, fits)) ∙ ap (λ l. more * l) c.len-len.ensures in
+    c.in_ok-read_part.ensures.bytes.0 ∙ length-take-le (more * c.len-len.result) c.loop-first.chunk (omega (arith, fits, c.requires.room, c.loop-first.auto.chunk)) ∙ ap (λ l. more * l) c.len-len.ensures in
     let numbers : length (take (first + more - first) (drop first c.loop-first.out)) ≡ more =
     omega (arith, c.min-came.ensures, length-take (first + more - first) (drop first c.loop-first.out), length-drop first c.loop-first.out) in
     let part_long : length c.put_numbers.new.out ≡ more = omega (arith, numbers, c.put_numbers.auto.out) in

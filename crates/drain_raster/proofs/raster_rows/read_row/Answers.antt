@@ -21,7 +21,7 @@ returns-in-Err-read_pixels-clause-row g c =
       [],
       row-fails (pixels_behind c.args.header.now c.args.gap) (c.args.gap + packed_len c.args.header.now) (bytes_left c.args.from.now) (bytes_left c.read_pixels.new.from) c.in-Err-read_pixels.fault
           c.clear-in-Err-read_pixels.new.self.items []
-          (fails-later (bytes_left c.args.from.now) (bytes_left c.pass_part.new.from) (bytes_left c.read_pixels.new.from) passed.0 came.0 (packed_len c.args.header.now) _ c.in-Err-read_pixels.fault passed.1.1
+          (fails-later (bytes_left c.args.from.now) (bytes_left c.skip.new.from) (bytes_left c.read_pixels.new.from) passed.0 came.0 (packed_len c.args.header.now) _ c.in-Err-read_pixels.fault passed.1.1
           (omega (arith, passed.1.0)) came.1 [])
           c.clear-in-Err-read_pixels.ensures.items,
     )
@@ -29,31 +29,31 @@ returns-in-Err-read_pixels-clause-row g c =
 pub returns-in-Err-read_pixels-clause-faults : goal.returns-in-Err-read_pixels-clause-faults
 returns-in-Err-read_pixels-clause-faults g c =
     let counts = g.R.ByteSource.counts in
-    PartFails-then (counts c.args.from.now) (counts c.pass_part.new.from) (counts c.read_pixels.new.from) _ _ _ ⊥ _ (λ x. x)
-    (PartFails-ok (counts c.args.from.now) (counts c.pass_part.new.from) _ _ _ c.in_default.ensures.faults) c.in-Err-read_pixels.ensures.faults
+    PartFails-then (counts c.args.from.now) (counts c.skip.new.from) (counts c.read_pixels.new.from) _ _ _ ⊥ _ (λ x. x)
+    (PartFails-ok (counts c.args.from.now) (counts c.skip.new.from) _ _ _ c.in_default.ensures.faults) c.in-Err-read_pixels.ensures.faults
 
 pub returns-clause-row : goal.returns-clause-row
 returns-clause-row g c =
     let bytes_left = g.R.ByteSource.bytes_left in
     let passed = c.in_default.ensures.bytes in
     let came = c.in_default-read_pixels.ensures.bytes in
-    let written = take_at c.read_pixels.new.out _ c.resize.new.self.len (c.read_pixels.auto.out ∙ c.deref_mut.ensures.len) in (
+    let written = take_at c.read_pixels.new.out _ c.resize.new.self.len (c.read_pixels.auto.out ∙ c.deref_mut-2.ensures.len) in (
       passed.0 ++ came.0,
-      row-comes c.args.header.now c.args.gap (bytes_left c.args.from.now) (bytes_left c.pass_part.new.from) (bytes_left c.read_pixels.new.from) _ passed.0 came.0 passed.1.0 passed.1.1 came.1.0 came.1.1 (written ∙ came.2),
+      row-comes c.args.header.now c.args.gap (bytes_left c.args.from.now) (bytes_left c.skip.new.from) (bytes_left c.read_pixels.new.from) _ passed.0 came.0 passed.1.0 passed.1.1 came.1.0 came.1.1 (written ∙ came.2),
     )
 
 pub returns-clause-faults : goal.returns-clause-faults
 returns-clause-faults g c =
     let counts = g.R.ByteSource.counts in
-    PartFails-then (counts c.args.from.now) (counts c.pass_part.new.from) (counts c.read_pixels.new.from) _ _ _ ⊥ _ (λ x. x)
-    (PartFails-ok (counts c.args.from.now) (counts c.pass_part.new.from) _ _ _ c.in_default.ensures.faults) c.in_default-read_pixels.ensures.faults
+    PartFails-then (counts c.args.from.now) (counts c.skip.new.from) (counts c.read_pixels.new.from) _ _ _ ⊥ _ (λ x. x)
+    (PartFails-ok (counts c.args.from.now) (counts c.skip.new.from) _ _ _ c.in_default.ensures.faults) c.in_default-read_pixels.ensures.faults
 
 pub returns-clause-counted : goal.returns-clause-counted
 returns-clause-counted g c =
-    ap length (take_at c.read_pixels.new.out _ c.resize.new.self.len (c.read_pixels.auto.out ∙ c.deref_mut.ensures.len))
-    ∙ c.read_pixels.auto.out ∙ c.deref_mut.ensures.len ∙ grown _ c.resize.ensures.len c.is_err.ensures.negation c.if-is_err.false ∙ ap (λ (h : Fields). h.cols) c.header.view_is
+    ap length (take_at c.read_pixels.new.out _ c.resize.new.self.len (c.read_pixels.auto.out ∙ c.deref_mut-2.ensures.len))
+    ∙ c.read_pixels.auto.out ∙ c.deref_mut-2.ensures.len ∙ grown _ c.resize.ensures.len c.is_err.ensures.negation c.if-is_err.false ∙ ap (λ (h : Fields). h.cols) c.header.view_is
 
 pub returns-clause-pixels : goal.returns-clause-pixels
 returns-clause-pixels g c =
-    let written = take_at c.read_pixels.new.out _ c.resize.new.self.len (c.read_pixels.auto.out ∙ c.deref_mut.ensures.len) in
+    let written = take_at c.read_pixels.new.out _ c.resize.new.self.len (c.read_pixels.auto.out ∙ c.deref_mut-2.ensures.len) in
     All-same IsPixel _ c.read_pixels.new.out written c.in_default-read_pixels.ensures.pixels

@@ -1,10 +1,8 @@
-use Rattle.std.proofs.Common.{◌≡◌, ℕ, ◌+◌, length, arith, sym, subst, ap, ◌∙◌}
+use Rattle.std.proofs.Common.{◌≡◌, ℕ, ◌+◌, arith, refl, sym, subst, ap, ◌∙◌}
 use Rattle.std.specs.Option.{option_or}
-use Rattle.drain_grid.specs.declared.tile.TheConstants.{VOID}
-use Rattle.drain_grid.specs.Tile.{IsSample}
 use Rattle.drain_mosaic.specs.Streams.{Frame, end_stream, next_stream}
 use Rattle.drain_mosaic.specs.PlacedRows.{ArePlacedWithin, HasEnded, IsPlacedAt, IsPlacedWithin, streams_of}
-use Rattle.drain_mosaic.proofs.Lent.{all_back, all_lent, as_long, back, done-or-going, found-fits, going-or-done, have-back-err, have-back-ok, is_back, laid-by, lent, lent-voids, row-below, stopped-or-done, stopped-or-going, streams-back}
+use Rattle.drain_mosaic.proofs.Lent.{all_back, all_lent, as_long, back, done-or-going, found-fits, going-or-done, have-back-err, have-back-ok, laid-by, lent, row-below, stopped-or-done, stopped-or-going, streams-back}
 use Rattle.drain_mosaic.proofs.MosaicSteps.{mosaic-step, seam-end, seam-step, wrong-end, wrong-row, wrong-stopped}
 use Rattle.drain_mosaic.proofs.mosaic_rows.MosaicRows.next_row.Goals as goal
 
@@ -79,89 +77,77 @@ pub returns-in-Err-clause-keeps_tiles : goal.returns-in-Err-clause-keeps_tiles
 returns-in-Err-clause-keeps_tiles g c = as_long (lent c.deref_mut.ensures.value c.deref_mut.ensures.len c.read_ends.auto.tiles)
 
 -- a row
-pub lay_tiles-requires-clause-within : goal.lay_tiles-requires-clause-within
-lay_tiles-requires-clause-within g c =
+pub read_row-requires-clause-within : goal.read_row-requires-clause-within
+read_row-requires-clause-within g c =
     let s = c.args.self.now in
-    let wide : length c.deref_mut-3.result.now ≡ s.shape.cols = ap length c.deref_mut-3.ensures.value ∙ c.in-Ok-put_voids.ensures.long ∙ c.cols.ensures in
-    (s.shape.rows, subst (λ n. ArePlacedWithin s.side s.shape.rows n c.deref_mut-2.result.now) (sym wide) (all_lent (IsPlacedWithin s.side s.shape.rows s.shape.cols) c.deref_mut-2.ensures.value s.within))
+    (s.shape.rows, subst (λ n. ArePlacedWithin s.side s.shape.rows n c.deref_mut-2.result.now) (sym c.cols.ensures) (all_lent (IsPlacedWithin s.side s.shape.rows s.shape.cols) c.deref_mut-2.ensures.value s.within))
 
 pub cell_at-requires : goal.cell_at-requires
-cell_at-requires g c = found-fits c.in-Ok-lay_tiles.found (ap length c.deref_mut-3.ensures.value ∙ c.in-Ok-put_voids.ensures.long) c.cols.type_inv c.in-Ok-lay_tiles.ensures.found
+cell_at-requires g c = found-fits c.in-Ok-read_row.found refl c.cols.type_inv c.in-Ok-read_row.ensures.found
 
-pub invariant_of-self-in-Ok-lay_tiles : goal.invariant_of-self-in-Ok-lay_tiles
-invariant_of-self-in-Ok-lay_tiles g c =
+pub invariant_of-self-in-Ok-read_row : goal.invariant_of-self-in-Ok-read_row
+invariant_of-self-in-Ok-read_row g c =
     let s = c.args.self.now in
     let value = c.deref_mut-2.ensures.value in
-    let came = lent value c.deref_mut-2.ensures.len c.lay_tiles.auto.tiles in
-    let wide : length c.deref_mut-3.result.now ≡ s.shape.cols = ap length c.deref_mut-3.ensures.value ∙ c.in-Ok-put_voids.ensures.long ∙ c.cols.ensures in
+    let came = lent value c.deref_mut-2.ensures.len c.read_row.auto.tiles in
+    let wide : c.cols.result ≡ s.shape.cols = c.cols.ensures in
     let P = IsPlacedWithin s.side s.shape.rows s.shape.cols in
     record {
       within = all_back P came
-          (subst (λ n. ArePlacedWithin s.side s.shape.rows n c.lay_tiles.new.tiles) wide (c.lay_tiles.ensures.within s.shape.rows (subst (λ n. ArePlacedWithin s.side s.shape.rows n c.deref_mut-2.result.now) (sym wide) (all_lent P value s.within))));
+          (subst (λ n. ArePlacedWithin s.side s.shape.rows n c.read_row.new.tiles) wide (c.read_row.ensures.within s.shape.rows (subst (λ n. ArePlacedWithin s.side s.shape.rows n c.deref_mut-2.result.now) (sym wide) (all_lent P value s.within))));
       bounded = omega (arith, row-below s.bounded c.rows.ensures c.if-self-rows.false);
-      at_row = λ e. all_back (IsPlacedAt s.side (s.row + 1)) came (c.in-Ok-lay_tiles.ensures.at (all_lent (IsPlacedAt s.side s.row) value (s.at_row c.in-Going.is)));
+      at_row = λ e. all_back (IsPlacedAt s.side (s.row + 1)) came (c.in-Ok-read_row.ensures.at (all_lent (IsPlacedAt s.side s.row) value (s.at_row c.in-Going.is)));
       ended = λ e. absurd (going-or-done c.in-Going.is e);
     }
 
-pub invariant_of-self-in-Err-lay_tiles : goal.invariant_of-self-in-Err-lay_tiles
-invariant_of-self-in-Err-lay_tiles g c =
+pub invariant_of-self-in-Err-read_row : goal.invariant_of-self-in-Err-read_row
+invariant_of-self-in-Err-read_row g c =
     let s = c.args.self.now in
     let value = c.deref_mut-2.ensures.value in
-    let came = lent value c.deref_mut-2.ensures.len c.lay_tiles.auto.tiles in
-    let wide : length c.deref_mut-3.result.now ≡ s.shape.cols = ap length c.deref_mut-3.ensures.value ∙ c.in-Ok-put_voids.ensures.long ∙ c.cols.ensures in
+    let came = lent value c.deref_mut-2.ensures.len c.read_row.auto.tiles in
+    let wide : c.cols.result ≡ s.shape.cols = c.cols.ensures in
     let P = IsPlacedWithin s.side s.shape.rows s.shape.cols in
     record {
       within = all_back P came
-          (subst (λ n. ArePlacedWithin s.side s.shape.rows n c.lay_tiles.new.tiles) wide (c.lay_tiles.ensures.within s.shape.rows (subst (λ n. ArePlacedWithin s.side s.shape.rows n c.deref_mut-2.result.now) (sym wide) (all_lent P value s.within))));
+          (subst (λ n. ArePlacedWithin s.side s.shape.rows n c.read_row.new.tiles) wide (c.read_row.ensures.within s.shape.rows (subst (λ n. ArePlacedWithin s.side s.shape.rows n c.deref_mut-2.result.now) (sym wide) (all_lent P value s.within))));
       bounded = s.bounded;
       at_row = λ e. absurd (stopped-or-going e);
       ended = λ e. absurd (stopped-or-done e);
     }
 
-pub returns-in-Ok-lay_tiles-clause-read : goal.returns-in-Ok-lay_tiles-clause-read
-returns-in-Ok-lay_tiles-clause-read g c = have-back-ok (lent c.deref_mut-2.ensures.value c.deref_mut-2.ensures.len c.lay_tiles.auto.tiles) c.in-Ok-lay_tiles.ensures.read
+pub returns-in-Ok-read_row-clause-read : goal.returns-in-Ok-read_row-clause-read
+returns-in-Ok-read_row-clause-read g c = have-back-ok (lent c.deref_mut-2.ensures.value c.deref_mut-2.ensures.len c.read_row.auto.tiles) c.in-Ok-read_row.ensures.read
 
-pub returns-in-Ok-lay_tiles-clause-keeps_tiles : goal.returns-in-Ok-lay_tiles-clause-keeps_tiles
-returns-in-Ok-lay_tiles-clause-keeps_tiles g c = as_long (lent c.deref_mut-2.ensures.value c.deref_mut-2.ensures.len c.lay_tiles.auto.tiles)
+pub returns-in-Ok-read_row-clause-keeps_tiles : goal.returns-in-Ok-read_row-clause-keeps_tiles
+returns-in-Ok-read_row-clause-keeps_tiles g c = as_long (lent c.deref_mut-2.ensures.value c.deref_mut-2.ensures.len c.read_row.auto.tiles)
 
-pub returns-in-Ok-lay_tiles-clause-long : goal.returns-in-Ok-lay_tiles-clause-long
-returns-in-Ok-lay_tiles-clause-long g c = as_long (lent c.deref_mut-3.ensures.value c.deref_mut-3.ensures.len c.lay_tiles.auto.out) ∙ c.in-Ok-put_voids.ensures.long ∙ c.cols.ensures
-
-pub returns-in-Ok-lay_tiles-clause-samples : goal.returns-in-Ok-lay_tiles-clause-samples
-returns-in-Ok-lay_tiles-clause-samples g c =
-    all_back IsSample (lent c.deref_mut-3.ensures.value c.deref_mut-3.ensures.len c.lay_tiles.auto.out)
-    (c.lay_tiles.ensures.samples (lent-voids c.deref_mut-3.ensures.value c.in-Ok-put_voids.ensures.voids))
-
-pub returns-in-Ok-lay_tiles-clause-rows : goal.returns-in-Ok-lay_tiles-clause-rows
-returns-in-Ok-lay_tiles-clause-rows g c told =
+pub returns-in-Ok-read_row-clause-rows : goal.returns-in-Ok-read_row-clause-rows
+returns-in-Ok-read_row-clause-rows g c told =
     let s = c.args.self.now in
-    let value = c.deref_mut-3.ensures.value in
-    let row = lent value c.deref_mut-3.ensures.len c.lay_tiles.auto.out in
-    mosaic-step s.progress (frame s.side s.shape.rows s.shape.cols) s.row (streams_of g.R.ByteSource.bytes_left s.tiles.items c.args.from.now) _ c.lay_tiles.new.out _ c.in-Ok-lay_tiles.found c.in-Going.is
+    mosaic-step s.progress (frame s.side s.shape.rows s.shape.cols) s.row (streams_of g.R.ByteSource.bytes_left s.tiles.items c.args.from.now) _ c.read_row.new.out.items _ c.in-Ok-read_row.found c.in-Going.is
     (row-below s.bounded c.rows.ensures c.if-self-rows.false)
-    (streams-back g.R.ByteSource.bytes_left c.args.from.now c.lay_tiles.new.from (next_stream s.side s.row) (lent c.deref_mut-2.ensures.value c.deref_mut-2.ensures.len c.lay_tiles.auto.tiles) (c.in-Ok-lay_tiles.ensures.goes_on told))
-    (is_back row) (c.lay_tiles.auto.out ∙ ap length value ∙ c.in-Ok-put_voids.ensures.long ∙ c.cols.ensures)
-    (laid-by g.R.ByteSource.bytes_left c.args.from.now c.deref_mut-2.ensures.value (c.in-Ok-lay_tiles.ensures.laid told (all_lent (λ z. z ≡ VOID) value c.in-Ok-put_voids.ensures.voids)))
+    (streams-back g.R.ByteSource.bytes_left c.args.from.now c.read_row.new.from (next_stream s.side s.row) (lent c.deref_mut-2.ensures.value c.deref_mut-2.ensures.len c.read_row.auto.tiles) (c.in-Ok-read_row.ensures.goes_on told))
+    refl (c.in-Ok-read_row.ensures.long ∙ c.cols.ensures)
+    (laid-by g.R.ByteSource.bytes_left c.args.from.now c.deref_mut-2.ensures.value (c.in-Ok-read_row.ensures.laid told))
 
-pub returns-in-Ok-lay_tiles-clause-seam : goal.returns-in-Ok-lay_tiles-clause-seam
-returns-in-Ok-lay_tiles-clause-seam g c told =
+pub returns-in-Ok-read_row-clause-seam : goal.returns-in-Ok-read_row-clause-seam
+returns-in-Ok-read_row-clause-seam g c told =
     let s = c.args.self.now in
-    let value = c.deref_mut-3.ensures.value in
-    seam-step (frame s.side s.shape.rows s.shape.cols) s.row (streams_of g.R.ByteSource.bytes_left s.tiles.items c.args.from.now) _ c.lay_tiles.new.out s.seam c.first_cell-self.result c.in-Ok-lay_tiles.found
+    seam-step (frame s.side s.shape.rows s.shape.cols) s.row (streams_of g.R.ByteSource.bytes_left s.tiles.items c.args.from.now) _ c.read_row.new.out.items s.seam c.first_cell-self.result c.in-Ok-read_row.found
     (row-below s.bounded c.rows.ensures c.if-self-rows.false)
-    (streams-back g.R.ByteSource.bytes_left c.args.from.now c.lay_tiles.new.from (next_stream s.side s.row) (lent c.deref_mut-2.ensures.value c.deref_mut-2.ensures.len c.lay_tiles.auto.tiles) (c.in-Ok-lay_tiles.ensures.goes_on told))
-    (c.lay_tiles.auto.out ∙ ap length value ∙ c.in-Ok-put_voids.ensures.long ∙ c.cols.ensures)
-    (laid-by g.R.ByteSource.bytes_left c.args.from.now c.deref_mut-2.ensures.value (c.in-Ok-lay_tiles.ensures.laid told (all_lent (λ z. z ≡ VOID) value c.in-Ok-put_voids.ensures.voids)))
+    (streams-back g.R.ByteSource.bytes_left c.args.from.now c.read_row.new.from (next_stream s.side s.row) (lent c.deref_mut-2.ensures.value c.deref_mut-2.ensures.len c.read_row.auto.tiles) (c.in-Ok-read_row.ensures.goes_on told))
+    (c.in-Ok-read_row.ensures.long ∙ c.cols.ensures)
+    (laid-by g.R.ByteSource.bytes_left c.args.from.now c.deref_mut-2.ensures.value (c.in-Ok-read_row.ensures.laid told))
     (c.first_cell-self.ensures ∙ ap (option_or s.seam) c.cell_at.ensures)
 
-pub returns-in-Ok-lay_tiles-clause-wrong : goal.returns-in-Ok-lay_tiles-clause-wrong
-returns-in-Ok-lay_tiles-clause-wrong g c told =
+pub returns-in-Ok-read_row-clause-wrong : goal.returns-in-Ok-read_row-clause-wrong
+returns-in-Ok-read_row-clause-wrong g c told =
     let s = c.args.self.now in
     wrong-row s.side s.row (streams_of g.R.ByteSource.bytes_left s.tiles.items c.args.from.now) _
-    (streams-back g.R.ByteSource.bytes_left c.args.from.now c.lay_tiles.new.from (next_stream s.side s.row) (lent c.deref_mut-2.ensures.value c.deref_mut-2.ensures.len c.lay_tiles.auto.tiles) (c.in-Ok-lay_tiles.ensures.goes_on told))
+    (streams-back g.R.ByteSource.bytes_left c.args.from.now c.read_row.new.from (next_stream s.side s.row) (lent c.deref_mut-2.ensures.value c.deref_mut-2.ensures.len c.read_row.auto.tiles) (c.in-Ok-read_row.ensures.goes_on told))
 
-pub returns-in-Err-lay_tiles-clause-read : goal.returns-in-Err-lay_tiles-clause-read
-returns-in-Err-lay_tiles-clause-read g c = have-back-err (lent c.deref_mut-2.ensures.value c.deref_mut-2.ensures.len c.lay_tiles.auto.tiles) c.in-Err-lay_tiles.ensures.read
+pub returns-in-Err-read_row-clause-read : goal.returns-in-Err-read_row-clause-read
+returns-in-Err-read_row-clause-read g c = have-back-err (lent c.deref_mut-2.ensures.value c.deref_mut-2.ensures.len c.read_row.auto.tiles) c.in-Err-read_row.ensures.read
 
-pub returns-in-Err-lay_tiles-clause-keeps_tiles : goal.returns-in-Err-lay_tiles-clause-keeps_tiles
-returns-in-Err-lay_tiles-clause-keeps_tiles g c = as_long (lent c.deref_mut-2.ensures.value c.deref_mut-2.ensures.len c.lay_tiles.auto.tiles)
+pub returns-in-Err-read_row-clause-keeps_tiles : goal.returns-in-Err-read_row-clause-keeps_tiles
+returns-in-Err-read_row-clause-keeps_tiles g c = as_long (lent c.deref_mut-2.ensures.value c.deref_mut-2.ensures.len c.read_row.auto.tiles)
