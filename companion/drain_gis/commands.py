@@ -2,7 +2,6 @@
 
 import argparse
 import os
-import signal
 import sys
 import traceback
 from collections.abc import Callable, Sequence
@@ -20,6 +19,7 @@ from .products import PRODUCTS
 from .program import Drain
 from .progress import Progress
 from .rasters import open_rasters
+from .stops import heed_signals
 from .surface_alone import judge_surface_rasters
 from .verdict import judge
 from .whole import make_whole
@@ -142,16 +142,10 @@ COMMANDS: dict[str, Callable[[argparse.Namespace], int]] = {
 }
 
 
-def stop(number: int, frame: object) -> None:
-    """Ends the run at a signal; what is half written is removed on the way out."""
-    raise Stopped(signal.Signals(number).name)
-
-
 def main(words: Sequence[str] | None = None) -> int:
     """Runs a command. Every end is a line and a status."""
     arguments = parser_of().parse_args(words)
-    for number in (signal.SIGTERM, signal.SIGHUP, signal.SIGINT):
-        signal.signal(number, stop)
+    heed_signals()
     try:
         status = COMMANDS[arguments.command](arguments)
         sys.stdout.flush()

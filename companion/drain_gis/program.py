@@ -6,11 +6,13 @@ import re
 import shutil
 import subprocess
 from collections.abc import Sequence
+from contextlib import ExitStack
 from dataclasses import dataclass, field
 from pathlib import Path
 from typing import Any
 
 from .errors import DrainFailed
+from .stops import put_off
 
 ACCEPTED, REJECTED = 0, 1
 
@@ -57,17 +59,9 @@ class Drain:
     def run(self, words: Sequence[str], folder: Path) -> tuple[str, int, str]:
         """Standard output, status and standard error."""
         try:
-            done = subprocess.run(
-                [self.program, *words],
-                cwd=folder,
-                stdin=subprocess.DEVNULL,
-                capture_output=True,
-                text=True,
-                check=False,
-            )
+            return run_to_its_end([self.program, *words], folder)
         except OSError as error:
             raise DrainFailed(f"{self.program} can't be run: {error}") from error
-        return done.stdout, done.returncode, done.stderr
 
     def command(self, name: str, mosaic: Mosaic, *options: str) -> tuple[str, int, str]:
         """Runs a command on a mosaic."""
@@ -104,6 +98,20 @@ class Drain:
         line, status, error = self.command("make", mosaic, "--out", out)
         if status:
             raise DrainFailed(f"drain make: {line.strip() or error.strip() or f'ended with {status}'}")
+
+
+def run_to_its_end(command: Sequence[str], folder: Path) -> tuple[str, int, str]:
+    """Standard output, status and standard error of a program; it doesn't outlive a run that is stopped."""
+    pipe = subprocess.PIPE
+    with ExitStack() as ends:
+        with put_off():
+            child = subprocess.Popen(
+                command, cwd=folder, stdin=subprocess.DEVNULL, stdout=pipe, stderr=pipe, text=True
+            )
+            ends.enter_context(child)
+            ends.callback(child.kill)
+        out, error = child.communicate()
+    return out, child.returncode, error
 
 
 def read_line(line: str, status: int) -> Answer:

@@ -36,6 +36,20 @@ def waiting(*words, **more):
 sys.exit(commands.main(sys.argv[1:]))
 """
 
+# The signal comes as soon as the program is started, before the run knows it.
+AT_ONCE = """
+import os, signal, subprocess, sys
+sys.path.insert(0, {path!r})
+from drain_gis import commands
+class Started(subprocess.Popen):
+    def __init__(self, *words, **more):
+        super().__init__(*words, **more)
+        print(self.pid, flush=True)
+        os.kill(os.getpid(), {number})
+subprocess.Popen = Started
+sys.exit(commands.main(sys.argv[1:]))
+"""
+
 
 class Stops(unittest.TestCase):
     """What is left of a run that is stopped."""
@@ -161,6 +175,19 @@ class Stops(unittest.TestCase):
         self.assertEqual((run.returncode, error), (3, "failed: stopped by SIGTERM\n"))
         with self.assertRaises(ProcessLookupError):
             os.kill(pid, 0)
+
+    def test_a_signal_while_the_program_is_started(self) -> None:
+        self.assertEqual(self.run_with_room(1 << 20, *SAGA, self.base / "out").returncode, 0)
+        slow = self.base / "slow"
+        slow.write_text("#!/bin/sh\nexec sleep 60\n")
+        slow.chmod(0o755)
+        for number in (signal.SIGTERM, signal.SIGINT, signal.SIGHUP):
+            words = ["judge", "--drain", str(slow), str(self.base / "out")]
+            script = AT_ONCE.format(path=str(COMPANION), number=int(number))
+            done = subprocess.run([sys.executable, "-c", script, *words], capture_output=True, text=True, check=False)
+            self.assertEqual((done.returncode, done.stderr), (3, f"failed: stopped by {number.name}\n"))
+            with self.assertRaises(ProcessLookupError):
+                os.kill(int(done.stdout), 0)
 
 
 if __name__ == "__main__":
