@@ -1,6 +1,6 @@
 //! Which cells of three long rows their lanes clear: no contract says that they clear most.
 
-use crate::examples::equal;
+use crate::examples::{Part, equal};
 use crate::rows_of_numbers::{COLS, kept_by_lanes, level_rows};
 use drain_rules::Kept;
 use std::test::Fail;
@@ -63,6 +63,81 @@ fn cells_beside_a_void(rt: HostRuntime) -> Result<(), Fail> {
             let kept = kept_by_lanes(rt.alloc(), &[], &numbers, 1, from)?;
             equal(&rt, (nodata, from), kept, level(end));
         }
+    }
+    Ok(())
+}
+
+/// Numbers put into all cells of a row of some parts: at the last that a test in 16 bits takes, past it, and at the
+/// last of all.
+static GREAT: [[(Part, u8, i64); 4]; 7] = [
+    // Accumulations, of the cell and of the one that leads to it.
+    [
+        (Part::Dir, 2, 64),
+        (Part::Acc, 2, 65533),
+        (Part::Acc, 1, 65534),
+        (Part::Acc, 0, 65535),
+    ],
+    [
+        (Part::Dir, 2, 64),
+        (Part::Acc, 2, 65534),
+        (Part::Acc, 1, 65535),
+        (Part::Acc, 0, 65536),
+    ],
+    [
+        (Part::Dir, 2, 64),
+        (Part::Acc, 2, 4294967294),
+        (Part::Acc, 1, 4294967295),
+        (Part::Acc, 0, 4294967295),
+    ],
+    // Ranks, of the cell and of the one that it leads to; the greatest number is no rank.
+    [
+        (Part::Rnk, 0, 65534),
+        (Part::Rnk, 1, 65535),
+        (Part::Rnk, 2, 65536),
+        (Part::Bas, 0, 1),
+    ],
+    [
+        (Part::Rnk, 0, 65535),
+        (Part::Rnk, 1, 65536),
+        (Part::Rnk, 2, 65537),
+        (Part::Bas, 0, 1),
+    ],
+    [
+        (Part::Rnk, 0, 4294967293),
+        (Part::Rnk, 1, 4294967294),
+        (Part::Rnk, 2, 0),
+        (Part::Bas, 0, 1),
+    ],
+    // One label, the greatest.
+    [
+        (Part::Bas, 0, 4294967295),
+        (Part::Bas, 1, 4294967295),
+        (Part::Bas, 2, 4294967295),
+        (Part::Rnk, 0, 0),
+    ],
+];
+
+/// Puts a number into all cells of a row of a part.
+fn put_row(numbers: &mut [i64], part: Part, row: u8, number: i64) {
+    let first = (part as usize * 3 + row as usize) * COLS as usize;
+    for col in 0..COLS as usize {
+        if let Some(slot) = numbers.get_mut(first + col) {
+            *slot = number;
+        }
+    }
+}
+
+#[test]
+fn cells_with_great_numbers(rt: HostRuntime) -> Result<(), Fail> {
+    for (case, parts) in GREAT.iter().enumerate() {
+        let mut numbers = level_rows(rt.alloc())?;
+        put_row(&mut numbers, Part::Bas, 0, 1);
+        put_row(&mut numbers, Part::Bas, 1, 1);
+        for &(part, row, number) in parts {
+            put_row(&mut numbers, part, row, number);
+        }
+        let kept = kept_by_lanes(rt.alloc(), &[], &numbers, 1, 1)?;
+        equal(&rt, case, kept, level(129));
     }
     Ok(())
 }
