@@ -29,6 +29,10 @@ Conflict z s = (z ≢ VOID) × (s ≢ VOID) × (z ≢ s)
 abbrev pub ConflictAt : List ℤ → List ℤ → ℕ → Type 0
 ConflictAt zs ss k = Conflict (slice_index_or zs k VOID) (slice_index_or ss k VOID)
 
+-- the number laid over this place has data, and isn't the one that is there
+abbrev pub IsRefusedAt : List ℤ → List ℤ → ℕ → Type 0
+IsRefusedAt zs ss k = (slice_index_or ss k VOID ≢ VOID) × (slice_index_or zs k VOID ≢ slice_index_or ss k VOID)
+
 -- both are values, and differ
 abbrev pub AreTwo : Option ℤ → Option ℤ → Type 0
 AreTwo one other = (one ≢ None) × (other ≢ None) × (one ≢ other)

@@ -2,7 +2,7 @@
 
 ghost use Rattle.std.specs.Prelude.{◌≡◌, ◌↔◌, ◌≤◌, ◌<◌, ◌+◌, ℕ, length, EachIndex, IsTrue, slice_index_or};
 ghost use Rattle.drain_grid.specs.declared.tile.TheConstants.{VOID};
-ghost use Rattle.drain_mosaic.specs.JoinedRows.{ConflictAt, IsLaidOver, IsLeastOf, filled, first_of};
+ghost use Rattle.drain_mosaic.specs.JoinedRows.{ConflictAt, IsLaidOver, IsLeastOf, IsRefusedAt, filled, first_of};
 
 use drain_grid::VOID;
 
@@ -15,38 +15,40 @@ pub fn lay_over(row: &mut [i64], left: usize, part: &[i64]) -> Option<usize>
     ensures { IsLaidOver left part.now row.old row.new result }
 {
     let under = &mut row[left..left + part.len()];
-    let conflict = first_conflict(under, part);
-    fill_voids(under, part);
-    match conflict {
+    match lay(under, part) {
         Some(k) => Some(left + k),
         None => None,
     }
 }
 
-/// The first place where both have data and the numbers differ. Most parts have none.
-fn first_conflict(here: &[i64], other: &[i64]) -> Option<usize>
-    requires { length here.now ≡ length other.now }
-    ensures { IsLeastOf (ConflictAt here.now other.now) (length here.now) result }
+/// Replaces each void by the other number. Finds the first place where both have data and differ.
+fn lay(here: &mut [i64], other: &[i64]) -> Option<usize>
+    requires { length here.old ≡ length other.now }
+    ensures values { EachIndex here.new (λ k. slice_index_or here.new k VOID ≡ filled (slice_index_or here.old k VOID) (slice_index_or other.now k VOID)) }
+    ensures first { IsLeastOf (ConflictAt here.old other.now) (length here.old) result }
 {
-    if all_agree(here, other) {
+    if fill_voids(here, other) {
         return None;
     }
-    for k in 0..here.len() {
-        if !agree_at(here, other, k) {
-            return Some(k);
-        }
-    }
-    None
+    first_refused(here, other)
 }
 
-/// Whether no place is in conflict. It tests each without a branch, so a processor takes many at a time.
-fn all_agree(here: &[i64], other: &[i64]) -> bool
-    requires { length here.now ≡ length other.now }
-    ensures { IsTrue result ↔ ((k : ℕ) → k < length here.now → ¬ ConflictAt here.now other.now k) }
+/// Replaces each void by the other number. Returns whether no place is in conflict.
+///
+/// Each place is tested and written without a branch, so a processor takes many at a time.
+fn fill_voids(here: &mut [i64], other: &[i64]) -> bool
+    requires { length here.old ≡ length other.now }
+    ensures values { EachIndex here.new (λ k. slice_index_or here.new k VOID ≡ filled (slice_index_or here.old k VOID) (slice_index_or other.now k VOID)) }
+    ensures agree { IsTrue result ↔ ((k : ℕ) → k < length here.old → ¬ ConflictAt here.old other.now k) }
 {
     let mut all = true;
     for k in 0..here.len() {
         all &= agree_at(here, other, k);
+        here[k] = if here[k] == VOID_NUMBER {
+            other[k]
+        } else {
+            here[k]
+        };
     }
     all
 }
@@ -60,16 +62,17 @@ fn agree_at(here: &[i64], other: &[i64], k: usize) -> bool
     (here[k] == VOID_NUMBER) | (other[k] == VOID_NUMBER) | (here[k] == other[k])
 }
 
-/// Replaces each void by the other number, without a branch.
-fn fill_voids(here: &mut [i64], other: &[i64])
-    requires { length here.old ≡ length other.now }
-    ensures { EachIndex here.new (λ k. slice_index_or here.new k VOID ≡ filled (slice_index_or here.old k VOID) (slice_index_or other.now k VOID)) }
+/// The first place whose other number has data and isn't the number that is there.
+fn first_refused(here: &[i64], other: &[i64]) -> Option<usize>
+    requires { length here.now ≡ length other.now }
+    ensures { IsLeastOf (IsRefusedAt here.now other.now) (length here.now) result }
 {
     for k in 0..here.len() {
-        let under = here[k];
-        let over = other[k];
-        here[k] = if under == VOID_NUMBER { over } else { under };
+        if other[k] != VOID_NUMBER && here[k] != other[k] {
+            return Some(k);
+        }
     }
+    None
 }
 
 /// The lesser of two places, each of which may be missing.

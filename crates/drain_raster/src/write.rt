@@ -12,6 +12,7 @@ ghost use Rattle.drain_raster.specs.Pixels.{header_extent};
 ghost use Rattle.drain_raster.specs.Bytes.{AreWritten, CanSpellAll, CanSpellAllIn, IsFirstOutOfRange, cells_bytes, cells_from, bytes_of_row, raster_bytes};
 ghost use Rattle.drain_device.specs.Failing.{WriteFails};
 ghost use Rattle.drain_raster.specs.Writing.{Hands};
+ghost use Rattle.drain_raster.specs.declared.write.TheConstants.{BUFFER_BYTES};
 
 use crate::fault::WriteFault;
 use crate::pixel::Pixel;
@@ -22,10 +23,13 @@ use drain_grid::{Cell, Raster};
 use drain_header::{ByteOrdering, Header};
 
 /// The most bytes in one call of the sink.
-const BUFFER_BYTES: usize = 4096;
+const BUFFER_BYTES: usize = 65536;
 
 /// How many pixels of any size the buffer has room for.
-const BUFFER_PIXELS: u32 = 1024;
+const BUFFER_PIXELS: u32 = 16384;
+
+/// The most zeros in one call of the sink.
+const ZERO_BYTES: usize = 4096;
 
 /// Writes these bytes.
 fn hand<W: ByteSink>(to: &mut W, bytes: &[u8], patience: &mut Patience) -> Result<(), GaveUp>
@@ -38,10 +42,13 @@ fn hand<W: ByteSink>(to: &mut W, bytes: &[u8], patience: &mut Patience) -> Resul
 fn write_zeros<W: ByteSink>(to: &mut W, count: usize, patience: &mut Patience) -> Result<(), GaveUp>
     ensures { Hands (W.bytes_taken to.old) (W.bytes_taken to.new) (W.counts to.old) (W.counts to.new) (W.stalls to.old) (W.stalls to.new) patience.old patience.new result (replicate count 0) }
 {
-    let zeros = [0; BUFFER_BYTES];
+    if count == 0 {
+        return Ok(());
+    }
+    let zeros = [0; ZERO_BYTES];
     let mut written = 0;
     while written < count {
-        let next = BUFFER_BYTES.min(count - written);
+        let next = ZERO_BYTES.min(count - written);
         hand(to, &zeros[..next], patience)?;
         written += next;
     }
@@ -69,26 +76,27 @@ fn put_pixels<P: Pixel, T: ByteOrder>(
     }
 }
 
-/// Writes the pixels of a row.
+/// Writes the pixels of a row, through the buffer.
 fn write_pixels<P: Pixel, T: ByteOrder, W: ByteSink>(
     to: &mut W,
     raster: &Raster,
     row: u32,
     cols: u32,
+    buffer: &mut [u8],
     patience: &mut Patience,
 ) -> Result<(), GaveUp>
     requires len { P.len ≤ 4 }
+    requires room { BUFFER_BYTES ≤ length buffer.old }
     requires spelled { CanSpellAllIn P.signed P.bits raster.now }
     requires row { row < raster.now.extent.rows }
     requires cols { cols ≡ raster.now.extent.cols }
     requires fits { cols ≤ MAX_LENGTH }
     ensures { Hands (W.bytes_taken to.old) (W.bytes_taken to.new) (W.counts to.old) (W.counts to.new) (W.stalls to.old) (W.stalls to.new) patience.old patience.new result (cells_bytes (P.spells T.bytes_of) raster.now (row_cells cols row)) }
 {
-    let mut buffer = [0; BUFFER_BYTES];
     let mut first = 0;
     while first < cols {
         let end = cols.min(first + BUFFER_PIXELS);
-        put_pixels::<P, T>(&mut buffer, raster, row, first, end);
+        put_pixels::<P, T>(buffer, raster, row, first, end);
         let filled = (end - first) as usize * P::len();
         hand(to, &buffer[..filled], patience)?;
         first = end;
@@ -102,8 +110,10 @@ fn write_row<P: Pixel, T: ByteOrder, W: ByteSink>(
     header: &Header,
     raster: &Raster,
     row: u32,
+    buffer: &mut [u8],
     patience: &mut Patience,
 ) -> Result<(), GaveUp>
+    requires room { BUFFER_BYTES ≤ length buffer.old }
     requires written { AreWritten header.now P.len P.bits P.signed (P.spells T.bytes_of) }
     requires shape { raster.now.extent ≡ header_extent header.now }
     requires spelled { CanSpellAll header.now raster.now }
@@ -111,7 +121,7 @@ fn write_row<P: Pixel, T: ByteOrder, W: ByteSink>(
     ensures { Hands (W.bytes_taken to.old) (W.bytes_taken to.new) (W.counts to.old) (W.counts to.new) (W.stalls to.old) (W.stalls to.new) patience.old patience.new result (bytes_of_row header.now raster.now row) }
 {
     let padding = header.row_bytes as usize - header.cols as usize * P::len();
-    write_pixels::<P, T, W>(to, raster, row, header.cols, patience)?;
+    write_pixels::<P, T, W>(to, raster, row, header.cols, buffer, patience)?;
     write_zeros(to, padding, patience)
 }
 
@@ -127,8 +137,9 @@ fn write_rows<P: Pixel, T: ByteOrder, W: ByteSink>(
     requires spelled { CanSpellAll header.now raster.now }
     ensures { Hands (W.bytes_taken to.old) (W.bytes_taken to.new) (W.counts to.old) (W.counts to.new) (W.stalls to.old) (W.stalls to.new) patience.old patience.new result (flat_map (bytes_of_row header.now raster.now) (range_with_len 0 header.now.rows)) }
 {
+    let mut buffer = [0; BUFFER_BYTES];
     for row in 0..header.rows {
-        write_row::<P, T, W>(to, header, raster, row, patience)?;
+        write_row::<P, T, W>(to, header, raster, row, &mut buffer, patience)?;
     }
     Ok(())
 }

@@ -1,6 +1,6 @@
 use Rattle.std.proofs.Common.{◌+◌, ◌-◌, ◌++◌, ℕ, replicate, arith, sym, ap, ◌∙◌}
 use Rattle.std.proofs.lemmas.List.{take-replicate}
-use Rattle.drain_raster.specs.declared.write.TheConstants.{BUFFER_BYTES}
+use Rattle.drain_raster.specs.declared.write.TheConstants.{ZERO_BYTES}
 use Rattle.drain_raster.proofs.BufferLemmas.{zeros-more, zeros-parts}
 use Rattle.drain_raster.proofs.WritingLemmas.{Hands-start, Hands-more, Hands-ended}
 use Rattle.drain_raster.proofs.write.write_zeros.Goals as goal
@@ -20,7 +20,7 @@ returns-in_err-hand g c =
     Hands-ended (bytes_taken c.args.to.now) (bytes_taken c.loop-written.to) (bytes_taken c.hand.new.to) (counts c.args.to.now) (counts c.loop-written.to) (counts c.hand.new.to)
     (stalls c.args.to.now) (stalls c.loop-written.to) (stalls c.hand.new.to) c.args.patience.now c.loop-written.patience c.hand.new.patience _ c.from_residual.result
     (replicate {A = ℕ} c.loop-written.written 0) _ (replicate {A = ℕ} (c.args.count - (c.loop-written.written + c.min-next.result)) 0) (replicate {A = ℕ} c.args.count 0)
-    c.from_residual.ensures.0 inv.handed c.in_err-hand.ensures (zeros-parts c.args.count c.loop-written.written c.min-next.result _ (take-replicate c.min-next.result BUFFER_BYTES 0 (omega (arith, c.min-next.ensures))) (omega (arith, c.min-next.ensures)))
+    c.from_residual.ensures.0 inv.handed c.in_err-hand.ensures (zeros-parts c.args.count c.loop-written.written c.min-next.result _ (take-replicate c.min-next.result ZERO_BYTES 0 (omega (arith, c.min-next.ensures))) (omega (arith, c.min-next.ensures)))
 
 pub loop-written-preserved : goal.loop-written-preserved
 loop-written-preserved g c =
@@ -34,5 +34,5 @@ loop-written-preserved g c =
           (stalls c.args.to.now) (stalls c.loop-written.to) (stalls c.hand.new.to) c.args.patience.now c.loop-written.patience c.hand.new.patience
           (replicate {A = ℕ} c.loop-written.written 0) _ (replicate {A = ℕ} (c.loop-written.written + c.min-next.result) 0)
           inv.handed c.in_ok-hand.ensures
-          (ap (λ xs. replicate {A = ℕ} c.loop-written.written 0 ++ xs) (take-replicate c.min-next.result BUFFER_BYTES 0 (omega (arith, c.min-next.ensures))) ∙ sym (zeros-more c.loop-written.written c.min-next.result));
+          (ap (λ xs. replicate {A = ℕ} c.loop-written.written 0 ++ xs) (take-replicate c.min-next.result ZERO_BYTES 0 (omega (arith, c.min-next.ensures))) ∙ sym (zeros-more c.loop-written.written c.min-next.result));
     }

@@ -1,6 +1,0 @@
-use Rattle.std.proofs.Common.{ℕ, ◌<◌}
-use Rattle.drain_mosaic.specs.JoinedRows.{ConflictAt}
-use Rattle.drain_mosaic.proofs.overlay.first_conflict.Given as goal
-
-abbrev pub invariant-loop-k : goal.invariant-loop-k
-invariant-loop-k l = (k : ℕ) → k < l.k → ¬ ConflictAt l.here l.other k
