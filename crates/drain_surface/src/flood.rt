@@ -26,7 +26,6 @@ use crate::laws::flood_is_filled;
 use crate::layers::{heights, marks};
 use crate::level_queue::LevelQueue;
 use crate::open_cells::is_open;
-use crate::places::{beside, is_inner};
 use crate::tracing::spread;
 use drain_grid::{Cell, Direction, Elevation, OutOfMemory, Shape, Sinks};
 use std::alloc::Global;
@@ -191,72 +190,6 @@ impl Flood {
         Ok(())
     }
 
-    /// Reaches the unreached neighbours of a cell; lower ones only if it raises them. Returns whether a lower one was
-    /// left.
-    pub(crate) fn look_around(
-        &mut self,
-        cell: Cell,
-        level: i16,
-        raises: bool,
-    ) -> Result<bool, OutOfMemory>
-        requires inside { IsCellOf self.old.extent cell }
-        ensures extent { self.new.extent ≡ self.old.extent }
-        ensures work { OnOk result (IsLessWork self.old self.new) }
-        ensures around { IfOk result (λ left. (g : Grid) (stand : ℤ) (busy : List ℕ) → g.extent ≡ self.old.extent → IsLookedBefore g self.old stand busy cell level raises → IsLookedAround g self.new stand busy cell level raises left) }
-    {
-        let inner = is_inner(self.shape, cell);
-        let mut left = false;
-        for direction in Direction::ALL {
-            let more = self.look(cell, inner, direction, level, raises)?;
-            left = left || more;
-        }
-        Ok(left)
-    }
-
-    /// The same for the neighbour in one direction.
-    fn look(
-        &mut self,
-        cell: Cell,
-        inner: bool,
-        direction: Direction,
-        level: i16,
-        raises: bool,
-    ) -> Result<bool, OutOfMemory>
-        requires inside { IsCellOf self.old.extent cell }
-        requires inner { IsTrue inner → IsInnerPlace self.old.extent cell }
-        ensures extent { self.new.extent ≡ self.old.extent }
-        ensures look { IfOk result (IsLook self.old.extent self.old self.new cell direction level raises) }
-    {
-        let Some(next) = self.fresh(cell, inner, direction) else {
-            return Ok(false);
-        };
-        let ground = self.level_at(next);
-        if ground < level && !raises {
-            return Ok(true);
-        }
-        self.reach(next, ground.max(level))?;
-        Ok(false)
-    }
-
-    /// The place of the neighbour in a direction, if it isn't reached.
-    fn fresh(&self, cell: Cell, inner: bool, direction: Direction) -> Option<usize>
-        requires inside { IsCellOf self.now.extent cell }
-        requires inner { IsTrue inner → IsInnerPlace self.now.extent cell }
-        ensures below { IfSome result (λ place. place < self.now.extent.rows * self.now.extent.cols) }
-        ensures fresh { MatchOption result ((n : Cell) → IsFreshAt self.now.extent self.now cell direction n → ⊥) (IsFreshPlace self.now.extent self.now cell direction) }
-    {
-        match beside(self.shape, cell, inner, direction) {
-            Some(next) => {
-                if self.mark[next] == UNREACHED {
-                    Some(next)
-                } else {
-                    None
-                }
-            }
-            None => None,
-        }
-    }
-
     /// The conditioned elevation of a reached cell, the ground of any other.
     pub fn height(&self, cell: Cell) -> i16
         requires { IsCellOf self.now.extent cell }
@@ -288,6 +221,16 @@ impl Flood {
         self.mark[self.shape.index(cell)]
     }
 
+    /// Whether the cell at a place is a data cell that isn't reached.
+    #[inline(always)]
+    pub(crate) fn is_unreached(&self, place: usize) -> bool
+        requires { place < self.now.extent.rows * self.now.extent.cols }
+        ensures yes { IsTrue result → slice_index_or self.now.mark place 0 ≡ UNREACHED }
+        ensures no { slice_index_or self.now.mark place 0 ≡ UNREACHED → IsTrue result }
+    {
+        self.mark[place] == UNREACHED
+    }
+
     /// The heights of all cells, in row order.
     pub(crate) fn heights(&self) -> &[i16]
         ensures heights { result.now ≡ self.now.con }
@@ -305,7 +248,8 @@ impl Flood {
     }
 
     /// Reaches the cell at a place, and puts it at the end of the trail.
-    fn reach(&mut self, place: usize, height: i16) -> Result<(), OutOfMemory>
+    #[inline(always)]
+    pub(crate) fn reach(&mut self, place: usize, height: i16) -> Result<(), OutOfMemory>
         requires below { place < self.old.extent.rows * self.old.extent.cols }
         requires fresh { slice_index_or self.old.mark place 0 ≡ UNREACHED }
         ensures extent { self.new.extent ≡ self.old.extent }

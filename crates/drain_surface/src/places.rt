@@ -8,6 +8,7 @@ ghost use Rattle.drain_surface.specs.Looks.{IsInnerPlace, IsPlaceBeside};
 use drain_grid::{Cell, Direction, Shape};
 
 /// Whether a cell isn't on the edge of the grid.
+#[inline(always)]
 pub(crate) fn is_inner(shape: Shape, cell: Cell) -> bool
     requires { IsCellOf shape cell }
     ensures { IsTrue result → IsInnerPlace shape cell }
@@ -19,6 +20,7 @@ pub(crate) fn is_inner(shape: Shape, cell: Cell) -> bool
 }
 
 /// The place of the neighbour in a direction, none outside the grid. An inner cell's is found without a test.
+#[inline(always)]
 pub(crate) fn beside(shape: Shape, cell: Cell, inner: bool, direction: Direction) -> Option<usize>
     requires inside { IsCellOf shape cell }
     requires inner { IsTrue inner → IsInnerPlace shape cell }
@@ -36,6 +38,7 @@ pub(crate) fn beside(shape: Shape, cell: Cell, inner: bool, direction: Direction
 }
 
 /// How many places the neighbour in a direction comes after the one to the north-west.
+#[inline(always)]
 fn offset(cols: usize, direction: Direction) -> usize
     requires { cols < 2 ^ 32 }
     ensures { result ≡ rows_down direction * cols + cols_right direction }

@@ -6,7 +6,7 @@ use Rattle.drain_grid.specs.declared.direction.Direction.{Direction}
 use Rattle.drain_grid.specs.Extent.{step}
 use Rattle.drain_grid.specs.Open.{IsGap}
 use Rattle.drain_grid.specs.Whole.{elevation_at}
-use Rattle.drain_surface.proofs.open_cells.is_beside_gap.Goals as goal
+use Rattle.drain_surface.proofs.open_cells.is_gap_somewhere.Goals as goal
 
 pub returns : goal.returns
 returns c =
