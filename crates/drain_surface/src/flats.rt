@@ -18,6 +18,7 @@ ghost use Rattle.drain_surface.specs.Walks.{IsFlatAt, IsFlatPlace, IsLowEdgeAt, 
 use crate::codes::{NO_RANK, REACHED, VOID};
 use crate::flood::Flood;
 use crate::layers::room_for_ranks;
+use crate::places::cell_at;
 use crate::ways::{code, directions};
 use drain_grid::{Cell, Direction, OutOfMemory, Shape};
 use std::alloc::Global;
@@ -27,6 +28,8 @@ use std::marker::Model;
 #[derive(Drop)]
 pub struct Flats {
     shape: Shape,
+    /// For the cells of places.
+    inverse: u64,
     way: Vec<u8>,
     rnk: Vec<u32>,
     /// Places of cells that got their way along a flat; the neighbours of those from the head on are to be looked at.
@@ -86,6 +89,7 @@ impl Flats {
         let rnk = first_ranks(alloc, way.as_slice())?;
         Ok(Flats {
             shape,
+            inverse: flood.inverse(),
             way,
             rnk,
             trail: Vec::new(alloc),
@@ -115,7 +119,7 @@ impl Flats {
         if self.way_at(place) != REACHED {
             return Ok(());
         }
-        let cell = self.shape.cell(place);
+        let cell = cell_at(self.shape, self.inverse, place);
         match self.low_edge(flood, cell, flood.level_at(place)) {
             Some(direction) => {
                 self.settle(place, code(direction), 1)?;
@@ -187,7 +191,7 @@ impl Flats {
         if self.head < self.trail.len() {
             let place = self.trail[self.head];
             self.head += 1;
-            Some(self.shape.cell(place as usize))
+            Some(cell_at(self.shape, self.inverse, place as usize))
         } else {
             self.trail.clear();
             self.head = 0;

@@ -26,6 +26,7 @@ use crate::laws::flood_is_filled;
 use crate::layers::{heights, marks};
 use crate::level_queue::LevelQueue;
 use crate::open_cells::is_open;
+use crate::places::{cell_at, columns_inverse};
 use crate::tracing::spread;
 use drain_grid::{Cell, Direction, Elevation, OutOfMemory, Shape, Sinks};
 use std::alloc::Global;
@@ -35,6 +36,8 @@ use std::marker::Model;
 #[derive(Drop)]
 pub struct Flood {
     shape: Shape,
+    /// For the cells of places.
+    inverse: u64,
     con: Vec<i16>,
     mark: Vec<u8>,
     /// Places of reached cells whose neighbours haven't been looked at yet: the one reached last comes first.
@@ -105,6 +108,7 @@ impl Flood {
         let queue = LevelQueue::new(alloc, cells)?;
         Ok(Flood {
             shape,
+            inverse: columns_inverse(shape),
             con,
             mark,
             trail: Vec::new(alloc),
@@ -213,6 +217,11 @@ impl Flood {
         self.shape
     }
 
+    /// The inverse of the number of columns.
+    pub(crate) fn inverse(&self) -> u64 {
+        self.inverse
+    }
+
     /// The mark of a cell.
     pub fn mark(&self, cell: Cell) -> u8
         requires { IsCellOf self.now.extent cell }
@@ -269,7 +278,7 @@ impl Flood {
         ensures next { MatchOption result (IsDone self.old self.new) (IsNextTurn self.old self.new) }
     {
         match self.trail.pop() {
-            Some(place) => Some(self.shape.cell(place as usize)),
+            Some(place) => Some(cell_at(self.shape, self.inverse, place as usize)),
             None => None,
         }
     }
@@ -280,7 +289,7 @@ impl Flood {
         ensures popped { MatchOption result (IsEmptied self.old self.new) (λ pair. IsPopped self.old self.new pair.0 pair.1) }
     {
         match self.queue.pop() {
-            Some((level, item)) => Some((level, self.shape.cell(item as usize))),
+            Some((level, item)) => Some((level, cell_at(self.shape, self.inverse, item as usize))),
             None => None,
         }
     }

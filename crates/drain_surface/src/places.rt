@@ -1,11 +1,41 @@
-//! Places of neighbours in row order.
+//! Cells and their places in row order, and the places of neighbours.
 
 ghost use Rattle.std.specs.Prelude.{◌≡◌, ◌+◌, ◌*◌, ◌^◌, ◌<◌, None, MatchOption, IfSome, IsTrue};
 ghost use Rattle.drain_grid.specs.Direction.{rows_down, cols_right};
-ghost use Rattle.drain_grid.specs.Extent.{IsCellOf, step};
+ghost use Rattle.drain_grid.specs.Extent.{IsCellOf, index_of, step};
 ghost use Rattle.drain_surface.specs.Looks.{IsInnerPlace, IsPlaceBeside};
 
 use drain_grid::{Cell, Direction, Shape};
+
+/// A number by which places are divided by the columns: 2^32 divided by them, rounded up.
+pub(crate) fn columns_inverse(shape: Shape) -> u64 {
+    let cols = u64::from(shape.cols());
+    if cols == 0 {
+        return 0;
+    }
+    (1 << 32) / cols + 1
+}
+
+/// The cell at a place. A product with the inverse of the columns is a quick quotient; where it isn't the row, which is
+/// seen at once, the place is divided.
+#[inline(always)]
+pub(crate) fn cell_at(shape: Shape, inverse: u64, place: usize) -> Cell
+    requires { place < shape.rows * shape.cols }
+    ensures inside { IsCellOf shape result }
+    ensures place { index_of shape result ≡ place }
+{
+    let row = ((place as u64).wrapping_mul(inverse) >> 32) as usize;
+    if row < shape.rows() as usize {
+        let first = row * shape.cols() as usize;
+        if first <= place && place - first < shape.cols() as usize {
+            return Cell {
+                row: row as u32,
+                col: (place - first) as u32,
+            };
+        }
+    }
+    shape.cell(place)
+}
 
 /// Whether a cell isn't on the edge of the grid.
 #[inline(always)]
