@@ -13,7 +13,7 @@ ghost use Rattle.drain_grid.specs.declared.sink_line.SinkLine.{SinkLine};
 ghost use Rattle.drain_grid.specs.SinkLines.{is_listed};
 ghost use Rattle.drain_grid.specs.WholeGrid.{grid_of};
 ghost use Rattle.drain_grid.specs.Path.{IsFilled};
-ghost use Rattle.drain_surface.specs.Laid.{Puts, Lays, IsLaid, IsBlankFlood};
+ghost use Rattle.drain_surface.specs.Laid.{Puts, Lays, IsLaid, IsBlankFlood, IsGapAround};
 ghost use Rattle.drain_grid.specs.declared.cell.Cell.{Cell};
 ghost use Rattle.drain_grid.specs.Extent.{IsCellOf, index_of};
 ghost use Rattle.drain_grid.specs.Grid.{Grid};
@@ -25,7 +25,7 @@ use crate::codes::{NO_HEIGHT, OPEN, REACHED, UNREACHED, VOID};
 use crate::laws::flood_is_filled;
 use crate::layers::{heights, marks};
 use crate::level_queue::LevelQueue;
-use crate::open_cells::is_open;
+use crate::open_cells::{is_gap_in, is_one, is_open};
 use crate::places::{cell_at, columns_inverse};
 use crate::tracing::spread;
 use drain_grid::{Cell, Direction, Elevation, OutOfMemory, Shape, Sinks};
@@ -129,8 +129,14 @@ impl Flood {
         ensures extent { self.new.extent ≡ self.old.extent }
         ensures laid { OnOk result ((sinks : List SinkLine) → ((col : ℕ) → col < length listed.now → slice_index_or listed.now col false ≡ is_listed sinks (record { row = row; col = col })) → IsLaid (grid_of elevation.now sinks) self.old (row * elevation.now.extent.cols) → IsLaid (grid_of elevation.now sinks) self.new ((row + 1) * elevation.now.extent.cols)) }
     {
+        let mut west = is_gap_in(elevation, row, 0);
+        let mut here = is_gap_in(elevation, row, 1);
         for col in 0..elevation.shape().cols() {
-            self.lay_cell(elevation, Cell { row, col }, listed[col as usize])?;
+            let east = is_gap_in(elevation, row, col as u64 + 2);
+            let beside = is_one(west, here, east);
+            self.lay_cell(elevation, Cell { row, col }, listed[col as usize], beside)?;
+            west = here;
+            here = east;
         }
         Ok(())
     }
@@ -141,15 +147,17 @@ impl Flood {
         elevation: &Elevation,
         cell: Cell,
         listed: bool,
+        beside: bool,
     ) -> Result<(), OutOfMemory>
         requires same { self.old.extent ≡ elevation.now.extent }
         requires inside { IsCellOf elevation.now.extent cell }
+        requires beside { IsTrue beside ↔ IsGapAround elevation.now cell }
         ensures extent { self.new.extent ≡ self.old.extent }
         ensures laid { OnOk result ((sinks : List SinkLine) → listed ≡ is_listed sinks cell → IsLaid (grid_of elevation.now sinks) self.old (index_of elevation.now.extent cell) → IsLaid (grid_of elevation.now sinks) self.new (index_of elevation.now.extent cell + 1)) }
     {
         match elevation.z(cell) {
             Some(ground) => {
-                let opens = is_open(elevation, cell, listed);
+                let opens = is_open(listed, beside);
                 self.lay(cell, ground, opens)?;
                 Ok(())
             }
