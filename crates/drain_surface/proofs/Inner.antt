@@ -2,6 +2,7 @@
 use Rattle.std.proofs.Common.{◌≡◌, ℕ, ◌+◌, ◌-◌, ◌*◌, ◌<◌, ◌≤◌, ap, arith}
 use Rattle.drain_grid.specs.declared.cell.Cell.{Cell}
 use Rattle.drain_grid.specs.declared.direction.Direction.{Direction}
+use Rattle.drain_grid.specs.declared.direction.Direction.TheVariants.{East, SouthEast, South, SouthWest, West, NorthWest, North, NorthEast}
 use Rattle.drain_grid.specs.Direction.{rows_down, cols_right}
 use Rattle.drain_grid.specs.Extent.{IsCellOf, index_of}
 use Rattle.drain_grid.specs.Size.{Extent}
@@ -35,3 +36,15 @@ inner_beside e c d index off width inner at behind wide =
 
 pub place_below : (e : Extent) (c : Cell) (d : Direction) (p : ℕ) → IsPlaceBeside e c d p → p < e.rows * e.cols
 place_below e c d p (n, there, at) = let below = index_of-below e n (step_lies e c n d there).0 in omega (arith, below, at)
+
+-- what holds in some direction, and not in the first seven, holds in the last
+pub last_direction : (P : Direction → Type 0) → (P East → ⊥) → (P SouthEast → ⊥) → (P South → ⊥) → (P SouthWest → ⊥) → (P West → ⊥) → (P NorthWest → ⊥) → (P North → ⊥) →
+    (way : Direction) → P way → P NorthEast
+last_direction P a b c d e f g East held = absurd (a held)
+last_direction P a b c d e f g SouthEast held = absurd (b held)
+last_direction P a b c d e f g South held = absurd (c held)
+last_direction P a b c d e f g SouthWest held = absurd (d held)
+last_direction P a b c d e f g West held = absurd (e held)
+last_direction P a b c d e f g NorthWest held = absurd (f held)
+last_direction P a b c d e f g North held = absurd (g held)
+last_direction P a b c d e f g NorthEast held = held

@@ -13,6 +13,7 @@ pub mod Inner
 pub mod Turning
 pub mod Putting
 pub mod Laying
+pub mod GapColumns
 pub mod Looking
 pub mod Filling
 pub mod SteepestWays

@@ -1,5 +1,5 @@
 -- The beginning of a flood: the open cells are reached, the others aren't, cell by cell in row order.
-use Rattle.std.specs.Prelude.{◌≡◌, ◌≢◌, ℕ, ◌*◌, ◌<◌, ℤ, ◌<ℤ◌, Bool, [], ◌∷◌, ◌++◌, Contains, length, IsNone, option_map, if◌then◌else◌}
+use Rattle.std.specs.Prelude.{◌≡◌, ◌≢◌, ℕ, ◌+◌, ◌-◌, ◌*◌, ◌<◌, ◌⊎◌, ◌&&◌, nat_lt, ℤ, ◌<ℤ◌, Bool, Option, Some, None, [], ◌∷◌, ◌++◌, Contains, length, IsNone, option_map, if◌then◌else◌}
 use Rattle.std.specs.List.{All}
 use Rattle.drain_grid.specs.declared.cell.Cell.{Cell}
 use Rattle.drain_grid.specs.declared.direction.Direction.{Direction}
@@ -46,6 +46,25 @@ pub record IsBlankFlood (f : Flooding) : Type 0 where
   pub mark_long : length f.mark ≡ f.extent.rows * f.extent.cols
   pub no_ahead : f.ahead ≡ []
   pub no_waiting : f.waiting ≡ []
+
+-- the cell at a row and a column counted from 1
+abbrev pub cell_from_1 : Extent → ℕ → ℕ → Option Cell
+cell_from_1 e row col =
+    if nat_lt 0 row && (nat_lt (row - 1) e.rows && (nat_lt 0 col && nat_lt (col - 1) e.cols))
+    then Some (record { row = row - 1; col = col - 1 })
+    else None
+
+-- there is no elevation at such a place: around the grid, or at a void
+abbrev pub IsGapFrom1 : Heights → ℕ → ℕ → Type 0
+IsGapFrom1 h row col = IsGap (option_map (elevation_at h) (cell_from_1 h.extent row col))
+
+-- a gap in a column counted from 1: in the row above a row, in it or in the row below
+abbrev pub IsGapIn : Heights → ℕ → ℕ → Type 0
+IsGapIn h row col = IsGapFrom1 h (row + 0) col ⊎ (IsGapFrom1 h (row + 1) col ⊎ IsGapFrom1 h (row + 2) col)
+
+-- a gap in the three columns around a cell
+abbrev pub IsGapAround : Heights → Cell → Type 0
+IsGapAround h c = IsGapIn h c.row (c.col + 0) ⊎ (IsGapIn h c.row (c.col + 1) ⊎ IsGapIn h c.row (c.col + 2))
 
 -- the cell is next to a gap: it lies on the edge, or next to a void
 abbrev pub IsBesideGap : Heights → Cell → Type 0

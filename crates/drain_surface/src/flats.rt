@@ -12,14 +12,13 @@ ghost use Rattle.drain_grid.specs.declared.direction.Direction.{Direction};
 ghost use Rattle.drain_grid.specs.Extent.{IsCellOf, index_of};
 ghost use Rattle.drain_grid.specs.Grid.{Grid};
 ghost use Rattle.drain_surface.specs.Floods.{IsFlooded, con_at};
-ghost use Rattle.drain_surface.specs.Looks.{IsInnerPlace};
 ghost use Rattle.drain_surface.specs.Flats.{first_rank, AreFirstRanks, Laying, way_at, rank_at, wayless, IsSettled, AreLaid, Settles, AreWaysOnFlats};
 ghost use Rattle.drain_surface.specs.Walks.{IsFlatAt, IsFlatPlace, IsLowEdgeAt, IsLowEdgeThere, IsWalk, IsPassed, IsLessWalk, IsNextPlace, IsDonePlaces};
 
 use crate::codes::{NO_RANK, REACHED, VOID};
-use crate::flood::{Flood, is_same};
+use crate::flood::Flood;
 use crate::layers::room_for_ranks;
-use crate::places::{beside, is_inner};
+use crate::places::cell_at;
 use crate::ways::{code, directions};
 use drain_grid::{Cell, Direction, OutOfMemory, Shape};
 use std::alloc::Global;
@@ -29,6 +28,8 @@ use std::marker::Model;
 #[derive(Drop)]
 pub struct Flats {
     shape: Shape,
+    /// For the cells of places.
+    inverse: u64,
     way: Vec<u8>,
     rnk: Vec<u32>,
     /// Places of cells that got their way along a flat; the neighbours of those from the head on are to be looked at.
@@ -88,6 +89,7 @@ impl Flats {
         let rnk = first_ranks(alloc, way.as_slice())?;
         Ok(Flats {
             shape,
+            inverse: flood.inverse(),
             way,
             rnk,
             trail: Vec::new(alloc),
@@ -117,60 +119,13 @@ impl Flats {
         if self.way_at(place) != REACHED {
             return Ok(());
         }
-        let cell = self.shape.cell(place);
+        let cell = cell_at(self.shape, self.inverse, place);
         match self.low_edge(flood, cell, flood.level_at(place)) {
             Some(direction) => {
                 self.settle(place, code(direction), 1)?;
                 Ok(())
             }
             None => Ok(()),
-        }
-    }
-
-    /// The first direction in which there is a low edge.
-    fn low_edge(&self, flood: &Flood, cell: Cell, level: i16) -> Option<Direction>
-        requires same { self.now.extent ≡ flood.now.extent }
-        requires inside { IsCellOf self.now.extent cell }
-        ensures { MatchOption result ((d : Direction) → IsLowEdgeThere self.now.extent flood.now self.now cell level d → ⊥) (IsLowEdgeThere self.now.extent flood.now self.now cell level) }
-    {
-        let inner = is_inner(self.shape, cell);
-        for direction in Direction::ALL {
-            if self.is_low_edge(flood, cell, inner, direction, level) {
-                return Some(direction);
-            }
-        }
-        None
-    }
-
-    /// Whether there is a low edge in a direction.
-    fn is_low_edge(
-        &self,
-        flood: &Flood,
-        cell: Cell,
-        inner: bool,
-        direction: Direction,
-        level: i16,
-    ) -> bool
-        requires same { self.now.extent ≡ flood.now.extent }
-        requires inside { IsCellOf self.now.extent cell }
-        requires inner { IsTrue inner → IsInnerPlace self.now.extent cell }
-        ensures yes { IsTrue result → IsLowEdgeThere self.now.extent flood.now self.now cell level direction }
-        ensures no { IsLowEdgeThere self.now.extent flood.now self.now cell level direction → IsTrue result }
-    {
-        match beside(self.shape, cell, inner, direction) {
-            Some(next) => {
-                if self.way[next] == REACHED {
-                    return false;
-                }
-                if self.way[next] == VOID {
-                    return false;
-                }
-                if self.rnk[next] != 0 {
-                    return false;
-                }
-                is_same(flood.level_at(next), level)
-            }
-            None => false,
         }
     }
 
@@ -186,82 +141,16 @@ impl Flats {
         Ok(())
     }
 
-    /// Settles the neighbours of a settled cell that have its height and no way yet.
-    fn look_around(&mut self, flood: &Flood, cell: Cell) -> Result<(), OutOfMemory>
-        requires same { self.old.extent ≡ flood.now.extent }
-        requires inside { IsCellOf self.old.extent cell }
-        ensures extent { self.new.extent ≡ self.old.extent }
-        ensures work { OnOk result (IsLessWalk self.old self.new) }
-        ensures around { OnOk result ((g : Grid) (k : ℕ) (busy : List ℕ) → g.extent ≡ self.old.extent → IsSettled g self.old cell → AreLaid g flood.now self.old k busy → IsPassed g flood.now self.new k busy cell) }
+    /// The rows and columns of the grid.
+    pub(crate) fn shape(&self) -> Shape
+        ensures { result ≡ self.now.extent }
     {
-        let place = self.shape.index(cell);
-        let level = flood.level_at(place);
-        let rank = self.rank_at(place).saturating_add(1);
-        let inner = is_inner(self.shape, cell);
-        for direction in Direction::ALL {
-            self.look(flood, cell, inner, direction, level, rank)?;
-        }
-        Ok(())
-    }
-
-    /// The same for the neighbour in one direction.
-    fn look(
-        &mut self,
-        flood: &Flood,
-        cell: Cell,
-        inner: bool,
-        direction: Direction,
-        level: i16,
-        rank: u32,
-    ) -> Result<(), OutOfMemory>
-        requires same { self.old.extent ≡ flood.now.extent }
-        requires inside { IsCellOf self.old.extent cell }
-        requires inner { IsTrue inner → IsInnerPlace self.old.extent cell }
-        ensures extent { self.new.extent ≡ self.old.extent }
-        ensures look { OnOk result (IsWalk self.old.extent flood.now self.old self.new cell direction level rank) }
-    {
-        match self.fresh(flood, cell, inner, direction, level) {
-            Some(next) => {
-                self.settle(next, code(direction.opposite()), rank)?;
-                Ok(())
-            }
-            None => Ok(()),
-        }
-    }
-
-    /// The place of the neighbour in a direction, if it has no way and is at the level.
-    fn fresh(
-        &self,
-        flood: &Flood,
-        cell: Cell,
-        inner: bool,
-        direction: Direction,
-        level: i16,
-    ) -> Option<usize>
-        requires same { self.now.extent ≡ flood.now.extent }
-        requires inside { IsCellOf self.now.extent cell }
-        requires inner { IsTrue inner → IsInnerPlace self.now.extent cell }
-        ensures below { IfSome result (λ place. place < self.now.extent.rows * self.now.extent.cols) }
-        ensures fresh { MatchOption result ((n : Cell) → IsFlatAt self.now.extent flood.now self.now cell direction level n → ⊥) (IsFlatPlace self.now.extent flood.now self.now cell direction level) }
-    {
-        match beside(self.shape, cell, inner, direction) {
-            Some(next) => {
-                if self.way[next] == REACHED {
-                    if flood.level_at(next) == level {
-                        Some(next)
-                    } else {
-                        None
-                    }
-                } else {
-                    None
-                }
-            }
-            None => None,
-        }
+        self.shape
     }
 
     /// The code of the cell at a place.
-    fn way_at(&self, place: usize) -> u8
+    #[inline(always)]
+    pub(crate) fn way_at(&self, place: usize) -> u8
         requires { place < self.now.extent.rows * self.now.extent.cols }
         ensures { result ≡ slice_index_or self.now.way place 0 }
     {
@@ -269,7 +158,8 @@ impl Flats {
     }
 
     /// The rank of the cell at a place.
-    fn rank_at(&self, place: usize) -> u32
+    #[inline(always)]
+    pub(crate) fn rank_at(&self, place: usize) -> u32
         requires { place < self.now.extent.rows * self.now.extent.cols }
         ensures { result ≡ slice_index_or self.now.rnk place 0 }
     {
@@ -277,7 +167,8 @@ impl Flats {
     }
 
     /// Settles the cell at a place, and puts it at the end of the trail.
-    fn settle(&mut self, place: usize, code: u8, rank: u32) -> Result<(), OutOfMemory>
+    #[inline(always)]
+    pub(crate) fn settle(&mut self, place: usize, code: u8, rank: u32) -> Result<(), OutOfMemory>
         requires below { place < self.old.extent.rows * self.old.extent.cols }
         requires flat { slice_index_or self.old.way place 0 ≡ REACHED }
         requires coded { code ≢ REACHED }
@@ -300,7 +191,7 @@ impl Flats {
         if self.head < self.trail.len() {
             let place = self.trail[self.head];
             self.head += 1;
-            Some(self.shape.cell(place as usize))
+            Some(cell_at(self.shape, self.inverse, place as usize))
         } else {
             self.trail.clear();
             self.head = 0;

@@ -13,7 +13,7 @@ ghost use Rattle.drain_grid.specs.declared.sink_line.SinkLine.{SinkLine};
 ghost use Rattle.drain_grid.specs.SinkLines.{is_listed};
 ghost use Rattle.drain_grid.specs.WholeGrid.{grid_of};
 ghost use Rattle.drain_grid.specs.Path.{IsFilled};
-ghost use Rattle.drain_surface.specs.Laid.{Puts, Lays, IsLaid, IsBlankFlood};
+ghost use Rattle.drain_surface.specs.Laid.{Puts, Lays, IsLaid, IsBlankFlood, IsGapAround};
 ghost use Rattle.drain_grid.specs.declared.cell.Cell.{Cell};
 ghost use Rattle.drain_grid.specs.Extent.{IsCellOf, index_of};
 ghost use Rattle.drain_grid.specs.Grid.{Grid};
@@ -25,8 +25,8 @@ use crate::codes::{NO_HEIGHT, OPEN, REACHED, UNREACHED, VOID};
 use crate::laws::flood_is_filled;
 use crate::layers::{heights, marks};
 use crate::level_queue::LevelQueue;
-use crate::open_cells::is_open;
-use crate::places::{beside, is_inner};
+use crate::open_cells::{is_gap_in, is_one, is_open};
+use crate::places::{cell_at, columns_inverse};
 use crate::tracing::spread;
 use drain_grid::{Cell, Direction, Elevation, OutOfMemory, Shape, Sinks};
 use std::alloc::Global;
@@ -36,6 +36,8 @@ use std::marker::Model;
 #[derive(Drop)]
 pub struct Flood {
     shape: Shape,
+    /// For the cells of places.
+    inverse: u64,
     con: Vec<i16>,
     mark: Vec<u8>,
     /// Places of reached cells whose neighbours haven't been looked at yet: the one reached last comes first.
@@ -106,6 +108,7 @@ impl Flood {
         let queue = LevelQueue::new(alloc, cells)?;
         Ok(Flood {
             shape,
+            inverse: columns_inverse(shape),
             con,
             mark,
             trail: Vec::new(alloc),
@@ -126,8 +129,14 @@ impl Flood {
         ensures extent { self.new.extent ≡ self.old.extent }
         ensures laid { OnOk result ((sinks : List SinkLine) → ((col : ℕ) → col < length listed.now → slice_index_or listed.now col false ≡ is_listed sinks (record { row = row; col = col })) → IsLaid (grid_of elevation.now sinks) self.old (row * elevation.now.extent.cols) → IsLaid (grid_of elevation.now sinks) self.new ((row + 1) * elevation.now.extent.cols)) }
     {
+        let mut west = is_gap_in(elevation, row, 0);
+        let mut here = is_gap_in(elevation, row, 1);
         for col in 0..elevation.shape().cols() {
-            self.lay_cell(elevation, Cell { row, col }, listed[col as usize])?;
+            let east = is_gap_in(elevation, row, col as u64 + 2);
+            let beside = is_one(west, here, east);
+            self.lay_cell(elevation, Cell { row, col }, listed[col as usize], beside)?;
+            west = here;
+            here = east;
         }
         Ok(())
     }
@@ -138,15 +147,17 @@ impl Flood {
         elevation: &Elevation,
         cell: Cell,
         listed: bool,
+        beside: bool,
     ) -> Result<(), OutOfMemory>
         requires same { self.old.extent ≡ elevation.now.extent }
         requires inside { IsCellOf elevation.now.extent cell }
+        requires beside { IsTrue beside ↔ IsGapAround elevation.now cell }
         ensures extent { self.new.extent ≡ self.old.extent }
         ensures laid { OnOk result ((sinks : List SinkLine) → listed ≡ is_listed sinks cell → IsLaid (grid_of elevation.now sinks) self.old (index_of elevation.now.extent cell) → IsLaid (grid_of elevation.now sinks) self.new (index_of elevation.now.extent cell + 1)) }
     {
         match elevation.z(cell) {
             Some(ground) => {
-                let opens = is_open(elevation, cell, listed);
+                let opens = is_open(listed, beside);
                 self.lay(cell, ground, opens)?;
                 Ok(())
             }
@@ -191,72 +202,6 @@ impl Flood {
         Ok(())
     }
 
-    /// Reaches the unreached neighbours of a cell; lower ones only if it raises them. Returns whether a lower one was
-    /// left.
-    pub(crate) fn look_around(
-        &mut self,
-        cell: Cell,
-        level: i16,
-        raises: bool,
-    ) -> Result<bool, OutOfMemory>
-        requires inside { IsCellOf self.old.extent cell }
-        ensures extent { self.new.extent ≡ self.old.extent }
-        ensures work { OnOk result (IsLessWork self.old self.new) }
-        ensures around { IfOk result (λ left. (g : Grid) (stand : ℤ) (busy : List ℕ) → g.extent ≡ self.old.extent → IsLookedBefore g self.old stand busy cell level raises → IsLookedAround g self.new stand busy cell level raises left) }
-    {
-        let inner = is_inner(self.shape, cell);
-        let mut left = false;
-        for direction in Direction::ALL {
-            let more = self.look(cell, inner, direction, level, raises)?;
-            left = left || more;
-        }
-        Ok(left)
-    }
-
-    /// The same for the neighbour in one direction.
-    fn look(
-        &mut self,
-        cell: Cell,
-        inner: bool,
-        direction: Direction,
-        level: i16,
-        raises: bool,
-    ) -> Result<bool, OutOfMemory>
-        requires inside { IsCellOf self.old.extent cell }
-        requires inner { IsTrue inner → IsInnerPlace self.old.extent cell }
-        ensures extent { self.new.extent ≡ self.old.extent }
-        ensures look { IfOk result (IsLook self.old.extent self.old self.new cell direction level raises) }
-    {
-        let Some(next) = self.fresh(cell, inner, direction) else {
-            return Ok(false);
-        };
-        let ground = self.level_at(next);
-        if ground < level && !raises {
-            return Ok(true);
-        }
-        self.reach(next, ground.max(level))?;
-        Ok(false)
-    }
-
-    /// The place of the neighbour in a direction, if it isn't reached.
-    fn fresh(&self, cell: Cell, inner: bool, direction: Direction) -> Option<usize>
-        requires inside { IsCellOf self.now.extent cell }
-        requires inner { IsTrue inner → IsInnerPlace self.now.extent cell }
-        ensures below { IfSome result (λ place. place < self.now.extent.rows * self.now.extent.cols) }
-        ensures fresh { MatchOption result ((n : Cell) → IsFreshAt self.now.extent self.now cell direction n → ⊥) (IsFreshPlace self.now.extent self.now cell direction) }
-    {
-        match beside(self.shape, cell, inner, direction) {
-            Some(next) => {
-                if self.mark[next] == UNREACHED {
-                    Some(next)
-                } else {
-                    None
-                }
-            }
-            None => None,
-        }
-    }
-
     /// The conditioned elevation of a reached cell, the ground of any other.
     pub fn height(&self, cell: Cell) -> i16
         requires { IsCellOf self.now.extent cell }
@@ -280,12 +225,27 @@ impl Flood {
         self.shape
     }
 
+    /// The inverse of the number of columns.
+    pub(crate) fn inverse(&self) -> u64 {
+        self.inverse
+    }
+
     /// The mark of a cell.
     pub fn mark(&self, cell: Cell) -> u8
         requires { IsCellOf self.now.extent cell }
         ensures { result ≡ mark_at self.now.extent self.now cell }
     {
         self.mark[self.shape.index(cell)]
+    }
+
+    /// Whether the cell at a place is a data cell that isn't reached.
+    #[inline(always)]
+    pub(crate) fn is_unreached(&self, place: usize) -> bool
+        requires { place < self.now.extent.rows * self.now.extent.cols }
+        ensures yes { IsTrue result → slice_index_or self.now.mark place 0 ≡ UNREACHED }
+        ensures no { slice_index_or self.now.mark place 0 ≡ UNREACHED → IsTrue result }
+    {
+        self.mark[place] == UNREACHED
     }
 
     /// The heights of all cells, in row order.
@@ -305,7 +265,8 @@ impl Flood {
     }
 
     /// Reaches the cell at a place, and puts it at the end of the trail.
-    fn reach(&mut self, place: usize, height: i16) -> Result<(), OutOfMemory>
+    #[inline(always)]
+    pub(crate) fn reach(&mut self, place: usize, height: i16) -> Result<(), OutOfMemory>
         requires below { place < self.old.extent.rows * self.old.extent.cols }
         requires fresh { slice_index_or self.old.mark place 0 ≡ UNREACHED }
         ensures extent { self.new.extent ≡ self.old.extent }
@@ -325,7 +286,7 @@ impl Flood {
         ensures next { MatchOption result (IsDone self.old self.new) (IsNextTurn self.old self.new) }
     {
         match self.trail.pop() {
-            Some(place) => Some(self.shape.cell(place as usize)),
+            Some(place) => Some(cell_at(self.shape, self.inverse, place as usize)),
             None => None,
         }
     }
@@ -336,7 +297,7 @@ impl Flood {
         ensures popped { MatchOption result (IsEmptied self.old self.new) (λ pair. IsPopped self.old self.new pair.0 pair.1) }
     {
         match self.queue.pop() {
-            Some((level, item)) => Some((level, self.shape.cell(item as usize))),
+            Some((level, item)) => Some((level, cell_at(self.shape, self.inverse, item as usize))),
             None => None,
         }
     }

@@ -4,6 +4,7 @@ ghost use Rattle.std.specs.Prelude.{◌≡◌, ◌<◌, ◌*◌, ◌++◌, [], �
 ghost use Rattle.drain_grid.specs.Extent.{IsCellOf, index_of};
 ghost use Rattle.drain_surface.specs.Turns.{IsLast, AreNone};
 
+use crate::places::cell_at;
 use drain_grid::{Cell, OutOfMemory, Shape};
 
 /// Adds a cell.
@@ -16,12 +17,12 @@ pub(crate) fn defer(later: &mut Vec<u32>, shape: Shape, cell: Cell) -> Result<()
 }
 
 /// Takes out the cell that was added last.
-pub(crate) fn take_last(later: &mut Vec<u32>, shape: Shape) -> Option<Cell>
+pub(crate) fn take_last(later: &mut Vec<u32>, shape: Shape, inverse: u64) -> Option<Cell>
     requires { All (λ place. place < shape.rows * shape.cols) later.old.items }
     ensures { MatchOption result (AreNone later.old.items later.new.items) (IsLast shape later.old.items later.new.items) }
 {
     match later.pop() {
-        Some(place) => Some(shape.cell(place as usize)),
+        Some(place) => Some(cell_at(shape, inverse, place as usize)),
         None => None,
     }
 }

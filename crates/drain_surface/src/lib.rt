@@ -3,8 +3,10 @@
 //! Source: the flood is Priority-Flood (Barnes, Lehman and Mulla 2014), with traces as in Zhou, Sun and Fu (2016).
 #![tactic(auto)]
 
+mod around;
 pub mod codes;
 mod falls;
+mod flat_steps;
 pub mod flats;
 pub mod flood;
 mod later;
@@ -13,6 +15,7 @@ mod layers;
 pub mod level_queue;
 mod open_cells;
 mod places;
+mod shores;
 mod tracing;
 pub mod ways;
 

@@ -42,8 +42,9 @@ fn trace(flood: &mut Flood, later: &mut Vec<u32>, stand: i16) -> Result<(), OutO
     ensures flood { OnOk result ((g : Grid) → g.extent ≡ flood.old.extent → IsFloodOf g flood.old stand [] → IsFloodOf g flood.new stand []) }
 {
     let shape = flood.shape();
+    let inverse = flood.inverse();
     sweep(flood, later, stand)?;
-    while let Some(cell) = take_last(later, shape) {
+    while let Some(cell) = take_last(later, shape, inverse) {
         look_again(flood, cell, stand)?;
         sweep(flood, later, stand)?;
     }

@@ -1,8 +1,8 @@
 //! The code of each data cell of a filled surface that has a lower neighbour: the first steepest way down. Any other
 //! cell keeps its mark.
 //!
-//! Source: D8 (O'Callaghan and Mark 1984). Slopes are compared by twice their squares, whole numbers, as in
-//! drain_slope.
+//! Source: D8 (O'Callaghan and Mark 1984). Slopes are compared by the squares of their drops, halved across corners, as
+//! whole numbers.
 
 ghost use Rattle.std.specs.Prelude.{◌≡◌, ◌+◌, ◌*◌, IfOk, OnOk, length};
 ghost use Rattle.drain_grid.specs.Direction.{code_of};

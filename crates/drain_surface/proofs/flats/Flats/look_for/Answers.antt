@@ -18,18 +18,18 @@ pub returns-in_ok-settle-in-Some-clause-laid : goal.returns-in_ok-settle-in-Some
 returns-in_ok-settle-in-Some-clause-laid c = λ g same laid.
     (let s = c.args.self.now in
     let f = c.args.flood.now in
-    let cell = c.cell-cell.result in
+    let cell = c.cell_at-cell.result in
     let new = c.settle.new.self in
     let level = to_z w16 (of_z w16 c.level_at.result) in
     let fits : SFits w16 c.level_at.result = search rules in
     let level_is : level ≡ con_at g.extent f cell =
-    to_z-of_z w16 c.level_at.result fits ∙ (c.level_at.ensures ∙ level_seen g.extent f _ s c.args.place cell c.self.view_is same (sym c.cell-cell.ensures.place)) in
+    to_z-of_z w16 c.level_at.result fits ∙ (c.level_at.ensures ∙ level_seen g.extent f _ s c.args.place cell c.self.view_is same (sym c.cell_at-cell.ensures.place)) in
     let flat : way_at g.extent s cell ≡ REACHED =
-    sym (way_seen g.extent _ s c.args.place cell c.self.view_is same (sym c.cell-cell.ensures.place)) ∙ (sym c.way_at.ensures ∙ c.if-way_at.false) in
+    sym (way_seen g.extent _ s c.args.place cell c.self.view_is same (sym c.cell_at-cell.ensures.place)) ∙ (sym c.way_at.ensures ∙ c.if-way_at.false) in
     let low_edge : IsLowEdgeThere g.extent f s cell level c.in-Some.direction =
     subst (λ e. IsLowEdgeThere e f s cell level c.in-Some.direction) (sym same) c.in-Some.ensures in
-    let inside : IsCellOf s.extent cell = subst (λ w. IsCellOf w.extent cell) c.self.view_is c.cell-cell.ensures.inside in
-    let place : c.args.place ≡ index_of s.extent cell = sym c.cell-cell.ensures.place ∙ ap (λ w. index_of w.extent cell) c.self.view_is in
+    let inside : IsCellOf s.extent cell = subst (λ w. IsCellOf w.extent cell) c.self.view_is c.cell_at-cell.ensures.inside in
+    let place : c.args.place ≡ index_of s.extent cell = sym c.cell_at-cell.ensures.place ∙ ap (λ w. index_of w.extent cell) c.self.view_is in
     let place_g : index_of g.extent cell ≡ c.args.place = ap (λ e. index_of e cell) same ∙ sym place in
     let settles : Settles g.extent s new cell c.code.result 1 =
     subst (λ e. Settles e s new cell c.code.result 1) (sym same) (c.in_ok-settle-in-Some.ensures.settles cell inside place) in
@@ -41,13 +41,13 @@ pub returns-in-None-clause-laid : goal.returns-in-None-clause-laid
 returns-in-None-clause-laid c = λ g same laid.
     (let s = c.args.self.now in
     let f = c.args.flood.now in
-    let cell = c.cell-cell.result in
+    let cell = c.cell_at-cell.result in
     let level = to_z w16 (of_z w16 c.level_at.result) in
     let fits : SFits w16 c.level_at.result = search rules in
     let level_is : level ≡ con_at g.extent f cell =
-    to_z-of_z w16 c.level_at.result fits ∙ (c.level_at.ensures ∙ level_seen g.extent f _ s c.args.place cell c.self.view_is same (sym c.cell-cell.ensures.place)) in
-    let inside : IsCellOf s.extent cell = subst (λ w. IsCellOf w.extent cell) c.self.view_is c.cell-cell.ensures.inside in
-    let place : c.args.place ≡ index_of s.extent cell = sym c.cell-cell.ensures.place ∙ ap (λ w. index_of w.extent cell) c.self.view_is in
+    to_z-of_z w16 c.level_at.result fits ∙ (c.level_at.ensures ∙ level_seen g.extent f _ s c.args.place cell c.self.view_is same (sym c.cell_at-cell.ensures.place)) in
+    let inside : IsCellOf s.extent cell = subst (λ w. IsCellOf w.extent cell) c.self.view_is c.cell_at-cell.ensures.inside in
+    let place : c.args.place ≡ index_of s.extent cell = sym c.cell_at-cell.ensures.place ∙ ap (λ w. index_of w.extent cell) c.self.view_is in
     let place_g : index_of g.extent cell ≡ c.args.place = ap (λ e. index_of e cell) same ∙ sym place in
     subst (λ k. AreLaid g f s (k + 1) []) place_g
     (looked_none g f s cell level (subst (λ e. IsCellOf e cell) (sym same) inside) level_is

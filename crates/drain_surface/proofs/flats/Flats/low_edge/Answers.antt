@@ -1,32 +1,20 @@
-use Rattle.std.proofs.Common.{◌≡◌, ◌<◌, ◌∙◌, ℕ, inl, inr, get_or, sym, subst, arith}
+use Rattle.std.proofs.Common.{MatchOption, subst}
 use mir.Syntax.{w16}
-use mir.Val.{to_z, of_z}
-use Rattle.std.proofs.lemmas.Bool.{cases_order, false≢true}
 use Rattle.std.proofs.lemmas.Int.{to_z-of_z}
-use Rattle.drain_grid.specs.declared.direction.Direction.TheVariants.{East}
-use Rattle.drain_grid.specs.Direction.{directions, order_of}
+use Rattle.drain_grid.specs.declared.direction.Direction.{Direction}
 use Rattle.drain_surface.specs.Walks.{IsLowEdgeThere}
-use Rattle.drain_surface.proofs.Looking.{at_place}
 use Rattle.drain_surface.proofs.flats.Flats.low_edge.Goals as goal
 
-pub loop-direction-preserved : goal.loop-direction-preserved
-loop-direction-preserved c = λ i less there.
-    (let s = c.args.self.now in
-    let level = to_z w16 (of_z w16 c.args.level) in
-    elim (cases_order i c.loop-direction.direction-index) [
-      | inl here ↦ false≢true (sym c.if-is_low_edge.false ∙ c.is_low_edge.ensures.no
-          (subst (λ j. IsLowEdgeThere s.extent c.args.flood.now s c.args.cell level (get_or directions j East)) here there))
-      | inr (inl before) ↦ c.loop-direction.invariant i before there
-      | inr (inr after) ↦ absurd (omega (arith, less, after))
-    ])
+pub returns-then-is_inner : goal.returns-then-is_inner
+returns-then-is_inner c =
+    let s = c.args.self.now in
+    subst (λ z. MatchOption c.low_edge_inside.result ((d : Direction) → IsLowEdgeThere s.extent c.args.flood.now s c.args.cell z d → ⊥)
+    (IsLowEdgeThere s.extent c.args.flood.now s c.args.cell z))
+    (to_z-of_z w16 c.args.level c.ranges.level) c.low_edge_inside.ensures
 
-within : (j i : ℕ) → i ≡ 8 → j < 8 → j < i
-within j i last less = omega arith
-
-pub returns : goal.returns
-returns c = λ d there.
-    (let s = c.args.self.now in
-    let place = at_place d in
-    c.loop-direction.invariant (order_of d) (within (order_of d) c.loop-direction.direction-index (omega arith) place.1)
-    (subst (λ x. IsLowEdgeThere s.extent c.args.flood.now s c.args.cell (to_z w16 (of_z w16 c.args.level)) x) (sym place.0)
-    (subst (λ z. IsLowEdgeThere s.extent c.args.flood.now s c.args.cell z d) (sym (to_z-of_z w16 c.args.level c.ranges.level)) there)))
+pub returns-else-is_inner : goal.returns-else-is_inner
+returns-else-is_inner c =
+    let s = c.args.self.now in
+    subst (λ z. MatchOption c.low_edge_at_edge.result ((d : Direction) → IsLowEdgeThere s.extent c.args.flood.now s c.args.cell z d → ⊥)
+    (IsLowEdgeThere s.extent c.args.flood.now s c.args.cell z))
+    (to_z-of_z w16 c.args.level c.ranges.level) c.low_edge_at_edge.ensures

@@ -4,6 +4,7 @@ use mir.Val.{SFits, to_z, of_z}
 use Rattle.std.proofs.lemmas.Int.{to_z-of_z}
 use Rattle.drain_surface.specs.declared.codes.TheConstants.{NO_HEIGHT}
 use Rattle.drain_surface.specs.Laid.{Lays}
+use Rattle.drain_surface.proofs.GapColumns.{or_of, beside_gap}
 use Rattle.drain_surface.proofs.Laying.{laid_data, laid_gap, above_void}
 use Rattle.drain_surface.proofs.flood.Flood.lay_cell.Goals as goal
 
@@ -18,7 +19,9 @@ returns-in_ok-lay-in-Some-clause-laid c = λ sinks same laid.
     subst (λ z. Lays h.extent c.args.self.now c.lay.new.self c.args.cell z c.is_open-opens.result) ground_is
     (subst (λ e. Lays e c.args.self.now c.lay.new.self c.args.cell (to_z w16 (of_z w16 c.in-Some.ground)) c.is_open-opens.result) c.requires.same c.in_ok-lay-in-Some.ensures.lays) in
     laid_data h sinks c.args.self.now c.lay.new.self c.args.cell c.in-Some.ground c.args.listed c.is_open-opens.result c.requires.inside
-    (sym c.in-Some.ensures.height) above same c.is_open-opens.ensures lays laid)
+    (sym c.in-Some.ensures.height) above same
+    (or_of c.is_open-opens.result c.args.listed c.args.beside c.is_open-opens.ensures
+    (beside_gap h c.args.cell c.in-Some.ground c.requires.inside (sym c.in-Some.ensures.height) c.args.beside c.requires.beside)) lays laid)
 
 pub returns-in-None-clause-laid : goal.returns-in-None-clause-laid
 returns-in-None-clause-laid c = λ sinks same laid.

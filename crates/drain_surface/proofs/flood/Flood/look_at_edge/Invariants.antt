@@ -3,7 +3,7 @@ use Rattle.std.proofs.Common.{◌≡◌, ℕ, ℤ, List}
 use Rattle.drain_grid.specs.Grid.{Grid}
 use Rattle.drain_surface.specs.Looks.{IsLookedBefore, IsAround}
 use Rattle.drain_surface.specs.Turns.{IsLessWork}
-use Rattle.drain_surface.proofs.flood.Flood.look_around.Given as goal
+use Rattle.drain_surface.proofs.flood.Flood.look_at_edge.Given as goal
 
 abbrev pub invariant-loop-direction : goal.invariant-loop-direction
 invariant-loop-direction l = record {
