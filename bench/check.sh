@@ -1,7 +1,7 @@
 #!/usr/bin/env bash
 # Shows how fast `drain check` and `drain audit` are beside their twins: builds the twins, compares all programs on small random tiles with right
-# and changed products, then times them on tiles of sides 1201 and 3601, made-up terrain and real terrain enlarged by mirrored copies. It exits with 1
-# where lines differ; times never make it fail.
+# and changed products, then times them, and `cat` of the files, on tiles of sides 1201 and 3601, made-up terrain and real terrain enlarged by
+# mirrored copies. It exits with 1 where lines differ; times never make it fail.
 # Usage: bench/check.sh DRAIN
 set -euo pipefail
 drain=$(realpath "$1")
@@ -33,7 +33,7 @@ time_all() {
         other=$("$program" "${words[@]}") || differ=1
         [ "$other" = "$line" ] || { echo "${program##*/} prints '$other'"; differ=1; }
     done
-    "$out/measure" 5 $(($2 * $2)) /dev/null "${@:5}" -- "${words[@]}"
+    "$out/measure" 5 $(($2 * $2)) /dev/null "${@:5}" "$bench/cat_inputs.sh" -- "${words[@]}"
 }
 
 for side in 1201 3601; do
