@@ -20,6 +20,8 @@ use drain_mosaic::Layout;
 
 /// Derives rasters of the directions in a folder, writes them into another, and returns the exit status. The files are
 /// created once nothing is left to refuse.
+// Not inlined, so that the buffer in which a raster is written lies on no other command's stack.
+#[inline(never)]
 pub fn derive_files(rt: &HostRuntime, args: &DeriveArgs<'_>, out: &mut impl ByteSink) -> u8 {
     let paths = match output_paths(rt.alloc(), args.out, &DERIVED_FILES, out) {
         Ok(paths) => paths,

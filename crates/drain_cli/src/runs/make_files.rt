@@ -22,6 +22,8 @@ use drain_progress::rows::count_tiles;
 
 /// Makes products of tiles and writes them into a folder, and returns the exit status. The files are created once
 /// nothing is left to refuse.
+// Not inlined, so that the buffer in which a raster is written lies on no other command's stack.
+#[inline(never)]
 pub fn make_from_files(rt: &HostRuntime, args: &MakeArgs<'_>, out: &mut impl ByteSink) -> u8 {
     let progress = Progress::new(rt, args.progress);
     let paths = match output_paths(rt.alloc(), args.out, &SET_FILES, out) {
