@@ -23,10 +23,10 @@ use drain_grid::{Cell, Raster};
 use drain_header::{ByteOrdering, Header};
 
 /// The most bytes in one call of the sink.
-const BUFFER_BYTES: usize = 65536;
+const BUFFER_BYTES: usize = 16384;
 
 /// How many pixels of any size the buffer has room for.
-const BUFFER_PIXELS: u32 = 16384;
+const BUFFER_PIXELS: u32 = 4096;
 
 /// The most zeros in one call of the sink.
 const ZERO_BYTES: usize = 4096;
