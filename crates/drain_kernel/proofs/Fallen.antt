@@ -16,6 +16,7 @@ use Rattle.drain_grid.specs.PatchRules.{AccumulationHolds, LabelHolds, inflow, c
 use Rattle.drain_grid.specs.Slope.{IsSteepest}
 use Rattle.drain_grid.specs.Unranked.{unranked}
 use Rattle.drain_grid.proofs.Options.{same_some}
+use Rattle.drain_kernel.specs.declared.lane_rows.LaneRows.{LaneRows}
 use Rattle.drain_kernel.specs.declared.lanes.Lanes.{Lanes}
 use Rattle.drain_kernel.specs.declared.rules.Ranks.{Ranks}
 use Rattle.drain_kernel.specs.declared.rules.Ranks.TheVariants.{Checked, Ignored}
@@ -25,8 +26,9 @@ use Rattle.drain_kernel.specs.Checked.{IfChecked, IfTested}
 use Rattle.drain_kernel.specs.Columns.{HasRankAt}
 use Rattle.drain_kernel.specs.Falls.{FallsAt, keeps_fall, seen_code, seen_con}
 use Rattle.drain_kernel.specs.Kept.{IsKept}
+use Rattle.drain_kernel.specs.LaneRows.{HaveRanks, IsShownRoundIn}
 use Rattle.drain_kernel.specs.Rules.{rules_with, tested, tried, without_sums}
-use Rattle.drain_kernel.specs.Shown.{lowered, height_of, HasDataAt, HaveRanks, IsShownRound, Shows, row_beside, col_beside}
+use Rattle.drain_kernel.specs.Shown.{lowered, height_of, HasDataAt, IsShownRound, Shows, row_beside, col_beside}
 use Rattle.drain_kernel.specs.Tests.{adds_up, passed_on}
 use Rattle.drain_kernel.proofs.Inland.{le_from, no_void, of_each, some_height}
 use Rattle.drain_kernel.proofs.Meaning.{AreComplete, are_complete, is_complete, no_outlet, not_zero}
@@ -251,15 +253,18 @@ of_fall here n around seen h =
     }
 
 -- the rank of the cell
-rank_from : (ranks : Ranks) (nodata : NoDataNumbers) (above here below : Lanes) (k : ℕ) (v : Values) → Shows here k v → HasDataAt here k →
-    IfChecked ranks (HaveRanks above here below) → IfChecked ranks (HasRankAt nodata here k) → IfChecked ranks (v.rnk ≢ nodata.rnk)
-rank_from Ignored nodata above here below k v s there have differs = tt
-rank_from Checked nodata above here below k v s there have differs = subst (λ r. r ≢ nodata.rnk) (sym (s.rnk_is have.here_has there)) differs
+rank_from : (ranks : Ranks) (nodata : NoDataNumbers) (rows : LaneRows) (k : ℕ) (v : Values) → Shows rows.here.now k v → HasDataAt rows.here.now k →
+    IfChecked ranks (HaveRanks rows) → IfChecked ranks (HasRankAt nodata rows.here.now k) → IfChecked ranks (v.rnk ≢ nodata.rnk)
+rank_from Ignored nodata rows k v s there have differs = tt
+rank_from Checked nodata rows k v s there have differs = subst (λ r. r ≢ nodata.rnk) (sym (s.rnk_is have.here_has there)) differs
 
 -- so at a column where the tests pass
-pub is_kept_there : (rules : Rules) (sums : Sums) (above here below : Lanes) (k : ℕ) (p : Patch) → IsShownRound above here below k p →
-    IfChecked rules.ranks (HaveRanks above here below) → FallsAt rules sums above here below k → IsKept (tested sums (tried rules)) p
-is_kept_there rules sums above here below k p shown have passes =
+pub is_kept_there : (rules : Rules) (sums : Sums) (rows : LaneRows) (k : ℕ) (p : Patch) → IsShownRoundIn rows k p →
+    IfChecked rules.ranks (HaveRanks rows) → FallsAt rules sums rows k → IsKept (tested sums (tried rules)) p
+is_kept_there rules sums rows k p shown have passes =
+    let above = rows.above.now in
+    let here = rows.here.now in
+    let below = rows.below.now in
     let at = numbers_in here k p.here in
     let fall = of_fall at (numbers_seen above here below k p shown) p.around (are_seen above here below k p shown) passes.fall in
     let here_is = some_height at.z fall.has_data in
@@ -271,7 +276,7 @@ is_kept_there rules sums above here below k p shown have passes =
       complete = are_complete rules.nodata here k passes.has_way passes.has_counts;
     } in
     let sum = if_tested sums _ _ (sum_from above here below k p shown) passes.sum in
-    let rank = rank_from rules.ranks rules.nodata above here below k p.here shown.cell fall.has_data have passes.rank in
+    let rank = rank_from rules.ranks rules.nodata rows k p.here shown.cell fall.has_data have passes.rank in
     let same : p ≡ patch_of at p.around = λ i. record { here = values_are here k p.here shown.cell fall.has_data i; around = p.around } in
     subst (IsKept (tested sums (tried rules))) (sym same) (record {
       holds = λ r own. fallen rules.nodata at p.around falls rules.ranks sums sum rank r;

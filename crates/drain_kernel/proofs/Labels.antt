@@ -1,18 +1,18 @@
 -- Where all labels are one, a code leads to this label.
 use Rattle.std.proofs.Common.{◌≡◌, ℕ, ◌+◌, ◌-◌, ◌≤◌, ◌<◌, Bool, true, false, ◌==◌, slice_index, sym, ◌∙◌, arith, if◌then◌else◌}
 use Rattle.std.proofs.lemmas.Bool.Decides.{Decides-eqb}
-use Rattle.drain_kernel.specs.declared.lanes.Lanes.{Lanes}
-use Rattle.drain_kernel.specs.Columns.{Along, keeps_label_at}
+use Rattle.drain_kernel.specs.declared.lane_rows.LaneRows.{LaneRows}
+use Rattle.drain_kernel.specs.Columns.{Along, KeepsLabelAt}
 
 either : (b : Bool) (x y label : ℕ) → x ≡ label → y ≡ label → (if b then x else y) ≡ label
 either true x y label one two = one
 either false x y label one two = two
 
-pub one_label : (a h b : Lanes) (label from end : ℕ) → 1 ≤ from → Along (from - 1) (end + 1) (λ k. slice_index a.bas.items k ≡ label) →
-    Along (from - 1) (end + 1) (λ k. slice_index h.bas.items k ≡ label) → Along (from - 1) (end + 1) (λ k. slice_index b.bas.items k ≡ label) →
-    Along from end (λ k. keeps_label_at a h b k ≡ true)
-one_label a h b label from end inner above here below k low high =
-    let code = slice_index h.dir.items k in
+pub one_label : (rows : LaneRows) (label from end : ℕ) → 1 ≤ from → Along (from - 1) (end + 1) (λ k. slice_index rows.above.now.bas.items k ≡ label) →
+    Along (from - 1) (end + 1) (λ k. slice_index rows.here.now.bas.items k ≡ label) →
+    Along (from - 1) (end + 1) (λ k. slice_index rows.below.now.bas.items k ≡ label) → Along from end (KeepsLabelAt rows)
+one_label rows label from end inner above here below k low high =
+    let code = slice_index rows.here.now.dir.items k in
     let left : from - 1 ≤ k - 1 = omega (arith, low) in
     let at : from - 1 ≤ k = omega (arith, low) in
     let right : from - 1 ≤ k + 1 = omega (arith, low) in

@@ -3,8 +3,8 @@ pub mod NamedNumbers
 pub mod Keys
 pub mod Squares
 pub mod Capped
-pub mod SmallSums
-pub mod SmallRanks
+pub mod CappedSums
+pub mod CappedRanks
 pub mod Labels
 pub mod Summed
 pub mod PassedOn

@@ -14,6 +14,7 @@ use Rattle.drain_grid.specs.SetProduct.{product_of}
 use Rattle.drain_grid.specs.Values.{Values, NoDataNumbers, value_of, number_for}
 use Rattle.drain_grid.specs.PatchRules.{AccumulationHolds, LabelHolds, inflow, check_rules}
 use Rattle.drain_grid.specs.Unranked.{unranked}
+use Rattle.drain_kernel.specs.declared.lane_rows.LaneRows.{LaneRows}
 use Rattle.drain_kernel.specs.declared.lanes.Lanes.{Lanes}
 use Rattle.drain_kernel.specs.declared.rules.Ranks.{Ranks}
 use Rattle.drain_kernel.specs.declared.rules.Ranks.TheVariants.{Checked, Ignored}
@@ -22,14 +23,15 @@ use Rattle.drain_kernel.specs.declared.rules.Sums.{Sums}
 use Rattle.drain_kernel.specs.Checked.{IfChecked, IfTested}
 use Rattle.drain_kernel.specs.Columns.{HasCountsAt, HasWayAt, IsInlandAt, PassesAt, RanksPassAt}
 use Rattle.drain_kernel.specs.Kept.{IsKept}
+use Rattle.drain_kernel.specs.LaneRows.{HaveRanks, IsShownIn}
 use Rattle.drain_kernel.specs.Rules.{rules_with, tested, tried, without_sums}
-use Rattle.drain_kernel.specs.Shown.{lowered, height_of, HasDataAt, HaveRanks, IsShown, HasRanks, row_beside, col_beside}
+use Rattle.drain_kernel.specs.Shown.{lowered, height_of, HasDataAt, HasRanks, row_beside, col_beside}
 use Rattle.drain_kernel.specs.Tests.{adds_up}
 use Rattle.drain_kernel.proofs.Inland.{IsInland, inland_from, of_each, not_open, OfSurface, of_surface}
 use Rattle.drain_kernel.proofs.Numbers.{Numbers, HaveDataAt, values_of, patch_of, numbers_in, numbers_beside, patch_is, neighbor_is}
 use Rattle.drain_kernel.proofs.PassedOn.{inflow_passed, total_is}
 use Rattle.drain_kernel.proofs.Summed.{if_tested, summed}
-use Rattle.drain_kernel.proofs.Ways.{OfDirection, of_direction, of_label, FallsOrNears, falls_or_nears_from, flat_step_from}
+use Rattle.drain_kernel.proofs.Ways.{OfDirection, of_direction, of_label, IsRanked, ranked_from, flat_step_from}
 
 -- the four numbers aren't their products' no-data numbers
 pub record AreComplete (nodata : NoDataNumbers) (con dir acc bas : ℕ) : Type 0 where
@@ -87,7 +89,7 @@ of_unranked nodata here n around passed SharedLabel = tt
 
 -- what the tests of ranks give besides
 record Ranked (nodata : NoDataNumbers) (here : Numbers) (n : Direction → Numbers) : Type 0 where
-  nears : FallsOrNears here n
+  nears : IsRanked here n
   differs : here.rnk ≢ nodata.rnk
 
 pub is_complete : (nodata : NoDataNumbers) (here : Numbers) → AreComplete nodata here.con here.dir here.acc here.bas → here.rnk ≢ nodata.rnk →
@@ -130,10 +132,10 @@ pub no_outlet : (d : Direction) → code_of d ≢ 0
 no_outlet = of_each (λ d. code_of d ≢ 0) (λ e. cc) (λ e. cc) (λ e. cc) (λ e. cc) (λ e. cc) (λ e. cc) (λ e. cc) (λ e. cc)
 
 -- the test of voids, of the nine columns
-have_data_from : (above here below : Lanes) (k : ℕ) → IsInlandAt above here below k → HaveDataAt above here below k
-have_data_from above here below k known = record {
+have_data_from : (rows : LaneRows) (k : ℕ) → IsInlandAt rows k → HaveDataAt rows.above.now rows.here.now rows.below.now k
+have_data_from rows k known = record {
   here_has = known.here_is.middle;
-  beside_has = of_each (λ d. HasDataAt (row_beside above here below d) (col_beside k d)) known.here_is.right known.below_is.right known.below_is.middle
+  beside_has = of_each (λ d. HasDataAt (row_beside rows.above.now rows.here.now rows.below.now d) (col_beside k d)) known.here_is.right known.below_is.right known.below_is.middle
       known.below_is.left known.here_is.left known.above_is.left known.above_is.middle known.above_is.right;
 }
 
@@ -144,28 +146,34 @@ not_zero code d is differs h = differs (same_natural d 0 (sym is ∙ h))
     same_natural a b e = cc
 
 -- where ranks are checked, they were taken, and their tests give what is required of the numbers
-ranked_from : (ranks : Ranks) (nodata : NoDataNumbers) (above here below : Lanes) (k : ℕ) (p : Patch) (shown : IsShown above here below k p) →
-    HaveDataAt above here below k → IfChecked ranks (HaveRanks above here below) → IfChecked ranks (RanksPassAt nodata above here below k) →
-    IfChecked ranks (Ranked nodata (numbers_in here k p.here) (numbers_beside above here below k p shown))
-ranked_from Ignored nodata above here below k p shown known have passes = tt
-ranked_from Checked nodata above here below k p shown known have passes =
+ranks_from : (ranks : Ranks) (nodata : NoDataNumbers) (rows : LaneRows) (k : ℕ) (p : Patch) (shown : IsShownIn rows k p) →
+    HaveDataAt rows.above.now rows.here.now rows.below.now k → IfChecked ranks (HaveRanks rows) → IfChecked ranks (RanksPassAt nodata rows k) →
+    IfChecked ranks (Ranked nodata (numbers_in rows.here.now k p.here) (numbers_beside rows.above.now rows.here.now rows.below.now k p shown))
+ranks_from Ignored nodata rows k p shown known have passes = tt
+ranks_from Checked nodata rows k p shown known have passes =
+    let above = rows.above.now in
+    let here = rows.here.now in
+    let below = rows.below.now in
     let own = shown.cell.rnk_is have.here_has known.here_has in
     let has : (d : Direction) → HasRanks (row_beside above here below d) = of_each (λ d. HasRanks (row_beside above here below d))
     have.here_has have.below_has have.below_has have.below_has have.here_has have.above_has have.above_has have.above_has in
     record {
-      nears = falls_or_nears_from (numbers_in here k p.here) (numbers_beside above here below k p shown) (slice_index here.rnk.items k)
+      nears = ranked_from (numbers_in here k p.here) (numbers_beside above here below k p shown) (slice_index here.rnk.items k)
           (λ d. slice_index (row_beside above here below d).rnk.items (col_beside k d)) own
           (λ d. (shown.around_is d).1.shown.rnk_is (has d) (known.beside_has d)) passes.ranked;
       differs = subst (λ r. r ≢ nodata.rnk) (sym own) passes.has_rank;
     }
 
 -- so at a column of three rows where all tests pass
-pub is_kept : (rules : Rules) (sums : Sums) (above here below : Lanes) (k : ℕ) (p : Patch) → IsShown above here below k p →
-    IfChecked rules.ranks (HaveRanks above here below) → PassesAt rules sums above here below k → IsKept (tested sums (tried rules)) p
-is_kept rules sums above here below k p shown have passes =
+pub is_kept : (rules : Rules) (sums : Sums) (rows : LaneRows) (k : ℕ) (p : Patch) → IsShownIn rows k p →
+    IfChecked rules.ranks (HaveRanks rows) → PassesAt rules sums rows k → IsKept (tested sums (tried rules)) p
+is_kept rules sums rows k p shown have passes =
+    let above = rows.above.now in
+    let here = rows.here.now in
+    let below = rows.below.now in
     let at = numbers_in here k p.here in
     let n = numbers_beside above here below k p shown in
-    let nine = have_data_from above here below k passes.inland in
+    let nine = have_data_from rows k passes.inland in
     let known = inland_from at n p.around (λ d. neighbor_is above here below k p shown d (nine.beside_has d)) shown.not_listed
     nine.here_has nine.beside_has in
     let direction = of_direction at n p.around known passes.direction in
@@ -177,7 +185,7 @@ is_kept rules sums above here below k p shown have passes =
       complete = are_complete rules.nodata here k passes.has_way passes.has_counts;
     } in
     let sum = if_tested sums _ _ (of_sum at n p.around known) passes.accumulation in
-    let ranked = ranked_from rules.ranks rules.nodata above here below k p shown nine have passes.ranks in
+    let ranked = ranks_from rules.ranks rules.nodata rows k p shown nine have passes.ranks in
     subst (IsKept (tested sums (tried rules))) (sym (patch_is above here below k p shown nine.here_has)) (record {
       holds = λ r own. of_rules rules.ranks sums rules.nodata at n p.around passed sum ranked r;
       has_data = ap is_some known.here_is;

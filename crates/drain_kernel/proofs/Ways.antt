@@ -13,7 +13,7 @@ use Rattle.drain_grid.specs.Unranked.{IsLevelStep, LevelStepHolds}
 use Rattle.drain_grid.proofs.Options.{same_some}
 use Rattle.drain_kernel.specs.Around.{least_straight_in, least_across_in}
 use Rattle.drain_kernel.specs.Shown.{lowered}
-use Rattle.drain_kernel.specs.Tests.{keeps_direction, keeps_label, falls_steepest, steps_along, falls_or_nears}
+use Rattle.drain_kernel.specs.Tests.{keeps_direction, keeps_label, falls_steepest, steps_along, is_ranked}
 use Rattle.drain_kernel.proofs.Inland.{IsInland, is_beside, of_beside, le_from}
 use Rattle.drain_kernel.proofs.Keys.{weight, key_is, straight_is_greatest, across_is_greatest}
 use Rattle.drain_kernel.proofs.NamedNumbers.{named_is, names_some, straight_is, least_straight_bound, least_across_bound, least_bound}
@@ -160,17 +160,17 @@ of_label here n around known h = λ _ e m named beside.
     (ap pos (sym ((Decides-eqb _ _).0 h) ∙ named_is (λ d. (n d).bas) here.dir e named)) beside
 
 -- the code leads to a smaller conditioned elevation, or to a smaller rank
-abbrev pub FallsOrNears : Numbers → (Direction → Numbers) → Type 0
-FallsOrNears here n = (d : Direction) → Names (pos here.dir) d → ((n d).con < here.con) ⊎ ((n d).rnk <ℤ here.rnk)
+abbrev pub IsRanked : Numbers → (Direction → Numbers) → Type 0
+IsRanked here n = (d : Direction) → Names (pos here.dir) d → ((n d).con < here.con) ⊎ ((n d).rnk <ℤ here.rnk)
 
 lt_of_ranks : (r s : ℤ) (a b : ℕ) → r ≡ pos a → s ≡ pos b → a < b → r <ℤ s
 lt_of_ranks r s a b is_a is_b h = omega (arith, ints)
 
-pub falls_or_nears_from : (here : Numbers) (n : Direction → Numbers) (rank : ℕ) (ranks : Direction → ℕ) → here.rnk ≡ pos rank →
+pub ranked_from : (here : Numbers) (n : Direction → Numbers) (rank : ℕ) (ranks : Direction → ℕ) → here.rnk ≡ pos rank →
     ((d : Direction) → (n d).rnk ≡ pos (ranks d)) →
-    falls_or_nears here.con here.dir (map (λ d. (n d).con) directions) rank (map ranks directions) ≡ true → FallsOrNears here n
-unfolding falls_or_nears
-falls_or_nears_from here n rank ranks own others h = λ d named. elim (or_cases _ _ h) [
+    is_ranked here.con here.dir (map (λ d. (n d).con) directions) rank (map ranks directions) ≡ true → IsRanked here n
+unfolding is_ranked
+ranked_from here n rank ranks own others h = λ d named. elim (or_cases _ _ h) [
   | inl falls ↦ inl (subst (λ x. x < here.con) (named_is (λ e. (n e).con) here.dir d named) ((Decides-ltb _ _).0 falls))
   | inr nears ↦ inr (lt_of_ranks (n d).rnk here.rnk (ranks d) rank (others d) own
       (subst (λ x. x < rank) (named_is ranks here.dir d named) ((Decides-ltb _ _).0 nears)))
@@ -178,7 +178,7 @@ falls_or_nears_from here n rank ranks own others h = λ d named. elim (or_cases 
 
 -- so a step along the flat leads to a smaller rank
 pub flat_step_from : (here : Numbers) (n : Direction → Numbers) (around : List (Option Values)) → IsInland here n around →
-    LevelStepHolds (patch_of here around) → FallsOrNears here n → FlatStepHolds (patch_of here around)
+    LevelStepHolds (patch_of here around) → IsRanked here n → FlatStepHolds (patch_of here around)
 flat_step_from here n around known holds nears = λ closed none.
     let found = holds closed none in
     let d = found.0 in

@@ -1,13 +1,14 @@
 -- The tests at a column of three rows of lanes.
-use Rattle.std.specs.Prelude.{◌≢◌, ℕ, ◌≤◌, ◌<◌, ◌+◌, ◌-◌, pos, Bool, IsTrue, slice_index}
+use Rattle.std.specs.Prelude.{◌≢◌, ℕ, ◌≤◌, ◌<◌, ◌+◌, ◌-◌, pos, IsTrue, List, slice_index}
 use Rattle.drain_grid.specs.Values.{NoDataNumbers}
+use Rattle.drain_kernel.specs.declared.lane_rows.LaneRows.{LaneRows}
 use Rattle.drain_kernel.specs.declared.lanes.Lanes.{Lanes}
 use Rattle.drain_kernel.specs.declared.rules.Rules.{Rules}
 use Rattle.drain_kernel.specs.declared.rules.Sums.{Sums}
 use Rattle.drain_kernel.specs.Around.{around_in}
 use Rattle.drain_kernel.specs.Checked.{IfChecked, IfTested}
 use Rattle.drain_kernel.specs.Shown.{HasDataAt, lowered}
-use Rattle.drain_kernel.specs.Tests.{keeps_surface, keeps_direction, keeps_label, adds_up, falls_or_nears}
+use Rattle.drain_kernel.specs.Tests.{keeps_surface, keeps_direction, keeps_label, adds_up, is_ranked}
 
 -- a column and the two beside it are no voids
 pub record IsDataRound (row : Lanes) (k : ℕ) : Type 0 where
@@ -16,30 +17,59 @@ pub record IsDataRound (row : Lanes) (k : ℕ) : Type 0 where
   pub right : HasDataAt row (k + 1)
 
 -- so in three rows: the cell and its neighbours have data
-pub record IsInlandAt (a h b : Lanes) (k : ℕ) : Type 0 where
-  pub above_is : IsDataRound a k
-  pub here_is : IsDataRound h k
-  pub below_is : IsDataRound b k
+pub record IsInlandAt (rows : LaneRows) (k : ℕ) : Type 0 where
+  pub above_is : IsDataRound rows.above.now k
+  pub here_is : IsDataRound rows.here.now k
+  pub below_is : IsDataRound rows.below.now k
 
-abbrev pub keeps_surface_at : Lanes → Lanes → Lanes → ℕ → Bool
-keeps_surface_at a h b k =
-    keeps_surface (slice_index h.z.items k) (slice_index h.con.items k) (around_in a.con.items h.con.items b.con.items k)
+-- the elevations of the neighbours of a column
+abbrev pub heights_round : LaneRows → ℕ → List ℕ
+heights_round rows k = around_in rows.above.now.z.items rows.here.now.z.items rows.below.now.z.items k
 
-abbrev pub keeps_direction_at : Lanes → Lanes → Lanes → ℕ → Bool
-keeps_direction_at a h b k =
-    keeps_direction (slice_index h.con.items k) (slice_index h.dir.items k) (around_in a.con.items h.con.items b.con.items k)
+-- their conditioned elevations
+abbrev pub cons_round : LaneRows → ℕ → List ℕ
+cons_round rows k = around_in rows.above.now.con.items rows.here.now.con.items rows.below.now.con.items k
 
-abbrev pub keeps_label_at : Lanes → Lanes → Lanes → ℕ → Bool
-keeps_label_at a h b k = keeps_label (slice_index h.dir.items k) (slice_index h.bas.items k) (around_in a.bas.items h.bas.items b.bas.items k)
+-- their codes
+abbrev pub codes_round : LaneRows → ℕ → List ℕ
+codes_round rows k = around_in rows.above.now.dir.items rows.here.now.dir.items rows.below.now.dir.items k
 
-abbrev pub adds_up_at : Lanes → Lanes → Lanes → ℕ → Bool
-adds_up_at a h b k =
-    adds_up (slice_index h.acc.items k) (around_in a.dir.items h.dir.items b.dir.items k) (around_in a.acc.items h.acc.items b.acc.items k)
+-- their accumulations
+abbrev pub accs_round : LaneRows → ℕ → List ℕ
+accs_round rows k = around_in rows.above.now.acc.items rows.here.now.acc.items rows.below.now.acc.items k
 
-abbrev pub is_ranked_at : Lanes → Lanes → Lanes → ℕ → Bool
-is_ranked_at a h b k =
-    falls_or_nears (slice_index h.con.items k) (slice_index h.dir.items k) (around_in a.con.items h.con.items b.con.items k)
-    (slice_index h.rnk.items k) (around_in a.rnk.items h.rnk.items b.rnk.items k)
+-- their labels
+abbrev pub labels_round : LaneRows → ℕ → List ℕ
+labels_round rows k = around_in rows.above.now.bas.items rows.here.now.bas.items rows.below.now.bas.items k
+
+-- their ranks
+abbrev pub ranks_round : LaneRows → ℕ → List ℕ
+ranks_round rows k = around_in rows.above.now.rnk.items rows.here.now.rnk.items rows.below.now.rnk.items k
+
+-- the rules of the conditioned elevation hold
+abbrev pub KeepsSurfaceAt : LaneRows → ℕ → Type 0
+KeepsSurfaceAt rows k =
+    IsTrue (keeps_surface (slice_index rows.here.now.z.items k) (slice_index rows.here.now.con.items k) (cons_round rows k))
+
+-- the rules of the direction hold, without ranks
+abbrev pub KeepsDirectionAt : LaneRows → ℕ → Type 0
+KeepsDirectionAt rows k =
+    IsTrue (keeps_direction (slice_index rows.here.now.con.items k) (slice_index rows.here.now.dir.items k) (cons_round rows k))
+
+-- the rule of the label holds
+abbrev pub KeepsLabelAt : LaneRows → ℕ → Type 0
+KeepsLabelAt rows k =
+    IsTrue (keeps_label (slice_index rows.here.now.dir.items k) (slice_index rows.here.now.bas.items k) (labels_round rows k))
+
+-- the rule of the accumulation holds
+abbrev pub AddsUpAt : LaneRows → ℕ → Type 0
+AddsUpAt rows k = IsTrue (adds_up (slice_index rows.here.now.acc.items k) (codes_round rows k) (accs_round rows k))
+
+-- the code leads to a smaller conditioned elevation, or to a smaller rank
+abbrev pub IsRankedAt : LaneRows → ℕ → Type 0
+IsRankedAt rows k =
+    IsTrue (is_ranked (slice_index rows.here.now.con.items k) (slice_index rows.here.now.dir.items k) (cons_round rows k)
+    (slice_index rows.here.now.rnk.items k) (ranks_round rows k))
 
 -- the conditioned elevation and the direction of a column aren't their products' no-data numbers
 pub record HasWayAt (nodata : NoDataNumbers) (h : Lanes) (k : ℕ) : Type 0 where
@@ -56,20 +86,20 @@ abbrev pub HasRankAt : NoDataNumbers → Lanes → ℕ → Type 0
 HasRankAt nodata h k = pos (slice_index h.rnk.items k) ≢ nodata.rnk
 
 -- the tests of ranks pass at a column
-pub record RanksPassAt (nodata : NoDataNumbers) (a h b : Lanes) (k : ℕ) : Type 0 where
-  pub ranked : IsTrue (is_ranked_at a h b k)
-  pub has_rank : HasRankAt nodata h k
+pub record RanksPassAt (nodata : NoDataNumbers) (rows : LaneRows) (k : ℕ) : Type 0 where
+  pub ranked : IsRankedAt rows k
+  pub has_rank : HasRankAt nodata rows.here.now k
 
 -- all tests pass at a column, that of the accumulation if sums are tested
-pub record PassesAt (rules : Rules) (sums : Sums) (a h b : Lanes) (k : ℕ) : Type 0 where
-  pub inland : IsInlandAt a h b k
-  pub surface : IsTrue (keeps_surface_at a h b k)
-  pub direction : IsTrue (keeps_direction_at a h b k)
-  pub label : IsTrue (keeps_label_at a h b k)
-  pub accumulation : IfTested sums (IsTrue (adds_up_at a h b k))
-  pub has_way : HasWayAt rules.nodata h k
-  pub has_counts : HasCountsAt rules.nodata h k
-  pub ranks : IfChecked rules.ranks (RanksPassAt rules.nodata a h b k)
+pub record PassesAt (rules : Rules) (sums : Sums) (rows : LaneRows) (k : ℕ) : Type 0 where
+  pub inland : IsInlandAt rows k
+  pub surface : KeepsSurfaceAt rows k
+  pub direction : KeepsDirectionAt rows k
+  pub label : KeepsLabelAt rows k
+  pub accumulation : IfTested sums (AddsUpAt rows k)
+  pub has_way : HasWayAt rules.nodata rows.here.now k
+  pub has_counts : HasCountsAt rules.nodata rows.here.now k
+  pub ranks : IfChecked rules.ranks (RanksPassAt rules.nodata rows k)
 
 -- the columns from one up to another
 abbrev pub Along : ℕ → ℕ → (ℕ → Type 0) → Type 0

@@ -1,20 +1,24 @@
 -- The tests of a cell that lies on its ground and falls, whatever lies beside it: voids are passed over.
 use Rattle.std.specs.Prelude.{ℕ, Bool, not, ◌&&◌, ◌==◌, nat_le, IsTrue, List, [], ◌∷◌, slice_index, if◌then◌else◌}
-use Rattle.drain_kernel.specs.declared.lanes.Lanes.{Lanes}
+use Rattle.drain_kernel.specs.declared.lane_rows.LaneRows.{LaneRows}
 use Rattle.drain_kernel.specs.declared.rules.Rules.{Rules}
 use Rattle.drain_kernel.specs.declared.rules.Sums.{Sums}
-use Rattle.drain_kernel.specs.Around.{around_in, is_direction_code, named_in}
+use Rattle.drain_kernel.specs.Around.{is_direction_code, named_in}
 use Rattle.drain_kernel.specs.Checked.{IfChecked, IfTested}
-use Rattle.drain_kernel.specs.Columns.{HasCountsAt, HasRankAt, HasWayAt}
+use Rattle.drain_kernel.specs.Columns.{HasCountsAt, HasRankAt, HasWayAt, accs_round, codes_round, cons_round, heights_round, labels_round}
 use Rattle.drain_kernel.specs.Tests.{adds_up, falls_steepest}
+
+-- a neighbour's number, if it is no void; else another one
+abbrev pub seen : ℕ → ℕ → ℕ → ℕ
+seen hidden z x = if z == 0 then hidden else x
 
 -- a neighbour's conditioned elevation: at a void no lower than any height
 abbrev pub seen_con : ℕ → ℕ → ℕ
-seen_con z con = if z == 0 then 65535 else con
+seen_con = seen 65535
 
 -- its direction: at a void none
 abbrev pub seen_code : ℕ → ℕ → ℕ
-seen_code z code = if z == 0 then 0 else code
+seen_code = seen 0
 
 -- those of eight neighbours
 abbrev pub each_seen : (ℕ → ℕ → ℕ) → List ℕ → List ℕ → List ℕ
@@ -29,23 +33,21 @@ keeps_fall height con code cons label labels =
     ((((not (height == 0) && con == height) && nat_le con 65535) && is_direction_code code) && falls_steepest con code cons) &&
     named_in code labels == label
 
-abbrev pub keeps_fall_at : Lanes → Lanes → Lanes → ℕ → Bool
-keeps_fall_at a h b k =
-    keeps_fall (slice_index h.z.items k) (slice_index h.con.items k) (slice_index h.dir.items k)
-    (each_seen seen_con (around_in a.z.items h.z.items b.z.items k) (around_in a.con.items h.con.items b.con.items k))
-    (slice_index h.bas.items k) (around_in a.bas.items h.bas.items b.bas.items k)
+-- the numbers round a column pass
+abbrev pub KeepsFallAt : LaneRows → ℕ → Type 0
+KeepsFallAt rows k =
+    IsTrue (keeps_fall (slice_index rows.here.now.z.items k) (slice_index rows.here.now.con.items k) (slice_index rows.here.now.dir.items k)
+    (each_seen seen_con (heights_round rows k) (cons_round rows k)) (slice_index rows.here.now.bas.items k) (labels_round rows k))
 
--- its accumulation is one more than what its data neighbours pass on
-abbrev pub seen_sum_at : Lanes → Lanes → Lanes → ℕ → Bool
-seen_sum_at a h b k =
-    adds_up (slice_index h.acc.items k)
-    (each_seen seen_code (around_in a.z.items h.z.items b.z.items k) (around_in a.dir.items h.dir.items b.dir.items k))
-    (around_in a.acc.items h.acc.items b.acc.items k)
+-- the accumulation is one more than what the data neighbours pass on
+abbrev pub SeenAddsUpAt : LaneRows → ℕ → Type 0
+SeenAddsUpAt rows k =
+    IsTrue (adds_up (slice_index rows.here.now.acc.items k) (each_seen seen_code (heights_round rows k) (codes_round rows k)) (accs_round rows k))
 
 -- these tests pass at a column, that of the accumulation if sums are tested, and no number is its product's no-data number
-pub record FallsAt (rules : Rules) (sums : Sums) (a h b : Lanes) (k : ℕ) : Type 0 where
-  pub fall : IsTrue (keeps_fall_at a h b k)
-  pub sum : IfTested sums (IsTrue (seen_sum_at a h b k))
-  pub has_way : HasWayAt rules.nodata h k
-  pub has_counts : HasCountsAt rules.nodata h k
-  pub rank : IfChecked rules.ranks (HasRankAt rules.nodata h k)
+pub record FallsAt (rules : Rules) (sums : Sums) (rows : LaneRows) (k : ℕ) : Type 0 where
+  pub fall : KeepsFallAt rows k
+  pub sum : IfTested sums (SeenAddsUpAt rows k)
+  pub has_way : HasWayAt rules.nodata rows.here.now k
+  pub has_counts : HasCountsAt rules.nodata rows.here.now k
+  pub rank : IfChecked rules.ranks (HasRankAt rules.nodata rows.here.now k)

@@ -6,6 +6,7 @@ pub mod Taken
 pub mod Checked
 pub mod Around
 pub mod Tests
+pub mod LaneRows
 pub mod Columns
 pub mod Counts
 pub mod Laws

@@ -23,12 +23,6 @@ cols row = vec_len row.z
 abbrev pub HasRanks : Lanes → Type 0
 HasRanks row = vec_len row.rnk ≡ cols row
 
--- they were taken of three rows
-pub record HaveRanks (above here below : Lanes) : Type 0 where
-  pub above_has : HasRanks above
-  pub here_has : HasRanks here
-  pub below_has : HasRanks below
-
 -- the column is no void
 abbrev pub HasDataAt : Lanes → ℕ → Type 0
 HasDataAt row k = slice_index row.z.items k ≢ 0

@@ -47,5 +47,5 @@ adds_up acc codes accs =
     passed_on (slice_index codes 6) 4 (slice_index accs 6)) + passed_on (slice_index codes 7) 8 (slice_index accs 7)) + 1
 
 -- the code leads to a smaller conditioned elevation, or to a smaller rank
-unfoldable pub falls_or_nears : ℕ → ℕ → List ℕ → ℕ → List ℕ → Bool
-falls_or_nears con code cons rank ranks = nat_lt (named_in code cons) con || nat_lt (named_in code ranks) rank
+unfoldable pub is_ranked : ℕ → ℕ → List ℕ → ℕ → List ℕ → Bool
+is_ranked con code cons rank ranks = nat_lt (named_in code cons) con || nat_lt (named_in code ranks) rank

@@ -1,73 +1,49 @@
 //! A cell that lies on its ground and falls: it keeps every rule whether it is open or not, so voids beside it and
 //! listed sinks make no difference.
 
-ghost use Rattle.std.specs.Prelude.{◌≡◌, ◌≤◌, ◌<◌, ◌+◌, IsTrue, vec_len};
+ghost use Rattle.std.specs.Prelude.{◌≡◌, ◌≤◌, ◌<◌, IsTrue};
 ghost use Rattle.drain_grid.specs.declared.patch.Patch.{Patch};
 ghost use Rattle.drain_kernel.specs.Checked.{IfChecked, IfTested};
-ghost use Rattle.drain_kernel.specs.Columns.{HasRankAt};
-ghost use Rattle.drain_kernel.specs.Falls.{FallsAt, each_seen, keeps_fall, keeps_fall_at, seen_code, seen_con, seen_sum_at};
+ghost use Rattle.drain_kernel.specs.Columns.{HasCountsAt, HasRankAt, HasWayAt};
+ghost use Rattle.drain_kernel.specs.Falls.{FallsAt, KeepsFallAt, SeenAddsUpAt, each_seen, keeps_fall, seen};
 ghost use Rattle.drain_kernel.specs.Kept.{IsKept};
+ghost use Rattle.drain_kernel.specs.LaneRows.{HaveRanks, IsInnerColumn, IsShownRoundIn};
 ghost use Rattle.drain_kernel.specs.Rules.{tested, tried, unsummed};
-ghost use Rattle.drain_kernel.specs.Shown.{cols, HasRanks, HaveRanks, IsInner, IsShownRound};
+ghost use Rattle.drain_kernel.specs.Shown.{cols, HasRanks, IsInner, IsShownRound};
 
-use crate::around::{around, is_direction};
+use crate::around::is_direction;
 use crate::cells::{HIGHEST, falls_steepest, keeps_label};
-use crate::columns::{has_counts, has_way};
-use crate::kept::ranks_are_there;
+use crate::column_test::ColumnTest;
+use crate::columns::{CountsTest, WayTest};
+use crate::lane_rows::LaneRows;
 use crate::lanes::Lanes;
-use crate::ranked::has_rank;
+use crate::ranked::HasRankTest;
 use crate::rules::{Ranks, Rules, Sums};
 use crate::sums::adds_up;
-use crate::wide::around_wide;
 use drain_grid::NoData;
 
-/// The conditioned elevation of a neighbour; a void's is no lower than any.
+/// A neighbour's number, if its elevation is none of a void; else another one.
 #[inline(always)]
-fn seen_con(z: u16, con: u16) -> u16
-    ensures { result ≡ seen_con z con }
+fn seen(hidden: u16, z: u16, number: u16) -> u16
+    ensures { result ≡ seen hidden z number }
 {
-    if z == 0 { HIGHEST } else { con }
+    if z == 0 { hidden } else { number }
 }
 
-/// The direction of a neighbour; a void has none.
+/// The numbers of eight neighbours, another one at a void.
 #[inline(always)]
-fn seen_code(z: u16, code: u16) -> u16
-    ensures { result ≡ seen_code z code }
-{
-    if z == 0 { 0 } else { code }
-}
-
-/// Those of eight neighbours.
-#[inline(always)]
-fn seen_cons(zs: [u16; 8], cons: [u16; 8]) -> [u16; 8]
-    ensures { result ≡ each_seen seen_con zs cons }
+fn each_seen(hidden: u16, zs: [u16; 8], numbers: [u16; 8]) -> [u16; 8]
+    ensures { result ≡ each_seen (seen hidden) zs numbers }
 {
     [
-        seen_con(zs[0], cons[0]),
-        seen_con(zs[1], cons[1]),
-        seen_con(zs[2], cons[2]),
-        seen_con(zs[3], cons[3]),
-        seen_con(zs[4], cons[4]),
-        seen_con(zs[5], cons[5]),
-        seen_con(zs[6], cons[6]),
-        seen_con(zs[7], cons[7]),
-    ]
-}
-
-/// The directions of eight neighbours.
-#[inline(always)]
-fn seen_codes(zs: [u16; 8], codes: [u16; 8]) -> [u16; 8]
-    ensures { result ≡ each_seen seen_code zs codes }
-{
-    [
-        seen_code(zs[0], codes[0]),
-        seen_code(zs[1], codes[1]),
-        seen_code(zs[2], codes[2]),
-        seen_code(zs[3], codes[3]),
-        seen_code(zs[4], codes[4]),
-        seen_code(zs[5], codes[5]),
-        seen_code(zs[6], codes[6]),
-        seen_code(zs[7], codes[7]),
+        seen(hidden, zs[0], numbers[0]),
+        seen(hidden, zs[1], numbers[1]),
+        seen(hidden, zs[2], numbers[2]),
+        seen(hidden, zs[3], numbers[3]),
+        seen(hidden, zs[4], numbers[4]),
+        seen(hidden, zs[5], numbers[5]),
+        seen(hidden, zs[6], numbers[6]),
+        seen(hidden, zs[7], numbers[7]),
     ]
 }
 
@@ -92,118 +68,92 @@ fn keeps_fall(
         & keeps_label(code, label, labels)
 }
 
-/// The same at a column.
-fn fall_holds(above: &Lanes, here: &Lanes, below: &Lanes, k: usize) -> bool
-    requires inner { 1 ≤ k }
-    requires above_len { k + 1 < vec_len above.now.z }
-    requires here_len { k + 1 < vec_len here.now.z }
-    requires below_len { k + 1 < vec_len below.now.z }
-    ensures { result ≡ keeps_fall_at above.now here.now below.now k }
+/// Whether the cell at a column is not raised and falls to a cell of its label; a void counts as highest.
+fn fall_holds(rows: &LaneRows, k: usize) -> bool
+    requires { IsInnerColumn rows.now k }
+    ensures { IsTrue result → KeepsFallAt rows.now k }
 {
-    let zs = around(&above.z, &here.z, &below.z, k);
-    let cons = around(&above.con, &here.con, &below.con, k);
-    let labels = around_wide(&above.bas, &here.bas, &below.bas, k);
+    let here = rows.here;
+    let cons = each_seen(HIGHEST, rows.heights_round(k), rows.cons_round(k));
+    let labels = rows.labels_round(k);
     keeps_fall(
         here.z[k],
         here.con[k],
         here.dir[k],
-        seen_cons(zs, cons),
+        cons,
         here.bas[k],
         labels,
     )
 }
 
 /// Whether the accumulation at a column is one more than what data neighbours pass on.
-fn seen_sum_holds(above: &Lanes, here: &Lanes, below: &Lanes, k: usize) -> bool
-    requires inner { 1 ≤ k }
-    requires above_len { k + 1 < vec_len above.now.z }
-    requires here_len { k + 1 < vec_len here.now.z }
-    requires below_len { k + 1 < vec_len below.now.z }
-    ensures { result ≡ seen_sum_at above.now here.now below.now k }
+fn seen_sum_holds(rows: &LaneRows, k: usize) -> bool
+    requires { IsInnerColumn rows.now k }
+    ensures { IsTrue result → SeenAddsUpAt rows.now k }
 {
-    let zs = around(&above.z, &here.z, &below.z, k);
-    let codes = around(&above.dir, &here.dir, &below.dir, k);
-    let accs = around_wide(&above.acc, &here.acc, &below.acc, k);
-    adds_up(here.acc[k], seen_codes(zs, codes), accs)
+    let codes = each_seen(0, rows.heights_round(k), rows.codes_round(k));
+    adds_up(rows.here.acc[k], codes, rows.accs_round(k))
 }
 
-/// The same, if sums are tested.
-fn keeps_sum(above: &Lanes, here: &Lanes, below: &Lanes, sums: Sums, k: usize) -> bool
-    requires inner { 1 ≤ k }
-    requires above_len { k + 1 < vec_len above.now.z }
-    requires here_len { k + 1 < vec_len here.now.z }
-    requires below_len { k + 1 < vec_len below.now.z }
-    ensures { IsTrue result → IfTested sums (IsTrue (seen_sum_at above.now here.now below.now k)) }
+/// Whether the accumulation is one more than that, if sums are tested.
+fn keeps_sum(rows: &LaneRows, sums: Sums, k: usize) -> bool
+    requires { IsInnerColumn rows.now k }
+    ensures { IsTrue result → IfTested sums (SeenAddsUpAt rows.now k) }
 {
     match sums {
         Sums::Untested => true,
-        Sums::Tested => seen_sum_holds(above, here, below, k),
+        Sums::Tested => seen_sum_holds(rows, k),
     }
 }
 
 /// Whether the rank isn't the no-data number, if ranks are checked.
-fn keeps_rank(here: &Lanes, rules: &Rules, k: usize) -> bool
-    requires here_len { k < vec_len here.now.z }
-    requires ranks { IfChecked rules.now.ranks (HasRanks here.now) }
-    ensures { IsTrue result → IfChecked rules.now.ranks (HasRankAt rules.now.nodata here.now k) }
+fn keeps_rank(row: &Lanes, rules: &Rules, k: usize) -> bool
+    requires inside { k < cols row.now }
+    requires ranks { IfChecked rules.now.ranks (HasRanks row.now) }
+    ensures { IsTrue result → IfChecked rules.now.ranks (HasRankAt rules.now.nodata row.now k) }
 {
+    let nodata = &rules.nodata;
     match rules.ranks {
         Ranks::Ignored => true,
-        Ranks::Checked => has_rank(here, &rules.nodata, k),
+        Ranks::Checked => HasRankTest { row, nodata }.passes(k),
     }
 }
 
+/// Whether no number but a rank is its product's no-data number.
+fn products_are_there(row: &Lanes, nodata: &NoData, k: usize) -> bool
+    requires { k < cols row.now }
+    ensures way { IsTrue result → HasWayAt nodata.now row.now k }
+    ensures counts { IsTrue result → HasCountsAt nodata.now row.now k }
+{
+    WayTest { row, nodata }.passes(k) && CountsTest { row, nodata }.passes(k)
+}
+
 /// Whether all these tests pass at a column that isn't the first nor the last.
-fn tests_pass(
-    above: &Lanes,
-    here: &Lanes,
-    below: &Lanes,
-    rules: &Rules,
-    sums: Sums,
-    k: usize,
-) -> bool
-    requires inner { 1 ≤ k }
-    requires above_len { k + 1 < vec_len above.now.z }
-    requires here_len { k + 1 < vec_len here.now.z }
-    requires below_len { k + 1 < vec_len below.now.z }
-    requires ranks { IfChecked rules.now.ranks (HaveRanks above.now here.now below.now) }
-    ensures { IsTrue result → FallsAt rules.now sums above.now here.now below.now k }
+fn tests_pass(rows: &LaneRows, rules: &Rules, sums: Sums, k: usize) -> bool
+    requires inner { IsInnerColumn rows.now k }
+    requires ranks { IfChecked rules.now.ranks (HaveRanks rows.now) }
+    ensures { IsTrue result → FallsAt rules.now sums rows.now k }
 {
     // Voids and outlets stop here.
-    here.z[k] != 0
-        && here.dir[k] != 0
-        && fall_holds(above, here, below, k)
-        && keeps_sum(above, here, below, sums, k)
-        && has_way(here, &rules.nodata, k)
-        && has_counts(here, &rules.nodata, k)
-        && keeps_rank(here, rules, k)
+    rows.here.z[k] != 0
+        && rows.here.dir[k] != 0
+        && fall_holds(rows, k)
+        && keeps_sum(rows, sums, k)
+        && products_are_there(rows.here, &rules.nodata, k)
+        && keeps_rank(rows.here, rules, k)
 }
 
 /// Whether the cell at a column lies on its ground and falls, by the tests with sums or without. Then its patch keeps
 /// the rules that are tried: if sums are untested, all of them but Accumulation.
-fn is_cleared_at(
-    above: &Lanes,
-    here: &Lanes,
-    below: &Lanes,
-    rules: &Rules,
-    sums: Sums,
-    k: usize,
-) -> bool
-    requires inside { k ≤ cols here.now }
-    ensures inner { IsTrue result → IsInner above.now here.now below.now k }
-    ensures kept { IsTrue result → (p : Patch) → IsShownRound above.now here.now below.now k p → IsKept (tested sums (tried rules.now)) p }
+fn is_cleared_at(rows: &LaneRows, rules: &Rules, sums: Sums, k: usize) -> bool
+    requires inside { k ≤ cols rows.now.here.now }
+    ensures inner { IsTrue result → IsInnerColumn rows.now k }
+    ensures kept { IsTrue result → (p : Patch) → IsShownRoundIn rows.now k p → IsKept (tested sums (tried rules.now)) p }
 {
-    let cols = here.cols();
-    if above.cols() != cols
-        || below.cols() != cols
-        || !ranks_are_there(above, here, below, rules.ranks)
-    {
+    if k == 0 || k >= rows.here.cols() - 1 || !rows.are_alike(rules.ranks) {
         return false;
     }
-    if k == 0 || k >= cols - 1 {
-        return false;
-    }
-    tests_pass(above, here, below, rules, sums, k)
+    tests_pass(rows, rules, sums, k)
 }
 
 /// Whether the cell at a column lies on its ground and falls. Then its patch in the three rows keeps every rule from
@@ -215,7 +165,8 @@ pub fn falls_at(above: &Lanes, here: &Lanes, below: &Lanes, rules: &Rules, k: us
     ensures inner { IsTrue result → IsInner above.now here.now below.now k }
     ensures kept { IsTrue result → (p : Patch) → IsShownRound above.now here.now below.now k p → IsKept (tried rules.now) p }
 {
-    is_cleared_at(above, here, below, rules, Sums::Tested, k)
+    let rows = LaneRows { above, here, below };
+    is_cleared_at(&rows, rules, Sums::Tested, k)
 }
 
 /// Whether the cell at a column lies on its ground and falls, where no accumulation is given. Then its patch in the
@@ -233,9 +184,10 @@ pub fn routed_falls_at(
     ensures inner { IsTrue result → IsInner above.now here.now below.now k }
     ensures kept { IsTrue result → (p : Patch) → IsShownRound above.now here.now below.now k p → IsKept (unsummed nodata.now) p }
 {
+    let rows = LaneRows { above, here, below };
     let rules = Rules {
         nodata: *nodata,
         ranks: Ranks::Ignored,
     };
-    is_cleared_at(above, here, below, &rules, Sums::Untested, k)
+    is_cleared_at(&rows, &rules, Sums::Untested, k)
 }

@@ -1,16 +1,18 @@
 //! How far along a row every rule of a patch holds.
 
-ghost use Rattle.std.specs.Prelude.{◌≡◌, ◌≤◌, ◌<◌, IsTrue, vec_len};
+ghost use Rattle.std.specs.Prelude.{◌≤◌, IsTrue};
 ghost use Rattle.drain_grid.specs.declared.patch.Patch.{Patch};
 ghost use Rattle.drain_kernel.specs.Checked.{IfChecked};
 ghost use Rattle.drain_kernel.specs.Columns.{Along, PassesAt};
 ghost use Rattle.drain_kernel.specs.Kept.{IsKept};
+ghost use Rattle.drain_kernel.specs.LaneRows.{HaveRanks, IsInnerColumn, IsShownIn, IsStretch};
 ghost use Rattle.drain_kernel.specs.Rules.{tested, tried, unsummed};
-ghost use Rattle.drain_kernel.specs.Shown.{cols, HaveRanks, IsInner, IsShown};
+ghost use Rattle.drain_kernel.specs.Shown.{cols, IsInner, IsShown};
 
-use crate::columns::is_inland;
+use crate::lane_rows::LaneRows;
 use crate::lanes::Lanes;
 use crate::rules::{Ranks, Rules, Sums};
+use crate::stretches::is_inland;
 use crate::strides::passed_strides;
 use drain_grid::NoData;
 
@@ -21,28 +23,14 @@ const BLOCK: usize = 64;
 /// How many are tested at once after a longer stretch failed.
 const GROUP: usize = 8;
 
-/// Whether all three rows have ranks, if ranks are checked.
-pub(crate) fn ranks_are_there(above: &Lanes, here: &Lanes, below: &Lanes, ranks: Ranks) -> bool
-    ensures { IsTrue result → IfChecked ranks (HaveRanks above.now here.now below.now) }
-{
-    match ranks {
-        Ranks::Ignored => true,
-        Ranks::Checked => above.has_ranks() && here.has_ranks() && below.has_ranks(),
-    }
-}
-
 /// The first column from this one on whose cell or a neighbour has no data, if one is before `end`, else `end`.
-fn inland_until(above: &Lanes, here: &Lanes, below: &Lanes, from: usize, end: usize) -> usize
-    requires inner { 1 ≤ from }
-    requires ordered { from ≤ end }
-    requires above_len { end < vec_len above.now.z }
-    requires here_len { end < vec_len here.now.z }
-    requires below_len { end < vec_len below.now.z }
+fn inland_until(rows: &LaneRows, from: usize, end: usize) -> usize
+    requires { IsStretch rows.now from end }
     ensures forward { from ≤ result }
     ensures within { result ≤ end }
 {
     let mut k = from;
-    while k < end && is_inland(above, here, below, k) {
+    while k < end && is_inland(rows, k) {
         k += 1;
     }
     k
@@ -50,67 +38,41 @@ fn inland_until(above: &Lanes, here: &Lanes, below: &Lanes, from: usize, end: us
 
 /// The columns from one up to another, before the last, in strides: of 64; if one fails, of what lies before the next
 /// void, then of 8 of that, and then one by one.
-fn passed_until(
-    above: &Lanes,
-    here: &Lanes,
-    below: &Lanes,
-    rules: &Rules,
-    sums: Sums,
-    from: usize,
-    end: usize,
-) -> usize
-    requires inner { 1 ≤ from }
-    requires ordered { from ≤ end }
-    requires inside { end < vec_len here.now.z }
-    requires above_len { vec_len above.now.z ≡ vec_len here.now.z }
-    requires below_len { vec_len below.now.z ≡ vec_len here.now.z }
-    requires ranks { IfChecked rules.now.ranks (HaveRanks above.now here.now below.now) }
+fn passed_until(rows: &LaneRows, rules: &Rules, sums: Sums, from: usize, end: usize) -> usize
+    requires stretch { IsStretch rows.now from end }
+    requires ranks { IfChecked rules.now.ranks (HaveRanks rows.now) }
     ensures forward { from ≤ result }
     ensures within { result ≤ end }
-    ensures passed { Along from result (PassesAt rules.now sums above.now here.now below.now) }
+    ensures passed { Along from result (PassesAt rules.now sums rows.now) }
 {
-    let by_blocks = passed_strides(above, here, below, rules, sums, from, end, BLOCK);
+    let by_blocks = passed_strides(rows, rules, sums, from, end, BLOCK);
     let reach = by_blocks + BLOCK.min(end - by_blocks);
-    let shore = inland_until(above, here, below, by_blocks, reach);
-    let ashore = passed_strides(above, here, below, rules, sums, by_blocks, shore, BLOCK);
-    let by_groups = passed_strides(above, here, below, rules, sums, ashore, shore, GROUP);
-    passed_strides(above, here, below, rules, sums, by_groups, shore, 1)
+    let shore = inland_until(rows, by_blocks, reach);
+    let ashore = passed_strides(rows, rules, sums, by_blocks, shore, BLOCK);
+    let by_groups = passed_strides(rows, rules, sums, ashore, shore, GROUP);
+    passed_strides(rows, rules, sums, by_groups, shore, 1)
 }
 
 /// A column from this one on, at most `until`, before which each cell keeps the rules that are tried: if sums are
 /// untested, all of them but Accumulation.
-fn cleared_until(
-    above: &Lanes,
-    here: &Lanes,
-    below: &Lanes,
-    rules: &Rules,
-    sums: Sums,
-    from: usize,
-    until: usize,
-) -> usize
+fn cleared_until(rows: &LaneRows, rules: &Rules, sums: Sums, from: usize, until: usize) -> usize
     requires ordered { from ≤ until }
-    requires inside { until ≤ cols here.now }
+    requires inside { until ≤ cols rows.now.here.now }
     ensures forward { from ≤ result }
     ensures within { result ≤ until }
-    ensures inner { Along from result (IsInner above.now here.now below.now) }
-    ensures kept { Along from result (λ k. (p : Patch) → IsShown above.now here.now below.now k p → IsKept (tested sums (tried rules.now)) p) }
+    ensures inner { Along from result (IsInnerColumn rows.now) }
+    ensures kept { Along from result (λ k. (p : Patch) → IsShownIn rows.now k p → IsKept (tested sums (tried rules.now)) p) }
 {
-    let cols = here.cols();
-    if above.cols() != cols
-        || below.cols() != cols
-        || !ranks_are_there(above, here, below, rules.ranks)
-    {
-        return from;
-    }
-    if from == 0 || from == cols {
+    let cols = rows.here.cols();
+    if from == 0 || from == cols || !rows.are_alike(rules.ranks) {
         return from;
     }
     // A row of voids stops here.
     let end = until.min(cols - 1);
-    if from >= end || !is_inland(above, here, below, from) {
+    if from >= end || !is_inland(rows, from) {
         return from;
     }
-    passed_until(above, here, below, rules, sums, from, end)
+    passed_until(rows, rules, sums, from, end)
 }
 
 /// A column to which cells can be cleared from this one on, at most `until`. At each column before it the patch of the
@@ -132,7 +94,8 @@ pub fn kept_until(
     ensures inner { Along from result (IsInner above.now here.now below.now) }
     ensures kept { Along from result (λ k. (p : Patch) → IsShown above.now here.now below.now k p → IsKept (tried rules.now) p) }
 {
-    cleared_until(above, here, below, rules, Sums::Tested, from, until)
+    let rows = LaneRows { above, here, below };
+    cleared_until(&rows, rules, Sums::Tested, from, until)
 }
 
 /// A column to which cells can be cleared from this one on, at most `until`, where no accumulation is given. At each
@@ -154,9 +117,10 @@ pub fn routed_until(
     ensures inner { Along from result (IsInner above.now here.now below.now) }
     ensures kept { Along from result (λ k. (p : Patch) → IsShown above.now here.now below.now k p → IsKept (unsummed nodata.now) p) }
 {
+    let rows = LaneRows { above, here, below };
     let rules = Rules {
         nodata: *nodata,
         ranks: Ranks::Ignored,
     };
-    cleared_until(above, here, below, &rules, Sums::Untested, from, until)
+    cleared_until(&rows, &rules, Sums::Untested, from, until)
 }

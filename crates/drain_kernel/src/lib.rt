@@ -3,9 +3,11 @@
 
 mod around;
 mod cells;
+mod column_test;
 mod columns;
 pub mod falls;
 pub mod kept;
+mod lane_rows;
 pub mod lanes;
 pub mod laws;
 mod narrowing;

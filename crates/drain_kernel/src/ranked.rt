@@ -1,67 +1,40 @@
-//! The tests of ranks, at a column and along columns.
+//! The tests of ranks at a column.
 
-ghost use Rattle.std.specs.Prelude.{◌≡◌, ◌≢◌, ◌≤◌, ◌<◌, ◌+◌, IsTrue, pos, vec_len};
-ghost use Rattle.drain_kernel.specs.Checked.{IfChecked};
-ghost use Rattle.drain_kernel.specs.Columns.{Along, HasRankAt, RanksPassAt, is_ranked_at};
-ghost use Rattle.drain_kernel.specs.Tests.{falls_or_nears};
+ghost use Rattle.std.specs.Prelude.{◌≡◌, ◌≢◌, ◌<◌, IsTrue, pos, vec_len};
+ghost use Rattle.drain_kernel.specs.Columns.{HasRankAt, IsRankedAt};
+ghost use Rattle.drain_kernel.specs.LaneRows.{HaveRanks, IsInnerColumn};
+ghost use Rattle.drain_kernel.specs.Tests.{is_ranked};
 
 use crate::around::{around, named};
 use crate::cells::differs;
+use crate::column_test::ColumnTest;
+use crate::lane_rows::LaneRows;
 use crate::lanes::Lanes;
 use crate::wide::{around_wide, named_wide};
 use drain_grid::NoData;
 
-/// Whether the code leads to a smaller conditioned elevation, or to a smaller rank, by ranks of 16 bits.
+/// Whether the code leads to a smaller conditioned elevation, or to a smaller capped rank.
 #[inline(always)]
-#[tactic(auto, unfolding(crate::specs::Tests::falls_or_nears))]
-fn falls_or_nears_small(con: u16, code: u16, cons: [u16; 8], rank: u16, ranks: [u16; 8]) -> bool
-    ensures { result ≡ falls_or_nears con code cons rank ranks }
+#[tactic(auto, unfolding(crate::specs::Tests::is_ranked))]
+fn is_ranked_by_capped(
+    con: u16,
+    code: u16,
+    cons: [u16; 8],
+    capped_rank: u16,
+    capped_ranks: [u16; 8],
+) -> bool
+    ensures { result ≡ is_ranked con code cons capped_rank capped_ranks }
 {
-    (named(code, cons) < con) | (named(code, ranks) < rank)
+    (named(code, cons) < con) | (named(code, capped_ranks) < capped_rank)
 }
 
-/// The same by ranks of 32 bits.
+/// Whether the code leads to a smaller conditioned elevation, or to a smaller rank.
 #[inline(always)]
-#[tactic(auto, unfolding(crate::specs::Tests::falls_or_nears))]
-fn falls_or_nears(con: u16, code: u16, cons: [u16; 8], rank: u32, ranks: [u32; 8]) -> bool
-    ensures { result ≡ falls_or_nears con code cons rank ranks }
+#[tactic(auto, unfolding(crate::specs::Tests::is_ranked))]
+fn is_ranked(con: u16, code: u16, cons: [u16; 8], rank: u32, ranks: [u32; 8]) -> bool
+    ensures { result ≡ is_ranked con code cons rank ranks }
 {
     (named(code, cons) < con) | (named_wide(u32::from(code), ranks) < rank)
-}
-
-/// Whether the code at a column leads to a smaller conditioned elevation, or to a smaller rank that is below 65535.
-#[inline(always)]
-#[tactic(auto, using(crate::proofs::SmallRanks::small_rank_at))]
-fn is_ranked_small(above: &Lanes, here: &Lanes, below: &Lanes, k: usize) -> bool
-    requires inner { 1 ≤ k }
-    requires above_len { k + 1 < vec_len above.now.z }
-    requires here_len { k + 1 < vec_len here.now.z }
-    requires below_len { k + 1 < vec_len below.now.z }
-    requires above_ranks { k + 1 < vec_len above.now.rnk }
-    requires here_ranks { k + 1 < vec_len here.now.rnk }
-    requires below_ranks { k + 1 < vec_len below.now.rnk }
-    ensures { IsTrue result → IsTrue (is_ranked_at above.now here.now below.now k) }
-{
-    let cons = around(&above.con, &here.con, &below.con, k);
-    let ranks = around(&above.capped_rnk, &here.capped_rnk, &below.capped_rnk, k);
-    falls_or_nears_small(here.con[k], here.dir[k], cons, here.capped_rnk[k], ranks)
-}
-
-/// Whether it leads to a smaller conditioned elevation, or to a smaller rank.
-#[inline(always)]
-fn is_ranked(above: &Lanes, here: &Lanes, below: &Lanes, k: usize) -> bool
-    requires inner { 1 ≤ k }
-    requires above_len { k + 1 < vec_len above.now.z }
-    requires here_len { k + 1 < vec_len here.now.z }
-    requires below_len { k + 1 < vec_len below.now.z }
-    requires above_ranks { k + 1 < vec_len above.now.rnk }
-    requires here_ranks { k + 1 < vec_len here.now.rnk }
-    requires below_ranks { k + 1 < vec_len below.now.rnk }
-    ensures { result ≡ is_ranked_at above.now here.now below.now k }
-{
-    let cons = around(&above.con, &here.con, &below.con, k);
-    let ranks = around_wide(&above.rnk, &here.rnk, &below.rnk, k);
-    falls_or_nears(here.con[k], here.dir[k], cons, here.rnk[k], ranks)
 }
 
 /// Whether a rank isn't the no-data number.
@@ -72,65 +45,74 @@ fn rnk_differs(rnk: u32, nodata: &NoData) -> bool
     differs(rnk, nodata.rnk)
 }
 
-/// Whether the rank at a column isn't.
-#[inline(always)]
-pub(crate) fn has_rank(here: &Lanes, nodata: &NoData, k: usize) -> bool
-    requires here_ranks { k < vec_len here.now.rnk }
-    ensures { IsTrue result → HasRankAt nodata.now here.now k }
-{
-    rnk_differs(here.rnk[k], nodata)
+/// The code leads to a smaller conditioned elevation, or to a smaller rank, by capped ranks.
+#[derive(Drop)]
+pub struct CappedRanksTest<'a>(pub &'a LaneRows<'a>);
+
+impl ColumnTest for CappedRanksTest<'_> {
+    ghost CanTest = { λ test k. IsInnerColumn test.0.now k × HaveRanks test.0.now };
+
+    ghost Passed = { λ test. IsRankedAt test.0.now };
+
+    #[inline(always)]
+    #[tactic(auto, using(crate::proofs::CappedRanks::capped_rank_at))]
+    fn passes(&self, k: usize) -> bool {
+        let rows = self.0;
+        let here = rows.here;
+        let capped_ranks = around(
+            &rows.above.capped_rnk,
+            &here.capped_rnk,
+            &rows.below.capped_rnk,
+            k,
+        );
+        is_ranked_by_capped(
+            here.con[k],
+            here.dir[k],
+            rows.cons_round(k),
+            here.capped_rnk[k],
+            capped_ranks,
+        )
+    }
 }
 
-/// Whether each code leads to a smaller conditioned elevation, or to a smaller rank that is below 65535.
-#[inline(never)]
-pub fn all_ranked_small(above: &Lanes, here: &Lanes, below: &Lanes, from: usize, end: usize) -> bool
-    requires inner { 1 ≤ from }
-    requires ordered { from ≤ end }
-    requires above_len { end < vec_len above.now.z }
-    requires here_len { end < vec_len here.now.z }
-    requires below_len { end < vec_len below.now.z }
-    requires above_ranks { end < vec_len above.now.rnk }
-    requires here_ranks { end < vec_len here.now.rnk }
-    requires below_ranks { end < vec_len below.now.rnk }
-    ensures { IsTrue result → Along from end (λ k. IsTrue (is_ranked_at above.now here.now below.now k)) }
-{
-    let mut all = true;
-    for k in from..end {
-        all &= is_ranked_small(above, here, below, k);
+/// The code leads to a smaller conditioned elevation, or to a smaller rank, however large the ranks are.
+#[derive(Drop)]
+pub struct RanksTest<'a>(pub &'a LaneRows<'a>);
+
+impl ColumnTest for RanksTest<'_> {
+    ghost CanTest = { λ test k. IsInnerColumn test.0.now k × HaveRanks test.0.now };
+
+    ghost Passed = { λ test. IsRankedAt test.0.now };
+
+    #[inline(always)]
+    fn passes(&self, k: usize) -> bool {
+        let rows = self.0;
+        let here = rows.here;
+        let ranks = around_wide(&rows.above.rnk, &here.rnk, &rows.below.rnk, k);
+        is_ranked(
+            here.con[k],
+            here.dir[k],
+            rows.cons_round(k),
+            here.rnk[k],
+            ranks,
+        )
     }
-    all
 }
 
-/// Whether each code leads to a smaller conditioned elevation, or to a smaller rank.
-#[inline(never)]
-pub fn all_ranked(above: &Lanes, here: &Lanes, below: &Lanes, from: usize, end: usize) -> bool
-    requires inner { 1 ≤ from }
-    requires ordered { from ≤ end }
-    requires above_len { end < vec_len above.now.z }
-    requires here_len { end < vec_len here.now.z }
-    requires below_len { end < vec_len below.now.z }
-    requires above_ranks { end < vec_len above.now.rnk }
-    requires here_ranks { end < vec_len here.now.rnk }
-    requires below_ranks { end < vec_len below.now.rnk }
-    ensures { IsTrue result → Along from end (λ k. IsTrue (is_ranked_at above.now here.now below.now k)) }
-{
-    let mut all = true;
-    for k in from..end {
-        all &= is_ranked(above, here, below, k);
-    }
-    all
+/// The rank isn't its no-data number.
+#[derive(Drop)]
+pub struct HasRankTest<'a> {
+    pub row: &'a Lanes,
+    pub nodata: &'a NoData,
 }
 
-/// Whether no rank is the no-data number.
-#[inline(never)]
-pub fn all_have_ranks(here: &Lanes, nodata: &NoData, from: usize, end: usize) -> bool
-    requires ordered { from ≤ end }
-    requires here_ranks { end < vec_len here.now.rnk }
-    ensures { IsTrue result → Along from end (HasRankAt nodata.now here.now) }
-{
-    let mut all = true;
-    for k in from..end {
-        all &= has_rank(here, nodata, k);
+impl ColumnTest for HasRankTest<'_> {
+    ghost CanTest = { λ test k. k < vec_len test.row.now.rnk };
+
+    ghost Passed = { λ test. HasRankAt test.nodata.now test.row.now };
+
+    #[inline(always)]
+    fn passes(&self, k: usize) -> bool {
+        rnk_differs(self.row.rnk[k], self.nodata)
     }
-    all
 }

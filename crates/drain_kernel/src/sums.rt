@@ -3,9 +3,9 @@
 ghost use Rattle.std.specs.Prelude.{◌≡◌, ◌<◌, ◌+◌, ◌^◌, IsTrue};
 ghost use Rattle.drain_kernel.specs.Tests.{adds_up, passed_on};
 
-/// What a neighbour passes on.
+/// What a neighbour passes on, of a capped accumulation.
 #[inline(always)]
-fn small_passed_on(code: u16, back: u16, acc: u16) -> u16
+fn capped_passed_on(code: u16, back: u16, acc: u16) -> u16
     ensures { result ≡ passed_on code back acc }
 {
     if code == back { acc } else { 0 }
@@ -19,35 +19,35 @@ fn capped_sum(first: u16, second: u16) -> u16
     first.saturating_add(second)
 }
 
-/// The rule of the accumulation, at a cell where all have data, if its number is below 65535.
+/// The rule of the accumulation, at a cell where all have data, by capped numbers: the cell's own is below the cap.
 #[inline(always)]
 #[tactic(auto, unfolding(crate::specs::Tests::adds_up))]
-pub fn adds_up_small(acc: u16, codes: [u16; 8], accs: [u16; 8]) -> bool
-    ensures small { IsTrue result → acc < 65535 }
-    ensures sum { IsTrue result → IsTrue (adds_up acc codes accs) }
+pub fn capped_adds_up(capped_acc: u16, codes: [u16; 8], capped_accs: [u16; 8]) -> bool
+    ensures below_cap { IsTrue result → capped_acc < 65535 }
+    ensures sum { IsTrue result → IsTrue (adds_up capped_acc codes capped_accs) }
 {
     let first = capped_sum(
         capped_sum(
             capped_sum(
-                small_passed_on(codes[0], 16, accs[0]),
-                small_passed_on(codes[1], 32, accs[1]),
+                capped_passed_on(codes[0], 16, capped_accs[0]),
+                capped_passed_on(codes[1], 32, capped_accs[1]),
             ),
-            small_passed_on(codes[2], 64, accs[2]),
+            capped_passed_on(codes[2], 64, capped_accs[2]),
         ),
-        small_passed_on(codes[3], 128, accs[3]),
+        capped_passed_on(codes[3], 128, capped_accs[3]),
     );
     let second = capped_sum(
         capped_sum(
             capped_sum(
-                small_passed_on(codes[4], 1, accs[4]),
-                small_passed_on(codes[5], 2, accs[5]),
+                capped_passed_on(codes[4], 1, capped_accs[4]),
+                capped_passed_on(codes[5], 2, capped_accs[5]),
             ),
-            small_passed_on(codes[6], 4, accs[6]),
+            capped_passed_on(codes[6], 4, capped_accs[6]),
         ),
-        small_passed_on(codes[7], 8, accs[7]),
+        capped_passed_on(codes[7], 8, capped_accs[7]),
     );
     let all = capped_sum(capped_sum(first, second), 1);
-    (acc < 65535) & (acc == all)
+    (capped_acc < 65535) & (capped_acc == all)
 }
 
 /// What a neighbour passes on, however large it is.

@@ -1,4 +1,4 @@
--- Sums of 16 bits: below the cap they are those of the numbers.
+-- Sums of capped numbers: below the cap they are those of the numbers.
 use Rattle.std.proofs.Common.{◌≡◌, ℕ, ◌+◌, ◌<◌, Bool, true, false, ◌==◌, min, List, IsTrue, slice_index, refl, arith, if◌then◌else◌}
 use Rattle.std.proofs.lemmas.Bool.Decides.{Decides-eqb}
 use Rattle.drain_kernel.specs.Around.{around_in}
@@ -30,19 +30,19 @@ total acc small a b c d e f g h a2 b2 c2 d2 e2 f2 g2 h2 capped less sum is_a is_
     let h_is = is_h (omega (arith, less, sum)) in
     omega (arith, capped, less, sum, a_is, b_is, c_is, d_is, e_is, f_is, g_is, h_is)
 
-small_sum : (acc small : ℕ) (codes numbers capped : List ℕ) → small ≡ min acc 65535 → EachCapped numbers capped → small < 65535 →
+capped_sum_gives : (acc small : ℕ) (codes numbers capped : List ℕ) → small ≡ min acc 65535 → EachCapped numbers capped → small < 65535 →
     IsTrue (adds_up small codes capped) → IsTrue (adds_up acc codes numbers)
 unfolding adds_up
-small_sum acc small codes numbers capped is each less h =
+capped_sum_gives acc small codes numbers capped is each less h =
     (Decides-eqb _ _).1 (total acc small _ _ _ _ _ _ _ _ _ _ _ _ _ _ _ _ is less ((Decides-eqb _ _).0 h)
     (pass (slice_index codes 0) 16 _ _ each.at_0) (pass (slice_index codes 1) 32 _ _ each.at_1) (pass (slice_index codes 2) 64 _ _ each.at_2)
     (pass (slice_index codes 3) 128 _ _ each.at_3) (pass (slice_index codes 4) 1 _ _ each.at_4) (pass (slice_index codes 5) 2 _ _ each.at_5)
     (pass (slice_index codes 6) 4 _ _ each.at_6) (pass (slice_index codes 7) 8 _ _ each.at_7))
 
 -- at a column of three rows
-pub small_sum_at : (above here below above2 here2 below2 codes : List ℕ) (a h b k : ℕ) → AreCapped above above2 a → AreCapped here here2 h →
+pub capped_sum_at : (above here below above2 here2 below2 codes : List ℕ) (a h b k : ℕ) → AreCapped above above2 a → AreCapped here here2 h →
     AreCapped below below2 b → k + 1 < a → k + 1 < h → k + 1 < b → slice_index here2 k < 65535 →
     IsTrue (adds_up (slice_index here2 k) codes (around_in above2 here2 below2 k)) → IsTrue (adds_up (slice_index here k) codes (around_in above here below k))
-small_sum_at above here below above2 here2 below2 codes a h b k above_is here_is below_is in_above in_here in_below =
-    small_sum (slice_index here k) (slice_index here2 k) codes (around_in above here below k) (around_in above2 here2 below2 k)
+capped_sum_at above here below above2 here2 below2 codes a h b k above_is here_is below_is in_above in_here in_below =
+    capped_sum_gives (slice_index here k) (slice_index here2 k) codes (around_in above here below k) (around_in above2 here2 below2 k)
     (here_is k (omega (arith, in_here))) (around_capped above here below above2 here2 below2 a h b k above_is here_is below_is in_above in_here in_below)

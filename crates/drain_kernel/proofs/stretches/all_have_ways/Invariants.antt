@@ -1,7 +1,0 @@
-use Rattle.std.proofs.Common.{IsTrue}
-use Rattle.drain_kernel.specs.Columns.{Along, HasWayAt}
-use Rattle.drain_kernel.proofs.stretches.all_have_ways.Given as goal
-
--- the columns that were passed pass the test
-abbrev pub invariant-loop-k : goal.invariant-loop-k
-invariant-loop-k l = (IsTrue l.all → Along l.from l.k (HasWayAt l.nodata l.here))

@@ -1,7 +1,0 @@
-use Rattle.std.proofs.Common.{IsTrue}
-use Rattle.drain_kernel.specs.Columns.{Along, adds_up_at}
-use Rattle.drain_kernel.proofs.stretches.all_sums.Given as goal
-
--- the columns that were passed pass the test
-abbrev pub invariant-loop-k : goal.invariant-loop-k
-invariant-loop-k l = (IsTrue l.all → Along l.from l.k (λ k. IsTrue (adds_up_at l.above l.here l.below k)))

@@ -1,0 +1,87 @@
+//! A row of lanes with the rows above and below it, and the numbers round a column.
+
+use crate::around::around;
+use crate::lanes::Lanes;
+use crate::rules::Ranks;
+use crate::wide::around_wide;
+
+/// A row of lanes, and those above and below it.
+#[derive(Clone, Copy)]
+pub(crate) struct LaneRows<'a> {
+    pub(crate) above: &'a Lanes,
+    pub(crate) here: &'a Lanes,
+    pub(crate) below: &'a Lanes,
+}
+
+impl LaneRows<'_> {
+    ghost use Rattle.std.specs.Prelude.{◌≡◌, IsTrue};
+    ghost use Rattle.drain_kernel.specs.Checked.{IfChecked};
+    ghost use Rattle.drain_kernel.specs.Columns.{accs_round, codes_round, cons_round, heights_round, labels_round};
+    ghost use Rattle.drain_kernel.specs.LaneRows.{AreAsLong, HaveRanks, IsInnerColumn};
+
+    /// Whether all three rows have ranks, if ranks are checked.
+    fn have_ranks(&self, ranks: Ranks) -> bool
+        ensures { IsTrue result → IfChecked ranks (HaveRanks self.now) }
+    {
+        match ranks {
+            Ranks::Ignored => true,
+            Ranks::Checked => {
+                self.above.has_ranks() && self.here.has_ranks() && self.below.has_ranks()
+            }
+        }
+    }
+
+    /// Whether the rows have as many columns, and ranks if these are checked.
+    pub(crate) fn are_alike(&self, ranks: Ranks) -> bool
+        ensures lengths { IsTrue result → AreAsLong self.now }
+        ensures ranks { IsTrue result → IfChecked ranks (HaveRanks self.now) }
+    {
+        let cols = self.here.cols();
+        self.above.cols() == cols && self.below.cols() == cols && self.have_ranks(ranks)
+    }
+
+    /// The elevations of the eight neighbours of a column; 0 at a void.
+    #[inline(always)]
+    pub(crate) fn heights_round(&self, k: usize) -> [u16; 8]
+        requires { IsInnerColumn self.now k }
+        ensures { result ≡ heights_round self.now k }
+    {
+        around(&self.above.z, &self.here.z, &self.below.z, k)
+    }
+
+    /// Their conditioned elevations.
+    #[inline(always)]
+    pub(crate) fn cons_round(&self, k: usize) -> [u16; 8]
+        requires { IsInnerColumn self.now k }
+        ensures { result ≡ cons_round self.now k }
+    {
+        around(&self.above.con, &self.here.con, &self.below.con, k)
+    }
+
+    /// Their codes.
+    #[inline(always)]
+    pub(crate) fn codes_round(&self, k: usize) -> [u16; 8]
+        requires { IsInnerColumn self.now k }
+        ensures { result ≡ codes_round self.now k }
+    {
+        around(&self.above.dir, &self.here.dir, &self.below.dir, k)
+    }
+
+    /// Their accumulations.
+    #[inline(always)]
+    pub(crate) fn accs_round(&self, k: usize) -> [u32; 8]
+        requires { IsInnerColumn self.now k }
+        ensures { result ≡ accs_round self.now k }
+    {
+        around_wide(&self.above.acc, &self.here.acc, &self.below.acc, k)
+    }
+
+    /// Their labels.
+    #[inline(always)]
+    pub(crate) fn labels_round(&self, k: usize) -> [u32; 8]
+        requires { IsInnerColumn self.now k }
+        ensures { result ≡ labels_round self.now k }
+    {
+        around_wide(&self.above.bas, &self.here.bas, &self.below.bas, k)
+    }
+}
