@@ -150,7 +150,10 @@ fn is_cleared_at(rows: &LaneRows, rules: &Rules, sums: Sums, k: usize) -> bool
     ensures inner { IsTrue result → IsInnerColumn rows.now k }
     ensures kept { IsTrue result → (p : Patch) → IsShownRoundIn rows.now k p → IsKept (tested sums (tried rules.now)) p }
 {
-    if k == 0 || k >= rows.here.cols() - 1 || !rows.are_alike(rules.ranks) {
+    if !rows.are_alike(rules.ranks) {
+        return false;
+    }
+    if k == 0 || k >= rows.here.cols() - 1 {
         return false;
     }
     tests_pass(rows, rules, sums, k)

@@ -63,8 +63,11 @@ fn cleared_until(rows: &LaneRows, rules: &Rules, sums: Sums, from: usize, until:
     ensures inner { Along from result (IsInnerColumn rows.now) }
     ensures kept { Along from result (λ k. (p : Patch) → IsShownIn rows.now k p → IsKept (tested sums (tried rules.now)) p) }
 {
+    if !rows.are_alike(rules.ranks) {
+        return from;
+    }
     let cols = rows.here.cols();
-    if from == 0 || from == cols || !rows.are_alike(rules.ranks) {
+    if from == 0 || from == cols {
         return from;
     }
     // A row of voids stops here.
