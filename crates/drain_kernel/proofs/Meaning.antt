@@ -89,7 +89,7 @@ of_unranked nodata here n around passed SharedLabel = tt
 
 -- what the tests of ranks give besides
 record Ranked (nodata : NoDataNumbers) (here : Numbers) (n : Direction → Numbers) : Type 0 where
-  nears : IsRanked here n
+  leads : IsRanked here n
   differs : here.rnk ≢ nodata.rnk
 
 pub is_complete : (nodata : NoDataNumbers) (here : Numbers) → AreComplete nodata here.con here.dir here.acc here.bas → here.rnk ≢ nodata.rnk →
@@ -114,7 +114,7 @@ of_check nodata here n around passed ranked SpillRank = tt
 of_check nodata here n around passed ranked NotLeast = passed.surface.not_least
 of_check nodata here n around passed ranked Slope = passed.direction.slope
 of_check nodata here n around passed ranked OutletCode = λ opened. absurd (not_open here n around passed.inland opened)
-of_check nodata here n around passed ranked FlatStep = flat_step_from here n around passed.inland passed.direction.level_step ranked.nears
+of_check nodata here n around passed ranked FlatStep = flat_step_from here n around passed.inland passed.direction.level_step ranked.leads
 of_check nodata here n around passed ranked Accumulation = tt
 of_check nodata here n around passed ranked Label = passed.label
 of_check nodata here n around passed ranked SharedLabel = tt
@@ -158,7 +158,7 @@ ranks_from Checked nodata rows k p shown known have passes =
     let has : (d : Direction) → HasRanks (row_beside above here below d) = of_each (λ d. HasRanks (row_beside above here below d))
     have.here_has have.below_has have.below_has have.below_has have.here_has have.above_has have.above_has have.above_has in
     record {
-      nears = ranked_from (numbers_in here k p.here) (numbers_beside above here below k p shown) (slice_index here.rnk.items k)
+      leads = ranked_from (numbers_in here k p.here) (numbers_beside above here below k p shown) (slice_index here.rnk.items k)
           (λ d. slice_index (row_beside above here below d).rnk.items (col_beside k d)) own
           (λ d. (shown.around_is d).1.shown.rnk_is (has d) (known.beside_has d)) passes.ranked;
       differs = subst (λ r. r ≢ nodata.rnk) (sym own) passes.has_rank;

@@ -3,12 +3,12 @@ use Rattle.std.proofs.Common.{◌≡◌, ℕ, ◌+◌, ◌-◌, ◌*◌, ◌/◌
 use Rattle.drain_kernel.specs.Around.{is_straight_code, least_across_in, least_straight_in, named_in}
 use Rattle.drain_kernel.specs.Tests.{falls_steepest, square_of_drop}
 
--- where the drop is not far, both caps leave it as it is
+-- where the drop is near, both bounds leave it as it is
 pub near_square : (con low : ℕ) → con - low ≤ 255 → min (con - low) 255 * min (con - low) 255 ≡ square_of_drop con low
 near_square con low near =
-    let short : min (con - low) 255 ≡ con - low = omega (arith, near) in
-    let long : min (con - low) 65535 ≡ con - low = omega (arith, near) in
-    ap (λ d. d * d) (short ∙ sym long)
+    let near_is : min (con - low) 255 ≡ con - low = omega (arith, near) in
+    let drop_is : min (con - low) 65535 ≡ con - low = omega (arith, near) in
+    ap (λ d. d * d) (near_is ∙ sym drop_is)
 
 -- the test with these numbers in it
 pub falls_with : (con code : ℕ) (cons : List ℕ) (next straight across along aslant : ℕ) (s s2 : Bool) → next ≡ named_in code cons →

@@ -172,21 +172,21 @@ pub ranked_from : (here : Numbers) (n : Direction → Numbers) (rank : ℕ) (ran
 unfolding is_ranked
 ranked_from here n rank ranks own others h = λ d named. elim (or_cases _ _ h) [
   | inl falls ↦ inl (subst (λ x. x < here.con) (named_is (λ e. (n e).con) here.dir d named) ((Decides-ltb _ _).0 falls))
-  | inr nears ↦ inr (lt_of_ranks (n d).rnk here.rnk (ranks d) rank (others d) own
-      (subst (λ x. x < rank) (named_is ranks here.dir d named) ((Decides-ltb _ _).0 nears)))
+  | inr lower ↦ inr (lt_of_ranks (n d).rnk here.rnk (ranks d) rank (others d) own
+      (subst (λ x. x < rank) (named_is ranks here.dir d named) ((Decides-ltb _ _).0 lower)))
 ]
 
 -- so a step along the flat leads to a smaller rank
 pub flat_step_from : (here : Numbers) (n : Direction → Numbers) (around : List (Option Values)) → IsInland here n around →
     LevelStepHolds (patch_of here around) → IsRanked here n → FlatStepHolds (patch_of here around)
-flat_step_from here n around known holds nears = λ closed none.
+flat_step_from here n around known holds ranked = λ closed none.
     let found = holds closed none in
     let d = found.0 in
     let v = found.1 in
     let step = found.2 in
     let nearer : v.con ≡ lowered here.con → v.rnk <ℤ here.rnk =
     of_beside here n around known d v (λ m. m.con ≡ lowered here.con → m.rnk <ℤ here.rnk)
-    (λ level. elim (nears d step.named) [
+    (λ level. elim (ranked d step.named) [
       | inl less ↦ absurd (not_less (n d).con here.con level less)
       | inr less ↦ less
     ]) step.beside in

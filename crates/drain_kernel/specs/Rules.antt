@@ -18,7 +18,7 @@ rules_with Ignored nodata = unranked nodata
 abbrev pub tried : Rules → Profile
 tried rules = rules_with rules.ranks rules.nodata
 
--- the same rules, of which Accumulation requires nothing
+-- these rules, but Accumulation requires nothing
 abbrev pub without_sums : Profile → Profile
 without_sums profile p Accumulation = Unit {0}
 without_sums profile p r = profile p r

@@ -76,7 +76,7 @@ pub record IsShownRound (above here below : Lanes) (k : ℕ) (p : Patch) : Type 
   pub cell : Shows here k p.here
   pub around_is : (d : Direction) → (v : Values) × IsShownAt above here below k p d v
 
--- the same of a cell that is not listed as a sink
+-- the patch round a column with eight neighbours, of a cell that is not listed as a sink
 pub record IsShown (above here below : Lanes) (k : ℕ) (p : Patch) : Type 0 where
   pub cell : Shows here k p.here
   pub not_listed : p.here.sink ≡ false

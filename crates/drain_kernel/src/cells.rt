@@ -5,7 +5,6 @@ ghost use Rattle.drain_kernel.specs.Tests.{keeps_direction, keeps_label, keeps_s
 
 use crate::around::{is_direction, is_straight, least_across, least_straight, named};
 use crate::narrowing::{is_lane, is_short_lane, lane, short_lane};
-use crate::wide::named_wide;
 use drain_grid::NoData;
 
 /// The greatest height in a lane, where heights are 32768 more than they are.
@@ -71,7 +70,7 @@ pub fn keeps_direction(con: u16, code: u16, cons: [u16; 8]) -> bool
 pub fn keeps_label(code: u16, label: u32, labels: [u32; 8]) -> bool
     ensures { result ≡ keeps_label code label labels }
 {
-    named_wide(u32::from(code), labels) == label
+    named(u32::from(code), labels) == label
 }
 
 /// Whether a lane isn't this number, converted to a lane first: so lanes are compared with lanes, and a loop converts
@@ -83,7 +82,7 @@ pub fn differs(here: u32, number: i64) -> bool
     !is_lane(number) | (here != lane(number))
 }
 
-/// The same of a lane of 16 bits.
+/// Whether a short lane isn't this number, converted to a short lane first.
 #[inline(always)]
 fn differs_short(here: u16, number: i64) -> bool
     ensures { IsTrue result → pos here ≢ number }
@@ -99,7 +98,7 @@ pub fn con_differs(con: u16, nodata: &NoData) -> bool
     differs_short(con, nodata.con + 32768)
 }
 
-/// The same of a direction.
+/// Whether a direction isn't its no-data number.
 #[inline(always)]
 pub fn dir_differs(dir: u16, nodata: &NoData) -> bool
     ensures { IsTrue result → pos dir ≢ nodata.now.dir }
@@ -107,7 +106,7 @@ pub fn dir_differs(dir: u16, nodata: &NoData) -> bool
     differs_short(dir, nodata.dir)
 }
 
-/// The same of an accumulation.
+/// Whether an accumulation isn't its no-data number.
 #[inline(always)]
 pub fn acc_differs(acc: u32, nodata: &NoData) -> bool
     ensures { IsTrue result → pos acc ≢ nodata.now.acc }
@@ -115,7 +114,7 @@ pub fn acc_differs(acc: u32, nodata: &NoData) -> bool
     differs(acc, nodata.acc)
 }
 
-/// The same of a label.
+/// Whether a label isn't its no-data number.
 #[inline(always)]
 pub fn bas_differs(bas: u32, nodata: &NoData) -> bool
     ensures { IsTrue result → pos bas ≢ nodata.now.bas }

@@ -65,7 +65,7 @@ impl ColumnTest for SurfaceTest<'_> {
     }
 }
 
-/// The rules of the direction hold, without ranks, and no neighbour is far below.
+/// The rules of the direction hold, without ranks, and all drops are near.
 #[derive(Drop)]
 pub struct NearDirectionTest<'a>(pub &'a LaneRows<'a>);
 
@@ -81,7 +81,7 @@ impl ColumnTest for NearDirectionTest<'_> {
     }
 }
 
-/// The rules of the direction hold, without ranks, however far below a neighbour is.
+/// The rules of the direction hold, without ranks, however great the drops are.
 #[derive(Drop)]
 pub struct DirectionTest<'a>(pub &'a LaneRows<'a>);
 

@@ -3,7 +3,6 @@
 use crate::around::around;
 use crate::lanes::Lanes;
 use crate::rules::Ranks;
-use crate::wide::around_wide;
 
 /// A row of lanes, and those above and below it.
 #[derive(Clone, Copy)]
@@ -73,7 +72,7 @@ impl LaneRows<'_> {
         requires { IsInnerColumn self.now k }
         ensures { result ≡ accs_round self.now k }
     {
-        around_wide(&self.above.acc, &self.here.acc, &self.below.acc, k)
+        around(&self.above.acc, &self.here.acc, &self.below.acc, k)
     }
 
     /// Their labels.
@@ -82,6 +81,6 @@ impl LaneRows<'_> {
         requires { IsInnerColumn self.now k }
         ensures { result ≡ labels_round self.now k }
     {
-        around_wide(&self.above.bas, &self.here.bas, &self.below.bas, k)
+        around(&self.above.bas, &self.here.bas, &self.below.bas, k)
     }
 }

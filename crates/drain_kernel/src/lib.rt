@@ -17,7 +17,6 @@ pub mod rules;
 mod stretches;
 mod strides;
 mod sums;
-mod wide;
 
 pub use falls::{falls_at, routed_falls_at};
 pub use kept::{kept_until, routed_until};

@@ -1,4 +1,4 @@
-//! The test of the direction in 16 bits: where no neighbour is more than 255 metres below, squares of drops fit.
+//! The test of the direction in 16 bits. Drops of at most 255 metres are near: their squares fit.
 
 ghost use Rattle.std.specs.Prelude.{◌≡◌, ◌≤◌, ◌-◌, IsTrue};
 ghost use Rattle.drain_kernel.specs.Tests.{keeps_direction, falls_steepest, square_of_drop};
@@ -7,28 +7,28 @@ use crate::around::{is_direction, is_straight, least_across, least_straight, nam
 use crate::cells::{HIGHEST, steps_along};
 
 /// The greatest drop whose square fits 16 bits.
-const FAR: u16 = 255;
+const GREATEST_NEAR_DROP: u16 = 255;
 
-/// The square of a drop, 0 if there is none; right if the drop isn't far.
+/// The square of a drop, 0 if there is none; right if the drop is near.
 #[inline(always)]
 #[tactic(auto, using(crate::proofs::Squares::near_square))]
 fn square(con: u16, low: u16) -> u16
     ensures { con - low ≤ 255 → result ≡ square_of_drop con low }
 {
-    let drop = con.saturating_sub(low).min(FAR);
+    let drop = con.saturating_sub(low).min(GREATEST_NEAR_DROP);
     drop * drop
 }
 
-/// Whether no neighbour is far below.
+/// Whether the drops to the least numbers along rows and columns and across corners are near.
 #[inline(always)]
 fn are_near(con: u16, straight: u16, across: u16) -> bool
     ensures straight { IsTrue result → con - straight ≤ 255 }
     ensures across { IsTrue result → con - across ≤ 255 }
 {
-    con.saturating_sub(straight.min(across)) <= FAR
+    con.saturating_sub(straight.min(across)) <= GREATEST_NEAR_DROP
 }
 
-/// Whether the code leads down the steepest way, and no neighbour is far below.
+/// Whether the code leads down the steepest way, where all drops are near.
 #[inline(always)]
 #[tactic(auto, unfolding(crate::specs::Tests::falls_steepest))]
 fn falls_near(con: u16, code: u16, cons: [u16; 8]) -> bool
@@ -44,7 +44,7 @@ fn falls_near(con: u16, code: u16, cons: [u16; 8]) -> bool
     are_near(con, straight, across) & (next < con) & (goes_straight | goes_across)
 }
 
-/// The rules of the direction, without ranks, at a cell where all have data, and none is far below.
+/// The rules of the direction, without ranks, at a cell where all have data, and all drops are near.
 #[inline(always)]
 #[tactic(auto, unfolding(crate::specs::Tests::keeps_direction))]
 pub fn keeps_near_direction(con: u16, code: u16, cons: [u16; 8]) -> bool

@@ -10,7 +10,6 @@ use crate::cells::differs;
 use crate::column_test::ColumnTest;
 use crate::lane_rows::LaneRows;
 use crate::lanes::Lanes;
-use crate::wide::{around_wide, named_wide};
 use drain_grid::NoData;
 
 /// Whether the code leads to a smaller conditioned elevation, or to a smaller capped rank.
@@ -34,7 +33,7 @@ fn is_ranked_by_capped(
 fn is_ranked(con: u16, code: u16, cons: [u16; 8], rank: u32, ranks: [u32; 8]) -> bool
     ensures { result ≡ is_ranked con code cons rank ranks }
 {
-    (named(code, cons) < con) | (named_wide(u32::from(code), ranks) < rank)
+    (named(code, cons) < con) | (named(u32::from(code), ranks) < rank)
 }
 
 /// Whether a rank isn't the no-data number.
@@ -88,7 +87,7 @@ impl ColumnTest for RanksTest<'_> {
     fn passes(&self, k: usize) -> bool {
         let rows = self.0;
         let here = rows.here;
-        let ranks = around_wide(&rows.above.rnk, &here.rnk, &rows.below.rnk, k);
+        let ranks = around(&rows.above.rnk, &here.rnk, &rows.below.rnk, k);
         is_ranked(
             here.con[k],
             here.dir[k],

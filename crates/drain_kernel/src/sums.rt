@@ -54,7 +54,7 @@ pub fn capped_adds_up(capped_acc: u16, codes: [u16; 8], capped_accs: [u16; 8]) -
 #[inline(always)]
 fn passed_on(code: u16, back: u16, acc: u32) -> u64
     ensures number { result ≡ passed_on code back acc }
-    ensures small { result < 2 ^ 32 }
+    ensures fits { result < 2 ^ 32 }
 {
     if code == back { u64::from(acc) } else { 0 }
 }
