@@ -1,8 +1,8 @@
 -- Where all labels are one, a code leads to this label.
-use Rattle.std.proofs.Common.{◌≡◌, ℕ, ◌+◌, ◌-◌, ◌≤◌, ◌<◌, Bool, true, false, ◌==◌, slice_index, sym, ◌∙◌, arith, if◌then◌else◌}
+use Rattle.std.proofs.Common.{◌≡◌, ℕ, ◌+◌, ◌-◌, ◌≤◌, ◌<◌, Bool, true, false, ◌==◌, IsTrue, slice_index, sym, ◌∙◌, arith, if◌then◌else◌}
 use Rattle.std.proofs.lemmas.Bool.Decides.{Decides-eqb}
 use Rattle.drain_kernel.specs.declared.lane_rows.LaneRows.{LaneRows}
-use Rattle.drain_kernel.specs.Columns.{Along, KeepsLabelAt}
+use Rattle.drain_kernel.specs.Columns.{Along, keeps_label_at}
 
 either : (b : Bool) (x y label : ℕ) → x ≡ label → y ≡ label → (if b then x else y) ≡ label
 either true x y label one two = one
@@ -10,7 +10,7 @@ either false x y label one two = two
 
 pub one_label : (rows : LaneRows) (label from end : ℕ) → 1 ≤ from → Along (from - 1) (end + 1) (λ k. slice_index rows.above.now.bas.items k ≡ label) →
     Along (from - 1) (end + 1) (λ k. slice_index rows.here.now.bas.items k ≡ label) →
-    Along (from - 1) (end + 1) (λ k. slice_index rows.below.now.bas.items k ≡ label) → Along from end (KeepsLabelAt rows)
+    Along (from - 1) (end + 1) (λ k. slice_index rows.below.now.bas.items k ≡ label) → Along from end (λ k. IsTrue (keeps_label_at rows k))
 one_label rows label from end inner above here below k low high =
     let code = slice_index rows.here.now.dir.items k in
     let left : from - 1 ≤ k - 1 = omega (arith, low) in

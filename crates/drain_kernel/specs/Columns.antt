@@ -1,5 +1,5 @@
 -- The tests at a column of three rows of lanes.
-use Rattle.std.specs.Prelude.{◌≢◌, ℕ, ◌≤◌, ◌<◌, ◌+◌, ◌-◌, pos, IsTrue, List, slice_index}
+use Rattle.std.specs.Prelude.{◌≢◌, ℕ, ◌≤◌, ◌<◌, ◌+◌, ◌-◌, pos, Bool, IsTrue, List, slice_index}
 use Rattle.drain_grid.specs.Values.{NoDataNumbers}
 use Rattle.drain_kernel.specs.declared.lane_rows.LaneRows.{LaneRows}
 use Rattle.drain_kernel.specs.declared.lanes.Lanes.{Lanes}
@@ -47,29 +47,26 @@ abbrev pub ranks_round : LaneRows → ℕ → List ℕ
 ranks_round rows k = around_in rows.above.now.rnk.items rows.here.now.rnk.items rows.below.now.rnk.items k
 
 -- the rules of the conditioned elevation hold
-abbrev pub KeepsSurfaceAt : LaneRows → ℕ → Type 0
-KeepsSurfaceAt rows k =
-    IsTrue (keeps_surface (slice_index rows.here.now.z.items k) (slice_index rows.here.now.con.items k) (cons_round rows k))
+abbrev pub keeps_surface_at : LaneRows → ℕ → Bool
+keeps_surface_at rows k = keeps_surface (slice_index rows.here.now.z.items k) (slice_index rows.here.now.con.items k) (cons_round rows k)
 
 -- the rules of the direction hold, without ranks
-abbrev pub KeepsDirectionAt : LaneRows → ℕ → Type 0
-KeepsDirectionAt rows k =
-    IsTrue (keeps_direction (slice_index rows.here.now.con.items k) (slice_index rows.here.now.dir.items k) (cons_round rows k))
+abbrev pub keeps_direction_at : LaneRows → ℕ → Bool
+keeps_direction_at rows k = keeps_direction (slice_index rows.here.now.con.items k) (slice_index rows.here.now.dir.items k) (cons_round rows k)
 
 -- the rule of the label holds
-abbrev pub KeepsLabelAt : LaneRows → ℕ → Type 0
-KeepsLabelAt rows k =
-    IsTrue (keeps_label (slice_index rows.here.now.dir.items k) (slice_index rows.here.now.bas.items k) (labels_round rows k))
+abbrev pub keeps_label_at : LaneRows → ℕ → Bool
+keeps_label_at rows k = keeps_label (slice_index rows.here.now.dir.items k) (slice_index rows.here.now.bas.items k) (labels_round rows k)
 
 -- the rule of the accumulation holds
-abbrev pub AddsUpAt : LaneRows → ℕ → Type 0
-AddsUpAt rows k = IsTrue (adds_up (slice_index rows.here.now.acc.items k) (codes_round rows k) (accs_round rows k))
+abbrev pub adds_up_at : LaneRows → ℕ → Bool
+adds_up_at rows k = adds_up (slice_index rows.here.now.acc.items k) (codes_round rows k) (accs_round rows k)
 
 -- the code leads to a smaller conditioned elevation, or to a smaller rank
-abbrev pub IsRankedAt : LaneRows → ℕ → Type 0
-IsRankedAt rows k =
-    IsTrue (is_ranked (slice_index rows.here.now.con.items k) (slice_index rows.here.now.dir.items k) (cons_round rows k)
-    (slice_index rows.here.now.rnk.items k) (ranks_round rows k))
+abbrev pub is_ranked_at : LaneRows → ℕ → Bool
+is_ranked_at rows k =
+    is_ranked (slice_index rows.here.now.con.items k) (slice_index rows.here.now.dir.items k) (cons_round rows k) (slice_index rows.here.now.rnk.items k)
+    (ranks_round rows k)
 
 -- the conditioned elevation and the direction of a column aren't their products' no-data numbers
 pub record HasWayAt (nodata : NoDataNumbers) (h : Lanes) (k : ℕ) : Type 0 where
@@ -87,16 +84,16 @@ HasRankAt nodata h k = pos (slice_index h.rnk.items k) ≢ nodata.rnk
 
 -- the tests of ranks pass at a column
 pub record RanksPassAt (nodata : NoDataNumbers) (rows : LaneRows) (k : ℕ) : Type 0 where
-  pub ranked : IsRankedAt rows k
+  pub ranked : IsTrue (is_ranked_at rows k)
   pub has_rank : HasRankAt nodata rows.here.now k
 
 -- all tests pass at a column, that of the accumulation if sums are tested
 pub record PassesAt (rules : Rules) (sums : Sums) (rows : LaneRows) (k : ℕ) : Type 0 where
   pub inland : IsInlandAt rows k
-  pub surface : KeepsSurfaceAt rows k
-  pub direction : KeepsDirectionAt rows k
-  pub label : KeepsLabelAt rows k
-  pub accumulation : IfTested sums (AddsUpAt rows k)
+  pub surface : IsTrue (keeps_surface_at rows k)
+  pub direction : IsTrue (keeps_direction_at rows k)
+  pub label : IsTrue (keeps_label_at rows k)
+  pub accumulation : IfTested sums (IsTrue (adds_up_at rows k))
   pub has_way : HasWayAt rules.nodata rows.here.now k
   pub has_counts : HasCountsAt rules.nodata rows.here.now k
   pub ranks : IfChecked rules.ranks (RanksPassAt rules.nodata rows k)

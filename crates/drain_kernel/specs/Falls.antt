@@ -33,21 +33,20 @@ keeps_fall height con code cons label labels =
     ((((not (height == 0) && con == height) && nat_le con 65535) && is_direction_code code) && falls_steepest con code cons) &&
     named_in code labels == label
 
--- the numbers round a column pass
-abbrev pub KeepsFallAt : LaneRows → ℕ → Type 0
-KeepsFallAt rows k =
-    IsTrue (keeps_fall (slice_index rows.here.now.z.items k) (slice_index rows.here.now.con.items k) (slice_index rows.here.now.dir.items k)
-    (each_seen seen_con (heights_round rows k) (cons_round rows k)) (slice_index rows.here.now.bas.items k) (labels_round rows k))
+-- so at a column
+abbrev pub keeps_fall_at : LaneRows → ℕ → Bool
+keeps_fall_at rows k =
+    keeps_fall (slice_index rows.here.now.z.items k) (slice_index rows.here.now.con.items k) (slice_index rows.here.now.dir.items k)
+    (each_seen seen_con (heights_round rows k) (cons_round rows k)) (slice_index rows.here.now.bas.items k) (labels_round rows k)
 
--- the accumulation is one more than what the data neighbours pass on
-abbrev pub SeenAddsUpAt : LaneRows → ℕ → Type 0
-SeenAddsUpAt rows k =
-    IsTrue (adds_up (slice_index rows.here.now.acc.items k) (each_seen seen_code (heights_round rows k) (codes_round rows k)) (accs_round rows k))
+-- its accumulation is one more than what its data neighbours pass on
+abbrev pub seen_sum_at : LaneRows → ℕ → Bool
+seen_sum_at rows k = adds_up (slice_index rows.here.now.acc.items k) (each_seen seen_code (heights_round rows k) (codes_round rows k)) (accs_round rows k)
 
 -- these tests pass at a column, that of the accumulation if sums are tested, and no number is its product's no-data number
 pub record FallsAt (rules : Rules) (sums : Sums) (rows : LaneRows) (k : ℕ) : Type 0 where
-  pub fall : KeepsFallAt rows k
-  pub sum : IfTested sums (SeenAddsUpAt rows k)
+  pub fall : IsTrue (keeps_fall_at rows k)
+  pub sum : IfTested sums (IsTrue (seen_sum_at rows k))
   pub has_way : HasWayAt rules.nodata rows.here.now k
   pub has_counts : HasCountsAt rules.nodata rows.here.now k
   pub rank : IfChecked rules.ranks (HasRankAt rules.nodata rows.here.now k)

@@ -5,7 +5,7 @@ ghost use Rattle.drain_kernel.specs.Columns.{Along};
 
 /// A test at a column.
 pub(crate) trait ColumnTest {
-    ghost use Rattle.std.specs.Prelude.{ℕ, IsTrue};
+    ghost use Rattle.std.specs.Prelude.{◌≡◌, ℕ, IsTrue, false};
 
     /// Where it may be called.
     ghost CanTest: { Self → ℕ → Type 0 };
@@ -13,10 +13,14 @@ pub(crate) trait ColumnTest {
     /// What is known of a column that passes.
     ghost Passed: { Self → ℕ → Type 0 };
 
-    /// Whether the column passes. A column that doesn't may still be one of which it would be known.
+    /// What is known of a column that fails: of a test that some columns fail without need, nothing.
+    ghost Failed: { Self → ℕ → Type 0 } = { λ test k. Unit {0} };
+
+    /// Whether the column passes.
     fn passes(&self, k: usize) -> bool
         requires { CanTest self.now k }
-        ensures { IsTrue result → Passed self.now k };
+        ensures passed { IsTrue result → Passed self.now k }
+        ensures failed { result ≡ false → Failed self.now k };
 }
 
 /// Whether all columns from one up to another pass the test.

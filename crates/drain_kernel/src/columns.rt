@@ -1,7 +1,7 @@
 //! The tests at a column of three rows.
 
-ghost use Rattle.std.specs.Prelude.{◌≡◌, ◌<◌, ◌+◌, IsTrue, slice_index, vec_len};
-ghost use Rattle.drain_kernel.specs.Columns.{AddsUpAt, HasCountsAt, HasWayAt, KeepsDirectionAt, KeepsLabelAt, KeepsSurfaceAt};
+ghost use Rattle.std.specs.Prelude.{◌≡◌, ◌<◌, ◌+◌, IsTrue, false, slice_index, vec_len};
+ghost use Rattle.drain_kernel.specs.Columns.{adds_up_at, HasCountsAt, HasWayAt, keeps_direction_at, keeps_label_at, keeps_surface_at};
 ghost use Rattle.drain_kernel.specs.LaneRows.{IsInnerColumn};
 ghost use Rattle.drain_kernel.specs.Shown.{cols, HasDataAt};
 
@@ -56,7 +56,9 @@ pub struct SurfaceTest<'a>(pub &'a LaneRows<'a>);
 impl ColumnTest for SurfaceTest<'_> {
     ghost CanTest = { λ test. IsInnerColumn test.0.now };
 
-    ghost Passed = { λ test. KeepsSurfaceAt test.0.now };
+    ghost Passed = { λ test k. IsTrue (keeps_surface_at test.0.now k) };
+
+    ghost Failed = { λ test k. keeps_surface_at test.0.now k ≡ false };
 
     #[inline(always)]
     fn passes(&self, k: usize) -> bool {
@@ -72,7 +74,7 @@ pub struct NearDirectionTest<'a>(pub &'a LaneRows<'a>);
 impl ColumnTest for NearDirectionTest<'_> {
     ghost CanTest = { λ test. IsInnerColumn test.0.now };
 
-    ghost Passed = { λ test. KeepsDirectionAt test.0.now };
+    ghost Passed = { λ test k. IsTrue (keeps_direction_at test.0.now k) };
 
     #[inline(always)]
     fn passes(&self, k: usize) -> bool {
@@ -88,7 +90,9 @@ pub struct DirectionTest<'a>(pub &'a LaneRows<'a>);
 impl ColumnTest for DirectionTest<'_> {
     ghost CanTest = { λ test. IsInnerColumn test.0.now };
 
-    ghost Passed = { λ test. KeepsDirectionAt test.0.now };
+    ghost Passed = { λ test k. IsTrue (keeps_direction_at test.0.now k) };
+
+    ghost Failed = { λ test k. keeps_direction_at test.0.now k ≡ false };
 
     #[inline(always)]
     fn passes(&self, k: usize) -> bool {
@@ -104,7 +108,9 @@ pub struct LabelTest<'a>(pub &'a LaneRows<'a>);
 impl ColumnTest for LabelTest<'_> {
     ghost CanTest = { λ test. IsInnerColumn test.0.now };
 
-    ghost Passed = { λ test. KeepsLabelAt test.0.now };
+    ghost Passed = { λ test k. IsTrue (keeps_label_at test.0.now k) };
+
+    ghost Failed = { λ test k. keeps_label_at test.0.now k ≡ false };
 
     #[inline(always)]
     fn passes(&self, k: usize) -> bool {
@@ -120,7 +126,7 @@ pub struct CappedSumTest<'a>(pub &'a LaneRows<'a>);
 impl ColumnTest for CappedSumTest<'_> {
     ghost CanTest = { λ test. IsInnerColumn test.0.now };
 
-    ghost Passed = { λ test. AddsUpAt test.0.now };
+    ghost Passed = { λ test k. IsTrue (adds_up_at test.0.now k) };
 
     #[inline(always)]
     #[tactic(auto, using(crate::proofs::CappedSums::capped_sum_at))]
@@ -143,7 +149,9 @@ pub struct SumTest<'a>(pub &'a LaneRows<'a>);
 impl ColumnTest for SumTest<'_> {
     ghost CanTest = { λ test. IsInnerColumn test.0.now };
 
-    ghost Passed = { λ test. AddsUpAt test.0.now };
+    ghost Passed = { λ test k. IsTrue (adds_up_at test.0.now k) };
+
+    ghost Failed = { λ test k. adds_up_at test.0.now k ≡ false };
 
     #[inline(always)]
     fn passes(&self, k: usize) -> bool {

@@ -5,7 +5,7 @@ ghost use Rattle.std.specs.Prelude.{◌≡◌, ◌≤◌, ◌<◌, IsTrue};
 ghost use Rattle.drain_grid.specs.declared.patch.Patch.{Patch};
 ghost use Rattle.drain_kernel.specs.Checked.{IfChecked, IfTested};
 ghost use Rattle.drain_kernel.specs.Columns.{HasCountsAt, HasRankAt, HasWayAt};
-ghost use Rattle.drain_kernel.specs.Falls.{FallsAt, KeepsFallAt, SeenAddsUpAt, each_seen, keeps_fall, seen};
+ghost use Rattle.drain_kernel.specs.Falls.{FallsAt, each_seen, keeps_fall, keeps_fall_at, seen, seen_sum_at};
 ghost use Rattle.drain_kernel.specs.Kept.{IsKept};
 ghost use Rattle.drain_kernel.specs.LaneRows.{HaveRanks, IsInnerColumn, IsShownRoundIn};
 ghost use Rattle.drain_kernel.specs.Rules.{tested, tried, unsummed};
@@ -71,7 +71,7 @@ fn keeps_fall(
 /// Whether the cell at a column is not raised and falls to a cell of its label; a void counts as highest.
 fn fall_holds(rows: &LaneRows, k: usize) -> bool
     requires { IsInnerColumn rows.now k }
-    ensures { IsTrue result → KeepsFallAt rows.now k }
+    ensures { result ≡ keeps_fall_at rows.now k }
 {
     let here = rows.here;
     let cons = each_seen(HIGHEST, rows.heights_round(k), rows.cons_round(k));
@@ -89,7 +89,7 @@ fn fall_holds(rows: &LaneRows, k: usize) -> bool
 /// Whether the accumulation at a column is one more than what data neighbours pass on.
 fn seen_sum_holds(rows: &LaneRows, k: usize) -> bool
     requires { IsInnerColumn rows.now k }
-    ensures { IsTrue result → SeenAddsUpAt rows.now k }
+    ensures { result ≡ seen_sum_at rows.now k }
 {
     let codes = each_seen(0, rows.heights_round(k), rows.codes_round(k));
     adds_up(rows.here.acc[k], codes, rows.accs_round(k))
@@ -98,7 +98,7 @@ fn seen_sum_holds(rows: &LaneRows, k: usize) -> bool
 /// Whether the accumulation is one more than that, if sums are tested.
 fn keeps_sum(rows: &LaneRows, sums: Sums, k: usize) -> bool
     requires { IsInnerColumn rows.now k }
-    ensures { IsTrue result → IfTested sums (SeenAddsUpAt rows.now k) }
+    ensures { IsTrue result → IfTested sums (IsTrue (seen_sum_at rows.now k)) }
 {
     match sums {
         Sums::Untested => true,

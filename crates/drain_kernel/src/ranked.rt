@@ -1,7 +1,7 @@
 //! The tests of ranks at a column.
 
-ghost use Rattle.std.specs.Prelude.{◌≡◌, ◌≢◌, ◌<◌, IsTrue, pos, vec_len};
-ghost use Rattle.drain_kernel.specs.Columns.{HasRankAt, IsRankedAt};
+ghost use Rattle.std.specs.Prelude.{◌≡◌, ◌≢◌, ◌<◌, IsTrue, false, pos, vec_len};
+ghost use Rattle.drain_kernel.specs.Columns.{HasRankAt, is_ranked_at};
 ghost use Rattle.drain_kernel.specs.LaneRows.{HaveRanks, IsInnerColumn};
 ghost use Rattle.drain_kernel.specs.Tests.{is_ranked};
 
@@ -51,7 +51,7 @@ pub struct CappedRanksTest<'a>(pub &'a LaneRows<'a>);
 impl ColumnTest for CappedRanksTest<'_> {
     ghost CanTest = { λ test k. IsInnerColumn test.0.now k × HaveRanks test.0.now };
 
-    ghost Passed = { λ test. IsRankedAt test.0.now };
+    ghost Passed = { λ test k. IsTrue (is_ranked_at test.0.now k) };
 
     #[inline(always)]
     #[tactic(auto, using(crate::proofs::CappedRanks::capped_rank_at))]
@@ -81,7 +81,9 @@ pub struct RanksTest<'a>(pub &'a LaneRows<'a>);
 impl ColumnTest for RanksTest<'_> {
     ghost CanTest = { λ test k. IsInnerColumn test.0.now k × HaveRanks test.0.now };
 
-    ghost Passed = { λ test. IsRankedAt test.0.now };
+    ghost Passed = { λ test k. IsTrue (is_ranked_at test.0.now k) };
+
+    ghost Failed = { λ test k. is_ranked_at test.0.now k ≡ false };
 
     #[inline(always)]
     fn passes(&self, k: usize) -> bool {

@@ -1,7 +1,7 @@
 //! Tests of voids and of labels along columns, which look at three rows one by one.
 
 ghost use Rattle.std.specs.Prelude.{◌≡◌, ◌≤◌, ◌<◌, ◌+◌, ◌-◌, IsTrue, slice_index};
-ghost use Rattle.drain_kernel.specs.Columns.{Along, IsDataRound, IsInlandAt, KeepsLabelAt};
+ghost use Rattle.drain_kernel.specs.Columns.{Along, IsDataRound, IsInlandAt, keeps_label_at};
 ghost use Rattle.drain_kernel.specs.LaneRows.{IsInnerColumn, IsStretch};
 ghost use Rattle.drain_kernel.specs.Shown.{cols};
 
@@ -63,7 +63,7 @@ fn has_label(row: &Lanes, label: u32, from: usize, end: usize) -> bool
 #[tactic(auto, using(crate::proofs::Labels::one_label))]
 pub fn have_one_label(rows: &LaneRows, from: usize, end: usize) -> bool
     requires { IsStretch rows.now from end }
-    ensures { IsTrue result → Along from end (KeepsLabelAt rows.now) }
+    ensures { IsTrue result → Along from end (λ k. IsTrue (keeps_label_at rows.now k)) }
 {
     let label = rows.here.bas[from];
     has_label(rows.above, label, from, end)

@@ -2,7 +2,7 @@
 
 ghost use Rattle.std.specs.Prelude.{◌≤◌, IsTrue};
 ghost use Rattle.drain_kernel.specs.Checked.{IfChecked, IfTested};
-ghost use Rattle.drain_kernel.specs.Columns.{AddsUpAt, Along, HasCountsAt, HasWayAt, KeepsDirectionAt, KeepsLabelAt, PassesAt, RanksPassAt};
+ghost use Rattle.drain_kernel.specs.Columns.{adds_up_at, Along, HasCountsAt, HasWayAt, keeps_direction_at, keeps_label_at, PassesAt, RanksPassAt};
 ghost use Rattle.drain_kernel.specs.LaneRows.{HaveRanks, IsStretch};
 
 use crate::column_test::passes_along;
@@ -39,7 +39,7 @@ fn ranks_pass(rows: &LaneRows, rules: &Rules, from: usize, end: usize) -> bool
 /// Whether the rule of the accumulation holds, if sums are tested: by sums of 16 bits, else by sums of 64.
 fn sums_pass(rows: &LaneRows, sums: Sums, from: usize, end: usize) -> bool
     requires { IsStretch rows.now from end }
-    ensures { IsTrue result → Along from end (λ k. IfTested sums (AddsUpAt rows.now k)) }
+    ensures { IsTrue result → Along from end (λ k. IfTested sums (IsTrue (adds_up_at rows.now k))) }
 {
     match sums {
         Sums::Untested => true,
@@ -52,7 +52,7 @@ fn sums_pass(rows: &LaneRows, sums: Sums, from: usize, end: usize) -> bool
 /// Whether the rules of the direction, without ranks, hold: by squares of 16 bits, else by squares of 32.
 fn directions_pass(rows: &LaneRows, from: usize, end: usize) -> bool
     requires { IsStretch rows.now from end }
-    ensures { IsTrue result → Along from end (KeepsDirectionAt rows.now) }
+    ensures { IsTrue result → Along from end (λ k. IsTrue (keeps_direction_at rows.now k)) }
 {
     passes_along(&NearDirectionTest(rows), from, end)
         || passes_along(&DirectionTest(rows), from, end)
@@ -61,7 +61,7 @@ fn directions_pass(rows: &LaneRows, from: usize, end: usize) -> bool
 /// Whether the rule of the label holds: as there is one label only, else by the label that each code leads to.
 fn labels_pass(rows: &LaneRows, from: usize, end: usize) -> bool
     requires { IsStretch rows.now from end }
-    ensures { IsTrue result → Along from end (KeepsLabelAt rows.now) }
+    ensures { IsTrue result → Along from end (λ k. IsTrue (keeps_label_at rows.now k)) }
 {
     have_one_label(rows, from, end) || passes_along(&LabelTest(rows), from, end)
 }
