@@ -73,34 +73,16 @@ inflow_seen d z code acc v z_is dir_is acc_is = by_test (z == 0) (Decides-eqb z 
         λ i. if is_some (known i) && names (dir_is there i) (opposite d) then acc_is there i else pos 0 in
         some ∙ inflow_passed true (code == code_of (opposite d)) acc refl
 
--- the numbers that are seen of the neighbours
-abbrev numbers_seen : (above here below : Lanes) (k : ℕ) (p : Patch) → IsShownRound above here below k p → Direction → Numbers
-numbers_seen above here below k p shown d =
-    let row = row_beside above here below d in
-    let col = col_beside k d in
-    let v = (shown.around_is d).0 in
-    record {
-      z = slice_index row.z.items col;
-      con = seen_con (slice_index row.z.items col) (slice_index row.con.items col);
-      dir = slice_index row.dir.items col;
-      acc = slice_index row.acc.items col;
-      bas = slice_index row.bas.items col;
-      sink = v.sink;
-      spl = v.spl;
-      rnk = v.rnk;
-    }
+-- the numbers that are seen of a cell
+abbrev seen_in : Lanes → ℕ → Values → Numbers
+seen_in row k v = record (numbers_in row k v) { con = seen_con (slice_index row.z.items k) (slice_index row.con.items k) }
 
-seen_are_values : (row : Lanes) (k : ℕ) (v : Values) → Shows row k v → HasDataAt row k →
-    values_of (record {
-      z = slice_index row.z.items k;
-      con = seen_con (slice_index row.z.items k) (slice_index row.con.items k);
-      dir = slice_index row.dir.items k;
-      acc = slice_index row.acc.items k;
-      bas = slice_index row.bas.items k;
-      sink = v.sink;
-      spl = v.spl;
-      rnk = v.rnk;
-    }) ≡ v
+-- those of the neighbours
+abbrev numbers_seen : (above here below : Lanes) (k : ℕ) (p : Patch) → IsShownRound above here below k p → Direction → Numbers
+numbers_seen above here below k p shown d = seen_in (row_beside above here below d) (col_beside k d) (shown.around_is d).0
+
+-- they are the neighbour's, if it has data
+seen_are_values : (row : Lanes) (k : ℕ) (v : Values) → Shows row k v → HasDataAt row k → values_of (seen_in row k v) ≡ v
 seen_are_values row k v s there =
     let con : lowered (seen_con (slice_index row.z.items k) (slice_index row.con.items k)) ≡ v.con =
     ap lowered (seen_data (slice_index row.z.items k) 65535 (slice_index row.con.items k) there) ∙ sym (s.con_is there) in

@@ -22,29 +22,33 @@ pub record IsInlandAt (rows : LaneRows) (k : ℕ) : Type 0 where
   pub here_is : IsDataRound rows.here.now k
   pub below_is : IsDataRound rows.below.now k
 
--- the elevations of the neighbours of a column
+-- the numbers of the neighbours of a column, of those that a row has of each cell
+abbrev pub numbers_round : (Lanes → List ℕ) → LaneRows → ℕ → List ℕ
+numbers_round of rows k = around_in (of rows.above.now) (of rows.here.now) (of rows.below.now) k
+
+-- their elevations
 abbrev pub heights_round : LaneRows → ℕ → List ℕ
-heights_round rows k = around_in rows.above.now.z.items rows.here.now.z.items rows.below.now.z.items k
+heights_round = numbers_round (λ row. row.z.items)
 
 -- their conditioned elevations
 abbrev pub cons_round : LaneRows → ℕ → List ℕ
-cons_round rows k = around_in rows.above.now.con.items rows.here.now.con.items rows.below.now.con.items k
+cons_round = numbers_round (λ row. row.con.items)
 
 -- their codes
 abbrev pub codes_round : LaneRows → ℕ → List ℕ
-codes_round rows k = around_in rows.above.now.dir.items rows.here.now.dir.items rows.below.now.dir.items k
+codes_round = numbers_round (λ row. row.dir.items)
 
 -- their accumulations
 abbrev pub accs_round : LaneRows → ℕ → List ℕ
-accs_round rows k = around_in rows.above.now.acc.items rows.here.now.acc.items rows.below.now.acc.items k
+accs_round = numbers_round (λ row. row.acc.items)
 
 -- their labels
 abbrev pub labels_round : LaneRows → ℕ → List ℕ
-labels_round rows k = around_in rows.above.now.bas.items rows.here.now.bas.items rows.below.now.bas.items k
+labels_round = numbers_round (λ row. row.bas.items)
 
 -- their ranks
 abbrev pub ranks_round : LaneRows → ℕ → List ℕ
-ranks_round rows k = around_in rows.above.now.rnk.items rows.here.now.rnk.items rows.below.now.rnk.items k
+ranks_round = numbers_round (λ row. row.rnk.items)
 
 -- the rules of the conditioned elevation hold
 abbrev pub keeps_surface_at : LaneRows → ℕ → Bool

@@ -13,7 +13,7 @@ use crate::column_test::ColumnTest;
 use crate::lane_rows::LaneRows;
 use crate::lanes::Lanes;
 use crate::near::keeps_near_direction;
-use crate::sums::{adds_up, capped_adds_up};
+use crate::sums::{adds_up, adds_up_by_capped};
 use drain_grid::NoData;
 
 /// The column is no void.
@@ -138,7 +138,7 @@ impl ColumnTest for CappedSumTest<'_> {
             &rows.below.capped_acc,
             k,
         );
-        capped_adds_up(rows.here.capped_acc[k], rows.codes_round(k), capped_accs)
+        adds_up_by_capped(rows.here.capped_acc[k], rows.codes_round(k), capped_accs)
     }
 }
 

@@ -19,31 +19,31 @@ fn capped_sum(first: u16, second: u16) -> u16
     first.saturating_add(second)
 }
 
+/// The sum of four numbers, if it is below 65535; a greater one stops there.
+#[inline(always)]
+fn capped_sum_of_four(first: u16, second: u16, third: u16, fourth: u16) -> u16
+    ensures { result < 65535 → result ≡ ((first + second) + third) + fourth }
+{
+    capped_sum(capped_sum(capped_sum(first, second), third), fourth)
+}
+
 /// The rule of the accumulation, at a cell where all have data, by capped numbers: the cell's own is below the cap.
 #[inline(always)]
 #[tactic(auto, unfolding(crate::specs::Tests::adds_up))]
-pub fn capped_adds_up(capped_acc: u16, codes: [u16; 8], capped_accs: [u16; 8]) -> bool
+pub fn adds_up_by_capped(capped_acc: u16, codes: [u16; 8], capped_accs: [u16; 8]) -> bool
     ensures below_cap { IsTrue result → capped_acc < 65535 }
     ensures sum { IsTrue result → IsTrue (adds_up capped_acc codes capped_accs) }
 {
-    let first = capped_sum(
-        capped_sum(
-            capped_sum(
-                capped_passed_on(codes[0], 16, capped_accs[0]),
-                capped_passed_on(codes[1], 32, capped_accs[1]),
-            ),
-            capped_passed_on(codes[2], 64, capped_accs[2]),
-        ),
+    let first = capped_sum_of_four(
+        capped_passed_on(codes[0], 16, capped_accs[0]),
+        capped_passed_on(codes[1], 32, capped_accs[1]),
+        capped_passed_on(codes[2], 64, capped_accs[2]),
         capped_passed_on(codes[3], 128, capped_accs[3]),
     );
-    let second = capped_sum(
-        capped_sum(
-            capped_sum(
-                capped_passed_on(codes[4], 1, capped_accs[4]),
-                capped_passed_on(codes[5], 2, capped_accs[5]),
-            ),
-            capped_passed_on(codes[6], 4, capped_accs[6]),
-        ),
+    let second = capped_sum_of_four(
+        capped_passed_on(codes[4], 1, capped_accs[4]),
+        capped_passed_on(codes[5], 2, capped_accs[5]),
+        capped_passed_on(codes[6], 4, capped_accs[6]),
         capped_passed_on(codes[7], 8, capped_accs[7]),
     );
     let all = capped_sum(capped_sum(first, second), 1);
