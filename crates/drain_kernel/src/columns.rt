@@ -1,4 +1,4 @@
-//! The tests at a column of three rows.
+//! The tests at a column of three rows. Each comment says what holds where the column passes.
 
 ghost use Rattle.std.specs.Prelude.{◌≡◌, ◌<◌, ◌+◌, IsTrue, false, slice_index, vec_len};
 ghost use Rattle.drain_kernel.specs.Columns.{adds_up_at, HasCountsAt, HasWayAt, keeps_direction_at, keeps_label_at, keeps_surface_at};
