@@ -16,6 +16,7 @@ pub mod Laying
 pub mod GapColumns
 pub mod Looking
 pub mod Filling
+pub mod Finished
 pub mod SteepestWays
 pub mod Settling
 pub mod AllSettled

@@ -1,4 +1,4 @@
--- How the parts of a flood fit together, whatever is flooded.
+-- How the parts of a flood, or of a surface, fit together, whatever is flooded.
 use Rattle.std.specs.Prelude.{◌≡◌, ℕ, ◌*◌, ◌<◌, ◌≤◌, ℤ, List, length}
 use Rattle.std.specs.List.{All}
 use Rattle.drain_grid.specs.Size.{Extent}
@@ -13,3 +13,9 @@ pub record AreTogether (e : Extent) (con : List ℤ) (mark trail : List ℕ) (qu
   pub queue_long : queue.cells ≡ e.rows * e.cols
   pub places : All (λ place. place < e.rows * e.cols) trail
   pub rises : Rises queue.pairs
+
+-- a height and a mark for each cell
+pub record AreCells (e : Extent) (con : List ℤ) (mark : List ℕ) : Type 0 where
+  pub few : e.rows * e.cols ≤ MAX_CELLS
+  pub con_long : length con ≡ e.rows * e.cols
+  pub mark_long : length mark ≡ e.rows * e.cols

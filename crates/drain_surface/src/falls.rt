@@ -14,7 +14,7 @@ ghost use Rattle.drain_surface.specs.Ways.{IsCodeAt};
 ghost use Rattle.drain_surface.specs.Lanes.{AreRowLanes, IsLane, around_in, fall_at, fall_in, first_across, first_along, is_steeper, least_across, least_along, level_of_lane};
 
 use crate::codes::NO_HEIGHT;
-use crate::flood::Flood;
+use crate::surface::Surface;
 
 /// The lane of a cell without data, and of a place around the grid: above that of any height.
 const GAP: u16 = 65535;
@@ -61,14 +61,14 @@ fn lay_heights(heights: &[i16], start: usize, lanes: &mut [u16])
 }
 
 /// Lays a row of the grid, between two gaps. Rows are counted from 1; those next to the grid are gaps.
-fn lay_row(flood: &Flood, down: usize, lanes: &mut [u16])
-    requires { length lanes.old ≡ flood.now.extent.cols + 2 }
+fn lay_row(surface: &Surface, down: usize, lanes: &mut [u16])
+    requires { length lanes.old ≡ surface.now.extent.cols + 2 }
     ensures len { length lanes.new ≡ length lanes.old }
-    ensures lanes { AreRowLanes flood.now.extent flood.now down lanes.new }
+    ensures lanes { AreRowLanes surface.now.extent surface.now down lanes.new }
 {
-    let shape = flood.shape();
+    let shape = surface.shape();
     if 0 < down && down <= shape.rows() as usize {
-        lay_heights(flood.heights(), shape.row_start((down - 1) as u32), lanes);
+        lay_heights(surface.heights(), shape.row_start((down - 1) as u32), lanes);
     } else {
         lay_gaps(lanes);
     }
@@ -220,7 +220,7 @@ fn put_codes(codes: &[u16], marks: &[u8], start: usize, dirs: &mut [u8])
 
 /// Puts the code of each cell of a row at its place. The other slices are room for lanes and codes.
 pub(crate) fn put_row(
-    flood: &Flood,
+    surface: &Surface,
     row: u32,
     above: &mut [u16],
     here: &mut [u16],
@@ -228,23 +228,23 @@ pub(crate) fn put_row(
     codes: &mut [u16],
     dirs: &mut [u8],
 )
-    requires inside { row < flood.now.extent.rows }
-    requires above_len { length above.old ≡ flood.now.extent.cols + 2 }
-    requires here_len { length here.old ≡ flood.now.extent.cols + 2 }
-    requires below_len { length below.old ≡ flood.now.extent.cols + 2 }
-    requires codes_len { length codes.old ≡ flood.now.extent.cols }
-    requires dirs_len { length dirs.old ≡ flood.now.extent.rows * flood.now.extent.cols }
+    requires inside { row < surface.now.extent.rows }
+    requires above_len { length above.old ≡ surface.now.extent.cols + 2 }
+    requires here_len { length here.old ≡ surface.now.extent.cols + 2 }
+    requires below_len { length below.old ≡ surface.now.extent.cols + 2 }
+    requires codes_len { length codes.old ≡ surface.now.extent.cols }
+    requires dirs_len { length dirs.old ≡ surface.now.extent.rows * surface.now.extent.cols }
     ensures above_len { length above.new ≡ length above.old }
     ensures here_len { length here.new ≡ length here.old }
     ensures below_len { length below.new ≡ length below.old }
     ensures codes_len { length codes.new ≡ length codes.old }
     ensures dirs_len { length dirs.new ≡ length dirs.old }
-    ensures row { (g : Grid) → g.extent ≡ flood.now.extent → IsFlooded g flood.now → (c : Cell) → IsInside g c → c.row ≡ row → IsCodeAt g flood.now c (slice_index dirs.new (index_of g.extent c)) }
-    ensures others { (i : ℕ) → i < row * flood.now.extent.cols → slice_index dirs.new i ≡ slice_index dirs.old i }
+    ensures row { (g : Grid) → g.extent ≡ surface.now.extent → IsFlooded g surface.now → (c : Cell) → IsInside g c → c.row ≡ row → IsCodeAt g surface.now c (slice_index dirs.new (index_of g.extent c)) }
+    ensures others { (i : ℕ) → i < row * surface.now.extent.cols → slice_index dirs.new i ≡ slice_index dirs.old i }
 {
-    lay_row(flood, row as usize, above);
-    lay_row(flood, row as usize + 1, here);
-    lay_row(flood, row as usize + 2, below);
+    lay_row(surface, row as usize, above);
+    lay_row(surface, row as usize + 1, here);
+    lay_row(surface, row as usize + 2, below);
     find_falls(above, here, below, codes);
-    put_codes(codes, flood.marks(), flood.shape().row_start(row), dirs);
+    put_codes(codes, surface.marks(), surface.shape().row_start(row), dirs);
 }

@@ -15,26 +15,26 @@ ghost use Rattle.drain_surface.specs.Walks.{IsFlatAt, IsFlatPlace, IsWalk, IsWal
 
 use crate::codes::REACHED;
 use crate::flats::Flats;
-use crate::flood::Flood;
 use crate::places::{beside, is_inner};
+use crate::surface::Surface;
 use crate::ways::code;
 use drain_grid::{Cell, Direction, OutOfMemory, Shape};
 
 impl Flats {
     /// Settles the neighbours of a settled cell that have its height and no way yet.
-    pub(crate) fn look_around(&mut self, flood: &Flood, cell: Cell) -> Result<(), OutOfMemory>
-        requires same { self.old.extent ≡ flood.now.extent }
+    pub(crate) fn look_around(&mut self, surface: &Surface, cell: Cell) -> Result<(), OutOfMemory>
+        requires same { self.old.extent ≡ surface.now.extent }
         requires inside { IsCellOf self.old.extent cell }
         ensures extent { self.new.extent ≡ self.old.extent }
         ensures work { OnOk result (IsLessWalk self.old self.new) }
-        ensures around { OnOk result ((g : Grid) (k : ℕ) (busy : List ℕ) → g.extent ≡ self.old.extent → IsSettled g self.old cell → AreLaid g flood.now self.old k busy → IsPassed g flood.now self.new k busy cell) }
+        ensures around { OnOk result ((g : Grid) (k : ℕ) (busy : List ℕ) → g.extent ≡ self.old.extent → IsSettled g self.old cell → AreLaid g surface.now self.old k busy → IsPassed g surface.now self.new k busy cell) }
     {
         let shape = self.shape();
         let _cells = shape.cells();
         let place = shape.index(cell);
-        let level = flood.level_at(place);
+        let level = surface.level_at(place);
         let rank = self.rank_at(place).saturating_add(1);
-        self.walk(flood, shape, cell, level, rank)?;
+        self.walk(surface, shape, cell, level, rank)?;
         Ok(())
     }
 
@@ -42,23 +42,23 @@ impl Flats {
     #[inline(always)]
     fn walk(
         &mut self,
-        flood: &Flood,
+        surface: &Surface,
         shape: Shape,
         cell: Cell,
         level: i16,
         rank: u32,
     ) -> Result<(), OutOfMemory>
-        requires same { self.old.extent ≡ flood.now.extent }
+        requires same { self.old.extent ≡ surface.now.extent }
         requires same_shape { shape ≡ self.old.extent }
         requires inside { IsCellOf self.old.extent cell }
         ensures extent { self.new.extent ≡ self.old.extent }
         ensures work { OnOk result (IsLessWalk self.old self.new) }
-        ensures around { OnOk result ((g : Grid) (k : ℕ) (busy : List ℕ) → g.extent ≡ self.old.extent → level ≡ con_at g.extent flood.now cell → IsWalked g flood.now self.old k busy cell rank 0 → IsPassed g flood.now self.new k busy cell) }
+        ensures around { OnOk result ((g : Grid) (k : ℕ) (busy : List ℕ) → g.extent ≡ self.old.extent → level ≡ con_at g.extent surface.now cell → IsWalked g surface.now self.old k busy cell rank 0 → IsPassed g surface.now self.new k busy cell) }
     {
         if is_inner(shape, cell) {
-            self.walk_inside(flood, shape, cell, level, rank)
+            self.walk_inside(surface, shape, cell, level, rank)
         } else {
-            self.walk_at_edge(flood, shape, cell, level, rank)
+            self.walk_at_edge(surface, shape, cell, level, rank)
         }
     }
 
@@ -66,28 +66,28 @@ impl Flats {
     #[inline(always)]
     fn walk_inside(
         &mut self,
-        flood: &Flood,
+        surface: &Surface,
         shape: Shape,
         cell: Cell,
         level: i16,
         rank: u32,
     ) -> Result<(), OutOfMemory>
-        requires same { self.old.extent ≡ flood.now.extent }
+        requires same { self.old.extent ≡ surface.now.extent }
         requires same_shape { shape ≡ self.old.extent }
         requires inside { IsCellOf self.old.extent cell }
         requires inner { IsInnerPlace self.old.extent cell }
         ensures extent { self.new.extent ≡ self.old.extent }
         ensures work { OnOk result (IsLessWalk self.old self.new) }
-        ensures around { OnOk result ((g : Grid) (k : ℕ) (busy : List ℕ) → g.extent ≡ self.old.extent → level ≡ con_at g.extent flood.now cell → IsWalked g flood.now self.old k busy cell rank 0 → IsPassed g flood.now self.new k busy cell) }
+        ensures around { OnOk result ((g : Grid) (k : ℕ) (busy : List ℕ) → g.extent ≡ self.old.extent → level ≡ con_at g.extent surface.now cell → IsWalked g surface.now self.old k busy cell rank 0 → IsPassed g surface.now self.new k busy cell) }
     {
-        self.turn(flood, shape, cell, Direction::East, level, rank)?;
-        self.turn(flood, shape, cell, Direction::SouthEast, level, rank)?;
-        self.turn(flood, shape, cell, Direction::South, level, rank)?;
-        self.turn(flood, shape, cell, Direction::SouthWest, level, rank)?;
-        self.turn(flood, shape, cell, Direction::West, level, rank)?;
-        self.turn(flood, shape, cell, Direction::NorthWest, level, rank)?;
-        self.turn(flood, shape, cell, Direction::North, level, rank)?;
-        self.turn(flood, shape, cell, Direction::NorthEast, level, rank)?;
+        self.turn(surface, shape, cell, Direction::East, level, rank)?;
+        self.turn(surface, shape, cell, Direction::SouthEast, level, rank)?;
+        self.turn(surface, shape, cell, Direction::South, level, rank)?;
+        self.turn(surface, shape, cell, Direction::SouthWest, level, rank)?;
+        self.turn(surface, shape, cell, Direction::West, level, rank)?;
+        self.turn(surface, shape, cell, Direction::NorthWest, level, rank)?;
+        self.turn(surface, shape, cell, Direction::North, level, rank)?;
+        self.turn(surface, shape, cell, Direction::NorthEast, level, rank)?;
         Ok(())
     }
 
@@ -95,22 +95,22 @@ impl Flats {
     #[inline(always)]
     fn turn(
         &mut self,
-        flood: &Flood,
+        surface: &Surface,
         shape: Shape,
         cell: Cell,
         direction: Direction,
         level: i16,
         rank: u32,
     ) -> Result<(), OutOfMemory>
-        requires same { self.old.extent ≡ flood.now.extent }
+        requires same { self.old.extent ≡ surface.now.extent }
         requires same_shape { shape ≡ self.old.extent }
         requires inside { IsCellOf self.old.extent cell }
         requires inner { IsInnerPlace self.old.extent cell }
         ensures extent { self.new.extent ≡ self.old.extent }
         ensures work { OnOk result ((first : Laying) → IsLessWalk first self.old → IsLessWalk first self.new) }
-        ensures around { OnOk result ((g : Grid) (k : ℕ) (busy : List ℕ) (i : ℕ) → g.extent ≡ self.old.extent → level ≡ con_at g.extent flood.now cell → direction ≡ get_or directions i East → IsWalked g flood.now self.old k busy cell rank i → IsWalked g flood.now self.new k busy cell rank (i + 1)) }
+        ensures around { OnOk result ((g : Grid) (k : ℕ) (busy : List ℕ) (i : ℕ) → g.extent ≡ self.old.extent → level ≡ con_at g.extent surface.now cell → direction ≡ get_or directions i East → IsWalked g surface.now self.old k busy cell rank i → IsWalked g surface.now self.new k busy cell rank (i + 1)) }
     {
-        self.look(flood, shape, cell, true, direction, level, rank)?;
+        self.look(surface, shape, cell, true, direction, level, rank)?;
         Ok(())
     }
 
@@ -118,21 +118,21 @@ impl Flats {
     #[inline(never)]
     fn walk_at_edge(
         &mut self,
-        flood: &Flood,
+        surface: &Surface,
         shape: Shape,
         cell: Cell,
         level: i16,
         rank: u32,
     ) -> Result<(), OutOfMemory>
-        requires same { self.old.extent ≡ flood.now.extent }
+        requires same { self.old.extent ≡ surface.now.extent }
         requires same_shape { shape ≡ self.old.extent }
         requires inside { IsCellOf self.old.extent cell }
         ensures extent { self.new.extent ≡ self.old.extent }
         ensures work { OnOk result (IsLessWalk self.old self.new) }
-        ensures around { OnOk result ((g : Grid) (k : ℕ) (busy : List ℕ) → g.extent ≡ self.old.extent → level ≡ con_at g.extent flood.now cell → IsWalked g flood.now self.old k busy cell rank 0 → IsPassed g flood.now self.new k busy cell) }
+        ensures around { OnOk result ((g : Grid) (k : ℕ) (busy : List ℕ) → g.extent ≡ self.old.extent → level ≡ con_at g.extent surface.now cell → IsWalked g surface.now self.old k busy cell rank 0 → IsPassed g surface.now self.new k busy cell) }
     {
         for direction in Direction::ALL {
-            self.look(flood, shape, cell, false, direction, level, rank)?;
+            self.look(surface, shape, cell, false, direction, level, rank)?;
         }
         Ok(())
     }
@@ -141,7 +141,7 @@ impl Flats {
     #[inline(always)]
     fn look(
         &mut self,
-        flood: &Flood,
+        surface: &Surface,
         shape: Shape,
         cell: Cell,
         inner: bool,
@@ -149,14 +149,14 @@ impl Flats {
         level: i16,
         rank: u32,
     ) -> Result<(), OutOfMemory>
-        requires same { self.old.extent ≡ flood.now.extent }
+        requires same { self.old.extent ≡ surface.now.extent }
         requires same_shape { shape ≡ self.old.extent }
         requires inside { IsCellOf self.old.extent cell }
         requires inner { IsTrue inner → IsInnerPlace self.old.extent cell }
         ensures extent { self.new.extent ≡ self.old.extent }
-        ensures look { OnOk result (IsWalk self.old.extent flood.now self.old self.new cell direction level rank) }
+        ensures look { OnOk result (IsWalk self.old.extent surface.now self.old self.new cell direction level rank) }
     {
-        match self.fresh(flood, shape, cell, inner, direction, level) {
+        match self.fresh(surface, shape, cell, inner, direction, level) {
             Some(next) => {
                 self.settle(next, code(direction.opposite()), rank)?;
                 Ok(())
@@ -169,24 +169,24 @@ impl Flats {
     #[inline(always)]
     fn fresh(
         &self,
-        flood: &Flood,
+        surface: &Surface,
         shape: Shape,
         cell: Cell,
         inner: bool,
         direction: Direction,
         level: i16,
     ) -> Option<usize>
-        requires same { self.now.extent ≡ flood.now.extent }
+        requires same { self.now.extent ≡ surface.now.extent }
         requires same_shape { shape ≡ self.now.extent }
         requires inside { IsCellOf self.now.extent cell }
         requires inner { IsTrue inner → IsInnerPlace self.now.extent cell }
         ensures below { IfSome result (λ place. place < self.now.extent.rows * self.now.extent.cols) }
-        ensures fresh { MatchOption result ((n : Cell) → IsFlatAt self.now.extent flood.now self.now cell direction level n → ⊥) (IsFlatPlace self.now.extent flood.now self.now cell direction level) }
+        ensures fresh { MatchOption result ((n : Cell) → IsFlatAt self.now.extent surface.now self.now cell direction level n → ⊥) (IsFlatPlace self.now.extent surface.now self.now cell direction level) }
     {
         match beside(shape, cell, inner, direction) {
             Some(next) => {
                 if self.way_at(next) == REACHED {
-                    if flood.level_at(next) == level {
+                    if surface.level_at(next) == level {
                         Some(next)
                     } else {
                         None

@@ -16,9 +16,9 @@ ghost use Rattle.drain_surface.specs.Flats.{first_rank, AreFirstRanks, Laying, w
 ghost use Rattle.drain_surface.specs.Walks.{IsFlatAt, IsFlatPlace, IsLowEdgeAt, IsLowEdgeThere, IsWalk, IsPassed, IsLessWalk, IsNextPlace, IsDonePlaces};
 
 use crate::codes::{NO_RANK, REACHED, VOID};
-use crate::flood::Flood;
-use crate::layers::room_for_ranks;
+use crate::layers::{no_places, room_for_ranks};
 use crate::places::cell_at;
+use crate::surface::Surface;
 use crate::ways::{code, directions};
 use drain_grid::{Cell, Direction, OutOfMemory, Shape};
 use std::alloc::Global;
@@ -50,13 +50,13 @@ impl Model for Flats {
 }
 
 /// The way and the rank of each cell of a filled surface.
-pub fn ways_on_flats(alloc: Global, flood: &Flood) -> Result<Flats, OutOfMemory>
-    ensures extent { IfOk result (λ flats. flats.extent ≡ flood.now.extent) }
-    ensures ways { IfOk result (λ flats. (g : Grid) → g.extent ≡ flood.now.extent → IsFlooded g flood.now → AreWaysOnFlats g flood.now flats) }
+pub fn ways_on_flats(alloc: Global, surface: &Surface) -> Result<Flats, OutOfMemory>
+    ensures extent { IfOk result (λ flats. flats.extent ≡ surface.now.extent) }
+    ensures ways { IfOk result (λ flats. (g : Grid) → g.extent ≡ surface.now.extent → IsFlooded g surface.now → AreWaysOnFlats g surface.now flats) }
 {
-    let mut flats = Flats::start(alloc, flood)?;
-    flats.find_low_edges(flood)?;
-    flats.spread(flood)?;
+    let mut flats = Flats::start(alloc, surface)?;
+    flats.find_low_edges(surface)?;
+    flats.spread(surface)?;
     Ok(flats)
 }
 
@@ -80,47 +80,48 @@ impl Flats {
     }
 
     /// The codes of ways down and of outlets; cells of flats have none yet.
-    fn start(alloc: Global, flood: &Flood) -> Result<Flats, OutOfMemory>
-        ensures extent { IfOk result (λ flats. flats.extent ≡ flood.now.extent) }
-        ensures laid { IfOk result (λ flats. (g : Grid) → g.extent ≡ flood.now.extent → IsFlooded g flood.now → AreLaid g flood.now flats 0 []) }
+    fn start(alloc: Global, surface: &Surface) -> Result<Flats, OutOfMemory>
+        ensures extent { IfOk result (λ flats. flats.extent ≡ surface.now.extent) }
+        ensures laid { IfOk result (λ flats. (g : Grid) → g.extent ≡ surface.now.extent → IsFlooded g surface.now → AreLaid g surface.now flats 0 []) }
     {
-        let shape = flood.shape();
-        let way = directions(alloc, flood)?;
+        let shape = surface.shape();
+        let way = directions(alloc, surface)?;
         let rnk = first_ranks(alloc, way.as_slice())?;
+        let trail = no_places(alloc)?;
         Ok(Flats {
             shape,
-            inverse: flood.inverse(),
+            inverse: surface.inverse(),
             way,
             rnk,
-            trail: Vec::new(alloc),
+            trail,
             head: 0,
         })
     }
 
     /// Settles the cells of flats next to low edges: each gets its way.
-    fn find_low_edges(&mut self, flood: &Flood) -> Result<(), OutOfMemory>
-        requires same { self.old.extent ≡ flood.now.extent }
+    fn find_low_edges(&mut self, surface: &Surface) -> Result<(), OutOfMemory>
+        requires same { self.old.extent ≡ surface.now.extent }
         ensures extent { self.new.extent ≡ self.old.extent }
-        ensures laid { OnOk result ((g : Grid) → g.extent ≡ self.old.extent → AreLaid g flood.now self.old 0 [] → AreLaid g flood.now self.new (self.old.extent.rows * self.old.extent.cols) []) }
+        ensures laid { OnOk result ((g : Grid) → g.extent ≡ self.old.extent → AreLaid g surface.now self.old 0 [] → AreLaid g surface.now self.new (self.old.extent.rows * self.old.extent.cols) []) }
     {
         for place in 0..self.shape.cells() {
-            self.look_for(flood, place)?;
+            self.look_for(surface, place)?;
         }
         Ok(())
     }
 
     /// Settles the cell at a place, if it has no way and is next to a low edge.
-    fn look_for(&mut self, flood: &Flood, place: usize) -> Result<(), OutOfMemory>
-        requires same { self.old.extent ≡ flood.now.extent }
+    fn look_for(&mut self, surface: &Surface, place: usize) -> Result<(), OutOfMemory>
+        requires same { self.old.extent ≡ surface.now.extent }
         requires below { place < self.old.extent.rows * self.old.extent.cols }
         ensures extent { self.new.extent ≡ self.old.extent }
-        ensures laid { OnOk result ((g : Grid) → g.extent ≡ self.old.extent → AreLaid g flood.now self.old place [] → AreLaid g flood.now self.new (place + 1) []) }
+        ensures laid { OnOk result ((g : Grid) → g.extent ≡ self.old.extent → AreLaid g surface.now self.old place [] → AreLaid g surface.now self.new (place + 1) []) }
     {
         if self.way_at(place) != REACHED {
             return Ok(());
         }
         let cell = cell_at(self.shape, self.inverse, place);
-        match self.low_edge(flood, cell, flood.level_at(place)) {
+        match self.low_edge(surface, cell, surface.level_at(place)) {
             Some(direction) => {
                 self.settle(place, code(direction), 1)?;
                 Ok(())
@@ -130,13 +131,13 @@ impl Flats {
     }
 
     /// Walks inwards from the cells of the trail.
-    fn spread(&mut self, flood: &Flood) -> Result<(), OutOfMemory>
-        requires same { self.old.extent ≡ flood.now.extent }
+    fn spread(&mut self, surface: &Surface) -> Result<(), OutOfMemory>
+        requires same { self.old.extent ≡ surface.now.extent }
         ensures extent { self.new.extent ≡ self.old.extent }
-        ensures ways { OnOk result ((g : Grid) → g.extent ≡ self.old.extent → IsFlooded g flood.now → AreLaid g flood.now self.old (self.old.extent.rows * self.old.extent.cols) [] → AreWaysOnFlats g flood.now self.new) }
+        ensures ways { OnOk result ((g : Grid) → g.extent ≡ self.old.extent → IsFlooded g surface.now → AreLaid g surface.now self.old (self.old.extent.rows * self.old.extent.cols) [] → AreWaysOnFlats g surface.now self.new) }
     {
         while let Some(cell) = self.next() {
-            self.look_around(flood, cell)?;
+            self.look_around(surface, cell)?;
         }
         Ok(())
     }

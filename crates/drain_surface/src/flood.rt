@@ -23,10 +23,11 @@ ghost use Rattle.drain_surface.specs.Turns.{with_lists, IsNextTurn, IsDone, IsPo
 
 use crate::codes::{NO_HEIGHT, OPEN, REACHED, UNREACHED, VOID};
 use crate::laws::flood_is_filled;
-use crate::layers::{heights, marks};
+use crate::layers::{copied, heights, marks, no_places};
 use crate::level_queue::LevelQueue;
 use crate::open_cells::{is_gap_in, is_one, is_open};
 use crate::places::{cell_at, columns_inverse};
+use crate::surface::Surface;
 use crate::tracing::spread;
 use drain_grid::{Cell, Direction, Elevation, OutOfMemory, Shape, Sinks};
 use std::alloc::Global;
@@ -80,6 +81,16 @@ impl Flood {
         self.con
     }
 
+    /// The surface, without what only the flood needs, which is freed. Its heights are copied into memory of just their
+    /// size: where the elevations were, if these are freed before.
+    pub fn into_surface(self, alloc: Global) -> Result<Surface, OutOfMemory>
+        ensures extent { IfOk result (λ surface. surface.extent ≡ self.extent) }
+        ensures flooded { IfOk result (λ surface. (g : Grid) → IsFlooded g self → IsFlooded g surface) }
+    {
+        let con = copied(alloc, &self.con)?;
+        Ok(Surface::new(self.shape, self.inverse, con, self.mark))
+    }
+
     /// A flood at a level below all ground: the open cells are reached, each at its ground, and are on the trail.
     #[inline(never)]
     fn start(alloc: Global, elevation: &Elevation, sinks: &Sinks) -> Result<Flood, OutOfMemory>
@@ -106,12 +117,13 @@ impl Flood {
         let con = heights(alloc, NO_HEIGHT, cells)?;
         let mark = marks(alloc, VOID, cells)?;
         let queue = LevelQueue::new(alloc, cells)?;
+        let trail = no_places(alloc)?;
         Ok(Flood {
             shape,
             inverse: columns_inverse(shape),
             con,
             mark,
-            trail: Vec::new(alloc),
+            trail,
             queue,
         })
     }
@@ -246,22 +258,6 @@ impl Flood {
         ensures no { slice_index_or self.now.mark place 0 ≡ UNREACHED → IsTrue result }
     {
         self.mark[place] == UNREACHED
-    }
-
-    /// The heights of all cells, in row order.
-    pub(crate) fn heights(&self) -> &[i16]
-        ensures heights { result.now ≡ self.now.con }
-        ensures counted { length result.now ≡ self.now.extent.rows * self.now.extent.cols }
-    {
-        self.con.as_slice()
-    }
-
-    /// The marks of all cells, in row order.
-    pub(crate) fn marks(&self) -> &[u8]
-        ensures marks { result.now ≡ self.now.mark }
-        ensures counted { length result.now ≡ self.now.extent.rows * self.now.extent.cols }
-    {
-        self.mark.as_slice()
     }
 
     /// Reaches the cell at a place, and puts it at the end of the trail.

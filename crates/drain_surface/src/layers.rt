@@ -1,16 +1,33 @@
-//! Lists of numbers, one for each cell: filled with one value, or empty with room for each.
+//! Lists of numbers, one for each cell: filled with one value, or empty with room for each; and lists of places.
+//!
+//! Most are freed while products are made. glibc returns a block of more than 32 MiB to the system when it is freed, but
+//! may keep a smaller one. So these lists have room for more than 32 MiB; what isn't used of it costs no memory.
 
 ghost use Rattle.std.specs.Prelude.{◌≡◌, [], All, IfOk, length};
 
 use drain_grid::OutOfMemory;
 use std::alloc::Global;
 
+/// 32 MiB and a page, in bytes.
+const ROOM: usize = 33_558_528;
+
 /// The same height, n times.
 pub(crate) fn heights(alloc: Global, height: i16, len: usize) -> Result<Vec<i16>, OutOfMemory>
     ensures counted { IfOk result (λ heights. length heights.items ≡ len) }
     ensures same { IfOk result (λ heights. All (λ x. x ≡ height) heights.items) }
 {
-    Ok(vec![in alloc; height; len]?)
+    let mut heights = Vec::with_capacity(alloc, len.max(ROOM / 2))?;
+    heights.resize(len, height)?;
+    Ok(heights)
+}
+
+/// The same heights, in memory of just their size.
+pub(crate) fn copied(alloc: Global, heights: &[i16]) -> Result<Vec<i16>, OutOfMemory>
+    ensures { IfOk result (λ copy. copy.items ≡ heights.now) }
+{
+    let mut copy = Vec::with_capacity(alloc, heights.len())?;
+    copy.extend_from_slice(heights)?;
+    Ok(copy)
 }
 
 /// The same mark, n times.
@@ -18,7 +35,16 @@ pub(crate) fn marks(alloc: Global, mark: u8, len: usize) -> Result<Vec<u8>, OutO
     ensures counted { IfOk result (λ marks. length marks.items ≡ len) }
     ensures same { IfOk result (λ marks. All (λ x. x ≡ mark) marks.items) }
 {
-    Ok(vec![in alloc; mark; len]?)
+    let mut marks = Vec::with_capacity(alloc, len.max(ROOM))?;
+    marks.resize(len, mark)?;
+    Ok(marks)
+}
+
+/// No place.
+pub(crate) fn no_places(alloc: Global) -> Result<Vec<u32>, OutOfMemory>
+    ensures { IfOk result (λ places. places.items ≡ []) }
+{
+    Ok(Vec::with_capacity(alloc, ROOM / 4)?)
 }
 
 /// Room for lanes or codes of a row, all 0.

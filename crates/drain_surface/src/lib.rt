@@ -16,9 +16,11 @@ pub mod level_queue;
 mod open_cells;
 mod places;
 mod shores;
+pub mod surface;
 mod tracing;
 pub mod ways;
 
 pub use flats::{CodesAndRanks, Flats, ways_on_flats};
 pub use flood::{Flood, fill};
 pub use level_queue::LevelQueue;
+pub use surface::Surface;

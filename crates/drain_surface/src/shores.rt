@@ -8,22 +8,23 @@ ghost use Rattle.drain_surface.specs.Walks.{IsLowEdgeThere};
 
 use crate::codes::{REACHED, VOID};
 use crate::flats::Flats;
-use crate::flood::{Flood, is_same};
+use crate::flood::is_same;
 use crate::places::{beside, is_inner};
+use crate::surface::Surface;
 use drain_grid::{Cell, Direction, Shape};
 
 impl Flats {
     /// The first direction in which there is a low edge.
-    pub(crate) fn low_edge(&self, flood: &Flood, cell: Cell, level: i16) -> Option<Direction>
-        requires same { self.now.extent ≡ flood.now.extent }
+    pub(crate) fn low_edge(&self, surface: &Surface, cell: Cell, level: i16) -> Option<Direction>
+        requires same { self.now.extent ≡ surface.now.extent }
         requires inside { IsCellOf self.now.extent cell }
-        ensures { MatchOption result ((d : Direction) → IsLowEdgeThere self.now.extent flood.now self.now cell level d → ⊥) (IsLowEdgeThere self.now.extent flood.now self.now cell level) }
+        ensures { MatchOption result ((d : Direction) → IsLowEdgeThere self.now.extent surface.now self.now cell level d → ⊥) (IsLowEdgeThere self.now.extent surface.now self.now cell level) }
     {
         let shape = self.shape();
         if is_inner(shape, cell) {
-            self.low_edge_inside(flood, shape, cell, level)
+            self.low_edge_inside(surface, shape, cell, level)
         } else {
-            self.low_edge_at_edge(flood, shape, cell, level)
+            self.low_edge_at_edge(surface, shape, cell, level)
         }
     }
 
@@ -31,39 +32,39 @@ impl Flats {
     #[inline(always)]
     fn low_edge_inside(
         &self,
-        flood: &Flood,
+        surface: &Surface,
         shape: Shape,
         cell: Cell,
         level: i16,
     ) -> Option<Direction>
-        requires same { self.now.extent ≡ flood.now.extent }
+        requires same { self.now.extent ≡ surface.now.extent }
         requires same_shape { shape ≡ self.now.extent }
         requires inside { IsCellOf self.now.extent cell }
         requires inner { IsInnerPlace self.now.extent cell }
-        ensures { MatchOption result ((d : Direction) → IsLowEdgeThere self.now.extent flood.now self.now cell level d → ⊥) (IsLowEdgeThere self.now.extent flood.now self.now cell level) }
+        ensures { MatchOption result ((d : Direction) → IsLowEdgeThere self.now.extent surface.now self.now cell level d → ⊥) (IsLowEdgeThere self.now.extent surface.now self.now cell level) }
     {
-        if self.is_low_edge(flood, shape, cell, true, Direction::East, level) {
+        if self.is_low_edge(surface, shape, cell, true, Direction::East, level) {
             return Some(Direction::East);
         }
-        if self.is_low_edge(flood, shape, cell, true, Direction::SouthEast, level) {
+        if self.is_low_edge(surface, shape, cell, true, Direction::SouthEast, level) {
             return Some(Direction::SouthEast);
         }
-        if self.is_low_edge(flood, shape, cell, true, Direction::South, level) {
+        if self.is_low_edge(surface, shape, cell, true, Direction::South, level) {
             return Some(Direction::South);
         }
-        if self.is_low_edge(flood, shape, cell, true, Direction::SouthWest, level) {
+        if self.is_low_edge(surface, shape, cell, true, Direction::SouthWest, level) {
             return Some(Direction::SouthWest);
         }
-        if self.is_low_edge(flood, shape, cell, true, Direction::West, level) {
+        if self.is_low_edge(surface, shape, cell, true, Direction::West, level) {
             return Some(Direction::West);
         }
-        if self.is_low_edge(flood, shape, cell, true, Direction::NorthWest, level) {
+        if self.is_low_edge(surface, shape, cell, true, Direction::NorthWest, level) {
             return Some(Direction::NorthWest);
         }
-        if self.is_low_edge(flood, shape, cell, true, Direction::North, level) {
+        if self.is_low_edge(surface, shape, cell, true, Direction::North, level) {
             return Some(Direction::North);
         }
-        if self.is_low_edge(flood, shape, cell, true, Direction::NorthEast, level) {
+        if self.is_low_edge(surface, shape, cell, true, Direction::NorthEast, level) {
             return Some(Direction::NorthEast);
         }
         None
@@ -73,18 +74,18 @@ impl Flats {
     #[inline(never)]
     fn low_edge_at_edge(
         &self,
-        flood: &Flood,
+        surface: &Surface,
         shape: Shape,
         cell: Cell,
         level: i16,
     ) -> Option<Direction>
-        requires same { self.now.extent ≡ flood.now.extent }
+        requires same { self.now.extent ≡ surface.now.extent }
         requires same_shape { shape ≡ self.now.extent }
         requires inside { IsCellOf self.now.extent cell }
-        ensures { MatchOption result ((d : Direction) → IsLowEdgeThere self.now.extent flood.now self.now cell level d → ⊥) (IsLowEdgeThere self.now.extent flood.now self.now cell level) }
+        ensures { MatchOption result ((d : Direction) → IsLowEdgeThere self.now.extent surface.now self.now cell level d → ⊥) (IsLowEdgeThere self.now.extent surface.now self.now cell level) }
     {
         for direction in Direction::ALL {
-            if self.is_low_edge(flood, shape, cell, false, direction, level) {
+            if self.is_low_edge(surface, shape, cell, false, direction, level) {
                 return Some(direction);
             }
         }
@@ -95,19 +96,19 @@ impl Flats {
     #[inline(always)]
     fn is_low_edge(
         &self,
-        flood: &Flood,
+        surface: &Surface,
         shape: Shape,
         cell: Cell,
         inner: bool,
         direction: Direction,
         level: i16,
     ) -> bool
-        requires same { self.now.extent ≡ flood.now.extent }
+        requires same { self.now.extent ≡ surface.now.extent }
         requires same_shape { shape ≡ self.now.extent }
         requires inside { IsCellOf self.now.extent cell }
         requires inner { IsTrue inner → IsInnerPlace self.now.extent cell }
-        ensures yes { IsTrue result → IsLowEdgeThere self.now.extent flood.now self.now cell level direction }
-        ensures no { IsLowEdgeThere self.now.extent flood.now self.now cell level direction → IsTrue result }
+        ensures yes { IsTrue result → IsLowEdgeThere self.now.extent surface.now self.now cell level direction }
+        ensures no { IsLowEdgeThere self.now.extent surface.now self.now cell level direction → IsTrue result }
     {
         match beside(shape, cell, inner, direction) {
             Some(next) => {
@@ -121,7 +122,7 @@ impl Flats {
                 if self.rank_at(next) != 0 {
                     return false;
                 }
-                is_same(flood.level_at(next), level)
+                is_same(surface.level_at(next), level)
             }
             None => false,
         }

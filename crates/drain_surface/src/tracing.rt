@@ -13,6 +13,7 @@ ghost use Rattle.drain_surface.specs.Floods.{unreached, IsFloodOf, IsFlooded};
 use crate::codes::NO_HEIGHT;
 use crate::flood::{Flood, is_same};
 use crate::later::{defer, take_last};
+use crate::layers::no_places;
 use drain_grid::{Cell, OutOfMemory};
 use std::alloc::Global;
 
@@ -22,7 +23,7 @@ pub(crate) fn spread(flood: &mut Flood, alloc: Global) -> Result<(), OutOfMemory
     ensures extent { flood.new.extent ≡ flood.old.extent }
     ensures flooded { OnOk result ((g : Grid) → g.extent ≡ flood.old.extent → IsFloodOf g flood.old NO_HEIGHT [] → IsFlooded g flood.new) }
 {
-    let mut later = Vec::new(alloc);
+    let mut later = no_places(alloc)?;
     trace(flood, &mut later, NO_HEIGHT)?;
     while let Some((level, cell)) = flood.pop() {
         flood.look_around(cell, level, true)?;

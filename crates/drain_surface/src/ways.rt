@@ -12,36 +12,36 @@ ghost use Rattle.drain_surface.specs.Ways.{AreFirstCodes};
 
 use crate::codes::VOID;
 use crate::falls::put_row;
-use crate::flood::Flood;
 use crate::layers::{lanes, marks};
+use crate::surface::Surface;
 use drain_grid::{Direction, OutOfMemory};
 use std::alloc::Global;
 
 /// The codes in row order: VOID at voids, OPEN at outlets, REACHED at closed cells without a lower neighbour.
 #[inline(never)]
-pub fn directions(alloc: Global, flood: &Flood) -> Result<Vec<u8>, OutOfMemory>
-    ensures counted { IfOk result (λ dirs. length dirs.items ≡ flood.now.extent.rows * flood.now.extent.cols) }
-    ensures codes { IfOk result (λ dirs. (g : Grid) → g.extent ≡ flood.now.extent → IsFlooded g flood.now → AreFirstCodes g flood.now dirs.items) }
+pub fn directions(alloc: Global, surface: &Surface) -> Result<Vec<u8>, OutOfMemory>
+    ensures counted { IfOk result (λ dirs. length dirs.items ≡ surface.now.extent.rows * surface.now.extent.cols) }
+    ensures codes { IfOk result (λ dirs. (g : Grid) → g.extent ≡ surface.now.extent → IsFlooded g surface.now → AreFirstCodes g surface.now dirs.items) }
 {
-    let shape = flood.shape();
+    let shape = surface.shape();
     let mut dirs = marks(alloc, VOID, shape.cells())?;
-    put_all(alloc, flood, dirs.as_mut_slice())?;
+    put_all(alloc, surface, dirs.as_mut_slice())?;
     Ok(dirs)
 }
 
 /// Puts the code of each cell at its place.
-fn put_all(alloc: Global, flood: &Flood, dirs: &mut [u8]) -> Result<(), OutOfMemory>
-    requires { length dirs.old ≡ flood.now.extent.rows * flood.now.extent.cols }
+fn put_all(alloc: Global, surface: &Surface, dirs: &mut [u8]) -> Result<(), OutOfMemory>
+    requires { length dirs.old ≡ surface.now.extent.rows * surface.now.extent.cols }
     ensures counted { length dirs.new ≡ length dirs.old }
-    ensures codes { OnOk result ((g : Grid) → g.extent ≡ flood.now.extent → IsFlooded g flood.now → AreFirstCodes g flood.now dirs.new) }
+    ensures codes { OnOk result ((g : Grid) → g.extent ≡ surface.now.extent → IsFlooded g surface.now → AreFirstCodes g surface.now dirs.new) }
 {
-    let cols = flood.shape().cols() as usize;
+    let cols = surface.shape().cols() as usize;
     let mut above = lanes(alloc, cols + 2)?;
     let mut here = lanes(alloc, cols + 2)?;
     let mut below = lanes(alloc, cols + 2)?;
     let mut codes = lanes(alloc, cols)?;
     put_rows(
-        flood,
+        surface,
         above.as_mut_slice(),
         here.as_mut_slice(),
         below.as_mut_slice(),
@@ -53,23 +53,23 @@ fn put_all(alloc: Global, flood: &Flood, dirs: &mut [u8]) -> Result<(), OutOfMem
 
 /// The same, with room for three rows of lanes and for the codes of a row.
 fn put_rows(
-    flood: &Flood,
+    surface: &Surface,
     above: &mut [u16],
     here: &mut [u16],
     below: &mut [u16],
     codes: &mut [u16],
     dirs: &mut [u8],
 )
-    requires above_len { length above.old ≡ flood.now.extent.cols + 2 }
-    requires here_len { length here.old ≡ flood.now.extent.cols + 2 }
-    requires below_len { length below.old ≡ flood.now.extent.cols + 2 }
-    requires codes_len { length codes.old ≡ flood.now.extent.cols }
-    requires dirs_len { length dirs.old ≡ flood.now.extent.rows * flood.now.extent.cols }
+    requires above_len { length above.old ≡ surface.now.extent.cols + 2 }
+    requires here_len { length here.old ≡ surface.now.extent.cols + 2 }
+    requires below_len { length below.old ≡ surface.now.extent.cols + 2 }
+    requires codes_len { length codes.old ≡ surface.now.extent.cols }
+    requires dirs_len { length dirs.old ≡ surface.now.extent.rows * surface.now.extent.cols }
     ensures counted { length dirs.new ≡ length dirs.old }
-    ensures codes { (g : Grid) → g.extent ≡ flood.now.extent → IsFlooded g flood.now → AreFirstCodes g flood.now dirs.new }
+    ensures codes { (g : Grid) → g.extent ≡ surface.now.extent → IsFlooded g surface.now → AreFirstCodes g surface.now dirs.new }
 {
-    for row in 0..flood.shape().rows() {
-        put_row(flood, row, above, here, below, codes, dirs);
+    for row in 0..surface.shape().rows() {
+        put_row(surface, row, above, here, below, codes, dirs);
     }
 }
 

@@ -5,7 +5,7 @@ use Rattle.drain_surface.proofs.falls.lay_row.Goals as goal
 
 pub returns-then-down-rows-clause-lanes : goal.returns-then-down-rows-clause-lanes
 returns-then-down-rows-clause-lanes c =
-    let f = c.args.flood.now in
+    let f = c.args.surface.now in
     let shape = c.shape-shape.ensures in
     laid_row f.extent f c.args.down c.row_start.result _ c.lay_heights.new.lanes c.if-down-gt0.true
     (subst (λ e. c.args.down ≤ e.rows) shape (omega arith)) (c.row_start.ensures.place ∙ ap (λ e. (c.args.down - 1) * e.cols) shape) c.requires

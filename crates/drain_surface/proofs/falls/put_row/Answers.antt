@@ -5,7 +5,7 @@ use Rattle.drain_surface.proofs.falls.put_row.Goals as goal
 
 pub returns-clause-row : goal.returns-clause-row
 returns-clause-row c = λ g same flooded cell inside at.
-    (let f = c.args.flood.now in
+    (let f = c.args.surface.now in
     let row = c.args.row in
     let a = c.lay_row.new.lanes in
     let h = c.lay_row-2.new.lanes in

@@ -6,4 +6,4 @@ use Rattle.drain_surface.proofs.LaneRows.{AreRowCodes}
 use Rattle.drain_surface.proofs.ways.put_rows.Given as goal
 
 abbrev pub invariant-loop-row : goal.invariant-loop-row
-invariant-loop-row l = (g : Grid) → g.extent ≡ l.flood.extent → IsFlooded g l.flood → AreRowCodes g l.flood l.row l.dirs
+invariant-loop-row l = (g : Grid) → g.extent ≡ l.surface.extent → IsFlooded g l.surface → AreRowCodes g l.surface l.row l.dirs

@@ -7,5 +7,5 @@ use Rattle.drain_surface.proofs.flats.Flats.find_low_edges.Given as goal
 abbrev pub invariant-loop-place : goal.invariant-loop-place
 invariant-loop-place l = record {
   extent : l.self.extent ≡ l.fn.self.extent;
-  laid : (g : Grid) → g.extent ≡ l.fn.self.extent → AreLaid g l.flood l.fn.self 0 [] → AreLaid g l.flood l.self l.place [];
+  laid : (g : Grid) → g.extent ≡ l.fn.self.extent → AreLaid g l.surface l.fn.self 0 [] → AreLaid g l.surface l.self l.place [];
 }

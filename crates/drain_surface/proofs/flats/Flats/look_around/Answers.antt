@@ -11,7 +11,7 @@ use Rattle.drain_surface.proofs.flats.Flats.look_around.Goals as goal
 pub returns-clause-around : goal.returns-clause-around
 returns-clause-around c = λ g k busy same settled laid.
     (let s = c.args.self.now in
-    let f = c.args.flood.now in
+    let f = c.args.surface.now in
     let fits : SFits w16 c.level_at-level.result = search rules in
     let place : c.index-place.result ≡ index_of s.extent c.args.cell = c.index-place.ensures.place ∙ ap (λ e. index_of e c.args.cell) c.shape-shape.ensures in
     let place_g : c.index-place.result ≡ index_of g.extent c.args.cell = place ∙ ap (λ e. index_of e c.args.cell) (sym same) in

@@ -12,12 +12,12 @@ use Rattle.drain_surface.proofs.flats.Flats.look_for.Goals as goal
 
 pub returns-then-way_at-clause-laid : goal.returns-then-way_at-clause-laid
 returns-then-way_at-clause-laid c = λ g same laid.
-    looked_coded g c.args.flood.now c.args.self.now c.args.place (λ h. c.if-way_at.true (c.way_at.ensures ∙ h)) laid
+    looked_coded g c.args.surface.now c.args.self.now c.args.place (λ h. c.if-way_at.true (c.way_at.ensures ∙ h)) laid
 
 pub returns-in_ok-settle-in-Some-clause-laid : goal.returns-in_ok-settle-in-Some-clause-laid
 returns-in_ok-settle-in-Some-clause-laid c = λ g same laid.
     (let s = c.args.self.now in
-    let f = c.args.flood.now in
+    let f = c.args.surface.now in
     let cell = c.cell_at-cell.result in
     let new = c.settle.new.self in
     let level = to_z w16 (of_z w16 c.level_at.result) in
@@ -40,7 +40,7 @@ returns-in_ok-settle-in-Some-clause-laid c = λ g same laid.
 pub returns-in-None-clause-laid : goal.returns-in-None-clause-laid
 returns-in-None-clause-laid c = λ g same laid.
     (let s = c.args.self.now in
-    let f = c.args.flood.now in
+    let f = c.args.surface.now in
     let cell = c.cell_at-cell.result in
     let level = to_z w16 (of_z w16 c.level_at.result) in
     let fits : SFits w16 c.level_at.result = search rules in

@@ -15,7 +15,7 @@ loop-direction-preserved c = λ i less there.
     let level = to_z w16 (of_z w16 c.args.level) in
     elim (cases_order i c.loop-direction.direction-index) [
       | inl here ↦ false≢true (sym c.if-is_low_edge.false ∙ c.is_low_edge.ensures.no
-          (subst (λ j. IsLowEdgeThere s.extent c.args.flood.now s c.args.cell level (get_or directions j East)) here there))
+          (subst (λ j. IsLowEdgeThere s.extent c.args.surface.now s c.args.cell level (get_or directions j East)) here there))
       | inr (inl before) ↦ c.loop-direction.invariant i before there
       | inr (inr after) ↦ absurd (omega (arith, less, after))
     ])
@@ -28,5 +28,5 @@ returns c = λ d there.
     (let s = c.args.self.now in
     let place = at_place d in
     c.loop-direction.invariant (order_of d) (within (order_of d) c.loop-direction.direction-index (omega arith) place.1)
-    (subst (λ x. IsLowEdgeThere s.extent c.args.flood.now s c.args.cell (to_z w16 (of_z w16 c.args.level)) x) (sym place.0)
-    (subst (λ z. IsLowEdgeThere s.extent c.args.flood.now s c.args.cell z d) (sym (to_z-of_z w16 c.args.level c.ranges.level)) there)))
+    (subst (λ x. IsLowEdgeThere s.extent c.args.surface.now s c.args.cell (to_z w16 (of_z w16 c.args.level)) x) (sym place.0)
+    (subst (λ z. IsLowEdgeThere s.extent c.args.surface.now s c.args.cell z d) (sym (to_z-of_z w16 c.args.level c.ranges.level)) there)))

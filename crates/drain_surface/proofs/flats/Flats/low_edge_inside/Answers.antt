@@ -11,8 +11,8 @@ use Rattle.drain_surface.proofs.flats.Flats.low_edge_inside.Goals as goal
 pub returns : goal.returns
 returns c = λ d there.
     (let s = c.args.self.now in
-    let P : Direction → Type 0 = IsLowEdgeThere s.extent c.args.flood.now s c.args.cell (to_z w16 (of_z w16 c.args.level)) in
-    let held : P d = subst (λ z. IsLowEdgeThere s.extent c.args.flood.now s c.args.cell z d) (sym (to_z-of_z w16 c.args.level c.ranges.level)) there in
+    let P : Direction → Type 0 = IsLowEdgeThere s.extent c.args.surface.now s c.args.cell (to_z w16 (of_z w16 c.args.level)) in
+    let held : P d = subst (λ z. IsLowEdgeThere s.extent c.args.surface.now s c.args.cell z d) (sym (to_z-of_z w16 c.args.level c.ranges.level)) there in
     false≢true (sym c.if-is_low_edge-8.false ∙ c.is_low_edge-8.ensures.no
     (last_direction P
     (λ h. false≢true (sym c.if-is_low_edge.false ∙ c.is_low_edge.ensures.no h))

@@ -7,8 +7,8 @@ use Rattle.drain_surface.proofs.flats.Flats.spread.Given as goal
 abbrev pub invariant-loop-cell : goal.invariant-loop-cell
 invariant-loop-cell l = record {
   extent : l.self.extent ≡ l.fn.self.extent;
-  laid : (g : Grid) → g.extent ≡ l.fn.self.extent → AreLaid g l.flood l.fn.self (l.fn.self.extent.rows * l.fn.self.extent.cols) [] →
-      AreLaid g l.flood l.self (l.fn.self.extent.rows * l.fn.self.extent.cols) [];
+  laid : (g : Grid) → g.extent ≡ l.fn.self.extent → AreLaid g l.surface l.fn.self (l.fn.self.extent.rows * l.fn.self.extent.cols) [] →
+      AreLaid g l.surface l.self (l.fn.self.extent.rows * l.fn.self.extent.cols) [];
 }
 
 abbrev pub decreases-loop-cell : goal.decreases-loop-cell

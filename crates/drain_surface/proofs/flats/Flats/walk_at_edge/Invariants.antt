@@ -9,6 +9,6 @@ abbrev pub invariant-loop-direction : goal.invariant-loop-direction
 invariant-loop-direction l = record {
   extent : l.self.extent ≡ l.fn.self.extent;
   work : IsLessWalk l.fn.self l.self;
-  around : (g : Grid) (k : ℕ) (busy : List ℕ) → g.extent ≡ l.fn.self.extent → l.level ≡ con_at g.extent l.flood l.cell →
-      IsWalked g l.flood l.fn.self k busy l.cell l.rank 0 → IsWalked g l.flood l.self k busy l.cell l.rank l.direction-index;
+  around : (g : Grid) (k : ℕ) (busy : List ℕ) → g.extent ≡ l.fn.self.extent → l.level ≡ con_at g.extent l.surface l.cell →
+      IsWalked g l.surface l.fn.self k busy l.cell l.rank 0 → IsWalked g l.surface l.self k busy l.cell l.rank l.direction-index;
 }

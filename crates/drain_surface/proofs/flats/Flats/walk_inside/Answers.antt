@@ -23,7 +23,7 @@ returns-clause-around c = λ g k busy same level_is before.
     let a6 = c.in_ok-turn-6.ensures.around g k busy 5 e5 at refl a5 in
     let a7 = c.in_ok-turn-7.ensures.around g k busy 6 e6 at refl a6 in
     let a8 = c.in_ok-turn-8.ensures.around g k busy 7 e7 at refl a7 in
-    walk_all g c.args.flood.now c.turn-8.new.self k busy c.args.cell c.args.rank 8 refl a8)
+    walk_all g c.args.surface.now c.turn-8.new.self k busy c.args.cell c.args.rank 8 refl a8)
 
 pub returns-clause-work : goal.returns-clause-work
 returns-clause-work c =
