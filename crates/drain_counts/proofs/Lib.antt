@@ -9,3 +9,4 @@ pub mod LabelLemmas
 pub mod PassedSums
 pub mod PassingLemmas
 pub mod Shares
+pub mod SameRuns

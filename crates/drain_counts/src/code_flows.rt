@@ -3,6 +3,8 @@
 ghost use Rattle.std.specs.Prelude.{◌≡◌, IfOk};
 ghost use Rattle.drain_counts.specs.CodeFlows.{bytes_flows, IsByteTable};
 
+use crate::room::room_for;
+use crate::ways::Ways;
 use drain_grid::OutOfMemory;
 use drain_paths::Flow;
 use std::alloc::Global;
@@ -15,11 +17,40 @@ pub fn flows_of_codes(alloc: Global, codes: &[u8]) -> Result<Vec<Flow>, OutOfMem
     ensures { IfOk result (λ flows. flows.items ≡ bytes_flows codes.now) }
 {
     let table = byte_table();
-    let mut flows = vec![in alloc; Flow::Void; codes.len()]?;
+    let mut flows = Vec::with_capacity(alloc, room_for(codes.len()))?;
+    flows.resize(codes.len(), Flow::Void)?;
     for place in 0..codes.len() {
         flows[place] = table[codes[place] as usize];
     }
     Ok(flows)
+}
+
+/// The flows of codes in a slice, found where they are asked for: no memory is taken.
+#[derive(Clone, Copy)]
+pub(crate) struct CodedFlows<'a> {
+    codes: &'a [u8],
+    table: [Flow; 256],
+    ghost right: { IsByteTable table },
+}
+
+impl<'a> CodedFlows<'a> {
+    pub(crate) fn new(codes: &'a [u8]) -> CodedFlows<'a>
+        ensures { ⟦<CodedFlows<'a> as Ways>⟧.flows result ≡ bytes_flows codes.now }
+    {
+        CodedFlows {
+            codes,
+            table: byte_table(),
+        }
+    }
+}
+
+impl Ways for CodedFlows<'_> {
+    ghost flows = { λ w. bytes_flows w.codes.now };
+
+    #[inline(always)]
+    fn flow(&self, place: usize) -> Flow {
+        self.table[self.codes[place] as usize]
+    }
 }
 
 /// The flow of each number of a byte, at its place.

@@ -10,6 +10,7 @@ ghost use Rattle.drain_paths.specs.declared.flow.Flow.TheVariants.{Void};
 ghost use Rattle.drain_counts.specs.OfFlows.{OfFlows};
 ghost use Rattle.drain_counts.specs.Inflows.{AreFlowLanes, AreInflows, IsInflowOf, inflow_at, lane_of};
 
+use crate::room::room_for;
 use drain_grid::{OutOfMemory, Shape};
 use drain_paths::Flow;
 use std::alloc::Global;
@@ -43,7 +44,9 @@ pub(crate) fn inflows(alloc: Global, flows: &[Flow], shape: Shape) -> Result<Vec
 fn zeros(alloc: Global, len: usize) -> Result<Vec<u8>, OutOfMemory>
     ensures { IfOk result (λ zeros. vec_len zeros ≡ len) }
 {
-    Ok(vec![in alloc; 0u8; len]?)
+    let mut zeros = Vec::with_capacity(alloc, room_for(len))?;
+    zeros.resize(len, 0u8)?;
+    Ok(zeros)
 }
 
 /// The same, with room for three rows of flows.

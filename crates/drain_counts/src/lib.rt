@@ -8,9 +8,10 @@ mod inflows;
 pub mod laws;
 mod outlets;
 mod passing;
+mod room;
 pub mod ways;
 
 pub use accumulation::accumulate;
-pub use basins::label_basins;
+pub use basins::{label_basins, label_code_basins};
 pub use code_flows::flows_of_codes;
 pub use ways::next_cell;

@@ -1,11 +1,12 @@
 //! Where the code of a cell leads, from flows alone.
 
-ghost use Rattle.std.specs.Prelude.{◌≡◌, ◌≢◌, ◌<◌, ◌≤◌, ◌*◌, length, slice_index_or, IfSome, Some};
+ghost use Rattle.std.specs.Prelude.{◌≡◌, ◌≢◌, ◌<◌, ◌≤◌, ◌*◌, List, length, slice_index_or, IfSome, Some};
 ghost use Rattle.drain_grid.specs.declared.direction.Direction.{Direction};
 ghost use Rattle.drain_grid.specs.Direction.{rows_down, cols_right};
 ghost use Rattle.drain_grid.specs.Extent.{IsCellOf};
 ghost use Rattle.drain_grid.specs.Grid.{HasData};
 ghost use Rattle.drain_grid.specs.Run.{next};
+ghost use Rattle.drain_paths.specs.declared.flow.Flow.{Flow};
 ghost use Rattle.drain_paths.specs.declared.flow.Flow.TheVariants.{Void};
 ghost use Rattle.drain_paths.specs.Flows.{direction_of, flow_at};
 ghost use Rattle.drain_counts.specs.OfFlows.{OfFlows};
@@ -13,6 +14,32 @@ ghost use Rattle.drain_counts.specs.Stepping.{stepped};
 
 use drain_grid::{Cell, Shape};
 use drain_paths::Flow;
+
+/// The flow of each cell of a grid, in row order.
+pub trait Ways {
+    /// The flows.
+    ghost flows: { Self → List Flow };
+
+    /// The flow of the cell with this many cells before it.
+    fn flow(&self, place: usize) -> Flow
+        requires { place < length (flows self.now) }
+        ensures { result ≡ slice_index_or (flows self.now) place Void };
+}
+
+/// Flows in a slice.
+#[derive(Clone, Copy)]
+pub struct ListedFlows<'a> {
+    pub flows: &'a [Flow],
+}
+
+impl Ways for ListedFlows<'_> {
+    ghost flows = { λ w. w.flows.now };
+
+    #[inline(always)]
+    fn flow(&self, place: usize) -> Flow {
+        self.flows[place]
+    }
+}
 
 /// The data cell to which the code of a data cell leads, none if it leads to none.
 pub fn next_cell(flows: &[Flow], shape: Shape, cell: Cell) -> Option<Cell>
@@ -22,13 +49,25 @@ pub fn next_cell(flows: &[Flow], shape: Shape, cell: Cell) -> Option<Cell>
     ensures has_data { IfSome result (λ n. flow_at shape flows.now n ≢ Void) }
     ensures leads { OfFlows shape flows.now (λ g ps. HasData g cell → next g ps cell ≡ result) }
 {
-    let here = flow_of_place(flows, shape.index(cell));
+    next_of(&ListedFlows { flows }, shape, cell)
+}
+
+/// The same, whatever keeps the flows.
+#[inline(always)]
+pub(crate) fn next_of<W: Ways>(ways: &W, shape: Shape, cell: Cell) -> Option<Cell>
+    requires counted { length (W.flows ways.now) ≡ shape.rows * shape.cols }
+    requires inside { IsCellOf shape cell }
+    ensures inside { IfSome result (IsCellOf shape) }
+    ensures has_data { IfSome result (λ n. flow_at shape (W.flows ways.now) n ≢ Void) }
+    ensures leads { OfFlows shape (W.flows ways.now) (λ g ps. HasData g cell → next g ps cell ≡ result) }
+{
+    let here = ways.flow(shape.index(cell));
     if here.direction().is_none() {
         return None;
     }
     match step_by(shape, cell, down(here), right(here)) {
         Some(ahead) => {
-            if flow_of_place(flows, shape.index(ahead)) == Flow::Void {
+            if ways.flow(shape.index(ahead)) == Flow::Void {
                 None
             } else {
                 Some(ahead)

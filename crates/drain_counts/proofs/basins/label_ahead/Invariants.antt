@@ -8,9 +8,9 @@ use Rattle.drain_counts.specs.OfFlows.{OfFlows}
 use Rattle.drain_counts.proofs.basins.label_ahead.Given as goal
 
 abbrev pub invariant-loop-steps : goal.invariant-loop-steps
-invariant-loop-steps l = record {
+invariant-loop-steps t l = record {
   inside : IsCellOf l.shape l.here;
-  has_data : flow_at l.shape l.flows l.here ≢ Void;
+  has_data : flow_at l.shape (t.W.Ways.flows l.ways) l.here ≢ Void;
   first : l.steps ≡ 0 → l.here ≡ l.fn.start;
-  walk : OfFlows l.shape l.flows (λ g ps. IsWalk g ps l.steps l.fn.start l.here);
+  walk : OfFlows l.shape (t.W.Ways.flows l.ways) (λ g ps. IsWalk g ps l.steps l.fn.start l.here);
 }

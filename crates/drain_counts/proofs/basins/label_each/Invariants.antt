@@ -7,12 +7,12 @@ use Rattle.drain_paths.specs.Flows.{flow_at}
 use Rattle.drain_counts.specs.OfFlows.{OfFlows}
 use Rattle.drain_counts.specs.CellNumbers.{cell_number}
 use Rattle.drain_counts.specs.Basins.{AreLabelsSoFar}
-use Rattle.drain_counts.proofs.basins.label_basins.Given as goal
+use Rattle.drain_counts.proofs.basins.label_each.Given as goal
 
 abbrev pub invariant-loop-place : goal.invariant-loop-place
-invariant-loop-place l = record {
+invariant-loop-place t l = record {
   counted : length l.labels.items ≡ l.shape.rows * l.shape.cols;
-  so_far : OfFlows l.shape l.flows (λ g ps. AreLabelsSoFar g ps l.shape l.labels.items);
-  passed : (c : Cell) → IsCellOf l.shape c → index_of l.shape c < l.place → flow_at l.shape l.flows c ≢ Void →
+  so_far : OfFlows l.shape (t.W.Ways.flows l.ways) (λ g ps. AreLabelsSoFar g ps l.shape l.labels.items);
+  passed : (c : Cell) → IsCellOf l.shape c → index_of l.shape c < l.place → flow_at l.shape (t.W.Ways.flows l.ways) c ≢ Void →
       cell_number l.shape l.labels.items c ≢ 0;
 }

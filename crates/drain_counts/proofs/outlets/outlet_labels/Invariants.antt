@@ -5,8 +5,8 @@ use Rattle.drain_counts.specs.Basins.{AreEndLabels}
 use Rattle.drain_counts.proofs.outlets.outlet_labels.Given as goal
 
 abbrev pub invariant-loop-place : goal.invariant-loop-place
-invariant-loop-place l = record {
+invariant-loop-place t l = record {
   counted : length l.labels.items ≡ l.shape.rows * l.shape.cols;
   few : l.ends ≤ l.place;
-  so_far : OfFlows l.shape l.flows (λ g ps. AreEndLabels g ps l.shape l.place l.ends l.labels.items);
+  so_far : OfFlows l.shape (t.W.Ways.flows l.ways) (λ g ps. AreEndLabels g ps l.shape l.place l.ends l.labels.items);
 }
