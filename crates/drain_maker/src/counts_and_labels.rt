@@ -2,13 +2,15 @@
 
 ghost use Rattle.std.specs.Prelude.{◌≡◌, ◌*◌, length, vec_len, IfOk};
 ghost use Rattle.drain_counts.specs.Basins.{AreBasinLabels};
+ghost use Rattle.drain_counts.specs.CodeFlows.{bytes_flows};
 ghost use Rattle.drain_counts.specs.OfFlows.{OfFlows};
+ghost use Rattle.drain_counts.specs.Upstream.{AreUpstreamCounts};
 ghost use Rattle.drain_maker.specs.Counting.{SomeRunsEnd, AreCountsAndLabels};
 
 use crate::follow::{Follow, Part};
-use drain_counts::{accumulate, label_basins};
+use drain_counts::{accumulate, flows_of_codes, label_code_basins};
 use drain_grid::{OutOfMemory, Shape};
-use drain_paths::{CertifyRefusal, Flow};
+use drain_paths::CertifyRefusal;
 use std::alloc::Global;
 
 /// The count and the label of each cell, in row order.
@@ -18,34 +20,46 @@ pub(crate) struct CountsAndLabels {
     pub labels: Vec<u32>,
 }
 
-/// The counts and labels of the flows of all cells of a grid, where every run ends.
+/// The counts and labels of the codes of all cells of a grid, a byte per cell, where every run ends. Labels come last and
+/// take the codes alone, so no more than both is in memory then.
 pub(crate) fn count_and_label(
     alloc: Global,
-    flows: &[Flow],
+    codes: &[u8],
     shape: Shape,
     follow: &mut impl Follow,
 ) -> Result<CountsAndLabels, OutOfMemory>
-    requires counted { length flows.now ≡ shape.rows * shape.cols }
-    requires ends { SomeRunsEnd shape flows.now }
+    requires counted { length codes.now ≡ shape.rows * shape.cols }
+    requires ends { SomeRunsEnd shape (bytes_flows codes.now) }
     ensures counts { IfOk result (λ both. vec_len both.counts ≡ shape.rows * shape.cols) }
     ensures labels { IfOk result (λ both. vec_len both.labels ≡ shape.rows * shape.cols) }
-    ensures right { IfOk result (λ both. OfFlows shape flows.now (λ g ps. AreCountsAndLabels g ps shape both.counts.items both.labels.items)) }
+    ensures right { IfOk result (λ both. OfFlows shape (bytes_flows codes.now) (λ g ps. AreCountsAndLabels g ps shape both.counts.items both.labels.items)) }
 {
-    follow.begin(Part::Labels);
-    let labels = label_ended(alloc, flows, shape)?;
     follow.begin(Part::Counts);
-    let counts = accumulate(alloc, flows, shape)?;
+    let counts = count_ended(alloc, codes, shape)?;
+    follow.begin(Part::Labels);
+    let labels = label_ended(alloc, codes, shape)?;
     Ok(CountsAndLabels { counts, labels })
 }
 
-/// The labels alone.
-fn label_ended(alloc: Global, flows: &[Flow], shape: Shape) -> Result<Vec<u32>, OutOfMemory>
-    requires counted { length flows.now ≡ shape.rows * shape.cols }
-    requires ends { SomeRunsEnd shape flows.now }
-    ensures counted { IfOk result (λ labels. vec_len labels ≡ shape.rows * shape.cols) }
-    ensures labels { IfOk result (λ labels. OfFlows shape flows.now (λ g ps. AreBasinLabels g ps shape labels.items)) }
+/// The counts alone. Their flows are freed.
+fn count_ended(alloc: Global, codes: &[u8], shape: Shape) -> Result<Vec<u32>, OutOfMemory>
+    requires counted { length codes.now ≡ shape.rows * shape.cols }
+    requires ends { SomeRunsEnd shape (bytes_flows codes.now) }
+    ensures counted { IfOk result (λ counts. vec_len counts ≡ shape.rows * shape.cols) }
+    ensures counts { IfOk result (λ counts. OfFlows shape (bytes_flows codes.now) (λ g ps. AreUpstreamCounts g ps shape counts.items)) }
 {
-    match label_basins(alloc, flows, shape) {
+    let flows = flows_of_codes(alloc, codes)?;
+    accumulate(alloc, &flows, shape)
+}
+
+/// The labels alone.
+fn label_ended(alloc: Global, codes: &[u8], shape: Shape) -> Result<Vec<u32>, OutOfMemory>
+    requires counted { length codes.now ≡ shape.rows * shape.cols }
+    requires ends { SomeRunsEnd shape (bytes_flows codes.now) }
+    ensures counted { IfOk result (λ labels. vec_len labels ≡ shape.rows * shape.cols) }
+    ensures labels { IfOk result (λ labels. OfFlows shape (bytes_flows codes.now) (λ g ps. AreBasinLabels g ps shape labels.items)) }
+{
+    match label_code_basins(alloc, codes, shape) {
         Ok(labels) => Ok(labels),
         Err(CertifyRefusal::OutOfMemory) => Err(OutOfMemory),
         Err(CertifyRefusal::NoEnd(_)) => unreachable!(),

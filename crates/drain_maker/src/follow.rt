@@ -6,10 +6,10 @@ pub enum Part {
     /// The filled elevation, by a flood.
     Surface,
     Directions,
-    /// The basin labels.
-    Labels,
     /// The accumulation.
     Counts,
+    /// The basin labels.
+    Labels,
 }
 
 /// Follows how products are made. What is made doesn't depend on it.

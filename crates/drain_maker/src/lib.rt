@@ -20,5 +20,5 @@ mod tiles;
 pub use drain_surface::LevelQueue;
 pub use drain_verdict::{CertifyRefusal, certify};
 pub use header::product_header;
-pub use maker::{MakeRefusal, make, make_followed};
+pub use maker::{MakeRefusal, make, make_followed, make_freeing};
 pub use mosaic::{Mosaic, read_mosaic};

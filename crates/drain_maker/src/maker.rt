@@ -8,7 +8,7 @@ ghost use Rattle.drain_mosaic.specs.Tiling.{extent_of};
 ghost use Rattle.drain_maker.specs.Made.{KeepsEveryRule, CanBeWritten, AreRasters, IsSinkAnswer, Succeeds};
 
 use crate::follow::{Follow, Unfollowed};
-use crate::products::build;
+use crate::products::{build, build_freeing};
 use drain_grid::laws::found_off_data_is_right;
 use drain_grid::{Elevation, OutOfMemory, ProductSet, Sinks, first_off_data};
 use drain_mosaic::Layout;
@@ -92,6 +92,42 @@ pub fn make_followed(
         return Err(MakeRefusal::SinkNotData(line));
     }
     match build(alloc, elevation, sinks, follow) {
+        Ok(products) => Ok(products),
+        Err(OutOfMemory) => Err(MakeRefusal::OutOfMemory),
+    }
+}
+
+/// The same, and the elevations are freed as soon as they aren't needed any more.
+pub fn make_freeing(
+    alloc: Global,
+    layout: &Layout,
+    elevation: Elevation,
+    sinks: &Sinks,
+    follow: &mut impl Follow,
+) -> Result<ProductSet, MakeRefusal>
+    requires same_shape { elevation.extent ≡ extent_of layout.now }
+    ensures shape { IfOk result (λ products. products.con.extent ≡ elevation.extent) }
+    ensures nodata { IfOk result (λ products. nodata_of products ≡ default_numbers) }
+    ensures rules { IfOk result (KeepsEveryRule elevation sinks.now) }
+    ensures written { IfOk result (CanBeWritten layout.now) }
+    ensures rasters { IfOk result AreRasters }
+
+    // Every listed cell has data, or the first line whose cell has none is reported.
+    ensures sinks { IsSinkAnswer elevation sinks.now result }
+
+    // Where every listed cell has data, there are products, unless memory runs out.
+    ensures succeeds { Succeeds elevation sinks.now result }
+
+    // What every rule at every cell means: the products are correct, and every run is sound.
+    ensures correct { IfOk result (λ products. IsCorrect (grid_of elevation sinks.now) (products_of products) default_numbers) }
+    ensures runs { IfOk result (λ products. RunsAreSound (grid_of elevation sinks.now) (products_of products)) }
+{
+    // The law that the first listed cell without data is the grid's.
+    found_off_data_is_right();
+    if let Some(line) = first_off_data(sinks, &elevation) {
+        return Err(MakeRefusal::SinkNotData(line));
+    }
+    match build_freeing(alloc, elevation, sinks, follow) {
         Ok(products) => Ok(products),
         Err(OutOfMemory) => Err(MakeRefusal::OutOfMemory),
     }

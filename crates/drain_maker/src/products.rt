@@ -1,8 +1,11 @@
 //! Products of elevations that are right by proof: routes, then what follows from them.
 
-ghost use Rattle.std.specs.Prelude.{◌≡◌, IfOk};
+ghost use Rattle.std.specs.Prelude.{◌≡◌, List, IfOk};
+ghost use Rattle.drain_grid.specs.declared.sink_line.SinkLine.{SinkLine};
 ghost use Rattle.drain_grid.specs.Product.{default_numbers};
-ghost use Rattle.drain_grid.specs.WholeGrid.{products_of, nodata_of};
+ghost use Rattle.drain_grid.specs.Rasters.{Heights};
+ghost use Rattle.drain_grid.specs.WholeGrid.{grid_of, products_of, nodata_of};
+ghost use Rattle.drain_surface.specs.Floods.{IsFlooded};
 ghost use Rattle.drain_maker.specs.Made.{AreRasters, AreMadeSpelled};
 ghost use Rattle.drain_maker.specs.RoutedProducts.{AreRightProducts};
 
@@ -10,15 +13,12 @@ use crate::counts_and_labels::count_and_label;
 use crate::follow::Follow;
 use crate::laws::routes_keep_rules;
 use crate::rasters::{raster_of_codes, raster_of_counts, raster_of_heights};
-use crate::route::route;
-use drain_counts::flows_of_codes;
+use crate::route::{flooded, route};
 use drain_grid::{Elevation, OutOfMemory, Product, ProductSet, Sinks};
+use drain_surface::Flood;
 use std::alloc::Global;
 
-/// The products of a grid's elevations with these sinks, with the default no-data numbers. It isn't inlined, so that a
-/// profile shows it.
-#[inline(never)]
-#[tactic(auto, using(crate::proofs::EachProduct::each_spelled))]
+/// The products of a grid's elevations with these sinks, with the default no-data numbers.
 pub(crate) fn build(
     alloc: Global,
     elevation: &Elevation,
@@ -31,13 +31,49 @@ pub(crate) fn build(
     ensures written { IfOk result AreMadeSpelled }
     ensures rasters { IfOk result AreRasters }
 {
+    let flood = flooded(alloc, elevation, sinks, follow)?;
+    build_on(alloc, flood, follow)
+}
+
+/// The same. The elevations are freed once the grid is flooded.
+pub(crate) fn build_freeing(
+    alloc: Global,
+    elevation: Elevation,
+    sinks: &Sinks,
+    follow: &mut impl Follow,
+) -> Result<ProductSet, OutOfMemory>
+    ensures shape { IfOk result (λ products. products.con.extent ≡ elevation.extent) }
+    ensures nodata { IfOk result (λ products. nodata_of products ≡ default_numbers) }
+    ensures right { IfOk result (λ products. AreRightProducts elevation sinks.now (products_of products)) }
+    ensures written { IfOk result AreMadeSpelled }
+    ensures rasters { IfOk result AreRasters }
+{
+    let flood = flooded(alloc, &elevation, sinks, follow)?;
+    drop(elevation);
+    build_on(alloc, flood, follow)
+}
+
+/// The products of a flooded grid. It isn't inlined, so that a profile shows it.
+#[inline(never)]
+#[tactic(auto, using(crate::proofs::EachProduct::each_spelled))]
+fn build_on(
+    alloc: Global,
+    flood: Flood,
+    follow: &mut impl Follow,
+) -> Result<ProductSet, OutOfMemory>
+    requires flooded { (heights : Heights) × (sinks : List SinkLine) × (heights.extent ≡ flood.extent) × IsFlooded (grid_of heights sinks) flood }
+    ensures shape { IfOk result (λ products. products.con.extent ≡ flood.extent) }
+    ensures nodata { IfOk result (λ products. nodata_of products ≡ default_numbers) }
+    ensures right { IfOk result (λ products. (heights : Heights) (sinks : List SinkLine) → heights.extent ≡ flood.extent → IsFlooded (grid_of heights sinks) flood → AreRightProducts heights sinks (products_of products)) }
+    ensures written { IfOk result AreMadeSpelled }
+    ensures rasters { IfOk result AreRasters }
+{
     // The law that such products keep every rule.
     routes_keep_rules();
-    let shape = elevation.shape();
+    let shape = flood.shape();
     let _cells = shape.cells();
-    let routes = route(alloc, elevation, sinks, follow)?;
-    let flows = flows_of_codes(alloc, &routes.dir)?;
-    let both = count_and_label(alloc, &flows, shape, follow)?;
+    let routes = route(alloc, flood, follow)?;
+    let both = count_and_label(alloc, &routes.dir, shape, follow)?;
     Ok(ProductSet {
         con: raster_of_heights(shape, Product::Con, routes.con),
         dir: raster_of_codes(shape, Product::Dir, routes.dir),
