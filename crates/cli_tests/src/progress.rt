@@ -54,8 +54,8 @@ fn lines_tell_which_rows_are_counted(rt: HostRuntime) {
 static PARTS: [(Part, &str); 4] = [
     (Part::Surface, "drain: making, 1 of 4: filled elevation"),
     (Part::Directions, "drain: making, 2 of 4: directions"),
-    (Part::Labels, "drain: making, 3 of 4: basin labels"),
-    (Part::Counts, "drain: making, 4 of 4: accumulation"),
+    (Part::Counts, "drain: making, 3 of 4: accumulation"),
+    (Part::Labels, "drain: making, 4 of 4: basin labels"),
 ];
 
 #[test]

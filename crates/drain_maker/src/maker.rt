@@ -122,13 +122,13 @@ pub fn make_freeing(
     ensures correct { IfOk result (λ products. IsCorrect (grid_of elevation sinks.now) (products_of products) default_numbers) }
     ensures runs { IfOk result (λ products. RunsAreSound (grid_of elevation sinks.now) (products_of products)) }
 {
-    // The law that the first listed cell without data is the grid's.
+    // The same law.
     found_off_data_is_right();
-    if let Some(line) = first_off_data(sinks, &elevation) {
-        return Err(MakeRefusal::SinkNotData(line));
-    }
-    match build_freeing(alloc, elevation, sinks, follow) {
-        Ok(products) => Ok(products),
-        Err(OutOfMemory) => Err(MakeRefusal::OutOfMemory),
+    match first_off_data(sinks, &elevation) {
+        Some(line) => Err(MakeRefusal::SinkNotData(line)),
+        None => match build_freeing(alloc, elevation, sinks, follow) {
+            Ok(made) => Ok(made),
+            Err(_) => Err(MakeRefusal::OutOfMemory),
+        },
     }
 }

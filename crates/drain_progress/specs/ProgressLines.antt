@@ -15,5 +15,5 @@ before_row Writing = codes "drain: writing row "
 abbrev pub part_text : Part → List ℕ
 part_text Surface = codes "drain: making, 1 of 4: filled elevation"
 part_text Directions = codes "drain: making, 2 of 4: directions"
-part_text Labels = codes "drain: making, 3 of 4: basin labels"
-part_text Counts = codes "drain: making, 4 of 4: accumulation"
+part_text Counts = codes "drain: making, 3 of 4: accumulation"
+part_text Labels = codes "drain: making, 4 of 4: basin labels"

@@ -39,7 +39,7 @@ pub fn part_line(part: Part) -> Line
     match part {
         Part::Surface => words("drain: making, 1 of 4: filled elevation"),
         Part::Directions => words("drain: making, 2 of 4: directions"),
-        Part::Labels => words("drain: making, 3 of 4: basin labels"),
-        Part::Counts => words("drain: making, 4 of 4: accumulation"),
+        Part::Counts => words("drain: making, 3 of 4: accumulation"),
+        Part::Labels => words("drain: making, 4 of 4: basin labels"),
     }
 }

@@ -43,8 +43,8 @@ fn parts_begin_in_their_order(rt: HostRuntime) -> Result<(), Fail> {
     let expected = [
         Some(Part::Surface),
         Some(Part::Directions),
-        Some(Part::Labels),
         Some(Part::Counts),
+        Some(Part::Labels),
         None,
     ];
     let first = begun.first;

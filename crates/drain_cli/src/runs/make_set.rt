@@ -14,7 +14,7 @@ use drain_device::{ByteSink, ByteSource};
 use drain_grid::{ProductSet, SinkFault, parse_sinks};
 use drain_hgt::TileInput;
 use drain_maker::follow::{Follow, Unfollowed};
-use drain_maker::{MakeRefusal, make_followed, read_mosaic};
+use drain_maker::{MakeRefusal, make_freeing, read_mosaic};
 use drain_mosaic::Layout;
 use drain_print::print::print_line;
 use drain_print::status::Status;
@@ -105,7 +105,7 @@ fn read_and_make<R: ByteSource>(
         Ok(listed) => listed,
         Err(fault) => return Err(NoSet::Sinks(fault)),
     };
-    match make_followed(alloc, &mosaic.layout, &mosaic.elevation, &listed, follow) {
+    match make_freeing(alloc, &mosaic.layout, mosaic.elevation, &listed, follow) {
         Ok(products) => Ok((mosaic.layout, products)),
         Err(refusal) => Err(NoSet::Maker(refusal)),
     }

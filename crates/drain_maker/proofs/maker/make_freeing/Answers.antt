@@ -11,4 +11,4 @@ returns-in-Some-clause-succeeds g c = λ on_data.
     absurd (on_data c.in-Some.line first.off)
 
 pub returns-in-Ok-clause-sinks : goal.returns-in-Ok-clause-sinks
-returns-in-Ok-clause-sinks g c = found_there c.found_off_data_is_right.ensures c.args.elevation c.args.sinks.now None c.in_default.ensures
+returns-in-Ok-clause-sinks g c = found_there c.found_off_data_is_right.ensures c.args.elevation c.args.sinks.now None c.in-None.ensures

@@ -1,15 +1,15 @@
 use Rattle.std.proofs.Common.{rules}
 use Rattle.drain_cli.proofs.runs.make_set.read_and_make.Goals as goal
 
-pub returns-in-Err-make_followed-clause-refused : goal.returns-in-Err-make_followed-clause-refused
-returns-in-Err-make_followed-clause-refused g c = (
+pub returns-in-Err-make_freeing-clause-refused : goal.returns-in-Err-make_freeing-clause-refused
+returns-in-Err-make_freeing-clause-refused g c = (
   record {
     elevation = c.in-Ok.mosaic.elevation;
     tiling = c.in-Ok.mosaic.layout;
     mosaic = c.in-Ok.ensures.mosaic;
     listed = c.in-Ok-parse_sinks.listed;
     listed_are = c.in-Ok-parse_sinks.ensures.listed;
-    refused = c.in-Err-make_followed.ensures.sinks;
+    refused = c.in-Err-make_freeing.ensures.sinks;
   },
   search rules,
 )
