@@ -14,7 +14,7 @@ use drain_device::{ByteSink, ByteSource};
 use drain_grid::{ProductSet, SinkFault, parse_sinks};
 use drain_hgt::TileInput;
 use drain_maker::follow::{Follow, Unfollowed};
-use drain_maker::{MakeRefusal, make_freeing, read_mosaic};
+use drain_maker::{MakeRefusal, Mosaic, make_freeing, read_mosaic};
 use drain_mosaic::Layout;
 use drain_print::print::print_line;
 use drain_print::status::Status;
@@ -105,8 +105,9 @@ fn read_and_make<R: ByteSource>(
         Ok(listed) => listed,
         Err(fault) => return Err(NoSet::Sinks(fault)),
     };
-    match make_freeing(alloc, &mosaic.layout, mosaic.elevation, &listed, follow) {
-        Ok(products) => Ok((mosaic.layout, products)),
+    let Mosaic { layout, elevation } = mosaic;
+    match make_freeing(alloc, &layout, elevation, &listed, follow) {
+        Ok(products) => Ok((layout, products)),
         Err(refusal) => Err(NoSet::Maker(refusal)),
     }
 }
