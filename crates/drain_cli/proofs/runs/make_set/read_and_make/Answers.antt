@@ -1,8 +1,8 @@
 use Rattle.std.proofs.Common.{rules}
 use Rattle.drain_cli.proofs.runs.make_set.read_and_make.Goals as goal
 
-pub returns-in-Err-make_freeing-clause-refused : goal.returns-in-Err-make_freeing-clause-refused
-returns-in-Err-make_freeing-clause-refused g c = (
+pub returns-clause-refused : goal.returns-clause-refused
+returns-clause-refused g c = (
   record {
     elevation = c.in-Ok.mosaic.elevation;
     tiling = c.in-Ok.mosaic.layout;
