@@ -103,23 +103,41 @@ line_fits text n (OutOfRange k) version least is = (version, from_later (line_fe
 line_fits text n AfterEnd version least is = absurd is
 line_fits text n OutOfMemory version least is = absurd is
 
-pub list_fits : (text rest : List ℕ) (head : Head) (n : ℕ) (fault : ReportFault) → text ≡ head_text head ++ rest → 2 ≤ n → IsListFault (line_feeds text) n fault → FaultFits text fault
-list_fits text rest head n fault is least (inl of_line) = line_fits text n fault (version_first text rest head is) least of_line
-list_fits text rest head n fault is least (inr memory) = rw memory (head, rest, is)
+-- the lines before this one are counted, and the first of them is read
+pub record IsLater (text : List ℕ) (n : ℕ) (rest : List ℕ) : Type 0 where
+  pub least : 2 ≤ n
+  pub at : IsAt (line_feeds text) n rest
 
-pub end_fits : (text rest : List ℕ) (n : ℕ) (fault : ReportFault) (w : Contents) → HasVersion text → 2 ≤ n → ((more : List ℕ) → rest ≡ end_line ++ more → text ≡ report_text w ++ more)
-    → IsEndFault (line_feeds text) n rest fault → FaultFits text fault
-end_fits text rest n fault w version least whole (inl of_line) = line_fits text n fault version least of_line
-end_fits text rest n fault w version least whole (inr goes_on) =
-    let on = goes_on.1 in rw goes_on.0 (w, (on.0, on.1, whole on.0 on.2))
+-- after one line or more
+pub later : (text rest after : List ℕ) (n m : ℕ) → IsLater text n rest → (IsAt (line_feeds text) n rest → IsPast (line_feeds text) n m after) → IsLater text m after
+later text rest after n m here read = let past = read here.at in record { least = omega (arith, here.least, past.0); at = past.1 }
+
+pub from_head : (text rest : List ℕ) (n : ℕ) → IsPast (line_feeds text) 2 n rest → IsLater text n rest
+from_head text rest n past = record { least = omega (arith, past.0); at = past.1 }
+
+pub list_fits : (text rest here : List ℕ) (head : Head) (n : ℕ) (fault : ReportFault) → text ≡ head_text head ++ rest → IsLater text n here
+    → (IsAt (line_feeds text) n here → IsListFault (line_feeds text) n fault) → FaultFits text fault
+list_fits text rest here head n fault is at read =
+    elim (read at.at) [
+      | inl of_line ↦ line_fits text n fault (version_first text rest head is) at.least of_line
+      | inr memory ↦ rw memory (head, rest, is)
+    ]
+
+pub end_fits : (text rest : List ℕ) (n : ℕ) (fault : ReportFault) (w : Contents) → HasVersion text → IsLater text n rest → ((more : List ℕ) → rest ≡ end_line ++ more → text ≡ report_text w ++ more)
+    → (IsAt (line_feeds text) n rest → IsEndFault (line_feeds text) n rest fault) → FaultFits text fault
+end_fits text rest n fault w version at whole read =
+    elim (read at.at) [
+      | inl of_line ↦ line_fits text n fault version at.least of_line
+      | inr goes_on ↦ let on = goes_on.1 in rw goes_on.0 (w, (on.0, on.1, whole on.0 on.2))
+    ]
 
 -- the second line
-pub at_two : (text : List ℕ) (n : ℕ) (rest : List ℕ) → text ≡ version_line ++ rest → n ≡ 2 → IsAt (line_feeds text) n rest
+pub at_two : (text : List ℕ) (n : ℕ) (rest : List ℕ) → text ≡ version_line ++ rest → n ≡ 2 → IsLater text n rest
 at_two text n rest is second =
     let all = feeds-append version_line rest in
     let first : line_feeds version_line ≡ 1 = refl in
     let same = ap line_feeds is in
-    omega (arith, all, first, same, second)
+    record { least = omega (arith, second); at = omega (arith, all, first, same, second) }
 
 -- no more line feeds than bytes
 pub few_feeds : (text : List ℕ) → line_feeds text ≤ length text

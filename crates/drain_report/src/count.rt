@@ -1,13 +1,26 @@
 //! A line of a word and one whole number.
 
-ghost use Rattle.std.specs.Prelude.{◌≡◌, ◌<◌, ◌^◌, ℕ, List, ◌++◌, IfOk, OnOk, MatchResult};
+ghost use Rattle.std.specs.Prelude.{◌≡◌, ◌<◌, ◌^◌, ℕ, List, [], ◌∷◌, ◌++◌, pos, IfOk, OnOk, MatchResult};
 ghost use Rattle.drain_report.specs.Faults.{IsAt, IsPast, IsLineFault, line_feeds};
 ghost use Rattle.drain_report.specs.Facts.{count_line};
 
+use crate::fact::{Fact, read_fact};
 use crate::facts::whole_at;
 use crate::fault::ReportFault;
-use crate::lines::{Lines, push_line, read_line};
+use crate::lines::{Lines, push_line};
 use drain_grid::OutOfMemory;
+
+impl Fact for u32 {
+    ghost numbers_of = { λ n. pos n ∷ [] };
+
+    ghost how_many = { 1 };
+
+    ghost is_in_range = { λ n. n < 2 ^ 32 };
+
+    fn from_numbers(numbers: &[i64]) -> Option<u32> {
+        whole_at(numbers, 0)
+    }
+}
 
 /// Reads a line of this word and one whole number.
 pub fn read_count<'a>(lines: Lines<'a>, word: &str) -> Result<(u32, Lines<'a>), ReportFault>
@@ -16,14 +29,7 @@ pub fn read_count<'a>(lines: Lines<'a>, word: &str) -> Result<(u32, Lines<'a>), 
     ensures place { (feeds : ℕ) → feeds < 2 ^ 63 → line_feeds word.now ≡ 0 → IsAt feeds lines.entry.number lines.entry.rest.now → MatchResult result (λ found. IsPast feeds lines.entry.number found.1.number found.1.rest.now) (IsLineFault feeds lines.entry.number) }
 {
     let mut numbers = [0i64; 1];
-    let next = match read_line(lines, word, &mut numbers) {
-        Ok(next) => next,
-        Err(fault) => return Err(fault),
-    };
-    let Some(count) = whole_at(&numbers, 0) else {
-        return Err(ReportFault::OutOfRange(lines.number));
-    };
-    Ok((count, next))
+    read_fact(lines, word, &mut numbers)
 }
 
 /// Appends a line of this word and one whole number.

@@ -2,6 +2,7 @@
 #![tactic(auto)]
 
 mod count;
+mod fact;
 mod facts;
 mod fault;
 mod head;

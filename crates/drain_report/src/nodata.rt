@@ -6,9 +6,10 @@ ghost use Rattle.drain_report.specs.Lines.{AreLong};
 ghost use Rattle.drain_report.specs.Faults.{IsAt, IsPast, IsLineFault};
 ghost use Rattle.drain_report.specs.Facts.{nodata_numbers, nodata_line};
 
+use crate::fact::{Fact, read_fact};
 use crate::facts::at;
 use crate::fault::ReportFault;
-use crate::lines::{Lines, push_line, read_line};
+use crate::lines::{Lines, push_line};
 use drain_grid::nodata::{GREATEST_NODATA, LEAST_NODATA};
 use drain_grid::{NoData, OutOfMemory};
 
@@ -28,27 +29,29 @@ fn nodata_at(numbers: &[i64], place: usize) -> Option<i64>
     }
 }
 
-/// The no-data numbers of a line.
-fn nodata(numbers: &[i64]) -> Option<NoData>
-    requires long { AreLong numbers.now }
-    requires len { length numbers.now ≡ 6 }
-    ensures sound { IfSome result (λ n. numbers.now ≡ nodata_numbers n) }
-    ensures back { (n : NoDataNumbers) → AreNoDataInRange n → numbers.now ≡ nodata_numbers n → result ≡ Some n }
-{
-    let con = nodata_at(numbers, 0)?;
-    let dir = nodata_at(numbers, 1)?;
-    let acc = nodata_at(numbers, 2)?;
-    let bas = nodata_at(numbers, 3)?;
-    let spl = nodata_at(numbers, 4)?;
-    let rnk = nodata_at(numbers, 5)?;
-    Some(NoData {
-        con,
-        dir,
-        acc,
-        bas,
-        spl,
-        rnk,
-    })
+impl Fact for NoData {
+    ghost numbers_of = { nodata_numbers };
+
+    ghost how_many = { 6 };
+
+    ghost is_in_range = { AreNoDataInRange };
+
+    fn from_numbers(numbers: &[i64]) -> Option<NoData> {
+        let con = nodata_at(numbers, 0)?;
+        let dir = nodata_at(numbers, 1)?;
+        let acc = nodata_at(numbers, 2)?;
+        let bas = nodata_at(numbers, 3)?;
+        let spl = nodata_at(numbers, 4)?;
+        let rnk = nodata_at(numbers, 5)?;
+        Some(NoData {
+            con,
+            dir,
+            acc,
+            bas,
+            spl,
+            rnk,
+        })
+    }
 }
 
 /// Reads the line of the no-data numbers.
@@ -58,14 +61,7 @@ pub fn read_nodata<'a>(lines: Lines<'a>) -> Result<(NoData, Lines<'a>), ReportFa
     ensures place { (feeds : ℕ) → feeds < 2 ^ 63 → IsAt feeds lines.entry.number lines.entry.rest.now → MatchResult result (λ found. IsPast feeds lines.entry.number found.1.number found.1.rest.now) (IsLineFault feeds lines.entry.number) }
 {
     let mut numbers = [0i64; 6];
-    let next = match read_line(lines, "nodata", &mut numbers) {
-        Ok(next) => next,
-        Err(fault) => return Err(fault),
-    };
-    let Some(nodata) = nodata(&numbers) else {
-        return Err(ReportFault::OutOfRange(lines.number));
-    };
-    Ok((nodata, next))
+    read_fact(lines, "nodata", &mut numbers)
 }
 
 /// Appends the line of the no-data numbers.

@@ -8,9 +8,10 @@ ghost use Rattle.drain_report.specs.Lines.{AreLong};
 ghost use Rattle.drain_report.specs.Faults.{IsAt, IsPast, IsLineFault};
 ghost use Rattle.drain_report.specs.Facts.{side_numbers, place_numbers, place_line, IsPlace};
 
+use crate::fact::{Fact, read_fact};
 use crate::facts::{cell_at, flag_at};
 use crate::fault::ReportFault;
-use crate::lines::{Lines, push_line, read_line};
+use crate::lines::{Lines, push_line};
 use drain_grid::{Cell, OutOfMemory, Shape};
 use drain_windows::{InnerSides, Place};
 
@@ -33,23 +34,25 @@ fn sides(numbers: &[i64]) -> Option<InnerSides>
     })
 }
 
-/// The place of these numbers.
-fn place(numbers: &[i64]) -> Option<Place>
-    requires long { AreLong numbers.now }
-    requires len { length numbers.now ≡ 8 }
-    ensures sound { IfSome result (λ p. numbers.now ≡ place_numbers p) }
-    ensures back { (p : PlaceOf) → IsPlace p → numbers.now ≡ place_numbers p → result ≡ Some p }
-{
-    let corner = cell_at(numbers, 0)?;
-    let size = cell_at(numbers, 2)?;
-    let extent = Shape::new(size.row, size.col)?;
-    let inner = sides(numbers)?;
-    Some(Place {
-        top: corner.row,
-        left: corner.col,
-        extent,
-        inner,
-    })
+impl Fact for Place {
+    ghost numbers_of = { place_numbers };
+
+    ghost how_many = { 8 };
+
+    ghost is_in_range = { IsPlace };
+
+    fn from_numbers(numbers: &[i64]) -> Option<Place> {
+        let corner = cell_at(numbers, 0)?;
+        let size = cell_at(numbers, 2)?;
+        let extent = Shape::new(size.row, size.col)?;
+        let inner = sides(numbers)?;
+        Some(Place {
+            top: corner.row,
+            left: corner.col,
+            extent,
+            inner,
+        })
+    }
 }
 
 /// Reads the line of the window's place.
@@ -59,14 +62,7 @@ pub fn read_place<'a>(lines: Lines<'a>) -> Result<(Place, Lines<'a>), ReportFaul
     ensures place { (feeds : ℕ) → feeds < 2 ^ 63 → IsAt feeds lines.entry.number lines.entry.rest.now → MatchResult result (λ found. IsPast feeds lines.entry.number found.1.number found.1.rest.now) (IsLineFault feeds lines.entry.number) }
 {
     let mut numbers = [0i64; 8];
-    let next = match read_line(lines, "window", &mut numbers) {
-        Ok(next) => next,
-        Err(fault) => return Err(fault),
-    };
-    let Some(place) = place(&numbers) else {
-        return Err(ReportFault::OutOfRange(lines.number));
-    };
-    Ok((place, next))
+    read_fact(lines, "window", &mut numbers)
 }
 
 /// The rows and columns of a shape.

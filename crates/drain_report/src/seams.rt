@@ -6,9 +6,10 @@ ghost use Rattle.drain_windows.specs.declared.report.Shown.{Shown as ShownOf};
 ghost use Rattle.drain_report.specs.Lines.{AreLong};
 ghost use Rattle.drain_report.specs.Facts.{IsHeight, height_number, values_numbers, shown_numbers, shown_line, IsShown};
 
+use crate::fact::{Fact, read_fact};
 use crate::facts::{at, cell_at, flag_at};
 use crate::fault::ReportFault;
-use crate::lines::{Lines, push_line, read_line};
+use crate::lines::{Lines, push_line};
 use crate::report_line::ReportLine;
 use drain_grid::{CellValues, OutOfMemory, VOID};
 use drain_windows::Shown;
@@ -62,20 +63,22 @@ fn values(numbers: &[i64]) -> Option<CellValues>
     )
 }
 
-/// A cell and what is shown there.
-fn shown(numbers: &[i64]) -> Option<Shown>
-    requires long { AreLong numbers.now }
-    requires len { length numbers.now ≡ 10 }
-    ensures sound { IfSome result (λ s. numbers.now ≡ shown_numbers s) }
-    ensures back { (s : ShownOf) → IsShown s → numbers.now ≡ shown_numbers s → result ≡ Some s }
-{
-    let Some(cell) = cell_at(numbers, 0) else {
-        return None;
-    };
-    let Some(values) = values(numbers) else {
-        return None;
-    };
-    Some(Shown { cell, values })
+impl Fact for Shown {
+    ghost numbers_of = { shown_numbers };
+
+    ghost how_many = { 10 };
+
+    ghost is_in_range = { IsShown };
+
+    fn from_numbers(numbers: &[i64]) -> Option<Shown> {
+        let Some(cell) = cell_at(numbers, 0) else {
+            return None;
+        };
+        let Some(values) = values(numbers) else {
+            return None;
+        };
+        Some(Shown { cell, values })
+    }
 }
 
 /// The number of an elevation: a void has that of a void in a tile.
@@ -95,14 +98,7 @@ impl ReportLine for Shown {
 
     fn read_from<'a>(lines: Lines<'a>) -> Result<(Shown, Lines<'a>), ReportFault> {
         let mut numbers = [0i64; 10];
-        let next = match read_line(lines, "seam", &mut numbers) {
-            Ok(next) => next,
-            Err(fault) => return Err(fault),
-        };
-        let Some(shown) = shown(&numbers) else {
-            return Err(ReportFault::OutOfRange(lines.number));
-        };
-        Ok((shown, next))
+        read_fact(lines, "seam", &mut numbers)
     }
 
     fn push_to(&self, text: &mut Vec<u8>) -> Result<(), OutOfMemory> {

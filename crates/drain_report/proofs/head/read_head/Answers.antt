@@ -1,9 +1,9 @@
-use Rattle.std.proofs.Common.{◌++◌, ◌∙◌, ◌<◌, ◌≤◌, ◌^◌, refl, arith}
+use Rattle.std.proofs.Common.{◌++◌, ◌∙◌, ◌<◌, ◌^◌, refl, arith}
 use Rattle.std.specs.Prelude.{codes}
 use Rattle.drain_report.specs.Facts.{count_line, place_line, nodata_line, verdict_line}
-use Rattle.drain_report.specs.Faults.{HasVersion, line_feeds}
+use Rattle.drain_report.specs.Faults.{line_feeds}
 use Rattle.drain_report.specs.Head.{version_line}
-use Rattle.drain_report.proofs.FaultLemmas.{at_two, few_feeds, line_fits}
+use Rattle.drain_report.proofs.FaultLemmas.{at_two, few_feeds, later, line_fits}
 use Rattle.drain_report.proofs.TextLemmas.{five_split, read_five, same_head}
 use Rattle.drain_report.proofs.head.read_head.Goals as goal
 
@@ -63,60 +63,45 @@ returns-in-Err-clause-place c = c.in-Err.ensures.place
 
 pub returns-in-Err-read_count-clause-place : goal.returns-in-Err-read_count-clause-place
 returns-in-Err-read_count-clause-place c =
-    let version : HasVersion c.args.text.now = (c.in-Ok.read.rest.now, c.in-Ok.ensures.sound) in
-    let first = at_two c.args.text.now c.in-Ok.read.number c.in-Ok.read.rest.now c.in-Ok.ensures.sound c.in-Ok.ensures.place in
-    let two : 2 ≤ c.in-Ok.read.number = omega (arith, c.in-Ok.ensures.place) in
+    let text = c.args.text.now in
     let few : line_feeds c.args.text.now < 2 ^ 63 = omega (arith, few_feeds c.args.text.now) in
-    line_fits c.args.text.now c.in-Ok.read.number c.in-Err-read_count.fault version two (c.in-Err-read_count.ensures.place (line_feeds c.args.text.now) few refl first)
+    let first = at_two text c.in-Ok.read.number c.in-Ok.read.rest.now c.in-Ok.ensures.sound c.in-Ok.ensures.place in
+    line_fits text c.in-Ok.read.number c.in-Err-read_count.fault (c.in-Ok.read.rest.now, c.in-Ok.ensures.sound) first.least (c.in-Err-read_count.ensures.place (line_feeds text) few refl first.at)
 
 pub returns-in-Err-read_place-clause-place : goal.returns-in-Err-read_place-clause-place
 returns-in-Err-read_place-clause-place c =
-    let version : HasVersion c.args.text.now = (c.in-Ok.read.rest.now, c.in-Ok.ensures.sound) in
-    let first = at_two c.args.text.now c.in-Ok.read.number c.in-Ok.read.rest.now c.in-Ok.ensures.sound c.in-Ok.ensures.place in
-    let two : 2 ≤ c.in-Ok.read.number = omega (arith, c.in-Ok.ensures.place) in
+    let text = c.args.text.now in
     let few : line_feeds c.args.text.now < 2 ^ 63 = omega (arith, few_feeds c.args.text.now) in
-    let read_count = c.in-Ok-read_count.ensures.place (line_feeds c.args.text.now) few refl first in
-    let low_read_count : 2 ≤ c.in-Ok-read_count.read.1.number = omega (arith, two, read_count.0) in
-    line_fits c.args.text.now c.in-Ok-read_count.read.1.number c.in-Err-read_place.fault version low_read_count (c.in-Err-read_place.ensures.place (line_feeds c.args.text.now) few read_count.1)
+    let first = at_two text c.in-Ok.read.number c.in-Ok.read.rest.now c.in-Ok.ensures.sound c.in-Ok.ensures.place in
+    let count = later text c.in-Ok.read.rest.now c.in-Ok-read_count.read.1.rest.now c.in-Ok.read.number c.in-Ok-read_count.read.1.number first (c.in-Ok-read_count.ensures.place (line_feeds text) few refl) in
+    line_fits text c.in-Ok-read_count.read.1.number c.in-Err-read_place.fault (c.in-Ok.read.rest.now, c.in-Ok.ensures.sound) count.least (c.in-Err-read_place.ensures.place (line_feeds text) few count.at)
 
 pub returns-in-Err-read_nodata-clause-place : goal.returns-in-Err-read_nodata-clause-place
 returns-in-Err-read_nodata-clause-place c =
-    let version : HasVersion c.args.text.now = (c.in-Ok.read.rest.now, c.in-Ok.ensures.sound) in
-    let first = at_two c.args.text.now c.in-Ok.read.number c.in-Ok.read.rest.now c.in-Ok.ensures.sound c.in-Ok.ensures.place in
-    let two : 2 ≤ c.in-Ok.read.number = omega (arith, c.in-Ok.ensures.place) in
+    let text = c.args.text.now in
     let few : line_feeds c.args.text.now < 2 ^ 63 = omega (arith, few_feeds c.args.text.now) in
-    let read_count = c.in-Ok-read_count.ensures.place (line_feeds c.args.text.now) few refl first in
-    let low_read_count : 2 ≤ c.in-Ok-read_count.read.1.number = omega (arith, two, read_count.0) in
-    let read_place = c.in-Ok-read_place.ensures.place (line_feeds c.args.text.now) few read_count.1 in
-    let low_read_place : 2 ≤ c.in-Ok-read_place.read.1.number = omega (arith, low_read_count, read_place.0) in
-    line_fits c.args.text.now c.in-Ok-read_place.read.1.number c.in-Err-read_nodata.fault version low_read_place (c.in-Err-read_nodata.ensures.place (line_feeds c.args.text.now) few read_place.1)
+    let first = at_two text c.in-Ok.read.number c.in-Ok.read.rest.now c.in-Ok.ensures.sound c.in-Ok.ensures.place in
+    let count = later text c.in-Ok.read.rest.now c.in-Ok-read_count.read.1.rest.now c.in-Ok.read.number c.in-Ok-read_count.read.1.number first (c.in-Ok-read_count.ensures.place (line_feeds text) few refl) in
+    let place = later text c.in-Ok-read_count.read.1.rest.now c.in-Ok-read_place.read.1.rest.now c.in-Ok-read_count.read.1.number c.in-Ok-read_place.read.1.number count (c.in-Ok-read_place.ensures.place (line_feeds text) few) in
+    line_fits text c.in-Ok-read_place.read.1.number c.in-Err-read_nodata.fault (c.in-Ok.read.rest.now, c.in-Ok.ensures.sound) place.least (c.in-Err-read_nodata.ensures.place (line_feeds text) few place.at)
 
 pub returns-in-Err-read_verdict-clause-place : goal.returns-in-Err-read_verdict-clause-place
 returns-in-Err-read_verdict-clause-place c =
-    let version : HasVersion c.args.text.now = (c.in-Ok.read.rest.now, c.in-Ok.ensures.sound) in
-    let first = at_two c.args.text.now c.in-Ok.read.number c.in-Ok.read.rest.now c.in-Ok.ensures.sound c.in-Ok.ensures.place in
-    let two : 2 ≤ c.in-Ok.read.number = omega (arith, c.in-Ok.ensures.place) in
+    let text = c.args.text.now in
     let few : line_feeds c.args.text.now < 2 ^ 63 = omega (arith, few_feeds c.args.text.now) in
-    let read_count = c.in-Ok-read_count.ensures.place (line_feeds c.args.text.now) few refl first in
-    let low_read_count : 2 ≤ c.in-Ok-read_count.read.1.number = omega (arith, two, read_count.0) in
-    let read_place = c.in-Ok-read_place.ensures.place (line_feeds c.args.text.now) few read_count.1 in
-    let low_read_place : 2 ≤ c.in-Ok-read_place.read.1.number = omega (arith, low_read_count, read_place.0) in
-    let read_nodata = c.in-Ok-read_nodata.ensures.place (line_feeds c.args.text.now) few read_place.1 in
-    let low_read_nodata : 2 ≤ c.in-Ok-read_nodata.read.1.number = omega (arith, low_read_place, read_nodata.0) in
-    line_fits c.args.text.now c.in-Ok-read_nodata.read.1.number c.in-Err-read_verdict.fault version low_read_nodata (c.in-Err-read_verdict.ensures.place (line_feeds c.args.text.now) few read_nodata.1)
+    let first = at_two text c.in-Ok.read.number c.in-Ok.read.rest.now c.in-Ok.ensures.sound c.in-Ok.ensures.place in
+    let count = later text c.in-Ok.read.rest.now c.in-Ok-read_count.read.1.rest.now c.in-Ok.read.number c.in-Ok-read_count.read.1.number first (c.in-Ok-read_count.ensures.place (line_feeds text) few refl) in
+    let place = later text c.in-Ok-read_count.read.1.rest.now c.in-Ok-read_place.read.1.rest.now c.in-Ok-read_count.read.1.number c.in-Ok-read_place.read.1.number count (c.in-Ok-read_place.ensures.place (line_feeds text) few) in
+    let nodata = later text c.in-Ok-read_place.read.1.rest.now c.in-Ok-read_nodata.read.1.rest.now c.in-Ok-read_place.read.1.number c.in-Ok-read_nodata.read.1.number place (c.in-Ok-read_nodata.ensures.place (line_feeds text) few) in
+    line_fits text c.in-Ok-read_nodata.read.1.number c.in-Err-read_verdict.fault (c.in-Ok.read.rest.now, c.in-Ok.ensures.sound) nodata.least (c.in-Err-read_verdict.ensures.place (line_feeds text) few nodata.at)
 
 pub returns-clause-place : goal.returns-clause-place
 returns-clause-place c =
-    let version : HasVersion c.args.text.now = (c.in-Ok.read.rest.now, c.in-Ok.ensures.sound) in
-    let first = at_two c.args.text.now c.in-Ok.read.number c.in-Ok.read.rest.now c.in-Ok.ensures.sound c.in-Ok.ensures.place in
-    let two : 2 ≤ c.in-Ok.read.number = omega (arith, c.in-Ok.ensures.place) in
+    let text = c.args.text.now in
     let few : line_feeds c.args.text.now < 2 ^ 63 = omega (arith, few_feeds c.args.text.now) in
-    let read_count = c.in-Ok-read_count.ensures.place (line_feeds c.args.text.now) few refl first in
-    let low_read_count : 2 ≤ c.in-Ok-read_count.read.1.number = omega (arith, two, read_count.0) in
-    let read_place = c.in-Ok-read_place.ensures.place (line_feeds c.args.text.now) few read_count.1 in
-    let low_read_place : 2 ≤ c.in-Ok-read_place.read.1.number = omega (arith, low_read_count, read_place.0) in
-    let read_nodata = c.in-Ok-read_nodata.ensures.place (line_feeds c.args.text.now) few read_place.1 in
-    let low_read_nodata : 2 ≤ c.in-Ok-read_nodata.read.1.number = omega (arith, low_read_place, read_nodata.0) in
-    let read_verdict = c.in-Ok-read_verdict.ensures.place (line_feeds c.args.text.now) few read_nodata.1 in
-    let low_read_verdict : 2 ≤ c.in-Ok-read_verdict.read.1.number = omega (arith, low_read_nodata, read_verdict.0) in
-    (omega (arith, low_read_nodata, read_verdict.0), read_verdict.1)
+    let first = at_two text c.in-Ok.read.number c.in-Ok.read.rest.now c.in-Ok.ensures.sound c.in-Ok.ensures.place in
+    let count = later text c.in-Ok.read.rest.now c.in-Ok-read_count.read.1.rest.now c.in-Ok.read.number c.in-Ok-read_count.read.1.number first (c.in-Ok-read_count.ensures.place (line_feeds text) few refl) in
+    let place = later text c.in-Ok-read_count.read.1.rest.now c.in-Ok-read_place.read.1.rest.now c.in-Ok-read_count.read.1.number c.in-Ok-read_place.read.1.number count (c.in-Ok-read_place.ensures.place (line_feeds text) few) in
+    let nodata = later text c.in-Ok-read_place.read.1.rest.now c.in-Ok-read_nodata.read.1.rest.now c.in-Ok-read_place.read.1.number c.in-Ok-read_nodata.read.1.number place (c.in-Ok-read_nodata.ensures.place (line_feeds text) few) in
+    let past = c.in-Ok-read_verdict.ensures.place (line_feeds text) few nodata.at in
+    (omega (arith, nodata.least, past.0), past.1)

@@ -1,4 +1,4 @@
-use Rattle.std.proofs.Common.{◌∙◌, ◌<◌, ◌≤◌, ◌^◌, ap, sym, refl, arith}
+use Rattle.std.proofs.Common.{◌∙◌, ◌<◌, ◌^◌, ap, sym, refl, arith}
 use Rattle.std.proofs.lemmas.Bool.{false≢true}
 use Rattle.std.specs.Prelude.{codes}
 use Rattle.drain_report.specs.Contents.{end_line, head_of}
@@ -6,7 +6,7 @@ use Rattle.drain_report.specs.Facts.{is_accepted, outlet_line, shown_line, sink_
 use Rattle.drain_report.specs.Faults.{line_feeds}
 use Rattle.drain_report.specs.Head.{head_text}
 use Rattle.drain_report.specs.Lists.{list_text}
-use Rattle.drain_report.proofs.FaultLemmas.{end_fits, few_feeds, list_fits}
+use Rattle.drain_report.proofs.FaultLemmas.{end_fits, few_feeds, from_head, later, list_fits}
 use Rattle.drain_report.proofs.TextLemmas.{contents_with, six_then, version_first, after_head, after_tiles, after_sinks, after_outlets, read_six, same_contents}
 use Rattle.drain_report.proofs.read.read_report.Goals as goal
 
@@ -72,70 +72,50 @@ returns-in-Err-clause-fault c = c.in-Err.ensures.place
 pub returns-in-Err-read_list-clause-fault : goal.returns-in-Err-read_list-clause-fault
 returns-in-Err-read_list-clause-fault c =
     let text = c.args.text.now in
-    let feeds = line_feeds c.args.text.now in
     let few : line_feeds c.args.text.now < 2 ^ 63 = omega (arith, few_feeds c.args.text.now) in
-    let head = c.in-Ok.ensures.place in
-    let least : 2 ≤ c.in-Ok.read.1.number = omega (arith, head.0) in
-    list_fits text c.in-Ok.read.1.rest.now c.in-Ok.read.0 c.in-Ok.read.1.number c.in-Err-read_list.fault c.in-Ok.ensures.sound least (c.in-Err-read_list.ensures.place feeds few refl head.1)
+    let head = from_head text c.in-Ok.read.1.rest.now c.in-Ok.read.1.number c.in-Ok.ensures.place in
+    list_fits text c.in-Ok.read.1.rest.now c.in-Ok.read.1.rest.now c.in-Ok.read.0 c.in-Ok.read.1.number c.in-Err-read_list.fault c.in-Ok.ensures.sound head (c.in-Err-read_list.ensures.place (line_feeds text) few refl)
 
 pub returns-in-Err-read_list-2-clause-fault : goal.returns-in-Err-read_list-2-clause-fault
 returns-in-Err-read_list-2-clause-fault c =
     let text = c.args.text.now in
-    let feeds = line_feeds c.args.text.now in
     let few : line_feeds c.args.text.now < 2 ^ 63 = omega (arith, few_feeds c.args.text.now) in
-    let head = c.in-Ok.ensures.place in
-    let least : 2 ≤ c.in-Ok.read.1.number = omega (arith, head.0) in
-    let tiles = c.in-Ok-read_list.ensures.place feeds few refl head.1 in
-    let past_tiles : 2 ≤ c.in-Ok-read_list.read.1.number = omega (arith, least, tiles.0) in
-    list_fits text c.in-Ok.read.1.rest.now c.in-Ok.read.0 c.in-Ok-read_list.read.1.number c.in-Err-read_list-2.fault c.in-Ok.ensures.sound past_tiles (c.in-Err-read_list-2.ensures.place feeds few refl tiles.1)
+    let head = from_head text c.in-Ok.read.1.rest.now c.in-Ok.read.1.number c.in-Ok.ensures.place in
+    let tiles = later text c.in-Ok.read.1.rest.now c.in-Ok-read_list.read.1.rest.now c.in-Ok.read.1.number c.in-Ok-read_list.read.1.number head (c.in-Ok-read_list.ensures.place (line_feeds text) few refl) in
+    list_fits text c.in-Ok.read.1.rest.now c.in-Ok-read_list.read.1.rest.now c.in-Ok.read.0 c.in-Ok-read_list.read.1.number c.in-Err-read_list-2.fault c.in-Ok.ensures.sound tiles (c.in-Err-read_list-2.ensures.place (line_feeds text) few refl)
 
 pub returns-in-Err-read_list-3-clause-fault : goal.returns-in-Err-read_list-3-clause-fault
 returns-in-Err-read_list-3-clause-fault c =
     let text = c.args.text.now in
-    let feeds = line_feeds c.args.text.now in
     let few : line_feeds c.args.text.now < 2 ^ 63 = omega (arith, few_feeds c.args.text.now) in
-    let head = c.in-Ok.ensures.place in
-    let least : 2 ≤ c.in-Ok.read.1.number = omega (arith, head.0) in
-    let tiles = c.in-Ok-read_list.ensures.place feeds few refl head.1 in
-    let past_tiles : 2 ≤ c.in-Ok-read_list.read.1.number = omega (arith, least, tiles.0) in
-    let sinks = c.in-Ok-read_list-2.ensures.place feeds few refl tiles.1 in
-    let past_sinks : 2 ≤ c.in-Ok-read_list-2.read.1.number = omega (arith, past_tiles, sinks.0) in
-    list_fits text c.in-Ok.read.1.rest.now c.in-Ok.read.0 c.in-Ok-read_list-2.read.1.number c.in-Err-read_list-3.fault c.in-Ok.ensures.sound past_sinks (c.in-Err-read_list-3.ensures.place feeds few refl sinks.1)
+    let head = from_head text c.in-Ok.read.1.rest.now c.in-Ok.read.1.number c.in-Ok.ensures.place in
+    let tiles = later text c.in-Ok.read.1.rest.now c.in-Ok-read_list.read.1.rest.now c.in-Ok.read.1.number c.in-Ok-read_list.read.1.number head (c.in-Ok-read_list.ensures.place (line_feeds text) few refl) in
+    let sinks = later text c.in-Ok-read_list.read.1.rest.now c.in-Ok-read_list-2.read.1.rest.now c.in-Ok-read_list.read.1.number c.in-Ok-read_list-2.read.1.number tiles (c.in-Ok-read_list-2.ensures.place (line_feeds text) few refl) in
+    list_fits text c.in-Ok.read.1.rest.now c.in-Ok-read_list-2.read.1.rest.now c.in-Ok.read.0 c.in-Ok-read_list-2.read.1.number c.in-Err-read_list-3.fault c.in-Ok.ensures.sound sinks (c.in-Err-read_list-3.ensures.place (line_feeds text) few refl)
 
 pub returns-in-Err-read_list-4-clause-fault : goal.returns-in-Err-read_list-4-clause-fault
 returns-in-Err-read_list-4-clause-fault c =
     let text = c.args.text.now in
-    let feeds = line_feeds c.args.text.now in
     let few : line_feeds c.args.text.now < 2 ^ 63 = omega (arith, few_feeds c.args.text.now) in
-    let head = c.in-Ok.ensures.place in
-    let least : 2 ≤ c.in-Ok.read.1.number = omega (arith, head.0) in
-    let tiles = c.in-Ok-read_list.ensures.place feeds few refl head.1 in
-    let past_tiles : 2 ≤ c.in-Ok-read_list.read.1.number = omega (arith, least, tiles.0) in
-    let sinks = c.in-Ok-read_list-2.ensures.place feeds few refl tiles.1 in
-    let past_sinks : 2 ≤ c.in-Ok-read_list-2.read.1.number = omega (arith, past_tiles, sinks.0) in
-    let outlets = c.in-Ok-read_list-3.ensures.place feeds few refl sinks.1 in
-    let past_outlets : 2 ≤ c.in-Ok-read_list-3.read.1.number = omega (arith, past_sinks, outlets.0) in
-    list_fits text c.in-Ok.read.1.rest.now c.in-Ok.read.0 c.in-Ok-read_list-3.read.1.number c.in-Err-read_list-4.fault c.in-Ok.ensures.sound past_outlets (c.in-Err-read_list-4.ensures.place feeds few refl outlets.1)
+    let head = from_head text c.in-Ok.read.1.rest.now c.in-Ok.read.1.number c.in-Ok.ensures.place in
+    let tiles = later text c.in-Ok.read.1.rest.now c.in-Ok-read_list.read.1.rest.now c.in-Ok.read.1.number c.in-Ok-read_list.read.1.number head (c.in-Ok-read_list.ensures.place (line_feeds text) few refl) in
+    let sinks = later text c.in-Ok-read_list.read.1.rest.now c.in-Ok-read_list-2.read.1.rest.now c.in-Ok-read_list.read.1.number c.in-Ok-read_list-2.read.1.number tiles (c.in-Ok-read_list-2.ensures.place (line_feeds text) few refl) in
+    let outlets = later text c.in-Ok-read_list-2.read.1.rest.now c.in-Ok-read_list-3.read.1.rest.now c.in-Ok-read_list-2.read.1.number c.in-Ok-read_list-3.read.1.number sinks (c.in-Ok-read_list-3.ensures.place (line_feeds text) few refl) in
+    list_fits text c.in-Ok.read.1.rest.now c.in-Ok-read_list-3.read.1.rest.now c.in-Ok.read.0 c.in-Ok-read_list-3.read.1.number c.in-Err-read_list-4.fault c.in-Ok.ensures.sound outlets (c.in-Err-read_list-4.ensures.place (line_feeds text) few refl)
 
 pub returns-in-Err-read_end-clause-fault : goal.returns-in-Err-read_end-clause-fault
 returns-in-Err-read_end-clause-fault c =
     let text = c.args.text.now in
-    let feeds = line_feeds c.args.text.now in
     let few : line_feeds c.args.text.now < 2 ^ 63 = omega (arith, few_feeds c.args.text.now) in
-    let head = c.in-Ok.ensures.place in
-    let least : 2 ≤ c.in-Ok.read.1.number = omega (arith, head.0) in
-    let tiles = c.in-Ok-read_list.ensures.place feeds few refl head.1 in
-    let past_tiles : 2 ≤ c.in-Ok-read_list.read.1.number = omega (arith, least, tiles.0) in
-    let sinks = c.in-Ok-read_list-2.ensures.place feeds few refl tiles.1 in
-    let past_sinks : 2 ≤ c.in-Ok-read_list-2.read.1.number = omega (arith, past_tiles, sinks.0) in
-    let outlets = c.in-Ok-read_list-3.ensures.place feeds few refl sinks.1 in
-    let past_outlets : 2 ≤ c.in-Ok-read_list-3.read.1.number = omega (arith, past_sinks, outlets.0) in
-    let seams = c.in-Ok-read_list-4.ensures.place feeds few refl outlets.1 in
-    let past_seams : 2 ≤ c.in-Ok-read_list-4.read.1.number = omega (arith, past_outlets, seams.0) in
+    let head = from_head text c.in-Ok.read.1.rest.now c.in-Ok.read.1.number c.in-Ok.ensures.place in
+    let tiles = later text c.in-Ok.read.1.rest.now c.in-Ok-read_list.read.1.rest.now c.in-Ok.read.1.number c.in-Ok-read_list.read.1.number head (c.in-Ok-read_list.ensures.place (line_feeds text) few refl) in
+    let sinks = later text c.in-Ok-read_list.read.1.rest.now c.in-Ok-read_list-2.read.1.rest.now c.in-Ok-read_list.read.1.number c.in-Ok-read_list-2.read.1.number tiles (c.in-Ok-read_list-2.ensures.place (line_feeds text) few refl) in
+    let outlets = later text c.in-Ok-read_list-2.read.1.rest.now c.in-Ok-read_list-3.read.1.rest.now c.in-Ok-read_list-2.read.1.number c.in-Ok-read_list-3.read.1.number sinks (c.in-Ok-read_list-3.ensures.place (line_feeds text) few refl) in
+    let seams = later text c.in-Ok-read_list-3.read.1.rest.now c.in-Ok-read_list-4.read.1.rest.now c.in-Ok-read_list-3.read.1.number c.in-Ok-read_list-4.read.1.number outlets (c.in-Ok-read_list-4.ensures.place (line_feeds text) few refl) in
     let w = contents_with c.in-Ok.read.0 c.in-Ok-read_list.read.0.items c.in-Ok-read_list-2.read.0.items c.in-Ok-read_list-3.read.0.items c.in-Ok-read_list-4.read.0.items in
-    end_fits text c.in-Ok-read_list-4.read.1.rest.now c.in-Ok-read_list-4.read.1.number c.in-Err-read_end.fault w (version_first text c.in-Ok.read.1.rest.now c.in-Ok.read.0 c.in-Ok.ensures.sound) past_seams
+    end_fits text c.in-Ok-read_list-4.read.1.rest.now c.in-Ok-read_list-4.read.1.number c.in-Err-read_end.fault w (version_first text c.in-Ok.read.1.rest.now c.in-Ok.read.0 c.in-Ok.ensures.sound) seams
     (λ more on. six_then text c.in-Ok.read.1.rest.now c.in-Ok-read_list.read.1.rest.now c.in-Ok-read_list-2.read.1.rest.now c.in-Ok-read_list-3.read.1.rest.now c.in-Ok-read_list-4.read.1.rest.now
     (head_text c.in-Ok.read.0) (list_text (codes "tiles") tile_line c.in-Ok-read_list.read.0.items) (list_text (codes "sinks") sink_line c.in-Ok-read_list-2.read.0.items)
     (list_text (codes "outlets") outlet_line c.in-Ok-read_list-3.read.0.items) (list_text (codes "seams") shown_line c.in-Ok-read_list-4.read.0.items) end_line more
     c.in-Ok.ensures.sound c.in-Ok-read_list.ensures.sound c.in-Ok-read_list-2.ensures.sound c.in-Ok-read_list-3.ensures.sound c.in-Ok-read_list-4.ensures.sound on)
-    (c.in-Err-read_end.ensures.fault feeds seams.1)
+    (c.in-Err-read_end.ensures.fault (line_feeds text))

@@ -5,7 +5,7 @@ use Rattle.drain_report.proofs.NumberLemmas.{none_some, some_same}
 use Rattle.drain_report.proofs.FactLemmas.{nodata_number_long}
 use Rattle.drain_report.proofs.ListedNumbers.{held, kept, six}
 use Rattle.drain_report.proofs.SameFacts.{same_nodata}
-use Rattle.drain_report.proofs.nodata.nodata.Goals as goal
+use Rattle.drain_report.proofs.nodata.NoDataFact.from_numbers.Goals as goal
 
 pub returns-in_err-con-clause-back : goal.returns-in_err-con-clause-back
 returns-in_err-con-clause-back c = λ n range is. absurd (none_some n.con (c.in_err-con.ensures.back n.con (range Con) (ap (λ ns. get_or ns 0 (pos 0)) is)))

@@ -5,7 +5,7 @@ use Rattle.drain_report.proofs.NumberLemmas.{none_some, some_same}
 use Rattle.drain_report.proofs.FactLemmas.{corner_of, size_of, corner_narrow, size_narrow}
 use Rattle.drain_report.proofs.ListedNumbers.{four_then}
 use Rattle.drain_report.proofs.SameFacts.{same_place}
-use Rattle.drain_report.proofs.place.place.Goals as goal
+use Rattle.drain_report.proofs.place.PlaceFact.from_numbers.Goals as goal
 
 pub returns-in_err-corner-clause-back : goal.returns-in_err-corner-clause-back
 returns-in_err-corner-clause-back c = λ p fit is.
