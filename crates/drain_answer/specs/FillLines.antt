@@ -1,17 +1,15 @@
 -- The line for the answer to a fill input. Its words are this project's own.
-use Rattle.std.specs.Prelude.{ℕ, List, ◌++◌, Result, Ok, Err, codes, decimal}
+use Rattle.std.specs.Prelude.{ℕ, List, Result, Ok, Err, codes}
 use Rattle.drain_rules.specs.declared.fill_walk.FillCounts.{FillCounts}
 use Rattle.drain_rules.specs.declared.fill_walk.FillVerdict.{FillVerdict}
 use Rattle.drain_rules.specs.declared.fill_walk.FillVerdict.TheVariants.{Accepted, Rejected}
 use Rattle.drain_rules.specs.declared.fill_walk.FillRefusal.{FillRefusal}
 use Rattle.drain_rules.specs.declared.fill_walk.FillRefusal.TheVariants.{BadSide, BadLength}
-use Rattle.drain_answer.specs.Lines.{rejected_line}
+use Rattle.drain_answer.specs.Lines.{counted_line, rejected_line}
 
 -- accepted rows=R cols=C data=D raised=U
 abbrev pub fill_accepted_line : FillCounts → List ℕ
-fill_accepted_line c =
-    codes "accepted rows=" ++ decimal c.rows ++ codes " cols=" ++ decimal c.cols ++ codes " data=" ++ decimal c.data_cells
-    ++ codes " raised=" ++ decimal c.raised
+fill_accepted_line c = counted_line c.rows c.cols c.data_cells c.raised
 
 -- the line of any answer
 abbrev pub fill_line : Result FillVerdict FillRefusal → List ℕ

@@ -11,11 +11,14 @@ use Rattle.drain_rules.specs.declared.verdict.Verdict.TheVariants.{Accepted, Rej
 use Rattle.drain_answer.specs.declared.refusal.Refusal.{Refusal}
 use Rattle.drain_answer.specs.declared.refusal.Refusal.TheVariants.{BadSide, BadName, NoTiles, RepeatedTile, BoxTooLarge, BadHeader, WrongShape, Misplaced, BadTileLength, RasterShort, SeamMismatch, BadSinkLine, SinkNotData, OutOfMemory, ReadFailed}
 
--- accepted rows=R cols=C data=D raised=U outlets=O
+-- accepted rows=R cols=C data=D raised=U
+abbrev pub counted_line : ℕ → ℕ → ℕ → ℕ → List ℕ
+counted_line rows cols data_cells raised =
+    codes "accepted rows=" ++ decimal rows ++ codes " cols=" ++ decimal cols ++ codes " data=" ++ decimal data_cells ++ codes " raised=" ++ decimal raised
+
+-- the same, and outlets=O
 abbrev pub accepted_line : Counts → List ℕ
-accepted_line c =
-    codes "accepted rows=" ++ decimal c.rows ++ codes " cols=" ++ decimal c.cols ++ codes " data=" ++ decimal c.data_cells
-    ++ codes " raised=" ++ decimal c.raised ++ codes " outlets=" ++ decimal c.outlets
+accepted_line c = counted_line c.rows c.cols c.data_cells c.raised ++ codes " outlets=" ++ decimal c.outlets
 
 -- rejected rule=N NAME row=R col=C
 abbrev pub rejected_line : Rule → ℕ → ℕ → List ℕ

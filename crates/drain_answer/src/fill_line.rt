@@ -3,8 +3,8 @@
 ghost use Rattle.std.specs.Prelude.{◌≡◌};
 ghost use Rattle.drain_answer.specs.FillLines.{fill_line, fill_accepted_line};
 
-use crate::line::{Line, push_number, words};
-use crate::verdict_report::rejected;
+use crate::line::{Line, words};
+use crate::verdict_report::{counted, rejected};
 use drain_rules::{FillCounts, FillRefusal, FillVerdict};
 
 /// The line of an answer, without a line end, in ASCII.
@@ -22,13 +22,7 @@ pub fn fill_report(answer: &Result<FillVerdict, FillRefusal>) -> Line
 fn accepted(counts: &FillCounts) -> Line
     ensures { result.bytes ≡ fill_accepted_line counts.now }
 {
-    let mut line = words("accepted rows=");
-    push_number(&mut line, counts.rows);
-    line.push_str(" cols=");
-    push_number(&mut line, counts.cols);
-    line.push_str(" data=");
-    push_number(&mut line, counts.data_cells);
-    line.push_str(" raised=");
-    push_number(&mut line, counts.raised);
-    line
+    let data_cells = u64::from(counts.data_cells);
+    let raised = u64::from(counts.raised);
+    counted(counts.rows, counts.cols, data_cells, raised)
 }

@@ -22,6 +22,16 @@ pub fn push_number(line: &mut Line, number: u32)
     line.push_str(digits.format(number));
 }
 
+/// Appends a whole number of 64 bits, in decimal digits without leading zeros.
+pub fn push_count(line: &mut Line, count: u64)
+    requires { array_string_len line.old + 20 ≤ LINE_LENGTH }
+    ensures text { line.new.bytes ≡ line.old.bytes ++ decimal count }
+    ensures len { array_string_len line.new ≤ array_string_len line.old + 20 }
+{
+    let mut digits = Buffer::new();
+    line.push_str(digits.format(count));
+}
+
 /// A line of these words.
 pub fn words(text: &str) -> Line
     requires { length text.now ≤ LINE_LENGTH }

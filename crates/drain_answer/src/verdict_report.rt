@@ -1,9 +1,10 @@
 //! The line of a verdict.
 
-ghost use Rattle.std.specs.Prelude.{◌≡◌};
-ghost use Rattle.drain_answer.specs.Lines.{verdict_line, accepted_line, rejected_line};
+ghost use Rattle.std.specs.Prelude.{◌≡◌, ◌≤◌};
+ghost use Rattle.arrayvec.specs.ArrayString.{array_string_len};
+ghost use Rattle.drain_answer.specs.Lines.{verdict_line, accepted_line, counted_line, rejected_line};
 
-use crate::line::{Line, push_number, words};
+use crate::line::{Line, push_count, push_number, words};
 use drain_grid::Rule;
 use drain_rules::{Counts, Verdict};
 
@@ -21,16 +22,27 @@ pub fn verdict_line(verdict: &Verdict) -> Line
 pub fn accepted(counts: &Counts) -> Line
     ensures { result.bytes ≡ accepted_line counts.now }
 {
-    let mut line = words("accepted rows=");
-    push_number(&mut line, counts.rows);
-    line.push_str(" cols=");
-    push_number(&mut line, counts.cols);
-    line.push_str(" data=");
-    push_number(&mut line, counts.data_cells);
-    line.push_str(" raised=");
-    push_number(&mut line, counts.raised);
+    let data_cells = u64::from(counts.data_cells);
+    let raised = u64::from(counts.raised);
+    let mut line = counted(counts.rows, counts.cols, data_cells, raised);
     line.push_str(" outlets=");
     push_number(&mut line, counts.outlets);
+    line
+}
+
+/// The line of an acceptance up to the raised cells; the cells of a union are more than 32 bits count.
+pub fn counted(rows: u32, cols: u32, data_cells: u64, raised: u64) -> Line
+    ensures text { result.bytes ≡ counted_line rows cols data_cells raised }
+    ensures len { array_string_len result ≤ 100 }
+{
+    let mut line = words("accepted rows=");
+    push_number(&mut line, rows);
+    line.push_str(" cols=");
+    push_number(&mut line, cols);
+    line.push_str(" data=");
+    push_count(&mut line, data_cells);
+    line.push_str(" raised=");
+    push_count(&mut line, raised);
     line
 }
 

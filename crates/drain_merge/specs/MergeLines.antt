@@ -1,7 +1,7 @@
 -- The line for the answer of a merge. Its words are this project's own.
 use Rattle.std.specs.Prelude.{ℕ, List, ◌++◌, Result, Ok, Err, codes, decimal}
 use Rattle.drain_grid.specs.declared.cell.Cell.{Cell}
-use Rattle.drain_answer.specs.Lines.{rejected_line}
+use Rattle.drain_answer.specs.Lines.{counted_line, rejected_line}
 use Rattle.drain_merge.specs.declared.map_merge.MapVerdict.{MapVerdict}
 use Rattle.drain_merge.specs.declared.merge_verdict.MergeRefusal.{MergeRefusal}
 use Rattle.drain_merge.specs.declared.merge_verdict.MergeRefusal.TheVariants.{NoReports, OtherSide, OtherNoData, OutsideUnion, Overlap, LeftOut, SeamsDiffer, SinkLeftOut, SinkNotListed, OutOfMemory}
@@ -12,9 +12,7 @@ use Rattle.drain_merge.specs.declared.totals.UnionCounts.{UnionCounts}
 
 -- accepted rows=R cols=C data=D raised=U outlets=O
 abbrev pub accepted_line : UnionCounts → List ℕ
-accepted_line c =
-    codes "accepted rows=" ++ decimal c.rows ++ codes " cols=" ++ decimal c.cols ++ codes " data=" ++ decimal c.data_cells
-    ++ codes " raised=" ++ decimal c.raised ++ codes " outlets=" ++ decimal c.outlets
+accepted_line c = counted_line c.rows c.cols c.data_cells c.raised ++ codes " outlets=" ++ decimal c.outlets
 
 -- the line of a verdict; a fault's as in a check
 abbrev pub union_line : MergeVerdict → List ℕ

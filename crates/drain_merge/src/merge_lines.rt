@@ -1,18 +1,16 @@
 //! The line for the answer of a merge.
 
-ghost use Rattle.std.specs.Prelude.{◌≡◌, ◌+◌, ◌≤◌, ◌++◌, length, codes, decimal};
+ghost use Rattle.std.specs.Prelude.{◌≡◌, ◌≤◌, ◌++◌, length, codes, decimal};
 ghost use Rattle.arrayvec.specs.ArrayString.{array_string_len};
-ghost use Rattle.drain_answer.specs.declared.line.TheConstants.{LINE_LENGTH};
 ghost use Rattle.drain_merge.specs.MergeLines.{cell_text, merge_line, overlap_line, refusal_line, union_line, accepted_line};
 
 use crate::map_merge::MapVerdict;
 use crate::merge_verdict::{MergeRefusal, MergeVerdict};
 use crate::places::Clash;
 use crate::totals::UnionCounts;
-use drain_answer::line::{Line, push_number, words};
-use drain_answer::verdict_report::rejected;
+use drain_answer::line::{Line, push_count, push_number, words};
+use drain_answer::verdict_report::{counted, rejected};
 use drain_grid::Cell;
-use itoa::Buffer;
 
 /// The line of an answer, without a line end, in ASCII. Rows and columns are those of the union.
 pub fn merge_line(answer: &Result<MapVerdict, MergeRefusal>) -> Line
@@ -38,14 +36,7 @@ fn union_line(verdict: &MergeVerdict) -> Line
 fn accepted(counts: &UnionCounts) -> Line
     ensures { result.bytes ≡ accepted_line counts.now }
 {
-    let mut line = words("accepted rows=");
-    push_number(&mut line, counts.rows);
-    line.push_str(" cols=");
-    push_number(&mut line, counts.cols);
-    line.push_str(" data=");
-    push_count(&mut line, counts.data_cells);
-    line.push_str(" raised=");
-    push_count(&mut line, counts.raised);
+    let mut line = counted(counts.rows, counts.cols, counts.data_cells, counts.raised);
     line.push_str(" outlets=");
     push_count(&mut line, counts.outlets);
     line
@@ -101,14 +92,4 @@ fn of_cell(text: &str, cell: Cell) -> Line
     line.push_str(" col=");
     push_number(&mut line, cell.col);
     line
-}
-
-/// Appends a whole number of 64 bits, in decimal digits without leading zeros.
-fn push_count(line: &mut Line, number: u64)
-    requires { array_string_len line.old + 20 ≤ LINE_LENGTH }
-    ensures text { line.new.bytes ≡ line.old.bytes ++ decimal number }
-    ensures len { array_string_len line.new ≤ array_string_len line.old + 20 }
-{
-    let mut digits = Buffer::new();
-    line.push_str(digits.format(number));
 }
