@@ -1,17 +1,16 @@
 -- Labels, cell by cell: first those of outlets, then those of the cells on a walk that reached a label.
-use Rattle.std.proofs.Common.{◌≡◌, ◌≢◌, ◌∙◌, ◌⊎◌, ℕ, zero, suc, ◌+◌, ◌*◌, ◌<◌, inl, inr, pos, cond, List, Option, Some, None, refl, sym, ap, subst, arith}
+use Rattle.std.proofs.Common.{◌≡◌, ◌≢◌, ◌∙◌, ℕ, zero, suc, ◌+◌, ◌*◌, inl, inr, pos, cond, List, Option, Some, None, refl, sym, ap, subst, arith}
 use Rattle.std.proofs.lemmas.Bool.{cases_order, cases_eq}
 use Rattle.drain_grid.specs.declared.cell.Cell.{Cell}
-use Rattle.drain_grid.specs.Certificate.{IsFirstEndless}
-use Rattle.drain_grid.specs.Extent.{IsCellOf, index_of}
+use Rattle.drain_grid.specs.Extent.{index_of}
 use Rattle.drain_grid.specs.Grid.{Grid, Products, IsInside, HasData}
 use Rattle.drain_grid.specs.Run.{next, continued, steps_from, last_from, run_end, RunEnds}
 use Rattle.drain_grid.specs.Size.{Extent}
 use Rattle.drain_grid.proofs.EndedRuns.{HasData-next, ended-run_end}
 use Rattle.drain_grid.proofs.Lowered.{same_or_not}
 use Rattle.drain_grid.proofs.Runs.{index_of-below, run_end-zero}
-use Rattle.drain_grid.proofs.Walks.{Leads, IsWalk, EndsAfter-zero, endless-stuck}
-use Rattle.drain_paths.proofs.Cells.{in_grid, same_index, earlier_index}
+use Rattle.drain_grid.proofs.Walks.{Leads, IsWalk, EndsAfter-zero}
+use Rattle.drain_paths.proofs.Cells.{in_grid, same_index}
 use Rattle.drain_paths.proofs.NextCells.{no_void}
 use Rattle.drain_paths.proofs.Shorter.{IsEnded-next, RunEnds-before}
 use Rattle.drain_counts.specs.CellNumbers.{cell_number, IsPutAt}
@@ -125,50 +124,6 @@ pub IsBasinLabel-walk : (g : Grid) (ps : Products) (e : Extent) (labels : List �
 IsBasinLabel-walk g ps e labels k c d label are here walk there is some =
     leads_label g ps k c d label here walk.leads
     (subst (IsBasinLabel g ps d) (sym is) (are.right d there.inside (λ none. some (is ∙ none))))
-
--- if it reaches a cell without a label that leads nowhere
-pub endless_here : (g : Grid) (ps : Products) (e : Extent) (labels : List ℕ) (d : Cell) → AreLabelsSoFar g ps e labels → HasData g d →
-    cell_number e labels d ≡ 0 → next g ps d ≡ None → ¬ RunEnds g ps d
-endless_here g ps e labels d are there none stops = endless-stuck g ps d stops (λ is_zero. are.outlets d there is_zero none)
-
--- a label that is written
-pub AreLabelsSoFar-put : (g : Grid) (ps : Products) (e : Extent) (labels after : List ℕ) (c : Cell) (label : ℕ) → AreLabelsSoFar g ps e labels →
-    IsBasinLabel g ps c label → label ≢ 0 → IsPutAt e labels after c label → AreLabelsSoFar g ps e after
-AreLabelsSoFar-put g ps e labels after c label are is some put = record {
-  extent = are.extent;
-  right = λ d inside known. elim (same_or_not c d) [
-    | inl one ↦ subst (λ x. IsBasinLabel g ps x (cell_number e after x)) one (subst (IsBasinLabel g ps c) (sym put.there) is)
-    | inr other ↦
-        (let kept = put.elsewhere d (in_grid g e d are.extent inside) (λ same. other (sym same)) in
-        subst (IsBasinLabel g ps d) (sym kept) (are.right d inside (λ none. known (kept ∙ none))))
-  ];
-  outlets = λ d here is_zero none. elim (same_or_not c d) [
-    | inl one ↦ some (sym put.there ∙ (ap (cell_number e after) one ∙ none))
-    | inr other ↦ are.outlets d here is_zero (sym (put.elsewhere d (in_grid g e d are.extent here.inside) (λ same. other (sym same))) ∙ none)
-  ];
-}
-
--- what had a label still has one
-pub known_put : (e : Extent) (labels after : List ℕ) (c d : Cell) (label : ℕ) → label ≢ 0 → IsPutAt e labels after c label → IsCellOf e d →
-    (c ≡ d) ⊎ (cell_number e labels d ≢ 0) → cell_number e after d ≢ 0
-known_put e labels after c d label some put inside known none = elim (same_or_not c d) [
-  | inl one ↦ some (sym put.there ∙ (ap (cell_number e after) one ∙ none))
-  | inr other ↦ elim known [
-    | inl one ↦ other one
-    | inr before ↦ before (sym (put.elsewhere d inside (λ same. other (sym same))) ∙ none)
-  ]
-]
-
--- the first cell from which no walk reaches a label
-pub first_endless : (g : Grid) (ps : Products) (e : Extent) (labels : List ℕ) (k : ℕ) (c : Cell) → AreLabelsSoFar g ps e labels →
-    ((b : Cell) → HasData g b → index_of e b < k → cell_number e labels b ≢ 0) → index_of e c ≡ k → HasData g c → ¬ RunEnds g ps c → IsFirstEndless g ps c
-first_endless g ps e labels k c are passed at here endless = record {
-  here = here;
-  endless = endless;
-  first = λ b there before.
-      (let less = earlier_index e b c (in_grid g e b are.extent there.inside) before in
-      (are.right b there.inside (passed b there (omega (arith, less, at)))).ends);
-}
 
 -- the end of a run has data and code 0
 run_end_data : (g : Grid) (ps : Products) (k : ℕ) (c : Cell) → HasData g c → HasData g (last_from c (steps_from g ps k c))

@@ -6,6 +6,7 @@ pub mod FlowCells
 pub mod GridOfFlows
 pub mod InflowLemmas
 pub mod LabelLemmas
+pub mod NumbersSoFar
 pub mod PassedSums
 pub mod PassingLemmas
 pub mod Shares

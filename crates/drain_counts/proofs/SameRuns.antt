@@ -47,6 +47,7 @@ module _ (e : Extent) (flows : List Flow) (g : Grid) (ps : Products) (are : AreF
     where
       there : HasData h c
       there = data_too c here
+
       by_step : (d : Direction) → direction_of (flow_at e flows c) ≡ Some d → (o : Option Cell) → step e c d ≡ o → next g ps c ≡ next h qs c
       by_step d leads None outside =
           leads_outside g ps e flows are c here d leads outside ∙ sym (leads_outside h qs e flows too c there d leads outside)
@@ -58,6 +59,7 @@ module _ (e : Extent) (flows : List Flow) (g : Grid) (ps : Products) (are : AreF
             | inl void ↦ leads_to_void g ps e flows are c here d leads n in_g to_n void ∙ sym (leads_to_void h qs e flows too c there d leads n in_h to_n void)
             | inr some ↦ leads_to_data g ps e flows are c here d leads n in_g to_n some ∙ sym (leads_to_data h qs e flows too c there d leads n in_h to_n some)
           ]
+
       by_way : (o : Option Direction) → direction_of (flow_at e flows c) ≡ o → next g ps c ≡ next h qs c
       by_way None leads = leads_nowhere g ps e flows are c here leads ∙ sym (leads_nowhere h qs e flows too c there leads)
       by_way (Some d) leads = by_step d leads (step e c d) refl

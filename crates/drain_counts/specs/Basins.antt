@@ -8,7 +8,7 @@ use Rattle.drain_grid.specs.Extent.{index_of, cells}
 use Rattle.drain_grid.specs.Grid.{Grid, Products, IsInside, HasData}
 use Rattle.drain_grid.specs.Run.{run_end, RunEnds, ShareBasin}
 use Rattle.drain_grid.specs.Size.{Extent}
-use Rattle.drain_counts.specs.CellNumbers.{cell_number}
+use Rattle.drain_counts.specs.CellNumbers.{cell_number, AreNumbersSoFar}
 use Rattle.drain_counts.specs.OfFlows.{AllFlowsEnd}
 
 -- a data cell with code 0
@@ -38,10 +38,8 @@ pub record IsBasinLabel (g : Grid) (ps : Products) (c : Cell) (label : ℕ) : Ty
   pub label_is : label ≡ end_number g ps (run_end g ps c)
 
 -- each known label is right, and the labels of the outlets are known
-pub record AreLabelsSoFar (g : Grid) (ps : Products) (e : Extent) (labels : List ℕ) : Type 0 where
-  pub extent : g.extent ≡ e
-  pub right : (c : Cell) → IsInside g c → cell_number e labels c ≢ 0 → IsBasinLabel g ps c (cell_number e labels c)
-  pub outlets : (c : Cell) → HasData g c → ps.dir c ≡ pos 0 → cell_number e labels c ≢ 0
+abbrev pub AreLabelsSoFar : Grid → Products → Extent → List ℕ → Type 0
+AreLabelsSoFar g ps e numbers = AreNumbersSoFar g ps e 0 (IsBasinLabel g ps) numbers
 
 -- every run ends; each data cell has the number of the outlet where its run ends, so two labels are equal exactly if
 -- the cells share a basin; each void has 0

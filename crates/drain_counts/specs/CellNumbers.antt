@@ -1,7 +1,8 @@
 -- Numbers of cells, in row order.
-use Rattle.std.specs.Prelude.{◌≡◌, ◌≢◌, ℕ, List, map, length, slice_index_or}
+use Rattle.std.specs.Prelude.{◌≡◌, ◌≢◌, ℕ, pos, List, map, length, slice_index_or}
 use Rattle.drain_grid.specs.declared.cell.Cell.{Cell}
 use Rattle.drain_grid.specs.Extent.{IsCellOf, index_of}
+use Rattle.drain_grid.specs.Grid.{Grid, Products, IsInside, HasData}
 use Rattle.drain_grid.specs.Size.{Extent}
 use Rattle.drain_paths.specs.declared.flow.Flow.{Flow}
 use Rattle.drain_paths.specs.declared.flow.Flow.TheVariants.{Void, Lost, Ends, ToEast, ToSouthEast, ToSouth, ToSouthWest, ToWest, ToNorthWest, ToNorth, ToNorthEast}
@@ -15,6 +16,12 @@ pub record IsPutAt (e : Extent) (before after : List ℕ) (c : Cell) (number : �
   pub counted : length after ≡ length before
   pub there : cell_number e after c ≡ number
   pub elsewhere : (d : Cell) → IsCellOf e d → d ≢ c → cell_number e after d ≡ cell_number e before d
+
+-- each known number is right, and the numbers of the outlets are known
+pub record AreNumbersSoFar (g : Grid) (ps : Products) (e : Extent) (unknown : ℕ) (IsRight : Cell → ℕ → Type 0) (numbers : List ℕ) : Type 0 where
+  pub extent : g.extent ≡ e
+  pub right : (c : Cell) → IsInside g c → cell_number e numbers c ≢ unknown → IsRight c (cell_number e numbers c)
+  pub outlets : (c : Cell) → HasData g c → ps.dir c ≡ pos 0 → cell_number e numbers c ≢ unknown
 
 -- 1 for a data cell, 0 for a void
 abbrev pub one_of : Flow → ℕ

@@ -10,9 +10,10 @@ ghost use Rattle.drain_paths.specs.Flows.{flow_at};
 ghost use Rattle.drain_paths.specs.Ranks.{IsRankRefusal};
 ghost use Rattle.drain_counts.specs.CodeFlows.{bytes_flows};
 ghost use Rattle.drain_counts.specs.OfFlows.{OfFlows};
-ghost use Rattle.drain_counts.specs.CellNumbers.{cell_number, IsPutAt};
+ghost use Rattle.drain_counts.specs.CellNumbers.{cell_number};
 ghost use Rattle.drain_counts.specs.Basins.{IsBasinLabel, AreLabelsSoFar, AreBasinLabels};
 
+use crate::cell_numbers::{number_at, put_at};
 use crate::code_flows::CodedFlows;
 use crate::outlets::outlet_labels;
 use crate::ways::{ListedFlows, Ways, next_of};
@@ -117,7 +118,7 @@ fn label_ahead<W: Ways>(ways: &W, shape: Shape, labels: &[u32], start: Cell) -> 
 {
     let mut here = start;
     for steps in 0..shape.cells() + 1 {
-        let label = label_at(shape, labels, here);
+        let label = number_at(shape, labels, here);
         if label != 0 {
             return Some(Ahead { steps, label });
         }
@@ -151,22 +152,4 @@ fn put_label<W: Ways>(ways: &W, shape: Shape, labels: &mut [u32], start: Cell, a
             None => return,
         }
     }
-}
-
-/// The label of a cell.
-fn label_at(shape: Shape, labels: &[u32], cell: Cell) -> u32
-    requires labels_counted { length labels.now ≡ shape.rows * shape.cols }
-    requires inside { IsCellOf shape cell }
-    ensures { result ≡ cell_number shape labels.now cell }
-{
-    labels[shape.index(cell)]
-}
-
-/// Writes the label of a cell.
-fn put_at(shape: Shape, labels: &mut [u32], cell: Cell, label: u32)
-    requires labels_counted { length labels.old ≡ shape.rows * shape.cols }
-    requires inside { IsCellOf shape cell }
-    ensures { IsPutAt shape labels.old labels.new cell label }
-{
-    labels[shape.index(cell)] = label;
 }

@@ -3,6 +3,7 @@
 
 pub mod accumulation;
 pub mod basins;
+pub mod cell_numbers;
 pub mod code_flows;
 mod inflows;
 pub mod laws;

@@ -29,13 +29,7 @@ pub(crate) fn outlet_labels<W: Ways>(
 }
 
 /// Numbers the cell with this many cells before it, if its code is 0; returns how many are numbered.
-fn number_end<W: Ways>(
-    ways: &W,
-    shape: Shape,
-    labels: &mut [u32],
-    ends: u32,
-    place: usize,
-) -> u32
+fn number_end<W: Ways>(ways: &W, shape: Shape, labels: &mut [u32], ends: u32, place: usize) -> u32
     requires counted { length (W.flows ways.now) ≡ shape.rows * shape.cols }
     requires labels_counted { length labels.old ≡ shape.rows * shape.cols }
     requires inside { place < shape.rows * shape.cols }

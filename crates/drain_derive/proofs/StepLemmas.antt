@@ -1,25 +1,24 @@
 -- Numbers of steps, cell by cell: first those of outlets, then those of the cells on a walk to a known number.
-use Rattle.std.proofs.Common.{◌≡◌, ◌≢◌, ◌∙◌, ◌⊎◌, ℕ, ◌+◌, ◌-◌, ◌*◌, ◌<◌, ◌≤◌, inl, inr, List, length, Some, None, refl, sym, ap, subst, arith}
+use Rattle.std.proofs.Common.{◌≡◌, ◌≢◌, ◌∙◌, ℕ, ◌+◌, ◌-◌, ◌*◌, ◌<◌, ◌≤◌, inl, inr, List, length, Some, refl, sym, ap, subst, arith}
 use Rattle.std.proofs.lemmas.Bool.{cases_eq}
 use Rattle.std.proofs.lemmas.List.{get_or-map}
 use Rattle.drain_grid.specs.declared.cell.Cell.{Cell}
-use Rattle.drain_grid.specs.Certificate.{EndsAfter, IsFirstEndless}
-use Rattle.drain_grid.specs.Extent.{IsCellOf, index_of}
+use Rattle.drain_grid.specs.Certificate.{EndsAfter}
+use Rattle.drain_grid.specs.Extent.{index_of}
 use Rattle.drain_grid.specs.Grid.{Grid, Products, IsInside, HasData}
 use Rattle.drain_grid.specs.Run.{next, RunEnds}
 use Rattle.drain_grid.specs.Size.{Extent}
 use Rattle.drain_grid.proofs.EndedRuns.{HasData-next}
-use Rattle.drain_grid.proofs.Lowered.{same_or_not}
 use Rattle.drain_grid.proofs.Runs.{index_of-below}
-use Rattle.drain_grid.proofs.Walks.{IsWalk, IsWalk-ends, IsWalk-too_long, EndsAfter-zero, EndsAfter-earlier, endless-stuck}
+use Rattle.drain_grid.proofs.Walks.{IsWalk, IsWalk-ends, IsWalk-too_long, EndsAfter-zero, EndsAfter-earlier}
 use Rattle.drain_paths.specs.declared.flow.Flow.{Flow}
 use Rattle.drain_paths.specs.declared.flow.Flow.TheVariants.{Void, Lost, Ends, ToEast, ToSouthEast, ToSouth, ToSouthWest, ToWest, ToNorthWest, ToNorth, ToNorthEast}
 use Rattle.drain_paths.specs.declared.steps.TheConstants.{UNKNOWN}
 use Rattle.drain_paths.specs.Flows.{flow_at, AreFlowsOf}
 use Rattle.drain_paths.specs.Steps.{IsRightStep}
-use Rattle.drain_paths.proofs.Cells.{in_grid, earlier_index}
+use Rattle.drain_paths.proofs.Cells.{in_grid}
 use Rattle.drain_paths.proofs.NextCells.{no_void}
-use Rattle.drain_counts.specs.CellNumbers.{cell_number, IsPutAt}
+use Rattle.drain_counts.specs.CellNumbers.{cell_number}
 use Rattle.drain_counts.proofs.FlowCells.{data_of_flow, zero_of_flow, flow_of_zero}
 use Rattle.drain_derive.specs.RunSteps.{first_step, first_steps_of, AreStepsSoFar, AreRunSteps}
 
@@ -79,55 +78,11 @@ too_long g ps e steps k c d known are walk there is some long =
     let cells : g.extent.rows * g.extent.cols ≡ e.rows * e.cols = ap (λ (x : Extent). x.rows * x.cols) are.extent in
     IsWalk-too_long g ps k c d walk (omega (arith, ended, is, long, cells))
 
--- a cell without a number that leads nowhere
-pub endless_here : (g : Grid) (ps : Products) (e : Extent) (steps : List ℕ) (d : Cell) → AreStepsSoFar g ps e steps → HasData g d →
-    cell_number e steps d ≡ UNKNOWN → next g ps d ≡ None → ¬ RunEnds g ps d
-endless_here g ps e steps d are there none stops = endless-stuck g ps d stops (λ is_zero. are.outlets d there is_zero none)
-
 -- the next cell's run makes one step less
 pub IsRight-next : (g : Grid) (ps : Products) (c n : Cell) (left less : ℕ) → next g ps c ≡ Some n → less ≡ left - 1 → IsRightStep g ps c left → IsRightStep g ps n less
 IsRight-next g ps c n left less leads is right = record {
   here = HasData-next g ps c n leads;
   ended = subst (EndsAfter g ps n) (sym is) (EndsAfter-earlier g ps c n left leads right.ended);
-}
-
--- a number that is written
-pub AreStepsSoFar-put : (g : Grid) (ps : Products) (e : Extent) (steps after : List ℕ) (c : Cell) (number : ℕ) → AreStepsSoFar g ps e steps →
-    IsRightStep g ps c number → number ≢ UNKNOWN → IsPutAt e steps after c number → AreStepsSoFar g ps e after
-AreStepsSoFar-put g ps e steps after c number are is some put = record {
-  extent = are.extent;
-  right = λ d inside known. elim (same_or_not c d) [
-    | inl one ↦ subst (λ x. IsRightStep g ps x (cell_number e after x)) one (subst (IsRightStep g ps c) (sym put.there) is)
-    | inr other ↦
-        (let kept = put.elsewhere d (in_grid g e d are.extent inside) (λ same. other (sym same)) in
-        subst (IsRightStep g ps d) (sym kept) (are.right d inside (λ none. known (kept ∙ none))))
-  ];
-  outlets = λ d here is_zero none. elim (same_or_not c d) [
-    | inl one ↦ some (sym put.there ∙ (ap (cell_number e after) one ∙ none))
-    | inr other ↦ are.outlets d here is_zero (sym (put.elsewhere d (in_grid g e d are.extent here.inside) (λ same. other (sym same))) ∙ none)
-  ];
-}
-
--- what had a number still has one
-pub known_put : (e : Extent) (steps after : List ℕ) (c d : Cell) (number : ℕ) → number ≢ UNKNOWN → IsPutAt e steps after c number → IsCellOf e d →
-    (c ≡ d) ⊎ (cell_number e steps d ≢ UNKNOWN) → cell_number e after d ≢ UNKNOWN
-known_put e steps after c d number some put inside known none = elim (same_or_not c d) [
-  | inl one ↦ some (sym put.there ∙ (ap (cell_number e after) one ∙ none))
-  | inr other ↦ elim known [
-    | inl one ↦ other one
-    | inr before ↦ before (sym (put.elsewhere d inside (λ same. other (sym same))) ∙ none)
-  ]
-]
-
--- the first cell from which no walk reaches a number
-pub first_endless : (g : Grid) (ps : Products) (e : Extent) (steps : List ℕ) (k : ℕ) (c : Cell) → AreStepsSoFar g ps e steps →
-    ((b : Cell) → HasData g b → index_of e b < k → cell_number e steps b ≢ UNKNOWN) → index_of e c ≡ k → HasData g c → ¬ RunEnds g ps c → IsFirstEndless g ps c
-first_endless g ps e steps k c are passed at here endless = record {
-  here = here;
-  endless = endless;
-  first = λ b there before.
-      (let less = earlier_index e b c (in_grid g e b are.extent there.inside) before in
-      (are.right b there.inside (passed b there (omega (arith, less, at)))).ended.ends);
 }
 
 -- numbers of all data cells

@@ -9,11 +9,12 @@ ghost use Rattle.drain_paths.specs.declared.flow.Flow.TheVariants.{Void};
 ghost use Rattle.drain_paths.specs.Flows.{flow_at};
 ghost use Rattle.drain_paths.specs.Ranks.{IsRankRefusal};
 ghost use Rattle.drain_paths.specs.Steps.{IsRightStep};
-ghost use Rattle.drain_counts.specs.CellNumbers.{cell_number, IsPutAt};
+ghost use Rattle.drain_counts.specs.CellNumbers.{cell_number};
 ghost use Rattle.drain_counts.specs.OfFlows.{OfFlows};
 ghost use Rattle.drain_derive.specs.RunSteps.{AreStepsSoFar, AreRunSteps};
 
 use crate::first_steps::first_steps;
+use drain_counts::cell_numbers::{number_at, put_at};
 use drain_counts::next_cell;
 use drain_grid::{Cell, Shape};
 use drain_paths::steps::UNKNOWN;
@@ -95,7 +96,7 @@ fn steps_ahead(flows: &[Flow], shape: Shape, steps: &[u32], start: Cell) -> Opti
     let cells = shape.cells();
     let mut here = start;
     for walked in 0..cells + 1 {
-        let known = steps_at(shape, steps, here);
+        let known = number_at(shape, steps, here);
         if known != UNKNOWN {
             return ahead_of(walked, known, cells);
         }
@@ -152,22 +153,4 @@ fn put_steps(flows: &[Flow], shape: Shape, steps: &mut [u32], start: Cell, ahead
             None => return,
         }
     }
-}
-
-/// The number of a cell.
-fn steps_at(shape: Shape, steps: &[u32], cell: Cell) -> u32
-    requires steps_counted { length steps.now ≡ shape.rows * shape.cols }
-    requires inside { IsCellOf shape cell }
-    ensures { result ≡ cell_number shape steps.now cell }
-{
-    steps[shape.index(cell)]
-}
-
-/// Writes the number of a cell.
-fn put_at(shape: Shape, steps: &mut [u32], cell: Cell, number: u32)
-    requires steps_counted { length steps.old ≡ shape.rows * shape.cols }
-    requires inside { IsCellOf shape cell }
-    ensures { IsPutAt shape steps.old steps.new cell number }
-{
-    steps[shape.index(cell)] = number;
 }

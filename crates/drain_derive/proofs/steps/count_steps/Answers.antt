@@ -9,8 +9,10 @@ use Rattle.drain_paths.proofs.Cells.{in_grid}
 use Rattle.drain_counts.specs.CellNumbers.{cell_number}
 use Rattle.drain_counts.proofs.CellPlaces.{lent_back}
 use Rattle.drain_counts.proofs.FlowCells.{flow_of_data}
+use Rattle.drain_paths.specs.Steps.{IsRightStep}
+use Rattle.drain_counts.proofs.NumbersSoFar.{first_endless}
 use Rattle.drain_derive.specs.RunSteps.{first_step, AreStepsSoFar}
-use Rattle.drain_derive.proofs.StepLemmas.{AreStepsSoFar-first, AreRunSteps-all, first_endless}
+use Rattle.drain_derive.proofs.StepLemmas.{AreStepsSoFar-first, AreRunSteps-all}
 use Rattle.drain_derive.proofs.steps.count_steps.Goals as goal
 
 pub loop-place-init : goal.loop-place-init
@@ -29,7 +31,7 @@ returns-in-Some-clause-err c = λ g ps are.
     (let e = c.args.shape in
     let told = c.in-Some.ensures.here in
     let stuck = told.1 g ps are in
-    first_endless g ps e c.loop-place.steps.items c.loop-place.place c.in-Some.cell (c.loop-place.invariant.so_far g ps are)
+    first_endless g ps e UNKNOWN (IsRightStep g ps) (λ b steps is. is.ended.ends) c.loop-place.steps.items c.loop-place.place c.in-Some.cell (c.loop-place.invariant.so_far g ps are)
     (λ b there less. c.loop-place.invariant.passed b (in_grid g e b are.extent there.inside) less (flow_of_data g ps e c.args.flows.now are b there))
     told.0 stuck.0 stuck.1)
 
