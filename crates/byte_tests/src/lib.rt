@@ -14,6 +14,10 @@ mod mosaic_rows;
 #[cfg(test)]
 mod mosaics;
 #[cfg(test)]
+mod pixel_row_kinds;
+#[cfg(test)]
+mod pixel_rows;
+#[cfg(test)]
 mod raster_writes;
 #[cfg(test)]
 mod rasters;

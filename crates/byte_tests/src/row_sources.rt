@@ -40,16 +40,16 @@ const READ_FAILED: Answer = Err(ReadFault::ReadFailed);
 const ALREADY_FAILED: Answer = Err(ReadFault::AlreadyFailed);
 
 /// Two rows, and then the end.
-const WHOLE: [Answer; 4] = [ROW, ROW, ENDED, ENDED];
+pub const WHOLE: [Answer; 4] = [ROW, ROW, ENDED, ENDED];
 
 /// Two rows, and then a byte too many.
 const LONGER: [Answer; 4] = [ROW, ROW, WRONG_LENGTH, ALREADY_FAILED];
 
 /// A row, and then one that isn't whole.
-const SHORTER: [Answer; 4] = [ROW, WRONG_LENGTH, ALREADY_FAILED, ALREADY_FAILED];
+pub const SHORTER: [Answer; 4] = [ROW, WRONG_LENGTH, ALREADY_FAILED, ALREADY_FAILED];
 
 /// A row, and then a read that fails.
-const FAILED: [Answer; 4] = [ROW, READ_FAILED, ALREADY_FAILED, ALREADY_FAILED];
+pub const FAILED: [Answer; 4] = [ROW, READ_FAILED, ALREADY_FAILED, ALREADY_FAILED];
 
 /// How many numbers there are, and the first four, with zeros where there are fewer.
 pub type Numbers = (usize, [i64; 4]);
@@ -128,7 +128,7 @@ fn a_tile_gives_its_rows(rt: HostRuntime) -> Result<(), Fail> {
 }
 
 /// The padded raster without its last byte.
-const SHORT_PADDED: [u8; 9] = [0xff, 1, 0, 0xfe, 0xff, 0xaa, 0, 0x80, 2];
+pub const SHORT_PADDED: [u8; 9] = [0xff, 1, 0, 0xfe, 0xff, 0xaa, 0, 0x80, 2];
 
 /// The bytes of a raster and their order, what four calls answer, and the numbers that they give.
 static RASTERS: [(ByteOrdering, &[u8], [Answer; 4], Numbers); 4] = [
@@ -174,7 +174,7 @@ fn whole_or_failed(is_whole: bool) -> [([Answer; 4], Numbers); 2] {
 }
 
 /// A device's answer at two runs of calls, from 0 to 0 at none, and whether all rows come.
-static RUNS: [(DeviceFault, Calls, Calls, bool); 4] = [
+pub static RUNS: [(DeviceFault, Calls, Calls, bool); 4] = [
     (DeviceFault::Failed, (6, 6), (0, 0), false),
     (DeviceFault::Interrupted, (2, 1000), (0, 0), true),
     (DeviceFault::Interrupted, (2, 501), (506, 1004), true),

@@ -15,6 +15,7 @@ use drain_grid::{Cell, Elevation, OutOfMemory, Product, Raster};
 use drain_header::{ByteOrdering, header_text};
 use drain_hgt::{TileFault, TileInput, TileName, TileRows, read_tile};
 use drain_mosaic::{Layout, LayoutFault, MosaicRows, SeamFault, join};
+use drain_pixels::PixelRow;
 use drain_raster::{RasterFault, RasterRows, read_raster};
 use std::alloc::Global;
 use std::test::Fail;
@@ -227,6 +228,46 @@ fn rows_of_a_raster_after_refused_memory(rt: HostRuntime) -> Result<(), Fail> {
     same(&rt, "first", given.0, owed_answers(&given));
     let (_, numbers) = of_raster(rt.alloc(), least, &PADDED, 100, &[])?;
     same(&rt, "again", numbers, (4, [1, -2, -32768, 2]));
+    Ok(())
+}
+
+/// What a call of `next_pixels` answers that has a row of its own.
+fn call_for_pixels(alloc: Global, rows: &mut RasterRows, from: &mut ScriptSource<'_>) -> Answer {
+    let mut row = PixelRow::new(alloc);
+    rows.next_pixels(from, &mut row)
+}
+
+/// What five calls of `next_pixels` answer.
+fn five_of_pixels(alloc: Global, rows: &mut RasterRows, mut from: ScriptSource<'_>) -> Answers {
+    let before = [
+        call_for_pixels(alloc, rows, &mut from),
+        call_for_pixels(alloc, rows, &mut from),
+        call_for_pixels(alloc, rows, &mut from),
+        call_for_pixels(alloc, rows, &mut from),
+    ];
+    let gave_out = gave_out(alloc);
+    let [first, second, third, fourth] = before;
+    let last = call_for_pixels(alloc, rows, &mut from);
+    ([first, second, third, fourth, last], gave_out)
+}
+
+/// What five calls answer of the padded raster in this order.
+fn five_of_padded(alloc: Global, order: ByteOrdering) -> Answers {
+    let from = ScriptSource::new(&PADDED, 100, &[]);
+    five_of_pixels(alloc, &mut RasterRows::new(padded(order)), from)
+}
+
+#[test]
+fn bytes_of_pixels_after_refused_memory(rt: HostRuntime) -> Result<(), Fail> {
+    let given = five_of_padded(rt.alloc(), ByteOrdering::Least);
+    same(&rt, "bytes", given.0, owed_answers(&given));
+    Ok(())
+}
+
+#[test]
+fn numbers_of_pixels_after_refused_memory(rt: HostRuntime) -> Result<(), Fail> {
+    let given = five_of_padded(rt.alloc(), ByteOrdering::Most);
+    same(&rt, "numbers", given.0, owed_answers(&given));
     Ok(())
 }
 

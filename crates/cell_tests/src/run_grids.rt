@@ -4,6 +4,7 @@ ghost use Rattle.std.specs.Prelude.{◌≡◌, ◌<◌, IfOk};
 
 use drain_grid::{Cell, Elevation, OutOfMemory, Raster, Shape, VOID};
 use drain_paths::{CellFlows, CertifyRefusal, EndlessPath, steps_of};
+use drain_pixels::PixelRow;
 use std::alloc::Global;
 use std::test::Fail;
 
@@ -144,9 +145,9 @@ fn endless_of(
 fn taken(alloc: Global, grid: &Grid) -> Result<CellFlows, OutOfMemory> {
     let mut flows = CellFlows::new(alloc);
     let mut samples = Vec::new(alloc);
-    let mut numbers = Vec::new(alloc);
+    let mut dir = PixelRow::new(alloc);
     for row in 0..grid.shape.rows() {
-        take_row(&mut flows, grid, row, &mut samples, &mut numbers)?;
+        take_row(&mut flows, grid, row, &mut samples, &mut dir)?;
     }
     Ok(flows)
 }
@@ -157,14 +158,16 @@ fn take_row(
     grid: &Grid,
     row: u32,
     samples: &mut Vec<i64>,
-    numbers: &mut Vec<i64>,
+    dir: &mut PixelRow,
 ) -> Result<(), OutOfMemory>
     requires { row < grid.now.shape.rows }
 {
     grid.elevation.read_row(row, samples)?;
-    grid.dir.read_row(row, numbers)?;
-    if samples.len() == numbers.len() {
-        flows.push_row(samples, numbers)?;
+    let mut numbers = dir.take_numbers();
+    grid.dir.read_row(row, &mut numbers)?;
+    dir.put_numbers(numbers);
+    if samples.len() == dir.len() {
+        flows.push_row(samples, dir)?;
     }
     Ok(())
 }

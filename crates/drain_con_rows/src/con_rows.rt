@@ -7,6 +7,8 @@ ghost use Rattle.drain_con_rows.specs.ConRows.{AreFirstCon, IsGroundAndCon, with
 use crate::ground_and_con::GroundAndCon;
 use crate::narrow_rows::push_row;
 use drain_grid::{Elevation, OutOfMemory, Shape};
+use drain_pixels::PixelRow;
+use drain_pixels::stored::AnyPixels;
 use std::alloc::Global;
 use std::marker::Model;
 
@@ -39,12 +41,12 @@ impl ConRows {
 
     /// Takes the next row: each cell's sample (-32768 is a void) and conditioned elevation. A number that 16 bits don't
     /// hold is taken as the nearest that they hold. Without memory nothing is changed.
-    pub fn push_row(&mut self, samples: &[i64], con: &[i64]) -> Result<(), OutOfMemory>
+    pub fn push_row(&mut self, samples: &[i64], con: &PixelRow) -> Result<(), OutOfMemory>
         ensures taken { OnOk result (self.new ≡ with_row self.old samples.now con.now) }
         ensures kept { OnErr result (self.new ≡ self.old) }
     {
         let before = self.samples.len();
-        push_row(&mut self.samples, samples)?;
+        push_row(&mut self.samples, &AnyPixels { numbers: samples })?;
         if push_row(&mut self.con, con).is_err() {
             self.samples.truncate(before);
             return Err(OutOfMemory);

@@ -24,6 +24,6 @@ impl RowVisitor for ConRows {
         _rows: &ThreeRows<'_>,
         _rules: &Rules,
     ) -> Result<(), OutOfMemory> {
-        self.push_row(row.z.as_slice(), row.products.con.as_slice())
+        self.push_row(row.z.as_slice(), &row.products.con)
     }
 }

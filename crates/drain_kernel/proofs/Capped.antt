@@ -1,7 +1,7 @@
 -- Numbers round a column, and the same capped.
 use Rattle.std.proofs.Common.{◌≡◌, ℕ, ◌+◌, ◌-◌, ◌<◌, Bool, true, false, ◌==◌, min, List, slice_index, arith, if◌then◌else◌}
 use Rattle.drain_kernel.specs.Around.{around_in, named_in}
-use Rattle.drain_kernel.specs.Lanes.{AreCapped}
+use Rattle.drain_pixels.specs.Lanes.{AreCapped}
 
 -- each of eight numbers is capped
 pub record EachCapped (numbers capped : List ℕ) : Type 0 where

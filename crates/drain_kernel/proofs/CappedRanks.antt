@@ -3,7 +3,7 @@ use Rattle.std.proofs.Common.{◌≡◌, ℕ, ◌+◌, ◌<◌, min, List, IsTru
 use Rattle.std.proofs.lemmas.Bool.{or_cases, or_left, or_right}
 use Rattle.std.proofs.lemmas.Bool.Decides.{Decides-ltb}
 use Rattle.drain_kernel.specs.Around.{around_in}
-use Rattle.drain_kernel.specs.Lanes.{AreCapped}
+use Rattle.drain_pixels.specs.Lanes.{AreCapped}
 use Rattle.drain_kernel.specs.Tests.{is_ranked}
 use Rattle.drain_kernel.proofs.Capped.{EachCapped, around_capped, named_capped}
 

@@ -2,7 +2,7 @@
 use Rattle.std.proofs.Common.{◌≡◌, ℕ, ◌+◌, ◌<◌, Bool, true, false, ◌==◌, min, List, IsTrue, slice_index, refl, arith, if◌then◌else◌}
 use Rattle.std.proofs.lemmas.Bool.Decides.{Decides-eqb}
 use Rattle.drain_kernel.specs.Around.{around_in}
-use Rattle.drain_kernel.specs.Lanes.{AreCapped}
+use Rattle.drain_pixels.specs.Lanes.{AreCapped}
 use Rattle.drain_kernel.specs.Tests.{adds_up, passed_on}
 use Rattle.drain_kernel.proofs.Capped.{EachCapped, around_capped}
 

@@ -1,6 +1,5 @@
 pub mod Kept
 pub mod Rules
-pub mod Lanes
 pub mod Shown
 pub mod Taken
 pub mod Checked

@@ -2,7 +2,7 @@
 use Rattle.std.specs.Prelude.{◌≡◌, ℤ, List, length}
 use Rattle.drain_grid.specs.declared.per_product.PerProduct.{PerProduct}
 use Rattle.drain_kernel.specs.declared.lanes.Lanes.{Lanes}
-use Rattle.drain_kernel.specs.Lanes.{AreLanes, AreElevationLanes, AreHeightLanes}
+use Rattle.drain_pixels.specs.Lanes.{AreLanes, AreElevationLanes, AreHeightLanes}
 use Rattle.drain_kernel.specs.Shown.{cols, HasRanks}
 
 -- as many lanes as numbers, each with its column's number, at a void only the elevation's; ranks if they were taken

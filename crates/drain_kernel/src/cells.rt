@@ -4,8 +4,8 @@ ghost use Rattle.std.specs.Prelude.{◌≡◌, ◌≢◌, IsTrue, pos, ◌-ℤ�
 ghost use Rattle.drain_kernel.specs.Tests.{keeps_direction, keeps_label, keeps_surface, falls_steepest, steps_along, square_of_drop};
 
 use crate::around::{is_direction, is_straight, least_across, least_straight, named};
-use crate::narrowing::{is_lane, is_short_lane, lane, short_lane};
 use drain_grid::NoData;
+use drain_pixels::lane::{is_lane, is_short_lane, lane, short_lane};
 
 /// The greatest height in a lane, where heights are 32768 more than they are.
 pub(crate) const HIGHEST: u16 = 65535;

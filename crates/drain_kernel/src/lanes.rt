@@ -2,13 +2,14 @@
 
 ghost use Rattle.std.specs.Prelude.{◌≡◌, IsTrue, length, vec_len};
 ghost use Rattle.drain_kernel.specs.Checked.{IfChecked};
-ghost use Rattle.drain_kernel.specs.Lanes.{AreCapped, AreLanes};
+ghost use Rattle.drain_pixels.specs.Lanes.{AreCapped, AreLanes};
 
-use crate::narrowing::{
-    take_capped, take_elevations, take_heights, take_numbers, take_short_numbers,
-};
 use crate::rules::Ranks;
 use drain_grid::PerProduct;
+use drain_pixels::PixelRow;
+use drain_pixels::row_lanes::{
+    take_capped, take_elevations, take_heights, take_numbers, take_short_numbers,
+};
 use std::alloc::Global;
 
 /// The numbers of a row, next to each other for each column. Heights, z and con, are 32768 more than they are, and z is
@@ -61,7 +62,7 @@ impl Lanes {
     /// Replaces the row by these numbers, with ranks if they are checked, and returns whether it has them now. At each
     /// column z must fit 16 signed bits, and except at voids con too, dir 16 unsigned bits, and the others 32; memory
     /// is taken if there is too little room. Else it has no row.
-    pub fn take(&mut self, z: &[i64], products: &PerProduct<&[i64]>, ranks: Ranks) -> bool
+    pub fn take(&mut self, z: &[i64], products: &PerProduct<&PixelRow>, ranks: Ranks) -> bool
         requires { (p : SetProduct) → length (of_product products.now p).now ≡ length z.now }
         ensures lanes { IsTrue result → AreLanesOf self.new z.now (per_product (λ p. (of_product products.now p).now)) }
         ensures ranked { IsTrue result → IfChecked ranks (HasRanks self.new) }
@@ -132,7 +133,7 @@ impl Lanes {
 }
 
 /// Takes ranks if they are checked, else none.
-fn take_ranks(z: &[u16], numbers: &[i64], ranks: Ranks, out: &mut Vec<u32>) -> bool
+fn take_ranks(z: &[u16], numbers: &PixelRow, ranks: Ranks, out: &mut Vec<u32>) -> bool
     ensures len { IsTrue result → IfChecked ranks (vec_len out.new ≡ length numbers.now) }
     ensures lanes { IsTrue result → vec_len out.new ≡ length numbers.now → AreLanes z.now numbers.now out.new.items (length numbers.now) }
 {

@@ -10,7 +10,6 @@ pub mod kept;
 mod lane_rows;
 pub mod lanes;
 pub mod laws;
-mod narrowing;
 mod near;
 mod ranked;
 pub mod rules;

@@ -7,6 +7,7 @@ ghost use Rattle.drain_paths.specs.Flows.{flows_of};
 
 use crate::flow::{Flow, flow_of, flow_table};
 use drain_grid::OutOfMemory;
+use drain_pixels::{PixelNumbers, PixelRow, Pixels};
 use std::alloc::Global;
 use std::marker::Model;
 
@@ -40,7 +41,7 @@ impl CellFlows {
 
     /// Takes the next row: each cell's sample (-32768 is a void) and direction number. Without memory nothing is
     /// changed.
-    pub fn push_row(&mut self, samples: &[i64], dir: &[i64]) -> Result<(), OutOfMemory>
+    pub fn push_row(&mut self, samples: &[i64], dir: &PixelRow) -> Result<(), OutOfMemory>
         requires cells { length samples.now ≡ length dir.now }
         requires samples { All IsSample samples.now }
         requires pixels { All IsPixel dir.now }
@@ -49,7 +50,15 @@ impl CellFlows {
     {
         let before = self.len();
         self.flows.resize(before + samples.len(), Flow::Void)?;
-        fill(&mut self.flows[before..], samples, dir);
+        let flows = &mut self.flows[before..];
+        match dir.pixels() {
+            Pixels::U8(dir) => fill(flows, samples, &dir),
+            Pixels::I16(dir) => fill(flows, samples, &dir),
+            Pixels::U16(dir) => fill(flows, samples, &dir),
+            Pixels::I32(dir) => fill(flows, samples, &dir),
+            Pixels::U32(dir) => fill(flows, samples, &dir),
+            Pixels::Any(dir) => fill(flows, samples, &dir),
+        }
         Ok(())
     }
 
@@ -85,15 +94,17 @@ impl CellFlows {
 }
 
 /// The flows of a row, one to each place.
-fn fill(out: &mut [Flow], samples: &[i64], dir: &[i64])
+fn fill<N: PixelNumbers + Copy>(out: &mut [Flow], samples: &[i64], dir: &N)
     requires cells { length out.old ≡ length samples.now }
-    requires numbers { length samples.now ≡ length dir.now }
+    requires numbers { length samples.now ≡ length (N.numbers dir.now) }
     requires samples { All IsSample samples.now }
-    requires pixels { All IsPixel dir.now }
-    ensures { out.new ≡ flows_of samples.now dir.now }
+    requires pixels { All IsPixel (N.numbers dir.now) }
+    ensures { out.new ≡ flows_of samples.now (N.numbers dir.now) }
 {
     let table = flow_table();
+    // A copy, since stores to the flows could change what is behind a reference.
+    let pixels = *dir;
     for k in 0..samples.len() {
-        out[k] = flow_of(&table, samples[k], dir[k]);
+        out[k] = flow_of(&table, samples[k], pixels.at(k));
     }
 }

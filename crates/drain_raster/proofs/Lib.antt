@@ -11,3 +11,4 @@ pub mod RasterRowLemmas
 pub mod RowNumberLemmas
 pub mod RasterEnds
 pub mod RasterPixels
+pub mod KindLemmas

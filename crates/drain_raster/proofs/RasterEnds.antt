@@ -62,7 +62,7 @@ none_behind h (suc left) gap body = elim (cases_lt (length body) (gap + packed_l
 ]
 
 -- this many numbers
-numbers_long : (len : ℕ) (number : List ℕ → ℤ) (n : ℕ) (bytes : List ℕ) → length (raster_numbers_of len number n bytes) ≡ n
+pub numbers_long : (len : ℕ) (number : List ℕ → ℤ) (n : ℕ) (bytes : List ℕ) → length (raster_numbers_of len number n bytes) ≡ n
 numbers_long len number zero bytes = refl
 numbers_long len number (suc n) bytes = ap suc (numbers_long len number n (drop len bytes))
 

@@ -13,7 +13,7 @@ use Rattle.drain_raster.proofs.PixelLemmas.{packed-fits, spelled_by-take}
 use Rattle.drain_raster.proofs.RasterEnds.{raster_rows_take_what_is_needed}
 
 -- the number at a place
-numbers_of-at : (len : ℕ) (number : List ℕ → ℤ) (n col : ℕ) (d : ℤ) (bytes : List ℕ) → col < n → slice_index_or (raster_numbers_of len number n bytes) col d ≡ number (take len (drop (col * len) bytes))
+pub numbers_of-at : (len : ℕ) (number : List ℕ → ℤ) (n col : ℕ) (d : ℤ) (bytes : List ℕ) → col < n → slice_index_or (raster_numbers_of len number n bytes) col d ≡ number (take len (drop (col * len) bytes))
 numbers_of-at len number zero col d bytes inside = absurd (omega arith)
 numbers_of-at len number (suc n) zero d bytes inside = let none : zero * len ≡ zero = omega arith in rw none refl
 numbers_of-at len number (suc n) (suc col) d bytes inside =

@@ -6,10 +6,13 @@
 
 mod fault;
 pub mod laws;
+mod number_rows;
 mod pixel;
+mod pixel_rows;
 mod range;
 mod raster_rows;
 mod read;
+mod row_memory;
 mod write;
 
 pub use fault::{RasterFault, WriteFault};

@@ -1,4 +1,4 @@
--- The meaning of a row in vectors.
+-- The meaning of a row in memory.
 use Rattle.std.specs.Prelude.{◌≡◌, ℕ, ◌<◌, false, IsTrue, List, length, slice_index_or}
 use Rattle.drain_grid.specs.declared.set_product.SetProduct.{SetProduct}
 use Rattle.drain_grid.specs.PerProduct.{of_product, per_product}
@@ -11,7 +11,7 @@ use Rattle.drain_rows.specs.declared.row_buffer.RowBuffer.{RowBuffer}
 
 -- its numbers as lists
 abbrev pub buffer_numbers : RowBuffer → RowNumbers
-buffer_numbers row = record { z = row.z.items; products = per_product (λ p. (of_product row.products p).items) }
+buffer_numbers row = record { z = row.z.items; products = per_product (λ p. of_product row.products p) }
 
 -- the same with its marks
 abbrev pub marked_of : RowBuffer → MarkedRow

@@ -1,4 +1,4 @@
-//! A row of a grid and its products in vectors, which are reused for their memory.
+//! A row of a grid and its products in memory that is used again for the next row.
 
 ghost use Rattle.std.specs.Prelude.{◌≡◌, ◌↔◌, ◌||◌, ℕ, [], false, slice_index_or, IsTrue, OnOk, OnErr};
 ghost use Rattle.drain_grid.specs.declared.cell.Cell.{Cell};
@@ -9,18 +9,19 @@ ghost use Rattle.drain_rows.specs.ListedVoids.{is_among, is_listed_void};
 use crate::listed_voids::ListedVoids;
 use drain_grid::{OutOfMemory, PerProduct, Sinks};
 use drain_kernel::Lanes;
+use drain_pixels::PixelRow;
 use drain_rules::{Ranks, RowView};
 use std::alloc::Global;
 
 /// The elevations of one row, and each product's numbers, both empty if there is no row; marks at its listed sinks; and
 /// the numbers once more in lanes.
 ///
-/// It may be filled one vector after the other. Only a whole row can be viewed: as many numbers of each. No marks mean
+/// It may be filled one after the other. Only a whole row can be viewed: as many numbers of each. No marks mean
 /// no sinks. Lanes are useful if the numbers fit them, and must be filled again for each row.
 #[derive(Drop)]
 pub struct RowBuffer {
     pub z: Vec<i64>,
-    pub products: PerProduct<Vec<i64>>,
+    pub products: PerProduct<PixelRow>,
     pub sinks: Vec<bool>,
     lanes: Lanes,
     fit: bool,
@@ -37,11 +38,11 @@ impl RowBuffer {
         RowBuffer {
             z: Vec::new(alloc),
             products: PerProduct {
-                con: Vec::new(alloc),
-                dir: Vec::new(alloc),
-                acc: Vec::new(alloc),
-                bas: Vec::new(alloc),
-                rnk: Vec::new(alloc),
+                con: PixelRow::new(alloc),
+                dir: PixelRow::new(alloc),
+                acc: PixelRow::new(alloc),
+                bas: PixelRow::new(alloc),
+                rnk: PixelRow::new(alloc),
             },
             sinks: Vec::new(alloc),
             lanes: Lanes::new(alloc),
@@ -108,17 +109,17 @@ impl RowBuffer {
         ensures lanes { LanesMatch self.new }
     {
         let products = &self.products;
-        let slices = PerProduct {
-            con: products.con.as_slice(),
-            dir: products.dir.as_slice(),
-            acc: products.acc.as_slice(),
-            bas: products.bas.as_slice(),
-            rnk: products.rnk.as_slice(),
+        let rows = PerProduct {
+            con: &products.con,
+            dir: &products.dir,
+            acc: &products.acc,
+            bas: &products.bas,
+            rnk: &products.rnk,
         };
-        self.fit = self.lanes.take(self.z.as_slice(), &slices, ranks);
+        self.fit = self.lanes.take(self.z.as_slice(), &rows, ranks);
     }
 
-    /// The row as slices, with its lanes if they fit.
+    /// The row as it is looked at, with its lanes if they fit.
     pub fn view(&self) -> RowView<'_>
         requires numbers { AreRowNumbers (buffer_numbers self.now) }
         requires lanes { LanesMatch self.now }
@@ -129,11 +130,11 @@ impl RowBuffer {
             self.z.as_slice(),
             self.sinks.as_slice(),
             PerProduct {
-                con: self.products.con.as_slice(),
-                dir: self.products.dir.as_slice(),
-                acc: self.products.acc.as_slice(),
-                bas: self.products.bas.as_slice(),
-                rnk: self.products.rnk.as_slice(),
+                con: &self.products.con,
+                dir: &self.products.dir,
+                acc: &self.products.acc,
+                bas: &self.products.bas,
+                rnk: &self.products.rnk,
             },
             lanes,
         )

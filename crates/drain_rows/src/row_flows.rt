@@ -35,7 +35,7 @@ impl RowVisitor for CellFlows {
         _rows: &ThreeRows<'_>,
         _rules: &Rules,
     ) -> Result<(), OutOfMemory> {
-        self.push_row(row.z.as_slice(), row.products.dir.as_slice())
+        self.push_row(row.z.as_slice(), &row.products.dir)
     }
 }
 

@@ -1,8 +1,10 @@
 //! The rows of a grid and its products that are whole in memory, and the verdict on them, row by row.
 
-ghost use Rattle.std.specs.Prelude.{◌≡◌, ◌<◌, ◌≤◌, IfOk, OnOk};
+ghost use Rattle.std.specs.Prelude.{◌≡◌, ◌<◌, ◌≤◌, All, IfOk, OnOk};
 ghost use Rattle.drain_grid.specs.Correct.{IsCorrect, RunsAreSound};
 ghost use Rattle.drain_grid.specs.declared.cell.TheConstants.{MAX_LENGTH};
+ghost use Rattle.drain_grid.specs.Values.{IsPixel};
+ghost use Rattle.drain_grid.specs.Whole.{number_row};
 ghost use Rattle.drain_grid.specs.WholeGrid.{grid_of, nodata_of, products_of};
 ghost use Rattle.drain_rules.specs.RowNumbers.{AreRowNumbers};
 ghost use Rattle.drain_rules.specs.Verdicts.{IfAccepted, IsVerdict};
@@ -13,7 +15,8 @@ use crate::grid_rows::GridRows;
 use crate::row_buffer::RowBuffer;
 use crate::row_verdict::verdict_by_rows;
 use drain_grid::laws::correct_from_rules;
-use drain_grid::{Elevation, OutOfMemory, ProductSet, Shape, Sinks};
+use drain_grid::{Elevation, OutOfMemory, ProductSet, Raster, Shape, Sinks};
+use drain_pixels::PixelRow;
 use drain_rules::{GridWalk, Ranks, Rules, Verdict};
 use std::alloc::Global;
 
@@ -132,10 +135,22 @@ fn read_whole(
     ensures whole { OnOk result (AreRowNumbers (buffer_numbers out.new)) }
 {
     elevation.read_row(row, &mut out.z)?;
-    products.con.read_row(row, &mut out.products.con)?;
-    products.dir.read_row(row, &mut out.products.dir)?;
-    products.acc.read_row(row, &mut out.products.acc)?;
-    products.bas.read_row(row, &mut out.products.bas)?;
-    products.rnk.read_row(row, &mut out.products.rnk)?;
+    read_product(&products.con, row, &mut out.products.con)?;
+    read_product(&products.dir, row, &mut out.products.dir)?;
+    read_product(&products.acc, row, &mut out.products.acc)?;
+    read_product(&products.bas, row, &mut out.products.bas)?;
+    read_product(&products.rnk, row, &mut out.products.rnk)?;
+    Ok(())
+}
+
+/// Reads a row of a product's raster.
+fn read_product(raster: &Raster, row: u32, out: &mut PixelRow) -> Result<(), OutOfMemory>
+    requires inside { row < raster.now.extent.rows }
+    ensures row { OnOk result (out.new ≡ number_row raster.now row) }
+    ensures pixels { OnOk result (All IsPixel out.new) }
+{
+    let mut numbers = out.take_numbers();
+    raster.read_row(row, &mut numbers)?;
+    out.put_numbers(numbers);
     Ok(())
 }

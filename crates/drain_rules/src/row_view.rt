@@ -1,6 +1,6 @@
 //! A row of a grid and its products, as slices of numbers and of marks.
 
-ghost use Rattle.std.specs.Prelude.{ℕ, ◌≡◌, ◌≢◌, ◌≤◌, ◌<◌, false, Some, option_copied, length, pos, slice_index_or};
+ghost use Rattle.std.specs.Prelude.{ℕ, ◌≡◌, ◌≢◌, ◌↔◌, ◌≤◌, ◌<◌, IsTrue, false, Some, option_copied, length, pos, slice_index_or};
 ghost use Rattle.drain_fill.specs.Below.{AreRowHeights, IsBelowAt};
 ghost use Rattle.drain_grid.specs.declared.cell.TheConstants.{MAX_LENGTH};
 ghost use Rattle.drain_grid.specs.declared.tile.TheConstants.{VOID};
@@ -14,8 +14,9 @@ ghost use Rattle.drain_rules.specs.RowNumbers.{AreRowNumbers};
 use crate::marks::unmarked_until;
 use crate::screen::cells_above_ground;
 use drain_grid::tile::height_from;
-use drain_grid::{CellValues, PerProduct, SetProduct};
+use drain_grid::{CellValues, PerProduct, SetProduct, VOID};
 use drain_kernel::Lanes;
+use drain_pixels::{PixelKind, PixelRow};
 use std::marker::Model;
 
 /// One row: elevations, -32768 at a void, and each product's numbers, as many of each; marks, true at a listed sink;
@@ -24,7 +25,7 @@ use std::marker::Model;
 pub struct RowView<'a> {
     z: &'a [i64],
     sinks: &'a [bool],
-    products: PerProduct<&'a [i64]>,
+    products: PerProduct<&'a PixelRow>,
     lanes: Option<&'a Lanes>,
 }
 
@@ -49,7 +50,7 @@ impl<'a> RowView<'a> {
     pub fn new(
         z: &'a [i64],
         sinks: &'a [bool],
-        products: PerProduct<&'a [i64]>,
+        products: PerProduct<&'a PixelRow>,
         lanes: Option<&'a Lanes>,
     ) -> RowView<'a>
         requires numbers { AreRowNumbers (record { z = z.now; products = per_product (λ p. (of_product products p).now) }) }
@@ -102,7 +103,9 @@ impl<'a> RowView<'a> {
         self.lanes
     }
 
-    /// The values of the row at a column; for spill parents, which no set holds, 0.
+    /// The values of the row at a column; for spill parents, which no set holds, 0. It is inlined, since a patch would
+    /// copy them once more.
+    #[inline(always)]
     pub fn values(&self, col: usize) -> CellValues
         requires { col < length self.now.numbers.z }
         ensures { result ≡ values_in self.now col }
@@ -119,7 +122,17 @@ impl<'a> RowView<'a> {
         }
     }
 
+    /// Whether the column is a void.
+    pub fn is_void(&self, col: usize) -> bool
+        requires { col < length self.now.numbers.z }
+        ensures { IsTrue result ↔ (slice_index_or self.now.numbers.z col VOID ≡ VOID) }
+    {
+        let samples = self.z;
+        samples[col] == i64::from(VOID)
+    }
+
     /// The same, none past the last column.
+    #[inline(always)]
     pub fn beside(&self, col: usize) -> Option<CellValues>
         ensures { result ≡ beside self.now col }
     {
@@ -131,6 +144,7 @@ impl<'a> RowView<'a> {
     }
 
     /// The values to the west of a column, none at the first.
+    #[inline(always)]
     pub fn west_of(&self, col: usize) -> Option<CellValues>
         ensures { result ≡ west_neighbor self.now col }
     {
@@ -157,14 +171,15 @@ impl<'a> RowView<'a> {
         self.sinks.get(col) == Some(&true)
     }
 
-    /// The product's number at a column.
+    /// The product's number at a column, found soonest in pixels as `make` writes them.
+    #[inline(always)]
     fn number(&self, product: SetProduct, col: usize) -> i64
         requires { col < length self.now.numbers.z }
         ensures number { result ≡ slice_index_or (of_product self.now.numbers.products product) col (pos 0) }
         ensures pixel { IsPixel result }
     {
         let numbers = *self.products.of(product);
-        numbers[col]
+        numbers.number_soonest(usual_kind(product), col)
     }
 }
 
@@ -175,4 +190,14 @@ fn height_of(sample: i64) -> Option<i16>
     ensures no_void { result ≢ Some VOID }
 {
     height_from(sample as i16)
+}
+
+/// The kind of pixels that `make` writes for a product. No number depends on it.
+#[inline(always)]
+fn usual_kind(product: SetProduct) -> PixelKind {
+    match product {
+        SetProduct::Con => PixelKind::I16,
+        SetProduct::Dir => PixelKind::U8,
+        SetProduct::Acc | SetProduct::Bas | SetProduct::Rnk => PixelKind::U32,
+    }
 }

@@ -1,10 +1,11 @@
 //! How many of a row's first cells are not below their ground, compared sixteen cells at a time.
 
-ghost use Rattle.std.specs.Prelude.{◌≡◌, ◌<◌, ◌≤◌, ◌↔◌, ℕ, FitsSigned, IsTrue, length};
+ghost use Rattle.std.specs.Prelude.{◌≡◌, ◌<◌, ◌≤◌, ◌↔◌, ◌-◌, ℕ, FitsSigned, IsTrue, length, slice_range};
 ghost use Rattle.std.specs.Int.{w16};
 ghost use Rattle.drain_fill.specs.Below.{AreRowHeights, IsBelowAt};
 
 use drain_fill::first_below;
+use drain_pixels::PixelNumbers;
 
 /// How many cells are looked at in one go: their heights are on the stack.
 const BLOCK: usize = 256;
@@ -13,22 +14,37 @@ const BLOCK: usize = 256;
 ///
 /// A void counts with its sample, -32768, which nothing is below. If a number doesn't fit 16 bits it may be a place
 /// before.
-pub fn cells_above_ground(con: &[i64], ground: &[i64]) -> usize
-    requires { length con.now ≡ length ground.now }
-    ensures within { result ≤ length con.now }
-    ensures above { (place : ℕ) → place < result → ¬ IsBelowAt con.now ground.now place }
-    ensures first { AreRowHeights con.now → AreRowHeights ground.now → result < length con.now → IsBelowAt con.now ground.now result }
+pub fn cells_above_ground<N: PixelNumbers>(con: &N, ground: &[i64]) -> usize
+    requires { length (N.numbers con.now) ≡ length ground.now }
+    ensures within { result ≤ length (N.numbers con.now) }
+    ensures above { (place : ℕ) → place < result → ¬ IsBelowAt (N.numbers con.now) ground.now place }
+    ensures first { AreRowHeights (N.numbers con.now) → AreRowHeights ground.now → result < length (N.numbers con.now) → IsBelowAt (N.numbers con.now) ground.now result }
 {
+    let mut block = [0; BLOCK];
     let mut at = 0;
-    while at < con.len() {
-        let end = con.len().min(at + BLOCK);
-        let above = cells_of_block(&con[at..end], &ground[at..end]);
+    while at < ground.len() {
+        let end = ground.len().min(at + BLOCK);
+        let part = &mut block[..end - at];
+        copy_numbers(part, con, at, end);
+        let above = cells_of_block(part, &ground[at..end]);
         if above < end - at {
             return at + above;
         }
         at = end;
     }
     at
+}
+
+/// Copies the numbers from one column up to another, one to each place.
+fn copy_numbers<N: PixelNumbers>(out: &mut [i64], numbers: &N, first: usize, end: usize)
+    requires ordered { first ≤ end }
+    requires inside { end ≤ length (N.numbers numbers.now) }
+    requires room { length out.old ≡ end - first }
+    ensures { out.new ≡ slice_range (N.numbers numbers.now) first end }
+{
+    for col in first..end {
+        out[col - first] = numbers.at(col);
+    }
 }
 
 /// The same of at most 256 places, none if a number doesn't fit 16 bits.

@@ -1,6 +1,8 @@
 //! A row of a grid and its products, with the rows above and below it; and the patch round a column.
 
-ghost use Rattle.std.specs.Prelude.{◌≡◌, ◌≤◌, ◌<◌, ℕ, length};
+ghost use Rattle.std.specs.Prelude.{◌≡◌, ◌≤◌, ◌<◌, ℕ, IsTrue, length};
+ghost use Rattle.drain_rules.specs.BlankVoids.{IsBlankVoid};
+ghost use Rattle.drain_rules.specs.MarkedRows.{values_in};
 ghost use Rattle.drain_kernel.specs.Kept.{IsKept};
 ghost use Rattle.drain_kernel.specs.Rules.{unsummed};
 ghost use Rattle.drain_kernel.specs.Taken.{AreLanesOf};
@@ -55,7 +57,7 @@ impl PatchRow for ThreeRows<'_> {
     fn voids_until(&self, rules: &Rules, from: u32) -> u32 {
         let cols = self.here.cols();
         let mut col = from;
-        while col < cols && is_blank_void(&self.here.values(col as usize), rules) {
+        while col < cols && self.is_blank_void_at(rules, col) {
             col += 1;
         }
         col
@@ -80,6 +82,15 @@ impl PatchRow for ThreeRows<'_> {
 }
 
 impl ThreeRows<'_> {
+    /// Whether the cell at a column is a void at which products that the rules look at have their no-data numbers.
+    fn is_blank_void_at(&self, rules: &Rules, col: u32) -> bool
+        requires { col < length self.now.here.numbers.z }
+        ensures { IsTrue result → IsBlankVoid rules.now (values_in self.now.here col) }
+    {
+        let col = col as usize;
+        self.here.is_void(col) && is_blank_void(&self.here.values(col), rules)
+    }
+
     /// How far from a column on the lanes of the three rows clear cells by all tests but those of sums and ranks, for
     /// rasters without an accumulation: at data cells that are no outlets every rule without ranks holds but
     /// Accumulation and SharedLabel. And how many of them are raised. It may be fewer cells than there are, even none,

@@ -17,6 +17,7 @@ use drain_device::ByteSource;
 use drain_grid::{OutOfMemory, PerProduct, SetProduct};
 use drain_header::Header;
 use drain_mosaic::Layout;
+use drain_pixels::PixelRow;
 use drain_raster::RasterRows;
 
 /// The products of an audit: all but the ranks.
@@ -62,7 +63,7 @@ impl<R: ByteSource> ProductInputs<R> for AuditProducts<R> {
     fn read_rasters(
         &mut self,
         rasters: &mut PerProduct<RasterRows>,
-        out: &mut PerProduct<Vec<i64>>,
+        out: &mut PerProduct<PixelRow>,
     ) -> Result<(), Refusal> {
         let told = read_raster(Ok(()), &mut rasters.con, &mut self.con.body, &mut out.con);
         let told = read_raster(told, &mut rasters.dir, &mut self.dir.body, &mut out.dir);
@@ -99,14 +100,13 @@ fn reader_of(rasters: &PerProduct<RasterRows>, product: SetProduct) -> &RasterRo
 }
 
 /// A second copy of a row's numbers, if nothing was refused before.
-fn copy_row(told: Result<(), Refusal>, from: &[i64], out: &mut Vec<i64>) -> Result<(), Refusal>
-    ensures copied { OnOk result (out.new.items ≡ from.now) }
+fn copy_row(told: Result<(), Refusal>, from: &PixelRow, out: &mut PixelRow) -> Result<(), Refusal>
+    ensures copied { OnOk result (out.new ≡ from.now) }
     ensures stays { IfErr told (λ refusal. result ≡ Err refusal) }
     ensures of_memory { OnOk told (IfErr result (λ refusal. refusal ≡ Refusal.OutOfMemory)) }
 {
     told?;
-    out.clear();
-    match out.extend_from_slice(from) {
+    match out.copy_from(from) {
         Ok(()) => Ok(()),
         Err(_) => Err(Refusal::OutOfMemory),
     }

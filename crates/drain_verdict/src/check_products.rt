@@ -15,6 +15,7 @@ use drain_device::ByteSource;
 use drain_grid::{PerProduct, SetProduct};
 use drain_header::Header;
 use drain_mosaic::Layout;
+use drain_pixels::PixelRow;
 use drain_raster::RasterRows;
 
 impl<R: ByteSource> ProductInputs<R> for PerProduct<RasterInput<R>> {
@@ -48,7 +49,7 @@ impl<R: ByteSource> ProductInputs<R> for PerProduct<RasterInput<R>> {
     fn read_rasters(
         &mut self,
         rasters: &mut PerProduct<RasterRows>,
-        out: &mut PerProduct<Vec<i64>>,
+        out: &mut PerProduct<PixelRow>,
     ) -> Result<(), Refusal> {
         read_rasters(rasters, self, out)
     }

@@ -20,6 +20,7 @@ use drain_device::{ByteSource, ReadFault, RowSource};
 use drain_grid::PerProduct;
 use drain_hgt::TileInput;
 use drain_mosaic::MosaicRows;
+use drain_pixels::PixelRow;
 use drain_raster::RasterRows;
 
 /// Reads the next row of the mosaic: none after the last.
@@ -50,10 +51,10 @@ pub fn read_mosaic<R: ByteSource>(
 pub fn read_rasters<R: ByteSource>(
     rasters: &mut PerProduct<RasterRows>,
     products: &mut Products<R>,
-    out: &mut PerProduct<Vec<i64>>,
+    out: &mut PerProduct<PixelRow>,
 ) -> Result<(), Refusal>
-    ensures rows { OnOk result ((p : SetProduct) (start : Coming) (n : ℕ) → IsAfterTold (of_product rasters.old p) (R.bytes_left (of_product products.old p).body) start n → IsNextRow (of_product rasters.new p) (R.bytes_left (of_product products.new p).body) start n (of_product out.new p).items) }
-    ensures pixels { OnOk result ((p : SetProduct) → All IsPixel (of_product out.new p).items) }
+    ensures rows { OnOk result ((p : SetProduct) (start : Coming) (n : ℕ) → IsAfterTold (of_product rasters.old p) (R.bytes_left (of_product products.old p).body) start n → IsNextRow (of_product rasters.new p) (R.bytes_left (of_product products.new p).body) start n (of_product out.new p)) }
+    ensures pixels { OnOk result ((p : SetProduct) → All IsPixel (of_product out.new p)) }
     ensures read { RastersHaveRead R.bytes_left R.counts rasters.old rasters.new products.old products.new (told_by result) }
     ensures of_reading { IsOfReading (told_by result) }
 {
@@ -74,10 +75,10 @@ pub fn read_raster<R: ByteSource>(
     told: Result<(), Refusal>,
     raster: &mut RasterRows,
     body: &mut R,
-    out: &mut Vec<i64>,
+    out: &mut PixelRow,
 ) -> Result<(), Refusal>
-    ensures rows { OnOk result ((start : Coming) (n : ℕ) → IsAfterTold raster.old (R.bytes_left body.old) start n → IsNextRow raster.new (R.bytes_left body.new) start n out.new.items) }
-    ensures pixels { OnOk result (All IsPixel out.new.items) }
+    ensures rows { OnOk result ((start : Coming) (n : ℕ) → IsAfterTold raster.old (R.bytes_left body.old) start n → IsNextRow raster.new (R.bytes_left body.new) start n out.new) }
+    ensures pixels { OnOk result (All IsPixel out.new) }
     ensures read { RasterHasRead (R.bytes_left body.old) (R.bytes_left body.new) (R.counts body.old) (R.counts body.new) raster.old raster.new (IsTrue (gave_up (told_by told) (told_by result))) }
     ensures stays { IfErr told (λ refusal. result ≡ Err refusal) }
     ensures of_reading { OnOk told (IsOfReading (told_by result)) }
@@ -85,7 +86,7 @@ pub fn read_raster<R: ByteSource>(
     if let Err(refusal) = told {
         return Err(refusal);
     }
-    match raster.next_row(body, out) {
+    match raster.next_pixels(body, out) {
         Ok(_) => Ok(()),
         Err(ReadFault::WrongLength) => Ok(()),
         Err(ReadFault::AlreadyFailed) => Ok(()),

@@ -21,6 +21,7 @@ use drain_device::ByteSource;
 use drain_grid::{PerProduct, SetProduct};
 use drain_header::Header;
 use drain_mosaic::Layout;
+use drain_pixels::PixelRow;
 use drain_raster::RasterRows;
 
 /// The products of a call. They are always read as five: for a missing product, which the rules then
@@ -50,10 +51,10 @@ pub trait ProductInputs<R: ByteSource> {
     fn read_rasters(
         &mut self,
         rasters: &mut PerProduct<RasterRows>,
-        out: &mut PerProduct<Vec<i64>>,
+        out: &mut PerProduct<PixelRow>,
     ) -> Result<(), Refusal>
-        ensures rows { OnOk result ((p : SetProduct) (start : Coming) (n : ℕ) → IsAfterTold (of_product (readers rasters.old) p) (R.bytes_left (of_product (inputs self.old) p).body) start n → IsNextRow (of_product (readers rasters.new) p) (R.bytes_left (of_product (inputs self.new) p).body) start n (of_product out.new p).items) }
-        ensures pixels { OnOk result ((p : SetProduct) → All IsPixel (of_product out.new p).items) }
+        ensures rows { OnOk result ((p : SetProduct) (start : Coming) (n : ℕ) → IsAfterTold (of_product (readers rasters.old) p) (R.bytes_left (of_product (inputs self.old) p).body) start n → IsNextRow (of_product (readers rasters.new) p) (R.bytes_left (of_product (inputs self.new) p).body) start n (of_product out.new p)) }
+        ensures pixels { OnOk result ((p : SetProduct) → All IsPixel (of_product out.new p)) }
         ensures read { RastersHaveRead R.bytes_left R.counts (readers rasters.old) (readers rasters.new) (inputs self.old) (inputs self.new) (told_by result) }
         ensures of_reading { IsOfReading (told_by result) };
 

@@ -6,7 +6,7 @@ use drain_rules::Kept;
 use std::test::Fail;
 
 /// Cells before this column from the other on, none of them raised.
-fn level(end: u32) -> Kept {
+pub fn level(end: u32) -> Kept {
     Kept { end, raised: 0 }
 }
 
@@ -39,11 +39,11 @@ fn cells_of_level_rows(rt: HostRuntime) -> Result<(), Fail> {
     Ok(())
 }
 
-/// Puts a void into the middle row, at column 50, with this number in place of each product's.
-fn put_void(numbers: &mut [i64], number: i64) {
-    for part in 0..6usize {
+/// Puts a void into the middle row, at column 50, with these numbers in place of con's, dir's, acc's, bas's and rnk's.
+pub fn put_void(numbers: &mut [i64], [con, dir, acc, bas, rnk]: [i64; 5]) {
+    for (part, number) in [-32768, con, dir, acc, bas, rnk].iter().enumerate() {
         if let Some(slot) = numbers.get_mut((part * 3 + 1) * COLS as usize + 50) {
-            *slot = if part == 0 { -32768 } else { number };
+            *slot = *number;
         }
     }
 }
@@ -52,13 +52,13 @@ fn put_void(numbers: &mut [i64], number: i64) {
 static NO_DATA: [i64; 8] = [-32768, -9999, -1, 0, 255, 65535, -2147483648, 4294967295];
 
 /// The column from which cells are kept, and the column before which they are.
-static BESIDE: [(u32, u32); 3] = [(1, 49), (49, 49), (52, 180)];
+pub static BESIDE: [(u32, u32); 3] = [(1, 49), (49, 49), (52, 180)];
 
 #[test]
 fn cells_beside_a_void(rt: HostRuntime) -> Result<(), Fail> {
     let mut numbers = level_rows(rt.alloc())?;
     for &nodata in &NO_DATA {
-        put_void(&mut numbers, nodata);
+        put_void(&mut numbers, [nodata; 5]);
         for &(from, end) in &BESIDE {
             let kept = kept_by_lanes(rt.alloc(), &[], &numbers, 1, from)?;
             equal(&rt, (nodata, from), kept, level(end));
@@ -69,7 +69,7 @@ fn cells_beside_a_void(rt: HostRuntime) -> Result<(), Fail> {
 
 /// Numbers put into all cells of a row of some parts: at the last that a test in 16 bits takes, past it, and at the
 /// last of all.
-static GREAT: [[(Part, u8, i64); 4]; 7] = [
+pub static GREAT: [[(Part, u8, i64); 4]; 7] = [
     // Accumulations, of the cell and of the one that leads to it.
     [
         (Part::Dir, 2, 64),
@@ -118,7 +118,7 @@ static GREAT: [[(Part, u8, i64); 4]; 7] = [
 ];
 
 /// Puts a number into all cells of a row of a part.
-fn put_row(numbers: &mut [i64], part: Part, row: u8, number: i64) {
+pub fn put_row(numbers: &mut [i64], part: Part, row: u8, number: i64) {
     let first = (part as usize * 3 + row as usize) * COLS as usize;
     for col in 0..COLS as usize {
         if let Some(slot) = numbers.get_mut(first + col) {

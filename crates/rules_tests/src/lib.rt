@@ -16,9 +16,13 @@ mod listed_sinks;
 #[cfg(test)]
 mod long_rows;
 #[cfg(test)]
+mod part_rows;
+#[cfg(test)]
 mod product_faults;
 #[cfg(test)]
 mod raster_verdicts;
+#[cfg(test)]
+mod rows_of_bytes;
 #[cfg(test)]
 mod rows_of_numbers;
 #[cfg(test)]

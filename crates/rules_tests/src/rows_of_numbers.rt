@@ -1,15 +1,10 @@
 //! The verdict on three rows of 600 columns, gone over by rows, and their faults: with lanes of their numbers, and without.
 
-ghost use Rattle.std.specs.Prelude.{◌≡◌, ◌↔◌, ◌<◌, ◌+◌, IsTrue, OnOk, length};
-ghost use Rattle.std.specs.List.{All};
-ghost use Rattle.drain_grid.specs.PerProduct.{of_product, per_product};
-ghost use Rattle.drain_grid.specs.Tile.{IsSample};
-ghost use Rattle.drain_grid.specs.Values.{IsPixel};
-ghost use Rattle.drain_rules.specs.RowNumbers.{AreRowNumbers};
+ghost use Rattle.std.specs.Prelude.{◌≡◌, ◌<◌, ◌+◌, OnOk};
 
-use crate::examples::{Part, is_pixel, numbers_at};
+use crate::part_rows::{AS_NUMBERS, Kinds, PartRow, PartRows};
 use drain_faults::FaultWalk;
-use drain_grid::{NoData, PerProduct, Shape, Sinks, parse_sinks};
+use drain_grid::{NoData, Shape, Sinks, parse_sinks};
 use drain_kernel::Lanes;
 use drain_rules::{GridWalk, Kept, PatchRow, Ranks, RowView, Rules, ThreeRows, Verdict};
 use std::alloc::{AllocError, Global};
@@ -33,36 +28,6 @@ fn marks_of(sinks: &Sinks) -> Marks {
     [first, second, third]
 }
 
-/// Whether each number is a sample.
-fn are_samples(numbers: &[i64]) -> bool
-    ensures { IsTrue result ↔ All IsSample numbers.now }
-{
-    numbers
-        .iter()
-        .all(|number| (-32768..=32767).contains(number))
-}
-
-/// Whether there are this many numbers, each of which a pixel encodes.
-fn are_pixels(numbers: &[i64], count: usize) -> bool
-    ensures { IsTrue result ↔ ((length numbers.now ≡ count) × All IsPixel numbers.now) }
-{
-    numbers.len() == count && numbers.iter().all(|number| is_pixel(*number))
-}
-
-/// Whether these are the numbers of one row.
-fn are_row_numbers(z: &[i64], products: &PerProduct<&[i64]>) -> bool
-    ensures { IsTrue result → AreRowNumbers (record { z = z.now; products = per_product (λ p. (of_product products.now p).now) }) }
-{
-    let count = z.len();
-    count <= 28801
-        && are_samples(z)
-        && are_pixels(products.con, count)
-        && are_pixels(products.dir, count)
-        && are_pixels(products.acc, count)
-        && are_pixels(products.bas, count)
-        && are_pixels(products.rnk, count)
-}
-
 /// The numbers of three level rows with no listed cell.
 pub fn level_rows(alloc: Global) -> Result<Vec<i64>, AllocError> {
     let shafts = Shafts {
@@ -73,19 +38,62 @@ pub fn level_rows(alloc: Global) -> Result<Vec<i64>, AllocError> {
     shafts.numbers(alloc)
 }
 
-/// A row of a part.
-fn row_of(numbers: &[i64], part: Part, row: u8) -> Option<&[i64]> {
-    let rows_before = part as usize * 3 + row as usize;
-    numbers_at(numbers, rows_before, COLS.into())
-}
-
 /// What the rows are made of. The lanes of their numbers are taken, or they aren't.
 #[derive(Clone, Copy)]
 struct Given<'a> {
+    alloc: Global,
     numbers: &'a [i64],
     marks: &'a Marks,
+    kinds: Kinds,
     ranks: Ranks,
     is_laned: bool,
+}
+
+impl<'a> Given<'a> {
+    /// The numbers of a row, none of no row.
+    fn row(&self, row: Option<u8>) -> Result<PartRow<'a>, Fail> {
+        let parts = PartRows {
+            numbers: self.numbers,
+            rows: 3,
+            cols: COLS,
+        };
+        PartRow::new(self.alloc, parts, row, self.kinds)
+    }
+
+    /// The marks of a row, none of no row.
+    fn marks(&self, row: Option<u8>) -> &'a [bool] {
+        let marks = self.marks;
+        match row {
+            Some(row) if row < 3 => &marks[row as usize],
+            _ => &[],
+        }
+    }
+}
+
+/// A row with those above and below it.
+#[derive(Drop)]
+struct Numbers<'a> {
+    above: PartRow<'a>,
+    here: PartRow<'a>,
+    below: PartRow<'a>,
+}
+
+/// The rows above a row and below it, if there are any.
+fn beside(row: u8) -> (Option<u8>, Option<u8>) {
+    (
+        row.checked_sub(1),
+        if row < 2 { Some(row + 1) } else { None },
+    )
+}
+
+/// The numbers of a row with those above and below it.
+fn numbers_round<'a>(given: Given<'a>, row: u8) -> Result<Numbers<'a>, Fail> {
+    let (above, below) = beside(row);
+    Ok(Numbers {
+        above: given.row(above)?,
+        here: given.row(Some(row))?,
+        below: given.row(below)?,
+    })
 }
 
 /// Room for the lanes of three rows.
@@ -107,78 +115,34 @@ impl Room {
     }
 }
 
-/// The row of these numbers and marks, with the lanes of its numbers where they fit.
-fn laned_view<'a>(
-    z: &'a [i64],
-    marks: &'a [bool],
-    products: PerProduct<&'a [i64]>,
-    ranks: Ranks,
+/// A row with its marks, and with its lanes if they are taken; no row has none.
+fn row_view<'a>(
+    given: Given<'a>,
+    numbers: &'a PartRow<'a>,
+    row: Option<u8>,
     lanes: &'a mut Lanes,
-) -> RowView<'a>
-    requires { AreRowNumbers (record { z = z.now; products = per_product (λ p. (of_product products p).now) }) }
-{
-    if lanes.take(z, &products, ranks) {
-        RowView::new(z, marks, products, Some(lanes))
-    } else {
-        RowView::new(z, marks, products, None)
-    }
-}
-
-/// A row of the six parts, one after the other.
-fn row_view<'a>(given: Given<'a>, row: u8, lanes: &'a mut Lanes) -> Option<RowView<'a>> {
-    let numbers = given.numbers;
-    let products = PerProduct {
-        con: row_of(numbers, Part::Con, row)?,
-        dir: row_of(numbers, Part::Dir, row)?,
-        acc: row_of(numbers, Part::Acc, row)?,
-        bas: row_of(numbers, Part::Bas, row)?,
-        rnk: row_of(numbers, Part::Rnk, row)?,
-    };
-    let z = row_of(numbers, Part::Elevations, row)?;
-    let marks = given.marks;
-    let marks = marks.get(row as usize)?;
-    if !are_row_numbers(z, &products) {
-        return None;
-    }
-    if given.is_laned {
-        Some(laned_view(z, marks, products, given.ranks, lanes))
-    } else {
-        Some(RowView::new(z, marks, products, None))
-    }
-}
-
-/// No row.
-fn no_row<'a>() -> Option<RowView<'a>> {
-    let products = PerProduct {
-        con: [].as_slice(),
-        dir: [].as_slice(),
-        acc: [].as_slice(),
-        bas: [].as_slice(),
-        rnk: [].as_slice(),
-    };
-    if are_row_numbers(&[], &products) {
-        Some(RowView::new(&[], &[], products, None))
+) -> RowView<'a> {
+    let lanes = if given.is_laned && row.is_some() {
+        Some(lanes)
     } else {
         None
-    }
-}
-
-/// A row of the six parts where there is one, else no row.
-fn row_or_none<'a>(given: Given<'a>, row: Option<u8>, lanes: &'a mut Lanes) -> Option<RowView<'a>> {
-    match row {
-        Some(row) => row_view(given, row, lanes),
-        None => no_row(),
-    }
+    };
+    numbers.view(given.marks(row), given.ranks, lanes)
 }
 
 /// A row with those above and below it.
-fn three_rows<'a>(given: Given<'a>, row: u8, room: &'a mut Room) -> Option<ThreeRows<'a>> {
-    let next = if row < 2 { Some(row + 1) } else { None };
-    Some(ThreeRows {
-        above: row_or_none(given, row.checked_sub(1), &mut room.above)?,
-        here: row_view(given, row, &mut room.here)?,
-        below: row_or_none(given, next, &mut room.below)?,
-    })
+fn three_rows<'a>(
+    given: Given<'a>,
+    numbers: &'a Numbers<'a>,
+    row: u8,
+    room: &'a mut Room,
+) -> ThreeRows<'a> {
+    let (above, below) = beside(row);
+    ThreeRows {
+        above: row_view(given, &numbers.above, above, &mut room.above),
+        here: row_view(given, &numbers.here, Some(row), &mut room.here),
+        below: row_view(given, &numbers.below, below, &mut room.below),
+    }
 }
 
 /// The rules of a check with the default no-data numbers.
@@ -192,9 +156,8 @@ fn check_row(walk: &mut GridWalk, given: Given<'_>, row: u8, room: &mut Room) ->
     requires { walk.old.rows < 3 }
     ensures { OnOk result (walk.new.rows ≡ walk.old.rows + 1) }
 {
-    let Some(rows) = three_rows(given, row, room) else {
-        return Err("rows of numbers".into());
-    };
+    let numbers = numbers_round(given, row)?;
+    let rows = three_rows(given, &numbers, row, room);
     Ok(walk.check_row(&rows, &rules_with(given.ranks))?)
 }
 
@@ -221,9 +184,8 @@ fn note_row(walk: &mut FaultWalk, given: Given<'_>, row: u8, room: &mut Room) ->
     requires { walk.old.rows < 3 }
     ensures { OnOk result (walk.new.rows ≡ walk.old.rows + 1) }
 {
-    let Some(rows) = three_rows(given, row, room) else {
-        return Err("rows of numbers".into());
-    };
+    let numbers = numbers_round(given, row)?;
+    let rows = three_rows(given, &numbers, row, room);
     Ok(walk.note_row(&rows, &rules_with(given.ranks))?)
 }
 
@@ -240,8 +202,10 @@ fn note_rows(walk: &mut FaultWalk, given: Given<'_>, room: &mut Room) -> Result<
 pub fn faults_by_rows(alloc: Global, numbers: &[i64], is_laned: bool) -> Result<FaultWalk, Fail> {
     let marks = marks_of(&Sinks::none(alloc));
     let given = Given {
+        alloc,
         numbers,
         marks: &marks,
+        kinds: AS_NUMBERS,
         ranks: Ranks::Checked,
         is_laned,
     };
@@ -258,22 +222,36 @@ pub fn kept_by_lanes(
     row: u8,
     from: u32,
 ) -> Result<Kept, Fail> {
+    kept_of_kinds(alloc, text, numbers, AS_NUMBERS, (row, from))
+}
+
+/// The same where the products are kept as these kinds.
+pub fn kept_of_kinds(
+    alloc: Global,
+    text: &[u8],
+    numbers: &[i64],
+    kinds: Kinds,
+    (row, from): (u8, u32),
+) -> Result<Kept, Fail> {
     let marks = marks_of(&parse_sinks(alloc, text)?);
     let given = Given {
+        alloc,
         numbers,
         marks: &marks,
+        kinds,
         ranks: Ranks::Checked,
         is_laned: true,
     };
-    match kept_in_row(given, row, from, &mut Room::new(alloc)) {
+    let numbers = numbers_round(given, row)?;
+    let mut room = Room::new(alloc);
+    match kept_in_row(&three_rows(given, &numbers, row, &mut room), from) {
         Some(kept) => Ok(kept),
-        None => Err("rows of numbers, and a column".into()),
+        None => Err("a column".into()),
     }
 }
 
-/// The same of the row with those above and below it; none where they are no rows, or where there is no such column.
-fn kept_in_row(given: Given<'_>, row: u8, from: u32, room: &mut Room) -> Option<Kept> {
-    let rows = three_rows(given, row, room)?;
+/// The same of the row with those above and below it; none where there is no such column.
+fn kept_in_row(rows: &ThreeRows<'_>, from: u32) -> Option<Kept> {
     if from > rows.cols() {
         return None;
     }
@@ -288,11 +266,24 @@ pub fn verdict_by_rows(
     numbers: &[i64],
     ranks: Ranks,
 ) -> Result<Verdict, Fail> {
+    verdict_of_kinds(alloc, text, numbers, AS_NUMBERS, ranks)
+}
+
+/// The same where the products are kept as these kinds.
+pub fn verdict_of_kinds(
+    alloc: Global,
+    text: &[u8],
+    numbers: &[i64],
+    kinds: Kinds,
+    ranks: Ranks,
+) -> Result<Verdict, Fail> {
     let sinks = parse_sinks(alloc, text)?;
     let marks = marks_of(&sinks);
     let laned = Given {
+        alloc,
         numbers,
         marks: &marks,
+        kinds,
         ranks,
         is_laned: true,
     };

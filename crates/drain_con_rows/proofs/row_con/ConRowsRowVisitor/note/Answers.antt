@@ -11,10 +11,9 @@ returns-clause-noted c =
     let before = c.args.self.now in
     on-ok c.push_row.result
     (λ is g ps r numbers shown first.
-    let taken : c.push_row.new.self ≡ with_row before row.z.items row.products.con.items =
-    is ∙ ap (λ (zs : List ℤ). with_row before zs c.as_slice-2.result.now) c.as_slice.ensures.value
-    ∙ ap (λ (ns : List ℤ). with_row before row.z.items ns) c.as_slice-2.ensures.value in
-    subst (AreFirstCon g ps (r + 1)) (sym taken) (AreFirstCon-row g ps r before row.z.items row.products.con.items first (record {
+    let taken : c.push_row.new.self ≡ with_row before row.z.items row.products.con =
+    is ∙ ap (λ (zs : List ℤ). with_row before zs row.products.con) c.as_slice.ensures.value in
+    subst (AreFirstCon g ps (r + 1)) (sym taken) (AreFirstCon-row g ps r before row.z.items row.products.con first (record {
       samples_long = numbers.cols_are;
       con_long = c.requires.whole.long Con ∙ numbers.cols_are;
       samples_are = c.requires.whole.samples;

@@ -8,11 +8,11 @@ pub returns-then-len-4 : goal.returns-then-len-4
 returns-then-len-4 c = (
   λ h. by_set_product _ (search rules) (search rules) (search rules) (search rules) (search rules),
   λ each.
-      let con : length c.args.self.now.products.con.items ≡ length c.args.self.now.z.items = each Con in
-      let dir : length c.args.self.now.products.dir.items ≡ length c.args.self.now.z.items = each Dir in
-      let acc : length c.args.self.now.products.acc.items ≡ length c.args.self.now.z.items = each Acc in
-      let bas : length c.args.self.now.products.bas.items ≡ length c.args.self.now.z.items = each Bas in
-      let rnk : length c.args.self.now.products.rnk.items ≡ length c.args.self.now.z.items = each Rnk in
+      let con : length c.args.self.now.products.con ≡ length c.args.self.now.z.items = each Con in
+      let dir : length c.args.self.now.products.dir ≡ length c.args.self.now.z.items = each Dir in
+      let acc : length c.args.self.now.products.acc ≡ length c.args.self.now.z.items = each Acc in
+      let bas : length c.args.self.now.products.bas ≡ length c.args.self.now.z.items = each Bas in
+      let rnk : length c.args.self.now.products.rnk ≡ length c.args.self.now.z.items = each Rnk in
       search rules,
 )
 
@@ -20,10 +20,10 @@ pub returns-else-len-4 : goal.returns-else-len-4
 returns-else-len-4 c = (
   λ h. by_set_product _ (search rules) (search rules) (search rules) (search rules) (search rules),
   λ each.
-      let con : length c.args.self.now.products.con.items ≡ length c.args.self.now.z.items = each Con in
-      let dir : length c.args.self.now.products.dir.items ≡ length c.args.self.now.z.items = each Dir in
-      let acc : length c.args.self.now.products.acc.items ≡ length c.args.self.now.z.items = each Acc in
-      let bas : length c.args.self.now.products.bas.items ≡ length c.args.self.now.z.items = each Bas in
-      let rnk : length c.args.self.now.products.rnk.items ≡ length c.args.self.now.z.items = each Rnk in
+      let con : length c.args.self.now.products.con ≡ length c.args.self.now.z.items = each Con in
+      let dir : length c.args.self.now.products.dir ≡ length c.args.self.now.z.items = each Dir in
+      let acc : length c.args.self.now.products.acc ≡ length c.args.self.now.z.items = each Acc in
+      let bas : length c.args.self.now.products.bas ≡ length c.args.self.now.z.items = each Bas in
+      let rnk : length c.args.self.now.products.rnk ≡ length c.args.self.now.z.items = each Rnk in
       search rules,
 )

@@ -8,19 +8,18 @@ use Rattle.drain_rows.proofs.RowResults.{on-ok}
 use Rattle.drain_rows.proofs.row_flows.CellFlowsRowVisitor.note.Goals as goal
 
 pub push_row-requires-clause-cells : goal.push_row-requires-clause-cells
-push_row-requires-clause-cells c = ap length c.as_slice.ensures.value ∙ sym (c.requires.whole.long Dir) ∙ ap length (sym c.as_slice-2.ensures.value)
+push_row-requires-clause-cells c = ap length c.as_slice.ensures.value ∙ sym (c.requires.whole.long Dir)
 
 pub push_row-requires-clause-pixels : goal.push_row-requires-clause-pixels
-push_row-requires-clause-pixels c = subst (λ (ns : List ℤ). All IsPixel ns) (sym c.as_slice-2.ensures.value) (c.requires.whole.pixels Dir)
+push_row-requires-clause-pixels c = c.requires.whole.pixels Dir
 
 pub returns-clause-noted : goal.returns-clause-noted
 returns-clause-noted c =
     let row = c.args.row.now in
     on-ok c.push_row.result
     (λ is grid ps r numbers shown first.
-    let flows : c.push_row.new.self ≡ c.args.self.now ++ flows_of row.z.items row.products.dir.items = is ∙ ap (λ (zs : List ℤ). c.args.self.now ++ flows_of zs c.as_slice-2.result.now) c.as_slice.ensures.value
-    ∙ ap (λ (ns : List ℤ). c.args.self.now ++ flows_of row.z.items ns) c.as_slice-2.ensures.value in
-    subst (AreFirstFlows grid ps grid.extent (r + 1)) (sym flows) (AreFirstFlows-row grid ps grid.extent r c.args.self.now row.z.items row.products.dir.items first (record {
+    let flows : c.push_row.new.self ≡ c.args.self.now ++ flows_of row.z.items row.products.dir = is ∙ ap (λ (zs : List ℤ). c.args.self.now ++ flows_of zs row.products.dir) c.as_slice.ensures.value in
+    subst (AreFirstFlows grid ps grid.extent (r + 1)) (sym flows) (AreFirstFlows-row grid ps grid.extent r c.args.self.now row.z.items row.products.dir first (record {
       samples_are = numbers.cols_are;
       numbers_are = c.requires.whole.long Dir ∙ numbers.cols_are;
       elevation = numbers.elevation;

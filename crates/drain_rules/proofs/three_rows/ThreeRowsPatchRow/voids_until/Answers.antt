@@ -1,7 +1,6 @@
-use Rattle.std.proofs.Common.{ℕ, ◌≤◌, arith, subst, below_more}
-use Rattle.drain_grid.specs.Values.{Values}
+use Rattle.std.proofs.Common.{ℕ, ◌≤◌, arith, below_more}
 use Rattle.drain_kernel.specs.Rules.{tried}
-use Rattle.drain_rules.specs.BlankVoids.{IsBlankVoid, IsRightVoid}
+use Rattle.drain_rules.specs.BlankVoids.{IsRightVoid}
 use Rattle.drain_rules.specs.ThreeRows.{patch_in}
 use Rattle.drain_rules.proofs.RightVoids.{right_void}
 use Rattle.drain_rules.proofs.three_rows.ThreeRowsPatchRow.voids_until.Goals as goal
@@ -10,8 +9,7 @@ pub loop-col-preserved : goal.loop-col-preserved
 loop-col-preserved c =
     let rules = c.args.rules.now in
     let shown = patch_in c.args.self.now in
-    let right = right_void rules (shown c.loop-col.col)
-    (subst (λ (v : Values). IsBlankVoid rules v) c.values.ensures (c.is_blank_void.ensures c.if-is_blank_void.true)) in
+    let right = right_void rules (shown c.loop-col.col) (c.is_blank_void_at.ensures c.if-is_blank_void_at.true) in
     record {
       forward = omega (arith, c.loop-col.invariant.forward);
       within = omega (arith, c.loop-col-test.true);

@@ -42,7 +42,7 @@ returns-clause-reads g c =
     let ct = g.R.ByteSource.counts in
     let one = c.in_ok-read_mosaic.ensures in
     let other = c.in_ok-read_rasters.ensures in
-    let row : RowNumbers = record { z = c.read_mosaic.new.out.items; products = per_product (λ p. (of_product c.read_rasters.new.out p).items) } in
+    let row : RowNumbers = record { z = c.read_mosaic.new.out.items; products = per_product (λ p. (of_product c.read_rasters.new.out p)) } in
     λ start n before. come_more bl ct (as_read g.P.ProductInputs.readers g.P.ProductInputs.inputs start) (with_rasters g.P.ProductInputs.readers c.args.self.now) _ c.args.tiles.now c.read_mosaic.new.tiles (g.P.ProductInputs.inputs c.args.products.now) (g.P.ProductInputs.inputs c.read_rasters.new.self) row n before
     (reads_then bl ct (as_read g.P.ProductInputs.readers g.P.ProductInputs.inputs start) _ _ None before.reads
     (one_read bl ct (with_rasters g.P.ProductInputs.readers c.args.self.now) _ c.args.tiles.now c.read_mosaic.new.tiles (g.P.ProductInputs.inputs c.args.products.now) (g.P.ProductInputs.inputs c.read_rasters.new.self) None None None (by_rasters None)
@@ -51,7 +51,7 @@ returns-clause-reads g c =
 
 pub returns-clause-whole : goal.returns-clause-whole
 returns-clause-whole g c =
-    let row : RowNumbers = record { z = c.read_mosaic.new.out.items; products = per_product (λ p. (of_product c.read_rasters.new.out p).items) } in
+    let row : RowNumbers = record { z = c.read_mosaic.new.out.items; products = per_product (λ p. (of_product c.read_rasters.new.out p)) } in
     let kept : IsKept row (buffer_numbers c.if-not-is_even.out) = elim c.if-not-is_even.branch [
       | then-not-is_even w ↦ inr (search rules, search rules)
       | else-not-is_even w ↦ inl (search rules, search rules)
@@ -61,7 +61,7 @@ returns-clause-whole g c =
 
 pub returns-clause-next : goal.returns-clause-next
 returns-clause-next g c =
-    let row : RowNumbers = record { z = c.read_mosaic.new.out.items; products = per_product (λ p. (of_product c.read_rasters.new.out p).items) } in
+    let row : RowNumbers = record { z = c.read_mosaic.new.out.items; products = per_product (λ p. (of_product c.read_rasters.new.out p)) } in
     let kept : IsKept row (buffer_numbers c.if-not-is_even.out) = elim c.if-not-is_even.branch [
       | then-not-is_even w ↦ inr (search rules, search rules)
       | else-not-is_even w ↦ inl (search rules, search rules)

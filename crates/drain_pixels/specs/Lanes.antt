@@ -1,0 +1,57 @@
+-- Lanes of a row: unsigned numbers of 16 or 32 bits, converted from whole numbers. At a void, where the lane of the elevation is 0, nothing is known of a product.
+use Rattle.std.specs.Prelude.{◌≡◌, ◌≢◌, ℕ, ◌<◌, ℤ, pos, negsuc, neg_ℤ, ◌+ℤ◌, Bool, IsTrue, false, ◌&&◌, nat_le, int_le, min, List, slice_index, slice_index_or}
+
+-- 32 bits hold the number
+abbrev pub is_lane : ℤ → Bool
+is_lane (pos n) = nat_le n 4294967295
+is_lane (negsuc n) = false
+
+-- 16 bits hold the number
+abbrev pub is_short_lane : ℤ → Bool
+is_short_lane (pos n) = nat_le n 65535
+is_short_lane (negsuc n) = false
+
+-- 16 signed bits hold the number
+abbrev pub is_height : ℤ → Bool
+is_height number = int_le (neg_ℤ (pos 32768)) number && int_le number (pos 32767)
+
+-- the first numbers all fit
+abbrev pub AllFit : (ℤ → Bool) → List ℤ → ℕ → Type 0
+AllFit fits numbers count = (k : ℕ) → k < count → IsTrue (fits (slice_index_or numbers k (pos 0)))
+
+-- so do those that are at no void
+abbrev pub AllFitAt : (ℤ → Bool) → List ℕ → List ℤ → ℕ → Type 0
+AllFitAt fits z numbers count = (k : ℕ) → k < count → slice_index z k ≢ 0 → IsTrue (fits (slice_index_or numbers k (pos 0)))
+
+-- the first lanes are what a conversion makes of these numbers, each that fits
+abbrev pub HoldFitting : (ℤ → Bool) → (ℤ → ℤ) → List ℤ → List ℕ → ℕ → Type 0
+HoldFitting fits lane numbers lanes count =
+    (k : ℕ) → k < count → IsTrue (fits (slice_index_or numbers k (pos 0))) → pos (slice_index lanes k) ≡ lane (slice_index_or numbers k (pos 0))
+
+-- a number as it is
+abbrev pub unchanged : ℤ → ℤ
+unchanged number = number
+
+-- 32768 more than the number
+abbrev pub lifted : ℤ → ℤ
+lifted number = number +ℤ pos 32768
+
+-- the first numbers are these, or 65535 where they are more
+abbrev pub AreCapped : List ℕ → List ℕ → ℕ → Type 0
+AreCapped numbers capped count = (k : ℕ) → k < count → slice_index capped k ≡ min (slice_index numbers k) 65535
+
+-- the first lanes are what a conversion makes of these numbers, except at voids
+abbrev pub AreLanesBy : (ℤ → ℤ) → List ℕ → List ℤ → List ℕ → ℕ → Type 0
+AreLanesBy lane z numbers lanes count = (k : ℕ) → k < count → slice_index z k ≢ 0 → pos (slice_index lanes k) ≡ lane (slice_index_or numbers k (pos 0))
+
+-- the first numbers are these, except at voids
+abbrev pub AreLanes : List ℕ → List ℤ → List ℕ → ℕ → Type 0
+AreLanes z numbers lanes count = AreLanesBy unchanged z numbers lanes count
+
+-- the first elevations are these, each 32768 more than it is
+abbrev pub AreElevationLanes : List ℤ → List ℕ → ℕ → Type 0
+AreElevationLanes numbers lanes count = (k : ℕ) → k < count → pos (slice_index lanes k) ≡ lifted (slice_index_or numbers k (pos 0))
+
+-- the first heights are these, each 32768 more than it is, except at voids
+abbrev pub AreHeightLanes : List ℕ → List ℤ → List ℕ → ℕ → Type 0
+AreHeightLanes z numbers lanes count = AreLanesBy lifted z numbers lanes count

@@ -1,0 +1,179 @@
+//! Lanes of one number: 16 or 32 bits of the 64.
+
+ghost use Rattle.std.specs.Prelude.{◌≡◌, ◌↔◌, ◌<◌, ◌^◌, ◌+ℤ◌, IsTrue, min, pos};
+ghost use Rattle.drain_pixels.specs.Lanes.{is_height, is_lane, is_short_lane, lifted, unchanged};
+
+/// The lower 32 of these bits.
+#[inline(always)]
+fn low_half(bits: u64) -> u32
+    ensures { bits < 2 ^ 32 → result ≡ bits }
+{
+    (bits & 0xFFFF_FFFF) as u32
+}
+
+/// The lowest 16.
+#[inline(always)]
+fn low_quarter(bits: u64) -> u16
+    ensures { bits < 2 ^ 16 → result ≡ bits }
+{
+    (bits & 0xFFFF) as u16
+}
+
+/// The upper 32.
+#[inline(always)]
+fn high_half(bits: u64) -> u32
+    ensures { (result ≡ 0) ↔ (bits < 2 ^ 32) }
+{
+    (bits >> 32) as u32
+}
+
+/// Whether they are 16 bits at most. Halves are compared, not numbers of 64 bits, so that four go at once.
+#[inline(always)]
+fn is_quarter(bits: u64) -> bool
+    ensures { IsTrue result ↔ (bits < 2 ^ 16) }
+{
+    (high_half(bits) == 0) & (low_half(bits) <= 65535)
+}
+
+/// The number, if 32 bits hold it; else its lower 32 bits.
+#[inline(always)]
+pub fn lane(number: i64) -> u32
+    ensures { IsTrue (is_lane number) → pos result ≡ number }
+{
+    low_half(number.cast_unsigned())
+}
+
+/// Whether 32 unsigned bits hold the number.
+#[inline(always)]
+pub fn is_lane(number: i64) -> bool
+    ensures { result ≡ is_lane number }
+{
+    high_half(number.cast_unsigned()) == 0
+}
+
+/// The number, if 16 bits hold it; else its lowest 16 bits.
+#[inline(always)]
+pub fn short_lane(number: i64) -> u16
+    ensures { IsTrue (is_short_lane number) → pos result ≡ number }
+{
+    low_quarter(number.cast_unsigned())
+}
+
+/// Whether 16 unsigned bits hold the number.
+#[inline(always)]
+pub fn is_short_lane(number: i64) -> bool
+    ensures { result ≡ is_short_lane number }
+{
+    is_quarter(number.cast_unsigned())
+}
+
+/// 32768 more than the number, in 64 bits.
+#[inline(always)]
+fn raised(number: i64) -> u64
+    ensures fits { IsTrue (is_height number) ↔ (result < 2 ^ 16) }
+    ensures raised { IsTrue (is_height number) → pos result ≡ number +ℤ pos 32768 }
+{
+    number.cast_unsigned().wrapping_add(32768)
+}
+
+/// 32768 more than a height, if it has 16 bits.
+#[inline(always)]
+pub fn height_lane(number: i64) -> u16
+    ensures { IsTrue (is_height number) → pos result ≡ number +ℤ pos 32768 }
+{
+    low_quarter(raised(number))
+}
+
+/// Whether 16 signed bits hold the number.
+#[inline(always)]
+pub fn is_height(number: i64) -> bool
+    ensures { result ≡ is_height number }
+{
+    is_quarter(raised(number))
+}
+
+/// The number, or 65535 if it is more.
+#[inline(always)]
+pub fn capped(number: u32) -> u16
+    ensures { result ≡ min number 65535 }
+{
+    number.min(65535) as u16
+}
+
+/// Numbers that fit lanes of a kind.
+pub trait Fits {
+    ghost use Rattle.std.specs.Prelude.{ℤ, Bool};
+
+    /// Whether the number fits.
+    ghost fits: { ℤ → Bool };
+
+    /// Whether the number fits.
+    fn fits(number: i64) -> bool
+        ensures { result ≡ fits number };
+}
+
+/// Numbers that are converted to lanes of 16 bits.
+pub trait Narrow: Fits {
+    ghost use Rattle.std.specs.Prelude.{ℤ};
+
+    /// What the lane of a number holds.
+    ghost lane: { ℤ → ℤ };
+
+    /// The lane of a number, if it fits; else any lane.
+    fn lane(number: i64) -> u16
+        ensures { IsTrue (Self.fits number) → pos result ≡ lane number };
+}
+
+/// Numbers from 0 up, of 32 bits.
+pub struct Wide;
+
+impl Fits for Wide {
+    ghost fits = { is_lane };
+
+    #[inline(always)]
+    fn fits(number: i64) -> bool {
+        is_lane(number)
+    }
+}
+
+/// Numbers from 0 up, of 16 bits.
+pub struct Short;
+
+impl Fits for Short {
+    ghost fits = { is_short_lane };
+
+    #[inline(always)]
+    fn fits(number: i64) -> bool {
+        is_short_lane(number)
+    }
+}
+
+impl Narrow for Short {
+    ghost lane = { unchanged };
+
+    #[inline(always)]
+    fn lane(number: i64) -> u16 {
+        short_lane(number)
+    }
+}
+
+/// Heights of 16 bits with a sign, 32768 more than they are in a lane.
+pub struct Height;
+
+impl Fits for Height {
+    ghost fits = { is_height };
+
+    #[inline(always)]
+    fn fits(number: i64) -> bool {
+        is_height(number)
+    }
+}
+
+impl Narrow for Height {
+    ghost lane = { lifted };
+
+    #[inline(always)]
+    fn lane(number: i64) -> u16 {
+        height_lane(number)
+    }
+}

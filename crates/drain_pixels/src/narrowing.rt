@@ -1,0 +1,71 @@
+//! The numbers of a row, converted to lanes in loops without a branch. At a void, where the elevation's lane is 0, a
+//! product's number need not fit.
+
+ghost use Rattle.std.specs.Prelude.{◌≡◌, IsTrue, length};
+ghost use Rattle.drain_pixels.specs.Lanes.{AllFit, AllFitAt, AreCapped, HoldFitting, is_lane, unchanged};
+
+use crate::lane::{Fits, Narrow, capped, is_lane, lane};
+use crate::stored::PixelNumbers;
+
+/// Puts the numbers into lanes of 32 bits, and returns whether all fit, at voids too.
+#[inline(never)]
+pub fn put_wide<N: PixelNumbers + Copy>(numbers: &N, out: &mut [u32]) -> bool
+    requires { length out.old ≡ length (N.numbers numbers.now) }
+    ensures len { length out.new ≡ length out.old }
+    ensures lanes { HoldFitting is_lane unchanged (N.numbers numbers.now) out.new (length (N.numbers numbers.now)) }
+    ensures fit { IsTrue result → AllFit is_lane (N.numbers numbers.now) (length (N.numbers numbers.now)) }
+{
+    // A copy, since stores to the lanes could change what is behind a reference.
+    let pixels = *numbers;
+    let mut all = true;
+    for k in 0..pixels.len() {
+        let number = pixels.at(k);
+        all &= is_lane(number);
+        out[k] = lane(number);
+    }
+    all
+}
+
+/// Puts the numbers into lanes of 16 bits, and returns whether all fit, at voids too.
+#[inline(never)]
+pub fn put_narrow<W: Narrow, N: PixelNumbers + Copy>(numbers: &N, out: &mut [u16]) -> bool
+    requires { length out.old ≡ length (N.numbers numbers.now) }
+    ensures len { length out.new ≡ length out.old }
+    ensures lanes { HoldFitting W.fits W.lane (N.numbers numbers.now) out.new (length (N.numbers numbers.now)) }
+    ensures fit { IsTrue result → AllFit W.fits (N.numbers numbers.now) (length (N.numbers numbers.now)) }
+{
+    // A copy, since stores to the lanes could change what is behind a reference.
+    let pixels = *numbers;
+    let mut all = true;
+    for k in 0..pixels.len() {
+        let number = pixels.at(k);
+        all &= W::fits(number);
+        out[k] = W::lane(number);
+    }
+    all
+}
+
+/// Whether all numbers fit that aren't at a void.
+#[inline(never)]
+pub fn all_fit<W: Fits, N: PixelNumbers>(z: &[u16], numbers: &N) -> bool
+    requires { length z.now ≡ length (N.numbers numbers.now) }
+    ensures { IsTrue result → AllFitAt W.fits z.now (N.numbers numbers.now) (length (N.numbers numbers.now)) }
+{
+    let mut all = true;
+    for k in 0..numbers.len() {
+        all &= W::fits(numbers.at(k)) | (z[k] == 0);
+    }
+    all
+}
+
+/// Puts the lanes of a row into 16 bits each, 65535 where they are more.
+#[inline(never)]
+pub fn put_capped(numbers: &[u32], out: &mut [u16])
+    requires { length out.old ≡ length numbers.now }
+    ensures len { length out.new ≡ length out.old }
+    ensures capped { AreCapped numbers.now out.new (length numbers.now) }
+{
+    for k in 0..numbers.len() {
+        out[k] = capped(numbers[k]);
+    }
+}

@@ -1,0 +1,109 @@
+//! Vectors of lanes, filled with the numbers of a row.
+
+ghost use Rattle.std.specs.Prelude.{◌≡◌, IsTrue, length, vec_len};
+ghost use Rattle.drain_pixels.specs.Lanes.{AreCapped, AreElevationLanes, AreHeightLanes, AreLanes, AreLanesBy};
+
+use crate::lane::{Height, Narrow, Short, Wide};
+use crate::narrowing::{all_fit, put_capped, put_narrow, put_wide};
+use crate::pixel_row::PixelRow;
+use crate::stored::{
+    AnyPixels, I16Pixels, I32Pixels, PixelNumbers, Pixels, U8Pixels, U16Pixels, U32Pixels,
+};
+
+/// Replaces the lanes by the elevations of a row, and returns whether all fit and memory sufficed.
+pub fn take_elevations(numbers: &[i64], out: &mut Vec<u16>) -> bool
+    ensures len { IsTrue result → vec_len out.new ≡ length numbers.now }
+    ensures lanes { IsTrue result → AreElevationLanes numbers.now out.new.items (length numbers.now) }
+{
+    if out.resize(numbers.len(), 0).is_err() {
+        return false;
+    }
+    put_narrow::<Height, AnyPixels<'_>>(&AnyPixels { numbers }, out)
+}
+
+/// Replaces the lanes by a product's heights, which need not fit at voids, and returns whether the others fit and
+/// memory sufficed. It takes none if there are not as many elevation lanes.
+pub fn take_heights(z: &[u16], numbers: &PixelRow, out: &mut Vec<u16>) -> bool
+    ensures len { IsTrue result → vec_len out.new ≡ length numbers.now }
+    ensures lanes { IsTrue result → AreHeightLanes z.now numbers.now out.new.items (length numbers.now) }
+{
+    take_narrow::<Height>(z, numbers, out)
+}
+
+/// Replaces the lanes by a product's numbers in 16 bits, which need not fit at voids, and returns whether the others fit
+/// and memory sufficed. It takes none if there are not as many elevation lanes.
+pub fn take_short_numbers(z: &[u16], numbers: &PixelRow, out: &mut Vec<u16>) -> bool
+    ensures len { IsTrue result → vec_len out.new ≡ length numbers.now }
+    ensures lanes { IsTrue result → AreLanes z.now numbers.now out.new.items (length numbers.now) }
+{
+    take_narrow::<Short>(z, numbers, out)
+}
+
+/// Replaces the lanes by a product's numbers in 32 bits, which need not fit at voids, and returns whether the others fit
+/// and memory sufficed. It takes none if there are not as many elevation lanes.
+pub fn take_numbers(z: &[u16], numbers: &PixelRow, out: &mut Vec<u32>) -> bool
+    ensures len { IsTrue result → vec_len out.new ≡ length numbers.now }
+    ensures lanes { IsTrue result → AreLanes z.now numbers.now out.new.items (length numbers.now) }
+{
+    if z.len() != numbers.len() || out.resize(numbers.len(), 0).is_err() {
+        return false;
+    }
+    match numbers.pixels() {
+        Pixels::U8(pixels) => hold_wide(z, &pixels, out),
+        Pixels::I16(pixels) => hold_wide(z, &pixels, out),
+        Pixels::U16(pixels) => hold_wide(z, &pixels, out),
+        Pixels::I32(pixels) => hold_wide(z, &pixels, out),
+        Pixels::U32(pixels) => hold_wide(z, &pixels, out),
+        Pixels::Any(pixels) => hold_wide(z, &pixels, out),
+    }
+}
+
+/// Replaces the lanes by numbers in 16 bits each, 65535 where they are more, and returns whether memory sufficed.
+pub fn take_capped(numbers: &[u32], out: &mut Vec<u16>) -> bool
+    ensures len { IsTrue result → vec_len out.new ≡ length numbers.now }
+    ensures capped { IsTrue result → AreCapped numbers.now out.new.items (length numbers.now) }
+{
+    if out.resize(numbers.len(), 0).is_err() {
+        return false;
+    }
+    put_capped(numbers, out);
+    true
+}
+
+/// Replaces the lanes of 16 bits by a product's numbers.
+fn take_narrow<W: Narrow>(z: &[u16], numbers: &PixelRow, out: &mut Vec<u16>) -> bool
+    ensures len { IsTrue result → vec_len out.new ≡ length numbers.now }
+    ensures lanes { IsTrue result → AreLanesBy W.lane z.now numbers.now out.new.items (length numbers.now) }
+{
+    if z.len() != numbers.len() || out.resize(numbers.len(), 0).is_err() {
+        return false;
+    }
+    match numbers.pixels() {
+        Pixels::U8(pixels) => hold_narrow::<W, U8Pixels<'_>>(z, &pixels, out),
+        Pixels::I16(pixels) => hold_narrow::<W, I16Pixels<'_>>(z, &pixels, out),
+        Pixels::U16(pixels) => hold_narrow::<W, U16Pixels<'_>>(z, &pixels, out),
+        Pixels::I32(pixels) => hold_narrow::<W, I32Pixels<'_>>(z, &pixels, out),
+        Pixels::U32(pixels) => hold_narrow::<W, U32Pixels<'_>>(z, &pixels, out),
+        Pixels::Any(pixels) => hold_narrow::<W, AnyPixels<'_>>(z, &pixels, out),
+    }
+}
+
+/// Whether the lanes of 32 bits hold these numbers now, except at voids.
+fn hold_wide<N: PixelNumbers + Copy>(z: &[u16], numbers: &N, out: &mut [u32]) -> bool
+    requires elevations { length z.now ≡ length (N.numbers numbers.now) }
+    requires room { length out.old ≡ length (N.numbers numbers.now) }
+    ensures len { length out.new ≡ length out.old }
+    ensures lanes { IsTrue result → AreLanes z.now (N.numbers numbers.now) out.new (length (N.numbers numbers.now)) }
+{
+    put_wide(numbers, out) || all_fit::<Wide, N>(z, numbers)
+}
+
+/// Whether the lanes of 16 bits hold these numbers now, except at voids.
+fn hold_narrow<W: Narrow, N: PixelNumbers + Copy>(z: &[u16], numbers: &N, out: &mut [u16]) -> bool
+    requires elevations { length z.now ≡ length (N.numbers numbers.now) }
+    requires room { length out.old ≡ length (N.numbers numbers.now) }
+    ensures len { length out.new ≡ length out.old }
+    ensures lanes { IsTrue result → AreLanesBy W.lane z.now (N.numbers numbers.now) out.new (length (N.numbers numbers.now)) }
+{
+    put_narrow::<W, N>(numbers, out) || all_fit::<W, N>(z, numbers)
+}

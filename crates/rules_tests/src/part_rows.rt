@@ -1,0 +1,196 @@
+//! A row of the six parts of an example, whose products are kept as numbers or as the bytes of their pixels.
+
+ghost use Rattle.std.specs.Prelude.{◌≡◌, ◌≤◌, ◌↔◌, IfOk, IsTrue, length};
+ghost use Rattle.std.specs.List.{All};
+ghost use Rattle.drain_grid.specs.PerProduct.{of_product, per_product};
+ghost use Rattle.drain_grid.specs.Tile.{IsSample};
+ghost use Rattle.drain_grid.specs.Values.{IsPixel};
+ghost use Rattle.drain_rules.specs.RowNumbers.{AreRowNumbers};
+
+use crate::examples::{Part, is_pixel, numbers_at};
+use drain_grid::PerProduct;
+use drain_kernel::Lanes;
+use drain_pixels::{PixelKind, PixelRow};
+use drain_rules::{Ranks, RowView};
+use std::alloc::Global;
+use std::test::Fail;
+
+/// The rows of six parts, one part's after the other's, and the columns of each.
+#[derive(Clone, Copy)]
+pub struct PartRows<'a> {
+    pub numbers: &'a [i64],
+    pub rows: u8,
+    pub cols: u16,
+}
+
+impl<'a> PartRows<'a> {
+    /// A row of a part, empty where it has no number; none if it isn't there.
+    fn row_of(&self, part: Part, row: Option<u8>) -> Option<&'a [i64]> {
+        let Some(row) = row else {
+            return Some(&[]);
+        };
+        let rows_before = part as usize * self.rows as usize + row as usize;
+        numbers_at(self.numbers, rows_before, self.cols.into())
+    }
+
+    /// A row of a product, kept as this kind. It fails if the row has another number of numbers.
+    fn product_of(
+        &self,
+        alloc: Global,
+        product: (Part, PixelKind),
+        row: Option<u8>,
+        count: usize,
+    ) -> Result<PixelRow, Fail>
+        ensures { IfOk result (λ row. (length row ≡ count) × All IsPixel row) }
+    {
+        let (part, kind) = product;
+        match self.row_of(part, row) {
+            Some(numbers) if numbers.len() == count => pixel_row(alloc, kind, numbers),
+            _ => Err("as many numbers of each".into()),
+        }
+    }
+}
+
+/// What is kept of the pixels of con, dir, acc, bas and rnk.
+pub type Kinds = [PixelKind; 5];
+
+/// Numbers of each.
+pub const AS_NUMBERS: Kinds = [PixelKind::Any; 5];
+
+/// The bytes of these numbers, the least first, as pixels of this kind. It fails if a pixel can't encode one.
+fn bytes_of(alloc: Global, kind: PixelKind, numbers: &[i64]) -> Result<Vec<u8>, Fail> {
+    let mut bytes = Vec::new(alloc);
+    for number in numbers {
+        match kind {
+            PixelKind::U8 => bytes.push(u8::try_from(*number)?)?,
+            PixelKind::I16 => bytes.extend_from_slice(&i16::try_from(*number)?.to_le_bytes())?,
+            PixelKind::U32 => bytes.extend_from_slice(&u32::try_from(*number)?.to_le_bytes())?,
+            PixelKind::Any => return Err("a kind of pixels".into()),
+        }
+    }
+    Ok(bytes)
+}
+
+/// The row of these numbers, kept as this kind.
+fn pixel_row(alloc: Global, kind: PixelKind, numbers: &[i64]) -> Result<PixelRow, Fail>
+    ensures { IfOk result (λ row. (length row ≡ length numbers.now) × All IsPixel row) }
+{
+    if !numbers.iter().all(|number| is_pixel(*number)) {
+        return Err("numbers of pixels".into());
+    }
+    let mut row = PixelRow::new(alloc);
+    if kind == PixelKind::Any {
+        row.put_numbers(Vec::from_slice(alloc, numbers)?);
+    } else {
+        row.put_bytes(kind, bytes_of(alloc, kind, numbers)?);
+    }
+    if row.len() != numbers.len() {
+        return Err("a number for each".into());
+    }
+    Ok(row)
+}
+
+/// Whether each number is a sample.
+fn are_samples(numbers: &[i64]) -> bool
+    ensures { IsTrue result ↔ All IsSample numbers.now }
+{
+    numbers
+        .iter()
+        .all(|number| (-32768..=32767).contains(number))
+}
+
+/// A row of the six parts, or none.
+#[derive(Drop)]
+pub struct PartRow<'a> {
+    z: &'a [i64],
+    products: PerProduct<PixelRow>,
+    ghost whole: { AreRowNumbers (record { z = z.now; products = per_product (λ p. of_product products p) }) },
+}
+
+impl<'a> PartRow<'a> {
+    /// A row, its products kept as these kinds.
+    pub fn new(
+        alloc: Global,
+        parts: PartRows<'a>,
+        row: Option<u8>,
+        kinds: Kinds,
+    ) -> Result<PartRow<'a>, Fail> {
+        let z = parts.row_of(Part::Elevations, row).unwrap_or(&[]);
+        if z.len() > 28801 || !are_samples(z) {
+            return Err("samples".into());
+        }
+        let count = z.len();
+        let [con, dir, acc, bas, rnk] = kinds;
+        let con = parts.product_of(alloc, (Part::Con, con), row, count)?;
+        let dir = parts.product_of(alloc, (Part::Dir, dir), row, count)?;
+        let acc = parts.product_of(alloc, (Part::Acc, acc), row, count)?;
+        let bas = parts.product_of(alloc, (Part::Bas, bas), row, count)?;
+        let rnk = parts.product_of(alloc, (Part::Rnk, rnk), row, count)?;
+        Ok(part_row(z, con, dir, acc, bas, rnk))
+    }
+
+    /// The row with these marks, and with the lanes of its numbers if they are to be taken and fit.
+    pub fn view(
+        &'a self,
+        marks: &'a [bool],
+        ranks: Ranks,
+        lanes: Option<&'a mut Lanes>,
+    ) -> RowView<'a> {
+        let z = self.z;
+        let products = PerProduct {
+            con: &self.products.con,
+            dir: &self.products.dir,
+            acc: &self.products.acc,
+            bas: &self.products.bas,
+            rnk: &self.products.rnk,
+        };
+        match lanes {
+            Some(lanes) => laned_view(z, marks, products, ranks, lanes),
+            None => RowView::new(z, marks, products, None),
+        }
+    }
+}
+
+/// The row of these elevations and products.
+fn part_row<'a>(
+    z: &'a [i64],
+    con: PixelRow,
+    dir: PixelRow,
+    acc: PixelRow,
+    bas: PixelRow,
+    rnk: PixelRow,
+) -> PartRow<'a>
+    requires narrow { length z.now ≤ 28801 }
+    requires samples { All IsSample z.now }
+    requires con { (length con ≡ length z.now) × All IsPixel con }
+    requires dir { (length dir ≡ length z.now) × All IsPixel dir }
+    requires acc { (length acc ≡ length z.now) × All IsPixel acc }
+    requires bas { (length bas ≡ length z.now) × All IsPixel bas }
+    requires rnk { (length rnk ≡ length z.now) × All IsPixel rnk }
+{
+    let products = PerProduct {
+        con,
+        dir,
+        acc,
+        bas,
+        rnk,
+    };
+    PartRow { z, products }
+}
+
+/// The row of these numbers and marks, with the lanes of its numbers where they fit.
+fn laned_view<'a>(
+    z: &'a [i64],
+    marks: &'a [bool],
+    products: PerProduct<&'a PixelRow>,
+    ranks: Ranks,
+    lanes: &'a mut Lanes,
+) -> RowView<'a>
+    requires { AreRowNumbers (record { z = z.now; products = per_product (λ p. (of_product products p).now) }) }
+{
+    if lanes.take(z, &products, ranks) {
+        RowView::new(z, marks, products, Some(lanes))
+    } else {
+        RowView::new(z, marks, products, None)
+    }
+}
