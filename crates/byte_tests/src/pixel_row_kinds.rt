@@ -22,7 +22,7 @@ type Numbers = (usize, [i64; 5]);
 const NO_NUMBERS: Numbers = (0, [0; 5]);
 
 /// Rows with their numbers. Of some the last pixel isn't whole.
-static ROWS: [(Given, Numbers); 9] = [
+static ROWS: [(Given, Numbers); 11] = [
     (
         Given {
             kind: PixelKind::U8,
@@ -46,6 +46,22 @@ static ROWS: [(Given, Numbers); 9] = [
             numbers: &[],
         },
         (1, [4660, 0, 0, 0, 0]),
+    ),
+    (
+        Given {
+            kind: PixelKind::U16,
+            bytes: &[0xff, 0xff, 0x34, 0x12],
+            numbers: &[],
+        },
+        (2, [65535, 4660, 0, 0, 0]),
+    ),
+    (
+        Given {
+            kind: PixelKind::I32,
+            bytes: &[0xff, 0xff, 0xff, 0xff, 0, 0, 0, 0x80, 0, 0, 1, 0],
+            numbers: &[],
+        },
+        (3, [-1, -2147483648, 65536, 0, 0]),
     ),
     (
         Given {

@@ -162,6 +162,8 @@ fn push_kept(out: &mut Vec<i64>, row: &PixelRow) -> Result<(), AllocError> {
     match row.pixels() {
         Pixels::U8(pixels) => push_each(out, &pixels),
         Pixels::I16(pixels) => push_each(out, &pixels),
+        Pixels::U16(pixels) => push_each(out, &pixels),
+        Pixels::I32(pixels) => push_each(out, &pixels),
         Pixels::U32(pixels) => push_each(out, &pixels),
         Pixels::Any(pixels) => push_each(out, &pixels),
     }
@@ -311,7 +313,7 @@ fn kept_as(row: &PixelRow) -> KeptAs {
 }
 
 /// The kinds of pixels that most rasters have: no number of them is looked at while they are read.
-static USUAL: [(u8, bool); 3] = [(8, false), (16, true), (32, false)];
+static USUAL: [(u8, bool); 5] = [(8, false), (16, true), (16, false), (32, true), (32, false)];
 
 #[test]
 fn pixels_of_usual_kinds_stay_bytes(rt: HostRuntime) -> Result<(), Fail> {

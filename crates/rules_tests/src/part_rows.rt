@@ -64,6 +64,8 @@ fn bytes_of(alloc: Global, kind: PixelKind, numbers: &[i64]) -> Result<Vec<u8>, 
         match kind {
             PixelKind::U8 => bytes.push(u8::try_from(*number)?)?,
             PixelKind::I16 => bytes.extend_from_slice(&i16::try_from(*number)?.to_le_bytes())?,
+            PixelKind::U16 => bytes.extend_from_slice(&u16::try_from(*number)?.to_le_bytes())?,
+            PixelKind::I32 => bytes.extend_from_slice(&i32::try_from(*number)?.to_le_bytes())?,
             PixelKind::U32 => bytes.extend_from_slice(&u32::try_from(*number)?.to_le_bytes())?,
             PixelKind::Any => return Err("a kind of pixels".into()),
         }

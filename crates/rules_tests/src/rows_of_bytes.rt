@@ -7,7 +7,7 @@ use crate::part_rows::{AS_NUMBERS, Kinds};
 use crate::rows_of_numbers::{kept_of_kinds, level_rows, verdict_of_kinds};
 use crate::unasked_ranks::{Change, put};
 use drain_grid::Rule;
-use drain_pixels::PixelKind::{Any, I16, U8, U32};
+use drain_pixels::PixelKind::{Any, I16, I32, U8, U16, U32};
 use drain_rules::Ranks;
 use std::alloc::{AllocError, Global};
 use std::process::Abort;
@@ -17,11 +17,13 @@ use std::test::Fail;
 const USUAL: Kinds = [I16, U8, U32, U32, U32];
 
 /// What is kept of the products of level rows.
-static KINDS: [Kinds; 7] = [
+static KINDS: [Kinds; 9] = [
     AS_NUMBERS,
     USUAL,
     [U8; 5],
     [I16; 5],
+    [U16; 5],
+    [I32; 5],
     [U32; 5],
     [U8, I16, U8, I16, U8],
     [U32, Any, I16, U8, Any],
@@ -141,13 +143,15 @@ fn cells_with_signed_heights(rt: HostRuntime) -> Result<(), Fail> {
 }
 
 /// Kinds, and the numbers of con, dir, acc, bas and rnk at a void.
-const AT_VOIDS: [(Kinds, [i64; 5]); 6] = [
+const AT_VOIDS: [(Kinds, [i64; 5]); 8] = [
     (USUAL, [-32768, 255, 0, 0, 4294967295]),
     (USUAL, [-9999, 0, 65535, 4294967295, 0]),
     (USUAL, [32767, 128, 65536, 2147483648, 1]),
     ([U8; 5], [255, 255, 0, 0, 255]),
     // They fit no lane.
     ([I16; 5], [-32768, -1, -1, -9999, -32768]),
+    ([I32; 5], [-2147483648, -9999, -1, -1, -2147483648]),
+    ([U16; 5], [65535, 65535, 65535, 65535, 65535]),
     ([U32; 5], [32768, 65536, 4294967295, 4294967295, 4294967295]),
 ];
 
@@ -168,11 +172,14 @@ fn cells_beside_a_void_of_each_kind(rt: HostRuntime) -> Result<(), Fail> {
 }
 
 /// Kinds, and a number of the middle row at data that fits no lane.
-const UNFIT: [(Kinds, Part, i64); 7] = [
+const UNFIT: [(Kinds, Part, i64); 10] = [
     ([U32; 5], Part::Con, 32768),
     ([U32; 5], Part::Con, 65536),
     ([U32; 5], Part::Dir, 65536),
     ([U32; 5], Part::Dir, 4294967295),
+    ([U16; 5], Part::Con, 32768),
+    ([I32; 5], Part::Con, -32769),
+    ([I32; 5], Part::Bas, -1),
     ([I16; 5], Part::Dir, -1),
     ([I16; 5], Part::Acc, -32768),
     ([I16; 5], Part::Rnk, -1),
@@ -203,7 +210,7 @@ static CHANGES: [(Rule, Change, u8); 4] = [
 ];
 
 /// Kinds that hold the numbers of level rows.
-static HOLDING: [Kinds; 4] = [AS_NUMBERS, USUAL, [I16; 5], [U32; 5]];
+static HOLDING: [Kinds; 6] = [AS_NUMBERS, USUAL, [I16; 5], [U16; 5], [I32; 5], [U32; 5]];
 
 #[test]
 fn verdicts_on_rows_of_each_kind(rt: HostRuntime) -> Result<(), Fail> {
