@@ -13,7 +13,7 @@ pub(crate) trait ColumnTest {
     /// What is known of a column that passes.
     ghost Passed: { Self → ℕ → Type 0 };
 
-    /// What is known of a column that fails: of a test that some columns fail without need, nothing.
+    /// What is known of a column that fails. By default nothing: a narrow test may fail where the rule holds.
     ghost Failed: { Self → ℕ → Type 0 } = { λ test k. Unit {0} };
 
     /// Whether the column passes.
@@ -23,7 +23,7 @@ pub(crate) trait ColumnTest {
         ensures failed { result ≡ false → Failed self.now k };
 }
 
-/// Whether all columns from one up to another pass the test.
+/// Whether each column of `from..end` passes the test.
 #[inline(never)]
 #[tactic(auto, using(crate::proofs::Alongs::along_more))]
 pub(crate) fn passes_along<T: ColumnTest>(test: &T, from: usize, end: usize) -> bool

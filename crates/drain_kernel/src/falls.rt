@@ -119,7 +119,7 @@ fn keeps_rank(row: &Lanes, rules: &Rules, k: usize) -> bool
     }
 }
 
-/// Whether no number but a rank is its product's no-data number.
+/// Whether con, dir, acc and bas all differ from their no-data numbers. Ranks aren't looked at.
 fn products_are_there(row: &Lanes, nodata: &NoData, k: usize) -> bool
     requires { k < cols row.now }
     ensures way { IsTrue result → HasWayAt nodata.now row.now k }

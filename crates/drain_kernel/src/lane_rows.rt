@@ -30,7 +30,7 @@ impl LaneRows<'_> {
         }
     }
 
-    /// Whether the rows have as many columns, and ranks if these are checked.
+    /// Whether the rows have the same number of columns, and ranks if these are checked.
     pub(crate) fn are_alike(&self, ranks: Ranks) -> bool
         ensures lengths { IsTrue result → AreAsLong self.now }
         ensures ranks { IsTrue result → IfChecked ranks (HaveRanks self.now) }
@@ -39,7 +39,7 @@ impl LaneRows<'_> {
         self.above.cols() == cols && self.below.cols() == cols && self.have_ranks(ranks)
     }
 
-    /// The elevations of the eight neighbours of a column; 0 at a void.
+    /// The stored elevations of the eight neighbours of a column: 32768 added, 0 at a void.
     #[inline(always)]
     pub(crate) fn heights_round(&self, k: usize) -> [u16; 8]
         requires { IsInnerColumn self.now k }
@@ -48,7 +48,7 @@ impl LaneRows<'_> {
         around(&self.above.z, &self.here.z, &self.below.z, k)
     }
 
-    /// Their conditioned elevations.
+    /// The stored conditioned elevations of the eight neighbours of a column.
     #[inline(always)]
     pub(crate) fn cons_round(&self, k: usize) -> [u16; 8]
         requires { IsInnerColumn self.now k }
@@ -57,7 +57,7 @@ impl LaneRows<'_> {
         around(&self.above.con, &self.here.con, &self.below.con, k)
     }
 
-    /// Their codes.
+    /// The codes of the eight neighbours of a column.
     #[inline(always)]
     pub(crate) fn codes_round(&self, k: usize) -> [u16; 8]
         requires { IsInnerColumn self.now k }
@@ -66,7 +66,7 @@ impl LaneRows<'_> {
         around(&self.above.dir, &self.here.dir, &self.below.dir, k)
     }
 
-    /// Their accumulations.
+    /// The accumulations of the eight neighbours of a column.
     #[inline(always)]
     pub(crate) fn accs_round(&self, k: usize) -> [u32; 8]
         requires { IsInnerColumn self.now k }
@@ -75,7 +75,7 @@ impl LaneRows<'_> {
         around(&self.above.acc, &self.here.acc, &self.below.acc, k)
     }
 
-    /// Their labels.
+    /// The labels of the eight neighbours of a column.
     #[inline(always)]
     pub(crate) fn labels_round(&self, k: usize) -> [u32; 8]
         requires { IsInnerColumn self.now k }

@@ -12,8 +12,8 @@ use drain_pixels::row_lanes::{
 };
 use std::alloc::Global;
 
-/// The numbers of a row, next to each other for each column. Heights, z and con, are 32768 more than they are, and z is
-/// 0 at a void. Ranks are kept if they are checked. At a void a product's lane may be any number; it is ignored.
+/// The numbers of a row, next to each other for each column. z and con are stored with 32768 added, and z is 0 at a
+/// void. Ranks are kept if they are checked. At a void a product's lane may be any number; it is ignored.
 /// Accumulations and ranks are there once more in 16 bits, 65535 where they are more.
 #[derive(Drop)]
 pub struct Lanes {

@@ -58,7 +58,7 @@ fn directions_pass(rows: &LaneRows, from: usize, end: usize) -> bool
         || passes_along(&DirectionTest(rows), from, end)
 }
 
-/// Whether the rule of the label holds: as there is one label only, else by the label that each code leads to.
+/// Whether the rule of the label holds: at once if there is one label only, else by the label that each code leads to.
 fn labels_pass(rows: &LaneRows, from: usize, end: usize) -> bool
     requires { IsStretch rows.now from end }
     ensures { IsTrue result → Along from end (λ k. IsTrue (keeps_label_at rows.now k)) }
@@ -66,7 +66,7 @@ fn labels_pass(rows: &LaneRows, from: usize, end: usize) -> bool
     have_one_label(rows, from, end) || passes_along(&LabelTest(rows), from, end)
 }
 
-/// Whether no number but a rank is its product's no-data number.
+/// Whether con, dir, acc and bas all differ from their no-data numbers. Ranks aren't looked at.
 fn products_are_there(rows: &LaneRows, nodata: &NoData, from: usize, end: usize) -> bool
     requires { IsStretch rows.now from end }
     ensures way { IsTrue result → Along from end (HasWayAt nodata.now rows.now.here.now) }
@@ -92,7 +92,8 @@ fn all_pass(rows: &LaneRows, rules: &Rules, sums: Sums, from: usize, end: usize)
         && ranks_pass(rows, rules, from, end)
 }
 
-/// Goes on from a column in strides of this size, the last maybe shorter, while all tests pass along a whole stride.
+/// Tries `stride` columns at a time from `from` on, the last time maybe fewer. Returns the start of the first stride
+/// where a test fails, or `end`.
 pub fn passed_strides(
     rows: &LaneRows,
     rules: &Rules,

@@ -102,7 +102,7 @@ fn fill<N: PixelNumbers + Copy>(out: &mut [Flow], samples: &[i64], dir: &N)
     ensures { out.new ≡ flows_of samples.now (N.numbers dir.now) }
 {
     let table = flow_table();
-    // A copy, since stores to the flows could change what is behind a reference.
+    // A local copy: behind a reference its address would be loaded again at each column.
     let pixels = *dir;
     for k in 0..samples.len() {
         out[k] = flow_of(&table, samples[k], pixels.at(k));

@@ -48,10 +48,10 @@ AreLanesBy lane z numbers lanes count = (k : ℕ) → k < count → slice_index 
 abbrev pub AreLanes : List ℕ → List ℤ → List ℕ → ℕ → Type 0
 AreLanes z numbers lanes count = AreLanesBy unchanged z numbers lanes count
 
--- the first elevations are these, each 32768 more than it is
+-- the first elevations are these, each with 32768 added
 abbrev pub AreElevationLanes : List ℤ → List ℕ → ℕ → Type 0
 AreElevationLanes numbers lanes count = (k : ℕ) → k < count → pos (slice_index lanes k) ≡ lifted (slice_index_or numbers k (pos 0))
 
--- the first heights are these, each 32768 more than it is, except at voids
+-- the first heights are these, each with 32768 added, except at voids
 abbrev pub AreHeightLanes : List ℕ → List ℤ → List ℕ → ℕ → Type 0
 AreHeightLanes z numbers lanes count = AreLanesBy lifted z numbers lanes count

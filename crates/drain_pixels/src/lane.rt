@@ -157,7 +157,7 @@ impl Narrow for Short {
     }
 }
 
-/// Heights of 16 bits with a sign, 32768 more than they are in a lane.
+/// Heights of 16 bits with a sign. The lane holds the height plus 32768.
 pub struct Height;
 
 impl Fits for Height {

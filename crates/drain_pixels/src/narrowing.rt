@@ -15,7 +15,7 @@ pub fn put_wide<N: PixelNumbers + Copy>(numbers: &N, out: &mut [u32]) -> bool
     ensures lanes { HoldFitting is_lane unchanged (N.numbers numbers.now) out.new (length (N.numbers numbers.now)) }
     ensures fit { IsTrue result → AllFit is_lane (N.numbers numbers.now) (length (N.numbers numbers.now)) }
 {
-    // A copy, since stores to the lanes could change what is behind a reference.
+    // A local copy: behind a reference its address would be loaded again at each column.
     let pixels = *numbers;
     let mut all = true;
     for k in 0..pixels.len() {
@@ -34,7 +34,7 @@ pub fn put_narrow<W: Narrow, N: PixelNumbers + Copy>(numbers: &N, out: &mut [u16
     ensures lanes { HoldFitting W.fits W.lane (N.numbers numbers.now) out.new (length (N.numbers numbers.now)) }
     ensures fit { IsTrue result → AllFit W.fits (N.numbers numbers.now) (length (N.numbers numbers.now)) }
 {
-    // A copy, since stores to the lanes could change what is behind a reference.
+    // A local copy: behind a reference its address would be loaded again at each column.
     let pixels = *numbers;
     let mut all = true;
     for k in 0..pixels.len() {

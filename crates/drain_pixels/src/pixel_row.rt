@@ -25,7 +25,7 @@ pub enum PixelKind {
     I32,
     /// 32 bits without a sign, least byte first.
     U32,
-    /// Numbers.
+    /// Any other pixels, kept as numbers of 64 bits.
     Any,
 }
 
@@ -108,7 +108,7 @@ impl PixelRow {
         }
     }
 
-    /// The number at a column, found soonest where the row's pixels are of this kind: by one comparison.
+    /// The number at a column, found soonest if the row has this kind, and it is one that `make` writes.
     #[inline(always)]
     pub fn number_soonest(&self, kind: PixelKind, k: usize) -> i64
         requires { k < length self.now }

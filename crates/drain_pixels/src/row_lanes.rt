@@ -30,8 +30,8 @@ pub fn take_heights(z: &[u16], numbers: &PixelRow, out: &mut Vec<u16>) -> bool
     take_narrow::<Height>(z, numbers, out)
 }
 
-/// Replaces the lanes by a product's numbers in 16 bits, which need not fit at voids, and returns whether the others fit
-/// and memory sufficed. It takes none if there are not as many elevation lanes.
+/// Replaces the lanes by a product's numbers in 16 bits, which need not fit at voids, and returns whether the others
+/// fit and memory sufficed. It takes none if there are not as many elevation lanes.
 pub fn take_short_numbers(z: &[u16], numbers: &PixelRow, out: &mut Vec<u16>) -> bool
     ensures len { IsTrue result → vec_len out.new ≡ length numbers.now }
     ensures lanes { IsTrue result → AreLanes z.now numbers.now out.new.items (length numbers.now) }
@@ -39,8 +39,8 @@ pub fn take_short_numbers(z: &[u16], numbers: &PixelRow, out: &mut Vec<u16>) -> 
     take_narrow::<Short>(z, numbers, out)
 }
 
-/// Replaces the lanes by a product's numbers in 32 bits, which need not fit at voids, and returns whether the others fit
-/// and memory sufficed. It takes none if there are not as many elevation lanes.
+/// Replaces the lanes by a product's numbers in 32 bits, which need not fit at voids, and returns whether the others
+/// fit and memory sufficed. It takes none if there are not as many elevation lanes.
 pub fn take_numbers(z: &[u16], numbers: &PixelRow, out: &mut Vec<u32>) -> bool
     ensures len { IsTrue result → vec_len out.new ≡ length numbers.now }
     ensures lanes { IsTrue result → AreLanes z.now numbers.now out.new.items (length numbers.now) }
@@ -70,7 +70,8 @@ pub fn take_capped(numbers: &[u32], out: &mut Vec<u16>) -> bool
     true
 }
 
-/// Replaces the lanes of 16 bits by a product's numbers.
+/// Replaces the lanes of 16 bits by a product's numbers, and returns whether all fit that aren't at a void, and memory
+/// sufficed.
 fn take_narrow<W: Narrow>(z: &[u16], numbers: &PixelRow, out: &mut Vec<u16>) -> bool
     ensures len { IsTrue result → vec_len out.new ≡ length numbers.now }
     ensures lanes { IsTrue result → AreLanesBy W.lane z.now numbers.now out.new.items (length numbers.now) }
@@ -88,7 +89,7 @@ fn take_narrow<W: Narrow>(z: &[u16], numbers: &PixelRow, out: &mut Vec<u16>) -> 
     }
 }
 
-/// Whether the lanes of 32 bits hold these numbers now, except at voids.
+/// Puts the numbers into lanes of 32 bits, and returns whether all fit that aren't at a void.
 fn hold_wide<N: PixelNumbers + Copy>(z: &[u16], numbers: &N, out: &mut [u32]) -> bool
     requires elevations { length z.now ≡ length (N.numbers numbers.now) }
     requires room { length out.old ≡ length (N.numbers numbers.now) }
@@ -98,7 +99,7 @@ fn hold_wide<N: PixelNumbers + Copy>(z: &[u16], numbers: &N, out: &mut [u32]) ->
     put_wide(numbers, out) || all_fit::<Wide, N>(z, numbers)
 }
 
-/// Whether the lanes of 16 bits hold these numbers now, except at voids.
+/// Puts the numbers into lanes of 16 bits, and returns whether all fit that aren't at a void.
 fn hold_narrow<W: Narrow, N: PixelNumbers + Copy>(z: &[u16], numbers: &N, out: &mut [u16]) -> bool
     requires elevations { length z.now ≡ length (N.numbers numbers.now) }
     requires room { length out.old ≡ length (N.numbers numbers.now) }
