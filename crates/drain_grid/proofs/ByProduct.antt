@@ -21,6 +21,21 @@ by_set_product P con dir acc bas rnk held.Acc = acc
 by_set_product P con dir acc bas rnk held.Bas = bas
 by_set_product P con dir acc bas rnk held.Rnk = rnk
 
+-- so a fact that says what holds of each says what holds of all
+pub as_each : (P : Product → Type 0) (All : Type 0) → (All → P Con) → (All → P Dir) → (All → P Acc) → (All → P Bas) → (All → P Spl) → (All → P Rnk) →
+    (P Con → P Dir → P Acc → P Bas → P Spl → P Rnk → All) → All ↔ ((p : Product) → P p)
+as_each P All con dir acc bas spl rnk all = (
+  (λ h. by_product P (con h) (dir h) (acc h) (bas h) (spl h) (rnk h)),
+  (λ each. all (each Con) (each Dir) (each Acc) (each Bas) (each Spl) (each Rnk)),
+)
+
+pub as_each_held : (P : SetProduct → Type 0) (All : Type 0) → (All → P held.Con) → (All → P held.Dir) → (All → P held.Acc) → (All → P held.Bas) → (All → P held.Rnk) →
+    (P held.Con → P held.Dir → P held.Acc → P held.Bas → P held.Rnk → All) → All ↔ ((p : SetProduct) → P p)
+as_each_held P All con dir acc bas rnk all = (
+  (λ h. by_set_product P (con h) (dir h) (acc h) (bas h) (rnk h)),
+  (λ each. all (each held.Con) (each held.Dir) (each held.Acc) (each held.Bas) (each held.Rnk)),
+)
+
 -- and of the other product
 pub by_set_product_or_spill : (P : Product → Type 0) → ((p : SetProduct) → P (product_of p)) → P Spl → (p : Product) → P p
 by_set_product_or_spill P held_one spl Con = held_one held.Con

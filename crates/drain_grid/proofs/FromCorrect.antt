@@ -5,36 +5,29 @@
 -- what correct codes do there: they lead to a steepest cell, stop at an outlet, or lead along a flat. Rule 13 is that what drains through a cell is the cell and what drains through the cells that flow in
 -- (Upstream). Rules 14 and 15 are what equal labels mean, for a cell and the next one, and for two outlets. What open means
 -- has no part in it.
-use Rattle.std.proofs.Common.{◌≡◌, ◌∙◌, inl, inr, pos, ◌+ℤ◌, ◌≤ℤ◌, [], IsSome, sym, ap, subst, arith}
+use Rattle.std.proofs.Common.{◌≡◌, inl, inr, ◌≤ℤ◌, [], IsSome, subst, arith}
 use Rattle.std.specs.Int.{int_max}
-use Rattle.std.proofs.Math.IntN.{pos-+ℤ-pos}
 use Rattle.std.proofs.lemmas.Int.{ints, by_lt_z}
 use Rattle.drain_grid.specs.declared.cell.Cell.{Cell}
 use Rattle.drain_grid.specs.declared.rule.Rule.{Rule}
 use Rattle.drain_grid.specs.declared.rule.Rule.TheVariants.{VoidCell, Missing, BadCode, BelowGround, OpenRaised, NoSpill, SpillHeight, SpillRank, NotLeast, Slope, OutletCode, FlatStep, Accumulation, Label, SharedLabel}
-use Rattle.drain_grid.specs.Extent.{IsEarlier}
 use Rattle.drain_grid.specs.Values.{Values, NoDataNumbers}
 use Rattle.drain_grid.specs.Grid.{Grid, Products, IsInside, HasData, height_at, values_at, patch_at}
-use Rattle.drain_grid.specs.PatchRules.{BelowGroundHolds, NotLeastHolds, SlopeHolds, OutletCodeHolds, AccumulationHolds, LabelHolds}
+use Rattle.drain_grid.specs.PatchRules.{BelowGroundHolds, NotLeastHolds, SlopeHolds, OutletCodeHolds}
 use Rattle.drain_grid.specs.PatchRules.{BadCodeWithoutSpill, OpenRaisedWithoutSpill}
 use Rattle.drain_grid.specs.Unranked.{unranked, VoidCellWithoutRank, MissingWithoutRank, LevelStepHolds}
-use Rattle.drain_grid.specs.GridRules.{SharedLabelHolds, HoldsAt, RulesHold}
+use Rattle.drain_grid.specs.GridRules.{HoldsAt, RulesHold}
 use Rattle.drain_grid.specs.Rule.{IsAnyRule}
-use Rattle.drain_grid.specs.Run.{upstream_count}
 use Rattle.drain_grid.specs.Correct.{IsCorrect}
 use Rattle.drain_grid.specs.Laws.{RulesFromCorrect}
 use Rattle.drain_grid.proofs.Neighbors.{AreNeighbors-lies, step_lies}
 use Rattle.drain_grid.proofs.Patches.{IsOpen-patch_at, cell_shown, shown_cell}
-use Rattle.drain_grid.proofs.Codes.{named-next, next-named}
+use Rattle.drain_grid.proofs.Codes.{named-next}
 use Rattle.drain_grid.proofs.Slopes.{lower_shown, HasLower-lower_cell, IsSteepest-cell}
-use Rattle.drain_grid.proofs.Runs.{run_end-zero}
-use Rattle.drain_grid.proofs.Inflows.{HasData-flow}
-use Rattle.drain_grid.proofs.HandedOn.{handed_on, handed_total}
-use Rattle.drain_grid.proofs.Upstream.{upstream_count-parts}
-use Rattle.drain_grid.proofs.EndedRuns.{ended-run_end, ended_chains}
 use Rattle.drain_grid.proofs.Ranks.{own_ranks_play_no_part}
 use Rattle.drain_grid.proofs.Lowered.{least_at_open, least_beside}
 use Rattle.drain_grid.proofs.Least.{HasData-path}
+use Rattle.drain_grid.proofs.CountRules.{counts_inflows, has_own_label, keeps_label}
 
 module _ (g : Grid) (ps : Products) (nodata : NoDataNumbers) (correct : IsCorrect g ps nodata) (c : Cell)
     (inside : IsInside g c) where
@@ -82,35 +75,6 @@ module _ (g : Grid) (ps : Products) (nodata : NoDataNumbers) (correct : IsCorrec
       let open_cell = (IsOpen-patch_at g ps c inside).0 is_open in
       let here = HasData-path g c [] open_cell in
       (correct.outlets c here).1 (open_cell, (here, λ n lower. flat (HasLower-lower_cell g ps c n lower)))
-
-  -- 13
-  counts_inflows : AccumulationHolds (patch_at g ps c)
-  counts_inflows is_data =
-      let parts = upstream_count-parts g ps (ended_chains g ps correct.runs_end) c (data_here is_data) in
-      let handed = handed_total g ps c (upstream_count g ps)
-      (λ d m from_m. correct.counts m (HasData-flow g ps c d m from_m)) in
-      correct.counts c (data_here is_data) ∙
-      (ap pos parts ∙ (sym (pos-+ℤ-pos 1 (handed_on g ps c (upstream_count g ps))) ∙ ap (λ z. pos 1 +ℤ z) (sym handed)))
-
-  -- 14
-  keeps_label : LabelHolds (patch_at g ps c)
-  keeps_label is_data d v code beside =
-      let here = data_here is_data in
-      let found = cell_shown g ps c d v beside in
-      let leads = next-named g ps c found.0 d (record { named = code; there = found.1.there; is_data = found.1.has_data.is_data }) in
-      let same = (correct.labels c found.0 here found.1.has_data).1 (ended-run_end g ps c found.0 (correct.runs_end c here) leads) in
-      same ∙ ap (λ (w : Values). w.bas) found.1.values
-
-  -- 15
-  has_own_label : SharedLabelHolds g ps c
-  has_own_label here is_zero b at_b before zero_b same =
-      let ends = (correct.labels b c at_b here).0 same in
-      let one : b ≡ c = sym (run_end-zero g ps b zero_b) ∙ ends ∙ run_end-zero g ps c is_zero in
-      not_before (subst (λ x. IsEarlier x c) one before)
-    where
-      not_before : IsEarlier c c → ⊥
-      not_before (inl less) = absurd (omega arith)
-      not_before (inr less) = absurd (omega arith)
 
   -- 1
   is_blank : VoidCellWithoutRank nodata (patch_at g ps c)
@@ -161,9 +125,9 @@ module _ (g : Grid) (ps : Products) (nodata : NoDataNumbers) (correct : IsCorrec
   holds_at Slope = goes_down
   holds_at OutletCode = stops_at_outlet
   holds_at FlatStep = goes_along
-  holds_at Accumulation = counts_inflows
-  holds_at Label = keeps_label
-  holds_at SharedLabel = has_own_label
+  holds_at Accumulation = counts_inflows g ps correct.runs_end c inside correct.counts
+  holds_at Label = keeps_label g ps correct.runs_end c inside correct.labels
+  holds_at SharedLabel = has_own_label g ps correct.runs_end c inside correct.labels
 
 -- correct products keep every rule without ranks
 pub unranked_from_correct : (g : Grid) (ps : Products) (nodata : NoDataNumbers) → IsCorrect g ps nodata →

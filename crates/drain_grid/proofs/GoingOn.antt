@@ -12,8 +12,8 @@ use Rattle.drain_grid.specs.Unranked.{level_rules}
 use Rattle.drain_grid.specs.Grid.{Grid, Products, HasData, patch_at}
 use Rattle.drain_grid.specs.GridRules.{RulesHold}
 use Rattle.drain_grid.specs.Run.{next, steps_from, last_from}
-use Rattle.drain_grid.proofs.Decisions.{Decision, cases, both, no, same, alike}
-use Rattle.drain_grid.proofs.PatchDecisions.{is_cell_of, has_data, has_lower, is_open}
+use Rattle.drain_grid.proofs.Decisions.{Decision, cases, both, no, same}
+use Rattle.drain_grid.proofs.PatchDecisions.{data_cell, has_lower, is_open}
 use Rattle.drain_grid.proofs.Patches.{cell_shown}
 use Rattle.drain_grid.proofs.Codes.{next-named}
 use Rattle.drain_grid.proofs.Runs.{steps-zero, steps-next}
@@ -47,12 +47,6 @@ zero_or_on g ps rules c here =
 -- the run of the data cell isn't over after n steps
 abbrev pub GoesOnFor : Grid → Products → ℕ → Cell → Type 0
 GoesOnFor g ps k c = HasData g c × (ps.dir (last_from c (steps_from g ps k c)) ≢ pos 0)
-
-data_cell : (g : Grid) (c : Cell) → Decision (HasData g c)
-data_cell g c =
-    alike (both (is_cell_of g.extent c) (has_data (g.elevation c)))
-    (λ h. record { inside = h.0; is_data = h.1 })
-    (λ h. (h.inside, h.is_data))
 
 -- and this can be decided
 going : (g : Grid) (ps : Products) (k : ℕ) (c : Cell) → Decision (GoesOnFor g ps k c)

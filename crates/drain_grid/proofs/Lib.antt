@@ -5,9 +5,12 @@ pub mod AllRules
 pub mod Basins
 pub mod Bounds
 pub mod ByProduct
+pub mod CellOrder
+pub mod CellSets
 pub mod CellSums
 pub mod Chains
 pub mod Codes
+pub mod CountRules
 pub mod Decisions
 pub mod Directions
 pub mod EndedRuns
@@ -19,6 +22,7 @@ pub mod HandedOn
 pub mod Inflows
 pub mod Least
 pub mod LeastFaults
+pub mod LentVectors
 pub mod LineRuns
 pub mod Lowered
 pub mod NamedNeighbors
@@ -49,6 +53,7 @@ pub mod SinkSearch
 pub mod Steps
 pub mod Taken
 pub mod Tallies
+pub mod ThreeRows
 pub mod Upstream
 pub mod Walks
 pub mod WithoutRanks

@@ -53,7 +53,7 @@ flow_level p FlatStep other = absurd (other refl)
 flow_level p r other = (λ h. h, λ h. h)
 
 -- a rule that says less on the patch holds at the cell
-HoldsAt-patch : (P Q : Profile) (g : Grid) (ps : Products) (c : Cell) (r : Rule) → (P (patch_at g ps c) r → Q (patch_at g ps c) r) →
+pub HoldsAt-patch : (P Q : Profile) (g : Grid) (ps : Products) (c : Cell) (r : Rule) → (P (patch_at g ps c) r → Q (patch_at g ps c) r) →
     HoldsAt P g ps c r → HoldsAt Q g ps c r
 HoldsAt-patch P Q g ps c SharedLabel says h = h
 HoldsAt-patch P Q g ps c r says h = says h

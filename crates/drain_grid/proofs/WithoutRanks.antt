@@ -31,7 +31,8 @@ low_there g ps ranks c inside low =
     let lower = lower_shown g ps c low.1.0 low.1.1.0 (record { inside = inside; is_data = low.0 }) low.1.1.1 in
     HasLower-lower_cell g (with_ranks ps ranks) c lower.0 (lower_there g ps ranks c lower.0 lower.1.1)
 
-total-same : (f h : Direction → ℤ) → ((d : Direction) → f d ≡ h d) → (ds : List Direction) → total (map f ds) ≡ total (map h ds)
+-- sums of equal numbers
+pub total-same : (f h : Direction → ℤ) → ((d : Direction) → f d ≡ h d) → (ds : List Direction) → total (map f ds) ≡ total (map h ds)
 total-same f h same [] = refl
 total-same f h same (d ∷ ds) = ap (λ x. x +ℤ total (map f ds)) (same d) ∙ ap (λ x. h d +ℤ x) (total-same f h same ds)
 

@@ -1,3 +1,4 @@
+pub mod CellLists
 pub mod Certificate
 pub mod Correct
 pub mod Counts

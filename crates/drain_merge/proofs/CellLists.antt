@@ -5,13 +5,13 @@ use Rattle.std.proofs.lemmas.Bool.{false≢true, or_cases}
 use Rattle.drain_grid.specs.declared.cell.Cell.{Cell}
 use Rattle.drain_grid.specs.Extent.{same_cell}
 use Rattle.drain_grid.proofs.CellSums.{same_cell_true}
-use Rattle.drain_merge.specs.UnionSinks.{has_cell}
+use Rattle.drain_grid.specs.CellLists.{is_among}
 
 -- a cell that passes the test is in the list
-pub contained_if_has : (cells : List Cell) (c : Cell) → has_cell cells c ≡ true → Contains cells c
+pub contained_if_has : (cells : List Cell) (c : Cell) → is_among cells c ≡ true → Contains cells c
 contained_if_has [] c is = absurd (false≢true is)
 contained_if_has (d ∷ cells) c is =
-    elim (or_cases (same_cell c d) (has_cell cells c) is) [
+    elim (or_cases (same_cell c d) (is_among cells c) is) [
       | inl same ↦ (0, omega arith, sym (same_cell_true c d same))
       | inr more ↦ (let at = contained_if_has cells c more in (suc at.0, omega (arith, at.1), at.2))
     ]

@@ -1,7 +1,9 @@
--- One element more of a list, in a search for the first element without a property.
+-- One element more of a list, in a search for the first element without a property; and pairs of a list in another order.
 use Rattle.std.proofs.Common.{◌≡◌, ℕ, ◌+◌, ◌<◌, List, length, slice_index_or, take, subst, ◌∙◌, below_more, arith, get_or-take}
-use Rattle.std.specs.List.{All, AllWithin}
+use Rattle.std.specs.List.{All, AllWithin, Contains}
+use Rattle.std.specs.List.Sorted.{IsPermutation}
 use Rattle.std.proofs.lemmas.List.{get_or_default, length-take-le}
+use Rattle.std.proofs.lemmas.List.Sorted.{Contains-permutation, IsPermutation-sym}
 
 -- an element that was read is the one at its place
 pub at_place : {X : Type 0} (P : X → Type 0) (xs : List X) (i : ℕ) (x : X) → i < length xs → x ≡ slice_index_or xs i x → P x →
@@ -12,6 +14,18 @@ pub within_more : {X : Type 0} (P : X → Type 0) (xs : List X) (i : ℕ) (x : X
     AllWithin P xs 0 i → P x → AllWithin P xs 0 (i + 1)
 within_more P xs i x below is before here k d low high =
     below_more (λ n. P (slice_index_or xs n d)) i (λ n less. before n d (omega arith) less) (at_place P xs i x below is here d) k high
+
+-- what holds of any two elements of a list holds of any two of one with the same elements
+pub both_permuted : {X : Type 0} (R : X → X → Type 0) (xs ys : List X) → IsPermutation xs ys → ((x y : X) → Contains ys x → Contains ys y → R x y) →
+    (x y : X) → Contains xs x → Contains xs y → R x y
+both_permuted R xs ys theirs holds x y has_x has_y = holds x y (Contains-permutation xs ys x theirs has_x) (Contains-permutation xs ys y theirs has_y)
+
+-- and two of the one are two of the other
+pub pair_permuted : {X : Type 0} (R : X → X → Type 0) (S : X → Type 0) (xs ys : List X) → IsPermutation xs ys →
+    ((x : X) × (y : X) × Contains ys x × Contains ys y × R x y × S y) → (x : X) × (y : X) × Contains xs x × Contains xs y × R x y × S y
+pair_permuted R S xs ys theirs pair =
+    let back = IsPermutation-sym xs ys theirs in
+    (pair.0, pair.1, Contains-permutation ys xs pair.0 back pair.2, Contains-permutation ys xs pair.1 back pair.3, pair.4, pair.5)
 
 -- pairs of the first so many elements
 abbrev pub PairsBelow : {X : Type 0} → (X → X → Type 0) → List X → ℕ → Type 0

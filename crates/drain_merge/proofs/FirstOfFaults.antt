@@ -7,7 +7,7 @@ use Rattle.drain_windows.proofs.FirstFaults.{pair_trans}
 use Rattle.drain_merge.specs.declared.faults.Fault.{Fault}
 use Rattle.drain_windows.specs.declared.window_report.WindowReport.{WindowReport}
 use Rattle.drain_merge.specs.Faults.{union_fault, ComesBefore, IsEarlierFault, IsFirstOfFaults}
-use Rattle.drain_merge.proofs.SortedOutlets.{earlier_differs}
+use Rattle.drain_grid.proofs.CellOrder.{earlier_differs}
 
 before_trans : (a b c : Fault) → ComesBefore a b → ComesBefore b c → ComesBefore a c
 before_trans a b c first second = pair_trans a.cell b.cell c.cell a.rule b.rule c.rule (inl first) second

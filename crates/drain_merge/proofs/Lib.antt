@@ -12,5 +12,4 @@ pub mod MergeMeaning
 pub mod MapRefusals
 pub mod MovedWindows
 pub mod CellLists
-pub mod CellSets
 pub mod TakenSinks

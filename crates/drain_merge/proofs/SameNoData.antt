@@ -1,10 +1,12 @@
 -- The derived test of no-data numbers passes exactly where they are the same.
-use Rattle.std.proofs.Common.{◌≡◌, Bool, true, ◌&&◌, subst}
+use Rattle.std.proofs.Common.{◌≡◌, Bool, true, ◌&&◌, ℤ, refl, subst}
 use Rattle.std.specs.Ordering.{int_eq}
 use Rattle.std.proofs.lemmas.Bool.{and_parts, and_from}
 use Rattle.std.proofs.lemmas.Bool.Decides.{Decides-int_eq}
 use Rattle.drain_grid.specs.Values.{NoDataNumbers}
-use Rattle.drain_merge.proofs.SameValues.{number_itself}
+
+number_itself : (a : ℤ) → int_eq a a ≡ true
+number_itself a = (Decides-int_eq a a).1 refl
 
 abbrev pub numbers_test : NoDataNumbers → NoDataNumbers → Bool
 numbers_test m n = int_eq m.con n.con && (int_eq m.dir n.dir && (int_eq m.acc n.acc && (int_eq m.bas n.bas && (int_eq m.spl n.spl && int_eq m.rnk n.rnk))))

@@ -5,8 +5,9 @@ use Rattle.std.specs.Ordering.{int_eq}
 use Rattle.std.proofs.lemmas.Bool.{false≢true, and_parts, and_from}
 use Rattle.std.proofs.lemmas.Bool.Decides.{Decides-int_eq, Decides-eqb}
 use Rattle.drain_grid.specs.declared.cell.Cell.{Cell}
-use Rattle.drain_grid.specs.Values.{Values}
+use Rattle.drain_grid.specs.Values.{NoDataNumbers, Values}
 use Rattle.drain_grid.proofs.Neighbors.{place}
+use Rattle.drain_merge.proofs.SameNoData.{numbers_pass, numbers_test, same_numbers}
 use mathlib.Core.Bool.{beq}
 
 same_flag : (a b : Bool) → beq a b ≡ true → a ≡ b
@@ -25,46 +26,35 @@ same_option None (Some y) h = absurd (false≢true h)
 same_option (Some x) None h = absurd (false≢true h)
 same_option (Some x) (Some y) h = ap (λ n. Some n) ((Decides-int_eq x y).0 h)
 
-pub number_itself : (a : ℤ) → int_eq a a ≡ true
-number_itself a = (Decides-int_eq a a).1 refl
-
 option_itself : (a : Option ℤ) → option_eq int_eq a a ≡ true
 option_itself None = refl
-option_itself (Some x) = number_itself x
+option_itself (Some x) = (Decides-int_eq x x).1 refl
+
+-- the numbers of the products
+abbrev numbers_in : Values → NoDataNumbers
+numbers_in v = record { con = v.con; dir = v.dir; acc = v.acc; bas = v.bas; spl = v.spl; rnk = v.rnk }
 
 abbrev pub values_test : Values → Values → Bool
-values_test v w =
-    option_eq int_eq v.z w.z
-    && (beq v.sink w.sink
-    && (int_eq v.con w.con && (int_eq v.dir w.dir && (int_eq v.acc w.acc && (int_eq v.bas w.bas && (int_eq v.spl w.spl && int_eq v.rnk w.rnk))))))
+values_test v w = option_eq int_eq v.z w.z && (beq v.sink w.sink && numbers_test (numbers_in v) (numbers_in w))
 
 pub same_values : (v w : Values) → values_test v w ≡ true → v ≡ w
 same_values v w passes =
     let z = and_parts _ _ passes in
     let sink = and_parts _ _ z.1 in
-    let con = and_parts _ _ sink.1 in
-    let dir = and_parts _ _ con.1 in
-    let acc = and_parts _ _ dir.1 in
-    let bas = and_parts _ _ acc.1 in
-    let spl = and_parts _ _ bas.1 in
+    let numbers = same_numbers (numbers_in v) (numbers_in w) sink.1 in
     λ i. record {
       z = same_option v.z w.z z.0 i;
       sink = same_flag v.sink w.sink sink.0 i;
-      con = (Decides-int_eq v.con w.con).0 con.0 i;
-      dir = (Decides-int_eq v.dir w.dir).0 dir.0 i;
-      acc = (Decides-int_eq v.acc w.acc).0 acc.0 i;
-      bas = (Decides-int_eq v.bas w.bas).0 bas.0 i;
-      spl = (Decides-int_eq v.spl w.spl).0 spl.0 i;
-      rnk = (Decides-int_eq v.rnk w.rnk).0 spl.1 i;
+      con = (numbers i).con;
+      dir = (numbers i).dir;
+      acc = (numbers i).acc;
+      bas = (numbers i).bas;
+      spl = (numbers i).spl;
+      rnk = (numbers i).rnk;
     }
 
 values_itself : (v : Values) → values_test v v ≡ true
-values_itself v =
-    and_from _ _ (option_itself v.z)
-    (and_from _ _ (flag_itself v.sink)
-    (and_from _ _ (number_itself v.con)
-    (and_from _ _ (number_itself v.dir)
-    (and_from _ _ (number_itself v.acc) (and_from _ _ (number_itself v.bas) (and_from _ _ (number_itself v.spl) (number_itself v.rnk)))))))
+values_itself v = and_from _ _ (option_itself v.z) (and_from _ _ (flag_itself v.sink) (numbers_pass (numbers_in v) (numbers_in v) refl))
 
 pub values_pass : (v w : Values) → v ≡ w → values_test v w ≡ true
 values_pass v w same = subst (λ x. values_test v x ≡ true) same (values_itself v)

@@ -2,7 +2,6 @@
 use Rattle.std.proofs.Common.{◌≡◌, ◌≢◌, ℕ, zero, suc, ◌+◌, ◌-◌, ◌<◌, ◌⊎◌, inl, inr, false, pos, ◌≤ℤ◌, Option, Some, None, List, length, slice_index_or, refl, sym, ap, subst, ◌∙◌, below_more, arith, is_lt, nat_cmp, int_cmp}
 use Rattle.std.specs.List.{Contains}
 use Rattle.std.specs.List.Sorted.{IsPermutation}
-use Rattle.std.proofs.lemmas.List.Sorted.{Contains-permutation, IsPermutation-sym}
 use Rattle.std.specs.Ordering.{ordering_then}
 use Rattle.std.proofs.lemmas.Bool.{false≢true}
 use Rattle.std.proofs.lemmas.Cmp.{ranked, int_ranked, by_ranked}
@@ -13,9 +12,11 @@ use Rattle.std.proofs.lemmas.List.Elements.{Contains-get_or}
 use Rattle.drain_grid.specs.declared.cell.Cell.{Cell}
 use Rattle.drain_grid.specs.Extent.{IsEarlier}
 use Rattle.drain_grid.proofs.Neighbors.{place}
+use Rattle.drain_grid.proofs.CellOrder.{earlier_trans, earlier_differs}
+use Rattle.drain_grid.proofs.Lowered.{same_or_not}
 use Rattle.drain_windows.specs.declared.outlet.Outlet.{Outlet}
 use Rattle.drain_windows.specs.Outlets.{SharesAt}
-use Rattle.drain_windows.proofs.Unions.{in_order}
+use Rattle.drain_merge.proofs.FirstLemmas.{both_permuted, pair_permuted}
 use Rattle.drain_merge.specs.Shared.{IsNoSooner, AreInOrder, IsLeastSharing, SharesWithEarlier, IsFirstSharing, IsEarlierOf}
 
 -- what a comparison of cells says
@@ -39,24 +40,6 @@ outlet_order x y not_less =
     (λ is less. absurd (false≢true (sym not_less ∙ ap (λ o. is_lt (ordering_then o cells)) is)))
     (λ is same. inr (sym same, cell_order x.cell y.cell (sym (ap (λ o. is_lt (ordering_then o cells)) is) ∙ not_less)))
     (λ is more. inl more)
-
-pub earlier_differs : (a b : Cell) → IsEarlier a b → a ≢ b
-earlier_differs a b (inl above) same = absurd (omega (arith, above, ap (λ (c : Cell). c.row) same))
-earlier_differs a b (inr beside) same = absurd (omega (arith, beside.1, ap (λ (c : Cell). c.col) same))
-
-same_or_other : (a b : Cell) → (a ≡ b) ⊎ (a ≢ b)
-same_or_other a b =
-    elim (in_order a b) [
-      | inl same ↦ inl same
-      | inr (inl before) ↦ inr (earlier_differs a b before)
-      | inr (inr after) ↦ inr (λ same. earlier_differs b a after (sym same))
-    ]
-
-pub earlier_trans : (a b c : Cell) → IsEarlier a b → IsEarlier b c → IsEarlier a c
-earlier_trans a b c (inl x) (inl y) = inl (omega (arith, x, y))
-earlier_trans a b c (inl x) (inr y) = inl (omega (arith, x, y.0))
-earlier_trans a b c (inr x) (inl y) = inl (omega (arith, x.0, y))
-earlier_trans a b c (inr x) (inr y) = inr (x.0 ∙ y.0, omega (arith, x.1, y.1))
 
 module _ (xs : List Outlet) (order : AreInOrder xs) (d : Outlet) where
   -- labels don't fall
@@ -105,7 +88,7 @@ module _ (xs : List Outlet) (order : AreInOrder xs) (d : Outlet) where
       let last_cell : (slice_index_or xs (i + n + 1) d).cell ≡ (slice_index_or xs (i + suc n) d).cell = ap (λ k. (slice_index_or xs k d).cell) next in
       let first : (slice_index_or xs i d).label ≡ (slice_index_or xs (i + n) d).label = omega (arith, ints, ahead, one, last, same) in
       let second : (slice_index_or xs (i + n) d).label ≡ (slice_index_or xs (i + n + 1) d).label = omega (arith, ints, ahead, one, last, same) in
-      elim (same_or_other (slice_index_or xs (i + n) d).cell (slice_index_or xs (i + n + 1) d).cell) [
+      elim (same_or_not (slice_index_or xs (i + n) d).cell (slice_index_or xs (i + n + 1) d).cell) [
         | inl alike ↦
             (let back = sharing_cell n i (omega arith) first (λ no. other (no ∙ alike ∙ last_cell)) in
             (back.0, back.1, back.2, back.3, back.4 ∙ alike ∙ last_cell))
@@ -142,7 +125,7 @@ module _ (xs : List Outlet) (order : AreInOrder xs) where
 
   pub first_of_least : (o : Option Cell) → IsLeastSharing xs (length xs) o → IsFirstSharing xs o
   first_of_least None none = λ x y has_x has_y same.
-      elim (same_or_other x.cell y.cell) [
+      elim (same_or_not x.cell y.cell) [
         | inl one ↦ one
         | inr other ↦ absurd (by_place x y (sharing x y has_x has_y same other))
       ]
@@ -239,11 +222,5 @@ least_at xs n m (Some c) there back least = (
 
 -- of a list that holds the same outlets
 pub first_of_permuted : (xs ys : List Outlet) (o : Option Cell) → IsPermutation xs ys → IsFirstSharing ys o → IsFirstSharing xs o
-first_of_permuted xs ys None theirs none = λ x y has_x has_y same.
-    none x y (Contains-permutation xs ys x theirs has_x) (Contains-permutation xs ys y theirs has_y) same
-first_of_permuted xs ys (Some c) theirs first =
-    let back = IsPermutation-sym xs ys theirs in
-    let pair = first.0 in (
-      (pair.0, pair.1, Contains-permutation ys xs pair.0 back pair.2, Contains-permutation ys xs pair.1 back pair.3, pair.4, pair.5),
-      λ x y has_x has_y shares. first.1 x y (Contains-permutation xs ys x theirs has_x) (Contains-permutation xs ys y theirs has_y) shares,
-    )
+first_of_permuted xs ys None theirs none = both_permuted _ xs ys theirs none
+first_of_permuted xs ys (Some c) theirs first = (pair_permuted SharesWithEarlier (λ y. y.cell ≡ c) xs ys theirs first.0, both_permuted _ xs ys theirs first.1)

@@ -5,14 +5,15 @@ use Rattle.std.specs.List.Sorted.{IsPermutation}
 use Rattle.std.proofs.lemmas.Bool.{cases_order}
 use Rattle.std.proofs.lemmas.List.{get_or_default}
 use Rattle.std.proofs.lemmas.List.Elements.{Contains-get_or}
-use Rattle.std.proofs.lemmas.List.Sorted.{Contains-permutation, IsPermutation-sym, all_adjacent_more}
+use Rattle.std.proofs.lemmas.List.Sorted.{all_adjacent_more}
 use Rattle.drain_grid.specs.declared.cell.Cell.{Cell}
 use Rattle.drain_grid.specs.Extent.{IsEarlier}
 use Rattle.drain_windows.specs.declared.report.Shown.{Shown}
 use Rattle.drain_merge.specs.Seams.{Differ, IsFirstDifference, AreInRowOrder, NoneDiffersBelow, IsFirstDiffering}
 use Rattle.drain_grid.proofs.Decisions.{cases, passes}
+use Rattle.drain_grid.proofs.CellOrder.{earlier_trans, earlier_differs}
+use Rattle.drain_merge.proofs.FirstLemmas.{both_permuted, pair_permuted}
 use Rattle.drain_merge.proofs.SameValues.{values_test, same_values, values_pass}
-use Rattle.drain_merge.proofs.SortedOutlets.{earlier_trans, earlier_differs}
 
 -- x stands before y in row order, or they are of one cell
 abbrev IsBeforeOrAt : Shown → Shown → Type 0
@@ -122,14 +123,8 @@ module _ (xs : List Shown) (order : AreInRowOrder xs) where
 
 -- of a list that holds the same
 pub difference_of_permuted : (xs ys : List Shown) (o : Option Cell) → IsPermutation xs ys → IsFirstDifference ys o → IsFirstDifference xs o
-difference_of_permuted xs ys None theirs none = λ x y has_x has_y same.
-    none x y (Contains-permutation xs ys x theirs has_x) (Contains-permutation xs ys y theirs has_y) same
-difference_of_permuted xs ys (Some c) theirs first =
-    let back = IsPermutation-sym xs ys theirs in
-    let pair = first.0 in (
-      (pair.0, pair.1, Contains-permutation ys xs pair.0 back pair.2, Contains-permutation ys xs pair.1 back pair.3, pair.4, pair.5),
-      λ x y has_x has_y before same. first.1 x y (Contains-permutation xs ys x theirs has_x) (Contains-permutation xs ys y theirs has_y) before same,
-    )
+difference_of_permuted xs ys None theirs none = both_permuted _ xs ys theirs none
+difference_of_permuted xs ys (Some c) theirs first = (pair_permuted Differ (λ y. y.cell ≡ c) xs ys theirs first.0, both_permuted _ xs ys theirs first.1)
 
 -- of two that don't differ, those of one cell show the same
 not_differ : (x y : Shown) → ¬ Differ x y → x.cell ≡ y.cell → x.values ≡ y.values

@@ -25,7 +25,8 @@ use Rattle.drain_merge.specs.declared.union_sinks.UnionSinks.TheVariants.{AsTake
 use Rattle.drain_merge.specs.Lists.{reports_of, all_sinks}
 use Rattle.drain_merge.specs.MapBoxes.{AreTaken, box_of, boxed, HasMapSinks}
 use Rattle.drain_merge.specs.Moved.{judged_from}
-use Rattle.drain_merge.specs.UnionSinks.{has_cell, HasSinks, TakeLines}
+use Rattle.drain_grid.specs.CellLists.{is_among}
+use Rattle.drain_merge.specs.UnionSinks.{HasSinks, TakeLines}
 use Rattle.drain_merge.specs.UnionVerdicts.{IsVerdictInside, AreJudgedFrom, IsRejected, IsUnionVerdict, SomeIsRejected, windows_of}
 use Rattle.drain_merge.proofs.CellLists.{contained_if_has, at_place}
 use Rattle.drain_merge.proofs.FlatLists.{from_flat, in_flat}
@@ -83,7 +84,7 @@ module _ (e : Extent) (nodata : NoDataNumbers) (ws : List WindowReport) (none : 
       back : is_listed lines c ≡ true → u.sink c ≡ true
       back listed =
           let line = line_of lines c listed in
-          let has_it : has_cell (all_sinks ws) c ≡ true = ap (has_cell (all_sinks ws)) line.4 ∙ taken.0 line.0 line.2 line.3 in
+          let has_it : is_among (all_sinks ws) c ≡ true = ap (is_among (all_sinks ws)) line.4 ∙ taken.0 line.0 line.2 line.3 in
           let all = contained_if_has (all_sinks ws) c has_it in
           let j = from_flat (λ (k : WindowReport). k.report.sinks) ws c all in
           let x = (listed_of j.0 j.1).sound c j.2 in

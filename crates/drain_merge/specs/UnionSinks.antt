@@ -1,11 +1,11 @@
 -- The sinks of a union, and those that its windows took. These definitions are this project's own.
-use Rattle.std.specs.Prelude.{◌≡◌, ℕ, ◌<◌, Bool, true, false, Option, Some, None, List, slice_get}
-use Rattle.std.specs.List.{list_any}
+use Rattle.std.specs.Prelude.{◌≡◌, ℕ, ◌<◌, true, false, Option, Some, None, List, slice_get}
 use Rattle.drain_grid.specs.declared.cell.Cell.{Cell}
 use Rattle.drain_grid.specs.declared.sink_line.SinkLine.{SinkLine}
-use Rattle.drain_grid.specs.Extent.{IsCellOf, same_cell}
+use Rattle.drain_grid.specs.Extent.{IsCellOf}
 use Rattle.drain_grid.specs.Grid.{Grid}
 use Rattle.drain_grid.specs.SinkLines.{is_listed}
+use Rattle.drain_grid.specs.CellLists.{is_among}
 use Rattle.drain_windows.specs.declared.window_report.WindowReport.{WindowReport}
 use Rattle.drain_merge.specs.declared.merge_verdict.MergeRefusal.{MergeRefusal}
 use Rattle.drain_merge.specs.declared.merge_verdict.MergeRefusal.TheVariants.{SinkLeftOut, SinkNotListed, OutOfMemory}
@@ -13,13 +13,9 @@ use Rattle.drain_merge.specs.declared.union_sinks.UnionSinks.{UnionSinks}
 use Rattle.drain_merge.specs.declared.union_sinks.UnionSinks.TheVariants.{AsTaken, Listed}
 use Rattle.drain_merge.specs.Lists.{all_sinks}
 
--- it is one of these cells
-abbrev pub has_cell : List Cell → Cell → Bool
-has_cell cells c = list_any (same_cell c) cells
-
 -- each line's cell is one of these
 abbrev pub HaveLines : List SinkLine → List Cell → Type 0
-HaveLines lines cells = (k : ℕ) (s : SinkLine) → slice_get lines k ≡ Some s → has_cell cells s.cell ≡ true
+HaveLines lines cells = (k : ℕ) (s : SinkLine) → slice_get lines k ≡ Some s → is_among cells s.cell ≡ true
 
 -- each of these cells is listed
 abbrev pub AreListed : List SinkLine → List Cell → Type 0
@@ -38,8 +34,8 @@ TakeSinks (Listed lines) windows = TakeLines lines windows
 abbrev pub IsFirstLeftOut : List SinkLine → List Cell → Option ℕ → Type 0
 IsFirstLeftOut lines cells None = HaveLines lines cells
 IsFirstLeftOut lines cells (Some n) =
-    (k : ℕ) × (s : SinkLine) × (slice_get lines k ≡ Some s) × (s.line ≡ n) × (has_cell cells s.cell ≡ false)
-    × ((j : ℕ) (t : SinkLine) → j < k → slice_get lines j ≡ Some t → has_cell cells t.cell ≡ true)
+    (k : ℕ) × (s : SinkLine) × (slice_get lines k ≡ Some s) × (s.line ≡ n) × (is_among cells s.cell ≡ false)
+    × ((j : ℕ) (t : SinkLine) → j < k → slice_get lines j ≡ Some t → is_among cells t.cell ≡ true)
 
 -- the first of these cells that isn't listed, none where all are
 abbrev pub IsFirstNotListed : List SinkLine → List Cell → Option Cell → Type 0

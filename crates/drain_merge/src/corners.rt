@@ -34,10 +34,7 @@ fn corner_rows(alloc: Global, places: &[Place]) -> Result<Vec<u64>, OutOfMemory>
     ensures theirs { IfOk result (λ rows. IsPermutation (map judged_bottom places.now ++ 0 ∷ []) rows.items) }
 {
     let ends: Result<Vec<u64>, _> = places.iter().map(|place| bottom_of(place)).collect(alloc);
-    let mut rows = ends?;
-    rows.push(0)?;
-    rows.sort_unstable();
-    Ok(rows)
+    rising_with_0(ends?)
 }
 
 /// The corner columns of these windows, from west to east.
@@ -46,10 +43,17 @@ fn corner_cols(alloc: Global, places: &[Place]) -> Result<Vec<u64>, OutOfMemory>
     ensures theirs { IfOk result (λ cols. IsPermutation (map judged_right places.now ++ 0 ∷ []) cols.items) }
 {
     let ends: Result<Vec<u64>, _> = places.iter().map(|place| right_of(place)).collect(alloc);
-    let mut cols = ends?;
-    cols.push(0)?;
-    cols.sort_unstable();
-    Ok(cols)
+    rising_with_0(ends?)
+}
+
+/// These ends and 0, the smallest first.
+fn rising_with_0(mut ends: Vec<u64>) -> Result<Vec<u64>, OutOfMemory>
+    ensures rising { IfOk result (λ corners. IsNonDecreasing corners.items) }
+    ensures theirs { IfOk result (λ corners. IsPermutation (ends.items ++ 0 ∷ []) corners.items) }
+{
+    ends.push(0)?;
+    ends.sort_unstable();
+    Ok(ends)
 }
 
 /// One more than the last row that the window at this place judges.

@@ -1,6 +1,6 @@
 //! What all windows list, put together.
 
-ghost use Rattle.std.specs.Prelude.{◌≡◌, map, IfOk};
+ghost use Rattle.std.specs.Prelude.{◌≡◌, IfOk};
 ghost use Rattle.drain_merge.specs.Lists.{places_of, all_outlets, all_seams, all_sinks};
 
 use drain_grid::{Cell, OutOfMemory};

@@ -1,6 +1,6 @@
 //! The line for the answer of a merge.
 
-ghost use Rattle.std.specs.Prelude.{◌≡◌, ◌≤◌, ◌++◌, length, codes, decimal};
+ghost use Rattle.std.specs.Prelude.{◌≡◌, ◌≤◌, ◌++◌, length, decimal};
 ghost use Rattle.arrayvec.specs.ArrayString.{array_string_len};
 ghost use Rattle.drain_merge.specs.MergeLines.{cell_text, merge_line, overlap_line, refusal_line, union_line, accepted_line};
 

@@ -3,7 +3,7 @@
 ghost use Rattle.drain_windows.specs.declared.place.TheConstants.{SEAM_DEPTH};
 ghost use Rattle.drain_windows.specs.Windows.{IsPlaceIn};
 ghost use Rattle.drain_windows.specs.Reports.{AreApart, ReachesInto};
-ghost use Rattle.std.specs.Prelude.{◌≡◌, ◌↔◌, ◌+◌, IsTrue};
+ghost use Rattle.std.specs.Prelude.{◌↔◌, IsTrue};
 ghost use Rattle.drain_merge.specs.Places.{IsFirstFailing, IsFirstClash, MeetInSeams};
 
 use crate::union_size::UnionSize;

@@ -2,7 +2,6 @@
 
 ghost use Rattle.std.specs.Prelude.{◌↔◌, IsTrue};
 ghost use Rattle.drain_grid.specs.Extent.{IsEarlier};
-ghost use Rattle.drain_grid.specs.GridRules.{IsEarlierPair};
 
 use drain_grid::{Cell, Rule};
 

@@ -1,6 +1,6 @@
 //! Labels that two outlets share.
 
-ghost use Rattle.std.specs.Prelude.{◌≡◌, ◌↔◌, ◌<◌, length, IsTrue};
+ghost use Rattle.std.specs.Prelude.{◌↔◌, ◌<◌, length, IsTrue};
 ghost use Rattle.std.specs.List.Sorted.{IsPermutation};
 ghost use Rattle.drain_windows.specs.Outlets.{SharesAt};
 ghost use Rattle.drain_merge.specs.Shared.{AreInOrder, IsFirstSharing, IsLeastSharing, IsEarlierOf};

@@ -2,8 +2,8 @@
 
 ghost use Rattle.std.specs.Prelude.{◌≡◌, ◌↔◌, IfErr, IfOk, IsTrue, OnOk};
 ghost use Rattle.drain_grid.specs.declared.cell.Cell.{Cell};
-ghost use Rattle.drain_merge.specs.Lists.{all_sinks};
-ghost use Rattle.drain_merge.specs.UnionSinks.{has_cell, IsFirstLeftOut, IsFirstNotListed, IsListedRefusal, IsSinkRefusal, TakeLines, TakeSinks};
+ghost use Rattle.drain_grid.specs.CellLists.{is_among};
+ghost use Rattle.drain_merge.specs.UnionSinks.{IsFirstLeftOut, IsFirstNotListed, IsListedRefusal, IsSinkRefusal, TakeLines, TakeSinks};
 ghost use Rattle.drain_merge.specs.UnionVerdicts.{IsRejected, SomeIsRejected};
 
 use crate::lists::sinks;
@@ -56,7 +56,7 @@ fn check_listed(alloc: Global, windows: &[WindowReport], listed: &Sinks) -> Resu
 
 /// The cells as a set.
 fn set_of(alloc: Global, cells: &[Cell]) -> Result<BTreeSet<Cell>, OutOfMemory>
-    ensures { IfOk result (λ set. (c : Cell) → has_cell set.keys c ≡ has_cell cells.now c) }
+    ensures { IfOk result (λ set. (c : Cell) → is_among set.keys c ≡ is_among cells.now c) }
 {
     let mut set = BTreeSet::new(alloc);
     for cell in cells {

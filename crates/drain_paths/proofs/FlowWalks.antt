@@ -10,12 +10,12 @@ use Rattle.drain_grid.specs.Size.{Extent}
 use Rattle.drain_grid.proofs.EndedRuns.{HasData-next}
 use Rattle.drain_grid.proofs.Runs.{index_of-below}
 use Rattle.drain_grid.proofs.Walks.{IsWalk, IsWalk-more, IsWalk-too_long}
+use Rattle.drain_grid.proofs.Options.{void_data}
+use Rattle.drain_grid.proofs.CellOrder.{in_grid, same_index, earlier_index}
 use Rattle.drain_paths.specs.declared.flow.Flow.{Flow}
 use Rattle.drain_paths.specs.declared.flow.Flow.TheVariants.{Void, Ends}
 use Rattle.drain_paths.specs.KnownFlows.{IsKnownFlow, AreKnownFlows}
-use Rattle.drain_paths.proofs.Cells.{in_grid, same_index, earlier_index}
 use Rattle.drain_paths.proofs.KnownWays.{known_at}
-use Rattle.drain_paths.proofs.NextCells.{no_void}
 use Rattle.drain_paths.proofs.Shorter.{IsEnded}
 
 -- n steps lead from the start to a data cell
@@ -69,7 +69,7 @@ FirstEnd-pass g ps e flows k f first is passed =
     FirstEnd-more g ps e flows flows k first first.known (λ c there same.
     (let known : IsKnownFlow g ps c f = known_at g ps e flows c k f first.known there.inside (sym same) is in
     elim passed [
-      | inl void ↦ absurd (no_void (g.elevation c) (known.void void) there.is_data)
+      | inl void ↦ absurd (void_data (g.elevation c) (known.void void) there.is_data)
       | inr ends ↦ known.ends ends
     ]))
 

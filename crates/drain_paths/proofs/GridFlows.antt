@@ -1,6 +1,5 @@
 -- Flows taken row by row are those of the grid: for a caller that takes rows, and then finds which runs end.
-use Rattle.std.proofs.Common.{◌≡◌, ◌<◌, ◌≤◌, ◌+◌, ◌*◌, ℕ, ◌∙◌, inl, inr, ℤ, pos, List, [], ◌++◌, length, get_or, length-append, sym, ap, arith}
-use Rattle.std.proofs.Math.Nat.{mul-le-mul_right}
+use Rattle.std.proofs.Common.{◌≡◌, ◌<◌, ◌+◌, ◌*◌, ℕ, ◌∙◌, inl, inr, ℤ, pos, List, [], ◌++◌, length, get_or, length-append, sym, ap, arith}
 use Rattle.std.proofs.lemmas.Bool.{cases_order}
 use Rattle.std.proofs.lemmas.List.{get_or_default, get_or_append_left, get_or-append-add}
 use Rattle.drain_grid.specs.declared.cell.Cell.{Cell}
@@ -9,10 +8,10 @@ use Rattle.drain_grid.specs.Extent.{index_of}
 use Rattle.drain_grid.specs.Grid.{Grid, Products, IsInside}
 use Rattle.drain_grid.specs.Size.{Extent}
 use Rattle.drain_grid.specs.Tile.{height_from}
+use Rattle.drain_grid.proofs.CellOrder.{in_grid, before_row}
 use Rattle.drain_paths.specs.declared.flow.Flow.{Flow}
 use Rattle.drain_paths.specs.declared.flow.Flow.TheVariants.{Void}
 use Rattle.drain_paths.specs.Flows.{cell_flow, flows_of, flow_at, AreFlowsOf, AreFirstFlows, AreRowOf}
-use Rattle.drain_paths.proofs.Cells.{in_grid}
 use Rattle.drain_paths.proofs.RowFlows.{length-flows_of, get_or-flows_of}
 
 -- no row
@@ -26,14 +25,6 @@ AreFlowsOf-all g ps e flows first = record {
   extent = first.extent;
   each = λ c inside. first.each c inside (in_grid g e c first.extent inside).row;
 }
-
-row_before : (row rows col cols : ℕ) → row < rows → col < cols → row * cols + col < rows * cols
-row_before row rows col cols above inside =
-    let more : (row + 1) * cols ≤ rows * cols = mul-le-mul_right cols (one_more above) in
-    omega (arith, more)
-  where
-    one_more : {a k : ℕ} → a < k → a + 1 ≤ k
-    one_more h = omega arith
 
 -- one row more
 pub AreFirstFlows-row : (g : Grid) (ps : Products) (e : Extent) (row : ℕ) (flows : List Flow) (zs ns : List ℤ) →
@@ -50,7 +41,7 @@ AreFirstFlows-row g ps e row flows zs ns first are =
           elim (cases_order c.row row) [
             | inl here ↦ at_row c inside here
             | inr (inl above) ↦
-                (let before = row_before c.row row c.col e.cols above in_e.col in
+                (let before = before_row c.row c.col row e.cols above in_e.col in
                 get_or_append_left flows (flows_of zs ns) Void (index_of e c) (omega (arith, before, first.counted)) ∙ first.each c inside above)
             | inr (inr below) ↦ absurd (omega arith)
           ]);

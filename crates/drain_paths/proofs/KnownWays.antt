@@ -10,14 +10,14 @@ use Rattle.drain_grid.specs.Grid.{Grid, Products, IsInside, HasData}
 use Rattle.drain_grid.specs.Run.{next, RunEnds}
 use Rattle.drain_grid.specs.Size.{Extent}
 use Rattle.drain_grid.proofs.Codes.{code-not_zero, next-named}
-use Rattle.drain_grid.proofs.Options.{none_some}
+use Rattle.drain_grid.proofs.Options.{none_some, void_data}
 use Rattle.drain_grid.proofs.Walks.{EndsAfter-zero}
+use Rattle.drain_grid.proofs.CellOrder.{in_grid, same_index}
 use Rattle.drain_paths.specs.declared.flow.Flow.{Flow}
 use Rattle.drain_paths.specs.declared.flow.Flow.TheVariants.{Void, Lost, Ends, ToEast, ToSouthEast, ToSouth, ToSouthWest, ToWest, ToNorthWest, ToNorth, ToNorthEast}
 use Rattle.drain_paths.specs.Flows.{direction_of, cell_flow, flow_at, AreFlowsOf}
 use Rattle.drain_paths.specs.KnownFlows.{IsKnownFlow, AreKnownFlows}
-use Rattle.drain_paths.proofs.Cells.{in_grid, same_index}
-use Rattle.drain_paths.proofs.NextCells.{next-of_no_code, next-outside, next-void, no_code, no_void}
+use Rattle.drain_paths.proofs.NextCells.{next-of_no_code, next-outside, next-void, no_code}
 use Rattle.drain_paths.proofs.FlowCodes.{code_flow-says}
 
 -- what a cell's elevation and code say is known
@@ -94,7 +94,7 @@ known_at g ps e flows c index f known inside at is =
 
 -- a data cell that leads nowhere, and isn't known to end, goes nowhere with another code than 0
 pub stuck_nowhere : (g : Grid) (ps : Products) (c : Cell) (f : Flow) → IsKnownFlow g ps c f → HasData g c → direction_of f ≡ None → f ≢ Ends → (next g ps c ≡ None) × (ps.dir c ≢ pos 0)
-stuck_nowhere g ps c Void known here nowhere other = absurd (no_void (g.elevation c) (known.void refl) here.is_data)
+stuck_nowhere g ps c Void known here nowhere other = absurd (void_data (g.elevation c) (known.void refl) here.is_data)
 stuck_nowhere g ps c Lost known here nowhere other = (next-of_no_code g ps c (known.lost refl), λ is. known.lost refl (inl is))
 stuck_nowhere g ps c Ends known here nowhere other = absurd (other refl)
 stuck_nowhere g ps c ToEast known here nowhere other = absurd (none_some East (sym nowhere))

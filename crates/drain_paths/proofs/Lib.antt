@@ -1,5 +1,4 @@
 mod CellLists
-pub mod Cells
 pub mod EndlessSteps
 mod FlowCodes
 pub mod FlowTable

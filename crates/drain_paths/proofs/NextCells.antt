@@ -1,28 +1,14 @@
 -- Codes that lead nowhere: such as are no codes, and such as lead outside or to a void.
-use Rattle.std.proofs.Common.{◌≡◌, ◌≢◌, ◌∙◌, inl, inr, ℤ, pos, Bool, true, if◌then◌else◌, List, [], ◌∷◌, Option, Some, None, IsSome, IsNone, is_some, option_and_then, refl, sym, ap}
-use Rattle.std.specs.List.{find}
-use Rattle.std.proofs.lemmas.Bool.{cases_Bool, false≢true}
+use Rattle.std.proofs.Common.{◌≡◌, ◌≢◌, ◌∙◌, inl, inr, ℤ, pos, if◌then◌else◌, Option, Some, None, IsNone, is_some, option_and_then, refl, sym, ap}
+use Rattle.std.proofs.lemmas.Bool.{false≢true}
 use Rattle.drain_grid.specs.declared.cell.Cell.{Cell}
 use Rattle.drain_grid.specs.declared.direction.Direction.{Direction}
 use Rattle.drain_grid.specs.Direction.{IsCode, directions, Names, names, named_direction, MeansCode}
 use Rattle.drain_grid.specs.Extent.{step}
 use Rattle.drain_grid.specs.Grid.{Grid, Products}
 use Rattle.drain_grid.specs.Run.{only_data, next}
-use Rattle.drain_grid.proofs.Codes.{names_fact, named_direction-code}
-use Rattle.drain_grid.proofs.Options.{none_some, same_some}
-
--- no cell has an elevation and none
-pub no_void : (z : Option ℤ) → IsNone z → IsSome z → ⊥
-no_void None none some = absurd (false≢true some)
-no_void (Some z) none some = absurd (false≢true (sym none))
-
-find_passes : (p : Direction → Bool) (ds : List Direction) (d : Direction) → find p ds ≡ Some d → p d ≡ true
-find_passes p [] d h = absurd (none_some d h)
-find_passes p (e ∷ ds) d h =
-    elim (cases_Bool (p e)) [
-      | inl passed ↦ (let same : e ≡ d = same_some e d (rw passed at h) in ap p (sym same) ∙ passed)
-      | inr failed ↦ find_passes p ds d (rw failed at h)
-    ]
+use Rattle.drain_grid.proofs.Codes.{names_fact, named_direction-code, find_passes}
+use Rattle.drain_grid.proofs.Options.{none_some}
 
 -- the direction that a number names is named by it
 pub named_direction-names : (n : ℤ) (d : Direction) → named_direction n ≡ Some d → Names n d

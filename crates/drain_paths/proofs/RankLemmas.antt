@@ -8,10 +8,10 @@ use Rattle.drain_grid.specs.Rasters.{Pixels}
 use Rattle.drain_grid.specs.Whole.{number_at}
 use Rattle.drain_grid.specs.Grid.{Grid, Products, IsInside}
 use Rattle.drain_grid.proofs.Runs.{index_of-below}
+use Rattle.drain_grid.proofs.Options.{void_data}
 use Rattle.drain_paths.specs.declared.steps.TheConstants.{UNKNOWN}
 use Rattle.drain_paths.specs.Steps.{Numbers, AreNumbers, steps_at, AreRight, KnowsBefore}
 use Rattle.drain_paths.specs.Ranks.{AreRanks}
-use Rattle.drain_paths.proofs.NextCells.{no_void}
 
 -- the raster of the numbers
 abbrev pub raster_of : Numbers → Pixels
@@ -34,7 +34,7 @@ ranks_of g ps s counted extent right known =
           ap pos (sym (right.right c here.inside (known.known c here (index_of-below g.extent c here.inside))).ended.steps);
       voids = λ c inside void. number_at-raster s counted c (in_s c inside) ∙ ap pos (elim (cases_eq (steps_at s c) UNKNOWN) [
         | inl none ↦ none
-        | inr some ↦ absurd (no_void (g.elevation c) void (right.right c inside some).here.is_data)
+        | inr some ↦ absurd (void_data (g.elevation c) void (right.right c inside some).here.is_data)
       ]);
     }
 

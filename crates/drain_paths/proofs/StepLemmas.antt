@@ -1,6 +1,7 @@
 -- Numbers of steps that are put, one after the other: what was right stays right, and what was known stays known.
 use Rattle.std.proofs.Common.{◌≡◌, ◌≢◌, ℕ, ◌*◌, ◌≤◌, ◌⊎◌, ◌∙◌, inl, inr, sym, subst, arith}
 use Rattle.drain_grid.specs.declared.cell.Cell.{Cell}
+use Rattle.drain_grid.specs.Extent.{IsCellOf}
 use Rattle.drain_grid.specs.Grid.{Grid, Products, IsInside, HasData}
 use Rattle.drain_paths.specs.declared.steps.TheConstants.{UNKNOWN}
 use Rattle.drain_paths.specs.Steps.{Numbers, steps_at, IsRightStep, AreRight, KnowsMore}
@@ -12,6 +13,14 @@ use Rattle.drain_grid.proofs.Walks.{run_steps-le}
 pub record IsPut (g : Grid) (before after : Numbers) (c : Cell) (number : ℕ) : Type 0 where
   pub there : steps_at after c ≡ number
   pub elsewhere : (d : Cell) → IsInside g d → d ≢ c → steps_at after d ≡ steps_at before d
+
+-- the same in a grid of this size
+pub put_in : (g : Grid) (before after : Numbers) (c : Cell) (number : ℕ) → before.extent ≡ g.extent → steps_at after c ≡ number →
+    ((d : Cell) → IsCellOf before.extent d → d ≢ c → steps_at after d ≡ steps_at before d) → IsPut g before after c number
+put_in g before after c number same there elsewhere = record {
+  there = there;
+  elsewhere = λ d inside differ. elsewhere d (subst (λ e. IsCellOf e d) (sym same) inside) differ;
+}
 
 pub AreRight-put : (g : Grid) (ps : Products) (before after : Numbers) (c : Cell) (number : ℕ) → IsPut g before after c number →
     AreRight g ps before → IsRightStep g ps c number → AreRight g ps after

@@ -1,4 +1,3 @@
-mod CellSets
 pub mod RowResults
 mod VoidRows
 mod WholeRowLemmas

@@ -6,7 +6,8 @@ use Rattle.drain_grid.specs.declared.cell.Cell.{Cell}
 use Rattle.drain_grid.specs.Grid.{Grid, Products}
 use Rattle.drain_rules.specs.MarkedRows.{IsRowOf, MarkedRow}
 use Rattle.drain_rules.specs.Rows.{place}
-use Rattle.drain_rows.specs.ListedVoids.{AreListedVoids, AreVoidsBefore, is_among, is_listed_void}
+use Rattle.drain_grid.specs.CellLists.{is_among}
+use Rattle.drain_rows.specs.ListedVoids.{AreListedVoids, AreVoidsBefore, is_listed_void}
 
 -- before the first row none was noted
 pub voids-none : (g : Grid) → AreVoidsBefore g 0 []

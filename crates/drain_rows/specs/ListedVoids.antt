@@ -1,16 +1,11 @@
 -- Listed sinks that are voids.
 use Rattle.std.specs.Prelude.{◌≡◌, ℕ, ℤ, Bool, false, ◌&&◌, ◌==◌, nat_lt, not, is_none, List, length, slice_index_or}
-use Rattle.std.specs.List.{list_any}
 use Rattle.drain_grid.specs.declared.cell.Cell.{Cell}
 use Rattle.drain_grid.specs.declared.tile.TheConstants.{VOID}
-use Rattle.drain_grid.specs.Extent.{same_cell}
 use Rattle.drain_grid.specs.Grid.{Grid, IsInside}
 use Rattle.drain_grid.specs.Size.{Extent}
 use Rattle.drain_grid.specs.Tile.{height_from}
-
--- it is one of these cells
-abbrev pub is_among : List Cell → Cell → Bool
-is_among cells c = list_any (same_cell c) cells
+use Rattle.drain_grid.specs.CellLists.{is_among}
 
 -- it lies in the grid, and is none of these voids
 abbrev pub has_data_but : Extent → List Cell → Cell → Bool

@@ -5,7 +5,8 @@ ghost use Rattle.drain_grid.specs.declared.cell.Cell.{Cell};
 ghost use Rattle.drain_rules.specs.RowNumbers.{AreRowNumbers};
 ghost use Rattle.drain_rows.specs.GridRows.{IsNext, IsWalkStop, ReadsOn};
 ghost use Rattle.drain_rows.specs.RowBuffers.{LanesMatch, IsMarked, marked_of, buffer_numbers};
-ghost use Rattle.drain_rows.specs.ListedVoids.{is_among, is_listed_void};
+ghost use Rattle.drain_grid.specs.CellLists.{is_among};
+ghost use Rattle.drain_rows.specs.ListedVoids.{is_listed_void};
 
 use crate::grid_rows::GridRows;
 use crate::listed_voids::ListedVoids;

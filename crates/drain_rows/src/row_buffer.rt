@@ -4,7 +4,8 @@ ghost use Rattle.std.specs.Prelude.{◌≡◌, ◌↔◌, ◌||◌, ℕ, [], fal
 ghost use Rattle.drain_grid.specs.declared.cell.Cell.{Cell};
 ghost use Rattle.drain_rules.specs.RowNumbers.{AreRowNumbers, blank};
 ghost use Rattle.drain_rows.specs.RowBuffers.{LanesMatch};
-ghost use Rattle.drain_rows.specs.ListedVoids.{is_among, is_listed_void};
+ghost use Rattle.drain_grid.specs.CellLists.{is_among};
+ghost use Rattle.drain_rows.specs.ListedVoids.{is_listed_void};
 
 use crate::listed_voids::ListedVoids;
 use drain_grid::{OutOfMemory, PerProduct, Sinks};

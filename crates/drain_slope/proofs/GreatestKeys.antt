@@ -1,13 +1,13 @@
 -- The greatest key, found direction by direction.
-use Rattle.std.proofs.Common.{◌≡◌, ℕ, ◌+◌, ◌<◌, pos, ◌≤ℤ◌, max, inl, inr, get_or, sym, ◌∙◌, ap, arith, below_more}
+use Rattle.std.proofs.Common.{◌≡◌, ℕ, ◌+◌, ◌<◌, pos, ◌≤ℤ◌, max, inl, inr, get_or, sym, ◌∙◌, ap, arith, below_more, refl}
 use Rattle.std.proofs.lemmas.Bool.{cases_lt}
 use Rattle.std.proofs.lemmas.Int.{ints}
 use Rattle.drain_grid.specs.declared.direction.Direction.{Direction}
 use Rattle.drain_grid.specs.declared.direction.Direction.TheVariants.{East}
 use Rattle.drain_grid.specs.declared.patch.Patch.{Patch}
 use Rattle.drain_grid.specs.Direction.{directions}
+use Rattle.drain_grid.proofs.Directions.{of_each}
 use Rattle.drain_slope.specs.Key.{key_at, IsGreatestKey}
-use Rattle.drain_slope.proofs.Places.{of_each}
 
 -- the greatest key of the directions before a place
 pub record IsGreatestBefore (p : Patch) (i key : ℕ) : Type 0 where
@@ -38,6 +38,6 @@ greatest_before_next p i key here most is_here is_most before = record {
 -- past the last place it is the greatest of all
 pub greatest_of_all : (p : Patch) (key : ℕ) → IsGreatestBefore p 8 key → IsGreatestKey p key
 greatest_of_all p key before = record {
-  bound = of_each (λ d. key_at p d ≤ℤ pos key) before.bound;
+  bound = of_each (λ d. key_at p d ≤ℤ pos key) 8 refl before.bound;
   reached = before.reached;
 }

@@ -1,7 +1,8 @@
 use Rattle.std.proofs.Common.{◌≡◌, ◌≢◌, ℕ, ◌<◌, pos, sym, ◌∙◌, ap, arith, subst}
 use Rattle.drain_grid.specs.Direction.{order_of}
+use Rattle.drain_grid.proofs.Directions.{of_earlier}
 use Rattle.drain_slope.specs.Key.{key_at}
-use Rattle.drain_slope.proofs.Places.{place_at, of_earlier}
+use Rattle.drain_slope.proofs.Places.{place_at}
 use Rattle.drain_slope.proofs.first_with_key.Goals as goal
 
 pub returns-then-key-expected : goal.returns-then-key-expected

@@ -3,7 +3,7 @@ use Rattle.std.proofs.lemmas.List.Folds.{list_any_more}
 use Rattle.drain_grid.specs.declared.cell.Cell.{Cell}
 use Rattle.drain_grid.specs.Extent.{same_cell}
 use Rattle.drain_grid.proofs.Neighbors.{place}
-use Rattle.drain_merge.proofs.CellSets.{inserted}
+use Rattle.drain_grid.proofs.CellSets.{inserted}
 use Rattle.drain_merge.proofs.union_sinks.set_of.Goals as goal
 
 turned : (a b : Bool) → (a || b) ≡ (b || a)

@@ -2,8 +2,8 @@ use Rattle.std.proofs.Common.{◌≡◌, ◌∙◌, sym, ap, arith, rules}
 use Rattle.drain_grid.specs.Size.{Extent}
 use Rattle.drain_grid.specs.Extent.{index_of}
 use Rattle.drain_grid.specs.Grid.{HasData}
+use Rattle.drain_grid.proofs.CellOrder.{earlier_index}
 use Rattle.drain_paths.specs.Ways.{ground_of, directions_of}
-use Rattle.drain_paths.proofs.Cells.{earlier_index}
 use Rattle.drain_paths.proofs.ranks.steps_of.Goals as goal
 
 pub returns-in-None-clause-err : goal.returns-in-None-clause-err

@@ -1,9 +1,8 @@
-use Rattle.std.proofs.Common.{◌∙◌, inr, sym, subst}
-use Rattle.drain_grid.specs.Extent.{IsCellOf}
+use Rattle.std.proofs.Common.{◌∙◌, inr}
 use Rattle.drain_grid.proofs.EndedRuns.{HasData-next}
 use Rattle.drain_grid.proofs.Walks.{EndsAfter-earlier}
 use Rattle.drain_paths.specs.Ways.{ground_of, directions_of}
-use Rattle.drain_paths.proofs.StepLemmas.{IsPut, placed}
+use Rattle.drain_paths.proofs.StepLemmas.{placed, put_in}
 use Rattle.drain_paths.proofs.walk.put_steps.Goals as goal
 
 pub loop-here-preserved : goal.loop-here-preserved
@@ -11,10 +10,7 @@ loop-here-preserved c =
     let g = ground_of c.args.elevation.now in
     let ps = directions_of c.args.dir.now in
     let inv = c.loop-here.invariant in
-    let put : IsPut g c.loop-here.steps c.put.new.self c.loop-here.here c.loop-here.left = record {
-      there = c.put.ensures.there;
-      elsewhere = λ d inside differ. c.put.ensures.elsewhere d (subst (λ e. IsCellOf e d) (sym inv.extent) inside) differ;
-    } in
+    let put = put_in g c.loop-here.steps c.put.new.self c.loop-here.here c.loop-here.left inv.extent c.put.ensures.there c.put.ensures.elsewhere in
     let now = placed g ps c.args.steps.now c.loop-here.steps c.put.new.self c.loop-here.here c.args.start c.loop-here.left put inv.right
     inv.more inv.here inv.ended inv.start c.requires.here.inside c.requires.few in
     record {
@@ -31,10 +27,7 @@ returns-in_default c =
     let g = ground_of c.args.elevation.now in
     let ps = directions_of c.args.dir.now in
     let inv = c.loop-here.invariant in
-    let put : IsPut g c.loop-here.steps c.put.new.self c.loop-here.here c.loop-here.left = record {
-      there = c.put.ensures.there;
-      elsewhere = λ d inside differ. c.put.ensures.elsewhere d (subst (λ e. IsCellOf e d) (sym inv.extent) inside) differ;
-    } in
+    let put = put_in g c.loop-here.steps c.put.new.self c.loop-here.here c.loop-here.left inv.extent c.put.ensures.there c.put.ensures.elsewhere in
     let now = placed g ps c.args.steps.now c.loop-here.steps c.put.new.self c.loop-here.here c.args.start c.loop-here.left put inv.right
     inv.more inv.here inv.ended inv.start c.requires.here.inside c.requires.few in
     record {

@@ -3,9 +3,9 @@ use Rattle.std.proofs.Common.{◌≡◌, ◌≢◌, ℕ, List, slice_index_or, s
 use Rattle.drain_grid.specs.declared.cell.Cell.{Cell}
 use Rattle.drain_grid.specs.Size.{Extent}
 use Rattle.drain_grid.specs.Extent.{IsCellOf, index_of}
+use Rattle.drain_grid.proofs.CellOrder.{same_index}
 use Rattle.drain_paths.specs.declared.steps.TheConstants.{UNKNOWN}
 use Rattle.drain_paths.specs.Steps.{Numbers, steps_at}
-use Rattle.drain_paths.proofs.Cells.{same_index}
 use Rattle.drain_paths.proofs.steps.Steps.put.Goals as goal
 
 put_elsewhere : (now : Numbers) (items : List ℕ) (shape : Extent) → record { extent = shape; items = items } ≡ now →

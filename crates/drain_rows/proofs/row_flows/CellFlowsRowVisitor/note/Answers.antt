@@ -1,7 +1,5 @@
 use Rattle.std.proofs.Common.{◌≡◌, ◌+◌, ◌++◌, ◌∙◌, ℤ, List, length, sym, ap, subst}
-use Rattle.std.specs.List.{All}
 use Rattle.drain_grid.specs.declared.set_product.SetProduct.TheVariants.{Dir}
-use Rattle.drain_grid.specs.Values.{IsPixel}
 use Rattle.drain_paths.specs.Flows.{AreFirstFlows, flows_of}
 use Rattle.drain_paths.proofs.GridFlows.{AreFirstFlows-row}
 use Rattle.drain_rows.proofs.RowResults.{on-ok}

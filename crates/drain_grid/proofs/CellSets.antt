@@ -7,11 +7,11 @@ use Rattle.std.specs.BTreeSet.{BTreeSet, Updates}
 use Rattle.std.proofs.lemmas.Bool.Decides.{nat_tests}
 use Rattle.drain_grid.specs.declared.cell.Cell.{Cell}
 use Rattle.drain_grid.specs.Extent.{same_cell}
-use Rattle.drain_merge.specs.UnionSinks.{has_cell}
+use Rattle.drain_grid.specs.CellLists.{is_among}
 
 -- in the order two cells are equal exactly where they are one
 module _ (cmp : Cell → Cell → Ordering) (one : (a b : Cell) → is_eq (cmp a b) ≡ same_cell a b) where
-  among : (q : Cell) (keys : List Cell) → list_any (is_at (cmp q)) keys ≡ has_cell keys q
+  among : (q : Cell) (keys : List Cell) → list_any (is_at (cmp q)) keys ≡ is_among keys q
   among q [] = refl
   among q (k ∷ keys) = ap (λ b. b || list_any (is_at (cmp q)) keys) (one q k) ∙ ap (λ b. same_cell q k || b) (among q keys)
 
@@ -25,7 +25,7 @@ module _ (cmp : Cell → Cell → Ordering) (one : (a b : Cell) → is_eq (cmp a
   turned a b = grind (arith, nat_tests)
 
   -- after an insertion the new cell is among them, and those that were
-  pub inserted : (old new : BTreeSet Cell) (key : Cell) → Updates cmp old new key true → (q : Cell) → has_cell new.keys q ≡ (same_cell q key || has_cell old.keys q)
+  pub inserted : (old new : BTreeSet Cell) (key : Cell) → Updates cmp old new key true → (q : Cell) → is_among new.keys q ≡ (same_cell q key || is_among old.keys q)
   inserted old new key updates q =
       sym (among q new.keys) ∙ updates.0 q ∙ either (is_at (cmp key) q) (same_cell q key) (list_any (is_at (cmp q)) old.keys) (one key q ∙ turned key q)
       ∙ ap (λ b. same_cell q key || b) (among q old.keys)

@@ -1,0 +1,9 @@
+-- Lists of cells.
+use Rattle.std.specs.Prelude.{Bool, List}
+use Rattle.std.specs.List.{list_any}
+use Rattle.drain_grid.specs.declared.cell.Cell.{Cell}
+use Rattle.drain_grid.specs.Extent.{same_cell}
+
+-- the cell is one of these
+abbrev pub is_among : List Cell → Cell → Bool
+is_among cells c = list_any (same_cell c) cells
