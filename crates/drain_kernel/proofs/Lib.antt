@@ -1,10 +1,11 @@
 pub mod Alongs
 pub mod NamedNumbers
 pub mod Keys
-pub mod Squares
-pub mod Capped
+pub mod NearWays
+pub mod Images
 pub mod CappedSums
 pub mod CappedRanks
+pub mod RankHalves
 pub mod Labels
 pub mod Summed
 pub mod PassedOn
@@ -12,7 +13,11 @@ pub mod Counting
 pub mod Numbers
 pub mod Inland
 pub mod Ways
+pub mod VouchedNumbers
 pub mod Meaning
 pub mod Readings
 pub mod Raised
+pub mod SeenNumbers
+pub mod OnGround
 pub mod Fallen
+pub mod RightOutlets

@@ -42,7 +42,7 @@ lower_beside : (here : Numbers) (n : Direction → Numbers) (around : List (Opti
 lower_beside here n around seen fits d less = record { beside = seen.has_data d (omega (arith, less, fits)); below = lt_lowered (n d).con here.con less }
 
 -- and a lower one has a smaller number
-number_of_lower : (here : Numbers) (n : Direction → Numbers) (around : List (Option Values)) → AreSeen here n around → (d : Direction) (m : Values) →
+pub number_of_lower : (here : Numbers) (n : Direction → Numbers) (around : List (Option Values)) → AreSeen here n around → (d : Direction) (m : Values) →
     IsLower (patch_of here around) d m → (n d).con < here.con
 number_of_lower here n around seen d m lower =
     lt_from_lowered (n d).con here.con (subst (λ (v : Values). v.con <ℤ lowered here.con) (sym (seen.data_is d m lower.beside)) lower.below)

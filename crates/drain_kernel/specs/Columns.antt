@@ -1,5 +1,5 @@
 -- The tests at a column of three rows of lanes.
-use Rattle.std.specs.Prelude.{◌≢◌, ℕ, ◌≤◌, ◌<◌, ◌+◌, ◌-◌, pos, Bool, IsTrue, List, slice_index}
+use Rattle.std.specs.Prelude.{◌≡◌, ◌≢◌, ℕ, ◌≤◌, ◌<◌, ◌+◌, ◌-◌, pos, Bool, IsTrue, List, slice_index}
 use Rattle.drain_grid.specs.Values.{NoDataNumbers}
 use Rattle.drain_kernel.specs.declared.lane_rows.LaneRows.{LaneRows}
 use Rattle.drain_kernel.specs.declared.lanes.Lanes.{Lanes}
@@ -9,6 +9,18 @@ use Rattle.drain_kernel.specs.Around.{around_in}
 use Rattle.drain_kernel.specs.Checked.{IfChecked, IfTested}
 use Rattle.drain_kernel.specs.Shown.{HasDataAt, lowered}
 use Rattle.drain_kernel.specs.Tests.{keeps_surface, keeps_direction, keeps_label, adds_up, is_ranked}
+
+-- a column is no void in any of three rows
+pub record AreDataAt (rows : LaneRows) (k : ℕ) : Type 0 where
+  pub above_has : HasDataAt rows.above.now k
+  pub here_has : HasDataAt rows.here.now k
+  pub below_has : HasDataAt rows.below.now k
+
+-- it has this label in all three
+pub record HaveLabelAt (rows : LaneRows) (label k : ℕ) : Type 0 where
+  pub above_is : slice_index rows.above.now.bas.items k ≡ label
+  pub here_is : slice_index rows.here.now.bas.items k ≡ label
+  pub below_is : slice_index rows.below.now.bas.items k ≡ label
 
 -- a column and the two beside it are no voids
 pub record IsDataRound (row : Lanes) (k : ℕ) : Type 0 where
@@ -58,6 +70,11 @@ keeps_surface_at rows k = keeps_surface (slice_index rows.here.now.z.items k) (s
 abbrev pub keeps_direction_at : LaneRows → ℕ → Bool
 keeps_direction_at rows k = keeps_direction (slice_index rows.here.now.con.items k) (slice_index rows.here.now.dir.items k) (cons_round rows k)
 
+-- both hold
+pub record KeepsWayAt (rows : LaneRows) (k : ℕ) : Type 0 where
+  pub surface : IsTrue (keeps_surface_at rows k)
+  pub direction : IsTrue (keeps_direction_at rows k)
+
 -- the rule of the label holds
 abbrev pub keeps_label_at : LaneRows → ℕ → Bool
 keeps_label_at rows k = keeps_label (slice_index rows.here.now.dir.items k) (slice_index rows.here.now.bas.items k) (labels_round rows k)
@@ -72,6 +89,11 @@ is_ranked_at rows k =
     is_ranked (slice_index rows.here.now.con.items k) (slice_index rows.here.now.dir.items k) (cons_round rows k) (slice_index rows.here.now.rnk.items k)
     (ranks_round rows k)
 
+-- and the rules of the conditioned elevation and of the direction hold
+pub record KeepsRankedWayAt (rows : LaneRows) (k : ℕ) : Type 0 where
+  pub way : KeepsWayAt rows k
+  pub ranked : IsTrue (is_ranked_at rows k)
+
 -- the conditioned elevation and the direction of a column aren't their products' no-data numbers
 pub record HasWayAt (nodata : NoDataNumbers) (h : Lanes) (k : ℕ) : Type 0 where
   pub con_differs : lowered (slice_index h.con.items k) ≢ nodata.con
@@ -81,6 +103,12 @@ pub record HasWayAt (nodata : NoDataNumbers) (h : Lanes) (k : ℕ) : Type 0 wher
 pub record HasCountsAt (nodata : NoDataNumbers) (h : Lanes) (k : ℕ) : Type 0 where
   pub acc_differs : pos (slice_index h.acc.items k) ≢ nodata.acc
   pub bas_differs : pos (slice_index h.bas.items k) ≢ nodata.bas
+
+-- the rules of the accumulation, if sums are tested, and of the label hold, and the numbers are there
+pub record KeepsCountsAt (nodata : NoDataNumbers) (sums : Sums) (rows : LaneRows) (k : ℕ) : Type 0 where
+  pub accumulation : IfTested sums (IsTrue (adds_up_at rows k))
+  pub label : IsTrue (keeps_label_at rows k)
+  pub has_counts : HasCountsAt nodata rows.here.now k
 
 -- nor is its rank
 abbrev pub HasRankAt : NoDataNumbers → Lanes → ℕ → Type 0

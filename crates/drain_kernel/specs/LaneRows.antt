@@ -8,7 +8,13 @@ use Rattle.drain_kernel.specs.Shown.{cols, HasRanks, IsInner, IsShown, IsShownRo
 abbrev pub IsInnerColumn : LaneRows → ℕ → Type 0
 IsInnerColumn rows k = IsInner rows.above.now rows.here.now rows.below.now k
 
--- so is each column from one up to another; there may be none
+-- the column is in all three rows
+pub record IsInRows (rows : LaneRows) (k : ℕ) : Type 0 where
+  pub above_in : k < cols rows.above.now
+  pub here_in : k < cols rows.here.now
+  pub below_in : k < cols rows.below.now
+
+-- so is each column from one up to another, with those beside it; there may be none
 pub record IsStretch (rows : LaneRows) (from end : ℕ) : Type 0 where
   pub left : 1 ≤ from
   pub ordered : from ≤ end

@@ -4,9 +4,11 @@ pub mod Shown
 pub mod Taken
 pub mod Checked
 pub mod Around
+pub mod Images
 pub mod Tests
 pub mod LaneRows
 pub mod Columns
 pub mod Counts
 pub mod Laws
 pub mod Falls
+pub mod Outlets

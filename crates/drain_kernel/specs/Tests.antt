@@ -49,3 +49,8 @@ adds_up acc codes accs =
 -- the code leads to a smaller conditioned elevation, or to a smaller rank
 unfoldable pub is_ranked : ℕ → ℕ → List ℕ → ℕ → List ℕ → Bool
 is_ranked con code cons rank ranks = nat_lt (named_in code cons) con || nat_lt (named_in code ranks) rank
+
+-- the same by the lower and the upper halves of ranks
+unfoldable pub is_ranked_by_halves : ℕ → ℕ → List ℕ → ℕ → List ℕ → ℕ → List ℕ → Bool
+is_ranked_by_halves con code cons low lows high highs =
+    (nat_lt (named_in code cons) con || nat_lt (named_in code highs) high) || (named_in code highs == high && nat_lt (named_in code lows) low)

@@ -1,9 +1,9 @@
 //! The tests at a column of three rows. Each comment says what holds where the column passes.
 
 ghost use Rattle.std.specs.Prelude.{◌≡◌, ◌<◌, ◌+◌, IsTrue, false, slice_index, vec_len};
-ghost use Rattle.drain_kernel.specs.Columns.{adds_up_at, HasCountsAt, HasWayAt, keeps_direction_at, keeps_label_at, keeps_surface_at};
-ghost use Rattle.drain_kernel.specs.LaneRows.{IsInnerColumn};
-ghost use Rattle.drain_kernel.specs.Shown.{cols, HasDataAt};
+ghost use Rattle.drain_kernel.specs.Columns.{adds_up_at, AreDataAt, HasCountsAt, HaveLabelAt, HasWayAt, KeepsWayAt, keeps_direction_at, keeps_label_at, keeps_surface_at};
+ghost use Rattle.drain_kernel.specs.LaneRows.{IsInnerColumn, IsInRows};
+ghost use Rattle.drain_kernel.specs.Shown.{cols};
 
 use crate::around::around;
 use crate::cells::{
@@ -12,40 +12,43 @@ use crate::cells::{
 use crate::column_test::ColumnTest;
 use crate::lane_rows::LaneRows;
 use crate::lanes::Lanes;
-use crate::near::keeps_near_direction;
-use crate::sums::{adds_up, adds_up_by_capped};
+use crate::near::keeps_near;
+use crate::sums::{adds_up, adds_up_by_capped, adds_up_by_middle};
 use drain_grid::NoData;
 
-/// The column is no void.
+/// The column is no void in any of the rows.
 #[derive(Drop)]
-pub struct DataTest<'a>(pub &'a Lanes);
+pub struct DataTest<'a>(pub &'a LaneRows<'a>);
 
 impl ColumnTest for DataTest<'_> {
-    ghost CanTest = { λ test k. k < cols test.0.now };
+    ghost CanTest = { λ test. IsInRows test.0.now };
 
-    ghost Passed = { λ test. HasDataAt test.0.now };
+    ghost Passed = { λ test. AreDataAt test.0.now };
 
     #[inline(always)]
     fn passes(&self, k: usize) -> bool {
-        self.0.z[k] != 0
+        let rows = self.0;
+        (rows.above.z[k] != 0) & (rows.here.z[k] != 0) & (rows.below.z[k] != 0)
     }
 }
 
-/// The column has this label.
+/// The column has this label in all rows.
 #[derive(Drop)]
 pub struct OneLabelTest<'a> {
-    pub row: &'a Lanes,
+    pub rows: &'a LaneRows<'a>,
     pub label: u32,
 }
 
 impl ColumnTest for OneLabelTest<'_> {
-    ghost CanTest = { λ test k. k < cols test.row.now };
+    ghost CanTest = { λ test. IsInRows test.rows.now };
 
-    ghost Passed = { λ test k. slice_index test.row.now.bas.items k ≡ test.label };
+    ghost Passed = { λ test. HaveLabelAt test.rows.now test.label };
 
     #[inline(always)]
     fn passes(&self, k: usize) -> bool {
-        self.row.bas[k] == self.label
+        let rows = self.rows;
+        let label = self.label;
+        (rows.above.bas[k] == label) & (rows.here.bas[k] == label) & (rows.below.bas[k] == label)
     }
 }
 
@@ -67,19 +70,19 @@ impl ColumnTest for SurfaceTest<'_> {
     }
 }
 
-/// The rules of the direction hold, without ranks, and all drops are near.
+/// The rules of the conditioned elevation and of the direction hold, without ranks, and all drops are near.
 #[derive(Drop)]
-pub struct NearDirectionTest<'a>(pub &'a LaneRows<'a>);
+pub struct NearTest<'a>(pub &'a LaneRows<'a>);
 
-impl ColumnTest for NearDirectionTest<'_> {
+impl ColumnTest for NearTest<'_> {
     ghost CanTest = { λ test. IsInnerColumn test.0.now };
 
-    ghost Passed = { λ test k. IsTrue (keeps_direction_at test.0.now k) };
+    ghost Passed = { λ test. KeepsWayAt test.0.now };
 
     #[inline(always)]
     fn passes(&self, k: usize) -> bool {
         let here = self.0.here;
-        keeps_near_direction(here.con[k], here.dir[k], self.0.cons_round(k))
+        keeps_near(here.z[k], here.con[k], here.dir[k], self.0.cons_round(k))
     }
 }
 
@@ -139,6 +142,22 @@ impl ColumnTest for CappedSumTest<'_> {
             k,
         );
         adds_up_by_capped(rows.here.capped_acc[k], rows.codes_round(k), capped_accs)
+    }
+}
+
+/// The rule of the accumulation holds, by sums of 32 bits.
+#[derive(Drop)]
+pub struct MiddleSumTest<'a>(pub &'a LaneRows<'a>);
+
+impl ColumnTest for MiddleSumTest<'_> {
+    ghost CanTest = { λ test. IsInnerColumn test.0.now };
+
+    ghost Passed = { λ test k. IsTrue (adds_up_at test.0.now k) };
+
+    #[inline(always)]
+    fn passes(&self, k: usize) -> bool {
+        let rows = self.0;
+        adds_up_by_middle(rows.here.acc[k], rows.codes_round(k), rows.accs_round(k))
     }
 }
 

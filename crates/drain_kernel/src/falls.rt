@@ -32,7 +32,7 @@ fn seen(hidden: u16, z: u16, number: u16) -> u16
 
 /// The numbers of eight neighbours, another one at a void.
 #[inline(always)]
-fn each_seen(hidden: u16, zs: [u16; 8], numbers: [u16; 8]) -> [u16; 8]
+pub(crate) fn each_seen(hidden: u16, zs: [u16; 8], numbers: [u16; 8]) -> [u16; 8]
     ensures { result ≡ each_seen (seen hidden) zs numbers }
 {
     [
@@ -87,7 +87,7 @@ fn fall_holds(rows: &LaneRows, k: usize) -> bool
 }
 
 /// Whether the accumulation at a column is one more than what data neighbours pass on.
-fn seen_sum_holds(rows: &LaneRows, k: usize) -> bool
+pub(crate) fn seen_sum_holds(rows: &LaneRows, k: usize) -> bool
     requires { IsInnerColumn rows.now k }
     ensures { result ≡ seen_sum_at rows.now k }
 {
@@ -107,7 +107,7 @@ fn keeps_sum(rows: &LaneRows, sums: Sums, k: usize) -> bool
 }
 
 /// Whether the rank isn't the no-data number, if ranks are checked.
-fn keeps_rank(row: &Lanes, rules: &Rules, k: usize) -> bool
+pub(crate) fn keeps_rank(row: &Lanes, rules: &Rules, k: usize) -> bool
     requires inside { k < cols row.now }
     requires ranks { IfChecked rules.now.ranks (HasRanks row.now) }
     ensures { IsTrue result → IfChecked rules.now.ranks (HasRankAt rules.now.nodata row.now k) }
@@ -120,7 +120,7 @@ fn keeps_rank(row: &Lanes, rules: &Rules, k: usize) -> bool
 }
 
 /// Whether con, dir, acc and bas all differ from their no-data numbers. Ranks aren't looked at.
-fn products_are_there(row: &Lanes, nodata: &NoData, k: usize) -> bool
+pub(crate) fn products_are_there(row: &Lanes, nodata: &NoData, k: usize) -> bool
     requires { k < cols row.now }
     ensures way { IsTrue result → HasWayAt nodata.now row.now k }
     ensures counts { IsTrue result → HasCountsAt nodata.now row.now k }

@@ -36,8 +36,8 @@ fn inland_until(rows: &LaneRows, from: usize, end: usize) -> usize
     k
 }
 
-/// The columns from one up to another, before the last, in strides: of 64; if one fails, of what lies before the next
-/// void, then of 8 of that, and then one by one.
+/// The first column that isn't cleared from one on, at most another, before the last. It goes in strides of 64; where
+/// one fails, up to the next void or cell beside one: all of that, then 8 columns at a time, then column by column.
 fn passed_until(rows: &LaneRows, rules: &Rules, sums: Sums, from: usize, end: usize) -> usize
     requires stretch { IsStretch rows.now from end }
     requires ranks { IfChecked rules.now.ranks (HaveRanks rows.now) }
@@ -47,10 +47,10 @@ fn passed_until(rows: &LaneRows, rules: &Rules, sums: Sums, from: usize, end: us
 {
     let by_blocks = passed_strides(rows, rules, sums, from, end, BLOCK);
     let reach = by_blocks + BLOCK.min(end - by_blocks);
-    let shore = inland_until(rows, by_blocks, reach);
-    let ashore = passed_strides(rows, rules, sums, by_blocks, shore, BLOCK);
-    let by_groups = passed_strides(rows, rules, sums, ashore, shore, GROUP);
-    passed_strides(rows, rules, sums, by_groups, shore, 1)
+    let inland = inland_until(rows, by_blocks, reach);
+    let at_once = passed_strides(rows, rules, sums, by_blocks, inland, BLOCK);
+    let by_groups = passed_strides(rows, rules, sums, at_once, inland, GROUP);
+    passed_strides(rows, rules, sums, by_groups, inland, 1)
 }
 
 /// A column from this one on, at most `until`, before which each cell keeps the rules that are tried: if sums are

@@ -15,7 +15,8 @@ pub(crate) struct LaneRows<'a> {
 impl LaneRows<'_> {
     ghost use Rattle.std.specs.Prelude.{◌≡◌, IsTrue};
     ghost use Rattle.drain_kernel.specs.Checked.{IfChecked};
-    ghost use Rattle.drain_kernel.specs.Columns.{accs_round, codes_round, cons_round, heights_round, labels_round};
+    ghost use Rattle.drain_kernel.specs.Columns.{accs_round, codes_round, cons_round, heights_round, labels_round, ranks_round};
+    ghost use Rattle.drain_kernel.specs.Images.{EachHasImage, at_most, lower, upper};
     ghost use Rattle.drain_kernel.specs.LaneRows.{AreAsLong, HaveRanks, IsInnerColumn};
 
     /// Whether all three rows have ranks, if ranks are checked.
@@ -82,5 +83,53 @@ impl LaneRows<'_> {
         ensures { result ≡ labels_round self.now k }
     {
         around(&self.above.bas, &self.here.bas, &self.below.bas, k)
+    }
+
+    /// The ranks of the eight neighbours of a column, capped.
+    #[inline(always)]
+    #[tactic(auto, using(crate::proofs::Images::around_images))]
+    pub(crate) fn capped_ranks_round(&self, k: usize) -> [u16; 8]
+        requires inner { IsInnerColumn self.now k }
+        requires ranks { HaveRanks self.now }
+        ensures { EachHasImage at_most (ranks_round self.now k) result }
+    {
+        around(
+            self.above.capped_ranks(),
+            self.here.capped_ranks(),
+            self.below.capped_ranks(),
+            k,
+        )
+    }
+
+    /// The lower halves of these ranks.
+    #[inline(always)]
+    #[tactic(auto, using(crate::proofs::Images::around_images))]
+    pub(crate) fn low_ranks_round(&self, k: usize) -> [u16; 8]
+        requires inner { IsInnerColumn self.now k }
+        requires ranks { HaveRanks self.now }
+        ensures { EachHasImage lower (ranks_round self.now k) result }
+    {
+        around(
+            self.above.low_ranks(),
+            self.here.low_ranks(),
+            self.below.low_ranks(),
+            k,
+        )
+    }
+
+    /// Their upper halves.
+    #[inline(always)]
+    #[tactic(auto, using(crate::proofs::Images::around_images))]
+    pub(crate) fn high_ranks_round(&self, k: usize) -> [u16; 8]
+        requires inner { IsInnerColumn self.now k }
+        requires ranks { HaveRanks self.now }
+        ensures { EachHasImage upper (ranks_round self.now k) result }
+    {
+        around(
+            self.above.high_ranks(),
+            self.here.high_ranks(),
+            self.below.high_ranks(),
+            k,
+        )
     }
 }

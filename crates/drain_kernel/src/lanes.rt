@@ -2,19 +2,20 @@
 
 ghost use Rattle.std.specs.Prelude.{◌≡◌, IsTrue, length, vec_len};
 ghost use Rattle.drain_kernel.specs.Checked.{IfChecked};
-ghost use Rattle.drain_pixels.specs.Lanes.{AreCapped, AreLanes};
+ghost use Rattle.drain_kernel.specs.Images.{AreRankLanes, at_most, lower, upper};
+ghost use Rattle.drain_pixels.specs.Lanes.{AreCapped, AreLanes, AreLower, AreUpper};
 
 use crate::rules::Ranks;
 use drain_grid::PerProduct;
 use drain_pixels::PixelRow;
 use drain_pixels::row_lanes::{
-    take_capped, take_elevations, take_heights, take_numbers, take_short_numbers,
+    take_capped, take_elevations, take_halves, take_heights, take_numbers, take_short_numbers,
 };
 use std::alloc::Global;
 
 /// The numbers of a row, next to each other for each column. z and con are stored with 32768 added, and z is 0 at a
 /// void. Ranks are kept if they are checked. At a void a product's lane may be any number; it is ignored.
-/// Accumulations and ranks are there once more in 16 bits, 65535 where they are more.
+/// Accumulations and ranks are there once more in 16 bits, 65535 where they are more, and ranks also by their halves.
 #[derive(Drop)]
 pub struct Lanes {
     pub(crate) z: Vec<u16>,
@@ -25,18 +26,19 @@ pub struct Lanes {
     pub(crate) rnk: Vec<u32>,
     pub(crate) capped_acc: Vec<u16>,
     pub(crate) capped_rnk: Vec<u16>,
+    pub(crate) low_rnk: Vec<u16>,
+    pub(crate) high_rnk: Vec<u16>,
     ghost con_len: { vec_len con ≡ vec_len z },
     ghost dir_len: { vec_len dir ≡ vec_len z },
     ghost acc_len: { vec_len acc ≡ vec_len z },
     ghost bas_len: { vec_len bas ≡ vec_len z },
     ghost capped_acc_len: { vec_len capped_acc ≡ vec_len acc },
     ghost acc_is_capped: { AreCapped acc.items capped_acc.items (vec_len acc) },
-    ghost capped_rnk_len: { vec_len capped_rnk ≡ vec_len rnk },
-    ghost rnk_is_capped: { AreCapped rnk.items capped_rnk.items (vec_len rnk) },
+    ghost ranks_match: { AreRankLanes (vec_len rnk) (vec_len capped_rnk) (vec_len low_rnk) (vec_len high_rnk) rnk.items capped_rnk.items low_rnk.items high_rnk.items },
 }
 
 impl Lanes {
-    ghost use Rattle.std.specs.Prelude.{◌≤◌, ◌<◌, ◌-◌, ◌^◌, cond, false};
+    ghost use Rattle.std.specs.Prelude.{◌≤◌, ◌<◌, ◌-◌, ◌^◌, cond, false, slice_index};
     ghost use Rattle.drain_grid.specs.declared.set_product.SetProduct.{SetProduct};
     ghost use Rattle.drain_grid.specs.PerProduct.{of_product, per_product};
     ghost use Rattle.drain_kernel.specs.Counts.{is_raised_at, raised_lanes};
@@ -56,6 +58,8 @@ impl Lanes {
             rnk: Vec::new(alloc),
             capped_acc: Vec::new(alloc),
             capped_rnk: Vec::new(alloc),
+            low_rnk: Vec::new(alloc),
+            high_rnk: Vec::new(alloc),
         }
     }
 
@@ -77,7 +81,8 @@ impl Lanes {
             & take_numbers(elevations, products.bas, &mut self.bas)
             & take_ranks(elevations, products.rnk, ranks, &mut self.rnk)
             & take_capped(&self.acc, &mut self.capped_acc)
-            & take_capped(&self.rnk, &mut self.capped_rnk);
+            & take_capped(&self.rnk, &mut self.capped_rnk)
+            & take_halves(&self.rnk, &mut self.low_rnk, &mut self.high_rnk);
         if !fit {
             self.z.clear();
             self.con.clear();
@@ -87,6 +92,8 @@ impl Lanes {
             self.rnk.clear();
             self.capped_acc.clear();
             self.capped_rnk.clear();
+            self.low_rnk.clear();
+            self.high_rnk.clear();
         }
         fit
     }
@@ -98,11 +105,98 @@ impl Lanes {
         self.z.len()
     }
 
+    /// The stored conditioned elevation at a column.
+    #[inline(always)]
+    pub(crate) fn stored_con(&self, k: usize) -> u16
+        requires { k < cols self.now }
+        ensures { result ≡ slice_index self.now.con.items k }
+    {
+        self.con[k]
+    }
+
+    /// The code at a column.
+    #[inline(always)]
+    pub(crate) fn code(&self, k: usize) -> u16
+        requires { k < cols self.now }
+        ensures { result ≡ slice_index self.now.dir.items k }
+    {
+        self.dir[k]
+    }
+
+    /// The label at a column.
+    #[inline(always)]
+    pub(crate) fn label(&self, k: usize) -> u32
+        requires { k < cols self.now }
+        ensures { result ≡ slice_index self.now.bas.items k }
+    {
+        self.bas[k]
+    }
+
     /// Whether it has ranks.
     pub(crate) fn has_ranks(&self) -> bool
         ensures { IsTrue result → HasRanks self.now }
     {
         self.rnk.len() == self.z.len()
+    }
+
+    /// The ranks, capped.
+    #[inline(always)]
+    pub(crate) fn capped_ranks(&self) -> &[u16]
+        requires { HasRanks self.now }
+        ensures len { length result.now ≡ cols self.now }
+        ensures are { AreCapped self.now.rnk.items result.now (cols self.now) }
+    {
+        &self.capped_rnk
+    }
+
+    /// The lower halves of the ranks.
+    #[inline(always)]
+    pub(crate) fn low_ranks(&self) -> &[u16]
+        requires { HasRanks self.now }
+        ensures len { length result.now ≡ cols self.now }
+        ensures are { AreLower self.now.rnk.items result.now (cols self.now) }
+    {
+        &self.low_rnk
+    }
+
+    /// The upper halves of the ranks.
+    #[inline(always)]
+    pub(crate) fn high_ranks(&self) -> &[u16]
+        requires { HasRanks self.now }
+        ensures len { length result.now ≡ cols self.now }
+        ensures are { AreUpper self.now.rnk.items result.now (cols self.now) }
+    {
+        &self.high_rnk
+    }
+
+    /// The rank at a column, capped.
+    #[inline(always)]
+    pub(crate) fn capped_rank(&self, k: usize) -> u16
+        requires inside { k < cols self.now }
+        requires ranks { HasRanks self.now }
+        ensures { result ≡ at_most (slice_index self.now.rnk.items k) }
+    {
+        self.capped_ranks()[k]
+    }
+
+    /// Its lower half.
+    #[inline(always)]
+    pub(crate) fn low_rank(&self, k: usize) -> u16
+        requires inside { k < cols self.now }
+        requires ranks { HasRanks self.now }
+        ensures { result ≡ lower (slice_index self.now.rnk.items k) }
+    {
+        self.low_ranks()[k]
+    }
+
+    /// Its upper half.
+    #[inline(always)]
+    pub(crate) fn high_rank(&self, k: usize) -> u16
+        requires inside { k < cols self.now }
+        requires ranks { HasRanks self.now }
+        ensures { result ≡ upper (slice_index self.now.rnk.items k) }
+    {
+        self.high_ranks()[k]
     }
 
     /// 1 where con is above the ground, else 0.

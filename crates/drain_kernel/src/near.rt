@@ -1,55 +1,64 @@
-//! The test of the direction in 16 bits. Drops of at most 255 metres are near: their squares fit.
+//! The test of the conditioned elevation and of the direction in 16 bits. Drops of at most 255 are near: their squares
+//! fit.
 
-ghost use Rattle.std.specs.Prelude.{◌≡◌, ◌≤◌, ◌-◌, IsTrue};
-ghost use Rattle.drain_kernel.specs.Tests.{keeps_direction, falls_steepest, square_of_drop};
+ghost use Rattle.std.specs.Prelude.{◌≡◌, ◌≤◌, ◌*◌, IsTrue};
+ghost use Rattle.drain_kernel.specs.Around.{LeadsAcross, LeadsStraight};
+ghost use Rattle.drain_kernel.specs.Tests.{keeps_direction, keeps_surface};
 
-use crate::around::{is_direction, is_straight, least_across, least_straight, named};
-use crate::cells::{HIGHEST, steps_along};
+use crate::around::{least_across, least_straight};
 
 /// The greatest drop whose square fits 16 bits.
 const GREATEST_NEAR_DROP: u16 = 255;
 
-/// The square of a drop, 0 if there is none; right if the drop is near.
+/// The square of a near drop.
 #[inline(always)]
-#[tactic(auto, using(crate::proofs::Squares::near_square))]
-fn square(con: u16, low: u16) -> u16
-    ensures { con - low ≤ 255 → result ≡ square_of_drop con low }
+#[tactic(auto, using(crate::proofs::NearWays::near_square))]
+fn square(drop: u16) -> u16
+    ensures { drop ≤ 255 → result ≡ drop * drop }
 {
-    let drop = con.saturating_sub(low).min(GREATEST_NEAR_DROP);
-    drop * drop
+    drop.wrapping_mul(drop)
 }
 
-/// Whether the drops to the least numbers along rows and columns and across corners are near.
+/// Whether the code leads along a row or a column to this number.
 #[inline(always)]
-fn are_near(con: u16, straight: u16, across: u16) -> bool
-    ensures straight { IsTrue result → con - straight ≤ 255 }
-    ensures across { IsTrue result → con - across ≤ 255 }
+#[tactic(auto, using(crate::proofs::NearWays::leads_straight))]
+fn leads_straight(code: u16, numbers: [u16; 8], number: u16) -> bool
+    ensures { IsTrue result → LeadsStraight code numbers number }
 {
-    con.saturating_sub(straight.min(across)) <= GREATEST_NEAR_DROP
+    ((code == 1) & (numbers[0] == number))
+        | ((code == 4) & (numbers[2] == number))
+        | ((code == 16) & (numbers[4] == number))
+        | ((code == 64) & (numbers[6] == number))
 }
 
-/// Whether the code leads down the steepest way, where all drops are near.
+/// Whether the code leads across a corner to this number.
 #[inline(always)]
-#[tactic(auto, unfolding(crate::specs::Tests::falls_steepest))]
-fn falls_near(con: u16, code: u16, cons: [u16; 8]) -> bool
-    ensures { IsTrue result → IsTrue (falls_steepest con code cons) }
+#[tactic(auto, using(crate::proofs::NearWays::leads_across))]
+fn leads_across(code: u16, numbers: [u16; 8], number: u16) -> bool
+    ensures { IsTrue result → LeadsAcross code numbers number }
 {
-    let next = named(code, cons);
-    let straight = least_straight(cons);
-    let across = least_across(cons);
-    let along = square(con, straight);
-    let aslant = square(con, across);
-    let goes_straight = is_straight(code) & (next == straight) & (aslant / 2 + aslant % 2 <= along);
-    let goes_across = !is_straight(code) & (next == across) & (along <= aslant / 2);
-    are_near(con, straight, across) & (next < con) & (goes_straight | goes_across)
+    ((code == 2) & (numbers[1] == number))
+        | ((code == 8) & (numbers[3] == number))
+        | ((code == 32) & (numbers[5] == number))
+        | ((code == 128) & (numbers[7] == number))
 }
 
-/// The rules of the direction, without ranks, at a cell where all have data, and all drops are near.
+/// The rules of the conditioned elevation and of the direction, without ranks, at a cell where all have data, and all
+/// drops are near. Numbers above con count as con, so they are no drop and never lower.
 #[inline(always)]
-#[tactic(auto, unfolding(crate::specs::Tests::keeps_direction))]
-pub fn keeps_near_direction(con: u16, code: u16, cons: [u16; 8]) -> bool
-    ensures { IsTrue result → IsTrue (keeps_direction con code cons) }
+pub fn keeps_near(height: u16, con: u16, code: u16, cons: [u16; 8]) -> bool
+    ensures surface { IsTrue result → IsTrue (keeps_surface height con cons) }
+    ensures direction { IsTrue result → IsTrue (keeps_direction con code cons) }
 {
-    let goes = falls_near(con, code, cons) | steps_along(con, code, cons);
-    is_direction(code) & (con <= HIGHEST) & goes
+    let straight = least_straight(cons).min(con);
+    let across = least_across(cons).min(con);
+    let along = con - straight;
+    let aslant = con - across;
+    let aslant_square = square(aslant);
+    let along_square = square(along);
+    let twice = along_square.saturating_add(along_square);
+    let goes_straight = leads_straight(code, cons, straight) & (aslant_square <= twice);
+    let goes_across = leads_across(code, cons, across) & (twice <= aslant_square);
+    let lies = height.max(straight.min(across)) == con;
+    lies & (along.max(aslant) <= GREATEST_NEAR_DROP) & (goes_straight | goes_across)
 }

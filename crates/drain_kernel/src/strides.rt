@@ -2,41 +2,22 @@
 
 ghost use Rattle.std.specs.Prelude.{◌≤◌, IsTrue};
 ghost use Rattle.drain_kernel.specs.Checked.{IfChecked, IfTested};
-ghost use Rattle.drain_kernel.specs.Columns.{adds_up_at, Along, HasCountsAt, HasWayAt, keeps_direction_at, keeps_label_at, PassesAt, RanksPassAt};
+ghost use Rattle.drain_kernel.specs.Columns.{adds_up_at, Along, HasWayAt, IsInlandAt, KeepsCountsAt, KeepsRankedWayAt, KeepsWayAt, PassesAt, RanksPassAt};
 ghost use Rattle.drain_kernel.specs.LaneRows.{HaveRanks, IsStretch};
 
 use crate::column_test::passes_along;
 use crate::columns::{
-    CappedSumTest, CountsTest, DirectionTest, LabelTest, NearDirectionTest, SumTest, SurfaceTest,
-    WayTest,
+    CappedSumTest, CountsTest, DirectionTest, LabelTest, MiddleSumTest, NearTest, SumTest,
+    SurfaceTest, WayTest,
 };
 use crate::lane_rows::LaneRows;
-use crate::ranked::{CappedRanksTest, HasRankTest, RanksTest};
+use crate::ranked::{HasRankTest, NearRanksTest, RanksTest};
 use crate::rules::{Ranks, Rules, Sums};
 use crate::stretches::{all_inland, have_one_label};
+use crate::vouched::{are_no_counts, are_no_ways};
 use drain_grid::NoData;
 
-/// Whether the tests of ranks pass, if ranks are checked.
-fn ranks_pass(rows: &LaneRows, rules: &Rules, from: usize, end: usize) -> bool
-    requires stretch { IsStretch rows.now from end }
-    requires ranks { IfChecked rules.now.ranks (HaveRanks rows.now) }
-    ensures { IsTrue result → Along from end (λ k. IfChecked rules.now.ranks (RanksPassAt rules.now.nodata rows.now k)) }
-{
-    match rules.ranks {
-        Ranks::Ignored => true,
-        Ranks::Checked => {
-            let has_rank = HasRankTest {
-                row: rows.here,
-                nodata: &rules.nodata,
-            };
-            (passes_along(&CappedRanksTest(rows), from, end)
-                || passes_along(&RanksTest(rows), from, end))
-                && passes_along(&has_rank, from, end)
-        }
-    }
-}
-
-/// Whether the rule of the accumulation holds, if sums are tested: by sums of 16 bits, else by sums of 64.
+/// Whether the rule of the accumulation holds, if sums are tested: by sums of 16 bits, else of 32, else of 64.
 fn sums_pass(rows: &LaneRows, sums: Sums, from: usize, end: usize) -> bool
     requires { IsStretch rows.now from end }
     ensures { IsTrue result → Along from end (λ k. IfTested sums (IsTrue (adds_up_at rows.now k))) }
@@ -44,36 +25,88 @@ fn sums_pass(rows: &LaneRows, sums: Sums, from: usize, end: usize) -> bool
     match sums {
         Sums::Untested => true,
         Sums::Tested => {
-            passes_along(&CappedSumTest(rows), from, end) || passes_along(&SumTest(rows), from, end)
+            passes_along(&CappedSumTest(rows), from, end)
+                || passes_along(&MiddleSumTest(rows), from, end)
+                || passes_along(&SumTest(rows), from, end)
         }
     }
 }
 
-/// Whether the rules of the direction, without ranks, hold: by squares of 16 bits, else by squares of 32.
-fn directions_pass(rows: &LaneRows, from: usize, end: usize) -> bool
+/// Whether the rules of the conditioned elevation and of the direction, without ranks, hold, by squares of 32 bits.
+fn keep_ways(rows: &LaneRows, from: usize, end: usize) -> bool
     requires { IsStretch rows.now from end }
-    ensures { IsTrue result → Along from end (λ k. IsTrue (keeps_direction_at rows.now k)) }
+    ensures { IsTrue result → Along from end (KeepsWayAt rows.now) }
 {
-    passes_along(&NearDirectionTest(rows), from, end)
-        || passes_along(&DirectionTest(rows), from, end)
+    passes_along(&SurfaceTest(&*rows), from, end) && passes_along(&DirectionTest(&*rows), from, end)
 }
 
-/// Whether the rule of the label holds: at once if there is one label only, else by the label that each code leads to.
-fn labels_pass(rows: &LaneRows, from: usize, end: usize) -> bool
+/// Whether the rules of the conditioned elevation and of the direction, without ranks, hold: by squares of 16 bits, else
+/// by squares of 32.
+fn ways_pass(rows: &LaneRows, from: usize, end: usize) -> bool
     requires { IsStretch rows.now from end }
-    ensures { IsTrue result → Along from end (λ k. IsTrue (keeps_label_at rows.now k)) }
+    ensures { IsTrue result → Along from end (KeepsWayAt rows.now) }
 {
-    have_one_label(rows, from, end) || passes_along(&LabelTest(rows), from, end)
+    passes_along(&NearTest(&*rows), from, end) || keep_ways(rows, from, end)
 }
 
-/// Whether con, dir, acc and bas all differ from their no-data numbers. Ranks aren't looked at.
-fn products_are_there(rows: &LaneRows, nodata: &NoData, from: usize, end: usize) -> bool
+/// Whether these rules hold, and each code leads to a smaller conditioned elevation or to a smaller rank: by numbers of
+/// 16 bits in one loop, else in a loop each, by halves of ranks. Where the first rank is at the cap, others likely are too, so
+/// capped ranks aren't compared.
+fn ranked_ways_pass(rows: &LaneRows, from: usize, end: usize) -> bool
+    requires stretch { IsStretch rows.now from end }
+    requires ranks { HaveRanks rows.now }
+    ensures { IsTrue result → Along from end (KeepsRankedWayAt rows.now) }
+{
+    if rows.here.capped_rank(from) < 65535 && passes_along(&NearRanksTest(&*rows), from, end) {
+        return true;
+    }
+    ways_pass(rows, from, end) && passes_along(&RanksTest(&*rows), from, end)
+}
+
+/// Whether the rules of the conditioned elevation and of the direction hold, and if ranks are checked those on ranks.
+fn courses_pass(rows: &LaneRows, rules: &Rules, from: usize, end: usize) -> bool
+    requires stretch { IsStretch rows.now from end }
+    requires ranks { IfChecked rules.now.ranks (HaveRanks rows.now) }
+    ensures ways { IsTrue result → Along from end (KeepsWayAt rows.now) }
+    ensures ranks { IsTrue result → Along from end (λ k. IfChecked rules.now.ranks (RanksPassAt rules.now.nodata rows.now k)) }
+{
+    match rules.ranks {
+        Ranks::Ignored => ways_pass(rows, from, end),
+        Ranks::Checked => {
+            let has_rank = HasRankTest {
+                row: rows.here,
+                nodata: &rules.nodata,
+            };
+            ranked_ways_pass(rows, from, end) && passes_along(&has_rank, from, end)
+        }
+    }
+}
+
+/// Whether con and dir differ from their no-data numbers, where the cells have data and keep the rules on these.
+fn ways_are_there(rows: &LaneRows, nodata: &NoData, from: usize, end: usize) -> bool
     requires { IsStretch rows.now from end }
-    ensures way { IsTrue result → Along from end (HasWayAt nodata.now rows.now.here.now) }
-    ensures counts { IsTrue result → Along from end (HasCountsAt nodata.now rows.now.here.now) }
+    ensures { IsTrue result → Along from end (λ k. IsInlandAt rows.now k → KeepsWayAt rows.now k → HasWayAt nodata.now rows.now.here.now k) }
 {
     let row = rows.here;
-    passes_along(&WayTest { row, nodata }, from, end)
+    are_no_ways(nodata) || passes_along(&WayTest { row, nodata }, from, end)
+}
+
+/// Whether the rules of the accumulation and of the label hold, the first if sums are tested, and acc and bas differ from
+/// their no-data numbers. Where there is one label only, labels are compared with nothing else, and no number with its
+/// no-data number if none can be it.
+fn counts_pass(rows: &LaneRows, nodata: &NoData, sums: Sums, from: usize, end: usize) -> bool
+    requires { IsStretch rows.now from end }
+    ensures { IsTrue result → Along from end (KeepsCountsAt nodata.now sums rows.now) }
+{
+    if !sums_pass(rows, sums, from, end) {
+        return false;
+    }
+    let row = rows.here;
+    if have_one_label(rows, from, end) {
+        return are_no_counts(row.label(from), nodata, sums)
+            || passes_along(&CountsTest { row, nodata }, from, end);
+    }
+    passes_along(&LabelTest(&*rows), from, end)
         && passes_along(&CountsTest { row, nodata }, from, end)
 }
 
@@ -83,13 +116,16 @@ fn all_pass(rows: &LaneRows, rules: &Rules, sums: Sums, from: usize, end: usize)
     requires ranks { IfChecked rules.now.ranks (HaveRanks rows.now) }
     ensures { IsTrue result → Along from end (PassesAt rules.now sums rows.now) }
 {
-    all_inland(rows, from, end)
-        && passes_along(&SurfaceTest(&*rows), from, end)
-        && directions_pass(rows, from, end)
-        && labels_pass(rows, from, end)
-        && sums_pass(rows, sums, from, end)
-        && products_are_there(rows, &rules.nodata, from, end)
-        && ranks_pass(rows, rules, from, end)
+    if !all_inland(rows, from, end) {
+        return false;
+    }
+    if !courses_pass(rows, rules, from, end) {
+        return false;
+    }
+    if !ways_are_there(rows, &rules.nodata, from, end) {
+        return false;
+    }
+    counts_pass(rows, &rules.nodata, sums, from, end)
 }
 
 /// Tries `stride` columns at a time from `from` on, the last time maybe fewer. Returns the start of the first stride

@@ -1,5 +1,5 @@
 -- Lanes of a row: unsigned numbers of 16 or 32 bits, converted from whole numbers. At a void, where the lane of the elevation is 0, nothing is known of a product.
-use Rattle.std.specs.Prelude.{◌≡◌, ◌≢◌, ℕ, ◌<◌, ℤ, pos, negsuc, neg_ℤ, ◌+ℤ◌, Bool, IsTrue, false, ◌&&◌, nat_le, int_le, min, List, slice_index, slice_index_or}
+use Rattle.std.specs.Prelude.{◌≡◌, ◌≢◌, ℕ, ◌/◌, ◌%◌, ◌<◌, ℤ, pos, negsuc, neg_ℤ, ◌+ℤ◌, Bool, IsTrue, false, ◌&&◌, nat_le, int_le, min, List, slice_index, slice_index_or}
 
 -- 32 bits hold the number
 abbrev pub is_lane : ℤ → Bool
@@ -39,6 +39,14 @@ lifted number = number +ℤ pos 32768
 -- the first numbers are these, or 65535 where they are more
 abbrev pub AreCapped : List ℕ → List ℕ → ℕ → Type 0
 AreCapped numbers capped count = (k : ℕ) → k < count → slice_index capped k ≡ min (slice_index numbers k) 65535
+
+-- the first numbers are the lower halves of these, of 32 bits each
+abbrev pub AreLower : List ℕ → List ℕ → ℕ → Type 0
+AreLower numbers low count = (k : ℕ) → k < count → slice_index low k ≡ slice_index numbers k % 65536
+
+-- the first numbers are the upper halves of these
+abbrev pub AreUpper : List ℕ → List ℕ → ℕ → Type 0
+AreUpper numbers high count = (k : ℕ) → k < count → slice_index high k ≡ slice_index numbers k / 65536
 
 -- the first lanes are what a conversion makes of these numbers, except at voids
 abbrev pub AreLanesBy : (ℤ → ℤ) → List ℕ → List ℤ → List ℕ → ℕ → Type 0

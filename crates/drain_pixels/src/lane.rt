@@ -1,6 +1,6 @@
 //! Lanes of one number: 16 or 32 bits of the 64.
 
-ghost use Rattle.std.specs.Prelude.{◌≡◌, ◌↔◌, ◌<◌, ◌^◌, ◌+ℤ◌, IsTrue, min, pos};
+ghost use Rattle.std.specs.Prelude.{◌≡◌, ◌↔◌, ◌<◌, ◌/◌, ◌%◌, ◌^◌, ◌+ℤ◌, IsTrue, min, pos};
 ghost use Rattle.drain_pixels.specs.Lanes.{is_height, is_lane, is_short_lane, lifted, unchanged};
 
 /// The lower 32 of these bits.
@@ -98,6 +98,22 @@ pub fn capped(number: u32) -> u16
     ensures { result ≡ min number 65535 }
 {
     number.min(65535) as u16
+}
+
+/// The lower half of a lane of 32 bits.
+#[inline(always)]
+pub fn lower_half(number: u32) -> u16
+    ensures { result ≡ number % 65536 }
+{
+    (number & 0xFFFF) as u16
+}
+
+/// The upper half of a lane of 32 bits.
+#[inline(always)]
+pub fn upper_half(number: u32) -> u16
+    ensures { result ≡ number / 65536 }
+{
+    (number >> 16) as u16
 }
 
 /// Numbers that fit lanes of a kind.

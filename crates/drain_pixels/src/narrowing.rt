@@ -2,9 +2,9 @@
 //! product's number need not fit.
 
 ghost use Rattle.std.specs.Prelude.{◌≡◌, IsTrue, length};
-ghost use Rattle.drain_pixels.specs.Lanes.{AllFit, AllFitAt, AreCapped, HoldFitting, is_lane, unchanged};
+ghost use Rattle.drain_pixels.specs.Lanes.{AllFit, AllFitAt, AreCapped, AreLower, AreUpper, HoldFitting, is_lane, unchanged};
 
-use crate::lane::{Fits, Narrow, capped, is_lane, lane};
+use crate::lane::{Fits, Narrow, capped, is_lane, lane, lower_half, upper_half};
 use crate::stored::PixelNumbers;
 
 /// Puts the numbers into lanes of 32 bits, and returns whether all fit, at voids too.
@@ -67,5 +67,21 @@ pub fn put_capped(numbers: &[u32], out: &mut [u16])
 {
     for k in 0..numbers.len() {
         out[k] = capped(numbers[k]);
+    }
+}
+
+/// Puts the halves of the lanes of a row into 16 bits each.
+#[inline(never)]
+pub fn put_halves(numbers: &[u32], low: &mut [u16], high: &mut [u16])
+    requires low_room { length low.old ≡ length numbers.now }
+    requires high_room { length high.old ≡ length numbers.now }
+    ensures low_len { length low.new ≡ length low.old }
+    ensures high_len { length high.new ≡ length high.old }
+    ensures lower { AreLower numbers.now low.new (length numbers.now) }
+    ensures upper { AreUpper numbers.now high.new (length numbers.now) }
+{
+    for k in 0..numbers.len() {
+        low[k] = lower_half(numbers[k]);
+        high[k] = upper_half(numbers[k]);
     }
 }

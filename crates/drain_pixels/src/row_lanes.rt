@@ -1,10 +1,10 @@
 //! Vectors of lanes, filled with the numbers of a row.
 
 ghost use Rattle.std.specs.Prelude.{◌≡◌, IsTrue, length, vec_len};
-ghost use Rattle.drain_pixels.specs.Lanes.{AreCapped, AreElevationLanes, AreHeightLanes, AreLanes, AreLanesBy};
+ghost use Rattle.drain_pixels.specs.Lanes.{AreCapped, AreElevationLanes, AreHeightLanes, AreLanes, AreLanesBy, AreLower, AreUpper};
 
 use crate::lane::{Height, Narrow, Short, Wide};
-use crate::narrowing::{all_fit, put_capped, put_narrow, put_wide};
+use crate::narrowing::{all_fit, put_capped, put_halves, put_narrow, put_wide};
 use crate::pixel_row::PixelRow;
 use crate::stored::{
     AnyPixels, I16Pixels, I32Pixels, PixelNumbers, Pixels, U8Pixels, U16Pixels, U32Pixels,
@@ -67,6 +67,20 @@ pub fn take_capped(numbers: &[u32], out: &mut Vec<u16>) -> bool
         return false;
     }
     put_capped(numbers, out);
+    true
+}
+
+/// Replaces the lanes by the halves of numbers of 32 bits, and returns whether memory sufficed.
+pub fn take_halves(numbers: &[u32], low: &mut Vec<u16>, high: &mut Vec<u16>) -> bool
+    ensures low_len { IsTrue result → vec_len low.new ≡ length numbers.now }
+    ensures high_len { IsTrue result → vec_len high.new ≡ length numbers.now }
+    ensures lower { IsTrue result → AreLower numbers.now low.new.items (length numbers.now) }
+    ensures upper { IsTrue result → AreUpper numbers.now high.new.items (length numbers.now) }
+{
+    if low.resize(numbers.len(), 0).is_err() || high.resize(numbers.len(), 0).is_err() {
+        return false;
+    }
+    put_halves(numbers, low, high);
     true
 }
 

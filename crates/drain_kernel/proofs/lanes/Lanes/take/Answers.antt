@@ -2,13 +2,13 @@ use Rattle.std.proofs.Common.{◌≡◌, ◌≢◌, ℕ, ◌<◌, Bool, true, �
 use Rattle.std.proofs.lemmas.Bool.{and_parts}
 use Rattle.drain_grid.specs.declared.set_product.SetProduct.TheVariants.{Con, Dir, Acc, Bas, Rnk}
 use Rattle.drain_kernel.specs.Checked.{IfChecked}
-use Rattle.drain_pixels.specs.Lanes.{AreCapped}
+use Rattle.drain_pixels.specs.Lanes.{AreCapped, AreLower, AreUpper}
 use Rattle.drain_kernel.specs.declared.rules.Ranks.{Ranks}
 use Rattle.drain_kernel.specs.declared.rules.Ranks.TheVariants.{Checked, Ignored}
 use Rattle.drain_kernel.proofs.lanes.Lanes.take.Goals as goal
 
 -- all fit
-record AllFit (z con dir acc bas rnk capped_acc capped_rnk : Bool) : Type 0 where
+record AllFit (z con dir acc bas rnk capped_acc capped_rnk halves : Bool) : Type 0 where
   z_fits : z ≡ true
   con_fits : con ≡ true
   dir_fits : dir ≡ true
@@ -17,11 +17,14 @@ record AllFit (z con dir acc bas rnk capped_acc capped_rnk : Bool) : Type 0 wher
   rnk_fits : rnk ≡ true
   acc_is_capped : capped_acc ≡ true
   rnk_is_capped : capped_rnk ≡ true
+  rnk_is_halved : halves ≡ true
 
-all_fit : (z con dir acc bas rnk capped_acc capped_rnk : Bool) →
-    (((((((z && con) && dir) && acc) && bas) && rnk) && capped_acc) && capped_rnk) ≡ true → AllFit z con dir acc bas rnk capped_acc capped_rnk
-all_fit z con dir acc bas rnk capped_acc capped_rnk h =
-    let seven = and_parts _ capped_rnk h in
+all_fit : (z con dir acc bas rnk capped_acc capped_rnk halves : Bool) →
+    ((((((((z && con) && dir) && acc) && bas) && rnk) && capped_acc) && capped_rnk) && halves) ≡ true →
+    AllFit z con dir acc bas rnk capped_acc capped_rnk halves
+all_fit z con dir acc bas rnk capped_acc capped_rnk halves h =
+    let eight = and_parts _ halves h in
+    let seven = and_parts _ capped_rnk eight.0 in
     let six = and_parts _ capped_acc seven.0 in
     let five = and_parts _ rnk six.0 in
     let four = and_parts _ bas five.0 in
@@ -37,19 +40,21 @@ all_fit z con dir acc bas rnk capped_acc capped_rnk h =
       rnk_fits = five.1;
       acc_is_capped = six.1;
       rnk_is_capped = seven.1;
+      rnk_is_halved = eight.1;
     }
 
 same_len : (lanes numbers cols z : ℕ) → lanes ≡ numbers → numbers ≡ cols → z ≡ cols → lanes ≡ z
 same_len lanes numbers cols z own long here = own ∙ long ∙ sym here
 
--- the numbers that were capped are those in the lanes
-capped_of : (slice held capped : List ℕ) (n : ℕ) → slice ≡ held → length slice ≡ n → AreCapped slice capped (length slice) → AreCapped held capped n
-capped_of slice held capped n same long are = subst (AreCapped held capped) long (subst (λ xs. AreCapped xs capped (length slice)) same are)
+-- the numbers that were capped or halved are those in the lanes
+images_of : (Are : List ℕ → List ℕ → ℕ → Type 0) (slice held images : List ℕ) (n : ℕ) → slice ≡ held → length slice ≡ n → Are slice images (length slice) →
+    Are held images n
+images_of Are slice held images n same long are = subst (Are held images) long (subst (λ xs. Are xs images (length slice)) same are)
 
 pub invariant_of-self-else-not-fit : goal.invariant_of-self-else-not-fit
 invariant_of-self-else-not-fit c =
     let fit = all_fit c.take_elevations-z_fits.result c.take_heights.result c.take_short_numbers.result c.take_numbers.result c.take_numbers-2.result
-    c.take_ranks.result c.take_capped.result c.take_capped-2.result c.if-not-fit.false in
+    c.take_ranks.result c.take_capped.result c.take_capped-2.result c.take_halves.result c.if-not-fit.false in
     let cols = c.take_elevations-z_fits.ensures.len fit.z_fits in
     record {
       con_len = same_len _ _ _ _ (c.take_heights.ensures.len fit.con_fits) (c.requires Con) cols;
@@ -57,9 +62,15 @@ invariant_of-self-else-not-fit c =
       acc_len = same_len _ _ _ _ (c.take_numbers.ensures.len fit.acc_fits) (c.requires Acc) cols;
       bas_len = same_len _ _ _ _ (c.take_numbers-2.ensures.len fit.bas_fits) (c.requires Bas) cols;
       capped_acc_len = c.take_capped.ensures.len fit.acc_is_capped ∙ c.deref.ensures.len;
-      acc_is_capped = capped_of _ _ _ _ c.deref.ensures.value c.deref.ensures.len (c.take_capped.ensures.capped fit.acc_is_capped);
-      capped_rnk_len = c.take_capped-2.ensures.len fit.rnk_is_capped ∙ c.deref-2.ensures.len;
-      rnk_is_capped = capped_of _ _ _ _ c.deref-2.ensures.value c.deref-2.ensures.len (c.take_capped-2.ensures.capped fit.rnk_is_capped);
+      acc_is_capped = images_of AreCapped _ _ _ _ c.deref.ensures.value c.deref.ensures.len (c.take_capped.ensures.capped fit.acc_is_capped);
+      ranks_match = record {
+        capped_len = c.take_capped-2.ensures.len fit.rnk_is_capped ∙ c.deref-2.ensures.len;
+        are_capped = images_of AreCapped _ _ _ _ c.deref-2.ensures.value c.deref-2.ensures.len (c.take_capped-2.ensures.capped fit.rnk_is_capped);
+        low_len = c.take_halves.ensures.low_len fit.rnk_is_halved ∙ c.deref-3.ensures.len;
+        are_lower = images_of AreLower _ _ _ _ c.deref-3.ensures.value c.deref-3.ensures.len (c.take_halves.ensures.lower fit.rnk_is_halved);
+        high_len = c.take_halves.ensures.high_len fit.rnk_is_halved ∙ c.deref-3.ensures.len;
+        are_upper = images_of AreUpper _ _ _ _ c.deref-3.ensures.value c.deref-3.ensures.len (c.take_halves.ensures.upper fit.rnk_is_halved);
+      };
     }
 
 asked_len : (ranks : Ranks) (lanes numbers cols z : ℕ) → IfChecked ranks (lanes ≡ numbers) → numbers ≡ cols → z ≡ cols → IfChecked ranks (lanes ≡ z)
@@ -73,7 +84,7 @@ no_void z held same k there = subst (λ zs. slice_index zs k ≢ 0) (sym same) t
 pub returns-else-not-fit-clause-lanes : goal.returns-else-not-fit-clause-lanes
 returns-else-not-fit-clause-lanes c = λ all.
     let fit = all_fit c.take_elevations-z_fits.result c.take_heights.result c.take_short_numbers.result c.take_numbers.result c.take_numbers-2.result
-    c.take_ranks.result c.take_capped.result c.take_capped-2.result all in
+    c.take_ranks.result c.take_capped.result c.take_capped-2.result c.take_halves.result all in
     let cols = c.take_elevations-z_fits.ensures.len fit.z_fits in
     let beside = no_void _ _ c.deref-elevations.ensures.value in
     record {
@@ -90,5 +101,5 @@ returns-else-not-fit-clause-lanes c = λ all.
 pub returns-else-not-fit-clause-ranked : goal.returns-else-not-fit-clause-ranked
 returns-else-not-fit-clause-ranked c = λ all.
     let fit = all_fit c.take_elevations-z_fits.result c.take_heights.result c.take_short_numbers.result c.take_numbers.result c.take_numbers-2.result
-    c.take_ranks.result c.take_capped.result c.take_capped-2.result all in
+    c.take_ranks.result c.take_capped.result c.take_capped-2.result c.take_halves.result all in
     asked_len c.args.ranks _ _ _ _ (c.take_ranks.ensures.len fit.rnk_fits) (c.requires Rnk) (c.take_elevations-z_fits.ensures.len fit.z_fits)

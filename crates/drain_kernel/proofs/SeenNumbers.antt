@@ -1,0 +1,116 @@
+-- What is seen of the neighbours of a cell in three rows of lanes: the numbers of those with data.
+use Rattle.std.proofs.Common.{◌≡◌, ◌≢◌, ℕ, ◌<◌, ℤ, pos, Bool, true, false, ◌==◌, ◌&&◌, map, Option, Some, None, IsSome, is_some, slice_index, refl, sym, ◌∙◌, ap, subst, arith, if◌then◌else◌}
+use Rattle.std.proofs.lemmas.Bool.{false≢true}
+use Rattle.std.proofs.lemmas.Bool.Decides.{Decides-eqb}
+use Rattle.drain_grid.specs.declared.direction.Direction.{Direction}
+use Rattle.drain_grid.specs.declared.direction.Direction.TheVariants.{East, SouthEast, South, SouthWest, West, NorthWest, North, NorthEast}
+use Rattle.drain_grid.specs.declared.patch.Patch.{Patch}
+use Rattle.drain_grid.specs.Direction.{directions, code_of, names, opposite}
+use Rattle.drain_grid.specs.Values.{Values}
+use Rattle.drain_grid.specs.PatchRules.{AccumulationHolds, inflow}
+use Rattle.drain_grid.proofs.Options.{same_some}
+use Rattle.drain_kernel.specs.declared.lanes.Lanes.{Lanes}
+use Rattle.drain_kernel.specs.Falls.{seen_code, seen_con}
+use Rattle.drain_kernel.specs.Shown.{lowered, height_of, HasDataAt, IsShownRound, Shows, row_beside, col_beside}
+use Rattle.drain_kernel.specs.Tests.{adds_up, passed_on}
+use Rattle.drain_kernel.proofs.Inland.{of_each, some_height}
+use Rattle.drain_kernel.proofs.Numbers.{Numbers, numbers_in, patch_of, values_of}
+use Rattle.drain_kernel.proofs.PassedOn.{inflow_passed, total_is}
+use Rattle.drain_kernel.proofs.Ways.{AreSeen}
+
+-- what is seen of a neighbour with data is its number
+seen_data : (z hidden x : ℕ) → z ≢ 0 → (if z == 0 then hidden else x) ≡ x
+seen_data z hidden x there = by_test (z == 0) (Decides-eqb z 0).0
+  where
+    by_test : (b : Bool) → (b ≡ true → z ≡ 0) → (if b then hidden else x) ≡ x
+    by_test true is = absurd (there (is refl))
+    by_test false is = refl
+
+-- a con that is seen below the greatest height is that of a neighbour with data
+seen_low : (z con : ℕ) → seen_con z con < 65535 → z ≢ 0
+seen_low z con low zero = let none : 65535 < 65535 = subst (λ x. seen_con x con < 65535) zero low in absurd (omega (arith, none))
+
+-- a lane with an elevation isn't 0
+some_lane : (z : ℕ) (o : Option ℤ) → o ≡ height_of z → IsSome o → z ≢ 0
+some_lane z o is some zero = let none : o ≡ None = is ∙ ap height_of zero in false≢true (subst IsSome none some)
+
+-- what a neighbour passes on by its patch is what is seen of it
+zero_leads_nowhere : (d : Direction) → (0 == code_of (opposite d)) ≡ false
+zero_leads_nowhere = of_each (λ d. (0 == code_of (opposite d)) ≡ false) refl refl refl refl refl refl refl refl
+
+inflow_seen : (d : Direction) (z code acc : ℕ) (v : Values) → v.z ≡ height_of z → (z ≢ 0 → v.dir ≡ pos code) → (z ≢ 0 → v.acc ≡ pos acc) →
+    inflow (Some v) d ≡ pos (passed_on (seen_code z code) (code_of (opposite d)) acc)
+inflow_seen d z code acc v z_is dir_is acc_is = by_test (z == 0) (Decides-eqb z 0).1 z_is
+  where
+    by_test : (b : Bool) → (z ≡ 0 → b ≡ true) → v.z ≡ (if b then None else Some (lowered z)) →
+        inflow (Some v) d ≡ pos (passed_on (if b then 0 else code) (code_of (opposite d)) acc)
+    by_test true is void =
+        let none : inflow (Some v) d ≡ pos 0 = ap (λ (o : Option ℤ). if is_some o && names v.dir (opposite d) then v.acc else pos 0) void in
+        none ∙ sym (ap (λ b. pos (if b then acc else 0)) (zero_leads_nowhere d))
+    by_test false is known =
+        let there : z ≢ 0 = λ zero. false≢true (is zero) in
+        let some : inflow (Some v) d ≡ (if true && (code == code_of (opposite d)) then pos acc else pos 0) =
+        λ i. if is_some (known i) && names (dir_is there i) (opposite d) then acc_is there i else pos 0 in
+        some ∙ inflow_passed true (code == code_of (opposite d)) acc refl
+
+-- the numbers that are seen of a cell
+abbrev seen_in : Lanes → ℕ → Values → Numbers
+seen_in row k v = record (numbers_in row k v) { con = seen_con (slice_index row.z.items k) (slice_index row.con.items k) }
+
+-- those of the neighbours
+abbrev pub numbers_seen : (above here below : Lanes) (k : ℕ) (p : Patch) → IsShownRound above here below k p → Direction → Numbers
+numbers_seen above here below k p shown d = seen_in (row_beside above here below d) (col_beside k d) (shown.around_is d).0
+
+-- they are the neighbour's, if it has data
+seen_are_values : (row : Lanes) (k : ℕ) (v : Values) → Shows row k v → HasDataAt row k → values_of (seen_in row k v) ≡ v
+seen_are_values row k v s there =
+    let con : lowered (seen_con (slice_index row.z.items k) (slice_index row.con.items k)) ≡ v.con =
+    ap lowered (seen_data (slice_index row.z.items k) 65535 (slice_index row.con.items k) there) ∙ sym (s.con_is there) in
+    λ i. record {
+      z = sym s.z_is i;
+      sink = v.sink;
+      con = con i;
+      dir = sym (s.dir_is there) i;
+      acc = sym (s.acc_is there) i;
+      bas = sym (s.bas_is there) i;
+      spl = v.spl;
+      rnk = v.rnk;
+    }
+
+module _ (above here below : Lanes) (k : ℕ) (p : Patch) (shown : IsShownRound above here below k p) where
+  abbrev own : Numbers
+  own = numbers_in here k p.here
+
+  abbrev beside : Direction → Numbers
+  beside = numbers_seen above here below k p shown
+
+  -- they are those of the data neighbours
+  pub are_seen : AreSeen own beside p.around
+  are_seen = record {
+    data_is = λ d m found.
+        let v = (shown.around_is d).0 in
+        let at = (shown.around_is d).1 in
+        let same : v ≡ m = same_some v m (sym at.is ∙ found.is) in
+        let some : IsSome v.z = subst (λ (w : Values). IsSome w.z) (sym same) found.has_data in
+        seen_are_values (row_beside above here below d) (col_beside k d) v at.shown (some_lane _ v.z at.shown.z_is some) ∙ same;
+    has_data = λ d low.
+        let v = (shown.around_is d).0 in
+        let at = (shown.around_is d).1 in
+        let there = seen_low _ _ low in
+        record {
+          is = at.is ∙ ap Some (sym (seen_are_values (row_beside above here below d) (col_beside k d) v at.shown there));
+          has_data = ap is_some (some_height _ there);
+        };
+  }
+
+  -- what the test of the sum gives
+  pub sum_from : adds_up own.acc (map (λ d. seen_code (beside d).z (beside d).dir) directions) (map (λ d. (beside d).acc) directions) ≡ true →
+      AccumulationHolds (patch_of own p.around)
+  unfolding adds_up
+  sum_from h =
+      let from = λ (d : Direction).
+      let at = (shown.around_is d).1 in
+      ap (λ o. inflow o d) at.is ∙
+      inflow_seen d (beside d).z (beside d).dir (beside d).acc (shown.around_is d).0 at.shown.z_is at.shown.dir_is at.shown.acc_is in
+      λ _. total_is own.acc _ _ _ _ _ _ _ _ _ _ _ _ _ _ _ _ (from East) (from SouthEast) (from South) (from SouthWest) (from West) (from NorthWest)
+      (from North) (from NorthEast) ((Decides-eqb _ _).0 h)

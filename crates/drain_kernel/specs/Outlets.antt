@@ -1,0 +1,29 @@
+-- The tests of an outlet beside a void: a data cell with code 0, not raised, with no lower neighbour.
+use Rattle.std.specs.Prelude.{ℕ, Bool, not, ◌&&◌, ◌==◌, nat_le, min, IsTrue, List, slice_index}
+use Rattle.drain_kernel.specs.declared.lane_rows.LaneRows.{LaneRows}
+use Rattle.drain_kernel.specs.declared.rules.Rules.{Rules}
+use Rattle.drain_kernel.specs.Around.{least_straight_in, least_across_in}
+use Rattle.drain_kernel.specs.Checked.{IfChecked}
+use Rattle.drain_kernel.specs.Columns.{HasCountsAt, HasRankAt, HasWayAt, cons_round, heights_round}
+use Rattle.drain_kernel.specs.Falls.{each_seen, seen_con, seen_sum_at}
+
+-- the cell has data, is not raised and has code 0; a neighbour is a void, as the least of their elevations is 0; and no
+-- neighbour with data is lower
+unfoldable pub keeps_outlet : ℕ → ℕ → ℕ → List ℕ → List ℕ → Bool
+keeps_outlet height con code heights cons =
+    (((not (height == 0) && con == height) && code == 0) && min (least_straight_in heights) (least_across_in heights) == 0) &&
+    nat_le con (min (least_straight_in cons) (least_across_in cons))
+
+-- so at a column
+abbrev pub keeps_outlet_at : LaneRows → ℕ → Bool
+keeps_outlet_at rows k =
+    keeps_outlet (slice_index rows.here.now.z.items k) (slice_index rows.here.now.con.items k) (slice_index rows.here.now.dir.items k) (heights_round rows k)
+    (each_seen seen_con (heights_round rows k) (cons_round rows k))
+
+-- these tests pass at a column, its accumulation is one more than what its data neighbours pass on, and no number is its product's no-data number
+pub record OutletAt (rules : Rules) (rows : LaneRows) (k : ℕ) : Type 0 where
+  pub outlet : IsTrue (keeps_outlet_at rows k)
+  pub sum : IsTrue (seen_sum_at rows k)
+  pub has_way : HasWayAt rules.nodata rows.here.now k
+  pub has_counts : HasCountsAt rules.nodata rows.here.now k
+  pub rank : IfChecked rules.ranks (HasRankAt rules.nodata rows.here.now k)
