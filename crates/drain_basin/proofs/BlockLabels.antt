@@ -1,32 +1,22 @@
 -- What is admitted after one more bit is set in the word of a block.
-use Rattle.std.proofs.Common.{◌≡◌, ◌≢◌, ◌<◌, ◌*◌, ◌/◌, ◌%◌, ◌^◌, ℕ, ℤ, cond, List, Some, nat_eq, unwrap_or, FitsSigned, ◌↔◌, ◌⊎◌, inl, inr, sym, ◌∙◌, ap, subst, refl, arith, w16, w64}
+use Rattle.std.proofs.Common.{◌≡◌, ◌≢◌, ◌<◌, ◌/◌, ◌%◌, ℕ, ℤ, cond, List, nat_eq, FitsSigned, ◌↔◌, ◌⊎◌, inl, inr, sym, ◌∙◌, ap, subst, refl, arith, w16, w64}
 use Rattle.std.specs.Int.{bit_at, cast_unsigned, cast_signed}
-use Rattle.std.specs.Int.RustNames.{bit_or}
-use Rattle.std.specs.Map.{lookup}
 use Rattle.std.proofs.lemmas.Bool.{cases_Bool, cases_eq, eqb-true, eq-eqb, cond-true}
 use Rattle.std.proofs.lemmas.Int.{to_z-of_z}
 use Rattle.std.proofs.lemmas.Nat.Bits.{bit_at_set_same, bit_at_set_other}
-use Rattle.drain_basin.specs.Admitted.{word, IsAdmitted}
-
--- new has the blocks of old, and at one block this word
-abbrev pub PutsWord : List (ℕ × ℕ) → List (ℕ × ℕ) → ℕ → ℕ → Type 0
-PutsWord old new block value = (q : ℕ) → lookup (nat_eq q) new ≡ cond (nat_eq block q) (Some value) (lookup (nat_eq q) old)
-
--- the word with one more bit
-abbrev pub with_bit : ℕ → ℕ → ℕ
-with_bit n bit = bit_or n (1 * 2 ^ bit % 2 ^ 16)
+use Rattle.drain_basin.specs.Admitted.{PutsWord, word, IsAdmitted}
+use Rattle.drain_basin.specs.Words.{with_bit}
 
 -- the block has the word that was put
 word_here : (old new : List (ℕ × ℕ)) (block value : ℕ) → PutsWord old new block value → word new block ≡ value
-word_here old new block value put =
-    ap (λ o. unwrap_or o 0) (put block ∙ cond-true (nat_eq block block) (Some value) (lookup (nat_eq block) old) (eq-eqb block block refl))
+word_here old new block value put = put block ∙ cond-true (nat_eq block block) value (word old block) (eq-eqb block block refl)
 
 -- each other block has the word that it had
 word_apart : (old new : List (ℕ × ℕ)) (block value q : ℕ) → PutsWord old new block value → block ≢ q → word new q ≡ word old q
 word_apart old new block value q put apart =
     elim (cases_Bool (nat_eq block q)) [
       | inl same ↦ absurd (apart (eqb-true block q same))
-      | inr other ↦ ap (λ o. unwrap_or o 0) (subst (λ b. lookup (nat_eq q) new ≡ cond b (Some value) (lookup (nat_eq q) old)) other (put q))
+      | inr other ↦ subst (λ b. word new q ≡ cond b value (word old q)) other (put q)
     ]
 
 -- the bit that was set is 1

@@ -1,2 +1,3 @@
 pub mod BlockLabels
 pub mod TreeWords
+pub mod FoundWords

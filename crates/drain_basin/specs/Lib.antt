@@ -1,2 +1,4 @@
 pub mod Admitted
 pub mod Ahead
+pub mod Words
+pub mod Beside

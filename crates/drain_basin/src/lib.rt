@@ -9,6 +9,7 @@
 
 pub mod label;
 pub mod outlets;
+mod words;
 
 pub use label::{expected_label, fault};
 pub use outlets::OutletLabels;
