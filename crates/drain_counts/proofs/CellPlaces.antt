@@ -1,15 +1,14 @@
 -- Numbers of cells, before and after a write at one.
-use Rattle.std.proofs.Common.{◌≡◌, ◌≢◌, ◌∙◌, ℕ, zero, suc, ◌<◌, ◌*◌, ◌+◌, ◌-◌, ◌%◌, inl, inr, List, length, ◌++◌, take, drop, get_or, set, refl, get_or-set_other, get_or-set_same, sym, ap, arith}
+use Rattle.std.proofs.Common.{◌≡◌, ◌≢◌, ◌∙◌, ℕ, zero, suc, ◌<◌, ◌*◌, ◌+◌, ◌-◌, ◌%◌, inl, inr, List, length, get_or, set, refl, get_or-set_other, get_or-set_same, sym, ap, arith}
 use Rattle.std.proofs.Math.Nat.{mul-le-mul_right}
 use Rattle.std.proofs.lemmas.Bool.{cases_lt}
 use Rattle.std.proofs.lemmas.List.{length-set}
-use Rattle.std.proofs.Math.Seq.{take-append_seam}
 use lib.ListN.{replicate}
 use Rattle.drain_grid.specs.declared.cell.Cell.{Cell}
 use Rattle.drain_grid.specs.Extent.{IsCellOf, index_of}
 use Rattle.drain_grid.specs.Size.{Extent}
 use Rattle.drain_grid.proofs.Runs.{cell_at, index_of-below}
-use Rattle.drain_paths.proofs.Cells.{same_index}
+use Rattle.drain_grid.proofs.CellOrder.{same_index}
 use Rattle.drain_counts.specs.declared.inflows.TheConstants.{PASSED_ON}
 use Rattle.drain_counts.specs.CellNumbers.{cell_number, IsPutAt}
 use Rattle.drain_counts.specs.Passing.{IsPassedOn}
@@ -82,10 +81,3 @@ pub zeros_read : (n k : ℕ) → ◌≡◌ {A = ℕ} (get_or (replicate n 0) k 0
 zeros_read zero k = refl
 zeros_read (suc n) zero = refl
 zeros_read (suc n) (suc k) = zeros_read n k
-
--- what a vector has after a slice of all of it was written
-pub lent_back : {items lent after : List ℕ} {len : ℕ} → lent ≡ items → length lent ≡ len → length after ≡ length lent →
-    take len (after ++ drop (length after) items) ≡ after
-lent_back {items} {lent} {after} {len} value long same =
-    let fits : len ≡ length after = sym long ∙ sym same in
-    ap (λ n. take n (after ++ drop (length after) items)) fits ∙ take-append_seam after (drop (length after) items)

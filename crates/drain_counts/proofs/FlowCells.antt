@@ -11,13 +11,13 @@ use Rattle.drain_grid.specs.Extent.{IsCellOf, step}
 use Rattle.drain_grid.specs.Grid.{Grid, Products, IsInside, HasData}
 use Rattle.drain_grid.specs.Run.{next}
 use Rattle.drain_grid.specs.Size.{Extent}
-use Rattle.drain_grid.proofs.Options.{none_some}
+use Rattle.drain_grid.proofs.Options.{none_some, void_data}
 use Rattle.drain_paths.specs.declared.flow.Flow.{Flow}
 use Rattle.drain_paths.specs.declared.flow.Flow.TheVariants.{Void, Lost, Ends, ToEast, ToSouthEast, ToSouth, ToSouthWest, ToWest, ToNorthWest, ToNorth, ToNorthEast}
 use Rattle.drain_paths.specs.Flows.{direction_of, flow_to, code_flow, cell_flow, flow_at, AreFlowsOf}
 use Rattle.drain_paths.specs.KnownFlows.{IsKnownFlow, AreKnownFlows}
 use Rattle.drain_paths.proofs.KnownWays.{AreKnownFlows-grid, stuck_outside, stuck_void, leads_on}
-use Rattle.drain_paths.proofs.NextCells.{next-unnamed, next-of_no_code, no_void}
+use Rattle.drain_paths.proofs.NextCells.{next-unnamed, next-of_no_code}
 
 pub with_height : (z : Option ℤ) (n : ℤ) → IsSome z → cell_flow z n ≡ code_flow n
 with_height None n some = absurd (false≢true some)
@@ -50,7 +50,7 @@ zero_of_end n ends = elim (cases_Bool (int_eq n (pos 0))) [
 nowhere : (g : Grid) (ps : Products) (c : Cell) (f : Flow) → IsKnownFlow g ps c f → (f ≡ Ends → ps.dir c ≡ pos 0) → HasData g c →
     direction_of f ≡ None → next g ps c ≡ None
 nowhere g ps c Ends known zero here leads = next-unnamed g ps c (ap named_direction (zero refl))
-nowhere g ps c Void known zero here leads = absurd (no_void (g.elevation c) (known.void refl) here.is_data)
+nowhere g ps c Void known zero here leads = absurd (void_data (g.elevation c) (known.void refl) here.is_data)
 nowhere g ps c Lost known zero here leads = next-of_no_code g ps c (known.lost refl)
 nowhere g ps c ToEast known zero here leads = absurd (none_some East (sym leads))
 nowhere g ps c ToSouthEast known zero here leads = absurd (none_some SouthEast (sym leads))
@@ -67,7 +67,7 @@ module _ (g : Grid) (ps : Products) (e : Extent) (flows : List Flow) (are : AreF
 
   -- a data cell's flow is no void, and the other way round
   pub flow_of_data : (c : Cell) → HasData g c → flow_at e flows c ≢ Void
-  flow_of_data c here void = no_void (g.elevation c) ((known.each c here.inside).void void) here.is_data
+  flow_of_data c here void = void_data (g.elevation c) ((known.each c here.inside).void void) here.is_data
 
   pub data_of_flow : (c : Cell) → IsInside g c → flow_at e flows c ≢ Void → HasData g c
   data_of_flow c inside some = record { inside = inside; is_data = (known.each c inside).has_data some }

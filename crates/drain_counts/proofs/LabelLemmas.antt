@@ -10,8 +10,8 @@ use Rattle.drain_grid.proofs.EndedRuns.{HasData-next, ended-run_end}
 use Rattle.drain_grid.proofs.Lowered.{same_or_not}
 use Rattle.drain_grid.proofs.Runs.{index_of-below, run_end-zero}
 use Rattle.drain_grid.proofs.Walks.{Leads, IsWalk, EndsAfter-zero}
-use Rattle.drain_paths.proofs.Cells.{in_grid, same_index}
-use Rattle.drain_paths.proofs.NextCells.{no_void}
+use Rattle.drain_grid.proofs.Options.{void_data}
+use Rattle.drain_grid.proofs.CellOrder.{in_grid, same_index}
 use Rattle.drain_paths.proofs.Shorter.{IsEnded-next, RunEnds-before}
 use Rattle.drain_counts.specs.CellNumbers.{cell_number, IsPutAt}
 use Rattle.drain_counts.specs.Basins.{ends_before, end_number, AreEndLabels, IsBasinLabel, AreLabelsSoFar, AreBasinLabels}
@@ -152,6 +152,6 @@ AreBasinLabels-all g ps e labels are known =
       );
       voids = λ c inside void. elim (cases_eq (cell_number e labels c) 0) [
         | inl none ↦ none
-        | inr some ↦ absurd (no_void (g.elevation c) void (are.right c inside some).here.is_data)
+        | inr some ↦ absurd (void_data (g.elevation c) void (are.right c inside some).here.is_data)
       ];
     }

@@ -8,7 +8,7 @@ use Rattle.drain_grid.specs.Run.{next, RunEnds}
 use Rattle.drain_grid.specs.Size.{Extent}
 use Rattle.drain_grid.proofs.Lowered.{same_or_not}
 use Rattle.drain_grid.proofs.Walks.{endless-stuck}
-use Rattle.drain_paths.proofs.Cells.{in_grid, earlier_index}
+use Rattle.drain_grid.proofs.CellOrder.{in_grid, earlier_index}
 use Rattle.drain_counts.specs.CellNumbers.{cell_number, AreNumbersSoFar, IsPutAt}
 
 -- what had a number still has one

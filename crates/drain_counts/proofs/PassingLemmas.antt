@@ -20,12 +20,11 @@ use Rattle.drain_grid.proofs.EndedRuns.{ended_chains, ended-run_steps}
 use Rattle.drain_grid.proofs.HandedOn.{handed_on, handed_none, handed_same, handed_at_least}
 use Rattle.drain_grid.proofs.Inflows.{FlowsFrom, HasData-flow, next-flow, flow-next}
 use Rattle.drain_grid.proofs.Lowered.{same_or_not}
-use Rattle.drain_grid.proofs.Options.{none_some, same_some}
+use Rattle.drain_grid.proofs.Options.{none_some, same_some, void_data}
 use Rattle.drain_grid.proofs.Runs.{cell_count, index_of-below}
 use Rattle.drain_grid.proofs.Upstream.{upstream_count-parts}
 use Rattle.drain_grid.proofs.Walks.{run_steps-le}
-use Rattle.drain_paths.proofs.Cells.{in_grid}
-use Rattle.drain_paths.proofs.NextCells.{no_void}
+use Rattle.drain_grid.proofs.CellOrder.{in_grid}
 use Rattle.drain_paths.specs.declared.flow.Flow.{Flow}
 use Rattle.drain_paths.specs.declared.flow.Flow.TheVariants.{Void, Lost, Ends, ToEast, ToSouthEast, ToSouth, ToSouthWest, ToWest, ToNorthWest, ToNorth, ToNorthEast}
 use Rattle.drain_paths.specs.Flows.{flow_at, AreFlowsOf}
@@ -269,7 +268,7 @@ module _ (g : Grid) (ps : Products) (e : Extent) (waits counts : List ℕ) (stat
               omega (arith, same_sum, kept, sum))
         ];
         voids = λ x inside void.
-            passed.same x (in_grid g e x state.extent inside) (λ same. no_void (g.elevation x) void (ap (λ y. is_some (g.elevation y)) same ∙ ahead_data.is_data))
+            passed.same x (in_grid g e x state.extent inside) (λ same. void_data (g.elevation x) void (ap (λ y. is_some (g.elevation y)) same ∙ ahead_data.is_data))
             ∙ state.voids x inside void;
       }
         where

@@ -86,6 +86,14 @@ tallies_fit g ps row total here inside few narrow above along = (
   count_fits (has_outlet_code g ps) g row _ _ inside few narrow above.outlets along.outlets,
 )
 
+-- rules that hold in the rows above and before a column hold before the cell there
+pub before-cell : (profile : Profile) (IsOwn : Rule → Type 0) (g : Grid) (ps : Products) (row col : ℕ) → ((r : ℕ) → r < row → HoldAlong profile IsOwn g ps r g.extent.cols) →
+    ((k : ℕ) (rule : Rule) → k < col → IsOwn rule → HoldsAt profile g ps (place row k) rule) →
+    (b : Cell) (rule : Rule) → IsInside g b → IsEarlier b (place row col) → IsOwn rule → HoldsAt profile g ps b rule
+before-cell profile IsOwn g ps row col above along b rule in_grid (inl north) own = above b.row north b.col rule in_grid.col own
+before-cell profile IsOwn g ps row col above along b rule in_grid (inr west) own =
+    subst (λ r. HoldsAt profile g ps (place r b.col) rule) (sym west.0) (along b.col rule west.1 own)
+
 -- the first fault of the first row that has one is the first of the grid
 pub IsFirstFault-row : (profile : Profile) (IsOwn : Rule → Type 0) (g : Grid) (ps : Products) (row col : ℕ) (rule : Rule) → row < g.extent.rows →
     ((r : ℕ) → r < row → HoldAlong profile IsOwn g ps r g.extent.cols) → IsRowFault profile IsOwn g ps row col rule →
@@ -98,10 +106,7 @@ IsFirstFault-row profile IsOwn g ps row col rule inside above here = record {
 }
   where
     first : (b : Cell) (q : Rule) → IsInside g b → IsOwn q → IsEarlierPair b q (place row col) rule → HoldsAt profile g ps b q
-    first b q in_grid own (inl (inl before)) = above b.row before b.col q in_grid.col own
-    first b q in_grid own (inl (inr beside)) =
-        let back : HoldsAt profile g ps (place row b.col) q = here.before b.col q beside.1 own in
-        subst (λ r. HoldsAt profile g ps (place r b.col) q) (sym beside.0) back
+    first b q in_grid own (inl earlier) = before-cell profile IsOwn g ps row col above here.before b q in_grid earlier own
     first b q in_grid own (inr same) = subst (λ c. HoldsAt profile g ps c q) (sym same.0) (here.smaller q own same.1)
 
 -- where the rows above keep every rule, a new label of the row is one of the grid
@@ -113,15 +118,9 @@ HasNewLabel-row profile g ps row col above along = (
     has_data = along.has_data;
     code = along.code;
     here = λ rule own. along.holds col rule (omega arith) own;
-    before = before;
+    before = before-cell profile IsAnyRule g ps row col above (λ k rule less own. along.holds k rule (omega arith) own);
   },
 )
-  where
-    before : (b : Cell) (rule : Rule) → IsInside g b → IsEarlier b (place row col) → IsAnyRule rule → HoldsAt profile g ps b rule
-    before b rule in_grid (inl north) own = above b.row north b.col rule in_grid.col own
-    before b rule in_grid (inr west) own =
-        let back : HoldsAt profile g ps (place row b.col) rule = along.holds b.col rule (omega (arith, west.1)) own in
-        subst (λ r. HoldsAt profile g ps (place r b.col) rule) (sym west.0) back
 
 -- rules that hold along every row hold at every cell
 RulesHold-rows : (profile : Profile) (IsOwn : Rule → Type 0) (g : Grid) (ps : Products) →

@@ -1,5 +1,5 @@
 -- Cleared cells are passed at once: no rule fails at them, and they have no label, since they are no outlets.
-use Rattle.std.proofs.Common.{◌≡◌, ◌≢◌, ℕ, zero, suc, ℤ, ◌+◌, ◌-◌, ◌<◌, ◌≤◌, ◌↔◌, ◌⊎◌, cond, ◌&&◌, true, false, is_some, IsSome, pos, List, Option, Some, None, map, inl, inr, refl, sym, ◌∙◌, ap, subst, arith, add-one}
+use Rattle.std.proofs.Common.{◌≡◌, ◌≢◌, ℕ, zero, suc, ℤ, ◌+◌, ◌-◌, ◌<◌, ◌≤◌, ◌↔◌, ◌⊎◌, cond, ◌&&◌, true, false, is_some, IsSome, pos, List, Option, Some, None, map, inl, inr, refl, sym, ◌∙◌, ap, subst, arith}
 use Rattle.std.specs.List.{range_with_len}
 use Rattle.std.specs.Ordering.{int_eq}
 use Rattle.std.proofs.lemmas.Bool.Decides.{Decides-int_eq}
@@ -23,15 +23,14 @@ use Rattle.drain_rules.proofs.PassedCells.{IsPassed, passed-more}
 use Rattle.drain_rules.proofs.RowLemmas.{CountsAlong-more}
 
 -- how many are raised, with one column more
-raised_between-none : (shown : ℕ → Patch) (from : ℕ) → raised_between shown from from ≡ 0
+pub raised_between-none : (shown : ℕ → Patch) (from : ℕ) → raised_between shown from from ≡ 0
 raised_between-none shown from = let e : from - from ≡ 0 = omega arith in rw e refl
 
-raised_between-more : (shown : ℕ → Patch) (from n : ℕ) →
-    raised_between shown from (from + (n + 1)) ≡ raised_between shown from (from + n) + cond (shows_raised (shown (from + n))) 1 0
-raised_between-more shown from n =
-    let one_more : from + (n + 1) - from ≡ n + 1 = omega arith in
-    let so_far : from + n - from ≡ n = omega arith in
-    rw (one_more, so_far) (sum_by-map-range_with_len_more (λ p. cond (shows_raised p) 1 0) shown from n (from + n) refl)
+pub raised_between-more : (shown : ℕ → Patch) (from col : ℕ) → from ≤ col →
+    raised_between shown from (col + 1) ≡ raised_between shown from col + cond (shows_raised (shown col)) 1 0
+raised_between-more shown from col past =
+    let one_more : col + 1 - from ≡ col - from + 1 = omega arith in
+    rw one_more (sum_by-map-range_with_len_more (λ p. cond (shows_raised p) 1 0) shown from (col - from) col (omega arith))
 
 -- at most all columns are
 pub raised_between-fits : (shown : ℕ → Patch) (from end : ℕ) → raised_between shown from end ≤ end - from
@@ -39,10 +38,10 @@ raised_between-fits shown from end =
     omega (arith, count_by-le-length shows_raised (map shown (range_with_len from (end - from))), length-map-range_with_len shown from (end - from))
 
 -- a data cell adds 1 to their count, and one that is no outlet adds none to that of outlets
-counts_one : (z : Option ℤ) → IsSome z → ◌≡◌ {A = ℕ} (cond (is_some z) 1 0) 1
+pub counts_one : (z : Option ℤ) → IsSome z → ◌≡◌ {A = ℕ} (cond (is_some z) 1 0) 1
 counts_one z is = ap (λ b. cond b 1 0) is
 
-counts_none : (z : Option ℤ) (dir : ℤ) → dir ≢ pos 0 → ◌≡◌ {A = ℕ} (cond (is_some z && int_eq dir (pos 0)) 1 0) 0
+pub counts_none : (z : Option ℤ) (dir : ℤ) → dir ≢ pos 0 → ◌≡◌ {A = ℕ} (cond (is_some z && int_eq dir (pos 0)) 1 0) 0
 counts_none None dir other = refl
 counts_none (Some h) dir other = elim (int_eq dir (pos 0)) as (λ b. int_eq dir (pos 0) ≡ b → ◌≡◌ {A = ℕ} (cond b 1 0) 0) [
   | true ↦ λ same. absurd (other ((Decides-int_eq dir (pos 0)).0 same))
@@ -82,15 +81,15 @@ module _ (profile : Profile) (cols : ℕ) (shown : ℕ → Patch) (P : ℕ → T
   kept_some from (suc n) old new within so_far kept data_cells raised outlets =
       let before : Tally = record { data_cells = old.data_cells + n; raised = old.raised + raised_between shown from (from + n); outlets = old.outlets } in
       let earlier = kept_some from n old before (omega (arith, within)) so_far (λ col past less. kept col past (omega (arith, less))) refl refl refl in
-      let more : raised_between shown from (from + suc n) ≡ raised_between shown from (from + n) + cond (shows_raised (shown (from + n))) 1 0 =
-      subst (λ m. raised_between shown from (from + m) ≡ raised_between shown from (from + n) + cond (shows_raised (shown (from + n))) 1 0) (add-one n)
-      (raised_between-more shown from n) in
       let next : from + n + 1 ≡ from + suc n = omega arith in
+      let more : raised_between shown from (from + suc n) ≡ raised_between shown from (from + n) + cond (shows_raised (shown (from + n))) 1 0 =
+      subst (λ m. raised_between shown from m ≡ raised_between shown from (from + n) + cond (shows_raised (shown (from + n))) 1 0) next
+      (raised_between-more shown from (from + n) (omega arith)) in
       subst (λ col. P col new) next
       (one (from + n) before new (omega (arith, within)) earlier (kept (from + n) (omega arith) (omega arith)) (omega (arith, data_cells)) (omega (arith, raised, more)) outlets)
 
   -- and so do the cells that a row clears
-  kept_run : (from : ℕ) (kept : Kept) (old new : Tally) → from ≤ kept.end → kept.end ≤ cols → P from old →
+  pub kept_run : (from : ℕ) (kept : Kept) (old new : Tally) → from ≤ kept.end → kept.end ≤ cols → P from old →
       ((col : ℕ) → from ≤ col → col < kept.end → IsKept profile (shown col)) → kept.raised ≡ raised_between shown from kept.end →
       new.data_cells ≡ old.data_cells + (kept.end - from) → new.raised ≡ old.raised + kept.raised → new.outlets ≡ old.outlets → P kept.end new
   kept_run from kept old new forward within so_far all count data_cells raised outlets =
@@ -122,7 +121,7 @@ module _ (profile : Profile) (g : Grid) (ps : Products) (row cols : ℕ) (shown 
       kept_run profile cols shown (λ col tally. IsPassed profile g ps row col tally labels)
       (λ col old new less so_far at data_cells raised outlets.
       let p = shown col in
-      passed-more profile g ps row col cols shown p old new labels labels are less refl so_far (kept_holds profile labels p at)
+      passed-more profile g ps row col cols shown p.here old new labels labels are less refl so_far (kept_holds profile labels p at)
       (omega (arith, data_cells, counts_one p.here.z at.has_data)) raised (omega (arith, outlets, counts_none p.here.z p.here.dir at.no_outlet)) (no_label profile labels p at))
       from kept old new
 

@@ -1,4 +1,5 @@
 mod EqualGrids
+pub mod CountBounds
 pub mod Faults
 pub mod FindingLemmas
 pub mod GridLemmas
@@ -12,4 +13,5 @@ pub mod RightVoids
 pub mod RowFields
 pub mod RowLemmas
 pub mod RowPatches
+pub mod RowRuns
 pub mod Screens

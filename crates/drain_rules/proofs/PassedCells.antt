@@ -6,6 +6,7 @@ use Rattle.drain_grid.specs.declared.patch.Patch.{Patch}
 use Rattle.drain_grid.specs.Rule.{IsAnyRule, IsLeastFault}
 use Rattle.drain_grid.specs.Grid.{Grid, Products, IsInside, patch_at}
 use Rattle.drain_grid.specs.PatchRules.{Profile}
+use Rattle.drain_grid.specs.Values.{Values}
 use Rattle.drain_rules.specs.declared.cell_rules.Stop.{Stop}
 use Rattle.drain_rules.specs.declared.tally.Tally.{Tally}
 use Rattle.drain_rules.specs.Labels.{AreLabelsBefore, IsLabelOf, labelled_profile}
@@ -22,35 +23,36 @@ pub record IsPassed (profile : Profile) (g : Grid) (ps : Products) (row col : �
   pub counted : CountsAlong g ps row col tally
   pub before : AreLabelsBefore g ps (place row col) labels
 
-inside-row : (g : Grid) (ps : Products) (row col cols : ℕ) (shown : ℕ → Patch) → AreRowPatches g ps row cols shown → col < cols → IsInside g (place row col)
+-- a column of the row is one of the grid
+pub inside-row : (g : Grid) (ps : Products) (row col cols : ℕ) (shown : ℕ → Patch) → AreRowPatches g ps row cols shown → col < cols → IsInside g (place row col)
 inside-row g ps row col cols shown are less = record { row = are.inside; col = omega (arith, less, are.cols_are) }
 
 -- where all rules hold at the next cell, it is passed too
-pub passed-more : (profile : Profile) (g : Grid) (ps : Products) (row col cols : ℕ) (shown : ℕ → Patch) (p : Patch) (old new : Tally) (before after : List (ℕ × ℕ)) →
-    AreRowPatches g ps row cols shown → col < cols → p ≡ shown col → IsPassed profile g ps row col old before →
-    IsLeastFault IsAnyRule (labelled_profile profile before p) None →
-    new.data_cells ≡ old.data_cells + cond (is_some p.here.z) 1 0 →
-    new.raised ≡ old.raised + cond (is_some p.here.z && int_lt (unwrap_or p.here.z (pos 0)) p.here.con) 1 0 →
-    new.outlets ≡ old.outlets + cond (is_some p.here.z && int_eq p.here.dir (pos 0)) 1 0 →
-    ((label : ℤ) → IsAdmitted after label ↔ (IsLabelOf p.here label ⊎ IsAdmitted before label)) → IsPassed profile g ps row (col + 1) new after
-passed-more profile g ps row col cols shown p old new before after are less is passed least data_cells raised outlets admits =
+pub passed-more : (profile : Profile) (g : Grid) (ps : Products) (row col cols : ℕ) (shown : ℕ → Patch) (v : Values) (old new : Tally) (before after : List (ℕ × ℕ)) →
+    AreRowPatches g ps row cols shown → col < cols → v ≡ (shown col).here → IsPassed profile g ps row col old before →
+    IsLeastFault IsAnyRule (labelled_profile profile before (shown col)) None →
+    new.data_cells ≡ old.data_cells + cond (is_some v.z) 1 0 →
+    new.raised ≡ old.raised + cond (is_some v.z && int_lt (unwrap_or v.z (pos 0)) v.con) 1 0 →
+    new.outlets ≡ old.outlets + cond (is_some v.z && int_eq v.dir (pos 0)) 1 0 →
+    ((label : ℤ) → IsAdmitted after label ↔ (IsLabelOf (shown col).here label ⊎ IsAdmitted before label)) → IsPassed profile g ps row (col + 1) new after
+passed-more profile g ps row col cols shown v old new before after are less is passed least data_cells raised outlets admits =
     let inside = inside-row g ps row col cols shown are less in
-    let same : p ≡ patch_at g ps (place row col) = is ∙ are.patches_are col less in
+    let same : shown col ≡ patch_at g ps (place row col) = are.patches_are col less in
     let here = ap (λ (q : Patch). q.here) same in
     record {
       holds = HoldAlong-more profile IsAnyRule g ps row col passed.holds
-          (IsLeastFault-cell profile g ps before (place row col) p None inside passed.before same least);
-      counted = CountsAlong-more g ps row col p.here old new here passed.counted data_cells raised outlets;
-      before = AreLabelsBefore-more g ps row col p.here before after inside here passed.before admits;
+          (IsLeastFault-cell profile g ps before (place row col) (shown col) None inside passed.before same least);
+      counted = CountsAlong-more g ps row col v old new (is ∙ here) passed.counted data_cells raised outlets;
+      before = AreLabelsBefore-more g ps row col (shown col).here before after inside here passed.before admits;
     }
 
 -- what stops a walk at the next cell stops it in the row
-pub stops-row : (profile : Profile) (g : Grid) (ps : Products) (row col cols : ℕ) (shown : ℕ → Patch) (p : Patch) (tally : Tally) (before : List (ℕ × ℕ)) (stop : Stop) →
-    AreRowPatches g ps row cols shown → col < cols → p ≡ shown col → IsPassed profile g ps row col tally before →
-    IsCellStop profile before p stop → IsStopAt profile g ps row col stop
-stops-row profile g ps row col cols shown p tally before stop are less is passed stopped =
-    IsStopAt-cell profile g ps row col before p stop (inside-row g ps row col cols shown are less) passed.holds passed.before
-    (is ∙ are.patches_are col less) stopped
+pub stops-row : (profile : Profile) (g : Grid) (ps : Products) (row col cols : ℕ) (shown : ℕ → Patch) (tally : Tally) (before : List (ℕ × ℕ)) (stop : Stop) →
+    AreRowPatches g ps row cols shown → col < cols → IsPassed profile g ps row col tally before →
+    IsCellStop profile before (shown col) stop → IsStopAt profile g ps row col stop
+stops-row profile g ps row col cols shown tally before stop are less passed stopped =
+    IsStopAt-cell profile g ps row col before (shown col) stop (inside-row g ps row col cols shown are less) passed.holds passed.before
+    (are.patches_are col less) stopped
 
 -- a row that was passed to its end keeps the rules, and is counted
 pub passed-row : (profile : Profile) (g : Grid) (ps : Products) (row col cols : ℕ) (shown : ℕ → Patch) (tally : Tally) (labels : List (ℕ × ℕ)) →

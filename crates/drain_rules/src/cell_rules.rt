@@ -1,17 +1,18 @@
 //! All rules at one cell, given the labels of the outlets before it.
 
-ghost use Rattle.std.specs.Prelude.{◌↔◌, ◌⊎◌, ℤ, IsTrue, IfOk, IfErr, OnOk, OnErr, None};
+ghost use Rattle.std.specs.Prelude.{◌≡◌, ◌<◌, ◌↔◌, ◌⊎◌, ℤ, IsTrue, IfOk, IfErr, OnOk, OnErr, None};
 ghost use Rattle.drain_basin.specs.Admitted.{IsAdmitted};
 ghost use Rattle.drain_grid.specs.PatchRules.{BelowGroundHolds};
-ghost use Rattle.drain_grid.specs.Rule.{IsAnyRule, IsLeastFault};
+ghost use Rattle.drain_grid.specs.Rule.{IsAnyRule, IsLeastFault, IsPatchRule};
 ghost use Rattle.drain_rules.specs.Labels.{IsOutletByCode, IsLabelOf, labelled_profile};
 ghost use Rattle.drain_kernel.specs.Rules.{tried};
 ghost use Rattle.drain_rules.specs.Stops.{IsCellStop};
 
 use crate::outlet::is_outlet_by_code;
+use crate::patch_row::PatchRow;
 use crate::patch_rules::screened_fault;
 use drain_basin::OutletLabels;
-use drain_grid::{CellValues, OutOfMemory, Patch, Rule};
+use drain_grid::{CellValues, OutOfMemory, Rule};
 use drain_kernel::Rules;
 
 /// Why a walk stops.
@@ -22,27 +23,48 @@ pub enum Stop {
     OutOfMemory,
 }
 
-/// Tries every rule at a cell, and admits its label if it is an outlet by its code.
+/// The first of the rules from VoidCell to Label that fails at a column of a row, none if they all hold.
+///
+/// If the cell is known not to be below its ground (`is_above`), that isn't checked again. The patch is looked at only
+/// where the row doesn't show an outlet that keeps them.
+fn fault_at<R: PatchRow>(row: &R, rules: &Rules, col: u32, is_above: bool) -> Option<Rule>
+    requires inside { col < R.len row.now }
+    requires above { IsTrue is_above → BelowGroundHolds (R.shown row.now col) }
+    ensures least { IsLeastFault IsPatchRule (tried rules.now (R.shown row.now col)) result }
+{
+    if row.is_right_outlet(rules, col) {
+        None
+    } else {
+        screened_fault(&row.patch(col), rules, is_above)
+    }
+}
+
+/// Tries every rule at a column of a row, and admits the label of the cell if it is an outlet by its code. Returns the
+/// cell's values.
 ///
 /// If the cell is known not to be below its ground (`is_above`), that isn't checked again. `labels` are those of the
 /// outlets before the cell. A label is admitted only if the other rules hold; `OutOfMemory` comes only from that, at an
 /// outlet whose label is new.
-pub fn check_cell(
-    patch: &Patch,
+pub fn check_cell<R: PatchRow>(
+    row: &R,
     rules: &Rules,
+    col: u32,
     is_above: bool,
     labels: &mut OutletLabels,
-) -> Result<(), Stop>
-    requires { IsTrue is_above → BelowGroundHolds patch.now }
-    ensures passed { OnOk result (IsLeastFault IsAnyRule (labelled_profile (tried rules.now) labels.old patch.now) None) }
-    ensures labels { OnOk result ((label : ℤ) → IsAdmitted labels.new label ↔ (IsLabelOf patch.now.here label ⊎ IsAdmitted labels.old label)) }
-    ensures stopped { IfErr result (IsCellStop (tried rules.now) labels.old patch.now) }
+) -> Result<CellValues, Stop>
+    requires inside { col < R.len row.now }
+    requires above { IsTrue is_above → BelowGroundHolds (R.shown row.now col) }
+    ensures values { IfOk result (λ here. here ≡ (R.shown row.now col).here) }
+    ensures passed { OnOk result (IsLeastFault IsAnyRule (labelled_profile (tried rules.now) labels.old (R.shown row.now col)) None) }
+    ensures labels { OnOk result ((label : ℤ) → IsAdmitted labels.new label ↔ (IsLabelOf (R.shown row.now col).here label ⊎ IsAdmitted labels.old label)) }
+    ensures stopped { IfErr result (IsCellStop (tried rules.now) labels.old (R.shown row.now col)) }
 {
-    if let Some(rule) = screened_fault(patch, rules, is_above) {
+    if let Some(rule) = fault_at(row, rules, col, is_above) {
         return Err(Stop::Fault(rule));
     }
-    match admits_label(labels, &patch.here) {
-        Ok(true) => Ok(()),
+    let here = row.values(col);
+    match admits_label(labels, &here) {
+        Ok(true) => Ok(here),
         Ok(false) => Err(Stop::Fault(Rule::SharedLabel)),
         Err(OutOfMemory) => Err(Stop::OutOfMemory),
     }

@@ -2,17 +2,18 @@
 //!
 //! A row of patches is apart from the rasters because it need not keep them: three rows of numbers show as much.
 
-ghost use Rattle.std.specs.Prelude.{◌≡◌, ◌<◌, ◌≤◌, ℕ};
+ghost use Rattle.std.specs.Prelude.{◌≡◌, ◌<◌, ◌≤◌, ℕ, IsTrue, None};
 ghost use Rattle.drain_grid.specs.declared.cell.TheConstants.{MAX_LENGTH};
 ghost use Rattle.drain_grid.specs.declared.patch.Patch.{Patch};
 ghost use Rattle.drain_grid.specs.PatchRules.{BelowGroundHolds};
+ghost use Rattle.drain_grid.specs.Rule.{IsLeastFault, IsPatchRule};
 ghost use Rattle.drain_kernel.specs.Kept.{IsKept};
 ghost use Rattle.drain_kernel.specs.Rules.{tried};
 ghost use Rattle.drain_rules.specs.BlankVoids.{IsRightVoid};
 ghost use Rattle.drain_rules.specs.KeptRuns.{raised_between};
 
 use crate::kept::Kept;
-use drain_grid::Patch;
+use drain_grid::{CellValues, Patch};
 use drain_kernel::Rules;
 
 /// A row of a grid that shows the patch round each of its cells.
@@ -48,6 +49,17 @@ pub trait PatchRow {
         ensures forward { from ≤ result }
         ensures within { result ≤ len self.now }
         ensures right { (col : ℕ) → from ≤ col → col < result → IsRightVoid (tried rules.now) (shown self.now col) };
+
+    /// Whether every rule but SharedLabel is found to hold at a column, because the cell is a right outlet. False shows
+    /// nothing.
+    fn is_right_outlet(&self, rules: &Rules, col: u32) -> bool
+        requires { col < len self.now }
+        ensures { IsTrue result → IsLeastFault IsPatchRule (tried rules.now (shown self.now col)) None };
+
+    /// The values at a column.
+    fn values(&self, col: u32) -> CellValues
+        requires { col < len self.now }
+        ensures { result ≡ (shown self.now col).here };
 
     /// The values at a column and those of its neighbours.
     fn patch(&self, col: u32) -> Patch

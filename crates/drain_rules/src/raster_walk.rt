@@ -12,7 +12,7 @@ use crate::kept::Kept;
 use crate::patch_row::PatchRow;
 use crate::verdict::Verdict;
 use drain_grid::laws::correct_from_rules;
-use drain_grid::{Cell, Elevation, OutOfMemory, Patch, ProductSet, Sinks};
+use drain_grid::{Cell, CellValues, Elevation, OutOfMemory, Patch, ProductSet, Sinks};
 use drain_kernel::{Ranks, Rules};
 use std::alloc::Global;
 
@@ -104,6 +104,15 @@ impl<'a> PatchRow for RasterRow<'a> {
     /// Likewise.
     fn voids_until(&self, _rules: &Rules, from: u32) -> u32 {
         from
+    }
+
+    /// Likewise.
+    fn is_right_outlet(&self, _rules: &Rules, _col: u32) -> bool {
+        false
+    }
+
+    fn values(&self, col: u32) -> CellValues {
+        self.patch(col).here
     }
 
     fn patch(&self, col: u32) -> Patch {

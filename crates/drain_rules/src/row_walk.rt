@@ -1,4 +1,4 @@
-//! The check of one row, patch by patch.
+//! The check of one row: cells that lanes clear, voids without a fault, and the others one by one.
 
 ghost use Rattle.std.specs.Prelude.{◌+◌, IfOk, IfErr, OnOk};
 ghost use Rattle.drain_grid.specs.declared.cell.TheConstants.{MAX_LENGTH};
@@ -43,9 +43,8 @@ pub fn check_row<R: PatchRow>(
         tally.add_kept(kept.end - col, kept.raised);
         col = row.voids_until(rules, kept.end);
         if col < cols {
-            let patch = row.patch(col);
-            match check_cell(&patch, rules, col < above, labels) {
-                Ok(()) => tally.add(&patch.here),
+            match check_cell(row, rules, col, col < above, labels) {
+                Ok(here) => tally.add(&here),
                 Err(stop) => return Err(RowStop { stop, col }),
             }
             col += 1;

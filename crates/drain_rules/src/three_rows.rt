@@ -15,9 +15,9 @@ use crate::kept::Kept;
 use crate::lane_pass::{is_cleared_at, run_until};
 use crate::patch_row::PatchRow;
 use crate::row_view::RowView;
-use drain_grid::{NoData, Patch};
+use drain_grid::{CellValues, NoData, Patch};
 use drain_kernel::laws::{lanes_show_numbers, raised_are_counted};
-use drain_kernel::{Lanes, Ranks, Rules, Sums};
+use drain_kernel::{Lanes, Ranks, Rules, Sums, outlet_holds_at};
 
 /// A row, and those above and below it; empty at the grid's edge.
 #[derive(Drop)]
@@ -61,6 +61,25 @@ impl PatchRow for ThreeRows<'_> {
             col += 1;
         }
         col
+    }
+
+    /// Those that the lanes of the three rows show beside voids; none if a row has no lanes.
+    fn is_right_outlet(&self, rules: &Rules, col: u32) -> bool {
+        let (Some(above), Some(here), Some(below)) = (
+            self.above.lanes(),
+            self.here.lanes(),
+            self.below.lanes(),
+        ) else {
+            return false;
+        };
+        // The law on what lanes show.
+        lanes_show_numbers();
+        outlet_holds_at(above, here, below, rules, col as usize)
+    }
+
+    #[inline(always)]
+    fn values(&self, col: u32) -> CellValues {
+        self.here.values(col as usize)
     }
 
     fn patch(&self, col: u32) -> Patch {

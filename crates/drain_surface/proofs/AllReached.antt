@@ -1,6 +1,6 @@
 -- If the trail is empty and no cell waits, every data cell is reached: going east from it leads to an open cell, since
 -- the last column is on the edge, and every open cell is reached.
-use Rattle.std.proofs.Common.{◌≡◌, ℕ, zero, suc, ◌+◌, ◌-◌, ◌<◌, inl, inr, ℤ, List, [], Option, Some, None, IsNone, option_map, Contains, refl, sym, subst, arith}
+use Rattle.std.proofs.Common.{◌≡◌, ℕ, zero, suc, ◌+◌, ◌-◌, ◌<◌, inl, inr, ℤ, List, [], Option, Some, None, option_map, Contains, refl, sym, subst, arith}
 use Rattle.std.proofs.lemmas.Bool.{cases_eq}
 use Rattle.drain_grid.specs.declared.cell.Cell.{Cell}
 use Rattle.drain_grid.specs.declared.direction.Direction.{Direction}
@@ -9,7 +9,7 @@ use Rattle.drain_grid.specs.Direction.{opposite}
 use Rattle.drain_grid.specs.Extent.{step}
 use Rattle.drain_grid.specs.Grid.{Grid, HasData, IsOpenCell}
 use Rattle.drain_grid.specs.Open.{IsGap}
-use Rattle.drain_grid.proofs.OpenAmong.{IsOpenAmong-gap}
+use Rattle.drain_grid.proofs.OpenAmong.{IsOpenAmong-gap, gap_from_void}
 use Rattle.drain_grid.proofs.Neighbors.{step_lies}
 use Rattle.drain_grid.proofs.Inflows.{step_back}
 use Rattle.drain_surface.specs.declared.codes.TheConstants.{OPEN, UNREACHED}
@@ -46,17 +46,13 @@ module _ (g : Grid) (f : Flooding) (level : ℤ) (flood : IsFloodOf g f level []
         | inr code ↦ record { here = here; code = code }
       ]
 
-  void_gap : (z : Option ℤ) → IsNone z → IsGap (Some z)
-  void_gap None h = tt
-  void_gap (Some z) h = cc
-
   from_step : (c : Cell) (o : Option Cell) → HasData g c → step g.extent c East ≡ o →
       ((n : Cell) → HasData g n → step g.extent c East ≡ Some n → IsReachedCell g f n) → IsReachedCell g f c
   from_step c None here leads onward =
       gap_reached c East here (subst (λ o. IsGap (option_map g.elevation o)) (sym leads) tt)
   from_step c (Some n) here leads onward =
       elim (none_or_some (g.elevation n)) [
-        | inl void ↦ gap_reached c East here (subst (λ o. IsGap (option_map g.elevation o)) (sym leads) (void_gap (g.elevation n) void))
+        | inl void ↦ gap_reached c East here (subst (λ o. IsGap (option_map g.elevation o)) (sym leads) (gap_from_void (g.elevation n) void))
         | inr some ↦ (let there : HasData g n = record { inside = (step_lies g.extent c n East leads).0; is_data = some } in
             beside_reached c n (opposite East) here (onward n there leads) (step_back g c n East here.inside leads))
       ]

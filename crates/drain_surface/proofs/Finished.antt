@@ -1,5 +1,5 @@
 -- A flooded grid stays flooded without the trail and the waiting cells.
-use Rattle.std.proofs.Common.{◌≡◌, [], List, ℕ, ℤ}
+use Rattle.std.proofs.Common.{[], List, ℕ, ℤ}
 use Rattle.drain_grid.specs.Grid.{Grid}
 use Rattle.drain_grid.specs.Size.{Extent}
 use Rattle.drain_surface.specs.Floods.{Flooding, IsFlooded}

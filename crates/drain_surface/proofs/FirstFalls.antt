@@ -148,136 +148,92 @@ record IsFirstOf (L : Direction → ℕ) (straight : Bool) (least code : ℕ) : 
   bound : (e : Direction) → is_straight e ≡ straight → least ≤ L e
   earlier : (e : Direction) → is_straight e ≡ straight → order_of e < order_of way → L e ≢ least
 
-earlier_along : (L : Direction → ℕ) (least n : ℕ) → (0 < n → L East ≢ least) → (2 < n → L South ≢ least) → (4 < n → L West ≢ least) → (6 < n → L North ≢ least) →
-    (e : Direction) → is_straight e ≡ true → order_of e < n → L e ≢ least
-earlier_along L least n east south west north East kind less = east less
-earlier_along L least n east south west north SouthEast kind less = absurd (false≢true kind)
-earlier_along L least n east south west north South kind less = south less
-earlier_along L least n east south west north SouthWest kind less = absurd (false≢true kind)
-earlier_along L least n east south west north West kind less = west less
-earlier_along L least n east south west north NorthWest kind less = absurd (false≢true kind)
-earlier_along L least n east south west north North kind less = north less
-earlier_along L least n east south west north NorthEast kind less = absurd (false≢true kind)
+-- the four ways along a row or a column, and the four across a corner
+by_straight : (P : Direction → Type 0) → P East → P South → P West → P North → (e : Direction) → is_straight e ≡ true → P e
+by_straight P east south west north East kind = east
+by_straight P east south west north SouthEast kind = absurd (false≢true kind)
+by_straight P east south west north South kind = south
+by_straight P east south west north SouthWest kind = absurd (false≢true kind)
+by_straight P east south west north West kind = west
+by_straight P east south west north NorthWest kind = absurd (false≢true kind)
+by_straight P east south west north North kind = north
+by_straight P east south west north NorthEast kind = absurd (false≢true kind)
 
-earlier_across : (L : Direction → ℕ) (least n : ℕ) → (1 < n → L SouthEast ≢ least) → (3 < n → L SouthWest ≢ least) → (5 < n → L NorthWest ≢ least) → (7 < n → L NorthEast ≢ least) →
-    (e : Direction) → is_straight e ≡ false → order_of e < n → L e ≢ least
-earlier_across L least n se sw nw ne East kind less = absurd (false≢true (sym kind))
-earlier_across L least n se sw nw ne SouthEast kind less = se less
-earlier_across L least n se sw nw ne South kind less = absurd (false≢true (sym kind))
-earlier_across L least n se sw nw ne SouthWest kind less = sw less
-earlier_across L least n se sw nw ne West kind less = absurd (false≢true (sym kind))
-earlier_across L least n se sw nw ne NorthWest kind less = nw less
-earlier_across L least n se sw nw ne North kind less = absurd (false≢true (sym kind))
-earlier_across L least n se sw nw ne NorthEast kind less = ne less
+by_aslant : (P : Direction → Type 0) → P SouthEast → P SouthWest → P NorthWest → P NorthEast → (e : Direction) → is_straight e ≡ false → P e
+by_aslant P se sw nw ne East kind = absurd (false≢true (sym kind))
+by_aslant P se sw nw ne SouthEast kind = se
+by_aslant P se sw nw ne South kind = absurd (false≢true (sym kind))
+by_aslant P se sw nw ne SouthWest kind = sw
+by_aslant P se sw nw ne West kind = absurd (false≢true (sym kind))
+by_aslant P se sw nw ne NorthWest kind = nw
+by_aslant P se sw nw ne North kind = absurd (false≢true (sym kind))
+by_aslant P se sw nw ne NorthEast kind = ne
 
 bound_along : (L : Direction → ℕ) (e : Direction) → is_straight e ≡ true → least_along (map L directions) ≤ L e
-bound_along L East kind = omega arith
-bound_along L SouthEast kind = absurd (false≢true kind)
-bound_along L South kind = omega arith
-bound_along L SouthWest kind = absurd (false≢true kind)
-bound_along L West kind = omega arith
-bound_along L NorthWest kind = absurd (false≢true kind)
-bound_along L North kind = omega arith
-bound_along L NorthEast kind = absurd (false≢true kind)
+bound_along L = by_straight (λ e. least_along (map L directions) ≤ L e) (omega arith) (omega arith) (omega arith) (omega arith)
 
 bound_across : (L : Direction → ℕ) (e : Direction) → is_straight e ≡ false → least_across (map L directions) ≤ L e
-bound_across L East kind = absurd (false≢true (sym kind))
-bound_across L SouthEast kind = omega arith
-bound_across L South kind = absurd (false≢true (sym kind))
-bound_across L SouthWest kind = omega arith
-bound_across L West kind = absurd (false≢true (sym kind))
-bound_across L NorthWest kind = omega arith
-bound_across L North kind = absurd (false≢true (sym kind))
-bound_across L NorthEast kind = omega arith
+bound_across L = by_aslant (λ e. least_across (map L directions) ≤ L e) (omega arith) (omega arith) (omega arith) (omega arith)
 
 last_of_four : (p q r s : ℕ) → p ≢ min (min p q) (min r s) → q ≢ min (min p q) (min r s) → r ≢ min (min p q) (min r s) → s ≡ min (min p q) (min r s)
 last_of_four p q r s not_p not_q not_r = omega (arith, not_p, not_q, not_r)
 
-none_before : (n m : ℕ) {P : Type 0} → n ≤ m → m < n → P
-none_before n m most less = absurd (omega (arith, most, less))
-
-along_by : (L : Direction → ℕ) (least : ℕ) (p q r : Bool) → (L East == least) ≡ p → (L South == least) ≡ q → (L West == least) ≡ r →
-    ((e : Direction) → is_straight e ≡ true → least ≤ L e) → (L East ≢ least → L South ≢ least → L West ≢ least → L North ≡ least) →
-    IsFirstOf L true least (if p then 1 else if q then 4 else if r then 16 else 64)
-along_by L least true q r is_p is_q is_r bound last = record {
-  way = East;
-  kind = refl;
+-- of four ways of one kind, in their order, the first whose lane is the least
+first_of_four : (L : Direction → ℕ) (kind : Bool) (a b c d : Direction)
+    (only : (P : Direction → Type 0) → P a → P b → P c → P d → (e : Direction) → is_straight e ≡ kind → P e)
+    (a_is : is_straight a ≡ kind) (b_is : is_straight b ≡ kind) (c_is : is_straight c ≡ kind) (d_is : is_straight d ≡ kind)
+    (a_b : order_of a < order_of b) (b_c : order_of b < order_of c) (c_d : order_of c < order_of d)
+    (least : ℕ) (p q r : Bool) → (L a == least) ≡ p → (L b == least) ≡ q → (L c == least) ≡ r →
+    ((e : Direction) → is_straight e ≡ kind → least ≤ L e) → (L a ≢ least → L b ≢ least → L c ≢ least → L d ≡ least) →
+    IsFirstOf L kind least (if p then code_of a else if q then code_of b else if r then code_of c else code_of d)
+first_of_four L kind a b c d only a_is b_is c_is d_is a_b b_c c_d least true q r is_p is_q is_r bound last = record {
+  way = a;
+  kind = a_is;
   leads = eqb-true _ _ is_p;
   code_is = refl;
   bound = bound;
-  earlier = earlier_along L least 0 (none_before 0 0 (omega arith)) (none_before 0 2 (omega arith)) (none_before 0 4 (omega arith)) (none_before 0 6 (omega arith));
+  earlier = only (λ e. order_of e < order_of a → L e ≢ least) (λ less. absurd (omega arith)) (λ less. absurd (omega arith)) (λ less. absurd (omega arith))
+      (λ less. absurd (omega arith));
 }
-along_by L least false true r is_p is_q is_r bound last = record {
-  way = South;
-  kind = refl;
+first_of_four L kind a b c d only a_is b_is c_is d_is a_b b_c c_d least false true r is_p is_q is_r bound last = record {
+  way = b;
+  kind = b_is;
   leads = eqb-true _ _ is_q;
   code_is = refl;
   bound = bound;
-  earlier = earlier_along L least 2 (λ _. eqb-false _ _ is_p) (none_before 2 2 (omega arith)) (none_before 2 4 (omega arith)) (none_before 2 6 (omega arith));
+  earlier = only (λ e. order_of e < order_of b → L e ≢ least) (λ less. eqb-false _ _ is_p) (λ less. absurd (omega arith)) (λ less. absurd (omega arith))
+      (λ less. absurd (omega arith));
 }
-along_by L least false false true is_p is_q is_r bound last = record {
-  way = West;
-  kind = refl;
+first_of_four L kind a b c d only a_is b_is c_is d_is a_b b_c c_d least false false true is_p is_q is_r bound last = record {
+  way = c;
+  kind = c_is;
   leads = eqb-true _ _ is_r;
   code_is = refl;
   bound = bound;
-  earlier = earlier_along L least 4 (λ _. eqb-false _ _ is_p) (λ _. eqb-false _ _ is_q) (none_before 4 4 (omega arith)) (none_before 4 6 (omega arith));
+  earlier = only (λ e. order_of e < order_of c → L e ≢ least) (λ less. eqb-false _ _ is_p) (λ less. eqb-false _ _ is_q) (λ less. absurd (omega arith))
+      (λ less. absurd (omega arith));
 }
-along_by L least false false false is_p is_q is_r bound last = record {
-  way = North;
-  kind = refl;
+first_of_four L kind a b c d only a_is b_is c_is d_is a_b b_c c_d least false false false is_p is_q is_r bound last = record {
+  way = d;
+  kind = d_is;
   leads = last (eqb-false _ _ is_p) (eqb-false _ _ is_q) (eqb-false _ _ is_r);
   code_is = refl;
   bound = bound;
-  earlier = earlier_along L least 6 (λ _. eqb-false _ _ is_p) (λ _. eqb-false _ _ is_q) (λ _. eqb-false _ _ is_r) (none_before 6 6 (omega arith));
+  earlier = only (λ e. order_of e < order_of d → L e ≢ least) (λ less. eqb-false _ _ is_p) (λ less. eqb-false _ _ is_q) (λ less. eqb-false _ _ is_r)
+      (λ less. absurd (omega arith));
 }
 
 along : (L : Direction → ℕ) → IsFirstOf L true (least_along (map L directions)) (first_along (map L directions) (least_along (map L directions)))
 along L =
     let least = least_along (map L directions) in
-    along_by L least (L East == least) (L South == least) (L West == least) refl refl refl (bound_along L) (last_of_four (L East) (L South) (L West) (L North))
-
-across_by : (L : Direction → ℕ) (least : ℕ) (p q r : Bool) → (L SouthEast == least) ≡ p → (L SouthWest == least) ≡ q → (L NorthWest == least) ≡ r →
-    ((e : Direction) → is_straight e ≡ false → least ≤ L e) → (L SouthEast ≢ least → L SouthWest ≢ least → L NorthWest ≢ least → L NorthEast ≡ least) →
-    IsFirstOf L false least (if p then 2 else if q then 8 else if r then 32 else 128)
-across_by L least true q r is_p is_q is_r bound last = record {
-  way = SouthEast;
-  kind = refl;
-  leads = eqb-true _ _ is_p;
-  code_is = refl;
-  bound = bound;
-  earlier = earlier_across L least 1 (none_before 1 1 (omega arith)) (none_before 1 3 (omega arith)) (none_before 1 5 (omega arith)) (none_before 1 7 (omega arith));
-}
-across_by L least false true r is_p is_q is_r bound last = record {
-  way = SouthWest;
-  kind = refl;
-  leads = eqb-true _ _ is_q;
-  code_is = refl;
-  bound = bound;
-  earlier = earlier_across L least 3 (λ _. eqb-false _ _ is_p) (none_before 3 3 (omega arith)) (none_before 3 5 (omega arith)) (none_before 3 7 (omega arith));
-}
-across_by L least false false true is_p is_q is_r bound last = record {
-  way = NorthWest;
-  kind = refl;
-  leads = eqb-true _ _ is_r;
-  code_is = refl;
-  bound = bound;
-  earlier = earlier_across L least 5 (λ _. eqb-false _ _ is_p) (λ _. eqb-false _ _ is_q) (none_before 5 5 (omega arith)) (none_before 5 7 (omega arith));
-}
-across_by L least false false false is_p is_q is_r bound last = record {
-  way = NorthEast;
-  kind = refl;
-  leads = last (eqb-false _ _ is_p) (eqb-false _ _ is_q) (eqb-false _ _ is_r);
-  code_is = refl;
-  bound = bound;
-  earlier = earlier_across L least 7 (λ _. eqb-false _ _ is_p) (λ _. eqb-false _ _ is_q) (λ _. eqb-false _ _ is_r) (none_before 7 7 (omega arith));
-}
+    first_of_four L true East South West North by_straight refl refl refl refl (omega arith) (omega arith) (omega arith) least (L East == least) (L South == least)
+    (L West == least) refl refl refl (bound_along L) (last_of_four (L East) (L South) (L West) (L North))
 
 across : (L : Direction → ℕ) → IsFirstOf L false (least_across (map L directions)) (first_across (map L directions) (least_across (map L directions)))
 across L =
     let least = least_across (map L directions) in
-    across_by L least (L SouthEast == least) (L SouthWest == least) (L NorthWest == least) refl refl refl (bound_across L)
-    (last_of_four (L SouthEast) (L SouthWest) (L NorthWest) (L NorthEast))
+    first_of_four L false SouthEast SouthWest NorthWest NorthEast by_aslant refl refl refl refl (omega arith) (omega arith) (omega arith) least (L SouthEast == least)
+    (L SouthWest == least) (L NorthWest == least) refl refl refl (bound_across L) (last_of_four (L SouthEast) (L SouthWest) (L NorthWest) (L NorthEast))
 
 -- the steepest of one kind is the steepest of all if it is steeper than each of the other kind
 by_kinds : (level : ℕ) (L : Direction → ℕ) (d : Direction) (kind : Bool) → is_straight d ≡ kind → L d < level →

@@ -1,20 +1,17 @@
 -- Rows of lanes as they are laid, and the codes of whole rows.
 use Rattle.std.proofs.Common.{◌≡◌, ◌∙◌, ℕ, ◌+◌, ◌-◌, ◌*◌, ◌<◌, ◌≤◌, ◌==◌, inl, inr, pos, List, length, slice_index, slice_index_or, if◌then◌else◌, sym, ap, subst, arith}
-use Rattle.std.proofs.lemmas.Bool.{cases_eq, cases_lt}
-use Rattle.std.proofs.lemmas.Nat.{mul-add-lt}
+use Rattle.std.proofs.lemmas.Bool.{cases_lt}
 use Rattle.drain_grid.specs.declared.cell.Cell.{Cell}
-use Rattle.drain_grid.specs.declared.direction.Direction.{Direction}
-use Rattle.drain_grid.specs.declared.direction.Direction.TheVariants.{East, SouthEast, South, SouthWest, West, NorthWest, North, NorthEast}
-use Rattle.drain_grid.specs.Direction.{rows_down}
 use Rattle.drain_grid.specs.Extent.{index_of}
 use Rattle.drain_grid.specs.Grid.{Grid, IsInside}
 use Rattle.drain_grid.specs.Size.{Extent}
-use Rattle.drain_grid.proofs.Neighbors.{place}
+use Rattle.drain_grid.proofs.ThreeRows.{three_rows, at_ends, place_in_row, place_in_own_row}
+use Rattle.drain_grid.proofs.CellOrder.{before_row}
 use Rattle.drain_surface.specs.declared.falls.TheConstants.{GAP}
 use Rattle.drain_surface.specs.Floods.{Flooding, IsFlooded}
 use Rattle.drain_surface.specs.Lanes.{AreRowLanes, IsLane, fall_at}
 use Rattle.drain_surface.specs.Ways.{AreFirstCodes, IsCodeAt}
-use Rattle.drain_surface.proofs.SteepestWays.{code_from_lanes, fall_small, row_beside}
+use Rattle.drain_surface.proofs.SteepestWays.{code_from_lanes, fall_small}
 
 -- what was laid between two gaps is the row
 pub laid_row : (e : Extent) (f : Flooding) (down start len : ℕ) (lanes : List ℕ) → 0 < down → down ≤ e.rows → start ≡ (down - 1) * e.cols → len ≡ e.cols + 2 →
@@ -23,37 +20,10 @@ pub laid_row : (e : Extent) (f : Flooding) (down start len : ℕ) (lanes : List 
 laid_row e f down start len lanes some most start_is long first last each = record {
   heights = λ n inside row.
       (let col = inside.col in
-      subst (λ i. IsLane (slice_index_or f.con i (pos 0)) (slice_index lanes (n.col + 1))) (same_place n.row n.col down start e.cols row start_is)
+      subst (λ i. IsLane (slice_index_or f.con i (pos 0)) (slice_index lanes (n.col + 1))) (place_in_row n.row n.col down start e.cols row start_is)
       (each n.col (omega (arith, col, long))));
-  gaps = λ right less none.
-      elim (cases_eq right 0) [
-        | inl zero ↦ subst (λ k. slice_index lanes k ≡ GAP) (sym zero) first
-        | inr more ↦
-            elim (cases_eq (right + 1) len) [
-              | inl end ↦ last right end
-              | inr before ↦
-                  absurd (none (place (down - 1) (right - 1)) (record { row = omega (arith, some, most); col = omega (arith, more, before, less, long) })
-                  (omega (arith, some)) (omega (arith, more)))
-            ]
-      ];
+  gaps = λ right. at_ends e down len GAP right lanes some most long first last;
 }
-  where
-    same_place : (row col down start cols : ℕ) → row + 1 ≡ down → start ≡ (down - 1) * cols → start + col ≡ row * cols + col
-    same_place row col down start cols next start_is =
-        let above : down - 1 ≡ row = omega (arith, next) in
-        let begins : (down - 1) * cols ≡ row * cols = ap (λ r. r * cols) above in
-        omega (arith, begins, start_is)
-
-three_rows : (e : Extent) (f : Flooding) (row own : ℕ) (a h b : List ℕ) → own ≡ row → AreRowLanes e f row a → AreRowLanes e f (row + 1) h → AreRowLanes e f (row + 2) b →
-    (d : Direction) → AreRowLanes e f (own + rows_down d) (row_beside a h b d)
-three_rows e f row own a h b same in_a in_h in_b East = subst (λ k. AreRowLanes e f (k + 1) h) (sym same) in_h
-three_rows e f row own a h b same in_a in_h in_b SouthEast = subst (λ k. AreRowLanes e f (k + 2) b) (sym same) in_b
-three_rows e f row own a h b same in_a in_h in_b South = subst (λ k. AreRowLanes e f (k + 2) b) (sym same) in_b
-three_rows e f row own a h b same in_a in_h in_b SouthWest = subst (λ k. AreRowLanes e f (k + 2) b) (sym same) in_b
-three_rows e f row own a h b same in_a in_h in_b West = subst (λ k. AreRowLanes e f (k + 1) h) (sym same) in_h
-three_rows e f row own a h b same in_a in_h in_b NorthWest = subst (λ k. AreRowLanes e f k a) (omega (arith, same)) in_a
-three_rows e f row own a h b same in_a in_h in_b North = subst (λ k. AreRowLanes e f k a) (omega (arith, same)) in_a
-three_rows e f row own a h b same in_a in_h in_b NorthEast = subst (λ k. AreRowLanes e f k a) (omega (arith, same)) in_a
 
 -- the code of a cell of the row
 pub row_code : (g : Grid) (f : Flooding) (c : Cell) (row start : ℕ) (a h b codes marks dirs : List ℕ) → IsFlooded g f → IsInside g c → c.row ≡ row →
@@ -62,22 +32,14 @@ pub row_code : (g : Grid) (f : Flooding) (c : Cell) (row start : ℕ) (a h b cod
     (slice_index codes c.col < 256 → slice_index dirs (start + c.col) ≡ (if slice_index codes c.col == 0 then slice_index marks (start + c.col) else slice_index codes c.col)) →
     IsCodeAt g f c (slice_index dirs (index_of g.extent c))
 row_code g f c row start a h b codes marks dirs flooded inside at in_a in_h in_b code_is marks_are start_is put =
-    let here : start + c.col ≡ index_of g.extent c = same_place c.row c.col row start g.extent.cols at start_is in
+    let here : start + c.col ≡ index_of g.extent c = place_in_own_row c.row c.col row start g.extent.cols at start_is in
     code_from_lanes g f c a h b (slice_index codes c.col) (slice_index marks (start + c.col)) (slice_index dirs (index_of g.extent c)) flooded inside
-    (three_rows g.extent f row c.row a h b at in_a in_h in_b) code_is (ap (slice_index marks) here ∙ ap (λ xs. slice_index xs (index_of g.extent c)) marks_are)
+    (three_rows (AreRowLanes g.extent f) row c.row a h b at in_a in_h in_b) code_is (ap (slice_index marks) here ∙ ap (λ xs. slice_index xs (index_of g.extent c)) marks_are)
     (ap (slice_index dirs) (sym here) ∙ put (fall_small a h b c.col (slice_index codes c.col) code_is))
-  where
-    same_place : (own col row start cols : ℕ) → own ≡ row → start ≡ row * cols → start + col ≡ own * cols + col
-    same_place own col row start cols at start_is =
-        let begins : own * cols ≡ row * cols = ap (λ r. r * cols) at in
-        omega (arith, begins, start_is)
 
 -- the codes of the rows before this one
 abbrev pub AreRowCodes : Grid → Flooding → ℕ → List ℕ → Type 0
 AreRowCodes g f row dirs = (c : Cell) → IsInside g c → c.row < row → IsCodeAt g f c (slice_index dirs (index_of g.extent c))
-
-before_row : (own col row cols : ℕ) → own < row → col < cols → own * cols + col < row * cols
-before_row own col row cols less inside = let below = mul-add-lt own cols col row less inside in omega (arith, below)
 
 pub row_more : (g : Grid) (f : Flooding) (row : ℕ) (old new : List ℕ) → AreRowCodes g f row old →
     ((c : Cell) → IsInside g c → c.row ≡ row → IsCodeAt g f c (slice_index new (index_of g.extent c))) →

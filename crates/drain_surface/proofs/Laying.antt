@@ -1,5 +1,5 @@
 -- The start of a flood: cell by cell in row order the open cells are reached.
-use Rattle.std.proofs.Common.{◌≡◌, ◌≢◌, ℕ, ◌+◌, ◌*◌, ◌<◌, ◌∙◌, ◌⊎◌, inl, inr, ℤ, pos, ◌≤ℤ◌, ◌<ℤ◌, Bool, true, false, Option, List, [], ◌∷◌, IsNone, IsSome, IsTrue, ◌↔◌, unwrap_or, Some, None, Contains, get_or, refl, sym, ap, subst, arith}
+use Rattle.std.proofs.Common.{◌≡◌, ◌≢◌, ℕ, ◌+◌, ◌*◌, ◌<◌, ◌∙◌, ◌⊎◌, inl, inr, ℤ, pos, ◌≤ℤ◌, ◌<ℤ◌, Bool, true, false, List, [], ◌∷◌, IsNone, IsSome, IsTrue, ◌↔◌, unwrap_or, Some, None, Contains, get_or, refl, sym, ap, subst, arith}
 use Rattle.std.specs.List.{All}
 use Rattle.std.specs.Int.{int_max}
 use Rattle.std.proofs.lemmas.Bool.{cases_eq, false≢true}
@@ -17,10 +17,12 @@ use Rattle.drain_grid.specs.WholeGrid.{grid_of}
 use Rattle.drain_grid.proofs.Decisions.{cases}
 use Rattle.drain_grid.proofs.PatchDecisions.{open_cell}
 use Rattle.drain_grid.proofs.Runs.{index_of-below}
+use Rattle.drain_grid.proofs.Options.{void_data}
+use Rattle.drain_grid.proofs.CellOrder.{same_index}
+use Rattle.drain_grid.proofs.Lowered.{same_or_not}
 use Rattle.drain_surface.specs.declared.codes.TheConstants.{OPEN, UNREACHED, VOID, NO_HEIGHT}
 use Rattle.drain_surface.specs.Floods.{Flooding, con_at, mark_at, IsReachedCell, IsUnreached, IsBlankIn, IsOpenIn, HasDescent, IsWaiting, IsAhead, IsCounted, IsFloodOf}
 use Rattle.drain_surface.specs.Laid.{Puts, Lays, IsLaid, IsBlankFlood, IsBesideGap}
-use Rattle.drain_surface.proofs.Cells.{same_index, same_or_other}
 
 outlet_reached : (code : ℕ) → code ≡ OPEN → code ≡ UNREACHED → ⊥
 outlet_reached code outlet fresh = absurd (omega arith)
@@ -37,10 +39,6 @@ earlier_still k xs early i d less = one_more (get_or xs i d) (early i d less)
 
 pub at_most : (z : ℤ) → NO_HEIGHT <ℤ z → NO_HEIGHT ≤ℤ z
 at_most z above = omega (arith, ints)
-
-void_data : (z : Option ℤ) → IsNone z → IsSome z → ⊥
-void_data None h s = cc
-void_data (Some z) h s = cc
 
 -- before a first cell
 pub laid_none : (g : Grid) (f : Flooding) → IsCounted g f → ((c : Cell) → IsInside g c → IsBlankIn g f c) → f.ahead ≡ [] → f.waiting ≡ [] → IsLaid g f 0
@@ -59,7 +57,7 @@ laid_none g f counted blank no_ahead no_waiting = record {
 module _ (g : Grid) (n : Cell) (inside_n : IsInside g n) where
   here_or_earlier : (c : Cell) → IsInside g c → index_of g.extent c < index_of g.extent n + 1 → (c ≡ n) ⊎ ((c ≢ n) × (index_of g.extent c < index_of g.extent n))
   here_or_earlier c inside less =
-      elim (same_or_other c n) [
+      elim (same_or_not c n) [
         | inl same ↦ inl same
         | inr differ ↦
             elim (cases_eq (index_of g.extent c) (index_of g.extent n)) [

@@ -1,15 +1,16 @@
 -- The neighbours of a cell, direction by direction.
-use Rattle.std.proofs.Common.{◌≡◌, ◌≢◌, ℕ, ◌+◌, ◌<◌, ◌≤◌, ◌∙◌, inl, inr, ℤ, ◌≤ℤ◌, ◌<ℤ◌, Bool, true, false, ◌||◌, List, get_or, length, refl, sym, ap, subst, arith}
+use Rattle.std.proofs.Common.{◌≡◌, ◌≢◌, ℕ, ◌+◌, ◌≤◌, ◌∙◌, inl, inr, ℤ, ◌≤ℤ◌, ◌<ℤ◌, Bool, true, false, ◌||◌, List, get_or, length, refl, sym, ap, subst, arith}
 use Rattle.std.specs.Int.{int_max}
 use Rattle.std.proofs.lemmas.Bool.{cases_order, or_left, or_right}
 use Rattle.drain_grid.specs.declared.cell.Cell.{Cell}
 use Rattle.drain_grid.specs.declared.direction.Direction.{Direction}
-use Rattle.drain_grid.specs.declared.direction.Direction.TheVariants.{East, SouthEast, South, SouthWest, West, NorthWest, North, NorthEast}
-use Rattle.drain_grid.specs.Direction.{directions, order_of}
+use Rattle.drain_grid.specs.declared.direction.Direction.TheVariants.{East}
+use Rattle.drain_grid.specs.Direction.{directions}
 use Rattle.drain_grid.specs.Extent.{index_of}
 use Rattle.drain_grid.specs.Grid.{Grid, height_at}
 use Rattle.drain_grid.specs.Size.{Extent}
 use Rattle.drain_grid.proofs.Options.{same_some}
+use Rattle.drain_grid.proofs.Directions.{of_each}
 use Rattle.std.proofs.lemmas.List.{length_push}
 use Rattle.drain_surface.specs.Floods.{Flooding, con_at, mark_at, unreached, IsUnreached, Reaches, IsReachedFrom}
 use Rattle.drain_surface.specs.Looks.{IsLook, IsAround, IsLookedBefore, PassesLook}
@@ -132,17 +133,6 @@ less_more e first old new c d level raises false less (inr (n, takes)) =
     balance : (a b c x y z : ℕ) → a + 1 ≡ b → x ≡ y + 1 → b + y ≡ c + z → a + x ≡ c + z
     balance a b c x y z one more is = omega arith
 
--- a direction is at its place, which is below 8
-pub at_place : (d : Direction) → (get_or directions (order_of d) East ≡ d) × (order_of d < 8)
-at_place East = (refl, omega arith)
-at_place SouthEast = (refl, omega arith)
-at_place South = (refl, omega arith)
-at_place SouthWest = (refl, omega arith)
-at_place West = (refl, omega arith)
-at_place NorthWest = (refl, omega arith)
-at_place North = (refl, omega arith)
-at_place NorthEast = (refl, omega arith)
-
 -- after the last direction all neighbours were looked at
 pub around_all : (g : Grid) (f : Flooding) (stand : ℤ) (busy : List ℕ) (c : Cell) (level : ℤ) (raises left : Bool) (k : ℕ) → k ≡ 8 →
     IsAround g f stand busy c level raises left k → IsLookedAround g f stand busy c level raises left
@@ -150,10 +140,5 @@ around_all g f stand busy c level raises left k last around = record {
   flood = around.before.flood;
   reached = around.before.reached;
   con = around.before.con;
-  beside = λ n d fresh there.
-      (let place = at_place d in
-      subst (PassesLook g f c level raises left) place.0 (around.passed (order_of d) (within (order_of d) k last place.1)) n fresh there);
+  beside = λ n d. of_each (PassesLook g f c level raises left) k last around.passed d n;
 }
-  where
-    within : (i k : ℕ) → k ≡ 8 → i < 8 → i < k
-    within i k last less = omega arith

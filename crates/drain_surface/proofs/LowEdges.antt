@@ -13,16 +13,17 @@ use Rattle.drain_grid.specs.Extent.{index_of, step}
 use Rattle.drain_grid.specs.Grid.{Grid, HasData, IsInside}
 use Rattle.drain_grid.specs.Size.{Extent}
 use Rattle.drain_grid.proofs.Decisions.{cases}
-use Rattle.drain_grid.proofs.Inflows.{step_back}
+use Rattle.drain_grid.proofs.Inflows.{step_back, opposite_opposite}
 use Rattle.drain_grid.proofs.Neighbors.{step_lies}
 use Rattle.drain_grid.proofs.PatchDecisions.{open_cell}
 use Rattle.drain_grid.proofs.Runs.{index_of-below}
+use Rattle.drain_grid.proofs.CellOrder.{same_index}
 use Rattle.drain_surface.specs.declared.codes.TheConstants.{OPEN, REACHED, VOID, NO_RANK}
 use Rattle.drain_surface.specs.Floods.{Flooding, con_at, mark_at, IsFlooded}
 use Rattle.drain_surface.specs.Flats.{first_rank, AreFirstRanks, Laying, way_at, rank_at, wayless, IsSettled, IsFlat, IsOnFlat, HasWay, IsLookedFor, IsToLook, AreLaid, Settles, IsSettledFrom}
 use Rattle.drain_surface.specs.Walks.{IsLowEdgeThere, with_ahead}
 use Rattle.drain_surface.specs.Ways.{IsWayDown, way_code, AreFirstCodes}
-use Rattle.drain_surface.proofs.Cells.{same_index, none_or_some}
+use Rattle.drain_surface.proofs.Cells.{none_or_some}
 use Rattle.drain_surface.proofs.Settling.{kept_by_settling, code_settles}
 use Rattle.drain_surface.proofs.SteepestWays.{data_code}
 use Rattle.drain_surface.proofs.Walking.{relaid}
@@ -149,16 +150,6 @@ looked_none g f w n level inside level_is none laid =
       },
     ))
 
-opposite_back : (d : Direction) → opposite (opposite d) ≡ d
-opposite_back East = refl
-opposite_back SouthEast = refl
-opposite_back South = refl
-opposite_back SouthWest = refl
-opposite_back West = refl
-opposite_back NorthWest = refl
-opposite_back North = refl
-opposite_back NorthEast = refl
-
 -- it is next to a low edge, and was settled from there
 pub looked_found : (g : Grid) (f : Flooding) (old new : Laying) (n : Cell) (level : ℤ) (d : Direction) (code : ℕ) → IsInside g n → level ≡ con_at g.extent f n →
     way_at g.extent old n ≡ REACHED → IsLowEdgeThere g.extent f old n level d → code ≡ code_of d → Settles g.extent old new n code 1 →
@@ -174,7 +165,7 @@ looked_found g f old new n level d code inside level_is flat (c, low_edge) code_
       there = step_back g n c d inside low_edge.there;
       new = flat;
       level = sym level_is ∙ sym low_edge.height;
-      code_is = code_is ∙ ap code_of (sym (opposite_back d));
+      code_is = code_is ∙ ap code_of (sym (opposite_opposite d));
       rank_is = ap (λ r. r + 1) (sym low_edge.low);
     } in
     let after = kept_by_settling g f old new (index_of g.extent n) [] c n (opposite d) code 1 laid from settles in

@@ -7,10 +7,10 @@ use Rattle.drain_grid.specs.declared.cell.Cell.{Cell}
 use Rattle.drain_grid.specs.Extent.{IsCellOf, index_of}
 use Rattle.drain_grid.specs.Size.{Extent}
 use Rattle.drain_grid.proofs.Runs.{index_of-below}
+use Rattle.drain_grid.proofs.CellOrder.{same_index}
 use Rattle.drain_surface.specs.declared.codes.TheConstants.{REACHED, UNREACHED}
 use Rattle.drain_surface.specs.Floods.{Flooding, mark_at, Reaches}
 use Rattle.drain_surface.specs.Laid.{Puts}
-use Rattle.drain_surface.proofs.Cells.{same_index}
 
 -- a number written at a cell's place is there
 pub put_there : {X : Type 0} (e : Extent) (xs : List X) (place : ℕ) (n : Cell) (x d : X) → IsCellOf e n → length xs ≡ e.rows * e.cols →

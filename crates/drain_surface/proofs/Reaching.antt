@@ -12,10 +12,11 @@ use Rattle.drain_grid.specs.Path.{IsPath, NeverRises}
 use Rattle.drain_grid.proofs.Inflows.{step_back}
 use Rattle.drain_grid.proofs.Least.{HasData-path}
 use Rattle.drain_grid.proofs.Neighbors.{step_lies, AreNeighbors-lies}
+use Rattle.drain_grid.proofs.Lowered.{same_or_not}
 use Rattle.drain_surface.specs.declared.codes.TheConstants.{OPEN, REACHED, UNREACHED, VOID}
 use Rattle.drain_surface.specs.Floods.{Flooding, con_at, mark_at, IsReachedCell, IsUnreached, IsBlankIn, IsOpenIn, HasDescent, IsKeptCell, IsWaiting, IsAhead, IsCounted, IsFloodOf, Reaches, IsReachedFrom}
 use Rattle.drain_surface.specs.Laws.{KeptByReaching}
-use Rattle.drain_surface.proofs.Cells.{same_or_other, none_or_some}
+use Rattle.drain_surface.proofs.Cells.{none_or_some}
 use Rattle.drain_surface.proofs.Levels.{not_below, capped, no_lower, over_ground, over_from}
 
 -- the marks of voids and of unreached cells differ
@@ -122,7 +123,7 @@ module _ (g : Grid) (old new : Flooding) (level : ℤ) (busy : List ℕ) (c n : 
 
   new_closed : (b : Cell) → IsReachedCell g new b → ¬ IsOpenCell g b → mark_at g.extent new b ≡ REACHED
   new_closed b reached shut =
-      elim (same_or_other b n) [
+      elim (same_or_not b n) [
         | inl same ↦ subst (λ x. mark_at g.extent new x ≡ REACHED) (sym same) reaches.mark_there
         | inr differ ↦ reaches.mark_same b reached.here.inside differ ∙ flood.closed b (was_reached b reached differ) shut
       ]
@@ -130,7 +131,7 @@ module _ (g : Grid) (old new : Flooding) (level : ℤ) (busy : List ℕ) (c n : 
   -- it covers the ground
   new_covers : (b : Cell) → IsReachedCell g new b → height_at g b ≤ℤ con_at g.extent new b
   new_covers b reached =
-      elim (same_or_other b n) [
+      elim (same_or_not b n) [
         | inl same ↦ subst (λ x. height_at g x ≤ℤ con_at g.extent new x) (sym same)
             (subst (λ z. height_at g n ≤ℤ z) (sym reaches.con_there) (over_ground con (height_at g n) (con_at g.extent old c) con_by_ground))
         | inr differ ↦ (let was = was_reached b reached differ in
@@ -174,14 +175,14 @@ module _ (g : Grid) (old new : Flooding) (level : ℤ) (busy : List ℕ) (c n : 
 
   new_drains : (b : Cell) → IsReachedCell g new b → HasDescent g new b
   new_drains b reached =
-      elim (same_or_other b n) [
+      elim (same_or_not b n) [
         | inl same ↦ subst (HasDescent g new) (sym same) descent_of_n
         | inr differ ↦ (let was = was_reached b reached differ in kept_descent b was (flood.drains b was))
       ]
 
   new_capped : (b : Cell) → IsReachedCell g new b → con_at g.extent new b ≤ℤ int_max (height_at g b) level
   new_capped b reached =
-      elim (same_or_other b n) [
+      elim (same_or_not b n) [
         | inl same ↦ subst (λ x. con_at g.extent new x ≤ℤ int_max (height_at g x) level) (sym same)
             (subst (λ z. z ≤ℤ int_max (height_at g n) level) (sym reaches.con_there) con_capped)
         | inr differ ↦ (let was = was_reached b reached differ in
@@ -201,11 +202,11 @@ module _ (g : Grid) (old new : Flooding) (level : ℤ) (busy : List ℕ) (c n : 
   new_least : (a b : Cell) (way : Direction) → IsReachedCell g new a → IsReachedCell g new b → step g.extent a way ≡ Some b →
       con_at g.extent new a ≤ℤ int_max (height_at g a) (con_at g.extent new b)
   new_least a b way at_a at_b leads =
-      elim (same_or_other b n) [
+      elim (same_or_not b n) [
         | inl b_new ↦ no_lower (con_at g.extent new a) (height_at g a) level (con_at g.extent new b) (new_capped a at_a)
             (subst (λ x. level ≤ℤ con_at g.extent new x) (sym b_new) low_anywhere)
         | inr b_old ↦
-            elim (same_or_other a n) [
+            elim (same_or_not a n) [
               | inl a_new ↦ no_lower (con_at g.extent new a) (height_at g a) level (con_at g.extent new b) (new_capped a at_a)
                   (beside_low b a (opposite way) at_b b_old (step_back g a b way at_a.here.inside leads) a_new)
               | inr a_old ↦ (let was_a = was_reached a at_a a_old in
@@ -238,7 +239,7 @@ module _ (g : Grid) (old new : Flooding) (level : ℤ) (busy : List ℕ) (c n : 
 
   new_frontier : (a b : Cell) (way : Direction) → IsReachedCell g new a → IsUnreached g new b → step g.extent a way ≡ Some b → IsKeptCell g new level busy a b
   new_frontier a b way at_a at_b leads =
-      elim (same_or_other a n) [
+      elim (same_or_not a n) [
         | inl a_new ↦ record {
           not_below = subst (λ x. level ≤ℤ con_at g.extent new x) (sym a_new) low_anywhere;
           held = inl (subst (λ x. Contains (busy ++ new.ahead) (index_of g.extent x)) (sym a_new)

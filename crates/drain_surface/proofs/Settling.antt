@@ -9,11 +9,12 @@ use Rattle.drain_grid.specs.Direction.{code_of, opposite}
 use Rattle.drain_grid.specs.Extent.{index_of, step}
 use Rattle.drain_grid.specs.Grid.{Grid, HasData, IsInside}
 use Rattle.drain_grid.proofs.Inflows.{step_back}
+use Rattle.drain_grid.proofs.Lowered.{same_or_not}
 use Rattle.drain_surface.specs.declared.codes.TheConstants.{REACHED, VOID}
 use Rattle.drain_surface.specs.Floods.{Flooding, con_at}
 use Rattle.drain_surface.specs.Flats.{Laying, way_at, rank_at, wayless, IsSettled, IsFlat, IsBlankWay, HasWay, IsLookedFor, IsToLook, AreLaid, Settles, IsSettledFrom}
 use Rattle.drain_surface.specs.Laws.{KeptBySettling}
-use Rattle.drain_surface.proofs.Cells.{same_or_other, none_or_some}
+use Rattle.drain_surface.proofs.Cells.{none_or_some}
 
 -- a direction's code isn't the mark of cells without a way
 pub code_settles : (d : Direction) → code_of d ≢ REACHED
@@ -121,7 +122,7 @@ module _ (g : Grid) (f : Flooding) (old new : Laying) (k : ℕ) (busy : List ℕ
 
   new_ways : (b : Cell) → IsSettled g new b → HasWay g f new b
   new_ways b settled =
-      elim (same_or_other b n) [
+      elim (same_or_not b n) [
         | inl same ↦ subst (HasWay g f new) (sym same) way_of_n
         | inr differ ↦ (let was = was_settled b settled differ in kept_way b was (laid.ways b was))
       ]
@@ -139,7 +140,7 @@ module _ (g : Grid) (f : Flooding) (old new : Laying) (k : ℕ) (busy : List ℕ
   new_frontier : (a b : Cell) (way : Direction) → IsSettled g new a → IsFlat g new b → step g.extent a way ≡ Some b →
       con_at g.extent f b ≡ con_at g.extent f a → IsLookedFor g new k busy a b
   new_frontier a b way at_a at_b leads level =
-      elim (same_or_other a n) [
+      elim (same_or_not a n) [
         | inl a_new ↦ inl (subst (λ x. Contains (busy ++ new.ahead) (index_of g.extent x)) (sym a_new)
             (subst (λ xs. Contains xs (index_of g.extent n)) (sym ahead_more) (Contains-push (busy ++ old.ahead) (index_of g.extent n))))
         | inr a_old ↦ (let was = was_settled a at_a a_old in kept_look a b was (laid.frontier a b way was (was_flat b at_b) leads level))
@@ -150,7 +151,7 @@ module _ (g : Grid) (f : Flooding) (old new : Laying) (k : ℕ) (busy : List ℕ
 
   new_ranked : (b : Cell) → IsSettled g new b → rank_at g.extent new b + wayless new < g.extent.rows * g.extent.cols
   new_ranked b settled =
-      elim (same_or_other b n) [
+      elim (same_or_not b n) [
         | inl same ↦ subst (λ x. rank_at g.extent new x + wayless new < g.extent.rows * g.extent.cols) (sym same)
             (ranks_on (rank_at g.extent new n) (rank_at g.extent old c) (wayless old) (wayless new) _ (settles.rank_there ∙ from.rank_is) (laid.ranked c from.from) settles.fewer)
         | inr differ ↦ (let was = was_settled b settled differ in

@@ -1,5 +1,5 @@
 -- The first steepest way down of a cell, from three rows of lanes.
-use Rattle.std.proofs.Common.{◌≡◌, ◌≢◌, ◌⊎◌, ◌∙◌, ℕ, ◌+◌, ◌-◌, ◌*◌, ◌<◌, ◌≤◌, ◌==◌, inl, inr, ℤ, pos, ◌+ℤ◌, ◌-ℤ◌, ◌≤ℤ◌, ◌<ℤ◌, Bool, true, false, List, Option, Some, None, slice_index, if◌then◌else◌, refl, sym, ap, subst, arith}
+use Rattle.std.proofs.Common.{◌≡◌, ◌≢◌, ◌∙◌, ℕ, ◌+◌, ◌-◌, ◌*◌, ◌<◌, ◌≤◌, ◌==◌, inl, inr, ℤ, pos, ◌+ℤ◌, ◌-ℤ◌, ◌≤ℤ◌, ◌<ℤ◌, Bool, true, false, List, Some, None, slice_index, if◌then◌else◌, refl, sym, ap, subst, arith}
 use Rattle.std.proofs.lemmas.Bool.{ne_eqb}
 use Rattle.std.proofs.lemmas.Int.{ints}
 use Rattle.drain_grid.specs.declared.cell.Cell.{Cell}
@@ -10,9 +10,10 @@ use Rattle.drain_grid.specs.Extent.{step}
 use Rattle.drain_grid.specs.Grid.{Grid, HasData, IsInside}
 use Rattle.drain_grid.specs.Slope.{slope_key}
 use Rattle.drain_grid.proofs.Decisions.{cases}
-use Rattle.drain_grid.proofs.Neighbors.{reach, step_gives, step_lies}
-use Rattle.drain_grid.proofs.Options.{none_some}
+use Rattle.drain_grid.proofs.Neighbors.{step_gives, step_lies}
+use Rattle.drain_grid.proofs.Options.{none_some, some_or_none}
 use Rattle.drain_grid.proofs.PatchDecisions.{open_cell}
+use Rattle.drain_grid.proofs.ThreeRows.{row_beside, number_beside, number_in_row, col_beside}
 use Rattle.drain_surface.specs.declared.falls.TheConstants.{GAP}
 use Rattle.drain_surface.specs.declared.codes.TheConstants.{NO_HEIGHT, VOID, OPEN, REACHED}
 use Rattle.drain_surface.specs.Floods.{Flooding, con_at, mark_at, IsFlooded}
@@ -35,47 +36,12 @@ data_code g f c flooded here code =
       | inr closed ↦ reached_differs (mark_at g.extent f c) (flooded.closed c here closed) code
     ]
 
--- the row in which the neighbour in a direction lies
-abbrev pub row_beside : List ℕ → List ℕ → List ℕ → Direction → List ℕ
-row_beside a h b East = h
-row_beside a h b SouthEast = b
-row_beside a h b South = b
-row_beside a h b SouthWest = b
-row_beside a h b West = h
-row_beside a h b NorthWest = a
-row_beside a h b North = a
-row_beside a h b NorthEast = a
-
--- and its lane
-abbrev pub lane_beside : List ℕ → List ℕ → List ℕ → ℕ → Direction → ℕ
-lane_beside a h b col East = slice_index h (col + 2)
-lane_beside a h b col SouthEast = slice_index b (col + 2)
-lane_beside a h b col South = slice_index b (col + 1)
-lane_beside a h b col SouthWest = slice_index b col
-lane_beside a h b col West = slice_index h col
-lane_beside a h b col NorthWest = slice_index a col
-lane_beside a h b col North = slice_index a (col + 1)
-lane_beside a h b col NorthEast = slice_index a (col + 2)
-
-same_col : (col : ℕ) → col ≡ col + 0
-same_col col = omega arith
-
-lane_in_row : (a h b : List ℕ) (col : ℕ) (d : Direction) → lane_beside a h b col d ≡ slice_index (row_beside a h b d) (col + cols_right d)
-lane_in_row a h b col East = refl
-lane_in_row a h b col SouthEast = refl
-lane_in_row a h b col South = refl
-lane_in_row a h b col SouthWest = ap (slice_index b) (same_col col)
-lane_in_row a h b col West = ap (slice_index h) (same_col col)
-lane_in_row a h b col NorthWest = ap (slice_index a) (same_col col)
-lane_in_row a h b col North = refl
-lane_in_row a h b col NorthEast = refl
-
 abbrev pub level_in : List ℕ → ℕ → ℕ
 level_in h col = slice_index h (col + 1)
 
 -- what the code at a column means
-pub fall_at_means : (a h b : List ℕ) (col : ℕ) → MeansFall (level_of_lane (level_in h col)) (lane_beside a h b col) (fall_at a h b col)
-fall_at_means a h b col = fall_means (level_in h col) (lane_beside a h b col)
+pub fall_at_means : (a h b : List ℕ) (col : ℕ) → MeansFall (level_of_lane (level_in h col)) (number_beside a h b col) (fall_at a h b col)
+fall_at_means a h b col = fall_means (level_in h col) (number_beside a h b col)
 
 level_data : (lane : ℕ) → lane < GAP → level_of_lane lane ≡ lane
 level_data lane less = ap (λ b. if b then 0 else lane) (ne_eqb lane GAP (λ same. absurd (omega (arith, same, less))))
@@ -122,15 +88,11 @@ less_weak p q less = omega (arith, less)
 below_gap : (p q : ℕ) → p < q → q < GAP → p < GAP
 below_gap p q less most = omega (arith, less, most)
 
-some_or_none : (o : Option Cell) → (o ≡ None) ⊎ ((n : Cell) × (o ≡ Some n))
-some_or_none None = inl refl
-some_or_none (Some n) = inr (n, refl)
-
 -- a data cell of a flooded grid, and three rows of lanes round it
 module _ (g : Grid) (f : Flooding) (flooded : IsFlooded g f) (c : Cell) (inside : IsInside g c) (a h b : List ℕ)
     (rows : (d : Direction) → AreRowLanes g.extent f (c.row + rows_down d) (row_beside a h b d)) where
   abbrev L : Direction → ℕ
-  L d = lane_beside a h b c.col d
+  L d = number_beside a h b c.col d
 
   abbrev level : ℕ
   level = level_in h c.col
@@ -141,7 +103,7 @@ module _ (g : Grid) (f : Flooding) (flooded : IsFlooded g f) (c : Cell) (inside 
   lane_there : (d : Direction) (n : Cell) → step g.extent c d ≡ Some n → IsLane (con_at g.extent f n) (L d)
   lane_there d n there =
       let lies = step_lies g.extent c n d there in
-      subst (IsLane (con_at g.extent f n)) (sym (lane_in_row a h b c.col d))
+      subst (IsLane (con_at g.extent f n)) (sym (number_in_row a h b c.col d))
       (subst (λ k. IsLane (con_at g.extent f n) (slice_index (row_beside a h b d) k)) lies.1.1 ((rows d).heights n lies.0 lies.1.0))
 
   own : IsLane (con_at g.extent f c) level
@@ -152,7 +114,7 @@ module _ (g : Grid) (f : Flooding) (flooded : IsFlooded g f) (c : Cell) (inside 
   data_there d less =
       elim (some_or_none (step g.extent c d)) [
         | inl none ↦
-            (let gap : L d ≡ GAP = lane_in_row a h b c.col d ∙ (rows d).gaps (c.col + cols_right d) (within c.col (cols_right d) g.extent.cols inside.col (reach d).1)
+            (let gap : L d ≡ GAP = number_in_row a h b c.col d ∙ (rows d).gaps (c.col + cols_right d) (col_beside c.col g.extent.cols d inside.col)
             (λ n in_n row col. none_some n (sym none ∙ step_gives g.extent c n d in_n (row, col))) in
             absurd (no_gap (L d) gap less))
         | inr (n, there) ↦
@@ -163,9 +125,6 @@ module _ (g : Grid) (f : Flooding) (flooded : IsFlooded g f) (c : Cell) (inside 
               | inr some ↦ (n, there, record { inside = (step_lies g.extent c n d there).0; is_data = some })
             ]
       ]
-    where
-      within : (col right cols : ℕ) → col < cols → right ≤ 2 → col + right < cols + 2
-      within col right cols less most = omega (arith, less, most)
 
   module _ (here : HasData g c) where
     level_is : pos level ≡ con_at g.extent f c +ℤ pos 32767
@@ -242,7 +201,7 @@ code_from_lanes g f c a h b code mark put flooded inside rows code_is mark_is pu
   way = λ here.
       (let level_is : level_of_lane (level_in h c.col) ≡ level_in h c.col =
       level_data (level_in h c.col) ((own g f flooded c inside a h b rows).below (data_height g f flooded c inside a h b rows c here)) in
-      elim (subst (λ z. MeansFall z (lane_beside a h b c.col) (fall_at a h b c.col)) level_is (fall_at_means a h b c.col)) [
+      elim (subst (λ z. MeansFall z (number_beside a h b c.col) (fall_at a h b c.col)) level_is (fall_at_means a h b c.col)) [
         | inl (none, most) ↦ record {
           way = None;
           down = none_down g f flooded c inside a h b rows here most;

@@ -8,10 +8,10 @@ use Rattle.drain_grid.specs.declared.cell.Cell.{Cell}
 use Rattle.drain_grid.specs.Extent.{IsCellOf, index_of}
 use Rattle.drain_grid.specs.Grid.{Grid, IsInside, height_at}
 use Rattle.drain_grid.specs.Size.{Extent}
+use Rattle.drain_grid.proofs.CellOrder.{same_index}
 use Rattle.drain_surface.specs.Floods.{Flooding, con_at, unreached, IsReachedCell, IsWaiting, IsAhead, IsFloodOf}
 use Rattle.drain_surface.specs.Looks.{IsLookedBefore}
 use Rattle.drain_surface.specs.Turns.{with_lists, IsOut, IsNextTurn, IsLeftWaiting, IsLessWork, IsLookedAround, IsPopped}
-use Rattle.drain_surface.proofs.Cells.{same_index}
 use Rattle.drain_surface.proofs.Turns.{taken, deferred, recalled, left, risen, put_has, put_keeps, put_all}
 
 -- what a call returned for a cell

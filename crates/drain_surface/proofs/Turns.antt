@@ -8,10 +8,10 @@ use Rattle.drain_grid.specs.declared.cell.Cell.{Cell}
 use Rattle.drain_grid.specs.declared.direction.Direction.{Direction}
 use Rattle.drain_grid.specs.Extent.{index_of, step}
 use Rattle.drain_grid.specs.Grid.{Grid, IsInside, height_at}
+use Rattle.drain_grid.proofs.CellOrder.{same_index}
 use Rattle.drain_surface.specs.Waiting.{Rises, IsPut}
 use Rattle.drain_surface.specs.Floods.{Flooding, con_at, IsReachedCell, IsUnreached, IsKeptCell, IsWaiting, IsAhead, IsFloodOf}
 use Rattle.drain_surface.specs.Turns.{with_lists, IsOut}
-use Rattle.drain_surface.proofs.Cells.{same_index}
 use Rattle.drain_surface.proofs.AllReached.{none_in}
 use Rattle.drain_surface.proofs.Levels.{cap_rises}
 

@@ -8,19 +8,19 @@ use Rattle.std.proofs.lemmas.List.Sums.{sum_by-set}
 use Rattle.drain_grid.specs.declared.cell.Cell.{Cell}
 use Rattle.drain_grid.specs.declared.direction.Direction.{Direction}
 use Rattle.drain_grid.specs.declared.direction.Direction.TheVariants.{East}
-use Rattle.drain_grid.specs.Direction.{directions, code_of, opposite, order_of}
+use Rattle.drain_grid.specs.Direction.{directions, code_of, opposite}
 use Rattle.drain_grid.specs.Extent.{IsCellOf, index_of, step}
 use Rattle.drain_grid.specs.Grid.{Grid, IsInside}
 use Rattle.drain_grid.specs.Size.{Extent}
 use Rattle.drain_grid.proofs.Options.{same_some}
 use Rattle.drain_grid.proofs.Runs.{index_of-below}
+use Rattle.drain_grid.proofs.CellOrder.{same_index}
+use Rattle.drain_grid.proofs.Directions.{of_each}
 use Rattle.drain_surface.specs.declared.codes.TheConstants.{REACHED}
 use Rattle.drain_surface.specs.declared.level_queue.TheConstants.{MAX_CELLS}
 use Rattle.drain_surface.specs.Floods.{Flooding, con_at}
 use Rattle.drain_surface.specs.Flats.{Laying, way_at, rank_at, wayless, IsSettled, IsFlat, HasWay, IsLookedFor, IsToLook, AreLaid, Settles, IsSettledFrom}
 use Rattle.drain_surface.specs.Walks.{IsWalk, NoneAt, IsWalked, IsPassed, IsLessWalk, with_ahead, IsNextPlace}
-use Rattle.drain_surface.proofs.Cells.{same_index}
-use Rattle.drain_surface.proofs.Looking.{at_place}
 use Rattle.drain_surface.proofs.Putting.{put_there, put_elsewhere}
 use Rattle.drain_surface.proofs.Settling.{kept_by_settling, code_settles}
 use Rattle.drain_surface.proofs.Turns.{cons_cases}
@@ -144,11 +144,8 @@ pub walk_all : (g : Grid) (f : Flooding) (w : Laying) (k : ℕ) (busy : List ℕ
 walk_all g f w k busy c rank i last walked = record {
   laid = walked.laid;
   settled = walked.settled;
-  none = λ d. (let place = at_place d in subst (NoneAt g f w c) place.0 (walked.passed (order_of d) (within (order_of d) i last place.1)));
+  none = of_each (NoneAt g f w c) i last walked.passed;
 }
-  where
-    within : (j i : ℕ) → i ≡ 8 → j < 8 → j < i
-    within j i last less = omega arith
 
 -- a rank of 32 bits has room for one more
 pub rank_seen : (g : Grid) (e : Extent) (f : Flooding) (w : Laying) (k : ℕ) (busy : List ℕ) (c : Cell) (r told : ℕ) → g.extent ≡ e →

@@ -39,11 +39,12 @@ use Rattle.drain_verdict.specs.Inputs.{Inputs}
 use Rattle.drain_verdict.specs.Meaning.{fields_of, input_grid, listed_in, nodata_in, nodata_numbers, input_nodata, input_products, input_tiles, tiling_of}
 use Rattle.drain_verdict.specs.Refusals.{NoneStandsBefore}
 use Rattle.drain_verdict.specs.ToGive.{ToGive, given}
+use Rattle.drain_verdict.specs.RowLaws.{RowLaws}
 use Rattle.drain_answer.specs.declared.refusal.Refusal.{Refusal}
 use Rattle.drain_answer.specs.declared.refusal.Refusal.TheVariants.{BadTileLength, RasterShort, SeamMismatch}
 use Rattle.drain_verdict.proofs.BodyAnswers.{raster_refused, rasters_none, seam_refused, seams_none, tile_refused, tiles_none}
 use Rattle.drain_grid.proofs.ByProduct.{by_set_product, by_set_product_or_spill, of_held}
-use Rattle.drain_verdict.proofs.RowEnd.{AreAtEnd, Laws}
+use Rattle.drain_verdict.proofs.RowEnd.{AreAtEnd}
 use Rattle.drain_verdict.proofs.RowGiven.{same_numbers}
 use Rattle.drain_verdict.proofs.RowStart.{is_row_given, row_given, to_give}
 
@@ -56,7 +57,7 @@ at_some : {A : Type 0} (o : Option A) (N : Type 0) (P : A → Type 0) (x : A) �
 at_some None N P x is m = absurd (let no : None ≡ Some x = is in cc)
 at_some (Some y) N P x is m = let same : y ≡ x = cc in subst P same m
 
-module _ (laws : Laws) (i : Inputs) (hs : PerProduct Fields) (fields : (p : SetProduct) → of_product hs p ≡ fields_of i p) {wrong : Option ℕ} {Short : SetProduct → Type 0} {seam : Option Cell}
+module _ (laws : RowLaws) (i : Inputs) (hs : PerProduct Fields) (fields : (p : SetProduct) → of_product hs p ≡ fields_of i p) {wrong : Option ℕ} {Short : SetProduct → Type 0} {seam : Option Cell}
     (at : AreAtEnd (tiling_of i) hs i wrong Short seam) where
   abbrev pub t : Tiling
   t = tiling_of i

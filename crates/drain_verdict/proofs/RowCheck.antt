@@ -42,18 +42,19 @@ use Rattle.drain_verdict.specs.Refusals.{IsOfBodies, NoneStandsBefore, refusal_o
 use Rattle.drain_verdict.specs.Stages.{AreRasterBodies}
 use Rattle.drain_verdict.specs.ToGive.{AreGiven, HaveCome, IsAfter}
 use Rattle.drain_verdict.specs.declared.input_rows.InputRows.{InputRows}
+use Rattle.drain_verdict.specs.RowLaws.{RowLaws}
 use Rattle.drain_answer.specs.declared.refusal.Refusal.{Refusal}
 use Rattle.drain_answer.specs.declared.refusal.Refusal.TheVariants.{OutOfMemory, ReadFailed}
 use Rattle.drain_verdict.proofs.RowAnswers.{nodata_are, rows_of_bytes, told_none, told_refusal, verdict_is}
 use Rattle.drain_verdict.proofs.SinkAnswers.{sinks_none, sinks_refused}
 use Rattle.drain_verdict.proofs.RowDevices.{come_none}
-use Rattle.drain_verdict.proofs.RowEnd.{AreAtEnd, Laws, at_end, mosaic_goes}
+use Rattle.drain_verdict.proofs.RowEnd.{AreAtEnd, at_end, mosaic_goes}
 use Rattle.drain_verdict.proofs.RowStart.{after_none, row_given, start_given, to_give}
 
 -- new readers gave all rows, and then reported this
 pub record Read {R : Type 0} (bl : R → Option (List ℕ)) (ct : R → FaultCounts) (i : Inputs) (hs : PerProduct Fields) (rows rows_then : InputRows) (tiles tiles_then : List (TileInput R)) (ps ps_then : Products R) (e : Extent) (told : Option Refusal) (t : Tiling) : Type 0 where
   pub extent_is : e ≡ extent_of t
-  pub laws : Laws
+  pub laws : RowLaws
   pub of_bodies : NewRowsAreOfBodies bl
   pub layout : IsLayout t
   pub shapes : (p : SetProduct) → pixels.header_extent (of_product hs p) ≡ extent_of t
@@ -63,6 +64,25 @@ pub record Read {R : Type 0} (bl : R → Option (List ℕ)) (ct : R → FaultCou
   pub tells : (rows_then.mosaic.progress ≡ Stopped → ⊥) → IsToldRefusal t (first_stopped 0 rows_then.mosaic.tiles.items) (HasStopped rows_then) rows_then.mosaic.seam told
   pub bodies : AreBodies bl tiles i.tiles
   pub rasters : AreRasterBodies bl ps i.raster
+
+pub was_read : {R : Type 0} {bl : R → Option (List ℕ)} {ct : R → FaultCounts} {i : Inputs} {hs : PerProduct Fields} {rows rows_then : InputRows} {tiles tiles_then : List (TileInput R)} {ps ps_then : Products R} {e : Extent} {told : Option Refusal} {t : Tiling} →
+    e ≡ extent_of t → RowLaws → NewRowsAreOfBodies bl → IsLayout t → ((p : SetProduct) → pixels.header_extent (of_product hs p) ≡ extent_of t) → length i.tiles ≡ length t.corners → AreBegun t hs rows →
+    HaveCome bl ct (rows, tiles, ps) (rows_then, tiles_then, ps_then) (0 + (e.rows + 1)) None →
+    ((rows_then.mosaic.progress ≡ Stopped → ⊥) → IsToldRefusal t (first_stopped 0 rows_then.mosaic.tiles.items) (HasStopped rows_then) rows_then.mosaic.seam told) →
+    AreBodies bl tiles i.tiles → AreRasterBodies bl ps i.raster → Read bl ct i hs rows rows_then tiles tiles_then ps ps_then e told t
+was_read extent_is laws of_bodies layout shapes counted begun come tells bodies rasters = record {
+  extent_is = extent_is;
+  laws = laws;
+  of_bodies = of_bodies;
+  layout = layout;
+  shapes = shapes;
+  counted = counted;
+  begun = begun;
+  come = come;
+  tells = tells;
+  bodies = bodies;
+  rasters = rasters;
+}
 
 module _ {R : Type 0} (bl : R → Option (List ℕ)) (ct : R → FaultCounts) (i : Inputs) (hs : PerProduct Fields) (rows rows_then : InputRows) (tiles tiles_then : List (TileInput R)) (ps ps_then : Products R) (e : Extent) where
   -- as many rows as there are and one more were requested

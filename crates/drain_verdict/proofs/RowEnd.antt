@@ -15,10 +15,10 @@ use Rattle.drain_hgt.specs.declared.input.TileInput.{TileInput}
 use Rattle.drain_mosaic.specs.GivenTiles.{frame_of, mosaic_coming, tile_streams}
 use Rattle.drain_mosaic.specs.LayoutFaults.{IsLayout}
 use Rattle.drain_mosaic.specs.PlacedRows.{first_stopped}
-use Rattle.drain_mosaic.specs.RowLaws.{RowsAreFirstValues, RowsAreWhole, RowsEnd, RowsTellLengths, RowsTellSeams, WholeTilesGiveTheirSamples}
+use Rattle.drain_mosaic.specs.RowLaws.{RowsEnd}
 use Rattle.drain_mosaic.specs.Streams.{seam_from, wrong_from}
 use Rattle.drain_mosaic.specs.Tiling.{Tiling, extent_of}
-use Rattle.drain_raster.specs.Laws.{RasterRowsArePixels, RasterRowsEnd}
+use Rattle.drain_raster.specs.Laws.{RasterRowsEnd}
 use Rattle.drain_raster.specs.Pixels as pixels
 use Rattle.drain_raster.specs.Pixels.{IsShort}
 use Rattle.drain_raster.specs.RasterRows.{raster_rows}
@@ -27,19 +27,9 @@ use Rattle.drain_verdict.specs.InputRows.{HasStopped}
 use Rattle.drain_verdict.specs.Inputs.{Inputs, Products}
 use Rattle.drain_verdict.specs.ToGive.{IsAfter, IsAfterTold}
 use Rattle.drain_verdict.specs.declared.input_rows.InputRows.{InputRows}
+use Rattle.drain_verdict.specs.RowLaws.{RowLaws}
 use Rattle.drain_verdict.proofs.RasterSteps.{end_taken}
 use Rattle.drain_verdict.proofs.RowStart.{to_give}
-
--- the laws on the rows of tiles and rasters
-pub record Laws : Type 0 where
-  pub rows_end : RowsEnd
-  pub rows_whole : RowsAreWhole
-  pub first_values : RowsAreFirstValues
-  pub seams : RowsTellSeams
-  pub lengths : RowsTellLengths
-  pub samples : WholeTilesGiveTheirSamples
-  pub raster_end : RasterRowsEnd
-  pub raster_pixels : RasterRowsArePixels
 
 -- what the readers hold once all rows were read: the first tile of wrong length, the short products, the first seam
 pub record AreAtEnd (t : Tiling) (hs : PerProduct Fields) (i : Inputs) (wrong : Option ℕ) (Short : SetProduct → Type 0) (seam : Option Cell) : Type 0 where
@@ -72,7 +62,7 @@ module _ {R : Type 0} (bl : R → Option (List ℕ)) (t : Tiling) (hs : PerProdu
   pub mosaic_goes : RowsEnd → (rows.mosaic.progress ≡ Stopped → ⊥)
   mosaic_goes law = not_stopped rows.mosaic.progress _ (after.mosaic.coming_is ∙ sym (end_taken (extent_of t).rows (mosaic_coming t i.tiles) (law t i.tiles)).left_is)
 
-  pub at_end : Laws → IsLayout t → length i.tiles ≡ length t.corners → ((p : SetProduct) → AreWithinBounds (of_product hs p)) → ((p : SetProduct) → pixels.header_extent (of_product hs p) ≡ extent_of t) →
+  pub at_end : RowLaws → IsLayout t → length i.tiles ≡ length t.corners → ((p : SetProduct) → AreWithinBounds (of_product hs p)) → ((p : SetProduct) → pixels.header_extent (of_product hs p) ≡ extent_of t) →
       AreAtEnd t hs i (first_stopped 0 rows.mosaic.tiles.items) (HasStopped rows) rows.mosaic.seam
   at_end laws layout counted bounds shapes =
       let told = after.mosaic.at_end (extent_of t).rows refl (laws.rows_end t i.tiles) in

@@ -9,6 +9,7 @@ pub mod Inputs
 pub mod Laws
 pub mod Meaning
 pub mod Refusals
+pub mod RowLaws
 pub mod SinkListings
 pub mod Stages
 pub mod ToGive

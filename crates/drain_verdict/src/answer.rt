@@ -32,6 +32,7 @@ ghost use Rattle.drain_verdict.specs.Uses.{UsesInputs};
 use crate::headers::nodata_of;
 use crate::input_rows::InputRows;
 use crate::product_inputs::ProductInputs;
+use crate::row_laws::row_laws;
 use crate::sink_listing::{SinkListing, sink_listing};
 use crate::sink_refusal::sink_refusal;
 use drain_answer::Refusal;
@@ -42,13 +43,8 @@ use drain_header::Header;
 use drain_hgt::TileInput;
 use drain_hgt::laws::one_name;
 use drain_mosaic::Layout;
-use drain_mosaic::laws::{
-    new_rows_are_of_bodies, rows_are_first_values, rows_are_whole, rows_end, rows_tell_lengths,
-    rows_tell_seams, whole_tiles_give_their_samples,
-};
-use drain_raster::laws::{
-    raster_rows_are_pixels, raster_rows_end, raster_rows_take_what_is_needed,
-};
+use drain_mosaic::laws::new_rows_are_of_bodies;
+use drain_raster::laws::raster_rows_take_what_is_needed;
 use drain_rows::{VerdictVisitor, WalkStop, verdict_by_rows};
 use drain_rules::{Ranks, Rules, Verdict};
 use std::alloc::Global;
@@ -158,14 +154,7 @@ fn answer_to_rows<R: ByteSource, P: ProductInputs<R>, K: VerdictVisitor>(
     // The laws that say which rows the bytes of tiles and rasters give, and what these rows say of the bytes.
     layout.makes_a_mosaic();
     new_rows_are_of_bodies::<R>();
-    rows_end();
-    rows_are_whole();
-    rows_are_first_values();
-    rows_tell_seams();
-    rows_tell_lengths();
-    whole_tiles_give_their_samples();
-    raster_rows_end();
-    raster_rows_are_pixels();
+    row_laws();
     // The law that the first listed cell without data is the grid's.
     found_off_data_is_right();
     let shape = layout.shape();

@@ -9,23 +9,17 @@ use Rattle.drain_rules.specs.declared.tally.Tally.{Tally}
 use Rattle.drain_rules.specs.BlankVoids.{IsRightVoid}
 use Rattle.drain_rules.specs.KeptRuns.{raised_between}
 use Rattle.drain_rules.specs.PatchRows.{AreRowPatches}
-use Rattle.drain_rules.proofs.KeptCells.{passed-kept, bounds-kept, raised_between-fits}
+use Rattle.drain_rules.proofs.CountBounds.{bounds-next, raised-fit}
+use Rattle.drain_rules.proofs.KeptCells.{passed-kept, bounds-kept}
 use Rattle.drain_rules.proofs.PassedCells.{IsPassed, passed-more, passed-row, passed-labels, stops-row}
 use Rattle.drain_rules.proofs.RightVoids.{passed-voids}
 use Rattle.drain_rules.proofs.row_walk.check_row.Goals as goal
 
 pub add_kept-requires-clause-raised_fit : goal.add_kept-requires-clause-raised_fit
 add_kept-requires-clause-raised_fit g c =
-    omega (
-      arith,
-      c.loop-col.invariant.bounds.data_cells,
-      c.loop-col.invariant.bounds.raised,
-      c.kept_from-kept.ensures.raised,
-      raised_between-fits (g.R.PatchRow.shown c.args.row.now) c.loop-col.col c.kept_from-kept.result.end,
-      c.kept_from-kept.ensures.within,
-      c.cols-cols.ensures.count,
-      c.cols-cols.ensures.narrow,
-    )
+    let kept = c.kept_from-kept.ensures in
+    raised-fit (g.R.PatchRow.shown c.args.row.now) c.loop-col.col c.loop-col.col c.cols-cols.result c.kept_from-kept.result c.loop-col.tally c.loop-col.invariant.bounds
+    (omega arith) kept.forward (omega (arith, kept.within, c.cols-cols.ensures.count)) c.cols-cols.ensures.narrow kept.raised
 
 pub add-requires-clause-raised_within : goal.add-requires-clause-raised_within
 add-requires-clause-raised_within g c =
@@ -49,8 +43,8 @@ returns-in-Err-clause-stopped g c = λ grid ps row are before.
     let kept = c.kept_from-kept.ensures in
     let run = c.add_kept.ensures in
     let voids = c.voids_until-col.ensures in
-    stops-row (tried c.args.rules.now) grid ps row c.voids_until-col.result (g.R.PatchRow.len c.args.row.now) (g.R.PatchRow.shown c.args.row.now) c.patch-patch.result
-    c.add_kept.new.self c.loop-col.labels c.in-Err.stop are (omega (arith, c.if-col-cols.true, c.cols-cols.ensures.count)) c.patch-patch.ensures
+    stops-row (tried c.args.rules.now) grid ps row c.voids_until-col.result (g.R.PatchRow.len c.args.row.now) (g.R.PatchRow.shown c.args.row.now)
+    c.add_kept.new.self c.loop-col.labels c.in-Err.stop are (omega (arith, c.if-col-cols.true, c.cols-cols.ensures.count))
     (before_next (tried c.args.rules.now) grid ps row (g.R.PatchRow.len c.args.row.now) (g.R.PatchRow.shown c.args.row.now) c.loop-col.labels c.loop-col.col
     c.voids_until-col.result c.kept_from-kept.result c.loop-col.tally c.add_kept.new.self are kept.forward kept.within (c.loop-col.invariant.passed grid ps row are before)
     kept.kept kept.raised run.data_cells run.raised run.outlets voids.forward voids.within voids.right) c.in-Err.ensures.stopped
@@ -67,18 +61,15 @@ loop-col-preserved-then-col-cols g c =
     record {
       within = omega (arith, c.if-col-cols.true, c.cols-cols.ensures.count);
       passed = λ grid ps row are before.
-          passed-more (tried c.args.rules.now) grid ps row c.voids_until-col.result (g.R.PatchRow.len c.args.row.now) (g.R.PatchRow.shown c.args.row.now) c.patch-patch.result
+          passed-more (tried c.args.rules.now) grid ps row c.voids_until-col.result (g.R.PatchRow.len c.args.row.now) (g.R.PatchRow.shown c.args.row.now) c.in-Ok.here
           c.add_kept.new.self c.add.new.self c.loop-col.labels c.check_cell.new.labels are (omega (arith, c.if-col-cols.true, c.cols-cols.ensures.count))
-          c.patch-patch.ensures
+          c.in-Ok.ensures.values
           (before_next (tried c.args.rules.now) grid ps row (g.R.PatchRow.len c.args.row.now) (g.R.PatchRow.shown c.args.row.now) c.loop-col.labels c.loop-col.col
           c.voids_until-col.result c.kept_from-kept.result c.loop-col.tally c.add_kept.new.self are kept.forward kept.within (c.loop-col.invariant.passed grid ps row are before)
           kept.kept kept.raised run.data_cells run.raised run.outlets voids.forward voids.within voids.right)
           c.in-Ok.ensures.passed add.data_cells add.raised add.outlets c.in-Ok.ensures.labels;
-      bounds = record {
-        data_cells = grind (arith, add.data_cells, bounds.data_cells, voids.forward);
-        raised = grind (arith, add.raised, add.data_cells, bounds.raised);
-        outlets = grind (arith, add.outlets, add.data_cells, bounds.outlets);
-      };
+      bounds = bounds-next c.in-Ok.here c.kept_from-kept.result.end (c.voids_until-col.result + 1) c.add_kept.new.self c.add.new.self (omega (arith, voids.forward)) bounds
+          add.data_cells add.raised add.outlets;
     }
 
 -- up to the end of the row

@@ -1,11 +1,10 @@
 use Rattle.std.proofs.Common.{◌≡◌, ap, None, Some, ◌∙◌}
 use Rattle.std.proofs.lemmas.Slice.Zip.{AllZip-long}
-use Rattle.drain_mosaic.specs.LayoutFaults.{IsLayout}
 use Rattle.drain_rules.specs.declared.verdict.Verdict.{Verdict}
 use Rattle.drain_verdict.specs.Refusals.{refusal_of}
 use Rattle.drain_answer.specs.declared.refusal.Refusal.TheVariants.{ReadFailed}
 use Rattle.drain_verdict.specs.InputReads.{as_read, with_rasters}
-use Rattle.drain_verdict.proofs.RowCheck.{all_read, came, notes_hold, of_reading_answers, of_reading_bodies, refusal_answers, refused, sinks_answer, verdict_answers}
+use Rattle.drain_verdict.proofs.RowCheck.{all_read, came, notes_hold, of_reading_answers, of_reading_bodies, refusal_answers, refused, sinks_answer, verdict_answers, was_read}
 use Rattle.drain_verdict.proofs.answer.answer_to_rows.Goals as goal
 
 pub returns-in-Err-clause-answer : goal.returns-in-Err-clause-answer
@@ -36,29 +35,10 @@ returns-in-Some-clause-answer g c = λ inputs hs begun nodata shapes is fields t
     let bl = g.R.ByteSource.bytes_left in
     let ct = g.R.ByteSource.counts in
     let new = c.verdict_by_rows.new in
-    let layout : IsLayout c.args.layout.now = c.makes_a_mosaic.ensures in
-    refusal_answers bl ct inputs hs (with_rasters g.P.ProductInputs.readers c.args.rows.now) (with_rasters g.P.ProductInputs.readers new.source) c.args.tiles.now new.tiles (g.P.ProductInputs.inputs c.args.products.now) (g.P.ProductInputs.inputs new.products) c.shape-shape.result c.in-Some.refusal c.args.layout.now is fields none (record {
-      extent_is = c.shape-shape.ensures;
-      laws = record {
-        rows_end = c.rows_end.ensures;
-        rows_whole = c.rows_are_whole.ensures;
-        first_values = c.rows_are_first_values.ensures;
-        seams = c.rows_tell_seams.ensures;
-        lengths = c.rows_tell_lengths.ensures;
-        samples = c.whole_tiles_give_their_samples.ensures;
-        raster_end = c.raster_rows_end.ensures;
-        raster_pixels = c.raster_rows_are_pixels.ensures;
-      };
-      of_bodies = c.new_rows_are_of_bodies.ensures;
-      layout = layout;
-      shapes = shapes;
-      counted = AllZip-long _ c.args.tiles.now inputs.tiles tiles ∙ c.requires.named;
-      begun = begun;
-      come = came bl ct (as_read g.P.ProductInputs.readers g.P.ProductInputs.inputs) (c.args.rows.now, c.args.tiles.now, c.args.products.now) (new.source, new.tiles, new.products) _ None c.in-Ok.ensures.reads;
-      tells = c.in-Some.ensures.refusal;
-      bodies = tiles;
-      rasters = rasters;
-    })
+    refusal_answers bl ct inputs hs (with_rasters g.P.ProductInputs.readers c.args.rows.now) (with_rasters g.P.ProductInputs.readers new.source) c.args.tiles.now new.tiles (g.P.ProductInputs.inputs c.args.products.now) (g.P.ProductInputs.inputs new.products) c.shape-shape.result c.in-Some.refusal c.args.layout.now is fields none
+    (was_read c.shape-shape.ensures c.row_laws.ensures c.new_rows_are_of_bodies.ensures c.makes_a_mosaic.ensures shapes (AllZip-long _ c.args.tiles.now inputs.tiles tiles ∙ c.requires.named) begun
+    (came bl ct (as_read g.P.ProductInputs.readers g.P.ProductInputs.inputs) (c.args.rows.now, c.args.tiles.now, c.args.products.now) (new.source, new.tiles, new.products) _ None c.in-Ok.ensures.reads)
+    c.in-Some.ensures.refusal tiles rasters)
 
 pub returns-in-Some-clause-reads : goal.returns-in-Some-clause-reads
 returns-in-Some-clause-reads g c =
@@ -71,30 +51,11 @@ returns-in-Some-sink_refusal-clause-answer g c = λ inputs hs begun nodata shape
     let bl = g.R.ByteSource.bytes_left in
     let ct = g.R.ByteSource.counts in
     let new = c.verdict_by_rows.new in
-    let layout : IsLayout c.args.layout.now = c.makes_a_mosaic.ensures in
     sinks_answer bl ct inputs hs (with_rasters g.P.ProductInputs.readers c.args.rows.now) (with_rasters g.P.ProductInputs.readers new.source) c.args.tiles.now new.tiles (g.P.ProductInputs.inputs c.args.products.now) (g.P.ProductInputs.inputs new.products) c.shape-shape.result c.found_off_data_is_right.ensures c.args.listing.now c.in-Ok.found.voids
-    c.in-Some-sink_refusal.refusal c.args.layout.now is fields none sinks bad c.in-Ok.ensures.voids c.in-Some-sink_refusal.ensures.told (record {
-      extent_is = c.shape-shape.ensures;
-      laws = record {
-        rows_end = c.rows_end.ensures;
-        rows_whole = c.rows_are_whole.ensures;
-        first_values = c.rows_are_first_values.ensures;
-        seams = c.rows_tell_seams.ensures;
-        lengths = c.rows_tell_lengths.ensures;
-        samples = c.whole_tiles_give_their_samples.ensures;
-        raster_end = c.raster_rows_end.ensures;
-        raster_pixels = c.raster_rows_are_pixels.ensures;
-      };
-      of_bodies = c.new_rows_are_of_bodies.ensures;
-      layout = layout;
-      shapes = shapes;
-      counted = AllZip-long _ c.args.tiles.now inputs.tiles tiles ∙ c.requires.named;
-      begun = begun;
-      come = came bl ct (as_read g.P.ProductInputs.readers g.P.ProductInputs.inputs) (c.args.rows.now, c.args.tiles.now, c.args.products.now) (new.source, new.tiles, new.products) _ None c.in-Ok.ensures.reads;
-      tells = c.in_default.ensures.refusal;
-      bodies = tiles;
-      rasters = rasters;
-    })
+    c.in-Some-sink_refusal.refusal c.args.layout.now is fields none sinks bad c.in-Ok.ensures.voids c.in-Some-sink_refusal.ensures.told
+    (was_read c.shape-shape.ensures c.row_laws.ensures c.new_rows_are_of_bodies.ensures c.makes_a_mosaic.ensures shapes (AllZip-long _ c.args.tiles.now inputs.tiles tiles ∙ c.requires.named) begun
+    (came bl ct (as_read g.P.ProductInputs.readers g.P.ProductInputs.inputs) (c.args.rows.now, c.args.tiles.now, c.args.products.now) (new.source, new.tiles, new.products) _ None c.in-Ok.ensures.reads)
+    c.in_default.ensures.refusal tiles rasters)
 
 pub returns-in-Some-sink_refusal-clause-reads : goal.returns-in-Some-sink_refusal-clause-reads
 returns-in-Some-sink_refusal-clause-reads g c =
@@ -107,60 +68,22 @@ returns-clause-answer g c = λ inputs hs begun nodata shapes is fields tiles ras
     let bl = g.R.ByteSource.bytes_left in
     let ct = g.R.ByteSource.counts in
     let new = c.verdict_by_rows.new in
-    let layout : IsLayout c.args.layout.now = c.makes_a_mosaic.ensures in
     verdict_answers bl ct inputs hs (with_rasters g.P.ProductInputs.readers c.args.rows.now) (with_rasters g.P.ProductInputs.readers new.source) c.args.tiles.now new.tiles (g.P.ProductInputs.inputs c.args.products.now) (g.P.ProductInputs.inputs new.products) c.shape-shape.result c.found_off_data_is_right.ensures c.args.listing.now c.in-Ok.found.voids c.args.rules.now.ranks c.args.rules.now.nodata
-    c.in-Ok.found.verdict c.args.layout.now is fields none nodata sinks bad c.in-Ok.ensures.voids c.in-Ok.ensures.verdict c.in-None.ensures.told (record {
-      extent_is = c.shape-shape.ensures;
-      laws = record {
-        rows_end = c.rows_end.ensures;
-        rows_whole = c.rows_are_whole.ensures;
-        first_values = c.rows_are_first_values.ensures;
-        seams = c.rows_tell_seams.ensures;
-        lengths = c.rows_tell_lengths.ensures;
-        samples = c.whole_tiles_give_their_samples.ensures;
-        raster_end = c.raster_rows_end.ensures;
-        raster_pixels = c.raster_rows_are_pixels.ensures;
-      };
-      of_bodies = c.new_rows_are_of_bodies.ensures;
-      layout = layout;
-      shapes = shapes;
-      counted = AllZip-long _ c.args.tiles.now inputs.tiles tiles ∙ c.requires.named;
-      begun = begun;
-      come = came bl ct (as_read g.P.ProductInputs.readers g.P.ProductInputs.inputs) (c.args.rows.now, c.args.tiles.now, c.args.products.now) (new.source, new.tiles, new.products) _ None c.in-Ok.ensures.reads;
-      tells = c.in_default.ensures.refusal;
-      bodies = tiles;
-      rasters = rasters;
-    })
+    c.in-Ok.found.verdict c.args.layout.now is fields none nodata sinks bad c.in-Ok.ensures.voids c.in-Ok.ensures.verdict c.in-None.ensures.told
+    (was_read c.shape-shape.ensures c.row_laws.ensures c.new_rows_are_of_bodies.ensures c.makes_a_mosaic.ensures shapes (AllZip-long _ c.args.tiles.now inputs.tiles tiles ∙ c.requires.named) begun
+    (came bl ct (as_read g.P.ProductInputs.readers g.P.ProductInputs.inputs) (c.args.rows.now, c.args.tiles.now, c.args.products.now) (new.source, new.tiles, new.products) _ None c.in-Ok.ensures.reads)
+    c.in_default.ensures.refusal tiles rasters)
 
 pub returns-clause-noted : goal.returns-clause-noted
 returns-clause-noted g c = λ inputs hs begun nodata shapes is fields tiles rasters sinks.
     let bl = g.R.ByteSource.bytes_left in
     let ct = g.R.ByteSource.counts in
     let new = c.verdict_by_rows.new in
-    let layout : IsLayout c.args.layout.now = c.makes_a_mosaic.ensures in
     notes_hold bl ct inputs hs (with_rasters g.P.ProductInputs.readers c.args.rows.now) (with_rasters g.P.ProductInputs.readers new.source) c.args.tiles.now new.tiles (g.P.ProductInputs.inputs c.args.products.now) (g.P.ProductInputs.inputs new.products) c.shape-shape.result
-    g.K.RowVisitor.are_of c.args.rules.now new.notes c.args.listing.now.sinks c.args.layout.now is fields nodata sinks c.in-Ok.ensures.noted (record {
-      extent_is = c.shape-shape.ensures;
-      laws = record {
-        rows_end = c.rows_end.ensures;
-        rows_whole = c.rows_are_whole.ensures;
-        first_values = c.rows_are_first_values.ensures;
-        seams = c.rows_tell_seams.ensures;
-        lengths = c.rows_tell_lengths.ensures;
-        samples = c.whole_tiles_give_their_samples.ensures;
-        raster_end = c.raster_rows_end.ensures;
-        raster_pixels = c.raster_rows_are_pixels.ensures;
-      };
-      of_bodies = c.new_rows_are_of_bodies.ensures;
-      layout = layout;
-      shapes = shapes;
-      counted = AllZip-long _ c.args.tiles.now inputs.tiles tiles ∙ c.requires.named;
-      begun = begun;
-      come = came bl ct (as_read g.P.ProductInputs.readers g.P.ProductInputs.inputs) (c.args.rows.now, c.args.tiles.now, c.args.products.now) (new.source, new.tiles, new.products) _ None c.in-Ok.ensures.reads;
-      tells = c.in_default.ensures.refusal;
-      bodies = tiles;
-      rasters = rasters;
-    })
+    g.K.RowVisitor.are_of c.args.rules.now new.notes c.args.listing.now.sinks c.args.layout.now is fields nodata sinks c.in-Ok.ensures.noted
+    (was_read c.shape-shape.ensures c.row_laws.ensures c.new_rows_are_of_bodies.ensures c.makes_a_mosaic.ensures shapes (AllZip-long _ c.args.tiles.now inputs.tiles tiles ∙ c.requires.named) begun
+    (came bl ct (as_read g.P.ProductInputs.readers g.P.ProductInputs.inputs) (c.args.rows.now, c.args.tiles.now, c.args.products.now) (new.source, new.tiles, new.products) _ None c.in-Ok.ensures.reads)
+    c.in_default.ensures.refusal tiles rasters)
 
 pub returns-clause-reads : goal.returns-clause-reads
 returns-clause-reads g c =

@@ -1,12 +1,12 @@
-use Rattle.std.proofs.Common.{◌≡◌, ◌<◌, ◌∙◌, ℕ, inl, inr, get_or, sym, subst, arith}
+use Rattle.std.proofs.Common.{◌∙◌, inl, inr, get_or, sym, subst, arith}
 use mir.Syntax.{w16}
 use mir.Val.{to_z, of_z}
 use Rattle.std.proofs.lemmas.Bool.{cases_order, false≢true}
 use Rattle.std.proofs.lemmas.Int.{to_z-of_z}
 use Rattle.drain_grid.specs.declared.direction.Direction.TheVariants.{East}
-use Rattle.drain_grid.specs.Direction.{directions, order_of}
+use Rattle.drain_grid.specs.Direction.{directions}
+use Rattle.drain_grid.proofs.Directions.{of_each}
 use Rattle.drain_surface.specs.Walks.{IsLowEdgeThere}
-use Rattle.drain_surface.proofs.Looking.{at_place}
 use Rattle.drain_surface.proofs.flats.Flats.low_edge_at_edge.Goals as goal
 
 pub loop-direction-preserved : goal.loop-direction-preserved
@@ -20,13 +20,9 @@ loop-direction-preserved c = λ i less there.
       | inr (inr after) ↦ absurd (omega (arith, less, after))
     ])
 
-within : (j i : ℕ) → i ≡ 8 → j < 8 → j < i
-within j i last less = omega arith
-
 pub returns : goal.returns
 returns c = λ d there.
     (let s = c.args.self.now in
-    let place = at_place d in
-    c.loop-direction.invariant (order_of d) (within (order_of d) c.loop-direction.direction-index (omega arith) place.1)
-    (subst (λ x. IsLowEdgeThere s.extent c.args.surface.now s c.args.cell (to_z w16 (of_z w16 c.args.level)) x) (sym place.0)
-    (subst (λ z. IsLowEdgeThere s.extent c.args.surface.now s c.args.cell z d) (sym (to_z-of_z w16 c.args.level c.ranges.level)) there)))
+    let level = to_z w16 (of_z w16 c.args.level) in
+    of_each (λ x. ¬ IsLowEdgeThere s.extent c.args.surface.now s c.args.cell level x) c.loop-direction.direction-index (omega arith) c.loop-direction.invariant d
+    (subst (λ z. IsLowEdgeThere s.extent c.args.surface.now s c.args.cell z d) (sym (to_z-of_z w16 c.args.level c.ranges.level)) there))
