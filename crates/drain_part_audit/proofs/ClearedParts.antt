@@ -1,5 +1,5 @@
 -- Cells that are cleared together are passed at once, by the rules about given rasters.
-use Rattle.std.proofs.Common.{◌≡◌, ℕ, zero, suc, ◌+◌, ◌-◌, ◌<◌, ◌≤◌, List, None, inl, inr, ap, subst, arith}
+use Rattle.std.proofs.Common.{◌≡◌, ℕ, ◌+◌, ◌-◌, ◌<◌, ◌≤◌, List, None, inl, inr, ap, arith}
 use Rattle.std.proofs.lemmas.Bool.{cases_lt}
 use Rattle.drain_grid.specs.declared.patch.Patch.{Patch}
 use Rattle.drain_grid.specs.declared.rule.Rule.{Rule}
@@ -18,8 +18,10 @@ use Rattle.drain_rules.specs.PatchRows.{AreRowPatches}
 use Rattle.drain_rules.specs.Rows.{place}
 use Rattle.drain_rules.proofs.KeptCells.{counted-kept, no_label}
 use Rattle.drain_rules.proofs.LabelsBefore.{AreLabelsBefore-more}
+use Rattle.drain_rules.proofs.PassedCells.{inside-row}
+use Rattle.drain_rules.proofs.RowRuns.{along_run}
 use Rattle.drain_part_audit.proofs.PartFaults.{holds-patch, least-own}
-use Rattle.drain_part_audit.proofs.PassedParts.{ArePassed, inside-row}
+use Rattle.drain_part_audit.proofs.PassedParts.{ArePassed}
 
 -- what is cleared by some rules is cleared by those that follow from them
 pub cleared-by : (stronger weaker : Profile) (p : Patch) →
@@ -27,27 +29,16 @@ pub cleared-by : (stronger weaker : Profile) (p : Patch) →
 cleared-by stronger weaker p follow kept = record { holds = follow kept.holds; has_data = kept.has_data; no_outlet = kept.no_outlet }
 
 module _ (given : Given) (profile : Profile) (g : Grid) (ps : Products) (row cols : ℕ) (shown : ℕ → Patch) (labels : List (ℕ × ℕ)) where
-  -- n cleared cells have no labels
-  labels_some : (from n : ℕ) → AreRowPatches g ps row cols shown → from + n ≤ cols → AreLabelsBefore g ps (place row from) labels →
-      ((col : ℕ) → from ≤ col → col < from + n → IsKept profile (shown col)) → AreLabelsBefore g ps (place row (from + n)) labels
-  labels_some from zero are within before all =
-      let here : from ≡ from + 0 = omega arith in
-      subst (λ col. AreLabelsBefore g ps (place row col) labels) here before
-  labels_some from (suc n) are within before all =
-      let earlier = labels_some from n are (omega (arith, within)) before (λ col past less. all col past (omega (arith, less))) in
-      let less : from + n < cols = omega (arith, within) in
-      let next : from + n + 1 ≡ from + suc n = omega arith in
-      subst (λ col. AreLabelsBefore g ps (place row col) labels) next
-      (AreLabelsBefore-more g ps row (from + n) (shown (from + n)).here labels labels (inside-row g ps row (from + n) cols shown are less)
-      (ap (λ (q : Patch). q.here) (are.patches_are (from + n) less)) earlier (no_label profile labels (shown (from + n)) (all (from + n) (omega arith) (omega arith))))
-
-  -- so the labels before a run are those before each of its cells, and behind it
+  -- cleared cells have no labels, so the labels before a run are those before each of its cells, and behind it
   labels_run : (from col : ℕ) → AreRowPatches g ps row cols shown → from ≤ col → col ≤ cols → AreLabelsBefore g ps (place row from) labels →
       ((k : ℕ) → from ≤ k → k < col → IsKept profile (shown k)) → AreLabelsBefore g ps (place row col) labels
   labels_run from col are past within before all =
-      let up_to : from + (col - from) ≡ col = omega arith in
-      subst (λ k. AreLabelsBefore g ps (place row k) labels) up_to
-      (labels_some from (col - from) are (omega (arith, within)) before (λ k behind less. all k behind (omega (arith, less))))
+      along_run (λ k. AreLabelsBefore g ps (place row k) labels) (λ k. IsKept profile (shown k)) cols one from col past within all before
+    where
+      one : (k : ℕ) → k < cols → IsKept profile (shown k) → AreLabelsBefore g ps (place row k) labels → AreLabelsBefore g ps (place row (k + 1)) labels
+      one k less kept earlier =
+          AreLabelsBefore-more g ps row k (shown k).here labels labels (inside-row g ps row k cols shown are less)
+          (ap (λ (q : Patch). q.here) (are.patches_are k less)) earlier (no_label profile labels (shown k) kept)
 
   -- every rule about the given rasters holds at a cleared cell
   holds_cleared : (col : ℕ) (rule : Rule) → AreRowPatches g ps row cols shown → col < cols → AreLabelsBefore g ps (place row col) labels →

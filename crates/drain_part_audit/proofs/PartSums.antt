@@ -1,15 +1,12 @@
 -- One row more of sound rows, by one's own rules.
-use Rattle.std.proofs.Common.{◌≡◌, ℕ, ◌+◌, ◌<◌, List, inl, inr, subst, sym, arith, below_more}
-use Rattle.drain_grid.specs.declared.cell.Cell.{Cell}
+use Rattle.std.proofs.Common.{◌≡◌, ℕ, ◌+◌, ◌<◌, List, arith, below_more}
 use Rattle.drain_grid.specs.declared.rule.Rule.{Rule}
-use Rattle.drain_grid.specs.Extent.{IsEarlier}
-use Rattle.drain_grid.specs.Grid.{Grid, Products, IsInside}
-use Rattle.drain_grid.specs.GridRules.{HoldsAt}
+use Rattle.drain_grid.specs.Grid.{Grid, Products}
 use Rattle.drain_grid.specs.PatchRules.{Profile}
 use Rattle.drain_rules.specs.declared.tally.Tally.{Tally}
 use Rattle.drain_rules.specs.Labels.{AreLabelsBefore}
 use Rattle.drain_rules.specs.Rows.{place, HoldAlong, IsRowTally}
-use Rattle.drain_rules.proofs.GridLemmas.{CountsAbove-more}
+use Rattle.drain_rules.proofs.GridLemmas.{CountsAbove-more, before-cell}
 use Rattle.drain_part_audit.specs.PartFindings.{AreSoundBy, HasNewLabelOf}
 use Rattle.drain_part_audit.specs.PartStops.{IsNewLabelInRow}
 
@@ -34,12 +31,6 @@ new_label-row profile IsOwn g ps row col above along = (
     code = along.code;
     is_new = along.is_new;
     here = λ rule own. along.holds col rule (omega arith) own;
-    before = before;
+    before = before-cell profile IsOwn g ps row col above (λ k rule less own. along.holds k rule (omega arith) own);
   },
 )
-  where
-    before : (b : Cell) (rule : Rule) → IsInside g b → IsEarlier b (place row col) → IsOwn rule → HoldsAt profile g ps b rule
-    before b rule in_grid (inl north) own = above b.row north b.col rule in_grid.col own
-    before b rule in_grid (inr west) own =
-        let back : HoldsAt profile g ps (place row b.col) rule = along.holds b.col rule (omega (arith, west.1)) own in
-        subst (λ r. HoldsAt profile g ps (place r b.col) rule) (sym west.0) back

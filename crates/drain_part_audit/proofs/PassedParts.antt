@@ -1,5 +1,5 @@
 -- One cell more of a walk along a row of patches that tries one's own rules, for any grid whose row it is.
-use Rattle.std.proofs.Common.{◌≡◌, ℕ, ℤ, ◌+◌, ◌<◌, ◌↔◌, ◌⊎◌, cond, ◌&&◌, int_lt, is_some, unwrap_or, pos, List, None, Some, ◌∙◌, ap, subst, arith}
+use Rattle.std.proofs.Common.{◌≡◌, ℕ, ℤ, ◌+◌, ◌<◌, ◌↔◌, ◌⊎◌, cond, ◌&&◌, int_lt, is_some, unwrap_or, pos, List, None, Some, ◌∙◌, ap, subst}
 use Rattle.std.specs.Ordering.{int_eq}
 use Rattle.drain_basin.specs.Admitted.{IsAdmitted}
 use Rattle.drain_grid.specs.declared.patch.Patch.{Patch}
@@ -17,6 +17,7 @@ use Rattle.drain_rules.specs.Rows.{place, CountsAlong, HoldAlong, IsRowTally}
 use Rattle.drain_rules.proofs.Faults.{labelled-HoldsAt}
 use Rattle.drain_rules.proofs.LabelsBefore.{AreLabelsBefore-more, AreLabelsBefore-row}
 use Rattle.drain_rules.proofs.RowLemmas.{HoldAlong-more, CountsAlong-more, IsRowFault-cell}
+use Rattle.drain_rules.proofs.PassedCells.{inside-row}
 use Rattle.drain_part_audit.specs.PartStops.{IsCellStopOf, IsStopOf}
 use Rattle.drain_part_audit.proofs.PartFaults.{least-own}
 
@@ -25,9 +26,6 @@ pub record ArePassed (profile : Profile) (IsOwn : Rule → Type 0) (g : Grid) (p
   pub holds : HoldAlong profile IsOwn g ps row col
   pub counted : CountsAlong g ps row col tally
   pub before : AreLabelsBefore g ps (place row col) labels
-
-pub inside-row : (g : Grid) (ps : Products) (row col cols : ℕ) (shown : ℕ → Patch) → AreRowPatches g ps row cols shown → col < cols → IsInside g (place row col)
-inside-row g ps row col cols shown are less = record { row = are.inside; col = omega (arith, less, are.cols_are) }
 
 -- where one's own rules hold at the next cell, it is passed too
 pub passed-next : (profile : Profile) (IsOwn : Rule → Type 0) (g : Grid) (ps : Products) (row col cols : ℕ) (shown : ℕ → Patch) (p : Patch) (old new : Tally) (before after : List (ℕ × ℕ)) →

@@ -5,9 +5,12 @@
 //! are given.
 #![tactic(auto)]
 
-pub mod con_audit;
+pub mod given_audit;
 pub mod given_rasters;
 mod joined;
+mod kept_con;
+mod kept_flows;
+pub mod kept_rows;
 pub mod no_notes;
 pub mod part_audit;
 pub mod part_cell;
@@ -17,9 +20,9 @@ pub mod part_row;
 pub mod part_verdict;
 pub mod part_visitor;
 pub mod part_walk;
-pub mod way_audit;
 
 pub use given_rasters::{GivenCon, GivenDir, GivenDirAcc, GivenDirBas, GivenRasters};
+pub use kept_rows::KeptRows;
 pub use no_notes::NoVisitor;
 pub use part_audit::{PartRead, audit_part};
 pub use part_line::part_report;

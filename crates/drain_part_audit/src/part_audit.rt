@@ -13,12 +13,12 @@ ghost use Rattle.drain_verdict.specs.Uses.{AuditUses};
 ghost use Rattle.drain_part_audit.specs.PartAudits.{ArePartsRight, IsPartAnswer, part_answer_in};
 ghost use Rattle.drain_part_audit.specs.PartVerdicts.{IsPartAcceptance};
 
-use crate::con_audit::audit_con;
-use crate::given_rasters::{GivenDir, GivenDirAcc, GivenDirBas};
+use crate::given_audit::audit_given;
+use crate::given_rasters::{GivenCon, GivenDir, GivenDirAcc, GivenDirBas};
 use crate::no_notes::NoVisitor;
 use crate::part_verdict::PartVerdict;
-use crate::way_audit::audit_ways;
 use drain_answer::Refusal;
+use drain_con_rows::ConRows;
 use drain_device::ByteSource;
 use drain_hgt::TileInput;
 use drain_hgt::laws::one_name;
@@ -107,15 +107,17 @@ pub fn audit_part_on<R: ByteSource, N: RowVisitor + Drop>(
     ensures uses { AuditUses R.bytes_left R.counts layout.now.side (tiles.old, products.old) (tiles.new, products.new) result }
 {
     match given {
-        Given::Con => audit_con(alloc, layout, sinks, tiles, products, more),
+        Given::Con => {
+            audit_given::<R, GivenCon, ConRows, N>(alloc, layout, sinks, tiles, products, more)
+        }
         Given::ConDir => {
-            audit_ways::<R, GivenDir, N>(alloc, layout, sinks, tiles, products, more)
+            audit_given::<R, GivenDir, CellFlows, N>(alloc, layout, sinks, tiles, products, more)
         }
         Given::ConDirAcc => {
-            audit_ways::<R, GivenDirAcc, N>(alloc, layout, sinks, tiles, products, more)
+            audit_given::<R, GivenDirAcc, CellFlows, N>(alloc, layout, sinks, tiles, products, more)
         }
         Given::ConDirBas => {
-            audit_ways::<R, GivenDirBas, N>(alloc, layout, sinks, tiles, products, more)
+            audit_given::<R, GivenDirBas, CellFlows, N>(alloc, layout, sinks, tiles, products, more)
         }
     }
 }

@@ -15,10 +15,10 @@ use Rattle.drain_grid.specs.Rule.{IsWayRule}
 use Rattle.drain_grid.specs.Slope.{IsSteepest}
 use Rattle.drain_grid.proofs.Decisions.{cases}
 use Rattle.drain_grid.proofs.Neighbors.{step_lies}
-use Rattle.drain_grid.proofs.PatchDecisions.{has_lower, is_open}
+use Rattle.drain_grid.proofs.PatchDecisions.{has_lower, is_open, data_cell}
 use Rattle.drain_grid.proofs.Patches.{shown_cell}
 use Rattle.drain_grid.proofs.Slopes.{steepest_cell, IsSteepest-cell}
-use Rattle.drain_parts.proofs.NearEdges.{IsStepOn, data_cell, rank_of, step_on}
+use Rattle.drain_parts.proofs.NearEdges.{IsStepOn, rank_of, step_on}
 use Rattle.drain_parts.proofs.SameHeights.{steepest_there, open_there, open_back, low_there, low_back}
 use Rattle.drain_parts.proofs.SteepestWays.{some_steepest}
 

@@ -10,10 +10,10 @@ use Rattle.drain_grid.specs.Extent.{step}
 use Rattle.drain_grid.specs.Grid.{Grid, Products, HasData, patch_at}
 use Rattle.drain_grid.specs.Patch.{IsOpen, HasLower}
 use Rattle.drain_grid.specs.Path.{IsPath, NeverRises, Drains}
-use Rattle.drain_grid.proofs.Decisions.{Decision, cases, alike, both, either, same, some_direction}
+use Rattle.drain_grid.proofs.Decisions.{Decision, cases, both, either, same, some_direction}
 use Rattle.drain_grid.proofs.Least.{HasData-path}
 use Rattle.drain_grid.proofs.Neighbors.{direction_between, step_gives}
-use Rattle.drain_grid.proofs.PatchDecisions.{has_data, has_lower, is_cell_of, is_open}
+use Rattle.drain_grid.proofs.PatchDecisions.{data_cell, has_lower, is_open}
 use Rattle.drain_grid.proofs.Patches.{IsOpen-patch_at}
 use Rattle.drain_grid.proofs.Slopes.{HasLower-lower_cell}
 use Rattle.drain_parts.proofs.LeastNumbers.{IsLeastNumber, least_number, least-le}
@@ -30,12 +30,6 @@ some_there (Some n) P h = (n, (refl, h))
 abbrev pub of_some : {P : Cell → Type 0} → (o : Option Cell) → ((n : Cell) → Decision (P n)) → Decision (OfSome o P)
 of_some None d = record { test = false; sound = λ h. false≢true h; complete = λ h. absurd h }
 of_some (Some n) d = d n
-
-abbrev pub data_cell : (g : Grid) (c : Cell) → Decision (HasData g c)
-data_cell g c =
-    alike (both (is_cell_of g.extent c) (has_data (g.elevation c)))
-    (λ h. record { inside = h.0; is_data = h.1 })
-    (λ h. (h.inside, h.is_data))
 
 -- k level steps lead from the cell to a low edge
 abbrev pub IsNear : Grid → Products → ℕ → Cell → Type 0

@@ -3,13 +3,12 @@ use Rattle.std.proofs.Common.{◌≡◌, ◌≢◌, ◌↔◌, ◌∙◌, ℕ, �
 use Rattle.std.proofs.lemmas.Bool.{false≢true}
 use Rattle.drain_grid.specs.declared.cell.Cell.{Cell}
 use Rattle.drain_grid.specs.Certificate.{run_steps, RanksAreSteps}
-use Rattle.drain_grid.specs.Extent.{IsCellOf, index_of}
+use Rattle.drain_grid.specs.Extent.{index_of}
 use Rattle.drain_grid.specs.Grid.{Grid, Products, IsInside, HasData}
 use Rattle.drain_grid.specs.Run.{run_end, ShareBasin, upstream_count}
-use Rattle.drain_grid.specs.Size.{Extent}
 use Rattle.drain_grid.specs.Values.{NoDataNumbers}
 use Rattle.drain_grid.proofs.Alike.{run_end-alike, run_steps-alike, upstream-alike}
-use Rattle.drain_grid.proofs.Runs.{cell_at, cell_at-index_of}
+use Rattle.drain_grid.proofs.CellOrder.{same_index}
 
 -- at a data cell the number, at a void -1
 pub from_counts : Grid → (Cell → ℕ) → Cell → ℤ
@@ -55,10 +54,6 @@ own_rasters g ps = record {
 -- their no-data numbers
 abbrev pub own_numbers : NoDataNumbers
 own_numbers = record { con = negsuc 0; dir = negsuc 0; acc = negsuc 0; bas = negsuc 0; spl = negsuc 0; rnk = negsuc 0 }
-
--- two cells at one place are one
-same_index : (e : Extent) (b c : Cell) → IsCellOf e b → IsCellOf e c → index_of e b ≡ index_of e c → b ≡ c
-same_index e b c at_b at_c same = sym (cell_at-index_of e b at_b) ∙ (ap (cell_at e) same ∙ cell_at-index_of e c at_c)
 
 module _ (g : Grid) (ps qs : Products) (same : (c : Cell) → ps.dir c ≡ qs.dir c) where
   pub own_ranks-right : (numbers : NoDataNumbers) → ((c : Cell) → qs.rnk c ≡ from_counts g (run_steps g ps) c) → numbers.rnk ≡ negsuc 0 →

@@ -1,6 +1,6 @@
 -- The rules on heights and directions look at these alone: they hold of products where they hold of others with the
 -- same heights and directions. The rule on the accumulation looks at this too, and that on labels at these.
-use Rattle.std.proofs.Common.{◌≡◌, ◌∙◌, pos, ◌+ℤ◌, ◌≤ℤ◌, ℤ, List, [], ◌∷◌, map, Option, Some, None, option_map, refl, sym, ap, subst, arith}
+use Rattle.std.proofs.Common.{◌≡◌, ◌∙◌, pos, ◌+ℤ◌, ◌≤ℤ◌, Option, Some, None, option_map, refl, sym, ap, subst, arith}
 use Rattle.std.specs.Int.{int_max}
 use Rattle.drain_grid.specs.declared.cell.Cell.{Cell}
 use Rattle.drain_grid.specs.declared.direction.Direction.{Direction}
@@ -10,7 +10,7 @@ use Rattle.drain_grid.specs.Direction.{directions}
 use Rattle.drain_grid.specs.Extent.{step}
 use Rattle.drain_grid.specs.Values.{Values, NoDataNumbers}
 use Rattle.drain_grid.specs.Patch.{neighbor}
-use Rattle.drain_grid.specs.PatchRules.{inflow, total, NotLeastHolds, SlopeHolds, OutletCodeHolds, AccumulationHolds, LabelHolds}
+use Rattle.drain_grid.specs.PatchRules.{inflow, NotLeastHolds, SlopeHolds, OutletCodeHolds, AccumulationHolds, LabelHolds}
 use Rattle.drain_grid.specs.PatchRules.{OpenRaisedWithoutSpill}
 use Rattle.drain_grid.specs.Unranked.{unranked, LevelStepHolds}
 use Rattle.drain_grid.specs.Rule.{IsBetween}
@@ -18,6 +18,7 @@ use Rattle.drain_grid.specs.Grid.{Grid, Products, IsInside, HasData, height_at, 
 use Rattle.drain_grid.specs.GridRules.{HoldsAt}
 use Rattle.drain_grid.proofs.Patches.{neighbor-patch_at, cell_shown, shown_cell}
 use Rattle.drain_grid.proofs.Slopes.{steepest_cell, IsSteepest-cell}
+use Rattle.drain_grid.proofs.WithoutRanks.{total-same}
 use Rattle.drain_parts.specs.declared.given.Given.TheVariants.{ConDir, ConDirAcc, ConDirBas}
 use Rattle.drain_parts.specs.PartOf.{joined}
 use Rattle.drain_parts.proofs.SameHeights.{steepest_there, open_there, open_back, low_there, low_back}
@@ -74,10 +75,6 @@ module _ (g : Grid) (ps rest : Products) (c : Cell) (inside : IsInside g c) wher
   ways_there nodata numbers Accumulation own h = absurd (omega (arith, own.1))
   ways_there nodata numbers Label own h = absurd (omega (arith, own.1))
   ways_there nodata numbers SharedLabel own h = absurd (omega (arith, own.1))
-
-total-same : (f h : Direction → ℤ) → ((d : Direction) → f d ≡ h d) → (ds : List Direction) → total (map f ds) ≡ total (map h ds)
-total-same f h same [] = refl
-total-same f h same (d ∷ ds) = ap (λ x. x +ℤ total (map f ds)) (same d) ∙ ap (λ x. h d +ℤ x) (total-same f h same ds)
 
 inflow-there : (g : Grid) (ps rest : Products) (o : Option Cell) (d : Direction) →
     inflow (option_map (values_at g (joined ConDirAcc ps rest)) o) d ≡ inflow (option_map (values_at g ps) o) d

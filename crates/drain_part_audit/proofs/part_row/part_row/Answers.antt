@@ -1,22 +1,16 @@
-use Rattle.std.proofs.Common.{arith}
+use Rattle.std.proofs.Common.{arith, ◌+◌}
 use Rattle.drain_parts.specs.PartRules.{IsPartRule, part_rules}
-use Rattle.drain_rules.proofs.KeptCells.{bounds-kept, raised_between-fits}
+use Rattle.drain_rules.proofs.KeptCells.{bounds-kept}
+use Rattle.drain_rules.proofs.CountBounds.{bounds-next, raised-fit}
 use Rattle.drain_part_audit.proofs.ClearedParts.{passed-cleared}
 use Rattle.drain_part_audit.proofs.PassedParts.{passed-labels, passed-next, passed-row, stops-row}
 use Rattle.drain_part_audit.proofs.part_row.part_row.Goals as goal
 
 pub add_kept-requires-clause-raised_fit : goal.add_kept-requires-clause-raised_fit
 add_kept-requires-clause-raised_fit g c =
-    omega (
-      arith,
-      c.loop-col.invariant.bounds.data_cells,
-      c.loop-col.invariant.bounds.raised,
-      c.cleared_from-kept.ensures.raised,
-      raised_between-fits (g.R.PatchRow.shown c.args.row.now) c.loop-col.col c.cleared_from-kept.result.end,
-      c.cleared_from-kept.ensures.within,
-      c.cols-cols.ensures.count,
-      c.cols-cols.ensures.narrow,
-    )
+    let kept = c.cleared_from-kept.ensures in
+    raised-fit (g.R.PatchRow.shown c.args.row.now) c.loop-col.col c.loop-col.col c.cols-cols.result c.cleared_from-kept.result c.loop-col.tally c.loop-col.invariant.bounds
+    (omega arith) kept.forward (omega (arith, kept.within, c.cols-cols.ensures.count)) c.cols-cols.ensures.narrow kept.raised
 
 pub add-requires-clause-raised_within : goal.add-requires-clause-raised_within
 add-requires-clause-raised_within g c =
@@ -55,11 +49,8 @@ loop-col-preserved-then-col-cols g c =
           c.loop-col.labels c.loop-col.col c.cleared_from-kept.result c.loop-col.tally c.add_kept.new.self are kept.forward kept.within
           (c.loop-col.invariant.passed grid ps row are before) kept.kept kept.raised run.data_cells run.raised run.outlets)
           c.in-Ok.ensures.passed add.data_cells add.raised add.outlets c.in-Ok.ensures.labels;
-      bounds = record {
-        data_cells = grind (arith, add.data_cells, bounds.data_cells);
-        raised = grind (arith, add.raised, add.data_cells, bounds.raised);
-        outlets = grind (arith, add.outlets, add.data_cells, bounds.outlets);
-      };
+      bounds = bounds-next c.patch-patch.result.here c.cleared_from-kept.result.end (c.cleared_from-kept.result.end + 1) c.add_kept.new.self c.add.new.self
+          (omega arith) bounds add.data_cells add.raised add.outlets;
     }
 
 -- the cleared cells, up to the end of the row

@@ -4,7 +4,7 @@ use Rattle.drain_grid.specs.SinkTexts.{sinks_of}
 use Rattle.drain_parts.specs.declared.given.Given.TheVariants.{Con}
 use Rattle.drain_part_audit.specs.PartWalks.{IsPartVerdictOf}
 use Rattle.drain_part_audit.proofs.PartVerdicts.{con_keeps, of_surface, same_listed}
-use Rattle.drain_part_audit.proofs.con_audit.verdict_on.Goals as goal
+use Rattle.drain_part_audit.proofs.kept_con.verdict_on.Goals as goal
 
 pub returns-in_ok-unfilled-in-Accepted : goal.returns-in_ok-unfilled-in-Accepted
 returns-in_ok-unfilled-in-Accepted c = record {

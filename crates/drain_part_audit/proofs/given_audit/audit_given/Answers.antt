@@ -1,21 +1,22 @@
-use Rattle.std.proofs.Common.{◌≡◌, ◌∙◌, Ok, Err, refl, sym, ap, subst}
+use Rattle.std.proofs.Common.{◌∙◌, Ok, Err, refl, sym, ap, subst}
 use Rattle.std.proofs.lemmas.Result.{err_from_is_err_and}
 use Rattle.drain_answer.specs.declared.refusal.Refusal.TheVariants.{OutOfMemory}
-use Rattle.drain_con_rows.specs.ConRows.{AreFirstCon}
 use Rattle.drain_grid.specs.Size.{Extent}
 use Rattle.drain_grid.specs.SinkTexts.{sinks_of}
+use Rattle.drain_kernel.specs.declared.rules.Ranks.TheVariants.{Ignored}
+use Rattle.drain_verdict.specs.Answers.{rules_at}
 use Rattle.drain_verdict.specs.AuditInputs.{with_con_for_ranks}
 use Rattle.drain_verdict.specs.Meaning.{input_grid, listed_in, nodata_numbers, input_products}
 use Rattle.drain_verdict.proofs.AuditDevices.{none_alike}
 use Rattle.drain_verdict.proofs.StartAnswers.{shape_of_inputs}
 use Rattle.drain_verdict.proofs.Uses.{four_failed, four_used}
 use Rattle.drain_part_audit.proofs.PartVerdicts.{listed_ok, memory_alike}
-use Rattle.drain_part_audit.proofs.con_audit.audit_con.Goals as goal
+use Rattle.drain_part_audit.proofs.given_audit.audit_given.Goals as goal
 
 pub answer_on-requires-clause-unnoted : goal.answer_on-requires-clause-unnoted
 answer_on-requires-clause-unnoted g c = λ rules grid ps. (
-  c.new.ensures.begun grid ps,
-  (c.new-2.ensures.walk rules.nodata grid ps, (c.requires.unnoted rules grid ps, record { rows_are = c.new-3.ensures.rows; right = c.new-3.ensures.finding rules grid ps })),
+  c.begin.ensures.unnoted rules grid ps,
+  (c.new.ensures.walk rules.nodata grid ps, (c.requires.unnoted rules grid ps, record { rows_are = c.new-2.ensures.rows; right = c.new-2.ensures.finding rules grid ps })),
 )
 
 pub returns-in_err-_of_all-clause-answer : goal.returns-in_err-_of_all-clause-answer
@@ -34,14 +35,22 @@ returns-in-Ok-clause-answer g c = λ inputs tell.
     let noted = c.in_ok-_of_all.ensures.noted inputs tell in
     let answer = c.in_ok-_of_all.ensures.answer inputs tell in
     let listed = ap sinks_of (sym tell.sinks_are) ∙ listed_ok inputs answer.0 in
-    let rows = subst (λ (e : Extent). AreFirstCon (input_grid inputs) (input_products inputs) e.rows c.answer_on.new.notes.first) (sym extent) noted.0 in (
+    let rows = subst (λ (e : Extent). g.K.RowVisitor.are_of (rules_at Ignored inputs) (input_grid inputs) (input_products inputs) e.rows c.answer_on.new.notes.first) (sym extent) noted.0 in (
       answer.0,
-      c.in-Ok.ensures.verdict (nodata_numbers inputs) (listed_in inputs) (input_grid inputs) (input_products inputs) (sym extent) listed (λ c inside. refl) rows
-          (c.verdict-of_rules.ensures.verdict (nodata_numbers inputs) (input_grid inputs) (input_products inputs) (sym extent) noted.1.0),
+      c.in-Ok.ensures.verdict g.G.GivenRasters.given (rules_at Ignored inputs) (listed_in inputs) (input_grid inputs) (input_products inputs) c.requires.kept (sym extent) listed
+          (λ c inside. refl) rows (c.verdict-of_rules.ensures.verdict (nodata_numbers inputs) (input_grid inputs) (input_products inputs) (sym extent) noted.1.0),
     )
 
 pub returns-in-Ok-clause-noted : goal.returns-in-Ok-clause-noted
 returns-in-Ok-clause-noted g c = λ inputs tell. (c.in_ok-_of_all.ensures.noted inputs tell).1.1.0
+
+pub returns-in-Ok-clause-flows : goal.returns-in-Ok-clause-flows
+returns-in-Ok-clause-flows g c = λ inputs tell.
+    let extent = shape_of_inputs c.one_name.ensures g.R.ByteSource.bytes_left c.args.layout.now c.args.tiles.now c.args.sinks.now (with_con_for_ranks c.args.products.now) inputs c.shape-shape.result tell c.requires.laid c.shape-shape.ensures in
+    let rows = subst (λ (e : Extent). g.K.RowVisitor.are_of (rules_at Ignored inputs) (input_grid inputs) (input_products inputs) e.rows c.answer_on.new.notes.first) (sym extent)
+    (c.in_ok-_of_all.ensures.noted inputs tell).0 in
+    subst (λ (e : Extent). g.K.KeptRows.leave (input_grid inputs) (input_products inputs) e c.in-Ok.decided.flows) c.shape-shape.ensures
+    (c.in-Ok.ensures.flows (rules_at Ignored inputs) (input_grid inputs) (input_products inputs) (sym extent) rows)
 
 pub returns-in-Ok-clause-uses : goal.returns-in-Ok-clause-uses
 returns-in-Ok-clause-uses g c =
