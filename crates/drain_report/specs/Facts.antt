@@ -1,5 +1,5 @@
 -- The facts of a report as numbers, each kind on lines of its own. The order of the numbers is this project's own.
-use Rattle.std.specs.Prelude.{◌≡◌, ◌<◌, ◌^◌, ℕ, ℤ, pos, Bool, true, false, Option, Some, None, List, [], ◌∷◌, ◌++◌, codes, if◌then◌else◌}
+use Rattle.std.specs.Prelude.{◌<◌, ◌^◌, ℕ, ℤ, pos, Bool, true, false, Option, Some, None, List, [], ◌∷◌, ◌++◌, codes, if◌then◌else◌}
 use Rattle.std.specs.Int.{w16}
 use Rattle.std.specs.Int.RustNames.{FitsSigned}
 use Rattle.drain_grid.specs.declared.cell.Cell.{Cell}
@@ -121,11 +121,6 @@ VerdictFits (Rejected rule row col) = IsNarrow (record { row = row; col = col })
 abbrev pub is_accepted : Verdict → Bool
 is_accepted (Accepted c) = true
 is_accepted (Rejected rule row col) = false
-
--- the verdict of a fault with these numbers
-abbrev pub IsRejection : List ℤ → Verdict → Type 0
-IsRejection ns (Accepted c) = ⊥
-IsRejection ns (Rejected rule row col) = ns ≡ fault_numbers rule row col
 
 -- tile NAME
 abbrev pub tile_line : Corner → List ℕ

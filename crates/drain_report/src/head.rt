@@ -8,9 +8,7 @@ ghost use Rattle.drain_report.specs.Head.{HeadFits, head_text, version_line};
 use crate::count::{push_count, read_count};
 use crate::fault::ReportFault;
 use crate::lines::{Lines, after_word, push};
-use crate::nodata::{push_nodata, read_nodata};
-use crate::place::{push_place, read_place};
-use crate::verdict::{push_verdict, read_verdict};
+use crate::report_line::ReportLine;
 use drain_grid::{NoData, OutOfMemory};
 use drain_rules::Verdict;
 use drain_windows::Place;
@@ -53,15 +51,15 @@ pub fn read_head(text: &[u8]) -> Result<(Head, Lines), ReportFault>
         Ok(read) => read,
         Err(fault) => return Err(fault),
     };
-    let (place, lines) = match read_place(lines) {
+    let (place, lines) = match Place::read_from(lines) {
         Ok(read) => read,
         Err(fault) => return Err(fault),
     };
-    let (nodata, lines) = match read_nodata(lines) {
+    let (nodata, lines) = match NoData::read_from(lines) {
         Ok(read) => read,
         Err(fault) => return Err(fault),
     };
-    let (verdict, lines) = match read_verdict(lines) {
+    let (verdict, lines) = match Verdict::read_from(lines) {
         Ok(read) => read,
         Err(fault) => return Err(fault),
     };
@@ -83,7 +81,7 @@ pub fn push_head(text: &mut Vec<u8>, head: &Head) -> Result<(), OutOfMemory>
 {
     push(text, VERSION)?;
     push_count(text, "side", head.side)?;
-    push_place(text, &head.place)?;
-    push_nodata(text, &head.nodata)?;
-    push_verdict(text, head.verdict)
+    head.place.push_to(text)?;
+    head.nodata.push_to(text)?;
+    head.verdict.push_to(text)
 }

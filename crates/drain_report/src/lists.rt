@@ -1,7 +1,6 @@
 //! Lists of a report: how many lines there are, then the lines.
 
 ghost use Rattle.std.specs.Prelude.{◌≡◌, ◌<◌, ◌≤◌, ◌^◌, ℕ, List, ◌++◌, IfOk, OnOk, MatchResult, length};
-ghost use Rattle.drain_report.specs.declared.fault.ReportFault.{ReportFault as FaultOf};
 ghost use Rattle.drain_report.specs.Faults.{IsAt, IsPast, IsListFault, line_feeds};
 ghost use Rattle.drain_report.specs.Lists.{AllAre, IsListOf, all_text, list_text};
 

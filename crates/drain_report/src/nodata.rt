@@ -1,15 +1,15 @@
 //! The line of the no-data numbers.
 
-ghost use Rattle.std.specs.Prelude.{◌≡◌, ◌<◌, ◌^◌, ℕ, ℤ, List, ◌++◌, pos, length, get_or, Some, IfSome, IfOk, OnOk, MatchResult};
-ghost use Rattle.drain_grid.specs.Values.{NoDataNumbers, AreNoDataInRange, IsNoData};
+ghost use Rattle.std.specs.Prelude.{◌≡◌, ◌<◌, ℤ, pos, length, get_or, Some, IfSome};
+ghost use Rattle.drain_grid.specs.Values.{AreNoDataInRange, IsNoData};
 ghost use Rattle.drain_report.specs.Lines.{AreLong};
-ghost use Rattle.drain_report.specs.Faults.{IsAt, IsPast, IsLineFault};
 ghost use Rattle.drain_report.specs.Facts.{nodata_numbers, nodata_line};
 
 use crate::fact::{Fact, read_fact};
 use crate::facts::at;
 use crate::fault::ReportFault;
 use crate::lines::{Lines, push_line};
+use crate::report_line::ReportLine;
 use drain_grid::nodata::{GREATEST_NODATA, LEAST_NODATA};
 use drain_grid::{NoData, OutOfMemory};
 
@@ -54,23 +54,18 @@ impl Fact for NoData {
     }
 }
 
-/// Reads the line of the no-data numbers.
-pub fn read_nodata<'a>(lines: Lines<'a>) -> Result<(NoData, Lines<'a>), ReportFault>
-    ensures sound { IfOk result (λ found. lines.entry.rest.now ≡ nodata_line found.0 ++ found.1.rest.now) }
-    ensures back { (n : NoDataNumbers) (rest : List ℕ) → AreNoDataInRange n → lines.entry.rest.now ≡ nodata_line n ++ rest → MatchResult result (λ found. (found.0 ≡ n) × (found.1.rest.now ≡ rest)) (λ _. ⊥) }
-    ensures place { (feeds : ℕ) → feeds < 2 ^ 63 → IsAt feeds lines.entry.number lines.entry.rest.now → MatchResult result (λ found. IsPast feeds lines.entry.number found.1.number found.1.rest.now) (IsLineFault feeds lines.entry.number) }
-{
-    let mut numbers = [0i64; 6];
-    read_fact(lines, "nodata", &mut numbers)
-}
+impl ReportLine for NoData {
+    ghost line_of = { nodata_line };
 
-/// Appends the line of the no-data numbers.
-pub fn push_nodata(text: &mut Vec<u8>, nodata: &NoData) -> Result<(), OutOfMemory>
-    ensures written { OnOk result (text.new.items ≡ text.old.items ++ nodata_line nodata.now) }
-    ensures in_range { OnOk result (AreNoDataInRange nodata.now) }
-{
-    let numbers = [
-        nodata.con, nodata.dir, nodata.acc, nodata.bas, nodata.spl, nodata.rnk,
-    ];
-    push_line(text, "nodata", &numbers)
+    ghost fits = { AreNoDataInRange };
+
+    fn read_from<'a>(lines: Lines<'a>) -> Result<(NoData, Lines<'a>), ReportFault> {
+        let mut numbers = [0i64; 6];
+        read_fact(lines, "nodata", &mut numbers)
+    }
+
+    fn push_to(&self, text: &mut Vec<u8>) -> Result<(), OutOfMemory> {
+        let numbers = [self.con, self.dir, self.acc, self.bas, self.spl, self.rnk];
+        push_line(text, "nodata", &numbers)
+    }
 }

@@ -1,8 +1,5 @@
 //! Outlets as lines of a report.
 
-ghost use Rattle.std.specs.Prelude.{◌≡◌, Some, IfSome, length};
-ghost use Rattle.drain_windows.specs.declared.outlet.Outlet.{Outlet as OutletOf};
-ghost use Rattle.drain_report.specs.Lines.{AreLong};
 ghost use Rattle.drain_report.specs.Facts.{IsOutlet, outlet_numbers, outlet_line};
 
 use crate::fact::{Fact, read_fact};

@@ -1,17 +1,16 @@
 //! The line of a window's place.
 
-ghost use Rattle.std.specs.Prelude.{◌≡◌, ◌<◌, ◌^◌, ℕ, List, ◌++◌, drop, length, Some, IfSome, IfOk, OnOk, MatchResult};
+ghost use Rattle.std.specs.Prelude.{◌≡◌, drop, length, Some, IfSome};
 ghost use Rattle.drain_grid.specs.Size.{IsExtent};
 ghost use Rattle.drain_windows.specs.declared.place.InnerSides.{InnerSides as SidesOf};
-ghost use Rattle.drain_windows.specs.declared.place.Place.{Place as PlaceOf};
 ghost use Rattle.drain_report.specs.Lines.{AreLong};
-ghost use Rattle.drain_report.specs.Faults.{IsAt, IsPast, IsLineFault};
 ghost use Rattle.drain_report.specs.Facts.{side_numbers, place_numbers, place_line, IsPlace};
 
 use crate::fact::{Fact, read_fact};
 use crate::facts::{cell_at, flag_at};
 use crate::fault::ReportFault;
 use crate::lines::{Lines, push_line};
+use crate::report_line::ReportLine;
 use drain_grid::{Cell, OutOfMemory, Shape};
 use drain_windows::{InnerSides, Place};
 
@@ -55,16 +54,6 @@ impl Fact for Place {
     }
 }
 
-/// Reads the line of the window's place.
-pub fn read_place<'a>(lines: Lines<'a>) -> Result<(Place, Lines<'a>), ReportFault>
-    ensures sound { IfOk result (λ found. lines.entry.rest.now ≡ place_line found.0 ++ found.1.rest.now) }
-    ensures back { (p : PlaceOf) (rest : List ℕ) → IsPlace p → lines.entry.rest.now ≡ place_line p ++ rest → MatchResult result (λ found. (found.0 ≡ p) × (found.1.rest.now ≡ rest)) (λ _. ⊥) }
-    ensures place { (feeds : ℕ) → feeds < 2 ^ 63 → IsAt feeds lines.entry.number lines.entry.rest.now → MatchResult result (λ found. IsPast feeds lines.entry.number found.1.number found.1.rest.now) (IsLineFault feeds lines.entry.number) }
-{
-    let mut numbers = [0i64; 8];
-    read_fact(lines, "window", &mut numbers)
-}
-
 /// The rows and columns of a shape.
 fn size(extent: Shape) -> Cell
     ensures size { result ≡ record { row = extent.rows; col = extent.cols } }
@@ -76,22 +65,29 @@ fn size(extent: Shape) -> Cell
     }
 }
 
-/// Appends the line of the window's place.
-pub fn push_place(text: &mut Vec<u8>, place: &Place) -> Result<(), OutOfMemory>
-    ensures written { OnOk result (text.new.items ≡ text.old.items ++ place_line place.now) }
-    ensures in_range { OnOk result (IsPlace place.now) }
-{
-    let size = size(place.extent);
-    let inner = place.inner;
-    let numbers = [
-        i64::from(place.top),
-        i64::from(place.left),
-        i64::from(size.row),
-        i64::from(size.col),
-        i64::from(inner.north),
-        i64::from(inner.south),
-        i64::from(inner.west),
-        i64::from(inner.east),
-    ];
-    push_line(text, "window", &numbers)
+impl ReportLine for Place {
+    ghost line_of = { place_line };
+
+    ghost fits = { IsPlace };
+
+    fn read_from<'a>(lines: Lines<'a>) -> Result<(Place, Lines<'a>), ReportFault> {
+        let mut numbers = [0i64; 8];
+        read_fact(lines, "window", &mut numbers)
+    }
+
+    fn push_to(&self, text: &mut Vec<u8>) -> Result<(), OutOfMemory> {
+        let size = size(self.extent);
+        let inner = self.inner;
+        let numbers = [
+            i64::from(self.top),
+            i64::from(self.left),
+            i64::from(size.row),
+            i64::from(size.col),
+            i64::from(inner.north),
+            i64::from(inner.south),
+            i64::from(inner.west),
+            i64::from(inner.east),
+        ];
+        push_line(text, "window", &numbers)
+    }
 }

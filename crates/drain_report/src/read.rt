@@ -1,7 +1,6 @@
 //! Reading a report.
 
 ghost use Rattle.std.specs.Prelude.{◌≡◌, ℕ, IfErr, IfOk, OnOk, IsOk, MatchResult};
-ghost use Rattle.drain_report.specs.declared.fault.ReportFault.{ReportFault as FaultOf};
 ghost use Rattle.drain_report.specs.Facts.{is_accepted};
 ghost use Rattle.drain_report.specs.Faults.{FaultFits, IsAt, IsEndFault};
 ghost use Rattle.drain_report.specs.Contents.{Contents, ContentsFit, contents_of, end_line, report_text};

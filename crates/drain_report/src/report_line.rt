@@ -1,4 +1,4 @@
-//! Lines of a list: each kind of list has its own.
+//! Lines of a report: each kind has its own.
 
 ghost use Rattle.std.specs.Prelude.{◌≡◌, ◌<◌, ◌^◌, ℕ, List, ◌++◌, IfOk, OnOk, MatchResult};
 ghost use Rattle.drain_report.specs.Faults.{IsAt, IsPast, IsLineFault};
@@ -7,7 +7,7 @@ use crate::fault::ReportFault;
 use crate::lines::Lines;
 use drain_grid::OutOfMemory;
 
-/// What a line of a list says.
+/// What a line of a report says.
 pub trait ReportLine: Copy {
     /// The line, with its line feed.
     ghost line_of: { Self → List ℕ };

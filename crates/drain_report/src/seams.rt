@@ -2,7 +2,6 @@
 
 ghost use Rattle.std.specs.Prelude.{◌≡◌, ◌≢◌, ◌<◌, ℤ, Option, pos, Some, IfSome, length, drop, get_or};
 ghost use Rattle.drain_grid.specs.Values.{Values, AreInRange};
-ghost use Rattle.drain_windows.specs.declared.report.Shown.{Shown as ShownOf};
 ghost use Rattle.drain_report.specs.Lines.{AreLong};
 ghost use Rattle.drain_report.specs.Facts.{IsHeight, height_number, values_numbers, shown_numbers, shown_line, IsShown};
 

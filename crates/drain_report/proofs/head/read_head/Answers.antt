@@ -18,44 +18,44 @@ returns-in-Err-read_count-clause-back c = λ head rest fit is.
     let after_version = c.in-Ok.ensures.back (count_line (codes "side") head.side ++ (place_line head.place ++ (nodata_line head.nodata ++ (verdict_line head.verdict ++ rest)))) whole in
     c.in-Err-read_count.ensures.back head.side (place_line head.place ++ (nodata_line head.nodata ++ (verdict_line head.verdict ++ rest))) fit.side after_version
 
-pub returns-in-Err-read_place-clause-back : goal.returns-in-Err-read_place-clause-back
-returns-in-Err-read_place-clause-back c = λ head rest fit is.
+pub returns-in-Err-read_from-clause-back : goal.returns-in-Err-read_from-clause-back
+returns-in-Err-read_from-clause-back c = λ head rest fit is.
     let whole = is ∙ five_split version_line (count_line (codes "side") head.side) (place_line head.place) (nodata_line head.nodata) (verdict_line head.verdict) rest in
     let after_version = c.in-Ok.ensures.back (count_line (codes "side") head.side ++ (place_line head.place ++ (nodata_line head.nodata ++ (verdict_line head.verdict ++ rest)))) whole in
     let side = c.in-Ok-read_count.ensures.back head.side (place_line head.place ++ (nodata_line head.nodata ++ (verdict_line head.verdict ++ rest))) fit.side after_version in
-    c.in-Err-read_place.ensures.back head.place (nodata_line head.nodata ++ (verdict_line head.verdict ++ rest)) fit.place side.1
+    c.in-Err-read_from.ensures.back head.place (nodata_line head.nodata ++ (verdict_line head.verdict ++ rest)) fit.place side.1
 
-pub returns-in-Err-read_nodata-clause-back : goal.returns-in-Err-read_nodata-clause-back
-returns-in-Err-read_nodata-clause-back c = λ head rest fit is.
+pub returns-in-Err-read_from-2-clause-back : goal.returns-in-Err-read_from-2-clause-back
+returns-in-Err-read_from-2-clause-back c = λ head rest fit is.
     let whole = is ∙ five_split version_line (count_line (codes "side") head.side) (place_line head.place) (nodata_line head.nodata) (verdict_line head.verdict) rest in
     let after_version = c.in-Ok.ensures.back (count_line (codes "side") head.side ++ (place_line head.place ++ (nodata_line head.nodata ++ (verdict_line head.verdict ++ rest)))) whole in
     let side = c.in-Ok-read_count.ensures.back head.side (place_line head.place ++ (nodata_line head.nodata ++ (verdict_line head.verdict ++ rest))) fit.side after_version in
-    let place = c.in-Ok-read_place.ensures.back head.place (nodata_line head.nodata ++ (verdict_line head.verdict ++ rest)) fit.place side.1 in
-    c.in-Err-read_nodata.ensures.back head.nodata (verdict_line head.verdict ++ rest) fit.nodata place.1
+    let place = c.in-Ok-read_from.ensures.back head.place (nodata_line head.nodata ++ (verdict_line head.verdict ++ rest)) fit.place side.1 in
+    c.in-Err-read_from-2.ensures.back head.nodata (verdict_line head.verdict ++ rest) fit.nodata place.1
 
-pub returns-in-Err-read_verdict-clause-back : goal.returns-in-Err-read_verdict-clause-back
-returns-in-Err-read_verdict-clause-back c = λ head rest fit is.
+pub returns-in-Err-read_from-3-clause-back : goal.returns-in-Err-read_from-3-clause-back
+returns-in-Err-read_from-3-clause-back c = λ head rest fit is.
     let whole = is ∙ five_split version_line (count_line (codes "side") head.side) (place_line head.place) (nodata_line head.nodata) (verdict_line head.verdict) rest in
     let after_version = c.in-Ok.ensures.back (count_line (codes "side") head.side ++ (place_line head.place ++ (nodata_line head.nodata ++ (verdict_line head.verdict ++ rest)))) whole in
     let side = c.in-Ok-read_count.ensures.back head.side (place_line head.place ++ (nodata_line head.nodata ++ (verdict_line head.verdict ++ rest))) fit.side after_version in
-    let place = c.in-Ok-read_place.ensures.back head.place (nodata_line head.nodata ++ (verdict_line head.verdict ++ rest)) fit.place side.1 in
-    let nodata = c.in-Ok-read_nodata.ensures.back head.nodata (verdict_line head.verdict ++ rest) fit.nodata place.1 in
-    c.in-Err-read_verdict.ensures.back head.verdict rest fit.verdict nodata.1
+    let place = c.in-Ok-read_from.ensures.back head.place (nodata_line head.nodata ++ (verdict_line head.verdict ++ rest)) fit.place side.1 in
+    let nodata = c.in-Ok-read_from-2.ensures.back head.nodata (verdict_line head.verdict ++ rest) fit.nodata place.1 in
+    c.in-Err-read_from-3.ensures.back head.verdict rest fit.verdict nodata.1
 
 pub returns-clause-sound : goal.returns-clause-sound
 returns-clause-sound c =
-    read_five c.args.text.now c.in-Ok.read.rest.now c.in-Ok-read_count.read.1.rest.now c.in-Ok-read_place.read.1.rest.now c.in-Ok-read_nodata.read.1.rest.now c.in-Ok-read_verdict.read.1.rest.now
-    version_line (count_line (codes "side") c.in-Ok-read_count.read.0) (place_line c.in-Ok-read_place.read.0) (nodata_line c.in-Ok-read_nodata.read.0) (verdict_line c.in-Ok-read_verdict.read.0)
-    c.in-Ok.ensures.sound c.in-Ok-read_count.ensures.sound c.in-Ok-read_place.ensures.sound c.in-Ok-read_nodata.ensures.sound c.in-Ok-read_verdict.ensures.sound
+    read_five c.args.text.now c.in-Ok.read.rest.now c.in-Ok-read_count.read.1.rest.now c.in-Ok-read_from.read.1.rest.now c.in-Ok-read_from-2.read.1.rest.now c.in-Ok-read_from-3.read.1.rest.now
+    version_line (count_line (codes "side") c.in-Ok-read_count.read.0) (place_line c.in-Ok-read_from.read.0) (nodata_line c.in-Ok-read_from-2.read.0) (verdict_line c.in-Ok-read_from-3.read.0)
+    c.in-Ok.ensures.sound c.in-Ok-read_count.ensures.sound c.in-Ok-read_from.ensures.sound c.in-Ok-read_from-2.ensures.sound c.in-Ok-read_from-3.ensures.sound
 
 pub returns-clause-back : goal.returns-clause-back
 returns-clause-back c = λ head rest fit is.
     let whole = is ∙ five_split version_line (count_line (codes "side") head.side) (place_line head.place) (nodata_line head.nodata) (verdict_line head.verdict) rest in
     let after_version = c.in-Ok.ensures.back (count_line (codes "side") head.side ++ (place_line head.place ++ (nodata_line head.nodata ++ (verdict_line head.verdict ++ rest)))) whole in
     let side = c.in-Ok-read_count.ensures.back head.side (place_line head.place ++ (nodata_line head.nodata ++ (verdict_line head.verdict ++ rest))) fit.side after_version in
-    let place = c.in-Ok-read_place.ensures.back head.place (nodata_line head.nodata ++ (verdict_line head.verdict ++ rest)) fit.place side.1 in
-    let nodata = c.in-Ok-read_nodata.ensures.back head.nodata (verdict_line head.verdict ++ rest) fit.nodata place.1 in
-    let verdict = c.in-Ok-read_verdict.ensures.back head.verdict rest fit.verdict nodata.1 in
+    let place = c.in-Ok-read_from.ensures.back head.place (nodata_line head.nodata ++ (verdict_line head.verdict ++ rest)) fit.place side.1 in
+    let nodata = c.in-Ok-read_from-2.ensures.back head.nodata (verdict_line head.verdict ++ rest) fit.nodata place.1 in
+    let verdict = c.in-Ok-read_from-3.ensures.back head.verdict rest fit.verdict nodata.1 in
     (same_head head _ _ _ _ side.0 place.0 nodata.0 verdict.0, verdict.1)
 
 pub returns-in-Err-clause-place : goal.returns-in-Err-clause-place
@@ -68,32 +68,32 @@ returns-in-Err-read_count-clause-place c =
     let first = at_two text c.in-Ok.read.number c.in-Ok.read.rest.now c.in-Ok.ensures.sound c.in-Ok.ensures.place in
     line_fits text c.in-Ok.read.number c.in-Err-read_count.fault (c.in-Ok.read.rest.now, c.in-Ok.ensures.sound) first.least (c.in-Err-read_count.ensures.place (line_feeds text) few refl first.at)
 
-pub returns-in-Err-read_place-clause-place : goal.returns-in-Err-read_place-clause-place
-returns-in-Err-read_place-clause-place c =
+pub returns-in-Err-read_from-clause-place : goal.returns-in-Err-read_from-clause-place
+returns-in-Err-read_from-clause-place c =
     let text = c.args.text.now in
     let few : line_feeds c.args.text.now < 2 ^ 63 = omega (arith, few_feeds c.args.text.now) in
     let first = at_two text c.in-Ok.read.number c.in-Ok.read.rest.now c.in-Ok.ensures.sound c.in-Ok.ensures.place in
     let count = later text c.in-Ok.read.rest.now c.in-Ok-read_count.read.1.rest.now c.in-Ok.read.number c.in-Ok-read_count.read.1.number first (c.in-Ok-read_count.ensures.place (line_feeds text) few refl) in
-    line_fits text c.in-Ok-read_count.read.1.number c.in-Err-read_place.fault (c.in-Ok.read.rest.now, c.in-Ok.ensures.sound) count.least (c.in-Err-read_place.ensures.place (line_feeds text) few count.at)
+    line_fits text c.in-Ok-read_count.read.1.number c.in-Err-read_from.fault (c.in-Ok.read.rest.now, c.in-Ok.ensures.sound) count.least (c.in-Err-read_from.ensures.place (line_feeds text) few count.at)
 
-pub returns-in-Err-read_nodata-clause-place : goal.returns-in-Err-read_nodata-clause-place
-returns-in-Err-read_nodata-clause-place c =
+pub returns-in-Err-read_from-2-clause-place : goal.returns-in-Err-read_from-2-clause-place
+returns-in-Err-read_from-2-clause-place c =
     let text = c.args.text.now in
     let few : line_feeds c.args.text.now < 2 ^ 63 = omega (arith, few_feeds c.args.text.now) in
     let first = at_two text c.in-Ok.read.number c.in-Ok.read.rest.now c.in-Ok.ensures.sound c.in-Ok.ensures.place in
     let count = later text c.in-Ok.read.rest.now c.in-Ok-read_count.read.1.rest.now c.in-Ok.read.number c.in-Ok-read_count.read.1.number first (c.in-Ok-read_count.ensures.place (line_feeds text) few refl) in
-    let place = later text c.in-Ok-read_count.read.1.rest.now c.in-Ok-read_place.read.1.rest.now c.in-Ok-read_count.read.1.number c.in-Ok-read_place.read.1.number count (c.in-Ok-read_place.ensures.place (line_feeds text) few) in
-    line_fits text c.in-Ok-read_place.read.1.number c.in-Err-read_nodata.fault (c.in-Ok.read.rest.now, c.in-Ok.ensures.sound) place.least (c.in-Err-read_nodata.ensures.place (line_feeds text) few place.at)
+    let place = later text c.in-Ok-read_count.read.1.rest.now c.in-Ok-read_from.read.1.rest.now c.in-Ok-read_count.read.1.number c.in-Ok-read_from.read.1.number count (c.in-Ok-read_from.ensures.place (line_feeds text) few) in
+    line_fits text c.in-Ok-read_from.read.1.number c.in-Err-read_from-2.fault (c.in-Ok.read.rest.now, c.in-Ok.ensures.sound) place.least (c.in-Err-read_from-2.ensures.place (line_feeds text) few place.at)
 
-pub returns-in-Err-read_verdict-clause-place : goal.returns-in-Err-read_verdict-clause-place
-returns-in-Err-read_verdict-clause-place c =
+pub returns-in-Err-read_from-3-clause-place : goal.returns-in-Err-read_from-3-clause-place
+returns-in-Err-read_from-3-clause-place c =
     let text = c.args.text.now in
     let few : line_feeds c.args.text.now < 2 ^ 63 = omega (arith, few_feeds c.args.text.now) in
     let first = at_two text c.in-Ok.read.number c.in-Ok.read.rest.now c.in-Ok.ensures.sound c.in-Ok.ensures.place in
     let count = later text c.in-Ok.read.rest.now c.in-Ok-read_count.read.1.rest.now c.in-Ok.read.number c.in-Ok-read_count.read.1.number first (c.in-Ok-read_count.ensures.place (line_feeds text) few refl) in
-    let place = later text c.in-Ok-read_count.read.1.rest.now c.in-Ok-read_place.read.1.rest.now c.in-Ok-read_count.read.1.number c.in-Ok-read_place.read.1.number count (c.in-Ok-read_place.ensures.place (line_feeds text) few) in
-    let nodata = later text c.in-Ok-read_place.read.1.rest.now c.in-Ok-read_nodata.read.1.rest.now c.in-Ok-read_place.read.1.number c.in-Ok-read_nodata.read.1.number place (c.in-Ok-read_nodata.ensures.place (line_feeds text) few) in
-    line_fits text c.in-Ok-read_nodata.read.1.number c.in-Err-read_verdict.fault (c.in-Ok.read.rest.now, c.in-Ok.ensures.sound) nodata.least (c.in-Err-read_verdict.ensures.place (line_feeds text) few nodata.at)
+    let place = later text c.in-Ok-read_count.read.1.rest.now c.in-Ok-read_from.read.1.rest.now c.in-Ok-read_count.read.1.number c.in-Ok-read_from.read.1.number count (c.in-Ok-read_from.ensures.place (line_feeds text) few) in
+    let nodata = later text c.in-Ok-read_from.read.1.rest.now c.in-Ok-read_from-2.read.1.rest.now c.in-Ok-read_from.read.1.number c.in-Ok-read_from-2.read.1.number place (c.in-Ok-read_from-2.ensures.place (line_feeds text) few) in
+    line_fits text c.in-Ok-read_from-2.read.1.number c.in-Err-read_from-3.fault (c.in-Ok.read.rest.now, c.in-Ok.ensures.sound) nodata.least (c.in-Err-read_from-3.ensures.place (line_feeds text) few nodata.at)
 
 pub returns-clause-place : goal.returns-clause-place
 returns-clause-place c =
@@ -101,7 +101,7 @@ returns-clause-place c =
     let few : line_feeds c.args.text.now < 2 ^ 63 = omega (arith, few_feeds c.args.text.now) in
     let first = at_two text c.in-Ok.read.number c.in-Ok.read.rest.now c.in-Ok.ensures.sound c.in-Ok.ensures.place in
     let count = later text c.in-Ok.read.rest.now c.in-Ok-read_count.read.1.rest.now c.in-Ok.read.number c.in-Ok-read_count.read.1.number first (c.in-Ok-read_count.ensures.place (line_feeds text) few refl) in
-    let place = later text c.in-Ok-read_count.read.1.rest.now c.in-Ok-read_place.read.1.rest.now c.in-Ok-read_count.read.1.number c.in-Ok-read_place.read.1.number count (c.in-Ok-read_place.ensures.place (line_feeds text) few) in
-    let nodata = later text c.in-Ok-read_place.read.1.rest.now c.in-Ok-read_nodata.read.1.rest.now c.in-Ok-read_place.read.1.number c.in-Ok-read_nodata.read.1.number place (c.in-Ok-read_nodata.ensures.place (line_feeds text) few) in
-    let past = c.in-Ok-read_verdict.ensures.place (line_feeds text) few nodata.at in
+    let place = later text c.in-Ok-read_count.read.1.rest.now c.in-Ok-read_from.read.1.rest.now c.in-Ok-read_count.read.1.number c.in-Ok-read_from.read.1.number count (c.in-Ok-read_from.ensures.place (line_feeds text) few) in
+    let nodata = later text c.in-Ok-read_from.read.1.rest.now c.in-Ok-read_from-2.read.1.rest.now c.in-Ok-read_from.read.1.number c.in-Ok-read_from-2.read.1.number place (c.in-Ok-read_from-2.ensures.place (line_feeds text) few) in
+    let past = c.in-Ok-read_from-3.ensures.place (line_feeds text) few nodata.at in
     (omega (arith, nodata.least, past.0), past.1)

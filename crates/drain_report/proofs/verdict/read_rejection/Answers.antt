@@ -1,28 +1,18 @@
-use Rattle.std.proofs.Common.{rules, refl, arith}
+use Rattle.std.proofs.Common.{ap, refl}
 use Rattle.drain_rules.specs.declared.verdict.Verdict.TheVariants.{Rejected}
-use Rattle.drain_report.specs.Facts.{fault_numbers}
-use Rattle.drain_report.proofs.NumberLemmas.{none_some, some_same}
 use Rattle.drain_report.proofs.FactLemmas.{fault_long}
 use Rattle.drain_report.proofs.verdict.read_rejection.Goals as goal
 
 pub returns-in-Err-clause-back : goal.returns-in-Err-clause-back
-returns-in-Err-clause-back c = λ r x rest fit is. c.in-Err.ensures.back (fault_numbers r x.row x.col) rest (search rules) (record { long = fault_long r x fit; is = is })
-
-pub returns-in_default-clause-back : goal.returns-in_default-clause-back
-returns-in_default-clause-back c = λ r x rest fit is.
-    let read = c.in-Ok.ensures.back (fault_numbers r x.row x.col) rest (search rules) (record { long = fault_long r x fit; is = is }) in
-    none_some (Rejected r x.row x.col) (c.in_default.ensures.back r x fit read.0)
+returns-in-Err-clause-back c = λ r x rest fit is. c.in-Err.ensures.back (record { rule = r; cell = x }) rest fit refl (record { long = fault_long r x fit; is = is })
 
 pub returns-clause-back : goal.returns-clause-back
 returns-clause-back c = λ r x rest fit is.
-    let read = c.in-Ok.ensures.back (fault_numbers r x.row x.col) rest (search rules) (record { long = fault_long r x fit; is = is }) in
-    (some_same c.in-Some.verdict (Rejected r x.row x.col) (c.in-Some.ensures.back r x fit read.0), read.1)
+    let read = c.in-Ok.ensures.back (record { rule = r; cell = x }) rest fit refl (record { long = fault_long r x fit; is = is }) in
+    (ap (λ found. Rejected found.rule found.cell.row found.cell.col) read.0, read.1)
 
 pub returns-in-Err-clause-place : goal.returns-in-Err-clause-place
 returns-in-Err-clause-place c = λ feeds few at. c.in-Err.ensures.place feeds few refl at
-
-pub returns-in_default-clause-place : goal.returns-in_default-clause-place
-returns-in_default-clause-place c = λ feeds few at. let next = c.in-Ok.ensures.place feeds few refl at in (omega arith, omega (arith, next))
 
 pub returns-clause-place : goal.returns-clause-place
 returns-clause-place c = λ feeds few at. c.in-Ok.ensures.place feeds few refl at

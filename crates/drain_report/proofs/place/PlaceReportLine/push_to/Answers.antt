@@ -1,6 +1,6 @@
 use Rattle.std.proofs.Common.{arith}
 use Rattle.drain_report.proofs.TextLemmas.{on_ok}
-use Rattle.drain_report.proofs.place.push_place.Goals as goal
+use Rattle.drain_report.proofs.place.PlaceReportLine.push_to.Goals as goal
 
 pub returns-clause-in_range : goal.returns-clause-in_range
 returns-clause-in_range c =

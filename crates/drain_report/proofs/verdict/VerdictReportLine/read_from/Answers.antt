@@ -5,7 +5,7 @@ use Rattle.drain_report.specs.Facts.{count_numbers, fault_numbers}
 use Rattle.drain_report.proofs.NumberLemmas.{none_some, some_same}
 use Rattle.drain_report.proofs.FactLemmas.{counts_long}
 use Rattle.drain_report.proofs.SameFacts.{by_kind, not_both_kinds}
-use Rattle.drain_report.proofs.verdict.read_verdict.Goals as goal
+use Rattle.drain_report.proofs.verdict.VerdictReportLine.read_from.Goals as goal
 
 pub returns-in-Err-clause-back : goal.returns-in-Err-clause-back
 returns-in-Err-clause-back c = λ v rest fit is.

@@ -1,6 +1,6 @@
 use Rattle.std.proofs.Common.{refl}
 use Rattle.drain_report.proofs.FactLemmas.{place_long}
-use Rattle.drain_report.proofs.place.read_place.Goals as goal
+use Rattle.drain_report.proofs.place.PlaceReportLine.read_from.Goals as goal
 
 pub returns-clause-back : goal.returns-clause-back
 returns-clause-back c = λ x rest fit is. c.read_fact.ensures.back x rest fit refl (record { long = place_long x fit; is = is })
