@@ -7,6 +7,7 @@ use drain_header::{ByteOrdering, Header, HeaderFault, Key, Place, header_text};
 use std::alloc::Global;
 use std::process::Abort;
 use std::test::Fail;
+use worked::headers::CON_TEXT;
 
 /// Decimals, each with its value in units of 15 digits after the point; none if it has none.
 static COORDINATES: [(&str, Option<i128>); 15] = [
@@ -147,13 +148,6 @@ pub const CONDITIONED: Header = Header {
     nodata: Some(-32768),
 };
 
-/// Its text.
-pub const CONDITIONED_TEXT: &str =
-    "BYTEORDER I\nLAYOUT BIL\nNROWS 3\nNCOLS 3\nNBANDS 1\nNBITS 16\nBANDROWBYTES 6\n\
-     TOTALROWBYTES 6\nSKIPBYTES 0\nPIXELTYPE SIGNEDINT\nULXMAP 0.000000000000000\n\
-     ULYMAP 1.000000000000000\nXDIM 0.500000000000000\nYDIM 0.500000000000000\n\
-     NODATA -32768\n";
-
 /// A header without a no-data number that lies west of Greenwich.
 const WESTERN: Header = Header {
     rows: 1,
@@ -188,6 +182,6 @@ fn has_text(rt: &impl Abort, alloc: Global, header: &Header, expected: &str) -> 
 
 #[test]
 fn headers_as_text(rt: HostRuntime) -> Result<(), Fail> {
-    has_text(&rt, rt.alloc(), &CONDITIONED, CONDITIONED_TEXT)?;
+    has_text(&rt, rt.alloc(), &CONDITIONED, CON_TEXT)?;
     has_text(&rt, rt.alloc(), &WESTERN, WESTERN_TEXT)
 }

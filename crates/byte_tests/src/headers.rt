@@ -5,14 +5,14 @@ use crate::header_lines::CONDITIONED;
 use drain_header::{Header, HeaderFault, Key, Place, header_text, parse_header};
 use std::alloc::{AllocError, Global};
 use std::test::Fail;
-use worked::headers::{CON_LINES, USUAL};
+use worked::headers::{CON_TEXT, USUAL};
 
-/// The line of this number, or what replaces it.
-fn changed<'a>(line: &'a str, number: usize, changes: &[(usize, &'a str)]) -> &'a str {
-    let mut now = line;
+/// What replaces the line of this number, if something does.
+fn replaced<'a>(number: usize, changes: &[(usize, &'a str)]) -> Option<&'a str> {
+    let mut now = None;
     for (changed, other) in changes {
         if *changed == number {
-            now = *other;
+            now = Some(*other);
         }
     }
     now
@@ -21,8 +21,9 @@ fn changed<'a>(line: &'a str, number: usize, changes: &[(usize, &'a str)]) -> &'
 /// The lines, each with this end, and some of them replaced. Lines are counted from 1.
 fn text(alloc: Global, end: &str, changes: &[(usize, &str)]) -> Result<Vec<u8>, AllocError> {
     let mut text = Vec::new(alloc);
-    for (at, line) in CON_LINES.iter().enumerate() {
-        text.extend_from_slice(changed(line, at + 1, changes).as_bytes())?;
+    for (at, line) in CON_TEXT.lines().enumerate() {
+        let line = replaced(at + 1, changes).unwrap_or(line);
+        text.extend_from_slice(line.as_bytes())?;
         text.extend_from_slice(end.as_bytes())?;
     }
     Ok(text)

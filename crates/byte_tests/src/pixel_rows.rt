@@ -1,20 +1,19 @@
 //! Rows of rasters read as numbers and as rows of pixels: each kind of pixel with numbers worked out by hand from the
 //! Esri description (NBITS, PIXELTYPE, BYTEORDER, SKIPBYTES, BANDROWBYTES).
 
-ghost use Rattle.std.specs.Prelude.{◌<◌};
-
 use crate::agree::same;
 use crate::rasters::{NOWHERE, PADDED, padded};
 use crate::row_sources::{
-    Answer, FAILED, Numbers, RUNS, SHORT_PADDED, SHORTER, WHOLE, first, of_raster,
+    Answer, FAILED, RUNS, SHORT_PADDED, SHORTER, WHOLE, first, four_calls, of_raster,
 };
-use drain_device::faults::{ScriptSource, Scripted};
-use drain_device::{ByteSource, DeviceFault, RowSource, RowStep};
+use drain_device::faults::ScriptSource;
+use drain_device::{ByteSource, RowSource, RowStep};
 use drain_header::ByteOrdering::{Least, Most};
 use drain_header::{ByteOrdering, Header};
 use drain_pixels::{PixelNumbers, PixelRow, Pixels};
 use drain_raster::RasterRows;
 use std::alloc::{AllocError, Global};
+use std::process::Abort;
 use std::test::Fail;
 use worked::calls::at_calls;
 
@@ -184,30 +183,16 @@ pub fn numbers_of<const N: usize>(
     Ok((row.len(), first(&as_kept)))
 }
 
-/// The answers to four calls, how many numbers came, and the first six.
-type Read = ([Answer; 4], usize, [i64; 6]);
-
-/// What four calls of `next_row` give.
-fn read_numbers(alloc: Global, header: Header, bytes: &[u8]) -> Result<Read, AllocError> {
-    let mut rows = RasterRows::new(header);
-    let mut from = ScriptSource::new(bytes, 100, &[]);
-    let mut answers = [Ok(RowStep::Ended); 4];
-    let mut numbers = Vec::new(alloc);
-    let mut row = Vec::new(alloc);
-    for answer in &mut answers {
-        *answer = rows.next_row(&mut from, &mut row);
-        numbers.extend_from_slice(&row)?;
-    }
-    Ok((answers, numbers.len(), first(&numbers)))
-}
+/// The answers to four calls, how many numbers came, and the first of them.
+type Read<const N: usize> = ([Answer; 4], (usize, [i64; N]));
 
 /// What four calls of `next_pixels` give, which read into this row.
-fn read_pixels<R: ByteSource>(
+fn read_pixels<R: ByteSource, const N: usize>(
     alloc: Global,
     header: Header,
     from: &mut R,
     row: &mut PixelRow,
-) -> Result<Read, AllocError> {
+) -> Result<Read<N>, AllocError> {
     let mut rows = RasterRows::new(header);
     let mut answers = [Ok(RowStep::Ended); 4];
     let mut numbers = Vec::new(alloc);
@@ -215,63 +200,64 @@ fn read_pixels<R: ByteSource>(
         *answer = rows.next_pixels(from, row);
         push_kept(&mut numbers, row)?;
     }
-    Ok((answers, numbers.len(), first(&numbers)))
+    Ok((answers, (numbers.len(), first(&numbers))))
 }
 
-/// What both give of a raster with this many bytes fewer than it needs, by a row that is used for all rasters.
+/// What calls of `next_row`, and of `next_pixels` into this row, give of a raster with this many bytes fewer than it
+/// needs.
 fn read_both(
     alloc: Global,
     (bits, signed, order, rows, _): Kind,
     gaps: (u8, u8),
     missing: usize,
     row: &mut PixelRow,
-) -> Result<(Read, Read), AllocError> {
+) -> Result<(Read<6>, Read<6>), AllocError> {
     let bytes = body(alloc, rows, gaps)?;
     let bytes = &bytes[..bytes.len().saturating_sub(missing)];
     let header = header(bits, signed, order, gaps);
-    let mut from = ScriptSource::new(bytes, 100, &[]);
+    let from = ScriptSource::new(bytes, 100, &[]);
+    let mut again = ScriptSource::new(bytes, 100, &[]);
     Ok((
-        read_numbers(alloc, header, bytes)?,
-        read_pixels(alloc, header, &mut from, row)?,
+        four_calls(alloc, &mut RasterRows::new(header), from)?,
+        read_pixels(alloc, header, &mut again, row)?,
     ))
 }
 
-#[test]
-fn rows_of_each_kind_of_pixel(rt: HostRuntime) -> Result<(), Fail> {
-    let mut row = PixelRow::new(rt.alloc());
+/// Ends the test where both don't give these answers and this many first numbers of a kind, for rasters of each kind
+/// with this many bytes fewer than they need. One row is used for all.
+fn each_kind_gives(
+    rt: &impl Abort,
+    alloc: Global,
+    missing: usize,
+    answers: [Answer; 4],
+    count: usize,
+) -> Result<(), Fail> {
+    let mut row = PixelRow::new(alloc);
     for kind in &KINDS {
+        let (bits, signed, order, _, numbers) = *kind;
+        let expected = (answers, (count, first(numbers.get(..count).unwrap_or(&[]))));
         for gaps in &GAPS {
-            let expected = (WHOLE, 6, kind.4);
-            let given = read_both(rt.alloc(), *kind, *gaps, 0, &mut row)?;
+            let given = read_both(alloc, *kind, *gaps, missing, &mut row)?;
             same(
-                &rt,
-                (kind.0, kind.1, kind.2, *gaps),
+                rt,
+                (bits, signed, order, *gaps),
                 given,
                 (expected, expected),
             );
         }
     }
     Ok(())
+}
+
+#[test]
+fn rows_of_each_kind_of_pixel(rt: HostRuntime) -> Result<(), Fail> {
+    each_kind_gives(&rt, rt.alloc(), 0, WHOLE, 6)
 }
 
 /// Without a byte of the last pixel the second row isn't there, and nothing is.
 #[test]
 fn rows_of_a_short_raster_of_each_kind(rt: HostRuntime) -> Result<(), Fail> {
-    let mut row = PixelRow::new(rt.alloc());
-    for kind in &KINDS {
-        let [one, two, three, ..] = kind.4;
-        for gaps in &GAPS {
-            let expected = (SHORTER, 3, [one, two, three, 0, 0, 0]);
-            let given = read_both(rt.alloc(), *kind, *gaps, 1, &mut row)?;
-            same(
-                &rt,
-                (kind.0, kind.1, kind.2, *gaps),
-                given,
-                (expected, expected),
-            );
-        }
-    }
-    Ok(())
+    each_kind_gives(&rt, rt.alloc(), 1, SHORTER, 3)
 }
 
 /// The second row by the other call than the first.
@@ -327,20 +313,14 @@ fn pixels_of_usual_kinds_stay_bytes(rt: HostRuntime) -> Result<(), Fail> {
     Ok(())
 }
 
-/// What four calls of `next_pixels` give of the padded raster with these bytes.
+/// What four calls of `next_pixels` give of the padded raster.
 fn of_padded(
     alloc: Global,
     order: ByteOrdering,
-    bytes: &[u8],
-    most: usize,
-    script: &[Scripted<DeviceFault>],
-) -> Result<([Answer; 4], Numbers), AllocError>
-    requires { 0 < most }
-{
-    let mut from = ScriptSource::new(bytes, most, script);
+    mut from: ScriptSource<'_>,
+) -> Result<Read<4>, AllocError> {
     let mut row = PixelRow::new(alloc);
-    let (answers, count, numbers) = read_pixels(alloc, padded(order), &mut from, &mut row)?;
-    Ok((answers, (count, first(&numbers))))
+    read_pixels(alloc, padded(order), &mut from, &mut row)
 }
 
 /// The orders of the padded raster's bytes, with its numbers.
@@ -354,8 +334,10 @@ fn pixels_from_slow_sources(rt: HostRuntime) -> Result<(), Fail> {
     for &(order, numbers) in &ORDERS {
         let [one, two, ..] = numbers;
         for most in [100, 3, 1] {
-            let whole = of_padded(rt.alloc(), order, &PADDED, most, &[])?;
-            let short = of_padded(rt.alloc(), order, &SHORT_PADDED, most, &[])?;
+            let from = ScriptSource::new(&PADDED, most, &[]);
+            let whole = of_padded(rt.alloc(), order, from)?;
+            let from = ScriptSource::new(&SHORT_PADDED, most, &[]);
+            let short = of_padded(rt.alloc(), order, from)?;
             same(&rt, (order, most), whole, (WHOLE, (4, numbers)));
             same(&rt, (order, most), short, (SHORTER, (2, [one, two, 0, 0])));
         }
@@ -370,19 +352,17 @@ fn pixels_fail_where_their_source_gives_up(rt: HostRuntime) -> Result<(), Fail> 
         let [one, two, ..] = numbers;
         for &(answer, some, others, is_whole) in &RUNS {
             let script = [at_calls(some, answer), at_calls(others, answer)];
-            let given = of_padded(rt.alloc(), order, &PADDED, 1, &script)?;
+            let from = ScriptSource::new(&PADDED, 1, &script);
+            let given = of_padded(rt.alloc(), order, from)?;
             let expected = if is_whole {
                 (WHOLE, (4, numbers))
             } else {
                 (FAILED, (2, [one, two, 0, 0]))
             };
             same(&rt, order, given, expected);
-            same(
-                &rt,
-                order,
-                of_raster(rt.alloc(), order, &PADDED, 1, &script)?,
-                expected,
-            );
+            let from = ScriptSource::new(&PADDED, 1, &script);
+            let given = of_raster(rt.alloc(), order, from)?;
+            same(&rt, order, given, expected);
         }
     }
     Ok(())

@@ -1,10 +1,8 @@
 //! Rows of tiles and rasters, worked out by hand, from sources that are whole, slow, interrupted or fail.
 
-ghost use Rattle.std.specs.Prelude.{◌<◌};
-
 use crate::agree::{same, same_text};
 use crate::rasters::{PADDED, padded};
-use drain_device::faults::{ScriptSource, Scripted};
+use drain_device::faults::ScriptSource;
 use drain_device::{DeviceFault, ReadFault, RowSource, RowStep};
 use drain_header::ByteOrdering;
 use drain_hgt::TileRows;
@@ -63,12 +61,12 @@ pub fn first<const N: usize>(numbers: &[i64]) -> [i64; N] {
     first
 }
 
-/// The answers to four calls, and the numbers that each call left in the vector, one call's after the other's.
-fn four_calls<'a, S: RowSource<ScriptSource<'a>>>(
+/// The answers to four calls, how many numbers they left in the vector, and the first of these.
+pub fn four_calls<'a, S: RowSource<ScriptSource<'a>>, const N: usize>(
     alloc: Global,
     rows: &mut S,
     mut from: ScriptSource<'a>,
-) -> Result<([Answer; 4], Numbers), AllocError> {
+) -> Result<([Answer; 4], (usize, [i64; N])), AllocError> {
     let mut answers = [Ok(RowStep::Ended); 4];
     let mut numbers = Vec::new(alloc);
     let mut row = Vec::new(alloc);
@@ -79,30 +77,20 @@ fn four_calls<'a, S: RowSource<ScriptSource<'a>>>(
     Ok((answers, (numbers.len(), first(&numbers))))
 }
 
-/// What four calls give of a tile of side 2 with these bytes.
+/// What four calls give of a tile of side 2.
 pub fn of_tile(
     alloc: Global,
-    bytes: &[u8],
-    most: usize,
-    script: &[Scripted<DeviceFault>],
-) -> Result<([Answer; 4], Numbers), AllocError>
-    requires { 0 < most }
-{
-    let from = ScriptSource::new(bytes, most, script);
+    from: ScriptSource<'_>,
+) -> Result<([Answer; 4], Numbers), AllocError> {
     four_calls(alloc, &mut TileRows::new(2), from)
 }
 
-/// What four calls give of the padded raster with these bytes.
+/// What four calls give of the padded raster.
 pub fn of_raster(
     alloc: Global,
     order: ByteOrdering,
-    bytes: &[u8],
-    most: usize,
-    script: &[Scripted<DeviceFault>],
-) -> Result<([Answer; 4], Numbers), AllocError>
-    requires { 0 < most }
-{
-    let from = ScriptSource::new(bytes, most, script);
+    from: ScriptSource<'_>,
+) -> Result<([Answer; 4], Numbers), AllocError> {
     four_calls(alloc, &mut RasterRows::new(padded(order)), from)
 }
 
@@ -120,7 +108,7 @@ static TILES: [(&[u8], [Answer; 4], Numbers); 3] = [
 fn a_tile_gives_its_rows(rt: HostRuntime) -> Result<(), Fail> {
     for &(bytes, expected, numbers) in &TILES {
         for most in [100, 1] {
-            let given = of_tile(rt.alloc(), bytes, most, &[])?;
+            let given = of_tile(rt.alloc(), ScriptSource::new(bytes, most, &[]))?;
             same(&rt, (bytes.len(), most), given, (expected, numbers));
         }
     }
@@ -157,7 +145,8 @@ static RASTERS: [(ByteOrdering, &[u8], [Answer; 4], Numbers); 4] = [
 fn a_raster_gives_its_rows(rt: HostRuntime) -> Result<(), Fail> {
     for &(order, bytes, expected, numbers) in &RASTERS {
         for most in [100, 1] {
-            let given = of_raster(rt.alloc(), order, bytes, most, &[])?;
+            let from = ScriptSource::new(bytes, most, &[]);
+            let given = of_raster(rt.alloc(), order, from)?;
             same(&rt, (bytes.len(), most), given, (expected, numbers));
         }
     }
@@ -188,8 +177,9 @@ fn rows_fail_where_their_source_gives_up(rt: HostRuntime) -> Result<(), Fail> {
     for &(answer, one, other, is_whole) in &RUNS {
         let script = [at_calls(one, answer), at_calls(other, answer)];
         let [tile_owed, raster_owed] = whole_or_failed(is_whole);
-        let tile = of_tile(rt.alloc(), &TILE, 1, &script)?;
-        let raster = of_raster(rt.alloc(), least, &PADDED, 1, &script)?;
+        let tile = of_tile(rt.alloc(), ScriptSource::new(&TILE, 1, &script))?;
+        let from = ScriptSource::new(&PADDED, 1, &script);
+        let raster = of_raster(rt.alloc(), least, from)?;
         same(&rt, "a tile", tile, tile_owed);
         same(&rt, "a raster", raster, raster_owed);
     }

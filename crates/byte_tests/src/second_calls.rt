@@ -4,7 +4,7 @@
 ghost use Rattle.std.specs.Prelude.{◌≡◌, IfOk, length};
 
 use crate::agree::same;
-use crate::header_lines::{CONDITIONED, CONDITIONED_TEXT};
+use crate::header_lines::CONDITIONED;
 use crate::mosaic_rows::{BESIDE, EAST, NUMBERS, WEST, input, of_bytes};
 use crate::rasters::{PADDED, padded};
 use crate::row_sources::{SAMPLES, TILE, of_raster, of_tile};
@@ -19,6 +19,7 @@ use drain_pixels::PixelRow;
 use drain_raster::{RasterFault, RasterRows, read_raster};
 use std::alloc::Global;
 use std::test::Fail;
+use worked::headers::CON_TEXT;
 use worked::memory::{gave_out, owed};
 
 /// The samples of a tile of side 2, where there are four.
@@ -40,7 +41,7 @@ fn samples_after_refused_memory(rt: HostRuntime) -> Result<(), Fail> {
 /// Whether a header's text is what it should be.
 fn is_right_text(alloc: Global) -> Result<bool, OutOfMemory> {
     let text = header_text(alloc, &CONDITIONED)?;
-    Ok(text.as_slice() == CONDITIONED_TEXT.as_bytes())
+    Ok(text.as_slice() == CON_TEXT.as_bytes())
 }
 
 #[test]
@@ -215,7 +216,7 @@ fn rows_of_a_tile_after_refused_memory(rt: HostRuntime) -> Result<(), Fail> {
     let from = ScriptSource::new(&TILE, 100, &[]);
     let given = five_calls(rt.alloc(), &mut TileRows::new(2), from);
     same(&rt, "first", given.0, owed_answers(&given));
-    let (_, numbers) = of_tile(rt.alloc(), &TILE, 100, &[])?;
+    let (_, numbers) = of_tile(rt.alloc(), ScriptSource::new(&TILE, 100, &[]))?;
     same(&rt, "again", numbers, (4, SAMPLES));
     Ok(())
 }
@@ -226,7 +227,7 @@ fn rows_of_a_raster_after_refused_memory(rt: HostRuntime) -> Result<(), Fail> {
     let from = ScriptSource::new(&PADDED, 100, &[]);
     let given = five_calls(rt.alloc(), &mut RasterRows::new(padded(least)), from);
     same(&rt, "first", given.0, owed_answers(&given));
-    let (_, numbers) = of_raster(rt.alloc(), least, &PADDED, 100, &[])?;
+    let (_, numbers) = of_raster(rt.alloc(), least, ScriptSource::new(&PADDED, 100, &[]))?;
     same(&rt, "again", numbers, (4, [1, -2, -32768, 2]));
     Ok(())
 }

@@ -8,25 +8,7 @@ use drain_device::{BodyFault, ByteSource, DeviceFault, SliceSource};
 use std::alloc::Global;
 use std::test::Fail;
 use worked::calls::at_calls;
-use worked::headers::USUAL;
-
-/// The header of a raster of 3 by 3 pixels, half a degree apart, as this program writes it.
-const SMALL: &str = "BYTEORDER I
-LAYOUT BIL
-NROWS 3
-NCOLS 3
-NBANDS 1
-NBITS 16
-BANDROWBYTES 6
-TOTALROWBYTES 6
-SKIPBYTES 0
-PIXELTYPE SIGNEDINT
-ULXMAP 0.000000000000000
-ULYMAP 1.000000000000000
-XDIM 0.500000000000000
-YDIM 0.500000000000000
-NODATA -32768
-";
+use worked::headers::{CON_TEXT, USUAL};
 
 /// What is written of a usual tool's header.
 const USUAL_WRITTEN: &str = "BYTEORDER I
@@ -70,20 +52,20 @@ fn told(alloc: Global, bytes: &[u8]) -> Result<(Printed, usize), Fail> {
 /// The output of a run over the small header, whose source gives one byte a call, and faults by the script.
 fn told_slowly(alloc: Global, script: &[Scripted<DeviceFault>]) -> Result<Printed, Fail> {
     let out = whole_sink(alloc)?;
-    let mut input = ScriptSource::new(SMALL.as_bytes(), 1, script);
+    let mut input = ScriptSource::new(CON_TEXT.as_bytes(), 1, script);
     printed(alloc, &mut input, out)
 }
 
 /// The output of a run over the small header into a sink that accepts one byte a call, and faults by the script.
 fn told_into(alloc: Global, script: &[Scripted<SinkAnswer>]) -> Result<Printed, Fail> {
     let out = slow_sink(alloc, script)?;
-    let mut input = SliceSource::new(SMALL.as_bytes());
+    let mut input = SliceSource::new(CON_TEXT.as_bytes());
     printed(alloc, &mut input, out)
 }
 
 /// A header, the status and the output.
 static HEADERS: [(&str, &str, u8, &str); 5] = [
-    ("its own form", SMALL, 0, SMALL),
+    ("its own form", CON_TEXT, 0, CON_TEXT),
     ("a usual tool's", USUAL, 0, USUAL_WRITTEN),
     ("no byte", "", 2, "refused MissingKey NROWS\n"),
     (
@@ -135,7 +117,7 @@ fn reads_one_byte_past_the_longest_header(rt: HostRuntime) -> Result<(), Fail> {
 
 /// The answers of a source at which calls, the status and the text.
 static FAULTS: [(DeviceFault, u64, u64, u8, &str); 3] = [
-    (DeviceFault::Interrupted, 3, 1001, 0, SMALL),
+    (DeviceFault::Interrupted, 3, 1001, 0, CON_TEXT),
     (DeviceFault::Interrupted, 3, 1002, 3, "failed ReadFailed\n"),
     (DeviceFault::Failed, 200, 200, 3, "failed ReadFailed\n"),
 ];
@@ -162,7 +144,7 @@ fn ends_with_status_3_where_the_header_cannot_be_written(rt: HostRuntime) -> Res
     for &(case, answer) in &SINK_ANSWERS {
         let script = [at_calls((100, 1099), answer)];
         let answered = told_into(rt.alloc(), &script)?;
-        same_run(&rt, case, &answered, &SMALL.as_bytes()[..99], 3);
+        same_run(&rt, case, &answered, &CON_TEXT.as_bytes()[..99], 3);
     }
     Ok(())
 }

@@ -124,6 +124,12 @@ struct Watched<'a> {
     clock: &'a Cell<u64>,
 }
 
+impl<'a> Watched<'a> {
+    fn new(files: &'a [VecSink], clock: &'a Cell<u64>) -> Watched<'a> {
+        Watched { files, clock }
+    }
+}
+
 /// A product whose header and raster are among the files.
 fn product_of<'a>(
     alloc: Global,
@@ -145,17 +151,16 @@ fn products<'a>(alloc: Global, watched: Watched<'a>) -> Result<Products<Stamped<
     PerProduct::from_each(&input)
 }
 
-/// The products of an audit among them.
-fn audit_products<'a>(
-    alloc: Global,
-    watched: Watched<'a>,
-) -> Result<AuditProducts<Stamped<'a>>, Fail> {
-    Ok(AuditProducts {
-        con: product_of(alloc, watched, SetProduct::Con)?,
-        dir: product_of(alloc, watched, SetProduct::Dir)?,
-        acc: product_of(alloc, watched, SetProduct::Acc)?,
-        bas: product_of(alloc, watched, SetProduct::Bas)?,
-    })
+/// The products of an audit among those of a check.
+fn without_ranks<'a>(products: Products<Stamped<'a>>) -> AuditProducts<Stamped<'a>> {
+    let Products {
+        con,
+        dir,
+        acc,
+        bas,
+        rnk: _,
+    } = products;
+    AuditProducts { con, dir, acc, bas }
 }
 
 /// One of the tiles, as a source.
@@ -185,29 +190,38 @@ fn stamps_of(source: &Stamped<'_>) -> Given {
     (source.first, source.last)
 }
 
-/// The stamps of the tiles and of each product, after a check.
-fn checked<'a>(
-    alloc: Global,
-    clock: &'a Cell<u64>,
-    products: &mut Products<Stamped<'a>>,
-) -> Result<[Given; 7], Fail> {
-    let mut tiles = tiles(alloc, clock)?;
-    let run = check_printed(alloc, 64, &mut tiles, &[], products)?;
-    if run.status != 0 {
-        return Err("not accepted".into());
-    }
-    Ok([
-        stamps_of(&tiles[0].body),
-        stamps_of(&tiles[1].body),
+/// The stamps of the tiles and of the products of an audit.
+fn stamps_of_audited(
+    [west, east]: &[TileInput<Stamped<'_>>; 2],
+    products: &AuditProducts<Stamped<'_>>,
+) -> [Given; 6] {
+    [
+        stamps_of(&west.body),
+        stamps_of(&east.body),
         stamps_of(&products.con.body),
         stamps_of(&products.dir.body),
         stamps_of(&products.acc.body),
         stamps_of(&products.bas.body),
-        stamps_of(&products.rnk.body),
-    ])
+    ]
 }
 
-/// The stamps of the tiles and of each product, after an audit.
+/// The stamps of the tiles and of each product, after a check.
+fn checked<'a>(
+    alloc: Global,
+    clock: &'a Cell<u64>,
+    mut products: Products<Stamped<'a>>,
+) -> Result<[Given; 7], Fail> {
+    let mut tiles = tiles(alloc, clock)?;
+    let run = check_printed(alloc, 64, &mut tiles, &[], &mut products)?;
+    if run.status != 0 {
+        return Err("not accepted".into());
+    }
+    let rnk = stamps_of(&products.rnk.body);
+    let [west, east, con, dir, acc, bas] = stamps_of_audited(&tiles, &without_ranks(products));
+    Ok([west, east, con, dir, acc, bas, rnk])
+}
+
+/// The same after an audit.
 fn audited<'a>(
     alloc: Global,
     clock: &'a Cell<u64>,
@@ -220,36 +234,21 @@ fn audited<'a>(
     if run.status != 0 {
         return Err("not accepted".into());
     }
-    Ok([
-        stamps_of(&tiles[0].body),
-        stamps_of(&tiles[1].body),
-        stamps_of(&products.con.body),
-        stamps_of(&products.dir.body),
-        stamps_of(&products.acc.body),
-        stamps_of(&products.bas.body),
-    ])
+    Ok(stamps_of_audited(&tiles, products))
 }
 
 /// The stamps of a check of the tiles with these files.
 fn stamps_of_a_check(alloc: Global, files: &[VecSink]) -> Result<[Given; 7], Fail> {
     let clock = Cell::new(0);
-    let watched = Watched {
-        files,
-        clock: &clock,
-    };
-    let mut products = products(alloc, watched)?;
-    checked(alloc, &clock, &mut products)
+    let products = products(alloc, Watched::new(files, &clock))?;
+    checked(alloc, &clock, products)
 }
 
 /// The stamps of an audit of the tiles with these files.
 fn stamps_of_an_audit(alloc: Global, files: &[VecSink]) -> Result<[Given; 6], Fail> {
     let clock = Cell::new(0);
-    let watched = Watched {
-        files,
-        clock: &clock,
-    };
-    let mut products = audit_products(alloc, watched)?;
-    audited(alloc, &clock, &mut products)
+    let products = products(alloc, Watched::new(files, &clock))?;
+    audited(alloc, &clock, &mut without_ranks(products))
 }
 
 /// The first row of which a source gave a byte before the other had given the last of the row four above.

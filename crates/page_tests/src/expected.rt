@@ -1,6 +1,6 @@
 //! What each rule expected, at a cell of ground 5 with neighbours in the east and the southeast, and others at 9.
 
-use crate::worked::{Numbers, cell, json_has, one_fault, rejected, text_has, values, void};
+use crate::worked::{Form, Numbers, cell, one_fault, page_has, rejected, values, void};
 use drain_grid::{CellValues, Patch, Rule};
 use drain_page::Facts;
 use drain_rules::Ranks;
@@ -196,7 +196,8 @@ fn facts(alloc: Global, row: &Row) -> Result<Facts, Fail> {
 #[test]
 fn each_rule_in_words(rt: HostRuntime) -> Result<(), Fail> {
     for row in &ROWS {
-        text_has(&rt, rt.alloc(), row.case, facts(rt.alloc(), row)?, row.text)?;
+        let facts = facts(rt.alloc(), row)?;
+        page_has(&rt, rt.alloc(), Form::Text, row.case, facts, row.text)?;
     }
     Ok(())
 }
@@ -204,7 +205,8 @@ fn each_rule_in_words(rt: HostRuntime) -> Result<(), Fail> {
 #[test]
 fn each_rule_as_json(rt: HostRuntime) -> Result<(), Fail> {
     for row in &ROWS {
-        json_has(&rt, rt.alloc(), row.case, facts(rt.alloc(), row)?, row.json)?;
+        let facts = facts(rt.alloc(), row)?;
+        page_has(&rt, rt.alloc(), Form::Json, row.case, facts, row.json)?;
     }
     Ok(())
 }
@@ -238,7 +240,7 @@ fn why_cells_are_open(rt: HostRuntime) -> Result<(), Fail> {
     for &(case, beside_a_void, expected) in &OPEN {
         let north = if beside_a_void { Some(void()?) } else { None };
         let facts = open_beside(rt.alloc(), north)?;
-        text_has(&rt, rt.alloc(), case, facts, expected)?;
+        page_has(&rt, rt.alloc(), Form::Text, case, facts, expected)?;
     }
     Ok(())
 }
@@ -275,7 +277,7 @@ static NUMBERED: [(&str, Ranks, &str); 2] = [
 fn voids_with_numbers(rt: HostRuntime) -> Result<(), Fail> {
     for &(case, ranks, expected) in &NUMBERED {
         let facts = numbered_void(rt.alloc(), ranks)?;
-        text_has(&rt, rt.alloc(), case, facts, expected)?;
+        page_has(&rt, rt.alloc(), Form::Text, case, facts, expected)?;
     }
     Ok(())
 }

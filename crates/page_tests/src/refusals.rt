@@ -1,6 +1,6 @@
 //! What was expected and found for each refusal.
 
-use crate::worked::{json_has, text_has};
+use crate::worked::{Form, page_has};
 use drain_answer::Refusal;
 use drain_explain::{Extent, NotData, RefusalDetail, TileValue};
 use drain_grid::{Cell, Product};
@@ -177,8 +177,10 @@ static WANTED: [(&str, &str); 12] = [
 #[test]
 fn each_refusal(rt: HostRuntime) -> Result<(), Fail> {
     for (kind, (words, json)) in WANTED.iter().enumerate() {
-        text_has(&rt, rt.alloc(), words, facts(rt.alloc(), kind)?, words)?;
-        json_has(&rt, rt.alloc(), json, facts(rt.alloc(), kind)?, json)?;
+        for (form, part) in [(Form::Text, words), (Form::Json, json)] {
+            let facts = facts(rt.alloc(), kind)?;
+            page_has(&rt, rt.alloc(), form, part, facts, part)?;
+        }
     }
     Ok(())
 }

@@ -1,6 +1,6 @@
 //! Paths without an end: rings and paths that lead nowhere.
 
-use crate::worked::{json_has, no_fault, text_has};
+use crate::worked::{Form, no_fault, page_has};
 use drain_answer::AuditVerdict;
 use drain_grid::Cell;
 use drain_page::{Answer, Facts};
@@ -49,10 +49,10 @@ static RING_AS_JSON: &str =
 fn rings(rt: HostRuntime) -> Result<(), Fail> {
     for &(case, length, words) in &RINGS {
         let facts = ring(rt.alloc(), length)?;
-        text_has(&rt, rt.alloc(), case, facts, words)?;
+        page_has(&rt, rt.alloc(), Form::Text, case, facts, words)?;
     }
     let facts = ring(rt.alloc(), 3)?;
-    json_has(&rt, rt.alloc(), "as JSON", facts, RING_AS_JSON)
+    page_has(&rt, rt.alloc(), Form::Json, "as JSON", facts, RING_AS_JSON)
 }
 
 /// Why a path leads nowhere, with its words and its name.
@@ -86,9 +86,14 @@ fn lost(alloc: Global, by: LostBy) -> Result<Facts, Fail> {
 #[test]
 fn lost_runs(rt: HostRuntime) -> Result<(), Fail> {
     for (by, words, name) in &LOST {
-        text_has(&rt, rt.alloc(), name, lost(rt.alloc(), *by)?, words)?;
-        json_has(&rt, rt.alloc(), name, lost(rt.alloc(), *by)?, LOST_AS_JSON)?;
-        json_has(&rt, rt.alloc(), name, lost(rt.alloc(), *by)?, name)?;
+        for (form, part) in [
+            (Form::Text, *words),
+            (Form::Json, LOST_AS_JSON),
+            (Form::Json, *name),
+        ] {
+            let facts = lost(rt.alloc(), *by)?;
+            page_has(&rt, rt.alloc(), form, name, facts, part)?;
+        }
     }
     Ok(())
 }

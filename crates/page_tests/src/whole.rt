@@ -3,7 +3,7 @@
 use crate::agree::same_text;
 use crate::whole_pages::{JSON, TEXT};
 use crate::worked::{
-    Numbers, cell, cells, json_of, no_cell, no_fault, product, rejected, text_is, void,
+    Form, Numbers, cell, cells, no_cell, no_fault, page_of, product, rejected, void,
 };
 use drain_answer::{AuditVerdict, Refusal};
 use drain_explain::Findings;
@@ -49,13 +49,15 @@ fn two_rules(alloc: Global) -> Result<Findings, Fail> {
 #[test]
 fn a_whole_text(rt: HostRuntime) -> Result<(), Fail> {
     let facts = rejected(Rule::Missing, 0, 1, two_rules(rt.alloc())?);
-    text_is(&rt, rt.alloc(), "two rules", facts, TEXT)
+    let text = page_of(rt.alloc(), Form::Text, &facts)?;
+    same_text(&rt, "two rules", &text, TEXT);
+    Ok(())
 }
 
 #[test]
 fn a_whole_json(rt: HostRuntime) -> Result<(), Fail> {
     let facts = rejected(Rule::Missing, 0, 1, two_rules(rt.alloc())?);
-    let json = json_of(rt.alloc(), &facts)?;
+    let json = page_of(rt.alloc(), Form::Json, &facts)?;
     let line = json.strip_suffix("\n").unwrap_or("no line end");
     same_text(&rt, "two rules", line, JSON);
     Ok(())
@@ -88,7 +90,9 @@ ranks: not checked
 #[test]
 fn an_acceptance(rt: HostRuntime) -> Result<(), Fail> {
     let facts = accepted(rt.alloc())?;
-    text_is(&rt, rt.alloc(), "an acceptance", facts, ACCEPTED)
+    let text = page_of(rt.alloc(), Form::Text, &facts)?;
+    same_text(&rt, "an acceptance", &text, ACCEPTED);
+    Ok(())
 }
 
 /// The facts of a refusal without details.
@@ -106,8 +110,9 @@ static NO_TILES: &str =
 
 #[test]
 fn the_line_alone(rt: HostRuntime) -> Result<(), Fail> {
-    text_is(&rt, rt.alloc(), "no tiles", no_tiles(), "refused NoTiles\n")?;
-    let json = json_of(rt.alloc(), &no_tiles())?;
+    let text = page_of(rt.alloc(), Form::Text, &no_tiles())?;
+    same_text(&rt, "no tiles", &text, "refused NoTiles\n");
+    let json = page_of(rt.alloc(), Form::Json, &no_tiles())?;
     same_text(&rt, "no tiles as JSON", &json, NO_TILES);
     Ok(())
 }

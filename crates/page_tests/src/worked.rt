@@ -1,7 +1,7 @@
 //! Facts to make pages of: a mosaic of 4 by 4 cells at three steps a degree, with its north-west corner at 38 degrees
 //! north and 105 west.
 
-use crate::agree::{has, same_text};
+use crate::agree::has;
 use drain_explain::Findings;
 use drain_faults::{FaultyPatch, PerRule, ProductFaults, RuleFaults};
 use drain_grid::{Cell, CellValues, NoData, Patch, PerProduct, Rule};
@@ -131,48 +131,30 @@ pub fn rejected(rule: Rule, row: u32, col: u32, findings: Findings) -> Facts {
     }
 }
 
-/// The page as text.
-pub fn text_of(alloc: Global, facts: &Facts) -> Result<String, Fail> {
-    Ok(String::from_utf8(page_text(alloc, facts)?)?)
+/// How a page is printed.
+#[derive(Clone, Copy)]
+pub enum Form {
+    Text,
+    Json,
 }
 
-/// The page as JSON.
-pub fn json_of(alloc: Global, facts: &Facts) -> Result<String, Fail> {
-    Ok(page_json(alloc, facts)?)
+/// The page in this form.
+pub fn page_of(alloc: Global, form: Form, facts: &Facts) -> Result<String, Fail> {
+    match form {
+        Form::Text => Ok(String::from_utf8(page_text(alloc, facts)?)?),
+        Form::Json => Ok(page_json(alloc, facts)?),
+    }
 }
 
-/// Fails the test if the page as text doesn't contain this, and names the case.
-pub fn text_has(
+/// Fails the test if the page in this form doesn't contain this, and names the case.
+pub fn page_has(
     rt: &impl Abort,
     alloc: Global,
+    form: Form,
     case: &str,
     facts: Facts,
     part: &str,
 ) -> Result<(), Fail> {
-    has(rt, case, &text_of(alloc, &facts)?, part);
-    Ok(())
-}
-
-/// Fails the test if the page as JSON doesn't contain this, and names the case.
-pub fn json_has(
-    rt: &impl Abort,
-    alloc: Global,
-    case: &str,
-    facts: Facts,
-    part: &str,
-) -> Result<(), Fail> {
-    has(rt, case, &json_of(alloc, &facts)?, part);
-    Ok(())
-}
-
-/// Fails the test if the page as text is another, and names the case.
-pub fn text_is(
-    rt: &impl Abort,
-    alloc: Global,
-    case: &str,
-    facts: Facts,
-    expected: &str,
-) -> Result<(), Fail> {
-    same_text(rt, case, &text_of(alloc, &facts)?, expected);
+    has(rt, case, &page_of(alloc, form, &facts)?, part);
     Ok(())
 }

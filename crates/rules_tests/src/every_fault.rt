@@ -1,12 +1,12 @@
 //! Every fault of worked grids with one number changed: at how many cells each rule fails, the first of them, the first patch with a fault, and the map. All
 //! were worked out by hand from the rules. The verdict is that of the walk that stops at the first fault.
 
-ghost use Rattle.std.specs.Prelude.{◌≡◌};
+ghost use Rattle.std.specs.Prelude.{◌≡◌, ◌<◌};
 
 use crate::examples::{Part, changed, elevation, products};
 use crate::rows_of_numbers::{COLS, faults_by_rows, level_rows};
 use crate::unasked_ranks::put;
-use drain_faults::{FaultWalk, RULES, RuleFaults};
+use drain_faults::{FaultWalk, PerRule, RULES, RuleFaults};
 use drain_grid::{Cell, Elevation, OutOfMemory, ProductSet, Rule, Shape, Sinks};
 use drain_rules::{Ranks, RasterRow, Rules, Verdict, verdict_of};
 use std::alloc::Global;
@@ -21,6 +21,20 @@ pub struct Given {
     pub sinks: Sinks,
     pub products: ProductSet,
     ghost same_shape: { elevation.extent ≡ products.con.extent },
+}
+
+impl Given {
+    /// A row of the grid.
+    pub fn row(&self, row: u32) -> RasterRow<'_>
+        requires { row < self.now.elevation.extent.rows }
+    {
+        RasterRow {
+            elevation: &self.elevation,
+            sinks: &self.sinks,
+            products: &self.products,
+            row,
+        }
+    }
 }
 
 /// The parts of an example of this side, without sinks.
@@ -53,13 +67,7 @@ pub fn walk_over(alloc: Global, example: &Given, ranks: Ranks) -> Result<FaultWa
     let shape = example.elevation.shape();
     let mut walk = FaultWalk::drawing(alloc, shape)?;
     for row in 0..shape.rows() {
-        let patches = RasterRow {
-            elevation: &example.elevation,
-            sinks: &example.sinks,
-            products: &example.products,
-            row,
-        };
-        walk.note_row(&patches, &rules)?;
+        walk.note_row(&example.row(row), &rules)?;
     }
     Ok(walk)
 }
@@ -70,13 +78,8 @@ pub type Told = (Rule, u32, (u32, u32));
 /// What the walk finds of the rules that fail, the row and column of the first patch with a fault, and the numbers of the map.
 type FaultTally = (&'static [Told], Option<(u32, u32)>, &'static [u8]);
 
-/// What the walk found of a rule.
-fn found_of(walk: &FaultWalk, rule: Rule) -> RuleFaults {
-    *walk.faults().of(rule)
-}
-
 /// The result for a rule that isn't named: no cell.
-pub fn expected_of(expected: &[Told], rule: Rule) -> RuleFaults {
+fn expected_of(expected: &[Told], rule: Rule) -> RuleFaults {
     for (named, cells, (row, col)) in expected {
         if *named == rule {
             return RuleFaults {
@@ -92,8 +95,16 @@ pub fn expected_of(expected: &[Told], rule: Rule) -> RuleFaults {
 }
 
 /// Ends the test where the two differ.
-pub fn same(rt: &impl Abort, case: &str, given: RuleFaults, expected: RuleFaults) {
+fn same(rt: &impl Abort, case: &str, given: RuleFaults, expected: RuleFaults) {
     assert_eq!(rt; given, expected, "{case}");
+}
+
+/// Looks that a walk found these faults and no others.
+pub fn same_faults(rt: &impl Abort, found: &PerRule<RuleFaults>, expected: &[Told]) {
+    for rule in RULES {
+        let expected = expected_of(expected, rule);
+        same(rt, rule.name(), *found.of(rule), expected);
+    }
 }
 
 /// The first cell with a fault, none where there is none.
@@ -106,14 +117,7 @@ fn first_cell(walk: &FaultWalk) -> Option<(u32, u32)> {
 
 /// Looks that the walk found these faults and no others, and this cell first.
 fn expect_found(rt: &impl Abort, walk: &FaultWalk, expected: &[Told], first: Option<(u32, u32)>) {
-    for rule in RULES {
-        same(
-            rt,
-            rule.name(),
-            found_of(walk, rule),
-            expected_of(expected, rule),
-        );
-    }
+    same_faults(rt, walk.faults(), expected);
     assert_eq!(rt; first_cell(walk), first);
 }
 

@@ -12,6 +12,7 @@ use std::alloc::Global;
 use std::fmt::Debug;
 use std::process::Abort;
 use std::test::Fail;
+use worked::sets::product_set;
 
 /// The parts of an example, in their order: the elevations and the five products.
 #[derive(Clone, Copy, Debug)]
@@ -103,20 +104,7 @@ pub fn products(
         let (part, nodata) = product_of(product, con_nodata);
         raster(alloc, shape, nodata, part_of(numbers, shape.cells(), part))
     };
-    let PerProduct {
-        con,
-        dir,
-        acc,
-        bas,
-        rnk,
-    } = PerProduct::from_each(&made)?;
-    Ok(ProductSet {
-        con,
-        dir,
-        acc,
-        bas,
-        rnk,
-    })
+    Ok(product_set(PerProduct::from_each(&made)?))
 }
 
 /// The verdict on an example with these sinks: its parts one after the other, each in row order.

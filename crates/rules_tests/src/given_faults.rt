@@ -1,13 +1,11 @@
 //! Every fault of given rasters, on the worked slope with one number changed: each is that of all rasters, as far as it
 //! is about given ones.
 
-use crate::every_fault::{Given as Example, Told, changed_slope, expected_of, same};
+use crate::every_fault::{Given as Example, Told, changed_slope, same_faults};
 use crate::examples::Part;
-use drain_faults::RULES;
 use drain_grid::{OutOfMemory, Rule};
 use drain_part_faults::PartFaultWalk;
 use drain_parts::Given;
-use drain_rules::RasterRow;
 use std::alloc::Global;
 use std::process::Abort;
 use std::test::Fail;
@@ -18,13 +16,7 @@ fn walk_over(alloc: Global, example: &Example, given: Given) -> Result<PartFault
     let shape = example.elevation.shape();
     let mut walk = PartFaultWalk::drawing(alloc, given, shape)?;
     for row in 0..shape.rows() {
-        let patches = RasterRow {
-            elevation: &example.elevation,
-            sinks: &example.sinks,
-            products: &example.products,
-            row,
-        };
-        walk.note_row(&patches, &nodata)?;
+        walk.note_row(&example.row(row), &nodata)?;
     }
     Ok(walk)
 }
@@ -47,14 +39,7 @@ fn expect(
     (place, number): (usize, u8),
 ) -> Result<(), Fail> {
     let walk = walk_over(alloc, example, given)?;
-    for rule in RULES {
-        same(
-            rt,
-            rule.name(),
-            *walk.faults().of(rule),
-            expected_of(expected, rule),
-        );
-    }
+    same_faults(rt, walk.faults(), expected);
     assert_eq!(rt; pixel_at(&walk, place), Some(number));
     Ok(())
 }

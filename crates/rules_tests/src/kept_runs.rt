@@ -1,7 +1,8 @@
 //! Which cells of three long rows their lanes clear: no contract says that they clear most.
 
 use crate::examples::{Part, equal};
-use crate::rows_of_numbers::{COLS, kept_by_lanes, level_rows};
+use crate::rows_of_numbers::{COLS, is_outlet_by_lanes, kept_by_lanes, level_rows};
+use crate::unasked_ranks::{Change, put};
 use drain_rules::Kept;
 use std::test::Fail;
 
@@ -63,6 +64,37 @@ fn cells_beside_a_void(rt: HostRuntime) -> Result<(), Fail> {
             let kept = kept_by_lanes(rt.alloc(), &[], &numbers, 1, from)?;
             equal(&rt, (nodata, from), kept, level(end));
         }
+    }
+    Ok(())
+}
+
+/// Two changes of level rows with a void at column 50 of row 1, and whether lanes find that the cell right of it is an
+/// outlet that keeps the rules. Right is code 0: nothing leads there.
+static OUTLETS: [(Change, Change, bool); 7] = [
+    ((Part::Dir, (1, 51), 0), (Part::Con, (1, 51), 0), true),
+    ((Part::Dir, (1, 51), 64), (Part::Con, (1, 51), 0), false),
+    ((Part::Dir, (1, 51), 0), (Part::Con, (1, 51), 1), false),
+    ((Part::Dir, (1, 51), 0), (Part::Con, (0, 51), -1), false),
+    ((Part::Dir, (1, 51), 0), (Part::Acc, (1, 51), 2), false),
+    // The cell below leads there.
+    ((Part::Dir, (1, 51), 0), (Part::Dir, (2, 51), 64), false),
+    // No void lies beside it.
+    (
+        (Part::Dir, (1, 51), 0),
+        (Part::Elevations, (1, 50), 0),
+        false,
+    ),
+];
+
+#[test]
+fn outlets_beside_a_void(rt: HostRuntime) -> Result<(), Fail> {
+    for (case, &(one, other, expected)) in OUTLETS.iter().enumerate() {
+        let mut numbers = level_rows(rt.alloc())?;
+        put_void(&mut numbers, [-1; 5]);
+        put(&mut numbers, one)?;
+        put(&mut numbers, other)?;
+        let found = is_outlet_by_lanes(rt.alloc(), &numbers, (1, 51))?;
+        equal(&rt, case, found, expected);
     }
     Ok(())
 }

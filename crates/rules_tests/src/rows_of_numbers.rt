@@ -258,6 +258,27 @@ fn kept_in_row(rows: &ThreeRows<'_>, from: u32) -> Option<Kept> {
     Some(rows.kept_from(&rules_with(Ranks::Checked), from))
 }
 
+/// Whether lanes find that a cell is an outlet that keeps the rules.
+pub fn is_outlet_by_lanes(
+    alloc: Global,
+    numbers: &[i64],
+    (row, col): (u8, u32),
+) -> Result<bool, Fail> {
+    let marks = marks_of(&Sinks::none(alloc));
+    let given = Given {
+        alloc,
+        numbers,
+        marks: &marks,
+        kinds: AS_NUMBERS,
+        ranks: Ranks::Checked,
+        is_laned: true,
+    };
+    let numbers = numbers_round(given, row)?;
+    let mut room = Room::new(alloc);
+    let rows = three_rows(given, &numbers, row, &mut room);
+    Ok(col < rows.cols() && rows.is_right_outlet(&rules_with(Ranks::Checked), col))
+}
+
 /// The verdict on the numbers of the six parts, with the sinks of a text, the same with lanes and without; with ranks
 /// or not.
 pub fn verdict_by_rows(

@@ -2,7 +2,7 @@
 
 use crate::agree::{same, same_line};
 use crate::example::{Example, one_tile};
-use crate::inputs::{ConHeaded, products_at_once, tiles_at_once};
+use crate::inputs::{AtOnce, ConHeaded, products, tiles};
 use crate::runs::{Checked, line_of};
 use crate::sink_orders::with_a_gap;
 use crate::tells::{each_tells, tells};
@@ -102,8 +102,8 @@ fn left_by<R: ByteSource>(
 
 /// What a check of an example leaves.
 fn checked(alloc: Global, example: &Example) -> Result<Leftovers, AllocError> {
-    let mut tiles = tiles_at_once(alloc, example.tiles())?;
-    let mut products = products_at_once(alloc, ConHeaded::by_itself(example))?;
+    let mut tiles = tiles(alloc, example.tiles(), AtOnce)?;
+    let mut products = products(alloc, ConHeaded::by_itself(example), AtOnce)?;
     Ok(left_by(alloc, example, &mut tiles, &mut products))
 }
 

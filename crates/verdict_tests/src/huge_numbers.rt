@@ -8,26 +8,25 @@ use std::alloc::{AllocError, Global};
 use std::process::Abort;
 use std::test::Fail;
 use worked::grids::{PIT_LINE, pit, voids};
-use worked::headers::CON_LINES;
+use worked::headers::CON_TEXT;
 
-/// The lines of con's header on four voids.
-static LINES_OF_VOIDS: [&str; 15] = [
-    "BYTEORDER I",
-    "LAYOUT BIL",
-    "NROWS 2",
-    "NCOLS 2",
-    "NBANDS 1",
-    "NBITS 16",
-    "BANDROWBYTES 4",
-    "TOTALROWBYTES 4",
-    "SKIPBYTES 0",
-    "PIXELTYPE SIGNEDINT",
-    "ULXMAP 0.000000000000000",
-    "ULYMAP 1.000000000000000",
-    "XDIM 1.000000000000000",
-    "YDIM 1.000000000000000",
-    "NODATA -32768",
-];
+/// Con's header on four voids.
+const TEXT_OF_VOIDS: &str = "BYTEORDER I
+LAYOUT BIL
+NROWS 2
+NCOLS 2
+NBANDS 1
+NBITS 16
+BANDROWBYTES 4
+TOTALROWBYTES 4
+SKIPBYTES 0
+PIXELTYPE SIGNEDINT
+ULXMAP 0.000000000000000
+ULYMAP 1.000000000000000
+XDIM 1.000000000000000
+YDIM 1.000000000000000
+NODATA -32768
+";
 
 /// A line of a header: how it begins, 60,000 times a digit or none, and how it ends.
 #[derive(Clone, Copy)]
@@ -59,15 +58,15 @@ fn push_line(header: &mut Vec<u8>, line: HeaderLine) -> Result<(), AllocError> {
     Ok(())
 }
 
-/// The bytes of a header of these lines, with another in the place of one of them, counted from 1.
+/// The bytes of a header of this text, with another line in the place of one of its own, counted from 1.
 fn header_of(
     alloc: Global,
-    lines: &[&'static str; 15],
+    text: &'static str,
     number: usize,
     replaced: HeaderLine,
 ) -> Result<Vec<u8>, AllocError> {
     let mut header = Vec::new(alloc);
-    for (place, &line) in lines.iter().enumerate() {
+    for (place, line) in text.lines().enumerate() {
         let line = if place.saturating_add(1) == number {
             replaced
         } else {
@@ -78,15 +77,15 @@ fn header_of(
     Ok(header)
 }
 
-/// The line of an example whose con has a header of these lines, with another in the place of one of them.
+/// The line of an example whose con has a header of this text, with another line in the place of one of its own.
 fn line_with(
     alloc: Global,
     example: &Example,
-    lines: &[&'static str; 15],
+    text: &'static str,
     number: usize,
     replaced: HeaderLine,
 ) -> Result<Line, AllocError> {
-    let header = header_of(alloc, lines, number, replaced)?;
+    let header = header_of(alloc, text, number, replaced)?;
     told_of_header(alloc, example, &header)
 }
 
@@ -95,11 +94,11 @@ fn header_tells(
     rt: &impl Abort,
     alloc: Global,
     example: &Example,
-    lines: &[&'static str; 15],
+    text: &'static str,
     (number, replaced): (usize, HeaderLine),
     owed: &str,
 ) -> Result<(), Fail> {
-    let given = line_with(alloc, example, lines, number, replaced)?;
+    let given = line_with(alloc, example, text, number, replaced)?;
     same_line(rt, replaced.begin, &given, owed);
     Ok(())
 }
@@ -129,7 +128,7 @@ fn numbers_at_their_bounds(rt: HostRuntime) -> Result<(), Fail> {
     let example = one_tile(3, &pit());
     for &(number, replaced, owed) in &AT_BOUNDS {
         let short = (number, HeaderLine::short(replaced));
-        header_tells(&rt, rt.alloc(), &example, &CON_LINES, short, owed)?;
+        header_tells(&rt, rt.alloc(), &example, CON_TEXT, short, owed)?;
     }
     Ok(())
 }
@@ -155,7 +154,7 @@ fn decimals_of_60_000_digits(rt: HostRuntime) -> Result<(), Fail> {
             digit: Some(digit),
             end,
         };
-        header_tells(&rt, rt.alloc(), &example, &CON_LINES, (11, long), owed)?;
+        header_tells(&rt, rt.alloc(), &example, CON_TEXT, (11, long), owed)?;
     }
     Ok(())
 }
@@ -166,5 +165,5 @@ fn voids_without_a_number_for_them(rt: HostRuntime) -> Result<(), Fail> {
     let example = one_tile(2, &voids());
     let replaced = (15, HeaderLine::short("NODATA 10000000000"));
     let owed = "rejected rule=1 VoidCell row=0 col=0";
-    header_tells(&rt, rt.alloc(), &example, &LINES_OF_VOIDS, replaced, owed)
+    header_tells(&rt, rt.alloc(), &example, TEXT_OF_VOIDS, replaced, owed)
 }

@@ -1,9 +1,9 @@
 //! The tiles and the products of an example as they are read: from sources that give all bytes at once, or one byte a
-//! call.
+//! call and fault by a script.
 
-use crate::example::{Example, RasterBytes, TileBytes};
+use crate::example::{Example, TileBytes};
 use drain_device::faults::{ScriptSource, Scripted};
-use drain_device::{ByteList, DeviceFault, SliceSource};
+use drain_device::{ByteList, ByteSource, DeviceFault, SliceSource};
 use drain_grid::{PerProduct, SetProduct};
 use drain_hgt::TileInput;
 use drain_verdict::{Products, RasterInput};
@@ -33,41 +33,59 @@ impl<'a> Faulty<'a> {
     }
 }
 
+/// How the bytes of an example are read.
+pub trait Reading<'a, R: ByteSource + Drop>: Copy {
+    /// The source that gives the bytes of this owner.
+    fn source(self, bytes: &'a [u8], owner: Owner) -> R;
+}
+
+/// Sources give all bytes at once.
+#[derive(Clone, Copy)]
+pub struct AtOnce;
+
+impl<'a> Reading<'a, SliceSource<'a>> for AtOnce {
+    fn source(self, bytes: &'a [u8], _owner: Owner) -> SliceSource<'a> {
+        SliceSource::new(bytes)
+    }
+}
+
+impl<'a> Reading<'a, ScriptSource<'a>> for Faulty<'a> {
+    /// It gives one byte a call.
+    fn source(self, bytes: &'a [u8], owner: Owner) -> ScriptSource<'a> {
+        if owner == self.owner {
+            ScriptSource::new(bytes, 1, self.script)
+        } else {
+            ScriptSource::new(bytes, 1, &[])
+        }
+    }
+}
+
 fn list(alloc: Global, bytes: &[u8]) -> Result<ByteList, AllocError> {
     Ok(ByteList::new(bytes.to_vec(alloc)?))
 }
 
-fn tile_at_once<'a>(
+fn tile<'a, R: ByteSource + Drop, G: Reading<'a, R>>(
     alloc: Global,
-    tile: &'a TileBytes,
-) -> Result<TileInput<SliceSource<'a>>, AllocError> {
+    bytes: &'a TileBytes,
+    reading: G,
+) -> Result<TileInput<R>, AllocError> {
     Ok(TileInput {
-        name: list(alloc, tile.name.as_slice())?,
-        body: SliceSource::new(tile.body.as_slice()),
+        name: list(alloc, bytes.name.as_slice())?,
+        body: reading.source(bytes.body.as_slice(), Owner::Tile),
     })
 }
 
-/// The tiles, whose sources give all bytes at once.
-pub fn tiles_at_once<'a>(
+/// The tiles.
+pub fn tiles<'a, R: ByteSource + Drop, G: Reading<'a, R>>(
     alloc: Global,
     bytes: &'a [TileBytes],
-) -> Result<Vec<TileInput<SliceSource<'a>>>, AllocError> {
+    reading: G,
+) -> Result<Vec<TileInput<R>>, AllocError> {
     let mut tiles = Vec::new(alloc);
-    for tile in bytes {
-        tiles.push(tile_at_once(alloc, tile)?)?;
+    for bytes in bytes {
+        tiles.push(tile(alloc, bytes, reading)?)?;
     }
     Ok(tiles)
-}
-
-fn raster_at_once<'a>(
-    alloc: Global,
-    header: &[u8],
-    raster: &'a RasterBytes,
-) -> Result<RasterInput<SliceSource<'a>>, AllocError> {
-    Ok(RasterInput {
-        header: list(alloc, header)?,
-        body: SliceSource::new(raster.body.as_slice()),
-    })
 }
 
 /// An example with this header of con, which may be longer than an example has room for.
@@ -85,94 +103,36 @@ impl<'a> ConHeaded<'a> {
             header: example.con.header.as_slice(),
         }
     }
+
+    fn header(self, product: SetProduct) -> &'a [u8] {
+        match product {
+            SetProduct::Con => self.header,
+            _ => self.example.raster(product).header.as_slice(),
+        }
+    }
 }
 
-fn raster_of_con_headed<'a>(
+fn raster<'a, R: ByteSource + Drop, G: Reading<'a, R>>(
     alloc: Global,
     product: SetProduct,
     headed: ConHeaded<'a>,
-) -> Result<RasterInput<SliceSource<'a>>, AllocError> {
-    let raster = headed.example.raster(product);
-    match product {
-        SetProduct::Con => raster_at_once(alloc, headed.header, raster),
-        _ => raster_at_once(alloc, raster.header.as_slice(), raster),
-    }
-}
-
-/// The products, whose sources give all bytes at once.
-pub fn products_at_once<'a>(
-    alloc: Global,
-    headed: ConHeaded<'a>,
-) -> Result<Products<SliceSource<'a>>, AllocError> {
-    let input = |product: SetProduct| -> Result<RasterInput<SliceSource<'_>>, AllocError> {
-        raster_of_con_headed(alloc, product, headed)
-    };
-    PerProduct::from_each(&input)
-}
-
-/// A source that gives one byte a call.
-fn slow<'a>(bytes: &'a [u8], owner: Owner, faulty: Faulty<'a>) -> ScriptSource<'a> {
-    if owner == faulty.owner {
-        ScriptSource::new(bytes, 1, faulty.script)
-    } else {
-        ScriptSource::new(bytes, 1, &[])
-    }
-}
-
-fn slow_tile<'a>(
-    alloc: Global,
-    tile: &'a TileBytes,
-    faulty: Faulty<'a>,
-) -> Result<TileInput<ScriptSource<'a>>, AllocError> {
-    Ok(TileInput {
-        name: list(alloc, tile.name.as_slice())?,
-        body: slow(tile.body.as_slice(), Owner::Tile, faulty),
-    })
-}
-
-/// The tiles, whose sources give one byte a call, and fault by this script.
-pub fn slow_tiles<'a>(
-    alloc: Global,
-    bytes: &'a [TileBytes],
-    faulty: Faulty<'a>,
-) -> Result<Vec<TileInput<ScriptSource<'a>>>, AllocError> {
-    let mut tiles = Vec::new(alloc);
-    for tile in bytes {
-        tiles.push(slow_tile(alloc, tile, faulty)?)?;
-    }
-    Ok(tiles)
-}
-
-/// An example whose sources give one byte a call, and fault by this script.
-#[derive(Clone, Copy)]
-pub struct SlowExample<'a> {
-    pub example: &'a Example,
-    pub faulty: Faulty<'a>,
-}
-
-fn slow_raster<'a>(
-    alloc: Global,
-    product: SetProduct,
-    slowly: SlowExample<'a>,
-) -> Result<RasterInput<ScriptSource<'a>>, AllocError> {
-    let raster = slowly.example.raster(product);
+    reading: G,
+) -> Result<RasterInput<R>, AllocError> {
+    let body = headed.example.raster(product).body.as_slice();
     Ok(RasterInput {
-        header: list(alloc, raster.header.as_slice())?,
-        body: slow(
-            raster.body.as_slice(),
-            Owner::Raster(product),
-            slowly.faulty,
-        ),
+        header: list(alloc, headed.header(product))?,
+        body: reading.source(body, Owner::Raster(product)),
     })
 }
 
-/// The products, whose sources give one byte a call, and fault by this script.
-pub fn slow_products<'a>(
+/// The products.
+pub fn products<'a, R: ByteSource + Drop, G: Reading<'a, R>>(
     alloc: Global,
-    slowly: SlowExample<'a>,
-) -> Result<Products<ScriptSource<'a>>, AllocError> {
-    let input = |product: SetProduct| -> Result<RasterInput<ScriptSource<'_>>, AllocError> {
-        slow_raster(alloc, product, slowly)
+    headed: ConHeaded<'a>,
+    reading: G,
+) -> Result<Products<R>, AllocError> {
+    let input = |product: SetProduct| -> Result<RasterInput<R>, AllocError> {
+        raster(alloc, product, headed, reading)
     };
     PerProduct::from_each(&input)
 }

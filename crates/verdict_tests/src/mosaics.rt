@@ -2,7 +2,7 @@
 
 use crate::agree::{same, same_line};
 use crate::example::{TileBytes, tile};
-use crate::inputs::{Faulty, Owner, slow_tiles, tiles_at_once};
+use crate::inputs::{AtOnce, Faulty, Owner, tiles};
 use drain_answer::line::Line;
 use drain_device::faults::Scripted;
 use drain_device::{ByteSource, DeviceFault};
@@ -43,7 +43,7 @@ type Joined = (i16, i16, [i16; 6], usize);
 
 /// The mosaic of the tiles.
 fn joined(alloc: Global, bytes: &[TileBytes]) -> Result<Joined, Fail> {
-    let mut tiles = tiles_at_once(alloc, bytes)?;
+    let mut tiles = tiles(alloc, bytes, AtOnce)?;
     let mosaic = read_mosaic(alloc, 2, &mut tiles)?;
     let (samples, count) = samples_of(&mosaic.elevation);
     Ok((mosaic.layout.west(), mosaic.layout.north(), samples, count))
@@ -71,7 +71,7 @@ fn refused<R: ByteSource>(
 
 /// The line of the refusal of tiles of this side, whose sources give all bytes at once.
 fn refused_at_once(alloc: Global, side: u32, bytes: &[TileBytes]) -> Result<Line, Fail> {
-    let mut tiles = tiles_at_once(alloc, bytes)?;
+    let mut tiles = tiles(alloc, bytes, AtOnce)?;
     refused(alloc, side, &mut tiles)
 }
 
@@ -116,7 +116,7 @@ fn refused_slowly(alloc: Global, script: &[Scripted<DeviceFault>]) -> Result<Lin
         script,
     };
     let bytes = side_by_side(2);
-    let mut tiles = slow_tiles(alloc, &bytes, faulty)?;
+    let mut tiles = tiles(alloc, &bytes, faulty)?;
     refused(alloc, 2, &mut tiles)
 }
 

@@ -4,8 +4,21 @@ use crate::example::{changed, header_on, one_tile};
 use crate::runs::Checked;
 use crate::tells::{Changes, changes_tell, each_tells, tells};
 use drain_grid::SetProduct;
+use std::alloc::Global;
+use std::process::Abort;
 use std::test::Fail;
 use worked::grids::{level, needless_crest, pit, ring, slope, voids};
+
+/// Fails the test if a check of a tile of this side, with these numbers and one of these changes, gives another line.
+fn rejects<const N: usize>(
+    rt: &impl Abort,
+    alloc: Global,
+    side: u32,
+    numbers: &[i64; N],
+    cases: &[Changes],
+) -> Result<(), Fail> {
+    changes_tell(rt, alloc, Checked::Check, (side, ""), numbers, cases)
+}
 
 /// A number of the slope that is changed, and the line of the rejection.
 static CHANGED_SLOPES: [Changes; 6] = [
@@ -20,14 +33,7 @@ static CHANGED_SLOPES: [Changes; 6] = [
 /// The places of the slope are counted through its samples and its products, 16 of each.
 #[test]
 fn rejects_a_changed_slope(rt: HostRuntime) -> Result<(), Fail> {
-    changes_tell(
-        &rt,
-        rt.alloc(),
-        Checked::Check,
-        (4, ""),
-        &slope(),
-        &CHANGED_SLOPES,
-    )
+    rejects(&rt, rt.alloc(), 4, &slope(), &CHANGED_SLOPES)
 }
 
 /// A number of the pit that is changed, and the line of the rejection.
@@ -41,14 +47,7 @@ static CHANGED_PITS: [Changes; 4] = [
 /// The places of the pit are counted through its samples and its products, 9 of each.
 #[test]
 fn rejects_a_changed_pit(rt: HostRuntime) -> Result<(), Fail> {
-    changes_tell(
-        &rt,
-        rt.alloc(),
-        Checked::Check,
-        (3, ""),
-        &pit(),
-        &CHANGED_PITS,
-    )
+    rejects(&rt, rt.alloc(), 3, &pit(), &CHANGED_PITS)
 }
 
 #[test]
@@ -86,12 +85,5 @@ static ONE_LABEL: [Changes; 1] = [(
 
 #[test]
 fn rejects_two_outlets_of_one_label(rt: HostRuntime) -> Result<(), Fail> {
-    changes_tell(
-        &rt,
-        rt.alloc(),
-        Checked::Check,
-        (4, ""),
-        &slope(),
-        &ONE_LABEL,
-    )
+    rejects(&rt, rt.alloc(), 4, &slope(), &ONE_LABEL)
 }

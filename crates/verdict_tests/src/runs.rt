@@ -1,9 +1,7 @@
 //! Runs of a check or an audit over an example, and their lines.
 
 use crate::example::Example;
-use crate::inputs::{
-    ConHeaded, Faulty, SlowExample, products_at_once, slow_products, slow_tiles, tiles_at_once,
-};
+use crate::inputs::{AtOnce, ConHeaded, Faulty, Reading, products, tiles};
 use drain_answer::line::Line;
 use drain_device::ByteSource;
 use drain_hgt::TileInput;
@@ -64,20 +62,26 @@ fn answered<R: ByteSource + Drop>(
     }
 }
 
-fn told_of(alloc: Global, asked: Checked, headed: ConHeaded<'_>) -> Result<Line, AllocError> {
-    let mut tiles = tiles_at_once(alloc, headed.example.tiles())?;
-    let products = products_at_once(alloc, headed)?;
+fn told_of<'a, R: ByteSource + Drop, G: Reading<'a, R>>(
+    alloc: Global,
+    asked: Checked,
+    headed: ConHeaded<'a>,
+    reading: G,
+) -> Result<Line, AllocError> {
+    let mut tiles = tiles(alloc, headed.example.tiles(), reading)?;
+    let products = products(alloc, headed, reading)?;
     Ok(answered(alloc, asked, headed.example, &mut tiles, products))
 }
 
 /// The line when sources give all bytes at once.
 pub fn told_at_once(alloc: Global, asked: Checked, example: &Example) -> Result<Line, AllocError> {
-    told_of(alloc, asked, ConHeaded::by_itself(example))
+    told_of(alloc, asked, ConHeaded::by_itself(example), AtOnce)
 }
 
 /// The line of a check whose sources give all bytes at once, with this header of con.
 pub fn told_of_header(alloc: Global, example: &Example, header: &[u8]) -> Result<Line, AllocError> {
-    told_of(alloc, Checked::Check, ConHeaded { example, header })
+    let headed = ConHeaded { example, header };
+    told_of(alloc, Checked::Check, headed, AtOnce)
 }
 
 /// The line when sources give one byte a call, and fault by this script.
@@ -87,9 +91,7 @@ pub fn told_slowly(
     example: &Example,
     faulty: Faulty,
 ) -> Result<Line, AllocError> {
-    let mut tiles = slow_tiles(alloc, example.tiles(), faulty)?;
-    let products = slow_products(alloc, SlowExample { example, faulty })?;
-    Ok(answered(alloc, asked, example, &mut tiles, products))
+    told_of(alloc, asked, ConHeaded::by_itself(example), faulty)
 }
 
 /// The line when sources never fault: the same whether they give all bytes at once or one byte a call.

@@ -9,6 +9,7 @@ use drain_verdict::{Refusal, report, verdict_row_by_row};
 use std::alloc::Global;
 use std::test::Fail;
 use worked::grids::LEVEL_LINE;
+use worked::sets::product_set;
 
 /// Four cells of elevation 0.
 fn elevation(alloc: Global, shape: Shape) -> Result<Elevation, Fail>
@@ -52,20 +53,7 @@ fn products(alloc: Global, shape: Shape, counts: [u8; 4]) -> Result<ProductSet, 
         };
         raster(alloc, shape, product, numbers)
     };
-    let PerProduct {
-        con,
-        dir,
-        acc,
-        bas,
-        rnk,
-    } = PerProduct::from_each(&made)?;
-    Ok(ProductSet {
-        con,
-        dir,
-        acc,
-        bas,
-        rnk,
-    })
+    Ok(product_set(PerProduct::from_each(&made)?))
 }
 
 /// The line of the verdict on these.

@@ -67,6 +67,19 @@ fn same_tiles(rt: &impl Abort, given: &WindowReport, side: u32, names: &[&str]) 
     }
 }
 
+/// The outlet with this label, at this row and column of the map.
+fn outlet(label: i64, row: u32, col: u32) -> Outlet {
+    Outlet {
+        label,
+        cell: Cell { row, col },
+    }
+}
+
+/// Fails the test if the report doesn't have these outlets.
+fn same_outlets(rt: &impl Abort, given: &WindowReport, outlets: &[Outlet]) {
+    same(rt, "outlets", given.report.outlets.as_slice(), outlets);
+}
+
 #[test]
 fn an_accepted_window(rt: HostRuntime) -> Result<(), Fail> {
     let window = (1, 0, 3, 4, "n");
@@ -76,22 +89,7 @@ fn an_accepted_window(rt: HostRuntime) -> Result<(), Fail> {
     same_place(&rt, &given, SLOPE, window)?;
     let report = &given.report;
     same(&rt, "holds", report.holds, true);
-    let outlets = [
-        Outlet {
-            label: 1,
-            cell: Cell { row: 270, col: 543 },
-        },
-        Outlet {
-            label: 8,
-            cell: Cell { row: 269, col: 543 },
-        },
-    ];
-    same(
-        &rt,
-        "outlets",
-        report.outlets.as_slice(),
-        outlets.as_slice(),
-    );
+    same_outlets(&rt, &given, &[outlet(1, 270, 543), outlet(8, 269, 543)]);
     same(&rt, "two rows of seams", report.seams.len(), 8);
     let shown = report
         .seams
@@ -108,22 +106,7 @@ fn a_window_of_two_tiles(rt: HostRuntime) -> Result<(), Fail> {
     let given = answer(rt.alloc(), &LEVEL_TILES, window)??;
     same_tiles(&rt, &given, 2, &["N00E001.hgt", "N00E000.hgt"]);
     same_place(&rt, &given, Cell { row: 89, col: 180 }, window)?;
-    let outlets = [
-        Outlet {
-            label: 3,
-            cell: Cell { row: 90, col: 180 },
-        },
-        Outlet {
-            label: 6,
-            cell: Cell { row: 89, col: 180 },
-        },
-    ];
-    same(
-        &rt,
-        "outlets",
-        given.report.outlets.as_slice(),
-        outlets.as_slice(),
-    );
+    same_outlets(&rt, &given, &[outlet(3, 90, 180), outlet(6, 89, 180)]);
     same(&rt, "seams", given.report.seams.len(), 4);
     Ok(())
 }

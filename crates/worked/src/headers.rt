@@ -1,23 +1,22 @@
-//! Headers: a small one, line by line, and one of a usual tool.
+//! Headers: a small one, and one of a usual tool.
 
-/// The lines of the header of a conditioned raster of 3 by 3 pixels, with a half degree from pixel to pixel.
-pub static CON_LINES: [&str; 15] = [
-    "BYTEORDER I",
-    "LAYOUT BIL",
-    "NROWS 3",
-    "NCOLS 3",
-    "NBANDS 1",
-    "NBITS 16",
-    "BANDROWBYTES 6",
-    "TOTALROWBYTES 6",
-    "SKIPBYTES 0",
-    "PIXELTYPE SIGNEDINT",
-    "ULXMAP 0.000000000000000",
-    "ULYMAP 1.000000000000000",
-    "XDIM 0.500000000000000",
-    "YDIM 0.500000000000000",
-    "NODATA -32768",
-];
+/// The header of a conditioned raster of 3 by 3 pixels, half a degree apart, as this program writes it.
+pub const CON_TEXT: &str = "BYTEORDER I
+LAYOUT BIL
+NROWS 3
+NCOLS 3
+NBANDS 1
+NBITS 16
+BANDROWBYTES 6
+TOTALROWBYTES 6
+SKIPBYTES 0
+PIXELTYPE SIGNEDINT
+ULXMAP 0.000000000000000
+ULYMAP 1.000000000000000
+XDIM 0.500000000000000
+YDIM 0.500000000000000
+NODATA -32768
+";
 
 /// A usual tool's header of the tile N37W105.
 pub const USUAL: &str = "BYTEORDER      I
