@@ -5,9 +5,8 @@ use Rattle.std.specs.Borrow.{Bor}
 use Rattle.clap.specs.Matches.{first_value, matched_of, one_text, raw_values}
 use Rattle.clap.specs.Walk.{Text}
 use Rattle.clap.specs.declared.parser.matches.Found.{Found}
-use Rattle.drain_args.specs.declared.requests.CheckArgs.{CheckArgs}
-use Rattle.drain_args.specs.declared.requests.MakeArgs.{MakeArgs}
 use Rattle.drain_args.specs.declared.requests.MergeArgs.{MergeArgs}
+use Rattle.drain_args.specs.declared.requests.ProductArgs.{ProductArgs}
 use Rattle.drain_args.specs.declared.requests.WindowArgs.{WindowArgs}
 use Rattle.drain_args.specs.declared.requests.Request.{Request}
 use Rattle.drain_args.specs.declared.requests.Request.TheVariants.{Audit, Check, Derive, Explain, Window, Merge, Make, Fill, Header}
@@ -28,25 +27,22 @@ IsSideOption f side =
     (one_text f (codes "side") ≡ None → side ≡ DEFAULT_SIDE)
     × ((t : Text) → one_text f (codes "side") ≡ Some t → (side ≡ digits_value 10 (without_leading_plus t)) ⊎ (side ≡ DEFAULT_SIDE))
 
--- the inputs to be checked are those of the options and of the arguments without one
-pub record IsCheckArgs (f : Found) (args : CheckArgs) : Type 0 where
+-- the tiles are the arguments without an option, the folder of their products is that of this option, and the rest that
+-- of the options
+pub record IsProductArgs (option : Text) (f : Found) (args : ProductArgs) : Type 0 where
   pub side : IsSideOption f args.side
-  pub products : args.products.now ≡ unwrap_or (first_value f (codes "products")) []
+  pub folder : args.folder.now ≡ unwrap_or (first_value f option) []
   pub sinks : option_map (λ path. path.now) args.sinks ≡ first_value f (codes "sinks")
   pub tiles : map (λ path. path.now) args.tiles.items ≡ unwrap_or (option_map raw_values (matched_of f (codes "tiles"))) []
   pub progress : IsFlag (codes "progress") f args.progress
 
--- what products are made of, and the folder for them, are those of the options and of the arguments without one
-pub record IsMakeArgs (f : Found) (args : MakeArgs) : Type 0 where
-  pub side : IsSideOption f args.side
-  pub out : args.out.now ≡ unwrap_or (first_value f (codes "out")) []
-  pub sinks : option_map (λ path. path.now) args.sinks ≡ first_value f (codes "sinks")
-  pub tiles : map (λ path. path.now) args.tiles.items ≡ unwrap_or (option_map raw_values (matched_of f (codes "tiles"))) []
-  pub progress : IsFlag (codes "progress") f args.progress
+-- the inputs to be checked: the products are there already
+abbrev pub AreInputs : Found → ProductArgs → Type 0
+AreInputs f args = IsProductArgs (codes "products") f args
 
 -- the window's place is that of the options, and its report goes into the file of another
 pub record IsWindowArgs (f : Found) (args : WindowArgs) : Type 0 where
-  pub inputs : IsCheckArgs f args.inputs
+  pub inputs : AreInputs f args.inputs
   pub box : IsBox (unwrap_or (first_value f (codes "box")) []) args.place
   pub inner : IsInner (unwrap_or (first_value f (codes "inner")) []) args.place.inner
   pub report : args.report.now ≡ unwrap_or (first_value f (codes "report")) []
@@ -78,14 +74,14 @@ IsOnlyOption f (Some given) = first_value f (codes "only") ≡ Some (list_text g
 
 -- the name of a command, and the values of its arguments, make this request
 abbrev pub IsRequestOf : Text → Found → Request → Type 0
-IsRequestOf name f (Audit args) = (name ≡ codes "audit") × (IsCheckArgs f args.inputs × IsOnlyOption f args.only)
-IsRequestOf name f (Check args) = (name ≡ codes "check") × IsCheckArgs f args
+IsRequestOf name f (Audit args) = (name ≡ codes "audit") × (AreInputs f args.inputs × IsOnlyOption f args.only)
+IsRequestOf name f (Check args) = (name ≡ codes "check") × AreInputs f args
 IsRequestOf name f (Explain args) =
-    (name ≡ codes "explain") × (IsCheckArgs f args.inputs × (IsOnlyOption f args.only × (IsMap f args.map × IsFlag (codes "json") f args.json)))
+    (name ≡ codes "explain") × (AreInputs f args.inputs × (IsOnlyOption f args.only × (IsMap f args.map × IsFlag (codes "json") f args.json)))
 IsRequestOf name f (Window args) = (name ≡ codes "window") × IsWindowArgs f args
 IsRequestOf name f (Merge args) = (name ≡ codes "merge") × IsMergeArgs f args
-IsRequestOf name f (Make args) = (name ≡ codes "make") × IsMakeArgs f args
+IsRequestOf name f (Make args) = (name ≡ codes "make") × IsProductArgs (codes "out") f args
 IsRequestOf name f (Derive args) =
-    (name ≡ codes "derive") × (IsCheckArgs f args.inputs × (args.out.now ≡ unwrap_or (first_value f (codes "out")) []))
+    (name ≡ codes "derive") × (AreInputs f args.inputs × (args.out.now ≡ unwrap_or (first_value f (codes "out")) []))
 IsRequestOf name f (Fill side) = (name ≡ codes "fill") × IsSideOption f side
 IsRequestOf name f (Header path) = (name ≡ codes "header") × (path.now ≡ unwrap_or (first_value f (codes "file")) [])

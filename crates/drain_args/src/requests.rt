@@ -2,7 +2,7 @@
 
 ghost use Rattle.std.specs.Prelude.{◌≡◌, ◌++◌, IfOk, IfSome, codes};
 ghost use Rattle.clap.specs.Matches.{found_of};
-ghost use Rattle.drain_args.specs.Requests.{IsCheckArgs, IsMakeArgs, IsMap, IsMergeArgs, IsOnlyOption, IsRequestOf, map_ending};
+ghost use Rattle.drain_args.specs.Requests.{AreInputs, IsMap, IsMergeArgs, IsOnlyOption, IsProductArgs, IsRequestOf, map_ending};
 
 use crate::clusters::first_cluster;
 use crate::commands::{AUDIT, CommandSpec, EXPLAIN, WINDOW, command, program};
@@ -21,7 +21,7 @@ pub enum Request<'a> {
     /// `drain audit`: check the four products in this folder, or some of them alone, without ranks.
     Audit(AuditArgs<'a>),
     /// `drain check`: check the five products in this folder.
-    Check(CheckArgs<'a>),
+    Check(ProductArgs<'a>),
     /// `drain explain`: report what is wrong with the products in this folder, where, and how much of it.
     Explain(ExplainArgs<'a>),
     /// `drain window`: judge one window of a union, and write its report.
@@ -29,7 +29,7 @@ pub enum Request<'a> {
     /// `drain merge`: put the reports of a union's windows together.
     Merge(MergeArgs<'a>),
     /// `drain make`: make products of tiles, and write them into this folder.
-    Make(MakeArgs<'a>),
+    Make(ProductArgs<'a>),
     /// `drain derive`: compute accumulation, labels and ranks of the directions in this folder, and write them into
     /// another.
     Derive(DeriveArgs<'a>),
@@ -39,12 +39,12 @@ pub enum Request<'a> {
     Header { path: &'a str },
 }
 
-/// The inputs to be checked: the products in this folder, the tiles at these paths, the list of sinks at this path; and
-/// whether progress is reported.
+/// The tiles at these paths, the list of sinks at this path, and the folder of their products: a check reads them there,
+/// `make` writes them there; and whether progress is reported.
 #[derive(Drop)]
-pub struct CheckArgs<'a> {
+pub struct ProductArgs<'a> {
     pub side: u32,
-    pub products: &'a str,
+    pub folder: &'a str,
     pub sinks: Option<&'a str>,
     pub tiles: Vec<&'a str>,
     pub progress: bool,
@@ -53,14 +53,14 @@ pub struct CheckArgs<'a> {
 /// What is to be audited: all four products, or these alone.
 #[derive(Drop)]
 pub struct AuditArgs<'a> {
-    pub inputs: CheckArgs<'a>,
+    pub inputs: ProductArgs<'a>,
     pub only: Option<Given>,
 }
 
 /// The mosaic and the products in this folder, where the window lies in the mosaic, and the path of its report.
 #[derive(Drop)]
 pub struct WindowArgs<'a> {
-    pub inputs: CheckArgs<'a>,
+    pub inputs: ProductArgs<'a>,
     pub place: Place,
     pub report: &'a str,
 }
@@ -72,28 +72,17 @@ pub struct MergeArgs<'a> {
     pub sinks: Option<&'a str>,
 }
 
-/// What products are made of, the tiles at these paths and the list of sinks at this path; the folder for them; and
-/// whether progress is reported.
-#[derive(Drop)]
-pub struct MakeArgs<'a> {
-    pub side: u32,
-    pub out: &'a str,
-    pub sinks: Option<&'a str>,
-    pub tiles: Vec<&'a str>,
-    pub progress: bool,
-}
-
 /// What is to be derived from, and the folder for it.
 #[derive(Drop)]
 pub struct DeriveArgs<'a> {
-    pub inputs: CheckArgs<'a>,
+    pub inputs: ProductArgs<'a>,
     pub out: &'a str,
 }
 
 /// What is to be explained, as a text or as JSON; and the path of a map of the faults, without `.bil`.
 #[derive(Drop)]
 pub struct ExplainArgs<'a> {
-    pub inputs: CheckArgs<'a>,
+    pub inputs: ProductArgs<'a>,
     pub only: Option<Given>,
     pub map: Option<&'a str>,
     pub json: bool,
@@ -142,11 +131,11 @@ pub fn request_of<'a>(
 {
     match name {
         "audit" => audit_request(alloc, given),
-        "check" => Ok(Request::Check(check_args(alloc, given)?)),
+        "check" => Ok(Request::Check(inputs_given(alloc, given)?)),
         "explain" => explain_request(alloc, given),
         "window" => window_request(alloc, given),
         "merge" => Ok(Request::Merge(merge_args(alloc, given)?)),
-        "make" => Ok(Request::Make(make_args(alloc, given)?)),
+        "make" => Ok(Request::Make(product_args(alloc, given, "out")?)),
         "derive" => Ok(derive_request(alloc, given)?),
         "fill" => Ok(Request::Fill {
             side: side_given(given),
@@ -158,18 +147,29 @@ pub fn request_of<'a>(
     }
 }
 
-/// The inputs to be checked.
-fn check_args<'a>(alloc: Global, given: &ArgMatches<'a>) -> Result<CheckArgs<'a>, AllocError>
-    ensures { IfOk result (IsCheckArgs (found_of given.now)) }
+/// The tiles, and the folder of their products that this option names.
+fn product_args<'a>(
+    alloc: Global,
+    given: &ArgMatches<'a>,
+    option: &str,
+) -> Result<ProductArgs<'a>, AllocError>
+    ensures { IfOk result (IsProductArgs option.now (found_of given.now)) }
 {
     let tiles = paths_given(alloc, given, "tiles")?;
-    Ok(CheckArgs {
+    Ok(ProductArgs {
         side: side_given(given),
-        products: text_given(given, "products"),
+        folder: text_given(given, option),
         sinks: option_given(given, "sinks"),
         tiles,
         progress: flag_given(given, "progress"),
     })
+}
+
+/// The inputs to be checked.
+fn inputs_given<'a>(alloc: Global, given: &ArgMatches<'a>) -> Result<ProductArgs<'a>, AllocError>
+    ensures { IfOk result (AreInputs (found_of given.now)) }
+{
+    product_args(alloc, given, "products")
 }
 
 /// What is to be audited.
@@ -179,7 +179,7 @@ fn audit_request<'a>(alloc: Global, given: &ArgMatches<'a>) -> Result<Request<'a
     let Ok(only) = only_given(given) else {
         return Err(bad_value(alloc, &AUDIT, help_texts::BAD_LIST)?);
     };
-    let inputs = check_args(alloc, given)?;
+    let inputs = inputs_given(alloc, given)?;
     Ok(Request::Audit(AuditArgs { inputs, only }))
 }
 
@@ -225,7 +225,7 @@ fn explain_request<'a>(alloc: Global, given: &ArgMatches<'a>) -> Result<Request<
     let Ok(only) = only_given(given) else {
         return Err(bad_value(alloc, &EXPLAIN, help_texts::BAD_LIST)?);
     };
-    let inputs = check_args(alloc, given)?;
+    let inputs = inputs_given(alloc, given)?;
     Ok(Request::Explain(ExplainArgs {
         inputs,
         only,
@@ -268,7 +268,7 @@ fn window_request<'a>(alloc: Global, given: &ArgMatches<'a>) -> Result<Request<'
     let Some(place) = window_place(text_given(given, "box"), inner) else {
         return Err(bad_value(alloc, &WINDOW, window_texts::BAD_BOX)?);
     };
-    let inputs = check_args(alloc, given)?;
+    let inputs = inputs_given(alloc, given)?;
     Ok(Request::Window(WindowArgs {
         inputs,
         place,
@@ -287,25 +287,11 @@ fn merge_args<'a>(alloc: Global, given: &ArgMatches<'a>) -> Result<MergeArgs<'a>
     })
 }
 
-/// What is to be made.
-fn make_args<'a>(alloc: Global, given: &ArgMatches<'a>) -> Result<MakeArgs<'a>, AllocError>
-    ensures { IfOk result (IsMakeArgs (found_of given.now)) }
-{
-    let tiles = paths_given(alloc, given, "tiles")?;
-    Ok(MakeArgs {
-        side: side_given(given),
-        out: text_given(given, "out"),
-        sinks: option_given(given, "sinks"),
-        tiles,
-        progress: flag_given(given, "progress"),
-    })
-}
-
 /// What is to be derived.
 fn derive_request<'a>(alloc: Global, given: &ArgMatches<'a>) -> Result<Request<'a>, AllocError>
     ensures { IfOk result (IsRequestOf (codes "derive") (found_of given.now)) }
 {
-    let inputs = check_args(alloc, given)?;
+    let inputs = inputs_given(alloc, given)?;
     Ok(Request::Derive(DeriveArgs {
         inputs,
         out: text_given(given, "out"),

@@ -2,6 +2,7 @@
 use Rattle.std.specs.Prelude.{ℕ, Result, Ok, Err}
 use Rattle.drain_c.specs.declared.found.Found.{Found}
 use Rattle.drain_grid.specs.Rule.{rule_number}
+use Rattle.drain_grid.specs.declared.rule.Rule.{Rule}
 use Rattle.drain_rules.specs.declared.verdict.Verdict.{Verdict}
 use Rattle.drain_rules.specs.declared.verdict.Verdict.TheVariants as checked
 use Rattle.drain_answer.specs.declared.audit_verdict.AuditVerdict.{AuditVerdict}
@@ -19,15 +20,19 @@ refusal_found OutOfMemory = status_only 3
 refusal_found ReadFailed = status_only 3
 refusal_found refusal = status_only 2
 
+-- 1, the number of the rule, and the cell
+abbrev pub rejection_found : Rule → ℕ → ℕ → Found
+rejection_found rule row col = record { status = 1; rule = rule_number rule; row = row; col = col }
+
 -- 0 of an acceptance, 1 of a rejection, with the rule, 0 of a run without an end, and the cell
 abbrev pub audit_found : Result AuditVerdict Refusal → Found
 audit_found (Ok (Accepted counts)) = status_only 0
-audit_found (Ok (Rejected rule row col)) = record { status = 1; rule = rule_number rule; row = row; col = col }
+audit_found (Ok (Rejected rule row col)) = rejection_found rule row col
 audit_found (Ok (NoEnd row col)) = record { status = 1; rule = 0; row = row; col = col }
 audit_found (Err refusal) = refusal_found refusal
 
 -- the same of a check
 abbrev pub check_found : Result Verdict Refusal → Found
 check_found (Ok (checked.Accepted counts)) = status_only 0
-check_found (Ok (checked.Rejected rule row col)) = record { status = 1; rule = rule_number rule; row = row; col = col }
+check_found (Ok (checked.Rejected rule row col)) = rejection_found rule row col
 check_found (Err refusal) = refusal_found refusal

@@ -1,8 +1,9 @@
 //! An answer in numbers: its status, and where a rule fails.
 
 ghost use Rattle.std.specs.Prelude.{◌≡◌};
-ghost use Rattle.drain_c.specs.Found.{audit_found, check_found, refusal_found, status_only};
+ghost use Rattle.drain_c.specs.Found.{audit_found, check_found, refusal_found, rejection_found, status_only};
 
+use drain_grid::Rule;
 use drain_rules::Verdict;
 use drain_verdict::{AuditVerdict, Refusal};
 
@@ -22,12 +23,7 @@ pub fn audit_found(answer: &Result<AuditVerdict, Refusal>) -> Found
 {
     match answer {
         Ok(AuditVerdict::Accepted(_)) => status_only(0),
-        Ok(AuditVerdict::Rejected { rule, row, col }) => Found {
-            status: 1,
-            rule: u32::from(rule.number()),
-            row: *row,
-            col: *col,
-        },
+        Ok(AuditVerdict::Rejected { rule, row, col }) => rejection_found(*rule, *row, *col),
         Ok(AuditVerdict::NoEnd { row, col }) => Found {
             status: 1,
             rule: 0,
@@ -44,13 +40,20 @@ pub fn check_found(answer: &Result<Verdict, Refusal>) -> Found
 {
     match answer {
         Ok(Verdict::Accepted(_)) => status_only(0),
-        Ok(Verdict::Rejected { rule, row, col }) => Found {
-            status: 1,
-            rule: u32::from(rule.number()),
-            row: *row,
-            col: *col,
-        },
+        Ok(Verdict::Rejected { rule, row, col }) => rejection_found(*rule, *row, *col),
         Err(refusal) => refusal_found(*refusal),
+    }
+}
+
+/// The numbers of a rejection by this rule, at this cell.
+fn rejection_found(rule: Rule, row: u32, col: u32) -> Found
+    ensures { result ≡ rejection_found rule row col }
+{
+    Found {
+        status: 1,
+        rule: u32::from(rule.number()),
+        row,
+        col,
     }
 }
 

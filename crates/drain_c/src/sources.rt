@@ -38,13 +38,9 @@ fn tile_input<'a>(
     ensures same { IfOk result (λ tile. IsTileOf ⟦<SliceSource<'a> as ByteSource>⟧.bytes_left given.now tile) }
     ensures memory { IfErr result (λ refusal. refusal ≡ Refusal.OutOfMemory) }
 {
-    match given.name.to_vec(alloc) {
-        Ok(name) => Ok(TileInput {
-            name: ByteList::new(name),
-            body: SliceSource::new(given.samples),
-        }),
-        Err(_) => Err(Refusal::OutOfMemory),
-    }
+    let name = byte_list(alloc, given.name)?;
+    let body = SliceSource::new(given.samples);
+    Ok(TileInput { name, body })
 }
 
 /// A raster.
@@ -55,11 +51,18 @@ fn raster_input<'a>(
     ensures same { IfOk result (λ raster. IsRasterOf ⟦<SliceSource<'a> as ByteSource>⟧.bytes_left given.now raster) }
     ensures memory { IfErr result (λ refusal. refusal ≡ Refusal.OutOfMemory) }
 {
-    match given.header.to_vec(alloc) {
-        Ok(header) => Ok(RasterInput {
-            header: ByteList::new(header),
-            body: SliceSource::new(given.pixels),
-        }),
+    let header = byte_list(alloc, given.header)?;
+    let body = SliceSource::new(given.pixels);
+    Ok(RasterInput { header, body })
+}
+
+/// A copy of these bytes.
+fn byte_list(alloc: Global, bytes: &[u8]) -> Result<ByteList, Refusal>
+    ensures same { IfOk result (λ list. list ≡ bytes.now) }
+    ensures memory { IfErr result (λ refusal. refusal ≡ Refusal.OutOfMemory) }
+{
+    match bytes.to_vec(alloc) {
+        Ok(copy) => Ok(ByteList::new(copy)),
         Err(_) => Err(Refusal::OutOfMemory),
     }
 }

@@ -11,7 +11,7 @@ use crate::runs::run_header::run_header;
 use clap::Error;
 use clap::error::ErrorKind;
 use drain_args::form::{Form, requested_form};
-use drain_args::requests::{CheckArgs, Request, parse};
+use drain_args::requests::{ProductArgs, Request, parse};
 use drain_device::{BodyFault, ByteSink, Reader, Writer};
 use drain_files::open_failure::{print_open_failure, print_open_fault};
 use drain_files::open_files::{InputFile, Opener};
@@ -89,7 +89,7 @@ fn header_of_file(rt: &HostRuntime, path: &str, out: &mut impl ByteSink) -> u8 {
 /// Opens the tiles and the products of a folder, checks or audits them, and returns the exit status.
 fn judge_files(
     rt: &HostRuntime,
-    args: &CheckArgs<'_>,
+    args: &ProductArgs<'_>,
     rasters: Rasters,
     out: &mut impl ByteSink,
 ) -> u8 {

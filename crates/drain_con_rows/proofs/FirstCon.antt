@@ -1,6 +1,5 @@
 -- One row more of the lists of a grid's samples and conditioned elevations.
-use Rattle.std.proofs.Common.{◌≡◌, ◌<◌, ◌≤◌, ◌+◌, ◌*◌, ◌++◌, ◌∙◌, inl, inr, ℕ, ℤ, pos, List, length, map, get_or, length-append, sym, ap, arith}
-use Rattle.std.proofs.Math.Nat.{mul-le-mul_right}
+use Rattle.std.proofs.Common.{◌≡◌, ◌<◌, ◌+◌, ◌*◌, ◌++◌, ◌∙◌, inl, inr, ℕ, ℤ, pos, List, length, map, get_or, length-append, sym, ap, arith}
 use Rattle.std.proofs.lemmas.Bool.{cases_order}
 use Rattle.std.proofs.lemmas.List.{get_or_append_left, get_or-append-add, get_or-map, length-map}
 use Rattle.std.proofs.lemmas.List.Elements.{All-append, All-map}
@@ -10,6 +9,7 @@ use Rattle.drain_grid.specs.declared.tile.TheConstants.{VOID}
 use Rattle.drain_grid.specs.Extent.{index_of}
 use Rattle.drain_grid.specs.Grid.{Grid, Products, IsInside}
 use Rattle.drain_grid.specs.Tile.{IsSample, height_from}
+use Rattle.drain_grid.proofs.CellOrder.{before_row}
 use Rattle.drain_con_rows.specs.ConRows.{AreFirstCon, ConLists, narrowed, with_row}
 use Rattle.drain_con_rows.proofs.NarrowRows.{IsSample-narrowed, narrowed-sample}
 
@@ -21,14 +21,6 @@ pub record AreRowOf (g : Grid) (ps : Products) (row : ℕ) (samples con : List �
   pub elevation : (col : ℕ) → col < g.extent.cols → height_from (get_or samples col VOID) ≡ g.elevation (record { row = row; col = col })
   pub con_is : (col : ℕ) → col < g.extent.cols → get_or con col (pos 0) ≡ ps.con (record { row = row; col = col })
 
-row_before : (row rows col cols : ℕ) → row < rows → col < cols → row * cols + col < rows * cols
-row_before row rows col cols above inside =
-    let more : (row + 1) * cols ≤ rows * cols = mul-le-mul_right cols (one_more above) in
-    omega (arith, more)
-  where
-    one_more : {a k : ℕ} → a < k → a + 1 ≤ k
-    one_more h = omega arith
-
 module _ (g : Grid) (ps : Products) (row : ℕ) (before added : List ℤ) (counted : length before ≡ row * g.extent.cols) (long : length added ≡ g.extent.cols) (d : ℤ) where
   all_counted : length (before ++ map narrowed added) ≡ (row + 1) * g.extent.cols
   all_counted =
@@ -38,7 +30,7 @@ module _ (g : Grid) (ps : Products) (row : ℕ) (before added : List ℤ) (count
   -- an earlier row keeps its numbers
   in_earlier : (c : Cell) → IsInside g c → c.row < row → get_or (before ++ map narrowed added) (index_of g.extent c) d ≡ get_or before (index_of g.extent c) d
   in_earlier c inside above =
-      let earlier = row_before c.row row c.col g.extent.cols above inside.col in
+      let earlier = before_row c.row c.col row g.extent.cols above inside.col in
       get_or_append_left before (map narrowed added) d (index_of g.extent c) (omega (arith, earlier, counted))
 
   -- the row has its own

@@ -15,6 +15,7 @@ use Rattle.drain_grid.specs.Values.{NoDataNumbers}
 use Rattle.drain_grid.proofs.AllRules.{correct_from_rules}
 use Rattle.drain_grid.proofs.FromCorrect.{rules_from_correct}
 use Rattle.drain_counts.specs.Laws.{AreRouted}
+use Rattle.drain_counts.proofs.Completing.{routed_part, with_counts}
 use Rattle.drain_derive.specs.Derived.{AreDerived}
 use Rattle.drain_derive.specs.Laws.{with_derived, AreDefaultBut, DerivedCompletes}
 
@@ -89,39 +90,9 @@ module _ (g : Grid) (ps : Products) (acc bas rnk : Pixels) (nodata : NoDataNumbe
   rnk_nodata = numbers.rnk ∙ sym derived.rnk_nodata
 
   completed : AreRouted g (with_derived ps acc bas rnk) nodata → IsCorrect g (with_derived ps acc bas rnk) nodata
-  completed routed = record {
-    voids = λ c inside void. record {
-      con = routed.void_con c inside void;
-      dir = routed.void_dir c inside void;
-      acc = derived.void_acc c inside void ∙ sym acc_nodata;
-      bas = derived.void_bas c inside void ∙ sym bas_nodata;
-    };
-    complete = λ c here. record {
-      con = routed.data_con c here;
-      dir = routed.data_dir c here;
-      acc = λ none. derived.data_acc c here (none ∙ acc_nodata);
-      bas = λ none. derived.data_bas c here (none ∙ bas_nodata);
-    };
-    least = routed.least;
-    never_climbs = routed.never_climbs;
-    steepest = routed.steepest;
-    outlets = routed.outlets;
-    runs_end = derived.ends;
-    counts = derived.counts;
-    labels = derived.labels;
-  }
-
-  routed_part : IsCorrect g (with_derived ps acc bas rnk) nodata → AreRouted g (with_derived ps acc bas rnk) nodata
-  routed_part correct = record {
-    void_con = λ c inside void. (correct.voids c inside void).con;
-    void_dir = λ c inside void. (correct.voids c inside void).dir;
-    data_con = λ c here. (correct.complete c here).con;
-    data_dir = λ c here. (correct.complete c here).dir;
-    least = correct.least;
-    never_climbs = correct.never_climbs;
-    steepest = correct.steepest;
-    outlets = correct.outlets;
-  }
+  completed routed = with_counts g (with_derived ps acc bas rnk) nodata routed
+      (λ c inside void. (derived.void_acc c inside void ∙ sym acc_nodata, derived.void_bas c inside void ∙ sym bas_nodata))
+      (λ c here. ((λ none. derived.data_acc c here (none ∙ acc_nodata)), (λ none. derived.data_bas c here (none ∙ bas_nodata)))) derived.ends derived.counts derived.labels
 
   ranks : RanksAreSteps g (with_derived ps acc bas rnk) nodata
   ranks = record {
@@ -136,7 +107,7 @@ derived_completes g ps acc bas rnk nodata numbers derived =
     let there : AreRouted g ps nodata → IsCorrect g all nodata = λ routed.
     completed g ps acc bas rnk nodata numbers derived (AreRouted-alike g ps all nodata refl refl routed) in
     let back : IsCorrect g all nodata → AreRouted g ps nodata = λ correct.
-    AreRouted-alike g all ps nodata refl refl (routed_part g ps acc bas rnk nodata numbers derived correct) in
+    AreRouted-alike g all ps nodata refl refl (routed_part g all nodata correct) in
     let own = ranks g ps acc bas rnk nodata numbers derived in
     record {
       correct = (there, back);

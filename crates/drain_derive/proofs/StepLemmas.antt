@@ -11,13 +11,13 @@ use Rattle.drain_grid.specs.Size.{Extent}
 use Rattle.drain_grid.proofs.EndedRuns.{HasData-next}
 use Rattle.drain_grid.proofs.Runs.{index_of-below}
 use Rattle.drain_grid.proofs.Walks.{IsWalk, IsWalk-ends, IsWalk-too_long, EndsAfter-zero, EndsAfter-earlier}
+use Rattle.drain_grid.proofs.Options.{void_data}
+use Rattle.drain_grid.proofs.CellOrder.{in_grid}
 use Rattle.drain_paths.specs.declared.flow.Flow.{Flow}
 use Rattle.drain_paths.specs.declared.flow.Flow.TheVariants.{Void, Lost, Ends, ToEast, ToSouthEast, ToSouth, ToSouthWest, ToWest, ToNorthWest, ToNorth, ToNorthEast}
 use Rattle.drain_paths.specs.declared.steps.TheConstants.{UNKNOWN}
 use Rattle.drain_paths.specs.Flows.{flow_at, AreFlowsOf}
 use Rattle.drain_paths.specs.Steps.{IsRightStep}
-use Rattle.drain_paths.proofs.Cells.{in_grid}
-use Rattle.drain_paths.proofs.NextCells.{no_void}
 use Rattle.drain_counts.specs.CellNumbers.{cell_number}
 use Rattle.drain_counts.proofs.FlowCells.{data_of_flow, zero_of_flow, flow_of_zero}
 use Rattle.drain_derive.specs.RunSteps.{first_step, first_steps_of, AreStepsSoFar, AreRunSteps}
@@ -95,7 +95,7 @@ AreRunSteps-all g ps e steps are known = record {
   some = known;
   voids = λ c inside void. elim (cases_eq (cell_number e steps c) UNKNOWN) [
     | inl none ↦ none
-    | inr some ↦ absurd (no_void (g.elevation c) void (are.right c inside some).here.is_data)
+    | inr some ↦ absurd (void_data (g.elevation c) void (are.right c inside some).here.is_data)
   ];
 }
 

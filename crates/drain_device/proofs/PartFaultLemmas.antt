@@ -50,3 +50,9 @@ PartFails-then a b c patience between left F G goes_on one other =
         λ x. other.exactly.1 (gives_up-full patience between other.failures other.interruptions (omega (arith, fewer)) x),
       );
     }
+
+-- one part that came, and then another
+pub PartFails-after : {T : Type 0} {a b c : FaultCounts} {patience between left : ℕ} {done : T} {G : Type 0} →
+    PartFails a b patience between (IsErrOf {T = T} {E = ReadFault} (Ok done) ReadFailed) → PartFails b c between left G → PartFails a c patience left G
+PartFails-after {T = T} {a = a} {b = b} {c = c} {patience = patience} {between = between} {left = left} {done = done} {G = G} one other =
+    PartFails-then a b c patience between left ⊥ G (λ x. x) (PartFails-ok {T = T} a b patience between done one) other

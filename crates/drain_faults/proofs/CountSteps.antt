@@ -1,5 +1,5 @@
 -- The counts of no cell, of voids, and of all rows.
-use Rattle.std.proofs.Common.{◌≡◌, ◌∙◌, ℕ, zero, suc, ◌+◌, ◌-◌, ◌<◌, ◌≤◌, Bool, cond, ◌&&◌, int_lt, is_some, unwrap_or, pos, refl, sym, ap, subst, arith}
+use Rattle.std.proofs.Common.{◌≡◌, ◌∙◌, ℕ, ◌+◌, ◌<◌, ◌≤◌, int_lt, unwrap_or, pos, refl, sym, ap, subst, arith}
 use Rattle.std.specs.Ordering.{int_eq}
 use Rattle.drain_grid.specs.declared.patch.Patch.{Patch}
 use Rattle.drain_grid.specs.Grid.{Grid, Products}
@@ -13,6 +13,8 @@ use Rattle.drain_rules.specs.PatchRows.{AreRowPatches, IsAtMost}
 use Rattle.drain_rules.specs.Rows.{CountsAlong}
 use Rattle.drain_rules.specs.Verdicts.{counts_of}
 use Rattle.drain_rules.proofs.RowLemmas.{CountsAlong-more}
+use Rattle.drain_rules.proofs.RowRuns.{along_run}
+use Rattle.drain_rules.proofs.RightVoids.{void_counts, void_is_no_data}
 
 -- no cell was counted
 abbrev pub no_cell : Tally
@@ -26,30 +28,16 @@ none_at_most tally is = subst (IsAtMost 0) (sym is) (record { data_cells = omega
 
 -- voids add nothing
 module _ (profile : Profile) (g : Grid) (ps : Products) (row cols : ℕ) (shown : ℕ → Patch) (are : AreRowPatches g ps row cols shown) (tally : Tally) where
-  void_one : (col : ℕ) → col < cols → IsRightVoid profile (shown col) → CountsAlong g ps row col tally → CountsAlong g ps row (col + 1) tally
-  void_one col less right so_far =
-      let here = (shown col).here in
-      let none : (other : Bool) → ◌≡◌ {A = ℕ} (cond (is_some here.z && other) 1 0) 0 = λ other. ap (λ b. cond (b && other) 1 0) right.is_void in
-      let no_data : ◌≡◌ {A = ℕ} (cond (is_some here.z) 1 0) 0 = ap (λ b. cond b 1 0) right.is_void in
-      CountsAlong-more g ps row col here tally tally (ap (λ (p : Patch). p.here) (are.patches_are col less)) so_far
-      (omega (arith, no_data)) (omega (arith, none (int_lt (unwrap_or here.z (pos 0)) here.con))) (omega (arith, none (int_eq here.dir (pos 0))))
-
-  void_some : (from n : ℕ) → from + n ≤ cols → ((col : ℕ) → from ≤ col → col < from + n → IsRightVoid profile (shown col)) →
-      CountsAlong g ps row from tally → CountsAlong g ps row (from + n) tally
-  void_some from zero within right so_far =
-      let here : from + 0 ≡ from = omega arith in
-      subst (λ col. CountsAlong g ps row col tally) (sym here) so_far
-  void_some from (suc n) within right so_far =
-      let before = void_some from n (omega (arith, within)) (λ col past less. right col past (omega (arith, less))) so_far in
-      let next : from + n + 1 ≡ from + suc n = omega arith in
-      subst (λ col. CountsAlong g ps row col tally) next (void_one (from + n) (omega (arith, within)) (right (from + n) (omega arith) (omega arith)) before)
-
   pub counted_voids : (from end : ℕ) → from ≤ end → end ≤ cols → ((col : ℕ) → from ≤ col → col < end → IsRightVoid profile (shown col)) →
       CountsAlong g ps row from tally → CountsAlong g ps row end tally
-  counted_voids from end forward within right so_far =
-      let up_to : from + (end - from) ≡ end = omega arith in
-      subst (λ col. CountsAlong g ps row col tally) up_to
-      (void_some from (end - from) (omega (arith, within)) (λ col past less. right col past (omega (arith, less))) so_far)
+  counted_voids = along_run (λ col. CountsAlong g ps row col tally) (λ col. IsRightVoid profile (shown col)) cols one
+    where
+      one : (col : ℕ) → col < cols → IsRightVoid profile (shown col) → CountsAlong g ps row col tally → CountsAlong g ps row (col + 1) tally
+      one col less right so_far =
+          let here = (shown col).here in
+          CountsAlong-more g ps row col here tally tally (ap (λ (p : Patch). p.here) (are.patches_are col less)) so_far
+          (omega (arith, void_is_no_data here.z right.is_void)) (omega (arith, void_counts here.z (int_lt (unwrap_or here.z (pos 0)) here.con) right.is_void))
+          (omega (arith, void_counts here.z (int_eq here.dir (pos 0)) right.is_void))
 
 -- the counts of all rows are those of the grid
 pub counts_are : (g : Grid) (ps : Products) (e : Extent) (rows n m : ℕ) (tally : Tally) → g.extent ≡ e → n ≡ e.rows → m ≡ e.cols → rows ≡ g.extent.rows →

@@ -1,5 +1,5 @@
 -- What was found, with one cell more or a run of sound cells; and from row to row.
-use Rattle.std.proofs.Common.{◌≡◌, ℕ, zero, suc, ◌+◌, ◌-◌, ◌<◌, ◌≤◌, refl, sym, ◌∙◌, ap, subst, arith}
+use Rattle.std.proofs.Common.{◌≡◌, ℕ, ◌+◌, ◌<◌, ◌≤◌, refl, sym, ◌∙◌, ap, subst, arith}
 use Rattle.drain_basin.specs.Admitted.{IsAdmitted}
 use Rattle.drain_grid.specs.declared.patch.Patch.{Patch}
 use Rattle.drain_grid.specs.declared.rule.Rule.TheVariants.{SharedLabel}
@@ -13,6 +13,8 @@ use Rattle.drain_rules.specs.PatchRows.{AreRowPatches}
 use Rattle.drain_rules.specs.Rows.{place}
 use Rattle.drain_rules.proofs.Faults.{IsLeastFault-cell, labelled-HoldsAt}
 use Rattle.drain_rules.proofs.LabelsBefore.{AreLabelsBefore-more, AreLabelsBefore-row}
+use Rattle.drain_rules.proofs.RowRuns.{along_run}
+use Rattle.drain_rules.proofs.PassedCells.{inside-row}
 use Rattle.drain_faults.specs.declared.fault_tally.FaultTally.{FaultTally}
 use Rattle.drain_faults.specs.CellFaults.{IsNoted}
 use Rattle.drain_faults.specs.Faults.{AreCellsWithout, IsFirstPatch}
@@ -26,7 +28,7 @@ use Rattle.drain_faults.proofs.SoundCells.{IsSound, no_label, of_kept, of_void, 
 
 module _ (profile : Profile) (g : Grid) (ps : Products) (row cols : ℕ) (shown : ℕ → Patch) (are : AreRowPatches g ps row cols shown) where
   pub inside_row : (col : ℕ) → col < cols → IsInside g (place row col)
-  inside_row col less = record { row = are.inside; col = omega (arith, less, are.cols_are) }
+  inside_row col = inside-row g ps row col cols shown are
 
   -- above a row is before its first place
   pub found_begins : (found : FaultTally) → IsFoundAbove profile g ps row found → IsFoundBefore profile g ps row 0 found
@@ -61,23 +63,10 @@ module _ (profile : Profile) (g : Grid) (ps : Products) (row cols : ℕ) (shown 
             (no_label profile found.labels (patch_at g ps (place row col)) at);
       }
 
-  sound_some : (found : FaultTally) (from n : ℕ) → from + n ≤ cols → ((col : ℕ) → from ≤ col → col < from + n → IsSound profile (shown col)) →
-      IsFoundBefore profile g ps row from found → IsFoundBefore profile g ps row (from + n) found
-  sound_some found from zero within sound so_far =
-      let here : from + 0 ≡ from = omega arith in
-      subst (λ col. IsFoundBefore profile g ps row col found) (sym here) so_far
-  sound_some found from (suc n) within sound so_far =
-      let before = sound_some found from n (omega (arith, within)) (λ col past less. sound col past (omega (arith, less))) so_far in
-      let next : from + n + 1 ≡ from + suc n = omega arith in
-      subst (λ col. IsFoundBefore profile g ps row col found) next (sound_one found (from + n) (omega (arith, within)) (sound (from + n) (omega arith) (omega arith)) before)
-
   -- a run of sound cells
   found_sound : (found : FaultTally) (from end : ℕ) → from ≤ end → end ≤ cols → ((col : ℕ) → from ≤ col → col < end → IsSound profile (shown col)) →
       IsFoundBefore profile g ps row from found → IsFoundBefore profile g ps row end found
-  found_sound found from end forward within sound so_far =
-      let up_to : from + (end - from) ≡ end = omega arith in
-      subst (λ col. IsFoundBefore profile g ps row col found) up_to
-      (sound_some found from (end - from) (omega (arith, within)) (λ col past less. sound col past (omega (arith, less))) so_far)
+  found_sound found = along_run (λ col. IsFoundBefore profile g ps row col found) (λ col. IsSound profile (shown col)) cols (sound_one found)
 
   -- the cells that a row clears, and the voids after them
   pub found_passed : (found : FaultTally) (from end last : ℕ) → from ≤ end → end ≤ cols → ((col : ℕ) → from ≤ col → col < end → IsKept profile (shown col)) →

@@ -1,5 +1,5 @@
 -- The faults of each product, with one cell more or a run of sound cells; and from row to row.
-use Rattle.std.proofs.Common.{◌≡◌, ℕ, zero, suc, ◌+◌, ◌-◌, ◌<◌, ◌≤◌, sym, ◌∙◌, subst, arith}
+use Rattle.std.proofs.Common.{◌≡◌, ℕ, ◌+◌, ◌<◌, ◌≤◌, sym, ◌∙◌, subst, arith}
 use Rattle.drain_grid.specs.declared.patch.Patch.{Patch}
 use Rattle.drain_grid.specs.declared.per_product.PerProduct.{PerProduct}
 use Rattle.drain_grid.specs.declared.rule.Rule.TheVariants.{VoidCell, Missing}
@@ -12,6 +12,7 @@ use Rattle.drain_rules.specs.BlankVoids.{IsRightVoid}
 use Rattle.drain_rules.specs.RowOutcomes.{cells_above}
 use Rattle.drain_rules.specs.PatchRows.{AreRowPatches}
 use Rattle.drain_rules.specs.Rows.{place}
+use Rattle.drain_rules.proofs.RowRuns.{along_run}
 use Rattle.drain_faults.specs.declared.product_faults.ProductFaults.{ProductFaults}
 use Rattle.drain_faults.specs.ByProduct.{AreFaultsByProduct, AreFaultsOfProduct, AreProductsNotedAt, MissingHoldsOf, VoidCellHoldsOf}
 use Rattle.drain_faults.specs.FaultWalks.{cells_before}
@@ -50,23 +51,10 @@ module _ (rules : Rules) (g : Grid) (ps : Products) (row cols : ℕ) (shown : �
             ((missing_by_product rules (patch_at g ps cell)).0 (at.holds Missing (omega arith, omega arith)) product) (so_far product).at_data;
       })
 
-  sound_some : (faults : PerProduct ProductFaults) (from n : ℕ) → from + n ≤ cols →
-      ((col : ℕ) → from ≤ col → col < from + n → IsSound (tried rules) (shown col)) → before from faults → before (from + n) faults
-  sound_some faults from zero within sound so_far =
-      let here : from + 0 ≡ from = omega arith in
-      subst (λ col. before col faults) (sym here) so_far
-  sound_some faults from (suc n) within sound so_far =
-      let up_to = sound_some faults from n (omega (arith, within)) (λ col past less. sound col past (omega (arith, less))) so_far in
-      let next : from + n + 1 ≡ from + suc n = omega arith in
-      subst (λ col. before col faults) next (sound_one faults (from + n) (omega (arith, within)) (sound (from + n) (omega arith) (omega arith)) up_to)
-
   -- a run of sound cells
   products_sound : (faults : PerProduct ProductFaults) (from end : ℕ) → from ≤ end → end ≤ cols →
       ((col : ℕ) → from ≤ col → col < end → IsSound (tried rules) (shown col)) → before from faults → before end faults
-  products_sound faults from end forward within sound so_far =
-      let up_to : from + (end - from) ≡ end = omega arith in
-      subst (λ col. before col faults) up_to
-      (sound_some faults from (end - from) (omega (arith, within)) (λ col past less. sound col past (omega (arith, less))) so_far)
+  products_sound faults = along_run (λ col. before col faults) (λ col. IsSound (tried rules) (shown col)) cols (sound_one faults)
 
   -- the cells that a row clears, and the voids after them
   pub products_passed : (faults : PerProduct ProductFaults) (from end last : ℕ) → from ≤ end → end ≤ cols →

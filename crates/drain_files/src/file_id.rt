@@ -1,7 +1,7 @@
 //! Which file is which, by device and inode: paths lead to one file if these are equal, whatever the paths say; and
 //! which output would be written over an input or another output.
 
-ghost use Rattle.std.specs.Prelude.{◌≡◌, ◌↔◌, ◌⊎◌, IfSome, IsNone, IsTrue, ℕ};
+ghost use Rattle.std.specs.Prelude.{◌≡◌, ◌↔◌, IfSome, IsNone, IsTrue, ℕ};
 ghost use Rattle.drain_files.specs.FileIds.{Clashes, IsAmong, IsInput, Meets, MeetsSome};
 
 use std::fs::Metadata;

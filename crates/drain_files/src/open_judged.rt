@@ -3,7 +3,7 @@
 
 use crate::file_paths::{header_path, raster_path};
 use crate::open_files::{InputFile, OpenFault, Opener, list_at, open_tiles};
-use drain_args::requests::CheckArgs;
+use drain_args::requests::ProductArgs;
 use drain_device::{ByteList, read_body};
 use drain_grid::{PerProduct, Product};
 use drain_header::{MAX_HEADER_BYTES, parse_header};
@@ -64,12 +64,12 @@ impl Rasters {
 /// are counted for progress.
 pub fn open_judged<'a>(
     opener: &mut Opener<'_>,
-    args: &CheckArgs<'_>,
+    args: &ProductArgs<'_>,
     rasters: Rasters,
     progress: &'a Progress<'a>,
 ) -> Result<OpenFiles<'a, JudgedProducts<InputFile<'a>>>, OpenFault> {
     let tiles = open_tiles(opener, args.tiles.as_slice())?;
-    let products = open_products(opener, args.products, rasters, progress)?;
+    let products = open_products(opener, args.folder, rasters, progress)?;
     let sinks = list_at(opener, args.sinks)?;
     Ok(OpenFiles {
         tiles,
@@ -81,11 +81,11 @@ pub fn open_judged<'a>(
 /// Opens the files of a window of a mosaic: those of an audit.
 pub fn open_audited<'a>(
     opener: &mut Opener<'_>,
-    args: &CheckArgs<'_>,
+    args: &ProductArgs<'_>,
     progress: &'a Progress<'a>,
 ) -> Result<OpenFiles<'a, AuditProducts<InputFile<'a>>>, OpenFault> {
     let tiles = open_tiles(opener, args.tiles.as_slice())?;
-    let mut products = open_four(opener, args.products, Rasters::OfAudit)?;
+    let mut products = open_four(opener, args.folder, Rasters::OfAudit)?;
     count_con(&mut products.con, progress);
     let sinks = list_at(opener, args.sinks)?;
     Ok(OpenFiles {
@@ -99,10 +99,10 @@ pub fn open_audited<'a>(
 /// place of the other rasters.
 pub fn open_directions<'a>(
     opener: &mut Opener<'_>,
-    args: &CheckArgs<'_>,
+    args: &ProductArgs<'_>,
 ) -> Result<OpenFiles<'a, AuditProducts<InputFile<'a>>>, OpenFault> {
     let tiles = open_tiles(opener, args.tiles.as_slice())?;
-    let dir = open_product(opener, args.products, Product::Dir)?;
+    let dir = open_product(opener, args.folder, Product::Dir)?;
     let con = missing_like(opener.alloc(), &dir)?;
     let acc = missing_like(opener.alloc(), &dir)?;
     let bas = missing_like(opener.alloc(), &dir)?;

@@ -6,7 +6,8 @@ ghost use Rattle.drain_files.specs.FilePaths.{IsPathOf};
 
 use crate::file_id::is_input;
 use crate::file_paths::{header_path, raster_path};
-use crate::open_files::Opener;
+use crate::open_failure::print_open_fault;
+use crate::open_files::{OpenFault, Opener};
 use crate::outputs::target_at;
 use drain_device::{BodyFault, ByteSink, write_nothing};
 use drain_maker::product_files::{Part, SetFile};
@@ -58,9 +59,27 @@ pub fn output_paths<W: ByteSink>(
     }
 }
 
-/// If one of these paths of outputs, such as `the products`, leads to an input, prints the usage error for the first,
-/// and returns the exit status. Where that can't be found out, the file is tested when it is created.
-pub fn print_overwriting(opener: &Opener<'_>, outputs: &str, paths: &[String]) -> Option<u8> {
+/// The inputs that were opened; or it prints why they aren't open, or that one of these paths of outputs, such as `the
+/// products`, leads to an input, which is a usage error, and returns the exit status.
+pub fn inputs_or_print<T: Drop>(
+    opener: &Opener<'_>,
+    opened: Result<T, OpenFault>,
+    outputs: &str,
+    paths: &[String],
+    out: &mut impl ByteSink,
+) -> Result<T, u8> {
+    match opened {
+        Ok(inputs) => match print_overwriting(opener, outputs, paths) {
+            Some(status) => Err(status),
+            None => Ok(inputs),
+        },
+        Err(fault) => Err(print_open_fault(opener.rt(), fault, out)),
+    }
+}
+
+/// If one of these paths of outputs leads to an input, prints the usage error for the first, and returns the exit
+/// status. Where that can't be found out, the file is tested when it is created.
+fn print_overwriting(opener: &Opener<'_>, outputs: &str, paths: &[String]) -> Option<u8> {
     for path in paths {
         if let Ok(target) = target_at(opener.rt(), path.as_str()) {
             if is_input(target, opener.ids()) {

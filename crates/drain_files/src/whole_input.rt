@@ -1,7 +1,7 @@
 //! Reading a whole input, up to a limit, into memory that grows with what comes.
 
 ghost use Rattle.std.specs.Io.KnownBytes.{Consumes, IsAtEnd};
-ghost use Rattle.std.specs.Prelude.{◌≡◌, ◌<◌, ◌≤◌, ◌↔◌, ℕ, IfOk, OnErr, IsErrOf, vec_len};
+ghost use Rattle.std.specs.Prelude.{◌<◌, ◌≤◌, ◌↔◌, ℕ, IfOk, OnErr, IsErrOf, vec_len};
 ghost use Rattle.drain_device.specs.Counts.{Answered};
 ghost use Rattle.drain_device.specs.Patience.{GivesUp, full_patience};
 ghost use Rattle.drain_device.specs.Reads.{ReadsUpTo, TakesAtMost};

@@ -11,10 +11,10 @@ use Rattle.drain_grid.specs.Rasters.{Heights}
 use Rattle.drain_grid.specs.Size.{Extent}
 use Rattle.drain_grid.specs.WholeGrid.{grid_of}
 use Rattle.drain_grid.proofs.Runs.{index_of-below}
+use Rattle.drain_grid.proofs.CellOrder.{earlier_index}
 use Rattle.drain_filled.specs.Compared.{listed_at, AreOneBefore, HasHeight, IsFirstOther}
 use Rattle.drain_filled.specs.Unfilled.{HasCellsOf, HasHeights, IsFirstUnfilled}
 use Rattle.drain_filled.proofs.LeastSurfaces.{data_there, one_least_surface, same_cells_same_surface, turned}
-use Rattle.drain_filled.proofs.Places.{earlier_index}
 
 module _ (h : Heights) (sinks : List SinkLine) (con least : List ℤ) (filled : IsLeastSurface (grid_of h sinks) (listed_at h.extent least)) (g : Grid) (s : Surface)
     (same : HasCellsOf g (grid_of h sinks)) (has : HasHeights g s con) where

@@ -1,28 +1,12 @@
--- Cells and their places in row order; what a comparison place by place says of cells.
-use Rattle.std.proofs.Common.{◌≡◌, ℕ, ◌*◌, ◌+◌, ◌<◌, ◌≤◌, ◌∙◌, inl, inr, ◌⊎◌, ℤ, pos, false, List, IsSome, is_some, slice_index_or, sym, ap, subst, arith}
-use Rattle.std.proofs.Math.Nat.{mul-le-mul_right}
+-- What a comparison place by place says of cells.
+use Rattle.std.proofs.Common.{◌≡◌, ℕ, ◌+◌, ◌<◌, ◌∙◌, inl, inr, ◌⊎◌, ℤ, pos, false, List, IsSome, is_some, slice_index_or, sym, subst, arith}
 use Rattle.std.proofs.lemmas.Bool.{cases_order, false≢true}
 use Rattle.drain_grid.specs.declared.cell.Cell.{Cell}
-use Rattle.drain_grid.specs.Size.{Extent}
-use Rattle.drain_grid.specs.Extent.{IsCellOf, IsEarlier, index_of}
+use Rattle.drain_grid.specs.Extent.{IsCellOf, index_of}
 use Rattle.drain_grid.specs.Rasters.{Heights}
 use Rattle.drain_grid.specs.Whole.{elevation_at}
-use Rattle.drain_surface.proofs.Cells.{same_index}
+use Rattle.drain_grid.proofs.CellOrder.{same_index}
 use Rattle.drain_filled.specs.Compared.{listed_at, AreOneBefore, HasHeight}
-
--- an earlier cell has an earlier place
-pub earlier_index : (e : Extent) (b c : Cell) → IsCellOf e b → IsEarlier b c → index_of e b < index_of e c
-earlier_index e b c inside (inl above) =
-    let col : b.col < e.cols = inside.col in
-    let rows : (b.row + 1) * e.cols ≤ c.row * e.cols = mul-le-mul_right e.cols (one_more above) in
-    omega (arith, rows, col)
-  where
-    one_more : {a k : ℕ} → a < k → a + 1 ≤ k
-    one_more h = omega arith
-earlier_index e b c inside (inr beside) =
-    let row : b.row * e.cols ≡ c.row * e.cols = ap (λ r. r * e.cols) beside.0 in
-    let col : b.col < c.col = beside.1 in
-    omega (arith, row, col)
 
 -- one place more, where the lists have one number or no cell has data
 pub one_more_place : (h : Heights) (con least : List ℤ) (place : ℕ) →

@@ -1,6 +1,6 @@
 -- Two patches that differ only in what no rule looks at: in a direction one may show nothing and the other a void. Each
 -- rule holds of the one exactly where it holds of the other.
-use Rattle.std.proofs.Common.{◌≡◌, inl, inr, ◌⊎◌, ◌∙◌, ℤ, pos, ◌+ℤ◌, ◌-ℤ◌, ◌≤ℤ◌, ◌<ℤ◌, ◌&&◌, List, [], ◌∷◌, map, Option, Some, None, IsNone, IsSome, IsTrue, is_some, unwrap_or, option_map, if◌then◌else◌, refl, sym, ap, subst}
+use Rattle.std.proofs.Common.{◌≡◌, inl, inr, ◌⊎◌, ◌∙◌, ℤ, pos, ◌+ℤ◌, ◌-ℤ◌, ◌≤ℤ◌, ◌<ℤ◌, ◌&&◌, Option, Some, None, IsNone, IsSome, IsTrue, is_some, unwrap_or, option_map, if◌then◌else◌, refl, sym, ap, subst}
 use Rattle.std.specs.Int.{int_max}
 use Rattle.std.proofs.lemmas.Bool.{false≢true}
 use Rattle.drain_grid.specs.declared.direction.Direction.{Direction}
@@ -15,8 +15,10 @@ use Rattle.drain_grid.specs.Values.{Values, NoDataNumbers, value_of}
 use Rattle.drain_grid.specs.Open.{IsGap}
 use Rattle.drain_grid.specs.Patch.{neighbor, height, IsDataNeighbor, IsOpen, IsClosed, IsLower, HasLower}
 use Rattle.drain_grid.specs.Slope.{slope_key, key_to, IsSteepest}
-use Rattle.drain_grid.specs.PatchRules.{BelowGroundHolds, NotLeastHolds, SlopeHolds, OutletCodeHolds, FlatStepHolds, AccumulationHolds, LabelHolds, VoidCellWithoutSpill, MissingWithoutSpill, BadCodeWithoutSpill, OpenRaisedWithoutSpill, inflow, total, check_rules}
+use Rattle.drain_grid.specs.PatchRules.{BelowGroundHolds, NotLeastHolds, SlopeHolds, OutletCodeHolds, FlatStepHolds, AccumulationHolds, LabelHolds, VoidCellWithoutSpill, MissingWithoutSpill, BadCodeWithoutSpill, OpenRaisedWithoutSpill, inflow, check_rules}
 use Rattle.drain_grid.specs.Unranked.{VoidCellWithoutRank, MissingWithoutRank, LevelStepHolds, unranked}
+use Rattle.drain_grid.proofs.OpenAmong.{gap_from_void}
+use Rattle.drain_grid.proofs.WithoutRanks.{total-same}
 
 -- the numbers that rules without ranks look at, at a neighbour too
 pub record AreSame (v w : Values) : Type 0 where
@@ -78,11 +80,7 @@ gap_there a b (inl none) gap = of_none b none.1
   where
     of_none : (b : Option Values) → ShowsNoData b → IsGap (option_map (λ n. n.z) b)
     of_none None h = tt
-    of_none (Some v) h = of_void v.z h
-      where
-        of_void : (z : Option ℤ) → IsNone z → IsGap (Some z)
-        of_void None h = tt
-        of_void (Some z) h = absurd (false≢true (sym h))
+    of_none (Some v) h = gap_from_void v.z h
 gap_there a b (inr h) gap =
     subst (λ o. IsGap (option_map (λ (n : Values). n.z) o)) (sym h.other_is)
     (subst (λ z. IsGap (Some z)) h.same.z
@@ -105,10 +103,6 @@ inflow_same a b d (inr h) =
     ∙ ap (λ n. if is_some h.other.z && names n (opposite d) then h.one.acc else pos 0) h.same.dir
     ∙ ap (λ n. if is_some h.other.z && names h.other.dir (opposite d) then n else pos 0) h.same.acc
     ∙ ap (λ o. inflow o d) (sym h.other_is)
-
-total_same : (f h : Direction → ℤ) → ((d : Direction) → f d ≡ h d) → (ds : List Direction) → total (map f ds) ≡ total (map h ds)
-total_same f h same [] = refl
-total_same f h same (d ∷ ds) = ap (λ x. x +ℤ total (map f ds)) (same d) ∙ ap (λ x. h d +ℤ x) (total_same f h same ds)
 
 -- a data neighbour of the one is one of the other
 beside_there : {p q : Patch} → AreAlike p q → (d : Direction) (v : Values) → IsDataNeighbor p d v →
@@ -245,7 +239,7 @@ module _ (p q : Patch) (nodata : NoDataNumbers) (alike : AreAlike p q) where
   counts : AccumulationHolds p → AccumulationHolds q
   counts h is_data =
       sym alike.here.acc ∙ (h (data_back is_data) ∙
-      ap (λ x. pos 1 +ℤ x) (total_same (λ d. inflow (neighbor p d) d) (λ d. inflow (neighbor q d) d)
+      ap (λ x. pos 1 +ℤ x) (total-same (λ d. inflow (neighbor p d) d) (λ d. inflow (neighbor q d) d)
       (λ d. inflow_same (neighbor p d) (neighbor q d) d (alike.around d)) directions))
 
   -- 14

@@ -5,23 +5,18 @@ use Rattle.drain_grid.specs.declared.cell.Cell.{Cell}
 use Rattle.drain_grid.specs.Size.{Extent}
 use Rattle.drain_grid.specs.Extent.{IsCellOf}
 use Rattle.drain_grid.specs.Grid.{Grid, Products}
-use Rattle.drain_grid.proofs.Decisions.{Decision, alike, both, less_number}
+use Rattle.drain_grid.proofs.PatchDecisions.{is_cell_of}
 use Rattle.drain_frame.specs.Laws.{EveryGridCanBePadded}
-
--- the cell lies in a grid of this size
-abbrev lies_in : (e : Extent) (c : Cell) → Decision (IsCellOf e c)
-lies_in e c =
-    alike (both (less_number c.row e.rows) (less_number c.col e.cols)) (λ h. record { row = h.0; col = h.1 }) (λ h. (h.row, h.col))
 
 -- one number inside a grid of this size, another outside
 abbrev laid : Extent → (Cell → ℤ) → ℤ → Cell → ℤ
-laid e numbers other c = if (lies_in e c).test then numbers c else other
+laid e numbers other c = if (is_cell_of e c).test then numbers c else other
 
-inside_test : (e : Extent) (c : Cell) → IsCellOf e c → (lies_in e c).test ≡ true
-inside_test e c inside = (lies_in e c).complete inside
+inside_test : (e : Extent) (c : Cell) → IsCellOf e c → (is_cell_of e c).test ≡ true
+inside_test e c inside = (is_cell_of e c).complete inside
 
-outside_test : (e : Extent) (c : Cell) → ¬ IsCellOf e c → (lies_in e c).test ≡ false
-outside_test e c outside = false_from_ne_true (lies_in e c).test (λ is. outside ((lies_in e c).sound is))
+outside_test : (e : Extent) (c : Cell) → ¬ IsCellOf e c → (is_cell_of e c).test ≡ false
+outside_test e c outside = false_from_ne_true (is_cell_of e c).test (λ is. outside ((is_cell_of e c).sound is))
 
 laid_inside : (e : Extent) (numbers : Cell → ℤ) (other : ℤ) (c : Cell) → IsCellOf e c → laid e numbers other c ≡ numbers c
 laid_inside e numbers other c inside = ap (λ b. if b then numbers c else other) (inside_test e c inside)
@@ -34,7 +29,7 @@ every_grid_can_be_padded g ps nodata e rows cols =
     let old = g.extent in
     let p : Grid = record {
       extent = e;
-      elevation = λ c. if (lies_in old c).test then g.elevation c else None;
+      elevation = λ c. if (is_cell_of old c).test then g.elevation c else None;
       sink = g.sink;
     } in
     let qs : Products = record {

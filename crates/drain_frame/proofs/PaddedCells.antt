@@ -1,7 +1,6 @@
 -- The cells of a padded grid: which have data, which are open, and what a patch shows of them. Where a step leads
 -- outside the grid, it leads in the padded grid outside too, or to a void.
-use Rattle.std.proofs.Common.{◌≡◌, inl, inr, ◌⊎◌, ◌∙◌, ℤ, pos, Option, Some, None, IsNone, IsSome, option_map, refl, sym, ap, subst, arith}
-use Rattle.std.proofs.lemmas.Bool.{false≢true}
+use Rattle.std.proofs.Common.{◌≡◌, inl, inr, ◌⊎◌, ◌∙◌, pos, Option, Some, None, IsNone, IsSome, option_map, refl, sym, ap, subst, arith}
 use Rattle.drain_grid.specs.declared.cell.Cell.{Cell}
 use Rattle.drain_grid.specs.declared.direction.Direction.{Direction}
 use Rattle.drain_grid.specs.Size.{Extent}
@@ -9,26 +8,18 @@ use Rattle.drain_grid.specs.Extent.{IsCellOf, step}
 use Rattle.drain_grid.specs.Values.{Values}
 use Rattle.drain_grid.specs.Patch.{neighbor}
 use Rattle.drain_grid.specs.Grid.{Grid, Products, IsInside, HasData, IsOpenCell, values_at, patch_at}
-use Rattle.drain_grid.proofs.Decisions.{cases, both, less_number}
+use Rattle.drain_grid.proofs.Decisions.{cases}
 use Rattle.drain_grid.proofs.Neighbors.{step_gives, step_lies}
-use Rattle.drain_grid.proofs.Options.{none_some, same_some}
+use Rattle.drain_grid.proofs.Options.{none_some, same_some, void_data}
 use Rattle.drain_grid.proofs.Patches.{IsOpen-patch_at, cell_shown, neighbor-patch_at}
+use Rattle.drain_grid.proofs.PatchDecisions.{is_cell_of}
 use Rattle.drain_frame.specs.Padding.{IsPadded, AreSameAt}
 use Rattle.drain_frame.specs.Laws.{PaddingKeepsData, PaddingKeepsOpen}
 use Rattle.drain_frame.proofs.AlikePatches.{AreAlike, AreSame, HaveSameRanks, ShowAlike, ShowsNoData, alike_turned, open_there}
 
 -- a cell lies in a grid of this size, or does not
 pub inside_or_not : (e : Extent) (c : Cell) → IsCellOf e c ⊎ ¬ IsCellOf e c
-inside_or_not e c =
-    elim (cases (both (less_number c.row e.rows) (less_number c.col e.cols))) [
-      | inl inside ↦ inl (record { row = inside.0; col = inside.1 })
-      | inr outside ↦ inr (λ inside. outside (inside.row, inside.col))
-    ]
-
--- no void has data
-pub not_both : (z : Option ℤ) → IsNone z → IsSome z → ⊥
-not_both None void is_data = false≢true is_data
-not_both (Some z) void is_data = false≢true (sym void)
+inside_or_not e c = cases (is_cell_of e c)
 
 module _ (g p : Grid) (padded : IsPadded g p) where
   -- the grid's cells are cells of the padded one
@@ -50,7 +41,7 @@ module _ (g p : Grid) (padded : IsPadded g p) where
   data_back c here =
       elim (inside_or_not g.extent c) [
         | inl inside ↦ record { inside = inside; is_data = subst IsSome (padded.elevations c inside) here.is_data }
-        | inr beyond ↦ absurd (not_both (p.elevation c) (padded.voids c here.inside beyond) here.is_data)
+        | inr beyond ↦ absurd (void_data (p.elevation c) (padded.voids c here.inside beyond) here.is_data)
       ]
 
   -- a step that leads to one cell of the grid in both

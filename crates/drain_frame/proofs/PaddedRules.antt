@@ -11,10 +11,11 @@ use Rattle.drain_grid.specs.Grid.{Grid, Products, IsInside, patch_at, values_at}
 use Rattle.drain_grid.specs.PatchRules.{check_rules}
 use Rattle.drain_grid.specs.Unranked.{unranked}
 use Rattle.drain_grid.specs.GridRules.{HoldsAt, SharedLabelHolds}
+use Rattle.drain_grid.proofs.Options.{void_data}
 use Rattle.drain_frame.specs.Padding.{ArePadded, ArePaddedRanks}
 use Rattle.drain_frame.specs.Laws.{AreKept}
 use Rattle.drain_frame.proofs.AlikePatches.{alike_turned, ranks_turned, unranked_there, check_there}
-use Rattle.drain_frame.proofs.PaddedCells.{not_both, data_there, data_back, patches_alike, same_ranks}
+use Rattle.drain_frame.proofs.PaddedCells.{data_there, data_back, patches_alike, same_ranks}
 
 module _ (g p : Grid) (ps qs : Products) (nodata : NoDataNumbers) (padded : ArePadded g p ps qs nodata) where
   -- 15: data cells, codes and labels are the same
@@ -56,7 +57,7 @@ module _ (g p : Grid) (ps qs : Products) (nodata : NoDataNumbers) (padded : AreP
 
     -- what is required of a data cell is required of no void
     no_data : IsSome (p.elevation c) → ⊥
-    no_data is_data = not_both (p.elevation c) void is_data
+    no_data is_data = void_data (p.elevation c) void is_data
 
     pub rules_beyond : (r : Rule) → HoldsAt (unranked nodata) p qs c r
     rules_beyond VoidCell =

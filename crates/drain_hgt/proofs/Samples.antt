@@ -1,11 +1,10 @@
 -- Pairs of bytes read one by one are the samples of all of them.
-use Rattle.std.proofs.Common.{◌≡◌, ◌≢◌, ℕ, suc, ◌+◌, ◌-◌, ◌*◌, ◌<◌, ℤ, List, [], ◌∷◌, length, drop, w16, w64, take, set, get_or, get_or-set_other, get_or-set_same, below_more, ◌++◌, Bool, false, not, cond, arith, refl, sym, ap, ◌∙◌}
+use Rattle.std.proofs.Common.{◌≡◌, ◌≢◌, ℕ, suc, ◌+◌, ◌-◌, ◌*◌, ◌<◌, ℤ, List, [], ◌∷◌, length, drop, w16, w64, take, set, get_or, get_or-set_other, get_or-set_same, below_more, arith, refl, sym, ap, ◌∙◌}
 use Rattle.std.specs.Int.{cast_signed}
 use Rattle.std.specs.Prelude.{slice_index}
 use Rattle.std.proofs.lemmas.Int.{ints, to_z-of_z}
 use Rattle.std.proofs.lemmas.List.{take_rest}
 use Rattle.std.proofs.lemmas.Bool.Decides.{nat_tests}
-use Rattle.std.proofs.lemmas.Grind.{common_steps}
 use Rattle.byteorder.specs.Endian.{twos_complement, big_number, IsReadBy}
 use mir.Val.{to_z, of_z}
 use Rattle.drain_grid.specs.Tile.{IsSample}
@@ -17,18 +16,6 @@ sample ys = cast_signed w16 (big_number 2 ys)
 
 sample_is : (n : ℕ) → n < 65536 → cast_signed w16 n ≡ twos_complement 2 n
 sample_is n small = grind (arith, ints, nat_tests)
-
--- what was written over all of a list is there
-pub written_over : (new old : List ℤ) (n : ℕ) → length new ≡ length old → n ≡ length old → take n (new ++ drop (length new) old) ≡ new
-written_over new old n same whole = grind (arith, common_steps)
-
--- the same where a vector lent its numbers
-pub lent_back : {old held new : List ℤ} {n : ℕ} → held ≡ old → length held ≡ n → length new ≡ length held → take n (new ++ drop (length new) old) ≡ new
-lent_back {old = old} {held = held} {new = new} {n = n} same full long = let e : length held ≡ length old = ap length same in written_over new old n (long ∙ e) (sym full ∙ e)
-
--- a vector that grew has the required length
-pub grown : {long expected : ℕ} (was : ℕ) {ok failed : Bool} → long ≡ cond ok expected was → ok ≡ not failed → failed ≡ false → long ≡ expected
-grown {expected = expected} was is unless well = is ∙ ap (λ b. cond b expected was) (unless ∙ ap not well)
 
 pub all_samples : (bytes : List ℕ) (samples : List ℤ) → length bytes ≡ 2 * length samples → ((i : ℕ) → slice_index bytes i < 256) → IsReadBy sample 2 bytes samples → samples_of bytes ≡ samples
 all_samples [] [] long small read = refl

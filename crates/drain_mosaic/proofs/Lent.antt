@@ -10,10 +10,10 @@ use Rattle.drain_device.specs.declared.row_source.Progress.{Progress}
 use Rattle.drain_device.specs.declared.row_source.Progress.TheVariants.{Going, Done, Stopped}
 use Rattle.drain_grid.specs.declared.tile.TheConstants.{VOID}
 use Rattle.drain_grid.specs.Tile.{IsSample}
+use Rattle.drain_grid.proofs.LentVectors.{lent_back}
 use Rattle.drain_hgt.specs.declared.input.TileInput.{TileInput}
 use Rattle.drain_mosaic.proofs.MosaicSteps.{have-so}
-use Rattle.drain_mosaic.proofs.Rows.{written_over}
-use Rattle.drain_mosaic.specs.PlacedRows.{HaveRead, IsRowLaid, streams_of}
+use Rattle.drain_mosaic.specs.PlacedRows.{ArePlacedWithin, HaveRead, IsPlacedWithin, IsRowLaid, streams_of}
 use Rattle.drain_mosaic.specs.Streams.{Stream}
 use Rattle.drain_mosaic.specs.declared.placed_rows.PlacedRows.{PlacedRows}
 
@@ -31,8 +31,7 @@ pub lent : {X : Type 0} {old held cur : List X} {n : ℕ} → held ≡ old → l
 lent same full long = record { same = same; full = full; long = long }
 
 pub is_back : {X : Type 0} {old held cur : List X} {n : ℕ} → IsLent old held cur n → back old cur n ≡ cur
-is_back {old = old} {held = held} {cur = cur} {n = n} l =
-    let e : length held ≡ length old = ap length l.same in written_over cur old n (l.long ∙ e) (sym l.full ∙ e)
+is_back l = lent_back l.same l.full l.long
 
 pub as_long : {X : Type 0} {old held cur : List X} {n : ℕ} → IsLent old held cur n → length (back old cur n) ≡ length old
 as_long l = ap length (is_back l) ∙ l.long ∙ ap length l.same
@@ -44,6 +43,13 @@ all_lent {old = old} {held = held} P same h = All-same P held old same h
 -- and what is true of those that came back is true of the vector's
 pub all_back : {X : Type 0} {old held cur : List X} {n : ℕ} (P : X → Type 0) → IsLent old held cur n → All P cur → All P (back old cur n)
 all_back {old = old} {cur = cur} {n = n} P l h = All-same P (back old cur n) cur (is_back l) h
+
+-- so tiles that stay within rows as wide as these do
+pub within_back : {old held cur : List PlacedRows} {n : ℕ} (side rows cols wide : ℕ) → IsLent old held cur n → wide ≡ cols → All (IsPlacedWithin side rows cols) old →
+    (ArePlacedWithin side rows wide held → ArePlacedWithin side rows wide cur) → All (IsPlacedWithin side rows cols) (back old cur n)
+within_back {held = held} {cur = cur} side rows cols wide l same within stay =
+    let P = IsPlacedWithin side rows cols in
+    all_back P l (subst (λ m. ArePlacedWithin side rows m cur) same (stay (subst (λ m. ArePlacedWithin side rows m held) (sym same) (all_lent P l.same within))))
 
 -- the same calls, for the vector's tiles
 have-back : {R : Type 0} {bl : R → Option (List ℕ)} {ct : R → FaultCounts} {old held cur : List PlacedRows} {n : ℕ} {from now : List (TileInput R)} {F G : Type 0} → IsLent old held cur n → (F → G) → (G → F) →

@@ -3,13 +3,13 @@ use Rattle.std.proofs.Common.{◌≡◌, ℕ, ◌+◌, ◌-◌, ◌*◌, ◌<◌
 use Rattle.std.specs.Prelude.{slice_index_or}
 use Rattle.std.proofs.lemmas.Bool.{cases_lt, false≢true}
 use Rattle.std.proofs.lemmas.Bool.Decides.{Decides-int_eq}
-use Rattle.std.proofs.lemmas.Grind.{common_steps}
 use Rattle.std.proofs.lemmas.List.{get_or_append_left, get_or-append-add, get_or-take, length-append, length-take-le, length-drop}
 use Rattle.std.proofs.Math.Nat.{mul-le-mul_right}
 use Rattle.drain_grid.specs.declared.tile.TheConstants.{VOID}
 use Rattle.drain_grid.specs.Rasters.{Heights}
 use Rattle.drain_grid.specs.Tile.{height_from}
 use Rattle.drain_grid.specs.Whole.{elevation_at}
+use Rattle.drain_grid.proofs.LentVectors.{written_over}
 use Rattle.drain_mosaic.specs.Tiling.{Tiling, extent_of}
 use Rattle.drain_mosaic.specs.Mosaic.{Tile, HasTwoValues, TilesAgree, IsElevation, IsFirstSeam}
 use Rattle.drain_mosaic.specs.Joined.{first_value}
@@ -45,10 +45,6 @@ spliced_inside a k ys xs j d within below =
 
 pub length_cut : (xs : List ℤ) (a e : ℕ) → e ≤ length xs → length (take (e - a) (drop a xs)) ≡ e - a
 length_cut xs a e within = let rest = length-drop a xs in length-take-le (e - a) (drop a xs) (omega arith)
-
--- what was written over all of a list is there
-pub written_over : {X : Type 0} (new old : List X) (n : ℕ) → length new ≡ length old → n ≡ length old → take n (new ++ drop (length new) old) ≡ new
-written_over new old n same whole = grind (arith, common_steps)
 
 -- where P holds at none of the first places, nor at the next
 pub none_so_far : (P : ℕ → Type 0) (n : ℕ) → ((k : ℕ) → k < n → ¬ P k) → ¬ P n → (k : ℕ) → k < n + 1 → ¬ P k

@@ -1,5 +1,5 @@
 -- Bytes that are kept of a row hold the numbers of its pixels: place by place.
-use Rattle.std.proofs.Common.{◌≡◌, ◌≢◌, refl, ℕ, ◌*◌, ◌/◌, ◌<◌, ℤ, pos, Bool, true, false, List, [], length, take, drop, arith, sym, ap, ◌∙◌}
+use Rattle.std.proofs.Common.{◌≡◌, ◌≢◌, refl, ℕ, ◌*◌, ◌/◌, ℤ, pos, true, false, List, [], length, take, drop, arith, sym, ap, ◌∙◌}
 use Rattle.std.proofs.lemmas.List.{ext_get_or}
 use Rattle.std.proofs.Math.Nat.{mul_comm}
 use Rattle.drain_header.specs.declared.header.ByteOrdering.TheVariants.{Least}

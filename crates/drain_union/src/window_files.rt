@@ -10,7 +10,7 @@ use drain_files::file_id::FileId;
 use drain_files::open_failure::print_open_fault;
 use drain_files::open_files::Opener;
 use drain_files::open_judged::{OpenFiles, open_audited};
-use drain_files::output_paths::print_overwriting;
+use drain_files::output_paths::inputs_or_print;
 use drain_files::outputs::{Failure, Outputs};
 use drain_print::print::print_failure;
 use drain_print::status::Status;
@@ -54,18 +54,12 @@ fn judged_files<'a>(
     progress: &'a Progress<'a>,
     out: &mut impl ByteSink,
 ) -> Result<WindowReport, u8> {
-    let files = match open_audited(opener, &args.inputs, progress) {
-        Ok(files) => files,
-        Err(fault) => return Err(print_open_fault(opener.rt(), fault, out)),
-    };
-    if let Some(status) = print_overwriting(opener, "the report", report) {
-        return Err(status);
-    }
+    let opened = open_audited(opener, &args.inputs, progress);
     let OpenFiles {
         mut tiles,
         mut products,
         sinks,
-    } = files;
+    } = inputs_or_print(opener, opened, "the report", report, out)?;
     judge_or_print(
         opener.alloc(),
         args.inputs.side,

@@ -19,6 +19,7 @@ use Rattle.drain_rules.specs.PatchRows.{AreRowPatches}
 use Rattle.drain_rules.specs.Rows.{place}
 use Rattle.drain_rules.specs.Verdicts.{has_outlet_code}
 use Rattle.drain_rules.proofs.Faults.{IsLeastFault-patch}
+use Rattle.drain_rules.proofs.PassedCells.{inside-row}
 use Rattle.drain_windows.specs.declared.outlet.Outlet.{Outlet}
 use Rattle.drain_window_walk.specs.Areas.{CountsAmong, IsOutletAt, cell_from}
 use Rattle.drain_window_walk.specs.JudgedRows.{AddsBetween, HoldBetween, IsFaultBetween, IsOutletBetween, Lists, cells_between}
@@ -134,9 +135,6 @@ listed-more g ps origin row left col here first old new past inside is so_far li
           (lists x).1 (inl ((so_far x).1 (inr (record { col = between.col; from = between.from; to = earlier; outlet = between.outlet }))))
       | inr behind ↦ at_last between.col (omega (arith, behind, between.to)) between.outlet
     ]
-
-pub inside-row : (g : Grid) (ps : Products) (row col cols : ℕ) (shown : ℕ → Patch) → AreRowPatches g ps row cols shown → col < cols → IsInside g (place row col)
-inside-row g ps row col cols shown are less = record { row = are.inside; col = omega (arith, less, are.cols_are) }
 
 -- what the patch that is shown says of the rules, the cell says
 fault-here : (profile : Profile) (g : Grid) (ps : Products) (row col : ℕ) (p : Patch) (o : Option Rule) → p ≡ patch_at g ps (place row col) →

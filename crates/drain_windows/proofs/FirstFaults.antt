@@ -8,22 +8,17 @@ use Rattle.drain_grid.specs.Extent.{IsEarlier}
 use Rattle.drain_grid.specs.Rule.{IsPatchRule, rule_number}
 use Rattle.drain_grid.specs.Unranked.{unranked}
 use Rattle.drain_grid.specs.GridRules.{HoldsAt, IsEarlierPair}
+use Rattle.drain_grid.proofs.CellOrder.{cases_earlier, earlier_trans}
 use Rattle.drain_windows.specs.declared.place.Place.{Place}
 use Rattle.drain_windows.specs.Windows.{Window, in_union, IsJudgedIn, RulesHoldInside, IsNotBefore}
 use Rattle.drain_windows.specs.Laws.{LeastFaultIsFirst}
 use Rattle.drain_windows.proofs.WindowPatches.{there, patch_of_window}
-use Rattle.drain_windows.proofs.Unions.{by_patch, in_order}
+use Rattle.drain_windows.proofs.Unions.{by_patch}
 
 -- an earlier cell of a window is an earlier one of the union
 moved : (p : Place) (a b : Cell) → IsEarlier a b → IsEarlier (in_union p a) (in_union p b)
 moved p a b (inl above) = inl (omega arith)
 moved p a b (inr beside) = inr (ap (λ n. p.top + n) beside.0, omega (arith, beside.1))
-
-earlier_trans : (a b c : Cell) → IsEarlier a b → IsEarlier b c → IsEarlier a c
-earlier_trans a b c (inl x) (inl y) = inl (omega arith)
-earlier_trans a b c (inl x) (inr y) = inl (omega (arith, y.0))
-earlier_trans a b c (inr x) (inl y) = inl (omega (arith, x.0))
-earlier_trans a b c (inr x) (inr y) = inr (x.0 ∙ y.0, omega (arith, x.1, y.1))
 
 -- what stands before a pair that stands before a third, or at its place, stands before the third
 pub pair_trans : (a b c : Cell) (p q r : Rule) → IsEarlierPair a p b q ⊎ ((a ≡ b) × (rule_number p ≡ rule_number q)) → IsEarlierPair b q c r → IsEarlierPair a p c r
@@ -37,7 +32,7 @@ pair_trans a b c p q r (inr x) (inr y) = inr (x.0 ∙ y.0, omega (arith, x.1, y.
 -- of two pairs the first stands before the second, or the second before or at the first
 pair_order : (a b : Cell) (p q : Rule) → IsEarlierPair a p b q ⊎ (IsEarlierPair b q a p ⊎ ((b ≡ a) × (rule_number q ≡ rule_number p)))
 pair_order a b p q =
-    elim (in_order a b) [
+    elim (cases_earlier a b) [
       | inl same ↦
           elim (cases_order (rule_number p) (rule_number q)) [
             | inl one ↦ inr (inr (sym same, sym one))

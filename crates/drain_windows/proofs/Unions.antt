@@ -1,7 +1,6 @@
 -- A union is correct where its windows are, and windows that agree make one union.
 use Rattle.std.proofs.Common.{◌≡◌, ◌⊎◌, inl, inr, false, pos, List, None, IsSome, refl, sym, ap, subst, ◌∙◌, arith}
 use Rattle.std.specs.List.{Contains}
-use Rattle.std.proofs.lemmas.Bool.{cases_order}
 use Rattle.drain_grid.specs.declared.cell.Cell.{Cell}
 use Rattle.drain_grid.specs.declared.patch.Patch.{Patch}
 use Rattle.drain_grid.specs.declared.rule.Rule.{Rule}
@@ -14,9 +13,10 @@ use Rattle.drain_grid.specs.PatchRules.{Profile}
 use Rattle.drain_grid.specs.Unranked.{unranked}
 use Rattle.drain_grid.specs.Grid.{Grid, Products, IsInside, HasData, values_at, patch_at}
 use Rattle.drain_grid.specs.GridRules.{HoldsAt, RulesHold, SharedLabelHolds}
-use Rattle.drain_grid.proofs.Neighbors.{same_place}
-use Rattle.drain_grid.proofs.Decisions.{Decision, cases, both, alike, less_number}
+use Rattle.drain_grid.proofs.Decisions.{cases}
 use Rattle.drain_grid.proofs.Exactly.{correct_by_rules_alone}
+use Rattle.drain_grid.proofs.PatchDecisions.{is_cell_of}
+use Rattle.drain_grid.proofs.CellOrder.{cases_earlier}
 use Rattle.drain_windows.specs.Windows.{Window, in_union, IsWindowOf, IsJudgedIn, JudgeAll, RulesHoldInside, IsJudgedOutlet, NoLabelIsShared, AreLaidIn, OverlapsAgree, AreWindowsOf}
 use Rattle.drain_windows.specs.Laws.{CorrectByWindows, WindowsMakeUnion, WindowRejects}
 use Rattle.drain_windows.proofs.WindowPatches.{there, patch_of_window}
@@ -29,20 +29,6 @@ by_patch profile g h ps qs a b r own same holds = subst (λ (p : Patch). profile
 
 in_grid : (w : Window) → w.grid.extent ≡ w.place.extent → (c : Cell) → IsCellOf w.place.extent c → IsInside w.grid c
 in_grid w same c inside = subst (λ (e : Extent). IsCellOf e c) (sym same) inside
-
--- two cells that differ are in order
-pub in_order : (a b : Cell) → (a ≡ b) ⊎ (IsEarlier a b ⊎ IsEarlier b a)
-in_order a b =
-    elim (cases_order a.row b.row) [
-      | inl same_row ↦
-          elim (cases_order a.col b.col) [
-            | inl same_col ↦ inl (same_place a b same_row same_col)
-            | inr (inl east) ↦ inr (inl (inr (same_row, east)))
-            | inr (inr west) ↦ inr (inr (inr (sym same_row, west)))
-          ]
-      | inr (inl south) ↦ inr (inl (inl south))
-      | inr (inr north) ↦ inr (inr (inl north))
-    ]
 
 -- what holds in the union holds in a window
 pub rules_back : (u : Grid) (ps : Products) (nodata : NoDataNumbers) (w : Window) → IsWindowOf u ps w → RulesHold (unranked nodata) IsAnyRule u ps →
@@ -120,7 +106,7 @@ module _ (u : Grid) (ps : Products) (nodata : NoDataNumbers) (windows : List Win
       let first = outlet_there v at_v a out_a in
       let second = outlet_there w at_w b out_b in
       let same : ps.bas (in_union v.place a) ≡ ps.bas (in_union w.place b) = sym first.2 ∙ labels ∙ second.2 in
-      elim (in_order (in_union v.place a) (in_union w.place b)) [
+      elim (cases_earlier (in_union v.place a) (in_union w.place b)) [
         | inl is ↦ is
         | inr (inl before) ↦
             absurd (rules (in_union w.place b) SharedLabel second.0.inside (omega arith, omega arith) second.0 second.1 (in_union v.place a) first.0 before first.1 same)
@@ -135,11 +121,6 @@ correct_by_windows u ps nodata windows are judge =
       (λ h. alone.1 (rules_there u ps nodata windows are judge h.0 h.1)),
     )
 
--- whether a cell lies in a grid of this size
-abbrev is_cell : (e : Extent) (c : Cell) → Decision (IsCellOf e c)
-is_cell e c = alike (both (less_number c.row e.rows) (less_number c.col e.cols))
-    (λ h. record { row = h.0; col = h.1 }) (λ h. (h.row, h.col))
-
 -- what stands outside of all windows, where nothing looks
 abbrev nothing : Values
 nothing = record { z = None; sink = false; con = pos 0; dir = pos 0; acc = pos 0; bas = pos 0; spl = pos 0; rnk = pos 0 }
@@ -150,7 +131,7 @@ module _ (e : Extent) (windows : List Window) (laid : AreLaidIn e windows) (judg
   picked c (inr outside) = nothing
 
   abbrev seen : Cell → Values
-  seen c = picked c (cases (is_cell e c))
+  seen c = picked c (cases (is_cell_of e c))
 
   abbrev made : Grid
   made = record { extent = e; elevation = λ c. (seen c).z; sink = λ c. (seen c).sink }
@@ -179,7 +160,7 @@ module _ (e : Extent) (windows : List Window) (laid : AreLaidIn e windows) (judg
   are_windows w at_w = record {
     placed = (laid w at_w).0;
     extent = (laid w at_w).1;
-    values = λ x inside. picked_same w at_w x inside (cases (is_cell e (in_union w.place x)));
+    values = λ x inside. picked_same w at_w x inside (cases (is_cell_of e (in_union w.place x)));
   }
 
 pub windows_make_union : WindowsMakeUnion

@@ -6,7 +6,7 @@ ghost use Rattle.drain_derive.specs.declared.derived_files.TheConstants.{DERIVED
 
 use crate::runs::derive_set::derive_set;
 use crate::runs::write_set::write_derived_and_place;
-use drain_args::requests::{CheckArgs, DeriveArgs};
+use drain_args::requests::{DeriveArgs, ProductArgs};
 use drain_derive::Derived;
 use drain_derive::derived_files::DERIVED_FILES;
 use drain_device::ByteSink;
@@ -14,7 +14,7 @@ use drain_files::file_id::FileId;
 use drain_files::open_failure::print_open_fault;
 use drain_files::open_files::Opener;
 use drain_files::open_judged::{OpenFiles, open_directions};
-use drain_files::output_paths::{output_paths, print_overwriting};
+use drain_files::output_paths::{inputs_or_print, output_paths};
 use drain_files::outputs::{Failure, Outputs};
 use drain_mosaic::Layout;
 
@@ -40,24 +40,18 @@ pub fn derive_files(rt: &HostRuntime, args: &DeriveArgs<'_>, out: &mut impl Byte
 /// the exit status. Files at the paths of outputs that are inputs are a usage error.
 fn derived_of_files(
     opener: &mut Opener<'_>,
-    args: &CheckArgs<'_>,
+    args: &ProductArgs<'_>,
     outputs: &[String],
     out: &mut impl ByteSink,
 ) -> Result<(Layout, Derived), u8>
     ensures written { IfOk result (λ set. CanBeDerived set.0 set.1) }
 {
-    let files = match open_directions(opener, args) {
-        Ok(files) => files,
-        Err(fault) => return Err(print_open_fault(opener.rt(), fault, out)),
-    };
-    if let Some(status) = print_overwriting(opener, "the products", outputs) {
-        return Err(status);
-    }
+    let opened = open_directions(opener, args);
     let OpenFiles {
         mut tiles,
         mut products,
         sinks,
-    } = files;
+    } = inputs_or_print(opener, opened, "the products", outputs, out)?;
     derive_set(
         opener.alloc(),
         args.side,

@@ -46,7 +46,7 @@ fn rasters_of(rt: &HostRuntime, args: &ExplainArgs<'_>) -> Result<Rasters, OpenF
     if let Some(given) = args.only {
         return Ok(Rasters::Alone(given));
     }
-    let folder = args.inputs.products;
+    let folder = args.inputs.folder;
     let header = header_path(rt.alloc(), folder, Product::Rnk)?;
     if look(rt, header.as_str())?.is_some() {
         return Ok(Rasters::OfCheck);
@@ -105,7 +105,7 @@ fn refused_map(
     inputs: &[FileId],
     out: &mut impl ByteSink,
 ) -> Option<u8> {
-    match map_clash(rt, args.inputs.products, args.map?, inputs) {
+    match map_clash(rt, args.inputs.folder, args.map?, inputs) {
         Ok(None) => None,
         Ok(Some((path, clash))) => {
             print_clash(rt, path.as_str(), clash);

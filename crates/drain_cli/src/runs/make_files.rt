@@ -7,14 +7,15 @@ ghost use Rattle.drain_mosaic.specs.Tiling.{extent_of};
 
 use crate::runs::make_set::make_set_followed;
 use crate::runs::write_set::write_and_place;
-use drain_args::requests::MakeArgs;
+use drain_args::requests::ProductArgs;
 use drain_device::ByteSink;
 use drain_files::file_id::FileId;
 use drain_files::open_failure::print_open_fault;
-use drain_files::open_files::{Opener, create_files, list_at, open_tiles};
-use drain_files::output_paths::{output_paths, print_overwriting};
+use drain_files::open_files::{InputFile, OpenFault, Opener, create_files, list_at, open_tiles};
+use drain_files::output_paths::{inputs_or_print, output_paths};
 use drain_files::outputs::{Failure, Outputs};
 use drain_grid::ProductSet;
+use drain_hgt::TileInput;
 use drain_maker::product_files::SET_FILES;
 use drain_mosaic::Layout;
 use drain_progress::progress::{MakeProgress, Progress};
@@ -24,9 +25,9 @@ use drain_progress::rows::count_tiles;
 /// nothing is left to refuse.
 // Not inlined, so that the buffer in which a raster is written lies on no other command's stack.
 #[inline(never)]
-pub fn make_from_files(rt: &HostRuntime, args: &MakeArgs<'_>, out: &mut impl ByteSink) -> u8 {
+pub fn make_from_files(rt: &HostRuntime, args: &ProductArgs<'_>, out: &mut impl ByteSink) -> u8 {
     let progress = Progress::new(rt, args.progress);
-    let paths = match output_paths(rt.alloc(), args.out, &SET_FILES, out) {
+    let paths = match output_paths(rt.alloc(), args.folder, &SET_FILES, out) {
         Ok(paths) => paths,
         Err(status) => return status,
     };
@@ -50,25 +51,15 @@ pub fn make_from_files(rt: &HostRuntime, args: &MakeArgs<'_>, out: &mut impl Byt
 fn made_of_files<'a>(
     opener: &mut Opener<'_>,
     progress: &'a Progress<'a>,
-    args: &MakeArgs<'_>,
+    args: &ProductArgs<'_>,
     outputs: &[String],
     out: &mut impl ByteSink,
 ) -> Result<(Layout, ProductSet), u8>
     ensures same_shape { IfOk result (λ set. set.1.con.extent ≡ extent_of set.0) }
     ensures written { IfOk result (λ set. CanBeWritten set.0 set.1) }
 {
-    let mut tiles = match open_tiles(opener, args.tiles.as_slice()) {
-        Ok(tiles) => tiles,
-        Err(fault) => return Err(print_open_fault(opener.rt(), fault, out)),
-    };
-    count_tiles(tiles.as_mut_slice(), args.side, progress);
-    let sinks = match list_at(opener, args.sinks) {
-        Ok(sinks) => sinks,
-        Err(fault) => return Err(print_open_fault(opener.rt(), fault, out)),
-    };
-    if let Some(status) = print_overwriting(opener, "the products", outputs) {
-        return Err(status);
-    }
+    let opened = open_inputs(opener, progress, args);
+    let (mut tiles, sinks) = inputs_or_print(opener, opened, "the products", outputs, out)?;
     make_set_followed(
         opener.alloc(),
         args.side,
@@ -77,6 +68,18 @@ fn made_of_files<'a>(
         &mut MakeProgress(progress),
         out,
     )
+}
+
+/// Opens the tiles, whose rows are counted, and reads the list of sinks. The first fault ends it.
+fn open_inputs<'a>(
+    opener: &mut Opener<'_>,
+    progress: &'a Progress<'a>,
+    args: &ProductArgs<'_>,
+) -> Result<(Vec<TileInput<InputFile<'a>>>, Vec<u8>), OpenFault> {
+    let mut tiles = open_tiles(opener, args.tiles.as_slice())?;
+    count_tiles(tiles.as_mut_slice(), args.side, progress);
+    let sinks = list_at(opener, args.sinks)?;
+    Ok((tiles, sinks))
 }
 
 /// Creates the files of the products at these paths and writes them, and returns the exit status.

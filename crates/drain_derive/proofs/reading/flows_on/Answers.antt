@@ -18,6 +18,11 @@ answer_on-requires-clause-unnoted g c = λ rules grid ps. (
   record { rows_are = c.new-2.ensures.rows; right = c.new-2.ensures.finding rules grid ps },
 )
 
+pub returns-in_err-answer_on-clause-err : goal.returns-in_err-answer_on-clause-err
+returns-in_err-answer_on-clause-err g c =
+    let told = err_from_is_err_and c.from_residual.result c.from_residual.ensures.1 in
+    rw (told.1, told.2) c.in_err-answer_on.ensures.answer
+
 pub returns-in_err-answer_on-clause-uses : goal.returns-in_err-answer_on-clause-uses
 returns-in_err-answer_on-clause-uses g c =
     let told = err_from_is_err_and c.from_residual.result c.from_residual.ensures.1 in

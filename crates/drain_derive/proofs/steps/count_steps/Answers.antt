@@ -3,11 +3,11 @@ use Rattle.std.proofs.lemmas.Bool.{cases_order}
 use Rattle.std.proofs.lemmas.List.{length-map}
 use Rattle.drain_grid.specs.Extent.{index_of}
 use Rattle.drain_grid.proofs.Runs.{index_of-below}
+use Rattle.drain_grid.proofs.CellOrder.{in_grid}
+use Rattle.drain_grid.proofs.LentVectors.{lent_back}
 use Rattle.drain_paths.specs.declared.flow.Flow.TheVariants.{Void}
 use Rattle.drain_paths.specs.declared.steps.TheConstants.{UNKNOWN}
-use Rattle.drain_paths.proofs.Cells.{in_grid}
 use Rattle.drain_counts.specs.CellNumbers.{cell_number}
-use Rattle.drain_counts.proofs.CellPlaces.{lent_back}
 use Rattle.drain_counts.proofs.FlowCells.{flow_of_data}
 use Rattle.drain_paths.specs.Steps.{IsRightStep}
 use Rattle.drain_counts.proofs.NumbersSoFar.{first_endless}

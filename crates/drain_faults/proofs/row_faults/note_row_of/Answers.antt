@@ -1,9 +1,10 @@
-use Rattle.std.proofs.Common.{◌∙◌, ap, arith, inr, subst}
+use Rattle.std.proofs.Common.{◌∙◌, ap, arith, inr, subst, ◌+◌}
 use Rattle.drain_grid.specs.declared.patch.Patch.{Patch}
 use Rattle.drain_kernel.specs.Rules.{tried}
 use Rattle.drain_rules.specs.Rows.{CountsAlong, place}
-use Rattle.drain_rules.proofs.KeptCells.{bounds-kept, counted-kept, raised_between-fits}
+use Rattle.drain_rules.proofs.KeptCells.{bounds-kept, counted-kept}
 use Rattle.drain_rules.proofs.RowLemmas.{CountsAlong-more}
+use Rattle.drain_rules.proofs.CountBounds.{bounds-next, raised-fit}
 use Rattle.drain_faults.proofs.CountSteps.{counted_none, counted_voids, none_at_most}
 use Rattle.drain_faults.proofs.FaultSteps.{found_begins, found_ends, found_new, found_noted, found_passed}
 use Rattle.drain_faults.proofs.MapSteps.{drawn_still, map_begins, map_ends, map_noted, map_passed}
@@ -74,11 +75,8 @@ loop-col-preserved-then-col-cols g c =
           (counted-kept (tried c.args.rules.now) grid ps c.args.row (g.R.PatchRow.len c.args.patches.now) (g.R.PatchRow.shown c.args.patches.now) c.loop-col.col c.kept_from-kept.result c.loop-col.tally c.add_kept.new.self are
           kept.forward kept.within (c.loop-col.invariant.counted grid ps are) kept.kept kept.raised run.data_cells run.raised run.outlets))
           add.data_cells add.raised add.outlets;
-      bounds = record {
-        data_cells = grind (arith, add.data_cells, bounds.data_cells, voids.forward);
-        raised = grind (arith, add.raised, add.data_cells, bounds.raised);
-        outlets = grind (arith, add.outlets, add.data_cells, bounds.outlets);
-      };
+      bounds = bounds-next c.patch-patch.result.here c.kept_from-kept.result.end (c.voids_until-col.result + 1) c.add_kept.new.self c.add.new.self
+          (omega (arith, voids.forward)) bounds add.data_cells add.raised add.outlets;
       found = λ grid ps are above.
           found_noted (tried c.args.rules.now) grid ps c.args.row (g.R.PatchRow.len c.args.patches.now) (g.R.PatchRow.shown c.args.patches.now) are c.loop-col.found
           c.note.new.self c.voids_until-col.result c.patch-patch.result c.requires (omega (arith, c.cols-cols.ensures.count, c.cols-cols.ensures.narrow))
@@ -109,16 +107,9 @@ loop-col-preserved-then-col-cols g c =
 
 pub add_kept-requires-clause-raised_fit : goal.add_kept-requires-clause-raised_fit
 add_kept-requires-clause-raised_fit g c =
-    omega (
-      arith,
-      c.loop-col.invariant.bounds.data_cells,
-      c.loop-col.invariant.bounds.raised,
-      c.kept_from-kept.ensures.raised,
-      raised_between-fits (g.R.PatchRow.shown c.args.patches.now) c.loop-col.col c.kept_from-kept.result.end,
-      c.kept_from-kept.ensures.within,
-      c.cols-cols.ensures.count,
-      c.cols-cols.ensures.narrow,
-    )
+    let kept = c.kept_from-kept.ensures in
+    raised-fit (g.R.PatchRow.shown c.args.patches.now) c.loop-col.col c.loop-col.col c.cols-cols.result c.kept_from-kept.result c.loop-col.tally c.loop-col.invariant.bounds
+    (omega arith) kept.forward (omega (arith, kept.within, c.cols-cols.ensures.count)) c.cols-cols.ensures.narrow kept.raised
 
 pub add-requires-clause-raised_within : goal.add-requires-clause-raised_within
 add-requires-clause-raised_within g c =

@@ -1,17 +1,14 @@
-use Rattle.std.proofs.Common.{◌≡◌, ℕ, ◌+◌, ◌++◌, [], length, Bool, false, not, cond, arith, ap, ◌∙◌}
+use Rattle.std.proofs.Common.{◌+◌, ◌++◌, [], length, arith, ap, ◌∙◌}
 use Rattle.std.proofs.lemmas.List.{take_at}
 use Rattle.std.proofs.lemmas.List.Elements.{All-same}
 use Rattle.drain_grid.specs.Values.{IsPixel}
+use Rattle.drain_grid.proofs.LentVectors.{grown}
 use Rattle.drain_header.specs.Fields.{Fields}
 use Rattle.drain_raster.specs.RasterRows.{packed_len, pixels_behind}
-use Rattle.drain_device.proofs.PartFaultLemmas.{PartFails-ok, PartFails-then}
+use Rattle.drain_device.proofs.PartFaultLemmas.{PartFails-after}
 use Rattle.drain_device.proofs.PartLemmas.{fails-later, row-fails}
 use Rattle.drain_raster.proofs.RasterRowLemmas.{row-comes}
 use Rattle.drain_raster.proofs.number_rows.read_row.Goals as goal
-
--- a vector that grew has the required length
-grown : {long expected : ℕ} (was : ℕ) {ok failed : Bool} → long ≡ cond ok expected was → ok ≡ not failed → failed ≡ false → long ≡ expected
-grown {expected = expected} was is unless well = is ∙ ap (λ b. cond b expected was) (unless ∙ ap not well)
 
 pub returns-in-Err-read_pixels-clause-row : goal.returns-in-Err-read_pixels-clause-row
 returns-in-Err-read_pixels-clause-row g c =
@@ -27,10 +24,7 @@ returns-in-Err-read_pixels-clause-row g c =
     )
 
 pub returns-in-Err-read_pixels-clause-faults : goal.returns-in-Err-read_pixels-clause-faults
-returns-in-Err-read_pixels-clause-faults g c =
-    let counts = g.R.ByteSource.counts in
-    PartFails-then (counts c.args.from.now) (counts c.skip.new.from) (counts c.read_pixels.new.from) _ _ _ ⊥ _ (λ x. x)
-    (PartFails-ok (counts c.args.from.now) (counts c.skip.new.from) _ _ _ c.in_default.ensures.faults) c.in-Err-read_pixels.ensures.faults
+returns-in-Err-read_pixels-clause-faults g c = PartFails-after c.in_default.ensures.faults c.in-Err-read_pixels.ensures.faults
 
 pub returns-clause-row : goal.returns-clause-row
 returns-clause-row g c =
@@ -43,10 +37,7 @@ returns-clause-row g c =
     )
 
 pub returns-clause-faults : goal.returns-clause-faults
-returns-clause-faults g c =
-    let counts = g.R.ByteSource.counts in
-    PartFails-then (counts c.args.from.now) (counts c.skip.new.from) (counts c.read_pixels.new.from) _ _ _ ⊥ _ (λ x. x)
-    (PartFails-ok (counts c.args.from.now) (counts c.skip.new.from) _ _ _ c.in_default.ensures.faults) c.in_default-read_pixels.ensures.faults
+returns-clause-faults g c = PartFails-after c.in_default.ensures.faults c.in_default-read_pixels.ensures.faults
 
 pub returns-clause-counted : goal.returns-clause-counted
 returns-clause-counted g c =

@@ -1,19 +1,15 @@
-use Rattle.std.proofs.Common.{◌≡◌, ℕ, ◌+◌, ◌++◌, [], length, Bool, false, not, cond, arith, ap, ◌∙◌}
+use Rattle.std.proofs.Common.{◌+◌, ◌++◌, [], length, arith, ap, ◌∙◌}
 use Rattle.std.proofs.lemmas.List.{take_at}
-use Rattle.drain_header.specs.Fields.{Fields}
 use Rattle.drain_pixels.specs.Stored.{numbers_as}
 use Rattle.drain_raster.specs.Pixels.{pixel_len, pixel_of}
-use Rattle.drain_raster.specs.RasterRows.{packed_len, pixels_behind, pixels_of}
-use Rattle.drain_device.proofs.PartFaultLemmas.{PartFails-ok, PartFails-then}
+use Rattle.drain_raster.specs.RasterRows.{packed_len, pixels_behind}
+use Rattle.drain_device.proofs.PartFaultLemmas.{PartFails-after}
 use Rattle.drain_device.proofs.PartLemmas.{fails-later, row-fails}
 use Rattle.drain_raster.proofs.KindLemmas.{none_kept}
 use Rattle.drain_raster.proofs.RasterEnds.{numbers_long}
 use Rattle.drain_raster.proofs.RasterRowLemmas.{row-comes}
+use Rattle.drain_grid.proofs.LentVectors.{grown}
 use Rattle.drain_raster.proofs.pixel_rows.read_bytes.Goals as goal
-
--- a vector that grew has the required length
-grown : {long expected : ℕ} (was : ℕ) {ok failed : Bool} → long ≡ cond ok expected was → ok ≡ not failed → failed ≡ false → long ≡ expected
-grown {expected = expected} was is unless well = is ∙ ap (λ b. cond b expected was) (unless ∙ ap not well)
 
 pub returns-in-Err-read_part-clause-row : goal.returns-in-Err-read_part-clause-row
 returns-in-Err-read_part-clause-row g c =
@@ -29,10 +25,7 @@ returns-in-Err-read_part-clause-row g c =
     )
 
 pub returns-in-Err-read_part-clause-faults : goal.returns-in-Err-read_part-clause-faults
-returns-in-Err-read_part-clause-faults g c =
-    let counts = g.R.ByteSource.counts in
-    PartFails-then (counts c.args.from.now) (counts c.skip.new.from) (counts c.read_part.new.from) _ _ _ ⊥ _ (λ x. x)
-    (PartFails-ok (counts c.args.from.now) (counts c.skip.new.from) _ _ _ c.in_default.ensures.faults) c.in-Err-read_part.ensures.faults
+returns-in-Err-read_part-clause-faults g c = PartFails-after c.in_default.ensures.faults c.in-Err-read_part.ensures.faults
 
 pub returns-clause-row : goal.returns-clause-row
 returns-clause-row g c =
@@ -55,7 +48,4 @@ returns-clause-counted g c =
     ∙ numbers_long (pixel_len c.args.header.now) (pixel_of c.args.header.now) c.args.header.now.cols c.read_part.new.out
 
 pub returns-clause-faults : goal.returns-clause-faults
-returns-clause-faults g c =
-    let counts = g.R.ByteSource.counts in
-    PartFails-then (counts c.args.from.now) (counts c.skip.new.from) (counts c.read_part.new.from) _ _ _ ⊥ _ (λ x. x)
-    (PartFails-ok (counts c.args.from.now) (counts c.skip.new.from) _ _ _ c.in_default.ensures.faults) c.in_default-read_part.ensures.faults
+returns-clause-faults g c = PartFails-after c.in_default.ensures.faults c.in_default-read_part.ensures.faults

@@ -1,6 +1,6 @@
-use Rattle.std.proofs.Common.{◌≡◌, ℕ, ◌≤◌, ◌⊎◌, min, inl, inr, refl, ◌∙◌, arith}
+use Rattle.std.proofs.Common.{◌≡◌, ℕ, ◌≤◌, ◌⊎◌, min, inl, inr, refl, ◌∙◌, arith, ◌+◌, ◌-◌}
 use Rattle.drain_kernel.specs.Rules.{tried}
-use Rattle.drain_rules.proofs.KeptCells.{raised_between-fits}
+use Rattle.drain_rules.proofs.CountBounds.{bounds-next, raised-fit}
 use Rattle.drain_window_walk.proofs.ClearedCells.{bounds-both, passed-both}
 use Rattle.drain_window_walk.proofs.JudgedCells.{fault-next, passed-all, passed-more, passed-none}
 use Rattle.drain_window_walk.proofs.judged_row.judge_row.Goals as goal
@@ -20,16 +20,9 @@ loop-col-init g c = record {
 
 pub add_kept-requires-clause-raised_fit : goal.add_kept-requires-clause-raised_fit
 add_kept-requires-clause-raised_fit g c =
-    omega (
-      arith,
-      c.loop-col.invariant.bounds.data_cells,
-      c.loop-col.invariant.bounds.raised,
-      c.kept_within-kept.ensures.raised,
-      raised_between-fits (g.R.PatchRow.shown c.args.patches.now) c.loop-col.col c.kept_within-kept.result.end,
-      c.kept_within-kept.ensures.within,
-      c.min-end.ensures,
-      c.cols-cols.ensures.narrow,
-    )
+    let kept = c.kept_within-kept.ensures in
+    raised-fit (g.R.PatchRow.shown c.args.patches.now) (c.loop-col.col - c.args.area.now.left) c.loop-col.col c.cols-cols.result c.kept_within-kept.result c.loop-col.tally
+    c.loop-col.invariant.bounds (omega arith) kept.forward (omega (arith, kept.within, c.min-end.ensures)) c.cols-cols.ensures.narrow kept.raised
 
 pub add-requires-clause-raised_within : goal.add-requires-clause-raised_within
 add-requires-clause-raised_within g c =
@@ -74,11 +67,8 @@ loop-col-preserved-then-col-end g c =
           c.loop-col.invariant.past kept.forward voids.forward (omega (arith, voids.within, c.min-end.ensures, c.cols-cols.ensures.count)) (c.loop-col.invariant.passed grid ps are wide)
           kept.kept kept.raised run.data_cells run.raised run.outlets voids.right) c.in_default.ensures.least add.data_cells add.raised add.outlets c.in-Ok.ensures;
       within = inr (omega (arith, c.if-col-end.true));
-      bounds = record {
-        data_cells = grind (arith, add.data_cells, bounds.data_cells, past);
-        raised = grind (arith, add.raised, add.data_cells, bounds.raised);
-        outlets = grind (arith, add.outlets, add.data_cells, bounds.outlets);
-      };
+      bounds = bounds-next c.patch-patch.result.here (c.voids_within-col.result - c.args.area.now.left) (c.voids_within-col.result + 1 - c.args.area.now.left) c.add_kept.new.self
+          c.add.new.self (omega (arith, past)) bounds add.data_cells add.raised add.outlets;
     }
 
 -- the cleared cells and the voids, up to the last column

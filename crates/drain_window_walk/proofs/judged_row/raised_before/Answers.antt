@@ -1,4 +1,4 @@
-use Rattle.std.proofs.Common.{◌≡◌, ◌+◌, ap, ◌∙◌, arith}
+use Rattle.std.proofs.Common.{ap, ◌∙◌, arith}
 use Rattle.drain_rules.specs.KeptRuns.{raised_between}
 use Rattle.drain_window_walk.proofs.ClearedCells.{raised-split}
 use Rattle.drain_window_walk.proofs.judged_row.raised_before.Goals as goal

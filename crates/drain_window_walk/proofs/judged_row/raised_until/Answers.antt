@@ -1,7 +1,6 @@
 use Rattle.std.proofs.Common.{◌≡◌, ℕ, cond, sym, ◌∙◌, ap, arith}
 use Rattle.drain_rules.specs.KeptRuns.{shows_raised}
-use Rattle.drain_rules.proofs.KeptCells.{raised_between-fits}
-use Rattle.drain_window_walk.proofs.ClearedCells.{raised-more}
+use Rattle.drain_rules.proofs.KeptCells.{raised_between-fits, raised_between-more}
 use Rattle.drain_window_walk.proofs.judged_row.raised_until.Goals as goal
 use Rattle.drain_window_walk.proofs.judged_row.raised_until.Goals.{then-is_raised, else-is_raised}
 
@@ -12,7 +11,7 @@ overflow_add-raised g c =
 pub loop-col-preserved : goal.loop-col-preserved
 loop-col-preserved g c =
     let shown = g.R.PatchRow.shown c.args.patches.now in
-    let more = raised-more shown c.args.from c.loop-col.col c.loop-col.auto.col in
+    let more = raised_between-more shown c.args.from c.loop-col.col c.loop-col.auto.col in
     let here = c.is_raised.ensures ∙ ap shows_raised c.patch.ensures in
     elim c.if-is_raised.branch [
       | then-is_raised w ↦

@@ -2,7 +2,7 @@ use Rattle.std.proofs.Common.{◌≡◌, ℕ, ◌+◌, arith, refl, sym, subst, 
 use Rattle.std.specs.Option.{option_or}
 use Rattle.drain_mosaic.specs.Streams.{Frame, end_stream, next_stream}
 use Rattle.drain_mosaic.specs.PlacedRows.{ArePlacedWithin, HasEnded, IsPlacedAt, IsPlacedWithin, streams_of}
-use Rattle.drain_mosaic.proofs.Lent.{all_back, all_lent, as_long, back, done-or-going, found-fits, going-or-done, have-back-err, have-back-ok, laid-by, lent, row-below, stopped-or-done, stopped-or-going, streams-back}
+use Rattle.drain_mosaic.proofs.Lent.{all_back, all_lent, as_long, back, done-or-going, found-fits, going-or-done, have-back-err, have-back-ok, laid-by, lent, row-below, stopped-or-done, stopped-or-going, streams-back, within_back}
 use Rattle.drain_mosaic.proofs.MosaicSteps.{mosaic-step, seam-end, seam-step, wrong-end, wrong-row, wrong-stopped}
 use Rattle.drain_mosaic.proofs.mosaic_rows.MosaicRows.next_row.Goals as goal
 
@@ -90,11 +90,8 @@ invariant_of-self-in-Ok-read_row g c =
     let s = c.args.self.now in
     let value = c.deref_mut-2.ensures.value in
     let came = lent value c.deref_mut-2.ensures.len c.read_row.auto.tiles in
-    let wide : c.cols.result ≡ s.shape.cols = c.cols.ensures in
-    let P = IsPlacedWithin s.side s.shape.rows s.shape.cols in
     record {
-      within = all_back P came
-          (subst (λ n. ArePlacedWithin s.side s.shape.rows n c.read_row.new.tiles) wide (c.read_row.ensures.within s.shape.rows (subst (λ n. ArePlacedWithin s.side s.shape.rows n c.deref_mut-2.result.now) (sym wide) (all_lent P value s.within))));
+      within = within_back s.side s.shape.rows s.shape.cols c.cols.result came c.cols.ensures s.within (c.read_row.ensures.within s.shape.rows);
       bounded = omega (arith, row-below s.bounded c.rows.ensures c.if-self-rows.false);
       at_row = λ e. all_back (IsPlacedAt s.side (s.row + 1)) came (c.in-Ok-read_row.ensures.at (all_lent (IsPlacedAt s.side s.row) value (s.at_row c.in-Going.is)));
       ended = λ e. absurd (going-or-done c.in-Going.is e);
@@ -105,11 +102,8 @@ invariant_of-self-in-Err-read_row g c =
     let s = c.args.self.now in
     let value = c.deref_mut-2.ensures.value in
     let came = lent value c.deref_mut-2.ensures.len c.read_row.auto.tiles in
-    let wide : c.cols.result ≡ s.shape.cols = c.cols.ensures in
-    let P = IsPlacedWithin s.side s.shape.rows s.shape.cols in
     record {
-      within = all_back P came
-          (subst (λ n. ArePlacedWithin s.side s.shape.rows n c.read_row.new.tiles) wide (c.read_row.ensures.within s.shape.rows (subst (λ n. ArePlacedWithin s.side s.shape.rows n c.deref_mut-2.result.now) (sym wide) (all_lent P value s.within))));
+      within = within_back s.side s.shape.rows s.shape.cols c.cols.result came c.cols.ensures s.within (c.read_row.ensures.within s.shape.rows);
       bounded = s.bounded;
       at_row = λ e. absurd (stopped-or-going e);
       ended = λ e. absurd (stopped-or-done e);
