@@ -5,6 +5,8 @@ use Rattle.std.specs.Borrow.{Bor}
 use Rattle.clap.specs.Matches.{first_value, matched_of, one_text, raw_values}
 use Rattle.clap.specs.Walk.{Text}
 use Rattle.clap.specs.declared.parser.matches.Found.{Found}
+use Rattle.drain_args.specs.declared.requests.Listed.{Listed}
+use Rattle.drain_args.specs.declared.requests.Listed.TheVariants.{All, Alone}
 use Rattle.drain_args.specs.declared.requests.MergeArgs.{MergeArgs}
 use Rattle.drain_args.specs.declared.requests.ProductArgs.{ProductArgs}
 use Rattle.drain_args.specs.declared.requests.WindowArgs.{WindowArgs}
@@ -61,23 +63,29 @@ IsMap f None = first_value f (codes "map") ≡ None
 IsMap f (Some stem) = first_value f (codes "map") ≡ Some (stem.now ++ map_ending)
 
 -- the list of rasters as it is written
-abbrev pub list_text : Given → Text
-list_text Con = codes "con"
-list_text ConDir = codes "con,dir"
-list_text ConDirAcc = codes "con,dir,acc"
-list_text ConDirBas = codes "con,dir,bas"
+abbrev pub list_text : Listed → Text
+list_text All = codes "con,dir,acc,bas"
+list_text (Alone Con) = codes "con"
+list_text (Alone ConDir) = codes "con,dir"
+list_text (Alone ConDirAcc) = codes "con,dir,acc"
+list_text (Alone ConDirBas) = codes "con,dir,bas"
 
--- the rasters are those of the list that is given; without one, or with all four in it, they are all four
+-- the rasters are those of the list that is given, if one is
+abbrev pub IsListOption : Found → Option Listed → Type 0
+IsListOption f None = first_value f (codes "only") ≡ None
+IsListOption f (Some list) = first_value f (codes "only") ≡ Some (list_text list)
+
+-- audited alone are the rasters of the list that is given; without one, or with all four in it, none is
 abbrev pub IsOnlyOption : Found → Option Given → Type 0
-IsOnlyOption f None = (first_value f (codes "only") ≡ None) ⊎ (first_value f (codes "only") ≡ Some (codes "con,dir,acc,bas"))
-IsOnlyOption f (Some given) = first_value f (codes "only") ≡ Some (list_text given)
+IsOnlyOption f None = IsListOption f None ⊎ IsListOption f (Some All)
+IsOnlyOption f (Some given) = IsListOption f (Some (Alone given))
 
 -- the name of a command, and the values of its arguments, make this request
 abbrev pub IsRequestOf : Text → Found → Request → Type 0
 IsRequestOf name f (Audit args) = (name ≡ codes "audit") × (AreInputs f args.inputs × IsOnlyOption f args.only)
 IsRequestOf name f (Check args) = (name ≡ codes "check") × AreInputs f args
 IsRequestOf name f (Explain args) =
-    (name ≡ codes "explain") × (AreInputs f args.inputs × (IsOnlyOption f args.only × (IsMap f args.map × IsFlag (codes "json") f args.json)))
+    (name ≡ codes "explain") × (AreInputs f args.inputs × (IsListOption f args.only × (IsMap f args.map × IsFlag (codes "json") f args.json)))
 IsRequestOf name f (Window args) = (name ≡ codes "window") × IsWindowArgs f args
 IsRequestOf name f (Merge args) = (name ≡ codes "merge") × IsMergeArgs f args
 IsRequestOf name f (Make args) = (name ≡ codes "make") × IsProductArgs (codes "out") f args

@@ -2,7 +2,7 @@
 
 ghost use Rattle.std.specs.Prelude.{◌≡◌, ◌++◌, IfOk, IfSome, codes};
 ghost use Rattle.clap.specs.Matches.{found_of};
-ghost use Rattle.drain_args.specs.Requests.{AreInputs, IsMap, IsMergeArgs, IsOnlyOption, IsProductArgs, IsRequestOf, map_ending};
+ghost use Rattle.drain_args.specs.Requests.{AreInputs, IsListOption, IsMap, IsMergeArgs, IsProductArgs, IsRequestOf, map_ending};
 
 use crate::clusters::first_cluster;
 use crate::commands::{AUDIT, CommandSpec, EXPLAIN, WINDOW, command, program};
@@ -79,11 +79,18 @@ pub struct DeriveArgs<'a> {
     pub out: &'a str,
 }
 
+/// The rasters of a list: all four of an audit, or these alone.
+#[derive(Clone, Copy, Debug, PartialEq, Eq)]
+pub enum Listed {
+    All,
+    Alone(Given),
+}
+
 /// What is to be explained, as a text or as JSON; and the path of a map of the faults, without `.bil`.
 #[derive(Drop)]
 pub struct ExplainArgs<'a> {
     pub inputs: ProductArgs<'a>,
-    pub only: Option<Given>,
+    pub only: Option<Listed>,
     pub map: Option<&'a str>,
     pub json: bool,
 }
@@ -176,10 +183,14 @@ fn inputs_given<'a>(alloc: Global, given: &ArgMatches<'a>) -> Result<ProductArgs
 fn audit_request<'a>(alloc: Global, given: &ArgMatches<'a>) -> Result<Request<'a>, Error>
     ensures { IfOk result (IsRequestOf (codes "audit") (found_of given.now)) }
 {
-    let Ok(only) = only_given(given) else {
+    let Ok(list) = list_given(given) else {
         return Err(bad_value(alloc, &AUDIT, help_texts::BAD_LIST)?);
     };
     let inputs = inputs_given(alloc, given)?;
+    let only = match list {
+        Some(Listed::Alone(given)) => Some(given),
+        Some(Listed::All) | None => None,
+    };
     Ok(Request::Audit(AuditArgs { inputs, only }))
 }
 
@@ -187,19 +198,19 @@ fn audit_request<'a>(alloc: Global, given: &ArgMatches<'a>) -> Result<Request<'a
 #[derive(Clone, Copy)]
 struct OtherList;
 
-/// Which rasters are audited alone, none for all four.
-fn only_given(given: &ArgMatches<'_>) -> Result<Option<Given>, OtherList>
-    ensures { IfOk result (IsOnlyOption (found_of given.now)) }
+/// The list of rasters, if there is one.
+fn list_given(given: &ArgMatches<'_>) -> Result<Option<Listed>, OtherList>
+    ensures { IfOk result (IsListOption (found_of given.now)) }
 {
     let Some(list) = option_given(given, "only") else {
         return Ok(None);
     };
     match list {
-        "con" => Ok(Some(Given::Con)),
-        "con,dir" => Ok(Some(Given::ConDir)),
-        "con,dir,acc" => Ok(Some(Given::ConDirAcc)),
-        "con,dir,bas" => Ok(Some(Given::ConDirBas)),
-        "con,dir,acc,bas" => Ok(None),
+        "con" => Ok(Some(Listed::Alone(Given::Con))),
+        "con,dir" => Ok(Some(Listed::Alone(Given::ConDir))),
+        "con,dir,acc" => Ok(Some(Listed::Alone(Given::ConDirAcc))),
+        "con,dir,bas" => Ok(Some(Listed::Alone(Given::ConDirBas))),
+        "con,dir,acc,bas" => Ok(Some(Listed::All)),
         _ => Err(OtherList),
     }
 }
@@ -222,7 +233,7 @@ fn explain_request<'a>(alloc: Global, given: &ArgMatches<'a>) -> Result<Request<
     let Ok(map) = map_given(given) else {
         return Err(bad_value(alloc, &EXPLAIN, explain_texts::BAD_MAP)?);
     };
-    let Ok(only) = only_given(given) else {
+    let Ok(only) = list_given(given) else {
         return Err(bad_value(alloc, &EXPLAIN, help_texts::BAD_LIST)?);
     };
     let inputs = inputs_given(alloc, given)?;

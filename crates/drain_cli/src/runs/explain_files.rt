@@ -7,7 +7,7 @@ use crate::runs::no_page::print_no_page;
 use crate::runs::run_explain::run_explain;
 use crate::runs::second_look;
 use drain_args::form::Form;
-use drain_args::requests::ExplainArgs;
+use drain_args::requests::{ExplainArgs, Listed};
 use drain_device::{ByteSink, write_nothing};
 use drain_explain::{Mapping, SecondLook};
 use drain_files::file_id::FileId;
@@ -40,11 +40,13 @@ pub fn explain_files(rt: &HostRuntime, args: &ExplainArgs<'_>, out: &mut impl By
     }
 }
 
-/// These rasters alone, if a list is given; else those of a check if the folder has a header or a raster of ranks, and
+/// The rasters of the list, if one is given; else those of a check if the folder has a header or a raster of ranks, and
 /// those of an audit if it has none. A failure is never taken for their absence.
 fn rasters_of(rt: &HostRuntime, args: &ExplainArgs<'_>) -> Result<Rasters, OpenFault> {
-    if let Some(given) = args.only {
-        return Ok(Rasters::Alone(given));
+    match args.only {
+        Some(Listed::Alone(given)) => return Ok(Rasters::Alone(given)),
+        Some(Listed::All) => return Ok(Rasters::OfAudit),
+        None => {}
     }
     let folder = args.inputs.folder;
     let header = header_path(rt.alloc(), folder, Product::Rnk)?;
