@@ -344,17 +344,25 @@ LC_ALL=C sort "$scratch/listed_sets" >"$scratch/want"
 : >"$scratch/err"
 judge 'the sets of other tools in the table by list' 0 "$scratch/want" 0
 
-# An explanation by list begins with the line of the audit, and ends with its status.
-for name in saga watershed terraflow fill-dir; do
-    for list in $lists; do
-        words=(--only "$list" --side 51 --products "samples/other-tools/$name" samples/other-tools/N36W085.hgt)
-        timeout 60 "$drain" audit "${words[@]}" </dev/null >"$scratch/want" 2>"$scratch/err"
-        status=$?
-        timeout 60 "$drain" explain "${words[@]}" </dev/null >"$scratch/page" 2>>"$scratch/err"
-        came=$?
-        head -n 1 "$scratch/page" >"$scratch/out"
-        judge "an explanation of other tools, $name, of $list alone" "$status" "$scratch/want" "$came"
+# An explanation by list begins with the line of the audit, and ends with its status: its name, and the arguments.
+judge_explained() {
+    local status came
+    timeout 60 "$drain" audit "${@:2}" </dev/null >"$scratch/want" 2>"$scratch/err"
+    status=$?
+    timeout 60 "$drain" explain "${@:2}" </dev/null >"$scratch/page" 2>>"$scratch/err"
+    came=$?
+    head -n 1 "$scratch/page" >"$scratch/out"
+    judge "an explanation of $1" "$status" "$scratch/want" "$came"
+}
+for list in $lists; do
+    for name in saga watershed terraflow fill-dir; do
+        judge_explained "other tools, $name, of $list alone" \
+            --only "$list" --side 51 --products "samples/other-tools/$name" samples/other-tools/N36W085.hgt
     done
+    # Ranks that lie beside are not opened: without a list they would be checked.
+    make_bare
+    spoil_others con,dir,acc,bas 'in words that are no header'
+    judge_explained "a pit, of $list alone, beside ranks that are none" --only "$list" --side 3 --products "$check/out" "$tile"
 done
 
 # The whole terrain, with the counts of another maker's products; and the changes of terrain.sh, of one number each.
