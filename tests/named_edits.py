@@ -114,9 +114,9 @@ FUNCTIONS = [
     ("in_free", "rows::free"),
     ("body_of_free", "rows::free"),
     ("field", None),
-    ("body_of_next", "rows::Rows::next"),
-    ("body_of_take", "rows::RowsSource::take"),
-    ("body_of_number", "rows::U8Pixel::number"),
+    ("body_of_next", "Rows::next"),
+    ("body_of_take", "RowsSource::take"),
+    ("body_of_number", "U8Pixel::number"),
 ]
 
 

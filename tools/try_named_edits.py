@@ -87,8 +87,9 @@ IMPL = re.compile(r"impl(?:<.*?>)? (?:(\w+)(?:<.*>)? for )?&?(\w+)(?:<.*>)?(?: w
 
 
 def function_at(path: str, text: str, place: int) -> str | None:
-    """The function whose contract or body has this place of a file, as the prover names it: modules, the type of an
-    `impl` with its trait's name behind it, and the name. None outside functions."""
+    """The function whose contract or body has this place of a file, as the prover names it: modules and the name; of an
+    `impl` the type, whose module may be another, with its trait's name behind it, and the name. None outside
+    functions."""
     modules = [part for part in Path(path).with_suffix("").parts[1:] if part not in ("lib", "main")]
     owner: list[str] = []
     found: tuple[int, str] | None = None
@@ -102,7 +103,7 @@ def function_at(path: str, text: str, place: int) -> str | None:
             found = len(start[1]), start[2]
         at += len(line)
         if place < at:
-            return "::".join([*modules, *(owner if found and found[0] else []), found[1]]) if found else None
+            return "::".join([*(owner if found[0] else modules), found[1]]) if found else None
         if found and line.startswith(" " * found[0] + "}"):
             found = None
     return None
