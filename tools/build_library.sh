@@ -11,14 +11,14 @@ target=$(realpath -m "$1")
 proved=${2:+$(realpath "$2")}
 top=$(cd "$(dirname "$0")/.." && pwd)
 
-command -v rt >/dev/null || {
-    echo "the library is built by the Rattle toolchain: put its command rt on the PATH" >&2
-    exit 1
-}
 if "$top/tools/is_proved.sh" "$target" 2>/dev/null; then
     echo "Unchanged since it was proved and built: ${target#"$top/"}"
     exit 0
 fi
+command -v rt >/dev/null || {
+    echo "the library is built by the Rattle toolchain: put its command rt on the PATH" >&2
+    exit 1
+}
 kit=$(dirname "$(rt doc)")
 sources=$("$top/tools/sources_sum.sh")
 scratch=$(mktemp -d)

@@ -252,12 +252,12 @@ def main() -> int:
     parser.add_argument("target", type=Path)
     words = parser.parse_args()
     target = words.target.absolute()
-    if shutil.which("rt") is None:
-        print(f"{words.crate} is built by the Rattle toolchain: put its command rt on the PATH", file=sys.stderr)
-        return 1
     if not words.anew and subprocess.run([TOP / "tools/is_proved.sh", target], stderr=subprocess.DEVNULL).returncode == 0:
         print(f"Unchanged since it was proved and built: {os.path.relpath(target, TOP)}")
         return 0
+    if shutil.which("rt") is None:
+        print(f"{words.crate} is built by the Rattle toolchain: put its command rt on the PATH", file=sys.stderr)
+        return 1
     try:
         build(words.crate, target, words.anew, words.library and words.library.absolute())
     except NotProved as error:

@@ -35,11 +35,20 @@ def write_sinks(cells: Cells | None, folder: Path) -> str | None:
 
 
 def options_of(sinks: str | None, chosen: Mapping[str, Any]) -> Options:
-    """The options of an import, with acc_counts as a word."""
+    """The options of an import, with acc_counts and ends as words."""
     words = dict(chosen)
     if "acc_counts" in words:
-        words["acc_counts"] = AccCounts(words["acc_counts"])
+        words["acc_counts"] = chosen_of("acc_counts", words["acc_counts"], {choice.value: choice for choice in AccCounts})
+    if "ends" in words:
+        words["ends"] = chosen_of("ends", words["ends"], {"zero": True, "keep": False, True: True, False: False})
     return Options(sinks=sinks, **words)
+
+
+def chosen_of(name: str, word: Any, choices: Mapping[Any, Any]) -> Any:
+    """What a word of an option stands for."""
+    if word not in choices:
+        raise CannotImport(f"{name}={word!r}: expected one of {', '.join(repr(choice) for choice in choices)}")
+    return choices[word]
 
 
 def codes_of(codes: str | None, rasters: Mapping[str, Raster]) -> str:
@@ -73,8 +82,8 @@ def audit(
     sinks       cells (row, column) where water may end inland
     parts       whether to judge each part of a rejected set by itself; con alone always is
     program     the program `drain`, if it isn't on the PATH
-    options     as those of `drain-gis import`: ends, complete_rim, flatten, inland, and acc_counts ("auto", "cells",
-                "above" or "area")
+    options     as those of `drain-gis import`: ends ("zero" or "keep"), complete_rim, flatten, inland (true or false),
+                and acc_counts ("auto", "cells", "above" or "area")
 
     Raises CannotImport, or DrainFailed. A verdict always is one that `drain` gave.
     """

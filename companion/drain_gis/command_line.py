@@ -33,6 +33,15 @@ Commands = Any
 """The subparsers of argparse, which have no public type."""
 
 
+class Once(argparse.Action):
+    """An option that is given at most once."""
+
+    def __call__(self, parser: Any, namespace: Any, values: Any, option_string: str | None = None) -> None:
+        if getattr(namespace, self.dest) is not None:
+            parser.error(f"{option_string} is given twice")
+        setattr(namespace, self.dest, values)
+
+
 def add_command(commands: Commands, name: str, short: str, text: str, *more: str) -> argparse.ArgumentParser:
     """A command with its help: a line, a paragraph, and what comes below the options."""
     return commands.add_parser(
@@ -52,7 +61,7 @@ def add_nodata(parser: argparse.ArgumentParser, names: str) -> None:
 def add_tool(parser: argparse.ArgumentParser, required: bool) -> None:
     """The option for a tool's codes."""
     parser.add_argument(
-        "--from", dest="tool", choices=list(TOOLS), required=required, metavar="TOOL",
+        "--from", dest="tool", action=Once, choices=list(TOOLS), required=required, metavar="TOOL",
         help="the tool whose codes dir has: see below. There is no default",
     )  # fmt: skip
 
@@ -76,12 +85,12 @@ def add_import(commands: Commands) -> None:
     )  # fmt: skip
     add_tool(parser, False)
     parser.add_argument(
-        "--dem", nargs="+", metavar="FILE", default=[],
+        "--dem", nargs="+", action="extend", metavar="FILE", default=[],
         help="the elevations that the tool was given: one raster, or tiles side by side. Without them con is its own "
         "ground",
     )  # fmt: skip
     for product in PRODUCTS:
-        parser.add_argument("--" + product, metavar="FILE", help=HELP[product])
+        parser.add_argument("--" + product, action=Once, metavar="FILE", help=HELP[product])
     add_nodata(parser, "dem, con, dir, acc or bas")
     add_conversions(parser)
     parser.add_argument("--overwrite", action="store_true", help="replace a folder that an earlier import wrote")
@@ -111,8 +120,9 @@ def add_conversions(parser: argparse.ArgumentParser) -> None:
         "--inland-sinks", action="store_true", help="list the cells that dir calls inland sinks (hydrosheds, pcraster)"
     )
     parser.add_argument(
-        "--sinks", metavar="FILE", help="a list of inland sinks: a row and a column of dem a line, counted from 0"
-    )
+        "--sinks", action=Once, metavar="FILE",
+        help="a list of inland sinks: a row and a column of dem a line, counted from 0",
+    )  # fmt: skip
 
 
 def add_judge(commands: Commands) -> None:
@@ -138,10 +148,10 @@ def add_surface(commands: Commands) -> None:
         "Is con the least surface above dem without depressions? Heights of any kind, floating-point ones too. Holds "
         "both rasters whole.",
     )  # fmt: skip
-    parser.add_argument("--dem", nargs="+", metavar="FILE", required=True, help="the elevations")
-    parser.add_argument("--con", metavar="FILE", required=True, help=HELP["con"])
+    parser.add_argument("--dem", nargs="+", action="extend", metavar="FILE", required=True, help="the elevations")
+    parser.add_argument("--con", action=Once, metavar="FILE", required=True, help=HELP["con"])
     add_nodata(parser, "dem or con")
-    parser.add_argument("--sinks", metavar="FILE", help="a list of inland sinks, as of `drain-gis import`")
+    parser.add_argument("--sinks", action=Once, metavar="FILE", help="a list of inland sinks, as of `drain-gis import`")
     parser.add_argument("--drain", metavar="PROGRAM", help=PROGRAM)
 
 
@@ -155,7 +165,9 @@ def add_flow(commands: Commands) -> None:
     )  # fmt: skip
     add_tool(parser, True)
     for product in ("dir", "acc", "bas"):
-        parser.add_argument("--" + product, metavar="FILE", required=product == "dir", help=HELP[product])
+        parser.add_argument(
+            "--" + product, action=Once, metavar="FILE", required=product == "dir", help=HELP[product]
+        )
     add_nodata(parser, "dir, acc or bas")
     add_counting(parser)
     parser.add_argument("--drain", metavar="PROGRAM", help=PROGRAM)

@@ -2,6 +2,7 @@
 
 import argparse
 import os
+import shlex
 import sys
 import traceback
 from collections.abc import Callable, Sequence
@@ -62,7 +63,7 @@ def run_import(arguments: argparse.Namespace) -> int:
     paths = {product: getattr(arguments, product) for product in PRODUCTS if getattr(arguments, product)}
     options = Options(
         arguments.ends == "zero", arguments.complete_rim, arguments.flatten, arguments.inland_sinks,
-        AccCounts(arguments.acc_counts), arguments.sinks,
+        AccCounts(arguments.acc_counts), arguments.sinks and os.path.abspath(arguments.sinks),
     )  # fmt: skip
     out = Path(arguments.out)
     facts = import_rasters(
@@ -77,7 +78,7 @@ def run_import(arguments: argparse.Namespace) -> int:
     if arguments.judge:
         return judge_folder(out, arguments.drain, True)
     sinks = f" --sinks {facts['sinks']}" if facts["sinks"] else ""
-    say(f"cd {out} && drain audit --side {facts['side']} --products .{sinks} tiles/*.hgt")
+    say(f"cd {shlex.quote(str(out))} && drain audit --side {facts['side']} --products .{sinks} tiles/*.hgt")
     return ACCEPTED
 
 

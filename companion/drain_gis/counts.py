@@ -85,6 +85,8 @@ def guess_counting(job: Job, at_sources: dict[float, int]) -> None:
     number = max(at_sources, key=lambda n: at_sources[n])
     share = at_sources[number] / sum(at_sources.values())
     text = f"acc: {share:.1%} of the cells that get no water have {number:.9g}"
+    if number == 0 and job.options.acc_counts is AccCounts.AREA:
+        raise CannotImport(f"{text}: --acc-counts area needs numbers that count the cell's own area too")
     if number == 0:
         job.plus = 1
         job.note(f"{text}: the cell itself isn't counted, and 1 is added to each")

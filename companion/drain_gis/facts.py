@@ -16,7 +16,7 @@ from .version import VERSION
 NAME = "import.json"
 KEYS = (
     "rows", "cols", "side", "down", "across", "tiles", "sinks", "tool", "known_by", "options", "sources", "dem",
-    "hashes", "versions", "nodata", "place", "srs", "unit", "offset", "data", "per", "plus", "shift", "drop_sign",
+    "hashes", "versions", "nodata", "nodata_given", "place", "srs", "unit", "offset", "data", "per", "plus", "shift", "drop_sign",
     "changed", "judged", "fits", "told", "own_ground",
 )  # fmt: skip
 """The members of the object."""

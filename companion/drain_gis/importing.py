@@ -6,9 +6,10 @@ cell by cell is in flow_directions.py.
 """
 
 import os
+import re
 import shutil
 import tempfile
-from collections.abc import Callable, Mapping
+from collections.abc import Callable, Iterable, Mapping
 from pathlib import Path
 from typing import Any
 
@@ -25,11 +26,17 @@ from .presets import TOOLS
 from .products import PRODUCTS
 from .program import Drain
 from .progress import Progress, Silent
-from .rasters import Raster, absolute
+from .rasters import Raster, absolute, number_text
 from .sink_list import import_sinks
 from .stand_ins import count_missing, drop_made, import_missing_flow, import_missing_surface
 from .surfaces import import_surfaces
 from .units import find_heights
+
+WRITTEN = re.compile(
+    r"((con|dir|acc|bas)\.(bil|hdr)|tiles|tiles/\w+\.hgt|sinks\.txt|import\.json|faults\.(tif|png)|report\.html)"
+    r"(\.aux\.xml)?|\.part-.*"
+)
+"""What an import and its judgement write into a folder, and what GIS programs add."""
 
 
 def import_rasters(
@@ -47,8 +54,9 @@ def import_rasters(
 
     `rasters`: name to raster, of dem, con, dir, acc and bas. `find_program` is called where `drain make` is needed.
     """
-    check_free(out, overwrite)
-    parent = Path(os.path.abspath(out)).parent
+    out = Path(os.path.realpath(out))
+    check_free(out, overwrite, sources_of(rasters, options))
+    parent = out.parent
     parent.mkdir(parents=True, exist_ok=True)
     stage = Path(tempfile.mkdtemp(prefix=f"{out.name}.part-", dir=parent))
     try:
@@ -70,14 +78,28 @@ def import_rasters(
         raise
 
 
-def check_free(out: Path, overwrite: bool) -> None:
-    """Refuses a folder that holds something else than an earlier import that may be replaced."""
+def sources_of(rasters: Mapping[str, Raster], options: Options) -> list[str]:
+    """The files that the import reads."""
+    listed = [path for raster in rasters.values() for path in raster.source_files()]
+    return listed + ([os.path.abspath(options.sinks)] if options.sinks else [])
+
+
+def check_free(out: Path, overwrite: bool, sources: Iterable[str]) -> None:
+    """Refuses a folder that holds something else than an earlier import that may be replaced, or what is read."""
+    if Path.cwd().is_relative_to(out):
+        raise CannotImport(f"{out} is the folder that you are in, or has it inside: name another")
     if not out.exists() or (out.is_dir() and not any(out.iterdir())):
         return
     if not overwrite:
         raise CannotImport(f"{out} is there already; --overwrite replaces what an earlier import wrote")
     if not (out / record.NAME).exists():
         raise CannotImport(f"{out} is there already, and no import wrote it")
+    for source in sources:
+        if Path(os.path.realpath(source)).is_relative_to(out):
+            raise CannotImport(f"{source} is read, and lies in {out}, which would be replaced")
+    for path in sorted(out.rglob("*")):
+        if not WRITTEN.fullmatch(path.relative_to(out).as_posix()):
+            raise CannotImport(f"{path} is in the way: no import wrote it, and --overwrite would remove it")
 
 
 def put_in_place(stage: Path, out: Path) -> None:
@@ -149,7 +171,7 @@ def import_all(job: Job) -> None:
 
 def nodata_words(job: Job) -> dict[str, str | None]:
     """The number for no data of each raster, as text; None where none is named."""
-    return {name: None if r.nodata is None else f"{r.nodata:.9g}" for name, r in job.rasters.items()}
+    return {name: None if r.nodata is None else number_text(r.nodata) for name, r in job.rasters.items()}
 
 
 def note_nodata(job: Job) -> None:
@@ -169,15 +191,14 @@ def program_version(job: Job) -> str | None:
 def facts_of(job: Job) -> dict[str, Any]:
     """What import.json has."""
     frame, dem = job.frame, job.dem
-    listed = [path for raster in job.rasters.values() for path in raster.source_files()]
-    listed += [os.path.abspath(job.options.sinks)] if job.options.sinks else []
     values = {
         "rows": frame.rows, "cols": frame.cols, "side": frame.side, "down": frame.down, "across": frame.across,
         "tiles": job.tiles, "sinks": job.sinks, "tool": job.tool_name, "known_by": job.tool.known_by,
         "options": job.options.as_words(),
         "sources": {name: absolute(raster.path) for name, raster in job.rasters.items()},
-        "dem": dem.path, "hashes": record.hashes_of(listed), "versions": record.versions(program_version(job)),
-        "nodata": nodata_words(job), "place": dem.place, "srs": dem.srs,
+        "dem": dem.path, "hashes": record.hashes_of(sources_of(job.rasters, job.options)),
+        "versions": record.versions(program_version(job)),
+        "nodata": nodata_words(job), "nodata_given": [name for name, r in job.rasters.items() if r.is_named], "place": dem.place, "srs": dem.srs,
         "unit": job.heights.unit, "offset": job.heights.offset, "data": job.data,
         "per": job.per, "plus": job.plus, "shift": job.shift, "drop_sign": job.drop_sign, "changed": job.changed,
         "judged": [product for product in PRODUCTS if product in job.rasters], "fits": job.fits, "told": job.notes,

@@ -6,6 +6,7 @@ import numpy as np
 
 from .job import Job
 from .place_words import cells_text
+from .rasters import number_text
 
 MOST_KINDS = 1000
 """How many different numbers are counted apart."""
@@ -66,7 +67,7 @@ class Misplaced:
                 text += ". It names no number for no data"
                 likely = self.in_voids.most_frequent()
                 if not is_in_data(job, name, likely):
-                    text += f"; --nodata {name}={likely:.9g} does"
+                    text += f"; --nodata {name}={number_text(likely)} does"
             job.note(text)
 
 

@@ -3,6 +3,7 @@
 No other module opens a raster of the user's.
 """
 
+import math
 import os
 import uuid
 from collections.abc import Mapping, Sequence
@@ -47,6 +48,9 @@ class Raster:
 
     scaling: tuple[float, float]
     """The scale and offset that the file names for its numbers."""
+
+    is_named: bool = False
+    """Whether the user named the no-data number."""
 
     def window(self, top: int, rows: int) -> tuple[np.ndarray, np.ndarray]:
         """The numbers of these rows, and where they mean no data."""
@@ -105,13 +109,18 @@ class FileRaster(Raster):
         return [os.path.abspath(path) for path in listed if os.path.isfile(path)]
 
 
+def number_text(number: float) -> str:
+    """A number as text that is read as the same number."""
+    return str(int(number)) if abs(number) < 2**63 and number == int(number) else repr(float(number))
+
+
 def check_holds(name: str, dtype: np.dtype, nodata: float | None) -> None:
     """Refuses a no-data number that the pixels can't hold."""
     if nodata is None or dtype.kind == "f":
         return
     limits = np.iinfo(dtype)
-    if nodata != int(nodata) or not limits.min <= nodata <= limits.max:
-        raise CannotImport(f"--nodata {name}={nodata:g}: {name} has pixels of the kind {dtype}, which can't hold it")
+    if not math.isfinite(nodata) or nodata != int(nodata) or not limits.min <= nodata <= limits.max:
+        raise CannotImport(f"--nodata {name}={number_text(nodata)}: {name} has pixels of the kind {dtype}, which can't hold it")
 
 
 class ArrayRaster(Raster):
@@ -127,7 +136,7 @@ class ArrayRaster(Raster):
         if 0 in numbers.shape:
             raise CannotImport(f"{name}: the array is empty")
         self.numbers = numbers.astype(np.uint8) if numbers.dtype.kind == "b" else numbers
-        self.name, self.path, self.nodata = name, None, nodata
+        self.name, self.path, self.nodata, self.is_named = name, None, nodata, nodata is not None
         self.place, self.srs, self.scaling = None, "", (1.0, 0.0)
         (self.rows, self.cols), self.dtype = self.numbers.shape, self.numbers.dtype
 
@@ -181,8 +190,11 @@ def open_rasters(paths: Mapping[str, str], dem: Sequence[str], nodata: Mapping[s
 
 
 def rasters_of(arrays: Mapping[str, np.ndarray | None], nodata: Mapping[str, float] | None) -> dict[str, Raster]:
-    """Name to raster, for the arrays that are given."""
+    """Name to raster, for the arrays that are given. Refuses a no-data number of no raster."""
     named = nodata or {}
+    unknown = sorted(set(named) - set(arrays))
+    if unknown:
+        raise CannotImport(f"nodata of {', '.join(unknown)}: expected names of {', '.join(arrays)}")
     return {name: ArrayRaster(name, a, named.get(name)) for name, a in arrays.items() if a is not None}
 
 

@@ -42,7 +42,9 @@ def import_command(facts: Mapping[str, Any]) -> str:
     for name in PRODUCTS:
         if name in sources:
             words += [f"--{name}", *files_of(sources[name])]
-    for name, number in (facts.get("nodata") or {}).items():
+    numbers = facts.get("nodata") or {}
+    for name in facts.get("nodata_given", numbers):
+        number = numbers[name]
         if number is not None and not (name == "dem" and "--dem" not in words):
             words += ["--nodata", f"{name}={number}"]
     if options.get("acc_counts", "auto") != "auto":

@@ -4,6 +4,8 @@ import numpy as np
 
 from .errors import CannotImport
 from .job import Job
+from .tiles import read_tiles
+from .units import VOID
 
 NAME = "sinks.txt"
 
@@ -12,11 +14,7 @@ def import_sinks(job: Job) -> None:
     """Writes the list into the folder, if there is one."""
     lines: list[str] = []
     if job.options.sinks:
-        try:
-            with open(job.options.sinks, encoding="ascii") as file:
-                lines += file.read().rstrip("\n").split("\n")
-        except (OSError, UnicodeDecodeError) as error:
-            raise CannotImport(f"--sinks {job.options.sinks}: {error}") from error
+        lines += sink_lines(job.options.sinks, read_tiles(job.folder, job.frame) == VOID)
     if job.options.inland:
         lines += inland_sinks(job)
     if lines:
@@ -24,11 +22,32 @@ def import_sinks(job: Job) -> None:
         (job.folder / NAME).write_text("\n".join(lines) + "\n", encoding="ascii")
 
 
+def sink_lines(path: str, void: np.ndarray) -> list[str]:
+    """The lines of a list, each empty or the row and the column of a cell that isn't void."""
+    try:
+        with open(path, encoding="ascii") as file:
+            lines = file.read().rstrip("\n").split("\n")
+    except (OSError, UnicodeDecodeError) as error:
+        raise CannotImport(f"--sinks {path}: {error}") from error
+    rows, cols = void.shape
+    for number, words in enumerate((line.split() for line in lines), 1):
+        if not words:
+            continue
+        if len(words) != 2 or not all(word.isdigit() and len(word) < 100 for word in words):
+            raise CannotImport(f"--sinks {path}: line {number} isn't a row and a column")
+        row, col = (int(word) for word in words)
+        if row >= rows or col >= cols or void[row, col]:
+            raise CannotImport(f"--sinks {path}: line {number}: row {row}, column {col} has no elevation")
+    return lines
+
+
 def inland_sinks(job: Job) -> list[str]:
     """The cells that dir calls inland sinks, as lines."""
     numbers = job.tool.inland
-    if not numbers or "dir" not in job.rasters:
+    if not numbers:
         raise CannotImport(f"{job.tool_name} has no number for inland sinks: list them (--sinks FILE)")
+    if "dir" not in job.rasters:
+        raise CannotImport("inland sinks are numbers of dir, which isn't given: list them (--sinks FILE)")
     lines: list[str] = []
     for top, rows in job.windows():
         codes, none = job.rasters["dir"].window(top, rows)

@@ -20,6 +20,7 @@ from .products import map_product, read_product
 from .program import Drain, Mosaic
 from .progress import Progress
 from .rasters import Raster, windows
+from .sink_list import sink_lines
 from .tiles import TileWriter
 from .units import LEAST, VOID
 
@@ -78,6 +79,8 @@ def judge_surface_rasters(
     ground, void = dem.window(0, dem.rows)
     if void.all():
         raise CannotImport("dem has no cell with an elevation: is its no-data number right? (--nodata dem=NUMBER)")
+    if sinks:
+        sink_lines(sinks, void)
     surface, none = con.window(0, con.rows)
     return judge_surface(ground, void, surface, none, program, sinks, progress)
 

@@ -9,7 +9,7 @@ from typing import Any
 
 import numpy as np
 
-from .errors import DrainFailed
+from .errors import CannotImport, DrainFailed
 from .facts import read_facts
 from .flow_alone import judge_flow
 from .frame import frame_in
@@ -171,7 +171,11 @@ def judge_parts(folder: Path, mosaic: Mosaic, facts: Mapping[str, Any], verdict:
     if "dir" in facts["judged"]:
         found["dir"] = directions_text(verdict, surface_is_wrong)
         along = ", ".join(name for name in ("acc", "bas") if name in facts["judged"]) or "paths"
-        found[along] = str(judge_flow(folder, facts, void, program))
+        try:
+            found[along] = str(judge_flow(folder, facts, void, program))
+        except CannotImport as error:
+            # It needs a row or column more on each side than the rasters have.
+            found[along] = f"not judged alone: {error}"
 
 
 def take_surface(verdict: Verdict, surface: SurfaceVerdict, facts: Mapping[str, Any]) -> None:

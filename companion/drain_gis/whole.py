@@ -18,6 +18,10 @@ UNITS = (1.0, 0.1, 0.01, 0.001)
 def make_whole(source: str, out: Path, unit: float, nodata: float | None, progress: Progress) -> float:
     """Writes a GeoTIFF of heights in single precision, whole or not at all. Returns the most that one moved."""
     raster, per = FileRaster("dem", source, nodata), round(1 / unit)
+    if raster.scaling != (1.0, 0.0):
+        raise CannotImport(
+            f"{source} has the scale and offset {raster.scaling}: write its heights plainly (gdal_translate -unscale)"
+        )
     if out.exists():
         raise CannotImport(f"{out} is there already")
     handle, name = tempfile.mkstemp(prefix=f"{out.name}.part-", suffix=".tif", dir=out.absolute().parent)

@@ -50,7 +50,8 @@ class Commands(unittest.TestCase):
 
     def words(self, *more: object) -> list[object]:
         names = {"dem": "dem", "con": "fel", "dir": "p", "acc": "ad8", "bas": "w"}
-        paths = [word for name, file in names.items() for word in (f"--{name}", self.base / f"{file}.tif")]
+        given = [(f"--{name}", self.base / f"{file}.tif") for name, file in names.items()]
+        paths = [word for pair in given if pair[0] not in more for word in pair]
         return ["import", "--from", "taudem", *paths, *more, self.base / "out"]
 
     def left(self) -> list[str]:

@@ -105,9 +105,13 @@ class Sinks(unittest.TestCase):
         self.assertFalse((high | low).any())
         self.assertTrue(drain_gis.audit_surface(BOWL, BOWL).low.any())
 
-    def test_a_bad_list_of_sinks_is_refused_by_the_program(self) -> None:
-        with self.assertRaisesRegex(drain_gis.DrainFailed, "refused SinkNotData 1"):
-            drain_gis.audit(BOWL, con=BOWL, dir=BOWL * 0, sinks=[(9, 9)], codes="esri")
+    def test_a_bad_list_of_sinks_is_refused(self) -> None:
+        dem = np.ma.masked_array(BOWL, mask=np.arange(25).reshape(5, 5) == 7)
+        for cell in ((9, 9), (5, 0), (1, 2)):
+            with self.assertRaisesRegex(drain_gis.CannotImport, f"line 2: row {cell[0]}, column {cell[1]} has no"):
+                drain_gis.audit(dem, con=dem, dir=BOWL * 0, sinks=[(2, 2), cell], codes="esri")
+            with self.assertRaisesRegex(drain_gis.CannotImport, "line 1: row"):
+                drain_gis.audit_surface(dem, dem, sinks=[cell])
 
     def test_inland_sinks_of_a_tool(self) -> None:
         codes = worlds.steepest(BOWL, np.zeros(BOWL.shape, bool))

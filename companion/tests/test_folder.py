@@ -20,7 +20,7 @@ from printed import run
 
 FACTS = {
     "rows", "cols", "side", "down", "across", "tiles", "sinks", "tool", "known_by", "options", "sources", "dem",
-    "hashes", "versions", "nodata", "place", "srs", "unit", "offset", "data", "per", "plus", "shift", "drop_sign",
+    "hashes", "versions", "nodata", "nodata_given", "place", "srs", "unit", "offset", "data", "per", "plus", "shift", "drop_sign",
     "changed", "judged", "fits", "told", "own_ground",
 }  # fmt: skip
 FORMS = {"con": ("<h", "SIGNEDINT", -32768), "dir": ("<B", "UNSIGNEDINT", 255), "acc": ("<I", "UNSIGNEDINT", 0)}
@@ -139,6 +139,7 @@ class Folder(unittest.TestCase):
         expected = {
             "rows": ROWS, "cols": COLS, "sinks": "sinks.txt", "tool": "pcraster", "sources": paths, "dem": paths["dem"],
             "known_by": "not run, by its documentation", "nodata": dict.fromkeys(paths, "-9999"),
+            "nodata_given": [],
             "place": list(worlds.UTM), "unit": 10, "data": int((~self.void).sum()), "per": 900.0, "plus": 0, "shift": 4,
             "drop_sign": False, "changed": {"dir": 0}, "judged": ["con", "dir", "acc", "bas"],
             "hashes": {path: hashlib.sha256(Path(path).read_bytes()).hexdigest() for path in paths.values()},

@@ -100,6 +100,8 @@ class Places(unittest.TestCase):
 
     def test_other_grids_are_refused(self) -> None:
         words = self.write(worlds.UTM, 32616, 0)
+        at = words.index("--con")
+        del words[at : at + 2]
         void, con = self.world.void, self.world.con
         right = np.where(void, -9999, con).astype(np.float32)
         cases = (

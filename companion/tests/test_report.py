@@ -144,7 +144,7 @@ class Report(InFolder):
     def test_commands(self) -> None:
         facts = facts_of(
             (9, 9), sources={"dem": ["/a b.tif", "/c.tif"], "dir": "/p.tif", "acc": "/a.tif"}, sinks="sinks.txt",
-            nodata={"dem": "-9999", "dir": None},
+            nodata={"dem": "-9999", "dir": None, "acc": "-1"}, nodata_given=["dem"],
             options={"ends": False, "complete_rim": True, "flatten": False, "acc_counts": "above", "sinks": "/s.txt"},
         )  # fmt: skip
         self.assertEqual(
