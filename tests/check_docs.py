@@ -135,6 +135,18 @@ class Documents(unittest.TestCase):
             expected = ["README.md:1: 101 characters, more than 100", "README.md:81: 81 lines, more than 80"]
             self.assertEqual(check_docs.faults_of(folder), expected)
 
+    def test_definitions(self) -> None:
+        page = "# D\n\n`Cell.a` by `Cell.b`\n\n## Cells (`drain_grid`)\n\n`Cell.a` and `Cell.b`, `c`\n"
+        page += "- drain_text\n  `Row.d`\n- `Row.d`\n"
+        with tempfile.TemporaryDirectory() as scratch:
+            folder = project(pathlib.Path(scratch), "")
+            for name, text in (("drain_grid/specs/Cell.antt", "a ab"), ("drain_text/specs/Row.antt", "d")):
+                (folder / "crates" / name).parent.mkdir(parents=True, exist_ok=True)
+                (folder / "crates" / name).write_text(text, encoding="utf-8")
+            (folder / "docs/DEFINITIONS.md").write_text(page, encoding="utf-8")
+            expected = [f"docs/DEFINITIONS.md:{fault}" for fault in ("7: no definition Cell.b", "10: no definition Row.d")]
+            self.assertEqual(check_docs.faults_of(folder), expected)
+
     def test_words_are_counted(self) -> None:
         expected = ["64000 characters, more than 120", "32003 words, more than 32000"]
         self.assertEqual(self.faults("x " * 32_000)[0], expected)

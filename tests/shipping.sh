@@ -46,6 +46,8 @@ otherwise() { (umask 077 && env LANG=de_DE.UTF-8 TZ=Asia/Tokyo XZ_OPT=-0 TAR_OPT
 mkdir "$scratch/build"
 cp "$build/drain" "$build/drain.proved" "$scratch/build/"
 drain=$scratch/build/drain
+holds 'make of a program that is built needs no toolchain' \
+    ends 0 'Unchanged since' env PATH=/usr/bin:/bin "$top/tools/build_program.py" drain "$drain"
 static=-
 if [ -f "$build/drain.o" ] && command -v gcc >/dev/null; then
     static=$scratch/build/drain-static

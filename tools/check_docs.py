@@ -1,11 +1,12 @@
 #!/usr/bin/env python3
-"""Checks the documents: README.md and the other pages beside it, docs/*.md, the README of each crate, of each folder of
-examples/, and of companion/.
+"""Checks the documents: README.md, CONTRIBUTING.md, docs/*.md, the README of each crate, of companion/ and of each folder
+of examples/.
 
 It reports, each with its file and line:
 - a path, a link, a target of `make`, or a command or option of `drain` that doesn't exist;
 - a line of README.md over 100 characters, a README.md over 80 lines, and a line of the other pages or of docs/ over
   120 characters (200 in a table; code is exempt);
+- a definition `Module.name` of docs/DEFINITIONS.md that no crate has which its heading or its entry names;
 - a word that readers don't know (WORDS), outside code; and docs/ over 32,000 words in all;
 - with PROGRAM, an example whose output isn't what the program prints.
 
@@ -43,6 +44,7 @@ LINK = re.compile(r"\]\(([^)\s]+)\)")
 SPAN = re.compile(r"`([^`]+)`")
 DRAIN = re.compile(r"(?<![\w./-])(?:build/)?drain\s+([a-z]+|--[a-z-]+)(?![\w/:=.])([^|]*)")
 EXAMPLE = re.compile(r"^\$ (?:.*\s)?(?:build/)?drain ")
+QUALIFIED = re.compile(r"`([A-Z]\w*)\.(\w+)`")
 MARK = "@@ end of a command @@"
 
 
@@ -193,6 +195,22 @@ def word_faults(lines: list[Line]) -> Iterator[tuple[int, str]]:
         yield prose.count("\n", 0, match.start()) + 1, f'"{" ".join(match[0].split())}"'
 
 
+def definition_faults(root: pathlib.Path, lines: list[Line]) -> Iterator[tuple[int, str]]:
+    heading: list[str] = []
+    entry: list[str] = []
+    for line in lines:
+        if line.text.startswith("- ") or not line.text:
+            entry = []
+        entry += re.findall(r"\bdrain_\w+", line.text)
+        if line.text.startswith("#"):
+            heading, entry = entry, []
+        for module, name in QUALIFIED.findall(line.text) if heading else []:
+            files = [root / "crates" / crate / "specs" / f"{module}.antt" for crate in heading + entry]
+            texts = [file.read_text(encoding="utf-8") for file in files if file.exists()]
+            if not any(re.search(rf"\b{name}\b", text) for text in texts):
+                yield line.number, f"no definition {module}.{name}"
+
+
 def examples_of(lines: list[Line]) -> Iterator[list[Shown]]:
     """The examples of a document: the commands of each block that has one of drain's."""
     block: list[Shown] = []
@@ -292,6 +310,8 @@ def faults_of(root: pathlib.Path, program: pathlib.Path | None = None, write: bo
         text = document.read_text(encoding="utf-8")
         lines = lines_of(text)
         found = [*word_faults(lines), *neighbour_faults(root, lines)]
+        if name == "docs/DEFINITIONS.md":
+            found += definition_faults(root, lines)
         for line in lines:
             for fault in (
                 *path_faults(root, document, line),

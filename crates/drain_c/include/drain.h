@@ -40,7 +40,7 @@ typedef struct drain_tile {
     drain_bytes samples;
 } drain_tile;
 
-/* A raster. header: the text of an Esri BIL header (.hdr), in degrees. pixels: the bytes that it describes (.bil);
+/* A raster. header: the text of an Esri BIL header (.hdr, docs/FORMATS.md), in degrees. pixels: the bytes that it describes (.bil);
  * 8, 16 or 32 bits each, signed or not. Rows and columns are those of the mosaic: with a tiles from north to south and
  * b from west to east, a * (side - 1) + 1 and b * (side - 1) + 1. */
 typedef struct drain_raster {
@@ -56,7 +56,7 @@ typedef struct drain_audit_rasters {
     drain_raster bas;
 } drain_audit_rasters;
 
-/* The rasters of a check: the same, and ranks that show that every run of directions ends. */
+/* The rasters of a check: the same, and ranks that show that every path of directions ends. */
 typedef struct drain_check_rasters {
     drain_raster con;
     drain_raster dir;
@@ -79,7 +79,7 @@ enum { DRAIN_LINE_SIZE = 164 };
 /* An answer. Every member is written by each call. */
 typedef struct drain_answer {
     uint32_t status; /* one of the statuses above */
-    uint32_t rule;   /* where a rule fails: its number, 1 to 15 (docs/RULES.md); else 0, also where a run doesn't end */
+    uint32_t rule;   /* where a rule fails: its number, 1 to 15 (docs/RULES.md); else 0, also where a path doesn't end */
     uint32_t row;    /* of a rejection: the cell's row, from 0 at the north; else 0 */
     uint32_t col;    /* of a rejection: the cell's column, from 0 at the west; else 0 */
     char line[DRAIN_LINE_SIZE]; /* the line that the program `drain` prints, in ASCII, without a line end */
