@@ -49,7 +49,7 @@ Accepts the rasters if and only if they are correct: con is the lowest surface a
 water reaches an edge, a void or a listed sink, no direction climbs, every path of directions ends at an
 outlet, acc is the number of cells upstream, and two cells have the same label exactly if they drain to the
 same outlet. What is rejected is not correct. Ranks, which drain check needs, are not opened. One byte is
-held for each cell. All files are opened first. Prints one line.
+held for each cell, of con alone twelve. All files are opened first. Prints one line.
 
 With --only LIST it judges the rasters of the list alone, and opens no others. It accepts them if and only
 if they are part of a correct set: if values of the other rasters exist that make it correct. Of con alone an
@@ -101,8 +101,9 @@ pub const MAKE_AFTER: &str = "Lines and exit statuses:
   2  refused BadSide, refused BadName I, refused NoTiles, refused RepeatedTile TILE, refused BoxTooLarge,
      refused BadTileLength TILE, refused SeamMismatch row=R col=C, refused BadSinkLine LINE,
      refused SinkNotData LINE; nothing was written
-  3  failed Open PATH, failed ReadFailed, failed WriteFailed, failed OutOfMemory, or standard output
-     couldn't be written; files that were there before stay as they were
+  3  failed Open PATH, failed ReadFailed, failed WriteFailed, failed OutOfMemory; files that were there
+     before stay as they were, but for links and failed renames; or standard output couldn't be written,
+     and the files may be complete
 
 Example:
   drain make --side 1201 --out rasters N37W105.hgt N37W106.hgt";
@@ -128,8 +129,9 @@ pub const DERIVE_AFTER: &str = "Lines and exit statuses:
   0  derived rows=R cols=C
   1  rejected NoEnd row=R col=C              the first cell whose path of directions does not end at a code 0
   2  refused ..                              as drain audit, of tiles, dir and sinks; nothing was written
-  3  failed Open PATH, failed ReadFailed, failed WriteFailed, failed OutOfMemory, or standard output
-     couldn't be written; files that were there before stay as they were
+  3  failed Open PATH, failed ReadFailed, failed WriteFailed, failed OutOfMemory; files that were there
+     before stay as they were, but for links and failed renames; or standard output couldn't be written,
+     and the files may be complete
 
 Example:
   drain derive --side 1201 --products rasters --out rasters N37W105.hgt N37W106.hgt";

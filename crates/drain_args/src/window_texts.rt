@@ -37,8 +37,9 @@ pub const WINDOW_AFTER: &str = "Lines and exit statuses:
   2  refused ..                              as drain audit; no report was written
      refused BadBox                          the box isn't inside the mosaic, or a side that isn't inner is no
                                              edge of the mosaic; no report was written
-  3  failed Open PATH, failed ReadFailed, failed WriteFailed, failed OutOfMemory, or standard output
-     couldn't be written; a report that was there before stays as it was
+  3  failed Open PATH, failed ReadFailed, failed WriteFailed, failed OutOfMemory; a report that was there
+     before stays as it was, unless it is a link; or standard output couldn't be written, and the report
+     may be complete
 
 Example, a union of four tiles in a row, judged by two windows:
   drain window --side 1201 --products west --box 0,0,1201,2403 --inner e --report west.txt \\

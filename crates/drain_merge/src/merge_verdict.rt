@@ -50,7 +50,7 @@ pub enum MergeRefusal {
     /// sink and the list doesn't have.
     #[error("a window took a sink that isn't listed")]
     SinkNotListed(Cell),
-    /// Out of memory. This may come at any step after `OtherNoData`.
+    /// Out of memory. This may come at any step after `OtherSide`.
     #[error("out of memory")]
     OutOfMemory,
 }
