@@ -132,8 +132,8 @@ class Files(unittest.TestCase):
         row, col = np.argwhere(self.world.void)[0]
         for text, reason in (
             ("1 1\nx y\n", "line 2 isn't a row and a column"), ("\n1\n", "line 2 isn't"), ("1 2 3", "line 1 isn't"),
-            ("-1 2", "line 1 isn't"), ("1 1\n\n23 0", "line 3: row 23, column 0 has no elevation"), ("9" * 5000 + " 1", "line 1"),
-            (f"{row} {col}", "line 1: row"),
+            ("-1 2", "line 1 isn't"), ("1 1\n\n23 0", "line 3: row 23, column 0 has no elevation"),
+            ("9" * 5000 + " 1", "line 1"), (f"{row} {col}", "line 1: row"),
         ):  # fmt: skip
             listed.write_text(text)
             self.check_refused(self.importing("--sinks", listed, self.out), reason)
