@@ -38,7 +38,9 @@ def options_of(sinks: str | None, chosen: Mapping[str, Any]) -> Options:
     """The options of an import, with acc_counts and ends as words."""
     words = dict(chosen)
     if "acc_counts" in words:
-        words["acc_counts"] = chosen_of("acc_counts", words["acc_counts"], {choice.value: choice for choice in AccCounts})
+        words["acc_counts"] = chosen_of(
+            "acc_counts", words["acc_counts"], {choice.value: choice for choice in AccCounts}
+        )
     if "ends" in words:
         words["ends"] = chosen_of("ends", words["ends"], {"zero": True, "keep": False, True: True, False: False})
     return Options(sinks=sinks, **words)

@@ -134,7 +134,8 @@ def add_judge(commands: Commands) -> None:
         "writes OUT/faults.tif and OUT/faults.png.",
     )  # fmt: skip
     parser.add_argument(
-        "--no-parts", action="store_true",
+        "--no-parts",
+        action="store_true",
         help="don't judge con by itself (unless it was given alone), nor acc and bas along dir",
     )
     parser.add_argument("--drain", metavar="PROGRAM", help=PROGRAM)
@@ -165,9 +166,7 @@ def add_flow(commands: Commands) -> None:
     )  # fmt: skip
     add_tool(parser, True)
     for product in ("dir", "acc", "bas"):
-        parser.add_argument(
-            "--" + product, action=Once, metavar="FILE", required=product == "dir", help=HELP[product]
-        )
+        parser.add_argument("--" + product, action=Once, metavar="FILE", required=product == "dir", help=HELP[product])
     add_nodata(parser, "dir, acc or bas")
     add_counting(parser)
     parser.add_argument("--drain", metavar="PROGRAM", help=PROGRAM)

@@ -16,8 +16,8 @@ from .version import VERSION
 NAME = "import.json"
 KEYS = (
     "rows", "cols", "side", "down", "across", "tiles", "sinks", "tool", "known_by", "options", "sources", "dem",
-    "hashes", "versions", "nodata", "nodata_given", "place", "srs", "unit", "offset", "data", "per", "plus", "shift", "drop_sign",
-    "changed", "judged", "fits", "told", "own_ground",
+    "hashes", "versions", "nodata", "nodata_given", "place", "srs", "unit", "offset", "data", "per", "plus", "shift",
+    "drop_sign", "changed", "judged", "fits", "told", "own_ground",
 )  # fmt: skip
 """The members of the object."""
 

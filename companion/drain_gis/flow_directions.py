@@ -153,5 +153,3 @@ def report_fits(job: Job, found: Found) -> None:
             f"way, by unit spacing {mine:.1%}: the tool measures on the ground. `drain` doesn't, and cells here are no "
             "squares, so expect Slope. acc and bas along dir can be judged (drain-gis flow)"
         )
-
-

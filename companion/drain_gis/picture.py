@@ -14,6 +14,7 @@ from osgeo import gdal
 from .blocks import block_any, block_max, block_mean
 from .canvas import Canvas
 from .fault_map import content_of
+
 from .legend import (
     INK, MARGIN, PAPER, WHITE, Legend, drawn_with_legend, first_fault, height_around, rim_of, subtitle_of,
 )  # fmt: skip

@@ -82,9 +82,7 @@ def degrees(srs: str, x: float, y: float) -> tuple[float, float] | None:
     return longitude, latitude
 
 
-def cell_sizes(
-    place: Sequence[float] | None, srs: str, top: int, rows: int
-) -> tuple[np.ndarray, float] | None:
+def cell_sizes(place: Sequence[float] | None, srs: str, top: int, rows: int) -> tuple[np.ndarray, float] | None:
     """The width of cells on the ground (of each row, as a column) and their height, in one unit.
 
     None where cells are squares, or where their sizes aren't known.

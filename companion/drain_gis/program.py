@@ -105,9 +105,7 @@ def run_to_its_end(command: Sequence[str], folder: Path) -> tuple[str, int, str]
     pipe = subprocess.PIPE
     with ExitStack() as ends:
         with put_off():
-            child = subprocess.Popen(
-                command, cwd=folder, stdin=subprocess.DEVNULL, stdout=pipe, stderr=pipe, text=True
-            )
+            child = subprocess.Popen(command, cwd=folder, stdin=subprocess.DEVNULL, stdout=pipe, stderr=pipe, text=True)
             ends.enter_context(child)
             ends.callback(child.kill)
         out, error = child.communicate()

@@ -120,7 +120,9 @@ def check_holds(name: str, dtype: np.dtype, nodata: float | None) -> None:
         return
     limits = np.iinfo(dtype)
     if not math.isfinite(nodata) or nodata != int(nodata) or not limits.min <= nodata <= limits.max:
-        raise CannotImport(f"--nodata {name}={number_text(nodata)}: {name} has pixels of the kind {dtype}, which can't hold it")
+        raise CannotImport(
+            f"--nodata {name}={number_text(nodata)}: {name} has pixels of the kind {dtype}, which can't hold it"
+        )
 
 
 class ArrayRaster(Raster):

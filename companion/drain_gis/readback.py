@@ -36,9 +36,7 @@ def expected(name: str, facts: Mapping[str, Any], numbers: np.ndarray, none: np.
     return np.where(none, 0, values + facts["shift"])
 
 
-def differences(
-    folder: Path, facts: Mapping[str, Any], rasters: Mapping[str, Raster], progress: Progress
-) -> list[str]:
+def differences(folder: Path, facts: Mapping[str, Any], rasters: Mapping[str, Raster], progress: Progress) -> list[str]:
     """A text for each file that doesn't say what its source says; none if all is well."""
     frame, found = frame_in(facts), []
     for name, raster in rasters.items():
