@@ -20,8 +20,8 @@ from printed import run
 
 FACTS = {
     "rows", "cols", "side", "down", "across", "tiles", "sinks", "tool", "known_by", "options", "sources", "dem",
-    "hashes", "versions", "nodata", "nodata_given", "place", "srs", "unit", "offset", "data", "per", "plus", "shift", "drop_sign",
-    "changed", "judged", "fits", "told", "own_ground",
+    "hashes", "versions", "nodata", "nodata_given", "place", "srs", "unit", "offset", "data", "per", "plus", "shift",
+    "drop_sign", "changed", "judged", "fits", "told", "own_ground",
 }  # fmt: skip
 FORMS = {"con": ("<h", "SIGNEDINT", -32768), "dir": ("<B", "UNSIGNEDINT", 255), "acc": ("<I", "UNSIGNEDINT", 0)}
 FORMS["bas"] = FORMS["acc"]
