@@ -12,6 +12,9 @@
 # make bench     measures it beside its twins in plain Rust (docs/BENCH.md)
 # make clean     drops what these made
 
+# A file that a failed command left in part is no target.
+.DELETE_ON_ERROR:
+
 PREFIX ?= /usr/local
 CRATES ?=
 

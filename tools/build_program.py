@@ -254,7 +254,7 @@ def main() -> int:
     target = words.target.absolute()
     if not words.anew and subprocess.run([TOP / "tools/is_proved.sh", target], stderr=subprocess.DEVNULL).returncode == 0:
         print(f"Unchanged since it was proved and built: {os.path.relpath(target, TOP)}")
-        return 0
+        return subprocess.run([TOP / "tools/build_library.sh", words.library]).returncode if words.library else 0
     if shutil.which("rt") is None:
         print(f"{words.crate} is built by the Rattle toolchain: put its command rt on the PATH", file=sys.stderr)
         return 1

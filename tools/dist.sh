@@ -20,7 +20,7 @@ take_program "$program"
 
 name=drain-$version-linux-x86_64
 root=$room/$name
-copy_files "$root" README.md LICENSE CHANGELOG.md CONTRIBUTING.md RELEASING.md SECURITY.md docs samples tools/demo.sh tools/demo.txt \
+copy_files "$root" README.md LICENSE CHANGELOG.md CONTRIBUTING.md RELEASING.md SECURITY.md docs samples examples tools/demo.sh tools/demo.txt \
     companion/README.md companion/pyproject.toml companion/drain-gis companion/drain_gis companion/qgis companion/examples
 mkdir -p "$root/bin" "$root/lib/drain/companion"
 mv "$root/companion/drain-gis" "$root/bin/drain-gis"

@@ -17,12 +17,14 @@ from drain_gis.picture import write_picture
 def read(path: str) -> np.ma.MaskedArray:
     """A raster's first band; cells without data are masked."""
     band = (source := gdal.Open(path)).GetRasterBand(1)
-    return np.ma.masked_array(source.ReadAsArray(), band.GetMaskBand().ReadAsArray() == 0)
+    return np.ma.masked_array(band.ReadAsArray(), band.GetMaskBand().ReadAsArray() == 0)
 
 
 dem, con, dir_, codes = *map(read, sys.argv[1:4]), sys.argv[4]
 verdict = drain_gis.audit(dem, con=con, dir=dir_, codes=codes)
 print(verdict)
+for name in ("faults.tif", "faults.png"):
+    Path(name).unlink(missing_ok=True)
 if not verdict:
     source = gdal.Open(sys.argv[1])
     facts = {"dem": sys.argv[1], "rows": dem.shape[0], "cols": dem.shape[1], "tool": codes, "judged": verdict.judged}

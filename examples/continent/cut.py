@@ -93,12 +93,15 @@ class BilRaster:
             bits = int(keys.get("NBITS", "8"))
             rows, cols = int(keys["NROWS"]), int(keys["NCOLS"])
             kind = keys.get("PIXELTYPE", "SIGNEDINT" if bits == 16 else "UNSIGNEDINT")
-            order, nodata = keys.get("BYTEORDER", "I"), int(Decimal(keys.get("NODATA", NO_DATA[name])))
-            west, north, steps = (Decimal(keys[key]) for key in ("ULXMAP", "ULYMAP", "XDIM"))
+            order, number = keys.get("BYTEORDER", "I"), Decimal(keys.get("NODATA", NO_DATA[name]))
+            west, north, steps, down = (Decimal(keys[key]) for key in ("ULXMAP", "ULYMAP", "XDIM", "YDIM"))
+            nodata = int(number)
             self.skipped = int(keys.get("SKIPBYTES", "0"))
             self.row_bytes = int(keys.get("TOTALROWBYTES", keys.get("BANDROWBYTES", str(cols * bits // 8))))
         except (KeyError, ValueError, InvalidOperation) as error:
             raise CannotCut(f"{path.with_suffix('.hdr')}: no header of a raster: {error}") from error
+        if nodata != number or abs(steps - down) > STEP_TOLERANCE:
+            raise CannotCut(f"{path}: a NODATA that isn't whole, or pixels that aren't square (XDIM, YDIM)")
         if bits not in (8, 16, 32) or kind not in ("SIGNEDINT", "UNSIGNEDINT") or keys.get("NBANDS", "1") != "1":
             raise CannotCut(f"{path}: not one band of whole numbers of 8, 16 or 32 bits")
         self.form = Form(rows, cols, bits, kind == "SIGNEDINT", order, nodata, west, north, steps)
@@ -154,7 +157,11 @@ def header_keys(path: Path) -> dict[str, str]:
     """The keywords of a header and their values, in capitals."""
     with open(path, encoding="latin-1") as file:
         lines = [line.split() for line in file.read(MOST_HEADER_BYTES).splitlines()]
-    return {words[0].upper(): words[1].upper() for words in lines if len(words) > 1}
+    keys: dict[str, str] = {}
+    for words in lines:
+        if len(words) > 1 and keys.setdefault(words[0].upper(), words[1].upper()) != words[1].upper():
+            raise CannotCut(f"{path}: {words[0]} stands twice")
+    return keys
 
 
 def opened(folder: Path, name: str) -> Raster:
@@ -192,8 +199,9 @@ def cut(raster: Raster, mosaic: Box) -> Iterator[bytes]:
         top, end, left, right = mosaic.row, mosaic.row, mosaic.col, mosaic.col
     west, east = form.blank(left - mosaic.col), form.blank(mosaic.col + mosaic.cols - right)
     yield from (form.blank(mosaic.cols) for _ in range(mosaic.row, top))
-    for pixels in raster.rows(Box(top, left, end - top, right - left)):
-        yield west + pixels + east
+    if top < end:
+        for pixels in raster.rows(Box(top, left, end - top, right - left)):
+            yield west + pixels + east
     yield from (form.blank(mosaic.cols) for _ in range(end, mosaic.row + mosaic.rows))
 
 

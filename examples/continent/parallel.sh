@@ -3,5 +3,5 @@
 # Usage: parallel.sh JOBS     at most this many windows at a time; the environment is that of job.sh
 set -u
 here=$(dirname "$0")
-parallel --will-cite --jobs "$1" --colsep ' ' --retries 2 "$here/job.sh" :::: "$OUT/windows.txt" || exit 3
+parallel --will-cite --jobs "$1" --colsep ' ' --retries 2 -q "$here/job.sh" :::: "$OUT/windows.txt" || exit 3
 exec "$here/merge.sh"

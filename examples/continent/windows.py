@@ -15,6 +15,7 @@ import argparse
 import os
 import re
 import sys
+import tempfile
 from collections.abc import Sequence
 from dataclasses import dataclass
 from pathlib import Path
@@ -124,8 +125,15 @@ class Tiles:
     """The tiles of a folder, with voids for corners where it has none."""
 
     def __init__(self, folder: Path, voids: Path, side: int) -> None:
-        corners = ((corner_of(path.name), path) for path in sorted(folder.iterdir()) if path.suffix)
-        self.paths = {corner: os.path.abspath(path) for corner, path in corners if corner}
+        self.paths: dict[Corner, str] = {}
+        for path in sorted(folder.iterdir()):
+            corner = corner_of(path.name) if path.suffix else None
+            if corner and str(corner) != path.stem.upper():
+                sys.exit(f"{path}: no tile has this name: it is {corner}.hgt")
+            if corner and corner in self.paths:
+                sys.exit(f"{path} and {self.paths[corner]} are one tile")
+            if corner:
+                self.paths[corner] = os.path.abspath(path)
         self.voids, self.side = voids, side
 
     def over(self, first: Corner, last: Corner) -> list[str]:
@@ -139,11 +147,24 @@ class Tiles:
         """A tile of voids with the name of this corner."""
         self.voids.mkdir(parents=True, exist_ok=True)
         voids, link = self.voids / "voids", self.voids / f"{corner}.hgt"
-        if not voids.exists():
-            voids.write_bytes(VOID_SAMPLE * self.side**2)
+        if not voids.exists() or voids.stat().st_size != len(VOID_SAMPLE) * self.side**2:
+            write_whole(voids, VOID_SAMPLE * self.side**2)
         if not link.is_symlink():
             link.symlink_to(voids.name)
         return os.path.abspath(link)
+
+
+def write_whole(path: Path, content: bytes) -> None:
+    """Writes a file, whole or not at all."""
+    with tempfile.NamedTemporaryFile(dir=path.parent, prefix=f"{path.name}.", delete=False) as file:
+        try:
+            file.write(content)
+            file.flush()
+            os.chmod(file.name, 0o644)
+            os.replace(file.name, path)
+        except BaseException:
+            os.unlink(file.name)
+            raise
 
 
 def plan(tiles: Tiles, first: Corner, last: Corner, width: int) -> list[Window]:
@@ -191,14 +212,15 @@ def main() -> None:
     known = [corner for corner in corners if corner]
     first = Corner(max(corner.lat for corner in known), min(corner.lon for corner in known))
     last = Corner(min(corner.lat for corner in known), max(corner.lon for corner in known))
+    # The scripts split a line at spaces, and the shell would look for files by the other signs.
+    if re.search(r"[\s*?\[\\]", os.path.abspath(given.tiles) + os.path.abspath(given.out)):
+        sys.exit("the path of the tiles or of OUT has a space or one of *?[\\: give one without them")
     given.out.mkdir(parents=True, exist_ok=True)
     windows = plan(tiles, first, last, given.width)
-    if any(len(str(window).split()) != 4 + len(window.tiles) for window in windows):
-        sys.exit("the path of a tile has a space: move the tiles, or give a path without one")
     file, text = given.out / "windows.txt", "".join(f"{window}\n" for window in windows)
     if file.exists() and file.read_text(encoding="utf-8") != text:
         sys.exit(f"{file} is another plan: take a new OUT, as reports of other windows may be there")
-    file.write_text(text, encoding="utf-8")
+    write_whole(file, text.encode())
     steps = given.side - 1
     size = f"{(first.lat - last.lat + 1) * steps + 1} rows, {(last.lon - first.lon + 1) * steps + 1} columns"
     print(f"{len(windows)} windows of a union of {size}, from {first} to {last}")

@@ -168,13 +168,21 @@ class Cuts(unittest.TestCase):
             header.write_text(header.read_text().replace("ULYMAP 2", "ULYMAP 12"))
         self.assertEqual(self.run_script(MIDDLE), "")
         self.judge(MIDDLE, {name: np.full_like(array, NO_DATA[name]) for name, array in self.arrays.items()})
+        for name, array in self.arrays.items():
+            (self.rasters / f"{name}.bil").unlink()
+            write_tif(self.rasters / f"{name}.tif", array, west=WEST + 50)
+        self.assertEqual(self.run_script(MIDDLE), "")
+        self.judge(MIDDLE, {name: np.full_like(array, NO_DATA[name]) for name, array in self.arrays.items()})
 
     def test_rasters_that_are_refused(self) -> None:
         con, header = self.rasters / "con.bil", self.rasters / "con.hdr"
         text, pixels = header.read_text(), con.read_bytes()
         for name, old, new, said in [
             ("half a pixel off", "ULXMAP -3.0", "ULXMAP -3.05", "aren't whole cells"),
-            ("other pixels", "XDIM 0.1", "XDIM 0.05", "0.05 degrees wide"),
+            ("other pixels", "DIM 0.1", "DIM 0.05", "0.05 degrees wide"),
+            ("no squares", "YDIM 0.1", "YDIM 0.2", "aren't square"),
+            ("a key twice", "NBITS 16", "NBITS 16\nNBITS 8", "NBITS stands twice"),
+            ("part of a number", "NBITS 16", "NBITS 16\nNODATA -9999.5", "isn't whole"),
             ("no place", "ULYMAP 2\n", "", "no header of a raster: 'ULYMAP'"),
             ("floating point", "SIGNEDINT", "FLOAT", "not one band of whole numbers"),
             ("64 bits", "NBITS 16", "NBITS 64", "not one band of whole numbers"),

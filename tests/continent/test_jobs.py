@@ -2,6 +2,7 @@
 
 import errno
 import os
+import re
 import shutil
 import signal
 import subprocess
@@ -30,6 +31,11 @@ exit "$status"
 def heed_interrupts() -> None:
     """A shell has what it starts in the background ignore interrupts."""
     signal.signal(signal.SIGINT, signal.SIG_DFL)
+
+
+def plain(words: str) -> str:
+    """Paths without the random endings of a job's folders."""
+    return re.sub(r"\b(r1c1|w)(\.cut)?\.\w{6}\b", r"\1\2", words)
 
 
 def reports_of(out: Path) -> list[str]:
@@ -97,7 +103,7 @@ class Jobs(unittest.TestCase):
         """What is there of answers, and of folders for work."""
         folders = ("lines", "reports", "work")
         return {
-            f"{name}/{path.name}": path.read_text() if path.is_file() else ""
+            f"{name}/{plain(path.name)}": path.read_text() if path.is_file() else ""
             for name in folders
             for path in (self.out / name).glob("*")
         }
@@ -149,7 +155,7 @@ class Jobs(unittest.TestCase):
         work = self.out / "work"
         expected = f"--inner nesw {tiles}"
         self.assertEqual(
-            words, f"window --side 5 --products {work}/r1c1.cut --box 1,1,6,6 --report {work}/r1c1/report {expected}"
+            plain(words), f"window --side 5 --products {work}/r1c1.cut --box 1,1,6,6 --report {work}/r1c1/report {expected}"
         )
 
     def test_words_of_one_window_with_sinks(self) -> None:
@@ -158,13 +164,13 @@ class Jobs(unittest.TestCase):
         (self.folder / "sinks.txt").write_text("9 9\n1 1\n")
         keep = self.folder / "drain-keep"
         keep.write_text(
-            f'#!/bin/sh\ncp "{self.folder}/cuts/w.cut/sinks.txt" "{self.folder}/kept"\nexec "{self.program}" "$@"\n'
+            f'#!/bin/sh\ncp "{self.folder}"/cuts/w.cut.*/sinks.txt "{self.folder}/kept"\nexec "{self.program}" "$@"\n'
         )
         keep.chmod(0o755)
         env = {"SINKS": str(self.folder / "sinks.txt"), "CUTS": str(self.folder / "cuts"), "DRAIN": str(keep)}
         run = self.run_script("job.sh", "w", "0,0,5,5", "-", "8,8,5,5", str(tile), **env)
         self.assertEqual((run.returncode, run.stderr), (0, ""))
-        (words,) = self.calls()
+        (words,) = map(plain, self.calls())
         cut = self.folder / "cuts/w.cut"
         self.assertTrue(
             words.startswith(f"window --side 5 --products {cut} --box 0,0,5,5 --report {self.out}/work/w/report")
@@ -172,6 +178,29 @@ class Jobs(unittest.TestCase):
         self.assertTrue(words.endswith(f" --sinks {cut}/sinks.txt {tile}"))
         self.assertEqual((self.folder / "kept").read_text(), "1 1\n\n")
         self.assertEqual(list((self.folder / "cuts").iterdir()), [])
+
+    def test_jobs_that_share_a_folder_for_cut_rasters_share_no_raster(self) -> None:
+        """Of another plan, or of the same window sent twice."""
+        for _ in range(2):
+            shutil.rmtree(self.out / "lines", ignore_errors=True)
+            self.assertEqual(self.job(CUTS=str(self.folder / "cuts")), 0)
+        first, second = (re.search(r"--products (\S+)", words)[1] for words in self.calls())
+        self.assertNotEqual(first, second)
+        self.assertEqual(plain(first), plain(second))
+
+    def test_what_is_not_set(self) -> None:
+        """It is a failure, never a status of an answer."""
+        for script, names in (("job.sh", ("DRAIN", "SIDE", "RASTERS", "OUT")), ("merge.sh", ("DRAIN", "OUT"))):
+            for name in names:
+                run = self.run_script(script, *self.lines[4].split(), **{name: ""})
+                self.assertEqual((run.returncode, run.stdout, "missing" in run.stderr), (3, "", True), f"{script} {name}")
+        (self.out / "windows.txt").unlink()
+        self.assertEqual(self.run_script("merge.sh").returncode, 3)
+        tasks = {"SLURM_ARRAY_TASK_MIN": "1", "SLURM_ARRAY_TASK_ID": "1", "HERE": str(EXAMPLE)}
+        for count, last in (("2", "2"), ("2", "3")):
+            env = {**tasks, "SLURM_ARRAY_TASK_COUNT": count, "SLURM_ARRAY_TASK_MAX": last}
+            self.assertEqual(self.run_script("slurm.sh", **env).returncode, 3, "no plan, or a gap between tasks")
+        self.assertEqual(self.calls(), [])
 
     def test_half_an_answer(self) -> None:
         """A line without its report, or a report without its line, is no answer."""
@@ -183,11 +212,11 @@ class Jobs(unittest.TestCase):
             self.assertEqual((len(self.calls()), len(self.kept())), (1, 2))
 
     def test_signals(self) -> None:
-        """A job that is stopped leaves no answer; one that is killed leaves a folder, which the next run replaces."""
+        """A job that is stopped leaves no answer; one that is killed leaves folders, which no other job takes."""
         os.mkfifo(self.out / "hang")
         for number, status, left in [
             (signal.SIGTERM, 143, set()),
-            (signal.SIGINT, 130, set()),
+            (signal.SIGINT, -signal.SIGINT, set()),
             (signal.SIGKILL, -9, {"work/r1c1", "work/r1c1.cut"}),
         ]:
             with self.subTest(number):
@@ -201,7 +230,7 @@ class Jobs(unittest.TestCase):
                 self.assertEqual(set(self.kept()), left)
                 self.calls()
         self.assertEqual(self.job(), 0)
-        self.assertEqual(set(self.kept()), {"lines/r1c1.txt", "reports/r1c1.txt"})
+        self.assertEqual(set(self.kept()), {"lines/r1c1.txt", "reports/r1c1.txt", "work/r1c1", "work/r1c1.cut"})
 
     def test_merge(self) -> None:
         """All reports are handed over; windows without one are named."""
@@ -241,16 +270,16 @@ class Jobs(unittest.TestCase):
         self.assertEqual(len(self.calls()), 2)
 
     def test_tasks_of_an_array(self) -> None:
+        tasks = {"SLURM_ARRAY_TASK_COUNT": "4", "SLURM_ARRAY_TASK_MIN": "1", "SLURM_ARRAY_TASK_MAX": "4"}
+        tasks["HERE"] = str(EXAMPLE)
         for task in range(1, 5):
-            env = {"SLURM_ARRAY_TASK_COUNT": "4", "SLURM_ARRAY_TASK_ID": str(task), "HERE": str(EXAMPLE)}
-            run = self.run_script("slurm.sh", **env)
+            run = self.run_script("slurm.sh", **tasks, SLURM_ARRAY_TASK_ID=str(task))
             self.assertEqual((run.returncode, run.stderr), (0, ""))
             self.assertEqual(len(self.calls()), 3 if task == 1 else 2)
         self.judge_all(run)
         (self.out / "lines/r0c0.txt").unlink()
         self.answer("3 failed OutOfMemory")
-        env = {"SLURM_ARRAY_TASK_COUNT": "4", "SLURM_ARRAY_TASK_ID": "1", "HERE": str(EXAMPLE)}
-        self.assertEqual(self.run_script("slurm.sh", **env).returncode, 3)
+        self.assertEqual(self.run_script("slurm.sh", **tasks, SLURM_ARRAY_TASK_ID="1").returncode, 3)
 
     @unittest.skipUnless(shutil.which("snakemake"), "snakemake isn't installed")
     def test_snakemake(self) -> None:

@@ -109,6 +109,34 @@ class Plans(unittest.TestCase):
         self.assertEqual(str(window).split()[2], "-")
         self.assertEqual([os.path.basename(tile) for tile in window.tiles], ["N00W001.hgt", "S01E000.hgt"])
 
+    def test_folders_of_tiles_that_are_refused(self) -> None:
+        for names, said in (
+            (("N01E002.hgt", "n01e002.HGT"), "are one tile"),
+            (("S00E002.hgt",), "no tile has this name: it is N00E002"),
+            (("N01W000.hgt",), "it is N01E000"),
+        ):
+            for path in self.tiles.iterdir():
+                path.unlink()
+            self.add(*names)
+            run = self.run_script("--side", "5")
+            self.assertEqual((run.returncode, said in run.stderr), (1, True), run.stderr)
+        other = self.folder / "g[12]"
+        other.mkdir()
+        (other / "N01E002.hgt").touch()
+        run = self.run_script("--side", "5", tiles=other)
+        self.assertEqual((run.returncode, "one of *?[" in run.stderr), (1, True), run.stderr)
+        self.assertFalse((self.folder / "out").exists())
+
+    def test_voids_of_another_side_are_written_again(self) -> None:
+        self.add("N01E001.hgt", "N00E002.hgt")
+        (self.folder / "out/voids").mkdir(parents=True)
+        (self.folder / "out/voids/voids").write_bytes(b"part")
+        found = self.windows("--side", "5", "--width", "1")
+        voids = {tile for window in found for tile in window.tiles if "/voids/" in tile}
+        self.assertTrue(voids)
+        for tile in voids:
+            self.assertEqual(Path(tile).read_bytes(), b"\x80\x00" * 25)
+
     def test_voids_stand_in_at_corners(self) -> None:
         self.add("N01E000.hgt", "N00E001.hgt")
         found = {window.name: window for window in self.windows("--side", "5", "--width", "1")}

@@ -50,7 +50,13 @@ int main(int argc, char **argv) {
         fprintf(stderr, "usage: %s audit|check SIDE DIRECTORY TILE...\n", argv[0]);
         return 2;
     }
-    uint32_t side = (uint32_t)strtoul(argv[2], NULL, 10);
+    char *end;
+    unsigned long long given = strtoull(argv[2], &end, 10);
+    if (end == argv[2] || *end || argv[2][0] == '-' || given > UINT32_MAX) {
+        fprintf(stderr, "not a side: %s\n", argv[2]);
+        return 4;
+    }
+    uint32_t side = (uint32_t)given;
     const char *directory = argv[3];
     size_t count = (size_t)(argc - 4);
     drain_tile *tiles = malloc(count * sizeof *tiles);
@@ -71,6 +77,7 @@ int main(int argc, char **argv) {
                                        read_raster(directory, "rnk")};
         drain_check(side, tiles, count, sinks, 0, &rasters, &answer);
     }
-    printf("%s\n", answer.line);
+    if (printf("%s\n", answer.line) < 0 || fflush(stdout))
+        return 4;
     return (int)answer.status;
 }

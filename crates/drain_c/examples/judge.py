@@ -97,10 +97,17 @@ def main(words: Sequence[str]) -> int:
     products = AUDITED if command == "audit" else CHECKED
     rasters = [tuple(Path(directory, product + end).read_bytes() for end in (".hdr", ".bil")) for product in products]
     tiles = [(Path(path).name, Path(path).read_bytes()) for path in paths]
+    if not 0 <= int(side) < 2**32:
+        raise ValueError(f"a side has 32 bits: {side}")
     answer = (drain.audit if command == "audit" else drain.check)(int(side), tiles, rasters)
-    print(answer.line)
+    print(answer.line, flush=True)
     return answer.status
 
 
 if __name__ == "__main__":
-    sys.exit(main(sys.argv[1:]))
+    try:
+        sys.exit(main(sys.argv[1:]))
+    except (OSError, ValueError) as error:
+        # Python's own status would be 1, which means rejected.
+        print(error, file=sys.stderr)
+        sys.exit(4)
