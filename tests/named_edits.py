@@ -65,6 +65,7 @@ ELSEWHERE = "./proofs/rows/Rows/other/Answers.antt:3:9: error: " + WRONG
 # What the prover prints, and the verdict on an edit of Rows::next in src/rows.rt.
 OUTPUTS = [
     ("proved", "fn made::rows::Rows::next: proved\n" + DONE, "NOT REFUSED"),
+    ("no code", "src/rows.rt:4:24: error[unknown-name]: no value named `x`\n", "NOT REFUSED: it does not compile"),
     ("not finished", NOT_PROVED + ANSWERS + WRONG, "NOT REFUSED: the check did not finish"),
     ("a goal of its own", ANSWERS + WRONG + NOT_PROVED + DONE, "refused by returns-clause-row"),
     ("a goal without an answer", FOUND + NOT_PROVED + DONE, "refused by returns-clause-row"),

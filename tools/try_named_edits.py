@@ -5,7 +5,8 @@ proof sees the contracts of what it calls and no body, so no edit helps another 
 libraries that rt ci built, so an edit takes some twenty seconds, while a try of the whole crate takes minutes.
 
 With --every the others are tried as well, each on the function that its first text is in. One that isn't refused there
-may be refused elsewhere in its crate: its name goes into FILE, and tools/try_edits.sh tries it on the whole crate.
+may be refused elsewhere in its crate: its name goes into FILE, and tools/try_edits.sh tries it on the whole crate. One that
+doesn't compile is a failure.
 
 An edit is a file of must-fail/ or more-edits/ as rt reads it; rt ignores the line 'only:'. Every edit of a crate is
 read, also those that aren't tried: each line has to be one of 'file: PATH', 'old: TEXT', 'new: TEXT' and 'only: PATH',
@@ -30,6 +31,8 @@ TOP = Path(__file__).resolve().parent.parent
 
 # What is said of a proof that names something which the wrong body doesn't have.
 OF_A_NAME = re.compile(r"has no field|is not in scope|that can be named from here|is no name that rattle asks for")
+# What is said of a wrong body that the compiler refuses: it shows nothing of the contracts.
+NO_CODE = "it does not compile"
 # What is said of a proof that rests on another one which was refused.
 OF_ANOTHER = "stands by its signature alone"
 
@@ -229,7 +232,8 @@ def verdict(crate: str, edit: Edit, said: str) -> tuple[str, bool]:
     only that of a callee, and not only that a proof names what the wrong body doesn't have, since another body of the
     same meaning would be refused for that too."""
     if not re.search(r"^only=\d+ proved=\d+$", said, re.M):
-        return "NOT REFUSED: the check did not finish", False
+        is_code = not re.search(r"^src/\S+: error\[", said, re.M)
+        return f"NOT REFUSED: {'the check did not finish' if is_code else NO_CODE}", False
     only = edit.only or ""
     found = re.search(rf"^fn {crate}::(?:\S+::)?{re.escape(only)}: (not proved|no proof.*)$", said, re.M)
     if not found:
@@ -260,14 +264,14 @@ def messages(said: str) -> Iterator[tuple[str, str]]:
 
 def main() -> None:
     """Tries the edits of the crates, prints a line for each, and fails if one isn't refused. With --every it fails only
-    where an edit can't be read."""
+    where an edit can't be read or doesn't compile."""
     words = argparse.ArgumentParser()
     words.add_argument("--every", metavar="FILE", type=Path)
     words.add_argument("crates", nargs="*", metavar="CRATE")
     given = words.parse_args()
     left: list[str] | None = [] if given.every else None
     below = libraries()
-    passed = failed = 0
+    passed = failed = broken = 0
     try:
         rounds = [found for name in given.crates or below for found in rounds_of(TOP / "crates" / name, left)]
     except BadEdit as bad:
@@ -277,6 +281,7 @@ def main() -> None:
             for name, (line, is_right, said) in run.result().items():
                 passed, failed = passed + is_right, failed + (not is_right)
                 print(f"{name}: {line}", flush=True)
+                broken += NO_CODE in line
                 if left is not None and not is_right:
                     left.append(name)
                 elif not is_right:
@@ -284,7 +289,7 @@ def main() -> None:
     print(f"edits: {passed} passed, {failed} failed")
     if left is not None:
         given.every.write_text("".join(f"{name}\n" for name in sorted(left)))
-    sys.exit(left is None and failed > 0)
+    sys.exit(broken > 0 or (left is None and failed > 0))
 
 
 if __name__ == "__main__":
