@@ -28,7 +28,7 @@ doc=$root/usr/share/doc/drain
 install -d "$root/DEBIAN" "$root/usr/share/man/man1" "$root/usr/share/lintian/overrides"
 install -D -m 755 "$room/drain" "$root/usr/bin/drain"
 "$top/tools/man_page.py" "$room/drain" | gzip -9n >"$root/usr/share/man/man1/drain.1.gz"
-copy_files "$doc" README.md CONTRIBUTING.md RELEASING.md SECURITY.md docs
+copy_files "$doc" README.md CONTRIBUTING.md RELEASING.md SECURITY.md docs examples
 copy_files "$doc/examples" samples tools/demo.sh tools/demo.txt
 install -m 644 "$room/PROVED" "$doc/PROVED"
 [ ! -f "$top/CHANGELOG.md" ] || gzip -9n <"$top/CHANGELOG.md" >"$doc/changelog.gz"
