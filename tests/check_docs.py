@@ -1,5 +1,5 @@
 #!/usr/bin/env python3
-"""Tests of tools/check_docs.py and tools/library_example.py: what each finds in a small project, and what it passes.
+"""Tests of tools/check_docs.py, check_readmes.py and library_example.py: what each finds, and what it passes.
 
 Usage: tests/check_docs.py
 """
@@ -24,6 +24,7 @@ def tool(name: str) -> types.ModuleType:
 
 
 check_docs = tool("check_docs")
+check_readmes = tool("check_readmes")
 library_example = tool("library_example")
 
 PROGRAM = """#!/bin/sh
@@ -150,6 +151,40 @@ class Documents(unittest.TestCase):
     def test_words_are_counted(self) -> None:
         expected = ["64000 characters, more than 120", "32003 words, more than 32000"]
         self.assertEqual(self.faults("x " * 32_000)[0], expected)
+
+
+FORM = "# drain_grid\n\n**Job:** a.\n\n**Begin with:** `src/cell`, `specs/Open`.\n\n**Apart:** b.\n\n**No clause says:** c.\n"
+PARTS = "its paragraphs aren't **Job:**, **Begin with:**, **Apart:**, **No clause says:**"
+
+# What is changed in the README of a crate that has these files, and what is reported of it.
+READMES = [
+    ("the form", "", "", []),
+    ("another title", "drain_grid", "grid", ["its title isn't # drain_grid"]),
+    ("a part without its label", "**Apart:** ", "", [PARTS]),
+    ("parts in another order", "**Job:** a.\n\n**Begin", "**Begin", [PARTS]),
+    ("an empty part", "**Apart:** b.", "**Apart:**", [PARTS]),
+    ("a part more", "c.\n", "c.\n\n| Where | What |\n", [PARTS]),
+    ("a file that isn't there", "src/cell", "src/none.rt", ["no src/none.rt"]),
+    ("no file to begin with", "`src/cell`, `specs/Open`", "the code", ["names no file to begin with"]),
+    ("120 words", "c.", "c" + " c" * 106, []),
+    ("121 words", "c.", "c" + " c" * 107, ["121 words, more than 120"]),
+]
+
+
+class Readmes(unittest.TestCase):
+    def test_readmes(self) -> None:
+        for name, old, new, expected in READMES:
+            with self.subTest(name), tempfile.TemporaryDirectory() as scratch:
+                crate = pathlib.Path(scratch) / "drain_grid"
+                readme = FORM.replace(old, new, 1)
+                for file, text in (("src/cell.rt", ""), ("specs/Open.antt", ""), ("README.md", readme)):
+                    (crate / file).parent.mkdir(parents=True, exist_ok=True)
+                    (crate / file).write_text(text, encoding="utf-8")
+                self.assertEqual(check_readmes.faults_of(crate), expected)
+
+    def test_no_readme(self) -> None:
+        with tempfile.TemporaryDirectory() as scratch:
+            self.assertEqual(check_readmes.faults_of(pathlib.Path(scratch)), ["no README.md"])
 
 
 class Example(unittest.TestCase):

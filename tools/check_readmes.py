@@ -1,75 +1,54 @@
 #!/usr/bin/env python3
-"""Checks that each crate's README names its files, and no others.
+"""Checks that each crate's README has one form and at most 120 words.
 
-They are named in the first column of tables with the head '| Where | What |': `src/read.rt`, `specs/Reads`,
-`proofs/Reading`. In one cell a name without a folder is in the folder of the one before it. Of proofs/ only the files at its
-top count, not those of a function's own folder; lib.rt, main.rt and Lib.antt need no name. Elsewhere in a README a path into
-these folders has to exist.
-Usage: tools/check_readmes.py    (prints each name that is missing or stale, and then exits with 1)
+A README is its title `# NAME` and four paragraphs, each with its label in front:
+- **Job:** what the crate is for;
+- **Begin with:** where to begin reading: one of its files at least;
+- **Apart:** why it is a crate of its own;
+- **No clause says:** what a wrong body could still do, or, of a crate of tests, what these show that no clause says.
+A path into its src/, specs/ or proofs/ has to exist, with or without its ending.
+
+Usage: tools/check_readmes.py    (prints each fault, and then exits with 1)
 """
+
 import pathlib
 import re
 import sys
 
-FOLDERS = {"src": ".rt", "specs": ".antt", "proofs": ".antt"}
-NEED_NO_NAME = {"src/lib", "src/main", "specs/Lib", "proofs/Lib"}
+LABELS = ["Job", "Begin with", "Apart", "No clause says"]
+MAX_WORDS = 120
+PATH = re.compile(r"`((?:src|specs|proofs)/[\w/.]+)`")
+LABEL = re.compile(r"\*\*([^*]+):\*\* \S")
 
 
-def files_of(crate):
-    """The files of a crate, each as its folder and its name without an ending, as src/tests/headers."""
-    found = set()
-    for folder, ending in FOLDERS.items():
-        top = crate / folder
-        paths = top.rglob("*" + ending) if folder == "src" else top.glob("*" + ending)
-        found.update(path.relative_to(crate).as_posix().removesuffix(ending) for path in paths)
-    return found
+def is_there(crate: pathlib.Path, path: str) -> bool:
+    return any((crate / (path + ending)).exists() for ending in ("", ".rt", ".antt"))
 
 
-def without_ending(name):
-    return re.sub(r"\.(rt|antt)$", "", name)
-
-
-def first_cells(lines):
-    """The first cells of the tables of files."""
-    inside = False
-    for line in lines:
-        if not line.startswith("|"):
-            inside = False
-        elif line.startswith("| Where | What |"):
-            inside = True
-        elif inside and not line.startswith("|---"):
-            yield line.split("|")[1]
-
-
-def named_in(cell):
-    """The names of a cell, each with its folder."""
-    folder = ""
-    for name in re.findall(r"`([^`]+)`", cell):
-        if name.split("/")[0] in FOLDERS:
-            folder = name.rsplit("/", 1)[0]
-            yield name
-        elif name.endswith("/"):
-            yield name
-        else:
-            yield f"{folder}/{name}"
-
-
-def faults_of(crate):
+def faults_of(crate: pathlib.Path) -> list[str]:
+    """What is wrong with the README of a crate."""
     readme = crate / "README.md"
     if not readme.is_file():
         return ["no README.md"]
     text = readme.read_text(encoding="utf-8")
-    files = files_of(crate)
-    named = {without_ending(name) for cell in first_cells(text.splitlines()) for name in named_in(cell)}
-    pathlike = {without_ending(name) for name in re.findall(r"`((?:src|specs|proofs)/[\w/.]*)`", text)}
-    faults = [f"names {name}, which isn't there" for name in sorted(named | pathlike) if name not in files and not (crate / name).is_dir()]
-    return faults + [f"doesn't name {name}" for name in sorted(files - named - NEED_NO_NAME)]
+    title, *paragraphs = re.split(r"\n\s*\n", text.strip())
+    labels = [label[1] if (label := LABEL.match(paragraph)) else "" for paragraph in paragraphs]
+    faults = [f"no {path}" for path in PATH.findall(text) if not is_there(crate, path)]
+    if title != f"# {crate.name}":
+        faults.append(f"its title isn't # {crate.name}")
+    if labels != LABELS:
+        faults.append("its paragraphs aren't " + ", ".join(f"**{label}:**" for label in LABELS))
+    elif not PATH.search(paragraphs[LABELS.index("Begin with")]):
+        faults.append("names no file to begin with")
+    if len(text.split()) > MAX_WORDS:
+        faults.append(f"{len(text.split())} words, more than {MAX_WORDS}")
+    return faults
 
 
-def main():
+def main() -> int:
     crates = sorted((pathlib.Path(__file__).resolve().parent.parent / "crates").iterdir())
     faults = [f"{crate.name}/README.md: {fault}" for crate in crates if crate.is_dir() for fault in faults_of(crate)]
-    print("\n".join(faults) if faults else "ok: each crate's README names its files")
+    print("\n".join(faults) if faults else "ok: each crate's README has its four parts and at most 120 words")
     return 1 if faults else 0
 
 
