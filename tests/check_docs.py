@@ -137,23 +137,27 @@ class Documents(unittest.TestCase):
             self.assertEqual(check_docs.faults_of(folder), expected)
 
     def test_definitions(self) -> None:
-        page = "# D\n\n`Cell.a` by `Cell.b`\n\n## Cells (`drain_grid`)\n\n`Cell.a` and `Cell.b`, `c`\n"
-        page += "- drain_text\n  `Row.d`\n- `Row.d`\n"
+        cell, row = (f"(../crates/{crate}.antt)" for crate in ("drain_grid/specs/Cell", "drain_text/specs/Row"))
+        page = f"# D\n\nBy `a`.\n\n- [Cell]{cell}: `a`,\n  `b`\n- [Rows]{row}: `a`, `d`\n"
+        page += f"- [Cell]{cell}, [Row]{row}: `a`, `d`\n"
         with tempfile.TemporaryDirectory() as scratch:
             folder = project(pathlib.Path(scratch), "")
-            for name, text in (("drain_grid/specs/Cell.antt", "a ab"), ("drain_text/specs/Row.antt", "d")):
-                (folder / "crates" / name).parent.mkdir(parents=True, exist_ok=True)
-                (folder / "crates" / name).write_text(text, encoding="utf-8")
+            specs = {"drain_grid/specs/Cell": "a ab", "drain_text/specs/Row": "d", "drain_c/specs/Own": ""}
+            for name, text in specs.items():
+                file = folder / f"crates/{name}.antt"
+                file.parent.mkdir(parents=True, exist_ok=True)
+                file.write_text(text, encoding="utf-8")
             (folder / "docs/DEFINITIONS.md").write_text(page, encoding="utf-8")
-            expected = [f"docs/DEFINITIONS.md:{fault}" for fault in ("7: no definition Cell.b", "10: no definition Row.d")]
-            self.assertEqual(check_docs.faults_of(folder), expected)
+            faults = ["6: no definition b", "7: Rows is Row", "7: no definition a", "8: no definition of drain_c"]
+            self.assertEqual(check_docs.faults_of(folder), [f"docs/DEFINITIONS.md:{fault}" for fault in faults])
 
     def test_words_are_counted(self) -> None:
         expected = ["64000 characters, more than 120", "32003 words, more than 32000"]
         self.assertEqual(self.faults("x " * 32_000)[0], expected)
 
 
-FORM = "# drain_grid\n\n**Job:** a.\n\n**Begin with:** `src/cell`, `specs/Open`.\n\n**Apart:** b.\n\n**No clause says:** c.\n"
+FORM = "# drain_grid\n\n**Job:** a.\n\n**Begin with:** `src/cell`, `specs/Open`.\n\n"
+FORM += "**Apart:** b.\n\n**No clause says:** c.\n"
 PARTS = "its paragraphs aren't **Job:**, **Begin with:**, **Apart:**, **No clause says:**"
 
 # What is changed in the README of a crate that has these files, and what is reported of it.

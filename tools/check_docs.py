@@ -6,7 +6,7 @@ It reports, each with its file and line:
 - a path, a link, a target of `make`, or a command or option of `drain` that doesn't exist;
 - a line of README.md over 100 characters, a README.md over 80 lines, and a line of the other pages or of docs/ over
   120 characters (200 in a table; code is exempt);
-- a definition `Module.name` of docs/DEFINITIONS.md that no crate has which its heading or its entry names;
+- a name in an entry of docs/DEFINITIONS.md that no file which it links has, and a crate with specs/ that it leaves out;
 - a word that readers don't know (WORDS), outside code; and docs/ over 32,000 words in all;
 - with PROGRAM, an example whose output isn't what the program prints.
 
@@ -44,7 +44,7 @@ LINK = re.compile(r"\]\(([^)\s]+)\)")
 SPAN = re.compile(r"`([^`]+)`")
 DRAIN = re.compile(r"(?<![\w./-])(?:build/)?drain\s+([a-z]+|--[a-z-]+)(?![\w/:=.])([^|]*)")
 EXAMPLE = re.compile(r"^\$ (?:.*\s)?(?:build/)?drain ")
-QUALIFIED = re.compile(r"`([A-Z]\w*)\.(\w+)`")
+DEFINITION = re.compile(r"\[(\w+)\]\(\.\./(crates/\w+/specs/(\w+)\.antt)\)|`(\w+)`")
 MARK = "@@ end of a command @@"
 
 
@@ -196,19 +196,22 @@ def word_faults(lines: list[Line]) -> Iterator[tuple[int, str]]:
 
 
 def definition_faults(root: pathlib.Path, lines: list[Line]) -> Iterator[tuple[int, str]]:
-    heading: list[str] = []
-    entry: list[str] = []
+    """What an entry names that no file which it links has, and the crates with definitions that the page leaves out."""
+    texts: list[str] = []
     for line in lines:
         if line.text.startswith("- ") or not line.text:
-            entry = []
-        entry += re.findall(r"\bdrain_\w+", line.text)
-        if line.text.startswith("#"):
-            heading, entry = entry, []
-        for module, name in QUALIFIED.findall(line.text) if heading else []:
-            files = [root / "crates" / crate / "specs" / f"{module}.antt" for crate in heading + entry]
-            texts = [file.read_text(encoding="utf-8") for file in files if file.exists()]
-            if not any(re.search(rf"\b{name}\b", text) for text in texts):
-                yield line.number, f"no definition {module}.{name}"
+            texts = []
+        for title, path, module, name in DEFINITION.findall(line.text):
+            if path and (root / path).exists():
+                texts.append((root / path).read_text(encoding="utf-8"))
+            if path and title != module:
+                yield line.number, f"{title} is {module}"
+            if name and texts and not any(re.search(rf"\b{name}\b", text) for text in texts):
+                yield line.number, f"no definition {name}"
+    page = "\n".join(line.text for line in lines)
+    for crate in sorted(folder.parent.name for folder in root.glob("crates/*/specs")):
+        if f"/{crate}/" not in page:
+            yield len(lines), f"no definition of {crate}"
 
 
 def examples_of(lines: list[Line]) -> Iterator[list[Shown]]:
