@@ -28,8 +28,8 @@ impl Placing for InPlace {
     }
 }
 
-/// Gives the files their names if all of them were written, and returns what is to be reported. After a fault no name
-/// changes.
+/// Gives the files their names if all of them were written, and returns what is to be reported. If one wasn't, no name
+/// changes; a name that can't be given may come after others that were.
 pub fn place_written<P: Placing>(
     written: Result<(), SetFault>,
     places: &mut P,
