@@ -151,6 +151,15 @@ class Documents(unittest.TestCase):
             faults = ["6: no definition b", "7: Rows is Row", "7: no definition a", "8: no definition of drain_c"]
             self.assertEqual(check_docs.faults_of(folder), [f"docs/DEFINITIONS.md:{fault}" for fault in faults])
 
+    def test_claims(self) -> None:
+        table = "| `make`: `made`, `none` | `other` |\n| drain_grid, `Cell` | |\n\n`none`\n"
+        with tempfile.TemporaryDirectory() as scratch:
+            folder = project(pathlib.Path(scratch), "")
+            code = "pub struct Cell;\npub fn make()\n    ensures made { a }\n"
+            (folder / "crates/drain_grid/src/cell.rt").write_text(code, encoding="utf-8")
+            (folder / "docs/PROVED.md").write_text(table, encoding="utf-8")
+            self.assertEqual(check_docs.faults_of(folder), ["docs/PROVED.md:1: no call or clause none"])
+
     def test_words_are_counted(self) -> None:
         expected = ["64000 characters, more than 120", "32003 words, more than 32000"]
         self.assertEqual(self.faults("x " * 32_000)[0], expected)

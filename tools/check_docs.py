@@ -7,6 +7,7 @@ It reports, each with its file and line:
 - a line of README.md over 100 characters, a README.md over 80 lines, and a line of the other pages or of docs/ over
   120 characters (200 in a table; code is exempt);
 - a name in an entry of docs/DEFINITIONS.md that no file which it links has, and a crate with specs/ that it leaves out;
+- a call or clause in the first column of docs/PROVED.md that no code has;
 - a word that readers don't know (WORDS), outside code; and docs/ over 32,000 words in all;
 - with PROGRAM, an example whose output isn't what the program prints.
 
@@ -44,6 +45,7 @@ LINK = re.compile(r"\]\(([^)\s]+)\)")
 SPAN = re.compile(r"`([^`]+)`")
 DRAIN = re.compile(r"(?<![\w./-])(?:build/)?drain\s+([a-z]+|--[a-z-]+)(?![\w/:=.])([^|]*)")
 EXAMPLE = re.compile(r"^\$ (?:.*\s)?(?:build/)?drain ")
+CONTRACT = re.compile(r"\b(?:fn|ensures|struct)\s+(\w+)")
 DEFINITION = re.compile(r"\[(\w+)\]\(\.\./(crates/\w+/specs/(\w+)\.antt)\)|`(\w+)`")
 MARK = "@@ end of a command @@"
 
@@ -214,6 +216,16 @@ def definition_faults(root: pathlib.Path, lines: list[Line]) -> Iterator[tuple[i
             yield len(lines), f"no definition of {crate}"
 
 
+def claim_faults(root: pathlib.Path, lines: list[Line]) -> Iterator[tuple[int, str]]:
+    """The calls and clauses in the first column of docs/PROVED.md that no code has."""
+    sources = (path.read_text(encoding="utf-8") for path in root.glob("crates/*/src/**/*.rt"))
+    known = {name for text in sources for name in CONTRACT.findall(text)}
+    for line in lines:
+        for name in re.findall(r"`(\w+)`", line.text.split("|")[1]) if line.text.startswith("|") else []:
+            if name not in known:
+                yield line.number, f"no call or clause {name}"
+
+
 def examples_of(lines: list[Line]) -> Iterator[list[Shown]]:
     """The examples of a document: the commands of each block that has one of drain's."""
     block: list[Shown] = []
@@ -315,6 +327,8 @@ def faults_of(root: pathlib.Path, program: pathlib.Path | None = None, write: bo
         found = [*word_faults(lines), *neighbour_faults(root, lines)]
         if name == "docs/DEFINITIONS.md":
             found += definition_faults(root, lines)
+        if name == "docs/PROVED.md":
+            found += claim_faults(root, lines)
         for line in lines:
             for fault in (
                 *path_faults(root, document, line),
