@@ -161,8 +161,16 @@ class Documents(unittest.TestCase):
             self.assertEqual(check_docs.faults_of(folder), ["docs/PROVED.md:1: no call or clause none"])
 
     def test_words_are_counted(self) -> None:
-        expected = ["64000 characters, more than 120", "32003 words, more than 32000"]
-        self.assertEqual(self.faults("x " * 32_000)[0], expected)
+        with tempfile.TemporaryDirectory() as scratch:
+            folder = project(pathlib.Path(scratch), "and two")
+            others = {"samples/A.md": 20_000, "crates/drain_grid/DESIGN.md": 19_993}
+            built = {"build/B.md": 9, "crates/drain_grid/out/C.md": 9}
+            for name, words in (others | built).items():
+                (folder / name).parent.mkdir(exist_ok=True)
+                (folder / name).write_text("x " * words, encoding="utf-8")
+            self.assertEqual(check_docs.faults_of(folder), [])
+            (folder / "samples/D.md").write_text("x", encoding="utf-8")
+            self.assertEqual(check_docs.faults_of(folder), ["all .md: 40001 words, more than 40000"])
 
 
 FORM = "# drain_grid\n\n**Job:** a.\n\n**Begin with:** `src/cell`, `specs/Open`.\n\n"

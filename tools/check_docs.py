@@ -8,7 +8,7 @@ It reports, each with its file and line:
   120 characters (200 in a table; code is exempt);
 - a name in an entry of docs/DEFINITIONS.md that no file which it links has, and a crate with specs/ that it leaves out;
 - a call or clause in the first column of docs/PROVED.md that no code has;
-- a word that readers don't know (WORDS), outside code; and docs/ over 32,000 words in all;
+- a word that readers don't know (WORDS), outside code; and over 40,000 words in all .md files;
 - with PROGRAM, an example whose output isn't what the program prints.
 
 An example is a fenced block with a line `$ drain ..` or `$ build/drain ..`. All its lines `$ ..` are run, in order, by
@@ -31,7 +31,7 @@ import sys
 import tempfile
 from collections.abc import Iterator
 
-README_LINE, README_LINES, DOCS_LINE, TABLE_LINE, DOCS_WORDS = 100, 80, 120, 200, 32_000
+README_LINE, README_LINES, DOCS_LINE, TABLE_LINE, ALL_WORDS = 100, 80, 120, 200, 40_000
 WORDS = re.compile(
     r"\b(noughts?|want\s+of\s+memory|(?:is|are|was|were)\s+(?:told|asked\s+for)|hand(?:s|ed)\s+out|whoever"
     r"|a\s+word\s+on|faults?\s+of\s+the\s+words)\b",
@@ -314,12 +314,21 @@ def documents_of(root: pathlib.Path) -> list[pathlib.Path]:
     return [path for pattern in patterns for path in sorted(root.glob(pattern))]
 
 
+def words_of(root: pathlib.Path) -> int:
+    """The words of all .md files below a folder, but for what is built."""
+    words = 0
+    for folder, folders, files in os.walk(root):
+        folders[:] = [name for name in folders if name not in ("out", "build") and not name.startswith(".")]
+        texts = (pathlib.Path(folder, name).read_text(encoding="utf-8") for name in files if name.endswith(".md"))
+        words += sum(len(text.split()) for text in texts)
+    return words
+
+
 def faults_of(root: pathlib.Path, program: pathlib.Path | None = None, write: bool = False) -> list[str]:
     """What is wrong with the documents below a folder."""
     targets = set(re.findall(r"^([\w./-]+):", (root / "Makefile").read_text(encoding="utf-8"), re.MULTILINE))
     options = options_of(root)
     faults: list[str] = []
-    words = 0
     for document in documents_of(root):
         name = document.relative_to(root).as_posix()
         text = document.read_text(encoding="utf-8")
@@ -346,9 +355,8 @@ def faults_of(root: pathlib.Path, program: pathlib.Path | None = None, write: bo
                 write_examples(document, differing)
             found += [(shown.number, "prints: " + " / ".join(printed)[:300]) for shown, printed in differing]
         faults += [f"{name}:{number}: {fault}" for number, fault in sorted(set(found))]
-        words += len(text.split()) if name.startswith("docs/") else 0
-    if words > DOCS_WORDS:
-        faults.append(f"docs: {words} words, more than {DOCS_WORDS}")
+    if (words := words_of(root)) > ALL_WORDS:
+        faults.append(f"all .md: {words} words, more than {ALL_WORDS}")
     return faults
 
 
