@@ -42,7 +42,7 @@ done
 make_large funnel
 mkdir "$large/out"
 judge_words 'products made of twelve tiles' 0 'made rows=3601 cols=4801' make --out "$large/out" "${large_tiles[@]}"
-# The same with progress: a line for the part that is made, and all lines are those of docs/GUIDE.md.
+# The same with progress: a line for the part that is made, and all lines are those of docs/COMMANDS.md.
 want 'made rows=3601 cols=4801'
 "$drain" make --progress --out "$large/out" "${large_tiles[@]}" 2>"$scratch/lines" >"$scratch/out"
 status=$?
