@@ -20,11 +20,10 @@ use drain_hgt::TileInput;
 use drain_hgt::laws::one_name;
 use drain_mosaic::Layout;
 use drain_paths::{CellFlows, CertifyRefusal};
-use drain_rows::BothVisitors;
-use drain_rules::{GridWalk, Ranks};
+use drain_rules::Ranks;
 use drain_verdict::AuditProducts;
-use drain_verdict::answer::answer_on;
 use drain_verdict::layout::layout_of;
+use drain_verdict::read_inputs::read_inputs;
 use std::alloc::Global;
 use thiserror::Error;
 
@@ -125,7 +124,7 @@ fn read_flows<R: ByteSource>(
     Ok(MosaicFlows { layout, flows })
 }
 
-/// The flows of tiles and dir of this mosaic. The rules are tried beside, up to the first that fails.
+/// The flows of tiles and dir of this mosaic. No rule is tried.
 fn flows_on<R: ByteSource>(
     alloc: Global,
     layout: &Layout,
@@ -141,13 +140,10 @@ fn flows_on<R: ByteSource>(
 {
     // The law that bytes name one tile.
     one_name();
-    let mut notes = BothVisitors {
-        first: CellFlows::new(alloc),
-        second: GridWalk::new(alloc),
-    };
+    let mut flows = CellFlows::new(alloc);
     let ranks = Ranks::Ignored;
-    answer_on(alloc, layout, sinks, tiles, products, ranks, &mut notes)?;
-    counted(notes.first, layout.shape())
+    read_inputs(alloc, layout, sinks, tiles, products, ranks, &mut flows)?;
+    counted(flows, layout.shape())
 }
 
 /// The flows if there is one for each cell, which there always is if the sources' bytes are known.

@@ -19,7 +19,7 @@ pub use grid_rows::GridRows;
 pub use listed_voids::ListedVoids;
 pub use row_buffer::RowBuffer;
 pub use row_flows::first_endless;
-pub use row_verdict::{RowVerdict, verdict_by_rows};
+pub use row_verdict::{RowVerdict, verdict_by_rows, visit_rows};
 pub use row_visitor::{RowVisitor, VerdictVisitor};
 pub use walk_stop::WalkStop;
 pub use whole_rows::verdict_row_by_row;

@@ -58,6 +58,37 @@ pub fn verdict_by_rows<T, P, S: GridRows<T, P>, K: VerdictVisitor>(
     ensures stops { IfErr result (IsRowsStop S.has_read (source.old, tiles.old, products.old) (source.new, tiles.new, products.new)
         (OfGrid (S.gives (source.old, tiles.old, products.old)) shape sinks.now (K.wants rules.now) ⊎ ¬ (sinks.now ≡ []))) }
 {
+    let voids = visit_rows(alloc, shape, sinks, rules, source, tiles, products, notes)?;
+    let verdict = notes.verdict(shape);
+    Ok(RowVerdict { verdict, voids })
+}
+
+/// Shows the visitor each row of the grid of this shape and with these sinks, whose rows the source gives, and returns
+/// the listed sinks that are voids.
+///
+/// It asks for one row more than there are, and gets none. It stops if the source does, or if memory runs out where the
+/// visitor needs memory or there are sinks.
+pub fn visit_rows<T, P, S: GridRows<T, P>, K: RowVisitor>(
+    alloc: Global,
+    shape: Shape,
+    sinks: &Sinks,
+    rules: &Rules,
+    source: &mut S,
+    tiles: &mut [T],
+    products: &mut P,
+    notes: &mut K,
+) -> Result<ListedVoids, WalkStop<S::Stop>>
+    requires counted { length tiles.old ≡ S.count source.old }
+    requires uncounted { K.counts 0 notes.old }
+    requires unnoted { (g : Grid) (ps : Products) → K.are_of rules.now g ps 0 notes.old }
+    ensures voids { IfOk result (λ voids. OfGrid (S.gives (source.old, tiles.old, products.old)) shape sinks.now (λ g ps. AreListedVoids g voids)) }
+    ensures noted { OnOk result (OfGrid (S.gives (source.old, tiles.old, products.old)) shape sinks.now (λ g ps. K.are_of rules.now g ps g.extent.rows notes.new)) }
+    ensures lasting { OnOk result (K.lasting notes.new ≡ K.lasting notes.old) }
+    ensures given { OnOk result ((rows : ℕ → RowNumbers) → S.gives (source.old, tiles.old, products.old) rows 0 → S.gives (source.new, tiles.new, products.new) rows (shape.rows + 1)) }
+    ensures reads { OnOk result (ReadsOn S.has_read (source.old, tiles.old, products.old) (source.new, tiles.new, products.new) (shape.rows + 1) None) }
+    ensures stops { IfErr result (IsRowsStop S.has_read (source.old, tiles.old, products.old) (source.new, tiles.new, products.new)
+        (OfGrid (S.gives (source.old, tiles.old, products.old)) shape sinks.now (K.wants rules.now) ⊎ ¬ (sinks.now ≡ []))) }
+{
     let mut window = Window::new(alloc);
     let mut voids = ListedVoids::new(alloc);
     note_rows(
@@ -71,8 +102,7 @@ pub fn verdict_by_rows<T, P, S: GridRows<T, P>, K: VerdictVisitor>(
         &mut window,
         &mut voids,
     )?;
-    let verdict = notes.verdict(shape);
-    Ok(RowVerdict { verdict, voids })
+    Ok(voids)
 }
 
 /// Notes each row of the grid and its listed sinks that are voids, from an empty window and an empty list.

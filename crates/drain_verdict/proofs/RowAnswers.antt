@@ -1,5 +1,5 @@
 -- The answer to the bytes of a check, once all rows are read: the first refusal that applies, or the verdict.
-use Rattle.std.proofs.Common.{◌≡◌, ◌<◌, ℕ, pos, List, [], length, Option, Some, None, MatchOption, Ok, Err, arith, refl, sym, ap, subst, ◌∙◌}
+use Rattle.std.proofs.Common.{◌≡◌, ◌<◌, ℕ, pos, List, [], length, Option, Some, None, MatchOption, Err, arith, refl, sym, ap, subst, ◌∙◌}
 use Rattle.std.specs.Prelude.{slice_index_or, unwrap_or}
 use Rattle.std.specs.List.{All}
 use Rattle.drain_device.specs.ComingRows.{nth_row}
@@ -13,7 +13,6 @@ use Rattle.drain_grid.specs.Grid.{set_number_in}
 use Rattle.drain_grid.specs.SetProduct.{OfSetProduct, product_of}
 use Rattle.drain_grid.specs.Product.{default_no_data}
 use Rattle.drain_grid.specs.Size.{Extent}
-use Rattle.drain_grid.specs.Values.{NoDataNumbers}
 use Rattle.drain_header.specs.Fields.{Fields}
 use Rattle.drain_hgt.specs.Inputs.{IsFirstBadLength}
 use Rattle.drain_hgt.specs.Samples.{IsTile}
@@ -25,13 +24,9 @@ use Rattle.drain_raster.specs.Pixels as pixels
 use Rattle.drain_raster.specs.Pixels.{IsShort}
 use Rattle.drain_rules.specs.RowNumbers.{AreNumbersOf, blank}
 use Rattle.drain_rules.specs.Rows.{place}
-use Rattle.drain_kernel.specs.Rules.{rules_with}
-use Rattle.drain_rules.specs.Verdicts.{IsVerdictOf}
-use Rattle.drain_kernel.specs.declared.rules.Ranks.{Ranks}
-use Rattle.drain_rules.specs.declared.verdict.Verdict.{Verdict}
 use Rattle.drain_grid.specs.declared.sink_line.SinkLine.{SinkLine}
 use Rattle.drain_grid.specs.SinkLines.{is_listed}
-use Rattle.drain_verdict.specs.Answers.{AreReadable, IsAnswer, IsAnswerWith}
+use Rattle.drain_verdict.specs.Answers.{IsAnswer}
 use Rattle.drain_rows.specs.GridRows.{AreRowsOf}
 use Rattle.drain_rows.specs.RowBuffers.{IsEven}
 use Rattle.drain_verdict.specs.InputRows.{IsFirstOf, IsToldRefusal}
@@ -184,7 +179,3 @@ module _ (laws : RowLaws) (i : Inputs) (hs : PerProduct Fields) (fields : (p : S
   pub told_none : IsToldRefusal t wrong Short seam None → NoneStandsBefore i 5 → NoneStandsBefore i 8
   told_none (none_wrong, none, no_seam) before =
       seams_none i (tiles_agree none_wrong no_seam) (rasters_none i (none_short none) (tiles_none i (whole_tiles none_wrong) before))
-
-  -- and the verdict on the rows is the answer
-  pub verdict_is : (ranks : Ranks) (verdict : Verdict) → AreReadable i → IsVerdictOf (rules_with ranks (nodata_in hs)) (input_grid i) (input_products i) verdict → IsAnswerWith ranks i (Ok verdict)
-  verdict_is ranks verdict none is = (none, subst (λ (n : NoDataNumbers). IsVerdictOf (rules_with ranks n) (input_grid i) (input_products i) verdict) nodata_are is)

@@ -1,5 +1,5 @@
 -- The answer of a check by rows, from new readers to their last row.
-use Rattle.std.proofs.Common.{◌≡◌, ◌⊎◌, ◌+◌, ◌∙◌, ℕ, inl, inr, List, length, Option, Some, None, Ok, Err, IsErrOf, arith, refl, sym, ap, subst}
+use Rattle.std.proofs.Common.{◌≡◌, ◌⊎◌, ◌+◌, ◌∙◌, ℕ, inl, inr, List, length, Option, Some, None, Err, IsErrOf, arith, refl, sym, ap, subst}
 use Rattle.drain_device.specs.declared.counts.FaultCounts.{FaultCounts}
 use Rattle.drain_device.specs.declared.row_source.Progress.TheVariants.{Stopped}
 use Rattle.drain_grid.specs.declared.cell.Cell.{Cell}
@@ -21,12 +21,8 @@ use Rattle.drain_mosaic.specs.PlacedRows.{first_stopped}
 use Rattle.drain_mosaic.specs.RowLaws.{NewRowsAreOfBodies}
 use Rattle.drain_mosaic.specs.Tiling.{Tiling, extent_of}
 use Rattle.drain_raster.specs.Pixels as pixels
-use Rattle.drain_kernel.specs.Rules.{rules_with}
-use Rattle.drain_rules.specs.Verdicts.{IsVerdictOf}
-use Rattle.drain_kernel.specs.declared.rules.Ranks.{Ranks}
 use Rattle.drain_kernel.specs.declared.rules.Rules.{Rules}
-use Rattle.drain_rules.specs.declared.verdict.Verdict.{Verdict}
-use Rattle.drain_verdict.specs.Answers.{AreNotesOf, IsAnswer, IsAnswerWith, IsRefusal, rules_at}
+use Rattle.drain_verdict.specs.Answers.{AreNotesOf, AreReadable, IsAnswer, IsRefusal, rules_at}
 use Rattle.drain_rows.specs.declared.walk_stop.WalkStop.{WalkStop}
 use Rattle.drain_rows.specs.declared.walk_stop.WalkStop.TheVariants.{Source}
 use Rattle.drain_rows.specs.declared.walk_stop.WalkStop.TheVariants as walk_stop
@@ -45,7 +41,7 @@ use Rattle.drain_verdict.specs.declared.input_rows.InputRows.{InputRows}
 use Rattle.drain_verdict.specs.RowLaws.{RowLaws}
 use Rattle.drain_answer.specs.declared.refusal.Refusal.{Refusal}
 use Rattle.drain_answer.specs.declared.refusal.Refusal.TheVariants.{OutOfMemory, ReadFailed}
-use Rattle.drain_verdict.proofs.RowAnswers.{nodata_are, rows_of_bytes, told_none, told_refusal, verdict_is}
+use Rattle.drain_verdict.proofs.RowAnswers.{nodata_are, rows_of_bytes, told_none, told_refusal}
 use Rattle.drain_verdict.proofs.SinkAnswers.{sinks_none, sinks_refused}
 use Rattle.drain_verdict.proofs.RowDevices.{come_none}
 use Rattle.drain_verdict.proofs.RowEnd.{AreAtEnd, at_end, mosaic_goes}
@@ -123,7 +119,7 @@ module _ {R : Type 0} (bl : R → Option (List ℕ)) (ct : R → FaultCounts) (i
       let here = subst (Read bl ct i hs rows rows_then tiles tiles_then ps ps_then e None) is read in
       told_none here.laws i hs fields (ended None (tiling_of i) here) (here.tells (goes None (tiling_of i) here)) none
 
-  -- so the refusal of the list is the answer, or else the verdict
+  -- so the refusal of the list is the answer
   pub sinks_answer : FoundOffDataIsRight → (listing : SinkListing) (voids : List Cell) (refusal : Refusal) (t : Tiling) → t ≡ tiling_of i → ((p : SetProduct) → of_product hs p ≡ fields_of i p) → NoneStandsBefore i 5 →
       listing.sinks ≡ listed_in i → IsBadLine (sinks_of i.sinks) listing.bad → OfGrid (AreGiven bl (rows, tiles, ps)) e listing.sinks (λ g products. AreListedVoids g voids) →
       IsToldOfSinks listing e voids (Some refusal) → Read bl ct i hs rows rows_then tiles tiles_then ps ps_then e None t → IsAnswer i (Err refusal)
@@ -132,19 +128,15 @@ module _ {R : Type 0} (bl : R → Option (List ℕ)) (ct : R → FaultCounts) (i
       let extent = read.extent_is ∙ ap extent_of is in
       sinks_refused i listing e voids sinks_are bad_is extent voids_are law refusal told (none_before t is fields none read)
 
-  pub verdict_answers : FoundOffDataIsRight → (listing : SinkListing) (voids : List Cell) (ranks : Ranks) (nodata : NoDataNumbers) (verdict : Verdict) (t : Tiling) → t ≡ tiling_of i → ((p : SetProduct) → of_product hs p ≡ fields_of i p) →
-      NoneStandsBefore i 5 → nodata ≡ nodata_in hs → listing.sinks ≡ listed_in i → IsBadLine (sinks_of i.sinks) listing.bad →
+  -- or else none applies
+  pub none_stands : FoundOffDataIsRight → (listing : SinkListing) (voids : List Cell) (t : Tiling) → t ≡ tiling_of i → ((p : SetProduct) → of_product hs p ≡ fields_of i p) →
+      NoneStandsBefore i 5 → listing.sinks ≡ listed_in i → IsBadLine (sinks_of i.sinks) listing.bad →
       OfGrid (AreGiven bl (rows, tiles, ps)) e listing.sinks (λ g products. AreListedVoids g voids) →
-      OfGrid (AreGiven bl (rows, tiles, ps)) e listing.sinks (λ g products. IsVerdictOf (rules_with ranks nodata) g products verdict) →
-      IsToldOfSinks listing e voids None → Read bl ct i hs rows rows_then tiles tiles_then ps ps_then e None t → IsAnswerWith ranks i (Ok verdict)
-  verdict_answers law listing voids ranks nodata verdict t is fields none nodata_is sinks_are bad_is of_voids of_grid told read =
-      let here = subst (Read bl ct i hs rows rows_then tiles tiles_then ps ps_then e None) is read in
+      IsToldOfSinks listing e voids None → Read bl ct i hs rows rows_then tiles tiles_then ps ps_then e None t → AreReadable i
+  none_stands law listing voids t is fields none sinks_are bad_is of_voids told read =
       let voids_are = given_holds listing.sinks (λ g products. AreListedVoids g voids) t is fields sinks_are of_voids read in
       let extent = read.extent_is ∙ ap extent_of is in
-      let verdict_is_of = given_holds listing.sinks (λ g products. IsVerdictOf (rules_with ranks nodata) g products verdict) t is fields sinks_are of_grid read in
-      verdict_is here.laws i hs fields (ended None (tiling_of i) here) ranks verdict
-      (sinks_none i listing e voids sinks_are bad_is extent voids_are law told (none_before t is fields none read))
-      (subst (λ (n : NoDataNumbers). IsVerdictOf (rules_with ranks n) (input_grid i) (input_products i) verdict) nodata_is verdict_is_of)
+      sinks_none i listing e voids sinks_are bad_is extent voids_are law told (none_before t is fields none read)
 
   -- and notes of the grid that is given are of the inputs' grid
   pub notes_hold : {K : Type 0} (are_of : Rules → Grid → grid.Products → ℕ → K → Type 0) (rules : Rules) (notes : K) (sinks : List SinkLine) (t : Tiling) → t ≡ tiling_of i →

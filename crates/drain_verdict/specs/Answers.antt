@@ -24,6 +24,11 @@ IsRefusal i OutOfMemory = Unit {0}
 IsRefusal i ReadFailed = Unit {0}
 IsRefusal i refusal = IsFirst (refusal_order i) (Stands i) refusal
 
+-- the inputs are read to the end: no refusal applies, or this is the first
+abbrev pub IsReadAnswer : Inputs → Result (Unit {0}) Refusal → Type 0
+IsReadAnswer i (Ok done) = AreReadable i
+IsReadAnswer i (Err refusal) = IsRefusal i refusal
+
 -- the answer to the inputs, with ranks checked or not
 abbrev pub IsAnswerWith : Ranks → Inputs → Result Verdict Refusal → Type 0
 IsAnswerWith ranks i (Ok verdict) = AreReadable i × IsVerdictOf (rules_with ranks (nodata_numbers i)) (input_grid i) (input_products i) verdict

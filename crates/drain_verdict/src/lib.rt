@@ -16,6 +16,7 @@ pub mod layout;
 mod next_rows;
 mod placing;
 pub mod product_inputs;
+pub mod read_inputs;
 mod row_laws;
 mod sink_listing;
 mod sink_refusal;

@@ -23,10 +23,10 @@ use drain_hgt::TileInput;
 use drain_hgt::laws::one_name;
 use drain_mosaic::Layout;
 use drain_rows::BothVisitors;
-use drain_rules::{GridWalk, Ranks, Verdict};
+use drain_rules::{Ranks, Verdict};
 use drain_verdict::AuditProducts;
-use drain_verdict::answer::answer_on;
 use drain_verdict::layout::layout_of;
+use drain_verdict::read_inputs::read_inputs;
 use drain_window_walk::{Area, SeamWalk, WindowWalk};
 use drain_windows::{Place, Report, WindowReport};
 use std::alloc::Global;
@@ -125,12 +125,9 @@ fn answer_at<R: ByteSource>(
     let origin = map_origin(layout);
     let mut notes = BothVisitors {
         first: SeamWalk::new(alloc, *place, origin),
-        second: BothVisitors {
-            first: WindowWalk::new(alloc, Area::judged_in(place), origin),
-            second: GridWalk::new(alloc),
-        },
+        second: WindowWalk::new(alloc, Area::judged_in(place), origin),
     };
-    let _of_all = answer_on(
+    read_inputs(
         alloc,
         layout,
         sinks,
@@ -142,12 +139,8 @@ fn answer_at<R: ByteSource>(
     let _rows = shape.rows();
     let BothVisitors {
         first: seams,
-        second,
+        second: walk,
     } = notes;
-    let BothVisitors {
-        first: walk,
-        second: _,
-    } = second;
     let Ok(sinks) = judged_sinks(alloc, sinks, place, origin) else {
         return Err(Refusal::OutOfMemory);
     };

@@ -1,51 +1,35 @@
+use Rattle.std.proofs.Common.{Ok, Err, refl, sym}
 use Rattle.std.proofs.lemmas.Result.{err_from_is_err_and}
-use Rattle.drain_rows.proofs.RowResults.{on-ok}
-use Rattle.std.proofs.Common.{Err}
+use Rattle.drain_verdict.specs.Answers.{rules_at}
 use Rattle.drain_verdict.specs.Devices.{devices_of}
-use Rattle.drain_verdict.proofs.Uses.{of_bodies_may, uses_none}
-use Rattle.drain_verdict.proofs.StartAnswers.{named_each, header_answer, header_reads_none, started, takes_as_told}
+use Rattle.drain_verdict.specs.Meaning.{input_grid, input_products}
+use Rattle.drain_verdict.proofs.AuditDevices.{failed_alike, none_alike}
+use Rattle.drain_verdict.proofs.StartAnswers.{shape_of_inputs}
+use Rattle.drain_verdict.proofs.Uses.{uses_alike}
 use Rattle.drain_verdict.proofs.answer.answer_on.Goals as goal
 
-pub returns-in_err-headers-clause-answer : goal.returns-in_err-headers-clause-answer
-returns-in_err-headers-clause-answer g c = λ inputs tell.
+pub returns-in_err-read_inputs-clause-answer : goal.returns-in_err-read_inputs-clause-answer
+returns-in_err-read_inputs-clause-answer g c = λ inputs tell.
     let told = err_from_is_err_and c.from_residual.result c.from_residual.ensures.1 in
-    rw (told.1, told.2) (header_answer c.one_name.ensures g.R.ByteSource.bytes_left c.args.layout.now.side c.args.tiles.now c.args.sinks.now (g.P.ProductInputs.inputs c.args.products.now) inputs _ _ tell c.requires.laid c.in_err-headers.ensures.refusal)
+    rw (told.1, told.2) (c.in_err-read_inputs.ensures.answer inputs tell)
 
-pub returns-in_err-headers-clause-uses : goal.returns-in_err-headers-clause-uses
-returns-in_err-headers-clause-uses g c =
+pub returns-in_err-read_inputs-clause-uses : goal.returns-in_err-read_inputs-clause-uses
+returns-in_err-read_inputs-clause-uses g c =
     let told = err_from_is_err_and c.from_residual.result c.from_residual.ensures.1 in
+    let uses = c.in_err-read_inputs.ensures.uses in
     let inputs = g.P.ProductInputs.inputs in
-    rw (told.1, told.2) (uses_none inputs (λ ts ps. devices_of ts (inputs ps)) g.R.ByteSource.bytes_left g.R.ByteSource.counts c.args.layout.now.side c.args.tiles.now c.args.products.now (Err c.in_err-headers.field-0.0)
-    (header_reads_none _ _ _ c.in_err-headers.ensures.refusal))
-
-pub answer_to_bodies-requires-clause-named : goal.answer_to_bodies-requires-clause-named
-answer_to_bodies-requires-clause-named g c = named_each c.args.tiles.now _ c.requires.laid.named
+    rw (told.1, told.2) (uses_alike inputs (λ ts ps. devices_of ts (inputs ps)) g.R.ByteSource.bytes_left g.R.ByteSource.counts c.args.layout.now.side c.args.layout.now.side (c.args.tiles.now, c.args.products.now) (c.read_inputs.new.tiles, c.read_inputs.new.products)
+    (Err c.in_err-read_inputs.field-0.0) (Err c.in_err-read_inputs.field-0.0) refl (failed_alike c.in_err-read_inputs.field-0.0) uses.untouched uses)
 
 pub returns-clause-answer : goal.returns-clause-answer
 returns-clause-answer g c = λ inputs tell.
-    let begun = started c.one_name.ensures g.R.ByteSource.bytes_left c.args.layout.now.side c.args.tiles.now c.args.sinks.now (g.P.ProductInputs.inputs c.args.products.now) inputs c.args.layout.now c.in_ok-headers.headers tell
-    c.requires.laid c.in_ok-headers.ensures.headers in
-    c.answer_to_bodies.ensures.answer inputs begun.0 begun.1 tell.tiles_are tell.rasters_are tell.sinks_are begun.2
-
-pub returns-clause-noted : goal.returns-clause-noted
-returns-clause-noted g c =
-    on-ok c.answer_to_bodies.result
-    (λ noted inputs tell.
-    let begun = started c.one_name.ensures g.R.ByteSource.bytes_left c.args.layout.now.side c.args.tiles.now c.args.sinks.now (g.P.ProductInputs.inputs c.args.products.now) inputs c.args.layout.now c.in_ok-headers.headers tell
-    c.requires.laid c.in_ok-headers.ensures.headers in
-    noted inputs begun.0 begun.1 tell.tiles_are tell.rasters_are tell.sinks_are)
-    c.answer_to_bodies.ensures.noted
+    let extent = shape_of_inputs c.one_name.ensures g.R.ByteSource.bytes_left c.args.layout.now c.args.tiles.now c.args.sinks.now (g.P.ProductInputs.inputs c.args.products.now) inputs c.shape.result tell c.requires.laid c.shape.ensures in (
+      c.in_ok-read_inputs.ensures.answer inputs tell,
+      c.verdict.ensures (rules_at c.args.ranks inputs) (input_grid inputs) (input_products inputs) (sym extent) (c.in_ok-read_inputs.ensures.noted inputs tell),
+    )
 
 pub returns-clause-uses : goal.returns-clause-uses
 returns-clause-uses g c =
-    let body = c.answer_to_bodies.ensures in
-    record {
-      tiles_within = body.tiles_within;
-      rasters_within = λ p.
-          takes_as_told g.R.ByteSource.bytes_left c.args.layout.now (g.P.ProductInputs.inputs c.args.products.now) (g.P.ProductInputs.inputs c.answer_to_bodies.new.products) c.in_ok-headers.headers c.in_ok-headers.ensures.headers p
-          (body.rasters_within p);
-      faults = body.faults;
-      names = body.names;
-      headers = body.headers;
-      untouched = of_bodies_may _ c.answer_to_bodies.result body.of_bodies;
-    }
+    let inputs = g.P.ProductInputs.inputs in
+    uses_alike inputs (λ ts ps. devices_of ts (inputs ps)) g.R.ByteSource.bytes_left g.R.ByteSource.counts c.args.layout.now.side c.args.layout.now.side (c.args.tiles.now, c.args.products.now) (c.read_inputs.new.tiles, c.read_inputs.new.products)
+    (Ok tt) (Ok c.verdict.result) refl (none_alike tt c.verdict.result) tt c.in_ok-read_inputs.ensures.uses

@@ -17,23 +17,23 @@ use Rattle.drain_window.specs.WindowAnswers.{IsAnswerOn}
 use Rattle.drain_window.proofs.WindowVerdicts.{memory_alike}
 use Rattle.drain_window.proofs.judge.answer_at.Goals as goal
 
-pub answer_on-requires-clause-unnoted : goal.answer_on-requires-clause-unnoted
-answer_on-requires-clause-unnoted g c = λ rules grid ps. (
+pub read_inputs-requires-clause-unnoted : goal.read_inputs-requires-clause-unnoted
+read_inputs-requires-clause-unnoted g c = λ rules grid ps. (
   c.new.ensures.right grid ps,
-  (c.new-2.ensures.right rules grid ps, record { rows_are = c.new-3.ensures.rows; right = c.new-3.ensures.finding rules grid ps }),
+  c.new-2.ensures.right rules grid ps,
 )
 
-pub returns-in_err-_of_all-clause-answer : goal.returns-in_err-_of_all-clause-answer
-returns-in_err-_of_all-clause-answer g c =
+pub returns-in_err-read_inputs-clause-answer : goal.returns-in_err-read_inputs-clause-answer
+returns-in_err-read_inputs-clause-answer g c =
     let told = err_from_is_err_and c.from_residual.result c.from_residual.ensures.1 in
-    rw (told.1, told.2) (λ inputs tell. c.in_err-_of_all.ensures.answer inputs tell)
+    rw (told.1, told.2) (λ inputs tell. c.in_err-read_inputs.ensures.answer inputs tell)
 
-pub returns-in_err-_of_all-clause-uses : goal.returns-in_err-_of_all-clause-uses
-returns-in_err-_of_all-clause-uses g c =
+pub returns-in_err-read_inputs-clause-uses : goal.returns-in_err-read_inputs-clause-uses
+returns-in_err-read_inputs-clause-uses g c =
     let told = err_from_is_err_and c.from_residual.result c.from_residual.ensures.1 in
-    let uses = c.in_err-_of_all.ensures.uses in
-    rw (told.1, told.2) (four_used g.R.ByteSource.bytes_left g.R.ByteSource.counts c.args.layout.now.side (c.args.tiles.now, c.args.products.now) (c.answer_on.new.tiles, c.answer_on.new.products)
-    (Err c.in_err-_of_all.field-0.0) (Err c.in_err-_of_all.field-0.0) (failed_alike c.in_err-_of_all.field-0.0) uses.untouched uses)
+    let uses = c.in_err-read_inputs.ensures.uses in
+    rw (told.1, told.2) (four_used g.R.ByteSource.bytes_left g.R.ByteSource.counts c.args.layout.now.side (c.args.tiles.now, c.args.products.now) (c.read_inputs.new.tiles, c.read_inputs.new.products)
+    (Err c.in_err-read_inputs.field-0.0) (Err c.in_err-read_inputs.field-0.0) (failed_alike c.in_err-read_inputs.field-0.0) uses.untouched uses)
 
 pub returns-in-Some-clause-answer : goal.returns-in-Some-clause-answer
 returns-in-Some-clause-answer g c = λ inputs tell.
@@ -43,26 +43,26 @@ returns-in-Some-clause-answer g c = λ inputs tell.
     let fits : IsExtent (input_grid inputs).extent = subst IsExtent extent (search rules) in
     let some : 0 < (input_grid inputs).extent.rows = omega (arith, fits.some_row) in
     let placed = subst (λ (e : Extent). IsPlaceIn e c.args.place.now) (ap extent_of is) c.requires.placed in
-    let noted = c.in_ok-_of_all.ensures.noted inputs tell in
+    let noted = c.in_ok-read_inputs.ensures.noted inputs tell in
     let listed = c.in-Ok.ensures (input_grid inputs) (input_products inputs) (ap (λ (text : List ℕ). is_listed (lines_in (sinks_of text))) tell.sinks_are) in
-    let answer = c.in_ok-_of_all.ensures.answer inputs tell in (
-      answer.0,
+    let answer = c.in_ok-read_inputs.ensures.answer inputs tell in (
+      answer,
       subst (λ (o : Cell). IsAnswerOn (nodata_numbers inputs) o c.args.place.now (input_grid inputs) (input_products inputs) c.in-Some.answer.0 c.in-Some.answer.1)
           (c.map_origin-origin.ensures.origin ∙ ap map_origin is)
-          (c.in-Some.ensures (nodata_numbers inputs) (input_grid inputs) (input_products inputs) placed some noted.1.0 noted.0 listed),
+          (c.in-Some.ensures (nodata_numbers inputs) (input_grid inputs) (input_products inputs) placed some noted.1 noted.0 listed),
     )
 
 pub returns-in-Some-clause-uses : goal.returns-in-Some-clause-uses
 returns-in-Some-clause-uses g c =
-    four_used g.R.ByteSource.bytes_left g.R.ByteSource.counts c.args.layout.now.side (c.args.tiles.now, c.args.products.now) (c.answer_on.new.tiles, c.answer_on.new.products)
-    (Ok c.in_ok-_of_all._of_all) (Ok _) (none_alike c.in_ok-_of_all._of_all _) tt c.in_ok-_of_all.ensures.uses
+    four_used g.R.ByteSource.bytes_left g.R.ByteSource.counts c.args.layout.now.side (c.args.tiles.now, c.args.products.now) (c.read_inputs.new.tiles, c.read_inputs.new.products)
+    (Ok c.in_ok-read_inputs.field-0) (Ok _) (none_alike c.in_ok-read_inputs.field-0 _) tt c.in_ok-read_inputs.ensures.uses
 
-pub returns-clause-uses : goal.returns-clause-uses
-returns-clause-uses g c =
-    four_used g.R.ByteSource.bytes_left g.R.ByteSource.counts c.args.layout.now.side (c.args.tiles.now, c.args.products.now) (c.answer_on.new.tiles, c.answer_on.new.products)
-    (Ok c.in_ok-_of_all._of_all) (Err OutOfMemory) (memory_alike c.in_ok-_of_all._of_all) (λ not. absurd (not tt)) c.in_ok-_of_all.ensures.uses
+pub returns-in-None-clause-uses : goal.returns-in-None-clause-uses
+returns-in-None-clause-uses g c =
+    four_used g.R.ByteSource.bytes_left g.R.ByteSource.counts c.args.layout.now.side (c.args.tiles.now, c.args.products.now) (c.read_inputs.new.tiles, c.read_inputs.new.products)
+    (Ok c.in_ok-read_inputs.field-0) (Err OutOfMemory) (memory_alike c.in_ok-read_inputs.field-0) (λ not. absurd (not tt)) c.in_ok-read_inputs.ensures.uses
 
 pub returns-in_default-clause-uses : goal.returns-in_default-clause-uses
 returns-in_default-clause-uses g c =
-    four_used g.R.ByteSource.bytes_left g.R.ByteSource.counts c.args.layout.now.side (c.args.tiles.now, c.args.products.now) (c.answer_on.new.tiles, c.answer_on.new.products)
-    (Ok c.in_ok-_of_all._of_all) (Err OutOfMemory) (memory_alike c.in_ok-_of_all._of_all) (λ not. absurd (not tt)) c.in_ok-_of_all.ensures.uses
+    four_used g.R.ByteSource.bytes_left g.R.ByteSource.counts c.args.layout.now.side (c.args.tiles.now, c.args.products.now) (c.read_inputs.new.tiles, c.read_inputs.new.products)
+    (Ok c.in_ok-read_inputs.field-0) (Err OutOfMemory) (memory_alike c.in_ok-read_inputs.field-0) (λ not. absurd (not tt)) c.in_ok-read_inputs.ensures.uses

@@ -8,7 +8,7 @@ use Rattle.drain_verdict.specs.InputReads.{with_rasters}
 use Rattle.drain_verdict.proofs.Devices.{devices_none, tiles_take_none}
 use Rattle.drain_rows.proofs.RowResults.{on-ok}
 use Rattle.drain_verdict.proofs.RowDevices.{bodies_taken, devices_fail, tiles_taken}
-use Rattle.drain_verdict.proofs.answer.answer_to_bodies.Goals as goal
+use Rattle.drain_verdict.proofs.read_inputs.read_bodies.Goals as goal
 
 pub returns-in_err-rows-clause-tiles_within : goal.returns-in_err-rows-clause-tiles_within
 returns-in_err-rows-clause-tiles_within g c = tiles_take_none g.R.ByteSource.bytes_left c.args.layout.now.side c.args.tiles.now
@@ -23,14 +23,14 @@ pub returns-clause-answer : goal.returns-clause-answer
 returns-clause-answer g c = λ inputs is fields tiles rasters sinks none.
     let sinks_are = c.in-Ok.ensures.sinks ∙ ap (λ (text : List ℕ). lines_in (sinks_of text)) (sym sinks) in
     let bad_is = subst (λ (text : List ℕ). IsBadLine (sinks_of text) c.in-Ok.listing.bad) (sym sinks) c.in-Ok.ensures.bad in
-    c.answer_to_rows.ensures.answer inputs c.args.headers c.in_ok-rows.ensures.begun c.nodata_of-nodata.ensures c.requires.shapes is fields tiles rasters sinks_are bad_is none
+    c.read_rows.ensures.answer inputs c.args.headers c.in_ok-rows.ensures.begun c.nodata_of-nodata.ensures c.requires.shapes is fields tiles rasters sinks_are bad_is none
 
 pub returns-clause-noted : goal.returns-clause-noted
 returns-clause-noted g c =
-    on-ok c.answer_to_rows.result
+    on-ok c.read_rows.result
     (λ noted inputs is fields tiles rasters sinks.
     noted inputs c.args.headers c.in_ok-rows.ensures.begun c.nodata_of-nodata.ensures c.requires.shapes is fields tiles rasters (c.in-Ok.ensures.sinks ∙ ap (λ (text : List ℕ). lines_in (sinks_of text)) (sym sinks)))
-    c.answer_to_rows.ensures.noted
+    c.read_rows.ensures.noted
 
 pub returns-in-Err-clause-tiles_within : goal.returns-in-Err-clause-tiles_within
 returns-in-Err-clause-tiles_within g c = tiles_take_none g.R.ByteSource.bytes_left c.args.layout.now.side c.args.tiles.now
@@ -40,21 +40,21 @@ returns-in-Err-clause-faults g c = devices_none g.R.ByteSource.counts c.args.til
 
 pub returns-clause-tiles_within : goal.returns-clause-tiles_within
 returns-clause-tiles_within g c =
-    let read = c.answer_to_rows.ensures.reads in
-    let new = c.answer_to_rows.new in
+    let read = c.read_rows.ensures.reads in
+    let new = c.read_rows.new in
     tiles_taken g.R.ByteSource.bytes_left g.R.ByteSource.counts c.args.layout.now c.args.headers (with_rasters g.P.ProductInputs.readers c.in_ok-rows.rows) (with_rasters g.P.ProductInputs.readers new.rows) c.args.tiles.now new.tiles (g.P.ProductInputs.inputs c.args.products.now) (g.P.ProductInputs.inputs new.products) read.told
     c.in_ok-rows.ensures.begun c.requires.named read.reads
 
 pub returns-clause-rasters_within : goal.returns-clause-rasters_within
 returns-clause-rasters_within g c =
-    let read = c.answer_to_rows.ensures.reads in
-    let new = c.answer_to_rows.new in
+    let read = c.read_rows.ensures.reads in
+    let new = c.read_rows.new in
     bodies_taken g.R.ByteSource.bytes_left g.R.ByteSource.counts c.args.layout.now c.args.headers (with_rasters g.P.ProductInputs.readers c.in_ok-rows.rows) (with_rasters g.P.ProductInputs.readers new.rows) c.args.tiles.now new.tiles (g.P.ProductInputs.inputs c.args.products.now) (g.P.ProductInputs.inputs new.products) read.told
     c.raster_rows_take_what_is_needed.ensures c.in_ok-rows.ensures.begun.bounds c.in_ok-rows.ensures.begun read.reads
 
 pub returns-clause-faults : goal.returns-clause-faults
 returns-clause-faults g c =
-    let read = c.answer_to_rows.ensures.reads in
-    let new = c.answer_to_rows.new in
+    let read = c.read_rows.ensures.reads in
+    let new = c.read_rows.new in
     devices_fail g.R.ByteSource.bytes_left g.R.ByteSource.counts c.args.layout.now c.args.headers (with_rasters g.P.ProductInputs.readers c.in_ok-rows.rows) (with_rasters g.P.ProductInputs.readers new.rows) c.args.tiles.now new.tiles (g.P.ProductInputs.inputs c.args.products.now) (g.P.ProductInputs.inputs new.products) read.told
     c.in_ok-rows.ensures.begun c.requires.named read.reads read.exactly
