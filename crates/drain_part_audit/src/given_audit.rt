@@ -25,9 +25,9 @@ use drain_hgt::TileInput;
 use drain_hgt::laws::one_name;
 use drain_mosaic::Layout;
 use drain_rows::{BothVisitors, RowVisitor};
-use drain_rules::{GridWalk, Ranks};
+use drain_rules::Ranks;
 use drain_verdict::AuditProducts;
-use drain_verdict::answer::answer_on;
+use drain_verdict::read_inputs::read_inputs;
 use std::alloc::Global;
 
 /// The answer to the bytes of inputs of this mosaic, of which the rasters of `G` are given; each row of the grid is noted.
@@ -55,13 +55,10 @@ pub fn audit_given<R: ByteSource, G: GivenRasters, K: KeptRows + Drop, N: RowVis
         first: K::begin(alloc),
         second: BothVisitors {
             first: PartVisitor::<G>::new(alloc),
-            second: BothVisitors {
-                first: more,
-                second: GridWalk::new(alloc),
-            },
+            second: more,
         },
     };
-    let _of_all = answer_on(
+    read_inputs(
         alloc,
         layout,
         sinks,
@@ -76,8 +73,7 @@ pub fn audit_given<R: ByteSource, G: GivenRasters, K: KeptRows + Drop, N: RowVis
         first: kept,
         second,
     } = notes;
-    let BothVisitors { first: _, second } = second;
-    let more = second.first;
+    let more = second.second;
     match kept.decide(alloc, shape, sinks, &of_rules) {
         Ok(decided) => Ok(PartRead {
             verdict: decided.verdict,

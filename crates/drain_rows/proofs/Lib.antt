@@ -1,4 +1,3 @@
 pub mod RowResults
 mod VoidRows
-mod WholeRowLemmas
 mod WindowLemmas

@@ -2,5 +2,4 @@ pub mod GridRows
 pub mod RowBuffers
 pub mod ListedVoids
 pub mod NotedRows
-pub mod WholeRows
 pub mod Runs

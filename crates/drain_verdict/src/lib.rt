@@ -27,6 +27,5 @@ pub use certifier::certify;
 pub use checker::check;
 pub use drain_answer::{AuditVerdict, Refusal, audit_report, fill_report, report};
 pub use drain_paths::CertifyRefusal;
-pub use drain_rows::verdict_row_by_row;
 pub use drain_rules::{Counts, FillCounts, FillRefusal, FillVerdict, Verdict, check_fill};
 pub use input::{Products, RasterInput};

@@ -48,5 +48,3 @@ mod sink_orders;
 mod sources;
 #[cfg(test)]
 mod tells;
-#[cfg(test)]
-mod whole_rows;

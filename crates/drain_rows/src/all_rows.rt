@@ -1,12 +1,10 @@
-//! The verdict on a grid and its products whose rows come one after another.
+//! Every row of a grid and its products, read one after another and shown to a visitor.
 
 ghost use Rattle.std.specs.Prelude.{◌≡◌, ◌<◌, ◌+◌, ◌⊎◌, ℕ, [], length, None, IfOk, IfErr, OnErr, OnOk};
 ghost use Rattle.drain_grid.specs.declared.cell.TheConstants.{MAX_LENGTH};
 ghost use Rattle.drain_grid.specs.Grid.{Grid, Products};
 ghost use Rattle.drain_rules.specs.RowNumbers.{AreRowNumbers, RowNumbers, blank};
-ghost use Rattle.drain_kernel.specs.Rules.{tried};
 ghost use Rattle.drain_rules.specs.ThreeRows.{patch_in};
-ghost use Rattle.drain_rules.specs.Verdicts.{IsVerdictOf};
 ghost use Rattle.drain_rows.specs.GridRows.{OfGrid, ReadsOn, IsRowsStop};
 ghost use Rattle.drain_rows.specs.RowBuffers.{LanesMatch, buffer_numbers};
 ghost use Rattle.drain_rows.specs.ListedVoids.{AreListedVoids};
@@ -17,51 +15,13 @@ use crate::grid_rows::GridRows;
 use crate::listed_voids::ListedVoids;
 use crate::marked_rows::read_marked;
 use crate::row_buffer::RowBuffer;
-use crate::row_visitor::{RowVisitor, VerdictVisitor};
+use crate::row_visitor::RowVisitor;
 use crate::walk_stop::WalkStop;
 use crate::window::Window;
 use drain_grid::{OutOfMemory, Shape, Sinks};
 use drain_rules::laws::three_rows_show_patches;
-use drain_rules::{Rules, ThreeRows, Verdict};
+use drain_rules::{Rules, ThreeRows};
 use std::alloc::Global;
-
-/// The verdict on a grid, and its listed sinks that are voids.
-#[derive(Drop)]
-pub struct RowVerdict {
-    pub verdict: Verdict,
-    pub voids: ListedVoids,
-}
-
-/// The verdict on the grid of this shape and with these sinks, whose rows the source gives: that of the notes.
-///
-/// It asks for one row more than there are, and gets none. It stops if the source does, or if memory runs out where the
-/// notes need memory or there are sinks.
-pub fn verdict_by_rows<T, P, S: GridRows<T, P>, K: VerdictVisitor>(
-    alloc: Global,
-    shape: Shape,
-    sinks: &Sinks,
-    rules: &Rules,
-    source: &mut S,
-    tiles: &mut [T],
-    products: &mut P,
-    notes: &mut K,
-) -> Result<RowVerdict, WalkStop<S::Stop>>
-    requires counted { length tiles.old ≡ S.count source.old }
-    requires uncounted { K.counts 0 notes.old }
-    requires unnoted { (g : Grid) (ps : Products) → K.are_of rules.now g ps 0 notes.old }
-    ensures verdict { IfOk result (λ found. OfGrid (S.gives (source.old, tiles.old, products.old)) shape sinks.now (λ g ps. IsVerdictOf (tried rules.now) g ps found.verdict)) }
-    ensures voids { IfOk result (λ found. OfGrid (S.gives (source.old, tiles.old, products.old)) shape sinks.now (λ g ps. AreListedVoids g found.voids)) }
-    ensures noted { OnOk result (OfGrid (S.gives (source.old, tiles.old, products.old)) shape sinks.now (λ g ps. K.are_of rules.now g ps g.extent.rows notes.new)) }
-    ensures lasting { OnOk result (K.lasting notes.new ≡ K.lasting notes.old) }
-    ensures given { OnOk result ((rows : ℕ → RowNumbers) → S.gives (source.old, tiles.old, products.old) rows 0 → S.gives (source.new, tiles.new, products.new) rows (shape.rows + 1)) }
-    ensures reads { OnOk result (ReadsOn S.has_read (source.old, tiles.old, products.old) (source.new, tiles.new, products.new) (shape.rows + 1) None) }
-    ensures stops { IfErr result (IsRowsStop S.has_read (source.old, tiles.old, products.old) (source.new, tiles.new, products.new)
-        (OfGrid (S.gives (source.old, tiles.old, products.old)) shape sinks.now (K.wants rules.now) ⊎ ¬ (sinks.now ≡ []))) }
-{
-    let voids = visit_rows(alloc, shape, sinks, rules, source, tiles, products, notes)?;
-    let verdict = notes.verdict(shape);
-    Ok(RowVerdict { verdict, voids })
-}
 
 /// Shows the visitor each row of the grid of this shape and with these sinks, whose rows the source gives, and returns
 /// the listed sinks that are voids.

@@ -6,7 +6,7 @@ use Rattle.drain_rows.specs.ListedVoids.{AreVoidsBefore}
 use Rattle.drain_rows.proofs.RowResults.{stops_then, told-of}
 use Rattle.drain_rows.proofs.VoidRows.{voids-all, voids-more, voids-none}
 use Rattle.drain_rows.proofs.WindowLemmas.{blank-whole, held-more, row-marked, window-shows}
-use Rattle.drain_rows.proofs.row_verdict.note_rows.Goals as goal
+use Rattle.drain_rows.proofs.all_rows.note_rows.Goals as goal
 
 pub loop-row-init : goal.loop-row-init
 loop-row-init g c =

@@ -5,7 +5,7 @@ use Rattle.drain_rows.specs.GridRows.{OfGrid, ReadsOn}
 use Rattle.drain_rows.specs.RowBuffers.{LanesMatch, IsMarked, marked_of, buffer_numbers}
 use Rattle.drain_rows.specs.ListedVoids.{AreVoidsBefore}
 use Rattle.drain_rows.proofs.WindowLemmas.{AreSetProducts}
-use Rattle.drain_rows.proofs.row_verdict.note_rows.Given as goal
+use Rattle.drain_rows.proofs.all_rows.note_rows.Given as goal
 
 -- the row below the window is the next to be noted, and the notes are of the rows before it
 abbrev pub invariant-loop-row : goal.invariant-loop-row
