@@ -47,5 +47,4 @@ if [ -f build/drain.o ] && command -v gcc >/dev/null; then
     tools/static_program.sh build/drain build/drain.o build/drain-static
     time tests/program/run.sh build/drain-static build/benches
 fi
-time tests/refused_memory.sh byte_tests cell_tests rules_tests page_tests merge_tests report_tests verdict_tests window_tests maker_tests derive_tests \
-    cli_tests
+time tests/refused_memory.sh byte_tests cell_tests rules_tests page_tests merge_tests report_tests verdict_tests window_tests maker_tests cli_tests

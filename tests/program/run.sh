@@ -100,6 +100,7 @@ add_runs() {
     fi
 }
 
+add_runs "$here/worked_lines.py" "$drain"
 add_runs "$here/cut_inputs.py" "$drain"
 add_runs "$here/random_audits.py" "$drain"
 add_runs "$here/explain.py" "$drain"

@@ -1,12 +1,12 @@
-//! Runs of `drain explain` over sources and sinks in memory: one tile of side 2 at 0 degrees, level, with its products; and maps that are saved in memory.
+//! Runs of `drain explain` on a level tile of side 2, whose page or map can't be written.
 
-use crate::level_tile::{LINE, TILE, five, four, tile};
+use crate::level_tile::{TILE, four, tile};
 use crate::printed::{Printed, Text, same_bytes, same_line, slow_sink, whole_sink};
 use drain_args::form::Form;
 use drain_cli::runs::explain_page::{ExplainOutput, MapFault};
 use drain_cli::runs::run_explain::run_explain;
+use drain_device::BodyFault;
 use drain_device::faults::{ScriptSink, Scripted, SinkAnswer};
-use drain_device::{BodyFault, SliceSource};
 use drain_explain::{Mapping, SecondLook};
 use drain_files::map_file::write_map;
 use drain_files::open_judged::JudgedProducts;
@@ -91,57 +91,28 @@ fn tells_want_of_memory(printed: &[u8]) -> bool {
         || printed.starts_with(b"{\"answer\":\"failed O")
 }
 
-/// A side of the tile, and codes and labels.
-#[derive(Clone, Copy)]
-struct Given {
-    side: u32,
-    codes: &'static [u8],
-    labels: &'static [u8],
-}
-
-/// The right products.
-const RIGHT: Given = Given {
-    side: 2,
-    codes: &[0; 4],
-    labels: &[1, 2, 3, 4],
-};
-
-/// The output of a run in this form, of the given number of bytes, and what its files accept.
-fn explain<'a>(
+/// The output of a run on right products in this form, of the given number of bytes, and what its files accept.
+fn explain(
     alloc: Global,
-    side: u32,
-    products: &mut JudgedProducts<SliceSource<'a>>,
     form: Form,
     length: usize,
     beside: &mut InMemory<'_>,
     out: &mut ScriptSink<'_>,
 ) -> Result<Explained, Fail> {
     let mut tiles = [tile(alloc, TILE)?];
+    let mut products = JudgedProducts::Audit(four(alloc, &[0; 4], &[1, 2, 3, 4])?);
     let status = run_explain(
         alloc,
-        side,
+        2,
         &mut tiles,
         &[],
-        products,
+        &mut products,
         Mapping::Drawn,
         form,
         beside,
         out,
     );
     Ok(outcome(out.as_slice(), length, status, beside)?)
-}
-
-/// The same without ranks, of given codes and labels.
-fn explain_given(
-    alloc: Global,
-    given: Given,
-    form: Form,
-    length: usize,
-    beside: &mut InMemory<'_>,
-    out: &mut ScriptSink<'_>,
-) -> Result<Explained, Fail> {
-    let mut products = JudgedProducts::Audit(four(alloc, given.codes, given.labels)?);
-    explain(alloc, given.side, &mut products, form, length, beside, out)
 }
 
 /// Files that accept all.
@@ -160,118 +131,6 @@ const PAGE_ROOM: usize = 8000;
 fn page_sink(alloc: Global) -> Result<ScriptSink<'static>, AllocError> {
     let room = Vec::with_capacity(alloc, PAGE_ROOM)?;
     Ok(ScriptSink::new(room, 1000, &[]))
-}
-
-/// The same if the page can be written.
-fn explain_beside(
-    alloc: Global,
-    given: Given,
-    form: Form,
-    length: usize,
-    beside: &mut InMemory<'_>,
-) -> Result<Explained, Fail> {
-    let mut out = page_sink(alloc)?;
-    explain_given(alloc, given, form, length, beside, &mut out)
-}
-
-/// The same if the files can be written too.
-fn told(alloc: Global, given: Given, form: Form, length: usize) -> Result<Explained, Fail> {
-    let mut beside = in_memory(alloc)?;
-    explain_beside(alloc, given, form, length, &mut beside)
-}
-
-/// Products, with the line of their answer, the status, and their map.
-struct Case {
-    name: &'static str,
-    given: Given,
-    status: u8,
-    line: &'static str,
-    map: &'static [u8],
-}
-
-static CASES: [Case; 5] = [
-    Case {
-        name: "correct products",
-        given: RIGHT,
-        status: 0,
-        line: LINE,
-        map: &[0; 4],
-    },
-    Case {
-        name: "a label for three outlets",
-        given: Given {
-            side: 2,
-            codes: &[0; 4],
-            labels: &[1, 2, 2, 2],
-        },
-        status: 1,
-        line: "rejected rule=15 SharedLabel row=1 col=0\n",
-        map: &[0, 0, 15, 15],
-    },
-    Case {
-        name: "a ring of two",
-        given: Given {
-            side: 2,
-            codes: &[0, 0, 1, 16],
-            labels: &[1, 2, 3, 4],
-        },
-        status: 1,
-        line: "rejected NoEnd row=1 col=0\n",
-        map: &[0, 0, 11, 11],
-    },
-    Case {
-        name: "side 1",
-        given: Given {
-            side: 1,
-            codes: &[0; 4],
-            labels: &[1, 2, 3, 4],
-        },
-        status: 2,
-        line: "refused BadSide\n",
-        map: &[],
-    },
-    Case {
-        name: "a label too few",
-        given: Given {
-            side: 2,
-            codes: &[0; 4],
-            labels: &[1, 2, 3],
-        },
-        status: 2,
-        line: "refused RasterShort bas\n",
-        map: &[],
-    },
-];
-
-#[test]
-fn a_page_begins_with_the_line(rt: HostRuntime) -> Result<(), Fail> {
-    for case in &CASES {
-        let answered = told(rt.alloc(), case.given, Form::Text, case.line.len())?;
-        same_line(&rt, case.name, &answered.page, case.line, case.status);
-        same_bytes(&rt, case.name, answered.raster.as_slice(), case.map);
-    }
-    Ok(())
-}
-
-#[test]
-fn an_object_tells_the_line(rt: HostRuntime) -> Result<(), Fail> {
-    let line = "{\"answer\":\"accepted rows=2 cols=2 data=4 raised=0 outlets=4\"";
-    let answered = told(rt.alloc(), RIGHT, Form::Json, line.len())?;
-    same_line(&rt, "JSON", &answered.page, line, 0);
-    Ok(())
-}
-
-#[test]
-fn a_map_has_a_header(rt: HostRuntime) -> Result<(), Fail> {
-    let answered = told(rt.alloc(), RIGHT, Form::Text, LINE.len())?;
-    same_line(&rt, "a page", &answered.page, LINE, 0);
-    same_bytes(
-        &rt,
-        "the header of a map",
-        answered.header.as_slice(),
-        MAP_HEADER.as_bytes(),
-    );
-    Ok(())
 }
 
 /// The first byte, and no other, fails.
@@ -297,7 +156,8 @@ fn told_in(
     length: usize,
 ) -> Result<Explained, Fail> {
     let mut beside = in_slow_memory(alloc, header, raster)?;
-    explain_beside(alloc, RIGHT, Form::Text, length, &mut beside)
+    let mut out = page_sink(alloc)?;
+    explain(alloc, Form::Text, length, &mut beside, &mut out)
 }
 
 /// Files that accept one byte a call, and fault by these scripts.
@@ -347,7 +207,7 @@ fn told_into(
 ) -> Result<Explained, Fail> {
     let mut beside = in_memory(alloc)?;
     let mut out = slow_sink(alloc, script)?;
-    explain_given(alloc, RIGHT, form, length, &mut beside, &mut out)
+    explain(alloc, form, length, &mut beside, &mut out)
 }
 
 #[test]
@@ -356,30 +216,5 @@ fn ends_with_status_3_where_a_page_cannot_be_written(rt: HostRuntime) -> Result<
     same_line(&rt, "a page", &answered.page, "ac", 3);
     let answered = told_into(rt.alloc(), Form::Json, &AT_ONCE, 0)?;
     same_line(&rt, "an object", &answered.page, "", 3);
-    Ok(())
-}
-
-/// The output of a run with ranks, of products of which two outlets share a label.
-fn told_with_ranks(alloc: Global, length: usize) -> Result<Explained, Fail> {
-    let mut beside = in_memory(alloc)?;
-    let mut out = page_sink(alloc)?;
-    let mut products = JudgedProducts::Check(five(alloc, &[0; 4], &[1, 2, 3, 3])?);
-    explain(
-        alloc,
-        2,
-        &mut products,
-        Form::Text,
-        length,
-        &mut beside,
-        &mut out,
-    )
-}
-
-#[test]
-fn a_page_with_ranks_begins_with_the_line_of_a_check(rt: HostRuntime) -> Result<(), Fail> {
-    let line = "rejected rule=15 SharedLabel row=1 col=1\n";
-    let answered = told_with_ranks(rt.alloc(), line.len())?;
-    same_line(&rt, "with ranks", &answered.page, line, 1);
-    same_bytes(&rt, "its map", answered.raster.as_slice(), &[0, 0, 0, 15]);
     Ok(())
 }

@@ -1,5 +1,4 @@
-//! Runs of `drain fill` over sources and sinks in memory: worked inputs with their lines, and devices
-//! that are slow, interrupted or fail. The expected lines were worked out by hand from the rules.
+//! Runs of `drain fill` over sources and sinks in memory that are slow, interrupted or fail.
 
 use crate::printed::{Printed, same_line, same_run, slow_sink, whole_sink};
 use drain_cli::runs::run_fill::run_fill;
@@ -36,12 +35,6 @@ fn printed<R: ByteSource>(
     Ok(Printed::new(out.as_slice(), status)?)
 }
 
-/// The output of a run over these bytes.
-fn told(alloc: Global, side: u32, bytes: &[u8]) -> Result<Printed, Fail> {
-    let out = whole_sink(alloc)?;
-    printed(alloc, side, &mut SliceSource::new(bytes), out)
-}
-
 /// The output of a run over the pit, whose source gives at most this number of bytes a call, and faults by the script.
 fn told_slowly(
     alloc: Global,
@@ -54,150 +47,6 @@ fn told_slowly(
     let out = whole_sink(alloc)?;
     let mut input = ScriptSource::new(pit(), most, script);
     printed(alloc, 3, &mut input, out)
-}
-
-/// The pit with other bytes at some places.
-fn changed(changes: &[(usize, u8)]) -> [u8; 81] {
-    let mut bytes = *pit();
-    for (at, byte) in changes {
-        if let Some(place) = bytes.get_mut(*at) {
-            *place = *byte;
-        }
-    }
-    bytes
-}
-
-/// Bytes of the pit that are changed, the status and the line.
-static CHANGED_PITS: [(&str, &[(usize, u8)], u8, &str); 7] = [
-    ("as it is", &[], 0, PIT_LINE),
-    (
-        "con 4 in the corner",
-        &[(19, 4)],
-        1,
-        "rejected rule=4 BelowGround row=0 col=0\n",
-    ),
-    (
-        "con 6 in the corner",
-        &[(19, 6)],
-        1,
-        "rejected rule=5 OpenRaised row=0 col=0\n",
-    ),
-    (
-        "no spill parent",
-        &[(40, 0)],
-        1,
-        "rejected rule=6 NoSpill row=1 col=1\n",
-    ),
-    (
-        "con 6 in the pit",
-        &[(27, 6)],
-        1,
-        "rejected rule=7 SpillHeight row=1 col=1\n",
-    ),
-    (
-        "rank 0 in the pit",
-        &[(64, 0)],
-        1,
-        "rejected rule=8 SpillRank row=1 col=1\n",
-    ),
-    (
-        "a needless crest of 7",
-        &[(11, 7), (29, 7), (27, 7)],
-        1,
-        "rejected rule=9 NotLeast row=1 col=1\n",
-    ),
-];
-
-#[test]
-fn tells_the_first_fault_of_a_changed_pit(rt: HostRuntime) -> Result<(), Fail> {
-    for &(name, changes, status, line) in &CHANGED_PITS {
-        let answered = told(rt.alloc(), 3, &changed(changes))?;
-        same_line(&rt, name, &answered, line, status);
-    }
-    Ok(())
-}
-
-/// A tile of side 5, all 9 but 3 at (1, 1) and this height or a void at (2, 2); `con` is the tile, and
-/// no cell has a spill parent or a rank.
-fn nines_round_a_void(middle: Option<u8>) -> [u8; 225] {
-    let mut bytes = [0; 225];
-    for height in bytes[..100].iter_mut().skip(1).step_by(2) {
-        *height = 9;
-    }
-    for part in [0, 50] {
-        bytes[part + 13] = 3;
-        match middle {
-            Some(height) => bytes[part + 25] = height,
-            None => {
-                bytes[part + 24] = 0x80;
-                bytes[part + 25] = 0;
-            }
-        }
-    }
-    bytes
-}
-
-/// Bytes of zeros: those of a flat tile of side 2, or one too many for side 3.
-const ZEROS: [u8; 82] = [0; 82];
-
-/// A tile of side 3 of voids, and zeros after it.
-fn all_void() -> [u8; 81] {
-    let mut voids = [0; 81];
-    for place in voids[..18].iter_mut().step_by(2) {
-        *place = 0x80;
-    }
-    voids
-}
-
-/// A side, zeros or the pit, how many of these bytes come, the status and the line.
-static LENGTHS: [(&str, u32, &[u8], usize, u8, &str); 8] = [
-    (
-        "a flat tile",
-        2,
-        &ZEROS,
-        36,
-        0,
-        "accepted rows=2 cols=2 data=4 raised=0\n",
-    ),
-    ("no byte", 3, &PIT, 0, 2, "refused BadLength\n"),
-    ("a byte too few", 3, &PIT, 80, 2, "refused BadLength\n"),
-    ("a byte too many", 3, &ZEROS, 82, 2, "refused BadLength\n"),
-    ("a smaller side", 2, &PIT, 81, 2, "refused BadLength\n"),
-    ("side 0", 0, &PIT, 0, 2, "refused BadSide\n"),
-    ("side 1", 1, &PIT, 0, 2, "refused BadSide\n"),
-    ("side 3602", 3602, &PIT, 81, 2, "refused BadSide\n"),
-];
-
-#[test]
-fn tells_what_inputs_of_each_length_are(rt: HostRuntime) -> Result<(), Fail> {
-    for &(name, side, bytes, length, status, line) in &LENGTHS {
-        let Some(bytes) = bytes.get(..length) else {
-            return Err("bytes of this length".into());
-        };
-        let answered = told(rt.alloc(), side, bytes)?;
-        same_line(&rt, name, &answered, line, status);
-    }
-    Ok(())
-}
-
-#[test]
-fn tells_what_inputs_with_voids_are(rt: HostRuntime) -> Result<(), Fail> {
-    let void = told(rt.alloc(), 3, &all_void())?;
-    let line = "accepted rows=3 cols=3 data=0 raised=0\n";
-    same_line(&rt, "all void", &void, line, 0);
-    let open = told(rt.alloc(), 5, &nines_round_a_void(None))?;
-    let line = "accepted rows=5 cols=5 data=24 raised=0\n";
-    same_line(&rt, "a cell beside an inner void", &open, line, 0);
-    let closed = told(rt.alloc(), 5, &nines_round_a_void(Some(9)))?;
-    let line = "rejected rule=6 NoSpill row=1 col=1\n";
-    same_line(
-        &rt,
-        "the same with data in place of the void",
-        &closed,
-        line,
-        1,
-    );
-    Ok(())
 }
 
 /// How many bytes a source gives a call, at which calls it faults, the status and the line.

@@ -1,32 +1,13 @@
-//! Runs of `drain header` over sources and sinks in memory: texts with their output, and devices that are
-//! slow, interrupted or fail.
+//! Runs of `drain header` over sources and sinks in memory that are long, slow, interrupted or fail.
 
-use crate::printed::{Printed, same_line, same_number, same_run, slow_sink, whole_sink};
+use crate::printed::{Printed, same_number, same_run, slow_sink, whole_sink};
 use drain_cli::runs::run_header::run_header;
 use drain_device::faults::{ScriptSink, ScriptSource, Scripted, SinkAnswer};
 use drain_device::{BodyFault, ByteSource, DeviceFault, SliceSource};
 use std::alloc::Global;
 use std::test::Fail;
 use worked::calls::at_calls;
-use worked::headers::{CON_TEXT, USUAL};
-
-/// What is written of a usual tool's header.
-const USUAL_WRITTEN: &str = "BYTEORDER I
-LAYOUT BIL
-NROWS 1201
-NCOLS 1201
-NBANDS 1
-NBITS 16
-BANDROWBYTES 2402
-TOTALROWBYTES 2402
-SKIPBYTES 0
-PIXELTYPE SIGNEDINT
-ULXMAP -105.000000000000000
-ULYMAP 38.000000000000000
-XDIM 0.000833333333333
-YDIM 0.000833333333333
-NODATA -32768
-";
+use worked::headers::CON_TEXT;
 
 /// What a run over the input prints.
 fn printed<R: ByteSource>(
@@ -61,34 +42,6 @@ fn told_into(alloc: Global, script: &[Scripted<SinkAnswer>]) -> Result<Printed, 
     let out = slow_sink(alloc, script)?;
     let mut input = SliceSource::new(CON_TEXT.as_bytes());
     printed(alloc, &mut input, out)
-}
-
-/// A header, the status and the output.
-static HEADERS: [(&str, &str, u8, &str); 5] = [
-    ("its own form", CON_TEXT, 0, CON_TEXT),
-    ("a usual tool's", USUAL, 0, USUAL_WRITTEN),
-    ("no byte", "", 2, "refused MissingKey NROWS\n"),
-    (
-        "a bad line behind a good one",
-        "NROWS 2\nNCOLS 0\n",
-        2,
-        "refused BadValue 2\n",
-    ),
-    (
-        "a keyword twice",
-        "NROWS 2\nnrows",
-        2,
-        "refused RepeatedKey 2\n",
-    ),
-];
-
-#[test]
-fn prints_headers_and_faults(rt: HostRuntime) -> Result<(), Fail> {
-    for &(name, header, status, text) in &HEADERS {
-        let (answered, _) = told(rt.alloc(), header.as_bytes())?;
-        same_line(&rt, name, &answered, text, status);
-    }
-    Ok(())
 }
 
 /// Line feeds, more than a header can have.

@@ -14,8 +14,6 @@ const WORDS: &[u8] =
 /// That of the other products.
 const BYTES: &[u8] = b"NROWS 2\nNCOLS 2\nULXMAP 0\nULYMAP 1\nXDIM 1\nYDIM 1\n";
 
-pub const LINE: &str = "accepted rows=2 cols=2 data=4 raised=0 outlets=4\n";
-
 pub const TILE: &str = "N00E000.hgt";
 
 /// Level con.

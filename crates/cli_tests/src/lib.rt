@@ -2,8 +2,6 @@
 #![tactic(auto)]
 
 #[cfg(test)]
-mod audit_runs;
-#[cfg(test)]
 mod check_runs;
 #[cfg(test)]
 mod explain_runs;
@@ -19,8 +17,6 @@ mod inputs;
 mod level_tile;
 #[cfg(test)]
 mod list_reads;
-#[cfg(test)]
-mod listed_sinks;
 #[cfg(test)]
 mod make_runs;
 #[cfg(test)]

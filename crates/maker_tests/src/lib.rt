@@ -1,8 +1,14 @@
-//! Tests of `make`: mosaics worked out by hand from the definitions, and terrains whose products pass.
+//! Tests of `make` and `derive`: mosaics worked out by hand from the definitions, and terrains whose products pass.
 #![tactic(auto)]
 
 #[cfg(test)]
 mod agree;
+#[cfg(test)]
+mod derived;
+#[cfg(test)]
+mod derived_bytes;
+#[cfg(test)]
+mod derived_flows;
 #[cfg(test)]
 mod followed;
 #[cfg(test)]

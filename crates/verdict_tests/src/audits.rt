@@ -1,11 +1,10 @@
 //! Audits of worked products. The lines were worked out by hand from the rules.
 
 use crate::bytes::Bytes;
-use crate::example::{Example, changed, grid_of, header_on, one_tile};
+use crate::example::{Example, changed, grid_of, header_on, one_tile, products_on, tile};
 use crate::faults::{Times, goes_on_after};
 use crate::listed_sinks::{Lie, listed_pit_with, round_a_void, two_tiles};
 use crate::runs::Checked;
-use crate::sink_orders::with_a_gap;
 use crate::sources::MIDDLES;
 use crate::tells::{Changes, changes_tell, each_tells, tells_twice};
 use drain_device::DeviceFault;
@@ -13,10 +12,21 @@ use drain_grid::SetProduct;
 use std::test::Fail;
 use worked::grids::{
     LEVEL_LINE, LISTED_PIT_LINE, LISTED_PIT_SINKS, PIT_LINE, SLOPE_LINE, UNLISTED_PIT_LINE,
-    VOIDS_LINE, level, pit, ring, slope, voids,
+    VOIDS_LINE, level, parted, pit, ring, slope, voids,
 };
 
 const RING_LINE: &str = "rejected NoEnd row=1 col=1";
+
+/// Two flats with a column of voids between them, which no tile covers; some numbers of the products may be changed.
+fn with_a_gap(changes: &[(usize, i64)]) -> Example {
+    let grid = "NROWS 3\nNCOLS 7\nULXMAP 0\nULYMAP 1\nXDIM 0.5\nYDIM 0.5\n";
+    let numbers = changed(&parted(), changes);
+    let mut example = products_on(3, grid, &numbers[21..]);
+    for name in ["N00E000.hgt", "N00E002.hgt"] {
+        example.push_tile(tile(name, &[0; 9]));
+    }
+    example
+}
 
 /// A check accepts these with the same lines.
 #[test]

@@ -165,29 +165,6 @@ pub fn one_tile(side: u32, numbers: &[i64]) -> Example {
     tile_on(side, "N00E000.hgt", grid_of(side), numbers)
 }
 
-/// Tiles of these names and products that all have this header, with no byte after them.
-pub fn bare(side: u32, names: &[&str], header: &str) -> Example {
-    let raster = RasterBytes {
-        header: Bytes::of(header.as_bytes()),
-        body: Bytes::new(),
-    };
-    let mut example = Example {
-        side,
-        tiles: [tile("", &[]); 3],
-        tile_count: 0,
-        sinks: Bytes::new(),
-        con: raster,
-        dir: raster,
-        acc: raster,
-        bas: raster,
-        rnk: raster,
-    };
-    for name in names {
-        example.push_tile(tile(name, &[]));
-    }
-    example
-}
-
 /// The numbers with others in some of their places.
 pub fn changed<const N: usize>(numbers: &[i64; N], changes: &[(usize, i64)]) -> [i64; N] {
     let mut copy = *numbers;

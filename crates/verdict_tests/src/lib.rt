@@ -3,8 +3,6 @@
 #![tactic(auto)]
 
 #[cfg(test)]
-mod accepted;
-#[cfg(test)]
 mod agree;
 #[cfg(test)]
 mod audits;
@@ -21,8 +19,6 @@ mod example;
 #[cfg(test)]
 mod faults;
 #[cfg(test)]
-mod headers;
-#[cfg(test)]
 mod huge_numbers;
 #[cfg(test)]
 mod inputs;
@@ -31,19 +27,9 @@ mod listed_sinks;
 #[cfg(test)]
 mod many_sinks;
 #[cfg(test)]
-mod mosaics;
-#[cfg(test)]
-mod orders;
-#[cfg(test)]
-mod refused;
-#[cfg(test)]
-mod rejected;
-#[cfg(test)]
 mod runs;
 #[cfg(test)]
 mod second_checks;
-#[cfg(test)]
-mod sink_orders;
 #[cfg(test)]
 mod sources;
 #[cfg(test)]

@@ -63,20 +63,6 @@ pub fn lists_tell(
     Ok(())
 }
 
-/// The same of checks of an example with each of these lists, always with this line.
-pub fn any_list_tells(
-    rt: &impl Abort,
-    alloc: Global,
-    example: &Example,
-    lists: &[&str],
-    owed: &str,
-) -> Result<(), Fail> {
-    for &list in lists {
-        list_tells(rt, alloc, example, list, owed)?;
-    }
-    Ok(())
-}
-
 /// Some of an example's numbers that are changed, each by its place, and the expected line.
 pub type Changes = (&'static [(usize, i64)], &'static str);
 

@@ -1,4 +1,4 @@
-//! The assertion of these tests, and the numbers that it is about.
+//! The numbers of derived rasters, and the assertion on them.
 
 use drain_derive::Derived;
 use drain_grid::{Cell, Raster};

@@ -1,6 +1,6 @@
 //! Flows in memory.
 
-use crate::agree::{NONE, numbers, same};
+use crate::derived::{NONE, numbers, same};
 use drain_derive::derive_from_flows;
 use drain_grid::Shape;
 use drain_paths::{CertifyRefusal, Flow};

@@ -1,6 +1,6 @@
 //! The bytes of a tile and of directions, with zeros for the other products.
 
-use crate::agree::{NONE, numbers, same};
+use crate::derived::{NONE, numbers, same};
 use drain_derive::{DeriveRefusal, Derived, derive};
 use drain_device::{ByteList, SliceSource};
 use drain_hgt::TileInput;
