@@ -22,9 +22,6 @@ CRATES ?=
 build/drain: FORCE
 	@tools/build_program.py --library build/libdrain.a drain $@
 
-build/benches: FORCE
-	@tools/build_program.py $(@F) $@
-
 build/drain.1: build/drain tools/man_page.py
 	@tools/man_page.py build/drain >$@
 
@@ -68,18 +65,8 @@ test:
 companion-test:
 	tests/companion.sh $(or $(DRAIN),build/drain)
 
-bench: build/drain build/benches
+bench: build/drain
 	bench/run.sh build/drain
-	bench/check.sh build/drain
-	bench/explain.sh build/drain
-	bench/memory.sh build/drain
-	bench/make.sh build/drain
-	bench/hard.sh build/drain
-	bench/sinks.sh build/drain
-	bench/labels.sh build/benches
-	bench/rasters.sh build/benches
-	bench/mosaic.sh build/benches
-	bench/lanes.sh build/benches
 	bench/windows.py build/drain
 
 clean:

@@ -1,27 +1,10 @@
-#!/usr/bin/env bash
-# Shows how fast `drain check` and `drain audit` are beside their twins: builds the twins, compares all programs on small random tiles with right
-# and changed products, then times them, and `cat` of the files, on tiles of sides 1201 and 3601, made-up terrain and real terrain enlarged by
-# mirrored copies. It exits with 1 where lines differ; times never make it fail.
-# Usage: bench/check.sh DRAIN
-set -euo pipefail
-drain=$(realpath "$1")
-bench=$(cd "$(dirname "${BASH_SOURCE[0]}")" && pwd)
-top=$(dirname "$bench")
-out=$top/build/bench
-checks=("$drain" "$out/twin_check_patch" "$out/twin_check_loop")
-audits=("$drain" "$out/twin_audit_loop")
-scratch=$(mktemp -d)
-trap 'rm -rf "$scratch"' EXIT
+# `drain check` and `drain audit` beside their twins, compared first on 2,000 small random tiles with right and changed products, then timed, with `cat` of the
+# files, on tiles of sides 1201 and 3601: made-up terrain, and real terrain enlarged by mirrored copies. Read by run.sh.
 
-mkdir -p "$out"
-for name in make_check_input mirror_tile twin_check_patch twin_check_loop compare_check measure; do
-    rustc --edition 2024 -O -C target-cpu=x86-64-v2 -o "$out/$name" "$bench/$name.rs"
-done
+build make_check_input mirror_tile twin_check_loop compare_check measure
 rustc --edition 2024 -O -C target-cpu=x86-64-v2 --cfg audit -o "$out/twin_audit_loop" "$bench/twin_check_loop.rs"
-
-differ=0
-"$out/compare_check" check 2000 "$scratch" "${checks[@]}" || differ=1
-"$out/compare_check" audit 2000 "$scratch" "${audits[@]}" || differ=1
+"$out/compare_check" check 2000 "$scratch" "$drain" "$out/twin_check_loop" || differ=1
+"$out/compare_check" audit 2000 "$scratch" "$drain" "$out/twin_audit_loop" || differ=1
 
 # Compares the lines of programs on a large tile, and times them in turn.
 # Usage: time_all COMMAND SIDE FOLDER TILE PROGRAM...
@@ -44,10 +27,9 @@ for side in 1201 3601; do
     for tile in "$scratch/made-up/N00E000.hgt" "$scratch/real/N36W085.hgt"; do
         folder=$(dirname "$tile")
         echo
-        echo "${folder##*/} terrain of side $side, at a load of $(cut -d ' ' -f 1 /proc/loadavg)"
-        time_all check "$side" "$folder" "$tile" "${checks[@]}"
-        time_all audit "$side" "$folder" "$tile" "${audits[@]}"
+        echo "${folder##*/} terrain of side $side, at a load of $(load)"
+        time_all check "$side" "$folder" "$tile" "$drain" "$out/twin_check_loop"
+        time_all audit "$side" "$folder" "$tile" "$drain" "$out/twin_audit_loop"
     done
     rm -rf "$scratch/made-up" "$scratch/real"
 done
-exit "$differ"

@@ -1,27 +1,15 @@
-#!/usr/bin/env bash
-# Shows what `drain make` and `drain check` take for terrains of side 1201 that are hard to drain, or have as many labels as cells, beside usual terrain. It exits
-# with 1 where what was made isn't accepted; times never make it fail.
-# Usage: bench/hard.sh DRAIN
-set -euo pipefail
-drain=$(realpath "$1")
-bench=$(cd "$(dirname "${BASH_SOURCE[0]}")" && pwd)
-out=$(dirname "$bench")/build/bench
-side=1201
-scratch=$(mktemp -d)
-trap 'rm -rf "$scratch"' EXIT
-tile=$scratch/N00E000.hgt
+# What `drain make` and `drain check` take for terrains of side 1201 that are hard to drain, or have as many labels as cells, beside usual terrain. Read by run.sh.
 
-mkdir -p "$out" "$scratch/products"
-for name in make_check_input hard_terrains measure; do
-    rustc --edition 2024 -O -C target-cpu=x86-64-v2 -o "$out/$name" "$bench/$name.rs"
-done
+side=1201
+tile=$scratch/N00E000.hgt
+mkdir "$scratch/products"
+build make_check_input hard_terrains measure
 
 # The median seconds of a processor for a million cells, of three runs with these arguments.
 seconds() {
     "$out/measure" 3 $((side * side)) /dev/null "$drain" -- "$@" | awk '$1 == "drain" { print $4 }'
 }
 
-differ=0
 usual_make=
 printf '%-8s %9s %7s %9s %7s\n' terrain 'make s/M' times 'check s/M' times
 for kind in usual flat noise pits spiral stairs bowl needles voids ramp; do
@@ -38,4 +26,3 @@ for kind in usual flat noise pits spiral stairs bowl needles voids ramp; do
     awk -v kind="$kind" -v make="$to_make" -v check="$to_check" -v usual_make="$usual_make" -v usual_check="$usual_check" \
         'BEGIN { printf "%-8s %9.3f %7.2f %9.3f %7.2f\n", kind, make, make / usual_make, check, check / usual_check }'
 done
-exit "$differ"

@@ -1,17 +1,7 @@
-#!/usr/bin/env bash
-# Shows how much memory `drain check` takes on the largest mosaic: 64 tiles of side 3601, 829 million cells, all of them voids. The tiles are
-# links to one file, and the rasters sparse files of zeros, which their headers name as no data. It takes some minutes.
-# Usage: bench/memory.sh DRAIN
-set -euo pipefail
-drain=$(realpath "$1")
-bench=$(cd "$(dirname "${BASH_SOURCE[0]}")" && pwd)
-out=$(dirname "$bench")/build/bench
-scratch=$(mktemp -d)
-trap 'rm -rf "$scratch"' EXIT
+# How much memory `drain check` takes on the largest mosaic: 64 tiles of side 3601, 829 million cells, all of them voids. The tiles are links to one file, and
+# the rasters sparse files of zeros, which their headers name as no data. It takes some minutes. Read by run.sh.
 
-mkdir -p "$out"
-rustc --edition 2024 -O -C target-cpu=x86-64-v2 -o "$out/measure" "$bench/measure.rs"
-
+build measure
 side=3601
 cols=28801
 printf '\x80\0%.0s' $(seq "$side") >"$scratch/row"

@@ -1,21 +1,9 @@
-#!/usr/bin/env bash
-# Shows what a list of sinks costs `drain make` and `drain check` on a tile of side 3601: no list, 1,000 cells and 1,000,000 cells, taken at random from
-# the data cells, timed in turn; on made-up terrain, where a list changes the products, and on the same terrain filled, where it makes outlets and little else.
-# Beside the checks it times a plain program that reads the longest list and looks at no cell (plain_list.rs). Each check has to accept what was made with
-# its list. It exits with 1 where one doesn't; times never make it fail.
-# Usage: bench/sinks.sh DRAIN [SIDE]
-set -euo pipefail
-drain=$(realpath "$1")
-side=${2:-3601}
-bench=$(cd "$(dirname "${BASH_SOURCE[0]}")" && pwd)
-out=$(dirname "$bench")/build/bench
-scratch=$(mktemp -d)
-trap 'rm -rf "$scratch"' EXIT
+# What a list of sinks costs `drain make` and `drain check` on a tile of side 3601: no list, 1,000 cells and 1,000,000 cells, taken at random from the data cells,
+# timed in turn; on made-up terrain, where a list changes the products, and on the same terrain filled, where it makes outlets and little else. Beside the checks
+# it times a plain program that reads the longest list and looks at no cell (plain_list.rs). Read by run.sh.
 
-mkdir -p "$out"
-for name in make_check_input measure plain_list; do
-    rustc --edition 2024 -O -C target-cpu=x86-64-v2 -o "$out/$name" "$bench/$name.rs"
-done
+side=3601
+build make_check_input measure plain_list
 "$out/make_check_input" "$side" "$side" "$scratch/terrain"
 
 # Writes a list of n data cells of a tile, in no order.
@@ -31,17 +19,8 @@ print("".join(f"{cell // side} {cell % side}\n" for cell in random.sample(data, 
 PY
 }
 
-# A command as a program of its own, so that all can be timed in turn.
-# Usage: command_as NAME WORD...
-command_as() {
-    printf '#!/bin/sh\nexec' >"$scratch/$1"
-    printf ' %q' "$drain" "${@:2}" >>"$scratch/$1"
-    chmod +x "$scratch/$1"
-}
-
 # Makes and checks with no list and with two, and then times them in turn.
 # Usage: time_lists TILE
-differ=0
 time_lists() {
     local tile=$1 count words line
     local checks=() makes=()
@@ -82,4 +61,3 @@ mkdir "$scratch/filled"
 filled_tile "$scratch/made-0/con.bil" "$scratch/filled/N00E000.hgt"
 echo "the same terrain filled"
 time_lists "$scratch/filled/N00E000.hgt"
-exit "$differ"

@@ -1,20 +1,13 @@
 //! The twin of `drain make`, as one writes it in plain Rust: reads one tile, makes its five products and writes them with their
 //! headers. It tests nothing.
 //!
-//! It is built once for each shape of the flood, by `--cfg flood="NAME"`: `flood_by_NAME.rs`. Traces are the program's own shape, and with them both write
-//! the same bytes. The others take cells strictly by level, and those of a level in the order in which they were found: among themselves they write the
-//! same bytes, con is the program's, and the rest is as right, with other ways over flats.
+//! Its flood has the program's own shape, so both write the same bytes.
 //!
 //! Numbers are kept as wide as their pixels. A frame of voids is around the tile, so every cell has eight neighbours.
 //!
 //! Usage: make --side N --out FOLDER TILE
 
 mod headers;
-#[cfg_attr(flood = "traces", path = "flood_by_traces.rs")]
-#[cfg_attr(flood = "levels", path = "flood_by_levels.rs")]
-#[cfg_attr(flood = "pools", path = "flood_by_pools.rs")]
-#[cfg_attr(flood = "packed_heap", path = "flood_by_packed_heap.rs")]
-#[cfg_attr(flood = "heap", path = "flood_by_heap.rs")]
 mod twin_flood;
 
 use headers::{ACC, BAS, CON, Corner, DIR, Pixels, RNK};

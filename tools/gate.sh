@@ -26,13 +26,11 @@ time rt ci
     echo 'the sources changed while they were proved: run this again' >&2
     exit 1
 }
-for program in drain benches; do
-    cp "crates/$program/out/$program" "build/$program"
-    # The object is there where the program was compiled in this run.
-    rm -f "build/$program.o"
-    [ ! -f "crates/$program/out/$program.o" ] || cp "crates/$program/out/$program.o" "build/$program.o"
-    tools/record_proof.sh "build/$program" "$sources"
-done
+cp crates/drain/out/drain build/drain
+# The object is there where the program was compiled in this run.
+rm -f build/drain.o
+[ ! -f crates/drain/out/drain.o ] || cp crates/drain/out/drain.o build/drain.o
+tools/record_proof.sh build/drain "$sources"
 time tools/try_named_edits.py
 time tools/check_docs.py build/drain
 time tools/build_library.sh build/libdrain.a .
@@ -41,10 +39,10 @@ time tests/first_run.sh build/drain
 time tests/shipping.sh build
 time tests/companion.sh build/drain
 time tests/continent.sh build/drain
-time tests/program/run.sh build/drain build/benches
+time tests/program/run.sh build/drain
 # The static program, where the object that it is linked from was made in this run.
 if [ -f build/drain.o ] && command -v gcc >/dev/null; then
     tools/static_program.sh build/drain build/drain.o build/drain-static
-    time tests/program/run.sh build/drain-static build/benches
+    time tests/program/run.sh build/drain-static
 fi
 time tests/refused_memory.sh byte_tests cell_tests rules_tests page_tests merge_tests report_tests verdict_tests window_tests maker_tests cli_tests

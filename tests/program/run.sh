@@ -1,12 +1,11 @@
 #!/usr/bin/env bash
 # Runs the built program on the command lines of table.txt, on standard streams that stay open, are closed, are full or fail, on inputs that are cut, and
 # with each of its calls failing in turn, and compares what it prints and its exit status.
-# Usage: tests/program/run.sh DRAIN BENCHES
+# Usage: tests/program/run.sh DRAIN
 set -u
 # The last command of a pipe runs in this shell, so that a comparison behind a pipe counts.
 shopt -s lastpipe
 drain=$(realpath "$1")
-benches=$(realpath "$2")
 here=$(cd "$(dirname "$0")" && pwd)
 cd "$here/../.."
 scratch=$(mktemp -d)

@@ -117,13 +117,6 @@ want 'refused BadLength'
 (ulimit -v 40000 && exec "$drain" fill --side 3601) <"$pit" >"$scratch/out" 2>"$scratch/err"
 judge 'memory for a short input' 2 "$scratch/want" $?
 
-# No memory for a label more: what was admitted is held, and the next call goes on.
-want 'refused memory, and the labels before are held'
-for limit in 20000 40000 80000; do
-    (ulimit -v $limit && exec "$benches" labels 100000000 2654435761) </dev/null >"$scratch/out" 2>"$scratch/err"
-    judge "no memory for a label, in $limit KiB" 0 "$scratch/want" $?
-done
-
 # Words that are empty, as an unset variable of a shell gives them.
 want -
 mkdir "$scratch/root"

@@ -1,9 +1,29 @@
 //! The flood of `twin_make`: whole slopes at once, and pools only for cells next to which a lower one was left (Zhou, Sun and Fu 2016).
 
-mod level_pools;
-
 use crate::{Flood, UNREACHED, back};
-use level_pools::LevelPools;
+use std::mem::take;
+
+/// The cells that wait at each level. A flood takes the levels one after the other.
+struct LevelPools(Vec<Vec<u32>>);
+
+fn place_of(level: i16) -> usize {
+    (i32::from(level) - i32::from(i16::MIN)) as usize
+}
+
+impl LevelPools {
+    fn new() -> LevelPools {
+        LevelPools(vec![Vec::new(); place_of(i16::MAX) + 1])
+    }
+
+    fn push(&mut self, level: i16, cell: u32) {
+        self.0[place_of(level)].push(cell);
+    }
+
+    /// The cells of a level, which has none then.
+    fn take(&mut self, level: i16) -> Vec<u32> {
+        take(&mut self.0[place_of(level)])
+    }
+}
 
 /// Reaches all cells, from the open ones on.
 pub fn spread(found: &mut Flood, open: Vec<u32>, steps: &[usize; 8]) {
