@@ -21,10 +21,11 @@ CHECKED = (*AUDITED, "rnk")
 class Bytes(ctypes.Structure):
     """drain_bytes: bytes that Python holds. They live as long as this object."""
 
-    _fields_ = [("at", ctypes.c_char_p), ("length", ctypes.c_size_t)]
+    _fields_ = [("at", ctypes.c_char_p), ("length", ctypes.c_size_t), ("missing", ctypes.c_size_t)]
 
-    def __init__(self, data: bytes) -> None:
-        super().__init__(data, len(data))
+    def __init__(self, data: bytes | None, missing: int = 0) -> None:
+        """None is NULL, where this many bytes should be."""
+        super().__init__(data or b"", len(data or b""), missing if data is None else 0)
 
 
 class Pair(ctypes.Structure):
@@ -44,7 +45,7 @@ class RawAnswer(ctypes.Structure):
 
 @dataclass(frozen=True)
 class Answer:
-    """The status (0 accepted, 1 rejected, 2 refused, 3 out of memory), the rule and the cell of a rejection, the line."""
+    """The status (0 accepted, 1 rejected, 2 refused, 3 failed), the rule and the cell of a rejection, the line."""
 
     status: int
     rule: int

@@ -1,16 +1,18 @@
 /* libdrain: whether drainage rasters are correct for the elevation tiles that they were made from.
  *
- * Two functions, each proved to give the right answer to the bytes that it is passed (the contracts are in
+ * Two functions judge, each proved to give the right answer to the bytes that it is passed (the contracts are in
  * crates/drain_c/src/exported_audit.rt and exported_check.rt). They read memory only: no file, no output, no state
- * between calls.
+ * between calls. A third says where the members of an answer lie.
  *
  * What is proved holds where the caller keeps the rules below. Nothing checks a caller in C.
  *
- * Bytes. A drain_bytes is an address and a length in bytes. The address is never NULL, also where the length is 0:
- *   drain_bytes_of(at, length) takes NULL too. Bytes need no alignment; an array of tiles has that of drain_tile.
- * Memory. The library reads samples and pixels where they lie, copies names and headers, and keeps nothing after it
- *   returns. It calls malloc, realloc and free, which align and behave as the C standard says. An audit takes a byte
- *   for each cell, beside some rows, the labels of outlets and the list of sinks; a check takes those alone.
+ * Bytes. A drain_bytes is an address and a length in bytes. The address is never NULL, also where the length is 0. Make
+ *   each by drain_bytes_of(at, length), which takes NULL too. Bytes need no alignment; an array of tiles has that of
+ *   drain_tile.
+ * Memory. The library reads samples and pixels where they lie, and copies names and headers. Of a header it reads and
+ *   copies at most 65,537 bytes. It keeps nothing after it returns. It calls malloc, realloc and free, which align and
+ *   behave as the C standard says. An audit takes a byte for each cell, beside some rows, the labels of outlets and the
+ *   list of sinks; a check takes those alone.
  *   *answer overlaps no other argument, and nothing else writes to any argument during a call.
  * Threads. Calls may run at the same time, each with an answer of its own. Call neither function from a signal handler,
  *   nor in a child that was forked while several threads ran.
@@ -26,10 +28,12 @@
 extern "C" {
 #endif
 
-/* length bytes from at on; at is never NULL. */
+/* length bytes from at on; at is never NULL. missing: how many bytes there should be, where the address was NULL; else
+ * 0. A call with missing bytes is refused: `refused NullBytes`. */
 typedef struct drain_bytes {
     const uint8_t *at;
     size_t length;
+    size_t missing;
 } drain_bytes;
 
 /* A tile. name: its name, as N36W085.hgt, without a path or a zero byte. samples: 2 * side * side bytes, row by row
@@ -69,8 +73,8 @@ typedef struct drain_check_rasters {
 enum {
     DRAIN_ACCEPTED = 0, /* of an audit: the rasters are correct; of a check: correct, and the ranks show it */
     DRAIN_REJECTED = 1, /* of an audit: the rasters aren't correct; of a check: or the ranks don't show it */
-    DRAIN_REFUSED = 2,  /* there is no verdict: the side, a name, a header, a length, a seam or the list of sinks */
-    DRAIN_FAILED = 3    /* out of memory */
+    DRAIN_REFUSED = 2,  /* no verdict: the side, a name, a header, a length, a seam, the list of sinks, or NULL */
+    DRAIN_FAILED = 3    /* out of memory; the contracts allow a failed read too, which memory never gives */
 };
 
 /* The bytes for a line: at most 160, and zeros behind them. */
@@ -99,11 +103,17 @@ uint32_t drain_audit(uint32_t side, const drain_tile *tiles, size_t tile_count, 
 uint32_t drain_check(uint32_t side, const drain_tile *tiles, size_t tile_count, const uint8_t *sinks,
                      size_t sinks_length, const drain_check_rasters *rasters, drain_answer *answer);
 
-/* These bytes; at may be NULL where length is 0. */
+/* Writes to each number of an answer its place in the struct, 0, 4, 8 and 12, and 255 to each byte of the line. A
+ * caller with a declaration of its own, as in another language, can compare. It writes 180 bytes, the size that it
+ * returns. */
+size_t drain_answer_layout(drain_answer *answer);
+
+/* These bytes. NULL with length 0 is no bytes; NULL with another length is refused by the call that is passed it. */
 static inline drain_bytes drain_bytes_of(const void *at, size_t length) {
     drain_bytes bytes;
     bytes.at = at ? (const uint8_t *)at : (const uint8_t *)"";
     bytes.length = at ? length : 0;
+    bytes.missing = at ? 0 : length;
     return bytes;
 }
 

@@ -21,17 +21,17 @@ pub bytes_are_inputs : NamesGiveCorners → BytesAreInputs
 bytes_are_inputs corner side tiles sinks raster = (
   record {
     side = side;
-    names = map (λ t. t.name.now) tiles;
-    corners = map corner.0 (map (λ t. t.name.now) tiles);
-    tiles = map (λ t. t.samples.now) tiles;
+    names = map (λ t. t.name.bytes.now) tiles;
+    corners = map corner.0 (map (λ t. t.name.bytes.now) tiles);
+    tiles = map (λ t. t.samples.bytes.now) tiles;
     sinks = sinks;
-    header = λ p. (raster p).header.now;
-    raster = λ p. (raster p).pixels.now;
+    header = λ p. (raster p).header.bytes.now;
+    raster = λ p. (raster p).pixels.bytes.now;
   },
   record {
     side_is = refl;
     names_are = refl;
-    corners_are = corners_named corner.0 corner.1 (map (λ t. t.name.now) tiles);
+    corners_are = corners_named corner.0 corner.1 (map (λ t. t.name.bytes.now) tiles);
     tiles_are = refl;
     sinks_are = refl;
     headers_are = λ p. refl;

@@ -1,3 +1,4 @@
 pub mod GivenInputs
+pub mod LongHeaders
 pub mod Spelling
 pub mod Statuses

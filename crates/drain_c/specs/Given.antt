@@ -28,12 +28,12 @@ check_raster ps Rnk = ps.rnk
 -- the inputs are these bytes; which tiles the names name is a function of the names
 pub record AreOfBytes (side : ℕ) (tiles : List TileBytes) (sinks : List ℕ) (raster : SetProduct → RasterBytes) (i : Inputs) : Type 0 where
   pub side_is : i.side ≡ side
-  pub names_are : i.names ≡ map (λ t. t.name.now) tiles
+  pub names_are : i.names ≡ map (λ t. t.name.bytes.now) tiles
   pub corners_are : AreNames i.names → AllZip IsNameOf i.names i.corners
-  pub tiles_are : i.tiles ≡ map (λ t. t.samples.now) tiles
+  pub tiles_are : i.tiles ≡ map (λ t. t.samples.bytes.now) tiles
   pub sinks_are : i.sinks ≡ sinks
-  pub headers_are : (p : SetProduct) → i.header p ≡ (raster p).header.now
-  pub rasters_are : (p : SetProduct) → i.raster p ≡ (raster p).pixels.now
+  pub headers_are : (p : SetProduct) → i.header p ≡ (raster p).header.bytes.now
+  pub rasters_are : (p : SetProduct) → i.raster p ≡ (raster p).pixels.bytes.now
 
 -- the fact holds of the inputs that are these bytes
 abbrev pub OfBytes : ℕ → List TileBytes → List ℕ → (SetProduct → RasterBytes) → (Inputs → Type 0) → Type 0

@@ -1,7 +1,8 @@
 -- What an answer shows to C.
-use Rattle.std.specs.Prelude.{◌≡◌, ℕ, ◌-◌, List, ◌++◌, length, replicate}
+use Rattle.std.specs.Prelude.{◌≡◌, ℕ, ◌-◌, List, ◌++◌, length, replicate, codes}
 use Rattle.drain_c.specs.declared.answer.Answer.{Answer}
 use Rattle.drain_c.specs.declared.found.Found.{Found}
+use Rattle.drain_c.specs.Found.{status_only}
 
 -- these numbers, and this line with zeros behind it
 pub record ShowsAnswer (found : Found) (line : List ℕ) (shown : Answer) : Type 0 where
@@ -10,6 +11,10 @@ pub record ShowsAnswer (found : Found) (line : List ℕ) (shown : Answer) : Type
   pub row_is : shown.row ≡ found.row
   pub col_is : shown.col ≡ found.col
   pub line_is : shown.line ≡ line ++ replicate (164 - length line) 0
+
+-- that bytes are missing: status 2, and the name of the refusal
+abbrev pub ShowsMissing : Answer → Type 0
+ShowsMissing shown = ShowsAnswer (status_only 2) (codes "refused NullBytes") shown
 
 -- what is shown is an answer of this kind
 pub record Reports {A : Type 0} (Is : A → Type 0) (found : A → Found) (line : A → List ℕ) (shown : Answer) : Type 0 where

@@ -1,5 +1,5 @@
 -- The bytes of a call as sources.
-use Rattle.std.specs.Prelude.{◌≡◌, ℕ, List, Option, Some}
+use Rattle.std.specs.Prelude.{◌≡◌, ℕ, List, take, Option, Some}
 use Rattle.std.specs.List.{AllZip}
 use Rattle.drain_c.specs.declared.given.TileBytes.{TileBytes}
 use Rattle.drain_c.specs.declared.given.RasterBytes.{RasterBytes}
@@ -11,14 +11,14 @@ use Rattle.drain_verdict.specs.Inputs.{Products}
 
 -- the tile has this name, and its source these samples
 abbrev pub IsTileOf : {R : Type 0} → (R → Option (List ℕ)) → TileBytes → TileInput R → Type 0
-IsTileOf bytes_left given tile = (tile.name ≡ given.name.now) × (bytes_left tile.body ≡ Some given.samples.now)
+IsTileOf bytes_left given tile = (tile.name ≡ given.name.bytes.now) × (bytes_left tile.body ≡ Some given.samples.bytes.now)
 
 abbrev pub AreTilesOf : {R : Type 0} → (R → Option (List ℕ)) → List TileBytes → List (TileInput R) → Type 0
 AreTilesOf bytes_left given tiles = AllZip (IsTileOf bytes_left) given tiles
 
--- the raster has this header, and its source these pixels
+-- the raster has this header, or the first 65,537 bytes of a longer one, and its source these pixels
 abbrev pub IsRasterOf : {R : Type 0} → (R → Option (List ℕ)) → RasterBytes → RasterInput R → Type 0
-IsRasterOf bytes_left given raster = (raster.header ≡ given.header.now) × (bytes_left raster.body ≡ Some given.pixels.now)
+IsRasterOf bytes_left given raster = (raster.header ≡ take 65537 given.header.bytes.now) × (bytes_left raster.body ≡ Some given.pixels.bytes.now)
 
 -- each product has its raster
 abbrev pub AreRastersOf : {R : Type 0} → (R → Option (List ℕ)) → (SetProduct → RasterBytes) → Products R → Type 0

@@ -1,9 +1,9 @@
 //! An answer as C reads it: numbers, and the line that the program prints.
 
 ghost use Rattle.std.specs.Prelude.{◌≡◌, ◌-◌, ◌≤◌, ◌++◌, length, replicate};
-ghost use Rattle.drain_c.specs.Shown.{ShowsAnswer};
+ghost use Rattle.drain_c.specs.Shown.{ShowsAnswer, ShowsMissing};
 
-use crate::found::Found;
+use crate::found::{Found, status_only};
 
 /// How many bytes an answer has for its line: 160 at most, and zeros behind it.
 pub const LINE_SIZE: usize = 164;
@@ -31,6 +31,13 @@ pub fn show(answer: &mut Answer, found: Found, line: &str)
         col: found.col,
         line: with_zeros(line.as_bytes()),
     };
+}
+
+/// Says that bytes are missing, for which C had NULL.
+pub fn show_missing(answer: &mut Answer)
+    ensures { ShowsMissing answer.new }
+{
+    show(answer, status_only(2), "refused NullBytes");
 }
 
 /// These bytes and zeros behind them.

@@ -1,22 +1,24 @@
 //! The check that C calls. `include/drain.h` declares it.
 
-ghost use Rattle.std.specs.Prelude.{◌≡◌};
+ghost use Rattle.std.specs.Prelude.{◌≡◌, IsTrue, IsFalse};
 ghost use Rattle.drain_c.specs.Found.{check_found};
 ghost use Rattle.drain_c.specs.Given.{OfBytes, check_raster};
-ghost use Rattle.drain_c.specs.Shown.{Reports};
+ghost use Rattle.drain_c.specs.Shown.{Reports, ShowsMissing};
+ghost use Rattle.drain_c.specs.Whole.{is_check_whole};
 ghost use Rattle.drain_verdict.specs.Answers.{IsAnswer};
 ghost use Rattle.drain_answer.specs.Lines.{report_line};
 ghost use Rattle.drain_verdict.specs.Headline.{IsRight};
 
-use crate::answer::{Answer, show};
+use crate::answer::{Answer, show, show_missing};
 use crate::found::check_found;
 use crate::given::{CheckBytes, TileBytes};
 use crate::judge::judge_check;
+use crate::whole::is_check_whole;
 use drain_verdict::report;
 use std::alloc::Global;
 
 /// Whether ranks show that the rasters are correct: 0 where they do, 1 where they don't, 2 where the bytes have no
-/// verdict, 3 where the call is out of memory.
+/// verdict, 3 where the call is out of memory. The clauses allow 3 for a failed read too; a slice in memory has none.
 #[unsafe(no_mangle)]
 pub extern "C" fn drain_check<'a>(
     alloc: Global,
@@ -26,8 +28,11 @@ pub extern "C" fn drain_check<'a>(
     rasters: &CheckBytes<'a>,
     answer: &mut Answer,
 ) -> u32
-    // What it writes is the answer of a check of these bytes: the numbers, and the line that the program prints.
-    ensures answer { OfBytes side tiles.now sinks.now (check_raster rasters.now) (λ inputs. Reports (IsAnswer inputs) check_found report_line answer.new) }
+    // Where bytes are missing, for which C had NULL, it says so.
+    ensures missing { IsFalse (is_check_whole tiles.now rasters.now) → ShowsMissing answer.new }
+
+    // Else what it writes is the answer of a check of these bytes: the numbers, and the line that the program prints.
+    ensures answer { IsTrue (is_check_whole tiles.now rasters.now) → OfBytes side tiles.now sinks.now (check_raster rasters.now) (λ inputs. Reports (IsAnswer inputs) check_found report_line answer.new) }
     ensures status { answer.new.status ≡ result }
 
     // Where it is 0, the tiles agree on one elevation raster. The conditioned raster is the least surface above it
@@ -37,6 +42,10 @@ pub extern "C" fn drain_check<'a>(
     // outlet. Voids have the no-data numbers, and no data cell has one.
     ensures right { result ≡ 0 → OfBytes side tiles.now sinks.now (check_raster rasters.now) IsRight }
 {
+    if !is_check_whole(tiles, rasters) {
+        show_missing(answer);
+        return answer.status;
+    }
     let judged = judge_check(alloc, side, tiles, sinks, rasters);
     show(answer, check_found(&judged), report(&judged).as_str());
     answer.status

@@ -68,7 +68,7 @@ fn refusal_found(refusal: Refusal) -> Found
 }
 
 /// A status, without a rule or a cell.
-fn status_only(status: u32) -> Found
+pub fn status_only(status: u32) -> Found
     ensures { result ≡ status_only status }
 {
     Found {

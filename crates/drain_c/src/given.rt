@@ -1,17 +1,24 @@
 //! The bytes that C passes in: each slice is a pointer and a length there.
 
+/// Bytes. Where C had NULL for them, there are none, and `missing` is how many there should be.
+#[repr(C)]
+pub struct GivenBytes<'a> {
+    pub bytes: &'a [u8],
+    pub missing: usize,
+}
+
 /// A tile: its name, as N36W085.hgt, and its samples, two bytes each, the high one first.
 #[repr(C)]
 pub struct TileBytes<'a> {
-    pub name: &'a [u8],
-    pub samples: &'a [u8],
+    pub name: GivenBytes<'a>,
+    pub samples: GivenBytes<'a>,
 }
 
 /// A raster: the text of its header and the bytes of its pixels.
 #[repr(C)]
 pub struct RasterBytes<'a> {
-    pub header: &'a [u8],
-    pub pixels: &'a [u8],
+    pub header: GivenBytes<'a>,
+    pub pixels: GivenBytes<'a>,
 }
 
 /// The four rasters of an audit.

@@ -8,4 +8,6 @@ pub mod found;
 pub mod given;
 mod judge;
 pub mod laws;
+pub mod layout;
 mod sources;
+mod whole;

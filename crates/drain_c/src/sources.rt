@@ -1,13 +1,14 @@
-//! The bytes of a call as the sources that an audit and a check read. Names and headers are copied; samples and pixels
-//! are not.
+//! The bytes of a call as the sources that an audit and a check read. Names are copied, and so are headers, the first
+//! 65,537 bytes of a longer one; samples and pixels are not.
 
-ghost use Rattle.std.specs.Prelude.{◌≡◌, IfOk, IfErr};
+ghost use Rattle.std.specs.Prelude.{◌≡◌, take, IfOk, IfErr};
 ghost use Rattle.drain_c.specs.Given.{audit_raster, check_raster};
 ghost use Rattle.drain_c.specs.Sources.{AreTilesOf, AreRastersOf, IsRasterOf, IsTileOf};
 ghost use Rattle.drain_verdict.specs.AuditInputs.{with_con_for_ranks};
 
 use crate::given::{AuditBytes, CheckBytes, RasterBytes, TileBytes};
 use drain_device::{ByteList, ByteSource, SliceSource};
+use drain_header::MAX_HEADER_BYTES;
 use drain_hgt::TileInput;
 use drain_verdict::{AuditProducts, Products, RasterInput, Refusal};
 use std::alloc::Global;
@@ -38,8 +39,8 @@ fn tile_input<'a>(
     ensures same { IfOk result (λ tile. IsTileOf ⟦<SliceSource<'a> as ByteSource>⟧.bytes_left given.now tile) }
     ensures memory { IfErr result (λ refusal. refusal ≡ Refusal.OutOfMemory) }
 {
-    let name = byte_list(alloc, given.name)?;
-    let body = SliceSource::new(given.samples);
+    let name = byte_list(alloc, given.name.bytes)?;
+    let body = SliceSource::new(given.samples.bytes);
     Ok(TileInput { name, body })
 }
 
@@ -51,9 +52,19 @@ fn raster_input<'a>(
     ensures same { IfOk result (λ raster. IsRasterOf ⟦<SliceSource<'a> as ByteSource>⟧.bytes_left given.now raster) }
     ensures memory { IfErr result (λ refusal. refusal ≡ Refusal.OutOfMemory) }
 {
-    let header = byte_list(alloc, given.header)?;
-    let body = SliceSource::new(given.pixels);
+    let header = byte_list(alloc, first_bytes(given.header.bytes))?;
+    let body = SliceSource::new(given.pixels.bytes);
     Ok(RasterInput { header, body })
+}
+
+/// A header, or the first bytes of one that is too long: as many as show that it is.
+fn first_bytes(header: &[u8]) -> &[u8]
+    ensures { result.now ≡ take 65537 header.now }
+{
+    if header.len() <= MAX_HEADER_BYTES {
+        return header;
+    }
+    &header[..MAX_HEADER_BYTES + 1]
 }
 
 /// A copy of these bytes.

@@ -1,0 +1,25 @@
+-- Whether the bytes of a call are whole: none are missing, for which C had NULL.
+use Rattle.std.specs.Prelude.{Bool, List, ◌==◌, ◌&&◌}
+use Rattle.std.specs.List.{list_all}
+use Rattle.drain_c.specs.declared.given.TileBytes.{TileBytes}
+use Rattle.drain_c.specs.declared.given.RasterBytes.{RasterBytes}
+use Rattle.drain_c.specs.declared.given.AuditBytes.{AuditBytes}
+use Rattle.drain_c.specs.declared.given.CheckBytes.{CheckBytes}
+
+-- a tile has its name and its samples, a raster its header and its pixels
+abbrev pub is_tile_whole : TileBytes → Bool
+is_tile_whole tile = tile.name.missing == 0 && tile.samples.missing == 0
+
+abbrev pub is_raster_whole : RasterBytes → Bool
+is_raster_whole raster = raster.header.missing == 0 && raster.pixels.missing == 0
+
+abbrev pub are_tiles_whole : List TileBytes → Bool
+are_tiles_whole tiles = list_all is_tile_whole tiles
+
+-- each tile and each raster of an audit is whole
+abbrev pub is_audit_whole : List TileBytes → AuditBytes → Bool
+is_audit_whole tiles ps = are_tiles_whole tiles && is_raster_whole ps.con && is_raster_whole ps.dir && is_raster_whole ps.acc && is_raster_whole ps.bas
+
+-- the same of a check
+abbrev pub is_check_whole : List TileBytes → CheckBytes → Bool
+is_check_whole tiles ps = are_tiles_whole tiles && is_raster_whole ps.con && is_raster_whole ps.dir && is_raster_whole ps.acc && is_raster_whole ps.bas && is_raster_whole ps.rnk

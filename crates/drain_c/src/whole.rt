@@ -1,0 +1,47 @@
+//! Whether the bytes of a call are whole: none are missing, for which C had NULL.
+
+ghost use Rattle.std.specs.Prelude.{◌≡◌};
+ghost use Rattle.drain_c.specs.Whole.{are_tiles_whole, is_audit_whole, is_check_whole, is_raster_whole, is_tile_whole};
+
+use crate::given::{AuditBytes, CheckBytes, RasterBytes, TileBytes};
+
+/// Whether the bytes of an audit are whole.
+pub fn is_audit_whole(tiles: &[TileBytes], given: &AuditBytes) -> bool
+    ensures { result ≡ is_audit_whole tiles.now given.now }
+{
+    are_tiles_whole(tiles)
+        && is_raster_whole(&given.con)
+        && is_raster_whole(&given.dir)
+        && is_raster_whole(&given.acc)
+        && is_raster_whole(&given.bas)
+}
+
+/// Whether the bytes of a check are whole.
+pub fn is_check_whole(tiles: &[TileBytes], given: &CheckBytes) -> bool
+    ensures { result ≡ is_check_whole tiles.now given.now }
+{
+    are_tiles_whole(tiles)
+        && is_raster_whole(&given.con)
+        && is_raster_whole(&given.dir)
+        && is_raster_whole(&given.acc)
+        && is_raster_whole(&given.bas)
+        && is_raster_whole(&given.rnk)
+}
+
+fn are_tiles_whole(tiles: &[TileBytes]) -> bool
+    ensures { result ≡ are_tiles_whole tiles.now }
+{
+    tiles.iter().all(is_tile_whole)
+}
+
+fn is_tile_whole(tile: &TileBytes) -> bool
+    ensures { result ≡ is_tile_whole tile.now }
+{
+    tile.name.missing == 0 && tile.samples.missing == 0
+}
+
+fn is_raster_whole(raster: &RasterBytes) -> bool
+    ensures { result ≡ is_raster_whole raster.now }
+{
+    raster.header.missing == 0 && raster.pixels.missing == 0
+}
