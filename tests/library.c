@@ -1,6 +1,6 @@
-/* Tests of libdrain that no file can show: arguments that are refused, memory that is refused at each call of malloc and
- * realloc, what is left allocated, and calls of several threads at once. tests/library.sh builds it with
- * -Wl,--wrap=malloc,--wrap=realloc,--wrap=free, so it sees each such call of the library.
+/* Tests of libdrain that no file can show: where the members of an answer lie, arguments that are refused, memory that is
+ * refused at each call of malloc and realloc, what is left allocated, and calls of several threads at once.
+ * tests/library.sh builds it with -Wl,--wrap=malloc,--wrap=realloc,--wrap=free, so it sees each such call of the library.
  *
  * Usage: library SIDE DIRECTORY TILE NAME LINE    (an audit of these files answers LINE; DIRECTORY has no ranks, so the
  * check that is tried takes con for them)
@@ -12,6 +12,7 @@
 #include <stdio.h>
 #include <stdlib.h>
 #include <string.h>
+#include <sys/mman.h>
 
 #include "drain.h"
 
@@ -19,13 +20,16 @@ void *__real_malloc(size_t);
 void *__real_realloc(void *, size_t);
 void __real_free(void *);
 
-/* Of this thread: calls that ask for memory, those that are still granted (negative: all), whether later ones are granted
- * again, and blocks that are held. */
+/* Of this thread: calls that ask for memory, those that are still granted (negative: all), whether later ones are
+ * granted again, blocks that are held, and the largest that was asked for. */
 static __thread long calls, granted = -1, held;
+static __thread size_t largest;
 static __thread int only_one;
 
-static int is_granted(void) {
+static int is_granted(size_t size) {
     calls++;
+    if (size > largest)
+        largest = size;
     if (granted < 0)
         return 1;
     if (granted == 0) {
@@ -38,13 +42,13 @@ static int is_granted(void) {
 }
 
 void *__wrap_malloc(size_t size) {
-    void *at = is_granted() ? __real_malloc(size) : NULL;
+    void *at = is_granted(size) ? __real_malloc(size) : NULL;
     held += at != NULL;
     return at;
 }
 
 void *__wrap_realloc(void *old, size_t size) {
-    void *at = is_granted() ? __real_realloc(old, size) : NULL;
+    void *at = is_granted(size) ? __real_realloc(old, size) : NULL;
     held += !old && at;
     return at;
 }
@@ -121,7 +125,7 @@ static void test_refusals(void) {
     drain_tile changed = tile;
     drain_tile twice[] = {tile, tile};
     drain_audit_rasters others;
-    judge(none.at && !none.length, "no bytes have an address");
+    judge(none.at && !none.length && !none.missing, "no bytes have an address");
     judge_refused("side 0", 0, &tile, 1, "", &rasters, "refused BadSide");
     judge_refused("side 1", 1, &tile, 1, "", &rasters, "refused BadSide");
     judge_refused("the greatest side", UINT32_MAX, &tile, 1, "", &rasters, "refused BadSide");
@@ -156,6 +160,100 @@ static uint32_t call(int checks, drain_answer *answer) {
     drain_check_rasters checked = {rasters.con, rasters.dir, rasters.acc, rasters.bas, rasters.con};
     *answer = unwritten();
     return checks ? drain_check(side, &tile, 1, no_sinks, 0, &checked, answer) : drain_audit(side, &tile, 1, no_sinks, 0, &rasters, answer);
+}
+
+/* The places and sizes that drain_answer_layout is proved to give. */
+_Static_assert(offsetof(drain_answer, status) == 0 && offsetof(drain_answer, rule) == 4, "status and rule");
+_Static_assert(offsetof(drain_answer, row) == 8 && offsetof(drain_answer, col) == 12, "row and col");
+_Static_assert(offsetof(drain_answer, line) == 16 && DRAIN_LINE_SIZE == 164 && sizeof(drain_answer) == 180, "the line");
+
+/* Whether all of these bytes are this one. */
+static int are_all(const void *bytes, size_t length, uint8_t byte) {
+    for (size_t i = 0; i < length; i++)
+        if (((const uint8_t *)bytes)[i] != byte)
+            return 0;
+    return 1;
+}
+
+/* The library writes the members where drain.h has them, and not behind the answer. */
+static void test_layout(void) {
+    struct {
+        drain_answer answer;
+        uint8_t behind[64];
+    } room;
+    memset(&room, 0x5a, sizeof room);
+    size_t size = drain_answer_layout(&room.answer);
+    judge(size == 180, "the size of an answer: %zu", size);
+    judge(room.answer.status == 0 && room.answer.rule == 4 && room.answer.row == 8 && room.answer.col == 12, "places: status %u, rule %u, row %u, col %u", room.answer.status,
+          room.answer.rule, room.answer.row, room.answer.col);
+    judge(are_all(room.answer.line, 164, 255) && are_all(room.behind, sizeof room.behind, 0x5a), "the line of an answer, and what lies behind it");
+    call(0, &room.answer);
+    judge(are_all(room.behind, sizeof room.behind, 0x5a), "an audit writes behind its answer");
+}
+
+/* acc counts one cell too many at row 3, column 7. By rule 13 that cell is wrong, and no earlier one: it flows south. */
+static void test_rejection(void) {
+    drain_audit_rasters others = rasters;
+    drain_answer answer = unwritten();
+    uint8_t *pixels = __real_malloc(rasters.acc.pixels.length);
+    memcpy(pixels, rasters.acc.pixels.at, rasters.acc.pixels.length);
+    pixels[4 * (3 * side + 7)]++;
+    others.acc.pixels = drain_bytes_of(pixels, rasters.acc.pixels.length);
+    uint32_t status = drain_audit(side, &tile, 1, no_sinks, 0, &others, &answer);
+    judge(status == 1 && says(&answer, 1, "rejected rule=13 Accumulation row=3 col=7") && answer.rule == 13 && answer.row == 3 && answer.col == 7,
+          "a wrong count: status %u, rule %u, row %u, col %u: %.164s", answer.status, answer.rule, answer.row, answer.col, answer.line);
+    __real_free(pixels);
+}
+
+/* NULL for bytes that should be there, in each place of an audit and of a check. */
+static void test_null(void) {
+    drain_bytes null = drain_bytes_of(NULL, 5);
+    drain_tile tiles[] = {tile, tile};
+    drain_check_rasters checked = {rasters.con, rasters.dir, rasters.acc, rasters.bas, rasters.con};
+    drain_bytes *places[] = {&tiles[0].name, &tiles[0].samples, &tiles[1].name, &tiles[1].samples, &checked.con.header, &checked.con.pixels, &checked.dir.header, &checked.dir.pixels,
+                             &checked.acc.header, &checked.acc.pixels, &checked.bas.header, &checked.bas.pixels, &checked.rnk.header, &checked.rnk.pixels};
+    for (size_t i = 0; i < sizeof places / sizeof *places; i++) {
+        drain_bytes had = *places[i];
+        drain_answer answer = unwritten();
+        *places[i] = null;
+        uint32_t status = drain_check(side, tiles, 2, no_sinks, 0, &checked, &answer);
+        judge(status == 2 && says(&answer, 2, "refused NullBytes") && !answer.rule && !answer.row && !answer.col, "NULL in place %zu of a check: status %u: %.164s", i, status, answer.line);
+        drain_audit_rasters audited = {checked.con, checked.dir, checked.acc, checked.bas};
+        if (i < 12)
+            judge_refused("NULL for bytes", side, tiles, 2, "", &audited, "refused NullBytes");
+        *places[i] = had;
+    }
+}
+
+/* Headers before a page that can't be read: one that fills the limit, and those of 65,537 bytes and of 5 GB, which differ
+ * in what lies on that page alone. */
+static void test_long_headers(void) {
+    const size_t readable = 17 * 4096, most = 65537, five_gb = (size_t)5 << 30;
+    uint8_t *start = mmap(NULL, readable + five_gb, PROT_NONE, MAP_PRIVATE | MAP_ANONYMOUS | MAP_NORESERVE, -1, 0);
+    if (start == MAP_FAILED || mprotect(start, readable, PROT_READ | PROT_WRITE)) {
+        perror("5 GB of addresses");
+        exit(4);
+    }
+    uint8_t *header = start + readable - most;
+    drain_audit_rasters others = rasters;
+    drain_raster *each[] = {&others.con, &others.dir, &others.acc, &others.bas};
+    const char *lines[] = {"refused BadHeader con TooLong", "refused BadHeader dir TooLong", "refused BadHeader acc TooLong", "refused BadHeader bas TooLong"};
+    for (int i = 0; i < 4; i++) {
+        drain_bytes had = each[i]->header;
+        drain_answer answer = unwritten();
+        memset(header, '\n', most);
+        memcpy(header, had.at, had.length);
+        each[i]->header = drain_bytes_of(header, most - 1);
+        judge(!drain_audit(side, &tile, 1, no_sinks, 0, &others, &answer) && answer.status == 0, "a header of 65,536 bytes: %.164s", answer.line);
+        largest = 0;
+        each[i]->header.length = most;
+        judge_refused("a header of 65,537 bytes", side, &tile, 1, "", &others, lines[i]);
+        each[i]->header.length = five_gb;
+        judge_refused("a header of 5 GB", side, &tile, 1, "", &others, lines[i]);
+        judge(largest == most, "a block of %zu bytes for a header", largest);
+        each[i]->header = had;
+    }
+    munmap(start, readable + five_gb);
 }
 
 /* Refuses each request for memory of a call: alone, and with every later one. The answer is out of memory, or, where the
@@ -228,7 +326,11 @@ int main(int argc, char **argv) {
     }
     judge(!call(0, &answer) && says(&answer, DRAIN_ACCEPTED, argv[5]) && !answer.rule && !answer.row && !answer.col, "the audit: %.164s", answer.line);
     judge(call(1, &answer) == DRAIN_REJECTED && answer.status == DRAIN_REJECTED && answer.rule, "the check: %.164s", answer.line);
+    test_layout();
+    test_rejection();
     test_refusals();
+    test_null();
+    test_long_headers();
     test_memory(0);
     test_memory(1);
     test_threads();

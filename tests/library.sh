@@ -1,6 +1,7 @@
 #!/usr/bin/env bash
-# Tests libdrain: builds its example in C and a shared object for the one in Python, runs both on the bundled sets and on
-# arguments that are refused, and compares lines and statuses; then tests/library.c, which refuses memory at each request.
+# Tests libdrain: builds its example in C and a shared object for the one in Python, runs both on the bundled sets and
+# on arguments that are refused, and compares lines and statuses; then tests/library.c, which refuses memory at each
+# request, and tests/library.py.
 # Needs a compiler of C and Python 3.
 # Usage: tests/library.sh LIBRARY    (build/libdrain.a, as tools/build_library.sh makes it)
 set -u
@@ -81,15 +82,22 @@ if command -v c++ >/dev/null; then
     add 'the header in C++' $?
 fi
 
-"$scratch/library" 51 $sets/saga-counted $tile N36W085.hgt "$accepted" >"$scratch/out" 2>&1
-sed '$d' "$scratch/out"
-if [[ "$(tail -n 1 "$scratch/out")" =~ ^([0-9]+)\ passed,\ ([0-9]+)\ failed$ ]]; then
-    passed=$((passed + BASH_REMATCH[1]))
-    failed=$((failed + BASH_REMATCH[2]))
-else
-    tail -n 1 "$scratch/out"
-    failed=$((failed + 1))
-fi
+# Runs a program of tests, whose last line counts them.
+add_all() {
+    "$@" >"$scratch/out" 2>&1
+    sed '$d' "$scratch/out"
+    if [[ "$(tail -n 1 "$scratch/out")" =~ ^([0-9]+)\ passed,\ ([0-9]+)\ failed$ ]]; then
+        passed=$((passed + BASH_REMATCH[1]))
+        failed=$((failed + BASH_REMATCH[2]))
+    else
+        tail -n 1 "$scratch/out"
+        echo "FAILED $1: no count"
+        failed=$((failed + 1))
+    fi
+}
+
+add_all "$scratch/library" 51 $sets/saga-counted $tile N36W085.hgt "$accepted"
+add_all tests/library.py "$scratch/libdrain.so"
 
 echo "$passed passed, $failed failed"
 [ "$failed" -eq 0 ]

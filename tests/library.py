@@ -1,0 +1,79 @@
+#!/usr/bin/env python3
+"""Tests of libdrain from Python: where the members of an answer lie, a rejection, and NULL for bytes.
+
+Usage: tests/library.py LIBDRAIN.so    (the repository's examples and samples are read)
+
+It prints a line for each test that failed, and in its last line 'N passed, M failed'.
+"""
+
+from __future__ import annotations
+
+import ctypes
+import sys
+from pathlib import Path
+
+ROOT = Path(__file__).resolve().parent.parent
+sys.path.insert(0, str(ROOT / "crates/drain_c/examples"))
+
+import judge  # noqa: E402
+
+SETS = ROOT / "samples/other-tools"
+SIDE = 51
+TILE = ("N36W085.hgt", (SETS / "N36W085.hgt").read_bytes())
+
+
+def read_rasters() -> list[tuple[bytes, bytes]]:
+    """Header and pixels of the four rasters of a correct set."""
+    files = [SETS / "saga-counted" / product for product in judge.AUDITED]
+    return [(file.with_suffix(".hdr").read_bytes(), file.with_suffix(".bil").read_bytes()) for file in files]
+
+
+def is_layout_right(drain: judge.Drain) -> bool:
+    """Whether the library writes the members of an answer where RawAnswer has them."""
+    raw = judge.RawAnswer.from_buffer(ctypes.create_string_buffer(256))
+    size = drain._library.drain_answer_layout(ctypes.byref(raw))
+    places = (raw.status, raw.rule, raw.row, raw.col)
+    line = judge.RawAnswer.line
+    return (
+        places == (0, 4, 8, 12)
+        and (line.offset, line.size, raw.line) == (16, 164, b"\xff" * 164)
+        and size == ctypes.sizeof(raw) == 180
+    )
+
+
+def is_rejection_right(drain: judge.Drain) -> bool:
+    """acc counts one cell too many at row 3, column 7. That cell flows south, so no earlier one is wrong by rule 13."""
+    con, dir_, (header, counts), bas = read_rasters()
+    wrong = bytearray(counts)
+    wrong[4 * (3 * SIDE + 7)] += 1
+    answer = drain.audit(SIDE, [TILE], [con, dir_, (header, bytes(wrong)), bas])
+    return answer == judge.Answer(1, 13, 3, 7, "rejected rule=13 Accumulation row=3 col=7")
+
+
+def line_with(drain: judge.Drain, data: judge.Bytes) -> str:
+    """The line of an audit that is passed these bytes for the pixels of bas."""
+    tile = judge.Pair(TILE[0].encode(), TILE[1])
+    rasters = (judge.Pair * 4)(*(judge.Pair(*raster) for raster in read_rasters()))
+    rasters[3].data = data
+    raw = judge.RawAnswer()
+    drain._library.drain_audit(SIDE, tile, 1, b"", 0, rasters, raw)
+    return raw.line.decode("ascii")
+
+
+def main(path: str) -> int:
+    drain = judge.Drain(path)
+    tests = {
+        "where members lie": is_layout_right(drain),
+        "a rejection": is_rejection_right(drain),
+        "NULL for no bytes": line_with(drain, judge.Bytes(None)) == "refused RasterShort bas",
+        "NULL for 5 bytes": line_with(drain, judge.Bytes(None, 5)) == "refused NullBytes",
+    }
+    failed = [name for name, passed in tests.items() if not passed]
+    for name in failed:
+        print(f"FAILED {name} from Python")
+    print(f"{len(tests) - len(failed)} passed, {len(failed)} failed")
+    return bool(failed)
+
+
+if __name__ == "__main__":
+    sys.exit(main(sys.argv[1]))
