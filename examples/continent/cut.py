@@ -78,6 +78,8 @@ class Raster(Protocol):
     """A raster of the union."""
 
     form: Form
+    files: Sequence[Path]
+    """Those that are read for it; the first one names it."""
 
     def rows(self, box: Box) -> Iterator[bytes]:
         """The bytes of each row of a box that lies in it."""
@@ -87,8 +89,8 @@ class BilRaster:
     """A BIL file. A row is held at a time."""
 
     def __init__(self, path: Path, name: str) -> None:
+        self.path, self.files = path, [path, path.with_suffix(".hdr")]
         keys = header_keys(path.with_suffix(".hdr"))
-        self.path = path
         try:
             bits = int(keys.get("NBITS", "8"))
             rows, cols = int(keys["NROWS"]), int(keys["NCOLS"])
@@ -129,6 +131,13 @@ class GdalRaster:
         kinds |= {gdal.GDT_UInt32: (32, False), gdal.GDT_Int32: (32, True)}
         try:
             self.source = gdal.Open(str(path))
+            self.files = [path]
+            for file in self.files:
+                driver = gdal.IdentifyDriver(str(file))
+                # A VRT names its parts, and these may be VRTs.
+                if file == path or (driver and driver.ShortName == "VRT"):
+                    parts = map(Path, gdal.Open(str(file)).GetFileList())
+                    self.files += [part for part in parts if part not in self.files]
         except RuntimeError as error:
             raise CannotCut(f"{path}: {error}") from error
         band = self.source.GetRasterBand(1)
@@ -229,9 +238,12 @@ def cut_window(window: Window, side: int, rasters: Path, folder: Path) -> None:
     steps = side - 1
     for name in NO_DATA:
         raster = opened(rasters, name)
+        try:
+            mosaic = mosaic_in(raster.form, window.mosaic, corner, steps)
+        except CannotCut as error:
+            raise CannotCut(f"{raster.files[0]}: {error}") from error
         with open(folder / f"{name}.bil", "wb") as file:
-            for pixels in cut(raster, mosaic_in(raster.form, window.mosaic, corner, steps)):
-                file.write(pixels)
+            file.writelines(cut(raster, mosaic))
         size = {"rows": window.mosaic.rows, "cols": window.mosaic.cols}
         place = {"west": Decimal(corner.lon), "north": Decimal(corner.lat), "steps": 1 / Decimal(steps)}
         (folder / f"{name}.hdr").write_text(replace(raster.form, **size, **place).header(), encoding="ascii")

@@ -22,6 +22,7 @@ from pathlib import Path
 from typing import NamedTuple
 
 LEAST_SIDE, MOST_SIDE, MOST_TILES = 4, 3601, 8
+PLAIN_PATH = re.compile(r"[A-Za-z0-9_./+,=@%-]+")
 TILE = re.compile(r"([NS])(\d\d)([EW])(\d\d\d)(?:\.hgt)?", re.IGNORECASE)
 VOID_SAMPLE = b"\x80\x00"
 
@@ -95,6 +96,14 @@ def box_of(text: str) -> Box:
     return Box(row, col, rows, cols)
 
 
+def plain(path: Path) -> str:
+    """The absolute path. The scripts split the plan's lines at spaces, and give them to a shell."""
+    text = os.path.abspath(path)
+    if not PLAIN_PATH.fullmatch(text):
+        sys.exit(f"{text}: a path of the plan may have letters from A to Z, digits and _./+,=@%- only")
+    return text
+
+
 def corner_of(name: str) -> Corner | None:
     """The corner that a tile's name has; None of another name."""
     if not (match := TILE.fullmatch(name)):
@@ -133,7 +142,7 @@ class Tiles:
             if corner and corner in self.paths:
                 sys.exit(f"{path} and {self.paths[corner]} are one tile")
             if corner:
-                self.paths[corner] = os.path.abspath(path)
+                self.paths[corner] = plain(path)
         self.voids, self.side = voids, side
 
     def over(self, first: Corner, last: Corner) -> list[str]:
@@ -151,7 +160,7 @@ class Tiles:
             write_whole(voids, VOID_SAMPLE * self.side**2)
         if not link.is_symlink():
             link.symlink_to(voids.name)
-        return os.path.abspath(link)
+        return plain(link)
 
 
 def write_whole(path: Path, content: bytes) -> None:
@@ -212,9 +221,7 @@ def main() -> None:
     known = [corner for corner in corners if corner]
     first = Corner(max(corner.lat for corner in known), min(corner.lon for corner in known))
     last = Corner(min(corner.lat for corner in known), max(corner.lon for corner in known))
-    # The scripts split a line at spaces, and the shell would look for files by the other signs.
-    if re.search(r"[\s*?\[\\]", os.path.abspath(given.tiles) + os.path.abspath(given.out)):
-        sys.exit("the path of the tiles or of OUT has a space or one of *?[\\: give one without them")
+    plain(given.out)
     given.out.mkdir(parents=True, exist_ok=True)
     windows = plan(tiles, first, last, given.width)
     file, text = given.out / "windows.txt", "".join(f"{window}\n" for window in windows)

@@ -1,5 +1,6 @@
 """Rasters and lists of sinks that are cut out of those of a union, compared with slices of arrays."""
 
+import re
 import subprocess
 import sys
 import tempfile
@@ -11,7 +12,7 @@ import numpy as np
 from osgeo import gdal
 from scripts import EXAMPLE
 
-from cut import NO_DATA, cut_sinks
+from cut import NO_DATA, cut_sinks, opened
 from windows import Box, Window
 
 gdal.UseExceptions()
@@ -58,13 +59,14 @@ def write_tif(
     array: np.ndarray,
     nodata: float | None = None,
     west: float = WEST,
+    north: float = NORTH,
     step: float = 0.1,
     options: Sequence[str] = (),
 ) -> None:
     rows, cols = array.shape
     name = array.dtype.str[1:]
     file = gdal.GetDriverByName("GTiff").Create(str(path), cols, rows, 1, GDAL_KINDS[name], list(options))
-    file.SetGeoTransform([west - step / 2, step, 0, NORTH + step / 2, 0, -step])
+    file.SetGeoTransform([west - step / 2, step, 0, north + step / 2, 0, -step])
     file.GetRasterBand(1).WriteArray(array)
     if nodata is not None:
         file.GetRasterBand(1).SetNoDataValue(nodata)
@@ -149,6 +151,25 @@ class Cuts(unittest.TestCase):
             self.assertEqual(self.run_script(window), "")
             self.judge(window, self.arrays)
 
+    def test_files_of_rasters(self) -> None:
+        """Those by which one sees that a raster changed: headers, and all parts of a VRT, in VRTs too."""
+        con = self.arrays["con"]
+        parts = [self.folder / name for name in ("west.tif", "east.tif", "inner.vrt")]
+        write_tif(parts[0], con[:, :20])
+        write_tif(parts[1], con[:, 20:], west=WEST + 2)
+        gdal.BuildVRT(str(parts[2]), [str(parts[1])]).FlushCache()
+        gdal.BuildVRT(str(self.rasters / "con.vrt"), [str(parts[0]), str(parts[2])]).FlushCache()
+        for name in ("con.bil", "con.hdr", "acc.bil", "acc.hdr"):
+            (self.rasters / name).unlink()
+        write_tif(self.rasters / "acc.tif", self.arrays["acc"])
+        for name, files in [
+            ("con", [self.rasters / "con.vrt", *parts]),
+            ("dir", [self.rasters / "dir.bil", self.rasters / "dir.hdr"]),
+            ("acc", [self.rasters / "acc.tif"]),
+        ]:
+            found = opened(self.rasters, name).files
+            self.assertEqual((found[0], sorted(found)), (files[0], sorted(files)))
+
     def test_cells_that_a_raster_lacks(self) -> None:
         """Rasters of 15 by 12 cells from the union's cell (12, 14) on, in a mosaic of 21 by 21 from (10, 10) on."""
         for name, array in self.arrays.items():
@@ -173,6 +194,26 @@ class Cuts(unittest.TestCase):
             write_tif(self.rasters / f"{name}.tif", array, west=WEST + 50)
         self.assertEqual(self.run_script(MIDDLE), "")
         self.judge(MIDDLE, {name: np.full_like(array, NO_DATA[name]) for name, array in self.arrays.items()})
+
+    def test_rasters_off_the_tiles(self) -> None:
+        """By 0.4 cells to each side; such a raster is refused by its name."""
+        for name, array in self.arrays.items():
+            bil, header, tif = (self.rasters / f"{name}.{kind}" for kind in ("bil", "hdr", "tif"))
+            pixels, text = bil.read_bytes(), header.read_text()
+            for key, place in (("ULXMAP", WEST), ("ULYMAP", NORTH)):
+                for shift in (-0.04, 0.04):
+                    with self.subTest(name=name, key=key, shift=shift):
+                        header.write_text(re.sub(rf"{key} \S+", f"{key} {place + shift}", text))
+                        self.assertIn(f"{bil}: ", found := self.run_script(MIDDLE))
+                        self.assertIn("aren't whole cells", found)
+                        bil.unlink()
+                        write_tif(tif, array, **{"west" if key == "ULXMAP" else "north": place + shift})
+                        self.assertIn(f"{tif}: ", found := self.run_script(MIDDLE))
+                        self.assertIn("aren't whole cells", found)
+                        tif.unlink()
+                        bil.write_bytes(pixels)
+            header.write_text(text)
+        self.assertEqual(self.run_script(MIDDLE), "")
 
     def test_rasters_that_are_refused(self) -> None:
         con, header = self.rasters / "con.bil", self.rasters / "con.hdr"

@@ -6,26 +6,11 @@ import re
 import shutil
 import signal
 import subprocess
-import sys
-import tempfile
 import time
 import unittest
-from pathlib import Path
 
-from scripts import EXAMPLE, SHELL_LOOP
-
-SIDE = 5
-PROGRAM = """#!/bin/sh
-# Stands in for `drain`: notes its words in $OUT/words, writes a report, and does what $OUT/answer says.
-echo "$*" >>"$OUT/words"
-if [ "$1" = merge ]; then echo 'accepted of all'; exit; fi
-while [ "$1" != --report ]; do shift; done
-[ "$answer" != hang ] || cat "$OUT/hang"
-read -r status line <"$OUT/answer"
-[ "$status" -ge 2 ] || echo report >"$2"
-[ -z "$line" ] || echo "$line"
-exit "$status"
-"""
+from job_case import ENGINES, JobCase, plain, reports_of
+from scripts import EXAMPLE
 
 
 def heed_interrupts() -> None:
@@ -33,59 +18,8 @@ def heed_interrupts() -> None:
     signal.signal(signal.SIGINT, signal.SIG_DFL)
 
 
-def plain(words: str) -> str:
-    """Paths without the random endings of a job's folders."""
-    return re.sub(r"\b(r1c1|w)(\.cut)?\.\w{6}\b", r"\1\2", words)
-
-
-def reports_of(out: Path) -> list[str]:
-    return sorted(path.name for path in (out / "reports").glob("*"))
-
-
-class Jobs(unittest.TestCase):
-    """A union of 3 by 3 tiles, in 9 windows."""
-
-    def setUp(self) -> None:
-        scratch = tempfile.TemporaryDirectory()
-        self.addCleanup(scratch.cleanup)
-        self.folder = Path(scratch.name)
-        self.out = self.folder / "out"
-        for folder in ("tiles", "rasters"):
-            (self.folder / folder).mkdir()
-        for lat in range(3):
-            for lon in range(3):
-                (self.folder / f"tiles/N{lat:02d}E{lon:03d}.hgt").touch()
-        cells = 3 * (SIDE - 1) + 1
-        for name in ("con", "dir", "acc", "bas"):
-            (self.folder / f"rasters/{name}.bil").write_bytes(bytes(4 * cells**2))
-            header = f"NROWS {cells}\nNCOLS {cells}\nNBITS 32\nULXMAP 0\nULYMAP 3\nXDIM 0.25\nYDIM 0.25\nNODATA 0\n"
-            (self.folder / f"rasters/{name}.hdr").write_text(header)
-        self.program = self.folder / "drain"
-        self.program.write_text(PROGRAM)
-        self.program.chmod(0o755)
-        command = [sys.executable, "-B", EXAMPLE / "windows.py", "--side", str(SIDE), "--width", "1"]
-        subprocess.run([*command, self.folder / "tiles", self.out], check=True, stdout=subprocess.DEVNULL)
-        self.lines = (self.out / "windows.txt").read_text().splitlines()
-        known = {"DRAIN": self.program, "SIDE": SIDE, "RASTERS": self.folder / "rasters", "OUT": self.out}
-        self.env = {**os.environ, **{key: str(value) for key, value in known.items()}}
-        self.answer("0 accepted rows=1")
-
-    def answer(self, text: str) -> None:
-        (self.out / "answer").write_text(f"{text}\n")
-
-    def run_script(self, name: str, *words: str, **env: str) -> subprocess.CompletedProcess[str]:
-        env = {**self.env, **env}
-        return subprocess.run([EXAMPLE / name, *words], env=env, capture_output=True, text=True, check=False)
-
-    def job(self, window: int = 4, **env: str) -> int:
-        return self.run_script("job.sh", *self.lines[window].split(), **env).returncode
-
-    def calls(self) -> list[str]:
-        """The words with which the program was called since the last time."""
-        path = self.out / "words"
-        found = path.read_text().splitlines() if path.exists() else []
-        path.unlink(missing_ok=True)
-        return found
+class Jobs(JobCase):
+    """One window, and all by each engine."""
 
     def hold_up(self) -> int:
         """Waits until a program that hangs reads its pipe; it ends when the pipe is closed. Before that a shell that starts it might take
@@ -99,29 +33,15 @@ class Jobs(unittest.TestCase):
                     raise
             time.sleep(0.02)
 
-    def kept(self) -> dict[str, str]:
-        """What is there of answers, and of folders for work."""
-        folders = ("lines", "reports", "work")
-        return {
-            f"{name}/{plain(path.name)}": path.read_text() if path.is_file() else ""
-            for name in folders
-            for path in (self.out / name).glob("*")
-        }
-
     def test_answers(self) -> None:
-        """An answer is kept, and isn't asked for again; only a refused window has no report."""
-        for answer, line in [
-            ("0 accepted rows=1", "accepted rows=1\n"),
-            ("1 rejected rule=4", "rejected rule=4\n"),
-            ("2 refused BadSide", "refused BadSide\n"),
-        ]:
+        """An answer is kept, and its window isn't judged again."""
+        for answer, line in [("0 accepted rows=1", "accepted rows=1\n"), ("1 rejected rule=4", "rejected rule=4\n")]:
             with self.subTest(answer):
                 shutil.rmtree(self.out / "lines", ignore_errors=True)
                 shutil.rmtree(self.out / "reports", ignore_errors=True)
                 self.answer(answer)
                 self.assertEqual(self.job(), 0)
-                reports = {} if answer[0] == "2" else {"reports/r1c1.txt": "report\n"}
-                self.assertEqual(self.kept(), {"lines/r1c1.txt": line, **reports})
+                self.assertEqual(self.kept(), {"lines/r1c1.txt": line, "reports/r1c1.txt": "report\n"})
                 self.assertEqual(len(self.calls()), 1)
                 self.answer("3 failed ReadFailed")
                 self.assertEqual(self.job(), 0)
@@ -190,15 +110,14 @@ class Jobs(unittest.TestCase):
 
     def test_what_is_not_set(self) -> None:
         """It is a failure, never a status of an answer."""
-        for script, names in (("job.sh", ("DRAIN", "SIDE", "RASTERS", "OUT")), ("merge.sh", ("DRAIN", "OUT"))):
+        for script, names in (("job.sh", ("DRAIN", "SIDE", "RASTERS", "OUT")), ("merge.sh", ("DRAIN", "RASTERS", "OUT"))):
             for name in names:
                 run = self.run_script(script, *self.lines[4].split(), **{name: ""})
                 self.assertEqual((run.returncode, run.stdout, "missing" in run.stderr), (3, "", True), f"{script} {name}")
         (self.out / "windows.txt").unlink()
         self.assertEqual(self.run_script("merge.sh").returncode, 3)
-        tasks = {"SLURM_ARRAY_TASK_MIN": "1", "SLURM_ARRAY_TASK_ID": "1", "HERE": str(EXAMPLE)}
         for count, last in (("2", "2"), ("2", "3")):
-            env = {**tasks, "SLURM_ARRAY_TASK_COUNT": count, "SLURM_ARRAY_TASK_MAX": last}
+            env = {"SLURM_ARRAY_TASK_COUNT": count, "SLURM_ARRAY_TASK_MAX": last}
             self.assertEqual(self.run_script("slurm.sh", **env).returncode, 3, "no plan, or a gap between tasks")
         self.assertEqual(self.calls(), [])
 
@@ -234,15 +153,17 @@ class Jobs(unittest.TestCase):
 
     def test_merge(self) -> None:
         """All reports are handed over; windows without one are named."""
+        sinks = self.folder / "list of sinks"
+        sinks.write_text("1 1\n")
         for window in (0, 2, 4):
-            self.job(window)
+            self.job(window, SINKS=str(sinks))
         self.answer("2 refused BadSide")
-        self.job(7)
+        self.job(7, SINKS=str(sinks))
         self.calls()
-        run = self.run_script("merge.sh", SINKS="list of sinks")
+        run = self.run_script("merge.sh", SINKS=str(sinks))
         reports = " ".join(f"{self.out}/reports/{name}.txt" for name in ("r0c0", "r0c2", "r1c1"))
         self.assertEqual((run.returncode, run.stdout), (0, "accepted of all\n"))
-        self.assertEqual(self.calls(), [f"merge --sinks list of sinks {reports}"])
+        self.assertEqual(self.calls(), [f"merge --sinks {sinks} {reports}"])
         named = {line.split(": ")[0]: line.split(": ")[1] for line in run.stderr.splitlines()}
         self.assertEqual(
             named,
@@ -254,8 +175,7 @@ class Jobs(unittest.TestCase):
         self.assertEqual(reports_of(self.out), [f"r{i}c{j}.txt" for i in range(3) for j in range(3)])
 
     def test_a_loop_of_the_shell(self) -> None:
-        env = {**self.env, "HERE": str(EXAMPLE)}
-        run = subprocess.run(["sh", "-c", SHELL_LOOP], env=env, capture_output=True, text=True, check=False)
+        run = subprocess.run(ENGINES["loop"], env=self.env, capture_output=True, text=True, check=False)
         self.judge_all(run)
         self.assertEqual(run.stdout, "accepted of all\n")
 
@@ -270,8 +190,7 @@ class Jobs(unittest.TestCase):
         self.assertEqual(len(self.calls()), 2)
 
     def test_tasks_of_an_array(self) -> None:
-        tasks = {"SLURM_ARRAY_TASK_COUNT": "4", "SLURM_ARRAY_TASK_MIN": "1", "SLURM_ARRAY_TASK_MAX": "4"}
-        tasks["HERE"] = str(EXAMPLE)
+        tasks = {"SLURM_ARRAY_TASK_COUNT": "4", "SLURM_ARRAY_TASK_MAX": "4"}
         for task in range(1, 5):
             run = self.run_script("slurm.sh", **tasks, SLURM_ARRAY_TASK_ID=str(task))
             self.assertEqual((run.returncode, run.stderr), (0, ""))
@@ -283,20 +202,8 @@ class Jobs(unittest.TestCase):
 
     @unittest.skipUnless(shutil.which("snakemake"), "snakemake isn't installed")
     def test_snakemake(self) -> None:
-        command = [
-            "snakemake",
-            "--snakefile",
-            EXAMPLE / "Snakefile",
-            "--cores",
-            "2",
-            "--keep-going",
-            "--rerun-incomplete",
-            "--nolock",
-        ]
         for calls in (10, 0):
-            run = subprocess.run(command, cwd=self.folder, env=self.env, capture_output=True, text=True, check=False)
-            self.assertEqual(run.returncode, 0, run.stderr)
-            self.assertEqual((self.out / "verdict.txt").read_text(), "accepted of all\n")
+            self.assertEqual(self.run_engine("snakemake")[0], "accepted of all\n")
             self.assertEqual((len(reports_of(self.out)), len(self.calls())), (9, calls))
 
 

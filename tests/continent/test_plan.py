@@ -2,6 +2,7 @@
 
 import itertools
 import os
+import re
 import subprocess
 import sys
 import tempfile
@@ -10,7 +11,7 @@ from collections import Counter
 from pathlib import Path
 
 from scripts import EXAMPLE, void_tile
-from windows import MOST_TILES, Box, Corner, Tiles, Window, corner_of, plan, spans
+from windows import MOST_TILES, Box, Corner, Tiles, Window, corner_of, plain, plan, spans
 
 
 def judged(first: int, cells: int, before: bool, behind: bool) -> range:
@@ -68,14 +69,16 @@ class Plans(unittest.TestCase):
         for name in names:
             (self.tiles / name).touch()
 
-    def run_script(self, *words: str, tiles: Path | None = None) -> subprocess.CompletedProcess[str]:
+    def run_script(
+        self, *words: str, tiles: Path | None = None, out: Path | None = None
+    ) -> subprocess.CompletedProcess[str]:
         command = [
             sys.executable,
             "-B",
             str(EXAMPLE / "windows.py"),
             *words,
             str(tiles or self.tiles),
-            str(self.folder / "out"),
+            str(out or self.folder / "out"),
         ]
         return subprocess.run(command, capture_output=True, text=True, check=False)
 
@@ -120,12 +123,36 @@ class Plans(unittest.TestCase):
             self.add(*names)
             run = self.run_script("--side", "5")
             self.assertEqual((run.returncode, said in run.stderr), (1, True), run.stderr)
-        other = self.folder / "g[12]"
-        other.mkdir()
-        (other / "N01E002.hgt").touch()
-        run = self.run_script("--side", "5", tiles=other)
-        self.assertEqual((run.returncode, "one of *?[" in run.stderr), (1, True), run.stderr)
         self.assertFalse((self.folder / "out").exists())
+
+    def test_paths_that_a_shell_would_change(self) -> None:
+        """They are refused by name: of tiles, of their folder, and of OUT."""
+        for sign in " \t\n!\"#$&'()*:;<>?[\\]^`{|}~\x7fäſ٣":
+            with self.subTest(sign), self.assertRaisesRegex(SystemExit, f"^{re.escape(f'/t{sign}x')}: "):
+                plain(Path(f"/t{sign}x"))
+        self.add("N01E002.hgt")
+        for name in ("t$(touch x)", "R&D", "g[12]"):
+            folder = self.folder / name
+            run = self.run_script("--side", "5", out=folder)
+            self.assertEqual((run.returncode, f"{folder}: " in run.stderr), (1, True), run.stderr)
+            self.assertFalse(folder.exists())
+            folder.mkdir()
+            (folder / "N01E002.hgt").touch()
+            run = self.run_script("--side", "5", tiles=folder)
+            self.assertEqual((run.returncode, f"{folder}/N01E002.hgt: " in run.stderr), (1, True), run.stderr)
+        # A long s is an S to a pattern that takes small letters too.
+        self.add("ſ01E002.hgt")
+        run = self.run_script("--side", "5")
+        self.assertEqual((run.returncode, f"{self.tiles}/ſ01E002.hgt: " in run.stderr), (1, True), run.stderr)
+        self.assertFalse((self.folder / "out").exists())
+
+    def test_signs_that_a_path_may_have(self) -> None:
+        tiles = self.folder / "-aZ09_./+,=@%-"
+        tiles.mkdir(parents=True)
+        (tiles / "N01E002.hgt").touch()
+        run = self.run_script("--side", "5", tiles=tiles, out=tiles / "out")
+        self.assertEqual((run.returncode, run.stderr), (0, ""))
+        self.assertEqual((tiles / "out/windows.txt").read_text().split()[4:], [f"{tiles}/N01E002.hgt"])
 
     def test_voids_of_another_side_are_written_again(self) -> None:
         self.add("N01E001.hgt", "N00E002.hgt")
@@ -186,8 +213,6 @@ class Plans(unittest.TestCase):
 
     def test_words_that_are_refused(self) -> None:
         self.add("N00E000.hgt")
-        (self.folder / "a b").mkdir()
-        (self.folder / "a b/N00E000.hgt").touch()
         (self.folder / "empty").mkdir()
         for words, tiles, said in [
             (["--width", "8"], None, "--width 8"),
@@ -196,7 +221,6 @@ class Plans(unittest.TestCase):
             (["--side", "3602"], None, "--side 3602"),
             (["--box", "N00E000", "N0E1"], None, "no tile's name: N00E000 N0E1"),
             ([], self.folder / "empty", "no tiles in"),
-            ([], self.folder / "a b", "has a space"),
         ]:
             with self.subTest(words=words, tiles=tiles):
                 run = self.run_script(*words, tiles=tiles)

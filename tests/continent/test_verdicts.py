@@ -9,6 +9,7 @@ import struct
 import subprocess
 import unittest
 
+from job_case import ENGINES
 from judged_union import UnionCase, judged, right
 from scripts import EXAMPLE, SHELL_LOOP
 from unions import ACROSS, COLS, DOWN, FORMS, MISSING, ROWS, SIDE, STEPS, Cell, Windows, corner, run
@@ -92,6 +93,50 @@ class Right(UnionCase):
         self.assertEqual(list(windows.out.glob("*/*.txt")) + list(windows.out.glob("work/*")), [])
         windows.judge()
         self.same_reports(windows)
+
+
+class Again(UnionCase):
+    """Files that change between runs of all windows."""
+
+    def setUp(self) -> None:
+        super().setUp()
+        self.union = right.copy(self.folder / "union")
+        (self.union.folder / "tiles").unlink()
+        shutil.copytree(right.folder / "tiles", self.union.folder / "tiles")
+        self.windows = Windows(self.union, self.folder / "union/out", 3)
+
+    def merged(self, engine: str) -> tuple[str, str]:
+        """The verdict, and what stands on standard error."""
+        env = self.windows.env(HERE=EXAMPLE)
+        done = subprocess.run(ENGINES[engine], env=env, capture_output=True, text=True, check=False)
+        return done.stdout.rstrip("\n"), done.stderr
+
+    def test_a_cell_and_a_tile(self) -> None:
+        """Another count at a cell; a tile cut short; and each time all as before."""
+        count = self.union.numbers("acc")[26 * COLS + 27]
+        tile = self.union.tiles[3]
+        samples = tile.read_bytes()
+        accepted = (right.audit(), "")
+        for engine in ("loop", "parallel") if shutil.which("parallel") else ("loop",):
+            with self.subTest(engine):
+                self.assertEqual(self.merged(engine), accepted)
+                self.union.put("acc", (26, 27), count + 1)
+                self.assertEqual(self.merged(engine), (self.union.expected(), ""))
+                self.union.put("acc", (26, 27), count)
+                self.assertEqual(self.merged(engine), accepted)
+                tile.write_bytes(samples[:-2])
+                verdict, said = self.merged(engine)
+                self.assertEqual(verdict.split(" row=")[0], "refused LeftOut")
+                self.assertIn(f"refused BadTileLength {tile.name} (status 2)\n", said)
+                tile.write_bytes(samples)
+                self.assertEqual(self.merged(engine), accepted)
+
+    def test_a_report_cut_short(self) -> None:
+        self.assertEqual(self.merged("loop"), (right.audit(), ""))
+        report = self.windows.reports()[0]
+        os.truncate(report, report.stat().st_size - 5)
+        self.assertTrue(self.windows.merge().startswith("refused BadReport 0 "))
+        self.assertEqual(self.merged("loop"), (right.audit(), ""))
 
 
 class Changed(UnionCase):

@@ -166,19 +166,24 @@ class Windows:
         """Judges one window, and returns its line."""
         words = [str(EXAMPLE / "job.sh"), *str(self.windows[name]).split()]
         done = subprocess.run(words, env=self.env(**env), capture_output=True, text=True, check=False)
-        if done.returncode or done.stderr:
+        line = self.line(name) if done.returncode == 0 else ""
+        if not line or done.stderr != (f"{name}: {line} (status 2)\n" if line.startswith("refused ") else ""):
             raise AssertionError(f"{words}: {done}")
+        return line
+
+    def line(self, name: str) -> str:
         return (self.out / f"lines/{name}.txt").read_text().rstrip("\n")
 
     def judge(self) -> dict[str, str]:
-        """Judges all windows that have no answer, four at a time."""
+        """Judges all windows that have no answer, four at a time; answers from other rasters stay."""
         with ThreadPoolExecutor(4) as pool:
-            return dict(zip(self.windows, pool.map(self.job, self.windows)))
+            list(pool.map(self.job, [name for name in self.windows if not (self.out / f"inputs/{name}.txt").exists()]))
+        return {name: self.line(name) for name in self.windows}
 
     def forget(self, names: Iterable[str]) -> None:
         """Drops answers."""
         for name in names:
-            for folder in ("lines", "reports"):
+            for folder in ("inputs", "lines", "reports"):
                 (self.out / f"{folder}/{name}.txt").unlink(missing_ok=True)
 
     def reports(self) -> list[Path]:
