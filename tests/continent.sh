@@ -9,7 +9,7 @@ export DRAIN PYTHONDONTWRITEBYTECODE=1
 tests=$(cd "$(dirname "$0")" && pwd)/continent
 python=/usr/bin/python3
 
-modules=(test_plan test_jobs test_verdicts test_reports test_sinks)
+modules=(test_plan test_jobs test_changes test_verdicts test_reports test_sinks)
 if "$python" -c 'import numpy, osgeo.gdal' 2>/dev/null; then
     modules+=(test_cut)
 elif [ "${WITHOUT_COMPANION:-}" = 1 ]; then

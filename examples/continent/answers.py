@@ -5,7 +5,7 @@
     answers.py keep WORK WORD..   keeps WORK/line and WORK/report as the answer, if the files are those of WORK/inputs
     answers.py reports            prints the paths of all reports; names windows without an answer on standard error
     answers.py drop               drops records of answers that don't count, and the verdict if it rests on one
-    answers.py shared             prints the files that are read for each window
+    answers.py shared             prints the files that are read for each window, without the parts of VRTs
 
 WORD.. is the line of a window in OUT/windows.txt. The record, OUT/inputs/NAME.txt, has this line, then size, time of
 the last change in nanoseconds, inode and path of each file: tiles, rasters with headers, the list of sinks, and the
@@ -16,6 +16,7 @@ the environment. The verdict is OUT/verdict.txt, which Snakemake writes; a refus
 import os
 import sys
 from collections.abc import Iterator, Sequence
+from hashlib import sha256
 from pathlib import Path
 
 sys.dont_write_bytecode = True
@@ -38,13 +39,23 @@ def changed(record: Sequence[str], now: Sequence[str]) -> str:
     return other[0].split(" ", 3)[-1] if other else ""
 
 
+def states(files: Sequence[Path]) -> list[str]:
+    """Those of a raster and its header. A VRT may have thousands of parts: these have one sum, and its name."""
+    if len(files) <= 2:
+        return [state(path) for path in files]
+    parts = "\n".join(map(state, files[1:]))
+    return [state(files[0]), f"{len(files)} files {sha256(os.fsencode(parts)).hexdigest()} {files[0]}"]
+
+
 class Answers:
-    """The answers to the windows of a plan."""
+    """The answers to the windows of a plan, with the files as they are when this is made."""
 
     def __init__(self, out: str, rasters: str, sinks: str) -> None:
         self.out = Path(os.path.abspath(out))
-        self.shared = [path for name in NO_DATA for path in opened(Path(os.path.abspath(rasters)), name).files]
-        self.shared += [Path(os.path.abspath(sinks))] if sinks else []
+        shared = [opened(Path(os.path.abspath(rasters)), name).files for name in NO_DATA]
+        shared += [[Path(os.path.abspath(sinks))]] if sinks else []
+        self.shared = [path for files in shared for path in (files if len(files) <= 2 else files[:1])]
+        self.states = [line for files in shared for line in states(files)]
 
     def plan(self) -> Iterator[Window]:
         with open(self.out / "windows.txt", encoding="utf-8") as lines:
@@ -56,7 +67,7 @@ class Answers:
 
     def inputs(self, window: Window) -> list[str]:
         """The record of an answer without its own files, as they are now."""
-        return [str(window), *map(state, [*map(Path, window.tiles), *self.shared])]
+        return [str(window), *(state(Path(tile)) for tile in window.tiles), *self.states]
 
     def fault(self, window: Window) -> str:
         """Why a window has no answer that counts; empty if it has one."""

@@ -131,13 +131,7 @@ class GdalRaster:
         kinds |= {gdal.GDT_UInt32: (32, False), gdal.GDT_Int32: (32, True)}
         try:
             self.source = gdal.Open(str(path))
-            self.files = [path]
-            for file in self.files:
-                driver = gdal.IdentifyDriver(str(file))
-                # A VRT names its parts, and these may be VRTs.
-                if file == path or (driver and driver.ShortName == "VRT"):
-                    parts = map(Path, gdal.Open(str(file)).GetFileList())
-                    self.files += [part for part in parts if part not in self.files]
+            self.files = gdal_files(path)
         except RuntimeError as error:
             raise CannotCut(f"{path}: {error}") from error
         band = self.source.GetRasterBand(1)
@@ -160,6 +154,15 @@ class GdalRaster:
             rows = min(strip, box.row + box.rows - row)
             pixels = self.source.GetRasterBand(1).ReadRaster(box.col, row, box.cols, rows)
             yield from (bytes(pixels[i * width : (i + 1) * width]) for i in range(rows))
+
+
+def gdal_files(path: Path) -> list[Path]:
+    """The files that GDAL reads for a raster: of a VRT its parts too, and those of VRTs among them."""
+    from osgeo import gdal
+
+    listed = [Path(name) for name in gdal.Open(str(path)).GetFileList()]
+    nested = [part for file in listed if file != path and file.suffix == ".vrt" for part in gdal_files(file)]
+    return list(dict.fromkeys([path, *listed, *nested]))
 
 
 def header_keys(path: Path) -> dict[str, str]:

@@ -58,6 +58,9 @@ class Changes(JobCase):
         tiles = [self.folder / f"tiles/{name}.hgt" for name in ("N01E001", "N01E002", "N00E001", "N00E002")]
         return [*rasters, *tiles, self.sinks]
 
+    def answers(self) -> Answers:
+        return Answers(self.env["OUT"], self.env["RASTERS"], self.env["SINKS"])
+
     def refused_by(self, said: str) -> None:
         """The merge says why an answer doesn't count, and nothing else."""
         run = self.run_script("merge.sh")
@@ -66,19 +69,18 @@ class Changes(JobCase):
 
     def test_each_file(self) -> None:
         """An answer names the first file that isn't the same, by size, time or inode."""
-        answers = Answers(self.env["OUT"], self.env["RASTERS"], self.env["SINKS"])
         window = Window.of(self.lines[4].split())
         for path in [*self.inputs(), self.out / "lines/r1c1.txt", self.out / "reports/r1c1.txt"]:
             for change in CHANGES:
                 with self.subTest(path=path.name, change=change.__name__):
                     work = Path(tempfile.mkdtemp(dir=self.folder))
-                    answers.begin(window, work)
+                    self.answers().begin(window, work)
                     for name in ("line", "report"):
                         (work / name).write_text("text\n")
-                    answers.keep(window, work)
-                    self.assertEqual(answers.fault(window), "")
+                    self.answers().keep(window, work)
+                    self.assertEqual(self.answers().fault(window), "")
                     change(path)
-                    self.assertEqual(answers.fault(window), f"{path} changed after the window was judged")
+                    self.assertEqual(self.answers().fault(window), f"{path} changed after the window was judged")
 
     def test_jobs_and_merges(self) -> None:
         """A merge refuses the answer, by the file's name, and the window is judged again."""
@@ -135,13 +137,6 @@ class Changes(JobCase):
         words = plan.read_text().splitlines()[4].split()
         self.assertEqual((self.run_script("job.sh", *words).returncode, self.judged()), (0, ["r1c1"]))
         self.assertEqual(self.run_script("merge.sh").returncode, 0)
-
-    def test_files_of_other_windows(self) -> None:
-        self.job()
-        self.calls()
-        for name in ("N02E000", "N02E001", "N01E000", "N00E000"):
-            grow(self.folder / f"tiles/{name}.hgt")
-        self.assertEqual((self.job(), self.calls()), (0, []))
 
     def test_files_that_change_while_a_window_is_judged(self) -> None:
         """There is no answer, and none is left of before."""

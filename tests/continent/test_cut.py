@@ -12,6 +12,7 @@ import numpy as np
 from osgeo import gdal
 from scripts import EXAMPLE
 
+from answers import Answers
 from cut import NO_DATA, cut_sinks, opened
 from windows import Box, Window
 
@@ -169,6 +170,9 @@ class Cuts(unittest.TestCase):
         ]:
             found = opened(self.rasters, name).files
             self.assertEqual((found[0], sorted(found)), (files[0], sorted(files)))
+        before = Answers("out", str(self.rasters), "").states
+        parts[1].touch()
+        self.assertNotEqual(Answers("out", str(self.rasters), "").states, before)
 
     def test_cells_that_a_raster_lacks(self) -> None:
         """Rasters of 15 by 12 cells from the union's cell (12, 14) on, in a mosaic of 21 by 21 from (10, 10) on."""
@@ -220,8 +224,10 @@ class Cuts(unittest.TestCase):
         text, pixels = header.read_text(), con.read_bytes()
         for name, old, new, said in [
             ("half a pixel off", "ULXMAP -3.0", "ULXMAP -3.05", "aren't whole cells"),
-            ("other pixels", "DIM 0.1", "DIM 0.05", "0.05 degrees wide"),
-            ("no squares", "YDIM 0.1", "YDIM 0.2", "aren't square"),
+            ("smaller pixels", "DIM 0.1", "DIM 0.05", "0.05 degrees wide"),
+            ("larger pixels", "DIM 0.1", "DIM 0.2", "0.2 degrees wide"),
+            ("pixels too high", "YDIM 0.1", "YDIM 0.2", "aren't square"),
+            ("pixels too wide", "YDIM 0.1", "YDIM 0.05", "aren't square"),
             ("a key twice", "NBITS 16", "NBITS 16\nNBITS 8", "NBITS stands twice"),
             ("part of a number", "NBITS 16", "NBITS 16\nNODATA -9999.5", "isn't whole"),
             ("no place", "ULYMAP 2\n", "", "no header of a raster: 'ULYMAP'"),

@@ -75,7 +75,8 @@ class Jobs(JobCase):
         work = self.out / "work"
         expected = f"--inner nesw {tiles}"
         self.assertEqual(
-            plain(words), f"window --side 5 --products {work}/r1c1.cut --box 1,1,6,6 --report {work}/r1c1/report {expected}"
+            plain(words),
+            f"window --side 5 --products {work}/r1c1.cut --box 1,1,6,6 --report {work}/r1c1/report {expected}",
         )
 
     def test_words_of_one_window_with_sinks(self) -> None:
@@ -110,10 +111,15 @@ class Jobs(JobCase):
 
     def test_what_is_not_set(self) -> None:
         """It is a failure, never a status of an answer."""
-        for script, names in (("job.sh", ("DRAIN", "SIDE", "RASTERS", "OUT")), ("merge.sh", ("DRAIN", "RASTERS", "OUT"))):
+        for script, names in (
+            ("job.sh", ("DRAIN", "SIDE", "RASTERS", "OUT")),
+            ("merge.sh", ("DRAIN", "RASTERS", "OUT")),
+        ):
             for name in names:
                 run = self.run_script(script, *self.lines[4].split(), **{name: ""})
-                self.assertEqual((run.returncode, run.stdout, "missing" in run.stderr), (3, "", True), f"{script} {name}")
+                self.assertEqual(
+                    (run.returncode, run.stdout, "missing" in run.stderr), (3, "", True), f"{script} {name}"
+                )
         (self.out / "windows.txt").unlink()
         self.assertEqual(self.run_script("merge.sh").returncode, 3)
         for count, last in (("2", "2"), ("2", "3")):

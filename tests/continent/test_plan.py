@@ -126,7 +126,7 @@ class Plans(unittest.TestCase):
         self.assertFalse((self.folder / "out").exists())
 
     def test_paths_that_a_shell_would_change(self) -> None:
-        """They are refused by name: of tiles, of their folder, and of OUT."""
+        """They are refused by name: in a tile's path, and in that of OUT."""
         for sign in " \t\n!\"#$&'()*:;<>?[\\]^`{|}~\x7fäſ٣":
             with self.subTest(sign), self.assertRaisesRegex(SystemExit, f"^{re.escape(f'/t{sign}x')}: "):
                 plain(Path(f"/t{sign}x"))
@@ -145,8 +145,7 @@ class Plans(unittest.TestCase):
         run = self.run_script("--side", "5")
         self.assertEqual((run.returncode, f"{self.tiles}/ſ01E002.hgt: " in run.stderr), (1, True), run.stderr)
         self.assertFalse((self.folder / "out").exists())
-
-    def test_signs_that_a_path_may_have(self) -> None:
+        # The others may be there.
         tiles = self.folder / "-aZ09_./+,=@%-"
         tiles.mkdir(parents=True)
         (tiles / "N01E002.hgt").touch()
