@@ -83,7 +83,7 @@ class Answers:
 
     def begin(self, window: Window, work: Path) -> None:
         if self.fault(window):
-            for path in [*self.paths(window), self.out / "verdict.txt"]:
+            for path in self.paths(window):
                 path.unlink(missing_ok=True)
             write(work / "inputs", self.inputs(window))
 

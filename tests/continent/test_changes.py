@@ -163,12 +163,6 @@ class Changes(JobCase):
                     verdict, said = self.run_engine(engine)
                     self.assertEqual((verdict, self.judged()), ("accepted of all\n", windows), said)
 
-    def test_a_verdict_of_before(self) -> None:
-        """What Snakemake wrote goes as soon as a window is judged again."""
-        (self.out / "verdict.txt").write_text("accepted of all\n")
-        self.job()
-        self.assertFalse((self.out / "verdict.txt").exists())
-
 
 class Refusals(JobCase):
     """Windows that are refused, and reports that can't be read."""
@@ -292,6 +286,10 @@ class Snakefile(JobCase):
         verdict.write_text("accepted of all\n")
         rules_of(EXAMPLE / "Snakefile", EXAMPLE, self.env)
         self.assertEqual((sorted((self.out / "inputs").iterdir()), verdict.exists()), (records, True))
+        verdict.write_text("refused BadReport 0 WrongVersion\n")
+        rules_of(EXAMPLE / "Snakefile", EXAMPLE, self.env)
+        self.assertEqual((sorted((self.out / "inputs").iterdir()), verdict.exists()), (records, False))
+        verdict.write_text("accepted of all\n")
         date_back(self.folder / "tiles/N02E000.hgt")
         rules_of(EXAMPLE / "Snakefile", EXAMPLE, self.env)
         left = [path for path in records if path.stem != "r0c0"]

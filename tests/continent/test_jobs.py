@@ -128,11 +128,14 @@ class Jobs(JobCase):
         self.assertEqual(self.calls(), [])
 
     def test_half_an_answer(self) -> None:
-        """A line without its report, or a report without its line, is no answer."""
-        for lost in ("reports", "lines"):
+        """A line, a report or a record that is missing leaves no answer."""
+        for lost in ("reports", "lines", "inputs"):
             self.job()
             self.calls()
             (self.out / lost / "r1c1.txt").unlink()
+            said = "no answer yet" if lost == "inputs" else f"{self.out}/{lost}/r1c1.txt: No such file or directory"
+            self.assertIn(f"r1c1: {said}\n", self.run_script("merge.sh").stderr)
+            self.calls()
             self.assertEqual(self.job(), 0)
             self.assertEqual((len(self.calls()), len(self.kept())), (1, 2))
 
