@@ -100,7 +100,7 @@ def plain(path: Path) -> str:
     """The absolute path. The scripts split the plan's lines at spaces, and give them to a shell."""
     text = os.path.abspath(path)
     if not PLAIN_PATH.fullmatch(text):
-        sys.exit(f"{text}: a path of the plan may have letters from A to Z, digits and _./+,=@%- only")
+        sys.exit(f"{text}: a path of the plan may have the letters A to Z and a to z, digits and _./+,=@%- only")
     return text
 
 
