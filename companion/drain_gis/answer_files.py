@@ -76,7 +76,7 @@ def surface_drawn(surface: SurfaceVerdict, faults: np.ndarray) -> tuple[np.ndarr
 def check_written(path: Path, numbers: np.ndarray | None) -> None:
     """Raises OSError unless the image can be read, and has these numbers if they are given."""
     try:
-        image = gdal.Open(str(path))
+        image = gdal.Open(os.fsencode(path))
         have = image.ReadAsArray()
     except RuntimeError as error:
         raise OSError(f"{path.name} couldn't be written: {error}") from error

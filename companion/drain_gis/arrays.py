@@ -85,7 +85,7 @@ def audit(
     parts       whether to judge each part of a rejected set by itself; con alone always is
     program     the program `drain`, if it isn't on the PATH
     options     as those of `drain-gis import`: ends ("zero" or "keep"), complete_rim, flatten, inland (true or false),
-                and acc_counts ("auto", "cells", "above" or "area")
+                acc_counts ("auto", "cells", "above" or "area"), and cell_area: what acc counts for one cell
 
     Raises CannotImport, or DrainFailed. A verdict always is one that `drain` gave.
     """

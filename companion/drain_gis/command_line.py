@@ -58,6 +58,14 @@ def add_nodata(parser: argparse.ArgumentParser, names: str) -> None:
     )  # fmt: skip
 
 
+def add_drivers(parser: argparse.ArgumentParser) -> None:
+    """The option for formats that may name other files."""
+    parser.add_argument(
+        "--allow-drivers", action=Once, metavar="LIST",
+        help="GDAL's drivers to read with too, such as VRT,HFA: those that may open other files, or a server, are off",
+    )  # fmt: skip
+
+
 def add_tool(parser: argparse.ArgumentParser, required: bool) -> None:
     """The option for a tool's codes."""
     parser.add_argument(
@@ -72,6 +80,10 @@ def add_counting(parser: argparse.ArgumentParser) -> None:
         "--acc-counts", choices=[choice.value for choice in AccCounts], default="auto",
         help="what acc counts: cells with the cell itself, cells above it, or their area. auto: as the cells that get "
         "no water show, which is printed",
+    )  # fmt: skip
+    parser.add_argument(
+        "--cell-area", action=Once, type=float, metavar="NUMBER",
+        help="what acc counts for one cell, where that is neither 1 nor the area by the georeference",
     )  # fmt: skip
 
 
@@ -93,6 +105,7 @@ def add_import(commands: Commands) -> None:
         parser.add_argument("--" + product, action=Once, metavar="FILE", help=HELP[product])
     add_nodata(parser, "dem, con, dir, acc or bas")
     add_conversions(parser)
+    add_drivers(parser)
     parser.add_argument("--overwrite", action="store_true", help="replace a folder that an earlier import wrote")
     parser.add_argument("--judge", action="store_true", help="go on as `drain-gis judge OUT` does")
     parser.add_argument("--quiet", action="store_true", help="don't print what was done (OUT/import.json has it)")
@@ -152,6 +165,7 @@ def add_surface(commands: Commands) -> None:
     parser.add_argument("--dem", nargs="+", action="extend", metavar="FILE", required=True, help="the elevations")
     parser.add_argument("--con", action=Once, metavar="FILE", required=True, help=HELP["con"])
     add_nodata(parser, "dem or con")
+    add_drivers(parser)
     parser.add_argument("--sinks", action=Once, metavar="FILE", help="a list of inland sinks, as of `drain-gis import`")
     parser.add_argument("--drain", metavar="PROGRAM", help=PROGRAM)
 
@@ -169,6 +183,7 @@ def add_flow(commands: Commands) -> None:
         parser.add_argument("--" + product, action=Once, metavar="FILE", required=product == "dir", help=HELP[product])
     add_nodata(parser, "dir, acc or bas")
     add_counting(parser)
+    add_drivers(parser)
     parser.add_argument("--drain", metavar="PROGRAM", help=PROGRAM)
 
 
@@ -183,6 +198,7 @@ def add_whole(commands: Commands) -> None:
         help="0.01 (the default): whole centimetres if heights are metres",
     )  # fmt: skip
     add_nodata(parser, "dem")
+    add_drivers(parser)
     parser.add_argument("dem", metavar="IN", help="the elevations")
     parser.add_argument("out", metavar="OUT", help="the GeoTIFF to write")
 

@@ -1,7 +1,9 @@
 """The commands of drain-gis, and their exit statuses: 0 accepted or done, 1 rejected, 2 refused, 3 failed."""
 
 import argparse
+import io
 import os
+import re
 import shlex
 import sys
 import traceback
@@ -10,6 +12,7 @@ from pathlib import Path
 
 from .answer_files import write_answer
 from .command_line import parser_of
+from .drivers import drivers_of
 from .errors import CannotImport, DrainFailed, Stopped
 from .facts import frame_text, read_facts
 from .flow_alone import judge_flow_rasters
@@ -28,10 +31,17 @@ from .whole import make_whole
 ACCEPTED, REJECTED, REFUSED, FAILED = range(4)
 
 
+WHOLE = re.compile(r"-?[0-9]{1,20}")
+"""A whole number that 64 bits may hold."""
+
+CONTROLS = {code: f"\\x{code:02x}" for code in (*range(10), *range(11, 32), *range(127, 160))}
+"""Control characters of names, which a terminal would obey, and what is printed for them."""
+
+
 def put(text: object) -> None:
     """Prints a line. Where nobody reads on (`| head`), the run goes on without a word, to its status."""
     try:
-        print(text, flush=True)
+        print(str(text).translate(CONTROLS), flush=True)
     except BrokenPipeError:
         os.dup2(os.open(os.devnull, os.O_WRONLY), sys.stdout.fileno())
 
@@ -41,13 +51,13 @@ def say(text: str) -> None:
     put("  " + text)
 
 
-def nodata_of(words: Sequence[str], names: Sequence[str]) -> dict[str, float]:
-    """The no-data numbers of --nodata."""
-    numbers: dict[str, float] = {}
+def nodata_of(words: Sequence[str], names: Sequence[str]) -> dict[str, int | float]:
+    """The no-data numbers of --nodata. Whole ones stay whole."""
+    numbers: dict[str, int | float] = {}
     for word in words:
         name, _, number = word.partition("=")
         try:
-            numbers[name] = float(number)
+            numbers[name] = int(number) if WHOLE.fullmatch(number) else float(number)
         except ValueError:
             name = ""
         if name not in names:
@@ -63,11 +73,12 @@ def run_import(arguments: argparse.Namespace) -> int:
     paths = {product: getattr(arguments, product) for product in PRODUCTS if getattr(arguments, product)}
     options = Options(
         arguments.ends == "zero", arguments.complete_rim, arguments.flatten, arguments.inland_sinks,
-        AccCounts(arguments.acc_counts), arguments.sinks and os.path.abspath(arguments.sinks),
+        AccCounts(arguments.acc_counts), arguments.sinks and os.path.abspath(arguments.sinks), arguments.cell_area,
+        arguments.allow_drivers,
     )  # fmt: skip
     out = Path(arguments.out)
     facts = import_rasters(
-        open_rasters(paths, arguments.dem, nodata), out, arguments.tool or "drain", options,
+        open_rasters(paths, arguments.dem, nodata, drivers_of(arguments.allow_drivers)), out, arguments.tool or "drain", options,
         find_program=lambda: Drain(arguments.drain), overwrite=arguments.overwrite,
         print_line=(lambda text: None) if arguments.quiet else say, progress=Progress(),
     )  # fmt: skip
@@ -103,7 +114,8 @@ def judge_folder(out: Path, program: str | None, parts: bool) -> int:
 
 def run_surface(arguments: argparse.Namespace) -> int:
     """drain-gis surface."""
-    rasters = open_rasters({"con": arguments.con}, arguments.dem, nodata_of(arguments.nodata, ("dem", "con")))
+    nodata, drivers = nodata_of(arguments.nodata, ("dem", "con")), drivers_of(arguments.allow_drivers)
+    rasters = open_rasters({"con": arguments.con}, arguments.dem, nodata, drivers)
     sinks = os.path.abspath(arguments.sinks) if arguments.sinks else None
     progress = Progress()
     verdict = judge_surface_rasters(rasters, Drain(arguments.drain), sinks, progress)
@@ -116,8 +128,9 @@ def run_surface(arguments: argparse.Namespace) -> int:
 def run_flow(arguments: argparse.Namespace) -> int:
     """drain-gis flow."""
     paths = {name: getattr(arguments, name) for name in ("dir", "acc", "bas") if getattr(arguments, name)}
-    rasters = open_rasters(paths, [], nodata_of(arguments.nodata, ("dir", "acc", "bas")))
-    options = Options(acc_counts=AccCounts(arguments.acc_counts))
+    nodata, drivers = nodata_of(arguments.nodata, ("dir", "acc", "bas")), drivers_of(arguments.allow_drivers)
+    rasters = open_rasters(paths, [], nodata, drivers)
+    options = Options(acc_counts=AccCounts(arguments.acc_counts), cell_area=arguments.cell_area)
     progress = Progress()
     right, text = judge_flow_rasters(rasters, arguments.tool, Drain(arguments.drain), options, say, progress)
     progress.clear()
@@ -129,7 +142,8 @@ def run_flow(arguments: argparse.Namespace) -> int:
 def run_whole(arguments: argparse.Namespace) -> int:
     """drain-gis whole."""
     nodata = nodata_of(arguments.nodata, ("dem",)).get("dem")
-    moved = make_whole(arguments.dem, Path(arguments.out), arguments.unit, nodata, Progress())
+    drivers = drivers_of(arguments.allow_drivers)
+    moved = make_whole(arguments.dem, Path(arguments.out), arguments.unit, nodata, Progress(), drivers)
     put(f"wrote {arguments.out}: heights in steps of {arguments.unit:g}, moved by at most {moved:.3g}")
     return ACCEPTED
 
@@ -145,6 +159,9 @@ COMMANDS: dict[str, Callable[[argparse.Namespace], int]] = {
 
 def main(words: Sequence[str] | None = None) -> int:
     """Runs a command. Every end is a line and a status."""
+    for stream in (sys.stdout, sys.stderr):
+        if isinstance(stream, io.TextIOWrapper):
+            stream.reconfigure(errors="backslashreplace")  # any name can be printed, in any encoding
     arguments = parser_of().parse_args(words)
     heed_signals()
     try:
@@ -166,7 +183,7 @@ def main(words: Sequence[str] | None = None) -> int:
 def complain(text: str, status: int) -> int:
     """Prints why a run ends, and gives its status."""
     try:
-        print(text, file=sys.stderr, flush=True)
+        print(text.translate(CONTROLS), file=sys.stderr, flush=True)
         sys.stdout.flush()
     except OSError:
         # Nobody reads: at the end Python would try to flush once more, and end with another status.

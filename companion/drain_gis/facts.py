@@ -11,6 +11,10 @@ import numpy as np
 from osgeo import gdal
 
 from .errors import CannotImport
+from .fact_checks import wrong_member
+from .products import PRODUCTS
+from .sink_list import NAME as SINKS
+from .tiles import FOLDER
 from .version import VERSION
 
 NAME = "import.json"
@@ -60,19 +64,49 @@ def frame_text(facts: Mapping[str, Any]) -> str:
 def write_facts(folder: Path, facts: Mapping[str, Any]) -> None:
     """Writes import.json."""
     with open(folder / NAME, "w", encoding="utf-8") as file:
-        json.dump(facts, file, indent=1)
+        json.dump(facts, file, indent=1, allow_nan=False)
         file.write("\n")
 
 
 def read_facts(folder: Path) -> dict[str, Any]:
-    """Reads import.json, and refuses a folder without it."""
+    """Reads import.json, and refuses a folder without it, or one that no import of this version wrote."""
     try:
-        facts = json.loads((folder / NAME).read_text(encoding="utf-8"))
+        facts = json.loads(
+            (folder / NAME).read_text(encoding="utf-8"), object_pairs_hook=members, parse_constant=no_number
+        )
     except (FileNotFoundError, NotADirectoryError) as error:
         raise CannotImport(f"{folder} has no {NAME}: it isn't a folder that drain-gis import wrote") from error
-    except ValueError as error:
+    except (ValueError, RecursionError) as error:
         raise CannotImport(f"{folder / NAME}: {error}") from error
     lacking = [key for key in KEYS if key not in facts] if isinstance(facts, dict) else ["an object"]
     if lacking:
         raise CannotImport(f"{folder / NAME} lacks {', '.join(lacking)}: it isn't of this version. Import again")
+    wrong = wrong_member(facts)
+    if wrong:
+        raise CannotImport(f"{folder / NAME}: {wrong}: no import of this version wrote it. Import again")
+    check_files(folder, facts)
     return facts
+
+
+def members(pairs: list[tuple[str, Any]]) -> dict[str, Any]:
+    """The members of an object, each once."""
+    found = dict(pairs)
+    if len(found) < len(pairs):
+        raise ValueError("an object has a member twice")
+    return found
+
+
+def no_number(word: str) -> None:
+    """Refuses NaN and Infinity, which JSON doesn't have."""
+    raise ValueError(f"{word} is no number of JSON")
+
+
+def check_files(folder: Path, facts: Mapping[str, Any]) -> None:
+    """Refuses a folder whose rasters and list of sinks aren't those that import.json names, and that are judged."""
+    expected = {*facts["tiles"], *(f"{product}.bil" for product in PRODUCTS), *filter(None, [facts["sinks"]])}
+    forms = ("*.bil", f"{FOLDER}/*.hgt", SINKS)
+    found = {path.relative_to(folder).as_posix() for form in forms for path in folder.glob(form)}
+    for name in sorted(expected ^ found):
+        here = "isn't in the folder" if name in expected else "is in the folder"
+        named = "names" if name in expected else "doesn't name"
+        raise CannotImport(f"{folder}: {name} {here}, but {NAME} {named} it: the folder was changed. Import again")

@@ -8,6 +8,7 @@ from typing import Any
 
 import numpy as np
 
+from .cell_area import counts_taken
 from .frame import frame_in
 from .importing import import_rasters
 from .job import Options
@@ -89,4 +90,5 @@ def judge_flow_rasters(
         )  # fmt: skip
         facts["dem"] = rasters["dir"].path
         void = read_tiles(folder, frame_in(facts)) == VOID
-        return judge_flow(folder, facts, void, program)
+        found = judge_flow(folder, facts, void, program)
+        return FlowVerdict(found.right, found.text + counts_taken(facts))

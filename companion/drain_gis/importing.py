@@ -59,23 +59,24 @@ def import_rasters(
     parent = out.parent
     parent.mkdir(parents=True, exist_ok=True)
     stage = Path(tempfile.mkdtemp(prefix=f"{out.name}.part-", dir=parent))
+    folder = stage / "set"
     try:
-        job = begin(rasters, stage, tool, options, find_program, print_line, progress or Silent())
+        folder.mkdir()  # whose mode, unlike that of `stage`, is what the umask leaves
+        job = begin(rasters, folder, tool, options, find_program, print_line, progress or Silent())
         import_all(job)
         drop_made(job)
         facts = facts_of(job)
-        record.write_facts(stage, facts)
-        wrong = readback.differences(stage, facts, job.rasters, job.progress)
+        record.write_facts(folder, facts)
+        wrong = readback.differences(folder, facts, job.rasters, job.progress)
         if wrong:
             raise CannotImport(
                 "a fault of the companion's own: what it wrote doesn't say what the rasters say. " + "; ".join(wrong)
             )
         job.progress.clear()
-        put_in_place(stage, out)
+        put_in_place(folder, out)
         return facts
-    except BaseException:
+    finally:
         shutil.rmtree(stage, ignore_errors=True)
-        raise
 
 
 def sources_of(rasters: Mapping[str, Raster], options: Options) -> list[str]:
@@ -102,16 +103,15 @@ def check_free(out: Path, overwrite: bool, sources: Iterable[str]) -> None:
             raise CannotImport(f"{path} is in the way: no import wrote it, and --overwrite would remove it")
 
 
-def put_in_place(stage: Path, out: Path) -> None:
+def put_in_place(folder: Path, out: Path) -> None:
     """Gives the finished folder its name; an earlier one is set aside first, and then removed."""
-    stage.chmod(0o755)
     if not out.exists() or not any(out.iterdir()):
-        os.replace(stage, out)
+        os.replace(folder, out)
         return
-    aside = Path(tempfile.mkdtemp(prefix=f"{out.name}.old-", dir=stage.parent))
+    aside = Path(tempfile.mkdtemp(prefix=f"{out.name}.old-", dir=out.parent))
     try:
         os.replace(out, aside)
-        os.replace(stage, out)
+        os.replace(folder, out)
     except BaseException:
         if not out.exists():
             os.replace(aside, out)
@@ -141,13 +141,13 @@ def begin(
         notes.append("dem: none given, so con is its own ground: of it the answer only says that it has no depressions")
     if "dir" not in given and ("acc" in given or "bas" in given):
         raise CannotImport("acc and bas can't be judged without the directions that they go along: give dir")
+    frame = frame_of(given["dem"].rows, given["dem"].cols)
     for raster in given.values():
         check_same_grid(given["dem"], raster)
         check_north_up(raster)
     for text in notes:
         print_line(text)
     heights = find_heights(given["dem"], given.get("con"), options.flatten)
-    frame = frame_of(given["dem"].rows, given["dem"].cols)
     return Job(given, folder, tool, options, find_program, print_line, progress, frame, heights, notes)
 
 

@@ -49,9 +49,17 @@ class Options:
     sinks: str | None = None
     """A file that lists sinks."""
 
-    def as_words(self) -> dict[str, str | bool | None]:
+    cell_area: float | None = None
+    """What acc counts for one cell, where that is neither 1 nor the area by the georeference."""
+
+    allow_drivers: str | None = None
+    """GDAL's drivers that may read too, with commas between."""
+
+    def as_words(self) -> dict[str, str | bool | float | None]:
         """The options as import.json has them."""
-        return {**self.__dict__, "acc_counts": self.acc_counts.value}
+        flags = {name: bool(getattr(self, name)) for name in ("ends", "complete_rim", "flatten", "inland")}
+        area = None if self.cell_area is None else float(self.cell_area)
+        return {**self.__dict__, **flags, "acc_counts": self.acc_counts.value, "cell_area": area}
 
 
 @dataclass

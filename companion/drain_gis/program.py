@@ -66,7 +66,7 @@ class Drain:
     def command(self, name: str, mosaic: Mosaic, *options: str) -> tuple[str, int, str]:
         """Runs a command on a mosaic."""
         sinks = ["--sinks", mosaic.sinks] if mosaic.sinks else []
-        return self.run([name, "--side", str(mosaic.side), *options, *sinks, *mosaic.tiles], mosaic.folder)
+        return self.run([name, "--side", str(mosaic.side), *options, *sinks, "--", *mosaic.tiles], mosaic.folder)
 
     def version(self) -> str:
         """The lines of `drain --version`."""
@@ -89,8 +89,11 @@ class Drain:
         if status not in (ACCEPTED, REJECTED):
             raise DrainFailed(f"drain explain: {out.strip()[:300] or error.strip() or f'ended with {status}'}")
         try:
-            return json.loads(out)
-        except ValueError as failure:
+            page = json.loads(out)
+            for rule in page["rules"]:
+                check_rule(rule)
+            return page
+        except (KeyError, TypeError, ValueError, RecursionError) as failure:
             raise DrainFailed(f"drain explain: {out.strip()[:300]}") from failure
 
     def make(self, mosaic: Mosaic, out: str) -> None:
@@ -105,19 +108,29 @@ def run_to_its_end(command: Sequence[str], folder: Path) -> tuple[str, int, str]
     pipe = subprocess.PIPE
     with ExitStack() as ends:
         with put_off():
-            child = subprocess.Popen(command, cwd=folder, stdin=subprocess.DEVNULL, stdout=pipe, stderr=pipe, text=True)
+            child = subprocess.Popen(
+                command, cwd=folder, stdin=subprocess.DEVNULL, stdout=pipe, stderr=pipe, encoding="utf-8",
+                errors="backslashreplace",
+            )  # fmt: skip
             ends.enter_context(child)
             ends.callback(child.kill)
         out, error = child.communicate()
     return out, child.returncode, error
 
 
+def check_rule(rule: dict[str, Any]) -> None:
+    """Raises ValueError, KeyError or TypeError unless this is a rule of a page, with its first cell if it fails."""
+    cells = [rule["rule"], rule["cells"], *((rule["first"]["row"], rule["first"]["col"]) if rule["cells"] else ())]
+    if not isinstance(rule["name"], str) or any(type(number) is not int or number < 0 for number in cells):
+        raise ValueError(rule)
+
+
 def read_line(line: str, status: int) -> Answer:
     """The answer that a line of `drain audit` gives."""
-    numbers = {key: int(number) for key, number in re.findall(r"(\w+)=(\d+)", line)}
     words = line.split()
     expected = "accepted" if status == ACCEPTED else "rejected"
     try:
+        numbers = {key: int(number) for key, number in re.findall(r"(\w+)=(\d+)", line)}
         if words[0] != expected:
             raise ValueError(line)
         if status == ACCEPTED:

@@ -5,16 +5,16 @@ No other module opens a raster of the user's.
 
 import math
 import os
-import uuid
 from collections.abc import Mapping, Sequence
 from pathlib import Path
 
 import numpy as np
 from osgeo import gdal, gdal_array
 
+from .drivers import DRIVERS, open_dataset
 from .errors import CannotImport
+from .places import MOST_SHIFT, cells_between, check_place, check_same_system, moved_place, shift_in_pixels
 
-gdal.UseExceptions()
 gdal.SetCacheMax(64 << 20)
 
 WINDOW_CELLS = 300_000
@@ -37,7 +37,7 @@ class Raster:
     rows: int
     cols: int
     dtype: np.dtype
-    nodata: float | None
+    nodata: int | float | None
     """The number for no data; None if none is named."""
 
     place: Sequence[float] | None
@@ -70,11 +70,10 @@ class Raster:
 class FileRaster(Raster):
     """A file with one band that GDAL opens."""
 
-    def __init__(self, name: str, path: str, nodata: float | None = None) -> None:
-        try:
-            self.data = gdal.Open(path)
-        except RuntimeError as error:
-            raise CannotImport(f"{name}: {error}") from error
+    def __init__(
+        self, name: str, path: str, nodata: int | float | None = None, drivers: Sequence[str] = DRIVERS
+    ) -> None:
+        self.data = open_dataset(name, path, drivers)
         if self.data.RasterCount != 1:
             raise CannotImport(
                 f"{name}: {path} has {self.data.RasterCount} bands. Cut one out: gdal_translate -b 1 {path} one.tif"
@@ -86,6 +85,7 @@ class FileRaster(Raster):
         if self.dtype.kind == "c":
             raise CannotImport(f"{name}: {path} has complex numbers")
         self.place = self.data.GetGeoTransform(can_return_null=True)
+        check_place(self)
         srs = self.data.GetSpatialRef()
         self.srs = srs.ExportToWkt() if srs else ""
         self.is_named = nodata is not None
@@ -97,7 +97,7 @@ class FileRaster(Raster):
     def window(self, top: int, rows: int) -> tuple[np.ndarray, np.ndarray]:
         numbers = self.band.ReadAsArray(0, top, self.cols, rows)
         if self.is_named:
-            blank = numbers == self.dtype.type(self.nodata)
+            blank = where_equal(numbers, self.nodata)
         else:
             blank = self.band.GetMaskBand().ReadAsArray(0, top, self.cols, rows) == 0
         if numbers.dtype.kind == "f":
@@ -105,21 +105,34 @@ class FileRaster(Raster):
         return numbers, blank
 
     def source_files(self) -> list[str]:
-        listed = self.data.GetFileList() or []
+        listed = [os.fsdecode(path) for path in self.data.GetFileList() or []]
         return [os.path.abspath(path) for path in listed if os.path.isfile(path)]
 
 
-def number_text(number: float) -> str:
+def number_text(number: int | float) -> str:
     """A number as text that is read as the same number."""
-    return str(int(number)) if abs(number) < 2**63 and number == int(number) else repr(float(number))
+    whole = isinstance(number, int) or abs(number) < 2**63 and number == int(number)
+    return str(int(number)) if whole else repr(float(number))
 
 
-def check_holds(name: str, dtype: np.dtype, nodata: float | None) -> None:
-    """Refuses a no-data number that the pixels can't hold."""
-    if nodata is None or dtype.kind == "f":
-        return
+def holds(dtype: np.dtype, number: int | float) -> bool:
+    """Whether pixels can have this number. Floating-point ones have the nearest to it."""
+    if dtype.kind == "f":
+        return True
     limits = np.iinfo(dtype)
-    if not math.isfinite(nodata) or nodata != int(nodata) or not limits.min <= nodata <= limits.max:
+    return (isinstance(number, int) or float(number).is_integer()) and limits.min <= number <= limits.max
+
+
+def where_equal(numbers: np.ndarray, number: int | float) -> np.ndarray:
+    """Where pixels have this number. Whole numbers are compared as such, at any size."""
+    if not holds(numbers.dtype, number):
+        return np.zeros(numbers.shape, bool)
+    return numbers == numbers.dtype.type(number if numbers.dtype.kind == "f" else int(number))
+
+
+def check_holds(name: str, dtype: np.dtype, nodata: int | float | None) -> None:
+    """Refuses a no-data number that the pixels can't hold."""
+    if nodata is not None and not holds(dtype, nodata):
         raise CannotImport(
             f"--nodata {name}={number_text(nodata)}: {name} has pixels of the kind {dtype}, which can't hold it"
         )
@@ -128,16 +141,17 @@ def check_holds(name: str, dtype: np.dtype, nodata: float | None) -> None:
 class ArrayRaster(Raster):
     """An array of two dimensions. Masked cells, NaN and infinities are no data too."""
 
-    def __init__(self, name: str, array: np.ndarray, nodata: float | None = None) -> None:
+    def __init__(self, name: str, array: np.ndarray, nodata: int | float | None = None) -> None:
         self.masked = np.ma.getmaskarray(array) if np.ma.isMaskedArray(array) else None
         numbers = np.ma.getdata(array)
-        if numbers.ndim != 2 or numbers.dtype.kind not in "iufb":
+        if numbers.ndim != 2 or numbers.dtype.kind not in "iufb" or numbers.dtype.itemsize > 8:
             raise CannotImport(
                 f"{name}: not an array of numbers with two dimensions, but of {numbers.dtype} with {numbers.ndim}"
             )
         if 0 in numbers.shape:
             raise CannotImport(f"{name}: the array is empty")
         self.numbers = numbers.astype(np.uint8) if numbers.dtype.kind == "b" else numbers
+        nodata = nodata.item() if isinstance(nodata, np.generic) else nodata
         self.name, self.path, self.nodata, self.is_named = name, None, nodata, nodata is not None
         self.place, self.srs, self.scaling = None, "", (1.0, 0.0)
         (self.rows, self.cols), self.dtype = self.numbers.shape, self.numbers.dtype
@@ -149,10 +163,54 @@ class ArrayRaster(Raster):
         else:
             blank = self.masked[top : top + rows].copy()
         if self.nodata is not None:
-            blank |= numbers == self.nodata
+            blank |= where_equal(numbers, self.nodata)
         if numbers.dtype.kind == "f":
             blank |= ~np.isfinite(numbers)
         return numbers, blank
+
+
+class JoinedRaster(Raster):
+    """Files of elevations side by side, as HGT tiles, as one raster. Where two have a number, the later one's counts."""
+
+    def __init__(self, parts: Sequence[FileRaster]) -> None:
+        first = parts[0]
+        self.name, self.path = "dem", [part.path for part in parts]
+        self.nodata, self.is_named, self.srs = first.nodata, first.is_named, first.srs
+        self.dtype, self.scaling = first.dtype, first.scaling
+        corners = [corner_in_cells(first, part) for part in parts]
+        top, left = (min(corner[way] for corner in corners) for way in (0, 1))
+        self.parts = [(row - top, col - left, part) for (row, col), part in zip(corners, parts)]
+        self.rows = max(row + part.rows for row, _, part in self.parts)
+        self.cols = max(col + part.cols for _, col, part in self.parts)
+        self.place = moved_place(first.place or (), top, left)
+
+    def window(self, top: int, rows: int) -> tuple[np.ndarray, np.ndarray]:
+        numbers, blank = np.zeros((rows, self.cols), self.dtype), np.ones((rows, self.cols), bool)
+        for row, col, part in self.parts:
+            first, last = max(top, row), min(top + rows, row + part.rows)
+            if first < last:
+                found, none = part.window(first - row, last - first)
+                here = np.s_[first - top : last - top, col : col + part.cols]
+                numbers[here] = np.where(none, numbers[here], found)
+                blank[here] &= none
+        return numbers, blank
+
+    def source_files(self) -> list[str]:
+        return [path for _, _, part in self.parts for path in part.source_files()]
+
+
+def corner_in_cells(first: FileRaster, part: FileRaster) -> tuple[int, int]:
+    """The row and column of the first file's grid at which another file begins, which has to be on that grid."""
+    if not first.place or not part.place:
+        raise CannotImport(f"dem: {part.path} has no georeference: where it lies beside the others isn't known")
+    if part.dtype != first.dtype or part.scaling != first.scaling:
+        raise CannotImport(f"dem: {part.path} has another kind or scale of numbers than {first.path}")
+    check_same_system(first, part)
+    steps = cells_between(first.place, part.place[::3])
+    row, col = (round(step) if math.isfinite(step) else 0 for step in steps)
+    if not shift_in_pixels(moved_place(first.place, row, col), part.place, part.rows, part.cols) <= MOST_SHIFT:
+        raise CannotImport(f"dem: {part.path} isn't on the grid of {first.path}")
+    return row, col
 
 
 class LevelRaster(Raster):
@@ -169,29 +227,21 @@ class LevelRaster(Raster):
         return np.zeros(blank.shape, np.int16), blank
 
 
-def open_dem(paths: Sequence[str], nodata: float | None = None) -> Raster:
-    """One file of elevations, or several side by side (as HGT tiles) as one raster."""
-    if len(paths) == 1:
-        return FileRaster("dem", paths[0], nodata)
-    joined = f"/vsimem/{uuid.uuid4().hex}.vrt"
-    try:
-        gdal.BuildVRT(joined, [os.path.abspath(path) for path in paths], strict=True).FlushCache()
-    except (RuntimeError, AttributeError) as error:
-        raise CannotImport(f"dem: {error}") from error
-    dem = FileRaster("dem", joined, nodata)
-    dem.path = list(paths)
-    return dem
-
-
-def open_rasters(paths: Mapping[str, str], dem: Sequence[str], nodata: Mapping[str, float]) -> dict[str, Raster]:
-    """Name to raster, for the files that are given: dem first."""
-    opened: dict[str, Raster] = {"dem": open_dem(dem, nodata.get("dem"))} if dem else {}
+def open_rasters(
+    paths: Mapping[str, str],
+    dem: Sequence[str],
+    nodata: Mapping[str, int | float],
+    drivers: Sequence[str] = DRIVERS,
+) -> dict[str, Raster]:
+    """Name to raster, for the files that are given: dem first, of one file or of several side by side."""
+    parts = [FileRaster("dem", path, nodata.get("dem"), drivers) for path in dem]
+    opened: dict[str, Raster] = {"dem": parts[0] if len(parts) == 1 else JoinedRaster(parts)} if parts else {}
     for name, path in paths.items():
-        opened[name] = FileRaster(name, path, nodata.get(name))
+        opened[name] = FileRaster(name, path, nodata.get(name), drivers)
     return opened
 
 
-def rasters_of(arrays: Mapping[str, np.ndarray | None], nodata: Mapping[str, float] | None) -> dict[str, Raster]:
+def rasters_of(arrays: Mapping[str, np.ndarray | None], nodata: Mapping[str, int | float] | None) -> dict[str, Raster]:
     """Name to raster, for the arrays that are given. Refuses a no-data number of no raster."""
     named = nodata or {}
     unknown = sorted(set(named) - set(arrays))

@@ -1,9 +1,9 @@
 """Reads an import back and compares it with its sources, cell by cell.
 
-It knows only what import.json says, and shares no rule of conversion with the import: elevation and con are the
-source's number times the unit plus the offset, voids where it has no data; a direction is the meaning of the source's
-number; a count is (its number / per) + plus, a label its number + shift. The cells that differ have to be as many as
-the import says that it changed.
+It knows only what import.json says, and goes the other way than the import: from a number of the folder to the numbers
+of the source that it stands for. A height is the folder's number less the offset, by the unit; a direction one of the
+numbers that mean the code; a count, less what was added, times the area of a cell; a label, less what was added. The
+cells that differ have to be as many as the import says that it changed.
 """
 
 from collections.abc import Iterator, Mapping
@@ -18,22 +18,50 @@ from .products import PIXELS, header, read_product
 from .progress import Progress
 from .rasters import Raster, windows
 from .tiles import read_tiles
+from .units import VOID
+
+BLANK = {"dem": VOID, **{product: pixels.nodata for product, pixels in PIXELS.items()}}
+"""What the folder has where a source has no data."""
 
 
-def expected(name: str, facts: Mapping[str, Any], numbers: np.ndarray, none: np.ndarray) -> np.ndarray:
-    """What the folder should have for these numbers of a source."""
-    if name == "dir":
-        codes = np.full(numbers.shape, 254.0)
-        for number, code in TOOLS[facts["tool"]].meaning().items():
-            codes[numbers == number] = code
-        return np.where(none, 255, codes)
-    values = np.where(none, 0, numbers).astype(np.float64)
-    if name in ("dem", "con"):
-        return np.where(none, -32768, np.rint(values * facts["unit"]) + facts["offset"])
-    if name == "acc":
-        values = np.abs(values) if facts["drop_sign"] else values
-        return np.where(none, 0, np.rint(values / facts["per"] + facts["plus"]))
-    return np.where(none, 0, values + facts["shift"])
+def gap(have: np.ndarray, numbers: np.ndarray) -> np.ndarray:
+    """How much whole numbers of the folder are above those of a source, modulo 2^64."""
+    return have.astype(np.int64).astype(np.uint64) - numbers.astype(np.uint64)
+
+
+def are_heights(have: np.ndarray, numbers: np.ndarray, facts: Mapping[str, Any]) -> np.ndarray:
+    """Where heights of the folder are those of the source: of decimals the nearest of single or double precision."""
+    if numbers.dtype.kind != "f":
+        return gap(have, numbers.astype(np.uint64) * np.uint64(facts["unit"])) == np.uint64(facts["offset"] % 2**64)
+    heights = (have.astype(np.int64) - facts["offset"]) / facts["unit"]
+    return (heights == numbers) | (heights.astype(np.float32) == numbers)
+
+
+def are_directions(have: np.ndarray, numbers: np.ndarray, facts: Mapping[str, Any]) -> np.ndarray:
+    """Where codes of the folder are meant by the source's numbers; 254 by those that mean none."""
+    meaning = TOOLS[facts["tool"]].meaning()
+    right = (have == 254) & ~np.isin(numbers, list(meaning))
+    for number, code in meaning.items():
+        right |= (have == code) & (numbers == number)
+    return right
+
+
+def are_counts(have: np.ndarray, numbers: np.ndarray, facts: Mapping[str, Any]) -> np.ndarray:
+    """Where counts of the folder are those of the source; areas that are no whole number of cells have the nearest."""
+    cells = have.astype(np.int64) - facts["plus"]
+    if facts["per"] == 1:
+        return (cells == numbers) | (facts["drop_sign"] & (cells == -numbers))
+    sizes = np.abs(numbers.astype(np.float64)) if facts["drop_sign"] else numbers.astype(np.float64)
+    return np.abs(cells * facts["per"] - sizes) <= facts["per"] / 4
+
+
+def are_labels(have: np.ndarray, numbers: np.ndarray, facts: Mapping[str, Any]) -> np.ndarray:
+    """Where labels of the folder are those of the source."""
+    whole = numbers.astype(np.int64) if numbers.dtype.kind == "f" else numbers
+    return (have > 0) & (whole == numbers) & (gap(have, whole) == np.uint64(facts["shift"] % 2**64))
+
+
+ARE = {"dem": are_heights, "con": are_heights, "dir": are_directions, "acc": are_counts, "bas": are_labels}
 
 
 def differences(folder: Path, facts: Mapping[str, Any], rasters: Mapping[str, Raster], progress: Progress) -> list[str]:
@@ -58,7 +86,9 @@ def differing_cells(
             have = read_tiles(folder, frame, top, rows)
         else:
             have = read_product(folder, frame, name, top, rows)
-        bad = have != expected(name, facts, *raster.window(top, rows))
+        numbers, none = raster.window(top, rows)
+        numbers = np.where(none, numbers.dtype.type(0), numbers)
+        bad = np.where(none, have != BLANK[name], ~ARE[name](have, numbers, facts))
         if not first and bad.any():
             row, col = np.argwhere(bad)[0]
             first = f"; first at row {top + row}, column {col}"

@@ -49,9 +49,13 @@ def import_command(facts: Mapping[str, Any]) -> str:
             words += ["--nodata", f"{name}={number}"]
     if options.get("acc_counts", "auto") != "auto":
         words += ["--acc-counts", str(options["acc_counts"])]
+    if options.get("cell_area") is not None:
+        words += ["--cell-area", repr(options["cell_area"])]
     if options.get("ends") is False:
         words += ["--ends", "keep"]
     words += [flag for name, flag in FLAGS.items() if options.get(name)]
     if options.get("sinks"):
         words += ["--sinks", str(options["sinks"])]
+    if options.get("allow_drivers"):
+        words += ["--allow-drivers", str(options["allow_drivers"])]
     return shlex.join([*words, "OUT"])

@@ -5,6 +5,7 @@ anything. Filling commutes with each map of heights that keeps their order. So h
 slices that 16 bits hold, and con is the least surface exactly if it is in every slice.
 """
 
+import shutil
 import tempfile
 from collections.abc import Iterator, Mapping
 from dataclasses import dataclass
@@ -20,9 +21,10 @@ from .products import map_product, read_product
 from .program import Drain, Mosaic
 from .progress import Progress
 from .rasters import Raster, windows
+from .sink_list import NAME as SINKS
 from .sink_list import sink_lines
 from .tiles import TileWriter
-from .units import LEAST, VOID
+from .units import EXACT, LEAST, VOID
 
 SLICE = 65534
 """How many ranks a slice holds; one more number says that a height lies below it."""
@@ -73,6 +75,7 @@ def judge_surface_rasters(
 ) -> SurfaceVerdict:
     """Judges con of two rasters. Holds both whole."""
     dem, con = rasters["dem"], rasters["con"]
+    frame_of(dem.rows, dem.cols)  # refuses what is too large, before a cell is read
     check_same_grid(dem, con)
     for raster in (dem, con):
         check_north_up(raster)
@@ -99,6 +102,7 @@ def judge_surface(
     Numbers in voids don't count. `sinks` is the path of a list.
     """
     data = ~void & ~none
+    check_comparable(ground[~void], surface[data])
     levels = np.unique(np.concatenate([ground[~void], surface[data]]))
     ranks = [
         np.searchsorted(levels, np.where(there, heights, levels[0])).astype(np.int32)
@@ -118,6 +122,15 @@ def judge_surface(
     return faults
 
 
+def check_comparable(ground: np.ndarray, surface: np.ndarray) -> None:
+    """Refuses whole heights that double precision, in which both are compared, doesn't hold."""
+    if np.result_type(ground, surface).kind != "f":
+        return
+    for heights in (ground, surface):
+        if heights.dtype.kind in "iu" and heights.size and max(-int(heights.min()), int(heights.max())) > EXACT:
+            raise CannotImport("whole heights above 2^53 can't be compared with those of the other raster's kind")
+
+
 def least_surface(
     folder: Path, frame: Frame, heights: np.ndarray, program: Drain, sinks: str | None = None
 ) -> np.ndarray:
@@ -126,7 +139,9 @@ def least_surface(
         writer.write(heights)
         tiles = writer.finish()
     (folder / "made").mkdir()
-    program.make(Mosaic(folder, frame.side, tiles, sinks), "made")
+    if sinks:
+        shutil.copyfile(sinks, folder / SINKS)
+    program.make(Mosaic(folder, frame.side, tiles, SINKS if sinks else None), "made")
     return map_product(folder / "made", frame, "con")
 
 

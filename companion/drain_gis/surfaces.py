@@ -36,7 +36,7 @@ def report_surfaces(job: Job) -> None:
     """Prints what was done to heights and shape."""
     heights, frame = job.heights, job.frame
     if heights.lowered:
-        job.changed["con"] = heights.moved
+        job.changed["con"] = heights.lowered
         job.note(
             f"con: {heights.lowered} cells rounded down to the unit of dem, by at most {heights.most:.3g} (--flatten): "
             "the answer is about con so rounded"

@@ -10,6 +10,14 @@ from .rasters import Raster, windows
 UNITS = {1: "whole numbers", 10: "tenths", 100: "hundredths", 1000: "thousandths"}
 LEAST, GREATEST, VOID = -32767, 32767, -32768
 
+EXACT = 2**53
+"""From here on double precision holds no longer all whole numbers."""
+
+
+def wrapped(number: int) -> np.int64:
+    """A whole number modulo 2^64. Sums and products of such numbers are exact if the last of them fits 64 bits."""
+    return np.int64((number + 2**63) % 2**64 - 2**63)
+
 
 def is_whole(numbers: np.ndarray, unit: int) -> np.ndarray:
     """Where a number is the one of single or of double precision that is nearest to some n / unit, n whole."""
@@ -29,29 +37,27 @@ class Heights:
     lowered: int = 0
     """Cells of con that were rounded down."""
 
-    moved: int = 0
-    """Of these, the cells that rounding to the nearest would have put elsewhere."""
-
     most: float = 0.0
     """The most that a cell was lowered by."""
 
     def whole(self, numbers: np.ndarray, blank: np.ndarray, name: str = "dem") -> np.ndarray:
-        """The heights as whole numbers; VOID where blank."""
-        values = np.where(blank, 0, numbers)
-        scaled = values.astype(np.float64) * self.unit
-        if values.dtype.kind == "f":
-            scaled = np.rint(scaled)
+        """The heights as whole numbers; VOID where blank. Whole numbers go through no floating-point ones."""
+        if numbers.dtype.kind == "f":
+            values = np.where(blank, 0, numbers)
+            scaled = np.rint(values.astype(np.float64) * self.unit)
             if self.flatten and name == "con":
                 self.round_down(values, scaled)
-        return np.where(blank, VOID, scaled + self.offset).astype(np.int32)
+            steps = scaled.astype(np.int64)
+        else:
+            steps = numbers.astype(np.int64) * self.unit
+        return np.where(blank, VOID, steps + wrapped(self.offset)).astype(np.int32)
 
     def round_down(self, values: np.ndarray, scaled: np.ndarray) -> None:
         """Rounds down, in place, what isn't whole in the unit."""
         down = ~is_whole(values, self.unit)
         if down.any():
-            nearest = scaled[down]
-            scaled[down] = np.floor(values[down].astype(np.float64) * self.unit)
-            self.moved += int((nearest != scaled[down]).sum())
+            steps = np.floor(values[down].astype(np.float64) * self.unit)
+            scaled[down] = steps - (steps / self.unit > values[down])
             self.lowered += int(down.sum())
             self.most = max(self.most, float((values[down] - scaled[down] / self.unit).max()))
 
@@ -63,7 +69,7 @@ class Heights:
 class Extreme:
     """The lowest or the highest height of all, and its cell."""
 
-    height: float
+    height: int | float
     row: int
     col: int
     name: str
@@ -96,27 +102,29 @@ def extremes(rasters: list[Raster]) -> tuple[Extreme, Extreme] | None:
             numbers, blank = raster.window(top, rows)
             if blank.all():
                 continue
-            least, most = numbers[~blank].min(), numbers[~blank].max()
+            least, most = numbers[~blank].min().item(), numbers[~blank].max().item()
             if low is None or least < low.height:
                 row, col = np.argwhere(~blank & (numbers == least))[0]
-                low = Extreme(float(least), top + int(row), int(col), raster.name)
+                low = Extreme(least, top + int(row), int(col), raster.name)
             if high is None or most > high.height:
                 row, col = np.argwhere(~blank & (numbers == most))[0]
-                high = Extreme(float(most), top + int(row), int(col), raster.name)
+                high = Extreme(most, top + int(row), int(col), raster.name)
     return (low, high) if low and high else None
 
 
 def find_heights(dem: Raster, con: Raster | None = None, flatten: bool = False) -> Heights:
     """The unit and the offset for dem and con, or CannotImport with a cell that neither fits."""
+    found = extremes([raster for raster in (dem, con) if raster is not None])
+    for end in found or ():
+        if isinstance(end.height, float) and abs(end.height) >= EXACT:
+            raise CannotImport(f"the height {end}: heights of 2^53 and more can't be told apart in double precision")
     unit = find_unit(dem, 1)
     if con is not None and not flatten:
         unit = find_unit(con, unit)
-    found = extremes([raster for raster in (dem, con) if raster is not None])
     if found is None:
         return Heights(unit, 0, flatten)
     low, high = found
-    least = int(np.floor(low.height * unit) if flatten else np.rint(low.height * unit))
-    most = int(np.rint(high.height * unit))
+    least, most = in_steps(low.height, unit, flatten), in_steps(high.height, unit, False)
     if LEAST <= least and most <= GREATEST:
         return Heights(unit, 0, flatten)
     if most - least > GREATEST - LEAST:
@@ -126,6 +134,13 @@ def find_heights(dem: Raster, con: Raster | None = None, flatten: bool = False) 
             "judged by itself (drain-gis surface)"
         )
     return Heights(unit, -((least + most) // 2), flatten)
+
+
+def in_steps(height: int | float, unit: int, down: bool) -> int:
+    """A height as a number of steps of the unit: rounded down, or to the nearest."""
+    if isinstance(height, int):
+        return height * unit
+    return int(np.floor(height * unit) if down else np.rint(height * unit))
 
 
 def not_whole(raster: Raster, height: float, row: int, col: int) -> str:

@@ -1,6 +1,5 @@
 """What `drain` answered, in the rows, columns and coordinates of the user's rasters."""
 
-import os
 import tempfile
 from collections.abc import Mapping
 from dataclasses import dataclass, field
@@ -9,11 +8,13 @@ from typing import Any
 
 import numpy as np
 
+from .cell_area import counts_taken
 from .errors import CannotImport, DrainFailed
 from .facts import read_facts
 from .flow_alone import judge_flow
 from .frame import frame_in
-from .map_rules import RULES
+from .map_rules import RULES, SOUND
+from .map_rules import VOID as VOID_NUMBER
 from .place_words import cells_text, where_is
 from .program import Answer, Drain, Mosaic
 from .progress import Progress, Silent
@@ -69,6 +70,9 @@ class Verdict:
     where: str = ""
     """The first fault, in words."""
 
+    taken: str = ""
+    """What the numbers of acc were taken for, as the end of the first line; empty if acc isn't judged."""
+
     page: dict[str, Any] | None = None
     """The object of `drain explain --json`."""
 
@@ -79,7 +83,7 @@ class Verdict:
         return self.accepted
 
     def __str__(self) -> str:
-        lines = [self.line]
+        lines = [self.line + self.taken]
         if not self.accepted:
             lines.append(f"  {FIRST_OF_CON.get(self.name or '', '')}{self.where}")
             made = self.rules_of_stand_ins()
@@ -112,8 +116,7 @@ def stand_ins_text(rules: Mapping[int, str]) -> str:
 
 def mosaic_in(folder: Path, facts: Mapping[str, Any]) -> Mosaic:
     """What `drain` reads in an imported folder."""
-    sinks = facts["sinks"] and os.path.abspath(folder / facts["sinks"])
-    return Mosaic(folder, facts["side"], facts["tiles"], sinks)
+    return Mosaic(folder, facts["side"], facts["tiles"], facts["sinks"])
 
 
 def judge(folder: Path, program: Drain, parts: bool = True, progress: Progress | None = None) -> Verdict:
@@ -123,6 +126,9 @@ def judge(folder: Path, program: Drain, parts: bool = True, progress: Progress |
     progress.step("drain audit", 0, 3)
     verdict = begin(program.audit(mosaic), facts)
     if verdict.accepted:
+        if verdict.counts["data"] != facts["data"]:
+            cells = verdict.counts["data"]
+            raise CannotImport(f"{folder}: drain audit judged {cells} cells with an elevation, the import wrote {facts['data']}")
         return verdict
     verdict.where = where_is(facts, verdict.row or 0, verdict.col or 0)
     progress.step("drain explain", 1, 3)
@@ -139,7 +145,7 @@ def begin(answer: Answer, facts: Mapping[str, Any]) -> Verdict:
     """The verdict that an audit gives."""
     return Verdict(
         answer.accepted, answer.line, answer.row, answer.col, answer.rule, answer.name, answer.counts,
-        judged=tuple(facts["judged"]), notes=list(facts["told"]),
+        judged=tuple(facts["judged"]), notes=list(facts["told"]), taken=counts_taken(facts),
     )  # fmt: skip
 
 
@@ -156,6 +162,8 @@ def explain(verdict: Verdict, mosaic: Mosaic, facts: Mapping[str, Any], program:
         if whole.size != frame.all_rows * frame.all_cols:
             raise DrainFailed(f"drain explain: a map of {whole.size} bytes for {frame.all_rows * frame.all_cols} cells")
         verdict.faults = whole.reshape(frame.all_rows, frame.all_cols)[: frame.rows, : frame.cols].copy()
+        if not np.isin(verdict.faults, (SOUND, VOID_NUMBER, *RULES)).all():
+            raise DrainFailed("drain explain: a map with numbers of no rule")
 
 
 def judge_parts(folder: Path, mosaic: Mosaic, facts: Mapping[str, Any], verdict: Verdict, program: Drain) -> None:

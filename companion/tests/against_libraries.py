@@ -34,6 +34,8 @@ BLANK, NODATA = libraries.BLANK, -9999
 CHANGES = ("none", "none", "con+", "con-", "dir", "acc", "label", "merge", "blank", "filled void")
 SIDES = (1, 2, 3, 4, 5, 7, 10, 13, 20)
 PLACE = (500000.5, 25.0, 0.0, 4e6, 0.0, -10.0)
+AREA = 250
+"""The area of a cell there."""
 
 
 @dataclass
@@ -130,7 +132,7 @@ def given_as(case: Case, codes: np.ndarray, rng: np.random.Generator) -> dict[st
     numbers[0], numbers[BLANK] = TOOLS[case.tool].ends[0] if case.tool == "saga" else 0, NODATA
     unit = int(rng.choice([1, 1, 10, 100])) if np.abs(case.z).max() < 300 else 1
     heights = "float32" if unit > 1 else str(rng.choice(["int16", "float32", "float64"]))
-    acc = {"cells": seen["acc"], "above": seen["acc"] - 1, "area": seen["acc"] * 250}[case.counting]
+    acc = {"cells": seen["acc"], "above": seen["acc"] - 1, "area": seen["acc"] * AREA}[case.counting]
     labels = seen["bas"] - int(rng.integers(0, 2))
     written = np.vectorize(lambda code: numbers[int(code)], otypes=[np.int64])(np.where(none["dir"], BLANK, codes))
     given = {
@@ -153,9 +155,11 @@ def audit_arrays(case: Case, rng: np.random.Generator) -> Verdict:
     for name in rng.permutation(list(given))[: int(rng.integers(0, 3))]:
         a = given[name]
         given[name] = np.where(a == NODATA, np.nan, a) if a.dtype.kind == "f" else np.ma.masked_equal(a, NODATA)
+    area = AREA if case.counting == "area" else None  # of an array it isn't known
     return drain_gis.audit(
-        **given, codes=case.tool, nodata=dict.fromkeys(given, NODATA), acc_counts=case.counting, ends=case.ends
-    )
+        **given, codes=case.tool, nodata=dict.fromkeys(given, NODATA), acc_counts=case.counting, ends=case.ends,
+        cell_area=area,
+    )  # fmt: skip
 
 
 def audit_files(case: Case, drain: Drain) -> Verdict:

@@ -70,7 +70,7 @@ class Commands(unittest.TestCase):
         self.assertTrue(audited.stdout.startswith("accepted "), audited.stdout + audited.stderr)
         done = run(main, "judge", self.base / "out")
         self.assertEqual((done.status, done.error), (0, ""), done.error)
-        self.assertTrue(done.out.startswith(audited.stdout), done.out)
+        self.assertEqual(done.out.splitlines()[0], f"{audited.stdout.strip()}; acc counts: cells")
         self.assertIn("judged: con, dir, acc, bas over ", done.out)
         self.assertIn("23 rows and 31 columns, by the codes of taudem", done.out)
 
@@ -264,7 +264,7 @@ class Program(unittest.TestCase):
             make = ["make", "-s", "-C", str(COMPANION.parent), "install-companion", f"PREFIX={prefix}"]
             subprocess.run(make, check=True, capture_output=True)
             drain = Path(prefix, "bin/drain")
-            drain.write_text('#!/bin/sh\necho "accepted rows=1 cols=1 data=1 raised=0 outlets=1"\n')
+            drain.write_text('#!/bin/sh\necho "accepted rows=1 cols=1 data=2842 raised=0 outlets=1"\n')
             drain.chmod(0o755)
             fixture, out = COMPANION / "tests/fixtures", Path(prefix, "out")
             words = [Path(prefix, "bin/drain-gis"), "import", "--from", "saga", "--dem", fixture / "dem.tif"]

@@ -59,18 +59,19 @@ class WaysOfCounting(unittest.TestCase):
             (acc, "the cell itself is counted"),
             (acc - 1, "1 is added to each"),
             (acc * 900.0, "have 900, taken for the area of a cell"),
-            ((acc * 0.01).astype(np.float32), "taken for the area of a cell"),
+            ((acc * 0.01).astype(np.float32), "have 0.00999999978, taken for the area of a cell"),
             (acc.astype(np.float32), "the cell itself is counted"),
         )
         for numbers, text in cases:
-            verdict = self.audit(acc=numbers)
+            area = {"have 900": 900, "have 0.0": 0.01}.get(text[:8])
+            verdict = self.audit(acc=numbers, cell_area=area)
             self.assertTrue(verdict, verdict)
             self.assertTrue(any(text in note for note in verdict.notes), verdict.notes)
 
     def test_a_named_way_is_taken(self) -> None:
         acc = self.world.acc
-        for way, numbers in (("cells", acc), ("above", acc - 1), ("area", acc * 8100)):
-            self.assertTrue(self.audit(acc=numbers, acc_counts=way), way)
+        for way, numbers, area in (("cells", acc, None), ("above", acc - 1, None), ("area", acc * 8100, 8100)):
+            self.assertTrue(self.audit(acc=numbers, acc_counts=way, cell_area=area), way)
         self.assertFalse(self.audit(acc=acc, acc_counts="above"))
         self.assertFalse(self.audit(acc=acc - 1, acc_counts="cells"))
 

@@ -145,7 +145,7 @@ class Folder(unittest.TestCase):
             "hashes": {path: hashlib.sha256(Path(path).read_bytes()).hexdigest() for path in paths.values()},
             "options": {
                 "ends": True, "complete_rim": False, "flatten": False, "inland": True, "acc_counts": "auto",
-                "sinks": None,
+                "sinks": None, "cell_area": None, "allow_drivers": None,
             },
         }  # fmt: skip
         for key, value in expected.items():
