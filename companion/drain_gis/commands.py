@@ -76,9 +76,9 @@ def run_import(arguments: argparse.Namespace) -> int:
         AccCounts(arguments.acc_counts), arguments.sinks and os.path.abspath(arguments.sinks), arguments.cell_area,
         arguments.allow_drivers,
     )  # fmt: skip
-    out = Path(arguments.out)
+    out, drivers = Path(arguments.out), drivers_of(arguments.allow_drivers)
     facts = import_rasters(
-        open_rasters(paths, arguments.dem, nodata, drivers_of(arguments.allow_drivers)), out, arguments.tool or "drain", options,
+        open_rasters(paths, arguments.dem, nodata, drivers), out, arguments.tool or "drain", options,
         find_program=lambda: Drain(arguments.drain), overwrite=arguments.overwrite,
         print_line=(lambda text: None) if arguments.quiet else say, progress=Progress(),
     )  # fmt: skip

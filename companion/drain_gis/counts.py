@@ -171,9 +171,9 @@ def cells_of(sizes: np.ndarray, per: float) -> tuple[np.ndarray, np.ndarray, np.
 def no_count(number: int | float, row: int, col: int) -> str:
     """The refusal of a number."""
     return (
-        f"acc: {number_text(number)} at row {row}, column {col} is no count. Directions into several cells (D-infinity, MFD), "
-        "weights and unequal areas can't be judged: have the tool count cells along one direction (SAGA -METHOD 0, "
-        "r.watershed -s, Whitebox --out_type=cells)"
+        f"acc: {number_text(number)} at row {row}, column {col} is no count. Directions into several cells "
+        "(D-infinity, MFD), weights and unequal areas can't be judged: have the tool count cells along one direction "
+        "(SAGA -METHOD 0, r.watershed -s, Whitebox --out_type=cells)"
     )
 
 

@@ -1,5 +1,7 @@
 """The import of bas: labels of basins, from 1. Whole numbers go through no floating-point ones."""
 
+import math
+
 import numpy as np
 
 from .errors import CannotImport
@@ -20,7 +22,7 @@ def import_labels(job: Job) -> None:
     """Writes bas, and reports what was done."""
     least = least_label(job)
     if least is not None and least < 1:
-        job.shift = 1 - int(np.floor(least))
+        job.shift = 1 - math.floor(least)
         job.note(f"bas: labels begin at {number_text(least)}, so {job.shift} is added to each (0 means no data)")
     misplaced = Misplaced()
     with ProductWriter(job.folder, job.frame, "bas") as product:
@@ -56,8 +58,7 @@ def import_window(job: Job, misplaced: Misplaced, top: int, rows: int) -> np.nda
     bad |= ~none & ((labels < 1) | (labels >= LABELS))
     if bad.any():
         row, col = np.argwhere(bad)[0]
-        raise CannotImport(
-            f"bas: {number_text(numbers[row, col].item())} at row {top + row}, column {col} is no label that 32 bits hold"
-        )
+        text = number_text(numbers[row, col].item())
+        raise CannotImport(f"bas: {text} at row {top + row}, column {col} is no label that 32 bits hold")
     misplaced.add(numbers, none, void)
     return np.where(none, 0, labels).astype(np.uint32)

@@ -111,6 +111,14 @@ def check_same_system(dem: Raster, other: Raster) -> None:
         raise CannotImport(text) from error
 
 
+def wkt_of(system: osr.SpatialReference | None) -> str:
+    """A coordinate system as WKT, of the later kind where the earlier one can't say it; empty if there is none."""
+    try:
+        return system.ExportToWkt() if system else ""
+    except RuntimeError:
+        return system.ExportToWkt(["FORMAT=WKT2_2018"])
+
+
 def check_north_up(raster: Raster) -> None:
     """Refuses a raster whose first row is the southernmost, or whose first column the easternmost: a mirrored one."""
     place = raster.place

@@ -13,12 +13,18 @@ from osgeo import gdal, gdal_array
 
 from .drivers import DRIVERS, open_dataset
 from .errors import CannotImport
-from .places import MOST_SHIFT, cells_between, check_place, check_same_system, moved_place, shift_in_pixels
+from .places import (
+    MOST_SHIFT, cells_between, check_place, check_same_system, moved_place, shift_in_pixels, wkt_of,
+)  # fmt: skip
 
 gdal.SetCacheMax(64 << 20)
 
 WINDOW_CELLS = 300_000
 """About how many cells a window has."""
+
+
+BLOCK_BYTES = 1 << 29
+"""The most bytes of a block of a file."""
 
 
 def windows(rows: int, cols: int) -> list[tuple[int, int]]:
@@ -86,8 +92,13 @@ class FileRaster(Raster):
             raise CannotImport(f"{name}: {path} has complex numbers")
         self.place = self.data.GetGeoTransform(can_return_null=True)
         check_place(self)
-        srs = self.data.GetSpatialRef()
-        self.srs = srs.ExportToWkt() if srs else ""
+        block = math.prod(self.band.GetBlockSize()) * self.dtype.itemsize
+        if block > BLOCK_BYTES:
+            raise CannotImport(
+                f"{name}: {path} has blocks of {block:,} bytes, which GDAL reads whole: write it in smaller ones "
+                "(gdal_translate -co TILED=YES)"
+            )
+        self.srs = wkt_of(self.data.GetSpatialRef())
         self.is_named = nodata is not None
         self.nodata = self.band.GetNoDataValue() if nodata is None else nodata
         if self.is_named:
@@ -127,7 +138,8 @@ def where_equal(numbers: np.ndarray, number: int | float) -> np.ndarray:
     """Where pixels have this number. Whole numbers are compared as such, at any size."""
     if not holds(numbers.dtype, number):
         return np.zeros(numbers.shape, bool)
-    return numbers == numbers.dtype.type(number if numbers.dtype.kind == "f" else int(number))
+    with np.errstate(over="ignore"):
+        return numbers == numbers.dtype.type(number if numbers.dtype.kind == "f" else int(number))
 
 
 def check_holds(name: str, dtype: np.dtype, nodata: int | float | None) -> None:
@@ -170,7 +182,7 @@ class ArrayRaster(Raster):
 
 
 class JoinedRaster(Raster):
-    """Files of elevations side by side, as HGT tiles, as one raster. Where two have a number, the later one's counts."""
+    """Files of elevations side by side, as HGT tiles, as one raster. Where they overlap, the later file counts."""
 
     def __init__(self, parts: Sequence[FileRaster]) -> None:
         first = parts[0]

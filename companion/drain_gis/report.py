@@ -72,7 +72,8 @@ def heading(verdict: Any, facts: Mapping[str, Any], source: str) -> str:
         f'<header class="{answer}"><p class="answer">{answer.capitalize()}</p>'
         f"<h1>{escape(source)}</h1><p>{escape(size)}. Report of {today}.</p></header>\n"
         f'<p class="plain">{escape(plain_words(verdict))}</p>\n'
-        f"<p>The line of <code>drain audit</code>:</p>\n<pre>{escape(verdict.line + getattr(verdict, 'taken', ''))}</pre>"
+        "<p>The line of <code>drain audit</code>:</p>\n"
+        f"<pre>{escape(verdict.line + getattr(verdict, 'taken', ''))}</pre>"
     )
 
 

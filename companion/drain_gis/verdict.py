@@ -126,9 +126,10 @@ def judge(folder: Path, program: Drain, parts: bool = True, progress: Progress |
     progress.step("drain audit", 0, 3)
     verdict = begin(program.audit(mosaic), facts)
     if verdict.accepted:
-        if verdict.counts["data"] != facts["data"]:
-            cells = verdict.counts["data"]
-            raise CannotImport(f"{folder}: drain audit judged {cells} cells with an elevation, the import wrote {facts['data']}")
+        cells, written = verdict.counts["data"], facts["data"]
+        if cells != written:
+            text = f"drain audit judged {cells} cells with an elevation, not the {written} that were imported"
+            raise CannotImport(f"{folder}: {text}")
         return verdict
     verdict.where = where_is(facts, verdict.row or 0, verdict.col or 0)
     progress.step("drain explain", 1, 3)

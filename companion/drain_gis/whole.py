@@ -67,7 +67,8 @@ def whole_heights(raster: Raster, top: int, rows: int, per: int) -> tuple[np.nda
 def write_whole(raster: Raster, path: str, per: int, progress: Progress) -> float:
     """Writes the heights. Returns the most that one moved."""
     options = ["COMPRESS=DEFLATE", "PREDICTOR=3", "BIGTIFF=IF_SAFER"]
-    image = gdal.GetDriverByName("GTiff").Create(os.fsencode(path), raster.cols, raster.rows, 1, gdal.GDT_Float32, options)
+    shape = (raster.cols, raster.rows)
+    image = gdal.GetDriverByName("GTiff").Create(os.fsencode(path), *shape, 1, gdal.GDT_Float32, options)
     if raster.place:
         image.SetGeoTransform(raster.place)
     image.SetProjection(raster.srs)

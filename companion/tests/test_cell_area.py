@@ -27,14 +27,16 @@ class CellArea(unittest.TestCase):
         """The arguments for a set with these counts."""
         found = []
         for name, a, kind in (
-            ("dem", self.world.z, "i2"), ("con", self.world.con, "i2"), ("dir", self.world.dir, "i2"), ("acc", acc, "f8")
+            ("dem", self.world.z, "i2"), ("con", self.world.con, "i2"), ("dir", self.world.dir, "i2"),
+            ("acc", acc, "f8"),
         ):  # fmt: skip
             a = np.where(self.world.void, -9999, a).astype(kind)
             found += [f"--{name}", worlds.write_tif(self.base / f"{name}.tif", a, -9999, place, epsg)]
         return found
 
     def judge(self, words: list[object], *more: object) -> Printed:
-        return run(main, "import", "--from", "esri", *words, *more, "--overwrite", "--quiet", "--judge", self.base / "o")
+        more = (*more, "--overwrite", "--quiet", "--judge", self.base / "o")
+        return run(main, "import", "--from", "esri", *words, *more)
 
     def flow(self, words: list[object], *more: object) -> Printed:
         return run(main, "flow", "--from", "esri", *words[4:], *more)
@@ -74,7 +76,7 @@ class CellArea(unittest.TestCase):
             for more in ((), ("--acc-counts", "area")):
                 for done in (self.judge(words, *more), self.flow(words, *more)):
                     self.assertEqual(done.status, 2, done.out)
-                    self.assertIn(f"a cell has the area 900. If that is what one cell counts for, name it (--cell-area", done.error)
+                    self.assertIn("a cell has the area 900. If that is what one cell counts for, name it", done.error)
             for done in (self.judge(words, "--cell-area", factor), self.flow(words, "--cell-area", factor)):
                 self.assertEqual(done.status, 0, done.out + done.error)
                 self.assertIn(f"; acc counts: {factor:g} a cell, by --cell-area", done.out)

@@ -39,10 +39,9 @@ class Files(unittest.TestCase):
 
     def write_set(self, base: Path, place: object = worlds.UTM, epsg: int | None = 32616) -> dict[str, str]:
         """Writes the set. Gives name to path."""
-        kinds = {"dem": ("z", "i2"), "con": ("con", "i2"), "dir": ("dir", "i2"), "acc": ("acc", "i4"), "bas": ("bas", "i4")}
         found = {}
-        for name, (field, kind) in kinds.items():
-            a = np.where(self.world.void, -9999, getattr(self.world, field)).astype(kind)
+        for name, kind in (("dem", "i2"), ("con", "i2"), ("dir", "i2"), ("acc", "i4"), ("bas", "i4")):
+            a = np.where(self.world.void, -9999, getattr(self.world, "z" if name == "dem" else name)).astype(kind)
             found[name] = worlds.write_tif(base / f"{name}.tif", a, -9999, place, epsg)
         return found
 
@@ -75,10 +74,20 @@ class Sizes(Files):
             self.assertLess(time.monotonic() - begun, 10)
             self.check_refused(run(main, *self.words(con=huge), *vrt, self.base / "out"), f"con has {rows} rows")
 
+    def test_a_block_that_fills_the_memory(self) -> None:
+        options = ["BLOCKYSIZE=28801", "SPARSE_OK=YES"]
+        create = gdal.GetDriverByName("GTiff").Create
+        image = create(str(self.base / "block.tif"), 28801, 28801, 1, gdal.GDT_Byte, options)
+        image = None
+        self.assertLess((self.base / "block.tif").stat().st_size, 10**6)
+        done = run(main, "surface", "--dem", self.base / "block.tif", "--con", self.base / "block.tif")
+        self.check_refused(done, "has blocks of 829,497,601 bytes")
+
     def test_tiles_that_lie_far_apart(self) -> None:
         z = np.zeros((5, 5), np.int16)
         far = (worlds.UTM[0] + 30 * 10**6, *worlds.UTM[1:])
-        parts = [worlds.write_tif(self.base / f"{n}.tif", z, None, place) for n, place in (("a", worlds.UTM), ("b", far))]
+        places = {"a": worlds.UTM, "b": far}
+        parts = [worlds.write_tif(self.base / f"{name}.tif", z, None, place) for name, place in places.items()]
         done = run(main, "import", "--dem", *parts, "--con", parts[0], self.base / "out")
         self.check_refused(done, "5 rows and 1000005 columns are more than")
 
@@ -179,7 +188,8 @@ class Names(Files):
         for name in ("dem", "con", "dir", "acc", "bas"):
             os.rename(self.base / f"{name}.tif", odd / f"{name}{ODD_NAME}")
         paths = {name: odd / f"{name}{ODD_NAME}" for name in ("dem", "con", "dir", "acc", "bas")}
-        (odd / "lakes").write_text("3 4\n")
+        row, col = np.argwhere((self.world.con > self.world.z) & ~self.world.void)[0]
+        (odd / "lakes").write_text(f"{row} {col}\n")
         for encoding in ("utf-8", "ascii", "latin-1"):
             for words, status in (((), 0), (("--acc-counts", "above"), 1)):
                 done = self.start(
@@ -212,7 +222,8 @@ class Names(Files):
         letters = self.base / "Höhen Ω.tif"
         os.rename(self.base / "dem.tif", letters)
         done = self.start(*self.words(dem=letters), "--judge", self.base / "out", PYTHONIOENCODING="ascii")
-        self.assertEqual((done.returncode, b"H\\xf6hen \\u03a9.tif" in done.stdout), (0, True), done.stdout + done.stderr)
+        self.assertEqual(done.returncode, 0, done.stdout + done.stderr)
+        self.assertIn(b"H\\xf6hen \\u03a9.tif", done.stdout)
 
 
 class Programs(Files):
@@ -270,7 +281,9 @@ class Programs(Files):
     def test_maps_that_are_no_map(self) -> None:
         facts = json.loads((self.base / "out/import.json").read_text())
         cells = (facts["down"] * (facts["side"] - 1) + 1) * (facts["across"] * (facts["side"] - 1) + 1)
-        for faults, text in ((b"", "a map of 0 bytes"), (b"\x0a" * (cells + 1), "a map of"), (b"\x07" * cells, "no rule")):
+        for faults, text in (
+            (b"", "a map of 0 bytes"), (b"\x0a" * (cells + 1), "a map of"), (b"\x07" * cells, "no rule")
+        ):  # fmt: skip
             self.check_failed(self.judge(self.REJECTED.encode(), self.PAGE.encode(), 1, faults), text)
         done = self.judge(self.REJECTED.encode(), self.PAGE.encode(), 1, b"\x0a" * cells)
         self.assertEqual((done.status, done.error), (1, ""), done.error)

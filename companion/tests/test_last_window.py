@@ -83,7 +83,8 @@ class LastWindow(unittest.TestCase):
             self.assertFalse((bas[:RIDGE] == least).any())
             verdict = self.audit(bas=bas)
             self.assertTrue(verdict, f"{least}: {verdict}")
-            self.assertIn(f"bas: labels begin at {least}, so {1 - least} is added to each (0 means no data)", verdict.notes)
+            text = f"bas: labels begin at {least}, so {1 - least} is added to each (0 means no data)"
+            self.assertIn(text, verdict.notes)
         for number in (1.5, 2.0**32):
             with self.assertRaisesRegex(drain_gis.CannotImport, f"at row {PIT[0]}, column {PIT[1]} is no label"):
                 self.audit(bas=with_cell(BAS.astype(np.float64), number))

@@ -10,6 +10,7 @@ from typing import Any
 import numpy as np
 import worlds
 from drain_gis.commands import main
+from drain_gis.program import Drain, Mosaic
 from printed import run
 
 # Member, and a value that no import writes. The first ones had other arguments given to the program.
@@ -56,14 +57,12 @@ WRONG = (
     ("place", [0, 0, 0, 0, 0, 0]),
     ("place", ["a", 1, 0, 0, 0, -1]),
     ("place", [0, 1, 0, 0, 0]),
-    ("place", [0, 1e400, 0, 0, 0, -1]),
     ("srs", "no WKT"),
     ("srs", None),
     ("unit", 7),
     ("unit", 0),
     ("offset", 0.5),
     ("data", -1),
-    ("data", 1),
     ("data", 10**6),
     ("per", 0),
     ("per", -1.0),
@@ -91,6 +90,7 @@ class PassedOn(unittest.TestCase):
         cls.base = Path(folder.name)
         cls.out = cls.base / "out"
         world = worlds.random_world(seed=6)
+        cls.cells = int((~world.void).sum())
         words = []
         for name, a, kind in (
             ("dem", world.z, "i2"), ("con", world.con, "i2"), ("dir", world.dir, "i2"), ("acc", world.acc, "i4"),
@@ -132,8 +132,8 @@ class PassedOn(unittest.TestCase):
         self.assertEqual(set(json.loads(self.text)) - {name for name, _ in WRONG}, set())
         for name, value in WRONG:
             answer = self.judge(lambda facts: facts.__setitem__(name, value))
-            where = "drain audit judged" if (name, value) == ("data", 1) else f"import.json: {name} "
-            self.check_refused(answer, where, (name, value))
+            self.check_refused(answer, "import.json: ", (name, value))
+            self.assertRegex(answer[2], f"import.json: ({name}|sources) ", (name, value))
 
     def test_options_are_looked_at(self) -> None:
         for name, value in (
@@ -146,6 +146,8 @@ class PassedOn(unittest.TestCase):
     def test_what_is_no_json_is_refused(self) -> None:
         for number in ("NaN", "Infinity", "-Infinity"):
             self.check_refused(self.judge_text(self.text.replace('"unit": 1,', f'"unit": {number},')), number, number)
+        large = self.text.replace("500000.0,", "1e400,")
+        self.check_refused(self.judge_text(large), "import.json: place ", large)
         twice = self.text.replace('"unit": 1,', '"unit": 1, "unit": 10,')
         self.check_refused(self.judge_text(twice), "a member twice", twice)
         self.check_refused(self.judge_text("[" * 10**5), "import.json", "deep")
@@ -164,11 +166,17 @@ class PassedOn(unittest.TestCase):
             (self.out / name).unlink()
             self.check_refused(answer, f"{name} is in the folder", name)
 
-    def test_the_report_says_nothing_of_a_set_that_was_refused(self) -> None:
-        self.judge(lambda facts: facts.__setitem__("tiles", ["--only", "con", *facts["tiles"]]))
-        self.judge(lambda facts: facts.__setitem__("data", 1))
+    def test_the_program_takes_no_tile_for_an_option(self) -> None:
+        program = self.base / "drain"
+        program.write_text('#!/bin/sh\necho "accepted data=1 raised=0 outlets=1 $*"\n')
+        program.chmod(0o755)
+        answer = Drain(str(program)).audit(Mosaic(self.base, 12, ["--only", "con"], "sinks.txt"))
+        self.assertRegex(answer.line, "audit --side 12 --products . --sinks sinks.txt -- --only con$")
+
+    def test_other_cells_than_those_that_were_imported(self) -> None:
         (self.out / "report.html").unlink(missing_ok=True)
-        self.judge(lambda facts: facts.__setitem__("data", 1))
+        answer = self.judge(lambda facts: facts.__setitem__("data", 1))
+        self.check_refused(answer, f"drain audit judged {self.cells} cells with an elevation, not the 1", 1)
         self.assertFalse((self.out / "report.html").exists())
 
 
