@@ -13,11 +13,14 @@ from .rasters import number_text
 from .units import EXACT
 from .ways import gets_water
 
-SLACK = {True: 2.0**-23, False: 2.0**-40}
-"""By which part of itself an area may differ from a whole number of cells: in single precision, and in others."""
+SLACK, SLACK_OF_SINGLE = 2.0**-40, 1e-6
+"""By which part of itself a sum of the tool may differ from a whole number of cells; the latter in single precision."""
 
-MOST_SLACK = 0.25
-"""The most that an area may differ from a whole number of cells by."""
+MOST_SLACK = 0.01
+"""The most cells that it may differ by: more is a fraction at any size."""
+
+DIGIT, MOST_OF_DIGIT = 2.0**-23, 0.25
+"""An area in single precision may also differ by its last digit, if that says which whole number of cells is meant."""
 
 SURE = 0.99
 """The share of cells without water that have to have one area, so that it is taken for that of a cell."""
@@ -37,7 +40,7 @@ class Found:
     """Numbers below 0."""
 
     near: int = 0
-    """Areas that are nearly whole numbers of cells."""
+    """Numbers that are nearly whole."""
 
     large: int = 0
     """Counts that single precision may have rounded."""
@@ -156,7 +159,7 @@ def import_window(job: Job, found: Found, top: int, rows: int) -> np.ndarray:
 def cells_of(sizes: np.ndarray, per: float) -> tuple[np.ndarray, np.ndarray, np.ndarray]:
     """How many times `per` each number is; where it is no whole number of times; and where it is one but nearly.
 
-    Whole numbers go through no floating-point ones. A number of cells has no fraction; an area may be rounded.
+    Whole numbers go through no floating-point ones.
     """
     if sizes.dtype.kind != "f" and per.is_integer():
         cells, rest = np.divmod(sizes, np.uint64(per))
@@ -164,7 +167,10 @@ def cells_of(sizes: np.ndarray, per: float) -> tuple[np.ndarray, np.ndarray, np.
     with np.errstate(over="ignore"):
         values = np.minimum(sizes.astype(np.float64) / per, COUNTS)
     whole = np.rint(values)
-    slack = np.minimum(SLACK[sizes.dtype == np.float32] * values, MOST_SLACK) if per != 1 else 0
+    is_single = sizes.dtype == np.float32
+    slack = np.minimum((SLACK_OF_SINGLE if is_single else SLACK) * values, MOST_SLACK)
+    if is_single and per != 1:
+        slack = np.maximum(slack, np.minimum(DIGIT * values, MOST_OF_DIGIT))
     return whole.astype(np.uint64), np.abs(whole - values) > slack, whole != values
 
 
@@ -182,7 +188,7 @@ def report(job: Job, found: Found) -> None:
     if found.signs:
         job.note(f"acc: {found.signs} numbers are below 0 (may get water from outside): their sign is dropped")
     if found.near:
-        job.note(f"acc: {found.near} areas are whole numbers of cells but for their last digits, and are rounded")
+        job.note(f"acc: {found.near} numbers are whole but for a millionth of themselves, and are rounded")
     if found.large:
         job.note(
             f"acc: {found.large} numbers are {SINGLE:,} or more in single precision, which doesn't hold all whole "

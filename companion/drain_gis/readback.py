@@ -47,12 +47,10 @@ def are_directions(have: np.ndarray, numbers: np.ndarray, facts: Mapping[str, An
 
 
 def are_counts(have: np.ndarray, numbers: np.ndarray, facts: Mapping[str, Any]) -> np.ndarray:
-    """Where counts of the folder are those of the source; areas that are no whole number of cells have the nearest."""
-    cells = have.astype(np.int64) - facts["plus"]
-    if facts["per"] == 1:
-        return (cells == numbers) | (facts["drop_sign"] & (cells == -numbers))
-    sizes = np.abs(numbers.astype(np.float64)) if facts["drop_sign"] else numbers.astype(np.float64)
-    return np.abs(cells * facts["per"] - sizes) <= facts["per"] / 4
+    """Where counts of the folder are those of the source: the nearest to what a tool's sums or areas say."""
+    sizes = (have.astype(np.int64) - facts["plus"]) * facts["per"]
+    numbers = np.abs(numbers.astype(np.float64)) if facts["drop_sign"] else numbers.astype(np.float64)
+    return np.abs(sizes - numbers) <= facts["per"] / (4 if facts["per"] != 1 else 64)
 
 
 def are_labels(have: np.ndarray, numbers: np.ndarray, facts: Mapping[str, Any]) -> np.ndarray:

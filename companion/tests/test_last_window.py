@@ -63,9 +63,10 @@ class LastWindow(unittest.TestCase):
         self.assertEqual((int(high.sum()), np.argwhere(low).tolist()), (0, [list(PIT)]))
 
     def test_the_unit_of_dem(self) -> None:
-        for height, unit in ((Z[PIT] - 0.5, 10), (Z[PIT] - 0.25, 100), (Z[PIT] - 0.125, 1000)):
+        low = Z // 10  # so that 16 bits hold thousandths
+        for height, unit in ((5.5, 10), (5.25, 100), (5.125, 1000)):
             for kind in (np.float32, np.float64):
-                found = units.find_heights(ArrayRaster("dem", with_cell(Z.astype(kind), height)))
+                found = units.find_heights(ArrayRaster("dem", with_cell(low.astype(kind), height)))
                 self.assertEqual(found.unit, unit)
         with self.assertRaisesRegex(drain_gis.CannotImport, f"at row {PIT[0]}, column {PIT[1]} isn't whole"):
             self.audit(dem=with_cell(Z.astype(np.float64), np.pi))

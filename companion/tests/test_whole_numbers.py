@@ -88,10 +88,10 @@ class Counts(unittest.TestCase):
         audit(acc=acc, **options)
 
     def test_a_fraction_is_no_count_at_any_size(self) -> None:
-        for number in (3.5, 3.000001, 500_000.5, 600_000.25, 2.0**31 + 0.5, 2.0**31 + 2.0**-20):
+        for number in (3.5, 3.000001, 500_000.5, 600_000.25, 600_000.0001, 2.0**31 + 0.5, 2.0**31 + 0.02):
             with self.assertRaisesRegex(CannotImport, "column 0 is no count"):
                 self.audit_first(number, np.float64)
-        for number in (3.25, 500_000.5, 700_000.25):
+        for number in (3.25, 3.00001, 20_000.03125, 500_000.5, 500_000.03125, 700_000.25):
             with self.assertRaisesRegex(CannotImport, "column 0 is no count"):
                 self.audit_first(number, np.float32)
 
@@ -105,6 +105,16 @@ class Counts(unittest.TestCase):
         for number in (2701, 900 * 600_000 + 450, 900 * 2**40 + 1):
             with self.assertRaisesRegex(CannotImport, f"acc: {number} at row 0, column 0 is no count"):
                 self.audit_first(number, np.int64, times=900, cell_area=900)
+
+    def test_the_last_digits_of_a_sum_are_none(self) -> None:
+        """As of r.terraflow, which adds up in single precision."""
+        for cells, ulps in ((3, 2), (6, -2), (1000, 3), (30_000, 2)):
+            number = np.float32(cells) + ulps * np.spacing(np.float32(cells))
+            acc = ACC.astype(np.float32)
+            acc[0, 0] = number
+            verdict = audit(acc=acc)
+            self.assertIn("acc: 1 numbers are whole but for a millionth", " ".join(verdict.notes))
+            self.assertEqual(verdict.accepted, cells == 3, cells)
 
     def test_numbers_that_are_no_32_bits(self) -> None:
         for number in (-1, -(2**63), 2**32, BIG + 1, 2**63 - 1):
