@@ -85,16 +85,27 @@ class ProductWriter:
         self.file.close()
 
 
+def numbers_in(path: Path, kind: np.dtype, first: int, count: int) -> np.ndarray:
+    """Numbers of a raster, from the one at `first` on."""
+    with open(path, "rb") as file:
+        file.seek(first * kind.itemsize)
+        numbers = np.fromfile(file, kind, count)
+    if numbers.size < count:
+        raise OSError(f"{path} is too short")
+    return numbers
+
+
 def read_product(folder: Path, frame: Frame, product: str, top: int, rows: int) -> np.ndarray:
     """Some rows of a product in a folder: the raster's own cells only."""
     kind, width = PIXELS[product].kind, frame.all_cols
-    with open(folder / f"{product}.bil", "rb") as file:
-        file.seek(top * width * kind.itemsize)
-        return np.fromfile(file, kind, rows * width).reshape(rows, width)[:, : frame.cols]
+    numbers = numbers_in(folder / f"{product}.bil", kind, top * width, rows * width)
+    return numbers.reshape(rows, width)[:, : frame.cols]
 
 
 def map_product(folder: Path, frame: Frame, product: str) -> np.ndarray:
     """The whole of a product, mapped into memory: the raster's own cells only."""
-    shape = (frame.all_rows, frame.all_cols)
-    whole = np.memmap(folder / f"{product}.bil", PIXELS[product].kind, "r", shape=shape)
+    path, kind, shape = folder / f"{product}.bil", PIXELS[product].kind, (frame.all_rows, frame.all_cols)
+    if path.stat().st_size < shape[0] * shape[1] * kind.itemsize:
+        raise OSError(f"{path} is too short")
+    whole = np.memmap(path, kind, "r", shape=shape)
     return whole[: frame.rows, : frame.cols]

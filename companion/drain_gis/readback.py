@@ -14,7 +14,7 @@ import numpy as np
 
 from .frame import Frame, frame_in
 from .presets import TOOLS
-from .products import PIXELS, header, read_product
+from .products import PIXELS, header, numbers_in, read_product
 from .progress import Progress
 from .rasters import Raster, windows
 from .tiles import read_tiles
@@ -100,12 +100,12 @@ def differing_cells(
 def padding_faults(folder: Path, frame: Frame, product: str) -> Iterator[str]:
     """A text if a cell outside the raster has a number, or if the file is longer than the mosaic."""
     pixels = PIXELS[product]
-    with open(folder / f"{product}.bil", "rb") as file:
-        for top, rows in windows(frame.all_rows, frame.all_cols):
-            numbers = np.fromfile(file, pixels.kind, rows * frame.all_cols).reshape(rows, frame.all_cols)
-            below = max(0, frame.rows - top)
-            if (numbers[:, frame.cols :] != pixels.nodata).any() or (numbers[below:] != pixels.nodata).any():
-                yield f"{product}: a cell outside the raster has a number"
-                return
-        if file.read(1):
-            yield f"{product}: bytes after the last row"
+    path, width = folder / f"{product}.bil", frame.all_cols
+    for top, rows in windows(frame.all_rows, width):
+        numbers = numbers_in(path, pixels.kind, top * width, rows * width).reshape(rows, width)
+        below = max(0, frame.rows - top)
+        if (numbers[:, frame.cols :] != pixels.nodata).any() or (numbers[below:] != pixels.nodata).any():
+            yield f"{product}: a cell outside the raster has a number"
+            return
+    if path.stat().st_size > frame.all_rows * width * pixels.kind.itemsize:
+        yield f"{product}: bytes after the last row"

@@ -7,6 +7,7 @@ from types import TracebackType
 import numpy as np
 
 from .frame import Frame
+from .products import numbers_in
 from .units import VOID
 
 SAMPLE = np.dtype(">i2")
@@ -62,8 +63,7 @@ def read_tiles(folder: Path, frame: Frame, top: int = 0, rows: int | None = None
         first, last = max(top, i * steps), min(top + rows, i * steps + side)
         if first >= last:
             continue
-        with open(folder / FOLDER / name, "rb") as tile:
-            tile.seek(SAMPLE.itemsize * (first - i * steps) * side)
-            part = np.fromfile(tile, SAMPLE, (last - first) * side).reshape(-1, side)
+        part = numbers_in(folder / FOLDER / name, SAMPLE, (first - i * steps) * side, (last - first) * side)
+        part = part.reshape(-1, side)
         heights[first - top : last - top, j * steps : j * steps + side] = part
     return heights[:, : frame.cols]

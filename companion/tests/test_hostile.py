@@ -278,6 +278,15 @@ class Programs(Files):
         ):  # fmt: skip
             self.check_failed(self.judge(self.REJECTED.encode(), page.encode("latin-1")), "drain explain: ")
 
+    def test_products_that_are_too_short(self) -> None:
+        program = self.base / "short"
+        for made, text in (("", "con.hdr"), ("touch made/con.hdr made/con.bil", "con.bil is too short")):
+            program.write_text(f"#!/bin/sh\n{made}\nexit 0\n")
+            program.chmod(0o755)
+            words = ["import", "--from", "esri", "--dem", self.base / "dem.tif", "--dir", self.base / "dir.tif"]
+            self.check_failed(run(main, *words, "--drain", program, self.base / "new"), text)
+            self.assertFalse((self.base / "new").exists())
+
     def test_maps_that_are_no_map(self) -> None:
         facts = json.loads((self.base / "out/import.json").read_text())
         cells = (facts["down"] * (facts["side"] - 1) + 1) * (facts["across"] * (facts["side"] - 1) + 1)

@@ -2,12 +2,10 @@
 
 import tempfile
 import unittest
-from pathlib import Path
 from unittest import mock
 
 import drain_gis
 import numpy as np
-import worlds
 from drain_gis import counts, importing, labels, units
 from drain_gis.commands import main
 from drain_gis.errors import CannotImport
@@ -54,8 +52,8 @@ class Labels(unittest.TestCase):
                 words += [f"--{name}", f"{base}/{name}.tif"]
             done = run(main, "import", *words, "--judge", f"{base}/out")
             self.assertEqual((done.status, "rejected rule=14 Label" in done.out), (1, True), done.out + done.error)
-            done = run(main, "import", *words, "--nodata", f"bas={-BIG - 4}", f"{base}/other")
-            self.assertIn("bas: no data at 1 cell", done.out, "the number for no data stays whole too")
+            done = run(main, "import", *words, "--nodata", f"bas={-BIG - 5}", f"{base}/other")
+            self.assertIn("bas: no data at 2 cells", done.out, "the number for no data stays whole too")
 
     def test_labels_that_32_bits_do_not_hold_are_refused(self) -> None:
         for last in (2**32, BIG, 2**63 - 1):
@@ -102,7 +100,7 @@ class Counts(unittest.TestCase):
         for cells in (3.5, 500_000.5, 1_000_000.25):
             with self.assertRaisesRegex(CannotImport, "column 0 is no count"):
                 self.audit_first(cells * 900, np.float32, times=900, cell_area=900)
-        for number in (2701, 900 * 600_000 + 450, 900 * 2**40 + 1):
+        for number in (2701, 900 * 600_000 + 450, 900 * 2**31 + 1, 900 * 2**40 + 1):
             with self.assertRaisesRegex(CannotImport, f"acc: {number} at row 0, column 0 is no count"):
                 self.audit_first(number, np.int64, times=900, cell_area=900)
 
