@@ -76,13 +76,15 @@ class Sizes(Files):
             self.check_refused(run(main, *self.words(con=huge), *vrt, self.base / "out"), f"con has {rows} rows")
 
     def test_a_block_that_fills_the_memory(self) -> None:
-        """A TIFF of one strip, compressed by LZW, whose length is said to be 0."""
-        side, tags = 28801, b""
-        for tag, number in ((256, side), (257, side), (258, 8), (259, 5), (262, 1), (273, 0), (278, side), (279, 0)):
+        """A TIFF of one tile, compressed by LZW, that isn't in the file."""
+        side, tile, tags = 28801, 28816, b""
+        for tag, number in (
+            (256, side), (257, side), (258, 8), (259, 5), (262, 1), (322, tile), (323, tile), (324, 0), (325, 0)
+        ):  # fmt: skip
             tags += struct.pack("<HHII", tag, 4, 1, number)
         (self.base / "block.tif").write_bytes(struct.pack("<2sHIH", b"II", 42, 8, len(tags) // 12) + tags + bytes(4))
         done = run(main, "surface", "--dem", self.base / "block.tif", "--con", self.base / "block.tif")
-        self.check_refused(done, "has blocks of 829,497,601 bytes")
+        self.check_refused(done, "has blocks of 830,361,856 bytes")
 
     def test_tiles_that_lie_far_apart(self) -> None:
         z = np.zeros((5, 5), np.int16)
