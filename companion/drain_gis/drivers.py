@@ -43,7 +43,7 @@ def open_dataset(name: str, path: str, drivers: Sequence[str] = DRIVERS) -> gdal
         if found and found not in drivers:
             raise CannotImport(f"{name}: {path} is {refusal(found)}") from error
         raise CannotImport(f"{name}: {error}") from error
-    if overviews and drivers == DRIVERS:
+    if overviews:
         raise CannotImport(f"{name}: {path}.aux.xml names overviews in another file, {overviews}: remove it")
     return data
 

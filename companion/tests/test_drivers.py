@@ -93,8 +93,9 @@ class Drivers(unittest.TestCase):
             self.check_refused([run(main, "surface", "--dem", self.dem, "--con", self.con)], "dem.tif.msk")
             os.remove(self.base / "dem.tif.msk")
             (self.base / "dem.tif.aux.xml").write_text(OVERVIEW.format(path=address))
-            done = run(main, "import", "--dem", self.dem, "--con", self.con, self.base / "out")
-            self.check_refused([done], "names overviews in another file")
+            for more in ([], ["--allow-drivers", "HFA"]):
+                done = run(main, "import", "--dem", self.dem, "--con", self.con, *more, self.base / "out")
+                self.check_refused([done], "names overviews in another file")
             self.assertFalse(was_asked())
             gdal.Open(self.dem).GetFileList()
             self.assertTrue(was_asked(), "GDAL itself asks it")
