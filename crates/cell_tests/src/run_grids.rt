@@ -3,7 +3,7 @@
 ghost use Rattle.std.specs.Prelude.{◌≡◌, ◌<◌, IfOk};
 
 use drain_grid::{Cell, Elevation, OutOfMemory, Raster, Shape, VOID};
-use drain_paths::{CellFlows, CertifyRefusal, EndlessPath, steps_of};
+use drain_paths::{CellFlows, CertifyRefusal, EndlessPath, count_steps, flows_of_rasters};
 use drain_pixels::PixelRow;
 use std::alloc::Global;
 use std::test::Fail;
@@ -69,8 +69,9 @@ pub fn certified(
     codes: &[u8],
 ) -> Result<Result<Raster, Cell>, Fail> {
     let grid = grid_of(alloc, rows, cols, voids, codes)?;
-    match steps_of(alloc, &grid.elevation, &grid.dir) {
-        Ok(steps) => Ok(Ok(steps.raster(alloc)?)),
+    let flows = flows_of_rasters(alloc, &grid.elevation, &grid.dir)?;
+    match count_steps(alloc, &flows, grid.shape) {
+        Ok(steps) => Ok(Ok(Raster::of_counts(grid.shape, NONE, steps))),
         Err(CertifyRefusal::NoEnd(cell)) => Ok(Err(cell)),
         Err(CertifyRefusal::OutOfMemory) => Err(OutOfMemory.into()),
     }

@@ -4,7 +4,7 @@ use Rattle.drain_grid.specs.declared.cell.Cell.{Cell}
 use Rattle.drain_grid.specs.Grid.{Grid, Products, HasData}
 use Rattle.drain_grid.specs.Rasters.{Pixels}
 use Rattle.drain_grid.specs.Size.{Extent}
-use Rattle.drain_counts.specs.Basins.{ends_before}
+use Rattle.drain_paths.specs.Basins.{ends_before}
 use Rattle.drain_derive.specs.Derived.{AreDerived}
 use Rattle.drain_derive.specs.Laws.{DerivedByDirections}
 

@@ -14,8 +14,8 @@ use Rattle.drain_grid.specs.Slope.{slope_key}
 use Rattle.drain_grid.specs.Values.{NoDataNumbers}
 use Rattle.drain_grid.proofs.AllRules.{correct_from_rules}
 use Rattle.drain_grid.proofs.FromCorrect.{rules_from_correct}
-use Rattle.drain_counts.specs.Laws.{AreRouted}
-use Rattle.drain_counts.proofs.Completing.{routed_part, with_counts}
+use Rattle.drain_paths.specs.Laws.{AreRouted}
+use Rattle.drain_paths.proofs.Completing.{routed_part, with_counts}
 use Rattle.drain_derive.specs.Derived.{AreDerived}
 use Rattle.drain_derive.specs.Laws.{with_derived, AreDefaultBut, DerivedCompletes}
 

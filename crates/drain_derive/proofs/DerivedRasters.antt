@@ -1,34 +1,29 @@
 -- Rasters of counts, labels and steps that are right.
-use Rattle.std.proofs.Common.{◌≡◌, ◌∙◌, ℕ, zero, suc, pos, List, [], ◌∷◌, map, get_or, refl, sym, ap, rules}
+use Rattle.std.proofs.Common.{◌≡◌, ◌∙◌, ℕ, pos, List, map, sym, ap, rules}
 use Rattle.drain_grid.specs.declared.cell.Cell.{Cell}
 use Rattle.drain_grid.specs.declared.product.Product.{Product}
 use Rattle.drain_grid.specs.declared.product.Product.TheVariants.{Acc, Bas, Rnk}
-use Rattle.drain_grid.specs.Extent.{index_of}
 use Rattle.drain_grid.specs.Grid.{Grid, Products}
 use Rattle.drain_grid.specs.Product.{default_no_data}
 use Rattle.drain_grid.specs.Rasters.{Pixels}
 use Rattle.drain_grid.specs.Size.{Extent}
 use Rattle.drain_grid.specs.Whole.{number_at}
-use Rattle.drain_counts.specs.Basins.{AreBasinLabels}
-use Rattle.drain_counts.specs.CellNumbers.{cell_number}
-use Rattle.drain_counts.specs.Upstream.{AreUpstreamCounts}
-use Rattle.drain_counts.proofs.Completing.{upstream_some}
+use Rattle.drain_paths.specs.Basins.{AreBasinLabels}
+use Rattle.drain_paths.specs.CellNumbers.{cell_number}
+use Rattle.drain_paths.specs.Upstream.{AreUpstreamCounts}
+use Rattle.drain_paths.proofs.Completing.{upstream_some}
+use Rattle.drain_paths.proofs.RankLemmas.{number_at-raster}
 use Rattle.drain_derive.specs.Derived.{AreDerived}
-use Rattle.drain_derive.specs.RunSteps.{AreRunSteps}
+use Rattle.drain_paths.specs.RunSteps.{AreRunSteps}
 
 -- the raster of a product with these numbers
 abbrev pub counts_raster : Extent → Product → List ℕ → Pixels
 counts_raster e p numbers = record { extent = e; nodata = default_no_data p; numbers = map (λ n. pos n) numbers }
 
-pos_at : (xs : List ℕ) (k : ℕ) → get_or (map (λ n. pos n) xs) k (pos 0) ≡ pos (get_or xs k 0)
-pos_at [] k = refl
-pos_at (x ∷ xs) zero = refl
-pos_at (x ∷ xs) (suc k) = pos_at xs k
-
 -- a raster shows its numbers
-number_at-raster : (e : Extent) (p : Product) (numbers : List ℕ) (r : Pixels) → r ≡ counts_raster e p numbers → (c : Cell) →
+shown : (e : Extent) (p : Product) (numbers : List ℕ) (r : Pixels) → r ≡ counts_raster e p numbers → (c : Cell) →
     number_at r c ≡ pos (cell_number e numbers c)
-number_at-raster e p numbers r is c = ap (λ x. number_at x c) is ∙ pos_at numbers (index_of e c)
+shown e p numbers r is c = number_at-raster e numbers r (ap (λ (x : Pixels). x.extent) is) (ap (λ (x : Pixels). x.numbers) is) c
 
 pos-same : (a b : ℕ) → pos a ≡ pos b → a ≡ b
 pos-same a b h = search rules
@@ -37,9 +32,9 @@ pub AreDerived-rasters : (g : Grid) (ps : Products) (e : Extent) (counts labels 
     AreUpstreamCounts g ps e counts → AreBasinLabels g ps e labels → AreRunSteps g ps e steps →
     acc ≡ counts_raster e Acc counts → bas ≡ counts_raster e Bas labels → rnk ≡ counts_raster e Rnk steps → AreDerived g ps acc bas rnk
 AreDerived-rasters g ps e counts labels steps acc bas rnk are_counts are_labels are_steps acc_is bas_is rnk_is =
-    let acc_at = number_at-raster e Acc counts acc acc_is in
-    let bas_at = number_at-raster e Bas labels bas bas_is in
-    let rnk_at = number_at-raster e Rnk steps rnk rnk_is in
+    let acc_at = shown e Acc counts acc acc_is in
+    let bas_at = shown e Bas labels bas bas_is in
+    let rnk_at = shown e Rnk steps rnk rnk_is in
     let acc_no : acc.nodata ≡ default_no_data Acc = ap (λ (p : Pixels). p.nodata) acc_is in
     let bas_no : bas.nodata ≡ default_no_data Bas = ap (λ (p : Pixels). p.nodata) bas_is in
     let rnk_no : rnk.nodata ≡ default_no_data Rnk = ap (λ (p : Pixels). p.nodata) rnk_is in
@@ -57,7 +52,7 @@ AreDerived-rasters g ps e counts labels steps acc bas rnk are_counts are_labels 
         (λ same. (are_labels.shared a b at_a at_b).0 (pos-same (cell_number e labels a) (cell_number e labels b) (sym (bas_at a) ∙ (same ∙ bas_at b)))),
         (λ share. bas_at a ∙ (ap (λ n. pos n) ((are_labels.shared a b at_a at_b).1 share) ∙ sym (bas_at b))),
       );
-      steps = λ c here. rnk_at c ∙ ap (λ n. pos n) (are_steps.steps_are c here);
+      steps = λ c here. rnk_at c ∙ ap (λ n. pos n) (are_steps.numbers_are c here);
       void_acc = λ c inside void. acc_at c ∙ (ap (λ n. pos n) (are_counts.voids c inside void) ∙ sym acc_no);
       void_bas = λ c inside void. bas_at c ∙ (ap (λ n. pos n) (are_labels.voids c inside void) ∙ sym bas_no);
       void_rnk = λ c inside void. rnk_at c ∙ (ap (λ n. pos n) (are_steps.voids c inside void) ∙ sym rnk_no);

@@ -4,4 +4,3 @@ pub mod DerivedFileLemmas
 pub mod DerivedRasters
 pub mod ReadingLemmas
 pub mod Spelling
-pub mod StepLemmas

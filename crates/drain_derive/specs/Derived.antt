@@ -9,8 +9,8 @@ use Rattle.drain_grid.specs.Run.{run_end, upstream_count, ShareBasin}
 use Rattle.drain_grid.specs.Size.{Extent}
 use Rattle.drain_grid.specs.Whole.{number_at}
 use Rattle.drain_raster.specs.Bytes.{CanSpellAllIn}
-use Rattle.drain_counts.specs.Basins.{end_number}
-use Rattle.drain_counts.specs.OfFlows.{AllFlowsEnd}
+use Rattle.drain_paths.specs.Basins.{end_number}
+use Rattle.drain_paths.specs.OfFlows.{AllFlowsEnd}
 use Rattle.drain_derive.specs.declared.derived.Derived.{Derived}
 
 -- every run ends. At each data cell acc is the number of data cells that drain through it, bas the number of the outlet

@@ -9,7 +9,7 @@ use Rattle.drain_grid.specs.Rasters.{Pixels}
 use Rattle.drain_grid.specs.Rule.{IsAnyRule}
 use Rattle.drain_grid.specs.Values.{NoDataNumbers}
 use Rattle.drain_grid.specs.Whole.{number_at}
-use Rattle.drain_counts.specs.Laws.{AreRouted}
+use Rattle.drain_paths.specs.Laws.{AreRouted}
 use Rattle.drain_derive.specs.Derived.{AreDerived}
 
 -- these products with the numbers of these rasters

@@ -2,4 +2,3 @@ pub mod Derived
 pub mod DerivedFiles
 pub mod Laws
 pub mod Reading
-pub mod RunSteps

@@ -2,14 +2,12 @@
 
 ghost use Rattle.std.specs.Prelude.{◌≡◌, ◌*◌, length, IfOk, IfErr};
 ghost use Rattle.drain_paths.specs.Ranks.{IsRankRefusal};
-ghost use Rattle.drain_counts.specs.OfFlows.{OfFlows};
+ghost use Rattle.drain_paths.specs.OfFlows.{OfFlows};
 ghost use Rattle.drain_derive.specs.Derived.{AreDerived, AreCounts};
 
 use crate::rasters::raster_of;
-use crate::steps::count_steps;
-use drain_counts::{accumulate, label_basins};
 use drain_grid::{OutOfMemory, Product, Raster, Shape};
-use drain_paths::{CertifyRefusal, Flow};
+use drain_paths::{CertifyRefusal, Flow, accumulate, count_steps, label_basins};
 use std::alloc::Global;
 
 /// What follows from the directions of a grid.

@@ -4,11 +4,9 @@
 
 pub mod derived;
 pub mod derived_files;
-mod first_steps;
 pub mod laws;
 mod rasters;
 pub mod reading;
-mod steps;
 
 pub use derived::{Derived, derive_from_flows};
 pub use reading::{DeriveRefusal, derive};

@@ -34,10 +34,10 @@ use Rattle.drain_surface.specs.Laws.{ArePresent}
 use Rattle.drain_surface.proofs.Filling.{flood_is_filled}
 use Rattle.drain_surface.proofs.FlatRules.{flats_keep_rules}
 use Rattle.drain_surface.proofs.FlatsPresent.{flats_are_present}
-use Rattle.drain_counts.specs.declared.code_flows.TheConstants.{NO_CODE}
-use Rattle.drain_counts.specs.CodeFlows.{byte_flow, bytes_flows}
-use Rattle.drain_counts.specs.Laws.{AreCompleted, AreRouted}
-use Rattle.drain_counts.proofs.Completing.{correct_by_routing}
+use Rattle.drain_paths.specs.declared.code_flows.TheConstants.{NO_CODE}
+use Rattle.drain_paths.specs.CodeFlows.{byte_flow, bytes_flows}
+use Rattle.drain_paths.specs.Laws.{AreCompleted, AreRouted}
+use Rattle.drain_paths.proofs.Completing.{correct_by_routing}
 use Rattle.drain_maker.specs.Counting.{AreCountsAndLabels}
 use Rattle.drain_maker.specs.RoutedProducts.{listed, shown, RoutesEnd, RoutesKeepRules}
 

@@ -12,8 +12,8 @@ use Rattle.drain_grid.specs.WholeGrid.{grid_of}
 use Rattle.drain_paths.specs.declared.flow.Flow.{Flow}
 use Rattle.drain_paths.specs.Flows.{AreFlowsOf}
 use Rattle.drain_surface.specs.declared.level_queue.TheConstants.{MAX_CELLS}
-use Rattle.drain_counts.specs.CodeFlows.{bytes_flows}
-use Rattle.drain_counts.specs.OfFlows.{OfFlows}
+use Rattle.drain_paths.specs.CodeFlows.{bytes_flows}
+use Rattle.drain_paths.specs.OfFlows.{OfFlows}
 use Rattle.drain_maker.specs.Counting.{AreCountsAndLabels, SomeRunsEnd}
 use Rattle.drain_maker.specs.RoutedProducts.{shown, AreRightProducts}
 use Rattle.drain_maker.specs.Routes.{AreRoutes}

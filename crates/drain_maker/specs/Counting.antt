@@ -4,9 +4,9 @@ use Rattle.drain_grid.specs.Grid.{Grid, Products}
 use Rattle.drain_grid.specs.Size.{Extent}
 use Rattle.drain_paths.specs.declared.flow.Flow.{Flow}
 use Rattle.drain_paths.specs.Flows.{AreFlowsOf}
-use Rattle.drain_counts.specs.Basins.{AreBasinLabels}
-use Rattle.drain_counts.specs.OfFlows.{AllFlowsEnd}
-use Rattle.drain_counts.specs.Upstream.{AreUpstreamCounts}
+use Rattle.drain_paths.specs.Basins.{AreBasinLabels}
+use Rattle.drain_paths.specs.OfFlows.{AllFlowsEnd}
+use Rattle.drain_paths.specs.Upstream.{AreUpstreamCounts}
 
 -- both are right
 pub record AreCountsAndLabels (g : Grid) (ps : Products) (e : Extent) (counts labels : List ℕ) : Type 0 where

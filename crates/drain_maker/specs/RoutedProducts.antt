@@ -16,8 +16,8 @@ use Rattle.drain_paths.specs.Flows.{AreFlowsOf}
 use Rattle.drain_surface.specs.declared.level_queue.TheConstants.{MAX_CELLS}
 use Rattle.drain_surface.specs.Flats.{Laying, AreWaysOnFlats}
 use Rattle.drain_surface.specs.Floods.{Flooding, IsFlooded, con_at}
-use Rattle.drain_counts.specs.CodeFlows.{bytes_flows}
-use Rattle.drain_counts.specs.OfFlows.{AllFlowsEnd}
+use Rattle.drain_paths.specs.CodeFlows.{bytes_flows}
+use Rattle.drain_paths.specs.OfFlows.{AllFlowsEnd}
 use Rattle.drain_maker.specs.Counting.{AreCountsAndLabels}
 
 -- correct products, sound runs, and every rule of a check at every cell

@@ -1,16 +1,15 @@
 //! Counts and labels, where every run is known to end.
 
 ghost use Rattle.std.specs.Prelude.{◌≡◌, ◌*◌, length, vec_len, IfOk};
-ghost use Rattle.drain_counts.specs.Basins.{AreBasinLabels};
-ghost use Rattle.drain_counts.specs.CodeFlows.{bytes_flows};
-ghost use Rattle.drain_counts.specs.OfFlows.{OfFlows};
-ghost use Rattle.drain_counts.specs.Upstream.{AreUpstreamCounts};
+ghost use Rattle.drain_paths.specs.Basins.{AreBasinLabels};
+ghost use Rattle.drain_paths.specs.CodeFlows.{bytes_flows};
+ghost use Rattle.drain_paths.specs.OfFlows.{OfFlows};
+ghost use Rattle.drain_paths.specs.Upstream.{AreUpstreamCounts};
 ghost use Rattle.drain_maker.specs.Counting.{SomeRunsEnd, AreCountsAndLabels};
 
 use crate::follow::{Follow, Part};
-use drain_counts::{accumulate, flows_of_codes, label_code_basins};
 use drain_grid::{OutOfMemory, Shape};
-use drain_paths::CertifyRefusal;
+use drain_paths::{CertifyRefusal, accumulate, flows_of_codes, label_code_basins};
 use std::alloc::Global;
 
 /// The count and the label of each cell, in row order.

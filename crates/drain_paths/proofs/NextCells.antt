@@ -3,7 +3,7 @@ use Rattle.std.proofs.Common.{◌≡◌, ◌≢◌, ◌∙◌, inl, inr, ℤ, po
 use Rattle.std.proofs.lemmas.Bool.{false≢true}
 use Rattle.drain_grid.specs.declared.cell.Cell.{Cell}
 use Rattle.drain_grid.specs.declared.direction.Direction.{Direction}
-use Rattle.drain_grid.specs.Direction.{IsCode, directions, Names, names, named_direction, MeansCode}
+use Rattle.drain_grid.specs.Direction.{IsCode, directions, Names, names, named_direction}
 use Rattle.drain_grid.specs.Extent.{step}
 use Rattle.drain_grid.specs.Grid.{Grid, Products}
 use Rattle.drain_grid.specs.Run.{only_data, next}
@@ -51,13 +51,3 @@ next-void g ps c n d named there void =
     nothing : (z : Option ℤ) → IsNone z → (if is_some z then Some n else None) ≡ None
     nothing None h = refl
     nothing (Some z) h = absurd (false≢true (sym h))
-
--- a number that is no code leads nowhere, and isn't 0
-pub next-no_code : (g : Grid) (ps : Products) (c : Cell) (number : ℤ) → number ≡ ps.dir c → MeansCode number None →
-    (next g ps c ≡ None) × (ps.dir c ≢ pos 0)
-next-no_code g ps c number is no_code =
-    (next-unnamed g ps c (unnamed (named_direction (ps.dir c)) refl), λ is_zero. no_code.0 (is ∙ is_zero))
-  where
-    unnamed : (o : Option Direction) → named_direction (ps.dir c) ≡ o → named_direction (ps.dir c) ≡ None
-    unnamed None named = named
-    unnamed (Some d) named = absurd (no_code.1 d (is ∙ named_direction-names (ps.dir c) d named))

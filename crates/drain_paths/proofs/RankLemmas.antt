@@ -1,43 +1,35 @@
--- Numbers of steps that are all known, as a raster of ranks.
-use Rattle.std.proofs.Common.{◌≡◌, ◌*◌, ◌<◌, ◌∙◌, inl, inr, pos, map, refl, sym, ap, subst}
-use Rattle.std.proofs.lemmas.Bool.{cases_eq}
-use Rattle.std.proofs.lemmas.List.{get_or-map}
+-- Numbers of steps, as a raster of ranks.
+use Rattle.std.proofs.Common.{◌≡◌, ◌∙◌, ℕ, zero, suc, pos, List, [], ◌∷◌, map, get_or, refl, sym, ap}
 use Rattle.drain_grid.specs.declared.cell.Cell.{Cell}
-use Rattle.drain_grid.specs.Extent.{IsCellOf, index_of}
+use Rattle.drain_grid.specs.Extent.{index_of}
+use Rattle.drain_grid.specs.Grid.{Grid, Products}
 use Rattle.drain_grid.specs.Rasters.{Pixels}
+use Rattle.drain_grid.specs.Size.{Extent}
 use Rattle.drain_grid.specs.Whole.{number_at}
-use Rattle.drain_grid.specs.Grid.{Grid, Products, IsInside}
-use Rattle.drain_grid.proofs.Runs.{index_of-below}
-use Rattle.drain_grid.proofs.Options.{void_data}
 use Rattle.drain_paths.specs.declared.steps.TheConstants.{UNKNOWN}
-use Rattle.drain_paths.specs.Steps.{Numbers, AreNumbers, steps_at, AreRight, KnowsBefore}
+use Rattle.drain_paths.specs.CellNumbers.{cell_number}
 use Rattle.drain_paths.specs.Ranks.{AreRanks}
+use Rattle.drain_paths.specs.RunSteps.{AreRunSteps}
 
--- the raster of the numbers
-abbrev pub raster_of : Numbers → Pixels
-raster_of s = record { extent = s.extent; nodata = pos UNKNOWN; numbers = map pos s.items }
+pos_at : (xs : List ℕ) (k : ℕ) → get_or (map (λ n. pos n) xs) k (pos 0) ≡ pos (get_or xs k 0)
+pos_at [] k = refl
+pos_at (x ∷ xs) zero = refl
+pos_at (x ∷ xs) (suc k) = pos_at xs k
 
-number_at-raster : (s : Numbers) → AreNumbers s → (c : Cell) → IsCellOf s.extent c → number_at (raster_of s) c ≡ pos (steps_at s c)
-number_at-raster s counted c inside =
-    let below = index_of-below s.extent c inside in
-    get_or-map pos s.items (index_of s.extent c) UNKNOWN (pos 0) (subst (λ n. index_of s.extent c < n) (sym counted) below)
+-- a raster of numbers shows them
+pub number_at-raster : (e : Extent) (numbers : List ℕ) (r : Pixels) → r.extent ≡ e → r.numbers ≡ map (λ n. pos n) numbers → (c : Cell) →
+    number_at r c ≡ pos (cell_number e numbers c)
+number_at-raster e numbers r extent is c =
+    ap (λ (x : Extent). get_or r.numbers (index_of x c) (pos 0)) extent ∙ (ap (λ xs. get_or xs (index_of e c) (pos 0)) is ∙ pos_at numbers (index_of e c))
 
-ranks_of : (g : Grid) (ps : Products) (s : Numbers) → AreNumbers s → s.extent ≡ g.extent → AreRight g ps s →
-    KnowsBefore g s (g.extent.rows * g.extent.cols) → AreRanks g ps (raster_of s)
-ranks_of g ps s counted extent right known =
-    let in_s : (c : Cell) → IsInside g c → IsCellOf s.extent c = λ c inside. subst (λ e. IsCellOf e c) (sym extent) inside in
+pub AreRanks-steps : (g : Grid) (ps : Products) (e : Extent) (steps : List ℕ) (r : Pixels) → AreRunSteps g ps e steps →
+    r ≡ record { extent = e; nodata = pos UNKNOWN; numbers = map (λ n. pos n) steps } → AreRanks g ps r
+AreRanks-steps g ps e steps r are is =
+    let at = number_at-raster e steps r (ap (λ (p : Pixels). p.extent) is) (ap (λ (p : Pixels). p.numbers) is) in
     record {
-      extent = extent;
-      nodata = refl;
-      ends = λ c here. (right.right c here.inside (known.known c here (index_of-below g.extent c here.inside))).ended.ends;
-      steps = λ c here. number_at-raster s counted c (in_s c here.inside) ∙
-          ap pos (sym (right.right c here.inside (known.known c here (index_of-below g.extent c here.inside))).ended.steps);
-      voids = λ c inside void. number_at-raster s counted c (in_s c inside) ∙ ap pos (elim (cases_eq (steps_at s c) UNKNOWN) [
-        | inl none ↦ none
-        | inr some ↦ absurd (void_data (g.elevation c) void (right.right c inside some).here.is_data)
-      ]);
+      extent = ap (λ (p : Pixels). p.extent) is ∙ sym are.extent;
+      nodata = ap (λ (p : Pixels). p.nodata) is;
+      ends = are.ends;
+      steps = λ c here. at c ∙ ap pos (are.numbers_are c here);
+      voids = λ c inside void. at c ∙ ap pos (are.voids c inside void);
     }
-
-pub AreRanks-numbers : (g : Grid) (ps : Products) (s : Numbers) (r : Pixels) → r ≡ raster_of s → AreNumbers s → s.extent ≡ g.extent →
-    AreRight g ps s → KnowsBefore g s (g.extent.rows * g.extent.cols) → AreRanks g ps r
-AreRanks-numbers g ps s r is counted extent right known = subst (AreRanks g ps) (sym is) (ranks_of g ps s counted extent right known)

@@ -1,75 +1,80 @@
--- Numbers of steps that are put, one after the other: what was right stays right, and what was known stays known.
-use Rattle.std.proofs.Common.{◌≡◌, ◌≢◌, ℕ, ◌*◌, ◌≤◌, ◌⊎◌, ◌∙◌, inl, inr, sym, subst, arith}
+-- Numbers of steps, cell by cell: those of outlets, and that a run makes one more for each step before.
+use Rattle.std.proofs.Common.{◌≡◌, ◌≢◌, ◌∙◌, ℕ, ◌+◌, ◌*◌, ◌<◌, ◌≤◌, inl, inr, List, length, refl, sym, ap, subst, arith}
+use Rattle.std.proofs.lemmas.Bool.{cases_lt}
+use Rattle.std.proofs.lemmas.List.{get_or-map}
 use Rattle.drain_grid.specs.declared.cell.Cell.{Cell}
-use Rattle.drain_grid.specs.Extent.{IsCellOf}
-use Rattle.drain_grid.specs.Grid.{Grid, Products, IsInside, HasData}
+use Rattle.drain_grid.specs.Certificate.{run_steps}
+use Rattle.drain_grid.specs.Extent.{index_of}
+use Rattle.drain_grid.specs.Grid.{Grid, Products, IsInside}
+use Rattle.drain_grid.specs.Run.{RunEnds}
+use Rattle.drain_grid.specs.Size.{Extent}
+use Rattle.drain_grid.proofs.CellOrder.{in_grid}
+use Rattle.drain_grid.proofs.Runs.{index_of-below}
+use Rattle.drain_grid.proofs.Walks.{IsWalk, IsWalk-ends, IsWalk-too_long, EndsAfter-zero}
+use Rattle.drain_paths.specs.declared.flow.Flow.{Flow}
+use Rattle.drain_paths.specs.declared.flow.Flow.TheVariants.{Void, Lost, Ends, ToEast, ToSouthEast, ToSouth, ToSouthWest, ToWest, ToNorthWest, ToNorth, ToNorthEast}
 use Rattle.drain_paths.specs.declared.steps.TheConstants.{UNKNOWN}
-use Rattle.drain_paths.specs.Steps.{Numbers, steps_at, IsRightStep, AreRight, KnowsMore}
-use Rattle.drain_grid.specs.Certificate.{EndsAfter}
-use Rattle.drain_grid.proofs.Lowered.{same_or_not}
-use Rattle.drain_grid.proofs.Walks.{run_steps-le}
+use Rattle.drain_paths.specs.CellNumbers.{cell_number}
+use Rattle.drain_paths.specs.Flows.{flow_at, AreFlowsOf}
+use Rattle.drain_paths.specs.PathNumbers.{IsNumberBehind, AreNumbersSoFar}
+use Rattle.drain_paths.specs.RunSteps.{first_step, first_steps_of}
+use Rattle.drain_paths.proofs.FlowCells.{data_of_flow, zero_of_flow, flow_of_zero}
+use Rattle.drain_paths.proofs.Shorter.{RunEnds-walk, ended-fewer}
 
--- after is before with this number put at c
-pub record IsPut (g : Grid) (before after : Numbers) (c : Cell) (number : ℕ) : Type 0 where
-  pub there : steps_at after c ≡ number
-  pub elsewhere : (d : Cell) → IsInside g d → d ≢ c → steps_at after d ≡ steps_at before d
+-- only an end has a number at first, and that is 0
+known_first : (f : Flow) → first_step f ≢ UNKNOWN → (f ≡ Ends) × (first_step f ≡ 0)
+known_first Void known = absurd (known refl)
+known_first Lost known = absurd (known refl)
+known_first Ends known = (refl, refl)
+known_first ToEast known = absurd (known refl)
+known_first ToSouthEast known = absurd (known refl)
+known_first ToSouth known = absurd (known refl)
+known_first ToSouthWest known = absurd (known refl)
+known_first ToWest known = absurd (known refl)
+known_first ToNorthWest known = absurd (known refl)
+known_first ToNorth known = absurd (known refl)
+known_first ToNorthEast known = absurd (known refl)
 
--- the same in a grid of this size
-pub put_in : (g : Grid) (before after : Numbers) (c : Cell) (number : ℕ) → before.extent ≡ g.extent → steps_at after c ≡ number →
-    ((d : Cell) → IsCellOf before.extent d → d ≢ c → steps_at after d ≡ steps_at before d) → IsPut g before after c number
-put_in g before after c number same there elsewhere = record {
-  there = there;
-  elsewhere = λ d inside differ. elsewhere d (subst (λ e. IsCellOf e d) (sym same) inside) differ;
-}
+none_at_first : (n : ℕ) → n ≡ 0 → n ≢ UNKNOWN
+none_at_first n is none = absurd (omega (arith, is, none))
 
-pub AreRight-put : (g : Grid) (ps : Products) (before after : Numbers) (c : Cell) (number : ℕ) → IsPut g before after c number →
-    AreRight g ps before → IsRightStep g ps c number → AreRight g ps after
-AreRight-put g ps before after c number put right here = record {
-  right = λ d inside known. elim (same_or_not c d) [
-    | inl same ↦ subst (λ x. IsRightStep g ps x (steps_at after x)) same (subst (IsRightStep g ps c) (sym put.there) here)
-    | inr other ↦
-        (let kept = put.elsewhere d inside (λ same. other (sym same)) in
-        subst (IsRightStep g ps d) (sym kept) (right.right d inside (λ none. known (kept ∙ none))))
-  ];
-}
-
-pub KnowsMore-put : (g : Grid) (start before after : Numbers) (c : Cell) (number : ℕ) → IsPut g before after c number →
-    number ≢ UNKNOWN → KnowsMore g start before → KnowsMore g start after
-KnowsMore-put g start before after c number put is_number more = record {
-  kept = λ d inside known. elim (same_or_not c d) [
-    | inl same ↦ subst (λ x. steps_at after x ≢ UNKNOWN) same (λ none. is_number (sym put.there ∙ none))
-    | inr other ↦ (λ none. more.kept d inside known (sym (put.elsewhere d inside (λ same. other (sym same))) ∙ none))
-  ];
-}
-
-pub KnowsMore-same : (g : Grid) (s : Numbers) → KnowsMore g s s
-KnowsMore-same g s = record { kept = λ c inside known. known }
-
--- a number that is known is that of the run's steps
-pub known_ends : (g : Grid) (ps : Products) (s : Numbers) (c : Cell) (number : ℕ) → AreRight g ps s → HasData g c →
-    number ≡ steps_at s c → number ≢ UNKNOWN → EndsAfter g ps c number
-known_ends g ps s c number right here is is_number =
-    subst (EndsAfter g ps c) (sym is) (right.right c here.inside (λ none. is_number (is ∙ none))).ended
-
--- what is so when the number of a cell on the way from the start was put
-pub record Placed (g : Grid) (ps : Products) (first after : Numbers) (start : Cell) : Type 0 where
-  pub right : AreRight g ps after
-  pub more : KnowsMore g first after
-  pub start_known : steps_at after start ≢ UNKNOWN
-
-pub placed : (g : Grid) (ps : Products) (first before after : Numbers) (c start : Cell) (number : ℕ) →
-    IsPut g before after c number → AreRight g ps before → KnowsMore g first before → HasData g c → EndsAfter g ps c number →
-    (c ≡ start) ⊎ (steps_at before start ≢ UNKNOWN) → IsInside g start → g.extent.rows * g.extent.cols ≤ 829497601 →
-    Placed g ps first after start
-placed g ps first before after c start number put right more here ended at_start inside few =
-    let bound = run_steps-le g ps c in
-    let steps = ended.steps in
-    let is_number : number ≢ UNKNOWN = λ same. absurd (omega (arith, bound, steps, few, same)) in
+-- what is known before any walk
+pub AreNumbersSoFar-first : (g : Grid) (ps : Products) (e : Extent) (flows : List Flow) (steps : List ℕ) → AreFlowsOf g ps e flows →
+    length flows ≡ e.rows * e.cols → steps ≡ first_steps_of flows → AreNumbersSoFar g ps e UNKNOWN run_steps steps
+AreNumbersSoFar-first g ps e flows steps are counted is =
+    let number : (c : Cell) → IsInside g c → cell_number e steps c ≡ first_step (flow_at e flows c) = λ c inside.
+    (let below = index_of-below e c (in_grid g e c are.extent inside) in
+    ap (λ ns. cell_number e ns c) is ∙ get_or-map first_step flows (index_of e c) Void 0 (subst (λ n. index_of e c < n) (sym counted) below)) in
     record {
-      right = AreRight-put g ps before after c number put right (record { here = here; ended = ended });
-      more = KnowsMore-put g first before after c number put is_number more;
-      start_known = elim at_start [
-        | inl same ↦ subst (λ x. steps_at after x ≢ UNKNOWN) same (λ none. is_number (sym put.there ∙ none))
-        | inr known ↦ (KnowsMore-put g before before after c number put is_number (KnowsMore-same g before)).kept start inside known
-      ];
+      extent = are.extent;
+      right = λ c inside known.
+          (let first = known_first (flow_at e flows c) (λ none. known (number c inside ∙ none)) in
+          let here = data_of_flow g ps e flows are c inside (λ void. ends_no_void (sym first.0 ∙ void)) in
+          let ended = EndsAfter-zero g ps c (zero_of_flow g ps e flows are c here first.0) in
+          record { here = here; ends = ended.ends; is = number c inside ∙ (first.1 ∙ sym ended.steps) });
+      outlets = λ c here is_zero.
+          none_at_first (cell_number e steps c) (number c here.inside ∙ ap first_step (flow_of_zero g ps e flows are c here is_zero));
     }
+  where
+    ends_no_void : Ends ≡ Void → ⊥
+    ends_no_void h = cc
+
+-- a run makes as many steps more as lead to a cell further on
+run_steps-walk : (g : Grid) (ps : Products) (k : ℕ) (c d : Cell) → IsWalk g ps k c d → RunEnds g ps c → RunEnds g ps d → run_steps g ps c ≡ k + run_steps g ps d
+run_steps-walk g ps k c d walk ends there = elim (cases_lt (g.extent.rows * g.extent.cols) (k + run_steps g ps d)) [
+  | inl long ↦ absurd (IsWalk-too_long g ps k c d walk long ends)
+  | inr fits ↦ (IsWalk-ends g ps k c d (run_steps g ps d) walk (record { ends = there; steps = refl }) fits).steps
+]
+
+-- the number of steps of a run, from that of a cell further on
+pub steps_behind : (number steps sum : ℕ) → (number + steps ≤ UNKNOWN → sum ≡ number + steps) → IsNumberBehind UNKNOWN run_steps number steps sum
+steps_behind number steps sum is g ps c d few walk here there =
+    let ends = RunEnds-walk g ps steps c d walk there.ends in
+    let whole = run_steps-walk g ps steps c d walk ends there.ends in
+    let fewer = ended-fewer g ps c (record { here = here; ends = ends }) in
+    let there_is = there.is in
+    let sum_is = is (omega (arith, whole, fewer, few, there_is)) in
+    (below sum (omega (arith, whole, fewer, few, there_is, sum_is)), omega (arith, whole, there_is, sum_is))
+  where
+    below : (n : ℕ) → n < UNKNOWN → n ≢ UNKNOWN
+    below n less same = absurd (omega (arith, less, same))

@@ -5,7 +5,8 @@ ghost use Rattle.drain_grid.specs.Tile.{IsSample};
 ghost use Rattle.drain_grid.specs.Values.{IsPixel};
 ghost use Rattle.drain_paths.specs.Flows.{flows_of};
 
-use crate::flow::{Flow, flow_of, flow_table};
+use crate::code_flows::byte_table;
+use crate::flow::{Flow, flow_of};
 use drain_grid::OutOfMemory;
 use drain_pixels::{PixelNumbers, PixelRow, Pixels};
 use std::alloc::Global;
@@ -101,7 +102,7 @@ fn fill<N: PixelNumbers + Copy>(out: &mut [Flow], samples: &[i64], dir: &N)
     requires pixels { All IsPixel (N.numbers dir.now) }
     ensures { out.new ≡ flows_of samples.now (N.numbers dir.now) }
 {
-    let table = flow_table();
+    let table = byte_table();
     // A local copy: behind a reference its address would be loaded again at each column.
     let pixels = *dir;
     for k in 0..samples.len() {

@@ -1,8 +1,8 @@
 //! Which way a cell's code leads, in one byte.
 
-ghost use Rattle.std.specs.Prelude.{◌≡◌, ◌<◌, pos};
+ghost use Rattle.std.specs.Prelude.{◌≡◌, ◌<◌};
 ghost use Rattle.drain_grid.specs.Tile.{height_from};
-ghost use Rattle.drain_paths.specs.FlowTable.{IsFlowTable};
+ghost use Rattle.drain_paths.specs.CodeFlows.{IsByteTable, byte_flow};
 ghost use Rattle.drain_paths.specs.Flows.{cell_flow, code_flow, direction_of};
 
 use drain_grid::{Direction, VOID};
@@ -50,32 +50,15 @@ impl Flow {
 /// One byte: there are up to 829,497,601 of them.
 const _: () = prove!(size_of::<Flow>() == 1);
 
-/// The flows of data cells with the numbers from 0 to 129, each at its number's place.
-pub(crate) fn flow_table() -> [Flow; 130]
-    ensures { IsFlowTable result }
-{
-    let mut table = [Flow::Lost; 130];
-    table[0] = Flow::Ends;
-    table[1] = Flow::ToEast;
-    table[2] = Flow::ToSouthEast;
-    table[4] = Flow::ToSouth;
-    table[8] = Flow::ToSouthWest;
-    table[16] = Flow::ToWest;
-    table[32] = Flow::ToNorthWest;
-    table[64] = Flow::ToNorth;
-    table[128] = Flow::ToNorthEast;
-    table
-}
-
 /// The flow of a cell, from its sample (-32768 is a void) and its direction number, whatever that is. Which way a
 /// cell leads is unpredictable, so the flow is looked up in a table, without a branch.
 #[inline(always)]
-pub(crate) fn flow_of(table: &[Flow; 130], sample: i64, number: i64) -> Flow
-    requires { IsFlowTable table.now }
+pub(crate) fn flow_of(table: &[Flow; 256], sample: i64, number: i64) -> Flow
+    requires { IsByteTable table.now }
     ensures { result ≡ cell_flow (height_from sample) number }
 {
     // looked up at a void too, so that the test makes no jump either
-    let with_data = table[place_of(number)];
+    let with_data = flow_of_code(table, number);
     if sample == i64::from(VOID) {
         Flow::Void
     } else {
@@ -83,11 +66,20 @@ pub(crate) fn flow_of(table: &[Flow; 130], sample: i64, number: i64) -> Flow
     }
 }
 
+/// The flow of a data cell, from its direction number.
+#[inline(always)]
+pub(crate) fn flow_of_code(table: &[Flow; 256], number: i64) -> Flow
+    requires { IsByteTable table.now }
+    ensures { result ≡ code_flow number }
+{
+    table[place_of(number)]
+}
+
 /// The place in the table for a number: 129 is no code, as no number past it or below 0 is.
 #[inline(always)]
 fn place_of(number: i64) -> usize
     ensures place { result < 130 }
-    ensures flow { code_flow (pos result) ≡ code_flow number }
+    ensures flow { byte_flow result ≡ code_flow number }
 {
     if number < 0 || number > 128 {
         129

@@ -1,70 +1,58 @@
-//! How many steps the runs of a grid's cells make, as far as known.
+//! How many steps the run of each cell makes.
 
-ghost use Rattle.std.specs.Prelude.{◌≡◌, ◌≢◌, pos, map, All, IfOk};
-ghost use Rattle.drain_grid.specs.Values.{IsPixel};
-ghost use Rattle.drain_grid.specs.declared.cell.Cell.{Cell};
-ghost use Rattle.drain_grid.specs.Extent.{IsCellOf};
+ghost use Rattle.std.specs.Prelude.{◌≡◌, ◌*◌, length, vec_len, IfOk, IfErr};
+ghost use Rattle.drain_grid.specs.Certificate.{run_steps};
+ghost use Rattle.drain_paths.specs.Ranks.{IsRankRefusal};
+ghost use Rattle.drain_paths.specs.OfFlows.{OfFlows};
+ghost use Rattle.drain_paths.specs.RunSteps.{AreRunSteps};
 
-use drain_grid::{Cell, OutOfMemory, Raster, Shape};
-use std::alloc::{AllocError, Global};
-use std::marker::Model;
+use crate::first_steps::first_steps;
+use crate::flow::Flow;
+use crate::path_number::PathNumber;
+use crate::ranks::CertifyRefusal;
+use crate::walk::number_paths;
+use crate::ways::ListedFlows;
+use drain_grid::Shape;
+use std::alloc::Global;
 
 /// Marks a number that is not known. No run makes that many steps.
 pub const UNKNOWN: u32 = u32::MAX;
 
-/// A number for each cell, in row order: four bytes per cell.
-#[derive(Drop)]
-pub struct Steps {
-    shape: Shape,
-    numbers: Vec<u32>,
+/// The number of steps of each data cell's run, from the flows of all cells of a grid; `UNKNOWN` at voids.
+///
+/// Returns `NoEnd` with the first data cell in row order whose run doesn't reach a code 0, exactly if there is one, and
+/// `OutOfMemory` if memory runs out. Walks pass each cell at most twice. It takes four bytes per cell.
+pub fn count_steps(alloc: Global, flows: &[Flow], shape: Shape) -> Result<Vec<u32>, CertifyRefusal>
+    requires counted { length flows.now ≡ shape.rows * shape.cols }
+    ensures counted { IfOk result (λ steps. vec_len steps ≡ shape.rows * shape.cols) }
+    ensures steps { IfOk result (λ steps. OfFlows shape flows.now (λ g ps. AreRunSteps g ps shape steps.items)) }
+    ensures err { IfErr result (λ why. OfFlows shape flows.now (λ g ps. IsRankRefusal g ps why)) }
+{
+    let Ok(mut steps) = first_steps(alloc, flows) else {
+        return Err(CertifyRefusal::OutOfMemory);
+    };
+    let ways = ListedFlows { flows };
+    match number_paths::<RunSteps, ListedFlows>(&ways, shape, &mut steps) {
+        Some(cell) => Err(CertifyRefusal::NoEnd(cell)),
+        None => Ok(steps),
+    }
 }
 
-impl Model for Steps {
-    ghost use Rattle.drain_paths.specs.Steps.{Numbers, AreNumbers};
+/// A number of steps: one more for each step before.
+struct RunSteps;
 
-    ghost Value = { Numbers };
+impl PathNumber for RunSteps {
+    const UNKNOWN: u32 = UNKNOWN;
 
-    ghost view = { λ s. record { extent = s.shape; items = s.numbers.items } };
+    ghost use Rattle.drain_paths.specs.declared.steps.TheConstants as constant;
 
-    ghost invariant = { λ s. AreNumbers (record { extent = s.shape; items = s.numbers.items }) };
-}
+    ghost UNKNOWN = { constant.UNKNOWN };
 
-impl Steps {
-    ghost use Rattle.drain_paths.specs.Steps.{steps_at};
+    ghost number_of = { run_steps };
 
-    /// No number is known.
-    pub fn new(alloc: Global, shape: Shape) -> Result<Steps, OutOfMemory>
-        ensures shape { IfOk result (λ s. s.extent ≡ shape) }
-        ensures unknown { IfOk result (λ s. (c : Cell) → steps_at s c ≡ UNKNOWN) }
-    {
-        let numbers = vec![in alloc; UNKNOWN; shape.cells()]?;
-        Ok(Steps { shape, numbers })
-    }
-
-    /// The number at a cell.
-    pub fn at(&self, cell: Cell) -> u32
-        requires { IsCellOf self.now.extent cell }
-        ensures { result ≡ steps_at self.now cell }
-    {
-        self.numbers[self.shape.index(cell)]
-    }
-
-    /// Puts the number at a cell.
-    pub fn put(&mut self, cell: Cell, number: u32)
-        requires { IsCellOf self.old.extent cell }
-        ensures shape { self.new.extent ≡ self.old.extent }
-        ensures there { steps_at self.new cell ≡ number }
-        ensures elsewhere { (c : Cell) → IsCellOf self.old.extent c → c ≢ cell → steps_at self.new c ≡ steps_at self.old c }
-    {
-        let index = self.shape.index(cell);
-        self.numbers[index] = number;
-    }
-
-    /// The numbers as a raster; its no-data number is the one that means no number.
-    pub fn raster(&self, alloc: Global) -> Result<Raster, OutOfMemory>
-        ensures { IfOk result (λ r. r ≡ record { extent = self.now.extent; nodata = pos UNKNOWN; numbers = map pos self.now.items }) }
-    {
-        let numbers = self.numbers.clone()?;
-        Ok(Raster::of_counts(self.shape, i64::from(UNKNOWN), numbers))
+    #[inline(always)]
+    fn behind(number: u32, steps: usize) -> u32 {
+        // A run that ends makes fewer steps than there are cells: the sum fits.
+        number.saturating_add(steps as u32)
     }
 }

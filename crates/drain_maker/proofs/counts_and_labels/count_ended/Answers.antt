@@ -1,8 +1,8 @@
 use Rattle.std.proofs.Common.{◌≡◌, ◌∙◌, IfOk, sym, subst}
-use Rattle.drain_counts.specs.CodeFlows.{bytes_flows}
-use Rattle.drain_counts.specs.OfFlows.{OfFlows, AllFlowsEnd}
-use Rattle.drain_counts.specs.Upstream.{AreUpstreamCounts}
-use Rattle.drain_counts.proofs.SameRuns.{all_end}
+use Rattle.drain_paths.specs.CodeFlows.{bytes_flows}
+use Rattle.drain_paths.specs.OfFlows.{OfFlows, AllFlowsEnd}
+use Rattle.drain_paths.specs.Upstream.{AreUpstreamCounts}
+use Rattle.drain_paths.proofs.SameRuns.{all_end}
 use Rattle.drain_maker.proofs.counts_and_labels.count_ended.Goals as goal
 
 pub accumulate-requires-clause-ends : goal.accumulate-requires-clause-ends

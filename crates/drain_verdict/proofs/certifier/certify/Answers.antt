@@ -1,11 +1,34 @@
-use Rattle.std.proofs.Common.{rules}
+use Rattle.std.proofs.Common.{◌≡◌, ◌∙◌, ℤ, List, ap, map, of_z, pos, rules, subst, sym, to_z, w64}
+use Rattle.drain_grid.specs.Grid.{Grid, Products}
+use Rattle.drain_grid.specs.Size.{Extent}
+use Rattle.drain_paths.specs.declared.flow.Flow.{Flow}
+use Rattle.drain_paths.specs.declared.steps.TheConstants.{UNKNOWN}
+use Rattle.drain_paths.specs.Flows.{AreFlowsOf}
+use Rattle.drain_paths.specs.Ranks.{IsRankRefusal}
 use Rattle.drain_paths.specs.Ways.{ground_of, directions_of}
-use Rattle.drain_paths.specs.Steps.{AreNumbers}
-use Rattle.drain_paths.proofs.RankLemmas.{AreRanks-numbers}
+use Rattle.drain_paths.proofs.RankLemmas.{AreRanks-steps}
 use Rattle.drain_verdict.proofs.certifier.certify.Goals as goal
 
-pub returns-in-Ok-clause-ranks : goal.returns-in-Ok-clause-ranks
-returns-in-Ok-clause-ranks c =
-    let counted : AreNumbers c.in_ok-steps.steps = search rules in
-    AreRanks-numbers (ground_of c.args.elevation.now) (directions_of c.args.dir.now) c.in_ok-steps.steps c.in-Ok.ranks c.in-Ok.ensures
-    counted c.in_ok-steps.ensures.shape c.in_ok-steps.ensures.right c.in_ok-steps.ensures.known
+lent : (g : Grid) (ps : Products) (e shape : Extent) (flows seen : List Flow) → shape ≡ e → seen ≡ flows → AreFlowsOf g ps e flows → AreFlowsOf g ps shape seen
+lent g ps e shape flows seen same lent_are are =
+    subst (AreFlowsOf g ps shape) (sym lent_are) (subst (λ (x : Extent). AreFlowsOf g ps x flows) (sym same) are)
+
+pub returns-in_err-steps-clause-err : goal.returns-in_err-steps-clause-err
+returns-in_err-steps-clause-err c =
+    let g = ground_of c.args.elevation.now in
+    let ps = directions_of c.args.dir.now in
+    let why : IsRankRefusal g ps c.in_err-steps.field-0.0 = c.in_err-steps.ensures.err g ps
+    (lent g ps c.args.elevation.now.extent c.shape-shape.result c.in-Ok.flows.items c.deref.result.now c.shape-shape.ensures c.deref.ensures.value c.in-Ok.ensures.flows) in
+    search rules
+
+pub returns-clause-ranks : goal.returns-clause-ranks
+returns-clause-ranks c =
+    let g = ground_of c.args.elevation.now in
+    let ps = directions_of c.args.dir.now in
+    let e = c.shape-shape.result in
+    let steps = c.in_ok-steps.steps.items in
+    let are = c.in_ok-steps.ensures.steps g ps
+    (lent g ps c.args.elevation.now.extent e c.in-Ok.flows.items c.deref.result.now c.shape-shape.ensures c.deref.ensures.value c.in-Ok.ensures.flows) in
+    let nodata : to_z w64 (of_z w64 c.from.result) ≡ pos UNKNOWN = ap (λ (z : ℤ). to_z w64 (of_z w64 z)) c.from.ensures in
+    AreRanks-steps g ps e steps c.of_counts.result are
+    (c.of_counts.ensures ∙ ap (λ (n : ℤ). record { extent = e; nodata = n; numbers = map (λ x. pos x) steps }) nodata)

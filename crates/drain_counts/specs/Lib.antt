@@ -1,9 +1,0 @@
-pub mod Basins
-pub mod CellNumbers
-pub mod CodeFlows
-pub mod Inflows
-pub mod Laws
-pub mod OfFlows
-pub mod Passing
-pub mod Stepping
-pub mod Upstream

@@ -1,0 +1,200 @@
+-- How many cells flow into one, from three rows of flows; whole rows.
+use Rattle.std.proofs.Common.{◌≡◌, ◌≢◌, ◌∙◌, ℕ, ◌+◌, ◌-◌, ◌*◌, ◌<◌, ◌≤◌, ◌==◌, inl, inr, pos, List, [], ◌∷◌, Option, Some, None, slice_index, slice_index_or, if◌then◌else◌, refl, sym, ap, subst, arith}
+use Rattle.std.specs.List.{sum_by}
+use Rattle.std.proofs.lemmas.Bool.{cases_lt, eq-eqb, ne_eqb}
+use Rattle.std.proofs.lemmas.List.Sums.{sum_by-cons}
+use Rattle.drain_grid.specs.declared.cell.Cell.{Cell}
+use Rattle.drain_grid.specs.declared.direction.Direction.{Direction}
+use Rattle.drain_grid.specs.declared.direction.Direction.TheVariants.{East, SouthEast, South, SouthWest, West, NorthWest, North, NorthEast}
+use Rattle.drain_grid.specs.Direction.{code_of, cols_right, directions, opposite, rows_down}
+use Rattle.drain_grid.specs.Extent.{IsCellOf, index_of, step}
+use Rattle.drain_grid.specs.Grid.{Grid, Products, HasData}
+use Rattle.drain_grid.specs.Size.{Extent}
+use Rattle.drain_grid.proofs.Codes.{names_fact}
+use Rattle.drain_grid.proofs.HandedOn.{handed_on}
+use Rattle.drain_grid.proofs.Inflows.{FlowsFrom, HasData-flow}
+use Rattle.drain_grid.proofs.Neighbors.{step_gives, step_lies}
+use Rattle.drain_grid.proofs.Options.{none_some, some_or_none}
+use Rattle.drain_grid.proofs.ThreeRows.{row_beside, number_beside, number_in_row, three_rows, col_beside, at_ends, place_in_row, place_in_own_row}
+use Rattle.drain_grid.proofs.CellOrder.{before_row}
+use Rattle.drain_paths.specs.declared.flow.Flow.{Flow}
+use Rattle.drain_paths.specs.declared.flow.Flow.TheVariants.{Void, Lost, Ends, ToEast, ToSouthEast, ToSouth, ToSouthWest, ToWest, ToNorthWest, ToNorth, ToNorthEast}
+use Rattle.drain_paths.specs.Flows.{AreFlowsOf, code_flow, direction_of, flow_at, flow_to}
+use Rattle.drain_paths.specs.KnownFlows.{AreKnownFlows}
+use Rattle.drain_paths.proofs.KnownWays.{AreKnownFlows-grid}
+use Rattle.drain_paths.specs.CellNumbers.{cell_number}
+use Rattle.drain_paths.specs.Inflows.{AreFlowLanes, AreInflows, IsInflowOf, inflow_at, lane_of, one_if}
+use Rattle.drain_paths.proofs.FlowCells.{with_height}
+use Rattle.drain_paths.proofs.PassedSums.{passed_most, passed_sum}
+
+-- few enough that a byte has room for one more
+pub inflows_few : (g : Grid) (ps : Products) (e : Extent) (waits : List ℕ) (c : Cell) → IsInflowOf g ps e waits c → HasData g c →
+    cell_number e waits c ≤ 8
+inflows_few g ps e waits c is here =
+    let most = passed_most g ps c (λ m. 1) (λ m. omega arith) in
+    omega (arith, most, is here)
+
+-- the direction of a flow's number
+abbrev direction_in : List (Option Direction) → ℕ → Option Direction
+direction_in [] n = None
+direction_in (o ∷ os) n = if n == 0 then o else direction_in os (n - 1)
+
+abbrev direction_at : ℕ → Option Direction
+direction_at = direction_in (None ∷ None ∷ None ∷ Some East ∷ Some SouthEast ∷ Some South ∷ Some SouthWest ∷ Some West ∷ Some NorthWest ∷ Some North ∷ Some NorthEast ∷ [])
+
+direction_is : (f : Flow) → direction_at (lane_of f) ≡ direction_of f
+direction_is Void = refl
+direction_is Lost = refl
+direction_is Ends = refl
+direction_is ToEast = refl
+direction_is ToSouthEast = refl
+direction_is ToSouth = refl
+direction_is ToSouthWest = refl
+direction_is ToWest = refl
+direction_is ToNorthWest = refl
+direction_is ToNorth = refl
+direction_is ToNorthEast = refl
+
+direction_to : (d : Direction) → direction_of (flow_to d) ≡ Some d
+direction_to East = refl
+direction_to SouthEast = refl
+direction_to South = refl
+direction_to SouthWest = refl
+direction_to West = refl
+direction_to NorthWest = refl
+direction_to North = refl
+direction_to NorthEast = refl
+
+-- so a number names one direction
+leads_by_lane : (f : Flow) (d : Direction) → lane_of f ≡ lane_of (flow_to d) → direction_of f ≡ Some d
+leads_by_lane f d same = sym (direction_is f) ∙ (ap direction_at same ∙ (direction_is (flow_to d) ∙ direction_to d))
+
+no_void : (f : Flow) (d : Direction) → direction_of f ≡ Some d → f ≢ Void
+no_void f d leads void = none_some d (sym (ap direction_of void) ∙ leads)
+
+lane_some : (d : Direction) → lane_of (flow_to d) ≡ 0 → ⊥
+lane_some d none = none_some d (sym (ap direction_at none) ∙ (direction_is (flow_to d) ∙ direction_to d))
+
+flow_named : (d : Direction) → code_flow (pos (code_of d)) ≡ flow_to d
+flow_named East = refl
+flow_named SouthEast = refl
+flow_named South = refl
+flow_named SouthWest = refl
+flow_named West = refl
+flow_named NorthWest = refl
+flow_named North = refl
+flow_named NorthEast = refl
+
+one_same : (x : ℕ) (f : Flow) → x ≡ lane_of f → one_if x f ≡ 1
+one_same x f same = ap (λ b. if b then 1 else 0) (eq-eqb x (lane_of f) same)
+
+one_other : (x : ℕ) (f : Flow) → (x ≡ lane_of f → ⊥) → one_if x f ≡ 0
+one_other x f other = ap (λ b. if b then 1 else 0) (ne_eqb x (lane_of f) other)
+
+sum_of_eight : (n : Direction → ℕ) → sum_by n directions ≡ (n East + n SouthEast + n South + n SouthWest) + (n West + n NorthWest + n North + n NorthEast)
+sum_of_eight n = omega (
+  arith,
+  sum_by-cons n East (SouthEast ∷ South ∷ SouthWest ∷ West ∷ NorthWest ∷ North ∷ NorthEast ∷ []),
+  sum_by-cons n SouthEast (South ∷ SouthWest ∷ West ∷ NorthWest ∷ North ∷ NorthEast ∷ []),
+  sum_by-cons n South (SouthWest ∷ West ∷ NorthWest ∷ North ∷ NorthEast ∷ []),
+  sum_by-cons n SouthWest (West ∷ NorthWest ∷ North ∷ NorthEast ∷ []),
+  sum_by-cons n West (NorthWest ∷ North ∷ NorthEast ∷ []),
+  sum_by-cons n NorthWest (North ∷ NorthEast ∷ []),
+  sum_by-cons n North (NorthEast ∷ []),
+  sum_by-cons n NorthEast [],
+)
+
+module _ (g : Grid) (ps : Products) (e : Extent) (flows : List Flow) (are : AreFlowsOf g ps e flows) (c : Cell) (inside : IsCellOf e c) (a h b : List ℕ)
+    (rows : (d : Direction) → AreFlowLanes e flows (c.row + rows_down d) (row_beside a h b d)) where
+  abbrev lane_at : Direction → ℕ
+  lane_at d = number_beside a h b c.col d
+
+  abbrev one_from : Direction → ℕ
+  one_from d = one_if (lane_at d) (flow_to (opposite d))
+
+  known : AreKnownFlows g ps e flows
+  known = AreKnownFlows-grid g ps e flows are
+
+  lane_there : (d : Direction) (m : Cell) → step e c d ≡ Some m → lane_at d ≡ lane_of (flow_at e flows m)
+  lane_there d m there =
+      let lies = step_lies e c m d there in
+      number_in_row a h b c.col d ∙ (ap (slice_index (row_beside a h b d)) (sym lies.1.1) ∙ (rows d).flows_are m lies.0 lies.1.0)
+
+  lane_none : (d : Direction) → step e c d ≡ None → lane_at d ≡ 0
+  lane_none d none =
+      number_in_row a h b c.col d ∙
+      (rows d).voids (c.col + cols_right d) (col_beside c.col e.cols d inside.col)
+      (λ n in_n row col. none_some n (sym none ∙ step_gives e c n d in_n (row, col)))
+
+  in_extent : (d : Direction) → step g.extent c d ≡ step e c d
+  in_extent d = ap (λ (x : Extent). step x c d) are.extent
+
+  -- a neighbour that flows in counts 1
+  one_flows : (d : Direction) (m : Cell) → FlowsFrom g ps c d m → one_from d ≡ 1
+  one_flows d m from_m =
+      let there : step e c d ≡ Some m = sym (in_extent d) ∙ from_m.lies in
+      let data_m = HasData-flow g ps c d m from_m in
+      let named = (names_fact (ps.dir m) (opposite d)).0 from_m.names_back in
+      let flow : flow_at e flows m ≡ flow_to (opposite d) =
+      are.each m data_m.inside ∙ (with_height (g.elevation m) (ps.dir m) data_m.is_data ∙ (ap code_flow named ∙ flow_named (opposite d))) in
+      one_same (lane_at d) (flow_to (opposite d)) (lane_there d m there ∙ ap lane_of flow)
+
+  -- where none flows in it is 0
+  none_flows : (d : Direction) → ((m : Cell) → FlowsFrom g ps c d m → ⊥) → one_from d ≡ 0
+  none_flows d none = one_other (lane_at d) (flow_to (opposite d)) (λ same.
+      elim (some_or_none (step e c d)) [
+        | inl outside ↦ lane_some (opposite d) (sym same ∙ lane_none d outside)
+        | inr (m, there) ↦
+            (let leads = leads_by_lane (flow_at e flows m) (opposite d) (sym (lane_there d m there) ∙ same) in
+            let in_m = subst (λ (x : Extent). IsCellOf x m) (sym are.extent) (step_lies e c m d there).0 in
+            none m (record {
+              lies = in_extent d ∙ there;
+              is_data = (known.each m in_m).has_data (no_void (flow_at e flows m) (opposite d) leads);
+              names_back = (names_fact (ps.dir m) (opposite d)).1 ((known.each m in_m).leads (opposite d) leads);
+            }))
+      ])
+
+  inflow_is : inflow_at a h b c.col ≡ handed_on g ps c (λ m. 1)
+  inflow_is = sym (passed_sum g ps c (λ m. 1) (λ m. omega arith) one_from one_flows none_flows ∙ sum_of_eight one_from)
+
+-- what was laid between two voids is the row
+pub laid_row : (e : Extent) (flows : List Flow) (down start len : ℕ) (lanes : List ℕ) → 0 < down → down ≤ e.rows → start ≡ (down - 1) * e.cols → len ≡ e.cols + 2 →
+    slice_index lanes 0 ≡ 0 → ((k : ℕ) → k + 1 ≡ len → slice_index lanes k ≡ 0) →
+    ((k : ℕ) → k + 2 < len → slice_index lanes (k + 1) ≡ lane_of (slice_index_or flows (start + k) Void)) → AreFlowLanes e flows down lanes
+laid_row e flows down start len lanes some most start_is long first last each = record {
+  flows_are = λ n inside row.
+      (let col = inside.col in
+      each n.col (omega (arith, col, long)) ∙ ap (λ i. lane_of (slice_index_or flows i Void)) (place_in_row n.row n.col down start e.cols row start_is));
+  voids = λ right. at_ends e down len 0 right lanes some most long first last;
+}
+
+-- the inflow of a cell of the row
+pub row_inflow : (g : Grid) (ps : Products) (e : Extent) (flows : List Flow) (are : AreFlowsOf g ps e flows) (c : Cell) (row start : ℕ) (a h b waits : List ℕ) →
+    IsCellOf e c → c.row ≡ row → AreFlowLanes e flows row a → AreFlowLanes e flows (row + 1) h → AreFlowLanes e flows (row + 2) b → start ≡ row * e.cols →
+    slice_index waits (start + c.col) ≡ inflow_at a h b c.col → IsInflowOf g ps e waits c
+row_inflow g ps e flows are c row start a h b waits inside at in_a in_h in_b start_is put = λ here.
+    ap (slice_index waits) (sym (place_in_own_row c.row c.col row start e.cols at start_is)) ∙
+    (put ∙ inflow_is g ps e flows are c inside a h b (three_rows (AreFlowLanes e flows) row c.row a h b at in_a in_h in_b))
+
+-- the inflows of the rows before this one
+abbrev pub AreRowInflows : Grid → Products → Extent → ℕ → List ℕ → Type 0
+AreRowInflows g ps e row waits = (c : Cell) → IsCellOf e c → c.row < row → IsInflowOf g ps e waits c
+
+pub row_more : (g : Grid) (ps : Products) (e : Extent) (row : ℕ) (old new : List ℕ) → AreRowInflows g ps e row old →
+    ((c : Cell) → IsCellOf e c → c.row ≡ row → IsInflowOf g ps e new c) → ((i : ℕ) → i < row * e.cols → slice_index new i ≡ slice_index old i) →
+    AreRowInflows g ps e (row + 1) new
+row_more g ps e row old new earlier here others c inside less =
+    elim (cases_lt c.row row) [
+      | inl before ↦ λ has. others (index_of e c) (before_row c.row c.col row e.cols before inside.col) ∙ earlier c inside before has
+      | inr most ↦ here c inside (omega (arith, less, most))
+    ]
+
+pub all_rows : (g : Grid) (ps : Products) (e : Extent) (flows : List Flow) (row : ℕ) (waits : List ℕ) → AreFlowsOf g ps e flows → e.rows ≤ row →
+    AreRowInflows g ps e row waits → AreInflows g ps e waits
+all_rows g ps e flows row waits are most each = record {
+  extent = are.extent;
+  each = λ c inside. each c inside (within c.row e.rows row inside.row most);
+}
+  where
+    within : (own rows row : ℕ) → own < rows → rows ≤ row → own < row
+    within own rows row less most = omega (arith, less, most)

@@ -1,0 +1,19 @@
+-- Counts are passed on, and each cell so far waits for an inflow or has passed on.
+use Rattle.std.proofs.Common.{◌≡◌, ◌≢◌, ◌<◌, ◌*◌, length}
+use Rattle.drain_grid.specs.declared.cell.Cell.{Cell}
+use Rattle.drain_grid.specs.Extent.{IsCellOf, index_of}
+use Rattle.drain_paths.specs.declared.flow.Flow.TheVariants.{Void}
+use Rattle.drain_paths.specs.Flows.{flow_at}
+use Rattle.drain_paths.specs.OfFlows.{OfFlows}
+use Rattle.drain_paths.specs.CellNumbers.{cell_number}
+use Rattle.drain_paths.specs.Passing.{IsPassing}
+use Rattle.drain_paths.proofs.accumulation.accumulate.Given as goal
+
+abbrev pub invariant-loop-place : goal.invariant-loop-place
+invariant-loop-place l = record {
+  waits_counted : length l.waits.items ≡ l.shape.rows * l.shape.cols;
+  counts_counted : length l.counts.items ≡ l.shape.rows * l.shape.cols;
+  passing : OfFlows l.shape l.flows (λ g ps. IsPassing g ps l.shape l.waits.items l.counts.items);
+  passed : (c : Cell) → IsCellOf l.shape c → index_of l.shape c < l.place → flow_at l.shape l.flows c ≢ Void →
+      cell_number l.shape l.waits.items c ≢ 0;
+}

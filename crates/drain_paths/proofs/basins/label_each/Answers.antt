@@ -1,0 +1,18 @@
+use Rattle.std.proofs.Common.{subst, sym}
+use Rattle.drain_grid.proofs.LentVectors.{lent_back}
+use Rattle.drain_paths.specs.Basins.{basin_label}
+use Rattle.drain_paths.specs.PathNumbers.{AreNumbers, AreNumbersSoFar}
+use Rattle.drain_paths.proofs.LabelLemmas.{AreBasinLabels-all, AreNumbersSoFar-ends}
+use Rattle.drain_paths.proofs.basins.label_each.Goals as goal
+
+pub number_paths-requires-clause-so_far : goal.number_paths-requires-clause-so_far
+number_paths-requires-clause-so_far t c = λ g ps are.
+    (let found = c.in-Ok.ensures.labels g ps are in
+    subst (AreNumbersSoFar g ps c.args.shape 0 basin_label) (sym c.deref_mut.ensures.value)
+    (AreNumbersSoFar-ends g ps c.args.shape found.0 c.in-Ok.labels.items found.1))
+
+pub returns-in-None-clause-labels : goal.returns-in-None-clause-labels
+returns-in-None-clause-labels t c = λ g ps are.
+    (let e = c.args.shape in
+    let back = lent_back c.deref_mut.ensures.value c.deref_mut.ensures.len c.number_paths.auto.numbers in
+    AreBasinLabels-all g ps e _ (subst (AreNumbers g ps e 0 basin_label) (sym back) (c.in-None.ensures g ps are)))

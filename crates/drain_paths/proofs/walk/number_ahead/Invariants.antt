@@ -1,0 +1,16 @@
+-- These steps lead from the start to here, a data cell.
+use Rattle.std.proofs.Common.{◌≡◌, ◌≢◌}
+use Rattle.drain_grid.specs.Extent.{IsCellOf}
+use Rattle.drain_grid.proofs.Walks.{IsWalk}
+use Rattle.drain_paths.specs.declared.flow.Flow.TheVariants.{Void}
+use Rattle.drain_paths.specs.Flows.{flow_at}
+use Rattle.drain_paths.specs.OfFlows.{OfFlows}
+use Rattle.drain_paths.proofs.walk.number_ahead.Given as goal
+
+abbrev pub invariant-loop-steps : goal.invariant-loop-steps
+invariant-loop-steps t l = record {
+  inside : IsCellOf l.shape l.here;
+  has_data : flow_at l.shape (t.W.Ways.flows l.ways) l.here ≢ Void;
+  first : l.steps ≡ 0 → l.here ≡ l.fn.start;
+  walk : OfFlows l.shape (t.W.Ways.flows l.ways) (λ g ps. IsWalk g ps l.steps l.fn.start l.here);
+}

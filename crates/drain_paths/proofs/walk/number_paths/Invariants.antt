@@ -1,0 +1,18 @@
+-- All known numbers are right, and the data cells so far have one.
+use Rattle.std.proofs.Common.{◌≡◌, ◌≢◌, ◌<◌, ◌*◌, length}
+use Rattle.drain_grid.specs.declared.cell.Cell.{Cell}
+use Rattle.drain_grid.specs.Extent.{IsCellOf, index_of}
+use Rattle.drain_paths.specs.declared.flow.Flow.TheVariants.{Void}
+use Rattle.drain_paths.specs.CellNumbers.{cell_number}
+use Rattle.drain_paths.specs.Flows.{flow_at}
+use Rattle.drain_paths.specs.OfFlows.{OfFlows}
+use Rattle.drain_paths.specs.PathNumbers.{AreNumbersSoFar}
+use Rattle.drain_paths.proofs.walk.number_paths.Given as goal
+
+abbrev pub invariant-loop-place : goal.invariant-loop-place
+invariant-loop-place t l = record {
+  counted : length l.numbers ≡ l.shape.rows * l.shape.cols;
+  so_far : OfFlows l.shape (t.W.Ways.flows l.ways) (λ g ps. AreNumbersSoFar g ps l.shape t.N.PathNumber.UNKNOWN t.N.PathNumber.number_of l.numbers);
+  passed : (c : Cell) → IsCellOf l.shape c → index_of l.shape c < l.place → flow_at l.shape (t.W.Ways.flows l.ways) c ≢ Void →
+      cell_number l.shape l.numbers c ≢ t.N.PathNumber.UNKNOWN;
+}
